@@ -1,0 +1,64 @@
+-- A number that is read is the one that was written.
+use Rattle.std.proofs.Common.{◌≡◌, ℕ, zero, suc, ◌^◌, ◌<◌, true, eqb, List, ◌||◌, not, length, get_or, Some, Result, Ok, Err, refl, sym, ap, arith, rules, inl, inr}
+use Rattle.std.specs.Result.{result_ok}
+use Rattle.std.specs.List.{list_all}
+use Rattle.std.specs.Char.{is_ascii_digit}
+use Rattle.std.specs.Str.{IsUtf8}
+use Rattle.std.specs.Str.Parse.{digits_value, ParsesUnsigned}
+use Rattle.std.specs.Fmt.{decimal}
+use Rattle.std.proofs.lemmas.Bool.{and_parts, and_from, cases_lt, ltb-true, lt-ltb, le-ltb}
+use Rattle.std.proofs.lemmas.Bool.Decides.{nat_tests}
+use Rattle.std.proofs.lemmas.Option.{cond_some}
+use Rattle.std.proofs.lemmas.Str.{IsUtf8-from_ascii}
+use Rattle.std.proofs.lemmas.Str.Parse.{IsNumeralModel, numerals_by_value, parse_digits}
+use Rattle.std.proofs.lemmas.Fmt.{IsAscii-from_digits, decimal-digits_value, digits_decimal, digits_value-decimal, decimal_digit, decimal_nonempty, first_decimal}
+use Rattle.cut_net.specs.Fields.{is_plain_number, number_of}
+
+pub own : IsNumeralModel (λ ds. list_all is_ascii_digit ds ≡ true) (digits_value 10)
+own = numerals_by_value _ (search rules)
+
+-- only the text of one digit may begin with a zero
+lead : (first len : ℕ) → (not (eqb first 48) || eqb len 1) ≡ true → first ≡ 48 → len ≡ 1
+lead first len e z = grind (arith, nat_tests)
+
+pub number_is_text : (bs : List ℕ) → is_plain_number bs ≡ true → IsUtf8 bs
+number_is_text bs plain = IsUtf8-from_ascii bs (IsAscii-from_digits bs (own.to bs (and_parts _ _ plain).0))
+
+pub number_read : {E : Type 0} (bs : List ℕ) (r : Result ℕ E) → is_plain_number bs ≡ true → ParsesUnsigned 64 10 bs r → result_ok r ≡ number_of bs
+unfolding number_of
+number_read {E} bs (Ok x) plain h =
+    let p = parse_digits own {E = E} 64 bs (Ok x) h (and_parts _ _ plain).0 in
+    rw (plain, lt-ltb _ _ p.0.1) (ap Some p.1)
+number_read {E} bs (Err e) plain h =
+    let p = parse_digits own {E = E} 64 bs (Err e) h (and_parts _ _ plain).0 in
+    let some : 0 < length bs = ltb-true _ _ (and_parts _ _ (and_parts _ _ plain).1).0 in
+    elim (cases_lt (digits_value 10 bs) (2 ^ 64)) [
+      | inl lt ↦ absurd (p (some, lt))
+      | inr le ↦ rw (plain, le-ltb _ _ le) refl
+    ]
+
+pub number_takes : (text : List ℕ) (n : ℕ) → number_of text ≡ Some n → (text ≡ decimal n) × (n < 2 ^ 64)
+unfolding number_of
+number_takes text n e =
+    let p = cond_some _ _ _ e in
+    let q = and_parts _ _ p.0 in
+    let plain = and_parts _ _ q.0 in
+    let rest = and_parts _ _ plain.1 in
+    let lt : digits_value 10 text < 2 ^ 64 = ltb-true _ _ q.1 in
+    let same = decimal-digits_value own text plain.0 (ltb-true _ _ rest.0) (lead _ _ rest.1) lt in
+    (rw (← p.1) (sym same), rw (← p.1) lt)
+
+beyond : (first len : ℕ) → 48 < first → (not (eqb first 48) || eqb len 1) ≡ true
+beyond first len lt = grind (arith, nat_tests)
+
+leads : (n : ℕ) → n < 2 ^ 64 → (not (eqb (get_or (decimal n) 0 0) 48) || eqb (length (decimal n)) 1) ≡ true
+leads zero lt = rw (decimal_digit 0 (omega arith)) refl
+leads (suc n) lt = beyond _ _ (first_decimal (suc n) (omega arith) lt)
+
+pub number_again : (n : ℕ) → n < 2 ^ 64 → number_of (decimal n) ≡ Some n
+unfolding number_of
+number_again n lt =
+    let v = digits_value-decimal own n lt in
+    let ok : is_plain_number (decimal n) ≡ true =
+    and_from _ _ (digits_decimal own n lt) (and_from _ _ (lt-ltb _ _ (decimal_nonempty n lt)) (leads n lt)) in
+    rw (ok, v, lt-ltb n (2 ^ 64) lt) refl

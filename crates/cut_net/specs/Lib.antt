@@ -1,0 +1,9 @@
+pub mod Fields
+pub mod Network
+pub mod Cuts
+pub mod Lines
+pub mod Cycle
+pub mod WellFormed
+pub mod NetText
+pub mod ReportText
+pub mod ReportLines

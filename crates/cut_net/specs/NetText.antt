@@ -1,0 +1,161 @@
+-- The text of a network, and the first fault of a text that is none. Lines are numbered from 1.
+use Rattle.std.specs.Prelude.{◌≡◌, ◌≢◌, ◌↔◌, ◌⊎◌, ℕ, ◌+◌, ◌<◌, ◌≤◌, ◌^◌, ◌==◌, Bool, true, false, List, [], ◌∷◌, ◌++◌, length, Some, slice_get, take, map, filter, count_by, codes, All, AllPairs, Contains}
+use Rattle.std.specs.List.{slice_split, IsDistinct}
+use Rattle.std.specs.Str.{bytes_eq}
+use Rattle.std.specs.Fmt.{decimal}
+use Rattle.cut_net.specs.declared.priced.Priced.{Priced}
+use Rattle.cut_net.specs.Fields.{is_name, line_of}
+use Rattle.cut_net.specs.Network.{Network, name_of}
+use Rattle.cut_net.specs.Cuts.{Any, Imports}
+use Rattle.cut_net.specs.Lines.{IsAscending}
+use Rattle.cut_net.specs.Cycle.{NamesCycle}
+use Rattle.cut_net.specs.WellFormed.{AreBetween, AreNamesInOrder, IsAcyclic, total_weight}
+
+-- what a line says: there is a module, or the first module imports the second at this weight
+pub data NetLine : Type 0 where
+  Module : List ℕ → NetLine
+  Import : List ℕ → List ℕ → ℕ → NetLine
+
+-- how it is spelled
+abbrev pub net_line : NetLine → List ℕ
+net_line (Module m) = line_of (codes "module" ∷ m ∷ [])
+net_line (Import m n w) = line_of (codes "import" ∷ m ∷ n ∷ decimal w ∷ [])
+
+-- names are names, and a weight fits 64 bits
+abbrev pub IsNetLine : NetLine → Type 0
+IsNetLine (Module m) = is_name m ≡ true
+IsNetLine (Import m n w) = (is_name m ≡ true) × (is_name n ≡ true) × (w < 2 ^ 64)
+
+-- what stands between the line ends, empty lines too; after the last line end stands one more, which may be empty
+abbrev pub pieces_of : List ℕ → List (List ℕ)
+pieces_of bytes = slice_split (λ c. c == 10) bytes
+
+-- the piece isn't empty
+abbrev pub is_written : List ℕ → Bool
+is_written [] = false
+is_written (_ ∷ _) = true
+
+-- the pieces that aren't empty are these lines
+abbrev pub Spell : List (List ℕ) → List NetLine → Type 0
+Spell pieces lines = filter is_written pieces ≡ map net_line lines
+
+-- the line has the name
+abbrev pub Mentions : List ℕ → NetLine → Type 0
+Mentions name (Module m) = m ≡ name
+Mentions name (Import m n w) = (m ≡ name) ⊎ (n ≡ name)
+
+-- a line of these has the name
+abbrev pub AreMentioning : List NetLine → List ℕ → Type 0
+AreMentioning lines name = (line : NetLine) × Contains lines line × Mentions name line
+
+-- the names that the lines have, each once
+pub record AreNamesOf (lines : List NetLine) (names : List (List ℕ)) : Type 0 where
+  pub once : IsDistinct bytes_eq names
+  pub named : (name : List ℕ) → Contains names name ↔ AreMentioning lines name
+
+abbrev pub is_import : NetLine → Bool
+is_import (Module m) = false
+is_import (Import m n w) = true
+
+-- two lines aren't of one import
+abbrev pub AreApart : NetLine → NetLine → Type 0
+AreApart (Module _) (Module _) = Unit {0}
+AreApart (Module _) (Import _ _ _) = Unit {0}
+AreApart (Import _ _ _) (Module _) = Unit {0}
+AreApart (Import m n _) (Import k l _) = m ≡ k → n ≢ l
+
+-- at most 8192 names and 65536 imports
+pub record AreFew (lines : List NetLine) : Type 0 where
+  pub names : List (List ℕ)
+  pub are_names : AreNamesOf lines names
+  pub few_names : length names ≤ 8192
+  pub few_imports : count_by is_import lines ≤ 65536
+
+-- lines with no fault among them
+pub record AreGood (lines : List NetLine) : Type 0 where
+  pub each : All IsNetLine lines
+  pub apart : AllPairs AreApart lines
+  pub few : AreFew lines
+
+-- the first k pieces are good lines, and this is the piece after them
+pub record IsFront (bytes : List ℕ) (k : ℕ) (lines : List NetLine) (piece : List ℕ) : Type 0 where
+  pub spelled : Spell (take k (pieces_of bytes)) lines
+  pub good : AreGood lines
+  pub there : slice_get (pieces_of bytes) k ≡ Some piece
+
+-- after good lines, a piece that is neither empty nor a line
+pub record IsBadLine (bytes : List ℕ) (k : ℕ) : Type 0 where
+  pub before : List NetLine
+  pub piece : List ℕ
+  pub front : IsFront bytes k before piece
+  pub written : is_written piece ≡ true
+  pub wrong : (line : NetLine) → IsNetLine line → net_line line ≢ piece
+
+-- after good lines, a line of an import that has one already
+pub record IsTwiceImport (bytes : List ℕ) (k : ℕ) : Type 0 where
+  pub before : List NetLine
+  pub line : NetLine
+  pub front : IsFront bytes k before (net_line line)
+  pub form : IsNetLine line
+  pub twice : AllPairs AreApart (before ++ line ∷ []) → ⊥
+
+-- after good lines, a line that is apart from them and one name or one import too many
+pub record IsTooMany (bytes : List ℕ) (k : ℕ) : Type 0 where
+  pub before : List NetLine
+  pub line : NetLine
+  pub front : IsFront bytes k before (net_line line)
+  pub form : IsNetLine line
+  pub apart : AllPairs AreApart (before ++ line ∷ [])
+  pub many : AreFew (before ++ line ∷ []) → ⊥
+
+-- the network of the lines: the names that they have, in order, and their imports, in order
+pub record IsNetOf (lines : List NetLine) (net : Network) : Type 0 where
+  pub names_ascend : AreNamesInOrder net.names
+  pub named : (name : List ℕ) → Contains net.names name ↔ AreMentioning lines name
+  pub between : AreBetween net.imports (length net.names)
+  pub imports_ascend : IsAscending net.imports
+  pub listed : (i : Priced) → i.from < length net.names → i.to < length net.names →
+      Contains net.imports i ↔ Contains lines (Import (name_of net i.from) (name_of net i.to) i.amount)
+
+-- the bytes are good lines of this network
+pub record NetText (bytes : List ℕ) (net : Network) : Type 0 where
+  pub lines : List NetLine
+  pub spelled : Spell (pieces_of bytes) lines
+  pub good : AreGood lines
+  pub is_net : IsNetOf lines net
+
+-- the one module imports the other
+abbrev pub Leads : List Priced → ℕ → ℕ → Type 0
+Leads imports m n = Imports imports Any m n
+
+-- what a text of a network says, or its first fault
+pub data NetOutcome : Type 0 where
+  Reads : Network → NetOutcome
+  BadLine : ℕ → NetOutcome
+  TwiceImport : ℕ → NetOutcome
+  Cycle : List (List ℕ) → NetOutcome
+  WeightOverflow : NetOutcome
+  TooMany : ℕ → NetOutcome
+
+-- after good lines only: a total weight above 64 bits
+pub record IsOverflow (bytes : List ℕ) : Type 0 where
+  pub net : Network
+  pub text : NetText bytes net
+  pub over : 2 ^ 64 ≤ total_weight net
+
+-- after good lines of a total weight that fits: the cycle of these names
+pub record IsCycle (bytes : List ℕ) (names : List (List ℕ)) : Type 0 where
+  pub net : Network
+  pub text : NetText bytes net
+  pub fits : total_weight net < 2 ^ 64
+  pub cycle : List ℕ
+  pub is_cycle : NamesCycle (Leads net.imports) cycle
+  pub are_names : names ≡ map (name_of net) cycle
+
+abbrev pub IsNetOutcome : List ℕ → NetOutcome → Type 0
+IsNetOutcome bytes (Reads net) = NetText bytes net × (total_weight net < 2 ^ 64) × IsAcyclic net.imports
+IsNetOutcome bytes (BadLine line) = (k : ℕ) × (line ≡ k + 1) × IsBadLine bytes k
+IsNetOutcome bytes (TwiceImport line) = (k : ℕ) × (line ≡ k + 1) × IsTwiceImport bytes k
+IsNetOutcome bytes (Cycle names) = IsCycle bytes names
+IsNetOutcome bytes WeightOverflow = IsOverflow bytes
+IsNetOutcome bytes (TooMany line) = (k : ℕ) × (line ≡ k + 1) × IsTooMany bytes k

@@ -1,0 +1,209 @@
+-- The lines of a report, and the first fault of a text that is none. Lines are numbered from 1.
+use Rattle.std.specs.Prelude.{◌≡◌, ◌≢◌, ◌⊎◌, ℕ, ◌+◌, ◌<◌, ◌^◌, ◌==◌, ◌&&◌, ◌||◌, Bool, true, false, List, [], ◌∷◌, ◌++◌, length, Option, Some, None, map, codes, Contains}
+use Rattle.std.specs.List.{flat_map, list_any}
+use Rattle.std.specs.Str.{bytes_eq}
+use Rattle.std.specs.Fmt.{decimal}
+use Rattle.std.specs.Ordering.{nat_cmp, is_lt}
+use Rattle.std.specs.Cmp.Lexicographic.{slice_cmp}
+use Rattle.cut_net.specs.Fields.{ended, is_name, line_of}
+use Rattle.cut_net.specs.Network.{Network}
+use Rattle.cut_net.specs.ReportText.{Entry, ReportText}
+
+-- what a line says: the two modules, the weight, an import to be removed with its weight, one with its flow, the end
+pub data ReportLine : Type 0 where
+  Ends : List ℕ → List ℕ → ReportLine
+  Weighs : ℕ → ReportLine
+  Removes : List ℕ → List ℕ → ℕ → ReportLine
+  Flows : List ℕ → List ℕ → ℕ → ReportLine
+  Last : ReportLine
+
+-- how it is spelled
+abbrev pub report_line : ReportLine → List ℕ
+report_line (Ends m n) = line_of (codes "cut" ∷ m ∷ n ∷ [])
+report_line (Weighs w) = line_of (codes "weight" ∷ decimal w ∷ [])
+report_line (Removes m n w) = line_of (codes "remove" ∷ m ∷ n ∷ decimal w ∷ [])
+report_line (Flows m n f) = line_of (codes "flow" ∷ m ∷ n ∷ decimal f ∷ [])
+report_line Last = codes "end"
+
+-- names are names, numbers fit 64 bits, and no flow is 0
+abbrev pub HasForm : ReportLine → Type 0
+HasForm (Ends m n) = (is_name m ≡ true) × (is_name n ≡ true)
+HasForm (Weighs w) = w < 2 ^ 64
+HasForm (Removes m n w) = (is_name m ≡ true) × (is_name n ≡ true) × (w < 2 ^ 64)
+HasForm (Flows m n f) = (is_name m ≡ true) × (is_name n ≡ true) × (f < 2 ^ 64) × (0 < f)
+HasForm Last = Unit {0}
+
+-- which kinds of line may follow which: the two modules, the weight, remove lines, flow lines, the end
+abbrev pub may_follow : Option ReportLine → ReportLine → Bool
+may_follow None (Ends _ _) = true
+may_follow None (Weighs _) = false
+may_follow None (Removes _ _ _) = false
+may_follow None (Flows _ _ _) = false
+may_follow None Last = false
+may_follow (Some (Ends _ _)) (Ends _ _) = false
+may_follow (Some (Ends _ _)) (Weighs _) = true
+may_follow (Some (Ends _ _)) (Removes _ _ _) = false
+may_follow (Some (Ends _ _)) (Flows _ _ _) = false
+may_follow (Some (Ends _ _)) Last = false
+may_follow (Some (Weighs _)) (Ends _ _) = false
+may_follow (Some (Weighs _)) (Weighs _) = false
+may_follow (Some (Weighs _)) (Removes _ _ _) = true
+may_follow (Some (Weighs _)) (Flows _ _ _) = true
+may_follow (Some (Weighs _)) Last = true
+may_follow (Some (Removes _ _ _)) (Ends _ _) = false
+may_follow (Some (Removes _ _ _)) (Weighs _) = false
+may_follow (Some (Removes _ _ _)) (Removes _ _ _) = true
+may_follow (Some (Removes _ _ _)) (Flows _ _ _) = true
+may_follow (Some (Removes _ _ _)) Last = true
+may_follow (Some (Flows _ _ _)) (Ends _ _) = false
+may_follow (Some (Flows _ _ _)) (Weighs _) = false
+may_follow (Some (Flows _ _ _)) (Removes _ _ _) = false
+may_follow (Some (Flows _ _ _)) (Flows _ _ _) = true
+may_follow (Some (Flows _ _ _)) Last = true
+may_follow (Some Last) (Ends _ _) = false
+may_follow (Some Last) (Weighs _) = false
+may_follow (Some Last) (Removes _ _ _) = false
+may_follow (Some Last) (Flows _ _ _) = false
+may_follow (Some Last) Last = false
+
+-- a module of the network has the name
+abbrev pub IsKnownName : Network → List ℕ → Type 0
+IsKnownName net name = Contains net.names name
+
+-- the network has the line's names
+abbrev pub IsKnown : Network → ReportLine → Type 0
+IsKnown net (Ends m n) = IsKnownName net m × IsKnownName net n
+IsKnown net (Weighs w) = Unit {0}
+IsKnown net (Removes m n w) = IsKnownName net m × IsKnownName net n
+IsKnown net (Flows m n f) = IsKnownName net m × IsKnownName net n
+IsKnown net Last = Unit {0}
+
+-- the one pair of names comes before the other, by their bytes
+abbrev pub is_before : List ℕ → List ℕ → List ℕ → List ℕ → Bool
+is_before k l m n = is_lt (slice_cmp nat_cmp k m) || (bytes_eq k m && is_lt (slice_cmp nat_cmp l n))
+
+-- the names come after those of the line before, if that is a remove line
+abbrev pub is_above_removed : Option ReportLine → List ℕ → List ℕ → Bool
+is_above_removed None m n = true
+is_above_removed (Some (Ends _ _)) m n = true
+is_above_removed (Some (Weighs _)) m n = true
+is_above_removed (Some (Removes k l _)) m n = is_before k l m n
+is_above_removed (Some (Flows _ _ _)) m n = true
+is_above_removed (Some Last) m n = true
+
+-- the names come after those of the line before, if that is a flow line
+abbrev pub is_above_flow : Option ReportLine → List ℕ → List ℕ → Bool
+is_above_flow None m n = true
+is_above_flow (Some (Ends _ _)) m n = true
+is_above_flow (Some (Weighs _)) m n = true
+is_above_flow (Some (Removes _ _ _)) m n = true
+is_above_flow (Some (Flows k l _)) m n = is_before k l m n
+is_above_flow (Some Last) m n = true
+
+-- a remove line is above the remove line before it, and a flow line above the flow line before it
+abbrev pub is_above : Option ReportLine → ReportLine → Bool
+is_above last (Ends _ _) = true
+is_above last (Weighs _) = true
+is_above last (Removes m n _) = is_above_removed last m n
+is_above last (Flows m n _) = is_above_flow last m n
+is_above last Last = true
+
+-- the line may stand after the one before it
+pub record IsGoodAfter (net : Network) (last : Option ReportLine) (line : ReportLine) : Type 0 where
+  pub form : HasForm line
+  pub follows : may_follow last line ≡ true
+  pub known : IsKnown net line
+  pub above : is_above last line ≡ true
+
+-- the last of the lines, or the one that stood before them
+abbrev pub last_of : Option ReportLine → List ReportLine → Option ReportLine
+last_of last [] = last
+last_of last (line ∷ lines) = last_of (Some line) lines
+
+-- each line may stand after the one before it
+abbrev pub AreGoodAfter : Network → Option ReportLine → List ReportLine → Type 0
+AreGoodAfter net last [] = Unit {0}
+AreGoodAfter net last (line ∷ lines) = IsGoodAfter net last line × AreGoodAfter net (Some line) lines
+
+-- the bytes of the lines, each with its end
+abbrev pub written : List ReportLine → List ℕ
+written lines = flat_map (λ line. ended (report_line line)) lines
+
+-- the bytes begin with these good lines, and go on so
+pub record IsFront (net : Network) (bytes : List ℕ) (lines : List ReportLine) (rest : List ℕ) : Type 0 where
+  pub good : AreGoodAfter net None lines
+  pub whole : bytes ≡ written lines ++ rest
+
+abbrev pub has_line_end : List ℕ → Bool
+has_line_end bytes = list_any (λ b. b == 10) bytes
+
+-- the rest begins with this line and its end
+pub record BeginsWith (rest line : List ℕ) : Type 0 where
+  pub more : List ℕ
+  pub whole : rest ≡ ended line ++ more
+  pub one_line : has_line_end line ≡ false
+
+-- the line is one that may follow
+pub record IsNextLine (last : Option ReportLine) (line : ReportLine) : Type 0 where
+  pub form : HasForm line
+  pub follows : may_follow last line ≡ true
+
+-- a line that is none that may follow, or a byte after the last line
+abbrev pub IsWrong : Option ReportLine → List ℕ → Type 0
+IsWrong last rest =
+    ((last ≡ Some Last) × (rest ≢ []))
+    ⊎ ((last ≢ Some Last) × ((text : List ℕ) × BeginsWith rest text × ((line : ReportLine) → IsNextLine last line → report_line line ≢ text)))
+
+-- after good lines, what is wrong
+pub record IsBadLine (net : Network) (bytes : List ℕ) (k : ℕ) : Type 0 where
+  pub before : List ReportLine
+  pub rest : List ℕ
+  pub front : IsFront net bytes before rest
+  pub count : length before ≡ k
+  pub wrong : IsWrong (last_of None before) rest
+
+-- after good lines, a line that may follow them, with a name that the network lacks
+pub record IsUnknownName (net : Network) (bytes : List ℕ) (k : ℕ) : Type 0 where
+  pub before : List ReportLine
+  pub rest : List ℕ
+  pub front : IsFront net bytes before rest
+  pub count : length before ≡ k
+  pub line : ReportLine
+  pub there : BeginsWith rest (report_line line)
+  pub next : IsNextLine (last_of None before) line
+  pub unknown : IsKnown net line → ⊥
+
+-- after good lines, a line of known names that may follow them and isn't above the one before it
+pub record IsOutOfOrder (net : Network) (bytes : List ℕ) (k : ℕ) : Type 0 where
+  pub before : List ReportLine
+  pub rest : List ℕ
+  pub front : IsFront net bytes before rest
+  pub count : length before ≡ k
+  pub line : ReportLine
+  pub there : BeginsWith rest (report_line line)
+  pub next : IsNextLine (last_of None before) line
+  pub known : IsKnown net line
+  pub below : is_above (last_of None before) line ≡ false
+
+-- good lines without the last, and then no whole line
+pub record HasNoEnd (net : Network) (bytes : List ℕ) : Type 0 where
+  pub before : List ReportLine
+  pub rest : List ℕ
+  pub front : IsFront net bytes before rest
+  pub unended : has_line_end rest ≡ false
+  pub not_last : last_of None before ≢ Some Last
+
+-- what a text of a report says, or its first fault
+pub data ReportOutcome : Type 0 where
+  Reads : Entry → ReportOutcome
+  BadLine : ℕ → ReportOutcome
+  UnknownName : ℕ → ReportOutcome
+  Order : ℕ → ReportOutcome
+  NoEnd : ReportOutcome
+
+abbrev pub IsReportOutcome : Network → List ℕ → ReportOutcome → Type 0
+IsReportOutcome net bytes (Reads entry) = ReportText net bytes entry
+IsReportOutcome net bytes (BadLine line) = (k : ℕ) × (line ≡ k + 1) × IsBadLine net bytes k
+IsReportOutcome net bytes (UnknownName line) = (k : ℕ) × (line ≡ k + 1) × IsUnknownName net bytes k
+IsReportOutcome net bytes (Order line) = (k : ℕ) × (line ≡ k + 1) × IsOutOfOrder net bytes k
+IsReportOutcome net bytes NoEnd = HasNoEnd net bytes

@@ -1,0 +1,37 @@
+-- What every network keeps.
+use Rattle.std.specs.Prelude.{◌≡◌, ℕ, ◌^◌, ◌<◌, ◌≤◌, true, List, length, All, sum_by, Contains}
+use Rattle.std.specs.List.Sorted.{IsStrictlySortedBy}
+use Rattle.std.specs.Ordering.{nat_cmp}
+use Rattle.std.specs.Cmp.Lexicographic.{slice_cmp}
+use Rattle.cut_net.specs.declared.priced.Priced.{Priced}
+use Rattle.cut_net.specs.Network.{Network}
+use Rattle.cut_net.specs.Fields.{is_name}
+use Rattle.cut_net.specs.Cuts.{Any, Chain}
+use Rattle.cut_net.specs.Lines.{IsAscending}
+
+-- names in ascending order of their bytes, each once
+abbrev pub AreNamesInOrder : List (List ℕ) → Type 0
+AreNamesInOrder names = IsStrictlySortedBy (slice_cmp nat_cmp) names
+
+-- the imports lead between the first count modules
+abbrev pub AreBetween : List Priced → ℕ → Type 0
+AreBetween imports count = (i : Priced) → Contains imports i → (i.from < count) × (i.to < count)
+
+-- no module reaches itself by one or more imports
+abbrev pub IsAcyclic : List Priced → Type 0
+IsAcyclic imports = (i : Priced) → Contains imports i → Chain imports Any i.to i.from → ⊥
+
+-- the sum of all weights
+abbrev pub total_weight : Network → ℕ
+total_weight net = sum_by (λ i. i.amount) net.imports
+
+-- the names and the imports ascend and keep their limits, the total weight fits 64 bits, and there is no cycle
+pub record IsNetwork (net : Network) : Type 0 where
+  pub named : All (λ name. is_name name ≡ true) net.names
+  pub names_ascend : AreNamesInOrder net.names
+  pub few_names : length net.names ≤ 8192
+  pub between : AreBetween net.imports (length net.names)
+  pub imports_ascend : IsAscending net.imports
+  pub few_imports : length net.imports ≤ 65536
+  pub fits : total_weight net < 2 ^ 64
+  pub acyclic : IsAcyclic net.imports

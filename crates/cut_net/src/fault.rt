@@ -1,0 +1,50 @@
+//! Why bytes are no network.
+
+use std::alloc::{AllocError, AllocFailed};
+use thiserror::Error;
+
+/// The first fault of a text: of the faults with a line the first line's, then the total weight, then a cycle.
+/// Lines are numbered from 1, and empty lines count.
+#[derive(Debug, PartialEq, Eq, Drop, Error)]
+pub enum NetFault {
+    /// The line is neither empty nor one of the two forms.
+    #[error("line {line} breaks the form")]
+    BadLine { line: u64 },
+    /// The line's import stands in an earlier line.
+    #[error("line {line} repeats an import")]
+    TwiceImport { line: u64 },
+    /// Each of these modules imports the next, and the last imports the first.
+    #[error("the imports have a cycle")]
+    Cycle { names: Vec<String> },
+    /// The sum of the weights is above 2^64 - 1.
+    #[error("the weights sum to more than 64 bits hold")]
+    WeightOverflow,
+    /// The line has the 8,193rd name or the 65,537th import.
+    #[error("line {line} is one too many")]
+    TooMany { line: u64 },
+    /// A growth of memory was refused.
+    #[error("memory ran out")]
+    Memory,
+}
+
+impl From<AllocError> for NetFault {
+    ghost use Rattle.std.specs.Prelude.{◌≡◌};
+    ghost use Rattle.cut_net.specs.declared.fault.NetFault.TheVariants.{Memory};
+
+    ghost from_gives = { λ _ fault. fault ≡ Memory };
+
+    fn from(_error: AllocError) -> NetFault {
+        NetFault::Memory
+    }
+}
+
+impl<T: Drop> From<AllocFailed<T>> for NetFault {
+    ghost use Rattle.std.specs.Prelude.{◌≡◌};
+    ghost use Rattle.cut_net.specs.declared.fault.NetFault.TheVariants.{Memory};
+
+    ghost from_gives = { λ _ fault. fault ≡ Memory };
+
+    fn from(_error: AllocFailed<T>) -> NetFault {
+        NetFault::Memory
+    }
+}

@@ -1,0 +1,15 @@
+//! Networks: modules by name, the imports between them, and what each import costs.
+//! Stands on std, with `indexmap` for its tables and `thiserror` for its faults.
+//! Its contract: a network is exactly what its text says, keeps its limits and has no cycle; and the laws of cuts.
+#![tactic(auto)]
+
+mod cut;
+mod fault;
+pub mod fields;
+mod net;
+mod priced;
+
+pub use cut::Cut;
+pub use fault::NetFault;
+pub use net::Net;
+pub use priced::Priced;

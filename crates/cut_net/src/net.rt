@@ -1,0 +1,88 @@
+//! Networks, and their readers.
+ghost use Rattle.std.specs.Prelude.{◌≡◌, ◌<◌, Some, length, slice_get};
+ghost use Rattle.std.specs.List.{position};
+ghost use Rattle.std.specs.Str.{bytes_eq};
+ghost use Rattle.std.specs.List.Sorted.{IsStrictlySortedBy};
+ghost use Rattle.std.specs.String.{string_bytes, string_cmp};
+ghost use Rattle.cut_net.specs.Network.{index_of, name_of};
+ghost use Rattle.cut_net.specs.WellFormed.{IsNetwork};
+
+use crate::Priced;
+use std::marker::Model;
+
+/// A network: modules numbered by name, and imports numbered by (importer's name, imported name).
+#[derive(Drop)]
+pub struct Net {
+    names: Vec<String>,
+    imports: Vec<Priced>,
+}
+
+impl Model for Net {
+    ghost use Rattle.std.specs.Prelude.{map};
+    ghost use Rattle.std.specs.String.{string_bytes};
+    ghost use Rattle.cut_net.specs.Network.{Network, texts};
+    ghost use Rattle.cut_net.specs.WellFormed.{IsNetwork};
+
+    ghost Value = { Network };
+
+    ghost view = { λ n. record { names = map string_bytes n.names.items; imports = n.imports.items } };
+
+    ghost invariant = { λ n. IsNetwork (record { names = map string_bytes n.names.items; imports = n.imports.items }) };
+}
+
+fn place_of(names: &[String], name: &str) -> Option<usize>
+    requires { IsStrictlySortedBy string_cmp names.now }
+    ensures { result ≡ position (λ x. bytes_eq (string_bytes x) name.now) names.now }
+{
+    names
+        .binary_search_by(|other| other.as_str().cmp(name))
+        .ok()
+}
+
+impl Net {
+    /// What every network keeps: its names and imports in order, its limits, and that it has no cycle.
+    pub fn keeps(&self)
+        ensures { IsNetwork self.now }
+    {
+        let _ = &self.names;
+    }
+
+    /// The number of modules.
+    pub fn nodes(&self) -> u32
+        ensures { result ≡ length self.now.names }
+    {
+        self.names.len() as u32
+    }
+
+    /// The name of a module.
+    pub fn name(&self, node: u32) -> &str
+        requires { node < length self.now.names }
+        ensures { result.now ≡ name_of self.now node }
+    {
+        self.names[node as usize].as_str()
+    }
+
+    /// The number of the module of this name.
+    #[tactic(auto, using(crate::proofs::Places::position_named))]
+    pub fn index_of(&self, name: &str) -> Option<u32>
+        ensures { result ≡ index_of self.now name.now }
+    {
+        let at = place_of(self.names.as_slice(), name)?;
+        Some(at as u32)
+    }
+
+    /// All imports, by their numbers.
+    pub fn imports(&self) -> &[Priced]
+        ensures { result.now ≡ self.now.imports }
+    {
+        self.imports.as_slice()
+    }
+
+    /// The import of this number, with its weight.
+    pub fn import(&self, import: u32) -> Priced
+        requires { import < length self.now.imports }
+        ensures { slice_get self.now.imports import ≡ Some result }
+    {
+        self.imports[import as usize]
+    }
+}
