@@ -1,6 +1,13 @@
+pub mod Certificate
+pub mod Chains
+pub mod Duality
 pub mod FieldCuts
 pub mod FieldNames
 pub mod FieldNumbers
+pub mod ListSums
+pub mod NearSide
+pub mod Needed
 pub mod Ordered
 pub mod Places
+pub mod Rows
 pub mod Search

@@ -6,6 +6,7 @@
 mod cut;
 mod fault;
 pub mod fields;
+pub mod laws;
 mod net;
 mod priced;
 
