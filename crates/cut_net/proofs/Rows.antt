@@ -7,7 +7,8 @@ use Rattle.cut_net.specs.declared.priced.Priced.{Priced}
 use Rattle.cut_net.specs.Fields.{ended}
 use Rattle.cut_net.specs.Network.{Network}
 use Rattle.cut_net.specs.NetText.{net_line, Module, Import}
-use Rattle.cut_net.specs.ReportText.{report_text, Entry, CutOf}
+use Rattle.cut_net.specs.Said.{Entry, CutOf}
+use Rattle.cut_net.specs.ReportText.{report_text}
 
 one : decimal 1 ≡ codes "1"
 one = decimal_digit 1 (omega arith)

@@ -2,7 +2,8 @@
 use Rattle.std.specs.Prelude.{◌≡◌, ℕ, ◌<◌, ◌==◌, ◌&&◌, ◌||◌, nat_lt, Bool, List, Option, Some, None, is_some, IfSome, IsTrue, All, AllPairs, find, Contains}
 use Rattle.cut_net.specs.declared.priced.Priced.{Priced}
 use Rattle.cut_net.specs.Network.{Network}
-use Rattle.cut_net.specs.Cuts.{Any, ArePrinted, Imports, IsCut, IsFlow, same_ends, weight}
+use Rattle.cut_net.specs.Said.{Said, CutOf}
+use Rattle.cut_net.specs.Cuts.{Any, ArePrinted, Imports, IsCheapest, IsCut, IsFlow, same_ends, weight}
 
 -- the one comes before the other: by the importer, then by the imported
 abbrev pub comes_before : Priced → Priced → Bool
@@ -48,7 +49,14 @@ pub record IsRight (net : Network) (a b : ℕ) (printed : List Priced) (total : 
   pub is_flow : IsFlow net a b (flow_by flow) total
 
 -- what a solver answers: right for a checker, printed by the definition, and no flow of 0
-pub record IsAnswer (net : Network) (a b : ℕ) (printed : List Priced) (total : ℕ) (flow : List Priced) : Type 0 where
+pub record IsCutAnswer (net : Network) (a b : ℕ) (printed : List Priced) (total : ℕ) (flow : List Priced) : Type 0 where
   pub right : IsRight net a b printed total flow
   pub are_printed : ArePrinted net a b (removed_by printed)
   pub flow_above_zero : All (λ line. 0 < line.amount) flow
+
+abbrev pub IsAnswer : Network → ℕ → ℕ → Said → Type 0
+IsAnswer net a b (CutOf total printed flow) = IsCutAnswer net a b printed total flow
+
+-- what is said is a cut, and none weighs less
+abbrev pub IsCheapestSaid : Network → ℕ → ℕ → Said → Type 0
+IsCheapestSaid net a b (CutOf total printed flow) = IsCheapest net a b (removed_by printed)

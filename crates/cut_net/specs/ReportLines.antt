@@ -1,29 +1,14 @@
--- The lines of a report, and the first fault of a text that is none. Lines are numbered from 1.
-use Rattle.std.specs.Prelude.{◌≡◌, ◌≢◌, ◌⊎◌, ℕ, ◌+◌, ◌<◌, ◌^◌, ◌==◌, ◌&&◌, ◌||◌, Bool, true, false, List, [], ◌∷◌, ◌++◌, length, Option, Some, None, map, codes, Contains}
-use Rattle.std.specs.List.{flat_map, list_any}
+-- Which lines of a report may stand where, and the first fault of a text that is none. Lines are numbered from 1.
+use Rattle.std.specs.Prelude.{◌≡◌, ◌≢◌, ◌⊎◌, ℕ, ◌+◌, ◌<◌, ◌^◌, ◌==◌, ◌&&◌, ◌||◌, Bool, true, false, List, [], ◌∷◌, ◌++◌, length, Option, Some, None, Contains}
+use Rattle.std.specs.List.{list_any}
 use Rattle.std.specs.Str.{bytes_eq}
-use Rattle.std.specs.Fmt.{decimal}
 use Rattle.std.specs.Ordering.{nat_cmp, is_lt}
 use Rattle.std.specs.Cmp.Lexicographic.{slice_cmp}
-use Rattle.cut_net.specs.Fields.{ended, is_name, line_of}
+use Rattle.cut_net.specs.Fields.{ended, is_name}
 use Rattle.cut_net.specs.Network.{Network}
-use Rattle.cut_net.specs.ReportText.{Entry, ReportText}
-
--- what a line says: the two modules, the weight, an import to be removed with its weight, one with its flow, the end
-pub data ReportLine : Type 0 where
-  Ends : List ℕ → List ℕ → ReportLine
-  Weighs : ℕ → ReportLine
-  Removes : List ℕ → List ℕ → ℕ → ReportLine
-  Flows : List ℕ → List ℕ → ℕ → ReportLine
-  Last : ReportLine
-
--- how it is spelled
-abbrev pub report_line : ReportLine → List ℕ
-report_line (Ends m n) = line_of (codes "cut" ∷ m ∷ n ∷ [])
-report_line (Weighs w) = line_of (codes "weight" ∷ decimal w ∷ [])
-report_line (Removes m n w) = line_of (codes "remove" ∷ m ∷ n ∷ decimal w ∷ [])
-report_line (Flows m n f) = line_of (codes "flow" ∷ m ∷ n ∷ decimal f ∷ [])
-report_line Last = codes "end"
+use Rattle.cut_net.specs.Said.{Entry}
+use Rattle.cut_net.specs.ReportLine.{ReportLine, Ends, Weighs, Removes, Flows, Last, report_line, written}
+use Rattle.cut_net.specs.ReportText.{ReportText}
 
 -- names are names, numbers fit 64 bits, and no flow is 0
 abbrev pub HasForm : ReportLine → Type 0
@@ -124,10 +109,6 @@ last_of last (line ∷ lines) = last_of (Some line) lines
 abbrev pub AreGoodAfter : Network → Option ReportLine → List ReportLine → Type 0
 AreGoodAfter net last [] = Unit {0}
 AreGoodAfter net last (line ∷ lines) = IsGoodAfter net last line × AreGoodAfter net (Some line) lines
-
--- the bytes of the lines, each with its end
-abbrev pub written : List ReportLine → List ℕ
-written lines = flat_map (λ line. ended (report_line line)) lines
 
 -- the bytes begin with these good lines, and go on so
 pub record IsFront (net : Network) (bytes : List ℕ) (lines : List ReportLine) (rest : List ℕ) : Type 0 where

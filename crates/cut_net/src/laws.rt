@@ -1,9 +1,10 @@
-//! Laws of cuts and flows: the theorem that the value of a greatest flow is the weight of a cheapest cut, and what it
+//! Laws of cuts, flows and texts: the theorem that the value of a greatest flow is the weight of a cheapest cut, and what it
 //! says of the imports that are printed. Each function is a law: its body is empty, and its contract is proved.
-ghost use Rattle.std.specs.Prelude.{ℕ, ◌≡◌, ◌<◌, Bool, true, false, length, Contains};
+ghost use Rattle.std.specs.Prelude.{ℕ, ◌≡◌, ◌<◌, Bool, true, false, length, Contains, List};
 ghost use Rattle.cut_net.specs.declared.priced.Priced.{Priced};
 ghost use Rattle.cut_net.specs.Network.{Network};
 ghost use Rattle.cut_net.specs.WellFormed.{AreBetween};
+ghost use Rattle.cut_net.specs.NetText.{IsNetOutcome, NetOutcome};
 ghost use Rattle.cut_net.specs.Cuts.{AreThose, ArePrinted, Chain, IsCut, IsCheapest, IsFlow, Near, Outside, Reached, weight, without};
 
 use crate::Priced;
@@ -40,4 +41,9 @@ pub fn printed_are_needed()
     ensures { (net : Network) (a b : ℕ) (x : Priced → Bool) →
         AreBetween net.imports (length net.names) → a < length net.names → ArePrinted net a b x →
         (i : Priced) → Contains net.imports i → x i ≡ true → Chain net.imports (Outside (without x i)) a b }
+{}
+
+/// A text of a network says one thing: the network or the first fault.
+pub fn one_reading()
+    ensures { (bytes : List ℕ) (o p : NetOutcome) → IsNetOutcome bytes o → IsNetOutcome bytes p → o ≡ p }
 {}

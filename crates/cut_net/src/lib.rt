@@ -4,13 +4,23 @@
 #![tactic(auto)]
 
 mod cut;
+mod cycle;
+mod draft;
 mod fault;
 pub mod fields;
+mod knot;
 pub mod laws;
+mod lines;
 mod net;
+mod numbering;
 mod priced;
+mod reading;
+mod walk;
 
 pub use cut::Cut;
 pub use fault::NetFault;
 pub use net::Net;
 pub use priced::Priced;
+
+#[cfg(test)]
+mod tests;

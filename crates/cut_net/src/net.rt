@@ -4,6 +4,7 @@ ghost use Rattle.std.specs.List.{position};
 ghost use Rattle.std.specs.Str.{bytes_eq};
 ghost use Rattle.std.specs.List.Sorted.{IsStrictlySortedBy};
 ghost use Rattle.std.specs.String.{string_bytes, string_cmp};
+ghost use Rattle.cut_net.specs.NetReading.{net_of};
 ghost use Rattle.cut_net.specs.Network.{index_of, name_of};
 ghost use Rattle.cut_net.specs.WellFormed.{IsNetwork};
 
@@ -30,7 +31,7 @@ impl Model for Net {
     ghost invariant = { λ n. IsNetwork (record { names = map string_bytes n.names.items; imports = n.imports.items }) };
 }
 
-fn place_of(names: &[String], name: &str) -> Option<usize>
+pub(crate) fn place_of(names: &[String], name: &str) -> Option<usize>
     requires { IsStrictlySortedBy string_cmp names.now }
     ensures { result ≡ position (λ x. bytes_eq (string_bytes x) name.now) names.now }
 {
@@ -40,6 +41,14 @@ fn place_of(names: &[String], name: &str) -> Option<usize>
 }
 
 impl Net {
+    /// The network of names and imports that keep what every network keeps.
+    pub(crate) fn of(names: Vec<String>, imports: Vec<Priced>) -> Net
+        requires { IsNetwork (net_of names.items imports.items) }
+        ensures { result ≡ net_of names.items imports.items }
+    {
+        Net { names, imports }
+    }
+
     /// What every network keeps: its names and imports in order, its limits, and that it has no cycle.
     pub fn keeps(&self)
         ensures { IsNetwork self.now }

@@ -1,6 +1,3 @@
-use Rattle.std.proofs.Common.{subst, sym, List, String}
-use Rattle.std.specs.String.{string_cmp}
-use Rattle.std.specs.List.Sorted.{IsStrictlySortedBy}
 use Rattle.cut_net.proofs.Ordered.{sorted_strings}
 use Rattle.cut_net.proofs.net.Net.index_of.Goals as goal
 

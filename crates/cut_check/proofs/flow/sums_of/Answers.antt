@@ -1,0 +1,66 @@
+use Rattle.std.proofs.Common.{◌≤◌, ◌<◌, ◌∙◌, length, arith, subst, get_or}
+use Rattle.std.proofs.lemmas.List.{take_all}
+use Rattle.cut_net.specs.declared.priced.Priced.{Priced}
+use Rattle.cut_check.specs.Sums.{AreSums}
+use Rattle.cut_check.specs.Reaching.{any}
+use Rattle.cut_check.proofs.Searching.{to_in, from_in}
+use Rattle.cut_check.proofs.Adding.{adding_fits, adding_most, adding_more}
+use Rattle.cut_check.proofs.flow.sums_of.Goals as goal
+
+pub add_at-requires-clause-place : goal.add_at-requires-clause-place
+add_at-requires-clause-place c =
+    let h = to_in c.args.imports.now c.args.modules c.loop-k.k c.requires.between c.loop-k-test.true in
+    omega arith
+
+pub add_at-requires-clause-fits : goal.add_at-requires-clause-fits
+add_at-requires-clause-fits c =
+    let amount = c.unwrap_or-amount.ensures in
+    let within = c.requires.within c.loop-k.k any c.loop-k-test.true in
+    adding_fits c.args.imports.now c.loop-k.k any c.loop-k-test.true c.loop-k.into.items c.unwrap_or-amount.result c.loop-k.invariant.into_most (omega arith) _ c.requires.fits _
+
+pub add_at-requires-in-loop-k-clause-place : goal.add_at-requires-in-loop-k-clause-place
+add_at-requires-in-loop-k-clause-place c =
+    let h = from_in c.args.imports.now c.args.modules c.loop-k.k c.requires.between c.loop-k-test.true in
+    omega arith
+
+pub add_at-requires-in-loop-k-clause-fits : goal.add_at-requires-in-loop-k-clause-fits
+add_at-requires-in-loop-k-clause-fits c =
+    let amount = c.unwrap_or-amount.ensures in
+    let within = c.requires.within c.loop-k.k any c.loop-k-test.true in
+    adding_fits c.args.imports.now c.loop-k.k any c.loop-k-test.true c.loop-k.out.items c.unwrap_or-amount.result c.loop-k.invariant.out_most (omega arith) _ c.requires.fits _
+
+pub loop-k-preserved : goal.loop-k-preserved
+loop-k-preserved c =
+    let imports = c.args.imports.now in
+    let k = c.loop-k.k in
+    let in_k = c.loop-k-test.true in
+    let x = c.unwrap_or-amount.result in
+    let amount = c.unwrap_or-amount.ensures in
+    let within = c.requires.within k any in_k in
+    let small : x ≤ (get_or imports k any).amount = omega arith in
+    let to_h = to_in imports c.args.modules k c.requires.between in_k in
+    let from_h = from_in imports c.args.modules k c.requires.between in_k in
+    let into_ok = c.loop-k.into.ok.0 in
+    let out_ok = c.loop-k.out.ok.0 in
+    let into_size = c.loop-k.invariant.into_size in
+    let out_size = c.loop-k.invariant.out_size in
+    let to_in_sums : (get_or imports k any).to < length c.loop-k.into.items = omega arith in
+    let from_in_sums : (get_or imports k any).from < length c.loop-k.out.items = omega arith in
+    record {
+      into_size = c.add_at.ensures.size ∙ into_size;
+      out_size = c.add_at-in-loop-k.ensures.size ∙ out_size;
+      into_most = rw c.add_at.ensures.items (adding_most imports k any in_k c.loop-k.into.items x c.loop-k.invariant.into_most small _ to_in_sums);
+      out_most = rw c.add_at-in-loop-k.ensures.items (adding_most imports k any in_k c.loop-k.out.items x c.loop-k.invariant.out_most small _ from_in_sums);
+      sums = λ flow are.
+          let so_far = c.loop-k.invariant.sums flow are in
+          let x_is = amount ∙ are k any in_k in
+          record {
+            into_is = rw c.add_at.ensures.items (adding_more imports k any in_k c.loop-k.into.items x (λ (i : Priced). i.to) flow c.args.modules so_far.into_is x_is to_in_sums);
+            out_is = rw c.add_at-in-loop-k.ensures.items (adding_more imports k any in_k c.loop-k.out.items x (λ (i : Priced). i.from) flow c.args.modules so_far.out_is x_is from_in_sums);
+          };
+    }
+
+pub returns-clause-sums : goal.returns-clause-sums
+returns-clause-sums c flow are =
+    let past = c.loop-k-test.false in
+    subst (λ v. AreSums v flow c.args.modules c.loop-k.into.items c.loop-k.out.items) (take_all c.loop-k.k c.args.imports.now past) (c.loop-k.invariant.sums flow are)

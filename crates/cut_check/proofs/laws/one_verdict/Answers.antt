@@ -1,0 +1,21 @@
+use Rattle.std.proofs.Common.{ℕ, ◌≡◌}
+use Rattle.cut_net.specs.Network.{Network}
+use Rattle.cut_net.specs.Said.{Said, CutOf}
+use Rattle.cut_net.specs.WellFormed.{IsNetwork}
+use Rattle.cut_check.specs.declared.verdict.Verdict.{Verdict}
+use Rattle.cut_check.specs.Verdicts.{HasVerdict, IsVerdict}
+use Rattle.cut_check.proofs.SomeVerdict.{some_verdict}
+use Rattle.cut_check.proofs.OnlyVerdict.{only_verdict}
+use Rattle.cut_check.proofs.laws.one_verdict.Goals as goal
+
+some : (net : Network) (a b : ℕ) (said : Said) → IsNetwork net → HasVerdict net a b said
+some net a b (CutOf total printed flow) is_net = some_verdict net a b printed total flow is_net
+
+only : (net : Network) (a b : ℕ) (said : Said) (verdict other : Verdict) → IsVerdict net a b said verdict → IsVerdict net a b said other → verdict ≡ other
+only net a b (CutOf total printed flow) verdict other h k = only_verdict net a b printed total flow verdict other h k
+
+pub returns-clause-some : goal.returns-clause-some
+returns-clause-some c = some
+
+pub returns-clause-only : goal.returns-clause-only
+returns-clause-only c = only

@@ -1,0 +1,4 @@
+pub mod Verdicts
+pub mod Matched
+pub mod Reaching
+pub mod Sums

@@ -1,0 +1,20 @@
+-- What a pass over the imports and the lines together finds.
+use Rattle.std.specs.Prelude.{◌≡◌, ℕ, true, false, ◌+◌, ◌≤◌, ◌<◌, List, Option, Some, None, option_map, find, take, length, slice_index_or}
+use Rattle.cut_net.specs.declared.priced.Priced.{Priced}
+use Rattle.cut_net.specs.Network.{Network}
+use Rattle.cut_net.specs.Cuts.{same_ends}
+use Rattle.cut_net.specs.Lines.{AreInOrder}
+
+-- the first count lines are in order, and no more; each import has the amount of its line among them
+pub record AreMatched (net : Network) (lines : List Priced) (count : ℕ) (amounts : List (Option ℕ)) : Type 0 where
+  pub within : count ≤ length lines
+  pub in_order : AreInOrder net (take count lines)
+  pub no_more : count < length lines → AreInOrder net (take (count + 1) lines) → ⊥
+  pub size : length amounts ≡ length net.imports
+  pub each : (k : ℕ) (d : Priced) (e : Option ℕ) → k < length net.imports →
+      slice_index_or amounts k e ≡ option_map (λ (l : Priced). l.amount) (find (same_ends (slice_index_or net.imports k d)) (take count lines))
+
+-- the line at a place has the import's ends, and this amount, or hasn't
+abbrev pub IsLineAt : Priced → List Priced → ℕ → Option ℕ → Type 0
+IsLineAt i lines next None = (d : Priced) → next < length lines → same_ends i (slice_index_or lines next d) ≡ false
+IsLineAt i lines next (Some x) = (next < length lines) × ((d : Priced) → (same_ends i (slice_index_or lines next d) ≡ true) × (x ≡ (slice_index_or lines next d).amount))

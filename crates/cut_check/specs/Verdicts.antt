@@ -1,0 +1,86 @@
+-- What a checker says of a cut with a flow: yes, or the first cause that holds. Each cause is defined by what it denies.
+use Rattle.std.specs.Prelude.{◌≡◌, ◌≢◌, ◌⊎◌, ℕ, ◌+◌, ◌<◌, List, Some, slice_get, take, Contains}
+use Rattle.cut_net.specs.declared.priced.Priced.{Priced}
+use Rattle.cut_net.specs.Network.{Network}
+use Rattle.cut_net.specs.Said.{Said, CutOf}
+use Rattle.cut_net.specs.Cuts.{Chain, Outside, entering, leaving}
+use Rattle.cut_net.specs.Lines.{AreInOrder, AreWeights, IsRight, removed_by, flow_by}
+use Rattle.cut_check.specs.declared.verdict.Verdict.{Verdict}
+use Rattle.cut_check.specs.declared.verdict.Verdict.TheVariants.{Yes, NoSuchImport, StillChain, WrongWeight, OverWeight, NotKept, WrongValue}
+
+-- the lines before this place are in order, and with the line there they aren't: it has these ends
+pub record IsFirstStray (net : Network) (lines : List Priced) (from to : ℕ) : Type 0 where
+  pub place : ℕ
+  pub line : Priced
+  pub at_place : slice_get lines place ≡ Some line
+  pub ends : (line.from ≡ from) × (line.to ≡ to)
+  pub before : AreInOrder net (take place lines)
+  pub stray : AreInOrder net (take (place + 1) lines) → ⊥
+
+-- the first stray line of both lists, that of the printed imports before that of the flow
+abbrev pub IsStray : Network → List Priced → List Priced → ℕ → ℕ → Type 0
+IsStray net printed flow from to = IsFirstStray net printed from to ⊎ (AreInOrder net printed × IsFirstStray net flow from to)
+
+-- no line is stray
+pub record AreRead (net : Network) (printed flow : List Priced) : Type 0 where
+  pub printed_in_order : AreInOrder net printed
+  pub flow_in_order : AreInOrder net flow
+
+-- a chain avoids the printed imports
+abbrev pub HasChain : Network → ℕ → ℕ → List Priced → Type 0
+HasChain net a b printed = Chain net.imports (Outside (removed_by printed)) a b
+
+-- no line is stray, and no chain avoids the printed imports
+pub record HasCut (net : Network) (a b : ℕ) (printed flow : List Priced) : Type 0 where
+  pub read : AreRead net printed flow
+  pub no_chain : HasChain net a b printed → ⊥
+
+-- the first import whose flow is above its weight has these ends
+pub record IsFirstOver (net : Network) (flow : Priced → ℕ) (from to : ℕ) : Type 0 where
+  pub place : ℕ
+  pub import : Priced
+  pub at_place : slice_get net.imports place ≡ Some import
+  pub ends : (import.from ≡ from) × (import.to ≡ to)
+  pub over : import.amount < flow import
+  pub before : (i : Priced) → Contains (take place net.imports) i → i.amount < flow i → ⊥
+
+-- no flow is above its import's weight
+abbrev pub AreUnder : Network → (Priced → ℕ) → Type 0
+AreUnder net flow = (i : Priced) → Contains net.imports i → i.amount < flow i → ⊥
+
+-- the module isn't a or b, and what enters it is not what leaves it
+abbrev pub IsOff : Network → ℕ → ℕ → (Priced → ℕ) → ℕ → Type 0
+IsOff net a b flow m = (m ≢ a) × (m ≢ b) × (entering net.imports flow m ≢ leaving net.imports flow m)
+
+-- the least such module
+pub record IsFirstOff (net : Network) (a b : ℕ) (flow : Priced → ℕ) (m : ℕ) : Type 0 where
+  pub off : IsOff net a b flow m
+  pub least : (n : ℕ) → n < m → IsOff net a b flow n → ⊥
+
+-- there is no such module
+abbrev pub AreKept : Network → ℕ → ℕ → (Priced → ℕ) → Type 0
+AreKept net a b flow = (m : ℕ) → IsOff net a b flow m → ⊥
+
+-- what leaves a, less what enters it, is this value
+abbrev pub HasValue : Network → ℕ → (Priced → ℕ) → ℕ → Type 0
+HasValue net a flow value = entering net.imports flow a + value ≡ leaving net.imports flow a
+
+abbrev pub IsCutVerdict : Network → ℕ → ℕ → List Priced → ℕ → List Priced → Verdict → Type 0
+IsCutVerdict net a b printed total flow Yes = IsRight net a b printed total flow
+IsCutVerdict net a b printed total flow (NoSuchImport from to) = IsStray net printed flow from to
+IsCutVerdict net a b printed total flow StillChain = AreRead net printed flow × HasChain net a b printed
+IsCutVerdict net a b printed total flow WrongWeight = HasCut net a b printed flow × (AreWeights net printed total → ⊥)
+IsCutVerdict net a b printed total flow (OverWeight from to) =
+    HasCut net a b printed flow × AreWeights net printed total × IsFirstOver net (flow_by flow) from to
+IsCutVerdict net a b printed total flow (NotKept m) =
+    HasCut net a b printed flow × AreWeights net printed total × AreUnder net (flow_by flow) × IsFirstOff net a b (flow_by flow) m
+IsCutVerdict net a b printed total flow WrongValue =
+    HasCut net a b printed flow × AreWeights net printed total × AreUnder net (flow_by flow) × AreKept net a b (flow_by flow) × (HasValue net a (flow_by flow) total → ⊥)
+
+-- the verdict on what is said of two modules
+abbrev pub IsVerdict : Network → ℕ → ℕ → Said → Verdict → Type 0
+IsVerdict net a b (CutOf total printed flow) verdict = IsCutVerdict net a b printed total flow verdict
+
+-- a verdict holds
+abbrev pub HasVerdict : Network → ℕ → ℕ → Said → Type 0
+HasVerdict net a b said = (verdict : Verdict) × IsVerdict net a b said verdict

@@ -1,0 +1,123 @@
+//! Flows: their bounds, what enters each module and leaves it, and their value.
+ghost use Rattle.std.specs.Prelude.{ℕ, ◌≡◌, ◌≢◌, ◌<◌, ◌+◌, ◌^◌, ◌↔◌, IsTrue, IfOk, MatchOption, length, slice_index, slice_set, sum_by, vec_len};
+ghost use Rattle.cut_net.specs.declared.priced.Priced.{Priced};
+ghost use Rattle.cut_net.specs.WellFormed.{AreBetween};
+ghost use Rattle.cut_check.specs.Sums.{AreAmounts, AreSums, AreWithin, IsFirstAbove, IsFlowVerdict};
+
+use crate::Verdict;
+use cut_net::{Net, Priced};
+use std::alloc::{AllocError, Global};
+
+/// The first import with an amount above its weight.
+fn first_above(imports: &[Priced], amounts: &[Option<u64>]) -> Option<Priced>
+    requires { length amounts.now ≡ length imports.now }
+    ensures { MatchOption result (AreWithin imports.now amounts.now) (λ i. IsFirstAbove imports.now amounts.now i) }
+{
+    for (k, i) in imports.iter().enumerate() {
+        if amounts[k].unwrap_or(0) > i.amount {
+            return Some(*i);
+        }
+    }
+    None
+}
+
+fn add_at(sums: &mut Vec<u64>, place: usize, amount: u64)
+    requires place { place < vec_len sums.old }
+    requires fits { slice_index sums.old.items place + amount < 2 ^ 64 }
+    ensures items { sums.new.items ≡ slice_set sums.old.items place (slice_index sums.old.items place + amount) }
+    ensures size { vec_len sums.new ≡ vec_len sums.old }
+{
+    sums[place] += amount;
+}
+
+/// What flows into each module, and out of it.
+#[derive(Drop)]
+struct Sums {
+    into: Vec<u64>,
+    out: Vec<u64>,
+}
+
+/// Sums that fit, as no amount is above its import's weight.
+fn sums_of(
+    alloc: Global,
+    imports: &[Priced],
+    amounts: &[Option<u64>],
+    modules: u32,
+) -> Result<Sums, AllocError>
+    requires between { AreBetween imports.now modules }
+    requires amounts { length amounts.now ≡ length imports.now }
+    requires within { AreWithin imports.now amounts.now }
+    requires fits { sum_by (λ i. i.amount) imports.now < 2 ^ 64 }
+    ensures size { IfOk result (λ s. (vec_len s.into ≡ modules) × (vec_len s.out ≡ modules)) }
+    ensures sums { IfOk result (λ s. (flow : Priced → ℕ) → AreAmounts imports.now flow amounts.now → AreSums imports.now flow modules s.into.items s.out.items) }
+{
+    let mut into = vec![in alloc; 0; modules as usize]?;
+    let mut out = vec![in alloc; 0; modules as usize]?;
+    for (k, i) in imports.iter().enumerate() {
+        let amount = amounts[k].unwrap_or(0);
+        add_at(&mut into, i.to as usize, amount);
+        add_at(&mut out, i.from as usize, amount);
+    }
+    Ok(Sums { into, out })
+}
+
+impl Sums {
+    /// The least module but these two where what enters is not what leaves.
+    fn first_off(&self, modules: u32, from: u32, to: u32) -> Option<u32>
+        requires into { vec_len self.now.into ≡ modules }
+        requires out { vec_len self.now.out ≡ modules }
+        ensures { MatchOption result
+            ((m : ℕ) → m < modules → m ≢ from → m ≢ to → slice_index self.now.into.items m ≡ slice_index self.now.out.items m)
+            (λ off. (off < modules) × (off ≢ from) × (off ≢ to) × (slice_index self.now.into.items off ≢ slice_index self.now.out.items off) ×
+            ((m : ℕ) → m < off → m ≢ from → m ≢ to → slice_index self.now.into.items m ≡ slice_index self.now.out.items m)) }
+    {
+        for m in 0..modules {
+            if m != from && m != to && self.into[m as usize] != self.out[m as usize] {
+                return Some(m);
+            }
+        }
+        None
+    }
+
+    /// Whether what leaves the module, less what enters it, is this value.
+    fn has_value(&self, node: u32, value: u64) -> bool
+        requires into { node < vec_len self.now.into }
+        requires out { node < vec_len self.now.out }
+        ensures { IsTrue result ↔ (slice_index self.now.into.items node + value ≡ slice_index self.now.out.items node) }
+    {
+        let into = self.into[node as usize];
+        let out = self.out[node as usize];
+        into <= out && out - into == value
+    }
+}
+
+/// The verdict on a flow of these amounts, one for each import.
+pub fn check_flow(
+    alloc: Global,
+    net: &Net,
+    amounts: &[Option<u64>],
+    from: u32,
+    to: u32,
+    total: u64,
+) -> Result<Verdict, AllocError>
+    requires from { from < length net.now.names }
+    requires amounts { length amounts.now ≡ length net.now.imports }
+    ensures { IfOk result (λ v. (flow : Priced → ℕ) → AreAmounts net.now.imports flow amounts.now → IsFlowVerdict net.now from to flow total v) }
+{
+    net.keeps();
+    let imports = net.imports();
+    if let Some(over) = first_above(imports, amounts) {
+        return Ok(Verdict::OverWeight {
+            from: over.from,
+            to: over.to,
+        });
+    }
+    let sums = sums_of(alloc, imports, amounts, net.nodes())?;
+    if let Some(module) = sums.first_off(net.nodes(), from, to) {
+        return Ok(Verdict::NotKept { module });
+    }
+    if !sums.has_value(from, total) {
+        return Ok(Verdict::WrongValue);
+    }
+    Ok(Verdict::Yes)
+}

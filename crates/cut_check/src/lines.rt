@@ -1,0 +1,55 @@
+//! Lines, and the imports that they are of.
+ghost use Rattle.std.specs.Prelude.{◌≡◌, ℕ, IfOk, Option, is_some, map, not};
+ghost use Rattle.cut_net.specs.Cuts.{same_ends};
+ghost use Rattle.cut_check.specs.Matched.{AreMatched, IsLineAt};
+
+use cut_net::{Net, Priced};
+use std::alloc::{AllocError, Global};
+
+fn has_same_ends(i: Priced, j: Priced) -> bool
+    ensures { result ≡ same_ends i j }
+{
+    i.from == j.from && i.to == j.to
+}
+
+fn amount_at(i: Priced, lines: &[Priced], next: usize) -> Option<u64>
+    ensures { IsLineAt i lines.now next result }
+{
+    if next < lines.len() && has_same_ends(i, lines[next]) {
+        Some(lines[next].amount)
+    } else {
+        None
+    }
+}
+
+/// The amount of the line of each import, and how many lines are in order.
+#[derive(Drop)]
+pub struct Matched {
+    pub amounts: Vec<Option<u64>>,
+    pub count: usize,
+}
+
+/// Goes over the imports and the lines together, up to the first line that is stray.
+pub fn match_lines(alloc: Global, net: &Net, lines: &[Priced]) -> Result<Matched, AllocError>
+    ensures { IfOk result (λ m. AreMatched net.now lines.now m.count m.amounts.items) }
+{
+    net.keeps();
+    let imports = net.imports();
+    let mut amounts = Vec::new(alloc);
+    let mut count = 0;
+    for i in imports {
+        let amount = amount_at(*i, lines, count);
+        amounts.push(amount)?;
+        if amount.is_some() {
+            count += 1;
+        }
+    }
+    Ok(Matched { amounts, count })
+}
+
+/// Which imports have no line.
+pub fn without_line(alloc: Global, amounts: &[Option<u64>]) -> Result<Vec<bool>, AllocError>
+    ensures { IfOk result (λ v. v.items ≡ map (λ (amount : Option ℕ). not (is_some amount)) amounts.now) }
+{
+    amounts.iter().map(|amount| amount.is_none()).collect(alloc)
+}

@@ -1,0 +1,76 @@
+-- The lines so far, and the fault of the next piece.
+use Rattle.std.proofs.Common.{◌≡◌, ℕ, ◌+◌, ◌≤◌, List, [], ◌∷◌, ◌++◌, length, take, map, Option, Some, Err, refl, sym, ap, ◌∙◌, arith}
+use Rattle.std.specs.Prelude.{filter, slice_get, count_by, IfSome}
+use Rattle.std.proofs.lemmas.List.{map-append, map_push}
+use Rattle.std.proofs.lemmas.List.Elements.{filter-append}
+use Rattle.std.proofs.lemmas.List.Sums.{length-filter}
+use Rattle.std.proofs.lemmas.List.{length-map}
+use Rattle.cut_net.specs.NetText.{NetLine, net_line, is_import, is_written, pieces_of, AreGood, IsNetOutcome, Spell}
+use Rattle.cut_net.specs.NetReading.{entry_line, fault_at, fault_said, AreTablesOf, IsDraft, Takes}
+use Rattle.cut_net.specs.declared.draft.Draft.{Draft}
+use Rattle.cut_net.specs.declared.draft.LineFault.{LineFault}
+use Rattle.cut_net.specs.declared.draft.LineFault.TheVariants as fault
+
+pub good_lines : (lines : List NetLine) (names : List (List ℕ)) (es : List ((ℕ × ℕ) × ℕ)) → AreTablesOf lines names es → AreGood lines
+good_lines lines names es h =
+    let a = length-filter is_import lines in
+    let b = ap length h.listed in
+    let c = length-map es (entry_line names) in
+    let few = h.few_imports in
+    let count : count_by is_import lines ≤ 65536 = omega arith in
+    record {
+      each = h.each;
+      apart = h.apart;
+      few = record { names = names; are_names = h.are_names; few_names = h.few_names; few_imports = count };
+    }
+
+spell_more : (pieces : List (List ℕ)) (piece : List ℕ) (lines more : List NetLine) → Spell pieces lines → Spell (piece ∷ []) more → Spell (pieces ++ piece ∷ []) (lines ++ more)
+spell_more pieces piece lines more h g =
+    filter-append is_written pieces (piece ∷ []) ∙ ap (λ (t : List (List ℕ)). t ++ filter is_written (piece ∷ [])) h ∙ ap (λ (t : List (List ℕ)). map net_line lines ++ t) g ∙ sym (map-append net_line lines more)
+
+pub spell_next : {A : Type 0} (v : A → List ℕ) (items : List A) (item : A) (lines more : List NetLine) → Spell (map v items) lines → Spell (v item ∷ []) more → Spell (map v (items ++ item ∷ [])) (lines ++ more)
+spell_next v items item lines more h g = rw (map_push v items item) (spell_more (map v items) (v item) lines more h g)
+
+pub fault_is : (bytes : List ℕ) (k : ℕ) (before : List NetLine) (piece : List ℕ) (e : LineFault) (old new : Draft) → Spell (take k (pieces_of bytes)) before → IsDraft before old
+    → slice_get (pieces_of bytes) k ≡ Some piece → Takes before piece (Err e) new → IfSome (fault_said (fault_at (k + 1) e)) (IsNetOutcome bytes)
+fault_is bytes k before piece fault.BadLine old new spelled h there t = (
+  k,
+  refl,
+  record {
+    before = before;
+    piece = piece;
+    front = record { spelled = spelled; good = good_lines before _ _ h; there = there };
+    written = t.0;
+    wrong = t.1;
+  },
+)
+fault_is bytes k before piece fault.TwiceImport old new spelled h there (line, e, good, twice) = (
+  k,
+  refl,
+  record {
+    before = before;
+    line = line;
+    front = record { spelled = spelled; good = good_lines before _ _ h; there = there ∙ ap some (sym e) };
+    form = good;
+    twice = twice;
+  },
+)
+  where
+    some : List ℕ → Option (List ℕ)
+    some x = Some x
+fault_is bytes k before piece fault.TooMany old new spelled h there (line, e, good, more) = (
+  k,
+  refl,
+  record {
+    before = before;
+    line = line;
+    front = record { spelled = spelled; good = good_lines before _ _ h; there = there ∙ ap some (sym e) };
+    form = good;
+    apart = more.apart;
+    many = more.many;
+  },
+)
+  where
+    some : List ℕ → Option (List ℕ)
+    some x = Some x
+fault_is bytes k before piece fault.Memory old new spelled h there t = tt

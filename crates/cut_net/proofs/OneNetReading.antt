@@ -1,0 +1,160 @@
+-- A text of a network says one thing.
+use Rattle.std.proofs.Common.{◌≡◌, ℕ, ◌+◌, ◌<◌, ◌≤◌, ◌^◌, List, [], ◌∷◌, ◌++◌, refl, sym, ◌∙◌, ap, subst, arith, true, Option, None, Some, take}
+use Rattle.std.specs.Prelude.{AllPairs, IfSome, map, slice_get}
+use Rattle.std.proofs.lemmas.List.Elements.{All-contains, Contains-push}
+use Rattle.cut_net.specs.Cycle.{NamesCycle}
+use Rattle.cut_net.specs.Network.{Network, name_of}
+use Rattle.cut_net.specs.WellFormed.{IsAcyclic, total_weight}
+use Rattle.cut_net.specs.NetText.{NetLine, Module, Import, net_line, IsNetLine, is_written, pieces_of, AreApart, AreFew, AreGood, IsBadLine, IsTwiceImport, IsTooMany, IsNetOf, Leads, NetText, IsOverflow, IsCycle, IsNetOutcome, NetOutcome, Reads, BadLine, TwiceImport, Cycle, WeightOverflow, TooMany}
+use Rattle.cut_net.proofs.FieldCuts.{some_is}
+use Rattle.cut_net.proofs.NetLines.{line_once}
+use Rattle.cut_net.proofs.OneCycle.{one_cycle, cyclic}
+use Rattle.cut_net.proofs.OneNetwork.{one_network}
+use Rattle.cut_net.proofs.Stops.{Stops, one_stop, no_stop, same_lines}
+
+-- a line isn't empty
+line_written : (line : NetLine) → is_written (net_line line) ≡ true
+line_written (Module m) = refl
+line_written (Import m n w) = refl
+
+last_good : (before : List NetLine) (line : NetLine) → AreGood (before ++ line ∷ []) → IsNetLine line
+last_good before line good = All-contains IsNetLine (before ++ line ∷ []) line good.each (Contains-push before line)
+
+bad_stops : (bytes : List ℕ) (k : ℕ) → IsBadLine bytes k → Stops (pieces_of bytes) k
+bad_stops bytes k b = record {
+  before = b.before;
+  piece = b.piece;
+  spelled = b.front.spelled;
+  good = b.front.good;
+  there = b.front.there;
+  written = b.written;
+  bad = λ line e good. b.wrong line (last_good b.before line good) e;
+}
+
+-- the line is the one that was spelled
+same_line : (before : List NetLine) (line other : NetLine) → IsNetLine other → net_line line ≡ net_line other → AreGood (before ++ line ∷ []) → line ≡ other
+same_line before line other form e good = line_once line other (last_good before line good) form e
+
+twice_stops : (bytes : List ℕ) (k : ℕ) → IsTwiceImport bytes k → Stops (pieces_of bytes) k
+twice_stops bytes k t = record {
+  before = t.before;
+  piece = net_line t.line;
+  spelled = t.front.spelled;
+  good = t.front.good;
+  there = t.front.there;
+  written = line_written t.line;
+  bad = λ line e good. t.twice (subst (λ (l : NetLine). AllPairs AreApart (t.before ++ l ∷ [])) (same_line t.before line t.line t.form e good) good.apart);
+}
+
+many_stops : (bytes : List ℕ) (k : ℕ) → IsTooMany bytes k → Stops (pieces_of bytes) k
+many_stops bytes k t = record {
+  before = t.before;
+  piece = net_line t.line;
+  spelled = t.front.spelled;
+  good = t.front.good;
+  there = t.front.there;
+  written = line_written t.line;
+  bad = λ line e good. t.many (subst (λ (l : NetLine). AreFew (t.before ++ l ∷ [])) (same_line t.before line t.line t.form e good) good.few);
+}
+
+-- the numbers of one place are one
+same_number : (bytes : List ℕ) (l m j k : ℕ) → l ≡ j + 1 → m ≡ k + 1 → Stops (pieces_of bytes) j → Stops (pieces_of bytes) k → l ≡ m
+same_number bytes l m j k e f s t = let same : j ≡ k = one_stop (pieces_of bytes) j k s t in omega arith
+
+same_piece : (bytes : List ℕ) (k : ℕ) (x y : List ℕ) → slice_get (pieces_of bytes) k ≡ Some x → slice_get (pieces_of bytes) k ≡ Some y → x ≡ y
+same_piece bytes k x y e f = some_is x y (sym e ∙ f)
+
+-- a piece that is no line isn't one that was spelled
+bad_not_twice : (bytes : List ℕ) (j k : ℕ) → IsBadLine bytes j → IsTwiceImport bytes k → ⊥
+bad_not_twice bytes j k b t =
+    let same : k ≡ j = one_stop (pieces_of bytes) k j (twice_stops bytes k t) (bad_stops bytes j b) in
+    let there = subst (λ (n : ℕ). slice_get (pieces_of bytes) n ≡ Some (net_line t.line)) same t.front.there in
+    b.wrong t.line t.form (same_piece bytes j (net_line t.line) b.piece there b.front.there)
+
+bad_not_many : (bytes : List ℕ) (j k : ℕ) → IsBadLine bytes j → IsTooMany bytes k → ⊥
+bad_not_many bytes j k b t =
+    let same : k ≡ j = one_stop (pieces_of bytes) k j (many_stops bytes k t) (bad_stops bytes j b) in
+    let there = subst (λ (n : ℕ). slice_get (pieces_of bytes) n ≡ Some (net_line t.line)) same t.front.there in
+    b.wrong t.line t.form (same_piece bytes j (net_line t.line) b.piece there b.front.there)
+
+twice_not_many_at : (bytes : List ℕ) (k : ℕ) → IsTwiceImport bytes k → IsTooMany bytes k → ⊥
+twice_not_many_at bytes k t m =
+    let before : m.before ≡ t.before = same_lines (take k (pieces_of bytes)) m.before t.before m.front.spelled t.front.spelled m.front.good.each t.front.good.each in
+    let line : m.line ≡ t.line = line_once m.line t.line m.form t.form (same_piece bytes k (net_line m.line) (net_line t.line) m.front.there t.front.there) in
+    t.twice (subst (λ (l : NetLine). AllPairs AreApart (t.before ++ l ∷ [])) line (subst (λ (ls : List NetLine). AllPairs AreApart (ls ++ m.line ∷ [])) before m.apart))
+
+twice_not_many : (bytes : List ℕ) (j k : ℕ) → IsTwiceImport bytes j → IsTooMany bytes k → ⊥
+twice_not_many bytes j k t m =
+    let same : k ≡ j = one_stop (pieces_of bytes) k j (many_stops bytes k m) (twice_stops bytes j t) in
+    twice_not_many_at bytes j t (subst (IsTooMany bytes) same m)
+
+-- good lines stop nowhere
+whole : (bytes : List ℕ) (net : Network) (k : ℕ) → NetText bytes net → Stops (pieces_of bytes) k → ⊥
+whole bytes net k text s = no_stop (pieces_of bytes) text.lines k text.spelled text.good s
+
+-- they are of one network
+pub same_net : (bytes : List ℕ) (net other : Network) → NetText bytes net → NetText bytes other → net ≡ other
+same_net bytes net other a b =
+    let lines : b.lines ≡ a.lines = same_lines (pieces_of bytes) b.lines a.lines b.spelled a.spelled b.good.each a.good.each in
+    one_network a.lines net other a.is_net (subst (λ (ls : List NetLine). IsNetOf ls other) lines b.is_net)
+
+not_over : (net other : Network) → net ≡ other → total_weight net < 2 ^ 64 → 2 ^ 64 ≤ total_weight other → ⊥
+not_over net other e fits over = let same : total_weight net ≡ total_weight other = ap total_weight e in omega arith
+
+reads_no_cycle : (bytes : List ℕ) (net : Network) (names : List (List ℕ)) → NetText bytes net → IsAcyclic net.imports → IsCycle bytes names → ⊥
+reads_no_cycle bytes net names text acyclic c =
+    let same : net ≡ c.net = same_net bytes net c.net text c.text in
+    cyclic c.net.imports c.cycle c.is_cycle (subst (λ (n : Network). IsAcyclic n.imports) same acyclic)
+
+reads_no_overflow : (bytes : List ℕ) (net : Network) → NetText bytes net → total_weight net < 2 ^ 64 → IsOverflow bytes → ⊥
+reads_no_overflow bytes net text fits o = not_over net o.net (same_net bytes net o.net text o.text) fits o.over
+
+same_cycle : (bytes : List ℕ) (names others : List (List ℕ)) → IsCycle bytes names → IsCycle bytes others → names ≡ others
+same_cycle bytes names others a b =
+    let net : b.net ≡ a.net = same_net bytes b.net a.net b.text a.text in
+    let cycle : a.cycle ≡ b.cycle = one_cycle (Leads a.net.imports) a.cycle b.cycle a.is_cycle (subst (λ (n : Network). NamesCycle (Leads n.imports) b.cycle) net b.is_cycle) in
+    a.are_names ∙ ap (λ (c : List ℕ). map (name_of a.net) c) cycle ∙ ap (λ (n : Network). map (name_of n) b.cycle) (sym net) ∙ sym b.are_names
+
+pub one_reading : (bytes : List ℕ) (o p : NetOutcome) → IsNetOutcome bytes o → IsNetOutcome bytes p → o ≡ p
+one_reading bytes (Reads n) (Reads m) a b = ap Reads (same_net bytes n m a.0 b.0)
+one_reading bytes (Reads n) (BadLine m) a b = absurd (whole bytes n b.0 a.0 (bad_stops bytes b.0 b.2))
+one_reading bytes (Reads n) (TwiceImport m) a b = absurd (whole bytes n b.0 a.0 (twice_stops bytes b.0 b.2))
+one_reading bytes (Reads n) (Cycle ms) a b = absurd (reads_no_cycle bytes n ms a.0 a.2 b)
+one_reading bytes (Reads n) WeightOverflow a b = absurd (reads_no_overflow bytes n a.0 a.1 b)
+one_reading bytes (Reads n) (TooMany m) a b = absurd (whole bytes n b.0 a.0 (many_stops bytes b.0 b.2))
+one_reading bytes (BadLine l) (Reads m) a b = absurd (whole bytes m a.0 b.0 (bad_stops bytes a.0 a.2))
+one_reading bytes (BadLine l) (BadLine m) a b = ap BadLine (same_number bytes l m a.0 b.0 a.1 b.1 (bad_stops bytes a.0 a.2) (bad_stops bytes b.0 b.2))
+one_reading bytes (BadLine l) (TwiceImport m) a b = absurd (bad_not_twice bytes a.0 b.0 a.2 b.2)
+one_reading bytes (BadLine l) (Cycle ms) a b = absurd (whole bytes b.net a.0 b.text (bad_stops bytes a.0 a.2))
+one_reading bytes (BadLine l) WeightOverflow a b = absurd (whole bytes b.net a.0 b.text (bad_stops bytes a.0 a.2))
+one_reading bytes (BadLine l) (TooMany m) a b = absurd (bad_not_many bytes a.0 b.0 a.2 b.2)
+one_reading bytes (TwiceImport l) (Reads m) a b = absurd (whole bytes m a.0 b.0 (twice_stops bytes a.0 a.2))
+one_reading bytes (TwiceImport l) (BadLine m) a b = absurd (bad_not_twice bytes b.0 a.0 b.2 a.2)
+one_reading bytes (TwiceImport l) (TwiceImport m) a b = ap TwiceImport (same_number bytes l m a.0 b.0 a.1 b.1 (twice_stops bytes a.0 a.2) (twice_stops bytes b.0 b.2))
+one_reading bytes (TwiceImport l) (Cycle ms) a b = absurd (whole bytes b.net a.0 b.text (twice_stops bytes a.0 a.2))
+one_reading bytes (TwiceImport l) WeightOverflow a b = absurd (whole bytes b.net a.0 b.text (twice_stops bytes a.0 a.2))
+one_reading bytes (TwiceImport l) (TooMany m) a b = absurd (twice_not_many bytes a.0 b.0 a.2 b.2)
+one_reading bytes (Cycle ns) (Reads m) a b = absurd (reads_no_cycle bytes m ns b.0 b.2 a)
+one_reading bytes (Cycle ns) (BadLine m) a b = absurd (whole bytes a.net b.0 a.text (bad_stops bytes b.0 b.2))
+one_reading bytes (Cycle ns) (TwiceImport m) a b = absurd (whole bytes a.net b.0 a.text (twice_stops bytes b.0 b.2))
+one_reading bytes (Cycle ns) (Cycle ms) a b = ap Cycle (same_cycle bytes ns ms a b)
+one_reading bytes (Cycle ns) WeightOverflow a b = absurd (reads_no_overflow bytes a.net a.text a.fits b)
+one_reading bytes (Cycle ns) (TooMany m) a b = absurd (whole bytes a.net b.0 a.text (many_stops bytes b.0 b.2))
+one_reading bytes WeightOverflow (Reads m) a b = absurd (reads_no_overflow bytes m b.0 b.1 a)
+one_reading bytes WeightOverflow (BadLine m) a b = absurd (whole bytes a.net b.0 a.text (bad_stops bytes b.0 b.2))
+one_reading bytes WeightOverflow (TwiceImport m) a b = absurd (whole bytes a.net b.0 a.text (twice_stops bytes b.0 b.2))
+one_reading bytes WeightOverflow (Cycle ms) a b = absurd (reads_no_overflow bytes b.net b.text b.fits a)
+one_reading bytes WeightOverflow WeightOverflow a b = refl
+one_reading bytes WeightOverflow (TooMany m) a b = absurd (whole bytes a.net b.0 a.text (many_stops bytes b.0 b.2))
+one_reading bytes (TooMany l) (Reads m) a b = absurd (whole bytes m a.0 b.0 (many_stops bytes a.0 a.2))
+one_reading bytes (TooMany l) (BadLine m) a b = absurd (bad_not_many bytes b.0 a.0 b.2 a.2)
+one_reading bytes (TooMany l) (TwiceImport m) a b = absurd (twice_not_many bytes b.0 a.0 b.2 a.2)
+one_reading bytes (TooMany l) (Cycle ms) a b = absurd (whole bytes b.net a.0 b.text (many_stops bytes a.0 a.2))
+one_reading bytes (TooMany l) WeightOverflow a b = absurd (whole bytes b.net a.0 b.text (many_stops bytes a.0 a.2))
+one_reading bytes (TooMany l) (TooMany m) a b = ap TooMany (same_number bytes l m a.0 b.0 a.1 b.1 (many_stops bytes a.0 a.2) (many_stops bytes b.0 b.2))
+
+-- what holds of a text is what was answered of it, unless nothing was
+pub only_said : (bytes : List ℕ) (said : Option NetOutcome) → IfSome said (IsNetOutcome bytes) →
+    (o : NetOutcome) → IsNetOutcome bytes o → IfSome said (λ p. p ≡ o)
+only_said bytes None h o holds = tt
+only_said bytes (Some p) h o holds = one_reading bytes p o h holds

@@ -1,0 +1,48 @@
+-- The lines of a report, and how each is spelled.
+use Rattle.std.specs.Prelude.{ℕ, List, [], ◌∷◌, ◌++◌, map, codes}
+use Rattle.std.specs.List.{flat_map}
+use Rattle.std.specs.Fmt.{decimal}
+use Rattle.cut_net.specs.declared.priced.Priced.{Priced}
+use Rattle.cut_net.specs.Fields.{ended, line_of}
+use Rattle.cut_net.specs.Network.{Network, name_of}
+use Rattle.cut_net.specs.Said.{Said, CutOf, Entry}
+
+-- what a line says: the two modules, the weight, an import to be removed with its weight, one with its flow, the end
+pub data ReportLine : Type 0 where
+  Ends : List ℕ → List ℕ → ReportLine
+  Weighs : ℕ → ReportLine
+  Removes : List ℕ → List ℕ → ℕ → ReportLine
+  Flows : List ℕ → List ℕ → ℕ → ReportLine
+  Last : ReportLine
+
+-- how it is spelled
+abbrev pub report_line : ReportLine → List ℕ
+report_line (Ends m n) = line_of (codes "cut" ∷ m ∷ n ∷ [])
+report_line (Weighs w) = line_of (codes "weight" ∷ decimal w ∷ [])
+report_line (Removes m n w) = line_of (codes "remove" ∷ m ∷ n ∷ decimal w ∷ [])
+report_line (Flows m n f) = line_of (codes "flow" ∷ m ∷ n ∷ decimal f ∷ [])
+report_line Last = codes "end"
+
+-- the bytes of the lines, each with its end
+abbrev pub written : List ReportLine → List ℕ
+written lines = flat_map (λ line. ended (report_line line)) lines
+
+-- the line of an import to be removed
+abbrev pub removes : Network → Priced → ReportLine
+removes net line = Removes (name_of net line.from) (name_of net line.to) line.amount
+
+-- the line of an import that carries flow
+abbrev pub flows : Network → Priced → ReportLine
+flows net line = Flows (name_of net line.from) (name_of net line.to) line.amount
+
+-- the lines between the first and the last
+abbrev pub said_lines : Network → Said → List ReportLine
+said_lines net (CutOf total printed flow) = Weighs total ∷ (map (removes net) printed ++ map (flows net) flow)
+
+-- the lines before the last
+abbrev pub front_lines : Network → Entry → List ReportLine
+front_lines net entry = Ends (name_of net entry.from) (name_of net entry.to) ∷ said_lines net entry.said
+
+-- all lines
+abbrev pub entry_lines : Network → Entry → List ReportLine
+entry_lines net entry = front_lines net entry ++ Last ∷ []

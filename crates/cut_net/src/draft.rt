@@ -1,0 +1,162 @@
+//! The tables of a network's lines: names in the order in which they come, and imports by the places of their names.
+ghost use Rattle.std.specs.Prelude.{◌≡◌, ◌<◌, ◌++◌, ◌∷◌, true, false, Contains, IfErr, IfOk, List, [], OnOk, length};
+ghost use Rattle.std.specs.Map.{keys_of};
+ghost use Rattle.cut_net.specs.declared.draft.LineFault.TheVariants.{Memory};
+ghost use Rattle.std.specs.List.{slice_index_or};
+ghost use Rattle.cut_net.specs.Network.{texts};
+ghost use Rattle.cut_net.specs.NetText.{IsNetLine, NetLine, Module, Import};
+ghost use Rattle.cut_net.specs.NetReading.{line_said, noted, Adds, IsDraft, Takes};
+
+use crate::NetFault;
+use crate::lines::{Line, line_in};
+use indexmap::{IndexMap, IndexSet};
+use std::alloc::{AllocError, AllocFailed, Global};
+
+const MOST_NAMES: usize = 8192;
+
+const MOST_IMPORTS: usize = 65536;
+
+/// What is wrong with a line.
+pub(crate) enum LineFault {
+    BadLine,
+    TwiceImport,
+    TooMany,
+    Memory,
+}
+
+impl LineFault {
+    ghost use Rattle.std.specs.Prelude.{◌≡◌};
+    ghost use Rattle.cut_net.specs.NetReading.{fault_at};
+
+    /// The fault of a text whose line of this number has this fault.
+    pub(crate) fn at(self, line: u64) -> NetFault
+        ensures { result ≡ fault_at line self }
+    {
+        match self {
+            LineFault::BadLine => NetFault::BadLine { line },
+            LineFault::TwiceImport => NetFault::TwiceImport { line },
+            LineFault::TooMany => NetFault::TooMany { line },
+            LineFault::Memory => NetFault::Memory,
+        }
+    }
+}
+
+impl From<AllocError> for LineFault {
+    ghost use Rattle.std.specs.Prelude.{◌≡◌};
+    ghost use Rattle.cut_net.specs.declared.draft.LineFault.TheVariants.{Memory};
+
+    ghost from_gives = { λ _ fault. fault ≡ Memory };
+
+    fn from(_error: AllocError) -> LineFault {
+        LineFault::Memory
+    }
+}
+
+impl<T: Drop> From<AllocFailed<T>> for LineFault {
+    ghost use Rattle.std.specs.Prelude.{◌≡◌};
+    ghost use Rattle.cut_net.specs.declared.draft.LineFault.TheVariants.{Memory};
+
+    ghost from_gives = { λ _ fault. fault ≡ Memory };
+
+    fn from(_error: AllocFailed<T>) -> LineFault {
+        LineFault::Memory
+    }
+}
+
+/// The names of the lines so far, and their imports with weights.
+#[derive(Drop)]
+pub(crate) struct Draft {
+    pub(crate) names: IndexSet<String>,
+    pub(crate) imports: IndexMap<(usize, usize), u64>,
+}
+
+/// The place of a name among those that came, where it is now if it is new.
+fn note_name(alloc: Global, names: &mut IndexSet<String>, name: &str) -> Result<usize, AllocError>
+    ensures names { OnOk result (texts names.new.keys ≡ noted (texts names.old.keys) name.now) }
+    ensures within { IfOk result (λ at. at < length (texts names.new.keys)) }
+    ensures place { IfOk result (λ at. slice_index_or (texts names.new.keys) at [] ≡ name.now) }
+{
+    let (at, _) = names.insert_full(String::from_str(alloc, name)?)?;
+    Ok(at)
+}
+
+/// Puts an import behind the others, unless it is there; says whether it is there.
+fn put_import(
+    imports: &mut IndexMap<(usize, usize), u64>,
+    ends: (usize, usize),
+    weight: u64,
+) -> Result<bool, LineFault>
+    ensures there { IfOk result (λ there. there ≡ true → Contains (keys_of imports.old.entries) ends) }
+    ensures absent { IfOk result (λ there. there ≡ false → Contains (keys_of imports.old.entries) ends → ⊥) }
+    ensures last { IfOk result (λ there. there ≡ false → imports.new.entries ≡ imports.old.entries ++ (ends, weight) ∷ []) }
+    ensures fault { IfErr result (λ fault. fault ≡ Memory) }
+{
+    let before = imports.insert(ends, weight)?;
+    Ok(before.is_some())
+}
+
+impl Draft {
+    /// The tables of no lines.
+    pub(crate) fn new(alloc: Global) -> Draft
+        ensures { IsDraft [] result }
+    {
+        Draft {
+            names: IndexSet::new(alloc),
+            imports: IndexMap::new(alloc),
+        }
+    }
+
+    fn add_module(&mut self, alloc: Global, name: &str) -> Result<(), LineFault>
+        ensures { (before : List NetLine) → IsDraft before self.old → IsNetLine (Module name.now) → Adds before (Module name.now) result self.new }
+    {
+        note_name(alloc, &mut self.names, name)?;
+        if self.names.len() > MOST_NAMES {
+            return Err(LineFault::TooMany);
+        }
+        Ok(())
+    }
+
+    fn add_import(
+        &mut self,
+        alloc: Global,
+        importer: &str,
+        imported: &str,
+        weight: u64,
+    ) -> Result<(), LineFault>
+        ensures { (before : List NetLine) → IsDraft before self.old → IsNetLine (Import importer.now imported.now weight) → Adds before (Import importer.now imported.now weight) result self.new }
+    {
+        let from = note_name(alloc, &mut self.names, importer)?;
+        let to = note_name(alloc, &mut self.names, imported)?;
+        if put_import(&mut self.imports, (from, to), weight)? {
+            return Err(LineFault::TwiceImport);
+        }
+        if self.names.len() > MOST_NAMES || self.imports.len() > MOST_IMPORTS {
+            return Err(LineFault::TooMany);
+        }
+        Ok(())
+    }
+
+    fn add(&mut self, alloc: Global, line: Line<'_>) -> Result<(), LineFault>
+        ensures { (before : List NetLine) → IsDraft before self.old → IsNetLine (line_said line.entry) → Adds before (line_said line.entry) result self.new }
+    {
+        match line {
+            Line::Module(name) => self.add_module(alloc, name),
+            Line::Import(importer, imported, weight) => {
+                self.add_import(alloc, importer, imported, weight)
+            }
+        }
+    }
+
+    /// Notes what the bytes between two line ends say, if they say anything.
+    pub(crate) fn take(&mut self, alloc: Global, piece: &[u8]) -> Result<(), LineFault>
+        ensures { (before : List NetLine) → IsDraft before self.old → Takes before piece.now result self.new }
+    {
+        if piece.is_empty() {
+            return Ok(());
+        }
+        let Some(line) = line_in(piece) else {
+            return Err(LineFault::BadLine);
+        };
+        self.add(alloc, line)
+    }
+}

@@ -1,0 +1,49 @@
+//! The lines of a network's text.
+ghost use Rattle.std.specs.Prelude.{◌≡◌, None, option_map};
+ghost use Rattle.cut_net.specs.NetReading.{after_word, import_of, line_of_piece, line_said, module_of};
+
+use crate::fields::{cut_at_byte, name_in, number_in};
+
+/// What a line says.
+pub(crate) enum Line<'a> {
+    /// There is a module of this name.
+    Module(&'a str),
+    /// The first module imports the second, at this weight.
+    Import(&'a str, &'a str, u64),
+}
+
+#[tactic(auto, unfolding(crate::specs::NetReading::after_word))]
+fn fields_after<'a>(word: &[u8], piece: &'a [u8]) -> Option<&'a [u8]>
+    ensures { option_map (λ fields. fields.now) result ≡ after_word word.now piece.now }
+{
+    let (first, fields) = cut_at_byte(piece, b' ')?;
+    if first == word { Some(fields) } else { None }
+}
+
+fn module_in(fields: &[u8]) -> Option<Line<'_>>
+    ensures { option_map line_said result ≡ module_of fields.now }
+{
+    Some(Line::Module(name_in(fields)?))
+}
+
+#[tactic(auto, unfolding(crate::specs::NetReading::import_of))]
+fn import_in(fields: &[u8]) -> Option<Line<'_>>
+    ensures { option_map line_said result ≡ import_of fields.now }
+{
+    let (importer, rest) = cut_at_byte(fields, b' ')?;
+    let (imported, weight) = cut_at_byte(rest, b' ')?;
+    let importer = name_in(importer)?;
+    let imported = name_in(imported)?;
+    Some(Line::Import(importer, imported, number_in(weight)?))
+}
+
+/// The line that the bytes between two line ends spell.
+#[tactic(auto, unfolding(crate::specs::NetReading::line_of_piece))]
+pub(crate) fn line_in(piece: &[u8]) -> Option<Line<'_>>
+    ensures { option_map line_said result ≡ line_of_piece piece.now }
+{
+    if let Some(fields) = fields_after(b"module", piece) {
+        return module_in(fields);
+    }
+    import_in(fields_after(b"import", piece)?)
+}

@@ -1,0 +1,131 @@
+//! Names and imports in their order, from tables in the order of coming.
+ghost use Rattle.std.specs.Prelude.{◌≡◌, ◌<◌, ◌≤◌, ◌^◌, ◌↔◌, All, Contains, IfOk, IsPermutation, List, IsTrue, [], length, map, sum_by};
+ghost use Rattle.std.specs.List.{slice_index_or, IsDistinct};
+ghost use Rattle.std.specs.Str.{bytes_eq};
+ghost use Rattle.cut_net.specs.Cuts.{same_ends};
+ghost use Rattle.cut_net.specs.Lines.{IsAscending};
+ghost use Rattle.cut_net.specs.Network.{texts};
+ghost use Rattle.cut_net.specs.NetReading.{entry_line, import_line, net_of, IsDraft, IsDrafted};
+ghost use Rattle.cut_net.specs.NetText.{IsNetOf, NetLine};
+ghost use Rattle.cut_net.specs.WellFormed.{AreBetween, AreNamesInOrder};
+
+use crate::Priced;
+use crate::draft::Draft;
+use crate::net::place_of;
+use std::alloc::{AllocError, Global};
+
+fn copied(alloc: Global, names: &[String]) -> Result<Vec<String>, AllocError>
+    ensures { IfOk result (λ copies. texts copies.items ≡ texts names.now) }
+{
+    let mut copies = Vec::new(alloc);
+    for name in names {
+        copies.push(String::from_str(alloc, name.as_str())?)?;
+    }
+    Ok(copies)
+}
+
+/// The names in ascending order.
+fn sorted(alloc: Global, names: &[String]) -> Result<Vec<String>, AllocError>
+    requires once { IsDistinct bytes_eq (texts names.now) }
+    ensures ascending { IfOk result (λ sorted. AreNamesInOrder (texts sorted.items)) }
+    ensures same { IfOk result (λ sorted. IsPermutation (texts names.now) (texts sorted.items)) }
+{
+    let mut sorted = copied(alloc, names)?;
+    sorted.sort_unstable();
+    Ok(sorted)
+}
+
+fn number_of(names: &[String], name: &str) -> u32
+    requires ascending { AreNamesInOrder (texts names.now) }
+    requires few { length names.now ≤ 8192 }
+    requires known { Contains (texts names.now) name.now }
+    ensures within { result < length names.now }
+    ensures place { slice_index_or (texts names.now) result [] ≡ name.now }
+{
+    place_of(names, name).unwrap() as u32
+}
+
+/// An import by the numbers of its modules, from the places of their names in the order of coming.
+fn renumbered(old: &[String], names: &[String], ends: (usize, usize), amount: u64) -> Priced
+    requires ascending { AreNamesInOrder (texts names.now) }
+    requires few { length names.now ≤ 8192 }
+    requires same { IsPermutation (texts old.now) (texts names.now) }
+    requires placed { (ends.0 < length old.now) × (ends.1 < length old.now) }
+    ensures between { (result.from < length names.now) × (result.to < length names.now) }
+    ensures line { import_line (texts names.now) result ≡ entry_line (texts old.now) (ends, amount) }
+{
+    let (from, to) = ends;
+    let from = number_of(names, old[from].as_str());
+    let to = number_of(names, old[to].as_str());
+    Priced { from, to, amount }
+}
+
+/// The imports by the numbers of their modules, in the order of coming.
+fn numbered(alloc: Global, draft: &Draft, names: &[String]) -> Result<Vec<Priced>, AllocError>
+    requires ascending { AreNamesInOrder (texts names.now) }
+    requires few { length names.now ≤ 8192 }
+    requires drafted { IsDrafted draft.now }
+    requires same { IsPermutation (texts draft.now.names.keys) (texts names.now) }
+    ensures between { IfOk result (λ imports. AreBetween imports.items (length names.now)) }
+    ensures listed { IfOk result (λ imports. map (import_line (texts names.now)) imports.items ≡ map (entry_line (texts draft.now.names.keys)) draft.now.imports.entries) }
+{
+    let mut imports = Vec::new(alloc);
+    let old = draft.names.as_slice();
+    for (ends, weight) in &draft.imports {
+        imports.push(renumbered(old, names, *ends, *weight))?;
+    }
+    Ok(imports)
+}
+
+fn put_in_order(imports: &mut Vec<Priced>)
+    ensures same { IsPermutation imports.old.items imports.new.items }
+    ensures ascending { IsDistinct same_ends imports.old.items → IsAscending imports.new.items }
+{
+    imports.sort_unstable_by_key(|import| (import.from, import.to));
+}
+
+/// The names and the imports of the network of the lines that the tables hold.
+pub(crate) fn lists_of(
+    alloc: Global,
+    draft: &Draft,
+) -> Result<(Vec<String>, Vec<Priced>), AllocError>
+    requires drafted { IsDrafted draft.now }
+    ensures is_net { IfOk result (λ lists. (lines : List NetLine) → IsDraft lines draft.now → IsNetOf lines (net_of lists.0.items lists.1.items)) }
+    ensures few_names { IfOk result (λ lists. length lists.0.items ≤ 8192) }
+    ensures few_imports { IfOk result (λ lists. length lists.1.items ≤ 65536) }
+{
+    let names = sorted(alloc, draft.names.as_slice())?;
+    let mut imports = numbered(alloc, draft, names.as_slice())?;
+    put_in_order(&mut imports);
+    Ok((names, imports))
+}
+
+/// Whether 64 bits hold the sum of the weights.
+pub(crate) fn fits(imports: &[Priced]) -> bool
+    ensures { IsTrue result ↔ (sum_by (λ i. i.amount) imports.now < 2 ^ 64) }
+{
+    let mut total: u64 = 0;
+    for import in imports {
+        let Some(sum) = total.checked_add(import.amount) else {
+            return false;
+        };
+        total = sum;
+    }
+    true
+}
+
+/// The names of modules, by their numbers.
+pub(crate) fn names_at(
+    alloc: Global,
+    names: &[String],
+    nodes: &[u32],
+) -> Result<Vec<String>, AllocError>
+    requires { All (λ m. m < length names.now) nodes.now }
+    ensures { IfOk result (λ named. texts named.items ≡ map (λ m. slice_index_or (texts names.now) m []) nodes.now) }
+{
+    let mut named = Vec::new(alloc);
+    for node in nodes {
+        named.push(String::from_str(alloc, names[*node as usize].as_str())?)?;
+    }
+    Ok(named)
+}

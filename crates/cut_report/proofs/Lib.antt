@@ -1,0 +1,11 @@
+pub mod Fronts
+pub mod LineLaws
+pub mod NameOrder
+pub mod TextFronts
+pub mod RestKinds
+pub mod ImportLines
+pub mod EntryLines
+pub mod Readings
+pub mod LastImports
+pub mod Standings
+pub mod TextSteps

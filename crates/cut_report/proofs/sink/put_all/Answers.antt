@@ -1,0 +1,17 @@
+use Rattle.std.proofs.Common.{◌≡◌, ℕ, ◌-◌, List, ◌++◌, take, drop, length, append_assoc, rules, arith}
+use Rattle.std.proofs.lemmas.List.{take-append-drop, take_all, length-drop}
+use Rattle.cut_report.proofs.Fronts.{Appends-then}
+use Rattle.cut_report.proofs.sink.put_all.Goals as goal
+
+-- what is left after k bytes more
+split_more : (bytes done rest : List ℕ) (k : ℕ) → bytes ≡ done ++ rest → bytes ≡ (done ++ take k rest) ++ take (length rest - k) (drop k rest)
+split_more bytes done rest k e =
+    rw (take_all (length rest - k) (drop k rest) (omega (arith, length-drop k rest)), append_assoc, take-append-drop k rest) e
+
+pub loop-rest-preserved : goal.loop-rest-preserved
+loop-rest-preserved g c =
+    let now = c.loop-rest.invariant.taken in
+    record {
+      taken = (now.0 ++ take c.in_ok-k.k c.loop-rest.rest.now, split_more _ now.0 c.loop-rest.rest.now c.in_ok-k.k now.1, Appends-then _ _ _ now.0 _ now.2 c.in_ok-k.ensures.takes);
+      failures = search rules;
+    }

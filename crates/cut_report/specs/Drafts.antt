@@ -1,0 +1,134 @@
+-- A report that is read line by line: what the private functions of the reader give. The reader's own clause is in the words of report lines.
+use Rattle.std.specs.Prelude.{◌≡◌, ℕ, ◌+◌, Bool, true, List, [], ◌∷◌, ◌++◌, Option, Some, None, Result, Ok, Err, if◌then◌else◌}
+use Rattle.std.specs.Option.{ok_or}
+use Rattle.cut_net.specs.declared.priced.Priced.{Priced}
+use Rattle.cut_net.specs.Network.{Network, index_of}
+use Rattle.cut_net.specs.Lines.{comes_before}
+use Rattle.cut_net.specs.Said.{Entry, CutOf}
+use Rattle.cut_net.specs.ReportLine.{ReportLine, Ends, Weighs, Removes, Flows, Last}
+use Rattle.cut_net.specs.ReportLines.{ReportOutcome, Reads, BadLine, NoEnd}
+use Rattle.cut_report.specs.declared.fault.LineFault.{LineFault}
+use Rattle.cut_report.specs.declared.fault.LineFault.TheVariants as faults
+use Rattle.cut_report.specs.declared.fault.ReportFault.{ReportFault}
+use Rattle.cut_report.specs.declared.fault.ReportFault.TheVariants as report_faults
+use Rattle.cut_report.specs.declared.draft.Draft.{Draft}
+use Rattle.cut_report.specs.declared.draft.Draft.TheVariants as drafts
+use Rattle.cut_report.specs.declared.report.Report.{Report}
+use Rattle.cut_report.specs.Lines.{line_of_text}
+
+infixl 10 ◌>>=◌
+abbrev pub ◌>>=◌ : {A B E : Type 0} → Result A E → (A → Result B E) → Result B E
+(Ok x) >>= f = f x
+(Err e) >>= f = Err e
+
+-- a cut as far as it is read
+pub record Part : Type 0 where
+  pub from : ℕ
+  pub to : ℕ
+  pub weight : ℕ
+  pub printed : List Priced
+  pub flow : List Priced
+
+abbrev pub entry_of_part : Part → Entry
+entry_of_part p = record { from = p.from; to = p.to; said = CutOf p.weight p.printed p.flow }
+
+-- what is read so far: nothing, the first line, more lines, all lines
+pub data Standing : Type 0 where
+  Start : Standing
+  Named : ℕ → ℕ → Standing
+  Open : Part → Standing
+  Ended : Part → Standing
+
+abbrev pub part_of : Report → Part
+part_of r = record { from = r.from; to = r.to; weight = r.cut.weight; printed = r.cut.imports.items; flow = r.cut.flow.items }
+
+abbrev pub standing_of : Draft → Standing
+standing_of drafts.Start = Start
+standing_of (drafts.Named a b) = Named a b
+standing_of (drafts.Open r) = Open (part_of r)
+standing_of (drafts.Ended r) = Ended (part_of r)
+
+-- the last of the imports, or what stood before them
+abbrev pub last_import : Option Priced → List Priced → Option Priced
+last_import last [] = last
+last_import last (p ∷ ps) = last_import (Some p) ps
+
+abbrev pub is_after : Option Priced → Priced → Bool
+is_after None next = true
+is_after (Some last) next = comes_before last next
+
+-- the import between two names
+unfoldable pub import_of : Network → Option Priced → List ℕ → List ℕ → ℕ → Result Priced LineFault
+import_of net last m n amount = do
+  x ← ok_or (index_of net m) faults.UnknownName
+  y ← ok_or (index_of net n) faults.UnknownName
+  if is_after last (record { from = x; to = y; amount = amount }) then Ok (record { from = x; to = y; amount = amount }) else Err faults.Order
+
+unfoldable pub named_by : Network → ReportLine → Result Standing LineFault
+named_by net (Ends m n) = do
+  x ← ok_or (index_of net m) faults.UnknownName
+  y ← ok_or (index_of net n) faults.UnknownName
+  Ok (Named x y)
+named_by net (Weighs w) = Err faults.BadLine
+named_by net (Removes m n w) = Err faults.BadLine
+named_by net (Flows m n f) = Err faults.BadLine
+named_by net Last = Err faults.BadLine
+
+unfoldable pub opened_by : ℕ → ℕ → ReportLine → Result Standing LineFault
+opened_by a b (Ends m n) = Err faults.BadLine
+opened_by a b (Weighs w) = Ok (Open (record { from = a; to = b; weight = w; printed = []; flow = [] }))
+opened_by a b (Removes m n w) = Err faults.BadLine
+opened_by a b (Flows m n f) = Err faults.BadLine
+opened_by a b Last = Err faults.BadLine
+
+-- with one more import to be removed, if no flow is there yet
+abbrev pub with_removed : Network → Part → List Priced → List ℕ → List ℕ → ℕ → Result Standing LineFault
+with_removed net p [] m n w = import_of net (last_import None p.printed) m n w >>= λ next. Ok (Open (record p { printed = p.printed ++ next ∷ [] }))
+with_removed net p (_ ∷ _) m n w = Err faults.BadLine
+
+unfoldable pub going_on : Network → Part → ReportLine → Result Standing LineFault
+going_on net p (Ends m n) = Err faults.BadLine
+going_on net p (Weighs w) = Err faults.BadLine
+going_on net p (Removes m n w) = with_removed net p p.flow m n w
+going_on net p (Flows m n f) = import_of net (last_import None p.flow) m n f >>= λ next. Ok (Open (record p { flow = p.flow ++ next ∷ [] }))
+going_on net p Last = Ok (Ended p)
+
+unfoldable pub step : Network → Standing → ReportLine → Result Standing LineFault
+step net Start line = named_by net line
+step net (Named a b) line = opened_by a b line
+step net (Open p) line = going_on net p line
+step net (Ended p) line = Err faults.BadLine
+
+-- with the line of this text
+unfoldable pub text_step : Network → Standing → List ℕ → Result Standing LineFault
+text_step net standing text = ok_or (line_of_text text) faults.BadLine >>= λ line. step net standing line
+
+-- what the bytes after the last line end make of it, after this many lines
+abbrev pub finish_of : Standing → ℕ → List ℕ → ReportOutcome
+finish_of Start before rest = NoEnd
+finish_of (Named a b) before rest = NoEnd
+finish_of (Open p) before rest = NoEnd
+finish_of (Ended p) before [] = Reads (entry_of_part p)
+finish_of (Ended p) before (_ ∷ _) = BadLine (before + 1)
+
+-- what a function returned is this, seen by view, unless memory ran out
+abbrev pub Fails : {Y : Type 0} → LineFault → Result Y LineFault → Type 0
+Fails faults.Memory read = Unit {0}
+Fails faults.BadLine read = read ≡ Err faults.BadLine
+Fails faults.UnknownName read = read ≡ Err faults.UnknownName
+Fails faults.Order read = read ≡ Err faults.Order
+
+abbrev pub Gives : {X Y : Type 0} → (X → Y) → Result X LineFault → Result Y LineFault → Type 0
+Gives view (Ok x) read = read ≡ Ok (view x)
+Gives view (Err e) read = Fails e read
+
+abbrev pub fault_at : ℕ → LineFault → ReportFault
+fault_at line faults.BadLine = report_faults.BadLine line
+fault_at line faults.UnknownName = report_faults.UnknownName line
+fault_at line faults.Order = report_faults.Order line
+fault_at line faults.Memory = report_faults.Memory
+
+-- the same, with the fault put into a line
+abbrev pub GivesAt : {X Y : Type 0} → ℕ → (X → Y) → Result X ReportFault → Result Y LineFault → Type 0
+GivesAt line view (Ok x) read = read ≡ Ok (view x)
+GivesAt line view (Err fault) read = (e : LineFault) × (fault ≡ fault_at line e) × Fails e read

@@ -1,0 +1,5 @@
+pub mod Sinks
+pub mod Faults
+pub mod Lines
+pub mod Drafts
+pub mod Reading

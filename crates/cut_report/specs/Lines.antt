@@ -1,0 +1,55 @@
+-- A line of a report, read field by field: what the private functions of the reader give.
+use Rattle.std.specs.Prelude.{ℕ, ◌&&◌, nat_lt, List, codes, Option, Some, None, if◌then◌else◌}
+use Rattle.std.specs.Str.{bytes_eq}
+use Rattle.cut_net.specs.Fields.{cut_at, named, number_of}
+use Rattle.cut_net.specs.ReportLine.{ReportLine, Ends, Weighs, Removes, Flows, Last}
+use Rattle.cut_report.specs.declared.line.Line.{Line}
+use Rattle.cut_report.specs.declared.line.Line.TheVariants as lines
+
+-- what the line says, without where its names lie
+abbrev pub line_seen : Line → ReportLine
+line_seen (lines.Ends m n) = Ends m.now n.now
+line_seen (lines.Weighs w) = Weighs w
+line_seen (lines.Removes m n w) = Removes m.now n.now w
+line_seen (lines.Flows m n f) = Flows m.now n.now f
+line_seen lines.Last = Last
+
+infixl 10 ◌>>=◌
+abbrev pub ◌>>=◌ : {A B : Type 0} → Option A → (A → Option B) → Option B
+None >>= f = None
+(Some x) >>= f = f x
+
+-- two names
+unfoldable pub ends_of : List ℕ → Option (List ℕ × List ℕ)
+ends_of fields = do
+  parts ← cut_at 32 fields
+  from ← named parts.0
+  to ← named parts.1
+  Some (from, to)
+
+-- two names and a number
+unfoldable pub amount_of : List ℕ → Option (List ℕ × List ℕ × ℕ)
+amount_of fields = do
+  first ← cut_at 32 fields
+  second ← cut_at 32 first.1
+  from ← named first.0
+  to ← named second.0
+  amount ← number_of second.1
+  Some (from, to, amount)
+
+-- an import and what it carries, after its word
+abbrev pub import_under : List ℕ → List ℕ × List ℕ × ℕ → Option ReportLine
+import_under word x =
+    if bytes_eq word (codes "remove") then Some (Removes x.0 x.1 x.2)
+    else (if bytes_eq word (codes "flow") && nat_lt 0 x.2 then Some (Flows x.0 x.1 x.2) else None)
+
+-- the line of these fields after its word
+unfoldable pub line_under : List ℕ → List ℕ → Option ReportLine
+line_under word fields =
+    if bytes_eq word (codes "cut") then (ends_of fields >>= λ x. Some (Ends x.0 x.1))
+    else (if bytes_eq word (codes "weight") then (number_of fields >>= λ w. Some (Weighs w))
+    else (amount_of fields >>= import_under word))
+
+-- the line of this text
+unfoldable pub line_of_text : List ℕ → Option ReportLine
+line_of_text text = if bytes_eq text (codes "end") then Some Last else (cut_at 32 text >>= λ parts. line_under parts.0 parts.1)

@@ -1,0 +1,25 @@
+-- What the reader's answer says of a text.
+use Rattle.std.specs.Prelude.{◌≢◌, Option, Some, None, Result, Ok, Err, IfErr}
+use Rattle.cut_net.specs.Said.{Entry, CutOf}
+use Rattle.cut_net.specs.ReportLines.{ReportOutcome, Reads, BadLine, UnknownName, Order, NoEnd}
+use Rattle.cut_report.specs.declared.fault.ReportFault.{ReportFault}
+use Rattle.cut_report.specs.declared.fault.ReportFault.TheVariants as faults
+use Rattle.cut_report.specs.declared.report.Report.{Report}
+
+-- what the report says, without where its lists lie in memory
+abbrev pub entry_of : Report → Entry
+entry_of report = record { from = report.from; to = report.to; said = CutOf report.cut.weight report.cut.imports.items report.cut.flow.items }
+
+-- the outcome that was answered; there is none where memory ran out or a device failed
+abbrev pub outcome_of : Result Report ReportFault → Option ReportOutcome
+outcome_of (Ok report) = Some (Reads (entry_of report))
+outcome_of (Err (faults.BadLine line)) = Some (BadLine line)
+outcome_of (Err (faults.UnknownName line)) = Some (UnknownName line)
+outcome_of (Err (faults.Order line)) = Some (Order line)
+outcome_of (Err faults.NoEnd) = Some NoEnd
+outcome_of (Err faults.Device) = None
+outcome_of (Err faults.Memory) = None
+
+-- no device failed
+abbrev pub IsOfText : Result Report ReportFault → Type 0
+IsOfText result = IfErr result (λ fault. fault ≢ faults.Device)

@@ -1,0 +1,164 @@
+//! A report that is read line by line.
+ghost use Rattle.std.specs.Prelude.{◌≡◌, ◌+◌, ◌<◌, ◌^◌, None, Some, length};
+ghost use Rattle.cut_report.specs.Lines.{line_seen};
+ghost use Rattle.cut_report.specs.Reading.{outcome_of};
+ghost use Rattle.cut_report.specs.Drafts.{finish_of, going_on, import_of, is_after, last_import, named_by, opened_by, part_of, standing_of, step, text_step, Gives, GivesAt};
+
+use crate::fault::LineFault;
+use crate::line::{Line, line_in};
+use crate::{Report, ReportFault};
+use cut_net::{Cut, Net, Priced};
+use std::alloc::Global;
+
+/// What is read so far.
+#[derive(Drop)]
+pub(crate) enum Draft {
+    /// No line.
+    Start,
+    /// The first line, with the numbers of its modules.
+    Named(u32, u32),
+    /// More lines, but not the last.
+    Open(Report),
+    /// All lines.
+    Ended(Report),
+}
+
+/// The last import.
+fn last_in(imports: &[Priced]) -> Option<Priced>
+    ensures { result ≡ last_import None imports.now }
+{
+    imports.last().copied()
+}
+
+fn comes_after(last: Option<Priced>, next: Priced) -> bool
+    ensures { result ≡ is_after last next }
+{
+    match last {
+        None => true,
+        Some(last) => last.from < next.from || (last.from == next.from && last.to < next.to),
+    }
+}
+
+/// The import between two names, which is to come after the last.
+#[tactic(auto, unfolding(crate::specs::Drafts::import_of))]
+fn import_in(
+    net: &Net,
+    last: Option<Priced>,
+    from: &str,
+    to: &str,
+    amount: u64,
+) -> Result<Priced, LineFault>
+    ensures { result ≡ import_of net.now last from.now to.now amount }
+{
+    let from = net.index_of(from).ok_or(LineFault::UnknownName)?;
+    let to = net.index_of(to).ok_or(LineFault::UnknownName)?;
+    let next = Priced { from, to, amount };
+    if comes_after(last, next) {
+        Ok(next)
+    } else {
+        Err(LineFault::Order)
+    }
+}
+
+/// The first line.
+#[tactic(auto, unfolding(crate::specs::Drafts::named_by))]
+fn with_ends(net: &Net, line: Line) -> Result<Draft, LineFault>
+    ensures { Gives standing_of result (named_by net.now (line_seen line.entry)) }
+{
+    let Line::Ends(from, to) = line else {
+        return Err(LineFault::BadLine);
+    };
+    let from = net.index_of(from).ok_or(LineFault::UnknownName)?;
+    let to = net.index_of(to).ok_or(LineFault::UnknownName)?;
+    Ok(Draft::Named(from, to))
+}
+
+/// The line after the first.
+#[tactic(auto, unfolding(crate::specs::Drafts::opened_by))]
+fn with_weight(alloc: Global, from: u32, to: u32, line: Line) -> Result<Draft, LineFault>
+    ensures { Gives standing_of result (opened_by from to (line_seen line.entry)) }
+{
+    let Line::Weighs(weight) = line else {
+        return Err(LineFault::BadLine);
+    };
+    let cut = Cut {
+        imports: Vec::new(alloc),
+        weight,
+        flow: Vec::new(alloc),
+    };
+    Ok(Draft::Open(Report { from, to, cut }))
+}
+
+/// A later line. No remove line follows a flow line.
+#[tactic(auto, unfolding(crate::specs::Drafts::going_on))]
+fn with_more(mut report: Report, net: &Net, line: Line) -> Result<Draft, LineFault>
+    ensures { Gives standing_of result (going_on net.now (part_of report) (line_seen line.entry)) }
+{
+    match line {
+        Line::Removes(from, to, weight) if report.cut.flow.is_empty() => {
+            let last = last_in(report.cut.imports.as_slice());
+            let next = import_in(net, last, from, to, weight)?;
+            report.cut.imports.push(next)?;
+            Ok(Draft::Open(report))
+        }
+        Line::Flows(from, to, flow) => {
+            let last = last_in(report.cut.flow.as_slice());
+            let next = import_in(net, last, from, to, flow)?;
+            report.cut.flow.push(next)?;
+            Ok(Draft::Open(report))
+        }
+        Line::Last => Ok(Draft::Ended(report)),
+        _ => Err(LineFault::BadLine),
+    }
+}
+
+impl Draft {
+    #[tactic(auto, unfolding(crate::specs::Drafts::step))]
+    fn with_line(self, alloc: Global, net: &Net, line: Line) -> Result<Draft, LineFault>
+        ensures { Gives standing_of result (step net.now (standing_of self) (line_seen line.entry)) }
+    {
+        match self {
+            Draft::Start => with_ends(net, line),
+            Draft::Named(from, to) => with_weight(alloc, from, to, line),
+            Draft::Open(report) => with_more(report, net, line),
+            Draft::Ended(_) => Err(LineFault::BadLine),
+        }
+    }
+
+    /// The draft with the line of this text, which has no LF.
+    #[tactic(auto, unfolding(crate::specs::Drafts::text_step))]
+    fn with_text(self, alloc: Global, net: &Net, text: &[u8]) -> Result<Draft, LineFault>
+        ensures { Gives standing_of result (text_step net.now (standing_of self) text.now) }
+    {
+        let line = line_in(text).ok_or(LineFault::BadLine)?;
+        self.with_line(alloc, net, line)
+    }
+
+    /// The same, where the text is the line of this number.
+    pub(crate) fn with_numbered(
+        self,
+        alloc: Global,
+        net: &Net,
+        number: u64,
+        text: &[u8],
+    ) -> Result<Draft, ReportFault>
+        ensures { GivesAt number standing_of result (text_step net.now (standing_of self) text.now) }
+    {
+        match self.with_text(alloc, net, text) {
+            Ok(draft) => Ok(draft),
+            Err(fault) => Err(fault.at(number)),
+        }
+    }
+
+    /// The report, where all lines are read and nothing stands behind them.
+    pub(crate) fn finish(self, before: u64, rest: &[u8]) -> Result<Report, ReportFault>
+        requires { before + length rest.now < 2 ^ 64 }
+        ensures { outcome_of result ≡ Some (finish_of (standing_of self) before rest.now) }
+    {
+        match self {
+            Draft::Ended(report) if rest.is_empty() => Ok(report),
+            Draft::Ended(_) => Err(ReportFault::BadLine { line: before + 1 }),
+            Draft::Start | Draft::Named(..) | Draft::Open(_) => Err(ReportFault::NoEnd),
+        }
+    }
+}

@@ -1,0 +1,101 @@
+//! Why a report could not be read or written.
+
+use crate::SinkFault;
+use std::alloc::{AllocError, AllocFailed};
+use thiserror::Error;
+
+/// The first fault of a text, by lines and then within the line; or why a sink did not take it.
+/// Lines are numbered from 1.
+#[derive(Clone, Copy, Debug, PartialEq, Eq, Error)]
+pub enum ReportFault {
+    /// The line is none that may stand there, or a byte stands behind the last line.
+    #[error("line {line} breaks the form")]
+    BadLine { line: u64 },
+    /// The network lacks a name of the line.
+    #[error("line {line} names no module")]
+    UnknownName { line: u64 },
+    /// The line is not above the one before it, by the two names.
+    #[error("line {line} is out of order")]
+    Order { line: u64 },
+    /// The text ends before its last line.
+    #[error("the text has no end")]
+    NoEnd,
+    /// The sink failed.
+    #[error("the device failed")]
+    Device,
+    /// A growth of memory was refused.
+    #[error("memory ran out")]
+    Memory,
+}
+
+impl From<AllocError> for ReportFault {
+    ghost use Rattle.std.specs.Prelude.{◌≡◌};
+    ghost use Rattle.cut_report.specs.declared.fault.ReportFault.TheVariants.{Memory};
+
+    ghost from_gives = { λ _ fault. fault ≡ Memory };
+
+    fn from(_error: AllocError) -> ReportFault {
+        ReportFault::Memory
+    }
+}
+
+impl<T: Drop> From<AllocFailed<T>> for ReportFault {
+    ghost use Rattle.std.specs.Prelude.{◌≡◌};
+    ghost use Rattle.cut_report.specs.declared.fault.ReportFault.TheVariants.{Memory};
+
+    ghost from_gives = { λ _ fault. fault ≡ Memory };
+
+    fn from(_error: AllocFailed<T>) -> ReportFault {
+        ReportFault::Memory
+    }
+}
+
+impl From<SinkFault> for ReportFault {
+    ghost use Rattle.std.specs.Prelude.{◌≡◌};
+    ghost use Rattle.cut_report.specs.Faults.{fault_of_sink};
+
+    ghost from_gives = { λ fault given. given ≡ fault_of_sink fault };
+
+    fn from(fault: SinkFault) -> ReportFault {
+        match fault {
+            SinkFault::Memory => ReportFault::Memory,
+            SinkFault::Device => ReportFault::Device,
+        }
+    }
+}
+
+/// What is wrong within a line, in the order in which it is looked for.
+#[derive(Clone, Copy)]
+pub(crate) enum LineFault {
+    BadLine,
+    UnknownName,
+    Order,
+    Memory,
+}
+
+impl LineFault {
+    ghost use Rattle.std.specs.Prelude.{◌≡◌};
+    ghost use Rattle.cut_report.specs.Drafts.{fault_at};
+
+    pub(crate) fn at(self, line: u64) -> ReportFault
+        ensures { result ≡ fault_at line self }
+    {
+        match self {
+            LineFault::BadLine => ReportFault::BadLine { line },
+            LineFault::UnknownName => ReportFault::UnknownName { line },
+            LineFault::Order => ReportFault::Order { line },
+            LineFault::Memory => ReportFault::Memory,
+        }
+    }
+}
+
+impl<T: Drop> From<AllocFailed<T>> for LineFault {
+    ghost use Rattle.std.specs.Prelude.{◌≡◌};
+    ghost use Rattle.cut_report.specs.declared.fault.LineFault.TheVariants.{Memory};
+
+    ghost from_gives = { λ _ fault. fault ≡ Memory };
+
+    fn from(_error: AllocFailed<T>) -> LineFault {
+        LineFault::Memory
+    }
+}

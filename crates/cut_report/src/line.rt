@@ -1,0 +1,79 @@
+//! The lines of a report, each read by itself.
+ghost use Rattle.std.specs.Prelude.{◌≡◌, option_map};
+ghost use Rattle.cut_report.specs.Lines.{amount_of, ends_of, line_of_text, line_seen, line_under};
+
+use cut_net::fields::{cut_at_byte, name_in, number_in};
+
+/// What a line says.
+#[derive(Clone, Copy, Drop)]
+pub(crate) enum Line<'a> {
+    /// The two modules.
+    Ends(&'a str, &'a str),
+    /// The weight of the cut.
+    Weighs(u64),
+    /// An import to be removed, with its weight.
+    Removes(&'a str, &'a str, u64),
+    /// An import that carries flow, with its flow.
+    Flows(&'a str, &'a str, u64),
+    /// The end.
+    Last,
+}
+
+/// Two names.
+#[tactic(auto, unfolding(crate::specs::Lines::ends_of))]
+fn ends_in(fields: &[u8]) -> Option<(&str, &str)>
+    ensures { option_map (λ x. (x.0.now, x.1.now)) result ≡ ends_of fields.now }
+{
+    let (from, to) = cut_at_byte(fields, b' ')?;
+    let from = name_in(from)?;
+    let to = name_in(to)?;
+    Some((from, to))
+}
+
+/// Two names and a number.
+#[tactic(auto, unfolding(crate::specs::Lines::amount_of))]
+fn amount_in(fields: &[u8]) -> Option<(&str, &str, u64)>
+    ensures { option_map (λ x. (x.0.now, x.1.now, x.2)) result ≡ amount_of fields.now }
+{
+    let (from, rest) = cut_at_byte(fields, b' ')?;
+    let (to, amount) = cut_at_byte(rest, b' ')?;
+    let from = name_in(from)?;
+    let to = name_in(to)?;
+    let amount = number_in(amount)?;
+    Some((from, to, amount))
+}
+
+/// The fields after a word.
+#[tactic(auto, unfolding(crate::specs::Lines::line_under))]
+fn fields_in<'a>(word: &[u8], fields: &'a [u8]) -> Option<Line<'a>>
+    ensures { option_map line_seen result ≡ line_under word.now fields.now }
+{
+    if word == b"cut".as_slice() {
+        let (from, to) = ends_in(fields)?;
+        return Some(Line::Ends(from, to));
+    }
+    if word == b"weight".as_slice() {
+        let weight = number_in(fields)?;
+        return Some(Line::Weighs(weight));
+    }
+    let (from, to, amount) = amount_in(fields)?;
+    if word == b"remove".as_slice() {
+        return Some(Line::Removes(from, to, amount));
+    }
+    if word == b"flow".as_slice() && 0 < amount {
+        return Some(Line::Flows(from, to, amount));
+    }
+    None
+}
+
+/// The line of this text, which has no LF.
+#[tactic(auto, unfolding(crate::specs::Lines::line_of_text))]
+pub(crate) fn line_in(text: &[u8]) -> Option<Line<'_>>
+    ensures { option_map line_seen result ≡ line_of_text text.now }
+{
+    if text == b"end".as_slice() {
+        return Some(Line::Last);
+    }
+    let (word, fields) = cut_at_byte(text, b' ')?;
+    fields_in(word, fields)
+}

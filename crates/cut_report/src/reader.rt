@@ -1,0 +1,40 @@
+//! Reading a report.
+ghost use Rattle.std.specs.Prelude.{◌≡◌, IfSome};
+ghost use Rattle.cut_net.specs.WellFormed.{IsNetwork};
+ghost use Rattle.cut_net.specs.ReportLines.{IsReportOutcome, ReportOutcome};
+ghost use Rattle.cut_report.specs.Reading.{outcome_of, IsOfText};
+
+use crate::draft::Draft;
+use crate::{Report, ReportFault};
+use cut_net::Net;
+use cut_net::fields::cut_at_byte;
+use std::alloc::Global;
+
+/// What the bytes say, line by line.
+fn read_lines(alloc: Global, bytes: &[u8], net: &Net) -> Result<Report, ReportFault>
+    requires { IsNetwork net.now }
+    ensures exact { IfSome (outcome_of result) (IsReportOutcome net.now bytes.now) }
+    ensures of_text { IsOfText result }
+{
+    let mut draft = Draft::Start;
+    let mut before = 0;
+    let mut rest = bytes;
+    while let Some((text, after)) = cut_at_byte(rest, b'\n') {
+        draft = draft.with_numbered(alloc, net, before + 1, text)?;
+        before += 1;
+        rest = after;
+    }
+    draft.finish(before, rest)
+}
+
+/// What the bytes say of a cut in the network, or their first fault by lines; Memory where a growth was refused.
+pub fn read(alloc: Global, bytes: &[u8], net: &Net) -> Result<Report, ReportFault>
+    // It is a report of the text, or a fault that the text has.
+    ensures exact { IfSome (outcome_of result) (IsReportOutcome net.now bytes.now) }
+    // What the text says, or its first fault, is answered unless memory runs out.
+    ensures only { (o : ReportOutcome) → IsReportOutcome net.now bytes.now o → IfSome (outcome_of result) (λ p. p ≡ o) }
+    ensures of_text { IsOfText result }
+{
+    net.keeps();
+    read_lines(alloc, bytes, net)
+}

@@ -1,0 +1,101 @@
+use crate::{Report, ReportFault, read};
+use cut_net::{Cut, Net, Priced};
+use std::alloc::Global;
+use std::test::Fail;
+
+const NETWORK: &[u8] = b"import A M 2\nimport M B 2\n";
+
+const REPORT: &[u8] = b"cut A B\nweight 2\nremove A M 2\nflow A M 2\nflow M B 2\nend\n";
+
+/// The modules are A, B and M, in this order.
+fn import(from: u32, to: u32, amount: u64) -> Priced {
+    Priced { from, to, amount }
+}
+
+#[test]
+fn the_report_is_read(rt: HostRuntime) -> Result<(), Fail> {
+    let alloc: Global = rt.alloc();
+    let net = Net::read(alloc, NETWORK)?;
+    let cut = Cut {
+        imports: vec![in alloc; import(0, 2, 2)]?,
+        weight: 2,
+        flow: vec![in alloc; import(0, 2, 2), import(2, 1, 2)]?,
+    };
+    let want = Report {
+        from: 0,
+        to: 1,
+        cut,
+    };
+    assert_eq!(rt; read(alloc, REPORT, &net)?, want);
+    Ok(())
+}
+
+#[test]
+fn a_text_that_is_cut_off_has_no_end(rt: HostRuntime) -> Result<(), Fail> {
+    let net = Net::read(rt.alloc(), NETWORK)?;
+    for len in 0..REPORT.len() {
+        let part = REPORT.get(..len).unwrap_or(b"");
+        assert_eq!(rt;
+            read(rt.alloc(), part, &net),
+            Err(ReportFault::NoEnd),
+            "at {len}"
+        );
+    }
+    Ok(())
+}
+
+#[test]
+fn each_fault_has_its_line(rt: HostRuntime) -> Result<(), Fail> {
+    let net = Net::read(rt.alloc(), NETWORK)?;
+    let faults: [(&[u8], ReportFault); 15] = [
+        (
+            b"cut A B\nweight 2\nremove A M 2\nflow A M 2\nflow M B 2\nend\n\n",
+            ReportFault::BadLine { line: 7 },
+        ),
+        (
+            b"cut A B\nweight 2\nremove A M 2\nflow A M 2\nflow M B 2\nend\nx",
+            ReportFault::BadLine { line: 7 },
+        ),
+        (
+            b"cut A B\nweight 2\nremove A M 2\nflow M B 2\nflow A M 2\nend\n",
+            ReportFault::Order { line: 5 },
+        ),
+        (
+            b"cut A B\nweight 2\nflow A M 2\nflow A M 2\nend\n",
+            ReportFault::Order { line: 4 },
+        ),
+        (
+            b"cut A B\nweight 2\nremove M B 2\nremove A M 2\nend\n",
+            ReportFault::Order { line: 4 },
+        ),
+        (b"cut A B\nweight 02\n", ReportFault::BadLine { line: 2 }),
+        (
+            b"cut A B\nweight 18446744073709551616\n",
+            ReportFault::BadLine { line: 2 },
+        ),
+        (b"cut A Q\n", ReportFault::UnknownName { line: 1 }),
+        (b"cut A Q R\n", ReportFault::BadLine { line: 1 }),
+        (b"cut A  B\n", ReportFault::BadLine { line: 1 }),
+        (
+            b"cut A B\nweight 2\nflow A M 2\nremove A Q 2\n",
+            ReportFault::BadLine { line: 4 },
+        ),
+        (
+            b"cut A B\nweight 2\nflow A M 0\n",
+            ReportFault::BadLine { line: 3 },
+        ),
+        (
+            b"cut A B\nweight 2\nremove M Q 2\n",
+            ReportFault::UnknownName { line: 3 },
+        ),
+        (
+            b"cut A B\nweight 2\nremove M B 2\nremove A Q 2\n",
+            ReportFault::UnknownName { line: 4 },
+        ),
+        (b"weight 2\n", ReportFault::BadLine { line: 1 }),
+    ];
+    for (text, fault) in faults {
+        assert_eq!(rt; read(rt.alloc(), text, &net), Err(fault));
+    }
+    Ok(())
+}

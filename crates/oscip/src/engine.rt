@@ -1,0 +1,76 @@
+//! What each command does with the bytes of its files, over any sink.
+ghost use Rattle.std.specs.Prelude.{◌≡◌, IfOk};
+ghost use Rattle.std.specs.String.{string_bytes};
+ghost use Rattle.cut_net.specs.Network.{name_of};
+ghost use Rattle.cut_report.specs.Sinks.{failures_by};
+ghost use Rattle.oscip.specs.Faults.{is_device};
+ghost use Rattle.oscip.specs.Runs.{is_yes, verdict_text, IsCheckRun};
+
+use crate::RunFault;
+use cut_check::{Verdict, check};
+use cut_net::Net;
+use cut_report::{Sink, put_all};
+use std::alloc::{AllocError, Global};
+
+/// The name of a module, and no text where the network has no such module.
+fn name_or_none(net: &Net, node: u32) -> &str
+    ensures { result.now ≡ name_of net.now node }
+{
+    if node < net.nodes() {
+        net.name(node)
+    } else {
+        ""
+    }
+}
+
+fn verdict_line(alloc: Global, net: &Net, verdict: Verdict) -> Result<String, AllocError>
+    ensures { IfOk result (λ t. string_bytes t ≡ verdict_text net.now verdict) }
+{
+    match verdict {
+        Verdict::Yes => String::from_str(alloc, "yes\n"),
+        Verdict::NoSuchImport { from, to } => {
+            let from = name_or_none(net, from);
+            let to = name_or_none(net, to);
+            format!(in alloc; "no NoSuchImport {from} {to}\n")
+        }
+        Verdict::StillChain => String::from_str(alloc, "no StillChain\n"),
+        Verdict::WrongWeight => String::from_str(alloc, "no WrongWeight\n"),
+        Verdict::OverWeight { from, to } => {
+            let from = name_or_none(net, from);
+            let to = name_or_none(net, to);
+            format!(in alloc; "no OverWeight {from} {to}\n")
+        }
+        Verdict::NotKept { module } => {
+            let module = name_or_none(net, module);
+            format!(in alloc; "no NotKept {module}\n")
+        }
+        Verdict::WrongValue => String::from_str(alloc, "no WrongValue\n"),
+    }
+}
+
+fn is_yes(verdict: Verdict) -> bool
+    ensures { result ≡ is_yes verdict }
+{
+    matches!(verdict, Verdict::Yes)
+}
+
+/// Reads a network and then a report on it, puts the line of the verdict, and answers whether it is yes.
+/// Then no set of imports that cuts the report's two modules apart weighs less than the report's.
+pub fn check_net_bytes<S: Sink>(
+    alloc: Global,
+    network: &[u8],
+    report: &[u8],
+    sink: &mut S,
+) -> Result<bool, RunFault>
+    // What was read, what the verdict is, and what the sink took; after a refusal of the input it took nothing.
+    ensures run { IsCheckRun network.now report.now (S.taken sink.old) (S.taken sink.new) result }
+    // Device is answered where the sink counted a failure, and nowhere else.
+    ensures failures { S.failures sink.new ≡ failures_by is_device result (S.failures sink.old) }
+{
+    let net = Net::read(alloc, network)?;
+    let report = cut_report::read(alloc, report, &net)?;
+    let verdict = check(alloc, &net, report.from, report.to, &report.cut)?;
+    let line = verdict_line(alloc, &net, verdict)?;
+    put_all(sink, line.as_bytes())?;
+    Ok(is_yes(verdict))
+}

@@ -1,0 +1,140 @@
+//! What the words of a command line ask for.
+ghost use Rattle.std.specs.Prelude.{◌≡◌, IfOk, map, false};
+ghost use Rattle.std.specs.String.{string_bytes};
+ghost use Rattle.clap.specs.Words.{app_of, found_of, kind_of, rows_of, subcommand_of, subcommand_rows_of, with_rule};
+ghost use Rattle.clap.specs.declared.Command.TheViews.{out-Command as fields_of};
+ghost use Rattle.oscip.specs.Jobs.{check_net, oscip, required_rule, Finds, Holds};
+
+use clap::error::ErrorKind;
+use clap::{Arg, ArgMatches, Command};
+use std::alloc::{AllocError, Global};
+use thiserror::Error;
+
+/// A command with the values of its words.
+#[derive(Debug, PartialEq, Eq, Drop)]
+pub enum Job {
+    /// Checks a report against a network, both given as paths of files.
+    CheckNet { network: String, report: String },
+}
+
+/// Why there is no job.
+#[derive(Debug, Drop, Error)]
+pub enum JobFault {
+    /// The command line is refused, and this text says why.
+    #[error("{text}")]
+    Line { text: String },
+    /// Help was asked for, and this is its text.
+    #[error("{text}")]
+    Help { text: String },
+    /// A growth of memory was refused.
+    #[error("memory ran out")]
+    Memory,
+}
+
+impl From<AllocError> for JobFault {
+    fn from(_error: AllocError) -> JobFault {
+        JobFault::Memory
+    }
+}
+
+/// The command with one more argument that has to be given.
+fn with_required<'a>(
+    alloc: Global,
+    command: Command<'a>,
+    id: &'a str,
+    help: &'a str,
+) -> Result<Command<'a>, AllocError>
+    ensures app { IfOk result (λ c. app_of c ≡ with_rule (app_of command.entry) (required_rule id.entry.now)) }
+    ensures local { IfOk result (λ c. (fields_of command.entry).has_globals ≡ false → (fields_of c).has_globals ≡ false) }
+{
+    command.arg(Arg::new(alloc, id).required(true).help(help))
+}
+
+fn check_net_command<'a>(alloc: Global) -> Result<Command<'a>, AllocError>
+    ensures app { IfOk result (λ c. app_of c ≡ check_net) }
+    ensures local { IfOk result (λ c. (fields_of c).has_globals ≡ false) }
+{
+    let command = Command::new(alloc, "check-net").about(
+        "Say whether a report is a cheapest cut of a network, and trust no solver",
+    );
+    let command = with_required(
+        alloc,
+        command,
+        "FILE",
+        "The network: lines `module M` and `import M N w`",
+    )?;
+    with_required(
+        alloc,
+        command,
+        "REPORT",
+        "The report of a cut between two of its modules",
+    )
+}
+
+fn command<'a>(alloc: Global) -> Result<Command<'a>, AllocError>
+    ensures { IfOk result (λ c. app_of c ≡ oscip) }
+{
+    let check_net = check_net_command(alloc)?;
+    Command::new(alloc, "oscip")
+        .about("Cross-references of Oberon-07 modules, and cheapest decoupling cuts")
+        .subcommand_required(true)
+        .subcommand(check_net)
+}
+
+fn refused(alloc: Global) -> JobFault {
+    let text = String::new(alloc);
+    JobFault::Line { text }
+}
+
+/// The value of an argument, as text of its own.
+fn value_of(alloc: Global, found: &ArgMatches<'_>, id: &str) -> Result<String, JobFault>
+    ensures { IfOk result (λ text. Finds (rows_of (found_of found.now)) id.now (string_bytes text)) }
+{
+    match found.get_str(id) {
+        None => Err(refused(alloc)),
+        Some(text) => Ok(String::from_str(alloc, text)?),
+    }
+}
+
+fn job_from(alloc: Global, matches: &ArgMatches<'_>) -> Result<Job, JobFault>
+    ensures { IfOk result (λ job. Holds (subcommand_rows_of matches.now) job) }
+{
+    let Some((name, found)) = matches.subcommand() else {
+        return Err(refused(alloc));
+    };
+    if name == "check-net" {
+        let network = value_of(alloc, found, "FILE")?;
+        let report = value_of(alloc, found, "REPORT")?;
+        return Ok(Job::CheckNet { network, report });
+    }
+    Err(refused(alloc))
+}
+
+fn fault_from(alloc: Global, error: &clap::Error) -> JobFault
+    ensures { kind_of error.now ≡ ErrorKind.OutOfMemory → result ≡ JobFault.Memory }
+{
+    if error.kind() == ErrorKind::OutOfMemory {
+        return JobFault::Memory;
+    }
+    match error.to_string(alloc) {
+        Err(_) => JobFault::Memory,
+        Ok(text) => {
+            if error.use_stderr() {
+                JobFault::Line { text }
+            } else {
+                JobFault::Help { text }
+            }
+        }
+    }
+}
+
+/// The job that the words ask for, the program's name first.
+pub fn job_of(alloc: Global, words: &[String]) -> Result<Job, JobFault>
+    ensures { IfOk result (λ job. Holds (subcommand_of oscip (map string_bytes words.now)) job) }
+{
+    let command = command(alloc)?;
+    match command.try_get_matches_from(words) {
+        Ok(matches) => job_from(alloc, &matches),
+        Err(error) => Err(fault_from(alloc, &error)),
+    }
+}
