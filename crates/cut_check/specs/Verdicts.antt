@@ -65,6 +65,7 @@ AreKept net a b flow = (m : ℕ) → IsOff net a b flow m → ⊥
 abbrev pub HasValue : Network → ℕ → (Priced → ℕ) → ℕ → Type 0
 HasValue net a flow value = entering net.imports flow a + value ≡ leaving net.imports flow a
 
+-- the verdict on a cut: the first cause that holds, with what the earlier ones deny
 abbrev pub IsCutVerdict : Network → ℕ → ℕ → List Priced → ℕ → List Priced → Verdict → Type 0
 IsCutVerdict net a b printed total flow Yes = IsRight net a b printed total flow
 IsCutVerdict net a b printed total flow (NoSuchImport from to) = IsStray net printed flow from to

@@ -92,7 +92,7 @@ impl Sums {
 }
 
 /// The verdict on a flow of these amounts, one for each import.
-pub fn check_flow(
+pub(crate) fn check_flow(
     alloc: Global,
     net: &Net,
     amounts: &[Option<u64>],

@@ -24,13 +24,13 @@ fn amount_at(i: Priced, lines: &[Priced], next: usize) -> Option<u64>
 
 /// The amount of the line of each import, and how many lines are in order.
 #[derive(Drop)]
-pub struct Matched {
-    pub amounts: Vec<Option<u64>>,
-    pub count: usize,
+pub(crate) struct Matched {
+    pub(crate) amounts: Vec<Option<u64>>,
+    pub(crate) count: usize,
 }
 
 /// Goes over the imports and the lines together, up to the first line that is stray.
-pub fn match_lines(alloc: Global, net: &Net, lines: &[Priced]) -> Result<Matched, AllocError>
+pub(crate) fn match_lines(alloc: Global, net: &Net, lines: &[Priced]) -> Result<Matched, AllocError>
     ensures { IfOk result (λ m. AreMatched net.now lines.now m.count m.amounts.items) }
 {
     net.keeps();
@@ -48,7 +48,7 @@ pub fn match_lines(alloc: Global, net: &Net, lines: &[Priced]) -> Result<Matched
 }
 
 /// Which imports have no line.
-pub fn without_line(alloc: Global, amounts: &[Option<u64>]) -> Result<Vec<bool>, AllocError>
+pub(crate) fn without_line(alloc: Global, amounts: &[Option<u64>]) -> Result<Vec<bool>, AllocError>
     ensures { IfOk result (λ v. v.items ≡ map (λ (amount : Option ℕ). not (is_some amount)) amounts.now) }
 {
     amounts.iter().map(|amount| amount.is_none()).collect(alloc)

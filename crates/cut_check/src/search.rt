@@ -21,7 +21,11 @@ fn end_of_run(imports: &[Priced], begin: usize, importer: u32) -> usize
 }
 
 /// The place of each module's first import, and at last the number of imports.
-pub fn starts_of(alloc: Global, imports: &[Priced], modules: u32) -> Result<Vec<usize>, AllocError>
+pub(crate) fn starts_of(
+    alloc: Global,
+    imports: &[Priced],
+    modules: u32,
+) -> Result<Vec<usize>, AllocError>
     requires ascending { IsAscending imports.now }
     requires between { AreBetween imports.now modules }
     ensures { IfOk result (λ starts. AreStarts imports.now modules starts.items) }
@@ -75,7 +79,7 @@ fn visit(
 }
 
 /// The modules that have a chain from the start by imports that may be used. `starts` are those of the imports.
-pub fn reachable(
+pub(crate) fn reachable(
     alloc: Global,
     imports: &[Priced],
     starts: &[usize],

@@ -16,7 +16,7 @@ fn is_weight(amount: Option<u64>, weight: u64) -> bool
 }
 
 /// Whether each amount is its import's weight, and the total their sum.
-pub fn has_weights(imports: &[Priced], amounts: &[Option<u64>], total: u64) -> bool
+pub(crate) fn has_weights(imports: &[Priced], amounts: &[Option<u64>], total: u64) -> bool
     requires amounts { length amounts.now ≡ length imports.now }
     requires fits { sum_by (λ i. i.amount) imports.now < 2 ^ 64 }
     ensures { (x : Priced → Bool) → AreMarks imports.now x amounts.now →

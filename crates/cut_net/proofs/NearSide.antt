@@ -1,4 +1,4 @@
--- What the start reaches by residual arcs of a flow is the intersection of all sides of least weight.
+-- What the start reaches by residual imports of a flow is the intersection of all sides of least weight.
 use Rattle.std.proofs.Common.{◌≡◌, ℕ, ◌≤◌, ◌<◌, Bool, true, false, cond, not, List, length, [], ◌∷◌, refl, sym, ◌∙◌, subst, arith, sum_by, inl, inr}
 use Rattle.std.specs.Prelude.{Contains}
 use Rattle.std.proofs.lemmas.Bool.{cases_Bool, both_ways, cond-true, not-true, and_parts, cases_lt, and_from, not_from_false, false_from_ne_true}

@@ -76,13 +76,14 @@ abbrev pub leaving : List Priced → (Priced → ℕ) → ℕ → ℕ
 leaving imports flow m = sum_by (λ i. if i.from == m then flow i else 0) imports
 
 -- a number on each import, at most its weight. At each module but a and b what enters equals what leaves, and
--- the value is what leaves a less what enters it
+-- the value is what leaves a less what enters it (Goldberg and Tarjan 1988, section 2)
 pub record IsFlow (net : Network) (a b : ℕ) (flow : Priced → ℕ) (value : ℕ) : Type 0 where
   pub within : (i : Priced) → Contains net.imports i → flow i ≤ i.amount
   pub kept : (m : ℕ) → m ≢ a → m ≢ b → entering net.imports flow m ≡ leaving net.imports flow m
   pub at_start : entering net.imports flow a + value ≡ leaving net.imports flow a
 
--- closed under imports with flow below their weight, and backwards under imports with flow
+-- closed under residual imports (Goldberg and Tarjan 1988, section 2): forwards under imports with flow below their
+-- weight, and backwards under imports with flow
 pub record IsClosed (net : Network) (flow : Priced → ℕ) (modules : ℕ → Bool) : Type 0 where
   pub forward : (i : Priced) → Contains net.imports i → flow i < i.amount → modules i.from ≡ true → modules i.to ≡ true
   pub backward : (i : Priced) → Contains net.imports i → 0 < flow i → modules i.to ≡ true → modules i.from ≡ true

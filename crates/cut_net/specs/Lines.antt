@@ -54,6 +54,7 @@ pub record IsCutAnswer (net : Network) (a b : ℕ) (printed : List Priced) (tota
   pub are_printed : ArePrinted net a b (removed_by printed)
   pub flow_above_zero : All (λ line. 0 < line.amount) flow
 
+-- the same of what is said
 abbrev pub IsAnswer : Network → ℕ → ℕ → Said → Type 0
 IsAnswer net a b (CutOf total printed flow) = IsCutAnswer net a b printed total flow
 

@@ -53,6 +53,7 @@ pub record AreNamesOf (lines : List NetLine) (names : List (List ℕ)) : Type 0 
   pub once : IsDistinct bytes_eq names
   pub named : (name : List ℕ) → Contains names name ↔ AreMentioning lines name
 
+-- the line is of an import
 abbrev pub is_import : NetLine → Bool
 is_import (Module m) = false
 is_import (Import m n w) = true
@@ -152,6 +153,7 @@ pub record IsCycle (bytes : List ℕ) (names : List (List ℕ)) : Type 0 where
   pub is_cycle : NamesCycle (Leads net.imports) cycle
   pub are_names : names ≡ map (name_of net) cycle
 
+-- the text says this
 abbrev pub IsNetOutcome : List ℕ → NetOutcome → Type 0
 IsNetOutcome bytes (Reads net) = NetText bytes net × (total_weight net < 2 ^ 64) × IsAcyclic net.imports
 IsNetOutcome bytes (BadLine line) = (k : ℕ) × (line ≡ k + 1) × IsBadLine bytes k

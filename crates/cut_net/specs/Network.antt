@@ -10,6 +10,7 @@ pub record Network : Type 0 where
   pub names : List (List ℕ)
   pub imports : List Priced
 
+-- the name of a module, and no text where there is none of this number
 abbrev pub name_of : Network → ℕ → List ℕ
 name_of net m = slice_index_or net.names m []
 

@@ -115,6 +115,7 @@ pub record IsFront (net : Network) (bytes : List ℕ) (lines : List ReportLine) 
   pub good : AreGoodAfter net None lines
   pub whole : bytes ≡ written lines ++ rest
 
+-- a line ends in the bytes
 abbrev pub has_line_end : List ℕ → Bool
 has_line_end bytes = list_any (λ b. b == 10) bytes
 
@@ -182,6 +183,7 @@ pub data ReportOutcome : Type 0 where
   Order : ℕ → ReportOutcome
   NoEnd : ReportOutcome
 
+-- the text says this of the network
 abbrev pub IsReportOutcome : Network → List ℕ → ReportOutcome → Type 0
 IsReportOutcome net bytes (Reads entry) = ReportText net bytes entry
 IsReportOutcome net bytes (BadLine line) = (k : ℕ) × (line ≡ k + 1) × IsBadLine net bytes k

@@ -10,7 +10,7 @@ fn place_of(bytes: &[u8], byte: u8) -> Option<usize>
     bytes.iter().position(|b| *b == byte)
 }
 
-/// What stands before the first such byte, and what stands after it.
+/// What stands before the first such byte and what stands after it, or none where there is no such byte.
 #[tactic(auto, using(crate::proofs::FieldCuts::cut_is))]
 pub fn cut_at_byte(bytes: &[u8], stop: u8) -> Option<(&[u8], &[u8])>
     ensures { option_map (λ parts. (parts.0.now, parts.1.now)) result ≡ cut_at stop bytes.now }
@@ -49,7 +49,7 @@ fn is_plain(bytes: &[u8]) -> bool
     is_digits(bytes) && !bytes.is_empty() && (bytes[0] != b'0' || bytes.len() == 1)
 }
 
-/// The number up to 2^64 - 1 of which the bytes are the decimal digits, without a leading zero.
+/// The number up to 2^64 - 1 of which the bytes are the decimal digits, without a leading zero; or none.
 #[tactic(auto, unfolding(crate::specs::Fields::number_of))]
 pub fn number_in(bytes: &[u8]) -> Option<u64>
     ensures { result ≡ number_of bytes.now }
@@ -63,7 +63,7 @@ pub fn number_in(bytes: &[u8]) -> Option<u64>
     }
 }
 
-/// The bytes as text, where they are an identifier.
+/// The bytes as text, or none where they are no identifier (Oberon-07 report, section 3).
 pub fn name_in(bytes: &[u8]) -> Option<&str>
     ensures { option_map (λ name. name.now) result ≡ named bytes.now }
 {

@@ -50,6 +50,19 @@ fn add(importers: &mut Vec<Vec<u32>>, import: Priced) -> Result<(), AllocError>
     Ok(())
 }
 
+/// So many lists of nothing.
+fn empty_rows(alloc: Global, nodes: usize) -> Result<Vec<Vec<u32>>, AllocError>
+    ensures size { IfOk result (λ rows. vec_len rows ≡ nodes) }
+    ensures none { IfOk result (λ rows. (v : ℕ) → row_at (lists rows.items) v ≡ []) }
+{
+    let mut rows = Vec::new(alloc);
+    for _ in 0..nodes {
+        let none = Vec::new(alloc);
+        rows.push(none)?;
+    }
+    Ok(rows)
+}
+
 /// Per module those that import it.
 fn importers_of(
     alloc: Global,
@@ -60,11 +73,7 @@ fn importers_of(
     ensures size { IfOk result (λ rows. vec_len rows ≡ nodes) }
     ensures importers { IfOk result (λ rows. AreImporters imports.now (lists rows.items) (length imports.now)) }
 {
-    let mut importers = Vec::new(alloc);
-    for _ in 0..nodes {
-        let none = Vec::new(alloc);
-        importers.push(none)?;
-    }
+    let mut importers = empty_rows(alloc, nodes)?;
     for import in imports {
         add(&mut importers, *import)?;
     }

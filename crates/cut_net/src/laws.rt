@@ -27,7 +27,8 @@ pub fn near_by_flow()
         AreThose modules (Near net a b) }
 {}
 
-/// Then the imports that are printed are a cheapest cut, and weigh the flow's value.
+/// Where the residual imports of a flow reach no b from a, the imports that are printed are a cheapest cut, and weigh
+/// the flow's value.
 pub fn printed_is_cheapest()
     ensures { (net : Network) (a b : ℕ) (flow : Priced → ℕ) (value : ℕ) (modules : ℕ → Bool) →
         AreBetween net.imports (length net.names) → a < length net.names → IsFlow net a b flow value →
@@ -43,7 +44,7 @@ pub fn printed_are_needed()
         (i : Priced) → Contains net.imports i → x i ≡ true → Chain net.imports (Outside (without x i)) a b }
 {}
 
-/// A text of a network says one thing: the network or the first fault.
+/// A text of a network says at most one thing: a network or a first fault.
 pub fn one_reading()
     ensures { (bytes : List ℕ) (o p : NetOutcome) → IsNetOutcome bytes o → IsNetOutcome bytes p → o ≡ p }
 {}

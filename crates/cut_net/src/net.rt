@@ -53,6 +53,7 @@ impl Net {
     pub fn keeps(&self)
         ensures { IsNetwork self.now }
     {
+        // Using a field makes the facts of the type known here.
         let _ = &self.names;
     }
 
@@ -71,7 +72,7 @@ impl Net {
         self.names[node as usize].as_str()
     }
 
-    /// The number of the module of this name.
+    /// The number of the module of this name, or none where the network lacks it.
     #[tactic(auto, using(crate::proofs::Places::position_named))]
     pub fn index_of(&self, name: &str) -> Option<u32>
         ensures { result ≡ index_of self.now name.now }

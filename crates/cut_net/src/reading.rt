@@ -57,7 +57,7 @@ impl Net {
     /// The network that the bytes spell, or the first fault: of the faults of lines the first line's, then a total
     /// weight above 2^64 - 1, then a cycle.
     ///
-    /// Each line is `module M` or `import M N w`: fields parted by one space, identifiers, and a weight from 0 to
+    /// Each line is `module M` or `import M N w`: fields parted by one space, identifiers (Oberon-07 report, section 3), and a weight from 0 to
     /// 2^64 - 1 without leading zeros. Empty lines are skipped, and the last line end may be missing.
     pub fn read(alloc: Global, bytes: &[u8]) -> Result<Net, NetFault>
         // What is answered is so: the network, or the first fault. Want of memory says nothing.

@@ -38,28 +38,28 @@ of_sink sink.Device = Device
 abbrev pub after_space : List ℕ → List ℕ
 after_space name = 32 ∷ name
 
-abbrev pub net_text : NetFault → List ℕ
-net_text (net.BadLine line) = decimal line ++ codes ": BadLine"
-net_text (net.TwiceImport line) = decimal line ++ codes ": TwiceImport"
-net_text (net.Cycle names) = codes "Cycle" ++ flat_map after_space (texts names.items)
-net_text net.WeightOverflow = codes "WeightOverflow"
-net_text (net.TooMany line) = decimal line ++ codes ": TooMany"
-net_text net.Memory = codes "Memory"
+abbrev pub net_fault_text : NetFault → List ℕ
+net_fault_text (net.BadLine line) = decimal line ++ codes ": BadLine"
+net_fault_text (net.TwiceImport line) = decimal line ++ codes ": TwiceImport"
+net_fault_text (net.Cycle names) = codes "Cycle" ++ flat_map after_space (texts names.items)
+net_fault_text net.WeightOverflow = codes "WeightOverflow"
+net_fault_text (net.TooMany line) = decimal line ++ codes ": TooMany"
+net_fault_text net.Memory = codes "Memory"
 
-abbrev pub report_text : ReportFault → List ℕ
-report_text (report.BadLine line) = decimal line ++ codes ": BadLine"
-report_text (report.UnknownName line) = decimal line ++ codes ": UnknownName"
-report_text (report.Order line) = decimal line ++ codes ": Order"
-report_text report.NoEnd = codes "NoEnd"
-report_text report.Device = codes "cannot write"
-report_text report.Memory = codes "Memory"
+abbrev pub report_fault_text : ReportFault → List ℕ
+report_fault_text (report.BadLine line) = decimal line ++ codes ": BadLine"
+report_fault_text (report.UnknownName line) = decimal line ++ codes ": UnknownName"
+report_fault_text (report.Order line) = decimal line ++ codes ": Order"
+report_fault_text report.NoEnd = codes "NoEnd"
+report_fault_text report.Device = codes "cannot write"
+report_fault_text report.Memory = codes "Memory"
 
 -- what is told of a fault
 abbrev pub fault_text : RunFault → List ℕ
 fault_text (CannotRead path) = codes "cannot read " ++ string_bytes path
 fault_text (CannotWrite path) = codes "cannot write " ++ string_bytes path
-fault_text (Net fault) = net_text fault
-fault_text (Report fault) = report_text fault
+fault_text (Net fault) = net_fault_text fault
+fault_text (Report fault) = report_fault_text fault
 fault_text Device = codes "cannot write"
 fault_text Memory = codes "Memory"
 

@@ -26,6 +26,7 @@ Finds rows id text = first_of id rows ≡ Some text
 abbrev pub HasValues : List Row → Job → Type 0
 HasValues rows (CheckNet network report) = Finds rows (codes "FILE") (string_bytes network) × Finds rows (codes "REPORT") (string_bytes report)
 
+-- the word that names the command
 abbrev pub command_name : Job → Text
 command_name (CheckNet network report) = codes "check-net"
 

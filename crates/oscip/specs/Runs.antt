@@ -27,6 +27,7 @@ verdict_text net (OverWeight from to) = codes "no OverWeight " ++ name_of net fr
 verdict_text net (NotKept m) = codes "no NotKept " ++ name_of net m ++ codes "\n"
 verdict_text net WrongValue = codes "no WrongValue\n"
 
+-- the verdict is yes
 abbrev pub is_yes : Verdict → Bool
 is_yes Yes = true
 is_yes (NoSuchImport from to) = false

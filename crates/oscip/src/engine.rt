@@ -55,7 +55,8 @@ fn is_yes(verdict: Verdict) -> bool
 }
 
 /// Reads a network and then a report on it, puts the line of the verdict, and answers whether it is yes.
-/// Then no set of imports that cuts the report's two modules apart weighs less than the report's.
+/// At yes no set of imports that cuts the report's two modules apart weighs less than the report's.
+/// Refuses with `Net`, `Report`, `Device` or `Memory`.
 pub fn check_net_bytes<S: Sink>(
     alloc: Global,
     network: &[u8],

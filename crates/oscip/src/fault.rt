@@ -3,17 +3,18 @@ ghost use Rattle.std.specs.Prelude.{◌≡◌, ◌++◌, IfOk, OnOk, codes};
 ghost use Rattle.std.specs.List.{flat_map};
 ghost use Rattle.std.specs.String.{string_bytes};
 ghost use Rattle.cut_net.specs.Network.{texts};
-ghost use Rattle.oscip.specs.Faults.{after_space, fault_text, net_status, net_text, report_status, report_text, status_number};
+ghost use Rattle.oscip.specs.Faults.{after_space, fault_text, net_status, net_fault_text, report_status, report_fault_text, status_number};
 
 use cut_net::NetFault;
 use cut_report::{ReportFault, SinkFault};
 use std::alloc::{AllocError, Global};
 use thiserror::Error;
 
-/// Why a run ends without an answer. `Net` and `Report` never hold want of memory or a failed device.
+/// Why a run ends without an answer. As `From` makes them, `Net` and `Report` hold
+/// neither want of memory nor a failed device.
 #[derive(Debug, PartialEq, Eq, Drop, Error)]
 pub enum RunFault {
-    /// A file can't be read, or is too long.
+    /// A file can't be read, or has more than 2^30 bytes.
     #[error("cannot read {path}")]
     CannotRead { path: String },
     /// A file can't be written.
@@ -100,7 +101,7 @@ fn after_spaces(alloc: Global, names: &[String]) -> Result<String, AllocError>
 }
 
 fn net_fault_text(alloc: Global, fault: &NetFault) -> Result<String, AllocError>
-    ensures { IfOk result (λ t. string_bytes t ≡ net_text fault.now) }
+    ensures { IfOk result (λ t. string_bytes t ≡ net_fault_text fault.now) }
 {
     match fault {
         NetFault::BadLine { line } => format!(in alloc; "{line}: BadLine"),
@@ -116,7 +117,7 @@ fn net_fault_text(alloc: Global, fault: &NetFault) -> Result<String, AllocError>
 }
 
 fn report_fault_text(alloc: Global, fault: &ReportFault) -> Result<String, AllocError>
-    ensures { IfOk result (λ t. string_bytes t ≡ report_text fault.now) }
+    ensures { IfOk result (λ t. string_bytes t ≡ report_fault_text fault.now) }
 {
     match fault {
         ReportFault::BadLine { line } => format!(in alloc; "{line}: BadLine"),
@@ -142,6 +143,7 @@ fn text_of(alloc: Global, fault: &RunFault) -> Result<String, AllocError>
 }
 
 /// The line that tells of a fault: `oscip: `, the fault with names and paths as they were given, and an LF.
+/// Fails where memory is refused.
 pub fn fault_line(alloc: Global, fault: &RunFault) -> Result<String, AllocError>
     ensures { IfOk result (λ t. string_bytes t ≡ codes "oscip: " ++ fault_text fault.now ++ codes "\n") }
 {

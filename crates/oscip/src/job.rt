@@ -55,7 +55,7 @@ fn check_net_command<'a>(alloc: Global) -> Result<Command<'a>, AllocError>
     ensures local { IfOk result (λ c. (fields_of c).has_globals ≡ false) }
 {
     let command = Command::new(alloc, "check-net").about(
-        "Say whether a report is a cheapest cut of a network, and trust no solver",
+        "Check a report's proof that its cut of a network is cheapest, and trust no solver",
     );
     let command = with_required(
         alloc,
@@ -76,7 +76,7 @@ fn command<'a>(alloc: Global) -> Result<Command<'a>, AllocError>
 {
     let check_net = check_net_command(alloc)?;
     Command::new(alloc, "oscip")
-        .about("Cross-references of Oberon-07 modules, and cheapest decoupling cuts")
+        .about("Checks of cheapest decoupling cuts of Oberon-07 modules")
         .subcommand_required(true)
         .subcommand(check_net)
 }
@@ -128,7 +128,8 @@ fn fault_from(alloc: Global, error: &clap::Error) -> JobFault
     }
 }
 
-/// The job that the words ask for, the program's name first.
+/// The job that the words ask for, the program's name first. Refuses with Line where `clap` refuses them, with Help
+/// where they ask for it, and with Memory.
 pub fn job_of(alloc: Global, words: &[String]) -> Result<Job, JobFault>
     ensures { IfOk result (λ job. Holds (subcommand_of oscip (map string_bytes words.now)) job) }
 {

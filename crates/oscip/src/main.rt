@@ -58,7 +58,7 @@ fn run_job<R: Files + AllocGlobal + Print>(rt: &R, job: &Job) -> Result<bool, Ru
     }
 }
 
-/// Tells of the fault in one line on standard error.
+/// Tells of the fault in one line on standard error, and gives its status.
 fn end_by<R: AllocGlobal + Eprint>(rt: &R, fault: &RunFault) -> ExitCode {
     match fault_line(rt.alloc(), fault) {
         Ok(line) => {

@@ -89,7 +89,7 @@ fn a_wrong_report_is_no(rt: HostRuntime) -> Result<(), Fail> {
 
 #[test]
 fn a_source_that_takes_in_more_is_no(rt: HostRuntime) -> Result<(), Fail> {
-    // Flow goes from X to A, which X's own balance forbids first; from C to A alone, A takes in more than it sends.
+    // All flow enters A and none leaves it, so the value would be below 0.
     let net = b"import B A 3\n";
     says(
         &rt,
@@ -147,30 +147,12 @@ fn worked_cuts_are_yes(rt: HostRuntime) -> Result<(), Fail> {
 }
 
 #[test]
-fn reports_are_refused(rt: HostRuntime) -> Result<(), Fail> {
-    refuses(
-        &rt,
-        SIX,
-        b"cut A B\nweight 2\nremove A M 2\nflow A M 2\nflow M B 2\n",
-        "oscip: NoEnd\n",
-    )?;
-    refuses(
-        &rt,
-        SIX,
-        b"cut A B\nweight 2\nremove A M 2\nflow M B 2\nflow A M 2\nend\n",
-        "oscip: 5: Order\n",
-    )?;
+fn lines_that_break_the_form_are_refused(rt: HostRuntime) -> Result<(), Fail> {
     refuses(
         &rt,
         SIX,
         b"cut A B\nweight 02\nremove A M 2\nflow A M 2\nflow M B 2\nend\n",
         "oscip: 2: BadLine\n",
-    )?;
-    refuses(
-        &rt,
-        SIX,
-        b"cut A Q\nweight 2\nremove A M 2\nflow A M 2\nflow M B 2\nend\n",
-        "oscip: 1: UnknownName\n",
     )?;
     refuses(
         &rt,
@@ -189,6 +171,28 @@ fn reports_are_refused(rt: HostRuntime) -> Result<(), Fail> {
         SIX,
         b"cut A B\nweight 2\nremove A M 2\nflow A M 2\nflow M B 2\nend\n\n",
         "oscip: 7: BadLine\n",
+    )
+}
+
+#[test]
+fn names_order_and_a_missing_end_are_refused(rt: HostRuntime) -> Result<(), Fail> {
+    refuses(
+        &rt,
+        SIX,
+        b"cut A B\nweight 2\nremove A M 2\nflow A M 2\nflow M B 2\n",
+        "oscip: NoEnd\n",
+    )?;
+    refuses(
+        &rt,
+        SIX,
+        b"cut A B\nweight 2\nremove A M 2\nflow M B 2\nflow A M 2\nend\n",
+        "oscip: 5: Order\n",
+    )?;
+    refuses(
+        &rt,
+        SIX,
+        b"cut A Q\nweight 2\nremove A M 2\nflow A M 2\nflow M B 2\nend\n",
+        "oscip: 1: UnknownName\n",
     )
 }
 

@@ -1,6 +1,7 @@
 use crate::{Report, ReportFault, read};
 use cut_net::{Cut, Net, Priced};
 use std::alloc::Global;
+use std::process::Abort;
 use std::test::Fail;
 
 const NETWORK: &[u8] = b"import A M 2\nimport M B 2\n";
@@ -44,58 +45,86 @@ fn a_text_that_is_cut_off_has_no_end(rt: HostRuntime) -> Result<(), Fail> {
     Ok(())
 }
 
-#[test]
-fn each_fault_has_its_line(rt: HostRuntime) -> Result<(), Fail> {
+/// Checks that each of these texts has its fault.
+fn have_faults(
+    rt: &(impl Abort + AllocGlobal),
+    faults: &[(&[u8], ReportFault)],
+) -> Result<(), Fail> {
     let net = Net::read(rt.alloc(), NETWORK)?;
-    let faults: [(&[u8], ReportFault); 15] = [
-        (
-            b"cut A B\nweight 2\nremove A M 2\nflow A M 2\nflow M B 2\nend\n\n",
-            ReportFault::BadLine { line: 7 },
-        ),
-        (
-            b"cut A B\nweight 2\nremove A M 2\nflow A M 2\nflow M B 2\nend\nx",
-            ReportFault::BadLine { line: 7 },
-        ),
-        (
-            b"cut A B\nweight 2\nremove A M 2\nflow M B 2\nflow A M 2\nend\n",
-            ReportFault::Order { line: 5 },
-        ),
-        (
-            b"cut A B\nweight 2\nflow A M 2\nflow A M 2\nend\n",
-            ReportFault::Order { line: 4 },
-        ),
-        (
-            b"cut A B\nweight 2\nremove M B 2\nremove A M 2\nend\n",
-            ReportFault::Order { line: 4 },
-        ),
-        (b"cut A B\nweight 02\n", ReportFault::BadLine { line: 2 }),
-        (
-            b"cut A B\nweight 18446744073709551616\n",
-            ReportFault::BadLine { line: 2 },
-        ),
-        (b"cut A Q\n", ReportFault::UnknownName { line: 1 }),
-        (b"cut A Q R\n", ReportFault::BadLine { line: 1 }),
-        (b"cut A  B\n", ReportFault::BadLine { line: 1 }),
-        (
-            b"cut A B\nweight 2\nflow A M 2\nremove A Q 2\n",
-            ReportFault::BadLine { line: 4 },
-        ),
-        (
-            b"cut A B\nweight 2\nflow A M 0\n",
-            ReportFault::BadLine { line: 3 },
-        ),
-        (
-            b"cut A B\nweight 2\nremove M Q 2\n",
-            ReportFault::UnknownName { line: 3 },
-        ),
-        (
-            b"cut A B\nweight 2\nremove M B 2\nremove A Q 2\n",
-            ReportFault::UnknownName { line: 4 },
-        ),
-        (b"weight 2\n", ReportFault::BadLine { line: 1 }),
-    ];
     for (text, fault) in faults {
-        assert_eq!(rt; read(rt.alloc(), text, &net), Err(fault));
+        assert_eq!(rt; read(rt.alloc(), text, &net), Err(*fault));
     }
     Ok(())
+}
+
+#[test]
+fn lines_break_the_form(rt: HostRuntime) -> Result<(), Fail> {
+    have_faults(
+        &rt,
+        &[
+            (
+                b"cut A B\nweight 2\nremove A M 2\nflow A M 2\nflow M B 2\nend\n\n",
+                ReportFault::BadLine { line: 7 },
+            ),
+            (
+                b"cut A B\nweight 2\nremove A M 2\nflow A M 2\nflow M B 2\nend\nx",
+                ReportFault::BadLine { line: 7 },
+            ),
+            (b"cut A B\nweight 02\n", ReportFault::BadLine { line: 2 }),
+            (
+                b"cut A B\nweight 18446744073709551616\n",
+                ReportFault::BadLine { line: 2 },
+            ),
+            (b"cut A Q R\n", ReportFault::BadLine { line: 1 }),
+            (b"cut A  B\n", ReportFault::BadLine { line: 1 }),
+            (
+                b"cut A B\nweight 2\nflow A M 2\nremove A Q 2\n",
+                ReportFault::BadLine { line: 4 },
+            ),
+            (
+                b"cut A B\nweight 2\nflow A M 0\n",
+                ReportFault::BadLine { line: 3 },
+            ),
+            (b"weight 2\n", ReportFault::BadLine { line: 1 }),
+        ],
+    )
+}
+
+#[test]
+fn names_are_unknown(rt: HostRuntime) -> Result<(), Fail> {
+    have_faults(
+        &rt,
+        &[
+            (b"cut A Q\n", ReportFault::UnknownName { line: 1 }),
+            (
+                b"cut A B\nweight 2\nremove M Q 2\n",
+                ReportFault::UnknownName { line: 3 },
+            ),
+            (
+                b"cut A B\nweight 2\nremove M B 2\nremove A Q 2\n",
+                ReportFault::UnknownName { line: 4 },
+            ),
+        ],
+    )
+}
+
+#[test]
+fn lines_are_out_of_order(rt: HostRuntime) -> Result<(), Fail> {
+    have_faults(
+        &rt,
+        &[
+            (
+                b"cut A B\nweight 2\nremove A M 2\nflow M B 2\nflow A M 2\nend\n",
+                ReportFault::Order { line: 5 },
+            ),
+            (
+                b"cut A B\nweight 2\nflow A M 2\nflow A M 2\nend\n",
+                ReportFault::Order { line: 4 },
+            ),
+            (
+                b"cut A B\nweight 2\nremove M B 2\nremove A M 2\nend\n",
+                ReportFault::Order { line: 4 },
+            ),
+        ],
+    )
 }
