@@ -35,7 +35,7 @@ for size in "512 4096" "2048 16384" "8192 65536"; do
   ours=$(measure "$oscip" check-net net right)
   plain=$(measure ./check net right)
   wc=$(measure wc net right)
-  memory=$(/usr/bin/time -f %M "$oscip" check-net net right 2>&1 > said)
+  memory=$(env time -f %M "$oscip" check-net net right 2>&1 > said)
   python3 -c "print('%-8s %8s %8d %10d | %9.1f %9.1f %9.1f | %5.1fx %5.1fx' % ('$1', '$2', $(wc -l < right), $bytes, $ours, $plain, $wc, $ours / $plain, $memory * 1024 / $bytes))"
 done
 echo "time: the program's time over the plain checker's; memory: its greatest resident size over the bytes of both files"
