@@ -1,20 +1,25 @@
-/* Refuses the allocation of the number REFUSE_AT, for refuse.sh: loaded before the C library. */
+/* Refuses the allocation of the number REFUSE_AT by malloc or realloc, for refuse.sh: loaded before the C library.
+   Where it does, it makes the file REFUSE_NOTE. */
 #define _GNU_SOURCE
 #include <dlfcn.h>
 #include <errno.h>
-#include <stdio.h>
+#include <fcntl.h>
 #include <stdlib.h>
+#include <unistd.h>
 
 static long count, at = -1;
+static const char *note;
 
 __attribute__((constructor)) static void begin(void) {
     const char *text = getenv("REFUSE_AT");
+    note = getenv("REFUSE_NOTE");
     if (text) at = atol(text);
     count = 0;
 }
 
 static int refused(void) {
     if (++count != at) return 0;
+    if (note) close(open(note, O_CREAT | O_WRONLY, 0600));
     errno = ENOMEM;
     return 1;
 }

@@ -1,6 +1,6 @@
 #!/usr/bin/env bash
-# Refuses the first 400 allocations by malloc or realloc, one in each run: it has to end with its right answer or with
-# Memory, and no third.
+# Refuses each allocation by malloc or realloc of a run, one in each of as many runs. Each has to end with its right answer,
+# or with Memory, status 4 and at most a front of the right answer on standard output, and no third.
 # Build the program first: (cd crates/oscip && rt run -- --help). Then: bench/refuse.sh [PATH OF THE PROGRAM]
 set -eu
 here=$(cd "$(dirname "$0")" && pwd)
@@ -8,27 +8,60 @@ oscip=$(realpath "${1:-$here/../crates/oscip/out/oscip}")
 work=$(mktemp -d)
 trap 'rm -rf "$work"' EXIT
 gcc -shared -fPIC -O1 -o "$work/refuse.so" "$here/refuse.c" -ldl
+g++ -O2 -o "$work/generate" "$here/generate.cpp"
 cd "$work"
 cp "$here"/../examples/*.net "$here"/../examples/*.cut .
 printf 'import A B 1\nimport B C 1\nimport C A 1\n' > cycle.net
 printf 'import A B 1\nimport A B 1\n' > twice.net
 printf 'import A B 18446744073709551615\nimport B C 1\n' > overflow.net
+printf 'import A B 0\nimport B C 0\nimport A C 0\n' > zero.net
 sed 's/^flow A M 2/flow A M 3/' six.cut > over.cut
 sed '/^end/d' six.cut > short.cut
+ends=$(./generate layered 1 64 512 layered.net)
+printf 'oscip: Memory\n' > memory
 
-for words in "six.net six.cut" "editor.net editor.cut" "six.net over.cut" "six.net short.cut" "cycle.net six.cut" \
-             "twice.net six.cut" "overflow.net six.cut" "six.net absent.cut" "six.net"; do
-  set +e
-  right=$("$oscip" check-net $words 2>&1); right="$right, status $?"
-  memory=0 same=0
-  for number in $(seq 1 400); do
-    got=$(REFUSE_AT=$number LD_PRELOAD="$work/refuse.so" "$oscip" check-net $words 2>&1); got="$got, status $?"
-    case $got in
-      "oscip: Memory, status 4") memory=$((memory + 1)) ;;
-      "$right") same=$((same + 1)) ;;
-      *) echo "check-net $words, allocation $number: $got"; exit 1 ;;
-    esac
+# Whether the run ended for want of memory.
+is_memory() {
+  [ $status = 4 ] && cmp -s told memory && head -c "$(wc -c < got)" right | cmp -s - got
+}
+
+# The words of a run, after the status with which it ends where nothing is refused.
+trial() {
+  local wanted=$1 number=0 refusals=0 same=0 right status
+  shift
+  "$oscip" "$@" > right 2> said && right=0 || right=$?
+  [ $right = $wanted ] || { echo "$*: status $right, $(head -n 1 said)"; exit 1; }
+  while :; do
+    number=$((number + 1))
+    rm -f refused
+    REFUSE_AT=$number REFUSE_NOTE=refused LD_PRELOAD="$work/refuse.so" "$oscip" "$@" > got 2> told && status=0 || status=$?
+    [ -e refused ] || break
+    if is_memory; then
+      refusals=$((refusals + 1))
+    elif [ $status = $right ] && cmp -s got right && cmp -s told said; then
+      same=$((same + 1))
+    else
+      echo "$*, allocation $number: status $status, $(head -n 1 told)"
+      exit 1
+    fi
   done
-  set -e
-  echo "check-net $words: $memory refusals end in Memory, the others change nothing (${right%%$'\n'*})"
+  [ $refusals -gt 0 ] || { echo "$*: nothing ends in Memory"; exit 1; }
+  echo "$*: $refusals refusals end in Memory, $same change nothing ($(cat said right | head -n 1), status $right)"
+}
+
+trial 0 check-net six.net six.cut
+trial 0 check-net editor.net editor.cut
+trial 5 check-net six.net over.cut
+for words in "six.net short.cut" "cycle.net six.cut" "twice.net six.cut" "overflow.net six.cut"; do
+  trial 1 check-net $words
 done
+trial 3 check-net six.net absent.cut
+trial 2 check-net six.net
+for words in "six.net A B" "editor.net Editor Net" "editor.net Net Editor" "zero.net A C" "layered.net $ends"; do
+  trial 0 cut-net $words
+done
+for words in "six.net A A" "six.net A Absent" "six.net Absent A" "cycle.net A B" "twice.net A B" "overflow.net A B"; do
+  trial 1 cut-net $words
+done
+trial 3 cut-net absent.net A B
+trial 2 cut-net six.net A

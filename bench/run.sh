@@ -6,35 +6,23 @@ here=$(cd "$(dirname "$0")" && pwd)
 oscip=$(realpath "${1:-$here/../crates/oscip/out/oscip}")
 work=$(mktemp -d)
 trap 'rm -rf "$work"' EXIT
-g++ -O2 -o "$work/generate" "$here/generate.cpp"
-g++ -O2 -o "$work/check" "$here/check.cpp"
+for program in generate plain_cut check; do g++ -O2 -o "$work/$program" "$here/$program.cpp"; done
 cd "$work"
-
-# The least time of seven runs, in milliseconds.
-measure() {
-  python3 - "$@" <<'PY'
-import subprocess, sys, time
-least = 1e9
-for _ in range(7):
-    start = time.perf_counter()
-    subprocess.run(sys.argv[1:], stdout=subprocess.DEVNULL)
-    least = min(least, time.perf_counter() - start)
-print(f"{least * 1000:.1f}")
-PY
-}
 
 printf '%-8s %8s %8s %10s | %9s %9s %9s | %6s %6s\n' modules imports report bytes oscip_ms c++_ms wc_ms time memory
 for size in "512 4096" "2048 16384" "8192 65536"; do
   set -- $size
-  ./generate 1 "$1" "$2" net right wrong
+  ends=$(./generate banded 1 "$1" "$2" net)
+  ./plain_cut net $ends report > right
+  # One less in the last flow line.
+  tac right | awk '/^flow / && !done { done = 1; if (--$4 == 0) next } 1' | tac > wrong
   [ "$("$oscip" check-net net right)" = "$(./check net right)" ]
   ours=$("$oscip" check-net net wrong) && exit 1; [ $? = 5 ]
   plain=$(./check net wrong) && exit 1; [ $? = 5 ]
   case $ours in "$plain" | "$plain "*) ;; *) exit 1 ;; esac
   bytes=$(cat net right | wc -c)
-  ours=$(measure "$oscip" check-net net right)
-  plain=$(measure ./check net right)
-  wc=$(measure wc net right)
+  times=$(python3 "$here/measure.py" -- "$oscip" check-net net right -- ./check net right -- wc net right)
+  read -r ours plain wc <<< "$times"
   memory=$(env time -f %M "$oscip" check-net net right 2>&1 > said)
   python3 -c "print('%-8s %8s %8d %10d | %9.1f %9.1f %9.1f | %5.1fx %5.1fx' % ('$1', '$2', $(wc -l < right), $bytes, $ours, $plain, $wc, $ours / $plain, $memory * 1024 / $bytes))"
 done

@@ -1,10 +1,17 @@
 -- Adding an import's amount to the sum of one of its ends.
-use Rattle.std.proofs.Common.{◌≡◌, ℕ, ◌+◌, ◌≤◌, ◌<◌, Bool, cond, eqb, List, length, get_or, set, take, refl, sym, ap, ◌∙◌, arith, inl, inr, sum_by, get_or-set_same, get_or-set_other, Option, Some, None}
-use Rattle.std.specs.Prelude.{IfSome, is_some, unwrap_or}
+use Rattle.std.proofs.Common.{◌≡◌, ℕ, ◌+◌, ◌≤◌, ◌<◌, Bool, cond, eqb, List, length, get_or, set, take, sym, ap, ◌∙◌, arith, inl, inr, sum_by, get_or-set_same, get_or-set_other}
 use Rattle.std.proofs.lemmas.Bool.{cases_eq, eq-eqb, ne_eqb}
+use Rattle.std.proofs.lemmas.List.{get_or_default}
 use Rattle.std.proofs.lemmas.List.Sums.{sum_by_more, sum_by_more_le}
-use Rattle.cut_net.specs.Cuts.{weight}
 use Rattle.cut_net.specs.declared.priced.Priced.{Priced}
+use Rattle.cut_net.specs.WellFormed.{AreBetween}
+use Rattle.cut_check.specs.Reaching.{any}
+
+pub to_in : (imports : List Priced) (modules k : ℕ) → AreBetween imports modules → k < length imports → (get_or imports k any).to < modules
+to_in imports modules k between h = (between (get_or imports k any) (k, h, get_or_default imports k (get_or imports k any) any h)).1
+
+pub from_in : (imports : List Priced) (modules k : ℕ) → AreBetween imports modules → k < length imports → (get_or imports k any).from < modules
+from_in imports modules k between h = (between (get_or imports k any) (k, h, get_or_default imports k (get_or imports k any) any h)).0
 
 module _ (imports : List Priced) (k : ℕ) (d : Priced) (in_k : k < length imports) (sums : List ℕ) (x : ℕ) where
   pub adding_fits : ((m : ℕ) → get_or sums m 0 ≤ sum_by (λ (i : Priced). i.amount) (take k imports)) → x ≤ (get_or imports k d).amount → (total : ℕ) → sum_by (λ (i : Priced). i.amount) imports < total →
@@ -41,19 +48,3 @@ module _ (imports : List Priced) (k : ℕ) (d : Priced) (in_k : k < length impor
             let now = get_or-set_other sums place m (get_or sums place 0 + x) 0 ne in
             omega arith
       ]
-
-term_is : (o : Option ℕ) (t : Bool) (w : ℕ) → IfSome o (λ x. x ≡ w) → is_some o ≡ t → unwrap_or o 0 ≡ cond t w 0
-term_is None t w h e = rw (← e) refl
-term_is (Some x) t w h e = rw (← e) h
-
-pub weighing_more : (imports : List Priced) (x : Priced → Bool) (k : ℕ) (d : Priced) (o : Option ℕ) (sum : ℕ) → k < length imports → sum ≡ weight (take k imports) x →
-    IfSome o (λ y. y ≡ (get_or imports k d).amount) → is_some o ≡ x (get_or imports k d) → sum + unwrap_or o 0 ≡ weight (take (k + 1) imports) x
-weighing_more imports x k d o sum in_k so_far right mark =
-    let more = sum_by_more (λ i. cond (x i) i.amount 0) imports k d in_k in
-    let term = term_is o (x (get_or imports k d)) (get_or imports k d).amount right mark in
-    omega arith
-
-pub weighing_most : (imports : List Priced) (k : ℕ) (d : Priced) (o : Option ℕ) (sum : ℕ) → k < length imports → sum ≤ sum_by (λ (i : Priced). i.amount) (take k imports) →
-    IfSome o (λ y. y ≡ (get_or imports k d).amount) → sum + unwrap_or o 0 ≤ sum_by (λ (i : Priced). i.amount) (take (k + 1) imports)
-weighing_most imports k d None sum in_k so_far right = let more = sum_by_more (λ (i : Priced). i.amount) imports k d in_k in omega arith
-weighing_most imports k d (Some y) sum in_k so_far right = let more = sum_by_more (λ (i : Priced). i.amount) imports k d in_k in omega arith

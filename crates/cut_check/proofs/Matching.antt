@@ -3,7 +3,7 @@ use Rattle.std.proofs.Common.{◌≡◌, ℕ, zero, suc, ◌+◌, ◌-◌, ◌�
 use Rattle.std.specs.Prelude.{is_some, find, option_map}
 use Rattle.std.proofs.lemmas.Bool.{cases_eq, both_ways, and_parts, and_from, or_cases, or_left, or_right, ltb-true, lt-ltb, eqb-true, eq-eqb, false_from_ne_true}
 use Rattle.std.proofs.lemmas.List.Folds.{find-append}
-use Rattle.std.proofs.lemmas.List.{take_more, get_or_push, get_or_append_left, get_or-take, length-take-le}
+use Rattle.std.proofs.lemmas.List.{get_or_default, take_more, get_or_push, get_or_append_left, get_or-take, length-take-le}
 use Rattle.std.specs.Option.{option_or}
 use Rattle.std.proofs.lemmas.Grind.{common_steps}
 use Rattle.cut_net.specs.declared.priced.Priced.{Priced}
@@ -30,11 +30,6 @@ same_sym s = record { from = sym s.from; to = sym s.to }
 -- two imports with the ends of one line
 pub same_trans : {i l j : Priced} → Same i l → Same j l → Same i j
 same_trans s t = record { from = s.from ∙ sym t.from; to = s.to ∙ sym t.to }
-
-pub get_or_default : {X : Type 0} (xs : List X) (i : ℕ) (d e : X) → i < length xs → get_or xs i d ≡ get_or xs i e
-get_or_default [] i d e h = absurd (omega arith)
-get_or_default (x ∷ xs) zero d e h = refl
-get_or_default (x ∷ xs) (suc i) d e h = get_or_default xs i d e (omega arith)
 
 -- the order of the ends
 pub record Before (i j : Priced) : Type 0 where

@@ -1,8 +1,8 @@
 -- What the parts of the check say together.
-use Rattle.std.proofs.Common.{◌≡◌, ℕ, Result, Ok, Err, ◌+◌, ◌≤◌, ◌<◌, Bool, false, not, List, length, get_or, map, take, refl, sym, ap, ◌∙◌, subst, arith, Option, Some, None}
+use Rattle.std.proofs.Common.{◌≡◌, ℕ, Result, Ok, Err, ◌≤◌, ◌<◌, Bool, false, not, List, length, get_or, map, take, refl, sym, ap, ◌∙◌, subst, arith, Option, Some, None}
 use Rattle.std.specs.Prelude.{Contains, IfOk, IfSome, slice_get, is_some, unwrap_or, option_map, find}
 use Rattle.std.proofs.lemmas.Bool.{not-true, not_from_false}
-use Rattle.std.proofs.lemmas.List.{take_all, get_or-take, get_or-map, length-map, length-take-le}
+use Rattle.std.proofs.lemmas.List.{get_or_default, take_all, get_or-take, get_or-map, length-take-le}
 use Rattle.std.proofs.lemmas.List.Elements.{All-take}
 use Rattle.std.proofs.lemmas.Option.{slice_get_within, slice_get-get_or}
 use Rattle.cut_net.specs.declared.priced.Priced.{Priced}
@@ -17,7 +17,6 @@ use Rattle.cut_check.specs.Sums.{IsFlowVerdict}
 use Rattle.cut_check.specs.Verdicts.{HasCut, IsFirstStray, IsCutVerdict}
 use Rattle.cut_check.specs.declared.verdict.Verdict.{Verdict}
 use Rattle.cut_check.specs.declared.verdict.Verdict.TheVariants.{Yes, NoSuchImport, StillChain, WrongWeight, OverWeight, NotKept, WrongValue}
-use Rattle.cut_check.proofs.Matching.{get_or_default}
 
 pub front_in_order : (net : Network) (lines : List Priced) (n : ℕ) → n ≤ length lines → AreInOrder net lines → AreInOrder net (take n lines)
 front_in_order net lines n short o =
@@ -29,9 +28,6 @@ front_in_order net lines n short o =
           let j_in : j < n = omega arith in
           rw (get_or-take n lines i d i_in, get_or-take n lines j d j_in) (o.ascending i j d h (omega arith));
     }
-
-pub out_of_order : (net : Network) (lines : List Priced) (count : ℕ) (amounts : List (Option ℕ)) → AreMatched net lines count amounts → count < length lines → AreInOrder net lines → ⊥
-out_of_order net lines count amounts m h o = m.no_more h (front_in_order net lines (count + 1) (omega arith) o)
 
 -- all lines are in order, and the amounts stand at their imports
 pub record AllMatched (net : Network) (lines : List Priced) (amounts : List (Option ℕ)) : Type 0 where
@@ -66,9 +62,6 @@ module _ (net : Network) (lines : List Priced) (amounts : List (Option ℕ)) (r 
   module _ (allowed : List Bool) (allowed_is : allowed ≡ map (λ (o : Option ℕ). not (is_some o)) amounts) where
     test_at : (k : ℕ) → k < length net.imports → get_or allowed k false ≡ not (is_some (get_or amounts k None))
     test_at k in_k = let size = r.size in rw allowed_is (get_or-map (λ (o : Option ℕ). not (is_some o)) amounts k None false (omega arith))
-
-    pub allowed_size : length allowed ≡ length net.imports
-    allowed_size = ap length allowed_is ∙ length-map amounts (λ (o : Option ℕ). not (is_some o)) ∙ r.size
 
     allowed_outside : (i : Priced) → Contains net.imports i → IsAllowed net.imports allowed i → Contains net.imports i × Outside (removed_by lines) i
     allowed_outside i c (k, in_k, at_k, may) = (c, subst (λ v. removed_by lines v ≡ false) at_k (sym (marks k i in_k) ∙ not-true _ (sym (test_at k in_k) ∙ may)))

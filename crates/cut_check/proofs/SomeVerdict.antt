@@ -2,7 +2,7 @@
 use Rattle.std.proofs.Common.{◌≡◌, ℕ, zero, suc, ◌+◌, ◌≤◌, ◌<◌, List, [], ◌∷◌, ◌++◌, cond, length, get_or, take, refl, sym, ap, ◌∙◌, subst, arith, ◌⊎◌, inl, inr, Option, Some, None}
 use Rattle.std.specs.Prelude.{IfSome, find, is_some}
 use Rattle.std.proofs.lemmas.Bool.{cases_Bool, cases_eq, cases_lt}
-use Rattle.std.proofs.lemmas.List.{get_or-take, length-take-le}
+use Rattle.std.proofs.lemmas.List.{get_or_default, get_or-take, length-take-le}
 use Rattle.std.proofs.lemmas.Option.{slice_get-get_or}
 use Rattle.cut_net.specs.declared.priced.Priced.{Priced}
 use Rattle.cut_net.specs.Network.{Network}
@@ -16,7 +16,7 @@ use Rattle.cut_check.specs.Matched.{IsLineAt}
 use Rattle.cut_check.specs.Verdicts.{AreKept, AreRead, AreUnder, HasCut, HasVerdict, IsFirstStray, IsOff}
 use Rattle.cut_check.specs.declared.verdict.Verdict.TheVariants.{Yes, NoSuchImport, StillChain, WrongWeight, OverWeight, NotKept, WrongValue}
 use Rattle.cut_check.proofs.Flows.{beyond}
-use Rattle.cut_check.proofs.Matching.{get_or_default, Matching, matching_start, matching_more, matching_end}
+use Rattle.cut_check.proofs.Matching.{Matching, matching_start, matching_more, matching_end}
 use Rattle.cut_check.proofs.Parts.{all_read, stray_at}
 
 -- a fact that holds below n, or the first place where it doesn't

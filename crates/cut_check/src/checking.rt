@@ -7,12 +7,13 @@ ghost use Rattle.cut_check.specs.Reaching.{IsAllowed};
 ghost use Rattle.cut_check.specs.Verdicts.{IsVerdict};
 
 use crate::Verdict;
+use crate::arcs::arcs_of;
 use crate::flow::check_flow;
 use crate::lines::{match_lines, without_line};
-use crate::search::{reachable, starts_of};
 use crate::weights::has_weights;
 use cut_net::laws::certificate;
 use cut_net::{Cut, Net};
+use cut_residual::{ResidualGraph, search};
 use std::alloc::{AllocError, Global};
 
 /// Whether a chain leads from the one module to the other by imports that may be used.
@@ -29,10 +30,10 @@ fn has_chain(
     ensures { IfOk result (λ yes. IsTrue yes ↔ Chain net.now.imports (IsAllowed net.now.imports allowed.now) from to) }
 {
     net.keeps();
-    let imports = net.imports();
-    let starts = starts_of(alloc, imports, net.nodes())?;
-    let seen = reachable(alloc, imports, &starts, allowed, net.nodes(), from)?;
-    Ok(seen[to as usize])
+    let arcs = arcs_of(alloc, net.imports(), allowed)?;
+    let graph = ResidualGraph::new(alloc, arcs, net.nodes())?;
+    let found = search(alloc, &graph, from)?;
+    Ok(found.seen[to as usize])
 }
 
 /// What is wrong with a cut between two modules of a network, or that nothing is.

@@ -1,13 +1,13 @@
 //! The checker of cuts: whether printed imports are a cheapest cut of a network, by the flow that comes with them.
-//! Stands on `cut_net`. It trusts no one who made the cut: lines of any modules, in any order, with any amounts.
+//! Stands on `cut_net` and `cut_residual`. It trusts no one who made the cut: lines of any modules, in any order, with any amounts.
 //! Its contract: the verdict is the first cause that holds, exactly one verdict holds, and after a yes no cut weighs less.
 #![tactic(auto)]
 
+mod arcs;
 mod checking;
 mod flow;
 pub mod laws;
 mod lines;
-mod search;
 mod verdict;
 mod weights;
 

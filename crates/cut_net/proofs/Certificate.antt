@@ -26,7 +26,7 @@ leaves_in_cut imports b y i c out =
           absurd (both_ways _ (no_chain_to-false imports y b i.from (step imports (Outside y) b i c f rest)) parts.0)
     ]
 
-cond_within : (t u : Bool) (c : ℕ) → (t ≡ true → u ≡ true) → cond t c 0 ≤ cond u c 0
+pub cond_within : (t u : Bool) (c : ℕ) → (t ≡ true → u ≡ true) → cond t c 0 ≤ cond u c 0
 cond_within false u c h = omega arith
 cond_within true u c h = rw (h refl) (omega arith)
 

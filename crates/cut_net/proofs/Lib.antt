@@ -20,6 +20,7 @@ pub mod OneNetwork
 pub mod Ordered
 pub mod Pairs
 pub mod Places
+pub mod PrintedCut
 pub mod Rows
 pub mod Search
 pub mod Settling

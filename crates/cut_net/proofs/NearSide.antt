@@ -1,14 +1,15 @@
 -- What the start reaches by residual imports of a flow is the intersection of all sides of least weight.
 use Rattle.std.proofs.Common.{◌≡◌, ℕ, ◌≤◌, ◌<◌, Bool, true, false, cond, not, List, length, [], ◌∷◌, refl, sym, ◌∙◌, subst, arith, sum_by, inl, inr}
 use Rattle.std.specs.Prelude.{Contains}
-use Rattle.std.proofs.lemmas.Bool.{cases_Bool, both_ways, cond-true, not-true, and_parts, cases_lt, and_from, not_from_false, false_from_ne_true}
+use Rattle.std.proofs.lemmas.Bool.{cases_Bool, both_ways, cond-true, not-true, and_parts, cases_lt, and_from, not_from_false}
 use Rattle.cut_net.specs.declared.priced.Priced.{Priced}
 use Rattle.cut_net.specs.Network.{Network}
 use Rattle.cut_net.specs.WellFormed.{AreBetween}
-use Rattle.cut_net.specs.Cuts.{IsChain, Outside, IsCut, weight, IsCheapest, IsSide, leaves, IsLeastSide, Near, LeavesNear, ArePrinted, IsFlow, IsClosed, Reached, AreThose}
+use Rattle.cut_net.specs.Cuts.{IsCut, weight, IsCheapest, IsSide, leaves, IsLeastSide, Near, ArePrinted, IsFlow, IsClosed, Reached, AreThose}
 use Rattle.cut_net.proofs.ListSums.{sum_by-same, sum_by-mono, sum_by-tight}
 use Rattle.cut_net.proofs.Chains.{no_chain_to}
 use Rattle.cut_net.proofs.Duality.{value_within, across, enters, cond_le}
+use Rattle.cut_net.proofs.PrintedCut.{cut_of_near, leaves_near}
 use Rattle.cut_net.proofs.Certificate.{side_of_cut, leaves_in_cut, weight-mono, certificate}
 use Rattle.std.proofs.lemmas.List.Sums.{sum_by-cons}
 
@@ -111,34 +112,12 @@ module _ (net : Network) (a b : ℕ) (flow : Priced → ℕ) (value : ℕ) (betw
 
     -- the imports that are printed
     module _ (x : Priced → Bool) (printed : ArePrinted net a b x) where
-      in_leaving : (i : Priced) → Contains net.imports i → x i ≡ true → leaves n i ≡ true
-      in_leaving i c t =
-          let out = ((printed i c).0 t).0 in
-          and_from _ _ ((is_near i.from).1 out.0) (not_from_false _ (false_from_ne_true _ (λ u. out.1 ((is_near i.to).0 u))))
-
-      -- a chain to b by imports that aren't printed is one by imports that don't leave the near modules
-      stays : (m : ℕ) (more : List ℕ) → IsChain net.imports (Outside x) m more b → IsChain net.imports (λ i. LeavesNear net a b i → ⊥) m more b
-      stays m [] e = e
-      stays m (k ∷ more) ((i, c, ef, et, out), rest) =
-          let later = stays k more rest in
-          ((i, c, ef, et, λ leaving. both_ways (x i) out ((printed i c).1 (leaving, (more, subst (λ j. IsChain net.imports (λ i. LeavesNear net a b i → ⊥) j more b) (sym et) later)))), later)
-
-      within : (m : ℕ) (more : List ℕ) → n m ≡ true → IsChain net.imports (λ i. LeavesNear net a b i → ⊥) m more b → n b ≡ true
-      within m [] t e = subst (λ j. n j ≡ true) e t
-      within m (k ∷ more) t ((i, c, ef, et, not_leaving), rest) =
-          within k more
-          (elim (cases_Bool (n k)) [
-            | inl u ↦ u
-            | inr f ↦ absurd (not_leaving ((is_near i.from).0 (subst (λ j. n j ≡ true) (sym ef) t), λ near. both_ways (n k) f (subst (λ j. n j ≡ true) et ((is_near i.to).1 near))))
-          ])
-          rest
-
       pub is_cut : IsCut net a b x
-      is_cut chain = both_ways (n b) ends (within a chain.0 has_start (stays a chain.0 chain.1))
+      is_cut = cut_of_near net a b n is_near x printed side
 
       pub weighs : weight net.imports x ≡ value
       weighs =
-          let above = weight-mono net.imports x (leaves n) in_leaving in
+          let above = weight-mono net.imports x (leaves n) (leaves_near net a b n is_near x printed) in
           let e = weight_is in
           let w = value_within net a b flow value (no_chain_to net.imports x b) between a_in is_flow (side_of_cut net a b x is_cut) in
           let le = weight-mono net.imports _ x (leaves_in_cut net.imports b x) in

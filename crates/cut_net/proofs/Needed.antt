@@ -9,6 +9,7 @@ use Rattle.cut_net.specs.Cuts.{IsChain, Chain, Outside, weight, IsSide, leaves, 
 use Rattle.cut_net.proofs.ListSums.{sum_by-mono, sum_by-both}
 use Rattle.cut_net.proofs.Chains.{chain_or_none, joined, step, widened}
 use Rattle.cut_net.proofs.Certificate.{weight-mono}
+use Rattle.cut_net.proofs.PrintedCut.{among_is_least, among_modules, among_near, unprinted}
 
 meet : (ℕ → Bool) → (ℕ → Bool) → ℕ → Bool
 meet s t k = s k && t k
@@ -178,4 +179,19 @@ needed net a b x between a_in printed i c t =
       | inl chain ↦ chain
       | inr none ↦ absurd (outside_some net a b i.to ((printed i c).0 t).0.1 (λ (s, s_least, _).
           nearest net a b s s_least (length net.names) (λ (n, least, near). none (back net a b between a_in n least near x printed i c t))))
+    ]
+
+-- an import that leaves the near modules and isn't printed weighs nothing
+pub weighs_nothing : (net : Network) (a b : ℕ) (x : Priced → Bool) → AreBetween net.imports (length net.names) → a < length net.names → ArePrinted net a b x →
+    (i : Priced) → Contains net.imports i → LeavesNear net a b i → x i ≡ false → i.amount ≡ 0
+unfolding Nearest
+weighs_nothing net a b x between a_in printed i c out off =
+    elim (cases_eq i.amount 0) [
+      | inl e ↦ e
+      | inr some ↦ absurd (outside_some net a b i.to out.1 (λ (s, s_least, _).
+          nearest net a b s s_least (length net.names) (λ (n, least, near).
+          let are = among_near net a b between a_in n least near in
+          let from = (are i.from).1 out.0 in
+          let to = false_from_ne_true _ (λ t. out.1 ((are i.to).0 t)) in
+          some (unprinted net a b (among_modules net a b between a_in n least) are x printed (among_is_least net a b between a_in n least) i c (and_from _ _ from (not_from_false _ to)) off))))
     ]

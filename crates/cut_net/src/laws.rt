@@ -1,11 +1,11 @@
-//! Laws of cuts, flows and texts: the theorem that the value of a greatest flow is the weight of a cheapest cut, and what it
-//! says of the imports that are printed. Each function is a law: its body is empty, and its contract is proved.
+//! Laws of cuts, flows and texts: a cut that weighs as much as a flow's value is cheapest, a flow without a way on gives such a
+//! cut, and what that says of the imports that are printed. Each function is a law: its body is empty, and its contract is proved.
 ghost use Rattle.std.specs.Prelude.{ℕ, ◌≡◌, ◌<◌, Bool, true, false, length, Contains, List};
 ghost use Rattle.cut_net.specs.declared.priced.Priced.{Priced};
 ghost use Rattle.cut_net.specs.Network.{Network};
 ghost use Rattle.cut_net.specs.WellFormed.{AreBetween};
 ghost use Rattle.cut_net.specs.NetText.{IsNetOutcome, NetOutcome};
-ghost use Rattle.cut_net.specs.Cuts.{AreThose, ArePrinted, Chain, IsCut, IsCheapest, IsFlow, Near, Outside, Reached, weight, without};
+ghost use Rattle.cut_net.specs.Cuts.{AreThose, ArePrinted, Chain, IsCut, IsCheapest, IsFlow, LeavesNear, Near, Outside, Reached, weight, without};
 
 use crate::Priced;
 
@@ -42,6 +42,13 @@ pub fn printed_are_needed()
     ensures { (net : Network) (a b : ℕ) (x : Priced → Bool) →
         AreBetween net.imports (length net.names) → a < length net.names → ArePrinted net a b x →
         (i : Priced) → Contains net.imports i → x i ≡ true → Chain net.imports (Outside (without x i)) a b }
+{}
+
+/// An import that leaves the near modules and isn't printed weighs nothing: imports of weight 0 do no harm.
+pub fn unprinted_weigh_nothing()
+    ensures { (net : Network) (a b : ℕ) (x : Priced → Bool) →
+        AreBetween net.imports (length net.names) → a < length net.names → ArePrinted net a b x →
+        (i : Priced) → Contains net.imports i → LeavesNear net a b i → x i ≡ false → i.amount ≡ 0 }
 {}
 
 /// A text of a network says at most one thing: a network or a first fault.

@@ -1,4 +1,3 @@
-pub mod Fronts
 pub mod LineLaws
 pub mod NameOrder
 pub mod TextFronts

@@ -1,14 +1,19 @@
--- What the reader's answer says of a text.
-use Rattle.std.specs.Prelude.{◌≢◌, Option, Some, None, Result, Ok, Err, IfErr}
+-- What a cut says of two modules, and what the reader's answer says of a text.
+use Rattle.std.specs.Prelude.{◌≢◌, ℕ, Option, Some, None, Result, Ok, Err, IfErr}
+use Rattle.cut_net.specs.declared.cut.Cut.{Cut}
 use Rattle.cut_net.specs.Said.{Entry, CutOf}
 use Rattle.cut_net.specs.ReportLines.{ReportOutcome, Reads, BadLine, UnknownName, Order, NoEnd}
 use Rattle.cut_report.specs.declared.fault.ReportFault.{ReportFault}
 use Rattle.cut_report.specs.declared.fault.ReportFault.TheVariants as faults
 use Rattle.cut_report.specs.declared.report.Report.{Report}
 
--- what the report says, without where its lists lie in memory
+-- what is said by a cut of two modules, without where its lists lie in memory
+abbrev pub said_of : ℕ → ℕ → Cut → Entry
+said_of from to cut = record { from = from; to = to; said = CutOf cut.weight cut.imports.items cut.flow.items }
+
+-- what the report says
 abbrev pub entry_of : Report → Entry
-entry_of report = record { from = report.from; to = report.to; said = CutOf report.cut.weight report.cut.imports.items report.cut.flow.items }
+entry_of report = said_of report.from report.to report.cut
 
 -- the outcome that was answered; there is none where memory ran out or a device failed
 abbrev pub outcome_of : Result Report ReportFault → Option ReportOutcome

@@ -1,6 +1,6 @@
-//! Reports on cuts: their one spelling, the reader of it, and the sinks that take bytes.
+//! Reports on cuts: their one spelling, the reader and the writer of it, and the sinks that take bytes.
 //! Stands on `cut_net`, with `thiserror` for its faults.
-//! Its contract: what is read is exactly what the text says, or its first fault; a sink takes a front of what it is given.
+//! Its contract: a report is put as its one text, or a front of it; what is read is exactly what the text says, or its first fault; what was written is read again.
 #![tactic(auto)]
 
 mod draft;
@@ -10,11 +10,13 @@ mod line;
 mod reader;
 mod report;
 mod sink;
+mod writer;
 
 pub use fault::ReportFault;
 pub use reader::read;
 pub use report::Report;
 pub use sink::{Sink, SinkFault, ToWrite, put_all};
+pub use writer::write;
 
 #[cfg(test)]
 mod tests;

@@ -1,8 +1,9 @@
-//! The lines of a report, each read by itself.
+//! The lines of a report, each spelled and read by itself.
 ghost use Rattle.std.specs.Prelude.{◌≡◌, option_map};
 ghost use Rattle.cut_report.specs.Lines.{amount_of, ends_of, line_of_text, line_seen, line_under};
 
 use cut_net::fields::{cut_at_byte, name_in, number_in};
+use std::fmt;
 
 /// What a line says.
 #[derive(Clone, Copy, Drop)]
@@ -17,6 +18,25 @@ pub(crate) enum Line<'a> {
     Flows(&'a str, &'a str, u64),
     /// The end.
     Last,
+}
+
+/// The line without its end.
+impl fmt::Display for Line<'_> {
+    ghost use Rattle.std.specs.Prelude.{Some};
+    ghost use Rattle.cut_net.specs.ReportLine.{report_line};
+    ghost use Rattle.cut_report.specs.Lines.{line_seen};
+
+    ghost output = { λ line. Some (report_line (line_seen line)) };
+
+    fn fmt<W: fmt::Write>(&self, f: &mut fmt::Formatter<W>) -> fmt::Result {
+        match self {
+            Line::Ends(from, to) => write!(f, "cut {from} {to}"),
+            Line::Weighs(weight) => write!(f, "weight {weight}"),
+            Line::Removes(from, to, weight) => write!(f, "remove {from} {to} {weight}"),
+            Line::Flows(from, to, flow) => write!(f, "flow {from} {to} {flow}"),
+            Line::Last => write!(f, "end"),
+        }
+    }
 }
 
 /// Two names.

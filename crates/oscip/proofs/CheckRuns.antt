@@ -22,21 +22,23 @@ use Rattle.cut_check.specs.declared.verdict.Verdict.{Verdict}
 use Rattle.cut_check.specs.declared.verdict.Verdict.TheVariants.{Yes, NoSuchImport, StillChain, WrongWeight, OverWeight, NotKept, WrongValue}
 use Rattle.cut_check.specs.Verdicts.{IsVerdict}
 use Rattle.oscip.specs.Faults.{of_net, of_report, of_sink}
-use Rattle.oscip.specs.Runs.{IsChecked, IsCheckRun, is_yes, verdict_text}
+use Rattle.oscip.specs.Runs.{IsChecked, IsCheckRun, RefusesNet, is_yes, verdict_text}
+use Rattle.oscip.specs.declared.fault.RunFault.{RunFault}
+use Rattle.oscip.specs.declared.fault.RunFault.TheVariants as run
 
 pub Keeps-same : (known : Option (List ℕ)) → Keeps known known
 Keeps-same None = tt
 Keeps-same (Some bytes) = refl
 
--- a refused network
-pub refused_net : (network report : List ℕ) (known : Option (List ℕ)) (fault : NetFault) → IfSome (net_outcome_of (Err fault)) (IsNetOutcome network) →
-    IsCheckRun network report known known (Err (of_net fault))
-refused_net network report known (net.BadLine line) h = ((nets.BadLine line, refl, h), Keeps-same known)
-refused_net network report known (net.TwiceImport line) h = ((nets.TwiceImport line, refl, h), Keeps-same known)
-refused_net network report known (net.Cycle names) h = ((nets.Cycle _, refl, h), Keeps-same known)
-refused_net network report known net.WeightOverflow h = ((nets.WeightOverflow, refl, h), Keeps-same known)
-refused_net network report known (net.TooMany line) h = ((nets.TooMany line, refl, h), Keeps-same known)
-refused_net network report known net.Memory h = inl (Keeps-same known)
+-- a refused network, in a run of any engine
+pub refused_net : (IsRun : RunFault → Type 0) (network : List ℕ) (known : Option (List ℕ)) → ((fault : NetFault) → RefusesNet network known known fault → IsRun (run.Net fault)) → IsRun run.Memory →
+    (fault : NetFault) → IfSome (net_outcome_of (Err fault)) (IsNetOutcome network) → IsRun (of_net fault)
+refused_net IsRun network known refused memory (net.BadLine line) h = refused (net.BadLine line) ((nets.BadLine line, refl, h), Keeps-same known)
+refused_net IsRun network known refused memory (net.TwiceImport line) h = refused (net.TwiceImport line) ((nets.TwiceImport line, refl, h), Keeps-same known)
+refused_net IsRun network known refused memory (net.Cycle names) h = refused (net.Cycle names) ((nets.Cycle _, refl, h), Keeps-same known)
+refused_net IsRun network known refused memory net.WeightOverflow h = refused net.WeightOverflow ((nets.WeightOverflow, refl, h), Keeps-same known)
+refused_net IsRun network known refused memory (net.TooMany line) h = refused (net.TooMany line) ((nets.TooMany line, refl, h), Keeps-same known)
+refused_net IsRun network known refused memory net.Memory h = memory
 
 -- a refused report
 pub refused_report : (network text : List ℕ) (known : Option (List ℕ)) (n : Network) → IsNetOutcome network (nets.Reads n) → (fault : ReportFault) →

@@ -1,2 +1,4 @@
 pub mod Found
 pub mod CheckRuns
+pub mod Sayable
+pub mod CutRuns

@@ -10,8 +10,10 @@ use Rattle.cut_report.specs.declared.fault.ReportFault.{ReportFault}
 use Rattle.cut_report.specs.declared.fault.ReportFault.TheVariants as report
 use Rattle.cut_report.specs.declared.sink.SinkFault.{SinkFault}
 use Rattle.cut_report.specs.declared.sink.SinkFault.TheVariants as sink
+use Rattle.cut_solve.specs.declared.fault.SolveFault.{SolveFault}
+use Rattle.cut_solve.specs.declared.fault.SolveFault.TheVariants as solve
 use Rattle.oscip.specs.declared.fault.RunFault.{RunFault}
-use Rattle.oscip.specs.declared.fault.RunFault.TheVariants.{CannotRead, CannotWrite, Net, Report, Device, Memory}
+use Rattle.oscip.specs.declared.fault.RunFault.TheVariants.{CannotRead, CannotWrite, Net, Report, Solve, Device, Memory}
 
 -- want of memory is one fault, whoever met it
 abbrev pub of_net : NetFault → RunFault
@@ -30,6 +32,11 @@ of_report (report.Order line) = Report (report.Order line)
 of_report report.NoEnd = Report report.NoEnd
 of_report report.Device = Device
 of_report report.Memory = Memory
+
+abbrev pub of_solve : SolveFault → RunFault
+of_solve solve.SameModule = Solve solve.SameModule
+of_solve (solve.NoSuchModule name) = Solve (solve.NoSuchModule name)
+of_solve solve.Memory = Memory
 
 abbrev pub of_sink : SinkFault → RunFault
 of_sink sink.Memory = Memory
@@ -54,12 +61,18 @@ report_fault_text report.NoEnd = codes "NoEnd"
 report_fault_text report.Device = codes "cannot write"
 report_fault_text report.Memory = codes "Memory"
 
+abbrev pub solve_fault_text : SolveFault → List ℕ
+solve_fault_text solve.SameModule = codes "SameModule"
+solve_fault_text (solve.NoSuchModule name) = codes "NoSuchModule " ++ string_bytes name
+solve_fault_text solve.Memory = codes "Memory"
+
 -- what is told of a fault
 abbrev pub fault_text : RunFault → List ℕ
 fault_text (CannotRead path) = codes "cannot read " ++ string_bytes path
 fault_text (CannotWrite path) = codes "cannot write " ++ string_bytes path
 fault_text (Net fault) = net_fault_text fault
 fault_text (Report fault) = report_fault_text fault
+fault_text (Solve fault) = solve_fault_text fault
 fault_text Device = codes "cannot write"
 fault_text Memory = codes "Memory"
 
@@ -80,11 +93,17 @@ report_status report.NoEnd = 1
 report_status report.Device = 3
 report_status report.Memory = 4
 
+abbrev pub solve_status : SolveFault → ℕ
+solve_status solve.SameModule = 1
+solve_status (solve.NoSuchModule name) = 1
+solve_status solve.Memory = 4
+
 abbrev pub status_number : RunFault → ℕ
 status_number (CannotRead path) = 3
 status_number (CannotWrite path) = 3
 status_number (Net fault) = net_status fault
 status_number (Report fault) = report_status fault
+status_number (Solve fault) = solve_status fault
 status_number Device = 3
 status_number Memory = 4
 
@@ -94,5 +113,6 @@ is_device (CannotRead path) = false
 is_device (CannotWrite path) = false
 is_device (Net fault) = false
 is_device (Report fault) = false
+is_device (Solve fault) = false
 is_device Device = true
 is_device Memory = false

@@ -1,3 +1,5 @@
+pub mod CutRuns
 pub mod Faults
 pub mod Jobs
 pub mod Runs
+pub mod JobRuns

@@ -7,6 +7,7 @@ use Rattle.cut_net.specs.NetText.{IsNetOutcome}
 use Rattle.cut_net.specs.NetText as nets
 use Rattle.cut_net.specs.NetReading.{outcome_of as net_outcome_of}
 use Rattle.cut_net.specs.Said.{Entry}
+use Rattle.cut_net.specs.declared.fault.NetFault.{NetFault}
 use Rattle.cut_net.specs.ReportLines.{IsReportOutcome}
 use Rattle.cut_net.specs.ReportLines as reports
 use Rattle.cut_report.specs.Reading.{outcome_of as report_outcome_of}
@@ -15,7 +16,7 @@ use Rattle.cut_check.specs.declared.verdict.Verdict.{Verdict}
 use Rattle.cut_check.specs.declared.verdict.Verdict.TheVariants.{Yes, NoSuchImport, StillChain, WrongWeight, OverWeight, NotKept, WrongValue}
 use Rattle.cut_check.specs.Verdicts.{IsVerdict}
 use Rattle.oscip.specs.declared.fault.RunFault.{RunFault}
-use Rattle.oscip.specs.declared.fault.RunFault.TheVariants.{CannotRead, CannotWrite, Net, Report, Device, Memory}
+use Rattle.oscip.specs.declared.fault.RunFault.TheVariants.{CannotRead, CannotWrite, Net, Report, Solve, Device, Memory}
 
 -- the line of a verdict
 abbrev pub verdict_text : Network → Verdict → List ℕ
@@ -57,6 +58,10 @@ PutsCheck network report old new agrees = (line : List ℕ) × IsChecked network
 abbrev pub PutsFront : List ℕ → List ℕ → Option (List ℕ) → Option (List ℕ) → Type 0
 PutsFront network report old new = (line : List ℕ) × (agrees : Bool) × IsChecked network report line agrees × AppendsFront old new line
 
+-- the network was refused, and the sink is as it was
+abbrev pub RefusesNet : List ℕ → Option (List ℕ) → Option (List ℕ) → NetFault → Type 0
+RefusesNet network old new fault = ((outcome : nets.NetOutcome) × (net_outcome_of (Err fault) ≡ Some outcome) × IsNetOutcome network outcome) × Keeps old new
+
 -- the report was refused, and the network was not
 abbrev pub IsRefusedReport : List ℕ → List ℕ → reports.ReportOutcome → Type 0
 IsRefusedReport network report outcome = (net : Network) × IsNetOutcome network (nets.Reads net) × IsReportOutcome net report outcome
@@ -66,8 +71,9 @@ abbrev pub IsCheckRun : List ℕ → List ℕ → Option (List ℕ) → Option (
 IsCheckRun network report old new (Ok agrees) = PutsCheck network report old new agrees
 IsCheckRun network report old new (Err (CannotRead path)) = ⊥
 IsCheckRun network report old new (Err (CannotWrite path)) = ⊥
-IsCheckRun network report old new (Err (Net fault)) = ((outcome : nets.NetOutcome) × (net_outcome_of (Err fault) ≡ Some outcome) × IsNetOutcome network outcome) × Keeps old new
+IsCheckRun network report old new (Err (Net fault)) = RefusesNet network old new fault
 IsCheckRun network report old new (Err (Report fault)) =
     ((outcome : reports.ReportOutcome) × (report_outcome_of (Err fault) ≡ Some outcome) × IsRefusedReport network report outcome) × Keeps old new
+IsCheckRun network report old new (Err (Solve fault)) = ⊥
 IsCheckRun network report old new (Err Device) = PutsFront network report old new
 IsCheckRun network report old new (Err Memory) = Keeps old new ⊎ PutsFront network report old new

@@ -1,15 +1,17 @@
 //! What each command does with the bytes of its files, over any sink.
-ghost use Rattle.std.specs.Prelude.{◌≡◌, IfOk};
+ghost use Rattle.std.specs.Prelude.{◌≡◌, IfOk, IsSome};
 ghost use Rattle.std.specs.String.{string_bytes};
-ghost use Rattle.cut_net.specs.Network.{name_of};
+ghost use Rattle.cut_net.specs.Network.{index_of, name_of};
 ghost use Rattle.cut_report.specs.Sinks.{failures_by};
 ghost use Rattle.oscip.specs.Faults.{is_device};
+ghost use Rattle.oscip.specs.CutRuns.{IsCutRun};
 ghost use Rattle.oscip.specs.Runs.{is_yes, verdict_text, IsCheckRun};
 
 use crate::RunFault;
 use cut_check::{Verdict, check};
 use cut_net::Net;
-use cut_report::{Sink, put_all};
+use cut_report::{Sink, put_all, write};
+use cut_solve::plain;
 use std::alloc::{AllocError, Global};
 
 /// The name of a module, and no text where the network has no such module.
@@ -74,4 +76,37 @@ pub fn check_net_bytes<S: Sink>(
     let line = verdict_line(alloc, &net, verdict)?;
     put_all(sink, line.as_bytes())?;
     Ok(is_yes(verdict))
+}
+
+/// The number of the module of this name, which the network has.
+fn module_of(net: &Net, name: &str) -> u32
+    requires { IsSome (index_of net.now name.now) }
+    ensures { Some result ≡ index_of net.now name.now }
+{
+    net.index_of(name).unwrap()
+}
+
+/// Reads a network and puts the report of a cheapest cut between the modules of two names: the imports to be removed so
+/// that the first no longer reaches the second, their weight, and a flow of that value. `IsCutText` says what the report is.
+/// Refuses with `Net` where the network is refused, then with `Solve` for the first name that no module has or where both
+/// are one module's, and with `Device` or `Memory`.
+pub fn cut_net_bytes<S: Sink>(
+    alloc: Global,
+    network: &[u8],
+    a: &str,
+    b: &str,
+    sink: &mut S,
+) -> Result<(), RunFault>
+    // What was read, and the report that the sink took; after a refusal of the input it took nothing.
+    ensures run { IsCutRun network.now a.now b.now (S.taken sink.old) (S.taken sink.new) result }
+    // Device is answered where the sink counted a failure, and nowhere else.
+    ensures failures { S.failures sink.new ≡ failures_by is_device result (S.failures sink.old) }
+{
+    let net = Net::read(alloc, network)?;
+    net.keeps();
+    let cut = plain(alloc, &net, a, b)?;
+    let from = module_of(&net, a);
+    let to = module_of(&net, b);
+    write(alloc, &net, from, to, &cut, sink)?;
+    Ok(())
 }

@@ -1,16 +1,17 @@
 //! Why a run ends without an answer, the line that tells of it, and the status that it ends with.
-ghost use Rattle.std.specs.Prelude.{◌≡◌, ◌++◌, IfOk, OnOk, codes};
+ghost use Rattle.std.specs.Prelude.{◌≡◌, ◌++◌, IfOk, codes};
 ghost use Rattle.std.specs.List.{flat_map};
 ghost use Rattle.std.specs.String.{string_bytes};
 ghost use Rattle.cut_net.specs.Network.{texts};
-ghost use Rattle.oscip.specs.Faults.{after_space, fault_text, net_status, net_fault_text, report_status, report_fault_text, status_number};
+ghost use Rattle.oscip.specs.Faults.{after_space, fault_text, net_status, net_fault_text, report_status, report_fault_text, solve_fault_text, solve_status, status_number};
 
 use cut_net::NetFault;
 use cut_report::{ReportFault, SinkFault};
+use cut_solve::SolveFault;
 use std::alloc::{AllocError, Global};
 use thiserror::Error;
 
-/// Why a run ends without an answer. As `From` makes them, `Net` and `Report` hold
+/// Why a run ends without an answer. As `From` makes them, `Net`, `Report` and `Solve` hold
 /// neither want of memory nor a failed device.
 #[derive(Debug, PartialEq, Eq, Drop, Error)]
 pub enum RunFault {
@@ -26,6 +27,9 @@ pub enum RunFault {
     /// The report is refused.
     #[error(transparent)]
     Report(ReportFault),
+    /// The names of a question are refused.
+    #[error(transparent)]
+    Solve(SolveFault),
     /// The sink failed.
     #[error("cannot write")]
     Device,
@@ -70,6 +74,20 @@ impl From<ReportFault> for RunFault {
             ReportFault::Memory => RunFault::Memory,
             ReportFault::Device => RunFault::Device,
             fault => RunFault::Report(fault),
+        }
+    }
+}
+
+impl From<SolveFault> for RunFault {
+    ghost use Rattle.std.specs.Prelude.{◌≡◌};
+    ghost use Rattle.oscip.specs.Faults.{of_solve};
+
+    ghost from_gives = { λ lower fault. fault ≡ of_solve lower };
+
+    fn from(fault: SolveFault) -> RunFault {
+        match fault {
+            SolveFault::Memory => RunFault::Memory,
+            fault => RunFault::Solve(fault),
         }
     }
 }
@@ -129,6 +147,16 @@ fn report_fault_text(alloc: Global, fault: &ReportFault) -> Result<String, Alloc
     }
 }
 
+fn solve_fault_text(alloc: Global, fault: &SolveFault) -> Result<String, AllocError>
+    ensures { IfOk result (λ t. string_bytes t ≡ solve_fault_text fault.now) }
+{
+    match fault {
+        SolveFault::SameModule => String::from_str(alloc, "SameModule"),
+        SolveFault::NoSuchModule { name } => format!(in alloc; "NoSuchModule {name}"),
+        SolveFault::Memory => String::from_str(alloc, "Memory"),
+    }
+}
+
 fn text_of(alloc: Global, fault: &RunFault) -> Result<String, AllocError>
     ensures { IfOk result (λ t. string_bytes t ≡ fault_text fault.now) }
 {
@@ -137,6 +165,7 @@ fn text_of(alloc: Global, fault: &RunFault) -> Result<String, AllocError>
         RunFault::CannotWrite { path } => format!(in alloc; "cannot write {path}"),
         RunFault::Net(fault) => net_fault_text(alloc, fault),
         RunFault::Report(fault) => report_fault_text(alloc, fault),
+        RunFault::Solve(fault) => solve_fault_text(alloc, fault),
         RunFault::Device => String::from_str(alloc, "cannot write"),
         RunFault::Memory => String::from_str(alloc, "Memory"),
     }
@@ -177,6 +206,15 @@ fn report_status(fault: &ReportFault) -> u8
     }
 }
 
+fn solve_status(fault: &SolveFault) -> u8
+    ensures { result ≡ solve_status fault.now }
+{
+    match fault {
+        SolveFault::Memory => 4,
+        SolveFault::SameModule | SolveFault::NoSuchModule { .. } => 1,
+    }
+}
+
 /// The status that a fault ends the program with: 1 for refused input, 3 for a file or a device, 4 for memory.
 pub fn status_of(fault: &RunFault) -> u8
     ensures { result ≡ status_number fault.now }
@@ -185,6 +223,7 @@ pub fn status_of(fault: &RunFault) -> u8
         RunFault::CannotRead { .. } | RunFault::CannotWrite { .. } | RunFault::Device => 3,
         RunFault::Net(fault) => net_status(fault),
         RunFault::Report(fault) => report_status(fault),
+        RunFault::Solve(fault) => solve_status(fault),
         RunFault::Memory => 4,
     }
 }

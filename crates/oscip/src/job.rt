@@ -3,7 +3,7 @@ ghost use Rattle.std.specs.Prelude.{◌≡◌, IfOk, map, false};
 ghost use Rattle.std.specs.String.{string_bytes};
 ghost use Rattle.clap.specs.Words.{app_of, found_of, kind_of, rows_of, subcommand_of, subcommand_rows_of, with_rule};
 ghost use Rattle.clap.specs.declared.Command.TheViews.{out-Command as fields_of};
-ghost use Rattle.oscip.specs.Jobs.{check_net, oscip, required_rule, Finds, Holds};
+ghost use Rattle.oscip.specs.Jobs.{check_net_app, cut_net_app, oscip, required_rule, Finds, Holds};
 
 use clap::error::ErrorKind;
 use clap::{Arg, ArgMatches, Command};
@@ -13,8 +13,17 @@ use thiserror::Error;
 /// A command with the values of its words.
 #[derive(Debug, PartialEq, Eq, Drop)]
 pub enum Job {
+    /// Finds a cheapest cut of a network, given as the path of a file, between the modules of two names.
+    CutNet {
+        network: String,
+        from: String,
+        to: String,
+    },
     /// Checks a report against a network, both given as paths of files.
-    CheckNet { network: String, report: String },
+    CheckNet {
+        network: String,
+        report: String,
+    },
 }
 
 /// Why there is no job.
@@ -51,11 +60,11 @@ fn with_required<'a>(
 }
 
 fn check_net_command<'a>(alloc: Global) -> Result<Command<'a>, AllocError>
-    ensures app { IfOk result (λ c. app_of c ≡ check_net) }
+    ensures app { IfOk result (λ c. app_of c ≡ check_net_app) }
     ensures local { IfOk result (λ c. (fields_of c).has_globals ≡ false) }
 {
     let command = Command::new(alloc, "check-net").about(
-        "Check a report's proof that its cut of a network is cheapest, and trust no solver",
+        "Check a report's proof that its cut of a network is cheapest",
     );
     let command = with_required(
         alloc,
@@ -71,13 +80,42 @@ fn check_net_command<'a>(alloc: Global) -> Result<Command<'a>, AllocError>
     )
 }
 
+fn cut_net_command<'a>(alloc: Global) -> Result<Command<'a>, AllocError>
+    ensures app { IfOk result (λ c. app_of c ≡ cut_net_app) }
+    ensures local { IfOk result (λ c. (fields_of c).has_globals ≡ false) }
+{
+    let command = Command::new(alloc, "cut-net").about(
+        "Find a cheapest set of imports to remove so that A no longer reaches B, with a flow that proves it",
+    );
+    let command = with_required(
+        alloc,
+        command,
+        "FILE",
+        "The network: lines `module M` and `import M N w`",
+    )?;
+    let command = with_required(
+        alloc,
+        command,
+        "A",
+        "The name of the module that is to reach B no longer",
+    )?;
+    with_required(
+        alloc,
+        command,
+        "B",
+        "The name of the module that A is to reach no longer",
+    )
+}
+
 fn command<'a>(alloc: Global) -> Result<Command<'a>, AllocError>
     ensures { IfOk result (λ c. app_of c ≡ oscip) }
 {
+    let cut_net = cut_net_command(alloc)?;
     let check_net = check_net_command(alloc)?;
     Command::new(alloc, "oscip")
-        .about("Checks of cheapest decoupling cuts of Oberon-07 modules")
+        .about("Finds and checks cheapest decoupling cuts of Oberon-07 modules")
         .subcommand_required(true)
+        .subcommand(cut_net)?
         .subcommand(check_net)
 }
 
@@ -102,6 +140,12 @@ fn job_from(alloc: Global, matches: &ArgMatches<'_>) -> Result<Job, JobFault>
     let Some((name, found)) = matches.subcommand() else {
         return Err(refused(alloc));
     };
+    if name == "cut-net" {
+        let network = value_of(alloc, found, "FILE")?;
+        let from = value_of(alloc, found, "A")?;
+        let to = value_of(alloc, found, "B")?;
+        return Ok(Job::CutNet { network, from, to });
+    }
     if name == "check-net" {
         let network = value_of(alloc, found, "FILE")?;
         let report = value_of(alloc, found, "REPORT")?;

@@ -1,14 +1,16 @@
 //! The program: reads files, runs one engine on the real standard output, and ends with a status.
-//! Stands on the networks, the reports and the checker, and on `clap` for the command line.
+//! Stands on the networks, the reports, the solver and the checker, with `clap` for the command line and `thiserror` for its faults.
 //! Its contract: what an engine puts is what the definitions say of its inputs, and nothing else.
 #![tactic(auto)]
 
+mod answering;
 mod engine;
 mod fault;
 mod job;
 
+pub use answering::answer;
 use cut_report::ToWrite;
-pub use engine::check_net_bytes;
+pub use engine::{check_net_bytes, cut_net_bytes};
 pub use fault::{RunFault, fault_line, status_of};
 pub use job::{Job, JobFault, job_of};
 use std::alloc::Global;
@@ -46,16 +48,22 @@ fn read_file<R: Files + AllocGlobal>(rt: &R, path: &str) -> Result<Vec<u8>, RunF
     }
 }
 
-/// Runs the engine of the job, whose files are read in the order of the words.
+/// Runs the job on the real standard output. Its files are read in the order of the words.
 fn run_job<R: Files + AllocGlobal + Print>(rt: &R, job: &Job) -> Result<bool, RunFault> {
-    match job {
-        Job::CheckNet { network, report } => {
-            let network = read_file(rt, network.as_str())?;
-            let report = read_file(rt, report.as_str())?;
-            let mut sink = ToWrite::new(io::writer(rt));
-            check_net_bytes(rt.alloc(), network.as_slice(), report.as_slice(), &mut sink)
-        }
-    }
+    let (Job::CutNet { network, .. } | Job::CheckNet { network, .. }) = job;
+    let network = read_file(rt, network.as_str())?;
+    let report = match job {
+        Job::CheckNet { report, .. } => read_file(rt, report.as_str())?,
+        Job::CutNet { .. } => Vec::new(rt.alloc()),
+    };
+    let mut sink = ToWrite::new(io::writer(rt));
+    answer(
+        rt.alloc(),
+        job,
+        network.as_slice(),
+        report.as_slice(),
+        &mut sink,
+    )
 }
 
 /// Tells of the fault in one line on standard error, and gives its status.

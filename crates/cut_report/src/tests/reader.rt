@@ -1,33 +1,15 @@
-use crate::{Report, ReportFault, read};
-use cut_net::{Cut, Net, Priced};
+use super::{NETWORK, REPORT, the_report};
+use crate::{ReportFault, read};
+use cut_net::Net;
 use std::alloc::Global;
 use std::process::Abort;
 use std::test::Fail;
-
-const NETWORK: &[u8] = b"import A M 2\nimport M B 2\n";
-
-const REPORT: &[u8] = b"cut A B\nweight 2\nremove A M 2\nflow A M 2\nflow M B 2\nend\n";
-
-/// The modules are A, B and M, in this order.
-fn import(from: u32, to: u32, amount: u64) -> Priced {
-    Priced { from, to, amount }
-}
 
 #[test]
 fn the_report_is_read(rt: HostRuntime) -> Result<(), Fail> {
     let alloc: Global = rt.alloc();
     let net = Net::read(alloc, NETWORK)?;
-    let cut = Cut {
-        imports: vec![in alloc; import(0, 2, 2)]?,
-        weight: 2,
-        flow: vec![in alloc; import(0, 2, 2), import(2, 1, 2)]?,
-    };
-    let want = Report {
-        from: 0,
-        to: 1,
-        cut,
-    };
-    assert_eq!(rt; read(alloc, REPORT, &net)?, want);
+    assert_eq!(rt; read(alloc, REPORT, &net)?, the_report(alloc)?);
     Ok(())
 }
 

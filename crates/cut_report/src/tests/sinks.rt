@@ -1,4 +1,5 @@
 use crate::{Sink, SinkFault, ToWrite, put_all};
+use std::alloc::Global;
 use std::io;
 use std::test::Fail;
 
@@ -24,11 +25,23 @@ impl io::Write for Narrow {
 
 /// Takes one byte at a time, fails after its last call, and counts the calls with no bytes.
 #[derive(Drop)]
-struct ByOne {
+pub(super) struct ByOne {
     calls: u8,
-    taken: Vec<u8>,
-    failures: u64,
+    pub(super) taken: Vec<u8>,
+    pub(super) failures: u64,
     empty: u64,
+}
+
+impl ByOne {
+    /// A sink that takes so many bytes.
+    pub(super) fn new(alloc: Global, calls: u8) -> ByOne {
+        ByOne {
+            calls,
+            taken: Vec::new(alloc),
+            failures: 0,
+            empty: 0,
+        }
+    }
 }
 
 impl Sink for ByOne {
@@ -75,12 +88,7 @@ fn a_writer_that_takes_nothing_fails(rt: HostRuntime) -> Result<(), Fail> {
 #[test]
 fn a_failure_at_each_put(rt: HostRuntime) -> Result<(), Fail> {
     for calls in 0..8u8 {
-        let mut sink = ByOne {
-            calls,
-            taken: Vec::new(rt.alloc()),
-            failures: 0,
-            empty: 0,
-        };
+        let mut sink = ByOne::new(rt.alloc(), calls);
         let put = put_all(&mut sink, b"report");
         let all = calls >= 6;
         assert_eq!(rt; put.is_ok(), all, "at {calls}");

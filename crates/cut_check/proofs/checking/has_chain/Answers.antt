@@ -1,23 +1,34 @@
-use Rattle.std.proofs.Common.{◌≡◌, ◌<◌, length, get_or, sym, subst, ◌∙◌, arith, false}
-use Rattle.cut_check.specs.Reaching.{AreReached}
-use Rattle.cut_check.proofs.Matching.{get_or_default}
+use Rattle.std.proofs.Common.{◌≡◌, ◌<◌, ◌∙◌, length, sym, subst, arith, false, true}
+use Rattle.std.proofs.lemmas.List.{get_or_default}
+use Rattle.cut_residual.specs.Graphs.{AreClosed, AreReached, Graph, is_seen}
+use Rattle.cut_residual.proofs.Walking.{reaches_itself}
+use Rattle.cut_check.specs.Reaching.{AreArcs}
+use Rattle.cut_check.proofs.ChainPaths.{arcs_between, chain_from_path, marked_by_chain}
 use Rattle.cut_check.proofs.checking.has_chain.Goals as goal
 
-pub starts_of-requires-clause-between : goal.starts_of-requires-clause-between
-starts_of-requires-clause-between c = rw (c.imports-imports.ensures, c.nodes.ensures) c.keeps.ensures.between
-
-pub reachable-requires-clause-between : goal.reachable-requires-clause-between
-reachable-requires-clause-between c = rw (c.imports-imports.ensures, c.nodes-2.ensures) c.keeps.ensures.between
+pub new-requires-clause-between : goal.new-requires-clause-between
+new-requires-clause-between c =
+    arcs_between c.imports.result.now c.args.allowed.now c.nodes.result c.in_ok-arcs.arcs.items c.in_ok-arcs.ensures
+    (rw (c.imports.ensures, c.nodes.ensures) c.keeps.ensures.between)
 
 pub returns : goal.returns
 returns c =
-    let seen = c.in_ok-seen.seen in
-    let ok = seen.ok.0 in
-    let size = c.in_ok-seen.ensures.size in
-    let count = c.nodes-2.ensures in
-    let asked = c.requires.to in
-    let in_modules : c.args.to < c.nodes-2.result = omega arith in
-    let in_seen : c.args.to < length seen.items = omega arith in
-    let reached = subst (λ v. AreReached v c.args.allowed.now c.nodes-2.result c.args.from seen.items) c.imports-imports.ensures c.in_ok-seen.ensures.reached c.args.to in_modules in
-    let at : c.index.result.now ≡ get_or seen.items c.args.to false = c.index.ensures ∙ get_or_default seen.items c.args.to c.index.result.now false in_seen in
-    (λ t. reached.0 (sym at ∙ t), λ chain. at ∙ reached.1 chain)
+    let imports = c.args.net.now.imports in
+    let allowed = c.args.allowed.now in
+    let to = c.args.to in
+    let seen = c.in_ok-found.found.seen in
+    let arcs = c.in_ok-arcs.arcs.items in
+    let graph_is : c.in_ok-graph.graph ≡ record { nodes = c.nodes.result; arcs = arcs } = c.in_ok-graph.ensures in
+    let are : AreArcs imports allowed arcs = subst (λ v. AreArcs v allowed arcs) c.imports.ensures c.in_ok-arcs.ensures in
+    let reached = subst (λ (g : Graph). AreReached g c.args.from seen.items) graph_is c.in_ok-found.ensures.reached in
+    let closed = subst (λ (g : Graph). AreClosed g.arcs seen.items) graph_is c.in_ok-found.ensures.closed in
+    let count = c.nodes.ensures in
+    let from_asked = c.requires.from in
+    let to_asked = c.requires.to in
+    let size = reached.size in
+    let in_seen : to < length seen.items = omega arith in
+    let at : c.index.result.now ≡ is_seen seen.items to = c.index.ensures ∙ get_or_default seen.items to c.index.result.now false in_seen in
+    let started : is_seen seen.items c.args.from ≡ true = (reached.each c.args.from).1 (omega arith, reaches_itself arcs c.args.from) in (
+      λ marked. chain_from_path imports allowed c.nodes.result arcs are c.args.from to ((reached.each to).0 (sym at ∙ marked)).1,
+      λ (more, chain). at ∙ marked_by_chain imports allowed c.nodes.result arcs are seen.items closed c.args.from more to started chain,
+    )

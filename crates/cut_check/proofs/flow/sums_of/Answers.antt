@@ -3,8 +3,7 @@ use Rattle.std.proofs.lemmas.List.{take_all}
 use Rattle.cut_net.specs.declared.priced.Priced.{Priced}
 use Rattle.cut_check.specs.Sums.{AreSums}
 use Rattle.cut_check.specs.Reaching.{any}
-use Rattle.cut_check.proofs.Searching.{to_in, from_in}
-use Rattle.cut_check.proofs.Adding.{adding_fits, adding_most, adding_more}
+use Rattle.cut_check.proofs.Adding.{adding_fits, adding_most, adding_more, from_in, to_in}
 use Rattle.cut_check.proofs.flow.sums_of.Goals as goal
 
 pub add_at-requires-clause-place : goal.add_at-requires-clause-place

@@ -1,7 +1,14 @@
-use Rattle.std.proofs.Common.{◌≡◌, ℕ, ◌-◌, List, ◌++◌, take, drop, length, append_assoc, rules, arith}
+use Rattle.std.proofs.Common.{◌≡◌, ℕ, ◌-◌, List, ◌++◌, take, drop, length, Option, Some, None, append_assoc, rules, arith}
 use Rattle.std.proofs.lemmas.List.{take-append-drop, take_all, length-drop}
-use Rattle.cut_report.proofs.Fronts.{Appends-then}
+use Rattle.std.specs.Io.KnownBytes.{Appends}
 use Rattle.cut_report.proofs.sink.put_all.Goals as goal
+
+-- known bytes that grow twice
+Appends-then : (a b c : Option (List ℕ)) (x y : List ℕ) → Appends a b x → Appends b c y → Appends a c (x ++ y)
+Appends-then None b c x y p q = tt
+Appends-then (Some xs) None c x y p q = absurd p
+Appends-then (Some xs) (Some ys) None x y p q = absurd q
+Appends-then (Some xs) (Some ys) (Some zs) x y p q = rw (q, p) (append_assoc xs x y)
 
 -- what is left after k bytes more
 split_more : (bytes done rest : List ℕ) (k : ℕ) → bytes ≡ done ++ rest → bytes ≡ (done ++ take k rest) ++ take (length rest - k) (drop k rest)

@@ -1,13 +1,14 @@
-use Rattle.std.proofs.Common.{◌∙◌, refl}
+use Rattle.std.proofs.Common.{◌∙◌, Err, inl, refl}
 use Rattle.std.proofs.lemmas.Result.{err_from_is_err_and}
-use Rattle.oscip.proofs.CheckRuns.{broken, checked, refused_net, refused_report}
-use Rattle.oscip.specs.Runs.{is_yes}
+use Rattle.oscip.proofs.CheckRuns.{broken, checked, refused_net, refused_report, Keeps-same}
+use Rattle.oscip.specs.Runs.{is_yes, IsCheckRun}
+use Rattle.oscip.specs.declared.fault.RunFault.{RunFault}
 use Rattle.oscip.proofs.engine.check_net_bytes.Goals as goal
 
 pub returns-in_err-net-clause-run : goal.returns-in_err-net-clause-run
 returns-in_err-net-clause-run g c =
     let p = err_from_is_err_and c.from_residual.result c.from_residual.ensures.1 in
-    rw (p.1, p.2) (refused_net _ _ _ _ c.in_err-net.ensures.exact)
+    rw (p.1, p.2) (refused_net (λ (fault : RunFault). IsCheckRun c.args.network.now c.args.report.now (g.S.Sink.taken c.args.sink.now) (g.S.Sink.taken c.args.sink.now) (Err fault)) _ _ (λ fault h. h) (inl (Keeps-same _)) _ c.in_err-net.ensures.exact)
 
 pub returns-in_err-report-clause-run : goal.returns-in_err-report-clause-run
 returns-in_err-report-clause-run g c =

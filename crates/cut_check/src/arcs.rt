@@ -1,0 +1,34 @@
+//! Imports as arcs.
+ghost use Rattle.std.specs.Prelude.{◌≡◌, ◌<◌, IfOk, length};
+ghost use Rattle.cut_check.specs.Reaching.{AreArcs, arc_for};
+
+use cut_net::Priced;
+use cut_residual::Arc;
+use std::alloc::{AllocError, Global};
+
+fn arc_for(i: Priced, allowed: bool) -> Arc
+    ensures { result ≡ arc_for i allowed }
+{
+    Arc {
+        from: i.from,
+        to: i.to,
+        capacity: u64::from(allowed),
+        flow: 0,
+    }
+}
+
+/// An arc for each import, over which something can go where the import may be used.
+pub(crate) fn arcs_of(
+    alloc: Global,
+    imports: &[Priced],
+    allowed: &[bool],
+) -> Result<Vec<Arc>, AllocError>
+    requires { length allowed.now ≡ length imports.now }
+    ensures { IfOk result (λ arcs. AreArcs imports.now allowed.now arcs.items) }
+{
+    let mut arcs = Vec::new(alloc);
+    for (k, i) in imports.iter().enumerate() {
+        arcs.push(arc_for(*i, allowed[k]))?;
+    }
+    Ok(arcs)
+}

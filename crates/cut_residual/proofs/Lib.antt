@@ -1,0 +1,5 @@
+pub mod Augmenting
+pub mod Grouping
+pub mod Keeping
+pub mod Searching
+pub mod Walking

@@ -1,0 +1,139 @@
+-- A search from a node over what is left of the arcs.
+use Rattle.std.proofs.Common.{◌≡◌, ◌≢◌, ℕ, ◌+◌, ◌≤◌, ◌<◌, Bool, true, false, cond, List, [], ◌∷◌, ◌++◌, length, get_or, set, refl, sym, ap, ◌∙◌, subst, arith, inl, inr, length-set, get_or-set_same, get_or-set_other}
+use Rattle.std.specs.Prelude.{◌↔◌, Contains}
+use Rattle.std.proofs.lemmas.Bool.{cases_Bool, cases_eq, both_ways}
+use Rattle.std.proofs.lemmas.List.{get_or_default, get_or_push, get_or_append_left, length_push}
+use Rattle.std.proofs.lemmas.List.Sums.{sum_by-set}
+use Rattle.cut_residual.specs.declared.arc.ResidualArc.{ResidualArc}
+use Rattle.cut_residual.specs.declared.found.Place.{Place}
+use Rattle.cut_residual.specs.Graphs.{no_residual_arc, AreClosed, Graph, HasResidual, HasArc, head, is_seen, tail}
+use Rattle.cut_residual.specs.Trees.{LeadsOn, Searching, no_place}
+
+module _ (g : Graph) (start : ℕ) (seen : List Bool) (places : List Place) (place : ℕ) (group : List ResidualArc) (k : ℕ) (z : Searching g start seen places place group k) where
+  pub searching_no : (LeadsOn g.arcs (get_or group k no_residual_arc) seen → ⊥) → Searching g start seen places place group (k + 1)
+  searching_no off = record {
+    tree = z.tree;
+    counted = z.counted;
+    before = z.before;
+    here = λ j h in_j left. elim (cases_eq j k) [
+      | inl e ↦ elim (cases_Bool (is_seen seen (head g.arcs (get_or group k no_residual_arc)))) [
+        | inl t ↦ subst (λ v. is_seen seen (head g.arcs (get_or group v no_residual_arc)) ≡ true) (sym e) t
+        | inr f ↦ absurd (off (subst (λ v. HasResidual g.arcs (get_or group v no_residual_arc)) e left, f))
+      ]
+      | inr ne ↦ z.here j (omega arith) in_j left
+    ];
+  }
+
+  -- the node that the step k leads to is marked, and given the last place
+  pub searching_yes : place < length places → HasArc g.arcs (get_or group k no_residual_arc) → tail g.arcs (get_or group k no_residual_arc) ≡ (get_or places place no_place).node →
+      head g.arcs (get_or group k no_residual_arc) < g.nodes → LeadsOn g.arcs (get_or group k no_residual_arc) seen →
+      Searching g start (set seen (head g.arcs (get_or group k no_residual_arc)) true)
+      (places ++ (record { node = head g.arcs (get_or group k no_residual_arc); step = get_or group k no_residual_arc; parent = place }) ∷ []) place group (k + 1)
+  searching_yes in_place known leaves in_to on =
+      let s = get_or group k no_residual_arc in
+      let to = head g.arcs s in
+      let new : Place = record { node = head g.arcs (get_or group k no_residual_arc); step = get_or group k no_residual_arc; parent = place } in
+      let size = z.tree.size in
+      let in_seen : to < length seen = omega arith in
+      let marked : get_or (set seen to true) to false ≡ true = get_or-set_same seen to true false in_seen in
+      let kept : (m : ℕ) → is_seen seen m ≡ true → is_seen (set seen to true) m ≡ true = λ m h. elim (cases_eq m to) [
+        | inl e ↦ rw e marked
+        | inr ne ↦ get_or-set_other seen to m true false ne ∙ h
+      ] in
+      let old : (m : ℕ) → m ≢ to → is_seen (set seen to true) m ≡ true → is_seen seen m ≡ true =
+      λ m ne h. sym (get_or-set_other seen to m true false ne) ∙ h in
+      let len : length (places ++ new ∷ []) ≡ length places + 1 = length_push places new in
+      let same : (p : ℕ) → p < length places → get_or (places ++ new ∷ []) p no_place ≡ get_or places p no_place = λ p h. get_or_append_left places (new ∷ []) no_place p h in
+      let last : get_or (places ++ new ∷ []) (length places) no_place ≡ new = get_or_push places new no_place (length places) refl in
+      record {
+        tree = record {
+          size = length-set seen to true ∙ z.tree.size;
+          first = ap (λ v. v.node) (same 0 (omega arith)) ∙ z.tree.first;
+          found = λ p h in_p. elim (cases_eq p (length places)) [
+            | inl e ↦
+                let p_is : get_or (places ++ new ∷ []) p no_place ≡ new = ap (λ v. get_or (places ++ new ∷ []) v no_place) e ∙ last in
+                let place_is = same place in_place in
+                record {
+                  earlier = rw p_is (omega arith);
+                  known = rw p_is known;
+                  left = rw p_is on.0;
+                  leaves = rw p_is (leaves ∙ ap (λ v. v.node) (sym place_is));
+                  comes = rw p_is refl;
+                }
+            | inr ne ↦
+                let in_old : p < length places = omega arith in
+                let p_is = same p in_old in
+                let f = z.tree.found p h in_old in
+                let earlier = f.earlier in
+                let q_is = same (get_or places p no_place).parent (omega arith) in
+                record {
+                  earlier = rw p_is f.earlier;
+                  known = rw p_is f.known;
+                  left = rw p_is f.left;
+                  leaves = rw p_is (f.leaves ∙ ap (λ v. v.node) (sym q_is));
+                  comes = rw p_is f.comes;
+                }
+          ];
+          once = λ p q h in_q e. elim (cases_eq q (length places)) [
+            | inl at_end ↦
+                let q_is : get_or (places ++ new ∷ []) q no_place ≡ new = ap (λ v. get_or (places ++ new ∷ []) v no_place) at_end ∙ last in
+                let p_is = same p (omega arith) in
+                let node_is : (get_or places p no_place).node ≡ to = ap (λ v. v.node) (sym p_is) ∙ e ∙ ap (λ v. v.node) q_is in
+                both_ways _ on.1 (subst (λ v. is_seen seen v ≡ true) node_is (z.tree.listed p (omega arith)).1)
+            | inr ne ↦ z.tree.once p q h (omega arith) (ap (λ v. v.node) (sym (same p (omega arith))) ∙ e ∙ ap (λ v. v.node) (same q (omega arith)))
+          ];
+          listed = λ p h. elim (cases_eq p (length places)) [
+            | inl e ↦
+                let p_is : get_or (places ++ new ∷ []) p no_place ≡ new = ap (λ v. get_or (places ++ new ∷ []) v no_place) e ∙ last in
+                rw p_is (in_to, marked)
+            | inr ne ↦ let l = z.tree.listed p (omega arith) in rw (same p (omega arith)) (l.0, kept _ l.1)
+          ];
+          placed = λ m h. elim (cases_eq m to) [
+            | inl e ↦ (length places, omega arith, ap (λ v. v.node) last ∙ sym e)
+            | inr ne ↦ let at_p = z.tree.placed m (old m ne h) in (at_p.0, omega arith, ap (λ v. v.node) (same at_p.0 at_p.1) ∙ at_p.2)
+          ];
+          started = kept start z.tree.started;
+        };
+        counted =
+            let sum = sum_by-set (λ v. cond v 1 0) seen to true false in_seen in
+            let none : cond {A = ℕ} (get_or seen to false) 1 0 ≡ 0 = ap (λ (v : Bool). cond {A = ℕ} v 1 0) on.1 in
+            let counted = z.counted in
+            omega arith;
+        before = λ p s h in_p known at_p left.
+            kept _ (z.before p s h (omega arith) known (at_p ∙ ap (λ v. v.node) (same p (omega arith))) left);
+        here = λ j h in_j left. elim (cases_eq j k) [
+          | inl e ↦ subst (λ v. is_seen (set seen to true) (head g.arcs (get_or group v no_residual_arc)) ≡ true) (sym e) marked
+          | inr ne ↦ kept _ (z.here j (omega arith) in_j left)
+        ];
+      }
+
+  -- the next place, where the group has all steps from the node at this one
+  pub searching_next : ((s : ResidualArc) → Contains group s ↔ (HasArc g.arcs s × (tail g.arcs s ≡ (get_or places place no_place).node))) → length group ≤ k →
+      Searching g start seen places (place + 1) [] 0
+  searching_next steps all = record {
+    tree = z.tree;
+    counted = z.counted;
+    before = λ p s h in_p known at_p left. elim (cases_eq p place) [
+      | inl e ↦
+          let (j, in_j, at_j) = (steps s).1 (known, at_p ∙ ap (λ v. (get_or places v no_place).node) e) in
+          let s_is : get_or group j no_residual_arc ≡ s = get_or_default group j no_residual_arc s in_j ∙ at_j in
+          subst (λ v. is_seen seen (head g.arcs v) ≡ true) s_is (z.here j (omega arith) in_j (subst (HasResidual g.arcs) (sym s_is) left))
+      | inr ne ↦ z.before p s (omega arith) in_p known at_p left
+    ];
+    here = λ j h _. absurd (omega arith);
+  }
+
+  -- the marked nodes that no step has been followed from stand at the place and after it
+  pub searching_end : length places ≤ place → AreClosed g.arcs seen
+  searching_end past s known left t =
+      let (p, in_places, at_p) = z.tree.placed (tail g.arcs s) t in
+      z.before p s (omega arith) in_places known (sym at_p) left
+
+pub searching_at : (g : Graph) (start : ℕ) (seen : List Bool) (places : List Place) (place : ℕ) (group : List ResidualArc) → Searching g start seen places place [] 0 →
+    Searching g start seen places place group 0
+searching_at g start seen places place group z = record {
+  tree = z.tree;
+  counted = z.counted;
+  before = z.before;
+  here = λ j h _. absurd (omega arith);
+}

@@ -1,0 +1,5 @@
+pub mod Graphs
+pub mod Flows
+pub mod Groups
+pub mod Trees
+pub mod Searches

@@ -1,0 +1,23 @@
+//! What a search finds.
+ghost use Rattle.cut_residual.specs.Trees.{HaveParents};
+
+use crate::ResidualArc;
+
+/// A node that a search came to: by which residual arc, from which place.
+#[derive(Clone, Copy, Debug)]
+pub(crate) struct Place {
+    pub(crate) node: u32,
+    pub(crate) step: ResidualArc,
+    pub(crate) parent: usize,
+}
+
+/// Which nodes a search marked, and a level for each node. Nothing is promised of the levels but that there is one
+/// for each node: they are meant to be how many
+/// steps away a marked node is, and 2^32 - 1 for the others.
+#[derive(Drop)]
+pub struct Found {
+    pub seen: Vec<bool>,
+    pub levels: Vec<u32>,
+    pub(crate) places: Vec<Place>,
+    ghost have_parents: { HaveParents places.items },
+}

@@ -1,0 +1,21 @@
+//! Residual graphs: flows on arcs, what is left of the arcs, and the one search over what is left.
+//! Stands on std alone.
+//! Its contract: a search marks exactly the nodes that augmenting paths lead to, and what is sent along a path raises each flow by so much.
+#![tactic(auto)]
+
+mod arc;
+mod augment;
+mod found;
+mod graph;
+mod groups;
+mod paths;
+mod searches;
+
+pub use arc::{Arc, ResidualArc};
+pub use found::Found;
+pub use graph::ResidualGraph;
+pub use paths::path_to;
+pub use searches::search;
+
+#[cfg(test)]
+mod tests;

@@ -1,0 +1,88 @@
+-- The modules that have a chain to the end by imports that don't leave the near ones: those that the reversed arcs reach from the end.
+use Rattle.std.proofs.Common.{◌≡◌, ℕ, ◌-◌, ◌≤◌, ◌<◌, Bool, true, false, cond, List, [], ◌∷◌, length, get_or, refl, sym, ap, ◌∙◌, subst, arith}
+use Rattle.std.specs.Prelude.{All, map, ◌↔◌}
+use Rattle.std.proofs.lemmas.List.{length-map, get_or-map}
+use Rattle.std.proofs.lemmas.List.Elements.{Contains-get_or}
+use Rattle.cut_net.specs.declared.priced.Priced.{Priced}
+use Rattle.cut_net.specs.Cuts.{leaves, Chain, IsChain, Outside}
+use Rattle.cut_net.specs.WellFormed.{AreBetween}
+use Rattle.cut_net.proofs.Chains.{step}
+use Rattle.cut_residual.specs.declared.arc.Arc.{Arc}
+use Rattle.cut_residual.specs.Graphs.{no_arc, room, head, tail, is_seen, AreClosed, AreReached}
+use Rattle.cut_residual.proofs.Walking.{along}
+use Rattle.cut_solve.specs.Lines.{reversed_of}
+use Rattle.cut_solve.proofs.Listing.{no_import}
+
+some_left : (t : Bool) → 0 < cond t 0 1 - 0 → t ≡ false
+some_left true h = absurd (omega arith)
+some_left false h = refl
+
+left_some : (t : Bool) → t ≡ false → 0 < cond t 0 1 - 0
+left_some t e = rw e (omega arith)
+
+pub reversed_within : (near : List Bool) (imports : List Priced) → All (λ r. r.flow ≤ r.capacity) (map (reversed_of near) imports)
+reversed_within near imports k d h =
+    let len = length-map imports (reversed_of near) in
+    rw (get_or-map (reversed_of near) imports k no_import d (omega arith)) (omega arith)
+
+pub reversed_between : (near : List Bool) (imports : List Priced) (n : ℕ) → AreBetween imports n → All (λ r. (r.from < n) × (r.to < n)) (map (reversed_of near) imports)
+reversed_between near imports n between k d h =
+    let len = length-map imports (reversed_of near) in
+    let in_k : k < length imports = omega arith in
+    let own = between (get_or imports k no_import) (Contains-get_or imports k no_import in_k) in
+    rw (get_or-map (reversed_of near) imports k no_import d in_k) (own.1, own.0)
+
+module _ (imports : List Priced) (near : List Bool) where
+  goes : (b k : ℕ) (forward : Bool) → k < length (map (reversed_of near) imports) → 0 < room (get_or (map (reversed_of near) imports) k no_arc) forward →
+      Chain imports (Outside (leaves (is_seen near))) (tail (map (reversed_of near) imports) (record { arc = k; forward = forward })) b →
+      Chain imports (Outside (leaves (is_seen near))) (head (map (reversed_of near) imports) (record { arc = k; forward = forward })) b
+  goes b k true h some c =
+      let len = length-map imports (reversed_of near) in
+      let in_k : k < length imports = omega arith in
+      let i = get_or imports k no_import in
+      let e : get_or (map (reversed_of near) imports) k no_arc ≡ reversed_of near i = get_or-map (reversed_of near) imports k no_import no_arc in_k in
+      let stays = some_left (leaves (is_seen near) i) (subst (λ (r : Arc). 0 < r.capacity - r.flow) e some) in
+      let from_to = subst (λ (r : Arc). Chain imports (Outside (leaves (is_seen near))) r.from b) e c in
+      subst (λ (r : Arc). Chain imports (Outside (leaves (is_seen near))) r.to b) (sym e)
+      (step imports (Outside (leaves (is_seen near))) b i (Contains-get_or imports k no_import in_k) stays from_to)
+  goes b k false h some c =
+      let len = length-map imports (reversed_of near) in
+      let in_k : k < length imports = omega arith in
+      let i = get_or imports k no_import in
+      let e : get_or (map (reversed_of near) imports) k no_arc ≡ reversed_of near i = get_or-map (reversed_of near) imports k no_import no_arc in_k in
+      let none = subst (λ (r : Arc). 0 < r.flow) e some in
+      absurd (omega arith)
+
+  module _ (nodes b : ℕ) (far : List Bool) (b_in : b < nodes) (reached : AreReached (record { nodes = nodes; arcs = map (reversed_of near) imports }) b far)
+      (closed : AreClosed (map (reversed_of near) imports) far) where
+    to_chain : (m : ℕ) → is_seen far m ≡ true → Chain imports (Outside (leaves (is_seen near))) m b
+    to_chain m t =
+        let (in_m, (path, way)) = (reached.each m).0 t in
+        along (λ v. Chain imports (Outside (leaves (is_seen near))) v b) (map (reversed_of near) imports) (λ s known left. goes b s.arc s.forward known left)
+        b path m way.is_path.leads way.is_path.known way.left ([], refl)
+
+    from_list : (m : ℕ) (more : List ℕ) → IsChain imports (Outside (leaves (is_seen near))) m more b → is_seen far m ≡ true
+    from_list m [] e =
+        (reached.each m).1 (
+          subst (λ v. v < nodes) (sym e) b_in,
+          (
+            [],
+            record {
+              is_path = record { leads = sym e; known = λ k d h. absurd (omega arith); once = λ i j d h in_j. absurd (omega arith) };
+              left = λ k d h. absurd (omega arith);
+            },
+          ),
+        )
+    from_list m (n ∷ more) ((i, (k, in_k, at_k), ef, et, stays), rest) =
+        let len = length-map imports (reversed_of near) in
+        let next = from_list n more rest in
+        let e : get_or (map (reversed_of near) imports) k no_arc ≡ reversed_of near i = get_or-map (reversed_of near) imports k i no_arc in_k ∙ ap (reversed_of near) at_k in
+        let goes_on : 0 < (get_or (map (reversed_of near) imports) k no_arc).capacity - (get_or (map (reversed_of near) imports) k no_arc).flow →
+        is_seen far (get_or (map (reversed_of near) imports) k no_arc).from ≡ true → is_seen far (get_or (map (reversed_of near) imports) k no_arc).to ≡ true =
+        closed (record { arc = k; forward = true }) (omega arith) in
+        let at_i : 0 < cond (leaves (is_seen near) i) 0 1 - 0 → is_seen far i.to ≡ true → is_seen far i.from ≡ true =
+        subst (λ (r : Arc). 0 < r.capacity - r.flow → is_seen far r.from ≡ true → is_seen far r.to ≡ true) e goes_on in
+        subst (λ v. is_seen far v ≡ true) ef (at_i (left_some (leaves (is_seen near) i) stays) (subst (λ v. is_seen far v ≡ true) (sym et) next))
+
+    pub chains : (m : ℕ) → (is_seen far m ≡ true) ↔ Chain imports (Outside (leaves (is_seen near))) m b
+    chains m = (to_chain m, λ (more, chain). from_list m more chain)

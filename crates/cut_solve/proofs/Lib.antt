@@ -1,0 +1,7 @@
+pub mod Descending
+pub mod Measure
+pub mod Listing
+pub mod Far
+pub mod Flowing
+pub mod Answering
+pub mod Refusals

@@ -1,0 +1,29 @@
+-- Imports as arcs, and which of them are printed.
+use Rattle.std.specs.Prelude.{◌&&◌, nat_lt, Bool, if◌then◌else◌, List}
+use Rattle.cut_net.specs.declared.priced.Priced.{Priced}
+use Rattle.cut_net.specs.Cuts.{leaves}
+use Rattle.cut_residual.specs.declared.arc.Arc.{Arc}
+use Rattle.cut_residual.specs.Graphs.{is_seen}
+
+-- the arc of an import, without flow
+abbrev pub empty_of : Priced → Arc
+empty_of i = record { from = i.from; to = i.to; capacity = i.amount; flow = 0 }
+
+-- the import of an arc
+abbrev pub import_on : Arc → Priced
+import_on r = record { from = r.from; to = r.to; amount = r.capacity }
+
+-- the line of an arc's flow
+abbrev pub flow_line : Arc → Priced
+flow_line r = record { from = r.from; to = r.to; amount = r.flow }
+
+abbrev pub has_flow : Priced → Bool
+has_flow line = nat_lt 0 line.amount
+
+-- the arc that turns an import round, open where the import doesn't leave the near modules
+abbrev pub reversed_of : List Bool → Priced → Arc
+reversed_of near i = record { from = i.to; to = i.from; capacity = if leaves (is_seen near) i then 0 else 1; flow = 0 }
+
+-- the import leads from the near modules to one of the far ones
+abbrev pub is_printed : List Bool → List Bool → Priced → Bool
+is_printed near far i = leaves (is_seen near) i && is_seen far i.to

@@ -1,0 +1,40 @@
+//! Imports as arcs of a graph, and the flow of arcs as lines.
+ghost use Rattle.std.specs.Prelude.{◌≡◌, IfOk, filter, map};
+ghost use Rattle.cut_solve.specs.Lines.{empty_of, has_flow, flow_line};
+
+use cut_net::Priced;
+use cut_residual::Arc;
+use std::alloc::{AllocError, Global};
+
+/// For each import an arc whose capacity is the import's weight, without flow.
+pub(crate) fn arcs_of(alloc: Global, imports: &[Priced]) -> Result<Vec<Arc>, AllocError>
+    ensures { IfOk result (λ arcs. arcs.items ≡ map empty_of imports.now) }
+{
+    let mut arcs = Vec::new(alloc);
+    for i in imports {
+        arcs.push(Arc {
+            from: i.from,
+            to: i.to,
+            capacity: i.amount,
+            flow: 0,
+        })?;
+    }
+    Ok(arcs)
+}
+
+/// The arcs that carry flow, each with its flow.
+pub(crate) fn flow_of(alloc: Global, arcs: &[Arc]) -> Result<Vec<Priced>, AllocError>
+    ensures { IfOk result (λ flow. flow.items ≡ filter has_flow (map flow_line arcs.now)) }
+{
+    let mut flow = Vec::new(alloc);
+    for arc in arcs {
+        if arc.flow > 0 {
+            flow.push(Priced {
+                from: arc.from,
+                to: arc.to,
+                amount: arc.flow,
+            })?;
+        }
+    }
+    Ok(flow)
+}

@@ -1,0 +1,116 @@
+//! Flow along many paths on which the levels rise, as in the blocking flows of Dinic (1970). The proofs use that the levels rise
+//! along a path, so that no arc is on it twice, and nothing else of them.
+ghost use Rattle.std.specs.Prelude.{◌≡◌, ◌≢◌, ◌<◌, IsTrue, OnOk, length};
+ghost use Rattle.cut_residual.specs.Flows.{AreSameArcs};
+ghost use Rattle.cut_residual.specs.Graphs.{HasArc};
+ghost use Rattle.cut_solve.specs.Descents.{Climbs, IsDescent, RaisesOrKeeps, opposite};
+
+use cut_residual::{ResidualArc, ResidualGraph};
+use std::alloc::{AllocError, Global};
+
+/// A path to the end, from its last step back to its first so far: the node where it begins, and for each node the place of
+/// its current residual arc among those that leave it. Those before the current one are done with.
+#[derive(Drop)]
+struct Descent {
+    current: Vec<usize>,
+    path: Vec<ResidualArc>,
+    at: u32,
+}
+
+fn opposite(step: ResidualArc) -> ResidualArc
+    ensures { result ≡ opposite step }
+{
+    ResidualArc {
+        forward: !step.forward,
+        ..step
+    }
+}
+
+/// Whether the residual arc leads to a higher level, and something is left of it.
+fn climbs(graph: &ResidualGraph, step: ResidualArc, levels: &[u32]) -> bool
+    requires known { HasArc graph.now.arcs step }
+    requires levels { length levels.now ≡ graph.now.nodes }
+    ensures { IsTrue result → Climbs graph.now.arcs levels.now step }
+{
+    let tail = graph.tail(step);
+    let head = graph.head(step);
+    levels[tail as usize] < levels[head as usize] && graph.residual(step) > 0
+}
+
+/// Augments where the path has come to the start, advances by a step down, or retreats. False where there is no way back.
+fn make_move(
+    graph: &mut ResidualGraph,
+    levels: &[u32],
+    from: u32,
+    to: u32,
+    descent: &mut Descent,
+) -> Result<bool, AllocError>
+    requires apart { from ≢ to }
+    requires descent { IsDescent graph.old levels.now to descent.old.current.items descent.old.path.items descent.old.at }
+    ensures nodes { OnOk result (graph.new.nodes ≡ graph.old.nodes) }
+    ensures same { OnOk result (AreSameArcs graph.old.arcs graph.new.arcs) }
+    ensures rises { OnOk result (RaisesOrKeeps graph.old.arcs graph.new.arcs from to) }
+    ensures descent { OnOk result (IsDescent graph.new levels.now to descent.new.current.items descent.new.path.items descent.new.at) }
+{
+    let at = descent.at;
+    if at == from {
+        descent.path.reverse();
+        graph.augment(&descent.path);
+        descent.path.clear();
+        descent.at = to;
+        return Ok(true);
+    }
+    let current = descent.current[at as usize];
+    let leaving = graph.residual_arcs(at);
+    if current < leaving.len() {
+        let step = opposite(leaving[current]);
+        if climbs(graph, step, levels) {
+            let tail = graph.tail(step);
+            descent.path.push(step)?;
+            descent.at = tail;
+            return Ok(true);
+        }
+        descent.current[at as usize] = current + 1;
+        return Ok(true);
+    }
+    match descent.path.pop() {
+        Some(step) => {
+            let head = graph.head(step);
+            let done = descent.current[head as usize];
+            descent.current[head as usize] = done.saturating_add(1);
+            descent.at = head;
+            Ok(true)
+        }
+        None => Ok(false),
+    }
+}
+
+/// Sends flow along paths on which the levels rise, as many as it finds. Where the levels are those of a search from the
+/// start, only steps that are full by then are dead ends.
+pub(crate) fn blocking_flow(
+    alloc: Global,
+    graph: &mut ResidualGraph,
+    levels: &[u32],
+    from: u32,
+    to: u32,
+) -> Result<(), AllocError>
+    requires apart { from ≢ to }
+    requires levels { length levels.now ≡ graph.old.nodes }
+    requires to { to < graph.old.nodes }
+    ensures nodes { OnOk result (graph.new.nodes ≡ graph.old.nodes) }
+    ensures same { OnOk result (AreSameArcs graph.old.arcs graph.new.arcs) }
+    ensures rises { OnOk result (RaisesOrKeeps graph.old.arcs graph.new.arcs from to) }
+{
+    let mut descent = Descent {
+        current: vec![in alloc; 0usize; levels.len()]?,
+        path: Vec::new(alloc),
+        at: to,
+    };
+    for _ in 0..u64::MAX {
+        let moved = make_move(graph, levels, from, to, &mut descent)?;
+        if !moved {
+            return Ok(());
+        }
+    }
+    Ok(())
+}

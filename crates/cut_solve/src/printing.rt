@@ -1,0 +1,99 @@
+//! The printed imports: of those that leave the near modules, those that lead to a module that still has a chain to the end.
+ghost use Rattle.std.specs.Prelude.{ℕ, ◌≡◌, ◌<◌, ◌^◌, ◌↔◌, true, IfOk, filter, length, map, sum_by};
+ghost use Rattle.cut_net.specs.Cuts.{leaves, Chain, Outside};
+ghost use Rattle.cut_net.specs.WellFormed.{AreBetween};
+ghost use Rattle.cut_residual.specs.Graphs.{is_seen};
+ghost use Rattle.cut_solve.specs.Lines.{is_printed, reversed_of};
+
+use cut_net::Priced;
+use cut_residual::{Arc, Found, ResidualGraph, search};
+use std::alloc::{AllocError, Global};
+
+/// Whether the import leads out of the near modules.
+fn leaves(i: Priced, near: &Found) -> bool
+    requires from { i.from < length near.now.seen.items }
+    requires to { i.to < length near.now.seen.items }
+    ensures { result ≡ leaves (is_seen near.now.seen.items) i }
+{
+    near.seen[i.from as usize] && !near.seen[i.to as usize]
+}
+
+/// For each import an arc the other way round, which is open where the import doesn't leave the near modules.
+fn reversed_arcs(alloc: Global, imports: &[Priced], near: &Found) -> Result<Vec<Arc>, AllocError>
+    requires between { AreBetween imports.now (length near.now.seen.items) }
+    ensures { IfOk result (λ arcs. arcs.items ≡ map (reversed_of near.now.seen.items) imports.now) }
+{
+    let mut arcs = Vec::new(alloc);
+    for i in imports {
+        let capacity = if leaves(*i, near) { 0 } else { 1 };
+        arcs.push(Arc {
+            from: i.to,
+            to: i.from,
+            capacity,
+            flow: 0,
+        })?;
+    }
+    Ok(arcs)
+}
+
+/// Marks the modules that have a chain to the end by imports that don't leave the near modules.
+pub(crate) fn far_from(
+    alloc: Global,
+    imports: &[Priced],
+    near: &Found,
+    nodes: u32,
+    to: u32,
+) -> Result<Found, AllocError>
+    requires between { AreBetween imports.now nodes }
+    requires near { length near.now.seen.items ≡ nodes }
+    requires to { to < nodes }
+    ensures size { IfOk result (λ far. length far.seen.items ≡ nodes) }
+    ensures far { IfOk result (λ far. (m : ℕ) → (is_seen far.seen.items m ≡ true) ↔ Chain imports.now (Outside (leaves (is_seen near.now.seen.items))) m to) }
+{
+    let arcs = reversed_arcs(alloc, imports, near)?;
+    let graph = ResidualGraph::new(alloc, arcs, nodes)?;
+    let far = search(alloc, &graph, to)?;
+    Ok(far)
+}
+
+/// Whether the import is printed: it leaves the near modules, and the module that it leads to has a chain to the end.
+fn is_printed(i: Priced, near: &Found, far: &Found) -> bool
+    requires from { i.from < length near.now.seen.items }
+    requires to { i.to < length near.now.seen.items }
+    requires far { i.to < length far.now.seen.items }
+    ensures { result ≡ is_printed near.now.seen.items far.now.seen.items i }
+{
+    leaves(i, near) && far.seen[i.to as usize]
+}
+
+/// The printed imports, in their order.
+pub(crate) fn printed_of(
+    alloc: Global,
+    imports: &[Priced],
+    near: &Found,
+    far: &Found,
+) -> Result<Vec<Priced>, AllocError>
+    requires near { AreBetween imports.now (length near.now.seen.items) }
+    requires far { AreBetween imports.now (length far.now.seen.items) }
+    ensures { IfOk result (λ printed. printed.items ≡ filter (is_printed near.now.seen.items far.now.seen.items) imports.now) }
+{
+    let mut printed = Vec::new(alloc);
+    for i in imports {
+        if is_printed(*i, near, far) {
+            printed.push(*i)?;
+        }
+    }
+    Ok(printed)
+}
+
+/// The sum of the weights.
+pub(crate) fn weight_of(imports: &[Priced]) -> u64
+    requires { sum_by (λ i. i.amount) imports.now < 2 ^ 64 }
+    ensures { result ≡ sum_by (λ i. i.amount) imports.now }
+{
+    let mut weight = 0;
+    for i in imports {
+        weight += i.amount;
+    }
+    weight
+}

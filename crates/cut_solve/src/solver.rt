@@ -1,0 +1,70 @@
+//! The plain solver: augmenting paths in phases, as Dinic (1970) has them, in one thread.
+ghost use Rattle.std.specs.Prelude.{◌≡◌, ◌≢◌, ◌<◌, IfOk, IfSome, length};
+ghost use Rattle.cut_net.specs.Lines.{IsAnswer, IsCheapestSaid};
+ghost use Rattle.cut_solve.specs.Solving.{outcome_of, said_by, IsModuleOr, IsRefusal, IsSolveOutcome, SolveOutcome};
+
+use crate::SolveFault;
+use crate::arcs::{arcs_of, flow_of};
+use crate::greatest::greatest_flow;
+use crate::printing::{far_from, printed_of, weight_of};
+use cut_net::{Cut, Net};
+use cut_residual::ResidualGraph;
+use std::alloc::{AllocError, Global};
+
+/// A cheapest cut between two modules, with a flow that proves it.
+fn solve(alloc: Global, net: &Net, from: u32, to: u32) -> Result<Cut, AllocError>
+    requires apart { from ≢ to }
+    requires from { from < length net.now.names }
+    requires to { to < length net.now.names }
+    ensures answer { IfOk result (λ cut. IsAnswer net.now from to (said_by cut)) }
+    ensures cheapest { IfOk result (λ cut. IsCheapestSaid net.now from to (said_by cut)) }
+{
+    net.keeps();
+    let imports = net.imports();
+    let arcs = arcs_of(alloc, imports)?;
+    let mut graph = ResidualGraph::new(alloc, arcs, net.nodes())?;
+    let near = greatest_flow(alloc, &mut graph, from, to)?;
+    graph.keeps();
+    let far = far_from(alloc, imports, &near, net.nodes(), to)?;
+    let printed = printed_of(alloc, imports, &near, &far)?;
+    let weight = weight_of(&printed);
+    let flow = flow_of(alloc, graph.arcs())?;
+    Ok(Cut {
+        imports: printed,
+        weight,
+        flow,
+    })
+}
+
+/// The number of the module of this name.
+fn module_of(alloc: Global, net: &Net, name: &str) -> Result<u32, SolveFault>
+    ensures { IsModuleOr net.now name.now result }
+{
+    match net.index_of(name) {
+        Some(module) => Ok(module),
+        None => Err(SolveFault::NoSuchModule {
+            name: String::from_str(alloc, name)?,
+        }),
+    }
+}
+
+/// A cheapest cut between the modules of two names: the printed imports with their weights, the sum of these in qualified
+/// references, and a flow of that value. Both lists are in order of the imports' numbers, each import once, and no flow is 0.
+/// An import is printed where it leaves the modules that are in every side of least weight, and the module that it leads
+/// to has a chain to `to` by none of those.
+/// The names are looked up first, `from` before `to`. Refuses with `NoSuchModule` for the first that no module has, with
+/// `SameModule` where both are one module's, and with `Memory`.
+pub fn plain(alloc: Global, net: &Net, from: &str, to: &str) -> Result<Cut, SolveFault>
+    // It is a cheapest cut with a flow that proves it, or what is wrong with the names.
+    ensures exact { IfSome (outcome_of result) (IsSolveOutcome net.now from.now to.now) }
+    // What is wrong with the names is answered unless memory runs out.
+    ensures refused { (o : SolveOutcome) → IsRefusal o → IsSolveOutcome net.now from.now to.now o → IfSome (outcome_of result) (λ p. p ≡ o) }
+{
+    let from = module_of(alloc, net, from)?;
+    let to = module_of(alloc, net, to)?;
+    if from == to {
+        return Err(SolveFault::SameModule);
+    }
+    let cut = solve(alloc, net, from, to)?;
+    Ok(cut)
+}

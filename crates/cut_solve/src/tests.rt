@@ -1,0 +1,135 @@
+//! Worked networks, each with its cut, and names that are refused.
+use crate::{SolveFault, plain};
+use cut_net::{Cut, Net, Priced};
+use std::alloc::Global;
+use std::process::Abort;
+use std::test::Fail;
+
+fn line((from, to, amount): (u32, u32, u64)) -> Priced {
+    Priced { from, to, amount }
+}
+
+fn lines(alloc: Global, ends: &[(u32, u32, u64)]) -> Result<Vec<Priced>, Fail> {
+    let mut lines = Vec::new(alloc);
+    for one in ends {
+        lines.push(line(*one))?;
+    }
+    Ok(lines)
+}
+
+/// Checks that this is the cut between the two modules.
+fn cuts(
+    rt: &(impl Abort + AllocGlobal),
+    net: &[u8],
+    (from, to): (&str, &str),
+    imports: &[(u32, u32, u64)],
+    weight: u64,
+    flow: &[(u32, u32, u64)],
+) -> Result<(), Fail> {
+    let net = Net::read(rt.alloc(), net)?;
+    let cut = plain(rt.alloc(), &net, from, to)?;
+    let imports = lines(rt.alloc(), imports)?;
+    let flow = lines(rt.alloc(), flow)?;
+    assert_eq!(rt;
+        cut,
+        Cut {
+            imports,
+            weight,
+            flow
+        }
+    );
+    Ok(())
+}
+
+#[test]
+fn two_imports_in_a_row_are_cut_at_the_first(rt: HostRuntime) -> Result<(), Fail> {
+    cuts(
+        &rt,
+        b"import A M 2\nimport M B 2\n",
+        ("A", "B"),
+        &[(0, 2, 2)],
+        2,
+        &[(0, 2, 2), (2, 1, 2)],
+    )
+}
+
+// A V leaves the modules that are near, and no chain needs it.
+#[test]
+fn an_import_that_leaves_may_stay(rt: HostRuntime) -> Result<(), Fail> {
+    cuts(
+        &rt,
+        b"import A U 5\nimport U D 1\nimport A V 0\nimport V U 3\n",
+        ("A", "D"),
+        &[(2, 1, 1)],
+        1,
+        &[(0, 2, 1), (2, 1, 1)],
+    )
+}
+
+#[test]
+fn an_import_of_weight_zero_is_cut(rt: HostRuntime) -> Result<(), Fail> {
+    cuts(&rt, b"import M N 0\n", ("M", "N"), &[(0, 1, 0)], 0, &[])
+}
+
+#[test]
+fn where_there_is_no_chain_nothing_is_cut(rt: HostRuntime) -> Result<(), Fail> {
+    cuts(
+        &rt,
+        b"import A M 2\nimport M B 2\n",
+        ("B", "A"),
+        &[],
+        0,
+        &[],
+    )
+}
+
+// A flow over U X and X T leaves S V no way on but back over U X.
+#[test]
+fn a_path_goes_back_over_flow(rt: HostRuntime) -> Result<(), Fail> {
+    cuts(
+        &rt,
+        b"import S U 1\nimport S V 1\nimport U X 1\nimport U Y 1\nimport V X 1\nimport X T 1\nimport Y T 1\n",
+        ("S", "T"),
+        &[(0, 2, 1), (0, 3, 1)],
+        2,
+        &[
+            (0, 2, 1),
+            (0, 3, 1),
+            (2, 5, 1),
+            (3, 4, 1),
+            (4, 1, 1),
+            (5, 1, 1),
+        ],
+    )
+}
+
+/// Checks that the names are refused with this fault.
+fn refuses(
+    rt: &(impl Abort + AllocGlobal),
+    from: &str,
+    to: &str,
+    fault: &SolveFault,
+) -> Result<(), Fail> {
+    let net = Net::read(rt.alloc(), b"import A M 2\nimport M B 2\n")?;
+    match plain(rt.alloc(), &net, from, to) {
+        Ok(_) => assert!(rt; false, "a cut between {from} and {to}"),
+        Err(found) => assert_eq!(rt; &found, fault),
+    }
+    Ok(())
+}
+
+#[test]
+fn the_first_unknown_name_is_told(rt: HostRuntime) -> Result<(), Fail> {
+    let q = SolveFault::NoSuchModule {
+        name: String::from_str(rt.alloc(), "Q")?,
+    };
+    refuses(&rt, "Q", "B", &q)?;
+    refuses(&rt, "A", "Q", &q)?;
+    refuses(&rt, "Q", "Z", &q)?;
+    refuses(&rt, "Q", "Q", &q)
+}
+
+#[test]
+fn one_module_is_not_cut_from_itself(rt: HostRuntime) -> Result<(), Fail> {
+    refuses(&rt, "M", "M", &SolveFault::SameModule)
+}

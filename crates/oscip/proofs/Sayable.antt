@@ -1,0 +1,79 @@
+-- What a solver answers may stand in a report.
+use Rattle.std.proofs.Common.{◌≡◌, ℕ, ◌≤◌, ◌<◌, ◌^◌, true, List, length, get_or, Some, refl, sym, ap, ◌∙◌, subst, arith}
+use Rattle.std.specs.Prelude.{Contains, All, IfSome, find}
+use Rattle.std.specs.List.{position_or_len, slice_get}
+use Rattle.std.proofs.lemmas.Bool.{false_from_ne_true}
+use Rattle.std.proofs.lemmas.List.Elements.{All-contains}
+use Rattle.std.proofs.lemmas.List.Folds.{find_at}
+use Rattle.std.proofs.lemmas.List.Sums.{get_or-le-sum_by, position_or_len_is}
+use Rattle.std.proofs.lemmas.Option.{slice_get-get_or}
+use Rattle.cut_net.specs.declared.priced.Priced.{Priced}
+use Rattle.cut_net.specs.Network.{Network, index_of}
+use Rattle.cut_net.specs.Cuts.{same_ends}
+use Rattle.cut_net.specs.Lines.{amount_in, removed_by, AreInOrder, IsAnswer, IsAscending, IsImport}
+use Rattle.cut_net.specs.ReportText.{IsReport, MaySay}
+use Rattle.cut_net.specs.Said.{Entry, Said, CutOf}
+use Rattle.cut_net.specs.WellFormed.{total_weight, AreBetween, IsNetwork}
+use Rattle.cut_net.proofs.Certificate.{weight-mono}
+use Rattle.cut_net.proofs.Places.{index_takes}
+use Rattle.cut_solve.specs.Solving.{IsSolved}
+use Rattle.cut_check.proofs.Matching.{apart, before_from, same_from, same_sym, same_trans, same_true, Same}
+
+-- the line that has an import's ends is the one that is found
+found_at : (lines : List Priced) (i : Priced) (k : ℕ) (d : Priced) → IsAscending lines → k < length lines → Same i (get_or lines k d) → find (same_ends i) lines ≡ Some (get_or lines k d)
+found_at lines i k d ascending within same =
+    let place : position_or_len (same_ends i) lines ≡ k =
+    position_or_len_is (same_ends i) lines k d (omega arith)
+    (λ j below. false_from_ne_true _ (λ t. apart {i = get_or lines j d} {j = get_or lines k d} (before_from _ _ (ascending j k d below within)) (same_trans (same_sym (same_from _ _ t)) (same_sym same))))
+    (λ _. same_true _ _ same) in
+    find_at (same_ends i) lines ∙ ap (slice_get lines) place ∙ slice_get-get_or lines k d within
+
+weight_within : (net : Network) (i : Priced) → Contains net.imports i → i.amount ≤ total_weight net
+weight_within net i c =
+    let le = get_or-le-sum_by (λ (j : Priced). j.amount) net.imports c.0 i c.1 in
+    subst (λ (j : Priced). j.amount ≤ total_weight net) c.2 le
+
+lines_between : (net : Network) (lines : List Priced) → IsNetwork net → All (IsImport net) lines → AreBetween lines (length net.names)
+lines_between net lines keeps known i c =
+    let import_of = All-contains (IsImport net) lines i known c in
+    let ends = keeps.between import_of.0 import_of.1 in
+    (rw (← import_of.2) ends.0, rw (← import_of.3) ends.1)
+
+-- each line's amount is within the weights of the network
+lines_fit : (net : Network) (lines : List Priced) → IsNetwork net → AreInOrder net lines →
+    ((i line : Priced) → Contains net.imports i → find (same_ends i) lines ≡ Some line → line.amount ≤ i.amount) → All (λ line. line.amount < 2 ^ 64) lines
+lines_fit net lines keeps h within k d lt =
+    let import_of = h.known k d lt in
+    let found = found_at lines import_of.0 k d h.ascending lt (record { from = import_of.2; to = import_of.3 }) in
+    let le = within import_of.0 (get_or lines k d) import_of.1 found in
+    let all = weight_within net import_of.0 import_of.1 in
+    let fits = keeps.fits in
+    omega arith
+
+may_say : (net : Network) (a b : ℕ) (said : Said) → IsNetwork net → IsAnswer net a b said → MaySay net said
+may_say net a b (CutOf total printed flow) keeps answer =
+    let r = answer.right in
+    let less = weight-mono net.imports (removed_by printed) (λ _. true) (λ i c e. refl) in
+    let sum = r.weights.sum in
+    let fits = keeps.fits in
+    record {
+      fits = omega arith;
+      printed_between = lines_between net printed keeps r.printed_in_order.known;
+      printed_in_order = r.printed_in_order.ascending;
+      printed_fit = lines_fit net printed keeps r.printed_in_order (λ i line c e.
+          let same = subst (λ o. IfSome o (λ (l : Priced). l.amount ≡ i.amount)) e (r.weights.each i c) in omega arith);
+      flow_between = lines_between net flow keeps r.flow_in_order.known;
+      flow_in_order = r.flow_in_order.ascending;
+      flow_fits = lines_fit net flow keeps r.flow_in_order (λ i line c e.
+          subst (λ o. amount_in o ≤ i.amount) e (r.is_flow.within i c));
+      flow_above_zero = answer.flow_above_zero;
+    }
+
+-- an answer to two names is a report
+pub is_report : (net : Network) (first second : List ℕ) (entry : Entry) → IsNetwork net → Some entry.from ≡ index_of net first → Some entry.to ≡ index_of net second →
+    IsSolved net first second entry.said → IsReport net entry
+is_report net first second entry keeps from_is to_is solved = record {
+  from = (index_takes net first entry.from (sym from_is)).0;
+  to = (index_takes net second entry.to (sym to_is)).0;
+  says = may_say net solved.a solved.b entry.said keeps solved.answer;
+}
