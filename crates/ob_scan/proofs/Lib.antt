@@ -1,0 +1,15 @@
+pub mod Closings
+pub mod Continuing
+pub mod LineStarts
+pub mod Marks
+pub mod Names
+pub mod Numbers
+pub mod OneToken
+pub mod Outcomes
+pub mod Pieces
+pub mod Places
+pub mod Runs
+pub mod Shapes
+pub mod Signs
+pub mod Strings
+pub mod Texts

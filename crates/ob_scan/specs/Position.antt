@@ -1,0 +1,15 @@
+-- Lines and columns, from 0. A line ends at LF, at CR LF, or at a CR alone, and the bytes of its end belong to it.
+use Rattle.std.specs.Prelude.{◌≡◌, ℕ, ◌+◌, ◌≤◌, ◌<◌, List, Bool, true, false, ◌==◌, ◌&&◌, ◌||◌, not, ◌⊎◌, slice_index, count_by}
+use Rattle.std.specs.List.{range_with_len}
+
+-- the byte at this place is the last of a line's end: an LF, or a CR that no LF follows
+abbrev pub ends_line : List ℕ → ℕ → Bool
+ends_line bytes at = (slice_index bytes at == 10) || ((slice_index bytes at == 13) && not (slice_index bytes (at + 1) == 10))
+
+-- the offset's line is the number of line ends before it, and its column how far it stands from the line's first offset
+pub record IsPosition (bytes : List ℕ) (offset line column : ℕ) : Type 0 where
+  pub line_is : line ≡ count_by (ends_line bytes) (range_with_len 0 offset)
+  pub first : ℕ
+  pub column_is : first + column ≡ offset
+  pub begins : (first ≡ 0) ⊎ ((last : ℕ) × (last + 1 ≡ first) × (ends_line bytes last ≡ true))
+  pub whole : (at : ℕ) → first ≤ at → at < offset → ends_line bytes at ≡ false

@@ -1,0 +1,68 @@
+//! The delimiters (Oberon-07 report, section 3).
+ghost use Rattle.std.specs.Prelude.{◌≡◌};
+ghost use Rattle.ob_scan.specs.Pieces.{delimiter_of, single_in};
+ghost use Rattle.ob_scan.specs.Tables.{pair_of, single_of};
+
+use crate::Kind;
+
+fn pair_of(first: u8, second: u8) -> Option<Kind>
+    ensures { result ≡ pair_of first second }
+{
+    match (first, second) {
+        (b':', b'=') => Some(Kind::Assign),
+        (b'<', b'=') => Some(Kind::LessEquals),
+        (b'>', b'=') => Some(Kind::GreaterEquals),
+        (b'.', b'.') => Some(Kind::DotDot),
+        _ => None,
+    }
+}
+
+fn single_of(byte: u8) -> Option<Kind>
+    ensures { result ≡ single_of byte }
+{
+    match byte {
+        b'+' => Some(Kind::Plus),
+        b'-' => Some(Kind::Minus),
+        b'*' => Some(Kind::Star),
+        b'/' => Some(Kind::Slash),
+        b'~' => Some(Kind::Tilde),
+        b'&' => Some(Kind::Ampersand),
+        b'.' => Some(Kind::Dot),
+        b',' => Some(Kind::Comma),
+        b';' => Some(Kind::Semicolon),
+        b'|' => Some(Kind::Bar),
+        b'(' => Some(Kind::LeftParen),
+        b')' => Some(Kind::RightParen),
+        b'[' => Some(Kind::LeftBracket),
+        b']' => Some(Kind::RightBracket),
+        b'{' => Some(Kind::LeftBrace),
+        b'}' => Some(Kind::RightBrace),
+        b'^' => Some(Kind::Caret),
+        b'=' => Some(Kind::Equals),
+        b'#' => Some(Kind::Hash),
+        b'<' => Some(Kind::Less),
+        b'>' => Some(Kind::Greater),
+        b':' => Some(Kind::Colon),
+        _ => None,
+    }
+}
+
+fn single(byte: u8) -> Option<(Kind, usize)>
+    ensures { result ≡ single_in byte }
+{
+    single_of(byte).map(|kind| (kind, 1))
+}
+
+/// The delimiter in front and its length, two bytes before one.
+pub(crate) fn delimiter(rest: &[u8]) -> Option<(Kind, usize)>
+    ensures { result ≡ delimiter_of rest.now }
+{
+    match rest {
+        [first, second, ..] => match pair_of(*first, *second) {
+            Some(kind) => Some((kind, 2)),
+            None => single(*first),
+        },
+        [first] => single(*first),
+        [] => None,
+    }
+}

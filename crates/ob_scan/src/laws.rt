@@ -1,0 +1,32 @@
+//! Laws of texts and tokens. Each function is a law: its body is empty, and its contract is proved.
+ghost use Rattle.std.specs.Prelude.{◌≡◌, ℕ, List};
+ghost use Rattle.ob_scan.specs.declared.token.Token.{Token};
+ghost use Rattle.ob_scan.specs.Position.{IsPosition};
+ghost use Rattle.ob_scan.specs.Spelling.{AreInText, IsOutcome, Outcome, Spells};
+
+/// A text spells at most one list of tokens.
+pub fn one_spelling()
+    ensures { (bytes : List ℕ) (ts us : List Token) → Spells bytes ts → Spells bytes us → ts ≡ us }
+{}
+
+/// A text has an outcome: tokens, or a fault at an offset, for a reason.
+pub fn some_outcome()
+    ensures { (bytes : List ℕ) → (o : Outcome) × IsOutcome bytes o }
+{}
+
+/// A text has at most one outcome.
+pub fn one_outcome()
+    ensures { (bytes : List ℕ) (o p : Outcome) → IsOutcome bytes o → IsOutcome bytes p → o ≡ p }
+{}
+
+/// The tokens that a text spells stand in it one behind the other, and none is empty.
+pub fn tokens_in_text()
+    ensures { (bytes : List ℕ) (ts : List Token) → Spells bytes ts → AreInText bytes ts }
+{}
+
+/// An offset has at most one line and one column.
+pub fn one_position()
+    ensures { (bytes : List ℕ) (offset line column row place : ℕ) →
+        IsPosition bytes offset line column → IsPosition bytes offset row place →
+        (line ≡ row) × (column ≡ place) }
+{}

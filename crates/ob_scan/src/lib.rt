@@ -1,0 +1,28 @@
+//! From the bytes of an Oberon-07 module to its tokens, and from offsets to lines and columns.
+//! Stands on std, with `thiserror` for its faults.
+//! Its contract: the tokens spell the bytes, or at the fault's offset nothing begins, for the named reason.
+#![tactic(auto)]
+
+mod comment;
+mod delimiters;
+mod fault;
+mod kind;
+pub mod laws;
+mod lines;
+mod name;
+mod number;
+mod piece;
+mod place;
+mod scanner;
+mod token;
+mod words;
+
+pub use fault::ScanFault;
+pub use kind::Kind;
+pub use lines::position;
+pub use place::Position;
+pub use scanner::scan;
+pub use token::{Token, Tokens};
+
+#[cfg(test)]
+mod tests;

@@ -1,0 +1,44 @@
+//! Names, reserved words and strings in quotes (Oberon-07 report, section 3).
+ghost use Rattle.std.specs.Prelude.{◌≡◌, ◌≤◌, ◌==◌, length, take, unwrap_or, IfSome};
+ghost use Rattle.std.specs.List.{position, prefix_len};
+ghost use Rattle.std.specs.Char.{is_ascii_alphanumeric};
+ghost use Rattle.ob_scan.specs.declared.kind.Kind.TheVariants.{Ident};
+ghost use Rattle.ob_scan.specs.Pieces.{string_len};
+ghost use Rattle.ob_scan.specs.Tables.{word_of};
+
+use crate::Kind;
+use crate::words::word_of;
+
+/// How many letters and digits stand in front.
+pub(crate) fn name_len(rest: &[u8]) -> usize
+    ensures value { result ≡ prefix_len is_ascii_alphanumeric rest.now }
+    ensures within { result ≤ length rest.now }
+{
+    rest.iter()
+        .take_while(|b| b.is_ascii_alphanumeric())
+        .count()
+}
+
+/// A reserved word's kind, or that of identifiers.
+pub(crate) fn name_kind(name: &[u8]) -> Kind
+    ensures { result ≡ unwrap_or (word_of name.now) Ident }
+{
+    word_of(name).unwrap_or(Kind::Ident)
+}
+
+fn quote_in(bytes: &[u8]) -> Option<usize>
+    ensures { result ≡ position (λ b. b == 34) bytes.now }
+{
+    bytes.iter().position(|b| *b == b'"')
+}
+
+/// The length of the string in front, whose first quote is read, or none where it has no end.
+pub(crate) fn string_len(rest: &[u8]) -> Option<usize>
+    requires { 1 ≤ length rest.now }
+    ensures value { result ≡ string_len rest.now }
+    ensures within { IfSome result (λ n. n ≤ length rest.now) }
+{
+    let (_, inside) = rest.split_at(1);
+    let end = quote_in(inside)?;
+    Some(end + 2)
+}

@@ -1,0 +1,46 @@
+//! From bytes to tokens.
+ghost use Rattle.std.specs.Prelude.{◌≡◌, ◌≤◌, length, IfSome};
+ghost use Rattle.ob_scan.specs.Spelling.{IsOutcome, Outcome, outcome_of};
+
+use crate::piece::{Piece, next_piece};
+use crate::{ScanFault, Token, Tokens};
+use std::alloc::Global;
+
+const MAX_BYTES: usize = 16_777_216;
+
+fn tokens_in(alloc: Global, bytes: &[u8]) -> Result<Tokens, ScanFault>
+    requires { length bytes.now ≤ 16777216 }
+    ensures { IfSome (outcome_of result) (IsOutcome bytes.now) }
+{
+    let mut tokens = Vec::new(alloc);
+    let mut at = 0;
+    'pieces: while at < bytes.len() {
+        match next_piece(&bytes[at..]) {
+            Piece::Gap(n) => at += n,
+            Piece::Token(kind, n) => {
+                tokens.push(Token {
+                    kind,
+                    start: at as u32,
+                    end: (at + n) as u32,
+                })?;
+                at += n;
+            }
+            Piece::Nothing(reason) => return Err(reason.at(at as u32)),
+        }
+    }
+    Ok(Tokens::of(tokens))
+}
+
+/// The tokens of the bytes of a module, or the first fault; Memory where a growth was refused.
+/// TooLong is tested first, and of the other faults the one that stands first in the file is answered.
+pub fn scan(alloc: Global, bytes: &[u8]) -> Result<Tokens, ScanFault>
+    // They are the tokens that spell the bytes, or it is a fault that the bytes have.
+    ensures exact { IfSome (outcome_of result) (IsOutcome bytes.now) }
+    // The tokens of the bytes, or their fault, are answered unless memory runs out.
+    ensures only { (o : Outcome) → IsOutcome bytes.now o → IfSome (outcome_of result) (λ p. p ≡ o) }
+{
+    if bytes.len() > MAX_BYTES {
+        return Err(ScanFault::TooLong);
+    }
+    tokens_in(alloc, bytes)
+}

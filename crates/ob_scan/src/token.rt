@@ -1,0 +1,61 @@
+//! Tokens, and the list of them.
+ghost use Rattle.std.specs.Prelude.{◌≡◌, ◌<◌, ◌==◌, Some, length, slice_get};
+
+use crate::Kind;
+use std::marker::Model;
+
+/// A token and where it stands: from the offset of its first byte to the offset behind its last.
+#[derive(Clone, Copy, PartialEq, Eq, Debug)]
+pub struct Token {
+    /// What it is.
+    pub kind: Kind,
+    /// The offset of its first byte.
+    pub start: u32,
+    /// The offset of the byte behind it.
+    pub end: u32,
+}
+
+/// The tokens of a text in order, numbered from 0.
+#[derive(Drop)]
+pub struct Tokens {
+    items: Vec<Token>,
+}
+
+impl Model for Tokens {
+    ghost use Rattle.std.specs.Prelude.{List};
+    ghost use Rattle.ob_scan.specs.declared.token.Token.{Token};
+
+    ghost Value = { List Token };
+
+    ghost view = { λ tokens. tokens.items.items };
+}
+
+impl Tokens {
+    pub(crate) fn of(items: Vec<Token>) -> Tokens
+        ensures { result ≡ items.items }
+    {
+        Tokens { items }
+    }
+
+    /// How many tokens there are.
+    pub fn len(&self) -> usize
+        ensures { result ≡ length self.now }
+    {
+        self.items.len()
+    }
+
+    /// Whether there is none.
+    pub fn is_empty(&self) -> bool
+        ensures { result ≡ (length self.now == 0) }
+    {
+        self.items.is_empty()
+    }
+
+    /// The token of this number.
+    pub fn get(&self, number: usize) -> Token
+        requires { number < length self.now }
+        ensures { slice_get self.now number ≡ Some result }
+    {
+        self.items[number]
+    }
+}
