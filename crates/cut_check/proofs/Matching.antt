@@ -1,7 +1,7 @@
 -- One pass over the imports and the lines together.
-use Rattle.std.proofs.Common.{◌≡◌, ℕ, zero, suc, ◌+◌, ◌-◌, ◌≤◌, ◌<◌, Bool, true, false, cond, List, [], ◌∷◌, ◌++◌, length, get_or, take, refl, sym, ap, ◌∙◌, subst, arith, ◌⊎◌, inl, inr, Option, Some, None, add-zero}
+use Rattle.std.proofs.Common.{◌≡◌, ℕ, zero, suc, ◌+◌, ◌-◌, ◌≤◌, ◌<◌, Bool, true, false, cond, List, [], ◌∷◌, ◌++◌, length, get_or, take, refl, sym, ap, ◌∙◌, subst, arith, inl, inr, Option, Some, None, add-zero}
 use Rattle.std.specs.Prelude.{is_some, find, option_map}
-use Rattle.std.proofs.lemmas.Bool.{cases_eq, both_ways, and_parts, and_from, or_cases, or_left, or_right, ltb-true, lt-ltb, eqb-true, eq-eqb, false_from_ne_true}
+use Rattle.std.proofs.lemmas.Bool.{cases_eq, both_ways, false_from_ne_true}
 use Rattle.std.proofs.lemmas.List.Folds.{find-append}
 use Rattle.std.proofs.lemmas.List.{get_or_default, take_more, get_or_push, get_or_append_left, get_or-take, length-take-le}
 use Rattle.std.specs.Option.{option_or}
@@ -10,57 +10,9 @@ use Rattle.cut_net.specs.declared.priced.Priced.{Priced}
 use Rattle.cut_net.specs.Cuts.{same_ends}
 use Rattle.cut_net.specs.Network.{Network}
 use Rattle.cut_net.specs.Lines.{comes_before, IsAscending}
+use Rattle.cut_net.proofs.Ends.{Same, same_from, same_true, same_sym, same_trans, Before, before_from, before_true, apart, one_way, before_same}
 use Rattle.cut_check.specs.Reaching.{any}
 use Rattle.cut_check.specs.Matched.{AreMatched, IsLineAt}
-
--- the same ends
-pub record Same (i j : Priced) : Type 0 where
-  pub from : i.from ≡ j.from
-  pub to : i.to ≡ j.to
-
-pub same_from : (i j : Priced) → same_ends i j ≡ true → Same i j
-same_from i j e = let p = and_parts _ _ e in record { from = eqb-true i.from j.from p.0; to = eqb-true i.to j.to p.1 }
-
-pub same_true : (i j : Priced) → Same i j → same_ends i j ≡ true
-same_true i j s = and_from _ _ (eq-eqb i.from j.from s.from) (eq-eqb i.to j.to s.to)
-
-pub same_sym : {i j : Priced} → Same i j → Same j i
-same_sym s = record { from = sym s.from; to = sym s.to }
-
--- two imports with the ends of one line
-pub same_trans : {i l j : Priced} → Same i l → Same j l → Same i j
-same_trans s t = record { from = s.from ∙ sym t.from; to = s.to ∙ sym t.to }
-
--- the order of the ends
-pub record Before (i j : Priced) : Type 0 where
-  pub by : (i.from < j.from) ⊎ ((i.from ≡ j.from) × (i.to < j.to))
-
-pub before_from : (i j : Priced) → comes_before i j ≡ true → Before i j
-before_from i j e = elim (or_cases _ _ e) [
-  | inl l ↦ record { by = inl (ltb-true i.from j.from l) }
-  | inr r ↦ let p = and_parts _ _ r in record { by = inr (eqb-true i.from j.from p.0, ltb-true i.to j.to p.1) }
-]
-
-pub before_true : (i j : Priced) → Before i j → comes_before i j ≡ true
-before_true i j b = elim b.by [
-  | inl l ↦ or_left _ _ (lt-ltb i.from j.from l)
-  | inr r ↦ or_right _ _ (and_from _ _ (eq-eqb i.from j.from r.0) (lt-ltb i.to j.to r.1))
-]
-
--- what comes before is not the same, nor the other way round
-pub apart : {i j : Priced} → Before i j → Same i j → ⊥
-apart b s = let e = s.from in let f = s.to in elim b.by [ inl l ↦ absurd (omega arith) | inr r ↦ absurd (omega arith) ]
-
-pub one_way : {i j : Priced} → Before i j → Before j i → ⊥
-one_way b c = elim b.by [
-  | inl l ↦ elim c.by [ inl m ↦ absurd (omega arith) | inr m ↦ absurd (omega arith) ]
-  | inr l ↦ elim c.by [ inl m ↦ absurd (omega arith) | inr m ↦ absurd (omega arith) ]
-]
-
-pub before_same : {i j k l : Priced} → Before i j → Same i k → Same j l → Before k l
-before_same b s t =
-    let e = s.from in let f = t.from in let g = s.to in let h = t.to in
-    elim b.by [ inl l ↦ record { by = inl (omega arith) } | inr r ↦ record { by = inr (omega arith, omega arith) } ]
 
 -- the line of an import among the first lines
 abbrev pub line_among : Priced → List Priced → ℕ → Option ℕ

@@ -2,6 +2,7 @@ pub mod Answered
 pub mod Certificate
 pub mod Chains
 pub mod Duality
+pub mod Ends
 pub mod FieldCuts
 pub mod FieldNames
 pub mod FieldNumbers

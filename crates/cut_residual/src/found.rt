@@ -11,12 +11,13 @@ pub(crate) struct Place {
     pub(crate) parent: usize,
 }
 
-/// Which nodes a search marked, and a level for each node. Nothing is promised of the levels but that there is one
-/// for each node: they are meant to be how many
-/// steps away a marked node is, and 2^32 - 1 for the others.
+/// Which nodes a search marked, and a level for each node. Nothing is promised of the levels but that there is one for each
+/// node: they are meant to be how many steps away a marked node is, and 2^32 - 1 for the others.
 #[derive(Drop)]
 pub struct Found {
+    /// Whether each node is marked.
     pub seen: Vec<bool>,
+    /// The level of each node.
     pub levels: Vec<u32>,
     pub(crate) places: Vec<Place>,
     ghost have_parents: { HaveParents places.items },

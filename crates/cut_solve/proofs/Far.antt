@@ -3,6 +3,7 @@ use Rattle.std.proofs.Common.{◌≡◌, ℕ, ◌-◌, ◌≤◌, ◌<◌, Bool,
 use Rattle.std.specs.Prelude.{All, map, ◌↔◌}
 use Rattle.std.proofs.lemmas.List.{length-map, get_or-map}
 use Rattle.std.proofs.lemmas.List.Elements.{Contains-get_or}
+use Rattle.cut_net.specs.Knots.{none_there}
 use Rattle.cut_net.specs.declared.priced.Priced.{Priced}
 use Rattle.cut_net.specs.Cuts.{leaves, Chain, IsChain, Outside}
 use Rattle.cut_net.specs.WellFormed.{AreBetween}
@@ -11,7 +12,6 @@ use Rattle.cut_residual.specs.declared.arc.Arc.{Arc}
 use Rattle.cut_residual.specs.Graphs.{no_arc, room, head, tail, is_seen, AreClosed, AreReached}
 use Rattle.cut_residual.proofs.Walking.{along}
 use Rattle.cut_solve.specs.Lines.{reversed_of}
-use Rattle.cut_solve.proofs.Listing.{no_import}
 
 some_left : (t : Bool) → 0 < cond t 0 1 - 0 → t ≡ false
 some_left true h = absurd (omega arith)
@@ -23,14 +23,14 @@ left_some t e = rw e (omega arith)
 pub reversed_within : (near : List Bool) (imports : List Priced) → All (λ r. r.flow ≤ r.capacity) (map (reversed_of near) imports)
 reversed_within near imports k d h =
     let len = length-map imports (reversed_of near) in
-    rw (get_or-map (reversed_of near) imports k no_import d (omega arith)) (omega arith)
+    rw (get_or-map (reversed_of near) imports k none_there d (omega arith)) (omega arith)
 
 pub reversed_between : (near : List Bool) (imports : List Priced) (n : ℕ) → AreBetween imports n → All (λ r. (r.from < n) × (r.to < n)) (map (reversed_of near) imports)
 reversed_between near imports n between k d h =
     let len = length-map imports (reversed_of near) in
     let in_k : k < length imports = omega arith in
-    let own = between (get_or imports k no_import) (Contains-get_or imports k no_import in_k) in
-    rw (get_or-map (reversed_of near) imports k no_import d in_k) (own.1, own.0)
+    let own = between (get_or imports k none_there) (Contains-get_or imports k none_there in_k) in
+    rw (get_or-map (reversed_of near) imports k none_there d in_k) (own.1, own.0)
 
 module _ (imports : List Priced) (near : List Bool) where
   goes : (b k : ℕ) (forward : Bool) → k < length (map (reversed_of near) imports) → 0 < room (get_or (map (reversed_of near) imports) k no_arc) forward →
@@ -39,17 +39,17 @@ module _ (imports : List Priced) (near : List Bool) where
   goes b k true h some c =
       let len = length-map imports (reversed_of near) in
       let in_k : k < length imports = omega arith in
-      let i = get_or imports k no_import in
-      let e : get_or (map (reversed_of near) imports) k no_arc ≡ reversed_of near i = get_or-map (reversed_of near) imports k no_import no_arc in_k in
+      let i = get_or imports k none_there in
+      let e : get_or (map (reversed_of near) imports) k no_arc ≡ reversed_of near i = get_or-map (reversed_of near) imports k none_there no_arc in_k in
       let stays = some_left (leaves (is_seen near) i) (subst (λ (r : Arc). 0 < r.capacity - r.flow) e some) in
       let from_to = subst (λ (r : Arc). Chain imports (Outside (leaves (is_seen near))) r.from b) e c in
       subst (λ (r : Arc). Chain imports (Outside (leaves (is_seen near))) r.to b) (sym e)
-      (step imports (Outside (leaves (is_seen near))) b i (Contains-get_or imports k no_import in_k) stays from_to)
+      (step imports (Outside (leaves (is_seen near))) b i (Contains-get_or imports k none_there in_k) stays from_to)
   goes b k false h some c =
       let len = length-map imports (reversed_of near) in
       let in_k : k < length imports = omega arith in
-      let i = get_or imports k no_import in
-      let e : get_or (map (reversed_of near) imports) k no_arc ≡ reversed_of near i = get_or-map (reversed_of near) imports k no_import no_arc in_k in
+      let i = get_or imports k none_there in
+      let e : get_or (map (reversed_of near) imports) k no_arc ≡ reversed_of near i = get_or-map (reversed_of near) imports k none_there no_arc in_k in
       let none = subst (λ (r : Arc). 0 < r.flow) e some in
       absurd (omega arith)
 

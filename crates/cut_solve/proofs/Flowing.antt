@@ -5,6 +5,7 @@ use Rattle.std.proofs.lemmas.Bool.{ltb-false}
 use Rattle.std.proofs.lemmas.List.{length-map, get_or-map, get_or_default}
 use Rattle.std.proofs.lemmas.List.Elements.{Contains-get_or}
 use Rattle.std.proofs.lemmas.List.Sums.{sum_by-cons}
+use Rattle.cut_net.specs.Knots.{none_there}
 use Rattle.cut_net.specs.declared.priced.Priced.{Priced}
 use Rattle.cut_net.specs.Network.{Network}
 use Rattle.cut_net.specs.Cuts.{same_ends, AreThose, IsClosed, IsFlow, Reached}
@@ -16,7 +17,7 @@ use Rattle.cut_residual.specs.Flows.{emptied, entering, leaving, AreSameArcs, Is
 use Rattle.cut_residual.specs.Graphs.{no_arc, room, head, tail, is_seen, AreClosed, AreReached}
 use Rattle.cut_residual.proofs.Walking.{along}
 use Rattle.cut_solve.specs.Lines.{empty_of, has_flow, import_on, flow_line}
-use Rattle.cut_solve.proofs.Listing.{found, no_import}
+use Rattle.cut_solve.proofs.Listing.{found}
 
 -- the imports of arcs, and a network of them
 abbrev pub imports_of : List Arc → List Priced
@@ -40,13 +41,13 @@ same_imports imports arcs same = sym (imports_emptied arcs) ∙ ap imports_of sa
 pub empty_within : (imports : List Priced) → All (λ r. r.flow ≤ r.capacity) (map empty_of imports)
 empty_within imports k d h =
     let len = length-map imports empty_of in
-    rw (get_or-map empty_of imports k no_import d (omega arith)) (omega arith)
+    rw (get_or-map empty_of imports k none_there d (omega arith)) (omega arith)
 
 pub empty_between : (imports : List Priced) (n : ℕ) → ((i : Priced) → Contains imports i → (i.from < n) × (i.to < n)) → All (λ r. (r.from < n) × (r.to < n)) (map empty_of imports)
 empty_between imports n between k d h =
     let len = length-map imports empty_of in
     let in_k : k < length imports = omega arith in
-    rw (get_or-map empty_of imports k no_import d in_k) (between (get_or imports k no_import) (Contains-get_or imports k no_import in_k))
+    rw (get_or-map empty_of imports k none_there d in_k) (between (get_or imports k none_there) (Contains-get_or imports k none_there in_k))
 
 sum_none : (f : Arc → ℕ) (imports : List Priced) → ((i : Priced) → f (empty_of i) ≡ 0) → sum_by f (map empty_of imports) ≡ 0
 sum_none f [] none = refl

@@ -1,36 +1,29 @@
 -- Lists of imports in order, some of which are kept.
-use Rattle.std.proofs.Common.{◌≡◌, eqb, nat_lt, ℕ, zero, suc, ◌+◌, ◌≤◌, ◌<◌, Bool, true, false, cond, not, List, [], ◌∷◌, length, get_or, refl, sym, ap, ◌∙◌, subst, arith, inl, inr, Some, None, sum_by}
+use Rattle.std.proofs.Common.{◌≡◌, ℕ, zero, suc, ◌+◌, ◌≤◌, ◌<◌, Bool, true, false, cond, not, List, [], ◌∷◌, length, get_or, refl, sym, ap, ◌∙◌, subst, arith, Some, None, sum_by}
 use Rattle.std.specs.Prelude.{All, Contains, IfSome, find, filter, is_some}
-use Rattle.std.proofs.lemmas.Bool.{and_parts, and_from, or_cases, ltb-true, eqb-true, eq-eqb, false_from_ne_true}
+use Rattle.std.proofs.lemmas.Bool.{false_from_ne_true}
 use Rattle.std.proofs.lemmas.List.Elements.{Contains-get_or}
 use Rattle.std.proofs.lemmas.List.Sums.{sum_by-cons}
 use Rattle.std.proofs.lemmas.List.Filters.{sum_by-filter_both}
 use Rattle.cut_net.specs.declared.priced.Priced.{Priced}
 use Rattle.cut_net.specs.Cuts.{same_ends, weight}
 use Rattle.cut_net.specs.Lines.{comes_before, IsAscending, removed_by}
+use Rattle.cut_net.proofs.Ends.{apart, before_from, same_from, same_sym, same_true}
+use Rattle.cut_net.specs.Knots.{none_there}
 use Rattle.cut_net.specs.WellFormed.{AreBetween}
 
-abbrev pub no_import : Priced
-no_import = record { from = 0; to = 0; amount = 0 }
-
 pub ends_in : (imports : List Priced) (n k : ℕ) → AreBetween imports n → k < length imports →
-    ((get_or imports k no_import).from < n) × ((get_or imports k no_import).to < n)
-ends_in imports n k between h = between (get_or imports k no_import) (Contains-get_or imports k no_import h)
-
-before_apart : (i j : Priced) → comes_before i j ≡ true → i.from ≡ j.from → i.to ≡ j.to → ⊥
-before_apart i j e from to = elim (or_cases _ _ e) [
-  | inl l ↦ let less = ltb-true i.from j.from l in omega arith
-  | inr r ↦ let less : i.to < j.to = ltb-true i.to j.to (and_parts (eqb i.from j.from) (nat_lt i.to j.to) r).1 in omega arith
-]
+    ((get_or imports k none_there).from < n) × ((get_or imports k none_there).to < n)
+ends_in imports n k between h = between (get_or imports k none_there) (Contains-get_or imports k none_there h)
 
 forth : (i j : Priced) → comes_before i j ≡ true → same_ends i j ≡ false
-forth i j e = false_from_ne_true _ (λ t. let p = and_parts _ _ t in before_apart i j e (eqb-true i.from j.from p.0) (eqb-true i.to j.to p.1))
+forth i j e = false_from_ne_true _ (λ t. apart {i = i} {j = j} (before_from i j e) (same_from i j t))
 
 back : (i j : Priced) → comes_before i j ≡ true → same_ends j i ≡ false
-back i j e = false_from_ne_true _ (λ t. let p = and_parts _ _ t in before_apart i j e (sym (eqb-true j.from i.from p.0)) (sym (eqb-true j.to i.to p.1)))
+back i j e = false_from_ne_true _ (λ t. apart {i = i} {j = j} (before_from i j e) (same_sym (same_from j i t)))
 
 itself : (i : Priced) → same_ends i i ≡ true
-itself i = and_from _ _ (eq-eqb i.from i.from refl) (eq-eqb i.to i.to refl)
+itself i = same_true i i (record { from = refl; to = refl })
 
 -- a search passes over what doesn't fit, kept or not
 find_past : (p : Priced → Bool) (t : Bool) (x : Priced) (ys : List Priced) → p x ≡ false → find p (cond t (x ∷ ys) ys) ≡ find p ys

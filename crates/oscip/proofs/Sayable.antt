@@ -17,7 +17,7 @@ use Rattle.cut_net.specs.WellFormed.{total_weight, AreBetween, IsNetwork}
 use Rattle.cut_net.proofs.Certificate.{weight-mono}
 use Rattle.cut_net.proofs.Places.{index_takes}
 use Rattle.cut_solve.specs.Solving.{IsSolved}
-use Rattle.cut_check.proofs.Matching.{apart, before_from, same_from, same_sym, same_trans, same_true, Same}
+use Rattle.cut_net.proofs.Ends.{apart, before_from, same_from, same_sym, same_trans, same_true, Same}
 
 -- the line that has an import's ends is the one that is found
 found_at : (lines : List Priced) (i : Priced) (k : ℕ) (d : Priced) → IsAscending lines → k < length lines → Same i (get_or lines k d) → find (same_ends i) lines ≡ Some (get_or lines k d)
