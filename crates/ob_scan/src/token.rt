@@ -51,6 +51,13 @@ impl Tokens {
         self.items.is_empty()
     }
 
+    /// All tokens in order.
+    pub fn as_slice(&self) -> &[Token]
+        ensures { result.now ≡ self.now }
+    {
+        self.items.as_slice()
+    }
+
     /// The token of this number.
     pub fn get(&self, number: usize) -> Token
         requires { number < length self.now }

@@ -1,0 +1,88 @@
+# Runs the program of bench/timing on folders of generated modules, beside other programs, and prints rates and ratios.
+# Each time is the least of seven rounds, or of as many as begin within 20 seconds; what is compared takes turns.
+# Usage: parse.py PROGRAM scan|parse|walk FOLDER SHAPE..
+import os, subprocess, sys, time
+
+program, step, folder = sys.argv[1:4]
+shapes = sys.argv[4:]
+QUIET = dict(stdout=subprocess.DEVNULL, stderr=subprocess.DEVNULL, check=True)
+STEPS = ["read", "scan", "parse"]
+
+
+def files_of(shape):
+    place = os.path.join(folder, shape)
+    return [os.path.join(place, name) for name in sorted(os.listdir(place))]
+
+
+def own_times(step, files):
+    """The nanoseconds of each step of one run, and the number of tokens."""
+    said = subprocess.run([program, step, *files], capture_output=True, text=True, check=True).stdout.split()
+    told = {name: int(number) for name, number in zip(said[::2], said[1::2])}
+    if told.pop("refused"):
+        sys.exit("%s of %d files were refused" % (said[5], len(files)))
+    return told
+
+
+def whole(name, *command):
+    """The nanoseconds of a process."""
+    start = time.perf_counter()
+    subprocess.run(command, **QUIET)
+    return {name: (time.perf_counter() - start) * 1e9}
+
+
+def least(*rounds):
+    """The least of each time that the rounds tell."""
+    best, begin = {}, time.perf_counter()
+    for _ in range(7):
+        for one in rounds:
+            for name, number in one().items():
+                best[name] = min(best.get(name, number), number)
+        if time.perf_counter() - begin > 20:
+            break
+    return best
+
+
+def memory(step, files):
+    """The greatest resident size in bytes."""
+    said = subprocess.run(["time", "-f", "%M", program, step, *files], stdout=subprocess.DEVNULL, stderr=subprocess.PIPE,
+                          text=True, check=True)
+    return int(said.stderr.split()[-1]) * 1024
+
+
+def rate(count, nanoseconds):
+    return "%.0f" % (count * 1000 / nanoseconds) if nanoseconds > 1e6 else "-"
+
+
+source = files_of("c")
+size = sum(map(os.path.getsize, source))
+peers = least(lambda: whole("cc", "cc", "-w", "-fsyntax-only", *source), lambda: whole("ctags", "ctags", "-f", "-", *source),
+              lambda: whole("wc", "wc", *source))
+print("C of %d bytes, MB/s: cc %s, ctags %s, wc %s" % (size, *(rate(size, peers[name]) for name in ("cc", "ctags", "wc"))))
+
+last = "scan" if step == "scan" else "parse"
+rows = []
+print("MB/s of the steps, and the bytes of memory after %s a source byte" % last)
+print("%-8s %5s %9s %8s | %6s %6s %6s %6s %6s | %5s" % (
+    "shape", "files", "bytes", "tokens", "scan", "parse", "yield", "decls", "uses", "bytes"))
+for shape in shapes:
+    files = files_of(shape)
+    best = least(lambda: own_times(step, files),
+                 lambda: whole("scanning", program, "scan", *files),
+                 lambda: whole("whole", program, last, *files),
+                 lambda: whole("wc", "wc", *files),
+                 lambda: whole("ctags", "ctags", "--language-force=Pascal", "-f", "-", *files))
+    count = best["bytes"]
+    rates = [rate(count, best[name]) for name in ("scan", "parse", "yields", "declarations", "uses")]
+    sizes = [memory(name, files) / count for name in STEPS[:1 + STEPS.index(last)]]
+    print("%-8s %5d %9d %8d | %6s %6s %6s %6s %6s | %5.1f" % (
+        shape, len(files), count, best["tokens"], *rates, sizes[-1]), flush=True)
+    ratios = [best["scanning"] / best["wc"]] + [best["whole"] / best[name] for name in ("wc", "ctags")]
+    ratios += [best["whole"] / count / (peers["cc"] / size), best["parse"] / best["scan"], best["yields"] / best["scan"]]
+    parts = [sizes[0]] + [abs(more - less) for less, more in zip(sizes, sizes[1:])] + [0] * (3 - len(sizes)) + [sizes[-1]]
+    rows.append([shape] + ["%.1f" % number for number in ratios + parts])
+
+# The table for the README.
+print("| Shape | To scan, wc | To %s, wc | ctags | cc | Parse, scan | Yield, scan | Texts | Tokens | Trees | Memory |" % last)
+print("|---" * 11 + "|")
+for row in rows:
+    print("|", " | ".join(row), "|")

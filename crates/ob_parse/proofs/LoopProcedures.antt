@@ -1,0 +1,35 @@
+-- The loop over procedures.
+use Rattle.std.proofs.Common.{◌≡◌, ℕ, zero, suc, Bool, true, false, cond, ◌<◌, List, length, Ok, Err}
+use Rattle.ob_scan.specs.declared.kind.Kind.TheVariants as kinds
+use Rattle.ob_tree.specs.declared.token.Leaf.{Leaf}
+use Rattle.ob_tree.specs.Marks.{Out}
+use Rattle.ob_parse.specs.Front.{uncons, front, is_word}
+use Rattle.ob_parse.specs.Forms.{Wrong, Deep, Reader, begins, limit_at}
+use Rattle.ob_parse.specs.ReadModules.{ended, procedure_with, procedure_at}
+use Rattle.ob_parse.proofs.Sound.{Sound, expect_sound}
+use Rattle.ob_parse.proofs.SoundExpressions.{expr_at_sound}
+use Rattle.ob_parse.proofs.SoundStatements.{block_at_sound}
+use Rattle.ob_parse.proofs.SoundModules.{procedure_name_sound, declarations_at_sound}
+use Rattle.ob_parse.proofs.Loops.{Advances, Shortens, sound_no_longer, shortens_seq, shortens_node, shortens_expect, begins_advances}
+
+-- nothing is read at the limit
+limited_shortens : (b : Bool) (ls : List Leaf) (x : Out × List Leaf) → cond b (Err Deep) (Err Wrong) ≡ Ok x → length x.1 < length ls
+limited_shortens true ls x e = absurd cc
+limited_shortens false ls x e = absurd cc
+
+limit_shortens : (p : Leaf → Bool) → Shortens (limit_at p)
+unfolding limit_at
+limit_shortens p ls x e = limited_shortens (front p (uncons ls)) ls x e
+
+procedure_with_shortens : (d : ℕ) (expr block declarations : Reader) → Sound d expr → Sound d block → Sound d declarations → Shortens (procedure_with expr block declarations)
+unfolding procedure_with
+procedure_with_shortens d expr block declarations he hb hd =
+    shortens_node _ _ (shortens_seq _ _ (shortens_expect kinds.Procedure) (sound_no_longer d _ (procedure_name_sound d expr block declarations he hb hd)))
+
+procedure_shortens : (d : ℕ) → Shortens (procedure_at d)
+unfolding procedure_at
+procedure_shortens zero = limit_shortens _
+procedure_shortens (suc d) = procedure_with_shortens d _ _ _ (expr_at_sound d) (block_at_sound d) (declarations_at_sound d)
+
+pub procedure_advances : (d : ℕ) → Advances (begins (is_word kinds.Procedure)) (ended (procedure_at d))
+procedure_advances d = begins_advances (is_word kinds.Procedure) _ (shortens_seq _ _ (procedure_shortens d) (sound_no_longer d _ (expect_sound d kinds.Semicolon)))

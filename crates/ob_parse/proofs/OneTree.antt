@@ -1,0 +1,123 @@
+-- The whole text: one tree, or none.
+use Rattle.std.proofs.Common.{◌≡◌, ℕ, ◌+◌, ◌<◌, ◌≤◌, ◌-◌, List, [], ◌∷◌, suc, ◌^◌, ◌++◌, Option, None, Some, slice_get, get_or, Result, Ok, Err, length, map, refl, sym, ap, ◌∙◌, subst, arith, length-append, ◌⊎◌, inl, inr}
+use Rattle.std.proofs.Math.Seq.{get_or-append_seam}
+use Rattle.std.proofs.lemmas.Option.{get_or_from_slice_get, slice_get_within}
+use Rattle.std.proofs.lemmas.Bool.{cases_lt}
+use Rattle.std.proofs.lemmas.List.{length-map}
+use Rattle.std.specs.Prelude.{IfErr, All}
+use Rattle.ob_scan.specs.declared.kind.Kind.{Kind}
+use Rattle.ob_scan.specs.declared.token.Token.{Token}
+use Rattle.ob_scan.specs.Spelling.{AreInText}
+use Rattle.ob_tree.specs.declared.declaration.Module.{Module}
+use Rattle.ob_tree.specs.Declaring.{module_outline}
+use Rattle.ob_tree.specs.Derives.{Derives, depth, endings_in, spelling}
+use Rattle.ob_tree.specs.Leaves.{leaves}
+use Rattle.ob_tree.specs.Marks.{Out, height, tokens_of}
+use Rattle.ob_parse.specs.declared.fault.ParseFault.{ParseFault}
+use Rattle.ob_parse.specs.declared.fault.ParseFault.TheVariants as faults
+use Rattle.ob_parse.specs.Forms.{Refusal, Wrong, Deep}
+use Rattle.ob_parse.specs.Gives.{Gives, Fails}
+use Rattle.ob_parse.specs.declared.stop.Stop.{Stop}
+use Rattle.ob_parse.specs.declared.stop.Stop.TheVariants as stops
+use Rattle.ob_parse.specs.Ends.{IsKnown, IsPlaced, start_or, told}
+use Rattle.ob_parse.specs.Parsed.{Pair, IsOneTree, IsTheTree, IsRightEnd, IsWrongEnd, IsEndFault, IsFaultOf, IsPlace, kinds_of, text_of}
+use Rattle.ob_parse.specs.ReadModules.{all_of}
+use Rattle.ob_parse.proofs.SoundModules.{all_sound}
+use Rattle.ob_parse.proofs.Whole.{still_wrong, still_ok}
+use Rattle.ob_parse.proofs.CompleteModules.{all_again}
+use Rattle.ob_parse.proofs.Endings.{endings_known, leaves_below}
+
+ok_same : (x y : Out) (r : Result Out Refusal) → r ≡ Ok x → r ≡ Ok y → x ≡ y
+ok_same x y r e f = cc
+
+never : (r : Result Out Refusal) (o : Out) (x : Refusal) → r ≡ Ok o → r ≡ Err x → ⊥
+never r o x e f = cc
+
+-- a tree that derives the tokens is read wherever it isn't too deep
+again : (kinds : List Kind) (d : ℕ) (m : Module) → Derives kinds m → depth m ≤ d → all_of d (leaves 0 kinds) ≡ Ok (module_outline m)
+again kinds d m h le = ap (all_of d) h ∙ all_again d m le
+
+pub one_tree : (ts : List Token) (m : Module) → all_of 200 (leaves 0 (kinds_of ts)) ≡ Ok (module_outline m) → IsOneTree ts m
+one_tree ts m e =
+    let read = all_sound 200 (leaves 0 (kinds_of ts)) (module_outline m) e in
+    record {
+      derived = read.0;
+      shallow = read.1;
+      only = λ other h. ok_same (module_outline other) (module_outline m) (all_of (200 + depth other) (leaves 0 (kinds_of ts))) (again (kinds_of ts) (200 + depth other) other h (omega arith)) (still_ok 200 (200 + depth other) (leaves 0 (kinds_of ts)) (module_outline m) (omega arith) e);
+    }
+
+no_tree : (ts : List Token) → all_of 200 (leaves 0 (kinds_of ts)) ≡ Err Wrong → (other : Module) → Derives (kinds_of ts) other → ⊥
+no_tree ts e other h = never (all_of (200 + depth other) (leaves 0 (kinds_of ts))) (module_outline other) Wrong (again (kinds_of ts) (200 + depth other) other h (omega arith)) (still_wrong 200 (200 + depth other) (leaves 0 (kinds_of ts)) (omega arith) e)
+
+no_low_tree : (ts : List Token) → all_of 200 (leaves 0 (kinds_of ts)) ≡ Err Deep → (other : Module) → Derives (kinds_of ts) other → 200 < depth other
+no_low_tree ts e other h = elim (cases_lt 200 (depth other)) [
+  | inl lt ↦ lt
+  | inr le ↦ absurd (never (all_of 200 (leaves 0 (kinds_of ts))) (module_outline other) Deep (again (kinds_of ts) 200 other h le) e)
+]
+
+-- the place that is told of a token's number
+place_is : (bytes : List ℕ) (ts : List Token) (n : ℕ) (o : Option Token) → slice_get ts n ≡ o → IsPlace bytes ts (start_or (length bytes) o)
+place_is bytes ts n None e = inr refl
+place_is bytes ts n (Some t) e = inl (record { number = n; token = t; there = e; begins = refl })
+
+pub why_none : (bytes : List ℕ) (ts : List Token) (stop : Stop) → Fails {Y = Out} stop (all_of 200 (leaves 0 (kinds_of ts))) → IsFaultOf bytes ts (told (length bytes) ts stop)
+why_none bytes ts stops.Memory e = tt
+why_none bytes ts (stops.Wrong n) e = (place_is bytes ts n (slice_get ts n) refl, no_tree ts e)
+why_none bytes ts (stops.Deep n) e = (place_is bytes ts n (slice_get ts n) refl, no_low_tree ts e)
+
+-- both numbers of each ending are those of tokens
+pub endings_are_known : (ts : List Token) (o : Out) → all_of 200 (leaves 0 (kinds_of ts)) ≡ Ok o → All (IsKnown ts) (endings_in o)
+endings_are_known ts o e =
+    subst (λ (n : ℕ). All (λ (p : ℕ × ℕ). (p.0 < n) × (p.1 < n)) (endings_in o)) (length-map ts (λ (t : Token). t.kind)) (endings_known (length (kinds_of ts)) 200 (leaves 0 (kinds_of ts)) o (leaves_below (kinds_of ts)) e)
+
+pub tokens_placed : (bytes : List ℕ) (ts : List Token) → AreInText bytes ts → All (IsPlaced bytes) ts
+tokens_placed bytes ts h = λ i d in_i. let a = h.some i d in_i in (omega arith, h.within i d in_i)
+
+pub trees_same : (kinds : List Kind) (m n : Module) → Derives kinds m → Derives kinds n → module_outline m ≡ module_outline n
+trees_same kinds m n h k = ok_same (module_outline m) (module_outline n) (all_of (depth m + depth n) (leaves 0 kinds)) (again kinds (depth m + depth n) m h (omega arith)) (again kinds (depth m + depth n) n k (omega arith))
+
+some_is : {X : Type 0} (x y : X) → Some x ≡ Some y → x ≡ y
+some_is x y e = cc
+
+-- the texts of a pair are those of its tokens, whichever way they are found
+pair_texts : (bytes : List ℕ) (ts : List Token) (e : ℕ × ℕ) (p q : Pair ts e) → text_of bytes p.name ≡ text_of bytes p.end → text_of bytes q.name ≡ text_of bytes q.end
+pair_texts bytes ts e p q same =
+    let name : p.name ≡ q.name = some_is p.name q.name (sym p.name_there ∙ q.name_there) in
+    let end : p.end ≡ q.end = some_is p.end q.end (sym p.end_there ∙ q.end_there) in
+    rw (sym name, sym end) same
+
+not_wrong : (bytes : List ℕ) (ts : List Token) (at : ℕ) (e : ℕ × ℕ) → IsRightEnd bytes ts e → IsWrongEnd bytes ts at e → ⊥
+not_wrong bytes ts at e r w = w.differ (pair_texts bytes ts e r.pair w.pair r.same)
+
+pub no_end_fault : (bytes : List ℕ) (ts : List Token) (m : Module) (at : ℕ) → IsTheTree bytes ts m → IsEndFault bytes ts at → ⊥
+no_end_fault bytes ts m at t f =
+    let same : module_outline f.of ≡ module_outline m = t.tree.only f.of f.tree.derived in
+    let split : endings_in (module_outline m) ≡ f.first.before ++ f.first.wrong ∷ f.first.after = ap endings_in (sym same) ∙ f.first.split in
+    let all : All (IsRightEnd bytes ts) (f.first.before ++ f.first.wrong ∷ f.first.after) = subst (All (IsRightEnd bytes ts)) split t.ended in
+    let here : get_or (f.first.before ++ f.first.wrong ∷ f.first.after) (length f.first.before) f.first.wrong ≡ f.first.wrong = get_or-append_seam f.first.before f.first.wrong f.first.after f.first.wrong in
+    not_wrong bytes ts at f.first.wrong (subst (IsRightEnd bytes ts) here (all (length f.first.before) f.first.wrong (omega (arith, length-append f.first.before (f.first.wrong ∷ f.first.after))))) f.first.is_wrong
+
+pub no_fault : (bytes : List ℕ) (ts : List Token) (m : Module) (fault : ParseFault) → IsTheTree bytes ts m → IsFaultOf bytes ts fault → fault ≡ faults.Memory
+no_fault bytes ts m (faults.Syntax at) t f = absurd (f.1 m t.tree.derived)
+no_fault bytes ts m (faults.EndName at) t f = absurd (no_end_fault bytes ts m at t f)
+no_fault bytes ts m (faults.TooDeep at) t f =
+    let deep = f.1 m t.tree.derived in
+    absurd (omega (arith, t.tree.shallow))
+no_fault bytes ts m faults.Memory t f = refl
+
+pub place_in_text : (bytes : List ℕ) (ts : List Token) (at : ℕ) → AreInText bytes ts → IsPlace bytes ts at → at ≤ length bytes
+place_in_text bytes ts at h (inr end) = omega (arith, end)
+place_in_text bytes ts at h (inl s) =
+    let here : get_or ts s.number s.token ≡ s.token = get_or_from_slice_get ts s.number s.token s.token s.there in
+    let in_list : s.number < length ts = slice_get_within ts s.number s.token s.there in
+    let token = tokens_placed bytes ts h s.number s.token in_list in
+    let start : (get_or ts s.number s.token).start ≡ at = ap (λ (t : Token). t.start) here ∙ s.begins in
+    omega (arith, token.0, token.1, start)
+
+leaves_length : (n : ℕ) (kinds : List Kind) → length (leaves n kinds) ≡ length kinds
+leaves_length n [] = refl
+leaves_length n (k ∷ kinds) = ap suc (leaves_length (n + 1) kinds)
+
+-- a tree of a text has no more tokens than the text has bytes
+pub few_tokens : (bytes : List ℕ) (ts : List Token) (m : Module) → AreInText bytes ts → length bytes ≤ 16777216 → Derives (kinds_of ts) m → length (spelling m) < 2 ^ 32
+few_tokens bytes ts m h short derived = omega (arith, h.few, ap length derived, leaves_length 0 (kinds_of ts), length-map ts (λ (t : Token). t.kind))

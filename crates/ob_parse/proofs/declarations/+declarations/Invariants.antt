@@ -1,0 +1,33 @@
+use Rattle.std.proofs.Common.{◌≡◌, ◌++◌, ◌+◌, ◌*◌, length}
+use Rattle.ob_scan.specs.declared.kind.Kind.TheVariants as kinds
+use Rattle.ob_tree.specs.Marks.{word, each}
+use Rattle.ob_tree.specs.Declaring.{procedure_outline}
+use Rattle.ob_parse.specs.Front.{is_word}
+use Rattle.ob_parse.specs.Forms.{many, begins}
+use Rattle.ob_parse.specs.Gives.{ahead}
+use Rattle.ob_parse.specs.ReadModules.{ended, procedure_at}
+use Rattle.ob_parse.proofs.Loops.{with_front}
+use Rattle.ob_parse.proofs.declarations.+declarations.Given as goal
+
+abbrev pub decreases-procedure : goal.decreases-procedure
+decreases-procedure l = 16 * l.depth + 0
+
+abbrev pub decreases-ended_procedure : goal.decreases-ended_procedure
+decreases-ended_procedure l = 16 * l.depth + 1
+
+abbrev pub decreases-procedures : goal.decreases-procedures
+decreases-procedures l = 16 * l.depth + 2
+
+abbrev pub decreases-declarations : goal.decreases-declarations
+decreases-declarations l = 16 * l.depth + 3
+
+abbrev pub decreases-procedure_within : goal.decreases-procedure_within
+decreases-procedure_within l = 16 * l.depth + 4
+
+abbrev pub invariant-procedures-more : goal.invariant-procedures-more
+invariant-procedures-more l =
+    with_front (each (λ p. procedure_outline p ++ word kinds.Semicolon) l.declared.items) (many (begins (is_word kinds.Procedure)) (ended (procedure_at l.depth)) (ahead l.here))
+    ≡ many (begins (is_word kinds.Procedure)) (ended (procedure_at l.depth)) (ahead l.fn.input)
+
+abbrev pub decreases-procedures-more : goal.decreases-procedures-more
+decreases-procedures-more l = length (ahead l.here)

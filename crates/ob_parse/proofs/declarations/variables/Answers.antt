@@ -1,0 +1,43 @@
+use Rattle.std.proofs.Common.{ℕ, ◌++◌, [], refl, sym, ◌∙◌}
+use Rattle.std.proofs.lemmas.Result.{err_from_is_err_and}
+use Rattle.ob_scan.specs.declared.kind.Kind.TheVariants as kinds
+use Rattle.ob_tree.specs.declared.declaration.VarDecl.{VarDecl}
+use Rattle.ob_tree.specs.Marks.{Out, word, each}
+use Rattle.ob_tree.specs.Declaring.{variable_outline}
+use Rattle.ob_parse.specs.Forms.{Reader, many, begins}
+use Rattle.ob_parse.specs.Gives.{ahead}
+use Rattle.ob_parse.specs.ReadTypes.{type_at}
+use Rattle.ob_parse.specs.ReadModules.{is_name, ended, variable_with}
+use Rattle.ob_parse.proofs.SoundTypes.{type_at_sound}
+use Rattle.ob_parse.proofs.Loops.{Advances, pushed, smaller, is_done, has_begun, has_not_begun, variable_advances}
+use Rattle.ob_parse.proofs.LoopEnds.{ends}
+use Rattle.ob_parse.proofs.declarations.variables.Goals as goal
+
+abbrev declared_at : ℕ → Reader
+declared_at d = ended (variable_with (type_at d))
+
+abbrev shown : VarDecl → Out
+shown d = variable_outline d ++ word kinds.Semicolon
+
+advances : (d : ℕ) → Advances (begins is_name) (declared_at d)
+advances d = variable_advances d _ (type_at_sound d)
+
+pub more-smaller : goal.more-smaller
+more-smaller c = smaller (begins is_name) (declared_at c.args.depth) (advances c.args.depth) (ahead c.more.here) _ _
+    (has_begun is_name _ (sym c.begins_declaration.ensures ∙ c.more-test.true)) c.in_ok-next.ensures
+
+pub more-preserved : goal.more-preserved
+more-preserved c = pushed (begins is_name) (declared_at c.args.depth) (advances c.args.depth) shown c.more.declared.items _ c.in_ok-next.next (ahead c.more.here) ([], ahead c.more.here) _ _
+    c.in_ok-push.ensures.items (has_begun is_name _ (sym c.begins_declaration.ensures ∙ c.more-test.true)) c.in_ok-next.ensures refl c.more.invariant
+
+pub returns-in_err-next : goal.returns-in_err-next
+returns-in_err-next c =
+    let p = err_from_is_err_and c.from_residual.result c.from_residual.ensures.1 in
+    rw (p.1, p.2) (ends (begins is_name) (declared_at c.args.depth) (advances c.args.depth) c.in_err-next.field-0.0
+    (each shown c.more.declared.items) (ahead c.more.here) _ (many (begins is_name) (declared_at c.args.depth) (ahead c.args.input))
+    (has_begun is_name _ (sym c.begins_declaration.ensures ∙ c.more-test.true)) c.in_err-next.ensures c.more.invariant)
+
+pub returns : goal.returns
+returns c = is_done (begins is_name) (declared_at c.args.depth) (advances c.args.depth) (each shown c.more.declared.items) (ahead c.more.here)
+    (many (begins is_name) (declared_at c.args.depth) (ahead c.args.input))
+    (has_not_begun is_name _ (sym c.begins_declaration.ensures ∙ c.more-test.false)) c.more.invariant

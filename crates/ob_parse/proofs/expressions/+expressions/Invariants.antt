@@ -1,0 +1,100 @@
+use Rattle.std.proofs.Common.{◌≡◌, ◌++◌, ◌+◌, ◌*◌, length}
+use Rattle.ob_scan.specs.declared.kind.Kind.TheVariants as kinds
+use Rattle.ob_tree.specs.Marks.{word, each, each_after}
+use Rattle.ob_tree.specs.Expressions.{mul_kind, add_kind, expr_outline, term_outline, factor_outline, element_outline, selector_outline}
+use Rattle.ob_parse.specs.Forms.{many, begins, accept_at}
+use Rattle.ob_parse.specs.Gives.{ahead}
+use Rattle.ob_parse.specs.ReadExpressions.{mul_start, add_start, selector_first, element_with, selector_with, factor_at, term_at, expr_at}
+use Rattle.ob_parse.proofs.Loops.{with_front}
+use Rattle.ob_parse.proofs.expressions.+expressions.Given as goal
+
+abbrev pub decreases-expression : goal.decreases-expression
+decreases-expression l = 16 * l.depth + 0
+
+abbrev pub decreases-negated : goal.decreases-negated
+decreases-negated l = 16 * l.depth + 0
+
+abbrev pub decreases-element : goal.decreases-element
+decreases-element l = 16 * l.depth + 1
+
+abbrev pub decreases-more_expressions : goal.decreases-more_expressions
+decreases-more_expressions l = 16 * l.depth + 1
+
+abbrev pub decreases-expression_list : goal.decreases-expression_list
+decreases-expression_list l = 16 * l.depth + 2
+
+abbrev pub decreases-more_elements : goal.decreases-more_elements
+decreases-more_elements l = 16 * l.depth + 2
+
+abbrev pub decreases-element_list : goal.decreases-element_list
+decreases-element_list l = 16 * l.depth + 3
+
+abbrev pub decreases-arguments : goal.decreases-arguments
+decreases-arguments l = 16 * l.depth + 3
+
+abbrev pub decreases-elements : goal.decreases-elements
+decreases-elements l = 16 * l.depth + 4
+
+abbrev pub decreases-selector : goal.decreases-selector
+decreases-selector l = 16 * l.depth + 4
+
+abbrev pub decreases-more_selectors : goal.decreases-more_selectors
+decreases-more_selectors l = 16 * l.depth + 5
+
+abbrev pub decreases-designator : goal.decreases-designator
+decreases-designator l = 16 * l.depth + 6
+
+abbrev pub decreases-factor : goal.decreases-factor
+decreases-factor l = 16 * l.depth + 7
+
+abbrev pub decreases-more_factors : goal.decreases-more_factors
+decreases-more_factors l = 16 * l.depth + 8
+
+abbrev pub decreases-term : goal.decreases-term
+decreases-term l = 16 * l.depth + 9
+
+abbrev pub decreases-more_terms : goal.decreases-more_terms
+decreases-more_terms l = 16 * l.depth + 10
+
+abbrev pub decreases-sum : goal.decreases-sum
+decreases-sum l = 16 * l.depth + 11
+
+abbrev pub invariant-more_expressions-more : goal.invariant-more_expressions-more
+invariant-more_expressions-more l =
+    with_front (each_after kinds.Comma expr_outline l.rest.items) (many (accept_at kinds.Comma) (expr_at l.depth) (ahead l.here)) ≡
+    many (accept_at kinds.Comma) (expr_at l.depth) (ahead l.fn.input)
+
+abbrev pub decreases-more_expressions-more : goal.decreases-more_expressions-more
+decreases-more_expressions-more l = length (ahead l.here)
+
+abbrev pub invariant-more_terms-more : goal.invariant-more_terms-more
+invariant-more_terms-more l =
+    with_front (each (λ p. word (add_kind p.0) ++ term_outline p.1) l.rest.items) (many add_start (term_at l.depth) (ahead l.here)) ≡
+    many add_start (term_at l.depth) (ahead l.fn.input)
+
+abbrev pub decreases-more_terms-more : goal.decreases-more_terms-more
+decreases-more_terms-more l = length (ahead l.here)
+
+abbrev pub invariant-more_factors-more : goal.invariant-more_factors-more
+invariant-more_factors-more l =
+    with_front (each (λ p. word (mul_kind p.0) ++ factor_outline p.1) l.rest.items) (many mul_start (factor_at l.depth) (ahead l.here)) ≡
+    many mul_start (factor_at l.depth) (ahead l.fn.input)
+
+abbrev pub decreases-more_factors-more : goal.decreases-more_factors-more
+decreases-more_factors-more l = length (ahead l.here)
+
+abbrev pub invariant-more_elements-more : goal.invariant-more_elements-more
+invariant-more_elements-more l =
+    with_front (each_after kinds.Comma element_outline l.rest.items) (many (accept_at kinds.Comma) (element_with (expr_at l.depth)) (ahead l.here)) ≡
+    many (accept_at kinds.Comma) (element_with (expr_at l.depth)) (ahead l.fn.input)
+
+abbrev pub decreases-more_elements-more : goal.decreases-more_elements-more
+decreases-more_elements-more l = length (ahead l.here)
+
+abbrev pub invariant-more_selectors-more : goal.invariant-more_selectors-more
+invariant-more_selectors-more l =
+    with_front (each selector_outline l.selectors.items) (many (begins selector_first) (selector_with (expr_at l.depth)) (ahead l.here)) ≡
+    many (begins selector_first) (selector_with (expr_at l.depth)) (ahead l.fn.input)
+
+abbrev pub decreases-more_selectors-more : goal.decreases-more_selectors-more
+decreases-more_selectors-more l = length (ahead l.here)

@@ -1,0 +1,34 @@
+use Rattle.std.proofs.Common.{zero, refl, sym, ap, ◌∙◌}
+use Rattle.std.proofs.lemmas.Result.{err_from_is_err_and}
+use Rattle.ob_scan.specs.declared.kind.Kind.TheVariants as kinds
+use Rattle.ob_tree.specs.Marks.{each_after}
+use Rattle.ob_tree.specs.Types.{section_outline}
+use Rattle.ob_parse.specs.Forms.{many, accept_at}
+use Rattle.ob_parse.specs.Gives.{ahead, skipped}
+use Rattle.ob_parse.specs.ReadTypes.{section_at}
+use Rattle.ob_parse.proofs.Loops.{Advances, pushed_after, smaller, is_done, accept_advances}
+use Rattle.ob_parse.proofs.LoopEnds.{ends}
+use Rattle.ob_parse.proofs.SoundTypes.{section_sound}
+use Rattle.ob_parse.proofs.parameters.more_sections.Goals as goal
+
+advances : Advances (accept_at kinds.Semicolon) section_at
+advances = accept_advances zero kinds.Semicolon _ (section_sound zero)
+
+pub more-smaller : goal.more-smaller
+more-smaller c = smaller (accept_at kinds.Semicolon) section_at advances (ahead c.more.here) _ _ (sym c.in-Some.ensures) c.in_ok-next.ensures
+
+pub more-preserved : goal.more-preserved
+more-preserved c = pushed_after (accept_at kinds.Semicolon) section_at advances section_outline kinds.Semicolon c.more.rest.items _ c.in_ok-next.next (ahead c.more.here) (ahead c.in-Some.after) _ _
+    c.in_ok-push.ensures.items (sym c.in-Some.ensures) c.in_ok-next.ensures refl c.more.invariant
+
+pub returns-in_err-next : goal.returns-in_err-next
+returns-in_err-next c =
+    let p = err_from_is_err_and c.from_residual.result c.from_residual.ensures.1 in
+    rw (p.1, p.2) (ends (accept_at kinds.Semicolon) section_at advances c.in_err-next.field-0.0
+    (each_after kinds.Semicolon section_outline c.more.rest.items) (ahead c.more.here) _ (many (accept_at kinds.Semicolon) section_at (ahead c.args.input))
+    (sym c.in-Some.ensures) c.in_err-next.ensures c.more.invariant)
+
+pub returns : goal.returns
+returns c = is_done (accept_at kinds.Semicolon) section_at advances (each_after kinds.Semicolon section_outline c.more.rest.items) (ahead c.more.here)
+    (many (accept_at kinds.Semicolon) section_at (ahead c.args.input))
+    (sym (sym (ap (skipped kinds.Semicolon) c.in_default.is) ∙ c.accept.ensures)) c.more.invariant

@@ -1,0 +1,54 @@
+use Rattle.std.proofs.Common.{◌≡◌, ◌<◌, ◌^◌, ◌∙◌, ap, sym, subst, refl, length, map, IfOk, IfErr, List, Result, arith}
+use Rattle.std.proofs.lemmas.Result.{err_from_is_err_and}
+use Rattle.ob_scan.proofs.Places.{spelled_in_text}
+use Rattle.ob_scan.specs.declared.token.Token.{Token}
+use Rattle.ob_tree.specs.Declaring.{module_outline}
+use Rattle.ob_tree.specs.Derives.{Derives, endings_in}
+use Rattle.ob_tree.specs.Leaves.{leaves}
+use Rattle.ob_tree.specs.Marks.{Out}
+use Rattle.ob_parse.specs.Forms.{Refusal}
+use Rattle.ob_parse.specs.Gives.{Fails}
+use Rattle.ob_parse.specs.Parsed.{IsOneTree, IsTheTree, IsFaultOf, kinds_of}
+use Rattle.ob_parse.specs.ReadModules.{all_of}
+use Rattle.ob_parse.proofs.OneTree.{one_tree, why_none, endings_are_known, tokens_placed, few_tokens}
+use Rattle.ob_parse.proofs.parser.parse.Goals as goal
+
+pub tree_of-requires : goal.tree_of-requires
+tree_of-requires c =
+    let placed = spelled_in_text c.args.bytes.now c.args.tokens.now c.requires.1 in
+    omega (arith, placed.few, c.requires.0, ap length c.as_slice-tokens.ensures)
+
+-- the reader's answer on these tokens, wherever they stand
+abbrev read : List Token → Result Out Refusal
+read ts = all_of 200 (leaves 0 (kinds_of ts))
+
+pub returns-in-Err-clause-fault : goal.returns-in-Err-clause-fault
+returns-in-Err-clause-fault c =
+    let stopped : Fails {Y = Out} c.in-Err.stop (read c.args.tokens.now) = subst (λ (ts : List Token). Fails {Y = Out} c.in-Err.stop (read ts)) c.as_slice-tokens.ensures c.in-Err.ensures in
+    rw (c.fault_of.ensures, c.as_slice-tokens.ensures) (why_none c.args.bytes.now c.args.tokens.now c.in-Err.stop stopped)
+
+pub wrong_end-requires-clause-known : goal.wrong_end-requires-clause-known
+wrong_end-requires-clause-known c =
+    rw (c.as_slice.ensures.value, c.in_ok-ends.ensures) (endings_are_known c.as_slice-tokens.result.now (module_outline c.in-Ok.tree) c.in-Ok.ensures)
+
+pub wrong_end-requires-clause-placed : goal.wrong_end-requires-clause-placed
+wrong_end-requires-clause-placed c = rw c.as_slice-tokens.ensures (tokens_placed c.args.bytes.now c.args.tokens.now (spelled_in_text c.args.bytes.now c.args.tokens.now c.requires.1))
+
+pub returns-in-None-clause-tree : goal.returns-in-None-clause-tree
+returns-in-None-clause-tree c = record {
+  tree = subst (λ (ts : List Token). IsOneTree ts c.in-Ok.tree) c.as_slice-tokens.ensures (one_tree c.as_slice-tokens.result.now c.in-Ok.tree c.in-Ok.ensures);
+  ended = rw (sym c.in_ok-ends.ensures, sym c.as_slice.ensures.value, sym c.as_slice-tokens.ensures) c.in-None.ensures;
+}
+
+pub returns-in-None-clause-few : goal.returns-in-None-clause-few
+returns-in-None-clause-few c =
+    let text = spelled_in_text c.args.bytes.now c.args.tokens.now c.requires.1 in
+    let tree = one_tree c.as_slice-tokens.result.now c.in-Ok.tree c.in-Ok.ensures in
+    few_tokens c.args.bytes.now c.args.tokens.now c.in-Ok.tree text c.requires.0 (subst (λ (ts : List Token). Derives (kinds_of ts) c.in-Ok.tree) c.as_slice-tokens.ensures tree.derived)
+
+pub returns-in-Some-clause-fault : goal.returns-in-Some-clause-fault
+returns-in-Some-clause-fault c = record {
+  of = c.in-Ok.tree;
+  tree = subst (λ (ts : List Token). IsOneTree ts c.in-Ok.tree) c.as_slice-tokens.ensures (one_tree c.as_slice-tokens.result.now c.in-Ok.tree c.in-Ok.ensures);
+  first = rw (sym c.in_ok-ends.ensures, sym c.as_slice.ensures.value, sym c.as_slice-tokens.ensures) c.in-Some.ensures;
+}

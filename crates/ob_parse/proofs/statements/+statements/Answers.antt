@@ -1,0 +1,98 @@
+use Rattle.std.proofs.Common.{ℕ, refl, sym, ap, ◌∙◌}
+use Rattle.std.proofs.lemmas.Result.{err_from_is_err_and}
+use Rattle.ob_scan.specs.declared.kind.Kind.{Kind}
+use Rattle.ob_scan.specs.declared.kind.Kind.TheVariants as kinds
+use Rattle.ob_tree.specs.Marks.{each_after}
+use Rattle.ob_tree.specs.Statements.{branch_outline, case_outline, stmt_outline}
+use Rattle.ob_parse.specs.Forms.{accept_at, many}
+use Rattle.ob_parse.specs.Gives.{ahead, skipped}
+use Rattle.ob_parse.specs.ReadExpressions.{expr_at}
+use Rattle.ob_parse.specs.ReadStatements.{block_at, branch_with, case_with, statement_at}
+use Rattle.ob_parse.proofs.LoopEnds.{ends}
+use Rattle.ob_parse.proofs.Loops.{Advances, pushed_after, smaller, is_done, accept_advances}
+use Rattle.ob_parse.proofs.SoundExpressions.{expr_at_sound}
+use Rattle.ob_parse.proofs.SoundStatements.{block_at_sound, branch_sound, case_sound, statement_at_sound}
+use Rattle.ob_parse.proofs.statements.+statements.Goals as goal
+
+semicolon_adv : (d : ℕ) → Advances (accept_at kinds.Semicolon) (statement_at d)
+semicolon_adv d = accept_advances d kinds.Semicolon _ (statement_at_sound d)
+
+elsif_adv : (d : ℕ) (k : Kind) → Advances (accept_at kinds.Elsif) (branch_with (expr_at d) (block_at d) k)
+elsif_adv d k = accept_advances d kinds.Elsif _ (branch_sound d _ _ k (expr_at_sound d) (block_at_sound d))
+
+bar_adv : (d : ℕ) → Advances (accept_at kinds.Bar) (case_with (block_at d))
+bar_adv d = accept_advances d kinds.Bar _ (case_sound d _ (block_at_sound d))
+
+pub more_statements-more-smaller : goal.more_statements-more-smaller
+more_statements-more-smaller t c =
+    smaller (accept_at kinds.Semicolon) (statement_at c.args.depth) (semicolon_adv c.args.depth) (ahead c.more.here) _ _
+    (sym c.in-Some.ensures) c.in_ok-next.ensures
+
+pub more_statements-more-preserved : goal.more_statements-more-preserved
+more_statements-more-preserved t c =
+    pushed_after (accept_at kinds.Semicolon) (statement_at c.args.depth) (semicolon_adv c.args.depth)
+    stmt_outline kinds.Semicolon c.more.rest.items _ c.in_ok-next.next (ahead c.more.here) (ahead c.in-Some.after) _ _ c.in_ok-push.ensures.items
+    (sym c.in-Some.ensures) c.in_ok-next.ensures refl c.more.invariant
+
+pub more_statements-returns-in_err-next : goal.more_statements-returns-in_err-next
+more_statements-returns-in_err-next t c =
+    let p = err_from_is_err_and c.from_residual.result c.from_residual.ensures.1 in
+    rw (p.1, p.2) (ends (accept_at kinds.Semicolon) (statement_at c.args.depth) (semicolon_adv c.args.depth) c.in_err-next.field-0.0
+    (each_after kinds.Semicolon stmt_outline c.more.rest.items) (ahead c.more.here) _ (many (accept_at kinds.Semicolon) (statement_at c.args.depth) (ahead c.args.input))
+    (sym c.in-Some.ensures) c.in_err-next.ensures c.more.invariant)
+
+pub more_statements-returns : goal.more_statements-returns
+more_statements-returns t c =
+    is_done (accept_at kinds.Semicolon) (statement_at c.args.depth) (semicolon_adv c.args.depth)
+    (each_after kinds.Semicolon stmt_outline c.more.rest.items) (ahead c.more.here) (many (accept_at kinds.Semicolon) (statement_at c.args.depth) (ahead c.args.input))
+    (sym c.accept.ensures ∙ ap (skipped kinds.Semicolon) c.in_default.is) c.more.invariant
+
+pub more_branches-more-smaller : goal.more_branches-more-smaller
+more_branches-more-smaller t c =
+    smaller (accept_at kinds.Elsif) (branch_with (expr_at c.args.depth) (block_at c.args.depth) c.args.keyword) (elsif_adv c.args.depth c.args.keyword) (ahead c.more.here) _ _
+    (sym c.in-Some.ensures) c.in_ok-next.ensures
+
+pub more_branches-more-preserved : goal.more_branches-more-preserved
+more_branches-more-preserved t c =
+    pushed_after (accept_at kinds.Elsif) (branch_with (expr_at c.args.depth) (block_at c.args.depth) c.args.keyword) (elsif_adv c.args.depth c.args.keyword)
+    (λ b. branch_outline b c.args.keyword) kinds.Elsif c.more.rest.items _ c.in_ok-next.next (ahead c.more.here) (ahead c.in-Some.after) _ _ c.in_ok-push.ensures.items
+    (sym c.in-Some.ensures) c.in_ok-next.ensures refl c.more.invariant
+
+pub more_branches-returns-in_err-next : goal.more_branches-returns-in_err-next
+more_branches-returns-in_err-next t c =
+    let p = err_from_is_err_and c.from_residual.result c.from_residual.ensures.1 in
+    rw (p.1, p.2) (ends (accept_at kinds.Elsif) (branch_with (expr_at c.args.depth) (block_at c.args.depth) c.args.keyword) (elsif_adv c.args.depth c.args.keyword) c.in_err-next.field-0.0
+    (each_after kinds.Elsif (λ b. branch_outline b c.args.keyword) c.more.rest.items) (ahead c.more.here) _
+    (many (accept_at kinds.Elsif) (branch_with (expr_at c.args.depth) (block_at c.args.depth) c.args.keyword) (ahead c.args.input))
+    (sym c.in-Some.ensures) c.in_err-next.ensures c.more.invariant)
+
+pub more_branches-returns : goal.more_branches-returns
+more_branches-returns t c =
+    is_done (accept_at kinds.Elsif) (branch_with (expr_at c.args.depth) (block_at c.args.depth) c.args.keyword) (elsif_adv c.args.depth c.args.keyword)
+    (each_after kinds.Elsif (λ b. branch_outline b c.args.keyword) c.more.rest.items) (ahead c.more.here)
+    (many (accept_at kinds.Elsif) (branch_with (expr_at c.args.depth) (block_at c.args.depth) c.args.keyword) (ahead c.args.input))
+    (sym c.accept.ensures ∙ ap (skipped kinds.Elsif) c.in_default.is) c.more.invariant
+
+pub more_cases-more-smaller : goal.more_cases-more-smaller
+more_cases-more-smaller t c =
+    smaller (accept_at kinds.Bar) (case_with (block_at c.args.depth)) (bar_adv c.args.depth) (ahead c.more.here) _ _
+    (sym c.in-Some.ensures) c.in_ok-next.ensures
+
+pub more_cases-more-preserved : goal.more_cases-more-preserved
+more_cases-more-preserved t c =
+    pushed_after (accept_at kinds.Bar) (case_with (block_at c.args.depth)) (bar_adv c.args.depth)
+    case_outline kinds.Bar c.more.rest.items _ c.in_ok-next.next (ahead c.more.here) (ahead c.in-Some.after) _ _ c.in_ok-push.ensures.items
+    (sym c.in-Some.ensures) c.in_ok-next.ensures refl c.more.invariant
+
+pub more_cases-returns-in_err-next : goal.more_cases-returns-in_err-next
+more_cases-returns-in_err-next t c =
+    let p = err_from_is_err_and c.from_residual.result c.from_residual.ensures.1 in
+    rw (p.1, p.2) (ends (accept_at kinds.Bar) (case_with (block_at c.args.depth)) (bar_adv c.args.depth) c.in_err-next.field-0.0
+    (each_after kinds.Bar case_outline c.more.rest.items) (ahead c.more.here) _ (many (accept_at kinds.Bar) (case_with (block_at c.args.depth)) (ahead c.args.input))
+    (sym c.in-Some.ensures) c.in_err-next.ensures c.more.invariant)
+
+pub more_cases-returns : goal.more_cases-returns
+more_cases-returns t c =
+    is_done (accept_at kinds.Bar) (case_with (block_at c.args.depth)) (bar_adv c.args.depth)
+    (each_after kinds.Bar case_outline c.more.rest.items) (ahead c.more.here) (many (accept_at kinds.Bar) (case_with (block_at c.args.depth)) (ahead c.args.input))
+    (sym c.accept.ensures ∙ ap (skipped kinds.Bar) c.in_default.is) c.more.invariant

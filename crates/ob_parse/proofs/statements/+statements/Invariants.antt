@@ -1,0 +1,82 @@
+use Rattle.std.proofs.Common.{◌≡◌, ◌+◌, ◌*◌, length}
+use Rattle.ob_scan.specs.declared.kind.Kind.TheVariants as kinds
+use Rattle.ob_tree.specs.Marks.{each_after}
+use Rattle.ob_tree.specs.Statements.{branch_outline, case_outline, stmt_outline}
+use Rattle.ob_parse.specs.Forms.{accept_at, many}
+use Rattle.ob_parse.specs.Gives.{ahead}
+use Rattle.ob_parse.specs.ReadExpressions.{expr_at}
+use Rattle.ob_parse.specs.ReadStatements.{block_at, branch_with, case_with, statement_at}
+use Rattle.ob_parse.proofs.Loops.{with_front}
+use Rattle.ob_parse.proofs.statements.+statements.Given as goal
+
+abbrev pub decreases-statement : goal.decreases-statement
+decreases-statement l = 16 * l.depth + 0
+
+abbrev pub decreases-more_statements : goal.decreases-more_statements
+decreases-more_statements l = 16 * l.depth + 1
+
+abbrev pub decreases-block : goal.decreases-block
+decreases-block l = 16 * l.depth + 2
+
+abbrev pub decreases-branch : goal.decreases-branch
+decreases-branch l = 16 * l.depth + 3
+
+abbrev pub decreases-case : goal.decreases-case
+decreases-case l = 16 * l.depth + 4
+
+abbrev pub decreases-otherwise : goal.decreases-otherwise
+decreases-otherwise l = 16 * l.depth + 5
+
+abbrev pub decreases-more_branches : goal.decreases-more_branches
+decreases-more_branches l = 16 * l.depth + 6
+
+abbrev pub decreases-more_cases : goal.decreases-more_cases
+decreases-more_cases l = 16 * l.depth + 7
+
+abbrev pub decreases-for_body : goal.decreases-for_body
+decreases-for_body l = 16 * l.depth + 8
+
+abbrev pub decreases-for_limit : goal.decreases-for_limit
+decreases-for_limit l = 16 * l.depth + 9
+
+abbrev pub decreases-if_statement : goal.decreases-if_statement
+decreases-if_statement l = 16 * l.depth + 10
+
+abbrev pub decreases-case_statement : goal.decreases-case_statement
+decreases-case_statement l = 16 * l.depth + 11
+
+abbrev pub decreases-while_statement : goal.decreases-while_statement
+decreases-while_statement l = 16 * l.depth + 12
+
+abbrev pub decreases-repeat_statement : goal.decreases-repeat_statement
+decreases-repeat_statement l = 16 * l.depth + 13
+
+abbrev pub decreases-for_statement : goal.decreases-for_statement
+decreases-for_statement l = 16 * l.depth + 14
+
+abbrev pub decreases-statement_over : goal.decreases-statement_over
+decreases-statement_over l = 16 * l.depth + 15
+
+abbrev pub invariant-more_statements-more : goal.invariant-more_statements-more
+invariant-more_statements-more l =
+    with_front (each_after kinds.Semicolon stmt_outline l.rest.items) (many (accept_at kinds.Semicolon) (statement_at l.depth) (ahead l.here))
+    ≡ many (accept_at kinds.Semicolon) (statement_at l.depth) (ahead l.fn.input)
+
+abbrev pub decreases-more_statements-more : goal.decreases-more_statements-more
+decreases-more_statements-more l = length (ahead l.here)
+
+abbrev pub invariant-more_branches-more : goal.invariant-more_branches-more
+invariant-more_branches-more l =
+    with_front (each_after kinds.Elsif (λ b. branch_outline b l.keyword) l.rest.items) (many (accept_at kinds.Elsif) (branch_with (expr_at l.depth) (block_at l.depth) l.keyword) (ahead l.here))
+    ≡ many (accept_at kinds.Elsif) (branch_with (expr_at l.depth) (block_at l.depth) l.keyword) (ahead l.fn.input)
+
+abbrev pub decreases-more_branches-more : goal.decreases-more_branches-more
+decreases-more_branches-more l = length (ahead l.here)
+
+abbrev pub invariant-more_cases-more : goal.invariant-more_cases-more
+invariant-more_cases-more l =
+    with_front (each_after kinds.Bar case_outline l.rest.items) (many (accept_at kinds.Bar) (case_with (block_at l.depth)) (ahead l.here))
+    ≡ many (accept_at kinds.Bar) (case_with (block_at l.depth)) (ahead l.fn.input)
+
+abbrev pub decreases-more_cases-more : goal.decreases-more_cases-more
+decreases-more_cases-more l = length (ahead l.here)

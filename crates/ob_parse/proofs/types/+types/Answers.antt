@@ -1,0 +1,43 @@
+use Rattle.std.proofs.Common.{ℕ, refl, sym, ap, ◌∙◌}
+use Rattle.std.proofs.lemmas.Result.{err_from_is_err_and}
+use Rattle.ob_scan.specs.declared.kind.Kind.TheVariants as kinds
+use Rattle.ob_tree.specs.declared.declaration.VarDecl.{VarDecl}
+use Rattle.ob_tree.specs.Constructs as constructs
+use Rattle.ob_tree.specs.Marks.{Out, construct, each_after}
+use Rattle.ob_tree.specs.Types.{var_outline}
+use Rattle.ob_parse.specs.Forms.{Reader, many, node}
+use Rattle.ob_parse.specs.Gives.{ahead, skipped}
+use Rattle.ob_parse.specs.ReadTypes.{field_start, var_with, type_at}
+use Rattle.ob_parse.proofs.Loops.{Advances, pushed_after, smaller, is_done, field_advances}
+use Rattle.ob_parse.proofs.LoopEnds.{ends}
+use Rattle.ob_parse.proofs.Sound.{sound_flat}
+use Rattle.ob_parse.proofs.SoundTypes.{var_sound, type_at_sound}
+use Rattle.ob_parse.proofs.types.+types.Goals as goal
+
+abbrev field_at : ℕ → Reader
+field_at d = node constructs.FieldList (var_with (type_at d))
+
+abbrev field_outline : VarDecl → Out
+field_outline v = construct constructs.FieldList (var_outline v)
+
+advances : (d : ℕ) → Advances field_start (field_at d)
+advances d = field_advances d _ (sound_flat d _ _ refl (var_sound d _ (type_at_sound d)))
+
+pub more_fields-more-smaller : goal.more_fields-more-smaller
+more_fields-more-smaller t c = smaller field_start (field_at c.args.depth) (advances c.args.depth) (ahead c.more.here) _ _ (sym c.in-Some.ensures) c.in_ok-next.ensures
+
+pub more_fields-more-preserved : goal.more_fields-more-preserved
+more_fields-more-preserved t c = pushed_after field_start (field_at c.args.depth) (advances c.args.depth) field_outline kinds.Semicolon c.more.rest.items _ c.in_ok-next.next
+    (ahead c.more.here) (ahead c.in-Some.after) _ _ c.in_ok-push.ensures.items (sym c.in-Some.ensures) c.in_ok-next.ensures refl c.more.invariant
+
+pub more_fields-returns-in_err-next : goal.more_fields-returns-in_err-next
+more_fields-returns-in_err-next t c =
+    let p = err_from_is_err_and c.from_residual.result c.from_residual.ensures.1 in
+    rw (p.1, p.2) (ends field_start (field_at c.args.depth) (advances c.args.depth) c.in_err-next.field-0.0
+    (each_after kinds.Semicolon field_outline c.more.rest.items) (ahead c.more.here) _
+    (many field_start (field_at c.args.depth) (ahead c.args.input)) (sym c.in-Some.ensures) c.in_err-next.ensures c.more.invariant)
+
+pub more_fields-returns : goal.more_fields-returns
+more_fields-returns t c = is_done field_start (field_at c.args.depth) (advances c.args.depth)
+    (each_after kinds.Semicolon field_outline c.more.rest.items) (ahead c.more.here) (many field_start (field_at c.args.depth) (ahead c.args.input))
+    (sym (sym (ap (skipped kinds.Semicolon) c.in_default.is) ∙ c.next_fields.ensures)) c.more.invariant

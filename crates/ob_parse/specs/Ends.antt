@@ -1,0 +1,38 @@
+-- What the parser's last steps keep: names after END one by one, and the offset of a token.
+use Rattle.std.specs.Prelude.{◌≡◌, ◌≢◌, ◌≤◌, ◌<◌, ℕ, List, length, slice_get, Bool, true, false, Option, Some, None}
+use Rattle.std.specs.List.{All}
+use Rattle.ob_scan.specs.declared.token.Token.{Token}
+use Rattle.ob_parse.specs.declared.fault.ParseFault.{ParseFault}
+use Rattle.ob_parse.specs.declared.fault.ParseFault.TheVariants as faults
+use Rattle.ob_parse.specs.declared.stop.Stop.{Stop}
+use Rattle.ob_parse.specs.declared.stop.Stop.TheVariants as stops
+use Rattle.ob_parse.specs.Parsed.{Pair, IsRightEnd, IsFirstWrong, text_of}
+
+-- both are numbers of tokens
+abbrev pub IsKnown : List Token → ℕ × ℕ → Type 0
+IsKnown ts e = (e.0 < length ts) × (e.1 < length ts)
+
+-- a token that lies in the text
+abbrev pub IsPlaced : List ℕ → Token → Type 0
+IsPlaced bytes t = (t.start ≤ t.end) × (t.end ≤ length bytes)
+
+-- a name after END is right, or not
+abbrev pub IsEnd : List ℕ → List Token → Bool → ℕ × ℕ → Type 0
+IsEnd bytes ts true e = IsRightEnd bytes ts e
+IsEnd bytes ts false e = (pair : Pair ts e) × (text_of bytes pair.name ≢ text_of bytes pair.end)
+
+-- none of these is wrong, or the first that is begins at this offset
+abbrev pub FirstWrong : List ℕ → List Token → List (ℕ × ℕ) → Option ℕ → Type 0
+FirstWrong bytes ts ends None = All (IsRightEnd bytes ts) ends
+FirstWrong bytes ts ends (Some at) = IsFirstWrong bytes ts ends at
+
+-- where a token begins, or the text's end where there is none of this number
+abbrev pub start_or : ℕ → Option Token → ℕ
+start_or end None = end
+start_or end (Some t) = t.start
+
+-- the fault that is told of a stop
+abbrev pub told : ℕ → List Token → Stop → ParseFault
+told end ts (stops.Wrong n) = faults.Syntax (start_or end (slice_get ts n))
+told end ts (stops.Deep n) = faults.TooDeep (start_or end (slice_get ts n))
+told end ts stops.Memory = faults.Memory

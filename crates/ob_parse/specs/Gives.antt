@@ -1,0 +1,39 @@
+-- What the functions of the parser answer, by readers.
+use Rattle.std.specs.Prelude.{◌≡◌, ℕ, List, map, Option, Some, None, Result, Ok, Err}
+use Rattle.ob_scan.specs.declared.kind.Kind.{Kind}
+use Rattle.ob_scan.specs.declared.token.Token.{Token}
+use Rattle.ob_tree.specs.declared.token.Leaf.{Leaf}
+use Rattle.ob_tree.specs.Leaves.{leaves}
+use Rattle.ob_tree.specs.Marks.{Out, word}
+use Rattle.ob_parse.specs.declared.stop.Stop.{Stop}
+use Rattle.ob_parse.specs.declared.stop.Stop.TheVariants as stops
+use Rattle.ob_parse.specs.declared.input.Input.{Input}
+use Rattle.ob_parse.specs.Forms.{Refusal, Wrong, Deep}
+
+abbrev pub kind_of : Token → Kind
+kind_of t = t.kind
+
+-- the tokens that are still to be read
+unfoldable pub ahead : Input → List Leaf
+ahead i = leaves i.at (map kind_of i.rest.now)
+
+-- a token with those after it
+abbrev pub seen : {X : Type 0} → Option (X × Input) → Option (X × List Leaf)
+seen None = None
+seen (Some x) = Some (x.0, ahead x.1)
+
+-- a token of this kind was found in front, with the tokens after it
+abbrev pub skipped : Kind → Option Input → Option (Out × List Leaf)
+skipped k None = None
+skipped k (Some i) = Some (word k, ahead i)
+
+-- why the parser stopped says this of what was read
+abbrev pub Fails : {Y : Type 0} → Stop → Result Y Refusal → Type 0
+Fails (stops.Wrong number) read = read ≡ Err Wrong
+Fails (stops.Deep number) read = read ≡ Err Deep
+Fails stops.Memory read = Unit {0}
+
+-- what a function returned, seen by view, is what reading gives, unless memory ran out
+abbrev pub Gives : {X Y : Type 0} → (X → Y) → Result X Stop → Result Y Refusal → Type 0
+Gives view (Ok x) read = read ≡ Ok (view x)
+Gives view (Err e) read = Fails e read

@@ -1,0 +1,10 @@
+pub mod Forms
+pub mod Ends
+pub mod Front
+pub mod Gives
+pub mod Parsed
+pub mod ReadExpressions
+pub mod ReadModules
+pub mod ReadNames
+pub mod ReadStatements
+pub mod ReadTypes

@@ -1,0 +1,80 @@
+-- What the tree of a text is, and why there is none (Oberon-07 report, appendix).
+use Rattle.std.specs.Prelude.{◌≡◌, ◌≢◌, ◌≤◌, ◌<◌, ◌-◌, ℕ, List, ◌∷◌, ◌++◌, map, take, drop, Some, slice_get, length, ◌⊎◌}
+use Rattle.std.specs.List.{All}
+use Rattle.ob_scan.specs.declared.kind.Kind.{Kind}
+use Rattle.ob_scan.specs.declared.token.Token.{Token}
+use Rattle.ob_tree.specs.declared.declaration.Module.{Module}
+use Rattle.ob_tree.specs.Declaring.{module_outline}
+use Rattle.ob_tree.specs.Derives.{Derives, depth, endings_in}
+use Rattle.ob_parse.specs.declared.fault.ParseFault.{ParseFault}
+use Rattle.ob_parse.specs.declared.fault.ParseFault.TheVariants as faults
+
+abbrev pub kinds_of : List Token → List Kind
+kinds_of ts = map (λ t. t.kind) ts
+
+-- the bytes of a token
+abbrev pub text_of : List ℕ → Token → List ℕ
+text_of bytes t = take (t.end - t.start) (drop t.start bytes)
+
+-- a pair of tokens, by their numbers: an identifier, and the name after END that has to repeat it
+pub record Pair (ts : List Token) (e : ℕ × ℕ) : Type 0 where
+  pub name : Token
+  pub end : Token
+  pub name_there : slice_get ts e.0 ≡ Some name
+  pub end_there : slice_get ts e.1 ≡ Some end
+
+-- the name after END is the one that it has to be
+pub record IsRightEnd (bytes : List ℕ) (ts : List Token) (e : ℕ × ℕ) : Type 0 where
+  pub pair : Pair ts e
+  pub same : text_of bytes pair.name ≡ text_of bytes pair.end
+
+-- it is another, and begins at this offset
+pub record IsWrongEnd (bytes : List ℕ) (ts : List Token) (at : ℕ) (e : ℕ × ℕ) : Type 0 where
+  pub pair : Pair ts e
+  pub differ : text_of bytes pair.name ≢ text_of bytes pair.end
+  pub begins : pair.end.start ≡ at
+
+-- a tree of at most 200 levels derives the tokens, and no other tree does
+pub record IsOneTree (ts : List Token) (m : Module) : Type 0 where
+  pub derived : Derives (kinds_of ts) m
+  pub shallow : depth m ≤ 200
+  pub only : (other : Module) → Derives (kinds_of ts) other → module_outline other ≡ module_outline m
+
+-- it is that tree, and each name after END is right
+pub record IsTheTree (bytes : List ℕ) (ts : List Token) (m : Module) : Type 0 where
+  pub tree : IsOneTree ts m
+  pub ended : All (IsRightEnd bytes ts) (endings_in (module_outline m))
+
+-- the first of these that is wrong begins at this offset
+pub record IsFirstWrong (bytes : List ℕ) (ts : List Token) (ends : List (ℕ × ℕ)) (at : ℕ) : Type 0 where
+  pub before : List (ℕ × ℕ)
+  pub wrong : ℕ × ℕ
+  pub after : List (ℕ × ℕ)
+  pub split : ends ≡ before ++ wrong ∷ after
+  pub right_before : All (IsRightEnd bytes ts) before
+  pub is_wrong : IsWrongEnd bytes ts at wrong
+
+-- that tree has a wrong name after END at this offset, and right ones before it
+pub record IsEndFault (bytes : List ℕ) (ts : List Token) (at : ℕ) : Type 0 where
+  pub of : Module
+  pub tree : IsOneTree ts of
+  pub first : IsFirstWrong bytes ts (endings_in (module_outline of)) at
+
+-- a token begins at this offset
+pub record IsStart (ts : List Token) (at : ℕ) : Type 0 where
+  pub number : ℕ
+  pub token : Token
+  pub there : slice_get ts number ≡ Some token
+  pub begins : token.start ≡ at
+
+-- a token begins at this offset, or the text ends there
+abbrev pub IsPlace : List ℕ → List Token → ℕ → Type 0
+IsPlace bytes ts at = IsStart ts at ⊎ (at ≡ length bytes)
+
+-- Syntax: no tree derives the tokens; TooDeep: none of at most 200 levels does; EndName: the first wrong name after END.
+-- Of Syntax and TooDeep this says that the offset is a token's or the text's end, and not which token's it is.
+abbrev pub IsFaultOf : List ℕ → List Token → ParseFault → Type 0
+IsFaultOf bytes ts (faults.Syntax at) = IsPlace bytes ts at × ((other : Module) → Derives (kinds_of ts) other → ⊥)
+IsFaultOf bytes ts (faults.EndName at) = IsEndFault bytes ts at
+IsFaultOf bytes ts (faults.TooDeep at) = IsPlace bytes ts at × ((other : Module) → Derives (kinds_of ts) other → 200 < depth other)
+IsFaultOf bytes ts faults.Memory = Unit {0}

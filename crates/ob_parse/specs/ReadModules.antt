@@ -1,0 +1,103 @@
+-- Reading declarations and modules, a reader for each production (Oberon-07 report, sections 5, 7, 10 and 11).
+use Rattle.std.specs.Prelude.{ℕ, zero, suc, List, Option, Some, None, Result, Ok, Err, Bool, true, false}
+use Rattle.ob_scan.specs.declared.kind.Kind.{Kind}
+use Rattle.ob_scan.specs.declared.kind.Kind.TheVariants as kinds
+use Rattle.ob_tree.specs.declared.token.Leaf.{Leaf}
+use Rattle.ob_tree.specs.declared.token.Leaf.TheVariants as leafs
+use Rattle.ob_tree.specs.Constructs as constructs
+use Rattle.ob_tree.specs.Marks.{Out, declared, named, repeated}
+use Rattle.ob_parse.specs.Front.{uncons, is_word}
+use Rattle.ob_parse.specs.Forms.{Refusal, Wrong, ◌>>=◌, Reader, expect_at, accept_at, name_at, identifier_at, begins, nothing, seq, prefixed, node, optional, many, several, limit_at}
+use Rattle.ob_parse.specs.ReadNames.{identdef_at}
+use Rattle.ob_parse.specs.ReadExpressions.{expr_at}
+use Rattle.ob_parse.specs.ReadStatements.{block_at}
+use Rattle.ob_parse.specs.ReadTypes.{some_parameters_at, var_with, type_at}
+
+abbrev pub is_name : Leaf → Bool
+is_name (leafs.Name n) = true
+is_name (leafs.Value k n) = false
+is_name (leafs.Word k) = false
+
+-- ConstDeclaration = identdef "=" expression
+unfoldable pub const_with : Reader → Reader
+const_with expr = node constructs.ConstDeclaration (seq identdef_at (seq (expect_at kinds.Equals) expr))
+
+-- TypeDeclaration = identdef "=" type
+unfoldable pub type_decl_with : Reader → Reader
+type_decl_with type = node constructs.TypeDeclaration (seq identdef_at (seq (expect_at kinds.Equals) type))
+
+-- VariableDeclaration = IdentList ":" type
+unfoldable pub variable_with : Reader → Reader
+variable_with type = node constructs.VariableDeclaration (var_with type)
+
+-- a declaration and the semicolon behind it
+abbrev pub ended : Reader → Reader
+ended r = seq r (expect_at kinds.Semicolon)
+
+-- a keyword, and declarations that a semicolon ends
+unfoldable pub part_with : Kind → Reader → Reader
+part_with k r = optional (accept_at k) (many (begins is_name) (ended r))
+
+-- {ProcedureDeclaration ";"}
+unfoldable pub procedures_with : Reader → Reader
+procedures_with procedure = many (begins (is_word kinds.Procedure)) (ended procedure)
+
+-- DeclarationSequence = [CONST {ConstDeclaration ";"}] [TYPE {TypeDeclaration ";"}] [VAR {VariableDeclaration ";"}]
+--   {ProcedureDeclaration ";"}
+unfoldable pub declarations_with : Reader → Reader → Reader → Reader
+declarations_with expr type procedure = seq (part_with kinds.Const (const_with expr)) (seq (part_with kinds.Type (type_decl_with type)) (seq (part_with kinds.Var (variable_with type)) (procedures_with procedure)))
+
+-- [BEGIN StatementSequence]
+unfoldable pub body_with : Reader → Reader
+body_with block = optional (accept_at kinds.Begin) block
+
+-- what stands behind PROCEDURE and the name of this number
+unfoldable pub procedure_named : Reader → Reader → Reader → ℕ → Reader
+procedure_named expr block declarations n = seq (optional (accept_at kinds.Star) nothing) (seq some_parameters_at (seq (expect_at kinds.Semicolon) (seq declarations (seq (body_with block) (seq (optional (accept_at kinds.Return) expr) (seq (expect_at kinds.End) (name_at (repeated n))))))))
+
+-- an identifier, and what is read behind it
+abbrev pub name_then : (ℕ → Out) → (ℕ → Reader) → Reader
+name_then role r ls = do
+  a ← identifier_at ls
+  prefixed (role a.0) (r a.0) a.1
+
+-- ProcedureDeclaration = PROCEDURE identdef [FormalParameters] ";" DeclarationSequence [BEGIN StatementSequence]
+--   [RETURN expression] END ident
+unfoldable pub procedure_with : Reader → Reader → Reader → Reader
+procedure_with expr block declarations = node constructs.ProcedureDeclaration (seq (expect_at kinds.Procedure) (name_then declared (procedure_named expr block declarations)))
+
+-- a procedure of at most so many levels, itself one of them
+unfoldable pub procedure_at : ℕ → Reader
+procedure_at zero = limit_at (is_word kinds.Procedure)
+procedure_at (suc d) = procedure_with (expr_at d) (block_at d) (declarations_with (expr_at d) (type_at d) (procedure_at d))
+
+-- declarations of at most so many levels
+abbrev pub declarations_at : ℕ → Reader
+declarations_at d = declarations_with (expr_at d) (type_at d) (procedure_at d)
+
+-- import = ident [":=" ident]
+unfoldable pub import_at : Reader
+import_at = node constructs.Import (seq (name_at declared) (optional (accept_at kinds.Assign) (name_at named)))
+
+-- [IMPORT import {"," import} ";"]
+unfoldable pub imports_at : Reader
+imports_at = optional (accept_at kinds.Import) (seq (several kinds.Comma import_at) (expect_at kinds.Semicolon))
+
+-- what stands behind MODULE and the name of this number
+unfoldable pub module_named : ℕ → ℕ → Reader
+module_named d n = seq (expect_at kinds.Semicolon) (seq imports_at (seq (declarations_at d) (seq (body_with (block_at d)) (seq (expect_at kinds.End) (seq (name_at (repeated n)) (expect_at kinds.Dot))))))
+
+-- module = MODULE ident ";" [ImportList] DeclarationSequence [BEGIN StatementSequence] END ident "."
+unfoldable pub module_at : ℕ → Reader
+module_at d = node constructs.Module (seq (expect_at kinds.Module) (name_then named (module_named d)))
+
+-- the outline, where nothing is left
+abbrev pub nothing_left : Out → Option (Leaf × List Leaf) → Result Out Refusal
+nothing_left o None = Ok o
+nothing_left o (Some x) = Err Wrong
+
+-- all of the tokens
+unfoldable pub all_of : ℕ → List Leaf → Result Out Refusal
+all_of d ls = do
+  a ← module_at d ls
+  nothing_left a.0 (uncons a.1)

@@ -1,0 +1,17 @@
+-- Reading names (Oberon-07 report, section 4).
+use Rattle.std.specs.Prelude.{ℕ}
+use Rattle.ob_scan.specs.declared.kind.Kind.TheVariants as kinds
+use Rattle.ob_tree.specs.Marks.{declared, used, named}
+use Rattle.ob_parse.specs.Forms.{Reader, accept_at, name_at, nothing, seq, prefixed, optional}
+
+-- qualident = ident ["." ident], behind its first identifier
+unfoldable pub qualident_after : ℕ → Reader
+qualident_after n = prefixed (used n) (optional (accept_at kinds.Dot) (name_at named))
+
+-- qualident = ident ["." ident]
+unfoldable pub qualident_at : Reader
+qualident_at = seq (name_at used) (optional (accept_at kinds.Dot) (name_at named))
+
+-- identdef = ident ["*"]
+unfoldable pub identdef_at : Reader
+identdef_at = seq (name_at declared) (optional (accept_at kinds.Star) nothing)

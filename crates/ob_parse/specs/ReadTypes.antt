@@ -1,0 +1,72 @@
+-- Reading types, a reader for each production (Oberon-07 report, sections 6 and 10.1).
+use Rattle.std.specs.Prelude.{ℕ, zero, suc, List, Option, Some, None, Err, Bool, true, false}
+use Rattle.ob_scan.specs.declared.kind.Kind.TheVariants as kinds
+use Rattle.ob_tree.specs.declared.token.Leaf.{Leaf}
+use Rattle.ob_tree.specs.declared.token.Leaf.TheVariants as leafs
+use Rattle.ob_tree.specs.Constructs as constructs
+use Rattle.ob_tree.specs.Marks.{Out, word, declared}
+use Rattle.ob_parse.specs.Front.{uncons, is_word}
+use Rattle.ob_parse.specs.Forms.{Wrong, Read, Reader, Front, Start, expect_at, accept_at, name_at, begins, unless, nothing, seq, prefixed, node, optional, many, several, limit_at}
+use Rattle.ob_parse.specs.ReadNames.{qualident_after, qualident_at, identdef_at}
+use Rattle.ob_parse.specs.ReadExpressions.{expr_at}
+
+abbrev pub type_first : Leaf → Bool
+type_first (leafs.Name n) = true
+type_first (leafs.Word kinds.Array) = true
+type_first (leafs.Word kinds.Record) = true
+type_first (leafs.Word kinds.Pointer) = true
+type_first (leafs.Word kinds.Procedure) = true
+type_first l = false
+
+-- FPSection = [VAR] ident {"," ident} ":" {ARRAY OF} qualident
+unfoldable pub section_at : Reader
+section_at = node constructs.FPSection (seq (optional (accept_at kinds.Var) nothing) (seq (several kinds.Comma (name_at declared)) (seq (expect_at kinds.Colon) (seq (many (accept_at kinds.Array) (expect_at kinds.Of)) qualident_at))))
+
+-- FormalParameters = "(" [FPSection {";" FPSection}] ")" [":" qualident]
+unfoldable pub parameters_at : Reader
+parameters_at = seq (expect_at kinds.LeftParen) (seq (optional (unless kinds.RightParen) (several kinds.Semicolon section_at)) (seq (expect_at kinds.RightParen) (optional (accept_at kinds.Colon) qualident_at)))
+
+-- [FormalParameters]
+unfoldable pub some_parameters_at : Reader
+some_parameters_at = optional (begins (is_word kinds.LeftParen)) parameters_at
+
+-- IdentList ":" type
+unfoldable pub var_with : Reader → Reader
+var_with type = seq (several kinds.Comma identdef_at) (seq (expect_at kinds.Colon) type)
+
+-- a semicolon behind which a field list begins
+abbrev pub behind_semicolon : List Leaf → Option (Leaf × List Leaf) → Front Out
+behind_semicolon ls (Some (leafs.Name n, rest)) = Some (word kinds.Semicolon, ls)
+behind_semicolon ls _ = None
+
+abbrev pub next_field : Option (Leaf × List Leaf) → Front Out
+next_field (Some (leafs.Word kinds.Semicolon, rest)) = behind_semicolon rest (uncons rest)
+next_field _ = None
+
+unfoldable pub field_start : Start
+field_start ls = next_field (uncons ls)
+
+-- FieldList {";" FieldList} [";"]
+unfoldable pub fields_with : Reader → Reader
+fields_with type = seq (node constructs.FieldList (var_with type)) (seq (many field_start (node constructs.FieldList (var_with type))) (optional (accept_at kinds.Semicolon) nothing))
+
+-- what stands behind RECORD: ["(" qualident ")"] [FieldList {";" FieldList} [";"]] END
+unfoldable pub record_with : Reader → Reader
+record_with type = seq (optional (accept_at kinds.LeftParen) (seq qualident_at (expect_at kinds.RightParen))) (seq (optional (unless kinds.End) (fields_with type)) (expect_at kinds.End))
+
+-- type = qualident | ARRAY expression {"," expression} OF type | RECORD .. END | POINTER TO type | PROCEDURE [FormalParameters]
+abbrev pub type_from : Reader → Reader → Option (Leaf × List Leaf) → Read
+type_from expr type (Some (leafs.Name n, rest)) = qualident_after n rest
+type_from expr type (Some (leafs.Word kinds.Array, rest)) = prefixed (word kinds.Array) (seq (several kinds.Comma expr) (seq (expect_at kinds.Of) type)) rest
+type_from expr type (Some (leafs.Word kinds.Record, rest)) = prefixed (word kinds.Record) (record_with type) rest
+type_from expr type (Some (leafs.Word kinds.Pointer, rest)) = prefixed (word kinds.Pointer) (seq (expect_at kinds.To) type) rest
+type_from expr type (Some (leafs.Word kinds.Procedure, rest)) = prefixed (word kinds.Procedure) some_parameters_at rest
+type_from expr type _ = Err Wrong
+
+unfoldable pub type_with : Reader → Reader → Reader
+type_with expr type = node constructs.TypeForm (λ ls. type_from expr type (uncons ls))
+
+-- a type of at most so many levels, itself one of them
+unfoldable pub type_at : ℕ → Reader
+type_at zero = limit_at type_first
+type_at (suc d) = type_with (expr_at d) (type_at d)

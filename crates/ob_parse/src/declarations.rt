@@ -1,0 +1,379 @@
+//! Declarations: constants, types, variables and procedures.
+
+ghost use Rattle.std.specs.Prelude.{◌≡◌, ◌++◌};
+ghost use Rattle.ob_scan.specs.declared.kind.Kind.TheVariants as kinds;
+ghost use Rattle.ob_tree.specs.Marks.{word, each, if_there};
+ghost use Rattle.ob_tree.specs.Expressions.{expr_outline};
+ghost use Rattle.ob_tree.specs.Statements.{block_outline};
+ghost use Rattle.ob_tree.specs.Declaring.{const_outline, type_decl_outline, variable_outline, part, declarations_outline, procedure_outline};
+ghost use Rattle.ob_parse.specs.Front.{front, uncons, is_word};
+ghost use Rattle.ob_parse.specs.Forms.{optional, accept_at, many, begins};
+ghost use Rattle.ob_parse.specs.ReadExpressions.{expr_at};
+ghost use Rattle.ob_parse.specs.ReadStatements.{block_at};
+ghost use Rattle.ob_parse.specs.ReadTypes.{type_at};
+ghost use Rattle.ob_parse.specs.ReadModules.{is_name, ended, const_with, type_decl_with, variable_with, part_with, procedures_with, body_with, procedure_with, procedure_at, declarations_at};
+ghost use Rattle.ob_parse.specs.Gives.{Gives, ahead};
+
+use crate::expressions::expression;
+use crate::input::Input;
+use crate::names::{identdef, star};
+use crate::parameters::some_parameters;
+use crate::statements::block;
+use crate::stop::Stop;
+use crate::symbols::{accept, beyond, expect, identifier, is_at};
+use crate::types::{type_form, var_declaration};
+use ob_scan::Kind;
+use ob_tree::declaration::{ConstDecl, Declarations, ProcDecl, TypeDecl, VarDecl};
+use ob_tree::expression::Expr;
+use ob_tree::name::Identdef;
+use ob_tree::statement::Block;
+use ob_tree::token::Leaf;
+use std::alloc::Global;
+
+/// Whether a name stands here.
+fn begins_declaration<'a>(input: Input<'a>) -> bool
+    ensures { result ≡ front is_name (uncons (ahead input.entry)) }
+{
+    matches!(input.next(), Some((Leaf::Name(_), _)))
+}
+
+/// A constant.
+#[tactic(auto, using(ob_tree::proofs::DeclarationLayers::declaring_made), unfolding(crate::specs::ReadModules::const_with))]
+fn constant<'a>(alloc: Global, input: Input<'a>, depth: u32) -> Result<(ConstDecl, Input<'a>), Stop>
+    ensures { Gives (λ x. (const_outline x.0, ahead x.1)) result (const_with (expr_at depth) (ahead input.entry)) }
+{
+    let (name, here) = identdef(input)?;
+    let here = expect(here, Kind::Equals)?;
+    let (value, here) = expression(alloc, here, depth)?;
+    Ok((ConstDecl { name, value }, here))
+}
+
+/// A constant, and its semicolon.
+fn ended_constant<'a>(
+    alloc: Global,
+    input: Input<'a>,
+    depth: u32,
+) -> Result<(ConstDecl, Input<'a>), Stop>
+    ensures { Gives (λ x. (const_outline x.0 ++ word kinds.Semicolon, ahead x.1)) result (ended (const_with (expr_at depth)) (ahead input.entry)) }
+{
+    let (declaration, here) = constant(alloc, input, depth)?;
+    let here = expect(here, Kind::Semicolon)?;
+    Ok((declaration, here))
+}
+
+/// The declarations of constants.
+fn constants<'a>(
+    alloc: Global,
+    input: Input<'a>,
+    depth: u32,
+) -> Result<(Vec<ConstDecl>, Input<'a>), Stop>
+    ensures { Gives (λ x. (each (λ d. const_outline d ++ word kinds.Semicolon) x.0.items, ahead x.1)) result
+        (many (begins is_name) (ended (const_with (expr_at depth))) (ahead input.entry)) }
+{
+    let mut declared = Vec::new(alloc);
+    let mut here = input;
+    'more: while begins_declaration(here) {
+        let (next, after) = ended_constant(alloc, here, depth)?;
+        declared.push(next)?;
+        here = after;
+    }
+    Ok((declared, here))
+}
+
+/// The section of constants, if it stands here.
+#[tactic(auto, unfolding(crate::specs::ReadModules::part_with))]
+fn constant_section<'a>(
+    alloc: Global,
+    input: Input<'a>,
+    depth: u32,
+) -> Result<(Option<Vec<ConstDecl>>, Input<'a>), Stop>
+    ensures { Gives (λ x. (if_there (λ v. part kinds.Const const_outline v.items) x.0, ahead x.1)) result (part_with kinds.Const (const_with (expr_at depth)) (ahead input.entry)) }
+{
+    match accept(input, Kind::Const) {
+        Some(rest) => {
+            let (declared, rest) = constants(alloc, rest, depth)?;
+            Ok((Some(declared), rest))
+        }
+        None => Ok((None, input)),
+    }
+}
+
+/// A type with its name.
+#[tactic(auto, using(ob_tree::proofs::DeclarationLayers::declaring_made), unfolding(crate::specs::ReadModules::type_decl_with))]
+fn named_type<'a>(
+    alloc: Global,
+    input: Input<'a>,
+    depth: u32,
+) -> Result<(TypeDecl, Input<'a>), Stop>
+    ensures { Gives (λ x. (type_decl_outline x.0, ahead x.1)) result (type_decl_with (type_at depth) (ahead input.entry)) }
+{
+    let (name, here) = identdef(input)?;
+    let here = expect(here, Kind::Equals)?;
+    let (form, here) = type_form(alloc, here, depth)?;
+    Ok((TypeDecl { name, form }, here))
+}
+
+/// A type with its name, and its semicolon.
+fn ended_named_type<'a>(
+    alloc: Global,
+    input: Input<'a>,
+    depth: u32,
+) -> Result<(TypeDecl, Input<'a>), Stop>
+    ensures { Gives (λ x. (type_decl_outline x.0 ++ word kinds.Semicolon, ahead x.1)) result (ended (type_decl_with (type_at depth)) (ahead input.entry)) }
+{
+    let (declaration, here) = named_type(alloc, input, depth)?;
+    let here = expect(here, Kind::Semicolon)?;
+    Ok((declaration, here))
+}
+
+/// The declarations of named_types.
+fn named_types<'a>(
+    alloc: Global,
+    input: Input<'a>,
+    depth: u32,
+) -> Result<(Vec<TypeDecl>, Input<'a>), Stop>
+    ensures { Gives (λ x. (each (λ d. type_decl_outline d ++ word kinds.Semicolon) x.0.items, ahead x.1)) result
+        (many (begins is_name) (ended (type_decl_with (type_at depth))) (ahead input.entry)) }
+{
+    let mut declared = Vec::new(alloc);
+    let mut here = input;
+    'more: while begins_declaration(here) {
+        let (next, after) = ended_named_type(alloc, here, depth)?;
+        declared.push(next)?;
+        here = after;
+    }
+    Ok((declared, here))
+}
+
+/// The section of named_types, if it stands here.
+#[tactic(auto, unfolding(crate::specs::ReadModules::part_with))]
+fn named_type_section<'a>(
+    alloc: Global,
+    input: Input<'a>,
+    depth: u32,
+) -> Result<(Option<Vec<TypeDecl>>, Input<'a>), Stop>
+    ensures { Gives (λ x. (if_there (λ v. part kinds.Type type_decl_outline v.items) x.0, ahead x.1)) result (part_with kinds.Type (type_decl_with (type_at depth)) (ahead input.entry)) }
+{
+    match accept(input, Kind::Type) {
+        Some(rest) => {
+            let (declared, rest) = named_types(alloc, rest, depth)?;
+            Ok((Some(declared), rest))
+        }
+        None => Ok((None, input)),
+    }
+}
+
+/// Variables of one type.
+#[tactic(auto, using(ob_tree::proofs::DeclarationLayers::declaring_made), unfolding(crate::specs::ReadModules::variable_with))]
+fn variable<'a>(alloc: Global, input: Input<'a>, depth: u32) -> Result<(VarDecl, Input<'a>), Stop>
+    ensures { Gives (λ x. (variable_outline x.0, ahead x.1)) result (variable_with (type_at depth) (ahead input.entry)) }
+{
+    var_declaration(alloc, input, depth)
+}
+
+/// Variables of one type, and its semicolon.
+fn ended_variable<'a>(
+    alloc: Global,
+    input: Input<'a>,
+    depth: u32,
+) -> Result<(VarDecl, Input<'a>), Stop>
+    ensures { Gives (λ x. (variable_outline x.0 ++ word kinds.Semicolon, ahead x.1)) result (ended (variable_with (type_at depth)) (ahead input.entry)) }
+{
+    let (declaration, here) = variable(alloc, input, depth)?;
+    let here = expect(here, Kind::Semicolon)?;
+    Ok((declaration, here))
+}
+
+/// The declarations of variables.
+fn variables<'a>(
+    alloc: Global,
+    input: Input<'a>,
+    depth: u32,
+) -> Result<(Vec<VarDecl>, Input<'a>), Stop>
+    ensures { Gives (λ x. (each (λ d. variable_outline d ++ word kinds.Semicolon) x.0.items, ahead x.1)) result
+        (many (begins is_name) (ended (variable_with (type_at depth))) (ahead input.entry)) }
+{
+    let mut declared = Vec::new(alloc);
+    let mut here = input;
+    'more: while begins_declaration(here) {
+        let (next, after) = ended_variable(alloc, here, depth)?;
+        declared.push(next)?;
+        here = after;
+    }
+    Ok((declared, here))
+}
+
+/// The section of variables, if it stands here.
+#[tactic(auto, unfolding(crate::specs::ReadModules::part_with))]
+fn variable_section<'a>(
+    alloc: Global,
+    input: Input<'a>,
+    depth: u32,
+) -> Result<(Option<Vec<VarDecl>>, Input<'a>), Stop>
+    ensures { Gives (λ x. (if_there (λ v. part kinds.Var variable_outline v.items) x.0, ahead x.1)) result (part_with kinds.Var (variable_with (type_at depth)) (ahead input.entry)) }
+{
+    match accept(input, Kind::Var) {
+        Some(rest) => {
+            let (declared, rest) = variables(alloc, rest, depth)?;
+            Ok((Some(declared), rest))
+        }
+        None => Ok((None, input)),
+    }
+}
+
+/// The procedures that are declared here.
+#[cycle(declarations)]
+fn procedures<'a>(
+    alloc: Global,
+    input: Input<'a>,
+    depth: u32,
+) -> Result<(Vec<ProcDecl>, Input<'a>), Stop>
+    ensures { Gives (λ x. (each (λ p. procedure_outline p ++ word kinds.Semicolon) x.0.items, ahead x.1)) result
+        (many (begins (is_word kinds.Procedure)) (ended (procedure_at depth)) (ahead input.entry)) }
+{
+    let mut declared = Vec::new(alloc);
+    let mut here = input;
+    'more: while is_at(here, Kind::Procedure) {
+        let (next, after) = ended_procedure(alloc, here, depth)?;
+        declared.push(next)?;
+        here = after;
+    }
+    Ok((declared, here))
+}
+
+/// A procedure, and its semicolon.
+#[cycle(declarations)]
+fn ended_procedure<'a>(
+    alloc: Global,
+    input: Input<'a>,
+    depth: u32,
+) -> Result<(ProcDecl, Input<'a>), Stop>
+    ensures { Gives (λ x. (procedure_outline x.0 ++ word kinds.Semicolon, ahead x.1)) result (ended (procedure_at depth) (ahead input.entry)) }
+{
+    let (declaration, here) = procedure(alloc, input, depth)?;
+    let here = expect(here, Kind::Semicolon)?;
+    Ok((declaration, here))
+}
+
+/// A procedure, with at most so many levels in it, itself one of them.
+#[cycle(declarations)]
+#[tactic(auto, unfolding(crate::specs::ReadModules::procedure_at, crate::specs::Forms::limit_at))]
+fn procedure<'a>(alloc: Global, input: Input<'a>, depth: u32) -> Result<(ProcDecl, Input<'a>), Stop>
+    ensures { Gives (λ x. (procedure_outline x.0, ahead x.1)) result (procedure_at depth (ahead input.entry)) }
+{
+    if depth == 0 {
+        return Err(beyond(input, is_at(input, Kind::Procedure)));
+    }
+    procedure_within(alloc, input, depth - 1)
+}
+
+/// A procedure, with at most so many levels in its parts.
+#[cycle(declarations)]
+#[tactic(auto, using(ob_tree::proofs::DeclarationLayers::declaring_made, ob_tree::proofs::NameLayers::names_made), unfolding(crate::specs::ReadModules::procedure_with, crate::specs::ReadModules::procedure_named, crate::specs::Forms::name_at))]
+fn procedure_within<'a>(
+    alloc: Global,
+    input: Input<'a>,
+    depth: u32,
+) -> Result<(ProcDecl, Input<'a>), Stop>
+    ensures { Gives (λ x. (procedure_outline x.0, ahead x.1)) result (procedure_with (expr_at depth) (block_at depth) (declarations_at depth) (ahead input.entry)) }
+{
+    let here = expect(input, Kind::Procedure)?;
+    let (name, here) = identifier(here)?;
+    let (starred, here) = star(here);
+    let (parameters, here) = some_parameters(alloc, here)?;
+    let here = expect(here, Kind::Semicolon)?;
+    let (declarations, here) = declarations(alloc, here, depth)?;
+    let (body, here) = boxed_body(alloc, here, depth)?;
+    let (returned, here) = returned(alloc, here, depth)?;
+    let here = expect(here, Kind::End)?;
+    let (end_name, here) = identifier(here)?;
+    Ok((
+        ProcDecl {
+            name: Identdef { name, starred },
+            parameters,
+            declarations,
+            body,
+            returned,
+            end_name,
+        },
+        here,
+    ))
+}
+
+/// The declarations of a module or a procedure, with at most so many levels in them.
+#[cycle(declarations)]
+#[tactic(auto, using(ob_tree::proofs::DeclarationLayers::declaring_made), unfolding(crate::specs::ReadModules::declarations_with, crate::specs::ReadModules::procedures_with))]
+pub(crate) fn declarations<'a>(
+    alloc: Global,
+    input: Input<'a>,
+    depth: u32,
+) -> Result<(Declarations, Input<'a>), Stop>
+    ensures { Gives (λ x. (declarations_outline x.0, ahead x.1)) result (declarations_at depth (ahead input.entry)) }
+{
+    let (constants, here) = constant_section(alloc, input, depth)?;
+    let (types, here) = named_type_section(alloc, here, depth)?;
+    let (variables, here) = variable_section(alloc, here, depth)?;
+    let (procedures, here) = procedures(alloc, here, depth)?;
+    Ok((
+        Declarations {
+            constants,
+            types,
+            variables,
+            procedures,
+        },
+        here,
+    ))
+}
+
+/// The statements behind BEGIN, if it stands here.
+#[tactic(auto, unfolding(crate::specs::ReadModules::body_with))]
+pub(crate) fn body<'a>(
+    alloc: Global,
+    input: Input<'a>,
+    depth: u32,
+) -> Result<(Option<Block>, Input<'a>), Stop>
+    ensures { Gives (λ x. (if_there (λ b. word kinds.Begin ++ block_outline b) x.0, ahead x.1)) result (body_with (block_at depth) (ahead input.entry)) }
+{
+    match accept(input, Kind::Begin) {
+        Some(rest) => {
+            let (block, rest) = block(alloc, rest, depth)?;
+            Ok((Some(block), rest))
+        }
+        None => Ok((None, input)),
+    }
+}
+
+/// The same, in a box.
+#[tactic(auto, unfolding(crate::specs::ReadModules::body_with))]
+fn boxed_body<'a>(
+    alloc: Global,
+    input: Input<'a>,
+    depth: u32,
+) -> Result<(Option<Box<Block>>, Input<'a>), Stop>
+    ensures { Gives (λ x. (if_there (λ b. word kinds.Begin ++ block_outline b.value) x.0, ahead x.1)) result (body_with (block_at depth) (ahead input.entry)) }
+{
+    match accept(input, Kind::Begin) {
+        Some(rest) => {
+            let (block, rest) = block(alloc, rest, depth)?;
+            Ok((Some(Box::new(alloc, block)?), rest))
+        }
+        None => Ok((None, input)),
+    }
+}
+
+/// The expression behind RETURN, if it stands here.
+fn returned<'a>(
+    alloc: Global,
+    input: Input<'a>,
+    depth: u32,
+) -> Result<(Option<Box<Expr>>, Input<'a>), Stop>
+    ensures { Gives (λ x. (if_there (λ e. word kinds.Return ++ expr_outline e.value) x.0, ahead x.1)) result (optional (accept_at kinds.Return) (expr_at depth) (ahead input.entry)) }
+{
+    match accept(input, Kind::Return) {
+        Some(rest) => {
+            let (value, rest) = expression(alloc, rest, depth)?;
+            Ok((Some(Box::new(alloc, value)?), rest))
+        }
+        None => Ok((None, input)),
+    }
+}

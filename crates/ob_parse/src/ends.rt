@@ -1,0 +1,37 @@
+//! The names after END.
+
+ghost use Rattle.std.specs.Prelude.{◌≡◌, ◌<◌, ◌≤◌, length};
+ghost use Rattle.std.specs.List.{All};
+ghost use Rattle.ob_parse.specs.Ends.{FirstWrong, IsEnd, IsKnown, IsPlaced};
+ghost use Rattle.ob_parse.specs.Parsed.{text_of};
+
+use ob_scan::Token;
+
+fn text<'a>(bytes: &'a [u8], token: Token) -> &'a [u8]
+    requires { (token.start ≤ token.end) × (token.end ≤ length bytes.now) }
+    ensures { result.now ≡ text_of bytes.now token }
+{
+    &bytes[token.start as usize..token.end as usize]
+}
+
+fn is_right(bytes: &[u8], tokens: &[Token], name: u32, end: u32) -> bool
+    requires known { (name < length tokens.now) × (end < length tokens.now) }
+    requires placed { All (IsPlaced bytes.now) tokens.now }
+    ensures { IsEnd bytes.now tokens.now result (name, end) }
+{
+    text(bytes, tokens[name as usize]) == text(bytes, tokens[end as usize])
+}
+
+/// The offset of the first name after END that isn't the one that it has to be.
+pub(crate) fn wrong_end(bytes: &[u8], tokens: &[Token], ends: &[(u32, u32)]) -> Option<u32>
+    requires known { All (IsKnown tokens.now) ends.now }
+    requires placed { All (IsPlaced bytes.now) tokens.now }
+    ensures { FirstWrong bytes.now tokens.now ends.now result }
+{
+    'ends: for (name, end) in ends {
+        if !is_right(bytes, tokens, *name, *end) {
+            return Some(tokens[*end as usize].start);
+        }
+    }
+    None
+}

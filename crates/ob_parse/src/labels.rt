@@ -1,0 +1,99 @@
+//! The labels of a case (Oberon-07 report, section 9.5).
+
+ghost use Rattle.std.specs.Prelude.{◌≡◌};
+ghost use Rattle.ob_parse.specs.Forms.{accept_at, many, several};
+ghost use Rattle.ob_parse.specs.Front.{uncons, front};
+ghost use Rattle.ob_parse.specs.Gives.{Gives, ahead};
+ghost use Rattle.ob_parse.specs.ReadStatements.{label_at, label_first, label_range_at};
+ghost use Rattle.ob_scan.specs.declared.kind.Kind.TheVariants as kinds;
+ghost use Rattle.ob_tree.specs.Marks.{each_after, listed};
+ghost use Rattle.ob_tree.specs.Statements.{label_outline, label_range_outline};
+
+use crate::input::Input;
+use crate::names::qualident_after;
+use crate::stop::Stop;
+use crate::symbols::accept;
+use ob_scan::Kind;
+use ob_tree::expression::Literal;
+use ob_tree::name::OneOrMore;
+use ob_tree::statement::{Label, LabelRange};
+use ob_tree::token::Leaf;
+use std::alloc::Global;
+
+/// Whether a label begins here.
+pub(crate) fn begins_label<'a>(input: Input<'a>) -> bool
+    ensures { result ≡ front label_first (uncons (ahead input.entry)) }
+{
+    match input.next() {
+        Some((Leaf::Name(_), _)) => true,
+        Some((Leaf::Value(Literal::Integer, _), _)) => true,
+        Some((Leaf::Value(Literal::Text, _), _)) => true,
+        _ => false,
+    }
+}
+
+/// A label.
+#[tactic(auto, using(crate::proofs::StatementSteps::made), unfolding(crate::specs::ReadStatements::label_at))]
+fn label<'a>(input: Input<'a>) -> Result<(Label, Input<'a>), Stop>
+    ensures { Gives (λ x. (label_outline x.0, ahead x.1)) result (label_at (ahead input.entry)) }
+{
+    match input.next() {
+        Some((Leaf::Name(number), rest)) => {
+            let (name, rest) = qualident_after(number, rest)?;
+            Ok((Label::Name(name), rest))
+        }
+        Some((Leaf::Value(Literal::Integer, number), rest)) => Ok((Label::Integer(number), rest)),
+        Some((Leaf::Value(Literal::Text, number), rest)) => Ok((Label::Text(number), rest)),
+        _ => Err(Stop::Wrong(input.number())),
+    }
+}
+
+/// A label, or two with two dots between them.
+#[tactic(auto, using(crate::proofs::StatementSteps::made), unfolding(crate::specs::ReadStatements::label_range_at))]
+fn label_range<'a>(input: Input<'a>) -> Result<(LabelRange, Input<'a>), Stop>
+    ensures { Gives (λ x. (label_range_outline x.0, ahead x.1)) result (label_range_at (ahead input.entry)) }
+{
+    let (low, input) = label(input)?;
+    match accept(input, Kind::DotDot) {
+        None => Ok((LabelRange { low, high: None }, input)),
+        Some(rest) => {
+            let (high, rest) = label(rest)?;
+            Ok((
+                LabelRange {
+                    low,
+                    high: Some(high),
+                },
+                rest,
+            ))
+        }
+    }
+}
+
+/// One label range or more, with commas between them.
+#[tactic(auto, unfolding(crate::specs::Forms::several))]
+pub(crate) fn label_ranges<'a>(
+    alloc: Global,
+    input: Input<'a>,
+) -> Result<(OneOrMore<LabelRange>, Input<'a>), Stop>
+    ensures { Gives (λ x. (listed kinds.Comma label_range_outline x.0, ahead x.1)) result (several kinds.Comma label_range_at (ahead input.entry)) }
+{
+    let (first, here) = label_range(input)?;
+    let (rest, here) = more_label_ranges(alloc, here)?;
+    Ok((OneOrMore { first, rest }, here))
+}
+
+fn more_label_ranges<'a>(
+    alloc: Global,
+    input: Input<'a>,
+) -> Result<(Vec<LabelRange>, Input<'a>), Stop>
+    ensures { Gives (λ x. (each_after kinds.Comma label_range_outline x.0.items, ahead x.1)) result (many (accept_at kinds.Comma) label_range_at (ahead input.entry)) }
+{
+    let mut rest = Vec::new(alloc);
+    let mut here = input;
+    'more: while let Some(after) = accept(here, Kind::Comma) {
+        let (next, after) = label_range(after)?;
+        rest.push(next)?;
+        here = after;
+    }
+    Ok((rest, here))
+}

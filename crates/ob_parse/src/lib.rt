@@ -1,0 +1,27 @@
+//! From the tokens of an Oberon-07 module to its syntax tree.
+//! Stands on `ob_scan` and `ob_tree`, with `thiserror` for its faults.
+//! Its contract: the one tree that derives the tokens, of at most 200 levels and with right END names, or why there is none.
+#![tactic(auto)]
+
+mod declarations;
+mod ends;
+mod expressions;
+mod fault;
+mod input;
+mod labels;
+pub mod laws;
+mod modules;
+mod names;
+mod operators;
+mod parameters;
+mod parser;
+mod statements;
+mod stop;
+mod symbols;
+mod types;
+
+pub use fault::ParseFault;
+pub use parser::parse;
+
+#[cfg(test)]
+mod tests;

@@ -1,0 +1,67 @@
+//! Names (Oberon-07 report, section 4).
+
+ghost use Rattle.std.specs.Prelude.{◌≡◌, Ok};
+ghost use Rattle.ob_scan.specs.declared.kind.Kind.TheVariants as kinds;
+ghost use Rattle.ob_tree.specs.Marks.{word, if_so};
+ghost use Rattle.ob_tree.specs.Names.{qualident_outline, identdef_outline};
+ghost use Rattle.ob_parse.specs.Forms.{accept_at, nothing, optional};
+ghost use Rattle.ob_parse.specs.Gives.{Gives, ahead};
+ghost use Rattle.ob_parse.specs.ReadNames as readers;
+
+use crate::input::Input;
+use crate::stop::Stop;
+use crate::symbols::{accept, identifier};
+use ob_scan::Kind;
+use ob_tree::name::{Identdef, Qualident};
+
+/// A qualified identifier, behind its first name.
+#[tactic(auto, unfolding(ob_tree::specs::Names::qualident_outline, crate::specs::ReadNames::qualident_after, crate::specs::Forms::name_at))]
+pub(crate) fn qualident_after<'a>(
+    head: u32,
+    input: Input<'a>,
+) -> Result<(Qualident, Input<'a>), Stop>
+    ensures { Gives (λ x. (qualident_outline x.0, ahead x.1)) result (readers.qualident_after head (ahead input.entry)) }
+{
+    match accept(input, Kind::Dot) {
+        None => Ok((Qualident { head, member: None }, input)),
+        Some(rest) => {
+            let (member, rest) = identifier(rest)?;
+            Ok((
+                Qualident {
+                    head,
+                    member: Some(member),
+                },
+                rest,
+            ))
+        }
+    }
+}
+
+/// A qualified identifier.
+#[tactic(auto, unfolding(crate::specs::ReadNames::qualident_after, crate::specs::ReadNames::qualident_at, crate::specs::Forms::name_at))]
+pub(crate) fn qualident<'a>(input: Input<'a>) -> Result<(Qualident, Input<'a>), Stop>
+    ensures { Gives (λ x. (qualident_outline x.0, ahead x.1)) result (readers.qualident_at (ahead input.entry)) }
+{
+    let (head, rest) = identifier(input)?;
+    qualident_after(head, rest)
+}
+
+/// Whether a star stands here, and the tokens behind it.
+pub(crate) fn star<'a>(input: Input<'a>) -> (bool, Input<'a>)
+    ensures { Ok (if_so result.0 (word kinds.Star), ahead result.1) ≡ optional (accept_at kinds.Star) nothing (ahead input.entry) }
+{
+    match accept(input, Kind::Star) {
+        None => (false, input),
+        Some(rest) => (true, rest),
+    }
+}
+
+/// A declaring identifier.
+#[tactic(auto, unfolding(ob_tree::specs::Names::identdef_outline, crate::specs::ReadNames::identdef_at, crate::specs::Forms::name_at))]
+pub(crate) fn identdef<'a>(input: Input<'a>) -> Result<(Identdef, Input<'a>), Stop>
+    ensures { Gives (λ x. (identdef_outline x.0, ahead x.1)) result (readers.identdef_at (ahead input.entry)) }
+{
+    let (name, rest) = identifier(input)?;
+    let (starred, rest) = star(rest);
+    Ok((Identdef { name, starred }, rest))
+}

@@ -1,0 +1,115 @@
+//! Operators, and the tokens that expressions and their parts begin with (Oberon-07 report, section 8).
+
+ghost use Rattle.std.specs.Prelude.{◌≡◌, Ok};
+ghost use Rattle.ob_tree.specs.Marks.{word, if_there};
+ghost use Rattle.ob_tree.specs.Expressions.{sign_kind};
+ghost use Rattle.ob_parse.specs.Front.{uncons, front};
+ghost use Rattle.ob_parse.specs.Forms.{nothing, optional};
+ghost use Rattle.ob_parse.specs.Gives.{ahead, seen};
+ghost use Rattle.ob_parse.specs.ReadExpressions.{relation_at, add_at, mul_at, sign_start, expr_first, factor_first, selector_first};
+
+use crate::input::Input;
+use ob_scan::Kind;
+use ob_tree::expression::{AddOperator, MulOperator, Relation, Sign};
+use ob_tree::token::Leaf;
+
+/// The relation that stands here, if one does.
+#[tactic(auto, unfolding(crate::specs::ReadExpressions::relation_at))]
+pub(crate) fn relation<'a>(input: Input<'a>) -> Option<(Relation, Input<'a>)>
+    ensures { seen result ≡ relation_at (ahead input.entry) }
+{
+    let (leaf, rest) = input.next()?;
+    let relation = match leaf {
+        Leaf::Word(Kind::Equals) => Relation::Equal,
+        Leaf::Word(Kind::Hash) => Relation::Unequal,
+        Leaf::Word(Kind::Less) => Relation::Less,
+        Leaf::Word(Kind::LessEquals) => Relation::LessEqual,
+        Leaf::Word(Kind::Greater) => Relation::Greater,
+        Leaf::Word(Kind::GreaterEquals) => Relation::GreaterEqual,
+        Leaf::Word(Kind::In) => Relation::In,
+        Leaf::Word(Kind::Is) => Relation::Is,
+        _ => return None,
+    };
+    Some((relation, rest))
+}
+
+/// The sign that stands here, if one does, and the tokens behind it.
+#[tactic(auto, unfolding(crate::specs::ReadExpressions::sign_at))]
+pub(crate) fn sign<'a>(input: Input<'a>) -> (Option<Sign>, Input<'a>)
+    ensures { Ok (if_there (λ x. word (sign_kind x)) result.0, ahead result.1) ≡ optional sign_start nothing (ahead input.entry) }
+{
+    match input.next() {
+        Some((Leaf::Word(Kind::Plus), rest)) => (Some(Sign::Plus), rest),
+        Some((Leaf::Word(Kind::Minus), rest)) => (Some(Sign::Minus), rest),
+        _ => (None, input),
+    }
+}
+
+/// The operator between terms that stands here, if one does.
+#[tactic(auto, unfolding(crate::specs::ReadExpressions::add_at))]
+pub(crate) fn add_operator<'a>(input: Input<'a>) -> Option<(AddOperator, Input<'a>)>
+    ensures { seen result ≡ add_at (ahead input.entry) }
+{
+    match input.next() {
+        Some((Leaf::Word(Kind::Plus), rest)) => Some((AddOperator::Plus, rest)),
+        Some((Leaf::Word(Kind::Minus), rest)) => Some((AddOperator::Minus, rest)),
+        Some((Leaf::Word(Kind::Or), rest)) => Some((AddOperator::Or, rest)),
+        _ => None,
+    }
+}
+
+/// The operator between factors that stands here, if one does.
+#[tactic(auto, unfolding(crate::specs::ReadExpressions::mul_at))]
+pub(crate) fn mul_operator<'a>(input: Input<'a>) -> Option<(MulOperator, Input<'a>)>
+    ensures { seen result ≡ mul_at (ahead input.entry) }
+{
+    match input.next() {
+        Some((Leaf::Word(Kind::Star), rest)) => Some((MulOperator::Times, rest)),
+        Some((Leaf::Word(Kind::Slash), rest)) => Some((MulOperator::Divide, rest)),
+        Some((Leaf::Word(Kind::Div), rest)) => Some((MulOperator::Div, rest)),
+        Some((Leaf::Word(Kind::Mod), rest)) => Some((MulOperator::Mod, rest)),
+        Some((Leaf::Word(Kind::Ampersand), rest)) => Some((MulOperator::And, rest)),
+        _ => None,
+    }
+}
+
+/// Whether a selector begins here.
+pub(crate) fn begins_selector<'a>(input: Input<'a>) -> bool
+    ensures { result ≡ front selector_first (uncons (ahead input.entry)) }
+{
+    match input.next() {
+        Some((Leaf::Word(Kind::Dot), _)) => true,
+        Some((Leaf::Word(Kind::LeftBracket), _)) => true,
+        Some((Leaf::Word(Kind::Caret), _)) => true,
+        Some((Leaf::Word(Kind::LeftParen), _)) => true,
+        _ => false,
+    }
+}
+
+/// Whether a factor begins here.
+pub(crate) fn begins_factor<'a>(input: Input<'a>) -> bool
+    ensures { result ≡ front factor_first (uncons (ahead input.entry)) }
+{
+    match input.next() {
+        Some((Leaf::Name(_), _)) => true,
+        Some((Leaf::Value(_, _), _)) => true,
+        Some((Leaf::Word(Kind::Nil), _)) => true,
+        Some((Leaf::Word(Kind::True), _)) => true,
+        Some((Leaf::Word(Kind::False), _)) => true,
+        Some((Leaf::Word(Kind::LeftBrace), _)) => true,
+        Some((Leaf::Word(Kind::LeftParen), _)) => true,
+        Some((Leaf::Word(Kind::Tilde), _)) => true,
+        _ => false,
+    }
+}
+
+/// Whether an expression begins here.
+pub(crate) fn begins_expression<'a>(input: Input<'a>) -> bool
+    ensures { result ≡ front expr_first (uncons (ahead input.entry)) }
+{
+    match input.next() {
+        Some((Leaf::Word(Kind::Plus), _)) => true,
+        Some((Leaf::Word(Kind::Minus), _)) => true,
+        _ => begins_factor(input),
+    }
+}

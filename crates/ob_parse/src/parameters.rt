@@ -1,0 +1,166 @@
+//! Formal parameters.
+
+ghost use Rattle.std.specs.Prelude.{◌++◌};
+ghost use Rattle.ob_scan.specs.declared.kind.Kind.TheVariants as kinds;
+ghost use Rattle.ob_tree.specs.Marks.{word, declared, if_there, if_so, each_after, listed, times};
+ghost use Rattle.ob_tree.specs.Names.{qualident_outline};
+ghost use Rattle.ob_tree.specs.Types.{section_outline, parameters_outline};
+ghost use Rattle.ob_parse.specs.Forms.{optional, accept_at, expect_at, name_at, nothing, many, several, unless};
+ghost use Rattle.ob_parse.specs.ReadNames.{qualident_at};
+ghost use Rattle.ob_parse.specs.ReadTypes.{section_at, parameters_at, some_parameters_at};
+ghost use Rattle.ob_parse.specs.Gives.{Gives, ahead};
+
+use crate::input::Input;
+use crate::names::qualident;
+use crate::stop::Stop;
+use crate::symbols::{accept, expect, identifier, is_at};
+use ob_scan::Kind;
+use ob_tree::declaration::{Parameters, Section};
+use ob_tree::name::{OneOrMore, Qualident};
+use std::alloc::Global;
+
+/// The name of a parameter.
+#[tactic(auto, unfolding(crate::specs::Forms::name_at))]
+fn name<'a>(input: Input<'a>) -> Result<(u32, Input<'a>), Stop>
+    ensures { Gives (λ x. (declared x.0, ahead x.1)) result (name_at declared (ahead input.entry)) }
+{
+    identifier(input)
+}
+
+/// The names of parameters behind the first: each after a comma.
+fn more_names<'a>(alloc: Global, input: Input<'a>) -> Result<(Vec<u32>, Input<'a>), Stop>
+    ensures { Gives (λ x. (each_after kinds.Comma declared x.0.items, ahead x.1)) result (many (accept_at kinds.Comma) (name_at declared) (ahead input.entry)) }
+{
+    let mut rest = Vec::new(alloc);
+    let mut here = input;
+    'more: while let Some(after) = accept(here, Kind::Comma) {
+        let (next, after) = name(after)?;
+        rest.push(next)?;
+        here = after;
+    }
+    Ok((rest, here))
+}
+
+/// The names of parameters.
+#[tactic(auto, unfolding(crate::specs::Forms::several))]
+fn names<'a>(alloc: Global, input: Input<'a>) -> Result<(OneOrMore<u32>, Input<'a>), Stop>
+    ensures { Gives (λ x. (listed kinds.Comma declared x.0, ahead x.1)) result (several kinds.Comma (name_at declared) (ahead input.entry)) }
+{
+    let (first, here) = name(input)?;
+    let (rest, here) = more_names(alloc, here)?;
+    Ok((OneOrMore { first, rest }, here))
+}
+
+/// How often ARRAY OF stands here.
+fn open_arrays<'a>(input: Input<'a>) -> Result<(u32, Input<'a>), Stop>
+    ensures { Gives (λ x. (times x.0 (word kinds.Array ++ word kinds.Of), ahead x.1)) result (many (accept_at kinds.Array) (expect_at kinds.Of) (ahead input.entry)) }
+{
+    let mut count = 0;
+    let mut here = input;
+    'more: while let Some(after) = accept(here, Kind::Array) {
+        here = expect(after, Kind::Of)?;
+        count += 1;
+    }
+    Ok((count, here))
+}
+
+/// Whether VAR stands here, and what follows.
+fn variable<'a>(input: Input<'a>) -> Result<(bool, Input<'a>), Stop>
+    ensures { Gives (λ x. (if_so x.0 (word kinds.Var), ahead x.1)) result (optional (accept_at kinds.Var) nothing (ahead input.entry)) }
+{
+    match accept(input, Kind::Var) {
+        Some(rest) => Ok((true, rest)),
+        None => Ok((false, input)),
+    }
+}
+
+/// Parameters of one formal type.
+#[tactic(auto, using(ob_tree::proofs::TypeLayers::types_made), unfolding(crate::specs::ReadTypes::section_at))]
+fn section<'a>(alloc: Global, input: Input<'a>) -> Result<(Section, Input<'a>), Stop>
+    ensures { Gives (λ x. (section_outline x.0, ahead x.1)) result (section_at (ahead input.entry)) }
+{
+    let (variable, here) = variable(input)?;
+    let (names, here) = names(alloc, here)?;
+    let here = expect(here, Kind::Colon)?;
+    let (open_arrays, here) = open_arrays(here)?;
+    let (of, here) = qualident(here)?;
+    Ok((
+        Section {
+            variable,
+            names,
+            open_arrays,
+            of,
+        },
+        here,
+    ))
+}
+
+/// Sections behind the first: each after a semicolon.
+fn more_sections<'a>(alloc: Global, input: Input<'a>) -> Result<(Vec<Section>, Input<'a>), Stop>
+    ensures { Gives (λ x. (each_after kinds.Semicolon section_outline x.0.items, ahead x.1)) result (many (accept_at kinds.Semicolon) section_at (ahead input.entry)) }
+{
+    let mut rest = Vec::new(alloc);
+    let mut here = input;
+    'more: while let Some(after) = accept(here, Kind::Semicolon) {
+        let (next, after) = section(alloc, after)?;
+        rest.push(next)?;
+        here = after;
+    }
+    Ok((rest, here))
+}
+
+/// The sections of formal parameters, up to the parenthesis that closes them.
+#[tactic(auto, unfolding(crate::specs::Forms::several, crate::specs::Forms::unless))]
+fn sections<'a>(
+    alloc: Global,
+    input: Input<'a>,
+) -> Result<(Option<OneOrMore<Section>>, Input<'a>), Stop>
+    ensures { Gives (λ x. (if_there (listed kinds.Semicolon section_outline) x.0, ahead x.1)) result (optional (unless kinds.RightParen) (several kinds.Semicolon section_at) (ahead input.entry)) }
+{
+    if is_at(input, Kind::RightParen) {
+        return Ok((None, input));
+    }
+    let (first, here) = section(alloc, input)?;
+    let (rest, here) = more_sections(alloc, here)?;
+    Ok((Some(OneOrMore { first, rest }), here))
+}
+
+/// The type of a result.
+fn result_type<'a>(input: Input<'a>) -> Result<(Option<Qualident>, Input<'a>), Stop>
+    ensures { Gives (λ x. (if_there (λ q. word kinds.Colon ++ qualident_outline q) x.0, ahead x.1)) result (optional (accept_at kinds.Colon) qualident_at (ahead input.entry)) }
+{
+    match accept(input, Kind::Colon) {
+        Some(rest) => {
+            let (of, rest) = qualident(rest)?;
+            Ok((Some(of), rest))
+        }
+        None => Ok((None, input)),
+    }
+}
+
+/// Formal parameters.
+#[tactic(auto, using(ob_tree::proofs::TypeLayers::types_made), unfolding(crate::specs::ReadTypes::parameters_at))]
+fn parameters<'a>(alloc: Global, input: Input<'a>) -> Result<(Parameters, Input<'a>), Stop>
+    ensures { Gives (λ x. (parameters_outline x.0, ahead x.1)) result (parameters_at (ahead input.entry)) }
+{
+    let here = expect(input, Kind::LeftParen)?;
+    let (sections, here) = sections(alloc, here)?;
+    let here = expect(here, Kind::RightParen)?;
+    let (result, here) = result_type(here)?;
+    Ok((Parameters { sections, result }, here))
+}
+
+/// Formal parameters, if they stand here.
+#[tactic(auto, unfolding(crate::specs::Forms::begins, crate::specs::ReadTypes::some_parameters_at))]
+pub(crate) fn some_parameters<'a>(
+    alloc: Global,
+    input: Input<'a>,
+) -> Result<(Option<Parameters>, Input<'a>), Stop>
+    ensures { Gives (λ x. (if_there parameters_outline x.0, ahead x.1)) result (some_parameters_at (ahead input.entry)) }
+{
+    if is_at(input, Kind::LeftParen) {
+        let (parameters, here) = parameters(alloc, input)?;
+        return Ok((Some(parameters), here));
+    }
+    Ok((None, input))
+}

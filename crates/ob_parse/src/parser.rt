@@ -1,0 +1,82 @@
+//! The tree of a text.
+
+ghost use Rattle.std.specs.Prelude.{◌≡◌, ◌<◌, ◌^◌, length, map, slice_get, IfOk, IfErr};
+ghost use Rattle.std.specs.List.{All};
+ghost use Rattle.ob_scan.specs.Spelling.{IsOutcome, Reads};
+ghost use Rattle.ob_tree.specs.Declaring.{module_outline};
+ghost use Rattle.ob_tree.specs.Derives.{spelling};
+ghost use Rattle.ob_tree.specs.Leaves.{leaves};
+ghost use Rattle.ob_parse.specs.Gives.{Gives};
+ghost use Rattle.ob_parse.specs.Ends.{start_or, told};
+ghost use Rattle.ob_parse.specs.Parsed.{IsTheTree, IsFaultOf, kinds_of};
+ghost use Rattle.ob_parse.specs.ReadModules.{all_of};
+
+use crate::ParseFault;
+use crate::ends::wrong_end;
+use crate::input::Input;
+use crate::modules::whole;
+use crate::stop::Stop;
+use ob_scan::{Token, Tokens};
+use ob_tree::declaration::Module;
+use ob_tree::walkers::endings;
+use std::alloc::Global;
+
+/// How many procedure declarations, types, statements that are not empty, expressions and factors after `~` may hold one another.
+const DEEPEST: u32 = 200;
+
+fn tree_of(alloc: Global, tokens: &[Token]) -> Result<Module, Stop>
+    requires { length tokens.now < 2 ^ 32 }
+    ensures { Gives module_outline result (all_of 200 (leaves 0 (kinds_of tokens.now))) }
+{
+    whole(alloc, Input::new(tokens), DEEPEST)
+}
+
+/// The offset of the token of this number, or the text's length where there is none.
+fn offset_of(end: u32, tokens: &[Token], number: u32) -> u32
+    ensures { result ≡ start_or end (slice_get tokens.now number) }
+{
+    match tokens.get(number as usize) {
+        None => end,
+        Some(token) => token.start,
+    }
+}
+
+fn fault_of(end: u32, tokens: &[Token], stop: Stop) -> ParseFault
+    ensures { result ≡ told end tokens.now stop }
+{
+    match stop {
+        Stop::Wrong(number) => ParseFault::Syntax {
+            offset: offset_of(end, tokens, number),
+        },
+        Stop::Deep(number) => ParseFault::TooDeep {
+            offset: offset_of(end, tokens, number),
+        },
+        Stop::Memory => ParseFault::Memory,
+    }
+}
+
+/// The syntax tree of the tokens of a text of these bytes (Oberon-07 report, appendix).
+///
+/// Syntax is answered where no tree derives the tokens, TooDeep only where none of at most 200 levels does, and EndName
+/// where the tree has a wrong name after an END. Which tokens' offsets Syntax and TooDeep have is tested, not proved.
+pub fn parse(alloc: Global, bytes: &[u8], tokens: &Tokens) -> Result<Module, ParseFault>
+    // The tokens are those of the bytes.
+    requires { IsOutcome bytes.now (Reads tokens.now) }
+    // The tree derives them, no other does, it has at most 200 levels, and its names after END are right.
+    ensures tree { IfOk result (IsTheTree bytes.now tokens.now) }
+    // It has so few tokens that each has a number of 32 bits.
+    ensures few { IfOk result (λ tree. length (spelling tree) < 2 ^ 32) }
+    // The fault is so.
+    ensures fault { IfErr result (IsFaultOf bytes.now tokens.now) }
+{
+    let tokens = tokens.as_slice();
+    let tree = match tree_of(alloc, tokens) {
+        Ok(tree) => tree,
+        Err(stop) => return Err(fault_of(bytes.len() as u32, tokens, stop)),
+    };
+    let ends = endings(alloc, &tree)?;
+    match wrong_end(bytes, tokens, ends.as_slice()) {
+        None => Ok(tree),
+        Some(offset) => Err(ParseFault::EndName { offset }),
+    }
+}

@@ -1,0 +1,363 @@
+//! Statements (Oberon-07 report, section 9).
+
+ghost use Rattle.std.specs.Prelude.{◌≡◌, ◌++◌};
+ghost use Rattle.ob_parse.specs.Forms.{accept_at, expect_at, many, node, optional, prefixed, seq};
+ghost use Rattle.ob_parse.specs.Front.{uncons, front};
+ghost use Rattle.ob_parse.specs.Gives.{Gives, ahead};
+ghost use Rattle.ob_parse.specs.ReadExpressions.{expr_at};
+ghost use Rattle.ob_parse.specs.ReadStatements.{assign_with, block_at, branch_with, case_with, cases_with, for_with, if_with, repeat_with, statement_at, statement_first, statement_with, while_with};
+ghost use Rattle.ob_scan.specs.declared.kind.Kind.TheVariants as kinds;
+ghost use Rattle.ob_tree.specs.Constructs as constructs;
+ghost use Rattle.ob_tree.specs.Expressions.{expr_outline};
+ghost use Rattle.ob_tree.specs.Marks.{each_after, if_there, word};
+ghost use Rattle.ob_tree.specs.Statements.{block_outline, branch_outline, case_outline, stmt_outline};
+
+use crate::expressions::{designator, expression};
+use crate::input::Input;
+use crate::labels::{begins_label, label_ranges};
+use crate::stop::Stop;
+use crate::symbols::{accept, expect, identifier};
+use ob_scan::Kind;
+use ob_tree::expression::Expr;
+use ob_tree::statement::{Block, Branch, Case, For, Stmt};
+use ob_tree::token::Leaf;
+use std::alloc::Global;
+
+/// Whether a statement that isn't empty begins here.
+fn begins_statement<'a>(input: Input<'a>) -> bool
+    ensures { result ≡ front statement_first (uncons (ahead input.entry)) }
+{
+    match input.next() {
+        Some((Leaf::Name(_), _)) => true,
+        Some((Leaf::Word(Kind::If), _)) => true,
+        Some((Leaf::Word(Kind::Case), _)) => true,
+        Some((Leaf::Word(Kind::While), _)) => true,
+        Some((Leaf::Word(Kind::Repeat), _)) => true,
+        Some((Leaf::Word(Kind::For), _)) => true,
+        _ => false,
+    }
+}
+
+/// An empty statement, where the depth is used up.
+#[tactic(auto, using(crate::proofs::StatementSteps::made), unfolding(crate::specs::ReadStatements::statement_at, crate::specs::ReadStatements::empty_at))]
+fn empty_statement<'a>(input: Input<'a>) -> Result<(Stmt, Input<'a>), Stop>
+    ensures { Gives (λ x. (stmt_outline x.0, ahead x.1)) result (statement_at 0 (ahead input.entry)) }
+{
+    if begins_statement(input) {
+        Err(Stop::Deep(input.number()))
+    } else {
+        Ok((Stmt::Empty, input))
+    }
+}
+
+/// A statement, with at most so many levels in it, itself one of them.
+#[cycle(statements)]
+#[tactic(auto, unfolding(crate::specs::ReadStatements::statement_at))]
+pub(crate) fn statement<'a>(
+    alloc: Global,
+    input: Input<'a>,
+    depth: u32,
+) -> Result<(Stmt, Input<'a>), Stop>
+    ensures { Gives (λ x. (stmt_outline x.0, ahead x.1)) result (statement_at depth (ahead input.entry)) }
+{
+    if depth == 0 {
+        empty_statement(input)
+    } else {
+        statement_over(alloc, input, depth - 1)
+    }
+}
+
+/// A statement whose parts have at most so many levels in them.
+#[cycle(statements)]
+#[tactic(auto, using(crate::proofs::StatementSteps::made), unfolding(crate::specs::ReadStatements::statement_with))]
+fn statement_over<'a>(
+    alloc: Global,
+    input: Input<'a>,
+    depth: u32,
+) -> Result<(Stmt, Input<'a>), Stop>
+    ensures { Gives (λ x. (stmt_outline x.0, ahead x.1)) result (statement_with (expr_at depth) (block_at depth) (ahead input.entry)) }
+{
+    match input.next() {
+        Some((Leaf::Name(number), rest)) => assignment(alloc, number, rest, depth),
+        Some((Leaf::Word(Kind::If), rest)) => if_statement(alloc, rest, depth),
+        Some((Leaf::Word(Kind::Case), rest)) => case_statement(alloc, rest, depth),
+        Some((Leaf::Word(Kind::While), rest)) => while_statement(alloc, rest, depth),
+        Some((Leaf::Word(Kind::Repeat), rest)) => repeat_statement(alloc, rest, depth),
+        Some((Leaf::Word(Kind::For), rest)) => for_statement(alloc, rest, depth),
+        _ => Ok((Stmt::Empty, input)),
+    }
+}
+
+/// An assignment or a call, behind its first identifier.
+#[tactic(auto, using(crate::proofs::StatementSteps::made), unfolding(crate::specs::ReadStatements::assign_with))]
+fn assignment<'a>(
+    alloc: Global,
+    head: u32,
+    input: Input<'a>,
+    depth: u32,
+) -> Result<(Stmt, Input<'a>), Stop>
+    ensures { Gives (λ x. (stmt_outline x.0, ahead x.1)) result (node constructs.Statement (assign_with (expr_at depth) head) (ahead input.entry)) }
+{
+    let (target, input) = designator(alloc, head, input, depth)?;
+    match accept(input, Kind::Assign) {
+        None => Ok((Stmt::Call(target), input)),
+        Some(rest) => {
+            let (value, rest) = expression(alloc, rest, depth)?;
+            Ok((Stmt::Assign(target, value), rest))
+        }
+    }
+}
+
+/// Statements with semicolons between them.
+#[cycle(statements)]
+#[tactic(auto, using(crate::proofs::StatementSteps::made), unfolding(crate::specs::ReadStatements::block_with, crate::specs::Forms::several))]
+pub(crate) fn block<'a>(
+    alloc: Global,
+    input: Input<'a>,
+    depth: u32,
+) -> Result<(Block, Input<'a>), Stop>
+    ensures { Gives (λ x. (block_outline x.0, ahead x.1)) result (block_at depth (ahead input.entry)) }
+{
+    let (first, here) = statement(alloc, input, depth)?;
+    let (rest, here) = more_statements(alloc, here, depth)?;
+    Ok((Block { first, rest }, here))
+}
+
+#[cycle(statements)]
+fn more_statements<'a>(
+    alloc: Global,
+    input: Input<'a>,
+    depth: u32,
+) -> Result<(Vec<Stmt>, Input<'a>), Stop>
+    ensures { Gives (λ x. (each_after kinds.Semicolon stmt_outline x.0.items, ahead x.1)) result (many (accept_at kinds.Semicolon) (statement_at depth) (ahead input.entry)) }
+{
+    let mut rest = Vec::new(alloc);
+    let mut here = input;
+    'more: while let Some(after) = accept(here, Kind::Semicolon) {
+        let (next, after) = statement(alloc, after, depth)?;
+        rest.push(next)?;
+        here = after;
+    }
+    Ok((rest, here))
+}
+
+/// A condition and the statements after it, with a keyword between them.
+#[cycle(statements)]
+#[tactic(auto, using(crate::proofs::StatementSteps::made), unfolding(crate::specs::ReadStatements::branch_with))]
+fn branch<'a>(
+    alloc: Global,
+    input: Input<'a>,
+    depth: u32,
+    keyword: Kind,
+) -> Result<(Branch, Input<'a>), Stop>
+    ensures { Gives (λ x. (branch_outline x.0 keyword, ahead x.1)) result (branch_with (expr_at depth) (block_at depth) keyword (ahead input.entry)) }
+{
+    let (condition, input) = expression(alloc, input, depth)?;
+    let input = expect(input, keyword)?;
+    let (body, input) = block(alloc, input, depth)?;
+    Ok((Branch { condition, body }, input))
+}
+
+#[cycle(statements)]
+fn more_branches<'a>(
+    alloc: Global,
+    input: Input<'a>,
+    depth: u32,
+    keyword: Kind,
+) -> Result<(Vec<Branch>, Input<'a>), Stop>
+    ensures { Gives (λ x. (each_after kinds.Elsif (λ b. branch_outline b keyword) x.0.items, ahead x.1)) result
+        (many (accept_at kinds.Elsif) (branch_with (expr_at depth) (block_at depth) keyword) (ahead input.entry)) }
+{
+    let mut rest = Vec::new(alloc);
+    let mut here = input;
+    'more: while let Some(after) = accept(here, Kind::Elsif) {
+        let (next, after) = branch(alloc, after, depth, keyword)?;
+        rest.push(next)?;
+        here = after;
+    }
+    Ok((rest, here))
+}
+
+/// The statements after ELSE, if it stands here.
+#[cycle(statements)]
+fn otherwise<'a>(
+    alloc: Global,
+    input: Input<'a>,
+    depth: u32,
+) -> Result<(Option<Box<Block>>, Input<'a>), Stop>
+    ensures { Gives (λ x. (if_there (λ b. word kinds.Else ++ block_outline b.value) x.0, ahead x.1)) result (optional (accept_at kinds.Else) (block_at depth) (ahead input.entry)) }
+{
+    match accept(input, Kind::Else) {
+        None => Ok((None, input)),
+        Some(rest) => {
+            let (body, rest) = block(alloc, rest, depth)?;
+            Ok((Some(Box::new(alloc, body)?), rest))
+        }
+    }
+}
+
+/// What stands behind IF.
+#[cycle(statements)]
+#[tactic(auto, using(crate::proofs::StatementSteps::made), unfolding(crate::specs::ReadStatements::if_with))]
+fn if_statement<'a>(alloc: Global, input: Input<'a>, depth: u32) -> Result<(Stmt, Input<'a>), Stop>
+    ensures { Gives (λ x. (stmt_outline x.0, ahead x.1)) result (node constructs.Statement (prefixed (word kinds.If) (if_with (expr_at depth) (block_at depth))) (ahead input.entry)) }
+{
+    let (first, input) = branch(alloc, input, depth, Kind::Then)?;
+    let (rest, input) = more_branches(alloc, input, depth, Kind::Then)?;
+    let (otherwise, input) = otherwise(alloc, input, depth)?;
+    let input = expect(input, Kind::End)?;
+    Ok((Stmt::If(Box::new(alloc, first)?, rest, otherwise), input))
+}
+
+/// What stands behind CASE.
+#[cycle(statements)]
+#[tactic(auto, using(crate::proofs::StatementSteps::made), unfolding(crate::specs::ReadStatements::cases_with))]
+fn case_statement<'a>(
+    alloc: Global,
+    input: Input<'a>,
+    depth: u32,
+) -> Result<(Stmt, Input<'a>), Stop>
+    ensures { Gives (λ x. (stmt_outline x.0, ahead x.1)) result (node constructs.Statement (prefixed (word kinds.Case) (cases_with (expr_at depth) (block_at depth))) (ahead input.entry)) }
+{
+    let (value, input) = expression(alloc, input, depth)?;
+    let input = expect(input, Kind::Of)?;
+    let (first, input) = case(alloc, input, depth)?;
+    let (rest, input) = more_cases(alloc, input, depth)?;
+    let input = expect(input, Kind::End)?;
+    Ok((Stmt::Case(value, Box::new(alloc, first)?, rest), input))
+}
+
+/// One case, which may be empty.
+#[cycle(statements)]
+#[tactic(auto, using(crate::proofs::StatementSteps::made), unfolding(crate::specs::ReadStatements::case_with, crate::specs::Forms::begins))]
+fn case<'a>(alloc: Global, input: Input<'a>, depth: u32) -> Result<(Case, Input<'a>), Stop>
+    ensures { Gives (λ x. (case_outline x.0, ahead x.1)) result (case_with (block_at depth) (ahead input.entry)) }
+{
+    if !begins_label(input) {
+        return Ok((Case::Nothing, input));
+    }
+    let (labels, input) = label_ranges(alloc, input)?;
+    let input = expect(input, Kind::Colon)?;
+    let (body, input) = block(alloc, input, depth)?;
+    Ok((Case::Labelled(labels, Box::new(alloc, body)?), input))
+}
+
+#[cycle(statements)]
+fn more_cases<'a>(
+    alloc: Global,
+    input: Input<'a>,
+    depth: u32,
+) -> Result<(Vec<Case>, Input<'a>), Stop>
+    ensures { Gives (λ x. (each_after kinds.Bar case_outline x.0.items, ahead x.1)) result (many (accept_at kinds.Bar) (case_with (block_at depth)) (ahead input.entry)) }
+{
+    let mut rest = Vec::new(alloc);
+    let mut here = input;
+    'more: while let Some(after) = accept(here, Kind::Bar) {
+        let (next, after) = case(alloc, after, depth)?;
+        rest.push(next)?;
+        here = after;
+    }
+    Ok((rest, here))
+}
+
+/// What stands behind WHILE.
+#[cycle(statements)]
+#[tactic(auto, using(crate::proofs::StatementSteps::made), unfolding(crate::specs::ReadStatements::while_with))]
+fn while_statement<'a>(
+    alloc: Global,
+    input: Input<'a>,
+    depth: u32,
+) -> Result<(Stmt, Input<'a>), Stop>
+    ensures { Gives (λ x. (stmt_outline x.0, ahead x.1)) result (node constructs.Statement (prefixed (word kinds.While) (while_with (expr_at depth) (block_at depth))) (ahead input.entry)) }
+{
+    let (first, input) = branch(alloc, input, depth, Kind::Do)?;
+    let (rest, input) = more_branches(alloc, input, depth, Kind::Do)?;
+    let input = expect(input, Kind::End)?;
+    Ok((Stmt::While(Box::new(alloc, first)?, rest), input))
+}
+
+/// What stands behind REPEAT.
+#[cycle(statements)]
+#[tactic(auto, using(crate::proofs::StatementSteps::made), unfolding(crate::specs::ReadStatements::repeat_with))]
+fn repeat_statement<'a>(
+    alloc: Global,
+    input: Input<'a>,
+    depth: u32,
+) -> Result<(Stmt, Input<'a>), Stop>
+    ensures { Gives (λ x. (stmt_outline x.0, ahead x.1)) result (node constructs.Statement (prefixed (word kinds.Repeat) (repeat_with (expr_at depth) (block_at depth))) (ahead input.entry)) }
+{
+    let (body, input) = block(alloc, input, depth)?;
+    let input = expect(input, Kind::Until)?;
+    let (condition, input) = expression(alloc, input, depth)?;
+    Ok((Stmt::Repeat(Box::new(alloc, body)?, condition), input))
+}
+
+/// What stands behind FOR.
+#[cycle(statements)]
+#[tactic(auto, using(crate::proofs::StatementSteps::made), unfolding(crate::specs::ReadStatements::for_with, crate::specs::Forms::name_at))]
+fn for_statement<'a>(alloc: Global, input: Input<'a>, depth: u32) -> Result<(Stmt, Input<'a>), Stop>
+    ensures { Gives (λ x. (stmt_outline x.0, ahead x.1)) result (node constructs.Statement (prefixed (word kinds.For) (for_with (expr_at depth) (block_at depth))) (ahead input.entry)) }
+{
+    let (variable, input) = identifier(input)?;
+    let input = expect(input, Kind::Assign)?;
+    let (from, input) = expression(alloc, input, depth)?;
+    let ((to, by, body), input) = for_limit(alloc, input, depth)?;
+    let statement = For {
+        variable,
+        from,
+        to,
+        by,
+        body,
+    };
+    Ok((Stmt::For(Box::new(alloc, statement)?), input))
+}
+
+/// A FOR statement from its TO on: the limit, the step and the body.
+#[cycle(statements)]
+fn for_limit<'a>(
+    alloc: Global,
+    input: Input<'a>,
+    depth: u32,
+) -> Result<((Expr, Option<Expr>, Block), Input<'a>), Stop>
+    ensures { Gives (λ x. (
+      word kinds.To ++ (expr_outline x.0.0 ++ (if_there (λ e. word kinds.By ++ expr_outline e) x.0.1
+          ++ (word kinds.Do ++ (block_outline x.0.2 ++ word kinds.End)))),
+      ahead x.1,
+    )) result
+        (seq (expect_at kinds.To) (seq (expr_at depth) (seq (optional (accept_at kinds.By) (expr_at depth))
+        (seq (expect_at kinds.Do) (seq (block_at depth) (expect_at kinds.End))))) (ahead input.entry)) }
+{
+    let input = expect(input, Kind::To)?;
+    let (to, input) = expression(alloc, input, depth)?;
+    let (by, input) = for_step(alloc, input, depth)?;
+    let (body, input) = for_body(alloc, input, depth)?;
+    Ok(((to, by, body), input))
+}
+
+/// The body of a FOR statement, between DO and END.
+#[cycle(statements)]
+fn for_body<'a>(alloc: Global, input: Input<'a>, depth: u32) -> Result<(Block, Input<'a>), Stop>
+    ensures { Gives (λ x. (word kinds.Do ++ (block_outline x.0 ++ word kinds.End), ahead x.1)) result (seq (expect_at kinds.Do) (seq (block_at depth) (expect_at kinds.End)) (ahead input.entry)) }
+{
+    let input = expect(input, Kind::Do)?;
+    let (body, input) = block(alloc, input, depth)?;
+    let input = expect(input, Kind::End)?;
+    Ok((body, input))
+}
+
+/// The step of a FOR statement after BY, if it stands here.
+fn for_step<'a>(
+    alloc: Global,
+    input: Input<'a>,
+    depth: u32,
+) -> Result<(Option<Expr>, Input<'a>), Stop>
+    ensures { Gives (λ x. (if_there (λ e. word kinds.By ++ expr_outline e) x.0, ahead x.1)) result (optional (accept_at kinds.By) (expr_at depth) (ahead input.entry)) }
+{
+    match accept(input, Kind::By) {
+        None => Ok((None, input)),
+        Some(rest) => {
+            let (step, rest) = expression(alloc, rest, depth)?;
+            Ok((Some(step), rest))
+        }
+    }
+}

@@ -1,0 +1,15 @@
+pub mod DeclarationLayers
+pub mod DeclarationWalks
+pub mod Eaches
+pub mod ExpressionLayers
+pub mod ExpressionWalks
+pub mod KindLeaves
+pub mod NameLayers
+pub mod NameWalks
+pub mod Passes
+pub mod Same
+pub mod StatementLayers
+pub mod StatementWalks
+pub mod TypeLayers
+pub mod TypeWalks
+pub mod Walks

@@ -1,0 +1,144 @@
+-- What one pass over the items of an outline finds.
+use Rattle.std.proofs.Common.{◌≡◌, ℕ, ◌+◌, ◌<◌, zero, suc, List, [], ◌∷◌, ◌++◌, Option, Some, None, length, take, get_or, refl, sym, ap, ◌∙◌, arith}
+use Rattle.std.specs.List.{range_with_len, filter_map}
+use Rattle.std.proofs.lemmas.List.{append-nil, take_all, take_more, length-take-le}
+use Rattle.std.proofs.lemmas.List.Elements.{filter_map-append}
+use Rattle.std.proofs.lemmas.Grind.{take_at_read}
+use Rattle.ob_scan.specs.declared.kind.Kind.{Kind}
+use Rattle.ob_scan.specs.declared.kind.Kind.TheVariants as kinds
+use Rattle.ob_tree.specs.declared.declaration.Module.{Module}
+use Rattle.ob_tree.specs.declared.token.Leaf.{Leaf}
+use Rattle.ob_tree.specs.declared.token.Leaf.TheVariants as leafs
+use Rattle.ob_tree.specs.declared.item.Item.{Item}
+use Rattle.ob_tree.specs.declared.item.Item.TheVariants as items
+use Rattle.ob_tree.specs.Declaring.{module_outline}
+use Rattle.ob_tree.specs.Leaves.{leaf_of, leaves}
+use Rattle.ob_tree.specs.Marks.{Out, Begins, Ends, Identifier, Value, Word, Declares, Uses, Names, Repeats, tokens_of}
+use Rattle.ob_tree.specs.Derives.{Derives, declared_in, endings_in, items_of, numbers_from, used_in, yields}
+
+-- ---- the numbers of tokens
+
+-- as many items as tokens
+pub items-length : (ms : Out) → length (items_of ms) ≡ length (tokens_of ms)
+items-length [] = refl
+items-length (Begins c n ∷ ms) = items-length ms
+items-length (Ends ∷ ms) = items-length ms
+items-length (Identifier Declares n ∷ ms) = ap suc (items-length ms)
+items-length (Identifier Uses n ∷ ms) = ap suc (items-length ms)
+items-length (Identifier Names n ∷ ms) = ap suc (items-length ms)
+items-length (Identifier (Repeats name) n ∷ ms) = ap suc (items-length ms)
+items-length (Value k n ∷ ms) = ap suc (items-length ms)
+items-length (Word k ∷ ms) = ap suc (items-length ms)
+
+-- the number of a token at this place
+abbrev number_at : ℕ → Leaf → ℕ
+number_at at (leafs.Name n) = n
+number_at at (leafs.Value k n) = n
+number_at at (leafs.Word k) = at
+
+abbrev numbers_at : ℕ → List Leaf → List ℕ
+numbers_at at [] = []
+numbers_at at (l ∷ ls) = number_at at l ∷ numbers_at (at + 1) ls
+
+item_numbers : (at : ℕ) (ms : Out) → numbers_from at (items_of ms) ≡ numbers_at at (tokens_of ms)
+item_numbers at [] = refl
+item_numbers at (Begins c n ∷ ms) = item_numbers at ms
+item_numbers at (Ends ∷ ms) = item_numbers at ms
+item_numbers at (Identifier Declares n ∷ ms) = ap (λ (ns : List ℕ). n ∷ ns) (item_numbers (at + 1) ms)
+item_numbers at (Identifier Uses n ∷ ms) = ap (λ (ns : List ℕ). n ∷ ns) (item_numbers (at + 1) ms)
+item_numbers at (Identifier Names n ∷ ms) = ap (λ (ns : List ℕ). n ∷ ns) (item_numbers (at + 1) ms)
+item_numbers at (Identifier (Repeats name) n ∷ ms) = ap (λ (ns : List ℕ). n ∷ ns) (item_numbers (at + 1) ms)
+item_numbers at (Value k n ∷ ms) = ap (λ (ns : List ℕ). n ∷ ns) (item_numbers (at + 1) ms)
+item_numbers at (Word k ∷ ms) = ap (λ (ns : List ℕ). at ∷ ns) (item_numbers (at + 1) ms)
+
+leaf_number : (at : ℕ) (k : Kind) → number_at at (leaf_of at k) ≡ at
+leaf_number at kinds.Ident = refl
+leaf_number at kinds.Integer = refl
+leaf_number at kinds.Real = refl
+leaf_number at kinds.Text = refl
+leaf_number at k = refl
+
+leaf_numbers : (at : ℕ) (ks : List Kind) → numbers_at at (leaves at ks) ≡ range_with_len at (length ks)
+leaf_numbers at [] = refl
+leaf_numbers at (k ∷ ks) = rw (leaf_number at k) (ap (λ (ns : List ℕ). at ∷ ns) (leaf_numbers (at + 1) ks))
+
+pub all_numbers : (ks : List Kind) (m : Module) → Derives ks m → yields m ≡ range_with_len 0 (length ks)
+all_numbers ks m e = item_numbers 0 (module_outline m) ∙ ap (λ (ls : List Leaf). numbers_at 0 ls) (sym e) ∙ leaf_numbers 0 ks
+
+-- ---- one more item
+
+abbrev item_number : ℕ → Item → ℕ
+item_number at (items.Declared n) = n
+item_number at (items.Used n) = n
+item_number at (items.Named n) = n
+item_number at (items.Repeated name n) = n
+item_number at (items.Value n) = n
+item_number at items.Word = at
+
+numbers-cons : (at : ℕ) (i : Item) (is : List Item) → numbers_from at (i ∷ is) ≡ item_number at i ∷ numbers_from (at + 1) is
+numbers-cons at (items.Declared n) is = refl
+numbers-cons at (items.Used n) is = refl
+numbers-cons at (items.Named n) is = refl
+numbers-cons at (items.Repeated name n) is = refl
+numbers-cons at (items.Value n) is = refl
+numbers-cons at items.Word is = refl
+
+numbers-push : (at n : ℕ) (is : List Item) (i : Item) → at + length is ≡ n → numbers_from at (is ++ i ∷ []) ≡ numbers_from at is ++ numbers_from n (i ∷ [])
+numbers-push at n [] i e = ap (λ (m : ℕ). numbers_from m (i ∷ [])) (omega arith)
+numbers-push at n (j ∷ is) i e =
+    numbers-cons at j (is ++ i ∷ [])
+    ∙ ap (λ (ns : List ℕ). item_number at j ∷ ns) (numbers-push (at + 1) n is i (omega arith))
+    ∙ ap (λ (ns : List ℕ). ns ++ numbers_from n (i ∷ [])) (sym (numbers-cons at j is))
+
+pub numbers-more : (is : List Item) (at : ℕ) (d : Item) → at < length is →
+    numbers_from 0 (take (at + 1) is) ≡ numbers_from 0 (take at is) ++ numbers_from at (get_or is at d ∷ [])
+numbers-more is at d h = rw (take_more is at d h) (numbers-push 0 at (take at is) (get_or is at d) (omega (arith, length-take-le at is (omega arith))))
+
+-- ---- the items of one sort
+
+abbrev pub declared_at : Item → Option ℕ
+declared_at (items.Declared n) = Some n
+declared_at i = None
+
+abbrev pub used_at : Item → Option ℕ
+used_at (items.Used n) = Some n
+used_at i = None
+
+abbrev pub ending_at : Item → Option (ℕ × ℕ)
+ending_at (items.Repeated name n) = Some (name, n)
+ending_at i = None
+
+pub declared-items : (ms : Out) → filter_map declared_at (items_of ms) ≡ declared_in ms
+declared-items [] = refl
+declared-items (Begins c n ∷ ms) = declared-items ms
+declared-items (Ends ∷ ms) = declared-items ms
+declared-items (Identifier Declares n ∷ ms) = ap (λ (ns : List ℕ). n ∷ ns) (declared-items ms)
+declared-items (Identifier Uses n ∷ ms) = declared-items ms
+declared-items (Identifier Names n ∷ ms) = declared-items ms
+declared-items (Identifier (Repeats name) n ∷ ms) = declared-items ms
+declared-items (Value k n ∷ ms) = declared-items ms
+declared-items (Word k ∷ ms) = declared-items ms
+
+pub used-items : (ms : Out) → filter_map used_at (items_of ms) ≡ used_in ms
+used-items [] = refl
+used-items (Begins c n ∷ ms) = used-items ms
+used-items (Ends ∷ ms) = used-items ms
+used-items (Identifier Declares n ∷ ms) = used-items ms
+used-items (Identifier Uses n ∷ ms) = ap (λ (ns : List ℕ). n ∷ ns) (used-items ms)
+used-items (Identifier Names n ∷ ms) = used-items ms
+used-items (Identifier (Repeats name) n ∷ ms) = used-items ms
+used-items (Value k n ∷ ms) = used-items ms
+used-items (Word k ∷ ms) = used-items ms
+
+pub endings-items : (ms : Out) → filter_map ending_at (items_of ms) ≡ endings_in ms
+endings-items [] = refl
+endings-items (Begins c n ∷ ms) = endings-items ms
+endings-items (Ends ∷ ms) = endings-items ms
+endings-items (Identifier Declares n ∷ ms) = endings-items ms
+endings-items (Identifier Uses n ∷ ms) = endings-items ms
+endings-items (Identifier Names n ∷ ms) = endings-items ms
+endings-items (Identifier (Repeats name) n ∷ ms) = ap (λ (ns : List (ℕ × ℕ)). (name, n) ∷ ns) (endings-items ms)
+endings-items (Value k n ∷ ms) = endings-items ms
+endings-items (Word k ∷ ms) = endings-items ms
+
+pub ruleset passes = (all_numbers, items-length, filter_map-append, take_at_read, take_all, declared-items, used-items, endings-items, append-nil)

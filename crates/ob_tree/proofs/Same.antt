@@ -1,0 +1,19 @@
+-- Kinds that are the same.
+use Rattle.std.proofs.Common.{◌≡◌, true, false, refl}
+use denote.Enum.Bare.{same_true, true_same}
+use Rattle.ob_scan.specs.contracts.kind.Kind.{the_type}
+use Rattle.ob_scan.specs.declared.kind.Kind.{Kind}
+use Rattle.ob_scan.specs.declared.kind.Kind.TheVariants as kinds
+use Rattle.ob_tree.specs.Leaves.{same_kind}
+
+pub same_is : (j k : Kind) → same_kind j k ≡ true → j ≡ k
+same_is j k e = same_true the_type _ j k e
+
+pub is_same : (k : Kind) → same_kind k k ≡ true
+is_same k = true_same the_type k k refl
+
+one : same_kind kinds.Comma kinds.Comma ≡ true
+one = refl
+
+other : same_kind kinds.Comma kinds.Colon ≡ false
+other = refl

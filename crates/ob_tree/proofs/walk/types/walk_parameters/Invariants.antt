@@ -1,0 +1,9 @@
+use Rattle.std.proofs.Common.{◌≡◌, ◌++◌, take}
+use Rattle.ob_scan.specs.declared.kind.Kind.TheVariants as kinds
+use Rattle.ob_tree.specs.Derives.{items_of}
+use Rattle.ob_tree.specs.Marks.{each_after}
+use Rattle.ob_tree.specs.Types.{section_outline}
+use Rattle.ob_tree.proofs.walk.types.walk_parameters.Given as goal
+
+abbrev pub invariant-loop-section : goal.invariant-loop-section
+invariant-loop-section l = l.out.items ≡ l.initial.out.items ++ items_of (each_after kinds.Semicolon section_outline (take l.section-index l.section-items))

@@ -1,0 +1,6 @@
+use Rattle.std.proofs.Common.{◌≡◌, take}
+use Rattle.ob_tree.specs.Derives.{numbers_from}
+use Rattle.ob_tree.proofs.walkers.yield_of.Given as goal
+
+abbrev pub invariant-loop-place : goal.invariant-loop-place
+invariant-loop-place l = l.numbers.items ≡ numbers_from 0 (take l.place l.item-items)

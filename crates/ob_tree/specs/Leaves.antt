@@ -1,0 +1,33 @@
+-- The tokens of a file as a tree keeps them.
+use Rattle.std.specs.Prelude.{ℕ, ◌+◌, List, [], ◌∷◌, Bool}
+use denote.Enum.Bare.{sameb}
+use Rattle.ob_scan.specs.contracts.kind.Kind.{the_type}
+use Rattle.ob_scan.specs.declared.kind.Kind.{Kind}
+use Rattle.ob_scan.specs.declared.kind.Kind.TheVariants as kinds
+use Rattle.ob_tree.specs.declared.expression.Literal.{Literal}
+use Rattle.ob_tree.specs.declared.expression.Literal.TheVariants as literals
+use Rattle.ob_tree.specs.declared.token.Leaf.{Leaf}
+use Rattle.ob_tree.specs.declared.token.Leaf.TheVariants.{Name, Value, Word}
+
+-- an identifier or a literal by its number, any other token by its kind
+abbrev pub leaf_of : ℕ → Kind → Leaf
+leaf_of n kinds.Ident = Name n
+leaf_of n kinds.Integer = Value literals.Integer n
+leaf_of n kinds.Real = Value literals.Real n
+leaf_of n kinds.Text = Value literals.Text n
+leaf_of n k = Word k
+
+-- the kind of a literal's token
+abbrev pub literal_kind : Literal → Kind
+literal_kind literals.Integer = kinds.Integer
+literal_kind literals.Real = kinds.Real
+literal_kind literals.Text = kinds.Text
+
+-- the tokens of these kinds, numbered from n on
+abbrev pub leaves : ℕ → List Kind → List Leaf
+leaves n [] = []
+leaves n (k ∷ ks) = leaf_of n k ∷ leaves (n + 1) ks
+
+-- whether two kinds are one
+abbrev pub same_kind : Kind → Kind → Bool
+same_kind = sameb the_type

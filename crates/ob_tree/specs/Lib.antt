@@ -1,0 +1,9 @@
+pub mod Constructs
+pub mod Declaring
+pub mod Derives
+pub mod Expressions
+pub mod Leaves
+pub mod Marks
+pub mod Names
+pub mod Statements
+pub mod Types

@@ -1,0 +1,89 @@
+-- An outline: a tree as a list of marks, which are its tokens in order and where each construct begins and ends.
+use Rattle.std.specs.Prelude.{ℕ, zero, suc, max, Bool, if◌then◌else◌, List, [], ◌∷◌, ◌++◌, Option, Some, None}
+use Rattle.ob_scan.specs.declared.kind.Kind.{Kind}
+use Rattle.ob_tree.specs.declared.expression.Literal.{Literal}
+use Rattle.ob_tree.specs.declared.name.OneOrMore.{OneOrMore}
+use Rattle.ob_tree.specs.declared.token.Leaf.{Leaf}
+use Rattle.ob_tree.specs.declared.token.Leaf.TheVariants as leafs
+use Rattle.ob_tree.specs.Constructs.{Construct, is_level}
+
+-- what an identifier does where it stands
+pub data Role : Type 0 where
+  Declares : Role
+  Uses : Role  -- a name that is looked up: a head, a label's name, the variable of a FOR
+  Names : Role  -- any other name: of a module, or behind a dot
+  Repeats : ℕ → Role  -- the name after END, which has to be that of this identifier
+
+pub data Mark : Type 0 where
+  Begins : Construct → ℕ → Mark  -- a construct of so many levels
+  Ends : Mark
+  Identifier : Role → ℕ → Mark
+  Value : Literal → ℕ → Mark
+  Word : Kind → Mark
+
+abbrev pub Out : Type 0
+Out = List Mark
+
+-- the tokens of an outline, in order
+abbrev pub tokens_of : Out → List Leaf
+tokens_of [] = []
+tokens_of (Begins c n ∷ ms) = tokens_of ms
+tokens_of (Ends ∷ ms) = tokens_of ms
+tokens_of (Identifier r n ∷ ms) = leafs.Name n ∷ tokens_of ms
+tokens_of (Value k n ∷ ms) = leafs.Value k n ∷ tokens_of ms
+tokens_of (Word k ∷ ms) = leafs.Word k ∷ tokens_of ms
+
+-- the levels of an outline: those of its highest construct
+abbrev pub height : Out → ℕ
+height [] = 0
+height (Begins c n ∷ ms) = max n (height ms)
+height (Ends ∷ ms) = height ms
+height (Identifier r n ∷ ms) = height ms
+height (Value k n ∷ ms) = height ms
+height (Word k ∷ ms) = height ms
+
+-- a construct with its parts
+unfoldable pub construct : Construct → Out → Out
+construct c parts = Begins c (if is_level c then suc (height parts) else height parts) ∷ (parts ++ Ends ∷ [])
+
+-- one token
+abbrev pub word : Kind → Out
+word k = Word k ∷ []
+
+abbrev pub declared : ℕ → Out
+declared n = Identifier Declares n ∷ []
+
+abbrev pub used : ℕ → Out
+used n = Identifier Uses n ∷ []
+
+abbrev pub named : ℕ → Out
+named n = Identifier Names n ∷ []
+
+abbrev pub repeated : ℕ → ℕ → Out
+repeated name n = Identifier (Repeats name) n ∷ []
+
+-- what may be absent
+abbrev pub if_there : {X : Type 0} → (X → Out) → Option X → Out
+if_there f None = []
+if_there f (Some x) = f x
+
+abbrev pub if_so : Bool → Out → Out
+if_so b o = if b then o else []
+
+-- one after the other
+abbrev pub each : {X : Type 0} → (X → Out) → List X → Out
+each f [] = []
+each f (x ∷ xs) = f x ++ each f xs
+
+-- each with a token before it
+abbrev pub each_after : {X : Type 0} → Kind → (X → Out) → List X → Out
+each_after k f = each (λ x. word k ++ f x)
+
+-- one or more with a token between each two
+abbrev pub listed : {X : Type 0} → Kind → (X → Out) → OneOrMore X → Out
+listed k f l = f l.first ++ each_after k f l.rest.items
+
+-- so many times the same
+abbrev pub times : ℕ → Out → Out
+times zero o = []
+times (suc n) o = o ++ times n o

@@ -1,0 +1,113 @@
+//! Types, declarations and modules (Oberon-07 report, sections 5, 6, 7, 10 and 11).
+
+use crate::expression::{Expr, ExprList};
+use crate::name::{Identdef, OneOrMore, Qualident};
+use crate::statement::Block;
+
+/// A module. Its name is the numbers of its two tokens, after MODULE and after END.
+#[derive(Drop)]
+pub struct Module {
+    pub name: u32,
+    pub imports: Option<OneOrMore<ImportItem>>,
+    pub declarations: Declarations,
+    pub body: Option<Block>,
+    pub end_name: u32,
+}
+
+/// An imported module, under its own name or, where `of` names it, under another.
+#[derive(Clone, Copy, PartialEq, Eq, Debug, Drop)]
+pub struct ImportItem {
+    pub name: u32,
+    pub of: Option<u32>,
+}
+
+/// The declarations of a module or a procedure: the sections that stand there, which may be empty, and the procedures.
+#[derive(Drop)]
+#[cycle(declarations)]
+pub struct Declarations {
+    pub constants: Option<Vec<ConstDecl>>,
+    pub types: Option<Vec<TypeDecl>>,
+    pub variables: Option<Vec<VarDecl>>,
+    pub procedures: Vec<ProcDecl>,
+}
+
+/// A constant.
+#[derive(Drop)]
+pub struct ConstDecl {
+    pub name: Identdef,
+    pub value: Expr,
+}
+
+/// A type with its name.
+#[derive(Drop)]
+pub struct TypeDecl {
+    pub name: Identdef,
+    pub form: TypeForm,
+}
+
+/// Variables, or fields of a record, of one type.
+#[derive(Drop)]
+#[cycle(types)]
+pub struct VarDecl {
+    pub names: OneOrMore<Identdef>,
+    pub form: TypeForm,
+}
+
+/// A procedure. Its name stands after PROCEDURE and after END.
+#[derive(Drop)]
+#[cycle(declarations)]
+pub struct ProcDecl {
+    pub name: Identdef,
+    pub parameters: Option<Parameters>,
+    pub declarations: Declarations,
+    pub body: Option<Box<Block>>,
+    /// What stands after RETURN.
+    pub returned: Option<Box<Expr>>,
+    pub end_name: u32,
+}
+
+/// A type.
+#[derive(Drop)]
+#[cycle(types)]
+pub enum TypeForm {
+    Named(Qualident),
+    /// An array, with its lengths.
+    ArrayOf(Box<ExprList>, Box<TypeForm>),
+    RecordOf(Record),
+    PointerTo(Box<TypeForm>),
+    ProcOf(Option<Parameters>),
+}
+
+/// A record, with its base in parentheses.
+#[derive(Drop)]
+#[cycle(types)]
+pub struct Record {
+    pub base: Option<Qualident>,
+    pub fields: Option<Box<Fields>>,
+}
+
+/// The field lists of a record, and whether a semicolon stands before its END.
+#[derive(Drop)]
+#[cycle(types)]
+pub struct Fields {
+    pub first: VarDecl,
+    pub rest: Vec<VarDecl>,
+    pub closing_semicolon: bool,
+}
+
+/// Formal parameters, and the type of the result.
+#[derive(Drop)]
+pub struct Parameters {
+    pub sections: Option<OneOrMore<Section>>,
+    pub result: Option<Qualident>,
+}
+
+/// Parameters of one formal type.
+#[derive(Drop)]
+pub struct Section {
+    pub variable: bool,
+    pub names: OneOrMore<u32>,
+    /// How often ARRAY OF stands in front of the type's name.
+    pub open_arrays: u32,
+    pub of: Qualident,
+}

@@ -1,0 +1,73 @@
+//! Statements (Oberon-07 report, section 9).
+
+use crate::expression::{Designator, Expr};
+use crate::name::{OneOrMore, Qualident};
+
+/// A statement sequence: one statement or more, with semicolons between them.
+#[derive(Drop)]
+#[cycle(statements)]
+pub struct Block {
+    pub first: Stmt,
+    pub rest: Vec<Stmt>,
+}
+
+/// A statement, which may be empty.
+#[derive(Drop)]
+#[cycle(statements)]
+pub enum Stmt {
+    Empty,
+    Assign(Designator, Expr),
+    Call(Designator),
+    /// IF, with the branches after ELSIF and what stands after ELSE.
+    If(Box<Branch>, Vec<Branch>, Option<Box<Block>>),
+    /// CASE, with what it looks at, and one case or more.
+    Case(Expr, Box<Case>, Vec<Case>),
+    /// WHILE, with the branches after ELSIF.
+    While(Box<Branch>, Vec<Branch>),
+    /// REPEAT, with the condition after UNTIL.
+    Repeat(Box<Block>, Expr),
+    For(Box<For>),
+}
+
+/// A condition, and the statements where it holds.
+#[derive(Drop)]
+#[cycle(statements)]
+pub struct Branch {
+    pub condition: Expr,
+    pub body: Block,
+}
+
+/// One case of a CASE statement, which may be empty.
+#[derive(Drop)]
+#[cycle(statements)]
+pub enum Case {
+    Nothing,
+    Labelled(OneOrMore<LabelRange>, Box<Block>),
+}
+
+/// A FOR statement.
+#[derive(Drop)]
+#[cycle(statements)]
+pub struct For {
+    /// The variable, by the number of its token.
+    pub variable: u32,
+    pub from: Expr,
+    pub to: Expr,
+    pub by: Option<Expr>,
+    pub body: Block,
+}
+
+/// One label, or a range of them.
+#[derive(Clone, Copy, PartialEq, Eq, Debug, Drop)]
+pub struct LabelRange {
+    pub low: Label,
+    pub high: Option<Label>,
+}
+
+/// A label; an integer and a string by the numbers of their tokens.
+#[derive(Clone, Copy, PartialEq, Eq, Debug, Drop)]
+pub enum Label {
+    Integer(u32),
+    Text(u32),
+    Name(Qualident),
+}

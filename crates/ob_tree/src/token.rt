@@ -1,0 +1,28 @@
+//! A token as a tree keeps it.
+
+ghost use Rattle.std.specs.Prelude.{◌≡◌};
+ghost use Rattle.ob_tree.specs.Leaves.{leaf_of};
+
+use crate::expression::Literal;
+use ob_scan::Kind;
+
+/// A token as a tree keeps it: an identifier or a literal by its number, any other by its kind.
+#[derive(Clone, Copy, PartialEq, Eq, Debug)]
+pub enum Leaf {
+    Name(u32),
+    Value(Literal, u32),
+    Word(Kind),
+}
+
+/// The token of this number and kind.
+pub fn leaf_at(number: u32, kind: Kind) -> Leaf
+    ensures { result ≡ leaf_of number kind }
+{
+    match kind {
+        Kind::Ident => Leaf::Name(number),
+        Kind::Integer => Leaf::Value(Literal::Integer, number),
+        Kind::Real => Leaf::Value(Literal::Real, number),
+        Kind::Text => Leaf::Value(Literal::Text, number),
+        _ => Leaf::Word(kind),
+    }
+}

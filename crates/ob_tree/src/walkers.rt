@@ -1,0 +1,103 @@
+//! What stands in a module's tree, by the numbers of its tokens. Each takes one pass over the tree and at most one over its
+//! tokens, and recurses no deeper than the tree's constructs hold one another.
+
+ghost use Rattle.std.specs.Prelude.{◌≡◌, ◌<◌, ◌^◌, [], ◌∷◌, List, length, IfOk};
+ghost use Rattle.std.specs.List.{range_with_len};
+ghost use Rattle.ob_scan.specs.declared.kind.Kind.{Kind};
+ghost use Rattle.ob_tree.specs.Declaring.{module_outline};
+ghost use Rattle.ob_tree.specs.Derives.{Derives, declared_in, endings_in, items_of, numbers_from, spelling, used_in, yields};
+
+use crate::declaration::Module;
+use crate::item::Item;
+use crate::walk::declarations::walk_module;
+use std::alloc::{AllocError, Global};
+
+/// The tokens of a module's tree in order, each with what it does there.
+pub fn items(alloc: Global, module: &Module) -> Result<Vec<Item>, AllocError>
+    ensures { IfOk result (λ v. v.items ≡ items_of (module_outline «module».now)) }
+{
+    let mut out = Vec::new(alloc);
+    walk_module(&mut out, module)?;
+    Ok(out)
+}
+
+/// The number of an item's token: the one that it carries, or for a word its place.
+fn number_of(item: Item, place: u32) -> u32
+    ensures { numbers_from place (item ∷ []) ≡ result ∷ [] }
+{
+    match item {
+        Item::Declared(number) => number,
+        Item::Used(number) => number,
+        Item::Named(number) => number,
+        Item::Repeated(_, number) => number,
+        Item::Value(number) => number,
+        Item::Word => place,
+    }
+}
+
+/// The number of each token of a module's tree, in order: of an identifier or a literal the number that the tree
+/// carries, of a word its place from 0. Of a tree that derives a file's tokens they are 0, 1, 2 and so on to the last.
+#[tactic(auto, using(crate::proofs::Passes::passes))]
+pub fn yield_of(alloc: Global, module: &Module) -> Result<Vec<u32>, AllocError>
+    requires { length (spelling «module».now) < 2 ^ 32 }
+    ensures exact { IfOk result (λ v. v.items ≡ yields «module».now) }
+    ensures whole { IfOk result (λ v. (kinds : List Kind) → Derives kinds «module».now → v.items ≡ range_with_len 0 (length kinds)) }
+{
+    let items = items(alloc, module)?;
+    let mut numbers = Vec::new(alloc);
+    for (place, item) in items.iter().enumerate() {
+        numbers.push(number_of(*item, place as u32))?;
+    }
+    Ok(numbers)
+}
+
+/// The numbers of the identifiers that a module declares, in order: those of its imports, constants, types, variables,
+/// fields, procedures and parameters, at every depth.
+#[tactic(auto, using(crate::proofs::Passes::passes))]
+pub fn declarations(alloc: Global, module: &Module) -> Result<Vec<u32>, AllocError>
+    ensures { IfOk result (λ v. v.items ≡ declared_in (module_outline «module».now)) }
+{
+    let items = items(alloc, module)?;
+    let mut numbers = Vec::new(alloc);
+    for item in &items {
+        match *item {
+            Item::Declared(number) => numbers.push(number)?,
+            _ => {}
+        }
+    }
+    Ok(numbers)
+}
+
+/// The numbers of the identifiers that are looked up in a module, in order: the heads of designators and of qualified
+/// names, the names among labels, and the variables of FOR statements.
+#[tactic(auto, using(crate::proofs::Passes::passes))]
+pub fn uses(alloc: Global, module: &Module) -> Result<Vec<u32>, AllocError>
+    ensures { IfOk result (λ v. v.items ≡ used_in (module_outline «module».now)) }
+{
+    let items = items(alloc, module)?;
+    let mut numbers = Vec::new(alloc);
+    for item in &items {
+        match *item {
+            Item::Used(number) => numbers.push(number)?,
+            _ => {}
+        }
+    }
+    Ok(numbers)
+}
+
+/// The names after END in order, as pairs of numbers: first of the identifier whose name has to stand there, the module's
+/// or the procedure's, and then of the one that does.
+#[tactic(auto, using(crate::proofs::Passes::passes))]
+pub fn endings(alloc: Global, module: &Module) -> Result<Vec<(u32, u32)>, AllocError>
+    ensures { IfOk result (λ v. v.items ≡ endings_in (module_outline «module».now)) }
+{
+    let items = items(alloc, module)?;
+    let mut pairs = Vec::new(alloc);
+    for item in &items {
+        match *item {
+            Item::Repeated(name, number) => pairs.push((name, number))?,
+            _ => {}
+        }
+    }
+    Ok(pairs)
+}
