@@ -78,7 +78,7 @@ for shape in shapes:
         shape, len(files), count, best["tokens"], *rates, sizes[-1]), flush=True)
     ratios = [best["scanning"] / best["wc"]] + [best["whole"] / best[name] for name in ("wc", "ctags")]
     ratios += [best["whole"] / count / (peers["cc"] / size), best["parse"] / best["scan"], best["yields"] / best["scan"]]
-    parts = [sizes[0]] + [abs(more - less) for less, more in zip(sizes, sizes[1:])] + [0] * (3 - len(sizes)) + [sizes[-1]]
+    parts = [sizes[0]] + [more - less for less, more in zip(sizes, sizes[1:])] + [0] * (3 - len(sizes)) + [sizes[-1]]
     rows.append([shape] + ["%.1f" % number for number in ratios + parts])
 
 # The table for the README.
