@@ -385,9 +385,3 @@ again_statement (suc d) = again_by_layer (statement_with (expr_at d) (block_at d
 
 pub again_blocks : (d : ℕ) → AgainBlocks d
 again_blocks d = again_block d (again_statement d)
-
-pub statements_again : (d : ℕ) (s : Stmt) (rest : List Leaf) → height (stmt_outline s) ≤ d → EndsStatement rest → Reads (statement_at d) (stmt_outline s) rest
-statements_again d s rest le end = (again_statement d s rest end).reads le
-
-pub blocks_again : (d : ℕ) (b : Block) (rest : List Leaf) → height (block_outline b) ≤ d → EndsBlock rest → Reads (block_at d) (block_outline b) rest
-blocks_again d b rest le end = (again_blocks d b rest end).reads le

@@ -1,5 +1,5 @@
 -- What a type spells is read as that type, whatever follows that can't go on with it.
-use Rattle.std.proofs.Common.{◌≡◌, ℕ, zero, suc, Bool, true, false, ◌≤◌, List, [], ◌∷◌, ◌++◌, Option, Some, None, refl, sym, subst}
+use Rattle.std.proofs.Common.{◌≡◌, ℕ, zero, suc, Bool, true, false, List, [], ◌∷◌, ◌++◌, Option, Some, None, refl, sym, subst}
 use Rattle.std.specs.declared.boxed.Box.{Box}
 use Rattle.std.specs.declared.alloc.Global.{Global}
 use Rattle.ob_scan.specs.declared.kind.Kind.TheVariants as kinds
@@ -8,7 +8,7 @@ use Rattle.ob_tree.specs.declared.token.Leaf.TheVariants as leafs
 use Rattle.ob_tree.specs.declared.name.OneOrMore.{OneOrMore}
 use Rattle.ob_tree.specs.declared.name.Qualident.{Qualident}
 use Rattle.ob_tree.specs.declared.name.Identdef.{Identdef}
-use Rattle.ob_tree.specs.declared.declaration.Section.{Section}
+use Rattle.ob_tree.specs.declared.declaration.ParameterSection.{ParameterSection}
 use Rattle.ob_tree.specs.declared.declaration.Parameters.{Parameters}
 use Rattle.ob_tree.specs.declared.declaration.TypeForm.{TypeForm, TypeForm-F, out-TypeForm}
 use Rattle.ob_tree.specs.declared.declaration.TypeForm.TheOpen as layers
@@ -16,7 +16,7 @@ use Rattle.ob_tree.specs.declared.declaration.Fields.{Fields, out-Fields}
 use Rattle.ob_tree.specs.declared.declaration.Record.{Record, Record-F, out-Record}
 use Rattle.ob_tree.specs.declared.declaration.VarDecl.{VarDecl, out-VarDecl}
 use Rattle.ob_tree.specs.Constructs as constructs
-use Rattle.ob_tree.specs.Marks.{Out, construct, word, declared, if_there, if_so, each_after, listed, times, tokens_of, height}
+use Rattle.ob_tree.specs.Marks.{Out, construct, word, declared, if_there, if_so, each_after, listed, times, tokens_of}
 use Rattle.ob_tree.specs.Names.{qualident_outline, identdef_outline}
 use Rattle.ob_tree.specs.Expressions.{expr_list_outline}
 use Rattle.ob_tree.specs.Types.{section_outline, parameters_outline, type_outline, fields_outline, var_outline}
@@ -63,7 +63,7 @@ times_read (suc n) rest e =
     reads_more (accept_at kinds.Array) (expect_at kinds.Of) (accept_advances zero kinds.Array (expect_at kinds.Of) (expect_sound zero kinds.Of)) (word kinds.Array)
     (word kinds.Of) (times n (word kinds.Array ++ word kinds.Of)) rest (accepts_word kinds.Array _) (reads_word kinds.Of _) (times_read n rest e)
 
-again_section : (d : ℕ) (s : Section) (rest : List Leaf) → accept_at kinds.Dot rest ≡ None → Again d section_at (section_outline s) rest
+again_section : (d : ℕ) (s : ParameterSection) (rest : List Leaf) → accept_at kinds.Dot rest ≡ None → Again d section_at (section_outline s) rest
 unfolding section_at
 again_section d s rest dot =
     let arrays : Again d (many (accept_at kinds.Array) (expect_at kinds.Of)) (times s.open_arrays (word kinds.Array ++ word kinds.Of))
@@ -92,18 +92,18 @@ section_parts_open : (b : Bool) (n : ℕ) (o more : Out) (x : List Leaf) → Ope
 section_parts_open false n o more x = record { leaf = leafs.Name n; tail = _; is = refl; good = refl }
 section_parts_open true n o more x = record { leaf = leafs.Word kinds.Var; tail = _; is = refl; good = refl }
 
-section_opens : (s : Section) (x : List Leaf) → Opens section_first (tokens_of (section_outline s) ++ x)
+section_opens : (s : ParameterSection) (x : List Leaf) → Opens section_first (tokens_of (section_outline s) ++ x)
 section_opens s x = subst (λ (o : Out). Opens section_first (tokens_of o ++ x)) (sym (section_out s))
     (opens_node section_first constructs.FPSection _ x
     (section_parts_open s.variable s.names.first (each_after kinds.Comma declared s.names.rest.items)
     (word kinds.Colon ++ (times s.open_arrays (word kinds.Array ++ word kinds.Of) ++ qualident_outline s.of)) x))
 
-sections_free : (l : OneOrMore Section) (x : List Leaf) → unless kinds.RightParen (tokens_of (listed kinds.Semicolon section_outline l) ++ x) ≡
+sections_free : (l : OneOrMore ParameterSection) (x : List Leaf) → unless kinds.RightParen (tokens_of (listed kinds.Semicolon section_outline l) ++ x) ≡
     Some ([], tokens_of (listed kinds.Semicolon section_outline l) ++ x)
 sections_free l x = open_there kinds.RightParen section_first no_paren _
     (opens_front section_first (section_outline l.first) (each_after kinds.Semicolon section_outline l.rest.items) x (section_opens l.first))
 
-again_sections : (d : ℕ) (l : OneOrMore Section) (rest : List Leaf) →
+again_sections : (d : ℕ) (l : OneOrMore ParameterSection) (rest : List Leaf) →
     Again d (several kinds.Semicolon section_at) (listed kinds.Semicolon section_outline l) (leafs.Word kinds.RightParen ∷ rest)
 again_sections d l rest =
     again_several kinds.Semicolon section_at section_outline (λ ls. accept_at kinds.Dot ls ≡ None) d (accept_advances d kinds.Semicolon section_at (section_sound d))
@@ -246,6 +246,3 @@ pub again_type : (d : ℕ) → AgainTypes d
 unfolding type_at
 again_type zero = again_none
 again_type (suc d) = again_next d (again_type d)
-
-pub types_again : (d : ℕ) (t : TypeForm) (rest : List Leaf) → height (type_outline t) ≤ d → EndsType rest → Reads (type_at d) (type_outline t) rest
-types_again d t rest le end = (again_type d t rest end).reads le

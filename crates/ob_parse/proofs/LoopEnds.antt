@@ -5,7 +5,7 @@ use Rattle.ob_tree.specs.Constructs.{Construct}
 use Rattle.ob_tree.specs.Marks.{Out}
 use Rattle.ob_parse.specs.declared.stop.Stop.{Stop}
 use Rattle.ob_parse.specs.declared.stop.Stop.TheVariants as stops
-use Rattle.ob_parse.specs.Forms.{Read, Reader, Start, seq, prefixed, node, many}
+use Rattle.ob_parse.specs.Forms.{Read, Reader, Start, seq, node, many}
 use Rattle.ob_parse.specs.Gives.{Fails}
 use Rattle.ob_parse.proofs.Loops.{Advances, with_front, many_step}
 
@@ -26,15 +26,7 @@ seq_second_fails stops.Memory r s ls a e f = tt
 seq_second_fails (stops.Wrong at) r s ls a e f = rw (e, f) refl
 seq_second_fails (stops.Deep at) r s ls a e f = rw (e, f) refl
 
-pub prefixed_fails : (x : Stop) (ms : Out) (r : Reader) (ls : List Leaf) → Fails x (r ls) → Fails x (prefixed ms r ls)
-prefixed_fails stops.Memory ms r ls f = tt
-prefixed_fails (stops.Wrong at) ms r ls f = rw f refl
-prefixed_fails (stops.Deep at) ms r ls f = rw f refl
-
 pub node_fails : (x : Stop) (c : Construct) (r : Reader) (ls : List Leaf) → Fails x (r ls) → Fails x (node c r ls)
 node_fails stops.Memory c r ls f = tt
 node_fails (stops.Wrong at) c r ls f = rw f refl
 node_fails (stops.Deep at) c r ls f = rw f refl
-
-pub node_seq_fails : (x : Stop) (c : Construct) (r s : Reader) (ls : List Leaf) (a : Out × List Leaf) → r ls ≡ Ok a → Fails x (s a.1) → Fails x (node c (seq r s) ls)
-node_seq_fails x c r s ls a e f = node_fails x c (seq r s) ls (seq_second_fails x r s ls a e f)

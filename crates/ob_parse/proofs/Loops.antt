@@ -86,9 +86,6 @@ pushed_after start r adv f k xs ys x ls rest a total y e g o h = pushed start r 
 pub smaller : (start : Start) (r : Reader) → Advances start r → (ls : List Leaf) (s a : Out × List Leaf) → start ls ≡ Some s → r s.1 ≡ Ok a → length a.1 < length ls
 smaller start r adv ls s a e f = adv.shorter ls s a e f
 
-pub node_seq : (c : Construct) (r s : Reader) (ls : List Leaf) (a b : Out × List Leaf) → r ls ≡ Ok a → s a.1 ≡ Ok b → node c (seq r s) ls ≡ Ok (construct c (a.0 ++ b.0), b.1)
-node_seq c r s ls a b e f = rw (e, f) refl
-
 pub marked_some : {X : Type 0} (kind : X → Kind) (x : X) (rest : List Leaf) (f : Front X) → Some (x, rest) ≡ f → marked kind f ≡ Some (word (kind x), rest)
 marked_some kind x rest f e = ap (marked kind) (sym e)
 

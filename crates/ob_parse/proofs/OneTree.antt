@@ -1,10 +1,10 @@
 -- The whole text: one tree, or none.
-use Rattle.std.proofs.Common.{◌≡◌, ℕ, ◌+◌, ◌<◌, ◌≤◌, ◌-◌, List, [], ◌∷◌, suc, ◌^◌, ◌++◌, Option, None, Some, slice_get, get_or, Result, Ok, Err, length, map, refl, sym, ap, ◌∙◌, subst, arith, length-append, ◌⊎◌, inl, inr}
+use Rattle.std.proofs.Common.{◌≡◌, ℕ, ◌+◌, ◌<◌, ◌≤◌, List, [], ◌∷◌, suc, ◌^◌, ◌++◌, Option, None, Some, slice_get, get_or, Result, Ok, Err, length, refl, sym, ap, ◌∙◌, subst, arith, length-append, inl, inr}
 use Rattle.std.proofs.Math.Seq.{get_or-append_seam}
 use Rattle.std.proofs.lemmas.Option.{get_or_from_slice_get, slice_get_within}
 use Rattle.std.proofs.lemmas.Bool.{cases_lt}
 use Rattle.std.proofs.lemmas.List.{length-map}
-use Rattle.std.specs.Prelude.{IfErr, All}
+use Rattle.std.specs.Prelude.{All}
 use Rattle.ob_scan.specs.declared.kind.Kind.{Kind}
 use Rattle.ob_scan.specs.declared.token.Token.{Token}
 use Rattle.ob_scan.specs.Spelling.{AreInText}
@@ -12,15 +12,15 @@ use Rattle.ob_tree.specs.declared.declaration.Module.{Module}
 use Rattle.ob_tree.specs.Declaring.{module_outline}
 use Rattle.ob_tree.specs.Derives.{Derives, depth, endings_in, spelling}
 use Rattle.ob_tree.specs.Leaves.{leaves}
-use Rattle.ob_tree.specs.Marks.{Out, height, tokens_of}
+use Rattle.ob_tree.specs.Marks.{Out}
 use Rattle.ob_parse.specs.declared.fault.ParseFault.{ParseFault}
 use Rattle.ob_parse.specs.declared.fault.ParseFault.TheVariants as faults
 use Rattle.ob_parse.specs.Forms.{Refusal, Wrong, Deep}
-use Rattle.ob_parse.specs.Gives.{Gives, Fails}
+use Rattle.ob_parse.specs.Gives.{Fails}
 use Rattle.ob_parse.specs.declared.stop.Stop.{Stop}
 use Rattle.ob_parse.specs.declared.stop.Stop.TheVariants as stops
 use Rattle.ob_parse.specs.Ends.{IsKnown, IsPlaced, start_or, told}
-use Rattle.ob_parse.specs.Parsed.{Pair, IsOneTree, IsTheTree, IsRightEnd, IsWrongEnd, IsEndFault, IsFaultOf, IsPlace, kinds_of, text_of}
+use Rattle.ob_parse.specs.Parsed.{Pair, IsOneTree, IsTheTree, IsRightEnd, IsWrongEnd, IsEndFault, IsFaultOf, IsPlace, kinds_of, bytes_of}
 use Rattle.ob_parse.specs.ReadModules.{all_of}
 use Rattle.ob_parse.proofs.SoundModules.{all_sound}
 use Rattle.ob_parse.proofs.Whole.{still_wrong, still_ok}
@@ -80,7 +80,7 @@ some_is : {X : Type 0} (x y : X) → Some x ≡ Some y → x ≡ y
 some_is x y e = cc
 
 -- the texts of a pair are those of its tokens, whichever way they are found
-pair_texts : (bytes : List ℕ) (ts : List Token) (e : ℕ × ℕ) (p q : Pair ts e) → text_of bytes p.name ≡ text_of bytes p.end → text_of bytes q.name ≡ text_of bytes q.end
+pair_texts : (bytes : List ℕ) (ts : List Token) (e : ℕ × ℕ) (p q : Pair ts e) → bytes_of bytes p.name ≡ bytes_of bytes p.end → bytes_of bytes q.name ≡ bytes_of bytes q.end
 pair_texts bytes ts e p q same =
     let name : p.name ≡ q.name = some_is p.name q.name (sym p.name_there ∙ q.name_there) in
     let end : p.end ≡ q.end = some_is p.end q.end (sym p.end_there ∙ q.end_there) in

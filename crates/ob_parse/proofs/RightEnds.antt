@@ -1,5 +1,5 @@
 -- Names after END, compared one by one.
-use Rattle.std.proofs.Common.{◌≡◌, ℕ, ◌+◌, ◌<◌, ◌≤◌, Bool, true, false, List, ◌∷◌, ◌++◌, length, get_or, slice_get, take, drop, Some, refl, sym, subst, ap, ◌∙◌}
+use Rattle.std.proofs.Common.{◌≡◌, ℕ, ◌+◌, ◌<◌, ◌≤◌, Bool, true, false, List, ◌++◌, length, get_or, take, drop, sym, subst, ap, ◌∙◌}
 use Rattle.std.specs.Prelude.{All}
 use Rattle.std.specs.Str.{bytes_eq}
 use Rattle.std.proofs.lemmas.Slice.Eq.{bytes_eq-Decides}
@@ -9,8 +9,8 @@ use Rattle.std.proofs.lemmas.List.{take_more, take_all, take-append-drop, drop_m
 use Rattle.std.proofs.lemmas.List.Elements.{All-push}
 use Rattle.ob_scan.specs.declared.kind.Kind.TheVariants as kinds
 use Rattle.ob_scan.specs.declared.token.Token.{Token}
-use Rattle.ob_parse.specs.Ends.{IsEnd, IsKnown}
-use Rattle.ob_parse.specs.Parsed.{Pair, IsRightEnd, IsWrongEnd, IsFirstWrong, text_of}
+use Rattle.ob_parse.specs.Ends.{IsEnd}
+use Rattle.ob_parse.specs.Parsed.{Pair, IsRightEnd, IsFirstWrong, bytes_of}
 
 -- what stands for a token beyond the list
 abbrev pub no_token : Token
@@ -24,12 +24,12 @@ pair_at ts n k d a b = record {
   end_there = slice_get-get_or ts k d b;
 }
 
-pub end_is : (bytes : List ℕ) (ts : List Token) (n k : ℕ) (d : Token) (b : Bool) → n < length ts → k < length ts → b ≡ bytes_eq (text_of bytes (get_or ts n d)) (text_of bytes (get_or ts k d)) → IsEnd bytes ts b (n, k)
+pub end_is : (bytes : List ℕ) (ts : List Token) (n k : ℕ) (d : Token) (b : Bool) → n < length ts → k < length ts → b ≡ bytes_eq (bytes_of bytes (get_or ts n d)) (bytes_of bytes (get_or ts k d)) → IsEnd bytes ts b (n, k)
 end_is bytes ts n k d true a b e =
-    let same = bytes_eq-Decides (text_of bytes (get_or ts n d)) (text_of bytes (get_or ts k d)) in
+    let same = bytes_eq-Decides (bytes_of bytes (get_or ts n d)) (bytes_of bytes (get_or ts k d)) in
     record { pair = pair_at ts n k d a b; same = same.0 (sym e) }
 end_is bytes ts n k d false a b e =
-    let same = bytes_eq-Decides (text_of bytes (get_or ts n d)) (text_of bytes (get_or ts k d)) in
+    let same = bytes_eq-Decides (bytes_of bytes (get_or ts n d)) (bytes_of bytes (get_or ts k d)) in
     (pair_at ts n k d a b, not_from_Decides _ same (sym e))
 
 -- one right name more

@@ -17,7 +17,7 @@ use Rattle.ob_tree.specs.Expressions.{relation_kind, sign_kind, add_kind, mul_ki
 use Rattle.ob_parse.specs.Front.{uncons}
 use Rattle.ob_parse.specs.Forms.{Reader, Front, expect_at, name_at, unless, seq, optional, several}
 use Rattle.ob_parse.specs.ReadNames.{qualident_after, qualident_at, identdef_at}
-use Rattle.ob_parse.specs.ReadExpressions.{after_relation, after_sign, after_add, after_mul, relation_at, sign_at, add_at, mul_at, marked, mul_start, add_start, relation_start, sign_start, selector_first, term_with, sum_with, expr_with, element_with, selector_from, selector_with, designator_with, factor_from, factor_with, expr_at, negated_at, factor_at, term_at, sum_at}
+use Rattle.ob_parse.specs.ReadExpressions.{after_relation, after_sign, after_add, after_mul, relation_at, sign_at, add_at, mul_at, marked, mul_start, add_start, relation_start, sign_start, selector_first, term_with, sum_with, expr_with, element_with, selector_from, selector_with, designator_with, factor_from, factor_with, expr_at, negated_at, factor_at, term_at}
 use Rattle.ob_parse.proofs.Sound.{Sound, SoundStart, SoundBehind, Takes, TakesIt, some_is, word_takes, role_takes, value_takes, sound_nothing, sound_seq, sound_flat, sound_level, sound_optional, sound_many, sound_several, behind_flat, behind_prefixed, behind_at_once, expect_sound, accept_sound, name_sound, begins_sound, unless_sound, limit_sound}
 
 -- ---- names
@@ -175,6 +175,3 @@ factor_at_sound d = factor_sound d _ _ (expr_at_sound d) (negated_at_sound d)
 
 pub term_at_sound : (d : ℕ) → Sound d (term_at d)
 term_at_sound d = term_sound d _ (factor_at_sound d)
-
-pub sum_at_sound : (d : ℕ) → Sound d (sum_at d)
-sum_at_sound d = sum_sound d _ (term_at_sound d)

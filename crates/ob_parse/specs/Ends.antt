@@ -1,12 +1,12 @@
 -- What the parser's last steps keep: names after END one by one, and the offset of a token.
-use Rattle.std.specs.Prelude.{◌≡◌, ◌≢◌, ◌≤◌, ◌<◌, ℕ, List, length, slice_get, Bool, true, false, Option, Some, None}
+use Rattle.std.specs.Prelude.{◌≢◌, ◌≤◌, ◌<◌, ℕ, List, length, slice_get, Bool, true, false, Option, Some, None}
 use Rattle.std.specs.List.{All}
 use Rattle.ob_scan.specs.declared.token.Token.{Token}
 use Rattle.ob_parse.specs.declared.fault.ParseFault.{ParseFault}
 use Rattle.ob_parse.specs.declared.fault.ParseFault.TheVariants as faults
 use Rattle.ob_parse.specs.declared.stop.Stop.{Stop}
 use Rattle.ob_parse.specs.declared.stop.Stop.TheVariants as stops
-use Rattle.ob_parse.specs.Parsed.{Pair, IsRightEnd, IsFirstWrong, text_of}
+use Rattle.ob_parse.specs.Parsed.{Pair, IsRightEnd, IsFirstWrong, bytes_of}
 
 -- both are numbers of tokens
 abbrev pub IsKnown : List Token → ℕ × ℕ → Type 0
@@ -19,7 +19,7 @@ IsPlaced bytes t = (t.start ≤ t.end) × (t.end ≤ length bytes)
 -- a name after END is right, or not
 abbrev pub IsEnd : List ℕ → List Token → Bool → ℕ × ℕ → Type 0
 IsEnd bytes ts true e = IsRightEnd bytes ts e
-IsEnd bytes ts false e = (pair : Pair ts e) × (text_of bytes pair.name ≢ text_of bytes pair.end)
+IsEnd bytes ts false e = (pair : Pair ts e) × (bytes_of bytes pair.name ≢ bytes_of bytes pair.end)
 
 -- none of these is wrong, or the first that is begins at this offset
 abbrev pub FirstWrong : List ℕ → List Token → List (ℕ × ℕ) → Option ℕ → Type 0

@@ -13,8 +13,8 @@ abbrev pub kinds_of : List Token → List Kind
 kinds_of ts = map (λ t. t.kind) ts
 
 -- the bytes of a token
-abbrev pub text_of : List ℕ → Token → List ℕ
-text_of bytes t = take (t.end - t.start) (drop t.start bytes)
+abbrev pub bytes_of : List ℕ → Token → List ℕ
+bytes_of bytes t = take (t.end - t.start) (drop t.start bytes)
 
 -- a pair of tokens, by their numbers: an identifier, and the name after END that has to repeat it
 pub record Pair (ts : List Token) (e : ℕ × ℕ) : Type 0 where
@@ -26,15 +26,15 @@ pub record Pair (ts : List Token) (e : ℕ × ℕ) : Type 0 where
 -- the name after END is the one that it has to be
 pub record IsRightEnd (bytes : List ℕ) (ts : List Token) (e : ℕ × ℕ) : Type 0 where
   pub pair : Pair ts e
-  pub same : text_of bytes pair.name ≡ text_of bytes pair.end
+  pub same : bytes_of bytes pair.name ≡ bytes_of bytes pair.end
 
 -- it is another, and begins at this offset
 pub record IsWrongEnd (bytes : List ℕ) (ts : List Token) (at : ℕ) (e : ℕ × ℕ) : Type 0 where
   pub pair : Pair ts e
-  pub differ : text_of bytes pair.name ≢ text_of bytes pair.end
+  pub differ : bytes_of bytes pair.name ≢ bytes_of bytes pair.end
   pub begins : pair.end.start ≡ at
 
--- a tree of at most 200 levels derives the tokens, and no other tree does
+-- a tree of at most 200 levels derives the tokens, and all trees that do have its outline
 pub record IsOneTree (ts : List Token) (m : Module) : Type 0 where
   pub derived : Derives (kinds_of ts) m
   pub shallow : depth m ≤ 200

@@ -1,4 +1,4 @@
-//! Declarations: constants, types, variables and procedures.
+//! Declarations: constants, types, variables and procedures (Oberon-07 report, sections 5, 6, 7 and 10).
 
 ghost use Rattle.std.specs.Prelude.{◌≡◌, ◌++◌};
 ghost use Rattle.ob_scan.specs.declared.kind.Kind.TheVariants as kinds;
@@ -61,7 +61,7 @@ fn ended_constant<'a>(
     Ok((declaration, here))
 }
 
-/// The declarations of constants.
+/// Constants, each with its semicolon.
 fn constants<'a>(
     alloc: Global,
     input: Input<'a>,
@@ -126,7 +126,7 @@ fn ended_named_type<'a>(
     Ok((declaration, here))
 }
 
-/// The declarations of named_types.
+/// Types with names, each with its semicolon.
 fn named_types<'a>(
     alloc: Global,
     input: Input<'a>,
@@ -145,7 +145,7 @@ fn named_types<'a>(
     Ok((declared, here))
 }
 
-/// The section of named_types, if it stands here.
+/// TYPE and its declarations, if it stands here.
 #[tactic(auto, unfolding(crate::specs::ReadModules::part_with))]
 fn named_type_section<'a>(
     alloc: Global,

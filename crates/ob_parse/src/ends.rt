@@ -3,13 +3,13 @@
 ghost use Rattle.std.specs.Prelude.{◌≡◌, ◌<◌, ◌≤◌, length};
 ghost use Rattle.std.specs.List.{All};
 ghost use Rattle.ob_parse.specs.Ends.{FirstWrong, IsEnd, IsKnown, IsPlaced};
-ghost use Rattle.ob_parse.specs.Parsed.{text_of};
+ghost use Rattle.ob_parse.specs.Parsed.{bytes_of};
 
 use ob_scan::Token;
 
 fn text<'a>(bytes: &'a [u8], token: Token) -> &'a [u8]
     requires { (token.start ≤ token.end) × (token.end ≤ length bytes.now) }
-    ensures { result.now ≡ text_of bytes.now token }
+    ensures { result.now ≡ bytes_of bytes.now token }
 {
     &bytes[token.start as usize..token.end as usize]
 }

@@ -10,7 +10,7 @@ ghost use Rattle.ob_parse.specs.Parsed.{IsTheTree, IsFaultOf, IsPlace};
 ghost use Rattle.ob_parse.specs.declared.fault.ParseFault.{ParseFault};
 ghost use Rattle.ob_parse.specs.declared.fault.ParseFault.TheVariants as faults;
 
-/// The grammar is unambiguous: two trees that derive the same tokens are the same.
+/// The grammar is unambiguous: two trees that derive the same tokens have one outline.
 pub fn one_tree()
     ensures { (kinds : List Kind) (m n : Module) → Derives kinds m → Derives kinds n → module_outline m ≡ module_outline n }
 {}

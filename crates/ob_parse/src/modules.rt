@@ -1,4 +1,4 @@
-//! Modules.
+//! Modules (Oberon-07 report, section 11).
 
 ghost use Rattle.std.specs.Prelude.{◌++◌};
 ghost use Rattle.ob_scan.specs.declared.kind.Kind.TheVariants as kinds;

@@ -1,4 +1,4 @@
-//! Formal parameters.
+//! Formal parameters (Oberon-07 report, section 10.1).
 
 ghost use Rattle.std.specs.Prelude.{◌++◌};
 ghost use Rattle.ob_scan.specs.declared.kind.Kind.TheVariants as kinds;
@@ -15,7 +15,7 @@ use crate::names::qualident;
 use crate::stop::Stop;
 use crate::symbols::{accept, expect, identifier, is_at};
 use ob_scan::Kind;
-use ob_tree::declaration::{Parameters, Section};
+use ob_tree::declaration::{ParameterSection, Parameters};
 use ob_tree::name::{OneOrMore, Qualident};
 use std::alloc::Global;
 
@@ -76,7 +76,7 @@ fn variable<'a>(input: Input<'a>) -> Result<(bool, Input<'a>), Stop>
 
 /// Parameters of one formal type.
 #[tactic(auto, using(ob_tree::proofs::TypeLayers::types_made), unfolding(crate::specs::ReadTypes::section_at))]
-fn section<'a>(alloc: Global, input: Input<'a>) -> Result<(Section, Input<'a>), Stop>
+fn section<'a>(alloc: Global, input: Input<'a>) -> Result<(ParameterSection, Input<'a>), Stop>
     ensures { Gives (λ x. (section_outline x.0, ahead x.1)) result (section_at (ahead input.entry)) }
 {
     let (variable, here) = variable(input)?;
@@ -85,7 +85,7 @@ fn section<'a>(alloc: Global, input: Input<'a>) -> Result<(Section, Input<'a>), 
     let (open_arrays, here) = open_arrays(here)?;
     let (of, here) = qualident(here)?;
     Ok((
-        Section {
+        ParameterSection {
             variable,
             names,
             open_arrays,
@@ -96,7 +96,10 @@ fn section<'a>(alloc: Global, input: Input<'a>) -> Result<(Section, Input<'a>), 
 }
 
 /// Sections behind the first: each after a semicolon.
-fn more_sections<'a>(alloc: Global, input: Input<'a>) -> Result<(Vec<Section>, Input<'a>), Stop>
+fn more_sections<'a>(
+    alloc: Global,
+    input: Input<'a>,
+) -> Result<(Vec<ParameterSection>, Input<'a>), Stop>
     ensures { Gives (λ x. (each_after kinds.Semicolon section_outline x.0.items, ahead x.1)) result (many (accept_at kinds.Semicolon) section_at (ahead input.entry)) }
 {
     let mut rest = Vec::new(alloc);
@@ -114,7 +117,7 @@ fn more_sections<'a>(alloc: Global, input: Input<'a>) -> Result<(Vec<Section>, I
 fn sections<'a>(
     alloc: Global,
     input: Input<'a>,
-) -> Result<(Option<OneOrMore<Section>>, Input<'a>), Stop>
+) -> Result<(Option<OneOrMore<ParameterSection>>, Input<'a>), Stop>
     ensures { Gives (λ x. (if_there (listed kinds.Semicolon section_outline) x.0, ahead x.1)) result (optional (unless kinds.RightParen) (several kinds.Semicolon section_at) (ahead input.entry)) }
 {
     if is_at(input, Kind::RightParen) {

@@ -59,10 +59,12 @@ fn fault_of(end: u32, tokens: &[Token], stop: Stop) -> ParseFault
 ///
 /// Syntax is answered where no tree derives the tokens, TooDeep only where none of at most 200 levels does, and EndName
 /// where the tree has a wrong name after an END. Which tokens' offsets Syntax and TooDeep have is tested, not proved.
+/// Memory is answered where a growth of memory is refused.
 pub fn parse(alloc: Global, bytes: &[u8], tokens: &Tokens) -> Result<Module, ParseFault>
     // The tokens are those of the bytes.
     requires { IsOutcome bytes.now (Reads tokens.now) }
-    // The tree derives them, no other does, it has at most 200 levels, and its names after END are right.
+    // The tree derives them, and all trees that do have its outline; it has at most 200 levels, and its names after END
+    // are right.
     ensures tree { IfOk result (IsTheTree bytes.now tokens.now) }
     // It has so few tokens that each has a number of 32 bits.
     ensures few { IfOk result (λ tree. length (spelling tree) < 2 ^ 32) }

@@ -63,14 +63,14 @@ pub(crate) fn statement<'a>(
     if depth == 0 {
         empty_statement(input)
     } else {
-        statement_over(alloc, input, depth - 1)
+        statement_within(alloc, input, depth - 1)
     }
 }
 
 /// A statement whose parts have at most so many levels in them.
 #[cycle(statements)]
 #[tactic(auto, using(crate::proofs::StatementSteps::made), unfolding(crate::specs::ReadStatements::statement_with))]
-fn statement_over<'a>(
+fn statement_within<'a>(
     alloc: Global,
     input: Input<'a>,
     depth: u32,
@@ -301,7 +301,7 @@ fn for_statement<'a>(alloc: Global, input: Input<'a>, depth: u32) -> Result<(Stm
     let (variable, input) = identifier(input)?;
     let input = expect(input, Kind::Assign)?;
     let (from, input) = expression(alloc, input, depth)?;
-    let ((to, by, body), input) = for_limit(alloc, input, depth)?;
+    let ((to, by, body), input) = for_rest(alloc, input, depth)?;
     let statement = For {
         variable,
         from,
@@ -314,7 +314,7 @@ fn for_statement<'a>(alloc: Global, input: Input<'a>, depth: u32) -> Result<(Stm
 
 /// A FOR statement from its TO on: the limit, the step and the body.
 #[cycle(statements)]
-fn for_limit<'a>(
+fn for_rest<'a>(
     alloc: Global,
     input: Input<'a>,
     depth: u32,

@@ -8,6 +8,7 @@ use std::alloc::AllocGlobal;
 use std::process::Abort;
 use std::test::Fail;
 
+mod corners;
 mod depths;
 mod faults;
 mod trees;

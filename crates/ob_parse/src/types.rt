@@ -1,4 +1,4 @@
-//! Types.
+//! Types (Oberon-07 report, section 6).
 
 ghost use Rattle.std.specs.Prelude.{◌≡◌, ◌++◌};
 ghost use Rattle.ob_scan.specs.declared.kind.Kind.TheVariants as kinds;

@@ -1,4 +1,4 @@
-//! Tokens, and the list of them.
+//! Tokens, and the list of them (Oberon-07 report, section 3).
 ghost use Rattle.std.specs.Prelude.{◌≡◌, ◌<◌, ◌==◌, Some, length, slice_get};
 
 use crate::Kind;

@@ -11,9 +11,3 @@ same_is j k e = same_true the_type _ j k e
 
 pub is_same : (k : Kind) → same_kind k k ≡ true
 is_same k = true_same the_type k k refl
-
-one : same_kind kinds.Comma kinds.Comma ≡ true
-one = refl
-
-other : same_kind kinds.Comma kinds.Colon ≡ false
-other = refl

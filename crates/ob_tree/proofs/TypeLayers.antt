@@ -8,7 +8,7 @@ use Rattle.ob_tree.specs.declared.expression.ExprList.{ExprList}
 use Rattle.ob_tree.specs.declared.name.Identdef.{Identdef}
 use Rattle.ob_tree.specs.declared.name.OneOrMore.{OneOrMore}
 use Rattle.ob_tree.specs.declared.name.Qualident.{Qualident}
-use Rattle.ob_tree.specs.declared.declaration.Section.{Section}
+use Rattle.ob_tree.specs.declared.declaration.ParameterSection.{ParameterSection}
 use Rattle.ob_tree.specs.declared.declaration.Parameters.{Parameters}
 use Rattle.ob_tree.specs.declared.declaration.TypeForm.{TypeForm, TypeForm-F, fold_out-TypeForm, out-TypeForm, map-TypeForm}
 use Rattle.ob_tree.specs.declared.declaration.TypeForm.TheOpen as layers
@@ -31,7 +31,7 @@ fields_there f (Some x) = refl
 
 -- ---- parameters
 
-pub section_out : (s : Section) → section_outline s
+pub section_out : (s : ParameterSection) → section_outline s
     ≡ construct constructs.FPSection (if_so s.variable (word kinds.Var) ++ (listed kinds.Comma declared s.names ++ (word kinds.Colon ++ (times s.open_arrays (word kinds.Array ++ word kinds.Of) ++ qualident_outline s.of))))
 unfolding section_outline
 section_out s = refl

@@ -6,7 +6,7 @@ use Rattle.ob_scan.specs.declared.kind.Kind.TheVariants as kinds
 use Rattle.ob_tree.specs.declared.item.Item.TheVariants as items
 use Rattle.ob_tree.specs.declared.expression.ExprList.{ExprList}
 use Rattle.ob_tree.specs.declared.name.Qualident.{Qualident}
-use Rattle.ob_tree.specs.declared.declaration.Section.{Section}
+use Rattle.ob_tree.specs.declared.declaration.ParameterSection.{ParameterSection}
 use Rattle.ob_tree.specs.declared.declaration.Parameters.{Parameters}
 use Rattle.ob_tree.specs.declared.declaration.TypeForm.{TypeForm}
 use Rattle.ob_tree.specs.declared.declaration.TypeForm.TheVariants as forms
@@ -22,7 +22,7 @@ use Rattle.ob_tree.specs.Types.{section_outline, parameters_outline, type_outlin
 use Rattle.ob_tree.proofs.TypeLayers.{section_out, parameters_out, fields_out, record_out, var_out, named_made, array_made, record_of_made, pointer_made, procedure_type_made}
 use Rattle.ob_tree.proofs.Walks.{items-append, items-construct, items-times, walks}
 
-pub section_items : (s : Section) → items_of (section_outline s) ≡
+pub section_items : (s : ParameterSection) → items_of (section_outline s) ≡
     items_of (if_so s.variable (word kinds.Var)) ++ (items.Declared s.names.first ∷ (items_of (each_after kinds.Comma declared s.names.rest.items) ++
     (items.Word ∷ (items_of (times s.open_arrays (word kinds.Array ++ word kinds.Of)) ++ items_of (qualident_outline s.of)))))
 section_items s = simp (section_out s, items-construct, items-append)

@@ -21,6 +21,7 @@ pub data Mark : Type 0 where
   Value : Literal → ℕ → Mark
   Word : Kind → Mark
 
+-- an outline is a list of marks
 abbrev pub Out : Type 0
 Out = List Mark
 

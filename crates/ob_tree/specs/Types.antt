@@ -1,7 +1,7 @@
 -- The outlines of types, a step for each production (Oberon-07 report, sections 6 and 10.1).
 use Rattle.std.specs.Prelude.{◌++◌}
 use Rattle.ob_scan.specs.declared.kind.Kind.TheVariants as kinds
-use Rattle.ob_tree.specs.declared.declaration.Section.{Section}
+use Rattle.ob_tree.specs.declared.declaration.ParameterSection.{ParameterSection}
 use Rattle.ob_tree.specs.declared.declaration.Parameters.{Parameters}
 use Rattle.ob_tree.specs.declared.declaration.TypeForm.{TypeForm, TypeForm-F, fold-TypeForm}
 use Rattle.ob_tree.specs.declared.declaration.TypeForm.TheOpen as layers
@@ -14,7 +14,7 @@ use Rattle.ob_tree.specs.Names.{qualident_outline, identdef_outline}
 use Rattle.ob_tree.specs.Expressions.{expr_list_outline}
 
 -- FPSection = [VAR] ident {"," ident} ":" {ARRAY OF} qualident
-unfoldable pub section_outline : Section → Out
+unfoldable pub section_outline : ParameterSection → Out
 section_outline s = construct constructs.FPSection (
     if_so s.variable (word kinds.Var) ++ (listed kinds.Comma declared s.names ++ (word kinds.Colon ++
     (times s.open_arrays (word kinds.Array ++ word kinds.Of) ++ qualident_outline s.of))))
@@ -41,7 +41,7 @@ type_parts (layers.ProcOf p) = word kinds.Procedure ++ if_there parameters_outli
 abbrev pub type_step : TypeForm-F Out Out Out Out → Out
 type_step t = construct constructs.TypeForm (type_parts t)
 
--- FieldList {";" FieldList} [";"]
+-- FieldList {";" FieldList} [";"]; the report has not the last semicolon
 abbrev pub fields_step : Fields-F Out Out Out Out → Out
 fields_step f =
     construct constructs.FieldList f.first ++

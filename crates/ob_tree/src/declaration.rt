@@ -4,7 +4,7 @@ use crate::expression::{Expr, ExprList};
 use crate::name::{Identdef, OneOrMore, Qualident};
 use crate::statement::Block;
 
-/// A module. Its name is the numbers of its two tokens, after MODULE and after END.
+/// A module. `name` and `end_name` are the numbers of the tokens after MODULE and after END.
 #[derive(Drop)]
 pub struct Module {
     pub name: u32,
@@ -14,7 +14,7 @@ pub struct Module {
     pub end_name: u32,
 }
 
-/// An imported module, under its own name or, where `of` names it, under another.
+/// An import. `name` is declared by it; `of` is the imported module's own name, where another stands before `:=`.
 #[derive(Clone, Copy, PartialEq, Eq, Debug, Drop)]
 pub struct ImportItem {
     pub name: u32,
@@ -70,11 +70,15 @@ pub struct ProcDecl {
 #[derive(Drop)]
 #[cycle(types)]
 pub enum TypeForm {
+    /// A type by its name.
     Named(Qualident),
     /// An array, with its lengths.
     ArrayOf(Box<ExprList>, Box<TypeForm>),
+    /// RECORD and its fields.
     RecordOf(Record),
+    /// POINTER TO a type.
     PointerTo(Box<TypeForm>),
+    /// A procedure type, with its parameters if they stand there.
     ProcOf(Option<Parameters>),
 }
 
@@ -86,7 +90,7 @@ pub struct Record {
     pub fields: Option<Box<Fields>>,
 }
 
-/// The field lists of a record, and whether a semicolon stands before its END.
+/// The field lists of a record, and whether a semicolon stands before its END, which the report's grammar has not.
 #[derive(Drop)]
 #[cycle(types)]
 pub struct Fields {
@@ -98,13 +102,14 @@ pub struct Fields {
 /// Formal parameters, and the type of the result.
 #[derive(Drop)]
 pub struct Parameters {
-    pub sections: Option<OneOrMore<Section>>,
+    pub sections: Option<OneOrMore<ParameterSection>>,
     pub result: Option<Qualident>,
 }
 
-/// Parameters of one formal type.
+/// Parameters of one formal type (FPSection).
 #[derive(Drop)]
-pub struct Section {
+pub struct ParameterSection {
+    /// Whether VAR stands before the names.
     pub variable: bool,
     pub names: OneOrMore<u32>,
     /// How often ARRAY OF stands in front of the type's name.

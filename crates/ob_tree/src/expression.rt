@@ -77,11 +77,15 @@ pub struct Term {
 pub enum Factor {
     /// A literal, by the number of its token.
     Value(Literal, u32),
+    /// `NIL`
     Nil,
+    /// `TRUE`
     True,
+    /// `FALSE`
     False,
     /// A set; `None` is the empty one.
     Set(Option<Box<ElementList>>),
+    /// A designator.
     Name(Designator),
     /// An expression in parentheses.
     Group(Box<Expr>),

@@ -15,8 +15,11 @@ pub struct Block {
 #[derive(Drop)]
 #[cycle(statements)]
 pub enum Stmt {
+    /// No token at all.
     Empty,
+    /// An assignment, with what stands on both sides of `:=`.
     Assign(Designator, Expr),
+    /// A designator alone: a call of a procedure.
     Call(Designator),
     /// IF, with the branches after ELSIF and what stands after ELSE.
     If(Box<Branch>, Vec<Branch>, Option<Box<Block>>),
@@ -26,6 +29,7 @@ pub enum Stmt {
     While(Box<Branch>, Vec<Branch>),
     /// REPEAT, with the condition after UNTIL.
     Repeat(Box<Block>, Expr),
+    /// FOR.
     For(Box<For>),
 }
 
@@ -41,7 +45,9 @@ pub struct Branch {
 #[derive(Drop)]
 #[cycle(statements)]
 pub enum Case {
+    /// No token at all.
     Nothing,
+    /// Labels, and the statements after their colon.
     Labelled(OneOrMore<LabelRange>, Box<Block>),
 }
 

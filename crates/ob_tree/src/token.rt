@@ -9,8 +9,11 @@ use ob_scan::Kind;
 /// A token as a tree keeps it: an identifier or a literal by its number, any other by its kind.
 #[derive(Clone, Copy, PartialEq, Eq, Debug)]
 pub enum Leaf {
+    /// An identifier.
     Name(u32),
+    /// A literal.
     Value(Literal, u32),
+    /// A reserved word, an operator or a delimiter.
     Word(Kind),
 }
 

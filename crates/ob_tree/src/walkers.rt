@@ -1,5 +1,5 @@
-//! What stands in a module's tree, by the numbers of its tokens. Each takes one pass over the tree and at most one over its
-//! tokens, and recurses no deeper than the tree's constructs hold one another.
+//! What stands in a module's tree, by the numbers of its tokens. The walkers recurse a few calls for each level of
+//! nesting; lists are loops. Each call answers AllocError where a growth of memory is refused.
 
 ghost use Rattle.std.specs.Prelude.{◌≡◌, ◌<◌, ◌^◌, [], ◌∷◌, List, length, IfOk};
 ghost use Rattle.std.specs.List.{range_with_len};
@@ -36,7 +36,7 @@ fn number_of(item: Item, place: u32) -> u32
 }
 
 /// The number of each token of a module's tree, in order: of an identifier or a literal the number that the tree
-/// carries, of a word its place from 0. Of a tree that derives a file's tokens they are 0, 1, 2 and so on to the last.
+/// carries, of a word its place from 0. The tree has fewer than 2^32 tokens. Of a tree that derives a file's tokens they are 0, 1, 2 and so on to the last.
 #[tactic(auto, using(crate::proofs::Passes::passes))]
 pub fn yield_of(alloc: Global, module: &Module) -> Result<Vec<u32>, AllocError>
     requires { length (spelling «module».now) < 2 ^ 32 }

@@ -14,6 +14,17 @@ fn two_hundred_levels_are_taken(rt: HostRuntime) -> Result<(), Fail> {
     refuses(&rt, text.as_slice(), ParseFault::TooDeep { offset: 220 })?;
     let open = nested(&rt, b"MODULE M; ", b"PROCEDURE p; ", 200, b"")?;
     let text = nested(&rt, open.as_slice(), b"END p; ", 200, b"END M.")?;
+    accepts(&rt, text.as_slice())?;
+    let text = nested(
+        &rt,
+        b"MODULE M; TYPE T = ",
+        b"POINTER TO ",
+        199,
+        b"T; END M.",
+    )?;
+    accepts(&rt, text.as_slice())?;
+    let open = nested(&rt, b"MODULE M; BEGIN ", b"REPEAT ", 199, b"x")?;
+    let text = nested(&rt, open.as_slice(), b" UNTIL y", 199, b" END M.")?;
     accepts(&rt, text.as_slice())
 }
 
@@ -42,9 +53,20 @@ fn deep_expressions_are_refused(rt: HostRuntime) -> Result<(), Fail> {
     let text = nested(&rt, b"MODULE M; BEGIN x := ", b"(", MANY, b"")?;
     refuses(&rt, text.as_slice(), ParseFault::TooDeep { offset: 220 })?;
     let text = nested(&rt, b"MODULE M; BEGIN x := ", b"~", MANY, b"")?;
-    refuses(&rt, text.as_slice(), ParseFault::TooDeep { offset: 220 })?;
+    refuses(&rt, text.as_slice(), ParseFault::TooDeep { offset: 220 })
+}
+
+#[test]
+fn a_word_that_begins_no_expression_is_wrong(rt: HostRuntime) -> Result<(), Fail> {
     let text = nested(&rt, b"MODULE M; ", b"BEGIN IF ", MANY, b"")?;
     refuses(&rt, text.as_slice(), ParseFault::Syntax { offset: 19 })
+}
+
+#[test]
+fn deep_comments_are_passed_over(rt: HostRuntime) -> Result<(), Fail> {
+    let open = nested(&rt, b"MODULE M; ", b"(*", MANY, b"")?;
+    let text = nested(&rt, open.as_slice(), b"*)", MANY, b" END M.")?;
+    accepts(&rt, text.as_slice())
 }
 
 #[test]

@@ -1,6 +1,6 @@
 use super::tree_of;
-use ob_tree::Stmt;
 use ob_tree::expression::{AddOperator, Factor, Literal, MulOperator};
+use ob_tree::statement::Stmt;
 use std::test::Fail;
 
 /// The number of the only name of a factor, or 0.
@@ -24,7 +24,7 @@ fn the_least_module_has_its_tree(rt: HostRuntime) -> Result<(), Fail> {
     let tree = tree_of(&rt, b"MODULE M; END M.")?;
     assert_eq!(&rt; (tree.name, tree.end_name), (1, 4));
     assert!(&rt; tree.imports.is_none() && tree.body.is_none());
-    assert!(&rt; tree.declarations.constants.is_none() && tree.declarations.variables.is_none());
+    assert!(&rt; tree.declarations.constants.is_none() && tree.declarations.types.is_none());
     assert_eq!(&rt; tree.declarations.procedures.len(), 0);
     Ok(())
 }

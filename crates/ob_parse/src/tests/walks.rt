@@ -1,5 +1,5 @@
 use super::tree_of;
-use ob_tree::{declarations, endings, uses, yield_of};
+use ob_tree::walkers::{declarations, endings, uses, yield_of};
 use std::alloc::AllocGlobal;
 use std::process::Abort;
 use std::test::Fail;

@@ -6,7 +6,7 @@ ghost use Rattle.ob_tree.specs.Derives.{items_of};
 ghost use Rattle.ob_tree.specs.Marks.{word, times};
 ghost use Rattle.ob_tree.specs.Types.{section_outline, parameters_outline, type_outline, fields_outline, record_outline, var_outline};
 
-use crate::declaration::{Fields, Parameters, Record, Section, TypeForm, VarDecl};
+use crate::declaration::{Fields, ParameterSection, Parameters, Record, TypeForm, VarDecl};
 use crate::item::Item;
 use crate::walk::expressions::walk_expr_list;
 use crate::walk::names::{walk_identdef, walk_qualident};
@@ -25,7 +25,7 @@ fn walk_open_arrays(out: &mut Vec<Item>, count: u32) -> Result<(), AllocError>
 }
 
 #[tactic(auto, using(crate::proofs::TypeWalks::section_walks))]
-fn walk_section(out: &mut Vec<Item>, section: &Section) -> Result<(), AllocError>
+fn walk_section(out: &mut Vec<Item>, section: &ParameterSection) -> Result<(), AllocError>
     ensures { IfOk result (λ _. out.new.items ≡ out.old.items ++ items_of (section_outline section.now)) }
 {
     if section.variable {

@@ -1,4 +1,3 @@
-use Rattle.std.proofs.Common.{◌≡◌}
 use Rattle.ob_parse.proofs.RightEnds.{right_more, all_right, first_wrong, no_token}
 use Rattle.ob_parse.proofs.ends.wrong_end.Goals as goal
 

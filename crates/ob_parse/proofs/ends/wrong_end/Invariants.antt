@@ -1,6 +1,5 @@
-use Rattle.std.proofs.Common.{◌≡◌, take}
+use Rattle.std.proofs.Common.{take}
 use Rattle.std.specs.List.{All}
-use Rattle.ob_parse.specs.Ends.{FirstWrong, IsEnd, IsKnown, IsPlaced}
 use Rattle.ob_parse.specs.Parsed.{IsRightEnd}
 use Rattle.ob_parse.proofs.ends.wrong_end.Given as goal
 

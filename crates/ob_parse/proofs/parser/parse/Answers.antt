@@ -1,14 +1,13 @@
-use Rattle.std.proofs.Common.{◌≡◌, ◌<◌, ◌^◌, ◌∙◌, ap, sym, subst, refl, length, map, IfOk, IfErr, List, Result, arith}
-use Rattle.std.proofs.lemmas.Result.{err_from_is_err_and}
+use Rattle.std.proofs.Common.{ap, sym, subst, length, List, Result, arith}
 use Rattle.ob_scan.proofs.Places.{spelled_in_text}
 use Rattle.ob_scan.specs.declared.token.Token.{Token}
 use Rattle.ob_tree.specs.Declaring.{module_outline}
-use Rattle.ob_tree.specs.Derives.{Derives, endings_in}
+use Rattle.ob_tree.specs.Derives.{Derives}
 use Rattle.ob_tree.specs.Leaves.{leaves}
 use Rattle.ob_tree.specs.Marks.{Out}
 use Rattle.ob_parse.specs.Forms.{Refusal}
 use Rattle.ob_parse.specs.Gives.{Fails}
-use Rattle.ob_parse.specs.Parsed.{IsOneTree, IsTheTree, IsFaultOf, kinds_of}
+use Rattle.ob_parse.specs.Parsed.{IsOneTree, kinds_of}
 use Rattle.ob_parse.specs.ReadModules.{all_of}
 use Rattle.ob_parse.proofs.OneTree.{one_tree, why_none, endings_are_known, tokens_placed, few_tokens}
 use Rattle.ob_parse.proofs.parser.parse.Goals as goal

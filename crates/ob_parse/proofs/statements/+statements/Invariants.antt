@@ -36,8 +36,8 @@ decreases-more_cases l = 16 * l.depth + 7
 abbrev pub decreases-for_body : goal.decreases-for_body
 decreases-for_body l = 16 * l.depth + 8
 
-abbrev pub decreases-for_limit : goal.decreases-for_limit
-decreases-for_limit l = 16 * l.depth + 9
+abbrev pub decreases-for_rest : goal.decreases-for_rest
+decreases-for_rest l = 16 * l.depth + 9
 
 abbrev pub decreases-if_statement : goal.decreases-if_statement
 decreases-if_statement l = 16 * l.depth + 10
@@ -54,8 +54,8 @@ decreases-repeat_statement l = 16 * l.depth + 13
 abbrev pub decreases-for_statement : goal.decreases-for_statement
 decreases-for_statement l = 16 * l.depth + 14
 
-abbrev pub decreases-statement_over : goal.decreases-statement_over
-decreases-statement_over l = 16 * l.depth + 15
+abbrev pub decreases-statement_within : goal.decreases-statement_within
+decreases-statement_within l = 16 * l.depth + 15
 
 abbrev pub invariant-more_statements-more : goal.invariant-more_statements-more
 invariant-more_statements-more l =
