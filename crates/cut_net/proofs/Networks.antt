@@ -1,23 +1,21 @@
 -- The network of tables: names and imports in their order.
-use Rattle.std.proofs.Common.{◌≡◌, ℕ, ◌+◌, ◌<◌, ◌≤◌, true, false, eqb, ltb, ◌&&◌, ◌||◌, List, [], ◌∷◌, ◌++◌, length, get_or, map, Option, Some, refl, sym, ap, ◌∙◌, arith, inl, inr, subst}
+use Rattle.std.proofs.Common.{◌≡◌, ℕ, ◌<◌, ◌≤◌, true, false, eqb, ltb, ◌&&◌, ◌||◌, List, [], ◌∷◌, ◌++◌, length, get_or, map, Option, Some, refl, sym, ap, ◌∙◌, arith, inl, inr, subst}
 use Rattle.std.specs.Prelude.{AllPairs, Contains, IsPermutation, String, filter}
 use Rattle.std.specs.List.{IsDistinct, position}
-use Rattle.std.specs.List.Sorted.{IsSorted, IsSortedByKey, IsStrictlySortedBy}
-use Rattle.std.specs.Ordering.{nat_cmp, is_lt, ordering_then, ordering_reverse}
+use Rattle.std.specs.List.Sorted.{IsSorted, IsSortedByKey}
+use Rattle.std.specs.Ordering.{nat_cmp, is_lt, ordering_then}
 use Rattle.std.specs.Cmp.{IsTotalOrder, nat_cmp_total, nat_eq_equiv, on_total, then_total}
 use Rattle.std.proofs.lemmas.Bool.Decides.{nat_tests}
-use Rattle.std.specs.Cmp.Lexicographic.{slice_cmp, nat_list_cmp_total, nat_list_eq_equiv}
+use Rattle.std.specs.Cmp.Lexicographic.{nat_list_eq_equiv}
 use Rattle.std.specs.Str.{bytes_eq}
 use Rattle.std.specs.String.{string_bytes, string_cmp}
 use Rattle.std.specs.declared.cmp.Ordering.{Ordering}
-use Rattle.std.specs.declared.cmp.Ordering.TheVariants.{Less, Equal, Greater}
 use Rattle.std.proofs.lemmas.Bool.{and_parts, cases_order, eqb-true, false_from_ne_true, false≢true}
 use Rattle.std.proofs.lemmas.List.{get_or-map, get_or_default, length-map, map_push}
 use Rattle.std.proofs.lemmas.List.Elements.{Contains-push_cases}
 use Rattle.std.proofs.lemmas.List.Kept.{AllPairs-filter}
 use Rattle.std.proofs.lemmas.List.Sorted.{Contains-permutation, IsPermutation-sym, length_permutation, ranks_by, sorted_far}
-use Rattle.std.proofs.lemmas.Map.Keys.{IsDistinct-from_apart, IsDistinct-IsPermutation, apart_from_distinct, sorted_from_all_adjacent}
-use Rattle.std.proofs.lemmas.Map.Text.{is_eq-slice_cmp}
+use Rattle.std.proofs.lemmas.Map.Keys.{IsDistinct-from_apart, IsDistinct-IsPermutation, apart_from_distinct}
 use Rattle.std.proofs.lemmas.Slice.Eq.{bytes_eq-Decides}
 use Rattle.cut_net.specs.declared.priced.Priced.{Priced}
 use Rattle.cut_net.specs.Cuts.{same_ends}
@@ -26,37 +24,17 @@ use Rattle.cut_net.specs.Network.{texts}
 use Rattle.cut_net.specs.NetText.{NetLine, Import, is_import, AreApart, IsNetOf}
 use Rattle.cut_net.specs.NetReading.{entry_line, import_line, AreTablesOf}
 use Rattle.cut_net.specs.WellFormed.{AreBetween, AreNamesInOrder}
-use Rattle.cut_net.proofs.Members.{in_filter, from_filter, in_map, from_map}
-use Rattle.cut_net.proofs.Ordered.{sorted_strings}
+use Rattle.ob_imports.proofs.Members.{in_filter, from_filter, in_map, from_map}
+use Rattle.ob_imports.proofs.Ordered.{sorted_strings, texts_in_order}
+use Rattle.ob_imports.proofs.SameNames.{apart_ascend}
 use Rattle.cut_net.proofs.Places.{index_again, position_named}
 use Rattle.cut_net.proofs.Search.{sorted_apart}
 
 -- ---- names
 
--- two texts that are apart and not the other way round are in order
-below : (a b : List ℕ) → is_lt (slice_cmp nat_cmp b a) ≡ false → bytes_eq a b ≡ false → slice_cmp nat_cmp a b ≡ Less
-below a b not_less apart = by (slice_cmp nat_cmp a b) refl
-  where
-    by : (o : Ordering) → slice_cmp nat_cmp a b ≡ o → o ≡ Less
-    by Less e = refl
-    by Equal e = absurd (false≢true (sym apart ∙ sym (is_eq-slice_cmp a b) ∙ ap Rattle.std.specs.Ordering.is_eq e))
-    by Greater e = absurd (false≢true (sym not_less ∙ ap is_lt (nat_list_cmp_total.antisymm b a ∙ ap ordering_reverse e)))
-
-none_ascend : AreNamesInOrder []
-unfolding IsStrictlySortedBy
-none_ascend = tt
-
 module _ {Z : Type 0} where
   pub names_ascend : (names : List (String Z)) → IsSorted string_cmp names → IsDistinct bytes_eq (texts names) → AreNamesInOrder (texts names)
-  names_ascend [] sorted once = none_ascend
-  names_ascend (x ∷ xs) sorted once =
-      sorted_from_all_adjacent nat_list_cmp_total (texts (x ∷ xs)) [] (λ k within.
-      let long = length-map (x ∷ xs) string_bytes in
-      let here = get_or-map string_bytes (x ∷ xs) k x [] (omega arith) in
-      let next = get_or-map string_bytes (x ∷ xs) (k + 1) x [] (omega arith) in
-      let apart = apart_from_distinct bytes_eq (texts (x ∷ xs)) k (k + 1) [] once (omega arith) within in
-      let falls = sorted k x (omega arith) (omega arith) in
-      below (get_or (texts (x ∷ xs)) k []) (get_or (texts (x ∷ xs)) (k + 1) []) (rw (here, next) falls) apart)
+  names_ascend names sorted once = apart_ascend (texts names) (texts_in_order names sorted) once
 
   -- a known name has a place
   pub place_known : (names : List (String Z)) (name : List ℕ) (o : Option ℕ) → AreNamesInOrder (texts names) → o ≡ position (λ x. bytes_eq (string_bytes x) name) names → Contains (texts names) name

@@ -1,5 +1,5 @@
 -- Names in the order in which they come, by their bytes.
-use Rattle.std.proofs.Common.{◌≡◌, ℕ, ◌<◌, Bool, true, ◌||◌, List, [], ◌∷◌, length, get_or, Some, refl, sym, ap, ◌∙◌, arith, inl, inr}
+use Rattle.std.proofs.Common.{◌≡◌, ℕ, ◌<◌, true, List, [], length, get_or, Some, refl, sym, ap, ◌∙◌, arith, inl, inr}
 use Rattle.std.specs.Prelude.{String}
 use Rattle.std.specs.List.{list_any}
 use Rattle.std.specs.Prelude.{slice_get}
@@ -10,19 +10,16 @@ use Rattle.std.proofs.lemmas.List.{map_push, get_or-map, length-map}
 use Rattle.std.proofs.lemmas.Option.{slice_get_within, get_or_from_slice_get}
 use Rattle.std.proofs.lemmas.Slice.Eq.{bytes_eq-Decides}
 use Rattle.indexmap.specs.IndexSet.{insert_key}
+use Rattle.ob_imports.proofs.Places.{any_text}
 use Rattle.cut_net.specs.Network.{texts}
 use Rattle.cut_net.specs.NetReading.{noted}
 
 module _ {Z : Type 0} where
-  any_text : (name : List ℕ) (names : List (String Z)) → list_any (bytes_eq name) (texts names) ≡ list_any (λ x. bytes_eq name (string_bytes x)) names
-  any_text name [] = refl
-  any_text name (x ∷ names) = ap (λ (b : Bool). bytes_eq name (string_bytes x) || b) (any_text name names)
-
   pub texts_noted : (names : List (String Z)) (k : String Z) (name : List ℕ) → string_bytes k ≡ name → texts (insert_key string_eq names k) ≡ noted (texts names) name
   texts_noted names k name e =
       elim (cases_Bool (list_any (λ x. bytes_eq (string_bytes k) (string_bytes x)) names)) [
-        | inl there ↦ rw (← e, any_text (string_bytes k) names, there) refl
-        | inr new ↦ rw (← e, any_text (string_bytes k) names, new) (map_push string_bytes names k)
+        | inl there ↦ rw (← e, ← any_text (string_bytes k) names, there) refl
+        | inr new ↦ rw (← e, ← any_text (string_bytes k) names, new) (map_push string_bytes names k)
       ]
 
   -- the key at a place, by its bytes

@@ -2,13 +2,13 @@
 use Rattle.std.proofs.Common.{◌≡◌, ℕ, ◌+◌, ◌<◌, ◌≤◌, ◌^◌, List, [], ◌∷◌, ◌++◌, refl, sym, ◌∙◌, ap, subst, arith, true, Option, None, Some, take}
 use Rattle.std.specs.Prelude.{AllPairs, IfSome, map, slice_get}
 use Rattle.std.proofs.lemmas.List.Elements.{All-contains, Contains-push}
-use Rattle.cut_net.specs.Cycle.{NamesCycle}
+use Rattle.ob_imports.specs.Cycle.{NamesCycle}
 use Rattle.cut_net.specs.Network.{Network, name_of}
-use Rattle.cut_net.specs.WellFormed.{IsAcyclic, total_weight}
-use Rattle.cut_net.specs.NetText.{NetLine, Module, Import, net_line, IsNetLine, is_written, pieces_of, AreApart, AreFew, AreGood, IsBadLine, IsTwiceImport, IsTooMany, IsNetOf, Leads, NetText, IsOverflow, IsCycle, IsNetOutcome, NetOutcome, Reads, BadLine, TwiceImport, Cycle, WeightOverflow, TooMany}
+use Rattle.cut_net.specs.WellFormed.{IsAcyclic, Leads, total_weight}
+use Rattle.cut_net.specs.NetText.{NetLine, Module, Import, net_line, IsNetLine, is_written, pieces_of, AreApart, AreFew, AreGood, IsBadLine, IsTwiceImport, IsTooMany, IsNetOf, NetText, IsOverflow, IsCycle, IsNetOutcome, NetOutcome, Reads, BadLine, TwiceImport, Cycle, WeightOverflow, TooMany}
 use Rattle.cut_net.proofs.FieldCuts.{some_is}
 use Rattle.cut_net.proofs.NetLines.{line_once}
-use Rattle.cut_net.proofs.OneCycle.{one_cycle, cyclic}
+use Rattle.ob_imports.proofs.OneCycle.{one_cycle, cyclic}
 use Rattle.cut_net.proofs.OneNetwork.{one_network}
 use Rattle.cut_net.proofs.Stops.{Stops, one_stop, no_stop, same_lines}
 
@@ -104,7 +104,7 @@ not_over net other e fits over = let same : total_weight net ≡ total_weight ot
 reads_no_cycle : (bytes : List ℕ) (net : Network) (names : List (List ℕ)) → NetText bytes net → IsAcyclic net.imports → IsCycle bytes names → ⊥
 reads_no_cycle bytes net names text acyclic c =
     let same : net ≡ c.net = same_net bytes net c.net text c.text in
-    cyclic c.net.imports c.cycle c.is_cycle (subst (λ (n : Network). IsAcyclic n.imports) same acyclic)
+    cyclic (Leads c.net.imports) c.cycle c.is_cycle (subst (λ (n : Network). IsAcyclic n.imports) same acyclic)
 
 reads_no_overflow : (bytes : List ℕ) (net : Network) → NetText bytes net → total_weight net < 2 ^ 64 → IsOverflow bytes → ⊥
 reads_no_overflow bytes net text fits o = not_over net o.net (same_net bytes net o.net text o.text) fits o.over

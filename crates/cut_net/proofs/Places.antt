@@ -1,23 +1,16 @@
 -- The first place of a name.
-use Rattle.std.proofs.Common.{◌≡◌, ℕ, ◌+◌, ◌<◌, Bool, cond, not, List, [], ◌∷◌, length, get_or, Some, map, refl, ap, arith}
-use Rattle.std.specs.List.{position, prefix_len, position_or_len}
+use Rattle.std.proofs.Common.{◌≡◌, ℕ, ◌<◌, List, [], length, get_or, Some, map, refl, arith}
+use Rattle.std.specs.List.{position, position_or_len}
 use Rattle.std.proofs.lemmas.Bool.{ltb-true, lt-ltb, false_from_ne_true}
 use Rattle.std.proofs.lemmas.Option.{cond_some}
 use Rattle.std.proofs.lemmas.Slice.Eq.{bytes_eq-Decides}
 use Rattle.std.proofs.lemmas.List.Sums.{passes_at_first, position_or_len_is}
+use Rattle.ob_imports.proofs.Places.{position-map}
 use Rattle.cut_net.specs.Network.{Network, name_of, index_of}
 use Rattle.cut_net.proofs.Search.{AreApart}
 use Rattle.std.specs.Str.{bytes_eq}
 use Rattle.std.specs.String.{string_bytes}
 use Rattle.std.specs.Prelude.{String}
-use Rattle.std.proofs.lemmas.List.{length-map}
-
-prefix_len-map : {A B : Type 0} (p : B → Bool) (f : A → B) (xs : List A) → prefix_len p (map f xs) ≡ prefix_len (λ x. p (f x)) xs
-prefix_len-map p f [] = refl
-prefix_len-map p f (x ∷ xs) = ap (λ n. cond (p (f x)) (1 + n) 0) (prefix_len-map p f xs)
-
-position-map : {A B : Type 0} (p : B → Bool) (f : A → B) (xs : List A) → position p (map f xs) ≡ position (λ x. p (f x)) xs
-position-map p f xs = rw (prefix_len-map (λ y. not (p y)) f xs, length-map) refl
 
 pub position_named : {Z : Type 0} (name : List ℕ) (names : List (String Z)) → position (λ x. bytes_eq x name) (map string_bytes names) ≡ position (λ x. bytes_eq (string_bytes x) name) names
 position_named name names = position-map (λ x. bytes_eq x name) string_bytes names

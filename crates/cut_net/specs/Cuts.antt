@@ -1,6 +1,7 @@
 -- Chains, cuts and flows in a network. An import has the module that imports, the one that is imported, and its weight.
 -- A set of imports is a test of imports, a set of modules a test of their numbers.
-use Rattle.std.specs.Prelude.{◌≡◌, ◌≢◌, ◌↔◌, ℕ, ◌+◌, ◌≤◌, ◌<◌, ◌==◌, ◌&&◌, not, Bool, true, false, if◌then◌else◌, List, [], ◌∷◌, sum_by, Contains}
+use Rattle.std.specs.Prelude.{◌≡◌, ◌≢◌, ◌↔◌, ℕ, ◌+◌, ◌≤◌, ◌<◌, ◌==◌, ◌&&◌, not, Bool, true, false, if◌then◌else◌, List, sum_by, Contains}
+use Rattle.ob_imports.specs.Chains as chains
 use Rattle.cut_net.specs.declared.priced.Priced.{Priced}
 use Rattle.cut_net.specs.Network.{Network}
 
@@ -14,12 +15,11 @@ Any i = Unit {0}
 
 -- each module imports the next, by an import that is allowed: the first, those of the list, and the list's last is the end
 abbrev pub IsChain : List Priced → (Priced → Type 0) → ℕ → List ℕ → ℕ → Type 0
-IsChain imports Allowed m [] b = m ≡ b
-IsChain imports Allowed m (n ∷ more) b = Imports imports Allowed m n × IsChain imports Allowed n more b
+IsChain imports Allowed = chains.IsChain (Imports imports Allowed)
 
 -- a chain of allowed imports leads from the one module to the other; each module is a chain to itself
 abbrev pub Chain : List Priced → (Priced → Type 0) → ℕ → ℕ → Type 0
-Chain imports Allowed m b = (more : List ℕ) × IsChain imports Allowed m more b
+Chain imports Allowed = chains.Chain (Imports imports Allowed)
 
 -- outside a set
 abbrev pub Outside : (Priced → Bool) → Priced → Type 0

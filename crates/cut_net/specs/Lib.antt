@@ -3,11 +3,9 @@ pub mod Network
 pub mod Said
 pub mod Cuts
 pub mod Lines
-pub mod Cycle
 pub mod WellFormed
 pub mod NetText
 pub mod NetReading
-pub mod Knots
 pub mod ReportLine
 pub mod ReportText
 pub mod ReportLines

@@ -1,5 +1,6 @@
 -- What lists of imports say of a network: a line has the modules of an import, and a weight or an amount of flow.
 use Rattle.std.specs.Prelude.{◌≡◌, ℕ, ◌<◌, ◌==◌, ◌&&◌, ◌||◌, nat_lt, Bool, List, Option, Some, None, is_some, IfSome, IsTrue, All, AllPairs, find, Contains}
+use Rattle.ob_imports.specs.declared.pair.Pair.{Pair}
 use Rattle.cut_net.specs.declared.priced.Priced.{Priced}
 use Rattle.cut_net.specs.Network.{Network}
 use Rattle.cut_net.specs.Said.{Said, CutOf}
@@ -8,6 +9,10 @@ use Rattle.cut_net.specs.Cuts.{Any, ArePrinted, Imports, IsCheapest, IsCut, IsFl
 -- the one comes before the other: by the importer, then by the imported
 abbrev pub comes_before : Priced → Priced → Bool
 comes_before i j = nat_lt i.from j.from || ((i.from == j.from) && nat_lt i.to j.to)
+
+-- an import without what it carries
+abbrev pub pair_of : Priced → Pair
+pair_of i = record { from = i.from; to = i.to }
 
 -- each comes before all later ones
 abbrev pub IsAscending : List Priced → Type 0

@@ -3,13 +3,12 @@ use Rattle.std.specs.Prelude.{◌≡◌, ◌≢◌, ◌↔◌, ◌⊎◌, ℕ, �
 use Rattle.std.specs.List.{slice_split, IsDistinct}
 use Rattle.std.specs.Str.{bytes_eq}
 use Rattle.std.specs.Fmt.{decimal}
+use Rattle.ob_imports.specs.Cycle.{NamesCycle}
 use Rattle.cut_net.specs.declared.priced.Priced.{Priced}
 use Rattle.cut_net.specs.Fields.{is_name, line_of}
 use Rattle.cut_net.specs.Network.{Network, name_of}
-use Rattle.cut_net.specs.Cuts.{Any, Imports}
 use Rattle.cut_net.specs.Lines.{IsAscending}
-use Rattle.cut_net.specs.Cycle.{NamesCycle}
-use Rattle.cut_net.specs.WellFormed.{AreBetween, AreNamesInOrder, IsAcyclic, total_weight}
+use Rattle.cut_net.specs.WellFormed.{AreBetween, AreNamesInOrder, IsAcyclic, Leads, total_weight}
 
 -- what a line says: there is a module, or the first module imports the second at this weight
 pub data NetLine : Type 0 where
@@ -124,10 +123,6 @@ pub record NetText (bytes : List ℕ) (net : Network) : Type 0 where
   pub spelled : Spell (pieces_of bytes) lines
   pub good : AreGood lines
   pub is_net : IsNetOf lines net
-
--- the one module imports the other
-abbrev pub Leads : List Priced → ℕ → ℕ → Type 0
-Leads imports m n = Imports imports Any m n
 
 -- what a text of a network says, or its first fault
 pub data NetOutcome : Type 0 where

@@ -1,14 +1,18 @@
 -- Networks: modules with names, and imports with weights. A module's number is the place of its name.
-use Rattle.std.specs.Prelude.{ℕ, List, [], Option, map, String}
+use Rattle.std.specs.Prelude.{ℕ, List, [], Option}
 use Rattle.std.specs.List.{slice_index_or, position}
 use Rattle.std.specs.Str.{bytes_eq}
-use Rattle.std.specs.String.{string_bytes}
+pub use Rattle.ob_imports.specs.Names.{texts}
 use Rattle.cut_net.specs.declared.priced.Priced.{Priced}
 
 -- the names of the modules in order, and the imports in order
 pub record Network : Type 0 where
   pub names : List (List ℕ)
   pub imports : List Priced
+
+-- what is read past the end of a list of imports
+abbrev pub none_there : Priced
+none_there = record { from = 0; to = 0; amount = 0 }
 
 -- the name of a module, and no text where there is none of this number
 abbrev pub name_of : Network → ℕ → List ℕ
@@ -17,7 +21,3 @@ name_of net m = slice_index_or net.names m []
 -- the number of the module of this name
 abbrev pub index_of : Network → List ℕ → Option ℕ
 index_of net name = position (λ x. bytes_eq x name) net.names
-
--- the bytes of each text
-abbrev pub texts : {Z : Type 0} → List (String Z) → List (List ℕ)
-texts names = map string_bytes names

@@ -3,10 +3,11 @@ use Rattle.std.specs.Prelude.{◌≡◌, ℕ, ◌^◌, ◌<◌, ◌≤◌, true,
 use Rattle.std.specs.List.Sorted.{IsStrictlySortedBy}
 use Rattle.std.specs.Ordering.{nat_cmp}
 use Rattle.std.specs.Cmp.Lexicographic.{slice_cmp}
+use Rattle.ob_imports.specs.Chains as chains
 use Rattle.cut_net.specs.declared.priced.Priced.{Priced}
 use Rattle.cut_net.specs.Network.{Network}
 use Rattle.cut_net.specs.Fields.{is_name}
-use Rattle.cut_net.specs.Cuts.{Any, Chain}
+use Rattle.cut_net.specs.Cuts.{Any, Imports}
 use Rattle.cut_net.specs.Lines.{IsAscending}
 
 -- names in ascending order of their bytes, each once
@@ -17,9 +18,13 @@ AreNamesInOrder names = IsStrictlySortedBy (slice_cmp nat_cmp) names
 abbrev pub AreBetween : List Priced → ℕ → Type 0
 AreBetween imports count = (i : Priced) → Contains imports i → (i.from < count) × (i.to < count)
 
+-- the one module imports the other
+abbrev pub Leads : List Priced → ℕ → ℕ → Type 0
+Leads imports m n = Imports imports Any m n
+
 -- no module reaches itself by one or more imports
 abbrev pub IsAcyclic : List Priced → Type 0
-IsAcyclic imports = (i : Priced) → Contains imports i → Chain imports Any i.to i.from → ⊥
+IsAcyclic imports = chains.IsAcyclic (Leads imports)
 
 -- the sum of all weights
 abbrev pub total_weight : Network → ℕ

@@ -1,42 +1,30 @@
 //! The named cycle of a network's imports.
-ghost use Rattle.std.specs.Prelude.{ℕ, ◌≡◌, ◌<◌, ◌≤◌, length, All, IfOk, IfSome, IfNone, slice_index};
-ghost use Rattle.cut_net.specs.Cycle.{IsTurned, NamesCycle};
-ghost use Rattle.cut_net.specs.Lines.{IsAscending};
-ghost use Rattle.cut_net.specs.NetText.{Leads};
-ghost use Rattle.cut_net.specs.WellFormed.{AreBetween, IsAcyclic};
+ghost use Rattle.std.specs.Prelude.{◌≡◌, ◌<◌, ◌≤◌, length, map, All, IfOk, IfSome, IfNone};
+ghost use Rattle.ob_imports.specs.Cycle.{NamesCycle};
+ghost use Rattle.cut_net.specs.Lines.{IsAscending, pair_of};
+ghost use Rattle.cut_net.specs.WellFormed.{AreBetween, IsAcyclic, Leads};
 
 use crate::Priced;
-use crate::knot::knot_of;
-use crate::walk::{first_marked, walk};
+use ob_imports::Pair;
 use std::alloc::{AllocError, Global};
 
-/// The place of the least number.
-fn place_of_least(modules: &[u32]) -> usize
-    requires { 0 < length modules.now }
-    ensures within { result < length modules.now }
-    ensures least { (k : ℕ) → k < length modules.now → slice_index modules.now result ≤ slice_index modules.now k }
+/// The imports without their weights.
+fn pairs_of(alloc: Global, imports: &[Priced]) -> Result<Vec<Pair>, AllocError>
+    ensures { IfOk result (λ pairs. pairs.items ≡ map pair_of imports.now) }
 {
-    let mut least = 0;
-    for place in 0..modules.len() {
-        if modules[place] < modules[least] {
-            least = place;
-        }
+    let mut pairs = Vec::new(alloc);
+    for import in imports {
+        pairs.push(Pair {
+            from: import.from,
+            to: import.to,
+        })?;
     }
-    least
-}
-
-/// Turns the list to begin at its least number.
-fn turn(modules: &mut [u32])
-    requires { 0 < length modules.old }
-    ensures { IsTurned modules.old modules.new }
-{
-    let least = place_of_least(modules);
-    modules.rotate_left(least);
+    Ok(pairs)
 }
 
 /// The named cycle, or none where no module comes back to itself. The imports ascend and lead between the first `nodes`
 /// modules.
-pub(crate) fn cycle(
+pub(crate) fn cycle_of(
     alloc: Global,
     imports: &[Priced],
     nodes: usize,
@@ -49,15 +37,6 @@ pub(crate) fn cycle(
     ensures within { IfOk result (λ answer. IfSome answer (λ cycle. All (λ m. m < nodes) cycle.items)) }
     ensures none { IfOk result (λ answer. IfNone answer (IsAcyclic imports.now)) }
 {
-    let knot = knot_of(alloc, imports, nodes)?;
-    let Some(first) = first_marked(knot.marks.as_slice()) else {
-        return Ok(None);
-    };
-    let (walk, place) = walk(alloc, imports, &knot, first)?;
-    let mut cycle = Vec::from_slice(alloc, &walk.as_slice()[place..])?;
-    turn(cycle.as_mut_slice());
-    Ok(Some(cycle))
+    let pairs = pairs_of(alloc, imports)?;
+    ob_imports::cycle(alloc, pairs.as_slice(), nodes)
 }
-
-#[cfg(test)]
-mod tests;

@@ -1,5 +1,5 @@
 //! Networks: modules by name, the imports between them, and what each import costs.
-//! Stands on std, with `indexmap` for its tables and `thiserror` for its faults.
+//! Stands on `ob_imports` for cycles, with `indexmap` for its tables and `thiserror` for its faults.
 //! Its contract: a network is exactly what its text says, keeps its limits and has no cycle; and the laws of cuts.
 #![tactic(auto)]
 
@@ -8,14 +8,12 @@ mod cycle;
 mod draft;
 mod fault;
 pub mod fields;
-mod knot;
 pub mod laws;
 mod lines;
 mod net;
 mod numbering;
 mod priced;
 mod reading;
-mod walk;
 
 pub use cut::Cut;
 pub use fault::NetFault;

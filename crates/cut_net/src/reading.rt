@@ -3,7 +3,7 @@ ghost use Rattle.std.specs.Prelude.{◌≡◌, ◌≤◌, IfErr, IfOk, IfSome, l
 ghost use Rattle.cut_net.specs.NetText.{IsNetOutcome, NetOutcome, NetText};
 ghost use Rattle.cut_net.specs.NetReading.{fault_said, net_of, outcome_of, IsDraftOf};
 
-use crate::cycle::cycle;
+use crate::cycle::cycle_of;
 use crate::draft::Draft;
 use crate::numbering::{fits, lists_of, names_at};
 use crate::{Net, NetFault, Priced};
@@ -44,7 +44,7 @@ fn net_in(alloc: Global, bytes: &[u8]) -> Result<Net, NetFault>
     if !fits(imports.as_slice()) {
         return Err(NetFault::WeightOverflow);
     }
-    match cycle(alloc, imports.as_slice(), names.len())? {
+    match cycle_of(alloc, imports.as_slice(), names.len())? {
         None => Ok(Net::of(names, imports)),
         Some(cycle) => {
             let names = names_at(alloc, names.as_slice(), cycle.as_slice())?;

@@ -3,7 +3,7 @@ use Rattle.std.proofs.Common.{◌≡◌, ℕ, ◌-◌, ◌≤◌, ◌<◌, Bool,
 use Rattle.std.specs.Prelude.{All, map, ◌↔◌}
 use Rattle.std.proofs.lemmas.List.{length-map, get_or-map}
 use Rattle.std.proofs.lemmas.List.Elements.{Contains-get_or}
-use Rattle.cut_net.specs.Knots.{none_there}
+use Rattle.cut_net.specs.Network.{none_there}
 use Rattle.cut_net.specs.declared.priced.Priced.{Priced}
 use Rattle.cut_net.specs.Cuts.{leaves, Chain, IsChain, Outside}
 use Rattle.cut_net.specs.WellFormed.{AreBetween}

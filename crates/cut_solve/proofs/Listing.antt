@@ -9,7 +9,7 @@ use Rattle.cut_net.specs.declared.priced.Priced.{Priced}
 use Rattle.cut_net.specs.Cuts.{same_ends, weight}
 use Rattle.cut_net.specs.Lines.{comes_before, IsAscending, removed_by}
 use Rattle.cut_net.proofs.Ends.{apart, before_from, same_from, same_sym, same_true}
-use Rattle.cut_net.specs.Knots.{none_there}
+use Rattle.cut_net.specs.Network.{none_there}
 use Rattle.cut_net.specs.WellFormed.{AreBetween}
 
 pub ends_in : (imports : List Priced) (n k : ℕ) → AreBetween imports n → k < length imports →

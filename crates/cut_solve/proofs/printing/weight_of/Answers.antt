@@ -1,6 +1,6 @@
 use Rattle.std.proofs.Common.{arith}
 use Rattle.std.proofs.lemmas.List.Sums.{sum_by_more_le}
-use Rattle.cut_net.specs.Knots.{none_there}
+use Rattle.cut_net.specs.Network.{none_there}
 use Rattle.cut_net.specs.declared.priced.Priced.{Priced}
 use Rattle.cut_solve.proofs.printing.weight_of.Goals as goal
 

@@ -1,0 +1,28 @@
+-- The pairs stand for the imports.
+use Rattle.std.proofs.lemmas.Option.{IfSome_then}
+use Rattle.std.proofs.lemmas.Result.{IfOk-weaker}
+use Rattle.ob_imports.specs.Pairs as pairs
+use Rattle.ob_imports.proofs.SameGraphs.{AreSame, acyclic_as, names_as}
+use Rattle.cut_net.specs.WellFormed.{Leads}
+use Rattle.cut_net.proofs.Cycles.{IfNone_then, pairs_ascend, pairs_between, same_graph}
+use Rattle.cut_net.proofs.cycle.cycle_of.Goals as goal
+
+pub cycle-requires-clause-between : goal.cycle-requires-clause-between
+cycle-requires-clause-between c = rw (c.as_slice.ensures.value, c.in_ok-pairs.ensures) (pairs_between c.args.imports.now c.args.nodes c.requires.between)
+
+pub cycle-requires-clause-ascending : goal.cycle-requires-clause-ascending
+cycle-requires-clause-ascending c = rw (c.as_slice.ensures.value, c.in_ok-pairs.ensures) (pairs_ascend c.args.imports.now c.requires.ascending)
+
+pub returns-clause-named : goal.returns-clause-named
+returns-clause-named c =
+    let imports = c.args.imports.now in
+    let same : AreSame (pairs.Leads c.as_slice.result.now) (Leads imports) = rw (c.as_slice.ensures.value, c.in_ok-pairs.ensures) (same_graph imports) in
+    IfOk-weaker c.cycle.result _ _
+    (λ answer h. IfSome_then answer h (λ cycle n. names_as (pairs.Leads c.as_slice.result.now) (Leads imports) same cycle.items n)) c.cycle.ensures.named
+
+pub returns-clause-none : goal.returns-clause-none
+returns-clause-none c =
+    let imports = c.args.imports.now in
+    let same : AreSame (pairs.Leads c.as_slice.result.now) (Leads imports) = rw (c.as_slice.ensures.value, c.in_ok-pairs.ensures) (same_graph imports) in
+    IfOk-weaker c.cycle.result _ _
+    (λ answer. IfNone_then answer (acyclic_as (pairs.Leads c.as_slice.result.now) (Leads imports) same)) c.cycle.ensures.none

@@ -1,0 +1,67 @@
+-- The graph of the imports of a tree.
+use Rattle.std.specs.Prelude.{◌≡◌, ℕ, ◌+◌, ◌<◌, ◌≤◌, ◌==◌, ◌↔◌, List, [], length, map, filter, slice_index, Bool, true, false, Contains, String}
+use Rattle.std.specs.List.{IsDistinct, slice_index_or}
+use Rattle.std.specs.Str.{bytes_eq}
+use Rattle.ob_imports.specs.declared.pair.Pair.{Pair}
+use Rattle.ob_imports.specs.Chains.{IsAcyclic}
+use Rattle.ob_imports.specs.Files.{File, AreNodes, Imports}
+use Rattle.ob_imports.specs.Knots.{marked, row_at}
+use Rattle.ob_imports.specs.Names.{LeadsBy, texts}
+use Rattle.ob_imports.specs.Pairs.{AreBetween, IsAscending, Leads}
+
+-- the names of the modules by their numbers, how many of them, the first ones, are of the tree, and the imports
+pub record ImportGraph : Type 0 where
+  pub names : List (List ℕ)
+  pub modules : ℕ
+  pub pairs : List Pair
+
+-- the graph of a table
+abbrev pub graph_with : {Z : Type 0} → List (String Z) → ℕ → List Pair → ImportGraph
+graph_with names modules pairs = record { names = texts names; modules = modules; pairs = pairs }
+
+abbrev pub name_of : ImportGraph → ℕ → List ℕ
+name_of g v = slice_index_or g.names v []
+
+-- those that the module imports, and those that import it
+abbrev pub imported : List Pair → ℕ → List ℕ
+imported pairs v = map (λ p. p.to) (filter (λ p. p.from == v) pairs)
+
+abbrev pub importing : List Pair → ℕ → List ℕ
+importing pairs v = map (λ p. p.from) (filter (λ p. p.to == v) pairs)
+
+-- the names differ, the imports ascend and lead from modules of the tree, all keep their limits, and no chain comes back
+pub record IsGraph (g : ImportGraph) : Type 0 where
+  pub apart : IsDistinct bytes_eq g.names
+  pub few_modules : g.modules ≤ 4096
+  pub within : g.modules ≤ length g.names
+  pub few_names : length g.names ≤ 8192
+  pub few_pairs : length g.pairs ≤ 65536
+  pub between : AreBetween g.pairs (length g.names)
+  pub ascend : IsAscending g.pairs
+  pub of_tree : (p : Pair) → Contains g.pairs p → p.from < g.modules
+  pub acyclic : IsAcyclic (Leads g.pairs)
+
+-- the graph of these files
+pub record IsGraphOf (files : List File) (g : ImportGraph) : Type 0 where
+  pub nodes : AreNodes files g.names
+  pub modules : g.modules ≡ length files
+  pub ascend : IsAscending g.pairs
+  pub leads : (v w : ℕ) → Leads g.pairs v w ↔ LeadsBy (Imports files) g.names v w
+
+-- a module of the tree that isn't done and whose imports in the tree are all done
+pub record IsReady (g : ImportGraph) (done : List Bool) (v : ℕ) : Type 0 where
+  pub in_tree : v < g.modules
+  pub not_done : marked done v ≡ false
+  pub imports_done : (w : ℕ) → Leads g.pairs v w → w < g.modules → marked done w ≡ true
+
+-- the same by the rows of what each module imports
+pub record CanStart (rows : List (List ℕ)) (done : List Bool) (v : ℕ) : Type 0 where
+  pub in_tree : v < length done
+  pub not_done : marked done v ≡ false
+  pub imports_done : (w : ℕ) → Contains (row_at rows v) w → w < length done → marked done w ≡ true
+
+-- the list has the numbers with the property and no other, ascending
+pub record IsListOf (P : ℕ → Type 0) (vs : List ℕ) : Type 0 where
+  pub each : (k : ℕ) → k < length vs → P (slice_index vs k)
+  pub all : (v : ℕ) → P v → Contains vs v
+  pub ascending : (k : ℕ) → k + 1 < length vs → slice_index vs k < slice_index vs (k + 1)

@@ -1,0 +1,9 @@
+pub mod Chains
+pub mod Cycle
+pub mod Pairs
+pub mod Knots
+pub mod Names
+pub mod Files
+pub mod Graphs
+pub mod Outcomes
+pub mod Numbering

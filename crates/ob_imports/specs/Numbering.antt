@@ -1,0 +1,34 @@
+-- How the graph of a tree is made: names in a table, and pairs of places in it.
+use Rattle.std.specs.Prelude.{ℕ, List, not, map, filter, flat_map, Bool}
+use Rattle.std.specs.List.{list_any, position_or_len}
+use Rattle.std.specs.Str.{bytes_eq}
+use Rattle.ob_imports.specs.declared.pair.Pair.{Pair}
+use Rattle.ob_imports.specs.Files.{File}
+
+-- the list has the name
+abbrev pub has_name : List (List ℕ) → List ℕ → Bool
+has_name names name = list_any (bytes_eq name) names
+
+-- the place of a name that the list has
+abbrev pub place_of : List (List ℕ) → List ℕ → ℕ
+place_of names name = position_or_len (bytes_eq name) names
+
+-- of these names, those that the list lacks
+abbrev pub lacked : List (List ℕ) → List (List ℕ) → List (List ℕ)
+lacked names imports = filter (λ n. not (has_name names n)) imports
+
+-- all that the files import and the list lacks
+abbrev pub all_lacked : List (List ℕ) → List File → List (List ℕ)
+all_lacked names files = flat_map (λ f. lacked names f.imports) files
+
+-- the imports of one module, by places in a list of names
+abbrev pub pairs_from : List (List ℕ) → List ℕ → List (List ℕ) → List Pair
+pairs_from names name imports = map (λ n. record { from = place_of names name; to = place_of names n }) imports
+
+-- those of all files
+abbrev pub all_pairs : List (List ℕ) → List File → List Pair
+all_pairs names files = flat_map (λ f. pairs_from names f.name f.imports) files
+
+-- the imports the other way round
+abbrev pub flipped : Pair → Pair
+flipped p = record { from = p.to; to = p.from }

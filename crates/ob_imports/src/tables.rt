@@ -1,0 +1,100 @@
+//! Tables of names: those of the files' modules, then the external ones by name.
+ghost use Rattle.std.specs.Prelude.{◌≡◌, ◌≤◌, ◌↔◌, ◌++◌, Contains, IfOk, List, OnOk, length, ℕ};
+ghost use Rattle.std.specs.List.{IsDistinct};
+ghost use Rattle.std.specs.Str.{bytes_eq};
+ghost use Rattle.ob_imports.specs.Files.{files_of, names_of, AreNodes, DifferInName, IsExternal};
+ghost use Rattle.ob_imports.specs.Names.{texts, AreAscending};
+ghost use Rattle.ob_imports.specs.Numbering.{all_lacked, lacked, place_of};
+
+use crate::Parsed;
+use indexmap::IndexSet;
+use std::alloc::{AllocError, Global};
+
+pub(crate) fn module_names(alloc: Global, parsed: &[Parsed]) -> Result<Vec<String>, AllocError>
+    ensures { IfOk result (λ names. texts names.items ≡ names_of (files_of parsed.now)) }
+{
+    let mut names = Vec::new(alloc);
+    for file in parsed {
+        names.push(String::from_str(alloc, file.name.as_str())?)?;
+    }
+    Ok(names)
+}
+
+/// Puts new names behind the others.
+pub(crate) fn put_names(
+    alloc: Global,
+    table: &mut IndexSet<String>,
+    names: &[String],
+) -> Result<(), AllocError>
+    requires { IsDistinct bytes_eq (texts table.old.keys ++ texts names.now) }
+    ensures { OnOk result (texts table.new.keys ≡ texts table.old.keys ++ texts names.now) }
+{
+    for name in names {
+        table.insert(String::from_str(alloc, name.as_str())?)?;
+    }
+    Ok(())
+}
+
+/// Adds those of the names that the table lacks.
+fn add_lacked(
+    alloc: Global,
+    others: &mut Vec<String>,
+    names: &[String],
+    table: &IndexSet<String>,
+) -> Result<(), AllocError>
+    ensures { OnOk result (texts others.new.items ≡ texts others.old.items ++ lacked (texts table.now.keys) (texts names.now)) }
+{
+    for name in names {
+        if !table.contains(name.as_str()) {
+            others.push(String::from_str(alloc, name.as_str())?)?;
+        }
+    }
+    Ok(())
+}
+
+/// The imports of the files that the table lacks, in the order of coming.
+fn all_others(
+    alloc: Global,
+    parsed: &[Parsed],
+    table: &IndexSet<String>,
+) -> Result<Vec<String>, AllocError>
+    ensures { IfOk result (λ others. texts others.items ≡ all_lacked (texts table.now.keys) (files_of parsed.now)) }
+{
+    let mut others = Vec::new(alloc);
+    for file in parsed {
+        add_lacked(alloc, &mut others, file.imports.as_slice(), table)?;
+    }
+    Ok(others)
+}
+
+/// Puts the names in ascending order, each once.
+fn put_in_order(names: &mut Vec<String>)
+    ensures ascending { AreAscending (texts names.new.items) }
+    ensures same { (n : List ℕ) → Contains (texts names.new.items) n ↔ Contains (texts names.old.items) n }
+{
+    names.sort_unstable();
+    names.dedup();
+}
+
+/// The names of all modules, by their numbers.
+pub(crate) fn nodes_of(alloc: Global, parsed: &[Parsed]) -> Result<IndexSet<String>, AllocError>
+    requires { DifferInName (files_of parsed.now) }
+    ensures { IfOk result (λ table. AreNodes (files_of parsed.now) (texts table.keys)) }
+{
+    let names = module_names(alloc, parsed)?;
+    let mut table = IndexSet::new(alloc);
+    put_names(alloc, &mut table, names.as_slice())?;
+    let mut others = all_others(alloc, parsed, &table)?;
+    put_in_order(&mut others);
+    put_names(alloc, &mut table, others.as_slice())?;
+    Ok(table)
+}
+
+/// The place of a name that the table has.
+pub(crate) fn number_of(table: &IndexSet<String>, name: &str) -> u32
+    requires few { length table.now.keys ≤ 8192 }
+    requires known { Contains (texts table.now.keys) name.now }
+    ensures { result ≡ place_of (texts table.now.keys) name.now }
+{
+    table.get_index_of(name).unwrap() as u32
+}
