@@ -1,6 +1,6 @@
 //! The imports of modules: the graph that they make, and the one cycle that is named where they have one.
 //! Stands on std, with `indexmap` for its tables and `thiserror` for its faults.
-//! Its contract: a cycle is named exactly where a chain of imports comes back, and it is the one cycle of the definition.
+//! Its contract: the graph is that of the files, or it is their first refusal; a cycle is named exactly where a chain comes back.
 #![tactic(auto)]
 
 mod alike;
