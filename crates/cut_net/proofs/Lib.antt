@@ -8,6 +8,8 @@ pub mod FieldCuts
 pub mod FieldNames
 pub mod FieldNumbers
 pub mod Fronts
+pub mod GraphLines
+pub mod GraphTables
 pub mod ListSums
 pub mod Members
 pub mod NearSide

@@ -6,6 +6,7 @@ pub mod Lines
 pub mod WellFormed
 pub mod NetText
 pub mod NetReading
+pub mod GraphNet
 pub mod ReportLine
 pub mod ReportText
 pub mod ReportLines

@@ -1,6 +1,6 @@
 //! Networks: modules by name, the imports between them, and what each import costs.
-//! Stands on `ob_imports` for cycles, with `indexmap` for its tables and `thiserror` for its faults.
-//! Its contract: a network is exactly what its text says, keeps its limits and has no cycle; and the laws of cuts.
+//! Stands on `ob_imports` for cycles and graphs and on `ob_scope` for the uses of aliases, with `indexmap` for its tables and `thiserror` for its faults.
+//! Its contract: a network is exactly what its text says, or the graph and the scopes that it is made of; it keeps its limits and has no cycle; and the laws of cuts.
 #![tactic(auto)]
 
 mod cut;
@@ -8,6 +8,7 @@ mod cycle;
 mod draft;
 mod fault;
 pub mod fields;
+mod from_graph;
 pub mod laws;
 mod lines;
 mod net;

@@ -1,5 +1,6 @@
 use crate::fields::{cut_at_byte, is_identifier, name_in, number_in};
 use crate::{Net, NetFault, Priced};
+use ob_scope::Scopes;
 use std::alloc::{AllocError, Global};
 use std::test::Fail;
 
@@ -175,5 +176,17 @@ fn an_import_of_itself_is_a_cycle(rt: HostRuntime) -> Result<(), Fail> {
         fault_of(rt.alloc(), b"import A A 1\n"),
         Some(NetFault::Cycle { names: cycle })
     );
+    Ok(())
+}
+
+#[test]
+fn a_graph_of_no_files_makes_a_network_of_no_modules(rt: HostRuntime) -> Result<(), Fail> {
+    let graph = ob_imports::graph(rt.alloc(), &[])?;
+    assert_eq!(rt; graph.modules(), 0);
+    assert_eq!(rt; graph.nodes(), 0);
+    let scopes: Vec<Scopes> = Vec::new(rt.alloc());
+    let net = Net::from_graph(rt.alloc(), &graph, scopes.as_slice())?;
+    assert_eq!(rt; net.nodes(), 0);
+    assert_eq!(rt; net.imports().len(), 0);
     Ok(())
 }

@@ -17,8 +17,8 @@ use Rattle.ob_tree.specs.declared.expression.MulOperator.{MulOperator}
 use Rattle.ob_tree.specs.declared.expression.MulOperator.TheVariants as products
 use Rattle.ob_tree.specs.declared.token.Leaf.{Leaf}
 use Rattle.ob_tree.specs.declared.token.Leaf.TheVariants as leafs
-use Rattle.ob_tree.specs.Constructs as constructs
-use Rattle.ob_tree.specs.Constructs.{Construct}
+use Rattle.ob_tree.specs.declared.construct.Construct.TheVariants as constructs
+use Rattle.ob_tree.specs.declared.construct.Construct.{Construct}
 use Rattle.ob_tree.specs.Leaves.{same_kind, leaf_of, leaves}
 use Rattle.ob_tree.specs.Marks.{Declares, Uses, Names, Repeats, Begins, Ends, Identifier, Value, Word, Out, construct, word, declared, used, named, repeated}
 use Rattle.ob_tree.specs.Expressions.{relation_kind, sign_kind, add_kind, mul_kind}
@@ -66,7 +66,7 @@ KnowsStart bound start = (ls : List Leaf) (x : Out × List Leaf) → LeavesBelow
 pub endings_in-append : (a b : Out) → endings_in (a ++ b) ≡ endings_in a ++ endings_in b
 endings_in-append [] b = refl
 endings_in-append (Begins c n ∷ a) b = endings_in-append a b
-endings_in-append (Ends ∷ a) b = endings_in-append a b
+endings_in-append (Ends c ∷ a) b = endings_in-append a b
 endings_in-append (Identifier Declares n ∷ a) b = endings_in-append a b
 endings_in-append (Identifier Uses n ∷ a) b = endings_in-append a b
 endings_in-append (Identifier Names n ∷ a) b = endings_in-append a b
@@ -76,7 +76,7 @@ endings_in-append (Word k ∷ a) b = endings_in-append a b
 
 pub endings_in-construct : (c : Construct) (o : Out) → endings_in (construct c o) ≡ endings_in o
 unfolding construct
-endings_in-construct c o = endings_in-append o (Ends ∷ []) ∙ append-nil (endings_in o)
+endings_in-construct c o = endings_in-append o (Ends c ∷ []) ∙ append-nil (endings_in o)
 
 both_below : (bound : ℕ) (a b : Out) → EndingsBelow bound a → EndingsBelow bound b → EndingsBelow bound (a ++ b)
 both_below bound a b p q = record { each_one = rw (endings_in-append a b) (All-append (AreBelow bound) (endings_in a) (endings_in b) p.each_one q.each_one) }

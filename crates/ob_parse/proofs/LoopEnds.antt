@@ -1,7 +1,7 @@
 -- A fault in a loop, and in what is read one after the other.
 use Rattle.std.proofs.Common.{◌≡◌, List, Some, Ok, refl, sym, ◌∙◌}
 use Rattle.ob_tree.specs.declared.token.Leaf.{Leaf}
-use Rattle.ob_tree.specs.Constructs.{Construct}
+use Rattle.ob_tree.specs.declared.construct.Construct.{Construct}
 use Rattle.ob_tree.specs.Marks.{Out}
 use Rattle.ob_parse.specs.declared.stop.Stop.{Stop}
 use Rattle.ob_parse.specs.declared.stop.Stop.TheVariants as stops

@@ -3,7 +3,8 @@ use Rattle.std.proofs.Common.{◌≡◌, ℕ, suc, Bool, true, false, ◌≤◌,
 use Rattle.ob_scan.specs.declared.kind.Kind.{Kind}
 use Rattle.ob_tree.specs.declared.token.Leaf.{Leaf}
 use Rattle.ob_tree.specs.declared.token.Leaf.TheVariants as leafs
-use Rattle.ob_tree.specs.Constructs.{Construct, is_level}
+use Rattle.ob_tree.specs.declared.construct.Construct.{Construct}
+use Rattle.ob_tree.specs.Constructs.{is_level}
 use Rattle.ob_tree.specs.Marks.{Out, Ends, construct, word, if_there, each, each_after, tokens_of, height}
 use Rattle.ob_tree.proofs.Same.{is_same}
 use Rattle.ob_parse.specs.Front.{is_word}
@@ -33,7 +34,7 @@ low_level c o d e le = omega (arith, height-level c o e)
 -- a construct is as high as what is in it, or higher
 pub low_within : (c : Construct) (o : Out) (d : ℕ) → height (construct c o) ≤ d → height o ≤ d
 unfolding construct
-low_within c o d le = omega (arith, height-append o (Ends ∷ []))
+low_within c o d le = omega (arith, height-append o (Ends c ∷ []))
 
 pub low_same : (a b : Out) (d : ℕ) → a ≡ b → height a ≤ d → height b ≤ d
 low_same a b d e le = subst (λ (o : Out). height o ≤ d) e le

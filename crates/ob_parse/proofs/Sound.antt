@@ -8,7 +8,8 @@ use Rattle.ob_tree.specs.declared.expression.Literal.{Literal}
 use Rattle.ob_tree.specs.declared.token.Leaf.{Leaf}
 use Rattle.ob_tree.specs.declared.token.Leaf.TheVariants as leafs
 use Rattle.ob_tree.specs.Leaves.{same_kind}
-use Rattle.ob_tree.specs.Constructs.{Construct, is_level}
+use Rattle.ob_tree.specs.declared.construct.Construct.{Construct}
+use Rattle.ob_tree.specs.Constructs.{is_level}
 use Rattle.ob_tree.specs.Marks.{Role, Begins, Ends, Identifier, Value, Word, Out, tokens_of, height, construct, word}
 use Rattle.ob_tree.proofs.Same.{same_is}
 use Rattle.ob_parse.specs.Front.{uncons, front, is_word}
@@ -39,14 +40,14 @@ OneToken d l ms = (rest : List Leaf) → Takes d (l ∷ rest) ms rest
 pub tokens_of-append : (a b : Out) → tokens_of (a ++ b) ≡ tokens_of a ++ tokens_of b
 tokens_of-append [] b = refl
 tokens_of-append (Begins c n ∷ a) b = tokens_of-append a b
-tokens_of-append (Ends ∷ a) b = tokens_of-append a b
+tokens_of-append (Ends c ∷ a) b = tokens_of-append a b
 tokens_of-append (Identifier r n ∷ a) b = ap (λ (x : List Leaf). leafs.Name n ∷ x) (tokens_of-append a b)
 tokens_of-append (Value k n ∷ a) b = ap (λ (x : List Leaf). leafs.Value k n ∷ x) (tokens_of-append a b)
 tokens_of-append (Word k ∷ a) b = ap (λ (x : List Leaf). leafs.Word k ∷ x) (tokens_of-append a b)
 
 pub tokens_of-construct : (c : Construct) (o : Out) → tokens_of (construct c o) ≡ tokens_of o
 unfolding construct
-tokens_of-construct c o = tokens_of-append o (Ends ∷ []) ∙ append-nil (tokens_of o)
+tokens_of-construct c o = tokens_of-append o (Ends c ∷ []) ∙ append-nil (tokens_of o)
 
 max_assoc : (a b c : ℕ) → max a (max b c) ≡ max (max a b) c
 max_assoc a b c = omega arith
@@ -54,7 +55,7 @@ max_assoc a b c = omega arith
 pub height-append : (a b : Out) → height (a ++ b) ≡ max (height a) (height b)
 height-append [] b = sym (zero-max (height b))
 height-append (Begins c n ∷ a) b = ap (max n) (height-append a b) ∙ max_assoc n (height a) (height b)
-height-append (Ends ∷ a) b = height-append a b
+height-append (Ends c ∷ a) b = height-append a b
 height-append (Identifier r n ∷ a) b = height-append a b
 height-append (Value k n ∷ a) b = height-append a b
 height-append (Word k ∷ a) b = height-append a b
@@ -68,18 +69,18 @@ max_same a = omega arith
 max_one_more : (a : ℕ) → max (suc a) a ≡ suc a
 max_one_more a = omega arith
 
-height_closed : (o : Out) → height (o ++ Ends ∷ []) ≡ height o
-height_closed o = height-append o (Ends ∷ []) ∙ max-zero (height o)
+height_closed : (c : Construct) (o : Out) → height (o ++ Ends c ∷ []) ≡ height o
+height_closed c o = height-append o (Ends c ∷ []) ∙ max-zero (height o)
 
 -- a construct that is no level is as high as its parts
 pub height-flat : (c : Construct) (o : Out) → is_level c ≡ false → height (construct c o) ≡ height o
 unfolding construct
-height-flat c o e = rw (e, height_closed o) (max_same (height o))
+height-flat c o e = rw (e, height_closed c o) (max_same (height o))
 
 -- one that is a level is higher by one
 pub height-level : (c : Construct) (o : Out) → is_level c ≡ true → height (construct c o) ≡ suc (height o)
 unfolding construct
-height-level c o e = rw (e, height_closed o) (max_one_more (height o))
+height-level c o e = rw (e, height_closed c o) (max_one_more (height o))
 
 pub takes_then : (d : ℕ) (a b c : List Leaf) (x y : Out) → Takes d a x b → Takes d b y c → Takes d a (x ++ y) c
 takes_then d a b c x y p q = record {

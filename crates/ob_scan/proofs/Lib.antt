@@ -2,6 +2,7 @@ pub mod Closings
 pub mod Continuing
 pub mod LineStarts
 pub mod Marks
+pub mod NameTokens
 pub mod Names
 pub mod Numbers
 pub mod OneToken

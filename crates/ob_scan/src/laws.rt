@@ -1,8 +1,10 @@
 //! Laws of texts and tokens. Each function is a law: its body is empty, and its contract is proved.
-ghost use Rattle.std.specs.Prelude.{◌≡◌, ℕ, List};
+ghost use Rattle.std.specs.Prelude.{◌≡◌, ◌-◌, ℕ, All, List, drop, take, true};
+ghost use Rattle.ob_scan.specs.declared.kind.Kind.TheVariants.{Ident};
 ghost use Rattle.ob_scan.specs.declared.token.Token.{Token};
 ghost use Rattle.ob_scan.specs.Position.{IsPosition};
 ghost use Rattle.ob_scan.specs.Spelling.{AreInText, IsOutcome, Outcome, Spells};
+ghost use Rattle.ob_scan.specs.Tokens.{is_name};
 
 /// A text spells at most one list of tokens.
 pub fn one_spelling()
@@ -29,4 +31,9 @@ pub fn one_position()
     ensures { (bytes : List ℕ) (offset line column row place : ℕ) →
         IsPosition bytes offset line column → IsPosition bytes offset row place →
         (line ≡ row) × (column ≡ place) }
+{}
+
+/// The text of each identifier that a text spells is a name.
+pub fn names_are_names()
+    ensures { (bytes : List ℕ) (ts : List Token) → Spells bytes ts → All (λ t. t.kind ≡ Ident → is_name (take (t.end - t.start) (drop t.start bytes)) ≡ true) ts }
 {}

@@ -1,9 +1,10 @@
 -- The items of expressions, by their parts.
-use Rattle.std.proofs.Common.{◌≡◌, ℕ, [], ◌∷◌, ◌++◌, Option, refl}
+use Rattle.std.proofs.Common.{◌≡◌, ℕ, [], ◌∷◌, ◌++◌, Option, append_assoc, refl}
 use Rattle.std.specs.declared.boxed.Box.{Box}
 use Rattle.std.specs.declared.alloc.Global.{Global}
 use Rattle.ob_scan.specs.declared.kind.Kind.TheVariants as kinds
 use Rattle.ob_tree.specs.declared.item.Item.TheVariants as items
+use Rattle.ob_tree.specs.declared.construct.Construct.TheVariants as constructs
 use Rattle.ob_tree.specs.declared.expression.Literal.{Literal}
 use Rattle.ob_tree.specs.declared.expression.Factor.{Factor}
 use Rattle.ob_tree.specs.declared.expression.Factor.TheVariants as factors
@@ -22,8 +23,9 @@ use Rattle.ob_tree.proofs.ExpressionLayers.{expr_out, sum_out, term_out, element
 use Rattle.ob_tree.proofs.Walks.{items-append, items-construct, walks}
 
 pub expr_items : (e : Expr) → items_of (expr_outline e) ≡
-    items_of (sum_outline (out-Expr e).left) ++ items_of (if_there (λ c. word (relation_kind c.0) ++ sum_outline c.1.value) (out-Expr e).compared)
-expr_items e = rw (expr_out e, items-construct, items-append) refl
+    items.Begins constructs.Expression ∷ (items_of (sum_outline (out-Expr e).left) ++
+    (items_of (if_there (λ c. word (relation_kind c.0) ++ sum_outline c.1.value) (out-Expr e).compared) ++ items.Ends constructs.Expression ∷ []))
+expr_items e = simp (expr_out e, items-construct, items-append, append_assoc)
 
 pub sum_items : (s : Sum) → items_of (sum_outline s) ≡
     items_of (if_there (λ x. word (sign_kind x)) (out-Sum s).sign) ++ (items_of (term_outline (out-Sum s).first) ++ items_of (each (λ p. word (add_kind p.0) ++ term_outline p.1) (out-Sum s).rest.items))

@@ -5,7 +5,8 @@ use Rattle.ob_tree.specs.declared.expression.Literal.{Literal}
 use Rattle.ob_tree.specs.declared.name.OneOrMore.{OneOrMore}
 use Rattle.ob_tree.specs.declared.token.Leaf.{Leaf}
 use Rattle.ob_tree.specs.declared.token.Leaf.TheVariants as leafs
-use Rattle.ob_tree.specs.Constructs.{Construct, is_level}
+use Rattle.ob_tree.specs.declared.construct.Construct.{Construct}
+use Rattle.ob_tree.specs.Constructs.{is_level}
 
 -- what an identifier does where it stands
 pub data Role : Type 0 where
@@ -16,7 +17,7 @@ pub data Role : Type 0 where
 
 pub data Mark : Type 0 where
   Begins : Construct → ℕ → Mark  -- a construct of so many levels
-  Ends : Mark
+  Ends : Construct → Mark
   Identifier : Role → ℕ → Mark
   Value : Literal → ℕ → Mark
   Word : Kind → Mark
@@ -29,7 +30,7 @@ Out = List Mark
 abbrev pub tokens_of : Out → List Leaf
 tokens_of [] = []
 tokens_of (Begins c n ∷ ms) = tokens_of ms
-tokens_of (Ends ∷ ms) = tokens_of ms
+tokens_of (Ends c ∷ ms) = tokens_of ms
 tokens_of (Identifier r n ∷ ms) = leafs.Name n ∷ tokens_of ms
 tokens_of (Value k n ∷ ms) = leafs.Value k n ∷ tokens_of ms
 tokens_of (Word k ∷ ms) = leafs.Word k ∷ tokens_of ms
@@ -38,14 +39,14 @@ tokens_of (Word k ∷ ms) = leafs.Word k ∷ tokens_of ms
 abbrev pub height : Out → ℕ
 height [] = 0
 height (Begins c n ∷ ms) = max n (height ms)
-height (Ends ∷ ms) = height ms
+height (Ends c ∷ ms) = height ms
 height (Identifier r n ∷ ms) = height ms
 height (Value k n ∷ ms) = height ms
 height (Word k ∷ ms) = height ms
 
 -- a construct with its parts
 unfoldable pub construct : Construct → Out → Out
-construct c parts = Begins c (if is_level c then suc (height parts) else height parts) ∷ (parts ++ Ends ∷ [])
+construct c parts = Begins c (if is_level c then suc (height parts) else height parts) ∷ (parts ++ Ends c ∷ [])
 
 -- one token
 abbrev pub word : Kind → Out

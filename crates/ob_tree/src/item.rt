@@ -1,8 +1,16 @@
-//! A token of a tree, with what it does where it stands.
+//! A token of a tree, with what it does where it stands, or where a construct begins or ends.
 
-/// A token of a tree. An identifier and a literal are told by the number of their token.
+use crate::construct::Construct;
+
+/// A token of a tree, or the beginning or the end of a construct. An identifier and a literal are told by the number of
+/// their token. The constructs that are told are imports, declarations of constants, types, variables and procedures,
+/// types, field lists, sections of parameters (FPSection), and expressions.
 #[derive(Clone, Copy, PartialEq, Eq, Debug, Drop)]
 pub enum Item {
+    /// A construct begins.
+    Begins(Construct),
+    /// A construct ends.
+    Ends(Construct),
     /// An identifier that is declared here.
     Declared(u32),
     /// An identifier that is looked up: the head of a designator or a qualified name, a label's name, the variable of a FOR.

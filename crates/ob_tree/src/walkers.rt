@@ -1,7 +1,7 @@
 //! What stands in a module's tree, by the numbers of its tokens. The walkers recurse a few calls for each level of
 //! nesting; lists are loops. Each call answers AllocError where a growth of memory is refused.
 
-ghost use Rattle.std.specs.Prelude.{◌≡◌, ◌<◌, ◌^◌, [], ◌∷◌, List, length, IfOk};
+ghost use Rattle.std.specs.Prelude.{◌≡◌, ◌<◌, ◌^◌, [], ◌∷◌, ◌++◌, List, length, IfOk};
 ghost use Rattle.std.specs.List.{range_with_len};
 ghost use Rattle.ob_scan.specs.declared.kind.Kind.{Kind};
 ghost use Rattle.ob_tree.specs.Declaring.{module_outline};
@@ -12,7 +12,9 @@ use crate::item::Item;
 use crate::walk::declarations::walk_module;
 use std::alloc::{AllocError, Global};
 
-/// The tokens of a module's tree in order, each with what it does there.
+/// The tokens of a module's tree in order, each with what it does there, and where each construct begins and ends that
+/// is told: imports, declarations of constants, types, variables and procedures, types, field lists, sections of
+/// parameters (FPSection), and expressions.
 pub fn items(alloc: Global, module: &Module) -> Result<Vec<Item>, AllocError>
     ensures { IfOk result (λ v. v.items ≡ items_of (module_outline «module».now)) }
 {
@@ -21,18 +23,23 @@ pub fn items(alloc: Global, module: &Module) -> Result<Vec<Item>, AllocError>
     Ok(out)
 }
 
-/// The number of an item's token: the one that it carries, or for a word its place.
-fn number_of(item: Item, place: u32) -> u32
-    ensures { numbers_from place (item ∷ []) ≡ result ∷ [] }
+/// Adds the number of an item's token, if it is one: the number that it carries, or for a word its place, which is how
+/// many numbers stand before it.
+fn push_number(numbers: &mut Vec<u32>, item: Item) -> Result<(), AllocError>
+    requires { length numbers.old.items < 2 ^ 32 }
+    ensures { IfOk result (λ _. numbers.new.items ≡ numbers.old.items ++ numbers_from (length numbers.old.items) (item ∷ [])) }
 {
+    let place = numbers.len() as u32;
     match item {
-        Item::Declared(number) => number,
-        Item::Used(number) => number,
-        Item::Named(number) => number,
-        Item::Repeated(_, number) => number,
-        Item::Value(number) => number,
-        Item::Word => place,
+        Item::Begins(_) | Item::Ends(_) => {}
+        Item::Declared(number)
+        | Item::Used(number)
+        | Item::Named(number)
+        | Item::Repeated(_, number)
+        | Item::Value(number) => numbers.push(number)?,
+        Item::Word => numbers.push(place)?,
     }
+    Ok(())
 }
 
 /// The number of each token of a module's tree, in order: of an identifier or a literal the number that the tree
@@ -45,8 +52,8 @@ pub fn yield_of(alloc: Global, module: &Module) -> Result<Vec<u32>, AllocError>
 {
     let items = items(alloc, module)?;
     let mut numbers = Vec::new(alloc);
-    for (place, item) in items.iter().enumerate() {
-        numbers.push(number_of(*item, place as u32))?;
+    for item in &items {
+        push_number(&mut numbers, *item)?;
     }
     Ok(numbers)
 }

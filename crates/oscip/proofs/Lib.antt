@@ -1,4 +1,10 @@
+pub mod Commands
 pub mod Found
 pub mod CheckRuns
 pub mod Sayable
 pub mod CutRuns
+pub mod JobRuns
+pub mod InOrder
+pub mod TreeOffsets
+pub mod TreeFiles
+pub mod TreeNet

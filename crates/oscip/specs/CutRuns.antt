@@ -5,26 +5,24 @@ use Rattle.cut_net.specs.declared.priced.Priced.{Priced}
 use Rattle.cut_net.specs.Network.{Network, index_of}
 use Rattle.cut_net.specs.Cuts.{ArePrinted, IsCheapest, IsFlow}
 use Rattle.cut_net.specs.Lines.{flow_by, removed_by, AreInOrder, AreWeights}
-use Rattle.cut_net.specs.NetText.{IsNetOutcome}
-use Rattle.cut_net.specs.NetText as nets
 use Rattle.cut_net.specs.ReportText.{ReportText}
 use Rattle.cut_net.specs.Said.{CutOf}
 use Rattle.cut_report.specs.Sinks.{AppendsFront}
 use Rattle.cut_solve.specs.Solving.{outcome_of as solve_outcome_of, IsSolveOutcome, SolveOutcome}
-use Rattle.oscip.specs.Runs.{RefusesNet}
 use Rattle.oscip.specs.declared.fault.RunFault.{RunFault}
-use Rattle.oscip.specs.declared.fault.RunFault.TheVariants.{CannotRead, CannotWrite, Net, Report, Solve, Device, Memory}
+use Rattle.oscip.specs.declared.fault.RunFault.TheVariants.{CannotRead, CannotWrite, Tree, Net, Report, Solve, Device, Memory}
 
--- The headline, here with the lines of a network for the tree and with one worker, so that nothing is claimed of interleavings:
+-- The headline, here with one worker, so that nothing is claimed of interleavings; the network is that of the accepted
+-- input, a tree or the lines of a network:
 -- for every accepted tree, two named modules and every interleaving of the workers' pushes and relabels: once no other
 -- module holds excess, removing the printed imports leaves no import chain from the first module to the second, their
 -- weight is the printed one, and every set of imports whose removal leaves none weighs at least as much; the printed flow
 -- has that value.
-pub record IsCutText (network first second text : List ℕ) : Type 0 where
+pub record IsCutText (IsOf : Network → Type 0) (first second text : List ℕ) : Type 0 where
   -- the accepted network
   pub net : Network
-  -- it is what the bytes say
-  pub reads : IsNetOutcome network (nets.Reads net)
+  -- it is that of the input
+  pub reads : IsOf net
   -- the first module
   pub a : ℕ
   -- it has the first name
@@ -58,25 +56,26 @@ pub record IsCutText (network first second text : List ℕ) : Type 0 where
   pub are_printed : ArePrinted net a b (removed_by printed)
 
 -- the sink has the whole report
-abbrev pub PutsCut : List ℕ → List ℕ → List ℕ → Option (List ℕ) → Option (List ℕ) → Type 0
-PutsCut network first second old new = (text : List ℕ) × IsCutText network first second text × Appends old new text
+abbrev pub PutsCut : (Network → Type 0) → List ℕ → List ℕ → Option (List ℕ) → Option (List ℕ) → Type 0
+PutsCut IsOf first second old new = (text : List ℕ) × IsCutText IsOf first second text × Appends old new text
 
 -- the sink has a front of the report
-abbrev pub PutsCutFront : List ℕ → List ℕ → List ℕ → Option (List ℕ) → Option (List ℕ) → Type 0
-PutsCutFront network first second old new = (text : List ℕ) × IsCutText network first second text × AppendsFront old new text
+abbrev pub PutsCutFront : (Network → Type 0) → List ℕ → List ℕ → Option (List ℕ) → Option (List ℕ) → Type 0
+PutsCutFront IsOf first second old new = (text : List ℕ) × IsCutText IsOf first second text × AppendsFront old new text
 
--- the names were refused, and the network was not
-abbrev pub IsRefusedNames : List ℕ → List ℕ → List ℕ → SolveOutcome → Type 0
-IsRefusedNames network first second outcome = (net : Network) × IsNetOutcome network (nets.Reads net) × IsSolveOutcome net first second outcome
+-- the names were refused, and the input was not
+abbrev pub IsRefusedNames : (Network → Type 0) → List ℕ → List ℕ → SolveOutcome → Type 0
+IsRefusedNames IsOf first second outcome = (net : Network) × IsOf net × IsSolveOutcome net first second outcome
 
 -- a run of the engine: refused input leaves the sink as it was, with the fault that the input has
-abbrev pub IsCutRun : List ℕ → List ℕ → List ℕ → Option (List ℕ) → Option (List ℕ) → Result (Unit {0}) RunFault → Type 0
-IsCutRun network first second old new (Ok _) = PutsCut network first second old new
-IsCutRun network first second old new (Err (CannotRead path)) = ⊥
-IsCutRun network first second old new (Err (CannotWrite path)) = ⊥
-IsCutRun network first second old new (Err (Net fault)) = RefusesNet network old new fault
-IsCutRun network first second old new (Err (Report fault)) = ⊥
-IsCutRun network first second old new (Err (Solve fault)) =
-    ((outcome : SolveOutcome) × (solve_outcome_of (Err fault) ≡ Some outcome) × IsRefusedNames network first second outcome) × Keeps old new
-IsCutRun network first second old new (Err Device) = PutsCutFront network first second old new
-IsCutRun network first second old new (Err Memory) = Keeps old new ⊎ PutsCutFront network first second old new
+abbrev pub IsCutRun : (Network → Type 0) → (RunFault → Type 0) → List ℕ → List ℕ → Option (List ℕ) → Option (List ℕ) → Result (Unit {0}) RunFault → Type 0
+IsCutRun IsOf IsRefused first second old new (Ok _) = PutsCut IsOf first second old new
+IsCutRun IsOf IsRefused first second old new (Err (CannotRead path)) = ⊥
+IsCutRun IsOf IsRefused first second old new (Err (CannotWrite path)) = ⊥
+IsCutRun IsOf IsRefused first second old new (Err (Tree fault)) = IsRefused (Tree fault) × Keeps old new
+IsCutRun IsOf IsRefused first second old new (Err (Net fault)) = IsRefused (Net fault) × Keeps old new
+IsCutRun IsOf IsRefused first second old new (Err (Report fault)) = ⊥
+IsCutRun IsOf IsRefused first second old new (Err (Solve fault)) =
+    ((outcome : SolveOutcome) × (solve_outcome_of (Err fault) ≡ Some outcome) × IsRefusedNames IsOf first second outcome) × Keeps old new
+IsCutRun IsOf IsRefused first second old new (Err Device) = PutsCutFront IsOf first second old new
+IsCutRun IsOf IsRefused first second old new (Err Memory) = Keeps old new ⊎ PutsCutFront IsOf first second old new

@@ -1,5 +1,5 @@
 -- How the faults of the lower crates become those of a run, what is told of them, and how a run ends.
-use Rattle.std.specs.Prelude.{ℕ, Bool, true, false, List, ◌∷◌, ◌++◌, codes}
+use Rattle.std.specs.Prelude.{ℕ, Bool, true, false, List, ◌++◌, codes, if◌then◌else◌}
 use Rattle.std.specs.List.{flat_map}
 use Rattle.std.specs.Fmt.{decimal}
 use Rattle.std.specs.String.{string_bytes}
@@ -13,9 +13,14 @@ use Rattle.cut_report.specs.declared.sink.SinkFault.TheVariants as sink
 use Rattle.cut_solve.specs.declared.fault.SolveFault.{SolveFault}
 use Rattle.cut_solve.specs.declared.fault.SolveFault.TheVariants as solve
 use Rattle.oscip.specs.declared.fault.RunFault.{RunFault}
-use Rattle.oscip.specs.declared.fault.RunFault.TheVariants.{CannotRead, CannotWrite, Net, Report, Solve, Device, Memory}
+use Rattle.oscip.specs.declared.fault.RunFault.TheVariants.{CannotRead, CannotWrite, Tree, Net, Report, Solve, Device, Memory}
+use Rattle.oscip.specs.declared.tree.TreeFault.{TreeFault}
+use Rattle.oscip.specs.TreeFaults.{after_space, tree_fault_text, wants_memory}
 
 -- want of memory is one fault, whoever met it
+abbrev pub of_tree : TreeFault → RunFault
+of_tree fault = if wants_memory fault then Memory else Tree fault
+
 abbrev pub of_net : NetFault → RunFault
 of_net (net.BadLine line) = Net (net.BadLine line)
 of_net (net.TwiceImport line) = Net (net.TwiceImport line)
@@ -42,9 +47,6 @@ abbrev pub of_sink : SinkFault → RunFault
 of_sink sink.Memory = Memory
 of_sink sink.Device = Device
 
-abbrev pub after_space : List ℕ → List ℕ
-after_space name = 32 ∷ name
-
 abbrev pub net_fault_text : NetFault → List ℕ
 net_fault_text (net.BadLine line) = decimal line ++ codes ": BadLine"
 net_fault_text (net.TwiceImport line) = decimal line ++ codes ": TwiceImport"
@@ -70,6 +72,7 @@ solve_fault_text solve.Memory = codes "Memory"
 abbrev pub fault_text : RunFault → List ℕ
 fault_text (CannotRead path) = codes "cannot read " ++ string_bytes path
 fault_text (CannotWrite path) = codes "cannot write " ++ string_bytes path
+fault_text (Tree fault) = tree_fault_text fault
 fault_text (Net fault) = net_fault_text fault
 fault_text (Report fault) = report_fault_text fault
 fault_text (Solve fault) = solve_fault_text fault
@@ -98,9 +101,13 @@ solve_status solve.SameModule = 1
 solve_status (solve.NoSuchModule name) = 1
 solve_status solve.Memory = 4
 
+abbrev pub tree_status : TreeFault → ℕ
+tree_status fault = if wants_memory fault then 4 else 1
+
 abbrev pub status_number : RunFault → ℕ
 status_number (CannotRead path) = 3
 status_number (CannotWrite path) = 3
+status_number (Tree fault) = tree_status fault
 status_number (Net fault) = net_status fault
 status_number (Report fault) = report_status fault
 status_number (Solve fault) = solve_status fault
@@ -111,6 +118,7 @@ status_number Memory = 4
 abbrev pub is_device : RunFault → Bool
 is_device (CannotRead path) = false
 is_device (CannotWrite path) = false
+is_device (Tree fault) = false
 is_device (Net fault) = false
 is_device (Report fault) = false
 is_device (Solve fault) = false

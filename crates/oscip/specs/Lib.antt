@@ -3,3 +3,7 @@ pub mod Faults
 pub mod Jobs
 pub mod Runs
 pub mod JobRuns
+pub mod Sources
+pub mod Trees
+pub mod TreeReading
+pub mod TreeFaults

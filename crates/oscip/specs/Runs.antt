@@ -7,7 +7,6 @@ use Rattle.cut_net.specs.NetText.{IsNetOutcome}
 use Rattle.cut_net.specs.NetText as nets
 use Rattle.cut_net.specs.NetReading.{outcome_of as net_outcome_of}
 use Rattle.cut_net.specs.Said.{Entry}
-use Rattle.cut_net.specs.declared.fault.NetFault.{NetFault}
 use Rattle.cut_net.specs.ReportLines.{IsReportOutcome}
 use Rattle.cut_net.specs.ReportLines as reports
 use Rattle.cut_report.specs.Reading.{outcome_of as report_outcome_of}
@@ -16,7 +15,44 @@ use Rattle.cut_check.specs.declared.verdict.Verdict.{Verdict}
 use Rattle.cut_check.specs.declared.verdict.Verdict.TheVariants.{Yes, NoSuchImport, StillChain, WrongWeight, OverWeight, NotKept, WrongValue}
 use Rattle.cut_check.specs.Verdicts.{IsVerdict}
 use Rattle.oscip.specs.declared.fault.RunFault.{RunFault}
-use Rattle.oscip.specs.declared.fault.RunFault.TheVariants.{CannotRead, CannotWrite, Net, Report, Solve, Device, Memory}
+use Rattle.oscip.specs.declared.fault.RunFault.TheVariants.{CannotRead, CannotWrite, Tree, Net, Report, Solve, Device, Memory}
+use Rattle.oscip.specs.declared.source.Source.{Source}
+use Rattle.oscip.specs.TreeFaults.{wants_memory}
+use Rattle.oscip.specs.Trees.{IsTreeFault}
+
+-- the text says this network
+abbrev pub IsNetOfText : List ℕ → Network → Type 0
+IsNetOfText text net = IsNetOutcome text (nets.Reads net)
+
+-- the text of a network is refused with this fault
+abbrev pub IsRefusedText : List ℕ → RunFault → Type 0
+IsRefusedText text (CannotRead path) = ⊥
+IsRefusedText text (CannotWrite path) = ⊥
+IsRefusedText text (Tree fault) = ⊥
+IsRefusedText text (Net fault) = (outcome : nets.NetOutcome) × (net_outcome_of (Err fault) ≡ Some outcome) × IsNetOutcome text outcome
+IsRefusedText text (Report fault) = ⊥
+IsRefusedText text (Solve fault) = ⊥
+IsRefusedText text Device = ⊥
+IsRefusedText text Memory = ⊥
+
+-- the tree of these files is refused with this fault
+abbrev pub IsRefusedTree : List Source → RunFault → Type 0
+IsRefusedTree sources (CannotRead path) = ⊥
+IsRefusedTree sources (CannotWrite path) = ⊥
+IsRefusedTree sources (Tree fault) = (wants_memory fault ≡ false) × IsTreeFault sources fault
+IsRefusedTree sources (Net fault) = ⊥
+IsRefusedTree sources (Report fault) = ⊥
+IsRefusedTree sources (Solve fault) = ⊥
+IsRefusedTree sources Device = ⊥
+IsRefusedTree sources Memory = ⊥
+
+-- it is this network
+abbrev pub IsThis : Network → Network → Type 0
+IsThis net other = other ≡ net
+
+-- nothing is refused
+abbrev pub IsNeverRefused : RunFault → Type 0
+IsNeverRefused fault = ⊥
 
 -- the line of a verdict
 abbrev pub verdict_text : Network → Verdict → List ℕ
@@ -38,10 +74,12 @@ is_yes (OverWeight from to) = false
 is_yes (NotKept m) = false
 is_yes WrongValue = false
 
--- the bytes are a network and a report on it, of which this is the verdict's line; at yes what it says is a cheapest cut
-pub record IsChecked (network report line : List ℕ) (agrees : Bool) : Type 0 where
+-- Below a network is that of the input, a text or a tree.
+
+-- the report is one on the input's network, of which this is the verdict's line; at yes what it says is a cheapest cut
+pub record IsChecked (IsOf : Network → Type 0) (report line : List ℕ) (agrees : Bool) : Type 0 where
   pub net : Network
-  pub reads : IsNetOutcome network (nets.Reads net)
+  pub reads : IsOf net
   pub entry : Entry
   pub says : IsReportOutcome net report (reports.Reads entry)
   pub verdict : Verdict
@@ -51,29 +89,26 @@ pub record IsChecked (network report line : List ℕ) (agrees : Bool) : Type 0 w
   pub cheapest : agrees ≡ true → IsCheapestSaid net entry.from entry.to entry.said
 
 -- the sink has the whole line of the check
-abbrev pub PutsCheck : List ℕ → List ℕ → Option (List ℕ) → Option (List ℕ) → Bool → Type 0
-PutsCheck network report old new agrees = (line : List ℕ) × IsChecked network report line agrees × Appends old new line
+abbrev pub PutsCheck : (Network → Type 0) → List ℕ → Option (List ℕ) → Option (List ℕ) → Bool → Type 0
+PutsCheck IsOf report old new agrees = (line : List ℕ) × IsChecked IsOf report line agrees × Appends old new line
 
 -- the sink has a front of the line of the check
-abbrev pub PutsFront : List ℕ → List ℕ → Option (List ℕ) → Option (List ℕ) → Type 0
-PutsFront network report old new = (line : List ℕ) × (agrees : Bool) × IsChecked network report line agrees × AppendsFront old new line
+abbrev pub PutsFront : (Network → Type 0) → List ℕ → Option (List ℕ) → Option (List ℕ) → Type 0
+PutsFront IsOf report old new = (line : List ℕ) × (agrees : Bool) × IsChecked IsOf report line agrees × AppendsFront old new line
 
--- the network was refused, and the sink is as it was
-abbrev pub RefusesNet : List ℕ → Option (List ℕ) → Option (List ℕ) → NetFault → Type 0
-RefusesNet network old new fault = ((outcome : nets.NetOutcome) × (net_outcome_of (Err fault) ≡ Some outcome) × IsNetOutcome network outcome) × Keeps old new
-
--- the report was refused, and the network was not
-abbrev pub IsRefusedReport : List ℕ → List ℕ → reports.ReportOutcome → Type 0
-IsRefusedReport network report outcome = (net : Network) × IsNetOutcome network (nets.Reads net) × IsReportOutcome net report outcome
+-- the report was refused, and the input was not
+abbrev pub IsRefusedReport : (Network → Type 0) → List ℕ → reports.ReportOutcome → Type 0
+IsRefusedReport IsOf report outcome = (net : Network) × IsOf net × IsReportOutcome net report outcome
 
 -- a run of the engine: refused input leaves the sink as it was, with the fault that the input has
-abbrev pub IsCheckRun : List ℕ → List ℕ → Option (List ℕ) → Option (List ℕ) → Result Bool RunFault → Type 0
-IsCheckRun network report old new (Ok agrees) = PutsCheck network report old new agrees
-IsCheckRun network report old new (Err (CannotRead path)) = ⊥
-IsCheckRun network report old new (Err (CannotWrite path)) = ⊥
-IsCheckRun network report old new (Err (Net fault)) = RefusesNet network old new fault
-IsCheckRun network report old new (Err (Report fault)) =
-    ((outcome : reports.ReportOutcome) × (report_outcome_of (Err fault) ≡ Some outcome) × IsRefusedReport network report outcome) × Keeps old new
-IsCheckRun network report old new (Err (Solve fault)) = ⊥
-IsCheckRun network report old new (Err Device) = PutsFront network report old new
-IsCheckRun network report old new (Err Memory) = Keeps old new ⊎ PutsFront network report old new
+abbrev pub IsCheckRun : (Network → Type 0) → (RunFault → Type 0) → List ℕ → Option (List ℕ) → Option (List ℕ) → Result Bool RunFault → Type 0
+IsCheckRun IsOf IsRefused report old new (Ok agrees) = PutsCheck IsOf report old new agrees
+IsCheckRun IsOf IsRefused report old new (Err (CannotRead path)) = ⊥
+IsCheckRun IsOf IsRefused report old new (Err (CannotWrite path)) = ⊥
+IsCheckRun IsOf IsRefused report old new (Err (Tree fault)) = IsRefused (Tree fault) × Keeps old new
+IsCheckRun IsOf IsRefused report old new (Err (Net fault)) = IsRefused (Net fault) × Keeps old new
+IsCheckRun IsOf IsRefused report old new (Err (Report fault)) =
+    ((outcome : reports.ReportOutcome) × (report_outcome_of (Err fault) ≡ Some outcome) × IsRefusedReport IsOf report outcome) × Keeps old new
+IsCheckRun IsOf IsRefused report old new (Err (Solve fault)) = ⊥
+IsCheckRun IsOf IsRefused report old new (Err Device) = PutsFront IsOf report old new
+IsCheckRun IsOf IsRefused report old new (Err Memory) = Keeps old new ⊎ PutsFront IsOf report old new

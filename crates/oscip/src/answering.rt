@@ -1,10 +1,14 @@
 //! What a job does with the bytes of its files.
-ghost use Rattle.std.specs.Prelude.{◌≡◌};
+ghost use Rattle.std.specs.Prelude.{◌≡◌, false, true};
 ghost use Rattle.cut_report.specs.Sinks.{failures_by};
 ghost use Rattle.oscip.specs.Faults.{is_device};
 ghost use Rattle.oscip.specs.JobRuns.{IsJobRun};
+ghost use Rattle.oscip.specs.Jobs.{is_tree_job};
+ghost use Rattle.oscip.specs.Runs.{IsNetOfText, IsRefusedText, IsRefusedTree};
+ghost use Rattle.oscip.specs.Sources.{AreInOrder};
+ghost use Rattle.oscip.specs.Trees.{IsNetOfTree};
 
-use crate::{Job, RunFault, check_net_bytes, cut_net_bytes};
+use crate::{Job, RunFault, Source, check_net_bytes, check_tree, cut_net_bytes, cut_tree};
 use cut_report::Sink;
 use std::alloc::Global;
 
@@ -17,8 +21,9 @@ pub fn answer<S: Sink>(
     report: &[u8],
     sink: &mut S,
 ) -> Result<bool, RunFault>
+    requires { is_tree_job job.now ≡ false }
     // What the job's engine reads and puts, with the job's own names.
-    ensures run { IsJobRun job.now network.now report.now (S.taken sink.old) (S.taken sink.new) result }
+    ensures run { IsJobRun (IsNetOfText network.now) (IsRefusedText network.now) job.now report.now (S.taken sink.old) (S.taken sink.new) result }
     // Device is answered where the sink counted a failure, and nowhere else.
     ensures failures { S.failures sink.new ≡ failures_by is_device result (S.failures sink.old) }
 {
@@ -28,5 +33,32 @@ pub fn answer<S: Sink>(
             Ok(true)
         }
         Job::CheckNet { .. } => check_net_bytes(alloc, network, report, sink),
+        Job::Cut { .. } | Job::Check { .. } => unreachable!(),
+    }
+}
+
+/// Runs the engine of a job on the files of its tree and, where the job has one, on the bytes of its report. False is a
+/// check that says no. Refuses as the engine does.
+pub fn answer_tree<S: Sink>(
+    alloc: Global,
+    job: &Job,
+    sources: &[Source],
+    report: &[u8],
+    sink: &mut S,
+) -> Result<bool, RunFault>
+    requires tree { is_tree_job job.now ≡ true }
+    requires in_order { AreInOrder sources.now }
+    // What the job's engine reads and puts, with the job's own names.
+    ensures run { IsJobRun (IsNetOfTree sources.now) (IsRefusedTree sources.now) job.now report.now (S.taken sink.old) (S.taken sink.new) result }
+    // Device is answered where the sink counted a failure, and nowhere else.
+    ensures failures { S.failures sink.new ≡ failures_by is_device result (S.failures sink.old) }
+{
+    match job {
+        Job::Cut { from, to, .. } => {
+            cut_tree(alloc, sources, from.as_str(), to.as_str(), sink)?;
+            Ok(true)
+        }
+        Job::Check { .. } => check_tree(alloc, sources, report, sink),
+        Job::CutNet { .. } | Job::CheckNet { .. } => unreachable!(),
     }
 }

@@ -5,9 +5,12 @@ ghost use Rattle.cut_net.specs.Network.{index_of, name_of};
 ghost use Rattle.cut_report.specs.Sinks.{failures_by};
 ghost use Rattle.oscip.specs.Faults.{is_device};
 ghost use Rattle.oscip.specs.CutRuns.{IsCutRun};
-ghost use Rattle.oscip.specs.Runs.{is_yes, verdict_text, IsCheckRun};
+ghost use Rattle.oscip.specs.Runs.{is_yes, verdict_text, IsCheckRun, IsNetOfText, IsNeverRefused, IsRefusedText, IsRefusedTree, IsThis};
+ghost use Rattle.oscip.specs.Sources.{AreInOrder};
+ghost use Rattle.oscip.specs.Trees.{IsNetOfTree};
 
-use crate::RunFault;
+use crate::tree_reading::net_of;
+use crate::{RunFault, Source};
 use cut_check::{Verdict, check};
 use cut_net::Net;
 use cut_report::{Sink, put_all, write};
@@ -56,6 +59,23 @@ fn is_yes(verdict: Verdict) -> bool
     matches!(verdict, Verdict::Yes)
 }
 
+/// Reads a report on a network, puts the line of the verdict, and answers whether it is yes.
+fn check_in<S: Sink>(
+    alloc: Global,
+    net: &Net,
+    report: &[u8],
+    sink: &mut S,
+) -> Result<bool, RunFault>
+    ensures run { IsCheckRun (IsThis net.now) IsNeverRefused report.now (S.taken sink.old) (S.taken sink.new) result }
+    ensures failures { S.failures sink.new ≡ failures_by is_device result (S.failures sink.old) }
+{
+    let report = cut_report::read(alloc, report, net)?;
+    let verdict = check(alloc, net, report.from, report.to, &report.cut)?;
+    let line = verdict_line(alloc, net, verdict)?;
+    put_all(sink, line.as_bytes())?;
+    Ok(is_yes(verdict))
+}
+
 /// Reads a network and then a report on it, puts the line of the verdict, and answers whether it is yes.
 /// At yes no set of imports that cuts the report's two modules apart weighs less than the report's.
 /// Refuses with `Net`, `Report`, `Device` or `Memory`.
@@ -66,16 +86,32 @@ pub fn check_net_bytes<S: Sink>(
     sink: &mut S,
 ) -> Result<bool, RunFault>
     // What was read, what the verdict is, and what the sink took; after a refusal of the input it took nothing.
-    ensures run { IsCheckRun network.now report.now (S.taken sink.old) (S.taken sink.new) result }
+    ensures run { IsCheckRun (IsNetOfText network.now) (IsRefusedText network.now) report.now (S.taken sink.old) (S.taken sink.new) result }
     // Device is answered where the sink counted a failure, and nowhere else.
     ensures failures { S.failures sink.new ≡ failures_by is_device result (S.failures sink.old) }
 {
     let net = Net::read(alloc, network)?;
-    let report = cut_report::read(alloc, report, &net)?;
-    let verdict = check(alloc, &net, report.from, report.to, &report.cut)?;
-    let line = verdict_line(alloc, &net, verdict)?;
-    put_all(sink, line.as_bytes())?;
-    Ok(is_yes(verdict))
+    check_in(alloc, &net, report, sink)
+}
+
+/// Reads the files of a tree and then a report on it, puts the line of the verdict, and answers whether it is yes.
+/// At yes no set of imports that cuts the report's two modules apart weighs less than the report's.
+/// Refuses with `Tree`, `Report`, `Device` or `Memory`.
+pub fn check_tree<S: Sink>(
+    alloc: Global,
+    sources: &[Source],
+    report: &[u8],
+    sink: &mut S,
+) -> Result<bool, RunFault>
+    // The files stand in the order of their paths.
+    requires { AreInOrder sources.now }
+    // What was read, what the verdict is, and what the sink took; after a refusal of the input it took nothing.
+    ensures run { IsCheckRun (IsNetOfTree sources.now) (IsRefusedTree sources.now) report.now (S.taken sink.old) (S.taken sink.new) result }
+    // Device is answered where the sink counted a failure, and nowhere else.
+    ensures failures { S.failures sink.new ≡ failures_by is_device result (S.failures sink.old) }
+{
+    let net = net_of(alloc, sources)?;
+    check_in(alloc, &net, report, sink)
 }
 
 /// The number of the module of this name, which the network has.
@@ -84,6 +120,19 @@ fn module_of(net: &Net, name: &str) -> u32
     ensures { Some result ≡ index_of net.now name.now }
 {
     net.index_of(name).unwrap()
+}
+
+/// Puts the report of a cheapest cut of a network between the modules of two names.
+fn cut_in<S: Sink>(alloc: Global, net: &Net, a: &str, b: &str, sink: &mut S) -> Result<(), RunFault>
+    ensures run { IsCutRun (IsThis net.now) IsNeverRefused a.now b.now (S.taken sink.old) (S.taken sink.new) result }
+    ensures failures { S.failures sink.new ≡ failures_by is_device result (S.failures sink.old) }
+{
+    net.keeps();
+    let cut = plain(alloc, net, a, b)?;
+    let from = module_of(net, a);
+    let to = module_of(net, b);
+    write(alloc, net, from, to, &cut, sink)?;
+    Ok(())
 }
 
 /// Reads a network and puts the report of a cheapest cut between the modules of two names: the imports to be removed so
@@ -98,15 +147,32 @@ pub fn cut_net_bytes<S: Sink>(
     sink: &mut S,
 ) -> Result<(), RunFault>
     // What was read, and the report that the sink took; after a refusal of the input it took nothing.
-    ensures run { IsCutRun network.now a.now b.now (S.taken sink.old) (S.taken sink.new) result }
+    ensures run { IsCutRun (IsNetOfText network.now) (IsRefusedText network.now) a.now b.now (S.taken sink.old) (S.taken sink.new) result }
     // Device is answered where the sink counted a failure, and nowhere else.
     ensures failures { S.failures sink.new ≡ failures_by is_device result (S.failures sink.old) }
 {
-    let net = Net::read(alloc, network)?;
-    net.keeps();
-    let cut = plain(alloc, &net, a, b)?;
-    let from = module_of(&net, a);
-    let to = module_of(&net, b);
-    write(alloc, &net, from, to, &cut, sink)?;
-    Ok(())
+    let network = Net::read(alloc, network)?;
+    cut_in(alloc, &network, a, b, sink)
+}
+
+/// Reads the files of a tree and puts the report of a cheapest cut between the modules of two names, as `cut_net_bytes`
+/// does for a network: each import weighs as much as the qualified uses that cross it.
+/// Refuses with `Tree` where the tree is refused, then with `Solve` for the first name that no module has or where both
+/// are one module's, and with `Device` or `Memory`.
+pub fn cut_tree<S: Sink>(
+    alloc: Global,
+    sources: &[Source],
+    a: &str,
+    b: &str,
+    sink: &mut S,
+) -> Result<(), RunFault>
+    // The files stand in the order of their paths.
+    requires { AreInOrder sources.now }
+    // What was read, and the report that the sink took; after a refusal of the input it took nothing.
+    ensures run { IsCutRun (IsNetOfTree sources.now) (IsRefusedTree sources.now) a.now b.now (S.taken sink.old) (S.taken sink.new) result }
+    // Device is answered where the sink counted a failure, and nowhere else.
+    ensures failures { S.failures sink.new ≡ failures_by is_device result (S.failures sink.old) }
+{
+    let network = net_of(alloc, sources)?;
+    cut_in(alloc, &network, a, b, sink)
 }

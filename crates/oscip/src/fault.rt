@@ -1,17 +1,17 @@
 //! Why a run ends without an answer, the line that tells of it, and the status that it ends with.
 ghost use Rattle.std.specs.Prelude.{◌≡◌, ◌++◌, IfOk, codes};
-ghost use Rattle.std.specs.List.{flat_map};
 ghost use Rattle.std.specs.String.{string_bytes};
-ghost use Rattle.cut_net.specs.Network.{texts};
-ghost use Rattle.oscip.specs.Faults.{after_space, fault_text, net_status, net_fault_text, report_status, report_fault_text, solve_fault_text, solve_status, status_number};
+ghost use Rattle.oscip.specs.Faults.{fault_text, net_status, net_fault_text, report_status, report_fault_text, solve_fault_text, solve_status, status_number, tree_status};
 
+use crate::TreeFault;
+use crate::tree_fault::{after_spaces, tree_fault_text, wants_memory};
 use cut_net::NetFault;
 use cut_report::{ReportFault, SinkFault};
 use cut_solve::SolveFault;
 use std::alloc::{AllocError, Global};
 use thiserror::Error;
 
-/// Why a run ends without an answer. As `From` makes them, `Net`, `Report` and `Solve` hold
+/// Why a run ends without an answer. As `From` makes them, `Tree`, `Net`, `Report` and `Solve` hold
 /// neither want of memory nor a failed device.
 #[derive(Debug, PartialEq, Eq, Drop, Error)]
 pub enum RunFault {
@@ -21,6 +21,9 @@ pub enum RunFault {
     /// A file can't be written.
     #[error("cannot write {path}")]
     CannotWrite { path: String },
+    /// The tree is refused.
+    #[error(transparent)]
+    Tree(TreeFault),
     /// The network is refused.
     #[error(transparent)]
     Net(NetFault),
@@ -46,6 +49,21 @@ impl From<AllocError> for RunFault {
 
     fn from(_error: AllocError) -> RunFault {
         RunFault::Memory
+    }
+}
+
+impl From<TreeFault> for RunFault {
+    ghost use Rattle.std.specs.Prelude.{◌≡◌};
+    ghost use Rattle.oscip.specs.Faults.{of_tree};
+
+    ghost from_gives = { λ lower fault. fault ≡ of_tree lower };
+
+    fn from(fault: TreeFault) -> RunFault {
+        if wants_memory(&fault) {
+            RunFault::Memory
+        } else {
+            RunFault::Tree(fault)
+        }
     }
 }
 
@@ -106,18 +124,6 @@ impl From<SinkFault> for RunFault {
     }
 }
 
-/// The names, each with a space in front.
-fn after_spaces(alloc: Global, names: &[String]) -> Result<String, AllocError>
-    ensures { IfOk result (λ t. string_bytes t ≡ flat_map after_space (texts names.now)) }
-{
-    let mut text = String::new(alloc);
-    for name in names {
-        text.push(' ')?;
-        text.push_str(name.as_str())?;
-    }
-    Ok(text)
-}
-
 fn net_fault_text(alloc: Global, fault: &NetFault) -> Result<String, AllocError>
     ensures { IfOk result (λ t. string_bytes t ≡ net_fault_text fault.now) }
 {
@@ -163,6 +169,7 @@ fn text_of(alloc: Global, fault: &RunFault) -> Result<String, AllocError>
     match fault {
         RunFault::CannotRead { path } => format!(in alloc; "cannot read {path}"),
         RunFault::CannotWrite { path } => format!(in alloc; "cannot write {path}"),
+        RunFault::Tree(fault) => tree_fault_text(alloc, fault),
         RunFault::Net(fault) => net_fault_text(alloc, fault),
         RunFault::Report(fault) => report_fault_text(alloc, fault),
         RunFault::Solve(fault) => solve_fault_text(alloc, fault),
@@ -215,12 +222,19 @@ fn solve_status(fault: &SolveFault) -> u8
     }
 }
 
+fn tree_status(fault: &TreeFault) -> u8
+    ensures { result ≡ tree_status fault.now }
+{
+    if wants_memory(fault) { 4 } else { 1 }
+}
+
 /// The status that a fault ends the program with: 1 for refused input, 3 for a file or a device, 4 for memory.
 pub fn status_of(fault: &RunFault) -> u8
     ensures { result ≡ status_number fault.now }
 {
     match fault {
         RunFault::CannotRead { .. } | RunFault::CannotWrite { .. } | RunFault::Device => 3,
+        RunFault::Tree(fault) => tree_status(fault),
         RunFault::Net(fault) => net_status(fault),
         RunFault::Report(fault) => report_status(fault),
         RunFault::Solve(fault) => solve_status(fault),

@@ -3,7 +3,7 @@ ghost use Rattle.std.specs.Prelude.{◌≡◌, IfOk, map, false};
 ghost use Rattle.std.specs.String.{string_bytes};
 ghost use Rattle.clap.specs.Words.{app_of, found_of, kind_of, rows_of, subcommand_of, subcommand_rows_of, with_rule};
 ghost use Rattle.clap.specs.declared.Command.TheViews.{out-Command as fields_of};
-ghost use Rattle.oscip.specs.Jobs.{check_net_app, cut_net_app, oscip, required_rule, Finds, Holds};
+ghost use Rattle.oscip.specs.Jobs.{check_app, check_net_app, cut_app, cut_net_app, oscip, required_rule, with_modules, Finds, Holds};
 
 use clap::error::ErrorKind;
 use clap::{Arg, ArgMatches, Command};
@@ -13,6 +13,17 @@ use thiserror::Error;
 /// A command with the values of its words.
 #[derive(Debug, PartialEq, Eq, Drop)]
 pub enum Job {
+    /// Finds a cheapest cut of the modules below a folder, given by its path, between the modules of two names.
+    Cut {
+        folder: String,
+        from: String,
+        to: String,
+    },
+    /// Checks a report against the modules below a folder, both given as paths.
+    Check {
+        folder: String,
+        report: String,
+    },
     /// Finds a cheapest cut of a network, given as the path of a file, between the modules of two names.
     CutNet {
         network: String,
@@ -59,6 +70,78 @@ fn with_required<'a>(
     command.arg(Arg::new(alloc, id).required(true).help(help))
 }
 
+/// The command with the names of two modules, A and B.
+fn with_modules<'a>(alloc: Global, command: Command<'a>) -> Result<Command<'a>, AllocError>
+    ensures app { IfOk result (λ c. app_of c ≡ with_modules (app_of command.entry)) }
+    ensures local { IfOk result (λ c. (fields_of command.entry).has_globals ≡ false → (fields_of c).has_globals ≡ false) }
+{
+    let command = with_required(
+        alloc,
+        command,
+        "A",
+        "The name of the module that is to reach B no longer",
+    )?;
+    with_required(
+        alloc,
+        command,
+        "B",
+        "The name of the module that A is to reach no longer",
+    )
+}
+
+fn cut_command<'a>(alloc: Global) -> Result<Command<'a>, AllocError>
+    ensures app { IfOk result (λ c. app_of c ≡ cut_app) }
+    ensures local { IfOk result (λ c. (fields_of c).has_globals ≡ false) }
+{
+    let command = Command::new(alloc, "cut").about(
+        "Find a cheapest set of imports of Oberon-07 modules to remove so that A no longer reaches B, with a flow that proves it",
+    );
+    let command = with_required(
+        alloc,
+        command,
+        "DIR",
+        "The folder of the modules: its files, and those of its folders, that end in `.Mod` or `.mod`",
+    )?;
+    with_modules(alloc, command)
+}
+
+fn check_command<'a>(alloc: Global) -> Result<Command<'a>, AllocError>
+    ensures app { IfOk result (λ c. app_of c ≡ check_app) }
+    ensures local { IfOk result (λ c. (fields_of c).has_globals ≡ false) }
+{
+    let command = Command::new(alloc, "check").about(
+        "Check a report's proof that its cut of Oberon-07 modules is cheapest",
+    );
+    let command = with_required(
+        alloc,
+        command,
+        "DIR",
+        "The folder of the modules: its files, and those of its folders, that end in `.Mod` or `.mod`",
+    )?;
+    with_required(
+        alloc,
+        command,
+        "REPORT",
+        "The report of a cut between two of the modules",
+    )
+}
+
+fn cut_net_command<'a>(alloc: Global) -> Result<Command<'a>, AllocError>
+    ensures app { IfOk result (λ c. app_of c ≡ cut_net_app) }
+    ensures local { IfOk result (λ c. (fields_of c).has_globals ≡ false) }
+{
+    let command = Command::new(alloc, "cut-net").about(
+        "Find a cheapest set of imports to remove so that A no longer reaches B, with a flow that proves it",
+    );
+    let command = with_required(
+        alloc,
+        command,
+        "FILE",
+        "The network: lines `module M` and `import M N w`",
+    )?;
+    with_modules(alloc, command)
+}
+
 fn check_net_command<'a>(alloc: Global) -> Result<Command<'a>, AllocError>
     ensures app { IfOk result (λ c. app_of c ≡ check_net_app) }
     ensures local { IfOk result (λ c. (fields_of c).has_globals ≡ false) }
@@ -80,43 +163,16 @@ fn check_net_command<'a>(alloc: Global) -> Result<Command<'a>, AllocError>
     )
 }
 
-fn cut_net_command<'a>(alloc: Global) -> Result<Command<'a>, AllocError>
-    ensures app { IfOk result (λ c. app_of c ≡ cut_net_app) }
-    ensures local { IfOk result (λ c. (fields_of c).has_globals ≡ false) }
-{
-    let command = Command::new(alloc, "cut-net").about(
-        "Find a cheapest set of imports to remove so that A no longer reaches B, with a flow that proves it",
-    );
-    let command = with_required(
-        alloc,
-        command,
-        "FILE",
-        "The network: lines `module M` and `import M N w`",
-    )?;
-    let command = with_required(
-        alloc,
-        command,
-        "A",
-        "The name of the module that is to reach B no longer",
-    )?;
-    with_required(
-        alloc,
-        command,
-        "B",
-        "The name of the module that A is to reach no longer",
-    )
-}
-
 fn command<'a>(alloc: Global) -> Result<Command<'a>, AllocError>
     ensures { IfOk result (λ c. app_of c ≡ oscip) }
 {
-    let cut_net = cut_net_command(alloc)?;
-    let check_net = check_net_command(alloc)?;
-    Command::new(alloc, "oscip")
+    let program = Command::new(alloc, "oscip")
         .about("Finds and checks cheapest decoupling cuts of Oberon-07 modules")
-        .subcommand_required(true)
-        .subcommand(cut_net)?
-        .subcommand(check_net)
+        .subcommand_required(true);
+    let program = program.subcommand(cut_command(alloc)?)?;
+    let program = program.subcommand(check_command(alloc)?)?;
+    let program = program.subcommand(cut_net_command(alloc)?)?;
+    program.subcommand(check_net_command(alloc)?)
 }
 
 fn refused(alloc: Global) -> JobFault {
@@ -140,6 +196,17 @@ fn job_from(alloc: Global, matches: &ArgMatches<'_>) -> Result<Job, JobFault>
     let Some((name, found)) = matches.subcommand() else {
         return Err(refused(alloc));
     };
+    if name == "cut" {
+        let folder = value_of(alloc, found, "DIR")?;
+        let from = value_of(alloc, found, "A")?;
+        let to = value_of(alloc, found, "B")?;
+        return Ok(Job::Cut { folder, from, to });
+    }
+    if name == "check" {
+        let folder = value_of(alloc, found, "DIR")?;
+        let report = value_of(alloc, found, "REPORT")?;
+        return Ok(Job::Check { folder, report });
+    }
     if name == "cut-net" {
         let network = value_of(alloc, found, "FILE")?;
         let from = value_of(alloc, found, "A")?;

@@ -3,24 +3,34 @@
 //! Its contract: what an engine puts is what the definitions say of its inputs, and nothing else.
 #![tactic(auto)]
 
+ghost use Rattle.std.specs.Prelude.{◌≡◌, true, false};
+ghost use Rattle.oscip.specs.Jobs.{is_tree_job};
+
 mod answering;
 mod engine;
 mod fault;
+mod folder;
 mod job;
+mod module_file;
+mod reading;
+mod source;
+mod tree;
+mod tree_fault;
+mod tree_reading;
 
-pub use answering::answer;
+pub use answering::{answer, answer_tree};
 use cut_report::ToWrite;
-pub use engine::{check_net_bytes, cut_net_bytes};
+pub use engine::{check_net_bytes, check_tree, cut_net_bytes, cut_tree};
 pub use fault::{RunFault, fault_line, status_of};
+pub use folder::sources_of;
 pub use job::{Job, JobFault, job_of};
-use std::alloc::Global;
-use std::io::{ErrorKind, Read};
+use reading::read_file;
+pub use source::{Source, in_order};
+use std::io::ErrorKind;
 use std::process::ExitCode;
 use std::rt::{Env, Files};
-use std::{env, fs, io};
-
-/// The most bytes that a network or a report may have.
-const FILE_LIMIT: u64 = 1 << 30;
+use std::{env, io};
+pub use tree::TreeFault;
 
 /// The status of a check that says no.
 const SAYS_NO: u8 = 5;
@@ -28,34 +38,23 @@ const SAYS_NO: u8 = 5;
 /// The status of a refused command line.
 const REFUSED: u8 = 2;
 
-fn cannot_read(alloc: Global, path: &str) -> RunFault {
-    match String::from_str(alloc, path) {
-        Ok(path) => RunFault::CannotRead { path },
-        Err(_) => RunFault::Memory,
+/// The bytes of the job's report, and none where it has no report.
+fn report_of<R: Files + AllocGlobal>(rt: &R, job: &Job) -> Result<Vec<u8>, RunFault> {
+    match job {
+        Job::Check { report, .. } | Job::CheckNet { report, .. } => read_file(rt, report.as_str()),
+        Job::Cut { .. } | Job::CutNet { .. } => Ok(Vec::new(rt.alloc())),
     }
 }
 
-/// The bytes of a file, of which at most one beyond the limit is read.
-fn read_file<R: Files + AllocGlobal>(rt: &R, path: &str) -> Result<Vec<u8>, RunFault> {
-    let Ok(file) = fs::open(rt, path) else {
-        return Err(cannot_read(rt.alloc(), path));
-    };
-    let mut bytes = Vec::new(rt.alloc());
-    match file.take(FILE_LIMIT + 1).read_to_end(&mut bytes) {
-        Ok(_) if bytes.len() as u64 <= FILE_LIMIT => Ok(bytes),
-        Err(error) if error.kind() == ErrorKind::OutOfMemory => Err(RunFault::Memory),
-        _ => Err(cannot_read(rt.alloc(), path)),
-    }
-}
-
-/// Runs the job on the real standard output. Its files are read in the order of the words.
-fn run_job<R: Files + AllocGlobal + Print>(rt: &R, job: &Job) -> Result<bool, RunFault> {
-    let (Job::CutNet { network, .. } | Job::CheckNet { network, .. }) = job;
-    let network = read_file(rt, network.as_str())?;
-    let report = match job {
-        Job::CheckNet { report, .. } => read_file(rt, report.as_str())?,
-        Job::CutNet { .. } => Vec::new(rt.alloc()),
-    };
+fn run_net<R: Files + AllocGlobal + Print>(
+    rt: &R,
+    job: &Job,
+    network: &str,
+) -> Result<bool, RunFault>
+    requires { is_tree_job job.now ≡ false }
+{
+    let network = read_file(rt, network)?;
+    let report = report_of(rt, job)?;
     let mut sink = ToWrite::new(io::writer(rt));
     answer(
         rt.alloc(),
@@ -64,6 +63,38 @@ fn run_job<R: Files + AllocGlobal + Print>(rt: &R, job: &Job) -> Result<bool, Ru
         report.as_slice(),
         &mut sink,
     )
+}
+
+fn run_tree<R: Files + AllocGlobal + Print + Clone + Drop>(
+    rt: &R,
+    job: &Job,
+    folder: &str,
+) -> Result<bool, RunFault>
+    requires { is_tree_job job.now ≡ true }
+{
+    let sources = sources_of(rt, folder)?;
+    let report = report_of(rt, job)?;
+    let mut sink = ToWrite::new(io::writer(rt));
+    answer_tree(
+        rt.alloc(),
+        job,
+        sources.as_slice(),
+        report.as_slice(),
+        &mut sink,
+    )
+}
+
+/// Runs the job on the real standard output. Its files are read in the order of the words.
+fn run_job<R: Files + AllocGlobal + Print + Clone + Drop>(
+    rt: &R,
+    job: &Job,
+) -> Result<bool, RunFault> {
+    match job {
+        Job::Cut { folder, .. } | Job::Check { folder, .. } => run_tree(rt, job, folder.as_str()),
+        Job::CutNet { network, .. } | Job::CheckNet { network, .. } => {
+            run_net(rt, job, network.as_str())
+        }
+    }
 }
 
 /// Tells of the fault in one line on standard error, and gives its status.
@@ -80,7 +111,10 @@ fn end_by<R: AllocGlobal + Eprint>(rt: &R, fault: &RunFault) -> ExitCode {
     }
 }
 
-fn run<R: Files + AllocGlobal + Print + Eprint>(rt: &R, words: &[String]) -> ExitCode {
+fn run<R: Files + AllocGlobal + Print + Eprint + Clone + Drop>(
+    rt: &R,
+    words: &[String],
+) -> ExitCode {
     match job_of(rt.alloc(), words) {
         Ok(job) => match run_job(rt, &job) {
             Ok(true) => ExitCode::SUCCESS,

@@ -2,6 +2,10 @@
 mod checks;
 mod cuts;
 mod faults;
+mod folders;
+mod scopes;
+mod tree_runs;
+mod trees;
 mod words;
 
 use cut_report::{Sink, SinkFault};

@@ -1,5 +1,7 @@
 use super::tree_of;
-use ob_tree::walkers::{declarations, endings, uses, yield_of};
+use ob_tree::construct::Construct;
+use ob_tree::item::Item;
+use ob_tree::walkers::{declarations, endings, items, uses, yield_of};
 use std::alloc::AllocGlobal;
 use std::process::Abort;
 use std::test::Fail;
@@ -30,6 +32,116 @@ fn trees_yield_their_tokens(rt: HostRuntime) -> Result<(), Fail> {
         b"MODULE M; TYPE T = RECORD (M.T) a, b*: SET; END; END M.",
         24,
     )
+}
+
+/// The items of a module with a type and a variable.
+const POINTER: [Item; 28] = [
+    Item::Word,
+    Item::Named(1),
+    Item::Word,
+    Item::Word,
+    Item::Begins(Construct::TypeDeclaration),
+    Item::Declared(4),
+    Item::Word,
+    Item::Begins(Construct::TypeForm),
+    Item::Word,
+    Item::Word,
+    Item::Begins(Construct::TypeForm),
+    Item::Used(8),
+    Item::Ends(Construct::TypeForm),
+    Item::Ends(Construct::TypeForm),
+    Item::Ends(Construct::TypeDeclaration),
+    Item::Word,
+    Item::Word,
+    Item::Begins(Construct::VariableDeclaration),
+    Item::Declared(11),
+    Item::Word,
+    Item::Begins(Construct::TypeForm),
+    Item::Used(13),
+    Item::Ends(Construct::TypeForm),
+    Item::Ends(Construct::VariableDeclaration),
+    Item::Word,
+    Item::Word,
+    Item::Repeated(1, 16),
+    Item::Word,
+];
+
+/// The items of a module with each of the other constructs that are told.
+const EACH_CONSTRUCT: [Item; 60] = [
+    Item::Word,
+    Item::Named(1),
+    Item::Word,
+    Item::Word,
+    Item::Begins(Construct::Import),
+    Item::Declared(4),
+    Item::Ends(Construct::Import),
+    Item::Word,
+    Item::Word,
+    Item::Begins(Construct::ConstDeclaration),
+    Item::Declared(7),
+    Item::Word,
+    Item::Begins(Construct::Expression),
+    Item::Value(9),
+    Item::Ends(Construct::Expression),
+    Item::Ends(Construct::ConstDeclaration),
+    Item::Word,
+    Item::Word,
+    Item::Begins(Construct::TypeDeclaration),
+    Item::Declared(12),
+    Item::Word,
+    Item::Begins(Construct::TypeForm),
+    Item::Word,
+    Item::Begins(Construct::FieldList),
+    Item::Declared(15),
+    Item::Word,
+    Item::Begins(Construct::TypeForm),
+    Item::Used(17),
+    Item::Word,
+    Item::Named(19),
+    Item::Ends(Construct::TypeForm),
+    Item::Ends(Construct::FieldList),
+    Item::Word,
+    Item::Ends(Construct::TypeForm),
+    Item::Ends(Construct::TypeDeclaration),
+    Item::Word,
+    Item::Begins(Construct::ProcedureDeclaration),
+    Item::Word,
+    Item::Declared(23),
+    Item::Word,
+    Item::Begins(Construct::FPSection),
+    Item::Declared(25),
+    Item::Word,
+    Item::Used(27),
+    Item::Ends(Construct::FPSection),
+    Item::Word,
+    Item::Word,
+    Item::Word,
+    Item::Used(31),
+    Item::Word,
+    Item::Begins(Construct::Expression),
+    Item::Used(33),
+    Item::Ends(Construct::Expression),
+    Item::Word,
+    Item::Repeated(23, 35),
+    Item::Ends(Construct::ProcedureDeclaration),
+    Item::Word,
+    Item::Word,
+    Item::Repeated(1, 38),
+    Item::Word,
+];
+
+#[test]
+fn items_tell_where_constructs_begin_and_end(rt: HostRuntime) -> Result<(), Fail> {
+    let tree = tree_of(&rt, b"MODULE M; TYPE T = POINTER TO R; VAR a: T; END M.")?;
+    let told = items(rt.alloc(), &tree)?;
+    assert_eq!(&rt; told.as_slice(), POINTER.as_slice());
+    let tree = tree_of(
+        &rt,
+        b"MODULE M; IMPORT A; CONST c = 1; TYPE T = RECORD f: A.B END; PROCEDURE p(x: T); BEGIN x := c END p; END M.",
+    )?;
+    let told = items(rt.alloc(), &tree)?;
+    assert_eq!(&rt; told.as_slice(), EACH_CONSTRUCT.as_slice());
+    Ok(())
 }
 
 #[test]

@@ -4,6 +4,7 @@ ghost use Rattle.std.specs.Prelude.{◌≡◌, ◌++◌, IfOk};
 ghost use Rattle.ob_tree.specs.Derives.{items_of};
 ghost use Rattle.ob_tree.specs.Expressions.{factor_outline, selector_outline, designator_outline, element_outline, element_list_outline, expr_outline, expr_list_outline, sum_outline, term_outline};
 
+use crate::construct::Construct;
 use crate::expression::{
     Designator, Element, ElementList, Expr, ExprList, Factor, Selector, Sum, Term,
 };
@@ -15,6 +16,7 @@ use std::alloc::AllocError;
 pub(crate) fn walk_expr(out: &mut Vec<Item>, expr: &Expr) -> Result<(), AllocError>
     ensures { IfOk result (λ _. out.new.items ≡ out.old.items ++ items_of (expr_outline expr.now)) }
 {
+    out.push(Item::Begins(Construct::Expression))?;
     walk_sum(out, &expr.left)?;
     match &expr.compared {
         None => {}
@@ -23,6 +25,7 @@ pub(crate) fn walk_expr(out: &mut Vec<Item>, expr: &Expr) -> Result<(), AllocErr
             walk_sum(out, right)?;
         }
     }
+    out.push(Item::Ends(Construct::Expression))?;
     Ok(())
 }
 

@@ -1,11 +1,14 @@
-use Rattle.std.proofs.Common.{◌<◌, ◌++◌, List, ℕ, arith, length, take, sym, ap, ◌∙◌}
-use Rattle.ob_tree.specs.Derives.{numbers_from}
-use Rattle.ob_tree.proofs.Passes.{numbers-more}
+use Rattle.std.proofs.Common.{◌<◌, arith, length, sym}
+use Rattle.ob_tree.specs.Declaring.{module_outline}
+use Rattle.ob_tree.proofs.Passes.{numbers-more, numbers-within}
 use Rattle.ob_tree.proofs.walkers.yield_of.Goals as goal
 
-pub loop-place-preserved : goal.loop-place-preserved
-loop-place-preserved c =
-    let h : c.loop-place.place < length c.deref-item-items.result.now = omega arith in
-    rw (c.in_ok-push.ensures.items, c.loop-place.invariant)
-    (ap (λ (ns : List ℕ). numbers_from 0 (take c.loop-place.place c.deref-item-items.result.now) ++ ns) (sym c.number_of.ensures)
-    ∙ sym (numbers-more c.deref-item-items.result.now c.loop-place.place _ h))
+pub push_number-requires : goal.push_number-requires
+push_number-requires c =
+    rw (c.loop-item.invariant, c.deref-item-items.ensures.value, c.in_ok-items.ensures)
+    (omega (arith, c.requires, numbers-within (module_outline c.args.«module».now) c.loop-item.item-index))
+
+pub loop-item-preserved : goal.loop-item-preserved
+loop-item-preserved c =
+    let h : c.loop-item.item-index < length c.deref-item-items.result.now = omega arith in
+    rw (c.in_ok-push_number.ensures, c.loop-item.invariant) (sym (numbers-more c.deref-item-items.result.now c.loop-item.item-index _ h))

@@ -1,0 +1,77 @@
+-- Elements of lists by their places, and of lists of what others stand for.
+use Rattle.std.proofs.Common.{◌≡◌, ℕ, ◌<◌, ◌≤◌, inl, inr, List, [], ◌∷◌, length, get_or, map, Some, None, Option, refl, sym, ap, ◌∙◌, arith, ⊎_elim}
+use Rattle.std.specs.Prelude.{slice_get, option_map, Contains}
+use Rattle.std.proofs.lemmas.Bool.{cases_lt}
+use Rattle.std.proofs.lemmas.Option.{slice_get_within, slice_get-get_or, slice_get-map, get_or_from_slice_get}
+use Rattle.ob_scope.specs.Kept.{AscendBy, HasNoneBy}
+
+module _ {X : Type 0} where
+  pub some_one : (x y : X) → Some x ≡ Some y → x ≡ y
+  some_one x y e = cc
+
+  -- an element and its place
+  pub contains_slice : (xs : List X) (k : ℕ) (x : X) → slice_get xs k ≡ Some x → Contains xs x
+  contains_slice xs k x e = (k, slice_get_within xs k x e, get_or_from_slice_get xs k x x e)
+
+  pub slice_contains : (xs : List X) (x : X) → Contains xs x → (k : ℕ) × (slice_get xs k ≡ Some x)
+  slice_contains xs x h = (h.0, slice_get-get_or xs h.0 x h.1 ∙ ap Some h.2)
+
+  -- there is an element at each place within
+  pub slice_there : (xs : List X) (k : ℕ) → k < length xs → (x : X) × (slice_get xs k ≡ Some x)
+  slice_there xs k l = (get_or xs k (first xs k l), slice_get-get_or xs k (first xs k l) l)
+    where
+      first : (xs : List X) (k : ℕ) → k < length xs → X
+      first [] k l = absurd (omega (arith, l))
+      first (x ∷ xs) k l = x
+
+  -- elements of one number are one, where the numbers ascend
+  pub ascend_one : (n : X → ℕ) (xs : List X) (x y : X) → AscendBy n xs → Contains xs x → Contains xs y → n x ≡ n y → x ≡ y
+  ascend_one n xs x y a p q e =
+      let i = slice_contains xs x p in
+      let j = slice_contains xs y q in
+      ⊎_elim
+      (λ (below : i.0 < j.0). absurd (let l : n x < n y = a i.0 j.0 x y below i.1 j.1 in omega arith))
+      (λ (above : j.0 ≤ i.0).
+      ⊎_elim
+      (λ (below : j.0 < i.0). absurd (let l : n y < n x = a j.0 i.0 y x below j.1 i.1 in omega arith))
+      (λ (other : i.0 ≤ j.0). (let same : i.0 ≡ j.0 = omega arith in some_one x y (sym i.1 ∙ ap (slice_get xs) same ∙ j.1)))
+      (cases_lt j.0 i.0))
+      (cases_lt i.0 j.0)
+
+module _ {X Y : Type 0} (f : X → Y) where
+  -- what an element stands for
+  pub slice_of : (xs : List X) (k : ℕ) (x : X) → slice_get xs k ≡ Some x → slice_get (map f xs) k ≡ Some (f x)
+  slice_of xs k x e = slice_get-map f xs k ∙ ap (option_map f) e
+
+  pub contains_of : (xs : List X) (k : ℕ) (x : X) → slice_get xs k ≡ Some x → Contains (map f xs) (f x)
+  contains_of xs k x e = contains_slice (map f xs) k (f x) (slice_of xs k x e)
+
+  some_of : (o : Option X) (y : Y) → option_map f o ≡ Some y → (x : X) × (o ≡ Some x) × (f x ≡ y)
+  some_of None y e = absurd (cc)
+  some_of (Some x) y e = (x, refl, cc)
+
+  pub of_slice : (xs : List X) (k : ℕ) (y : Y) → slice_get (map f xs) k ≡ Some y → (x : X) × (slice_get xs k ≡ Some x) × (f x ≡ y)
+  of_slice xs k y e = some_of (slice_get xs k) y (sym (slice_get-map f xs k) ∙ e)
+
+  pub of_contains : (xs : List X) (y : Y) → Contains (map f xs) y → (k : ℕ) × (x : X) × (slice_get xs k ≡ Some x) × (f x ≡ y)
+  of_contains xs y h =
+      let p = slice_contains (map f xs) y h in
+      let q = of_slice xs p.0 y p.1 in
+      (p.0, q.0, q.1, q.2)
+
+  -- numbers that ascend in what the elements stand for ascend in the elements
+  pub ascend_map : (n : Y → ℕ) (xs : List X) → AscendBy n (map f xs) → AscendBy (λ x. n (f x)) xs
+  ascend_map n xs a i j x y l p q = a i j (f x) (f y) l (slice_of xs i x p) (slice_of xs j y q)
+
+  pub map_ascend : (n : Y → ℕ) (xs : List X) → AscendBy (λ x. n (f x)) xs → AscendBy n (map f xs)
+  map_ascend n xs a i j x y l p q =
+      let v = of_slice xs i x p in
+      let w = of_slice xs j y q in
+      let h : n (f v.0) < n (f w.0) = a i j v.0 w.0 l v.1 w.1 in
+      omega (arith, ap n v.2, ap n w.2)
+
+  -- where no element has a number, nothing that they stand for has it
+  pub none_of : (n : Y → ℕ) (xs : List X) (k : ℕ) → HasNoneBy (λ x. n (f x)) xs k → (y : Y) → Contains (map f xs) y → n y ≡ k → ⊥
+  none_of n xs k none y h e =
+      let p = of_contains xs y h in
+      none p.0 p.1 p.2 (ap n p.3 ∙ e)

@@ -1,0 +1,146 @@
+-- Keys that are one say one place and one name; a table with one row more.
+use Rattle.std.proofs.Common.{◌≡◌, ℕ, ◌+◌, ◌<◌, ◌≤◌, inl, inr, Bool, true, false, cond, List, [], ◌∷◌, ◌++◌, length, get_or, map, take, Some, None, refl, sym, ap, ◌∙◌, subst, arith, ⊎_elim}
+use Rattle.std.specs.Prelude.{◌&&◌, slice_get, position}
+use Rattle.std.specs.List.{list_any}
+use Rattle.std.specs.Str.{bytes_eq}
+use Rattle.std.proofs.lemmas.Bool.{eqb-true, cases_lt, cases_Bool, false≢true}
+use Rattle.std.proofs.lemmas.List.{map_more, length-map}
+use Rattle.std.proofs.lemmas.List.Folds.{list_any_at}
+use Rattle.std.proofs.lemmas.List.Quantifiers.{position-Some}
+use Rattle.std.proofs.lemmas.Option.{slice_get_within, slice_get-get_or, get_or_from_slice_get}
+use Rattle.std.proofs.lemmas.Slice.Eq.{bytes_eq-Decides}
+use Rattle.std.proofs.lemmas.Grind.{common_steps}
+use Rattle.ob_scope.specs.contracts.places.KeyPartialEq as keyed
+use Rattle.ob_scope.specs.contracts.rows.PlacePartialEq as placed
+use Rattle.ob_scope.specs.declared.places.Key.{Key}
+use Rattle.ob_scope.specs.declared.rows.Member.{Member}
+use Rattle.ob_scope.specs.declared.rows.Place.{Place}
+use Rattle.ob_scope.specs.declared.rows.Place.TheVariants as places
+use Rattle.ob_scope.specs.Places.{Entry, entry_of, entry_said, AreApart, HasNoEntry, IsEntryAt, IsTable, IsTwiceAt}
+use Rattle.ob_scope.proofs.Elements.{of_slice, slice_of, some_one}
+
+abbrev pub place_eq : Place → Place → Bool
+place_eq = (placed.TheImpl.eq-value).it
+
+abbrev pub key_eq : Key → Key → Bool
+key_eq = (keyed.TheImpl.eq-value).it
+
+place_one : (a b : Place) → place_eq a b ≡ true → a ≡ b
+place_one (places.Block a) (places.Block b) e = ap (λ (n : ℕ). places.Block n) (eqb-true a b e)
+place_one (places.Block a) (places.Record b) e = absurd (false≢true e)
+place_one (places.Record a) (places.Block b) e = absurd (false≢true e)
+place_one (places.Record a) (places.Record b) e = ap (λ (n : ℕ). places.Record n) (eqb-true a b e)
+
+eqb-same : (a : ℕ) → (placed.TheImpl.eq-value).it (places.Block a) (places.Block a) ≡ true
+eqb-same a = grind (arith, common_steps)
+
+place_same : (a : Place) → place_eq a a ≡ true
+place_same (places.Block a) = eqb-same a
+place_same (places.Record a) = eqb-same a
+
+and_left : (a b : Bool) → a && b ≡ true → a ≡ true
+and_left true b e = refl
+and_left false b e = e
+
+and_right : (a b : Bool) → a && b ≡ true → b ≡ true
+and_right true b e = e
+and_right false b e = absurd (false≢true e)
+
+entry_is : (p q : Place) (m n : List ℕ) → p ≡ q → m ≡ n → (let e : Entry = record { place = p; name = m } in e) ≡ record { place = q; name = n }
+entry_is p q m n e f = cc
+
+-- equal keys say one thing
+pub key_one : (a b : Key) → key_eq a b ≡ true → entry_said a ≡ entry_said b
+key_one a b e =
+    entry_is a.place b.place a.name.now b.name.now
+    (place_one a.place b.place (and_left (place_eq a.place b.place) (bytes_eq a.name.now b.name.now) e))
+    ((bytes_eq-Decides a.name.now b.name.now).0 (and_right (place_eq a.place b.place) (bytes_eq a.name.now b.name.now) e))
+
+both_true : (a b : Bool) → a ≡ true → b ≡ true → a && b ≡ true
+both_true a b e f = rw (e, f) refl
+
+-- keys that say one thing are equal
+pub key_same : (a b : Key) → entry_said a ≡ entry_said b → key_eq a b ≡ true
+key_same a b e =
+    both_true (place_eq a.place b.place) (bytes_eq a.name.now b.name.now)
+    (subst (λ (p : Place). place_eq a.place p ≡ true) (ap (λ (x : Entry). x.place) e) (place_same a.place))
+    ((bytes_eq-Decides a.name.now b.name.now).1 (ap (λ (x : Entry). x.name) e))
+
+-- ---- what a table has
+
+-- where a table finds no key, it has none
+pub no_entry : (keys : List Key) (k : Key) → list_any (key_eq k) keys ≡ false → HasNoEntry keys k.place k.name.now
+no_entry keys k none i x there says =
+    let here : key_eq k (get_or keys i k) ≡ true = key_same k (get_or keys i k) (sym says ∙ ap entry_said (sym (get_or_from_slice_get keys i x k there))) in
+    false≢true (sym none ∙ list_any_at (key_eq k) keys i k (slice_get_within keys i x there) here)
+
+-- the place of a key
+pub entry_at : (keys : List Key) (k : Key) (i : ℕ) → position (key_eq k) keys ≡ Some i → IsEntryAt keys k.place k.name.now i
+entry_at keys k i e =
+    let p = position-Some (key_eq k) keys i k e in
+    record { key = get_or keys i k; there = slice_get-get_or keys i k p.0; says = sym (key_one k (get_or keys i k) p.1) }
+
+module _ (name : ℕ → List ℕ) (members : List Member) where
+  -- a front of the members
+  front_get : (i k : ℕ) (m : Member) → slice_get (take i members) k ≡ Some m → (k < i) × (slice_get members k ≡ Some m)
+  front_get i k m e =
+      let l : k < length (take i members) = slice_get_within (take i members) k m e in
+      let both : (k < i) × (k < length members) = (grind (arith, common_steps), grind (arith, common_steps)) in
+      let same : get_or (take i members) k m ≡ get_or members k m = grind (arith, common_steps) in
+      (both.0, slice_get-get_or members k m both.1 ∙ ap Some (sym same ∙ get_or_from_slice_get (take i members) k m m e))
+
+  get_front : (i k : ℕ) (m : Member) → k < i → slice_get members k ≡ Some m → slice_get (take i members) k ≡ Some m
+  get_front i k m l e =
+      let w : k < length members = slice_get_within members k m e in
+      let inside : k < length (take i members) = grind (arith, common_steps) in
+      let same : get_or (take i members) k m ≡ get_or members k m = grind (arith, common_steps) in
+      slice_get-get_or (take i members) k m inside ∙ ap Some (same ∙ get_or_from_slice_get members k m m e)
+
+  -- the key of a row that is in the table
+  pub key_of_row : (keys : List Key) (front : List Member) (i : ℕ) (m : Member) → map entry_said keys ≡ map (entry_of name) front → slice_get front i ≡ Some m → (x : Key) × (slice_get keys i ≡ Some x) × (entry_said x ≡ entry_of name m)
+  key_of_row keys front i m e there = of_slice entry_said keys i (entry_of name m) (ap (λ (es : List Entry). slice_get es i) e ∙ slice_of (entry_of name) front i m there)
+
+  pub row_of_key : (keys : List Key) (front : List Member) (i : ℕ) (x : Key) → map entry_said keys ≡ map (entry_of name) front → slice_get keys i ≡ Some x → (m : Member) × (slice_get front i ≡ Some m) × (entry_of name m ≡ entry_said x)
+  row_of_key keys front i x e there = of_slice (entry_of name) front i (entry_said x) (ap (λ (es : List Entry). slice_get es i) (sym e) ∙ slice_of entry_said keys i x there)
+
+  -- the table with one row more
+  pub table_more : (keys : List Key) (i : ℕ) (k : Key) (m : Member) → IsTable name (take i members) keys → slice_get members i ≡ Some m → entry_said k ≡ entry_of name m
+      → list_any (key_eq k) keys ≡ false → IsTable name (take (i + 1) members) (keys ++ k ∷ [])
+  table_more keys i k m t at says new =
+      let l : i < length members = slice_get_within members i m at in
+      let here : get_or members i m ≡ m = get_or_from_slice_get members i m m at in
+      record {
+        entries =
+            Rattle.std.proofs.lemmas.List.map-append entry_said keys (k ∷ [])
+            ∙ ap (λ (es : List Entry). es ++ entry_said k ∷ []) t.entries
+            ∙ ap (λ (x : Entry). map (entry_of name) (take i members) ++ x ∷ []) (says ∙ ap (entry_of name) (sym here))
+            ∙ sym (map_more (entry_of name) members i m l);
+        apart = λ a b x y below p q same.
+            (let u = front_get (i + 1) a x p in
+            let v = front_get (i + 1) b y q in
+            let b_below : b < i + 1 = v.0 in
+            ⊎_elim
+            (λ (old : b < i). t.apart a b x y below (get_front i a x (omega arith) u.1) (get_front i b y old v.1) same)
+            (λ (now : i ≤ b).
+            let e : b ≡ i = omega arith in
+            let last : y ≡ m = some_one y m (sym v.1 ∙ ap (slice_get members) e ∙ at) in
+            let w = key_of_row keys (take i members) a x t.entries (get_front i a x (omega arith) u.1) in
+            no_entry keys k new a w.0 w.1 (w.2 ∙ same ∙ ap (entry_of name) last ∙ sym says))
+            (cases_lt b i));
+      }
+
+  -- a row that says what an earlier one says
+  pub twice_at : (keys : List Key) (i f : ℕ) (k x : Key) (m : Member) → IsTable name (take i members) keys → slice_get members i ≡ Some m → entry_said k ≡ entry_of name m
+      → slice_get keys f ≡ Some x → key_eq k x ≡ true → IsTwiceAt name members f i
+  twice_at keys i f k x m t at says there equal =
+      let r = row_of_key keys (take i members) f x t.entries there in
+      let u = front_get i f r.0 r.1 in
+      record {
+        order = u.0;
+        first = r.0;
+        second = m;
+        at_first = u.1;
+        at_second = at;
+        same = r.2 ∙ sym (key_one k x equal) ∙ says;
+        none_before = λ a b y z below last p q same. t.apart a b y z below (get_front i a y (omega arith) p) (get_front i b z last q) same;
+      }

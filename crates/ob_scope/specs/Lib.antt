@@ -1,0 +1,15 @@
+pub mod Standings
+pub mod Wholes
+pub mod Scope
+pub mod Listed
+pub mod Identified
+pub mod Counted
+pub mod Rows
+pub mod Frames
+pub mod Stages
+pub mod Scoped
+pub mod Weights
+pub mod Kept
+pub mod Places
+pub mod Looked
+pub mod Found

@@ -1,0 +1,48 @@
+//! Why a module has no scopes.
+
+use std::alloc::{AllocError, AllocFailed};
+use thiserror::Error;
+
+/// Why a module has no scopes. Offsets are those of the identifiers' first bytes.
+#[derive(Debug, PartialEq, Eq, Drop, Error)]
+pub enum ScopeFault {
+    /// Two identifiers of one name are declared in one block.
+    #[error("{name} is declared twice")]
+    Twice {
+        name: String,
+        first: u32,
+        second: u32,
+    },
+    /// Two fields of one record have one name.
+    #[error("the field {name} is declared twice")]
+    TwiceField {
+        name: String,
+        first: u32,
+        second: u32,
+    },
+    /// A growth of memory was refused.
+    #[error("memory ran out")]
+    Memory,
+}
+
+impl From<AllocError> for ScopeFault {
+    ghost use Rattle.std.specs.Prelude.{◌≡◌};
+    ghost use Rattle.ob_scope.specs.declared.fault.ScopeFault.TheVariants.{Memory};
+
+    ghost from_gives = { λ _ fault. fault ≡ Memory };
+
+    fn from(_error: AllocError) -> ScopeFault {
+        ScopeFault::Memory
+    }
+}
+
+impl<T: Drop> From<AllocFailed<T>> for ScopeFault {
+    ghost use Rattle.std.specs.Prelude.{◌≡◌};
+    ghost use Rattle.ob_scope.specs.declared.fault.ScopeFault.TheVariants.{Memory};
+
+    ghost from_gives = { λ _ fault. fault ≡ Memory };
+
+    fn from(_error: AllocFailed<T>) -> ScopeFault {
+        ScopeFault::Memory
+    }
+}

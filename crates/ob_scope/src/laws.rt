@@ -1,0 +1,101 @@
+//! Laws of scopes. Each function is a law: its body is empty, and its contract is proved.
+ghost use Rattle.std.specs.Prelude.{◌≡◌, if◌then◌else◌, ◌≤◌, ◌<◌, ◌+◌, ℕ, List, [], ◌∷◌, ◌++◌, Contains, Some, length, map, slice_get};
+ghost use Rattle.ob_scan.specs.Spelling.{Spells};
+ghost use Rattle.ob_scan.specs.declared.token.Token.{Token};
+ghost use Rattle.ob_tree.specs.declared.construct.Construct.{Construct};
+ghost use Rattle.ob_tree.specs.declared.item.Item.{Item};
+ghost use Rattle.ob_tree.specs.declared.item.Item.TheVariants as items;
+ghost use Rattle.ob_tree.specs.Constructs.{is_told};
+ghost use Rattle.ob_tree.specs.Derives.{Derives, items_of};
+ghost use Rattle.ob_tree.specs.Marks.{Out, construct};
+ghost use Rattle.ob_tree.specs.declared.declaration.Module.{Module};
+ghost use Rattle.ob_tree.specs.Declaring.{module_outline};
+ghost use Rattle.ob_scope.specs.Counted.{HasWeight};
+ghost use Rattle.ob_scope.specs.Identified.{AreNames};
+ghost use Rattle.ob_scope.specs.Listed.{ImportItem, Listing, listing};
+ghost use Rattle.ob_scope.specs.Scope.{Declared, IsFirstTwice, Means, NoneTwice, Used};
+ghost use Rattle.ob_scope.specs.Scoped.{AliasUses, AreScopes, ModuleScopes, listing_of};
+ghost use Rattle.ob_scope.specs.Standings.{Holder, holder, standings_from, text_at};
+ghost use Rattle.ob_scope.specs.Weights.{uses_across, uses_of_all};
+ghost use Rattle.ob_scope.specs.Wholes.{IsWhole, inside, tokens_in};
+
+/// Where nothing is declared twice, a use means at most one declaration.
+pub fn one_meaning()
+    ensures { (name : ℕ → List ℕ) (ds : List Declared) (u : Used) (d e : Declared) →
+        NoneTwice name ds → Means name ds u d → Means name ds u e → d ≡ e }
+{}
+
+/// Where nothing is declared twice, there is no first pair that is; and there is at most one first pair.
+pub fn one_fault()
+    ensures no_pair { (name : ℕ → List ℕ) (ds : List Declared) (d e : Declared) → NoneTwice name ds → IsFirstTwice name ds d e → ⊥ }
+    ensures one_pair { (name : ℕ → List ℕ) (ds : List Declared) (d e f g : Declared) →
+        IsFirstTwice name ds d e → IsFirstTwice name ds f g → (d ≡ f) × (e ≡ g) }
+{}
+
+/// What a module declares stands in the order of its tokens, and a token declares one thing.
+pub fn one_declared()
+    ensures ascend { (ts : List Token) (is : List Item) (i j : ℕ) (d e : Declared) → i < j →
+        slice_get (listing ts is).members i ≡ Some d → slice_get (listing ts is).members j ≡ Some e → d.number < e.number }
+    ensures one { (ts : List Token) (is : List Item) (d e : Declared) →
+        Contains (listing ts is).members d → Contains (listing ts is).members e → d.number ≡ e.number → d ≡ e }
+{}
+
+/// The uses of a module stand in the order of its tokens, and a token is one use.
+pub fn one_use()
+    ensures ascend { (ts : List Token) (is : List Item) (i j : ℕ) (u v : Used) → i < j →
+        slice_get (listing ts is).uses i ≡ Some u → slice_get (listing ts is).uses j ≡ Some v → u.number < v.number }
+    ensures one { (ts : List Token) (is : List Item) (u v : Used) →
+        Contains (listing ts is).uses u → Contains (listing ts is).uses v → u.number ≡ v.number → u ≡ v }
+{}
+
+/// The import items of a module stand in the order of its tokens, and a token declares one alias.
+pub fn one_alias()
+    ensures ascend { (ts : List Token) (is : List Item) (i j : ℕ) (m n : ImportItem) → i < j →
+        slice_get (listing ts is).imports i ≡ Some m → slice_get (listing ts is).imports j ≡ Some n → m.alias < n.alias }
+    ensures one { (ts : List Token) (is : List Item) (m n : ImportItem) →
+        Contains (listing ts is).imports m → Contains (listing ts is).imports n → m.alias ≡ n.alias → m ≡ n }
+{}
+
+/// How many uses cross to a module is the sum over its aliases of the uses that each one qualifies.
+pub fn weight_of_aliases()
+    ensures { (bytes : List ℕ) (ts : List Token) (is : List Item) (s : ModuleScopes) (imported : List ℕ) →
+        AreScopes bytes ts (listing ts is) s → HasWeight (text_at bytes ts) (listing ts is) imported (uses_across s.aliases imported) }
+{}
+
+/// The import of a module has one weight.
+pub fn one_weight()
+    ensures { (name : ℕ → List ℕ) (l : Listing) (imported : List ℕ) (n m : ℕ) →
+        HasWeight name l imported n → HasWeight name l imported m → n ≡ m }
+{}
+
+/// All aliases together qualify no more uses than there are, those of one module no more than all, and there are no more
+/// uses than tokens.
+pub fn weight_le()
+    ensures all { (bytes : List ℕ) (ts : List Token) (is : List Item) (s : ModuleScopes) →
+        AreScopes bytes ts (listing ts is) s → uses_of_all s.aliases ≤ length (listing ts is).uses }
+    ensures one { (aliases : List AliasUses) (imported : List ℕ) → uses_across aliases imported ≤ uses_of_all aliases }
+    ensures few { (ts : List Token) (is : List Item) → length (listing ts is).uses ≤ tokens_in is }
+{}
+
+/// The tokens of a construct stand in it and in what is around it, and those behind its end in what is around it alone.
+pub fn holders()
+    ensures { (k : ℕ) (hs : List Holder) (c : Construct) (parts rest : List Item) → IsWhole parts →
+        standings_from k hs (items.Begins c ∷ (parts ++ (items.Ends c ∷ rest))) ≡
+        map (inside (holder k c parts ∷ hs)) (standings_from k [] parts) ++ standings_from (k + tokens_in parts) hs rest }
+{}
+
+/// A construct that is told is a beginning, its parts and an end in a list of items, any other its parts alone.
+pub fn told_parts()
+    ensures { (c : Construct) (parts : Out) →
+        items_of (construct c parts) ≡ (if is_told c then items.Begins c ∷ (items_of parts ++ (items.Ends c ∷ [])) else items_of parts) }
+{}
+
+/// The items of a module are whole: each construct that begins ends.
+pub fn whole_module()
+    ensures { (m : Module) → IsWhole (items_of (module_outline m)) }
+{}
+
+/// The identifiers of a module are names: its own, those that it declares, and those of the modules that it imports.
+pub fn identifiers_are_names()
+    ensures { (bytes : List ℕ) (ts : List Token) (m : Module) → Spells bytes ts → Derives (map (λ t. t.kind) ts) m → AreNames (text_at bytes ts) (listing_of ts m) }
+{}

@@ -1,0 +1,27 @@
+//! The blocks of an Oberon-07 module, what is declared in them, and what each used name means.
+//! Stands on `ob_scan` and `ob_tree`, with `indexmap` for its tables and `thiserror` for its faults.
+//! Its contract: each use means the declaration that the scope rule gives it, or two identifiers of one name stand in one place.
+#![tactic(auto)]
+
+mod fault;
+mod frame;
+pub mod laws;
+mod listing;
+mod looking;
+mod making;
+mod meaning;
+mod module_scopes;
+mod places;
+mod rows;
+mod scoping;
+mod sort;
+mod text;
+mod uses;
+
+pub use fault::ScopeFault;
+pub use module_scopes::{Alias, Scopes};
+pub use scoping::scopes;
+pub use sort::Sort;
+
+#[cfg(test)]
+mod tests;

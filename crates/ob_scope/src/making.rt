@@ -1,0 +1,118 @@
+//! Scopes from rows.
+ghost use Rattle.std.specs.Prelude.{◌≡◌, ◌<◌, ◌≤◌, ℕ, [], length, slice_get, Some, IfOk, IfErr};
+ghost use Rattle.ob_scan.specs.Spelling.{AreInText};
+ghost use Rattle.ob_scope.specs.Found.{AreAliasRows, AreCounted, AreMeant, AreTexts};
+ghost use Rattle.ob_scope.specs.Looked.{listing_by, AreWhole};
+ghost use Rattle.ob_scope.specs.Places.{IsTable, TellsTwice};
+ghost use Rattle.ob_scope.specs.Scope.{NoneTwice};
+ghost use Rattle.ob_scope.specs.Scoped.{AreScopes, IsScopeFault};
+ghost use Rattle.ob_scope.specs.Standings.{text_at};
+
+use crate::places::{TableFault, table_of};
+use crate::rows::{Place, Rows};
+use crate::text::Text;
+use crate::uses::{Found, found_by};
+use crate::{Alias, ScopeFault, Scopes};
+use ob_scan::Token;
+use std::alloc::{AllocError, Global};
+
+/// The aliases of the imports, in order.
+fn aliases_of(
+    alloc: Global,
+    text: &Text,
+    rows: &Rows,
+    counts: &[u64],
+) -> Result<Vec<Alias>, AllocError>
+    requires in_text { AreInText text.now.bytes.now text.now.tokens.now }
+    requires whole { AreWhole rows.now }
+    requires as_many { length counts.now ≡ length rows.now.members.items }
+    ensures { IfOk result (λ v. AreAliasRows (text_at text.now.bytes.now text.now.tokens.now) rows.now counts.now (length rows.now.imports.items) v.items) }
+{
+    let mut aliases = Vec::new(alloc);
+    for i in 0..rows.imports.len() {
+        let row = rows.imports[i];
+        aliases.push(Alias {
+            decl: rows.members[row.member as usize].number,
+            module: text.string(alloc, row.imported)?,
+            uses: counts[row.member as usize],
+        })?;
+    }
+    Ok(aliases)
+}
+
+/// The fault of two members of one name in one place.
+fn fault_of(
+    alloc: Global,
+    text: &Text,
+    rows: &Rows,
+    fault: TableFault,
+) -> Result<ScopeFault, AllocError>
+    requires in_text { AreInText text.now.bytes.now text.now.tokens.now }
+    requires whole { AreWhole rows.now }
+    requires texts { AreTexts (text_at text.now.bytes.now text.now.tokens.now) (listing_by rows.now) }
+    requires twice { TellsTwice (text_at text.now.bytes.now text.now.tokens.now) rows.now.members.items fault }
+    ensures { IfOk result (IsScopeFault text.now.bytes.now text.now.tokens.now (listing_by rows.now)) }
+{
+    let TableFault::Twice(first, second) = fault else {
+        return Ok(ScopeFault::Memory);
+    };
+    let first = rows.members[first as usize];
+    let second = rows.members[second as usize];
+    let name = text.string(alloc, first.number)?;
+    let first = text.start(first.number);
+    let fault = match second.place {
+        Place::Block(_) => ScopeFault::Twice {
+            name,
+            first,
+            second: text.start(second.number),
+        },
+        Place::Record(_) => ScopeFault::TwiceField {
+            name,
+            first,
+            second: text.start(second.number),
+        },
+    };
+    Ok(fault)
+}
+
+/// The scopes of what was found.
+fn scopes_of(alloc: Global, text: &Text, rows: &Rows, found: Found) -> Result<Scopes, AllocError>
+    requires in_text { AreInText text.now.bytes.now text.now.tokens.now }
+    requires whole { AreWhole rows.now }
+    requires texts { AreTexts (text_at text.now.bytes.now text.now.tokens.now) (listing_by rows.now) }
+    requires once { NoneTwice (text_at text.now.bytes.now text.now.tokens.now) (listing_by rows.now).members }
+    requires meant { AreMeant (text_at text.now.bytes.now text.now.tokens.now) rows.now (length rows.now.uses.items) found.meanings.items }
+    requires counted { AreCounted (text_at text.now.bytes.now text.now.tokens.now) rows.now (length rows.now.uses.items) found.counts.items }
+    ensures { IfOk result (AreScopes text.now.bytes.now text.now.tokens.now (listing_by rows.now)) }
+{
+    let aliases = aliases_of(alloc, text, rows, found.counts.as_slice())?;
+    let name = text.string(alloc, 1)?;
+    Ok(Scopes {
+        name,
+        meanings: found.meanings,
+        aliases,
+    })
+}
+
+/// The scopes of a module of these rows, or two identifiers of one name that it declares in one place.
+pub(crate) fn scopes_from(
+    alloc: Global,
+    rows: &Rows,
+    tokens: &[Token],
+    bytes: &[u8],
+) -> Result<Scopes, ScopeFault>
+    requires in_text { AreInText bytes.now tokens.now }
+    requires whole { AreWhole rows.now }
+    requires texts { AreTexts (text_at bytes.now tokens.now) (listing_by rows.now) }
+    ensures scoped { IfOk result (AreScopes bytes.now tokens.now (listing_by rows.now)) }
+    ensures fault { IfErr result (IsScopeFault bytes.now tokens.now (listing_by rows.now)) }
+{
+    let text = Text { bytes, tokens };
+    match table_of(alloc, &text, rows.members.as_slice()) {
+        Ok(table) => {
+            let found = found_by(alloc, &text, &table, rows)?;
+            Ok(scopes_of(alloc, &text, rows, found)?)
+        }
+        Err(fault) => Err(fault_of(alloc, &text, rows, fault)?),
+    }
+}

@@ -1,0 +1,105 @@
+//! The scopes of a module, and their readers.
+ghost use Rattle.std.specs.Prelude.{◌≡◌, ℕ, Some, IfSome, IfNone, Contains, map};
+ghost use Rattle.ob_scope.specs.Kept.{alias_of, AreKept, AscendBy, HasNoneBy, IsPlaceBy};
+ghost use Rattle.ob_scope.specs.declared.meaning.MeaningRow.{MeaningRow};
+ghost use Rattle.ob_scope.specs.declared.module_scopes.Alias.{Alias};
+ghost use Rattle.ob_scope.specs.Scoped.{AliasUses, Meaning};
+
+use crate::meaning::MeaningRow;
+use std::marker::Model;
+
+/// An import: the identifier that stands for a module, and the module's own name.
+#[derive(Drop)]
+pub struct Alias {
+    /// The number of the token that declares the alias.
+    pub decl: u32,
+    /// The name of the module that it stands for.
+    pub module: String,
+    /// How many uses it qualifies.
+    pub(crate) uses: u64,
+}
+
+/// What the used names of a module mean, and its aliases. Identifiers are told by the numbers of their tokens, from 0.
+#[derive(Drop)]
+pub struct Scopes {
+    pub(crate) name: String,
+    pub(crate) meanings: Vec<MeaningRow>,
+    pub(crate) aliases: Vec<Alias>,
+}
+
+impl Model for Scopes {
+    ghost use Rattle.std.specs.Prelude.{map};
+    ghost use Rattle.std.specs.String.{string_bytes};
+    ghost use Rattle.ob_scope.specs.Kept.{alias_of, meaning_of, AreKept};
+    ghost use Rattle.ob_scope.specs.Scoped.{ModuleScopes};
+
+    ghost Value = { ModuleScopes };
+
+    ghost view = { λ s. record { name = string_bytes s.name; meanings = map meaning_of s.meanings.items; aliases = map alias_of s.aliases.items } };
+
+    ghost invariant = { λ s. AreKept (record { name = string_bytes s.name; meanings = map meaning_of s.meanings.items; aliases = map alias_of s.aliases.items }) };
+}
+
+/// The place of the row of a use.
+fn place_of_use(rows: &[MeaningRow], used: u32) -> Option<usize>
+    requires { AscendBy (λ (m : MeaningRow). m.used) rows.now }
+    ensures found { IfSome result (IsPlaceBy (λ (m : MeaningRow). m.used) rows.now used) }
+    ensures none { IfNone result (HasNoneBy (λ (m : MeaningRow). m.used) rows.now used) }
+{
+    rows.binary_search_by_key(&used, |row| row.used).ok()
+}
+
+/// The place of the alias of a token.
+fn place_of_alias(aliases: &[Alias], decl: u32) -> Option<usize>
+    requires { AscendBy (λ (a : Alias). a.decl) aliases.now }
+    ensures found { IfSome result (IsPlaceBy (λ (a : Alias). a.decl) aliases.now decl) }
+    ensures none { IfNone result (HasNoneBy (λ (a : Alias). a.decl) aliases.now decl) }
+{
+    aliases.binary_search_by_key(&decl, |alias| alias.decl).ok()
+}
+
+impl Scopes {
+    /// What every value keeps: uses and aliases ascend by their numbers, and all aliases together qualify at most
+    /// 16,777,216 uses.
+    pub fn keeps(&self)
+        ensures { AreKept self.now }
+    {
+        // Using a field makes the facts of the type known here.
+        let _ = &self.name;
+    }
+
+    /// The name of the module.
+    pub fn name(&self) -> &str
+        ensures { result.now ≡ self.now.name }
+    {
+        self.name.as_str()
+    }
+
+    /// The number of the token that declares what the use of this token means, or none where the token is no use or
+    /// means no declaration of the module.
+    pub fn resolve(&self, used: u32) -> Option<u32>
+        ensures found { IfSome result (λ declared. Contains self.now.meanings (record { used = used; declared = declared })) }
+        ensures none { IfNone result ((declared : ℕ) → Contains self.now.meanings (record { used = used; declared = declared }) → ⊥) }
+    {
+        let at = place_of_use(self.meanings.as_slice(), used)?;
+        Some(self.meanings[at].declared)
+    }
+
+    /// The aliases, in the order of their tokens.
+    pub fn aliases(&self) -> &[Alias]
+        ensures { map alias_of result.now ≡ self.now.aliases }
+    {
+        self.aliases.as_slice()
+    }
+
+    /// How many uses the alias that the token of this number declares qualifies; 0 where it declares no alias.
+    pub fn qualified_uses(&self, alias: u32) -> u64
+        ensures found { (a : AliasUses) → Contains self.now.aliases a → a.alias ≡ alias → result ≡ a.uses }
+        ensures none { ((a : AliasUses) → Contains self.now.aliases a → a.alias ≡ alias → ⊥) → result ≡ 0 }
+    {
+        match place_of_alias(self.aliases.as_slice(), alias) {
+            Some(at) => self.aliases[at].uses,
+            None => 0,
+        }
+    }
+}
