@@ -233,7 +233,7 @@ module _ (bytes : List ℕ) (ts : List Token) (m : Module) (named : AreNamed byt
       let (s, has, made) = from_filter_map (import_at ts) (standings (items_of (module_outline m))) i h in
       let is = import_of ts s.number s.item s.within i made in
       rw is.imported (ident_named bytes ts (named_at ts s.number) named (
-        by (is_kind ts (s.number + 1) kinds.Assign && is_kind ts (s.number + 2) kinds.Ident) s refl (declared_ident s is.number has is.declared)))
+      by (is_kind ts (s.number + 1) kinds.Assign && is_kind ts (s.number + 2) kinds.Ident) s refl (declared_ident s is.number has is.declared)))
     where
       by : (b : Bool) (s : Standing) → is_kind ts (s.number + 1) kinds.Assign && is_kind ts (s.number + 2) kinds.Ident ≡ b →
           (token_at ts s.number).kind ≡ kinds.Ident → (token_at ts (cond b (s.number + 2) s.number)).kind ≡ kinds.Ident

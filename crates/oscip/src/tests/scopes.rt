@@ -19,61 +19,47 @@ fn scopes_of(rt: &impl Abort, alloc: Global, bytes: &[u8]) -> Result<Scopes, Sco
 #[test]
 fn tells_two_of_one_block(rt: HostRuntime) -> Result<(), Fail> {
     let bytes = b"MODULE M; VAR x, x: INTEGER; END M.";
-    match scopes_of(&rt, rt.alloc(), bytes) {
-        Err(ScopeFault::Twice {
-            name,
-            first,
-            second,
-        }) => {
-            assert_eq!(rt; name.as_str(), "x");
-            assert_eq!(rt; first, 14);
-            assert_eq!(rt; second, 17);
-        }
-        _ => assert!(rt; false),
-    }
+    let name = String::from_str(rt.alloc(), "x")?;
+    let wanted = ScopeFault::Twice {
+        name,
+        first: 14,
+        second: 17,
+    };
+    assert_eq!(rt; scopes_of(&rt, rt.alloc(), bytes).err(), Some(wanted));
     Ok(())
 }
 
 #[test]
 fn tells_two_of_one_record(rt: HostRuntime) -> Result<(), Fail> {
     let bytes = b"MODULE M; VAR r: RECORD a, a: SET END; END M.";
-    match scopes_of(&rt, rt.alloc(), bytes) {
-        Err(ScopeFault::TwiceField {
-            name,
-            first,
-            second,
-        }) => {
-            assert_eq!(rt; name.as_str(), "a");
-            assert_eq!(rt; first, 24);
-            assert_eq!(rt; second, 27);
-        }
-        _ => assert!(rt; false),
-    }
+    let name = String::from_str(rt.alloc(), "a")?;
+    let wanted = ScopeFault::TwiceField {
+        name,
+        first: 24,
+        second: 27,
+    };
+    assert_eq!(rt; scopes_of(&rt, rt.alloc(), bytes).err(), Some(wanted));
     Ok(())
 }
 
 #[test]
 fn tells_the_first_pair(rt: HostRuntime) -> Result<(), Fail> {
     let bytes = b"MODULE M; VAR x, y, y, x: INTEGER; END M.";
-    match scopes_of(&rt, rt.alloc(), bytes) {
-        Err(ScopeFault::Twice {
-            name,
-            first,
-            second,
-        }) => {
-            assert_eq!(rt; name.as_str(), "y");
-            assert_eq!(rt; first, 17);
-            assert_eq!(rt; second, 20);
-        }
-        _ => assert!(rt; false),
-    }
+    let name = String::from_str(rt.alloc(), "y")?;
+    let wanted = ScopeFault::Twice {
+        name,
+        first: 17,
+        second: 20,
+    };
+    assert_eq!(rt; scopes_of(&rt, rt.alloc(), bytes).err(), Some(wanted));
     Ok(())
 }
 
 #[test]
 fn counts_each_alias(rt: HostRuntime) -> Result<(), Fail> {
     // The aliases are tokens 4 and 8: MODULE M ; IMPORT T := Texts , U
-    let bytes = b"MODULE M; IMPORT T := Texts, U := Texts; VAR a: T.Writer; b: U.Writer; c: Texts.Reader; END M.";
+    let bytes =
+        b"MODULE M; IMPORT T := Texts, U := Texts; VAR a: T.Writer; b: U.Writer; c: Texts.Reader; END M.";
     let Ok(scopes) = scopes_of(&rt, rt.alloc(), bytes) else {
         panic!(rt; "no scopes");
     };
@@ -91,7 +77,8 @@ fn counts_each_alias(rt: HostRuntime) -> Result<(), Fail> {
 
 #[test]
 fn counts_none_where_a_variable_hides_the_alias(rt: HostRuntime) -> Result<(), Fail> {
-    let bytes = b"MODULE M; IMPORT B; PROCEDURE p; VAR B: RECORD x: INTEGER END; BEGIN B.x := 1 END p; END M.";
+    let bytes =
+        b"MODULE M; IMPORT B; PROCEDURE p; VAR B: RECORD x: INTEGER END; BEGIN B.x := 1 END p; END M.";
     let Ok(scopes) = scopes_of(&rt, rt.alloc(), bytes) else {
         panic!(rt; "no scopes");
     };
@@ -114,7 +101,8 @@ fn passes_over_a_later_declaration(rt: HostRuntime) -> Result<(), Fail> {
 
 #[test]
 fn finds_the_innermost(rt: HostRuntime) -> Result<(), Fail> {
-    let bytes = b"MODULE M; VAR x: INTEGER; PROCEDURE p; VAR x: INTEGER; BEGIN x := 1 END p; BEGIN x := 2 END M.";
+    let bytes =
+        b"MODULE M; VAR x: INTEGER; PROCEDURE p; VAR x: INTEGER; BEGIN x := 1 END p; BEGIN x := 2 END M.";
     let Ok(scopes) = scopes_of(&rt, rt.alloc(), bytes) else {
         panic!(rt; "no scopes");
     };
@@ -136,7 +124,8 @@ fn a_pointer_means_the_later_type(rt: HostRuntime) -> Result<(), Fail> {
 
 #[test]
 fn a_target_resolves_outwards_first(rt: HostRuntime) -> Result<(), Fail> {
-    let bytes = b"MODULE M; TYPE R = SET; PROCEDURE p; TYPE P = POINTER TO R; R = RECORD a: SET END; END p; END M.";
+    let bytes =
+        b"MODULE M; TYPE R = SET; PROCEDURE p; TYPE P = POINTER TO R; R = RECORD a: SET END; END p; END M.";
     let Ok(scopes) = scopes_of(&rt, rt.alloc(), bytes) else {
         panic!(rt; "no scopes");
     };
