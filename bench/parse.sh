@@ -17,7 +17,7 @@ mkdir -p "$data"
 build() {
   mkdir "$work/crates"
   for crate in ob_scan ob_tree ob_parse; do cp -r "$here/../crates/$crate" "$work/crates"; done
-  # The gate refuses sources outside the crates, so these have another ending here.
+  # `rt ci` refuses sources outside the crates, so these have another ending here.
   (cd "$here" && find timing -name '*.in') | while read -r name; do
     mkdir -p "$work/crates/$(dirname "$name")"
     cp "$here/$name" "$work/crates/${name%.in}"

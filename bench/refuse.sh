@@ -20,6 +20,15 @@ sed '/^end/d' six.cut > short.cut
 ends=$(./generate layered 1 64 512 layered.net)
 printf 'oscip: Memory\n' > memory
 
+mkdir -p four/b wrong twice
+printf 'MODULE A; IMPORT B, C; BEGIN B.p; C.q; C.q END A.' > four/A.Mod
+printf 'MODULE B; IMPORT D; PROCEDURE p*; BEGIN D.x; D.x; D.x END p; END B.' > four/b/B.mod
+printf 'MODULE C; IMPORT E := D; PROCEDURE q*; BEGIN E.x END q; END C.' > four/C.Mod
+printf 'MODULE D; PROCEDURE x*; END x; END D.' > four/D.Mod
+printf 'MODULE A; IMPORT A; BEGIN A.x END B.' > wrong/A.Mod
+printf 'MODULE A; VAR r: RECORD a, a: SET END; END A.' > twice/A.Mod
+printf 'cut A D\nweight 2\nremove A B 1\nremove C D 1\nflow A B 1\nflow A C 1\nflow B D 1\nflow C D 1\nend\n' > four.cut
+
 # Whether the run ended for want of memory.
 is_memory() {
   [ $status = 4 ] && cmp -s told memory && head -c "$(wc -c < got)" right | cmp -s - got
@@ -65,3 +74,9 @@ for words in "six.net A A" "six.net A Absent" "six.net Absent A" "cycle.net A B"
 done
 trial 3 cut-net absent.net A B
 trial 2 cut-net six.net A
+trial 0 cut four A D
+trial 0 check four four.cut
+for words in "four A Z" "wrong A D" "twice A D"; do
+  trial 1 cut $words
+done
+trial 3 cut absent A D

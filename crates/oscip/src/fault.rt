@@ -15,7 +15,7 @@ use thiserror::Error;
 /// neither want of memory nor a failed device.
 #[derive(Debug, PartialEq, Eq, Drop, Error)]
 pub enum RunFault {
-    /// A file can't be read, or has more than 2^30 bytes.
+    /// A file or a folder can't be read: it isn't there, is no regular file, has more than 2^30 bytes or a name that isn't UTF-8, or lies too deep.
     #[error("cannot read {path}")]
     CannotRead { path: String },
     /// A file can't be written.

@@ -1,5 +1,5 @@
 //! The program: reads files, runs one engine on the real standard output, and ends with a status.
-//! Stands on the networks, the reports, the solver and the checker, with `clap` for the command line and `thiserror` for its faults.
+//! Stands on all crates below it, with `clap` for the command line and `thiserror` for its faults.
 //! Its contract: what an engine puts is what the definitions say of its inputs, and nothing else.
 #![tactic(auto)]
 
