@@ -7,7 +7,7 @@ use Rattle.std.proofs.lemmas.List.Kept.{AllPairs-filter}
 use Rattle.cut_net.specs.declared.priced.Priced.{Priced}
 use Rattle.cut_net.specs.Network.{Network}
 use Rattle.cut_net.specs.Cuts.{leaves, weight, AreThose, ArePrinted, Chain, IsCheapest, IsFlow, IsPrintedOne, LeavesNear, Near, Outside, Reached}
-use Rattle.cut_net.specs.Lines.{comes_before, removed_by, IsAscending, IsCutAnswer, IsImport}
+use Rattle.cut_net.specs.Lines.{comes_before, flow_by, removed_by, AreInOrder, IsAscending, IsCutAnswer, IsImport}
 use Rattle.cut_net.specs.WellFormed.{AreBetween}
 use Rattle.cut_net.proofs.Chains.{widened}
 use Rattle.cut_net.proofs.Members.{from_filter, from_map, in_map}
@@ -15,8 +15,9 @@ use Rattle.cut_net.proofs.NearSide.{is_near, is_cheapest, weighs}
 use Rattle.cut_residual.specs.declared.arc.Arc.{Arc}
 use Rattle.cut_residual.specs.Flows.{IsBalanced}
 use Rattle.cut_residual.specs.Graphs.{is_seen, AreClosed, AreReached}
+use Rattle.cut_solve.specs.GreatestFlow.{IsGreatest}
 use Rattle.cut_solve.specs.Lines.{has_flow, import_on, is_printed, flow_line}
-use Rattle.cut_solve.proofs.Flowing.{flow_on, imports_of, is_flow, lines_ascend, net_of, reached}
+use Rattle.cut_solve.proofs.Flowing.{imports_of, is_flow, lines_ascend, net_of, reached}
 use Rattle.cut_solve.proofs.Listing.{each_kept, removed_is, weight_kept}
 
 -- the imports that lead from marked modules to far ones are those that the definition prints
@@ -49,85 +50,88 @@ module _ (net : Network) (a b : ℕ) (near far : List Bool) (are : AreThose (is_
     )),
   )
 
-module _ (names : List (List ℕ)) (arcs : List Arc) (a b value : ℕ) (up : IsAscending (imports_of arcs)) (between : AreBetween (imports_of arcs) (length names)) (a_in : a < length names)
-    (within : All (λ r. r.flow ≤ r.capacity) arcs) (balanced : IsBalanced arcs a b value) (near far : List Bool) (are : AreReached (record { nodes = length names; arcs = arcs }) a near)
-    (shut : AreClosed arcs near) (ends : is_seen near b ≡ false) (chains : (m : ℕ) → (is_seen far m ≡ true) ↔ Chain (imports_of arcs) (Outside (leaves (is_seen near))) m b) where
-  flow : IsFlow (net_of names arcs) a b (flow_on arcs) value
-  flow = is_flow names arcs up a b value within balanced
-
-  reaches : AreThose (is_seen near) (Reached (net_of names arcs) (flow_on arcs) a)
-  reaches = reached names arcs up a near a_in are shut
-
-  near_is : AreThose (is_seen near) (Near (net_of names arcs) a b)
-  near_is = is_near (net_of names arcs) a b (flow_on arcs) value between a_in flow (is_seen near) reaches ends
+-- the printed imports of a greatest flow
+module _ (net : Network) (a b : ℕ) (near far : List Bool) (flow : List Priced) (up : IsAscending net.imports) (between : AreBetween net.imports (length net.names)) (a_in : a < length net.names)
+    (greatest : IsGreatest net a b near flow) (chains : (m : ℕ) → (is_seen far m ≡ true) ↔ Chain net.imports (Outside (leaves (is_seen near))) m b) where
+  near_is : AreThose (is_seen near) (Near net a b)
+  near_is = is_near net a b (flow_by flow) greatest.value between a_in greatest.is_flow (is_seen near) greatest.reached greatest.end
 
   abbrev printed : List Priced
-  printed = filter (is_printed near far) (imports_of arcs)
+  printed = filter (is_printed near far) net.imports
 
-  abbrev lines : List Priced
-  lines = filter has_flow (map flow_line arcs)
-
-  removed_printed : ArePrinted (net_of names arcs) a b (removed_by printed)
+  removed_printed : ArePrinted net a b (removed_by printed)
   removed_printed i c =
-      let same = removed_is (is_printed near far) (imports_of arcs) up i c in
-      let p = are_printed (net_of names arcs) a b near far near_is chains i in
+      let same = removed_is (is_printed near far) net.imports up i c in
+      let p = are_printed net a b near far near_is chains i in
       (λ h. p.0 (sym same ∙ h), λ q. same ∙ p.1 q)
 
-  pub cheapest : IsCheapest (net_of names arcs) a b (removed_by printed)
-  cheapest = is_cheapest (net_of names arcs) a b (flow_on arcs) value between a_in flow (is_seen near) reaches ends (removed_by printed) removed_printed
+  pub cheapest : IsCheapest net a b (removed_by printed)
+  cheapest = is_cheapest net a b (flow_by flow) greatest.value between a_in greatest.is_flow (is_seen near) greatest.reached greatest.end (removed_by printed) removed_printed
 
-  total_is : sum_by (λ (i : Priced). i.amount) printed ≡ value
+  total_is : sum_by (λ (i : Priced). i.amount) printed ≡ greatest.value
   total_is =
-      let x_printed : ArePrinted (net_of names arcs) a b (is_printed near far) = λ i c. are_printed (net_of names arcs) a b near far near_is chains i in
-      weight_kept (is_printed near far) (imports_of arcs)
-      ∙ weighs (net_of names arcs) a b (flow_on arcs) value between a_in flow (is_seen near) reaches ends (is_printed near far) x_printed
+      let x_printed : ArePrinted net a b (is_printed near far) = λ i c. are_printed net a b near far near_is chains i in
+      weight_kept (is_printed near far) net.imports
+      ∙ weighs net a b (flow_by flow) greatest.value between a_in greatest.is_flow (is_seen near) greatest.reached greatest.end (is_printed near far) x_printed
 
-  removed_weighs : weight (imports_of arcs) (removed_by printed) ≡ value
-  removed_weighs = weighs (net_of names arcs) a b (flow_on arcs) value between a_in flow (is_seen near) reaches ends (removed_by printed) removed_printed
+  removed_weighs : weight net.imports (removed_by printed) ≡ greatest.value
+  removed_weighs = weighs net a b (flow_by flow) greatest.value between a_in greatest.is_flow (is_seen near) greatest.reached greatest.end (removed_by printed) removed_printed
 
-  line_known : (line : Priced) → Contains lines line → IsImport (net_of names arcs) line
-  line_known line c =
-      let (r, in_arcs, e) = from_map flow_line arcs line (from_filter has_flow (map flow_line arcs) line c) in
-      (import_on r, in_map import_on arcs r in_arcs, ap (λ (v : Priced). v.from) e, ap (λ (v : Priced). v.to) e, tt)
-
-  pub answered : IsCutAnswer (net_of names arcs) a b printed (sum_by (λ (i : Priced). i.amount) printed) lines
+  pub answered : IsCutAnswer net a b printed (sum_by (λ (i : Priced). i.amount) printed) flow
   answered = record {
     right = record {
       printed_in_order = record {
         known = λ k d h.
             let i = get_or printed k d in
-            (i, from_filter (is_printed near far) (imports_of arcs) i (Contains-get_or printed k d h), refl, refl, tt);
-        ascending = AllPairs-filter (λ i j. IsTrue (comes_before i j)) (is_printed near far) (imports_of arcs) up;
+            (i, from_filter (is_printed near far) net.imports i (Contains-get_or printed k d h), refl, refl, tt);
+        ascending = AllPairs-filter (λ i j. IsTrue (comes_before i j)) (is_printed near far) net.imports up;
       };
-      flow_in_order = record {
-        known = λ k d h. line_known (get_or lines k d) (Contains-get_or lines k d h);
-        ascending = AllPairs-filter (λ i j. IsTrue (comes_before i j)) has_flow (map flow_line arcs) (lines_ascend arcs up);
-      };
+      flow_in_order = greatest.in_order;
       cut = cheapest.cut;
       weights = record {
-        each = each_kept (is_printed near far) (imports_of arcs) up;
+        each = each_kept (is_printed near far) net.imports up;
         sum = total_is ∙ sym removed_weighs;
       };
-      is_flow = subst (IsFlow (net_of names arcs) a b (flow_on arcs)) (sym total_is) flow;
+      is_flow = subst (IsFlow net a b (flow_by flow)) (sym total_is) greatest.is_flow;
     };
     are_printed = removed_printed;
-    flow_above_zero = λ k d h. ltb-true 0 (get_or lines k d).amount (filter_passes has_flow (map flow_line arcs) k d h);
+    flow_above_zero = greatest.above_zero;
+  }
+
+-- lines with an amount, of imports of the network in order
+pub kept_lines : (net : Network) (lines : List Priced) → IsAscending lines → ((line : Priced) → Contains lines line → IsImport net line) → AreInOrder net (filter has_flow lines)
+kept_lines net lines up known = record {
+  known = λ k d h. known (get_or (filter has_flow lines) k d) (from_filter has_flow lines (get_or (filter has_flow lines) k d) (Contains-get_or (filter has_flow lines) k d h));
+  ascending = AllPairs-filter (λ i j. IsTrue (comes_before i j)) has_flow lines up;
+}
+
+pub kept_above_zero : (lines : List Priced) → All (λ (line : Priced). 0 < line.amount) (filter has_flow lines)
+kept_above_zero lines k d h = ltb-true 0 (get_or (filter has_flow lines) k d).amount (filter_passes has_flow lines k d h)
+
+-- a flow of arcs whose residual arcs lead from the marked nodes to no others
+module _ (names : List (List ℕ)) (arcs : List Arc) (a b value : ℕ) (up : IsAscending (imports_of arcs)) (a_in : a < length names)
+    (within : All (λ r. r.flow ≤ r.capacity) arcs) (balanced : IsBalanced arcs a b value) (near : List Bool) (are : AreReached (record { nodes = length names; arcs = arcs }) a near)
+    (shut : AreClosed arcs near) (ends : is_seen near b ≡ false) where
+  line_known : (line : Priced) → Contains (map flow_line arcs) line → IsImport (net_of names arcs) line
+  line_known line c =
+      let (r, in_arcs, e) = from_map flow_line arcs line c in
+      (import_on r, in_map import_on arcs r in_arcs, ap (λ (v : Priced). v.from) e, ap (λ (v : Priced). v.to) e, tt)
+
+  pub greatest_on : IsGreatest (net_of names arcs) a b near (filter has_flow (map flow_line arcs))
+  greatest_on = record {
+    size = are.size;
+    reached = reached names arcs up a near a_in are shut;
+    end = ends;
+    in_order = kept_lines (net_of names arcs) (map flow_line arcs) (lines_ascend arcs up) line_known;
+    above_zero = kept_above_zero (map flow_line arcs);
+    value = value;
+    is_flow = is_flow names arcs up a b value within balanced;
   }
 
 -- the same of a network whose imports are those of the arcs
-pub record Answered (net : Network) (a b : ℕ) (near far : List Bool) (arcs : List Arc) : Type 0 where
-  pub answer : IsCutAnswer net a b (filter (is_printed near far) net.imports) (sum_by (λ (i : Priced). i.amount) (filter (is_printed near far) net.imports)) (filter has_flow (map flow_line arcs))
-  pub cheapest : IsCheapest net a b (removed_by (filter (is_printed near far) net.imports))
-
-pub answered_for : (net : Network) (arcs : List Arc) (a b value : ℕ) → imports_of arcs ≡ net.imports → IsAscending net.imports → AreBetween net.imports (length net.names) → a < length net.names →
-    All (λ r. r.flow ≤ r.capacity) arcs → IsBalanced arcs a b value → (near far : List Bool) → AreReached (record { nodes = length net.names; arcs = arcs }) a near → AreClosed arcs near →
-    is_seen near b ≡ false → ((m : ℕ) → (is_seen far m ≡ true) ↔ Chain net.imports (Outside (leaves (is_seen near))) m b) → Answered net a b near far arcs
-answered_for net arcs a b value same up between a_in within balanced near far are shut ends chains =
-    let up_arcs = subst IsAscending (sym same) up in
-    let between_arcs = subst (λ v. AreBetween v (length net.names)) (sym same) between in
-    let chains_arcs = subst (λ v. (m : ℕ) → (is_seen far m ≡ true) ↔ Chain v (Outside (leaves (is_seen near))) m b) (sym same) chains in
-    let whole : Answered (net_of net.names arcs) a b near far arcs = record {
-      answer = answered net.names arcs a b value up_arcs between_arcs a_in within balanced near far are shut ends chains_arcs;
-      cheapest = cheapest net.names arcs a b value up_arcs between_arcs a_in within balanced near far are shut ends chains_arcs;
-    } in
-    subst (λ v. Answered (record { names = net.names; imports = v }) a b near far arcs) same whole
+pub greatest_for : (net : Network) (arcs : List Arc) (a b value : ℕ) → imports_of arcs ≡ net.imports → IsAscending net.imports → a < length net.names →
+    All (λ r. r.flow ≤ r.capacity) arcs → IsBalanced arcs a b value → (near : List Bool) → AreReached (record { nodes = length net.names; arcs = arcs }) a near → AreClosed arcs near →
+    is_seen near b ≡ false → IsGreatest net a b near (filter has_flow (map flow_line arcs))
+greatest_for net arcs a b value same up a_in within balanced near are shut ends =
+    subst (λ v. IsGreatest (record { names = net.names; imports = v }) a b near (filter has_flow (map flow_line arcs))) same
+    (greatest_on net.names arcs a b value (subst IsAscending (sym same) up) a_in within balanced near are shut ends)

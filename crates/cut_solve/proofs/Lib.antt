@@ -4,4 +4,5 @@ pub mod Listing
 pub mod Far
 pub mod Flowing
 pub mod Answering
+pub mod Settled
 pub mod Refusals

@@ -1,3 +1,5 @@
 pub mod Descents
+pub mod GreatestFlow
 pub mod Lines
+pub mod Settling
 pub mod Solving

@@ -5,11 +5,13 @@
 
 mod arcs;
 mod blocking;
+mod cutting;
 mod fault;
 mod greatest;
 pub mod laws;
 mod order;
 mod printing;
+mod settling;
 mod solver;
 
 pub use fault::SolveFault;

@@ -10,18 +10,18 @@ use cut_residual::{Arc, Found, ResidualGraph, search};
 use std::alloc::{AllocError, Global};
 
 /// Whether the import leads out of the near modules.
-fn leaves(i: Priced, near: &Found) -> bool
-    requires from { i.from < length near.now.seen.items }
-    requires to { i.to < length near.now.seen.items }
-    ensures { result ≡ leaves (is_seen near.now.seen.items) i }
+fn leaves(i: Priced, near: &[bool]) -> bool
+    requires from { i.from < length near.now }
+    requires to { i.to < length near.now }
+    ensures { result ≡ leaves (is_seen near.now) i }
 {
-    near.seen[i.from as usize] && !near.seen[i.to as usize]
+    near[i.from as usize] && !near[i.to as usize]
 }
 
 /// For each import an arc the other way round, which is open where the import doesn't leave the near modules.
-fn reversed_arcs(alloc: Global, imports: &[Priced], near: &Found) -> Result<Vec<Arc>, AllocError>
-    requires between { AreBetween imports.now (length near.now.seen.items) }
-    ensures { IfOk result (λ arcs. arcs.items ≡ map (reversed_of near.now.seen.items) imports.now) }
+fn reversed_arcs(alloc: Global, imports: &[Priced], near: &[bool]) -> Result<Vec<Arc>, AllocError>
+    requires between { AreBetween imports.now (length near.now) }
+    ensures { IfOk result (λ arcs. arcs.items ≡ map (reversed_of near.now) imports.now) }
 {
     let mut arcs = Vec::new(alloc);
     for i in imports {
@@ -40,15 +40,15 @@ fn reversed_arcs(alloc: Global, imports: &[Priced], near: &Found) -> Result<Vec<
 pub(crate) fn far_from(
     alloc: Global,
     imports: &[Priced],
-    near: &Found,
+    near: &[bool],
     nodes: u32,
     to: u32,
 ) -> Result<Found, AllocError>
     requires between { AreBetween imports.now nodes }
-    requires near { length near.now.seen.items ≡ nodes }
+    requires near { length near.now ≡ nodes }
     requires to { to < nodes }
     ensures size { IfOk result (λ far. length far.seen.items ≡ nodes) }
-    ensures far { IfOk result (λ far. (m : ℕ) → (is_seen far.seen.items m ≡ true) ↔ Chain imports.now (Outside (leaves (is_seen near.now.seen.items))) m to) }
+    ensures far { IfOk result (λ far. (m : ℕ) → (is_seen far.seen.items m ≡ true) ↔ Chain imports.now (Outside (leaves (is_seen near.now))) m to) }
 {
     let arcs = reversed_arcs(alloc, imports, near)?;
     let graph = ResidualGraph::new(alloc, arcs, nodes)?;
@@ -57,11 +57,11 @@ pub(crate) fn far_from(
 }
 
 /// Whether the import is printed: it leaves the near modules, and the module that it leads to has a chain to the end.
-fn is_printed(i: Priced, near: &Found, far: &Found) -> bool
-    requires from { i.from < length near.now.seen.items }
-    requires to { i.to < length near.now.seen.items }
+fn is_printed(i: Priced, near: &[bool], far: &Found) -> bool
+    requires from { i.from < length near.now }
+    requires to { i.to < length near.now }
     requires far { i.to < length far.now.seen.items }
-    ensures { result ≡ is_printed near.now.seen.items far.now.seen.items i }
+    ensures { result ≡ is_printed near.now far.now.seen.items i }
 {
     leaves(i, near) && far.seen[i.to as usize]
 }
@@ -70,12 +70,12 @@ fn is_printed(i: Priced, near: &Found, far: &Found) -> bool
 pub(crate) fn printed_of(
     alloc: Global,
     imports: &[Priced],
-    near: &Found,
+    near: &[bool],
     far: &Found,
 ) -> Result<Vec<Priced>, AllocError>
-    requires near { AreBetween imports.now (length near.now.seen.items) }
+    requires near { AreBetween imports.now (length near.now) }
     requires far { AreBetween imports.now (length far.now.seen.items) }
-    ensures { IfOk result (λ printed. printed.items ≡ filter (is_printed near.now.seen.items far.now.seen.items) imports.now) }
+    ensures { IfOk result (λ printed. printed.items ≡ filter (is_printed near.now far.now.seen.items) imports.now) }
 {
     let mut printed = Vec::new(alloc);
     for i in imports {

@@ -5,8 +5,8 @@ ghost use Rattle.cut_solve.specs.Solving.{outcome_of, said_by, IsModuleOr, IsRef
 
 use crate::SolveFault;
 use crate::arcs::{arcs_of, flow_of};
+use crate::cutting::cut_by;
 use crate::greatest::greatest_flow;
-use crate::printing::{far_from, printed_of, weight_of};
 use cut_net::{Cut, Net};
 use cut_residual::ResidualGraph;
 use std::alloc::{AllocError, Global};
@@ -25,15 +25,8 @@ fn solve(alloc: Global, net: &Net, from: u32, to: u32) -> Result<Cut, AllocError
     let mut graph = ResidualGraph::new(alloc, arcs, net.nodes())?;
     let near = greatest_flow(alloc, &mut graph, from, to)?;
     graph.keeps();
-    let far = far_from(alloc, imports, &near, net.nodes(), to)?;
-    let printed = printed_of(alloc, imports, &near, &far)?;
-    let weight = weight_of(&printed);
     let flow = flow_of(alloc, graph.arcs())?;
-    Ok(Cut {
-        imports: printed,
-        weight,
-        flow,
-    })
+    cut_by(alloc, net, &near.seen, flow, from, to)
 }
 
 /// The number of the module of this name.

@@ -1,4 +1,5 @@
 //! Worked networks, each with its cut, and names that are refused.
+use crate::settling::last_pass;
 use crate::{SolveFault, plain};
 use cut_net::{Cut, Net, Priced};
 use std::alloc::Global;
@@ -17,7 +18,26 @@ fn lines(alloc: Global, ends: &[(u32, u32, u64)]) -> Result<Vec<Priced>, Fail> {
     Ok(lines)
 }
 
-/// Checks that this is the cut between the two modules.
+/// Checks that the last pass tells the same imports and weight.
+fn settles(
+    rt: &(impl Abort + AllocGlobal),
+    net: &Net,
+    (from, to): (&str, &str),
+    cut: &Cut,
+) -> Result<(), Fail> {
+    let (Some(from), Some(to)) = (net.index_of(from), net.index_of(to)) else {
+        return Err(Fail::from("two modules"));
+    };
+    if from == to || from >= net.nodes() || to >= net.nodes() {
+        return Err(Fail::from("two modules"));
+    }
+    let settled = last_pass(rt.alloc(), net, from, to)?;
+    assert_eq!(rt; settled.imports, cut.imports);
+    assert_eq!(rt; settled.weight, cut.weight);
+    Ok(())
+}
+
+/// Checks that this is the cut between the two modules, and that the last pass tells the same.
 fn cuts(
     rt: &(impl Abort + AllocGlobal),
     net: &[u8],
@@ -28,6 +48,7 @@ fn cuts(
 ) -> Result<(), Fail> {
     let net = Net::read(rt.alloc(), net)?;
     let cut = plain(rt.alloc(), &net, from, to)?;
+    settles(rt, &net, (from, to), &cut)?;
     let imports = lines(rt.alloc(), imports)?;
     let flow = lines(rt.alloc(), flow)?;
     assert_eq!(rt;
@@ -100,6 +121,43 @@ fn a_path_goes_back_over_flow(rt: HostRuntime) -> Result<(), Fail> {
             (4, 1, 1),
             (5, 1, 1),
         ],
+    )
+}
+
+#[test]
+fn a_line_of_three_is_cut_at_the_first(rt: HostRuntime) -> Result<(), Fail> {
+    cuts(
+        &rt,
+        b"import A M 2\nimport M N 2\nimport N B 2\n",
+        ("A", "B"),
+        &[(0, 2, 2)],
+        2,
+        &[(0, 2, 2), (2, 3, 2), (3, 1, 2)],
+    )
+}
+
+#[test]
+fn two_ways_are_cut_where_each_is_cheapest(rt: HostRuntime) -> Result<(), Fail> {
+    cuts(
+        &rt,
+        b"import A B 1\nimport A C 2\nimport B D 3\nimport C D 1\n",
+        ("A", "D"),
+        &[(0, 1, 1), (2, 3, 1)],
+        2,
+        &[(0, 1, 1), (0, 2, 1), (1, 3, 1), (2, 3, 1)],
+    )
+}
+
+#[test]
+fn a_total_weight_of_64_bits_is_cut(rt: HostRuntime) -> Result<(), Fail> {
+    let most = 9223372036854775807;
+    cuts(
+        &rt,
+        b"import A B 9223372036854775808\nimport B C 9223372036854775807\n",
+        ("A", "C"),
+        &[(1, 2, most)],
+        most,
+        &[(0, 1, most), (1, 2, most)],
     )
 }
 

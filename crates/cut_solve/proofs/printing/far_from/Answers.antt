@@ -8,16 +8,16 @@ use Rattle.cut_solve.proofs.Far.{chains, reversed_between, reversed_within}
 use Rattle.cut_solve.proofs.printing.far_from.Goals as goal
 
 pub new-requires-clause-within : goal.new-requires-clause-within
-new-requires-clause-within c = subst (All (λ (r : Arc). r.flow ≤ r.capacity)) (sym c.in_ok-arcs.ensures) (reversed_within c.args.near.now.seen.items c.args.imports.now)
+new-requires-clause-within c = subst (All (λ (r : Arc). r.flow ≤ r.capacity)) (sym c.in_ok-arcs.ensures) (reversed_within c.args.near.now c.args.imports.now)
 
 pub new-requires-clause-between : goal.new-requires-clause-between
 new-requires-clause-between c =
     subst (All (λ (r : Arc). (r.from < c.args.nodes) × (r.to < c.args.nodes))) (sym c.in_ok-arcs.ensures)
-    (reversed_between c.args.near.now.seen.items c.args.imports.now c.args.nodes c.requires.between)
+    (reversed_between c.args.near.now c.args.imports.now c.args.nodes c.requires.between)
 
 pub returns-clause-far : goal.returns-clause-far
 returns-clause-far c =
-    let near = c.args.near.now.seen.items in
+    let near = c.args.near.now in
     let imports = c.args.imports.now in
     let at : List Arc → Graph = λ v. record { nodes = c.args.nodes; arcs = v } in
     let graph_is : c.in_ok-graph.graph ≡ at (map (reversed_of near) imports) = c.in_ok-graph.ensures ∙ ap at c.in_ok-arcs.ensures in

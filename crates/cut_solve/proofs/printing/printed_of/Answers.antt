@@ -3,10 +3,10 @@ use Rattle.cut_solve.proofs.Listing.{ends_in}
 use Rattle.cut_solve.proofs.printing.printed_of.Goals as goal
 
 pub is_printed-requires-clause-from : goal.is_printed-requires-clause-from
-is_printed-requires-clause-from c = (ends_in c.args.imports.now (length c.args.near.now.seen.items) c.loop-i.i-index c.requires.near c.loop-i-test.true).0
+is_printed-requires-clause-from c = (ends_in c.args.imports.now (length c.args.near.now) c.loop-i.i-index c.requires.near c.loop-i-test.true).0
 
 pub is_printed-requires-clause-to : goal.is_printed-requires-clause-to
-is_printed-requires-clause-to c = (ends_in c.args.imports.now (length c.args.near.now.seen.items) c.loop-i.i-index c.requires.near c.loop-i-test.true).1
+is_printed-requires-clause-to c = (ends_in c.args.imports.now (length c.args.near.now) c.loop-i.i-index c.requires.near c.loop-i-test.true).1
 
 pub is_printed-requires-clause-far : goal.is_printed-requires-clause-far
 is_printed-requires-clause-far c = (ends_in c.args.imports.now (length c.args.far.now.seen.items) c.loop-i.i-index c.requires.far c.loop-i-test.true).1

@@ -1,0 +1,58 @@
+-- The core's sums and flows by number as those of a network's imports.
+use Rattle.std.proofs.Common.{◌≡◌, ℕ, zero, suc, ◌+◌, ◌<◌, ◌==◌, if◌then◌else◌, true, false, List, [], ◌∷◌, length, get_or, refl, sym, ap, ◌∙◌, subst, arith, sum_by}
+use Rattle.std.specs.Prelude.{Contains}
+use Rattle.std.proofs.lemmas.Bool.{false_from_ne_true}
+use Rattle.std.proofs.lemmas.List.{get_or_default}
+use Rattle.std.proofs.lemmas.List.Sums.{sum_by-cons}
+use Rattle.cut_net.specs.declared.priced.Priced.{Priced}
+use Rattle.cut_net.specs.Network.{none_there}
+use Rattle.cut_net.specs.Cuts.{entering, leaving, same_ends}
+use Rattle.cut_net.specs.Lines.{comes_before, flow_by, IsAscending}
+use Rattle.cut_net.proofs.Ends.{apart, before_from, same_from, same_sym, same_true}
+use Rattle.cut_preflow.specs.Total.{total}
+use Rattle.cut_preflow.specs.Preflow.{FlowNetwork, State, count, flow_at, import_at, import_in, inflow, outflow}
+use Rattle.cut_preflow.specs.Flows.{flow_lines, flow_on}
+use Rattle.cut_preflow.proofs.Totals.{total-same}
+
+-- what holds at each number holds of each import
+pub at_numbers : (imports : List Priced) (P : Priced → Type 0) → ((k : ℕ) → k < length imports → P (import_in imports k)) → (i : Priced) → Contains imports i → P i
+at_numbers imports P each i (k, in_k, at_k) = subst P (get_or_default imports k none_there i in_k ∙ at_k) (each k in_k)
+
+-- a sum with its first term apart
+total-front : (n : ℕ) (g : ℕ → ℕ) → total (suc n) g ≡ g 0 + total n (λ i. g (suc i))
+total-front zero g = omega arith
+total-front (suc n) g = omega (arith, total-front n g)
+
+-- a sum over the numbers of imports is one over the imports
+pub total-sum : (f : Priced → ℕ) (imports : List Priced) → total (length imports) (λ k. f (import_in imports k)) ≡ sum_by f imports
+total-sum f [] = refl
+total-sum f (i ∷ more) =
+    omega (arith, total-front (length more) (λ k. f (import_in (i ∷ more) k)), total-sum f more, sum_by-cons f i more)
+
+passed : (i j : Priced) → comes_before i j ≡ true → same_ends j i ≡ false
+passed i j e = false_from_ne_true _ (λ t. apart {i = i} {j = j} (before_from i j e) (same_sym (same_from j i t)))
+
+-- of imports in order, each one's line is that of its number
+pub flow_by_number : (imports : List Priced) (flow : List ℕ) → IsAscending imports → length flow ≡ length imports → (k : ℕ) → k < length imports → flow_by (flow_lines imports flow) (import_in imports k) ≡ get_or flow k 0
+flow_by_number [] flow up same k h = absurd (omega arith)
+flow_by_number (i ∷ more) [] up same k h = absurd (omega arith)
+flow_by_number (i ∷ more) (f ∷ flow) up same zero h = rw (same_true i i (record { from = refl; to = refl })) refl
+flow_by_number (i ∷ more) (f ∷ flow) up same (suc k) h =
+    rw (passed i (get_or more k none_there) (up 0 (suc k) none_there (omega arith) (omega arith)))
+    (flow_by_number more flow (λ a b e less in_b. up (suc a) (suc b) e (omega arith) (omega arith)) (omega arith) k (omega arith))
+
+module _ (net : FlowNetwork) (s : State) (up : IsAscending net.imports) (size : length s.flow ≡ count net) where
+  pub flow_is : (k : ℕ) → k < count net → flow_on net s (import_at net k) ≡ flow_at s k
+  flow_is k h = flow_by_number net.imports s.flow up size k h
+
+  pub entering_is : (m : ℕ) → entering net.imports (flow_on net s) m ≡ inflow net s m
+  entering_is m =
+      sym (total-sum (λ i. if i.to == m then flow_on net s i else 0) net.imports)
+      ∙ total-same (count net) (λ k. if (import_at net k).to == m then flow_on net s (import_at net k) else 0) (λ k. if (import_at net k).to == m then flow_at s k else 0)
+      (λ k h. ap (λ x. if (import_at net k).to == m then x else 0) (flow_is k h))
+
+  pub leaving_is : (m : ℕ) → leaving net.imports (flow_on net s) m ≡ outflow net s m
+  leaving_is m =
+      sym (total-sum (λ i. if i.from == m then flow_on net s i else 0) net.imports)
+      ∙ total-same (count net) (λ k. if (import_at net k).from == m then flow_on net s (import_at net k) else 0) (λ k. if (import_at net k).from == m then flow_at s k else 0)
+      (λ k h. ap (λ x. if (import_at net k).from == m then x else 0) (flow_is k h))

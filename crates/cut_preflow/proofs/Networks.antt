@@ -1,0 +1,26 @@
+-- A network between two of its modules, as the core sees it.
+use Rattle.std.proofs.Common.{ℕ, arith}
+use Rattle.std.proofs.lemmas.List.Elements.{Contains-get_or}
+use Rattle.cut_net.specs.Network.{Network, none_there}
+use Rattle.cut_net.specs.WellFormed.{IsNetwork}
+use Rattle.cut_preflow.specs.Kept.{IsFlowNetwork}
+use Rattle.cut_preflow.specs.Played.{IsWithinLimits}
+use Rattle.cut_preflow.specs.Flows.{AreEnds, network_between}
+use Rattle.cut_preflow.proofs.Carried.{total-sum}
+
+pub between_is : (net : Network) (a b : ℕ) → IsNetwork net → AreEnds net a b → IsFlowNetwork (network_between net a b)
+between_is net a b is ends = record {
+  from_low = λ i h. (is.between _ (Contains-get_or net.imports i none_there h)).0;
+  to_low = λ i h. (is.between _ (Contains-get_or net.imports i none_there h)).1;
+  source_low = ends.from_in;
+  sink_low = ends.to_in;
+  apart = ends.apart;
+  ascend = is.imports_ascend;
+}
+
+pub between_limits : (net : Network) (a b : ℕ) → IsNetwork net → IsWithinLimits (network_between net a b)
+between_limits net a b is = record {
+  few_nodes = is.few_names;
+  few_imports = is.few_imports;
+  weights = omega (arith, total-sum (λ i. i.amount) net.imports, is.fits);
+}

@@ -1,0 +1,33 @@
+-- Histories that grow by the steps of one worker.
+use Rattle.std.proofs.Common.{◌≡◌, ◌≢◌, ℕ, ◌+◌, true, ◌==◌, List, [], ◌∷◌, ◌++◌, refl, sym, ap, ◌∙◌, arith, append_assoc, length-append}
+use Rattle.std.proofs.lemmas.List.{append-nil}
+use Rattle.cut_preflow.specs.declared.event.Event.{Event}
+use Rattle.cut_preflow.specs.declared.event.Outcome.{Outcome}
+use Rattle.cut_preflow.specs.declared.event.Outcome.TheVariants.{Moved, Raised, Stale, Refused}
+use Rattle.cut_preflow.specs.Played.{history_after}
+use Rattle.cut_preflow.specs.Settled.{are_by, Appends}
+use Rattle.cut_preflow.proofs.Arcs.{left_true, right_true, both_true, eq_true}
+
+are_by-push : (worker : ℕ) (es : List Event) (e : Event) → are_by worker es ≡ true → e.worker ≡ worker → are_by worker (es ++ e ∷ []) ≡ true
+are_by-push worker [] e h is = both_true (e.worker == worker) true (eq_true e.worker worker is) refl
+are_by-push worker (x ∷ xs) e h is =
+    both_true (x.worker == worker) (are_by worker (xs ++ e ∷ [])) (left_true (x.worker == worker) (are_by worker xs) h) (are_by-push worker xs e (right_true (x.worker == worker) (are_by worker xs) h) is)
+
+pub Appends-none : (worker : ℕ) (old : List Event) → Appends worker 0 old old
+Appends-none worker old = record { added = []; appended = sym (append-nil old); many = refl; by = refl }
+
+pub Appends-push : (worker steps : ℕ) (old new : List Event) (e : Event) → Appends worker steps old new → e.worker ≡ worker → Appends worker (steps + 1) old (new ++ e ∷ [])
+Appends-push worker steps old new e a is =
+    record {
+      added = a.added ++ e ∷ [];
+      appended = ap (λ xs. xs ++ e ∷ []) a.appended ∙ append_assoc old a.added (e ∷ []);
+      many = omega (arith, length-append a.added (e ∷ []), a.many);
+      by = are_by-push worker a.added e a.by is;
+    }
+
+-- an event that was neither stale nor refused stands at the history's end
+pub history_after-applied : (history : List Event) (e : Event) (outcome : Outcome) → outcome ≢ Stale → outcome ≢ Refused → history_after history e outcome ≡ history ++ e ∷ []
+history_after-applied history e (Moved amount) a b = refl
+history_after-applied history e (Raised label) a b = refl
+history_after-applied history e Stale a b = absurd (a refl)
+history_after-applied history e Refused a b = absurd (b refl)

@@ -1,0 +1,46 @@
+-- What the code needs to know of a state that a run can reach.
+use Rattle.std.proofs.Common.{◌≡◌, ℕ, ◌*◌, ◌/◌, ◌^◌, ◌<◌, inl, inr, Some, length, slice_index, sym, ap, subst, arith}
+use Rattle.cut_preflow.specs.Total.{total}
+use Rattle.cut_preflow.specs.Preflow.{FlowNetwork, State, count, import_at, flow_at, label_at, tail, head, is_forward, least_head}
+use Rattle.cut_preflow.specs.Played.{IsSound}
+use Rattle.cut_preflow.proofs.Choices.{true_or_false}
+use Rattle.cut_preflow.proofs.Totals.{total-le}
+use Rattle.cut_preflow.proofs.Arcs.{ahead, back, least_at}
+
+module _ (net : FlowNetwork) (s : State) (sound : IsSound net s) where
+  pub one_each : count net ≡ length s.flow
+  one_each = sym sound.kept.flows
+
+  -- all flows together fit 64 bits
+  pub flows_fit : total (length s.flow) (λ i. slice_index s.flow i) < 2 ^ 64
+  flows_fit =
+      let le = total-le (count net) (flow_at s) (λ i. (import_at net i).amount) sound.kept.fits in
+      let same = ap (λ n. total n (λ i. slice_index s.flow i)) sound.kept.flows in
+      omega (arith, le, same, sound.limits.weights)
+
+  -- the ends of an arc are nodes
+  pub head_low : (arc : ℕ) → arc / 2 < count net → head net arc < net.nodes
+  head_low arc l = elim (true_or_false (is_forward arc)) [
+    | inl e ↦ subst (λ x. x < net.nodes) (sym (ahead net s arc e).head_is) (sound.network.to_low (arc / 2) l)
+    | inr e ↦ subst (λ x. x < net.nodes) (sym (back net s arc e).head_is) (sound.network.from_low (arc / 2) l)
+  ]
+
+  pub tail_low : (arc : ℕ) → arc / 2 < count net → tail net arc < net.nodes
+  tail_low arc l = elim (true_or_false (is_forward arc)) [
+    | inl e ↦ subst (λ x. x < net.nodes) (sym (ahead net s arc e).tail_is) (sound.network.from_low (arc / 2) l)
+    | inr e ↦ subst (λ x. x < net.nodes) (sym (back net s arc e).tail_is) (sound.network.to_low (arc / 2) l)
+  ]
+
+  pub head_labelled : (arc : ℕ) → arc / 2 < count net → head net arc < length s.label
+  head_labelled arc l = omega (arith, head_low arc l, sound.kept.labels)
+
+  pub tail_labelled : (arc : ℕ) → arc / 2 < count net → tail net arc < length s.label
+  tail_labelled arc l = omega (arith, tail_low arc l, sound.kept.labels)
+
+  pub label_small : (v : ℕ) → v < net.nodes → label_at s v < 16384
+  label_small v l = omega (arith, sound.kept.low v l, sound.limits.few_nodes)
+
+  pub least_small : (v least : ℕ) → least_head net s v (2 * count net) ≡ Some least → least < 16384
+  least_small v least e =
+      let w = least_at net s v (2 * count net) least e in
+      omega (arith, label_small (head net w.0) (head_low w.0 (omega (arith, w.1))), w.4)

@@ -1,0 +1,48 @@
+-- The core's flow and side in the words of networks: flows, residual imports and near modules (Goldberg and Tarjan 1988, section 2).
+use Rattle.std.specs.Prelude.{◌≡◌, ◌≢◌, ℕ, ◌-◌, ◌<◌, Bool, List, [], ◌∷◌, length}
+use Rattle.cut_net.specs.declared.priced.Priced.{Priced}
+use Rattle.cut_net.specs.Network.{Network}
+use Rattle.cut_net.specs.Cuts.{AreThose, IsFlow, Near, Reached}
+use Rattle.cut_net.specs.Lines.{flow_by}
+use Rattle.cut_preflow.specs.Preflow.{FlowNetwork, State, inflow, outflow}
+use Rattle.cut_preflow.specs.Side.{has}
+
+-- two different modules of the network
+pub record AreEnds (net : Network) (a b : ℕ) : Type 0 where
+  pub from_in : a < length net.names
+  pub to_in : b < length net.names
+  pub apart : a ≢ b
+
+-- the network between two of its modules, by their numbers in place of their names
+abbrev pub network_between : Network → ℕ → ℕ → FlowNetwork
+network_between net a b = record { nodes = length net.names; imports = net.imports; source = a; sink = b }
+
+-- these are the nodes and imports of the network
+abbrev pub IsOf : Network → FlowNetwork → Type 0
+IsOf net flow_net = flow_net ≡ network_between net flow_net.source flow_net.sink
+
+-- each import with its flow, in order of the imports' numbers
+abbrev pub flow_lines : List Priced → List ℕ → List Priced
+flow_lines [] flow = []
+flow_lines (i ∷ more) [] = []
+flow_lines (i ∷ more) (f ∷ flow) = record { from = i.from; to = i.to; amount = f } ∷ flow_lines more flow
+
+-- the state's flow on an import of the network
+abbrev pub flow_on : FlowNetwork → State → Priced → ℕ
+flow_on flow_net s = flow_by (flow_lines flow_net.imports s.flow)
+
+-- what leaves the source less what enters it
+abbrev pub value_of : FlowNetwork → State → ℕ
+value_of flow_net s = outflow flow_net s flow_net.source - inflow flow_net s flow_net.source
+
+-- the state's flow is a flow of the network, of its value
+abbrev pub HasFlow : FlowNetwork → State → Type 0
+HasFlow flow_net s = (net : Network) → IsOf net flow_net → IsFlow net flow_net.source flow_net.sink (flow_on flow_net s) (value_of flow_net s)
+
+-- the marked modules are those that the source reaches by residual imports of the state's flow
+abbrev pub AreReached : FlowNetwork → State → List Bool → Type 0
+AreReached flow_net s marks = (net : Network) → IsOf net flow_net → AreThose (has marks) (Reached net (flow_on flow_net s) flow_net.source)
+
+-- the marked modules are those that are near
+abbrev pub AreNear : FlowNetwork → List Bool → Type 0
+AreNear flow_net marks = (net : Network) → IsOf net flow_net → AreThose (has marks) (Near net flow_net.source flow_net.sink)

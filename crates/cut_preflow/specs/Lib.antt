@@ -1,0 +1,9 @@
+pub mod Total
+pub mod Preflow
+pub mod Relabels
+pub mod Kept
+pub mod Bound
+pub mod Played
+pub mod Settled
+pub mod Side
+pub mod Flows

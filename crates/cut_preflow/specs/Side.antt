@@ -1,0 +1,40 @@
+-- The marks of what the source reaches by arcs with residual above 0.
+use Rattle.std.specs.Prelude.{◌≡◌, ℕ, ◌*◌, ◌<◌, Bool, true, false, not, List, length, slice_index_or, count_by}
+use Rattle.cut_net.specs.declared.priced.Priced.{Priced}
+use Rattle.cut_preflow.specs.Preflow.{tail_in, head_in, residual_in}
+
+-- the mark of a node
+abbrev pub has : List Bool → ℕ → Bool
+has marks v = slice_index_or marks v false
+
+-- how many nodes have no mark
+abbrev pub unmarked : List Bool → ℕ
+unmarked marks = count_by not marks
+
+-- none of the arcs below this number leaves the set with residual above 0
+abbrev pub IsClosedBelow : List Priced → List ℕ → (ℕ → Bool) → ℕ → Type 0
+IsClosedBelow imports flow side arcs =
+    (arc : ℕ) → arc < arcs → 0 < residual_in imports flow arc → side (tail_in imports arc) ≡ true → side (head_in imports arc) ≡ true
+
+-- each marked node is in the set
+abbrev pub IsWithin : List Bool → (ℕ → Bool) → Type 0
+IsWithin marks side = (v : ℕ) → has marks v ≡ true → side v ≡ true
+
+-- each set that no arc leaves and that has the marks of the first list has those of the second
+abbrev pub KeepsWithin : List Priced → List ℕ → List Bool → List Bool → Type 0
+KeepsWithin imports flow old new =
+    (side : ℕ → Bool) → IsClosedBelow imports flow side (2 * length imports) → IsWithin old side → IsWithin new side
+
+-- an arc with residual above 0 that leads from a marked node to this one, which is not marked
+pub record IsReached (imports : List Priced) (flow : List ℕ) (marks : List Bool) (arc v : ℕ) : Type 0 where
+  pub head : v ≡ head_in imports arc
+  pub tail : has marks (tail_in imports arc) ≡ true
+  pub residual : 0 < residual_in imports flow arc
+  pub fresh : has marks v ≡ false
+  pub low : v < length marks
+
+-- the least set with the source that no arc with residual above 0 leaves
+pub record IsReach (imports : List Priced) (flow : List ℕ) (source : ℕ) (marks : List Bool) : Type 0 where
+  pub starts : has marks source ≡ true
+  pub closed : IsClosedBelow imports flow (has marks) (2 * length imports)
+  pub least : (side : ℕ → Bool) → side source ≡ true → IsClosedBelow imports flow side (2 * length imports) → IsWithin marks side

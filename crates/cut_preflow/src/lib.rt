@@ -1,0 +1,18 @@
+//! Preflows on a network: pushes and relabels one event at a time, with the events that were applied kept as a history.
+//! Stands on `cut_net`, with `thiserror` for its fault.
+//! Its contract: the state is the run of a legal history, whatever events came; once quiet, its flow and its side are those of cuts.
+#![tactic(auto)]
+
+mod ends;
+mod event;
+pub mod laws;
+mod preflow;
+mod sides;
+mod sums;
+mod tries;
+
+pub use event::{Event, Outcome, SettleFault, Step};
+pub use preflow::Preflow;
+
+#[cfg(test)]
+mod tests;

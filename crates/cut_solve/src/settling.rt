@@ -1,0 +1,71 @@
+//! The last pass: a preflow is settled by one worker, and told as a cut.
+ghost use Rattle.std.specs.Prelude.{◌≡◌, ◌<◌, ◌≤◌, ◌+◌, ◌*◌, IfOk, OnOk, length};
+ghost use Rattle.cut_net.specs.Lines.{IsAnswer, IsCheapestSaid};
+ghost use Rattle.cut_preflow.specs.Bound.{most_changes};
+ghost use Rattle.cut_preflow.specs.Flows.{AreEnds, network_between};
+ghost use Rattle.cut_preflow.specs.Kept.{IsQuiet};
+ghost use Rattle.cut_preflow.specs.Played.{state_of};
+ghost use Rattle.cut_solve.specs.Settling.{carried};
+ghost use Rattle.cut_solve.specs.Solving.{said_by};
+
+use crate::cutting::cut_by;
+use cut_net::{Cut, Net, Priced};
+use cut_preflow::{Preflow, SettleFault};
+use std::alloc::{AllocError, Global};
+
+/// As many steps as can be applied between two modules of a network: 4n²m + 2nm + 4n² for n modules and m imports.
+fn fuel_of(nodes: u64, imports: u64) -> u64
+    requires nodes { nodes ≤ 8192 }
+    requires imports { imports ≤ 65536 }
+    ensures { result ≡ 4 * nodes * nodes * imports + 2 * nodes * imports + 4 * nodes * nodes }
+{
+    4 * nodes * nodes * imports + 2 * nodes * imports + 4 * nodes * nodes
+}
+
+/// Applies steps until the preflow is quiet. Fails where memory is refused.
+fn settle(net: &Net, preflow: &mut Preflow, from: u32, to: u32) -> Result<(), AllocError>
+    requires { preflow.old.net ≡ network_between net.now from to }
+    ensures net { preflow.new.net ≡ preflow.old.net }
+    ensures quiet { OnOk result (IsQuiet preflow.new.net (state_of preflow.new)) }
+{
+    net.keeps();
+    let fuel = fuel_of(u64::from(net.nodes()), net.imports().len() as u64);
+    match preflow.settle(fuel) {
+        Ok(()) => Ok(()),
+        Err(SettleFault::Unfinished) => unreachable!(),
+        Err(SettleFault::Memory) => Err(AllocError),
+    }
+}
+
+/// The imports that carry flow, each with its flow.
+fn flow_of(alloc: Global, imports: &[Priced], preflow: &Preflow) -> Result<Vec<Priced>, AllocError>
+    requires few { length imports.now ≤ 65536 }
+    requires imports { preflow.now.net.imports ≡ imports.now }
+    ensures { IfOk result (λ flow. flow.items ≡ carried imports.now (state_of preflow.now).flow) }
+{
+    preflow.keeps();
+    let mut flow = Vec::new(alloc);
+    for number in 0..imports.len() {
+        let amount = preflow.flow(number as u32);
+        if amount > 0 {
+            let import = imports[number];
+            flow.push(Priced { amount, ..import })?;
+        }
+    }
+    Ok(flow)
+}
+
+/// A cheapest cut between two modules, with a flow that proves it, by pushes and relabels (Goldberg and Tarjan, 1988).
+pub(crate) fn last_pass(alloc: Global, net: &Net, from: u32, to: u32) -> Result<Cut, AllocError>
+    requires { AreEnds net.now from to }
+    ensures answer { IfOk result (λ cut. IsAnswer net.now from to (said_by cut)) }
+    ensures cheapest { IfOk result (λ cut. IsCheapestSaid net.now from to (said_by cut)) }
+{
+    net.keeps();
+    let mut preflow = Preflow::start(alloc, net, from, to)?;
+    settle(net, &mut preflow, from, to)?;
+    preflow.keeps();
+    let near = preflow.side(alloc)?;
+    let flow = flow_of(alloc, net.imports(), &preflow)?;
+    cut_by(alloc, net, &near, flow, from, to)
+}
