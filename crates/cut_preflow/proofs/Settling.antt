@@ -6,6 +6,7 @@ use Rattle.cut_preflow.specs.declared.event.Outcome.{Outcome}
 use Rattle.cut_preflow.specs.declared.event.Outcome.TheVariants.{Moved, Raised, Stale, Refused}
 use Rattle.cut_preflow.specs.Played.{history_after}
 use Rattle.cut_preflow.specs.Settled.{are_by, Appends}
+use Rattle.cut_preflow.specs.Shares.{count_after}
 use Rattle.cut_preflow.proofs.Arcs.{left_true, right_true, both_true, eq_true}
 
 are_by-push : (worker : ℕ) (es : List Event) (e : Event) → are_by worker es ≡ true → e.worker ≡ worker → are_by worker (es ++ e ∷ []) ≡ true
@@ -31,3 +32,10 @@ history_after-applied history e (Moved amount) a b = refl
 history_after-applied history e (Raised label) a b = refl
 history_after-applied history e Stale a b = absurd (a refl)
 history_after-applied history e Refused a b = absurd (b refl)
+
+-- and is counted
+pub count_after-applied : (n : ℕ) (outcome : Outcome) → outcome ≢ Stale → outcome ≢ Refused → count_after n outcome ≡ n + 1
+count_after-applied n (Moved amount) a b = refl
+count_after-applied n (Raised label) a b = refl
+count_after-applied n Stale a b = absurd (a refl)
+count_after-applied n Refused a b = absurd (b refl)

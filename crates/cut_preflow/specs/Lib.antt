@@ -4,6 +4,7 @@ pub mod Relabels
 pub mod Kept
 pub mod Bound
 pub mod Played
+pub mod Shares
 pub mod Settled
 pub mod Side
 pub mod Flows

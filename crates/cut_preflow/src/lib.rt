@@ -1,18 +1,21 @@
 //! Preflows on a network: pushes and relabels one event at a time, with the events that were applied kept as a history.
 //! Stands on `cut_net`, with `thiserror` for its fault.
-//! Its contract: the state is the run of a legal history, whatever events came; once quiet, its flow and its side are those of cuts.
+//! Its contract: the state is the run of a legal history, whatever events came, and each step is counted in one share; once quiet, its flow and its side are those of cuts.
 #![tactic(auto)]
 
 mod ends;
 mod event;
 pub mod laws;
+mod plain;
 mod preflow;
+mod share;
 mod sides;
 mod sums;
 mod tries;
 
 pub use event::{Event, Outcome, SettleFault, Step};
 pub use preflow::Preflow;
+pub use share::{NetworkLedger, Share};
 
 #[cfg(test)]
 mod tests;

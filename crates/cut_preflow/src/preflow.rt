@@ -1,185 +1,249 @@
-//! A preflow with its history.
-ghost use Rattle.std.specs.Prelude.{◌≡◌, ◌≢◌, ◌+◌, ◌*◌, ◌/◌, ◌^◌, ◌<◌, ◌≤◌, ◌↔◌, ℕ, Bool, true, false, Some, None, IsTrue, IfOk, IfSome, IsNone, IsSome, OnOk, Err, length, slice_index, []};
-ghost use Rattle.cut_preflow.specs.Preflow.{count, import_at, flow_at, label_at, excess, inflow, outflow, is_active, applies, after, run, opening, is_legal};
-ghost use Rattle.cut_preflow.specs.Kept.{IsFlowNetwork, IsKept, IsQuiet};
+//! A preflow that workers share: each step is counted in a share of a ledger, whose book is the length of the history.
+ghost use Rattle.std.specs.Prelude.{◌≡◌, ◌≢◌, ◌+◌, ◌*◌, ◌<◌, ◌≤◌, ◌↔◌, ◌||◌, ℕ, true, false, IsTrue, IfOk, IfSome, IsNone, IsSome, OnOk, Err, length, []};
+ghost use Rattle.cut_preflow.specs.Preflow.{count, import_at, flow_at, label_at, excess, inflow, outflow, is_active, applies, after, opening, is_legal};
+ghost use Rattle.cut_preflow.specs.Kept.{IsQuiet};
 ghost use Rattle.cut_preflow.specs.Bound.{most_changes};
 ghost use Rattle.cut_preflow.specs.Flows.{AreEnds, AreNear, AreReached, HasFlow, network_between};
-ghost use Rattle.cut_preflow.specs.Side.{has};
+ghost use Rattle.cut_preflow.specs.Played.{state_of, outcome_of, history_after, IsSound};
 ghost use Rattle.cut_preflow.specs.Settled.{Appends, AppendsUpTo};
-ghost use Rattle.cut_preflow.specs.Played.{state_of, outcome_of, history_after, IsSound, IsWithinLimits, flow_network};
+ghost use Rattle.cut_preflow.specs.Shares.{count_after, mark_after};
+ghost use Rattle.cut_preflow.specs.Side.{has};
 
-use crate::ends::Ends;
-use crate::sides::reach;
-use crate::sums::excess;
-use crate::tries::{active_node, next_step, push_amount, raised_label};
-use crate::{Event, Outcome, SettleFault, Step};
-use cut_net::{Net, Priced};
+use crate::plain::PlainPreflow;
+use crate::{Event, NetworkLedger, Outcome, SettleFault, Share, Step};
+use cut_net::Net;
 use std::alloc::{AllocError, Global};
 use std::marker::Model;
+use std::sync::ledger;
+use std::sync::ledger::{Blank, Book};
 
-/// A preflow on a network between two of its modules (Goldberg and Tarjan 1988, section 3): a flow for each import and a label for each
-/// module, with the events that were applied. Contracts see the network and the events: flows and labels are what these lead to.
+/// How many shares may be out at a time. The preflow's own is one more.
+const MOST_SHARES: u32 = 64;
+
+/// A preflow on a network between two of its modules (Goldberg and Tarjan 1988, section 3), for the lock of many workers: a flow for
+/// each import and a label for each module, the events that were applied, and a ledger that counts them. Contracts see the network
+/// and the events: flows and labels are what these lead to. The type names the network.
 #[derive(Drop)]
-pub struct Preflow {
-    ends: Ends,
-    imports: Vec<Priced>,
-    flows: Vec<u64>,
-    labels: Vec<u32>,
-    history: Vec<Event>,
+pub struct Preflow<L: NetworkLedger> {
+    plain: PlainPreflow,
+    book: Book<L>,
+    own: ledger::Share<L>,
+    out: u32,
 }
 
-impl Model for Preflow {
-    ghost use Rattle.cut_preflow.specs.Played.{Played, flow_network, IsPlayed};
+impl<L: NetworkLedger> Model for Preflow<L> {
+    ghost use Rattle.std.specs.Prelude.{◌≡◌, ◌+◌, ◌≤◌, length};
+    ghost use Rattle.cut_preflow.specs.Shares.{Shared};
 
-    ghost Value = { Played };
+    ghost Value = { Shared };
 
-    ghost view = { λ p. record { net = flow_network p.ends p.imports.items; history = p.history.items } };
+    ghost view = { λ p. record { play = p.plain; booked = p.book.total; own = p.own.amount; out = p.out } };
 
-    ghost invariant = { λ p. IsPlayed (flow_network p.ends p.imports.items) p.flows.items p.labels.items p.history.items };
+    ghost invariant = { λ p. (p.book.total ≡ length p.plain.history) × (p.own.parts + p.out ≡ L.parts) × (L.parts ≡ 65) × (p.out ≤ 64) × (p.plain.net ≡ L.net) };
 }
 
-/// The opening on a network of nodes.
-fn opening(alloc: Global, ends: Ends, imports: Vec<Priced>) -> Result<Preflow, AllocError>
-    requires network { IsFlowNetwork (flow_network ends imports.items) }
-    requires limits { IsWithinLimits (flow_network ends imports.items) }
-    ensures { IfOk result (λ p. p ≡ record { net = flow_network ends imports.items; history = [] }) }
-{
-    let source = ends.source;
-    let flows = imports
-        .iter()
-        .map(|i| if i.from == source { i.amount } else { 0 })
-        .collect(alloc)?;
-    let mut labels = vec![in alloc; 0u32; ends.nodes as usize]?;
-    labels[source as usize] = ends.nodes;
-    Ok(Preflow {
-        ends,
-        imports,
-        flows,
-        labels,
-        history: Vec::new(alloc),
-    })
-}
-
-impl Preflow {
+impl<L: NetworkLedger> Preflow<L> {
     /// The opening between two different modules: the imports out of `from` carry their weight, and its label is the number of
-    /// modules. Fails where memory is refused.
-    pub fn start(alloc: Global, net: &Net, from: u32, to: u32) -> Result<Preflow, AllocError>
-        requires { AreEnds net.now from to }
-        ensures { IfOk result (λ p. p ≡ record { net = network_between net.now from to; history = [] }) }
+    /// modules. Its steps are counted in the ledger of the blank, of 65 parts. Fails where memory is refused.
+    pub fn start(
+        alloc: Global,
+        blank: Blank,
+        net: &Net,
+        from: u32,
+        to: u32,
+    ) -> Result<Preflow<L>, AllocError>
+        requires ends { AreEnds net.now from to }
+        requires net { network_between net.now from to ≡ L.net }
+        requires name { blank.name ≡ L.name }
+        requires parts { (blank.parts ≡ 65) × (L.parts ≡ 65) }
+        ensures { IfOk result (λ p. p ≡ record { play = record { net = network_between net.now from to; history = [] }; booked = 0; own = 0; out = 0 }) }
     {
-        net.keeps();
-        let imports = net.imports().to_vec(alloc)?;
-        let ends = Ends {
-            nodes: net.nodes(),
-            source: from,
-            sink: to,
-        };
-        opening(alloc, ends, imports)
+        let plain = PlainPreflow::start(alloc, net, from, to)?;
+        let (book, own) = blank.open::<L>();
+        Ok(Preflow {
+            plain,
+            book,
+            own,
+            out: 0,
+        })
+    }
+
+    /// An empty share, without a mark; none where 64 are out.
+    pub fn share(&mut self) -> Option<Share<L>>
+        ensures some { IsSome result ↔ (self.old.out < 64) }
+        ensures empty { IfSome result (λ s. (s ≡ record { count = 0; marked = false }) × (self.new ≡ record self.old { out = self.old.out + 1 })) }
+        ensures none { IsNone result → self.new ≡ self.old }
+    {
+        if self.out >= MOST_SHARES {
+            return None;
+        }
+        let part = self.own.split_off(1, 0);
+        self.out += 1;
+        Some(Share {
+            part,
+            count: 0,
+            marked: false,
+        })
     }
 
     /// Tries an event: a step that applies is taken, and the event joins the history. Answers what it moved or the new label, Stale where
-    /// the step doesn't apply, and Refused where memory for the history was refused; then nothing changed.
+    /// the step doesn't apply, and Refused where memory for the history was refused; then nothing changed. The step is counted in the
+    /// preflow's own share.
     pub fn apply(&mut self, event: Event) -> Outcome
-        ensures stale { (result ≡ Outcome.Stale) ↔ (applies self.old.net (state_of self.old) event.step ≡ false) }
-        ensures outcome { result ≢ Outcome.Refused → result ≡ outcome_of self.old.net (state_of self.old) event.step }
-        ensures history { self.new ≡ record self.old { history = history_after self.old.history event result } }
-        ensures state { result ≢ Outcome.Refused → state_of self.new ≡ after self.old.net (state_of self.old) event.step }
+        ensures stale { (result ≡ Outcome.Stale) ↔ (applies self.old.play.net (state_of self.old.play) event.step ≡ false) }
+        ensures outcome { result ≢ Outcome.Refused → result ≡ outcome_of self.old.play.net (state_of self.old.play) event.step }
+        ensures history { self.new.play ≡ record self.old.play { history = history_after self.old.play.history event result } }
+        ensures state { result ≢ Outcome.Refused → state_of self.new.play ≡ after self.old.play.net (state_of self.old.play) event.step }
+        ensures counted { self.new ≡ record self.old { play = self.new.play; booked = count_after self.old.booked result; own = count_after self.old.own result } }
     {
-        match event.step {
-            Step::Push { arc } => self.push(event, arc),
-            Step::Relabel { node } => self.relabel(event, node),
+        let outcome = self.plain.apply(event);
+        match outcome {
+            Outcome::Moved { .. } | Outcome::Raised { .. } => self.book.add(&mut self.own, 1),
+            Outcome::Stale | Outcome::Refused => {}
         }
+        outcome
+    }
+
+    /// As `apply`, with the step counted in this share. A refused step marks the share.
+    pub fn apply_as(&mut self, event: Event, share: &mut Share<L>) -> Outcome
+        ensures stale { (result ≡ Outcome.Stale) ↔ (applies self.old.play.net (state_of self.old.play) event.step ≡ false) }
+        ensures outcome { result ≢ Outcome.Refused → result ≡ outcome_of self.old.play.net (state_of self.old.play) event.step }
+        ensures history { self.new.play ≡ record self.old.play { history = history_after self.old.play.history event result } }
+        ensures state { result ≢ Outcome.Refused → state_of self.new.play ≡ after self.old.play.net (state_of self.old.play) event.step }
+        ensures counted { self.new ≡ record self.old { play = self.new.play; booked = count_after self.old.booked result } }
+        ensures share { share.new ≡ record { count = count_after share.old.count result; marked = mark_after share.old.marked result } }
+    {
+        let outcome = self.plain.apply(event);
+        match outcome {
+            Outcome::Moved { .. } | Outcome::Raised { .. } => {
+                self.book.add(&mut share.part, 1);
+                // The book has at least what the share has, and the history is no longer than its bound.
+                self.book.audit(&mut share.part);
+                let _ = self.plain.history();
+                share.count += 1;
+            }
+            Outcome::Stale => {}
+            Outcome::Refused => share.marked = true,
+        }
+        outcome
+    }
+
+    /// Whether the preflow is quiet. Where it is, the share is marked.
+    pub fn note_quiet(&self, share: &mut Share<L>) -> bool
+        ensures quiet { IsTrue result ↔ IsQuiet self.now.play.net (state_of self.now.play) }
+        ensures marked { share.new ≡ record share.old { marked = share.old.marked || result } }
+    {
+        let quiet = self.is_quiet();
+        if quiet {
+            share.marked = true;
+        }
+        quiet
+    }
+
+    /// Adds a share to the preflow's own, and answers how many are still out. With none out, the own share counts all steps of the history.
+    pub fn rejoin(&mut self, share: Share<L>) -> u32
+        ensures out { (result ≡ self.new.out) × (result + 1 ≡ self.old.out) }
+        ensures own { self.new.own ≡ self.old.own + share.count }
+        ensures play { self.new.play ≡ self.old.play }
+        ensures whole { result ≡ 0 → self.new.own ≡ length self.new.play.history }
+    {
+        let Share {
+            part,
+            count: _,
+            marked: _,
+        } = share;
+        self.own.merge(part);
+        self.book.audit(&mut self.own);
+        self.out -= 1;
+        self.out
     }
 }
 
-impl Preflow {
-    /// What every preflow keeps: each flow is within its import's weight, no module but the source sends out more than enters it, the
-    /// labelling is valid, and labels stay below twice the number of modules. And once quiet, the flow is a flow of the network.
+impl<L: NetworkLedger> Preflow<L> {
+    /// What every preflow keeps: its network is the one that its type names, and its book is the length of its history, which is legal. Each
+    /// flow is within its import's weight, no module but the source sends out more than enters it, the labelling is valid, and labels stay
+    /// below twice the number of modules. And once quiet, the flow is a flow of the network.
     pub fn keeps(&self)
-        ensures sound { IsSound self.now.net (state_of self.now) }
-        ensures flow { IsQuiet self.now.net (state_of self.now) → HasFlow self.now.net (state_of self.now) }
+        ensures net { self.now.play.net ≡ L.net }
+        ensures booked { self.now.booked ≡ length self.now.play.history }
+        ensures legal { is_legal self.now.play.net (opening self.now.play.net) self.now.play.history ≡ true }
+        ensures sound { IsSound self.now.play.net (state_of self.now.play) }
+        ensures flow { IsQuiet self.now.play.net (state_of self.now.play) → HasFlow self.now.play.net (state_of self.now.play) }
     {
-        // Using a field makes the facts of the type known here.
-        let _ = &self.flows;
+        let _ = self.plain.history();
+        self.plain.keeps();
     }
 
     /// The events that were applied, in order, each at a place where it applies. They are never more than the bound.
     pub fn history(&self) -> &[Event]
-        ensures events { result.now ≡ self.now.history }
-        ensures legal { is_legal self.now.net (opening self.now.net) self.now.history ≡ true }
-        ensures few { length self.now.history ≤ most_changes self.now.net }
+        ensures events { result.now ≡ self.now.play.history }
+        ensures legal { is_legal self.now.play.net (opening self.now.play.net) self.now.play.history ≡ true }
+        ensures few { length self.now.play.history ≤ most_changes self.now.play.net }
     {
-        self.history.as_slice()
+        self.plain.history()
     }
 
     /// The label of a node.
     pub fn label(&self, node: u32) -> u32
-        requires { node < self.now.net.nodes }
-        ensures value { result ≡ label_at (state_of self.now) node }
-        ensures low { result < 2 * self.now.net.nodes }
+        requires { node < self.now.play.net.nodes }
+        ensures value { result ≡ label_at (state_of self.now.play) node }
+        ensures low { result < 2 * self.now.play.net.nodes }
     {
-        self.labels[node as usize]
+        self.plain.label(node)
     }
 
     /// The flow on an import.
     pub fn flow(&self, import: u32) -> u64
-        requires { import < count self.now.net }
-        ensures value { result ≡ flow_at (state_of self.now) import }
-        ensures fits { result ≤ (import_at self.now.net import).amount }
+        requires { import < count self.now.play.net }
+        ensures value { result ≡ flow_at (state_of self.now.play) import }
+        ensures fits { result ≤ (import_at self.now.play.net import).amount }
     {
-        self.flows[import as usize]
+        self.plain.flow(import)
     }
 
     /// The excess of a node: what enters it less what leaves it. Of the source, 0 where more leaves it than enters it.
     pub fn excess(&self, node: u32) -> u64
-        requires { node < self.now.net.nodes }
-        ensures value { result ≡ excess self.now.net (state_of self.now) node }
-        ensures exact { node ≢ self.now.net.source → outflow self.now.net (state_of self.now) node + result ≡ inflow self.now.net (state_of self.now) node }
+        requires { node < self.now.play.net.nodes }
+        ensures value { result ≡ excess self.now.play.net (state_of self.now.play) node }
+        ensures exact { node ≢ self.now.play.net.source → outflow self.now.play.net (state_of self.now.play) node + result ≡ inflow self.now.play.net (state_of self.now.play) node }
     {
-        excess(self.imports.as_slice(), self.flows.as_slice(), node)
+        self.plain.excess(node)
     }
 
     /// A node with excess that is neither end, if there is one.
     pub fn active(&self) -> Option<u32>
-        ensures some { IfSome result (λ v. is_active self.now.net (state_of self.now) v ≡ true) }
-        ensures none { IsNone result ↔ IsQuiet self.now.net (state_of self.now) }
+        ensures some { IfSome result (λ v. is_active self.now.play.net (state_of self.now.play) v ≡ true) }
+        ensures none { IsNone result ↔ IsQuiet self.now.play.net (state_of self.now.play) }
     {
-        active_node(
-            self.ends,
-            self.imports.as_slice(),
-            self.flows.as_slice(),
-            self.labels.as_slice(),
-        )
+        self.plain.active()
     }
 
     /// Whether no node but the two ends has excess.
     pub fn is_quiet(&self) -> bool
-        ensures { IsTrue result ↔ IsQuiet self.now.net (state_of self.now) }
+        ensures { IsTrue result ↔ IsQuiet self.now.play.net (state_of self.now.play) }
     {
         self.active().is_none()
     }
 
     /// A step that applies, unless the preflow is quiet.
     pub fn next_step(&self) -> Option<Step>
-        ensures some { IfSome result (λ step. applies self.now.net (state_of self.now) step ≡ true) }
-        ensures none { IsNone result ↔ IsQuiet self.now.net (state_of self.now) }
-        ensures few { IsSome result → length self.now.history < most_changes self.now.net }
+        ensures some { IfSome result (λ step. applies self.now.play.net (state_of self.now.play) step ≡ true) }
+        ensures none { IsNone result ↔ IsQuiet self.now.play.net (state_of self.now.play) }
+        ensures few { IsSome result → length self.now.play.history < most_changes self.now.play.net }
     {
-        next_step(
-            self.ends,
-            self.imports.as_slice(),
-            self.flows.as_slice(),
-            self.labels.as_slice(),
-        )
+        self.plain.next_step()
     }
 
-    /// Applies at most `fuel` steps as worker 0, until the preflow is quiet. The steps that were applied stay.
+    /// Applies at most `fuel` steps as worker 0, until the preflow is quiet. The steps that were applied stay, and are counted in the
+    /// preflow's own share.
     pub fn settle(&mut self, fuel: u64) -> Result<(), SettleFault>
-        ensures net { self.new.net ≡ self.old.net }
-        ensures appended { AppendsUpTo 0 fuel self.old.history self.new.history }
-        ensures ok { OnOk result (IsQuiet self.new.net (state_of self.new)) }
-        ensures enough { most_changes self.old.net ≤ fuel → result ≢ Err SettleFault.Unfinished }
-        ensures unfinished { result ≡ Err SettleFault.Unfinished → (IsQuiet self.new.net (state_of self.new) → ⊥) × Appends 0 fuel self.old.history self.new.history }
+        ensures net { self.new.play.net ≡ self.old.play.net }
+        ensures appended { AppendsUpTo 0 fuel self.old.play.history self.new.play.history }
+        ensures own { self.new.own + length self.old.play.history ≡ self.old.own + length self.new.play.history }
+        ensures out { self.new.out ≡ self.old.out }
+        ensures ok { OnOk result (IsQuiet self.new.play.net (state_of self.new.play)) }
+        ensures enough { most_changes self.old.play.net ≤ fuel → result ≢ Err SettleFault.Unfinished }
+        ensures unfinished { result ≡ Err SettleFault.Unfinished → (IsQuiet self.new.play.net (state_of self.new.play) → ⊥) × Appends 0 fuel self.old.play.history self.new.play.history }
     {
         for _i in 0..fuel {
             let Some(step) = self.next_step() else {
@@ -198,69 +262,11 @@ impl Preflow {
 
     /// Marks what the source reaches by arcs with residual above 0. Once quiet, these are the near modules, and the sink is none of them.
     pub fn side(&self, alloc: Global) -> Result<Vec<bool>, AllocError>
-        ensures size { IfOk result (λ m. length m.items ≡ self.now.net.nodes) }
-        ensures reached { IfOk result (λ m. AreReached self.now.net (state_of self.now) m.items) }
-        ensures near { IsQuiet self.now.net (state_of self.now) → IfOk result (λ m. AreNear self.now.net m.items) }
-        ensures end { IsQuiet self.now.net (state_of self.now) → IfOk result (λ m. has m.items self.now.net.sink ≡ false) }
+        ensures size { IfOk result (λ m. length m.items ≡ self.now.play.net.nodes) }
+        ensures reached { IfOk result (λ m. AreReached self.now.play.net (state_of self.now.play) m.items) }
+        ensures near { IsQuiet self.now.play.net (state_of self.now.play) → IfOk result (λ m. AreNear self.now.play.net m.items) }
+        ensures end { IsQuiet self.now.play.net (state_of self.now.play) → IfOk result (λ m. has m.items self.now.play.net.sink ≡ false) }
     {
-        reach(
-            alloc,
-            self.ends.nodes,
-            self.ends.source,
-            self.imports.as_slice(),
-            self.flows.as_slice(),
-        )
-    }
-
-    fn push(&mut self, event: Event, arc: u32) -> Outcome
-        requires { event.step ≡ Step.Push arc }
-        ensures outcome { result ≢ Outcome.Refused → result ≡ outcome_of self.old.net (state_of self.old) event.step }
-        ensures refused { result ≡ Outcome.Refused → applies self.old.net (state_of self.old) event.step ≡ true }
-        ensures history { self.new ≡ record self.old { history = history_after self.old.history event result } }
-    {
-        let Some(amount) = push_amount(
-            self.ends,
-            self.imports.as_slice(),
-            self.flows.as_slice(),
-            self.labels.as_slice(),
-            arc,
-        ) else {
-            return Outcome::Stale;
-        };
-        let Ok(()) = self.history.push(event) else {
-            return Outcome::Refused;
-        };
-        let i = (arc / 2) as usize;
-        let flow = self.flows[i];
-        let next = if arc % 2 == 0 {
-            flow + amount
-        } else {
-            flow - amount
-        };
-        self.flows[i] = next;
-        Outcome::Moved { amount }
-    }
-
-    fn relabel(&mut self, event: Event, node: u32) -> Outcome
-        requires { event.step ≡ Step.Relabel node }
-        ensures outcome { result ≢ Outcome.Refused → result ≡ outcome_of self.old.net (state_of self.old) event.step }
-        ensures refused { result ≡ Outcome.Refused → applies self.old.net (state_of self.old) event.step ≡ true }
-        ensures history { self.new ≡ record self.old { history = history_after self.old.history event result } }
-    {
-        let Some(label) = raised_label(
-            self.ends,
-            self.imports.as_slice(),
-            self.flows.as_slice(),
-            self.labels.as_slice(),
-            node,
-        ) else {
-            return Outcome::Stale;
-        };
-        let Ok(()) = self.history.push(event) else {
-            return Outcome::Refused;
-        };
-        let at = node as usize;
-        self.labels[at] = label;
-        Outcome::Raised { label }
+        self.plain.side(alloc)
     }
 }

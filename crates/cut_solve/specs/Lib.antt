@@ -3,3 +3,4 @@ pub mod GreatestFlow
 pub mod Lines
 pub mod Settling
 pub mod Solving
+pub mod Turns

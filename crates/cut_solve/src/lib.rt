@@ -1,6 +1,6 @@
-//! Cheapest cuts: the imports to be removed, and a flow that proves that none is cheaper.
-//! Stands on `cut_net` and `cut_residual`, with `thiserror` for its faults.
-//! Its contract: an answer is the printed imports by their definition, their weight and a flow of that value, so no cut weighs less.
+//! Cheapest cuts: the imports to be removed, and a flow that proves that none is cheaper, by one thread or by many.
+//! Stands on `cut_net`, `cut_preflow` and `cut_residual`, with `thiserror` for its faults.
+//! Its contract: an answer is the printed imports by their definition, their weight and a flow of that value, so no cut weighs less, whatever turns the workers took.
 #![tactic(auto)]
 
 mod arcs;
@@ -9,13 +9,22 @@ mod cutting;
 mod fault;
 mod greatest;
 pub mod laws;
+mod names;
 mod order;
 mod printing;
 mod settling;
 mod solver;
+mod solving;
+mod turn;
+pub mod workers;
 
 pub use fault::SolveFault;
 pub use solver::plain;
+pub use solving::solve;
+pub use turn::{Gate, Locked, Look};
+pub use workers::worker;
 
+#[cfg(test)]
+mod gate_tests;
 #[cfg(test)]
 mod tests;

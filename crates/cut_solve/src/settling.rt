@@ -10,7 +10,7 @@ ghost use Rattle.cut_solve.specs.Solving.{said_by};
 
 use crate::cutting::cut_by;
 use cut_net::{Cut, Net, Priced};
-use cut_preflow::{Preflow, SettleFault};
+use cut_preflow::{NetworkLedger, Preflow, SettleFault};
 use std::alloc::{AllocError, Global};
 
 /// As many steps as can be applied between two modules of a network: 4n²m + 2nm + 4n² for n modules and m imports.
@@ -23,10 +23,15 @@ fn fuel_of(nodes: u64, imports: u64) -> u64
 }
 
 /// Applies steps until the preflow is quiet. Fails where memory is refused.
-fn settle(net: &Net, preflow: &mut Preflow, from: u32, to: u32) -> Result<(), AllocError>
-    requires { preflow.old.net ≡ network_between net.now from to }
-    ensures net { preflow.new.net ≡ preflow.old.net }
-    ensures quiet { OnOk result (IsQuiet preflow.new.net (state_of preflow.new)) }
+fn settle<L: NetworkLedger>(
+    net: &Net,
+    preflow: &mut Preflow<L>,
+    from: u32,
+    to: u32,
+) -> Result<(), AllocError>
+    requires { preflow.old.play.net ≡ network_between net.now from to }
+    ensures net { preflow.new.play.net ≡ preflow.old.play.net }
+    ensures quiet { OnOk result (IsQuiet preflow.new.play.net (state_of preflow.new.play)) }
 {
     net.keeps();
     let fuel = fuel_of(u64::from(net.nodes()), net.imports().len() as u64);
@@ -38,10 +43,14 @@ fn settle(net: &Net, preflow: &mut Preflow, from: u32, to: u32) -> Result<(), Al
 }
 
 /// The imports that carry flow, each with its flow.
-fn flow_of(alloc: Global, imports: &[Priced], preflow: &Preflow) -> Result<Vec<Priced>, AllocError>
+fn flow_of<L: NetworkLedger>(
+    alloc: Global,
+    imports: &[Priced],
+    preflow: &Preflow<L>,
+) -> Result<Vec<Priced>, AllocError>
     requires few { length imports.now ≤ 65536 }
-    requires imports { preflow.now.net.imports ≡ imports.now }
-    ensures { IfOk result (λ flow. flow.items ≡ carried imports.now (state_of preflow.now).flow) }
+    requires imports { preflow.now.play.net.imports ≡ imports.now }
+    ensures { IfOk result (λ flow. flow.items ≡ carried imports.now (state_of preflow.now.play).flow) }
 {
     preflow.keeps();
     let mut flow = Vec::new(alloc);
@@ -55,14 +64,21 @@ fn flow_of(alloc: Global, imports: &[Priced], preflow: &Preflow) -> Result<Vec<P
     Ok(flow)
 }
 
-/// A cheapest cut between two modules, with a flow that proves it, by pushes and relabels (Goldberg and Tarjan, 1988).
-pub(crate) fn last_pass(alloc: Global, net: &Net, from: u32, to: u32) -> Result<Cut, AllocError>
-    requires { AreEnds net.now from to }
+/// The cheapest cut that a preflow between two modules comes to, with a flow that proves it: what is left to do is done first, by pushes
+/// and relabels of one worker (Goldberg and Tarjan, 1988).
+pub(crate) fn last_pass<L: NetworkLedger>(
+    alloc: Global,
+    net: &Net,
+    mut preflow: Preflow<L>,
+    from: u32,
+    to: u32,
+) -> Result<Cut, AllocError>
+    requires ends { AreEnds net.now from to }
+    requires between { preflow.play.net ≡ network_between net.now from to }
     ensures answer { IfOk result (λ cut. IsAnswer net.now from to (said_by cut)) }
     ensures cheapest { IfOk result (λ cut. IsCheapestSaid net.now from to (said_by cut)) }
 {
     net.keeps();
-    let mut preflow = Preflow::start(alloc, net, from, to)?;
     settle(net, &mut preflow, from, to)?;
     preflow.keeps();
     let near = preflow.side(alloc)?;

@@ -1,12 +1,13 @@
 //! The plain solver: augmenting paths in phases, as Dinic (1970) has them, in one thread.
 ghost use Rattle.std.specs.Prelude.{◌≡◌, ◌≢◌, ◌<◌, IfOk, IfSome, length};
 ghost use Rattle.cut_net.specs.Lines.{IsAnswer, IsCheapestSaid};
-ghost use Rattle.cut_solve.specs.Solving.{outcome_of, said_by, IsModuleOr, IsRefusal, IsSolveOutcome, SolveOutcome};
+ghost use Rattle.cut_solve.specs.Solving.{outcome_of, said_by, IsRefusal, IsSolveOutcome, SolveOutcome};
 
 use crate::SolveFault;
 use crate::arcs::{arcs_of, flow_of};
 use crate::cutting::cut_by;
 use crate::greatest::greatest_flow;
+use crate::names::module_of;
 use cut_net::{Cut, Net};
 use cut_residual::ResidualGraph;
 use std::alloc::{AllocError, Global};
@@ -27,18 +28,6 @@ fn solve(alloc: Global, net: &Net, from: u32, to: u32) -> Result<Cut, AllocError
     graph.keeps();
     let flow = flow_of(alloc, graph.arcs())?;
     cut_by(alloc, net, &near.seen, flow, from, to)
-}
-
-/// The number of the module of this name.
-fn module_of(alloc: Global, net: &Net, name: &str) -> Result<u32, SolveFault>
-    ensures { IsModuleOr net.now name.now result }
-{
-    match net.index_of(name) {
-        Some(module) => Ok(module),
-        None => Err(SolveFault::NoSuchModule {
-            name: String::from_str(alloc, name)?,
-        }),
-    }
 }
 
 /// A cheapest cut between the modules of two names: the printed imports with their weights, the sum of these in qualified

@@ -1,10 +1,13 @@
 //! Worked networks, each with its cut, and names that are refused.
-use crate::settling::last_pass;
-use crate::{SolveFault, plain};
+ghost use Rattle.std.specs.Prelude.{◌≡◌, ◌≤◌};
+
+use crate::{Gate, SolveFault, plain, solve};
 use cut_net::{Cut, Net, Priced};
 use std::alloc::Global;
 use std::process::Abort;
+use std::sync::Wait;
 use std::test::Fail;
+use std::thread::Threads;
 
 fn line((from, to, amount): (u32, u32, u64)) -> Priced {
     Priced { from, to, amount }
@@ -18,28 +21,32 @@ fn lines(alloc: Global, ends: &[(u32, u32, u64)]) -> Result<Vec<Priced>, Fail> {
     Ok(lines)
 }
 
-/// Checks that the last pass tells the same imports and weight.
-fn settles(
-    rt: &(impl Abort + AllocGlobal),
+/// A gate that lets all pass.
+#[derive(Drop)]
+struct Open;
+
+impl Gate for Open {
+    fn at(&self, _worker: u32, _turn: u64) {}
+}
+
+/// Checks that workers tell the same imports and weight, however many they are, with a flow that is in order.
+fn settles<R: Abort + AllocGlobal + Threads + Wait + Sync>(
+    rt: &R,
     net: &Net,
     (from, to): (&str, &str),
     cut: &Cut,
 ) -> Result<(), Fail> {
-    let (Some(from), Some(to)) = (net.index_of(from), net.index_of(to)) else {
-        return Err(Fail::from("two modules"));
-    };
-    if from == to || from >= net.nodes() || to >= net.nodes() {
-        return Err(Fail::from("two modules"));
+    for workers in [1u32, 2, 8, 64] {
+        let settled = solve(rt, rt.alloc(), net, from, to, workers, &Open)?;
+        assert_eq!(rt; settled.imports, cut.imports);
+        assert_eq!(rt; settled.weight, cut.weight);
     }
-    let settled = last_pass(rt.alloc(), net, from, to)?;
-    assert_eq!(rt; settled.imports, cut.imports);
-    assert_eq!(rt; settled.weight, cut.weight);
     Ok(())
 }
 
-/// Checks that this is the cut between the two modules, and that the last pass tells the same.
-fn cuts(
-    rt: &(impl Abort + AllocGlobal),
+/// Checks that this is the cut between the two modules, and that many workers tell the same.
+fn cuts<R: Abort + AllocGlobal + Threads + Wait + Sync>(
+    rt: &R,
     net: &[u8],
     (from, to): (&str, &str),
     imports: &[(u32, u32, u64)],
@@ -162,17 +169,19 @@ fn a_total_weight_of_64_bits_is_cut(rt: HostRuntime) -> Result<(), Fail> {
 }
 
 /// Checks that the names are refused with this fault.
-fn refuses(
-    rt: &(impl Abort + AllocGlobal),
+fn refuses<R: Abort + AllocGlobal + Threads + Wait + Sync>(
+    rt: &R,
     from: &str,
     to: &str,
     fault: &SolveFault,
 ) -> Result<(), Fail> {
     let net = Net::read(rt.alloc(), b"import A M 2\nimport M B 2\n")?;
-    match plain(rt.alloc(), &net, from, to) {
-        Ok(_) => assert!(rt; false, "a cut between {from} and {to}"),
-        Err(found) => assert_eq!(rt; &found, fault),
-    }
+    assert_eq!(rt;
+        plain(rt.alloc(), &net, from, to).err().as_ref(),
+        Some(fault)
+    );
+    let solved = solve(rt, rt.alloc(), &net, from, to, 8, &Open);
+    assert_eq!(rt; solved.err().as_ref(), Some(fault));
     Ok(())
 }
 

@@ -46,7 +46,7 @@ each_more {X} {Y} P xs ys x y long each last i u v at_u at_v = go (at_end xs x u
     go (inr p) (inl q) = let within = slice_get_within ys i v q in let same = p.0 in absurd (omega arith)
     go (inr p) (inr q) = subst (λ (w : X). P w v) p.1 (subst (λ (w : Y). P x w) q.1 last)
 
-same_maps : {X Y Z : Type 0} (f : X → Z) (g : Y → Z) (xs : List X) (ys : List Y) → length xs ≡ length ys → Each (λ x y. f x ≡ g y) xs ys → map f xs ≡ map g ys
+pub same_maps : {X Y Z : Type 0} (f : X → Z) (g : Y → Z) (xs : List X) (ys : List Y) → length xs ≡ length ys → Each (λ x y. f x ≡ g y) xs ys → map f xs ≡ map g ys
 same_maps f g [] [] e h = refl
 same_maps f g [] (y ∷ ys) e h = absurd (omega arith)
 same_maps f g (x ∷ xs) [] e h = absurd (omega arith)

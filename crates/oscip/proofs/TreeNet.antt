@@ -55,13 +55,13 @@ OneWeight = (name : ℕ → List ℕ) (l : Listing) (imported : List ℕ) (n m :
 
 -- ---- members by their places
 
-member_at : {X : Type 0} (xs : List X) (i : ℕ) (x : X) → slice_get xs i ≡ Some x → Contains xs x
+pub member_at : {X : Type 0} (xs : List X) (i : ℕ) (x : X) → slice_get xs i ≡ Some x → Contains xs x
 member_at xs i x e = (i, slice_get_within xs i x e, get_or_from_slice_get xs i x x e)
 
-place_of : {X : Type 0} (xs : List X) (x : X) → Contains xs x → (i : ℕ) × (slice_get xs i ≡ Some x)
+pub place_of : {X : Type 0} (xs : List X) (x : X) → Contains xs x → (i : ℕ) × (slice_get xs i ≡ Some x)
 place_of xs x h = (h.0, slice_get-get_or xs h.0 x h.1 ∙ ap Some h.2)
 
-at_left : {X : Type 0} (xs ys : List X) (i : ℕ) (x : X) → slice_get xs i ≡ Some x → slice_get (xs ++ ys) i ≡ Some x
+pub at_left : {X : Type 0} (xs ys : List X) (i : ℕ) (x : X) → slice_get xs i ≡ Some x → slice_get (xs ++ ys) i ≡ Some x
 at_left [] ys i x e = absurd cc
 at_left (z ∷ xs) ys zero x e = e
 at_left (z ∷ xs) ys (suc i) x e = at_left xs ys i x e
@@ -71,7 +71,7 @@ at_map f [] i x e = absurd cc
 at_map {X} f (z ∷ xs) zero x e = let same : z ≡ x = cc in ap (λ (w : X). Some (f w)) same
 at_map f (z ∷ xs) (suc i) x e = at_map f xs i x e
 
-same_at : {X : Type 0} (xs : List X) (i : ℕ) (x y : X) → slice_get xs i ≡ Some x → slice_get xs i ≡ Some y → x ≡ y
+pub same_at : {X : Type 0} (xs : List X) (i : ℕ) (x y : X) → slice_get xs i ≡ Some x → slice_get xs i ≡ Some y → x ≡ y
 same_at xs i x y p q = let s : Some x ≡ Some y = sym p ∙ q in cc
 
 -- files whose modules differ in name are told by the name

@@ -11,6 +11,7 @@ mod engine;
 mod fault;
 mod folder;
 mod job;
+pub mod laws;
 mod module_file;
 mod reading;
 mod source;

@@ -7,9 +7,9 @@ use Rattle.cut_solve.proofs.settling.flow_of.Goals as goal
 use Rattle.cut_solve.proofs.settling.flow_of.Goals.{then-amount-gt0+in_ok-push, else-amount-gt0}
 
 pub loop-number-preserved : goal.loop-number-preserved
-loop-number-preserved c =
+loop-number-preserved g c =
     let imports = c.args.imports.now in
-    let flow = (state_of c.args.preflow.now).flow in
+    let flow = (state_of c.args.preflow.now.play).flow in
     let same : length flow ≡ length imports = c.keeps.ensures.sound.kept.flows ∙ ap length c.requires.imports in
     elim c.if-amount-gt0.branch [
       | then-amount-gt0+in_ok-push w ↦
@@ -22,8 +22,8 @@ loop-number-preserved c =
     ]
 
 pub returns : goal.returns
-returns c =
+returns g c =
     let imports = c.args.imports.now in
-    let flow = (state_of c.args.preflow.now).flow in
+    let flow = (state_of c.args.preflow.now.play).flow in
     let same : length flow ≡ length imports = c.keeps.ensures.sound.kept.flows ∙ ap length c.requires.imports in
     c.loop-number.invariant ∙ all_lines imports flow c.loop-number.number same (omega (arith, c.loop-number-test.false))

@@ -6,4 +6,4 @@ use Rattle.cut_solve.specs.Lines.{has_flow}
 use Rattle.cut_solve.proofs.settling.flow_of.Given as goal
 
 abbrev pub invariant-loop-number : goal.invariant-loop-number
-invariant-loop-number l = l.flow.items ≡ filter has_flow (take l.number (flow_lines l.imports (state_of l.preflow).flow))
+invariant-loop-number g l = l.flow.items ≡ filter has_flow (take l.number (flow_lines l.imports (state_of l.preflow.play).flow))

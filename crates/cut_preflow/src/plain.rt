@@ -1,0 +1,240 @@
+//! A preflow with its history, before its steps are counted.
+ghost use Rattle.std.specs.Prelude.{◌≡◌, ◌≢◌, ◌+◌, ◌*◌, ◌/◌, ◌^◌, ◌<◌, ◌≤◌, ◌↔◌, ℕ, Bool, true, false, Some, None, IsTrue, IfOk, IfSome, IsNone, IsSome, OnOk, Err, length, slice_index, []};
+ghost use Rattle.cut_preflow.specs.Preflow.{count, import_at, flow_at, label_at, excess, inflow, outflow, is_active, applies, after, run, opening, is_legal};
+ghost use Rattle.cut_preflow.specs.Kept.{IsFlowNetwork, IsKept, IsQuiet};
+ghost use Rattle.cut_preflow.specs.Bound.{most_changes};
+ghost use Rattle.cut_preflow.specs.Flows.{AreEnds, AreNear, AreReached, HasFlow, network_between};
+ghost use Rattle.cut_preflow.specs.Side.{has};
+ghost use Rattle.cut_preflow.specs.Played.{state_of, outcome_of, history_after, IsSound, IsWithinLimits, flow_network};
+
+use crate::ends::Ends;
+use crate::sides::reach;
+use crate::sums::excess;
+use crate::tries::{active_node, next_step, push_amount, raised_label};
+use crate::{Event, Outcome, Step};
+use cut_net::{Net, Priced};
+use std::alloc::{AllocError, Global};
+use std::marker::Model;
+
+/// A preflow on a network between two of its modules (Goldberg and Tarjan 1988, section 3): a flow for each import and a label for each
+/// module, with the events that were applied. Contracts see the network and the events: flows and labels are what these lead to.
+#[derive(Drop)]
+pub(crate) struct PlainPreflow {
+    ends: Ends,
+    imports: Vec<Priced>,
+    flows: Vec<u64>,
+    labels: Vec<u32>,
+    history: Vec<Event>,
+}
+
+impl Model for PlainPreflow {
+    ghost use Rattle.cut_preflow.specs.Played.{Played, flow_network, IsPlayed};
+
+    ghost Value = { Played };
+
+    ghost view = { λ p. record { net = flow_network p.ends p.imports.items; history = p.history.items } };
+
+    ghost invariant = { λ p. IsPlayed (flow_network p.ends p.imports.items) p.flows.items p.labels.items p.history.items };
+}
+
+/// The opening on a network of nodes.
+fn opening(alloc: Global, ends: Ends, imports: Vec<Priced>) -> Result<PlainPreflow, AllocError>
+    requires network { IsFlowNetwork (flow_network ends imports.items) }
+    requires limits { IsWithinLimits (flow_network ends imports.items) }
+    ensures { IfOk result (λ p. p ≡ record { net = flow_network ends imports.items; history = [] }) }
+{
+    let source = ends.source;
+    let flows = imports
+        .iter()
+        .map(|i| if i.from == source { i.amount } else { 0 })
+        .collect(alloc)?;
+    let mut labels = vec![in alloc; 0u32; ends.nodes as usize]?;
+    labels[source as usize] = ends.nodes;
+    Ok(PlainPreflow {
+        ends,
+        imports,
+        flows,
+        labels,
+        history: Vec::new(alloc),
+    })
+}
+
+impl PlainPreflow {
+    /// The opening between two different modules: the imports out of `from` carry their weight, and its label is the number of
+    /// modules. Fails where memory is refused.
+    pub(crate) fn start(
+        alloc: Global,
+        net: &Net,
+        from: u32,
+        to: u32,
+    ) -> Result<PlainPreflow, AllocError>
+        requires { AreEnds net.now from to }
+        ensures { IfOk result (λ p. p ≡ record { net = network_between net.now from to; history = [] }) }
+    {
+        net.keeps();
+        let imports = net.imports().to_vec(alloc)?;
+        let ends = Ends {
+            nodes: net.nodes(),
+            source: from,
+            sink: to,
+        };
+        opening(alloc, ends, imports)
+    }
+
+    /// Tries an event: a step that applies is taken, and the event joins the history. Answers what it moved or the new label, Stale where
+    /// the step doesn't apply, and Refused where memory for the history was refused; then nothing changed.
+    pub(crate) fn apply(&mut self, event: Event) -> Outcome
+        ensures stale { (result ≡ Outcome.Stale) ↔ (applies self.old.net (state_of self.old) event.step ≡ false) }
+        ensures outcome { result ≢ Outcome.Refused → result ≡ outcome_of self.old.net (state_of self.old) event.step }
+        ensures history { self.new ≡ record self.old { history = history_after self.old.history event result } }
+        ensures state { result ≢ Outcome.Refused → state_of self.new ≡ after self.old.net (state_of self.old) event.step }
+    {
+        match event.step {
+            Step::Push { arc } => self.push(event, arc),
+            Step::Relabel { node } => self.relabel(event, node),
+        }
+    }
+}
+
+impl PlainPreflow {
+    /// What every preflow keeps: each flow is within its import's weight, no module but the source sends out more than enters it, the
+    /// labelling is valid, and labels stay below twice the number of modules. And once quiet, the flow is a flow of the network.
+    pub(crate) fn keeps(&self)
+        ensures sound { IsSound self.now.net (state_of self.now) }
+        ensures flow { IsQuiet self.now.net (state_of self.now) → HasFlow self.now.net (state_of self.now) }
+    {
+        // Using a field makes the facts of the type known here.
+        let _ = &self.flows;
+    }
+
+    /// The events that were applied, in order, each at a place where it applies. They are never more than the bound.
+    pub(crate) fn history(&self) -> &[Event]
+        ensures events { result.now ≡ self.now.history }
+        ensures legal { is_legal self.now.net (opening self.now.net) self.now.history ≡ true }
+        ensures few { length self.now.history ≤ most_changes self.now.net }
+    {
+        self.history.as_slice()
+    }
+
+    /// The label of a node.
+    pub(crate) fn label(&self, node: u32) -> u32
+        requires { node < self.now.net.nodes }
+        ensures value { result ≡ label_at (state_of self.now) node }
+        ensures low { result < 2 * self.now.net.nodes }
+    {
+        self.labels[node as usize]
+    }
+
+    /// The flow on an import.
+    pub(crate) fn flow(&self, import: u32) -> u64
+        requires { import < count self.now.net }
+        ensures value { result ≡ flow_at (state_of self.now) import }
+        ensures fits { result ≤ (import_at self.now.net import).amount }
+    {
+        self.flows[import as usize]
+    }
+
+    /// The excess of a node: what enters it less what leaves it. Of the source, 0 where more leaves it than enters it.
+    pub(crate) fn excess(&self, node: u32) -> u64
+        requires { node < self.now.net.nodes }
+        ensures value { result ≡ excess self.now.net (state_of self.now) node }
+        ensures exact { node ≢ self.now.net.source → outflow self.now.net (state_of self.now) node + result ≡ inflow self.now.net (state_of self.now) node }
+    {
+        excess(self.imports.as_slice(), self.flows.as_slice(), node)
+    }
+
+    /// A node with excess that is neither end, if there is one.
+    pub(crate) fn active(&self) -> Option<u32>
+        ensures some { IfSome result (λ v. is_active self.now.net (state_of self.now) v ≡ true) }
+        ensures none { IsNone result ↔ IsQuiet self.now.net (state_of self.now) }
+    {
+        active_node(
+            self.ends,
+            self.imports.as_slice(),
+            self.flows.as_slice(),
+            self.labels.as_slice(),
+        )
+    }
+
+    /// A step that applies, unless the preflow is quiet.
+    pub(crate) fn next_step(&self) -> Option<Step>
+        ensures some { IfSome result (λ step. applies self.now.net (state_of self.now) step ≡ true) }
+        ensures none { IsNone result ↔ IsQuiet self.now.net (state_of self.now) }
+        ensures few { IsSome result → length self.now.history < most_changes self.now.net }
+    {
+        next_step(
+            self.ends,
+            self.imports.as_slice(),
+            self.flows.as_slice(),
+            self.labels.as_slice(),
+        )
+    }
+
+    /// Marks what the source reaches by arcs with residual above 0. Once quiet, these are the near modules, and the sink is none of them.
+    pub(crate) fn side(&self, alloc: Global) -> Result<Vec<bool>, AllocError>
+        ensures size { IfOk result (λ m. length m.items ≡ self.now.net.nodes) }
+        ensures reached { IfOk result (λ m. AreReached self.now.net (state_of self.now) m.items) }
+        ensures near { IsQuiet self.now.net (state_of self.now) → IfOk result (λ m. AreNear self.now.net m.items) }
+        ensures end { IsQuiet self.now.net (state_of self.now) → IfOk result (λ m. has m.items self.now.net.sink ≡ false) }
+    {
+        reach(
+            alloc,
+            self.ends.nodes,
+            self.ends.source,
+            self.imports.as_slice(),
+            self.flows.as_slice(),
+        )
+    }
+
+    fn push(&mut self, event: Event, arc: u32) -> Outcome
+        requires { event.step ≡ Step.Push arc }
+        ensures outcome { result ≢ Outcome.Refused → result ≡ outcome_of self.old.net (state_of self.old) event.step }
+        ensures refused { result ≡ Outcome.Refused → applies self.old.net (state_of self.old) event.step ≡ true }
+        ensures history { self.new ≡ record self.old { history = history_after self.old.history event result } }
+    {
+        let Some(amount) = push_amount(
+            self.ends,
+            self.imports.as_slice(),
+            self.flows.as_slice(),
+            self.labels.as_slice(),
+            arc,
+        ) else {
+            return Outcome::Stale;
+        };
+        let Ok(()) = self.history.push(event) else {
+            return Outcome::Refused;
+        };
+        let i = (arc / 2) as usize;
+        let flow = self.flows[i];
+        let next = if arc % 2 == 0 {
+            flow + amount
+        } else {
+            flow - amount
+        };
+        self.flows[i] = next;
+        Outcome::Moved { amount }
+    }
+
+    fn relabel(&mut self, event: Event, node: u32) -> Outcome
+        requires { event.step ≡ Step.Relabel node }
+        ensures outcome { result ≢ Outcome.Refused → result ≡ outcome_of self.old.net (state_of self.old) event.step }
+        ensures refused { result ≡ Outcome.Refused → applies self.old.net (state_of self.old) event.step ≡ true }
+        ensures history { self.new ≡ record self.old { history = history_after self.old.history event result } }
+    {
+        let Some(label) = raised_label(
+            self.ends,
+            self.imports.as_slice(),
+            self.flows.as_slice(),
+            self.labels.as_slice(),
+            node,
+        ) else {
+            return Outcome::Stale;
+        };
+        let Ok(()) = self.history.push(event) else {
+            return Outcome::Refused;
+        };
+        let at = node as usize;
+        self.labels[at] = label;
+        Outcome::Raised { label }
+    }
+}

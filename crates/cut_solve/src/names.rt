@@ -1,0 +1,18 @@
+//! The modules of two names.
+ghost use Rattle.cut_solve.specs.Solving.{IsModuleOr};
+
+use crate::SolveFault;
+use cut_net::Net;
+use std::alloc::Global;
+
+/// The number of the module of this name.
+pub(crate) fn module_of(alloc: Global, net: &Net, name: &str) -> Result<u32, SolveFault>
+    ensures { IsModuleOr net.now name.now result }
+{
+    match net.index_of(name) {
+        Some(module) => Ok(module),
+        None => Err(SolveFault::NoSuchModule {
+            name: String::from_str(alloc, name)?,
+        }),
+    }
+}

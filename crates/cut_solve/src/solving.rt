@@ -1,0 +1,130 @@
+//! The solver by many workers: pushes and relabels on one locked preflow, and a last pass for what they left.
+ghost use Rattle.std.specs.Prelude.{◌≡◌, ◌≢◌, ◌≤◌, IfOk, IfSome};
+ghost use Rattle.cut_net.specs.Lines.{IsAnswer, IsCheapestSaid};
+ghost use Rattle.cut_preflow.specs.Flows.{AreEnds, network_between};
+ghost use Rattle.cut_solve.specs.Solving.{outcome_of, said_by, IsModuleOr, IsRefusal, IsSolveOutcome, SolveOutcome};
+
+use crate::names::module_of;
+use crate::settling::last_pass;
+use crate::workers::worker;
+use crate::{Gate, Locked, SolveFault};
+use cut_net::{Cut, Net};
+use cut_preflow::{NetworkLedger, Preflow, Share};
+use std::alloc::{AllocError, Global};
+use std::marker::Brand;
+use std::sync::ledger::Blank;
+use std::sync::{Mutex, Wait};
+use std::thread;
+use std::thread::{JoinHandle, Threads};
+
+/// How many parts the ledger of a preflow has: one for each worker, and its own.
+const PARTS: u64 = 65;
+
+/// Lets a worker go on with a share of its own, if one is left.
+fn started<L: NetworkLedger, R: Wait, G: Gate>(
+    rt: &R,
+    locked: &Locked<L>,
+    number: u32,
+    gate: &G,
+) -> Option<Share<L>> {
+    let share = locked.lock(rt).share()?;
+    Some(worker(rt, locked, number, share, gate))
+}
+
+/// Starts this many workers, each in a thread, joins them, and puts their shares back. A thread that can't be started is left out.
+fn in_threads<L: NetworkLedger + Send + Sync, R: Threads + Wait + Sync, G: Gate + Sync>(
+    rt: &R,
+    alloc: Global,
+    locked: &Locked<L>,
+    workers: u32,
+    gate: &G,
+) -> Result<(), AllocError> {
+    thread::scope(thread::scope_env(), rt, |scope| -> Result<(), AllocError> {
+        let mut handles: Vec<JoinHandle<Option<Share<L>>>> = Vec::with_capacity(
+            alloc,
+            workers as usize,
+        )?;
+        for number in 0..workers {
+            if let Ok(handle) = scope.spawn(move || started(rt, locked, number, gate)) {
+                handles.push(handle)?;
+            }
+        }
+        for handle in handles {
+            if let Some(share) = handle.join(rt) {
+                locked.lock(rt).rejoin(share);
+            }
+        }
+        Ok(())
+    })
+}
+
+/// A cheapest cut between two modules, with a flow that proves it, by this many workers on one preflow in the ledger of the blank.
+fn in_ledger<L: NetworkLedger + Send + Sync, R: Threads + Wait + Sync, G: Gate + Sync>(
+    rt: &R,
+    alloc: Global,
+    blank: Blank,
+    net: &Net,
+    ends: (u32, u32),
+    workers: u32,
+    gate: &G,
+) -> Result<Cut, AllocError>
+    requires ends { AreEnds net.now ends.0 ends.1 }
+    requires net { network_between net.now ends.0 ends.1 ≡ L.net }
+    requires name { blank.name ≡ L.name }
+    requires parts { (blank.parts ≡ 65) × (L.parts ≡ 65) }
+    ensures answer { IfOk result (λ cut. IsAnswer net.now ends.0 ends.1 (said_by cut)) }
+    ensures cheapest { IfOk result (λ cut. IsCheapestSaid net.now ends.0 ends.1 (said_by cut)) }
+{
+    let (from, to) = ends;
+    let locked = Mutex::new(Preflow::<L>::start(alloc, blank, net, from, to)?);
+    in_threads(rt, alloc, &locked, workers, gate)?;
+    let preflow = locked.into_inner();
+    preflow.keeps();
+    last_pass(alloc, net, preflow, from, to)
+}
+
+/// A cheapest cut between two modules, in a ledger of its own.
+fn in_own_ledger<R: Threads + Wait + Sync, G: Gate + Sync>(
+    rt: &R,
+    alloc: Global,
+    net: &Net,
+    ends: (u32, u32),
+    workers: u32,
+    gate: &G,
+) -> Result<Cut, AllocError>
+    requires { AreEnds net.now ends.0 ends.1 }
+    ensures answer { IfOk result (λ cut. IsAnswer net.now ends.0 ends.1 (said_by cut)) }
+    ensures cheapest { IfOk result (λ cut. IsCheapestSaid net.now ends.0 ends.1 (said_by cut)) }
+{
+    in_ledger::<Brand, R, G>(rt, alloc, Blank::new(PARTS), net, ends, workers, gate)
+}
+
+/// A cheapest cut between the modules of two names, as `plain` tells it, by `workers` threads that push and relabel on one locked
+/// preflow (Goldberg and Tarjan 1988). Whatever turns they take, the imports and the weight are the same; the flow may be another one
+/// of that value. A worker that memory is refused to ends alone, a thread that can't be started is left out, and a last pass does what
+/// is left. That no such pass comes to an end of its steps is proved, so there is no refusal for it.
+/// The names are looked up first, `from` before `to`. Refuses with `NoSuchModule` for the first that no module has, with
+/// `SameModule` where both are one module's, and with `Memory`. It may wait for its threads.
+pub fn solve<R: Threads + Wait + Sync, G: Gate + Sync>(
+    rt: &R,
+    alloc: Global,
+    net: &Net,
+    from: &str,
+    to: &str,
+    workers: u32,
+    gate: &G,
+) -> Result<Cut, SolveFault>
+    requires workers { (1 ≤ workers) × (workers ≤ 64) }
+    // It is a cheapest cut with a flow that proves it, or what is wrong with the names.
+    ensures exact { IfSome (outcome_of result) (IsSolveOutcome net.now from.now to.now) }
+    // What is wrong with the names is answered unless memory runs out.
+    ensures refused { (o : SolveOutcome) → IsRefusal o → IsSolveOutcome net.now from.now to.now o → IfSome (outcome_of result) (λ p. p ≡ o) }
+{
+    let from = module_of(alloc, net, from)?;
+    let to = module_of(alloc, net, to)?;
+    if from == to {
+        return Err(SolveFault::SameModule);
+    }
+    let cut = in_own_ledger(rt, alloc, net, (from, to), workers, gate)?;
+    Ok(cut)
+}

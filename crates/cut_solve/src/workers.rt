@@ -1,0 +1,83 @@
+//! A worker looks under the lock, lets it go, and tries under the lock again.
+ghost use Rattle.std.specs.Prelude.{◌≡◌, ◌↔◌, true, false, IsNone, IfSome};
+ghost use Rattle.cut_preflow.specs.declared.event.Event.{Event as EventValue};
+ghost use Rattle.cut_preflow.specs.Kept.{IsQuiet};
+ghost use Rattle.cut_preflow.specs.Played.{state_of};
+ghost use Rattle.cut_solve.specs.Turns.{CanTry, IsTried};
+
+use crate::{Gate, Locked, Look};
+use cut_preflow::{Event, NetworkLedger, Outcome, Preflow, Share};
+use std::sync::Wait;
+
+/// What a worker sees: an event of its own that applies to this preflow, or that no module but the two ends has excess.
+pub fn look<L: NetworkLedger>(preflow: &Preflow<L>, worker: u32) -> Look
+    ensures quiet { (result ≡ Look.Quiet) ↔ IsQuiet preflow.now.play.net (state_of preflow.now.play) }
+    ensures event { (event : EventValue) → result ≡ Look.Try event → CanTry preflow.now worker event }
+{
+    match preflow.next_step() {
+        None => Look::Quiet,
+        Some(step) => Look::Try {
+            event: Event { worker, step },
+        },
+    }
+}
+
+/// The event that the worker is to try. With none, its share is marked.
+fn first<L: NetworkLedger>(preflow: &Preflow<L>, number: u32, share: &mut Share<L>) -> Option<Event>
+    ensures some { IfSome result (CanTry preflow.now number) }
+    ensures none { IsNone result → share.new.marked ≡ true }
+    ensures count { share.new.count ≡ share.old.count }
+{
+    match look(preflow, number) {
+        Look::Try { event } => Some(event),
+        Look::Quiet => {
+            preflow.note_quiet(share);
+            None
+        }
+    }
+}
+
+/// Tries an event, and looks for the next one. With none, the share is marked.
+fn next<L: NetworkLedger>(
+    preflow: &mut Preflow<L>,
+    event: Event,
+    number: u32,
+    share: &mut Share<L>,
+) -> Option<Event>
+    ensures tried { IsTried event preflow.old preflow.new share.old.count share.new.count }
+    ensures some { IfSome result (CanTry preflow.new number) }
+    ensures none { IsNone result → share.new.marked ≡ true }
+{
+    if preflow.apply_as(event, share) == Outcome::Refused {
+        return None;
+    }
+    first(preflow, number, share)
+}
+
+/// Goes on until the preflow is quiet or a step was refused, as its marked share says. Each turn takes the lock once: it tries the
+/// event that the turn before it found, and looks for the next one. What was looked at may be stale by then, and then nothing changes.
+/// The gate is called between the two, without the lock.
+pub fn worker<L: NetworkLedger, R: Wait, G: Gate>(
+    rt: &R,
+    locked: &Locked<L>,
+    number: u32,
+    mut share: Share<L>,
+    gate: &G,
+) -> Share<L>
+    requires unmarked { share.marked ≡ false }
+    ensures marked { result.marked ≡ true }
+{
+    let Some(mut event) = first(&*locked.lock(rt), number, &mut share) else {
+        return share;
+    };
+    let mut turn = 0u64;
+    for _ in rt.forever() {
+        gate.at(number, turn);
+        turn = turn.saturating_add(1);
+        let Some(found) = next(&mut *locked.lock(rt), event, number, &mut share) else {
+            return share;
+        };
+        event = found;
+    }
+    unreachable!()
+}
