@@ -28,13 +28,13 @@ const _: () = prove!(size_of::<Event>() <= 12);
 /// What became of an event.
 #[derive(Clone, Copy, Debug, PartialEq, Eq)]
 pub enum Outcome {
-    /// The push moved this much.
+    /// The push moved this much, in qualified references.
     Moved { amount: u64 },
     /// The node has this label now.
     Raised { label: u32 },
     /// The step doesn't apply, and nothing changed.
     Stale,
-    /// The step applies, but memory for the history was refused, and nothing changed.
+    /// The step applies, but memory for the history was refused, and nothing changed but the mark of a share that would have counted it.
     Refused,
 }
 

@@ -10,6 +10,7 @@ ghost use Rattle.cut_preflow.specs.Shares.{count_after, mark_after};
 ghost use Rattle.cut_preflow.specs.Side.{has};
 
 use crate::plain::PlainPreflow;
+use crate::share::MOST_SHARES;
 use crate::{Event, NetworkLedger, Outcome, SettleFault, Share, Step};
 use cut_net::Net;
 use std::alloc::{AllocError, Global};
@@ -17,12 +18,9 @@ use std::marker::Model;
 use std::sync::ledger;
 use std::sync::ledger::{Blank, Book};
 
-/// How many shares may be out at a time. The preflow's own is one more.
-const MOST_SHARES: u32 = 64;
-
 /// A preflow on a network between two of its modules (Goldberg and Tarjan 1988, section 3), for the lock of many workers: a flow for
-/// each import and a label for each module, the events that were applied, and a ledger that counts them. Contracts see the network
-/// and the events: flows and labels are what these lead to. The type names the network.
+/// each import and a label for each module, the events that were applied, and a ledger that counts them. Contracts see the network,
+/// the events and the counts: flows and labels are what the events lead to. The type names the network.
 #[derive(Drop)]
 pub struct Preflow<L: NetworkLedger> {
     plain: PlainPreflow,
@@ -43,8 +41,9 @@ impl<L: NetworkLedger> Model for Preflow<L> {
 }
 
 impl<L: NetworkLedger> Preflow<L> {
-    /// The opening between two different modules: the imports out of `from` carry their weight, and its label is the number of
-    /// modules. Its steps are counted in the ledger of the blank, of 65 parts. Fails where memory is refused.
+    /// The opening between two different modules, by their numbers: the imports out of `from` are saturated, and its label is the
+    /// number of modules. Its steps are counted in the ledger of the blank, of 65 parts. Fails where memory is refused, and then the
+    /// blank is gone.
     pub fn start(
         alloc: Global,
         blank: Blank,
@@ -117,7 +116,7 @@ impl<L: NetworkLedger> Preflow<L> {
         match outcome {
             Outcome::Moved { .. } | Outcome::Raised { .. } => {
                 self.book.add(&mut share.part, 1);
-                // The book has at least what the share has, and the history is no longer than its bound.
+                // So the share's count stays within 64 bits: the book has no less, and the history is within the bound on steps.
                 self.book.audit(&mut share.part);
                 let _ = self.plain.history();
                 share.count += 1;
@@ -170,11 +169,13 @@ impl<L: NetworkLedger> Preflow<L> {
         ensures sound { IsSound self.now.play.net (state_of self.now.play) }
         ensures flow { IsQuiet self.now.play.net (state_of self.now.play) → HasFlow self.now.play.net (state_of self.now.play) }
     {
+        // Its clause says that the history is legal.
         let _ = self.plain.history();
         self.plain.keeps();
     }
 
-    /// The events that were applied, in order, each at a place where it applies. They are never more than the bound.
+    /// The events that were applied, in order, each at a place where it applies. For n modules and m imports they are at most
+    /// 4n²m + 2nm + 4n².
     pub fn history(&self) -> &[Event]
         ensures events { result.now ≡ self.now.play.history }
         ensures legal { is_legal self.now.play.net (opening self.now.play.net) self.now.play.history ≡ true }
@@ -183,7 +184,7 @@ impl<L: NetworkLedger> Preflow<L> {
         self.plain.history()
     }
 
-    /// The label of a node.
+    /// The label of a node, which is a module's number.
     pub fn label(&self, node: u32) -> u32
         requires { node < self.now.play.net.nodes }
         ensures value { result ≡ label_at (state_of self.now.play) node }
@@ -192,7 +193,7 @@ impl<L: NetworkLedger> Preflow<L> {
         self.plain.label(node)
     }
 
-    /// The flow on an import.
+    /// The flow on the import of this number, in qualified references.
     pub fn flow(&self, import: u32) -> u64
         requires { import < count self.now.play.net }
         ensures value { result ≡ flow_at (state_of self.now.play) import }
@@ -201,7 +202,8 @@ impl<L: NetworkLedger> Preflow<L> {
         self.plain.flow(import)
     }
 
-    /// The excess of a node: what enters it less what leaves it. Of the source, 0 where more leaves it than enters it.
+    /// The excess of a node, which is a module's number: what enters it less what leaves it, in qualified references. Of the source,
+    /// 0 where more leaves it than enters it.
     pub fn excess(&self, node: u32) -> u64
         requires { node < self.now.play.net.nodes }
         ensures value { result ≡ excess self.now.play.net (state_of self.now.play) node }
@@ -235,7 +237,8 @@ impl<L: NetworkLedger> Preflow<L> {
     }
 
     /// Applies at most `fuel` steps as worker 0, until the preflow is quiet. The steps that were applied stay, and are counted in the
-    /// preflow's own share.
+    /// preflow's own share. Answers Unfinished where it applied so many and isn't quiet, which never comes where the fuel is at least
+    /// 4n²m + 2nm + 4n² for n modules and m imports, and Memory where the history couldn't grow.
     pub fn settle(&mut self, fuel: u64) -> Result<(), SettleFault>
         ensures net { self.new.play.net ≡ self.old.play.net }
         ensures appended { AppendsUpTo 0 fuel self.old.play.history self.new.play.history }
@@ -260,7 +263,8 @@ impl<L: NetworkLedger> Preflow<L> {
         }
     }
 
-    /// Marks what the source reaches by arcs with residual above 0. Once quiet, these are the near modules, and the sink is none of them.
+    /// Marks what the source reaches by arcs with residual above 0, by the modules' numbers. Once quiet, these are the near modules, and
+    /// the sink is none of them. Fails where memory is refused.
     pub fn side(&self, alloc: Global) -> Result<Vec<bool>, AllocError>
         ensures size { IfOk result (λ m. length m.items ≡ self.now.play.net.nodes) }
         ensures reached { IfOk result (λ m. AreReached self.now.play.net (state_of self.now.play) m.items) }

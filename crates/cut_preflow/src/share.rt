@@ -6,22 +6,30 @@ use std::marker::{Brand, Model};
 use std::sync::ledger;
 use std::sync::ledger::Ledger;
 
+/// How many parts the ledger of a preflow has: one for each share that may be out, and the preflow's own.
+pub const PARTS: u64 = 65;
+
+/// How many shares may be out at a time.
+pub(crate) const MOST_SHARES: u32 = 64;
+
 /// The ledger of a preflow's steps. It names the network between two modules that the preflow is on, so a preflow of another
-/// network has another type.
+/// network has another type. A ledger is picked where a function over it is called at `Brand` with a new `Blank` of 65 parts; the
+/// proofs of that call name the network.
 pub trait NetworkLedger: Ledger {
     ghost use Rattle.cut_preflow.specs.Preflow.{FlowNetwork};
 
     ghost net: { FlowNetwork };
 }
 
+/// Stands in where a call picks the ledger. Its own network is never used.
 impl NetworkLedger for Brand {
     ghost use Rattle.std.specs.Prelude.{[]};
 
     ghost net = { record { nodes = 0; imports = []; source = 0; sink = 0 } };
 }
 
-/// The steps of one worker, and a mark for having seen that no more is to be done: that the preflow is quiet, or that a step was refused.
-/// It belongs to the preflow of its ledger.
+/// The steps of one worker, and a mark that it may stop: it saw that the preflow is quiet, or had a step refused. It belongs to the
+/// preflow of its ledger, and has one part of it.
 #[derive(Drop)]
 pub struct Share<L: Ledger> {
     pub(crate) part: ledger::Share<L>,

@@ -2,7 +2,7 @@
 ghost use Rattle.std.specs.Prelude.{◌≡◌};
 ghost use Rattle.cut_preflow.specs.Flows.{AreEnds, network_between};
 
-use crate::{Event, NetworkLedger, Outcome, Preflow, SettleFault, Share, Step};
+use crate::{Event, NetworkLedger, Outcome, PARTS, Preflow, SettleFault, Share, Step};
 use cut_net::Net;
 use std::alloc::Global;
 use std::marker::Brand;
@@ -55,7 +55,7 @@ fn run<R: Abort + AllocGlobal, T: Trial>(rt: &R, net: &Net, trial: &T) -> Result
     if net.nodes() < 2 {
         return Err(Fail::from("two modules"));
     }
-    in_ledger::<Brand, R, T>(rt, Blank::new(65), net, trial)
+    in_ledger::<Brand, R, T>(rt, Blank::new(PARTS), net, trial)
 }
 
 fn tried<L: NetworkLedger>(preflow: &mut Preflow<L>, step: Step) -> Outcome
@@ -74,12 +74,14 @@ fn has_label<L: NetworkLedger>(
     preflow: &Preflow<L>,
     node: u32,
     label: u32,
-)
+) -> Result<(), Fail>
     requires { preflow.now.play.net ≡ network_between net.now 0 1 }
 {
-    if node < net.nodes() {
-        assert_eq!(rt; preflow.label(node), label);
+    if node >= net.nodes() {
+        return Err(Fail::from("a module"));
     }
+    assert_eq!(rt; preflow.label(node), label);
+    Ok(())
 }
 
 #[derive(Drop)]
@@ -98,12 +100,12 @@ impl Trial for EachEvent {
         // Where memory for the history is refused, the event can be tried again.
         let mut raised = tried(&mut preflow, Step::Relabel { node: M });
         if raised == Outcome::Refused {
-            has_label(rt, net, &preflow, M, 0);
+            has_label(rt, net, &preflow, M, 0)?;
             assert_eq!(rt; preflow.history().len(), 0);
             raised = tried(&mut preflow, Step::Relabel { node: M });
         }
         assert_eq!(rt; raised, Outcome::Raised { label: 1 });
-        has_label(rt, net, &preflow, M, 1);
+        has_label(rt, net, &preflow, M, 1)?;
         assert_eq!(rt;
             tried(&mut preflow, Step::Push { arc: 2 }),
             Outcome::Moved { amount: 2 }
@@ -224,12 +226,13 @@ impl Trial for Numbers {
         net: &Net,
         preflow: Preflow<L>,
     ) -> Result<(), Fail> {
-        if M < net.nodes() && net.imports().len() == 2 {
-            assert_eq!(rt; preflow.excess(M), 2);
-            assert_eq!(rt; preflow.excess(A), 0);
-            assert_eq!(rt; preflow.flow(0), 2);
-            assert_eq!(rt; preflow.flow(1), 0);
+        if M >= net.nodes() || net.imports().len() != 2 {
+            return Err(Fail::from("three modules and two imports"));
         }
+        assert_eq!(rt; preflow.excess(M), 2);
+        assert_eq!(rt; preflow.excess(A), 0);
+        assert_eq!(rt; preflow.flow(0), 2);
+        assert_eq!(rt; preflow.flow(1), 0);
         Ok(())
     }
 }

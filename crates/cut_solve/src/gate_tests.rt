@@ -2,9 +2,10 @@
 ghost use Rattle.std.specs.Prelude.{◌≡◌, ◌≤◌};
 ghost use Rattle.cut_preflow.specs.Flows.{AreEnds, network_between};
 
-use crate::{Gate, Locked, plain, solve, worker};
-use cut_net::Net;
-use cut_preflow::{Event, NetworkLedger, Preflow, Step};
+use crate::workers::look;
+use crate::{Gate, Locked, Look, solve, worker};
+use cut_net::{Cut, Net, Priced};
+use cut_preflow::{Event, NetworkLedger, PARTS, Preflow, Step};
 use std::alloc::Global;
 use std::marker::Brand;
 use std::sync::atomic::{AtomicBool, AtomicU64, Ordering};
@@ -114,6 +115,8 @@ struct Left {
     marked: bool,
     out: u32,
     quiet: bool,
+    /// What worker 7 sees at the opening.
+    look: Look,
 }
 
 fn by_two_in<L: NetworkLedger + Send + Sync, R: Threads + Wait + Sync, G: Gate + Sync>(
@@ -129,6 +132,7 @@ fn by_two_in<L: NetworkLedger + Send + Sync, R: Threads + Wait + Sync, G: Gate +
     requires parts { (blank.parts ≡ 65) × (L.parts ≡ 65) }
 {
     let mut preflow = Preflow::<L>::start(alloc, blank, net, 0, 1)?;
+    let look = look(&preflow, 7);
     let (Some(first), Some(second)) = (preflow.share(), preflow.share()) else {
         return Err(Fail::from("two shares"));
     };
@@ -151,6 +155,7 @@ fn by_two_in<L: NetworkLedger + Send + Sync, R: Threads + Wait + Sync, G: Gate +
         marked,
         out,
         quiet: preflow.is_quiet(),
+        look,
     })
 }
 
@@ -164,7 +169,7 @@ fn by_two<R: Threads + Wait + Sync, G: Gate + Sync>(
     if net.nodes() < 2 {
         return Err(Fail::from("two modules"));
     }
-    by_two_in::<Brand, R, G>(rt, alloc, Blank::new(65), &net, gate)
+    by_two_in::<Brand, R, G>(rt, alloc, Blank::new(PARTS), &net, gate)
 }
 
 #[test]
@@ -173,6 +178,15 @@ fn two_workers_take_turns(rt: HostRuntime) -> Result<(), Fail> {
     let left = by_two(&rt, rt.alloc(), &gate)?;
     assert!(rt; gate.were_passed());
     assert!(rt; left.marked && left.quiet);
+    assert_eq!(rt;
+        left.look,
+        Look::Try {
+            event: Event {
+                worker: 7,
+                step: Step::Relabel { node: 2 }
+            }
+        }
+    );
     assert!(rt; left.first > 0 && left.second > 0);
     assert_eq!(rt; left.first.saturating_add(left.second), 4);
     assert_eq!(rt; left.out, 0);
@@ -200,7 +214,61 @@ fn the_solver_takes_turns(rt: HostRuntime) -> Result<(), Fail> {
     let gate = Holds::new(&rt);
     let cut = solve(&rt, rt.alloc(), &net, "A", "B", 2, &gate)?;
     assert!(rt; gate.were_passed());
-    assert_eq!(rt; cut, plain(rt.alloc(), &net, "A", "B")?);
+    let (a, b, m, n) = (0, 1, 2, 3);
+    let line = |from, to| Priced {
+        from,
+        to,
+        amount: 2,
+    };
+    assert_eq!(rt;
+        cut,
+        Cut {
+            imports: vec![in rt.alloc(); line(a, m)]?,
+            weight: 2,
+            flow: vec![in rt.alloc(); line(a, m), line(m, n), line(n, b)]?,
+        }
+    );
+    Ok(())
+}
+
+/// Holds each worker at turn 0 until all of them came to theirs.
+#[derive(Drop)]
+struct AllCome<'a, R> {
+    clock: &'a R,
+    workers: u64,
+    came: AtomicU64,
+    let_go: AtomicU64,
+}
+
+impl<R: Clock> Gate for AllCome<'_, R> {
+    fn at(&self, _worker: u32, turn: u64) {
+        if turn > 0 {
+            return;
+        }
+        self.came.fetch_add(1, Ordering::SeqCst);
+        for _ in 0..MOST_WAITS {
+            if self.came.load(Ordering::SeqCst) >= self.workers {
+                self.let_go.fetch_add(1, Ordering::SeqCst);
+                return;
+            }
+            thread::sleep(self.clock, Duration::from_millis(1));
+        }
+    }
+}
+
+#[test]
+fn eight_workers_come_to_their_first_turn(rt: HostRuntime) -> Result<(), Fail> {
+    let net = Net::read(rt.alloc(), LINE)?;
+    let gate = AllCome {
+        clock: &rt,
+        workers: 8,
+        came: AtomicU64::new(0),
+        let_go: AtomicU64::new(0),
+    };
+    let cut = solve(&rt, rt.alloc(), &net, "A", "B", 8, &gate)?;
+    assert_eq!(rt; gate.came.load(Ordering::SeqCst), 8);
+    assert_eq!(rt; gate.let_go.load(Ordering::SeqCst), 8);
+    assert_eq!(rt; cut.weight, 2);
     Ok(())
 }
 
@@ -214,6 +282,6 @@ fn each_worker_ends_marked(rt: HostRuntime) -> Result<(), Fail> {
         left.first.saturating_add(left.second),
         left.events.len() as u64
     );
-    assert!(rt; left.quiet || left.events.len() < 4);
+    assert!(rt; left.quiet);
     Ok(())
 }

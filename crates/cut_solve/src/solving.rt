@@ -9,16 +9,13 @@ use crate::settling::last_pass;
 use crate::workers::worker;
 use crate::{Gate, Locked, SolveFault};
 use cut_net::{Cut, Net};
-use cut_preflow::{NetworkLedger, Preflow, Share};
+use cut_preflow::{NetworkLedger, PARTS, Preflow, Share};
 use std::alloc::{AllocError, Global};
 use std::marker::Brand;
 use std::sync::ledger::Blank;
 use std::sync::{Mutex, Wait};
 use std::thread;
 use std::thread::{JoinHandle, Threads};
-
-/// How many parts the ledger of a preflow has: one for each worker, and its own.
-const PARTS: u64 = 65;
 
 /// Lets a worker go on with a share of its own, if one is left.
 fn started<L: NetworkLedger, R: Wait, G: Gate>(
@@ -29,6 +26,19 @@ fn started<L: NetworkLedger, R: Wait, G: Gate>(
 ) -> Option<Share<L>> {
     let share = locked.lock(rt).share()?;
     Some(worker(rt, locked, number, share, gate))
+}
+
+/// Joins the threads, and puts their shares back.
+fn join_all<L: NetworkLedger, R: Threads + Wait>(
+    rt: &R,
+    locked: &Locked<L>,
+    handles: Vec<JoinHandle<Option<Share<L>>>>,
+) {
+    for handle in handles {
+        if let Some(share) = handle.join(rt) {
+            locked.lock(rt).rejoin(share);
+        }
+    }
 }
 
 /// Starts this many workers, each in a thread, joins them, and puts their shares back. A thread that can't be started is left out.
@@ -49,11 +59,7 @@ fn in_threads<L: NetworkLedger + Send + Sync, R: Threads + Wait + Sync, G: Gate 
                 handles.push(handle)?;
             }
         }
-        for handle in handles {
-            if let Some(share) = handle.join(rt) {
-                locked.lock(rt).rejoin(share);
-            }
-        }
+        join_all(rt, locked, handles);
         Ok(())
     })
 }
@@ -99,12 +105,12 @@ fn in_own_ledger<R: Threads + Wait + Sync, G: Gate + Sync>(
     in_ledger::<Brand, R, G>(rt, alloc, Blank::new(PARTS), net, ends, workers, gate)
 }
 
-/// A cheapest cut between the modules of two names, as `plain` tells it, by `workers` threads that push and relabel on one locked
-/// preflow (Goldberg and Tarjan 1988). Whatever turns they take, the imports and the weight are the same; the flow may be another one
-/// of that value. A worker that memory is refused to ends alone, a thread that can't be started is left out, and a last pass does what
-/// is left. That no such pass comes to an end of its steps is proved, so there is no refusal for it.
+/// A cheapest cut between the modules of two names, as `plain` tells it, by 1 to 64 threads that push and relabel on one locked
+/// preflow (Goldberg and Tarjan 1988) and call the gate between their turns. Whatever turns they take, the imports and the weight are
+/// the same; the flow may be another one of that value. A worker that memory is refused to ends alone, a thread that can't be started is
+/// left out, and a last pass does what is left. It is proved that this pass never runs out of fuel, so there is no refusal for it.
 /// The names are looked up first, `from` before `to`. Refuses with `NoSuchModule` for the first that no module has, with
-/// `SameModule` where both are one module's, and with `Memory`. It may wait for its threads.
+/// `SameModule` where both are one module's, and with `Memory`. It may wait for the lock and for its threads.
 pub fn solve<R: Threads + Wait + Sync, G: Gate + Sync>(
     rt: &R,
     alloc: Global,

@@ -1,11 +1,16 @@
 //! Worked networks, each with its cut, and names that are refused.
 ghost use Rattle.std.specs.Prelude.{◌≡◌, ◌≤◌};
+ghost use Rattle.cut_preflow.specs.Flows.{AreEnds, network_between};
 
+use crate::settling::last_pass;
 use crate::{Gate, SolveFault, plain, solve};
 use cut_net::{Cut, Net, Priced};
+use cut_preflow::{NetworkLedger, PARTS, Preflow};
 use std::alloc::Global;
+use std::marker::Brand;
 use std::process::Abort;
 use std::sync::Wait;
+use std::sync::ledger::Blank;
 use std::test::Fail;
 use std::thread::Threads;
 
@@ -29,7 +34,49 @@ impl Gate for Open {
     fn at(&self, _worker: u32, _turn: u64) {}
 }
 
-/// Checks that workers tell the same imports and weight, however many they are, with a flow that is in order.
+/// The last pass from the opening on, with no worker before it.
+fn pass_in<L: NetworkLedger>(
+    alloc: Global,
+    blank: Blank,
+    net: &Net,
+    ends: (u32, u32),
+) -> Result<Cut, Fail>
+    requires ends { AreEnds net.now ends.0 ends.1 }
+    requires net { network_between net.now ends.0 ends.1 ≡ L.net }
+    requires name { blank.name ≡ L.name }
+    requires parts { (blank.parts ≡ 65) × (L.parts ≡ 65) }
+{
+    let (from, to) = ends;
+    let preflow = Preflow::<L>::start(alloc, blank, net, from, to)?;
+    preflow.keeps();
+    Ok(last_pass(alloc, net, preflow, from, to)?)
+}
+
+fn pass(alloc: Global, net: &Net, ends: (u32, u32)) -> Result<Cut, Fail> {
+    let (from, to) = ends;
+    if from == to || from >= net.nodes() || to >= net.nodes() {
+        return Err(Fail::from("two modules"));
+    }
+    pass_in::<Brand>(alloc, Blank::new(PARTS), net, ends)
+}
+
+/// Checks that the last pass alone tells the same imports and weight.
+fn passes(
+    rt: &(impl Abort + AllocGlobal),
+    net: &Net,
+    (from, to): (&str, &str),
+    cut: &Cut,
+) -> Result<(), Fail> {
+    let (Some(from), Some(to)) = (net.index_of(from), net.index_of(to)) else {
+        return Err(Fail::from("two names"));
+    };
+    let passed = pass(rt.alloc(), net, (from, to))?;
+    assert_eq!(rt; passed.imports, cut.imports);
+    assert_eq!(rt; passed.weight, cut.weight);
+    Ok(())
+}
+
+/// Checks that workers tell the same imports and weight, however many they are.
 fn settles<R: Abort + AllocGlobal + Threads + Wait + Sync>(
     rt: &R,
     net: &Net,
@@ -55,6 +102,7 @@ fn cuts<R: Abort + AllocGlobal + Threads + Wait + Sync>(
 ) -> Result<(), Fail> {
     let net = Net::read(rt.alloc(), net)?;
     let cut = plain(rt.alloc(), &net, from, to)?;
+    passes(rt, &net, (from, to), &cut)?;
     settles(rt, &net, (from, to), &cut)?;
     let imports = lines(rt.alloc(), imports)?;
     let flow = lines(rt.alloc(), flow)?;

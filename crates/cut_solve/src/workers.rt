@@ -1,5 +1,5 @@
 //! A worker looks under the lock, lets it go, and tries under the lock again.
-ghost use Rattle.std.specs.Prelude.{◌≡◌, ◌↔◌, true, false, IsNone, IfSome};
+ghost use Rattle.std.specs.Prelude.{◌≡◌, ◌≤◌, ◌↔◌, true, false, IsNone, IfSome};
 ghost use Rattle.cut_preflow.specs.declared.event.Event.{Event as EventValue};
 ghost use Rattle.cut_preflow.specs.Kept.{IsQuiet};
 ghost use Rattle.cut_preflow.specs.Played.{state_of};
@@ -23,7 +23,11 @@ pub fn look<L: NetworkLedger>(preflow: &Preflow<L>, worker: u32) -> Look
 }
 
 /// The event that the worker is to try. With none, its share is marked.
-fn first<L: NetworkLedger>(preflow: &Preflow<L>, number: u32, share: &mut Share<L>) -> Option<Event>
+fn look_or_mark<L: NetworkLedger>(
+    preflow: &Preflow<L>,
+    number: u32,
+    share: &mut Share<L>,
+) -> Option<Event>
     ensures some { IfSome result (CanTry preflow.now number) }
     ensures none { IsNone result → share.new.marked ≡ true }
     ensures count { share.new.count ≡ share.old.count }
@@ -51,12 +55,12 @@ fn next<L: NetworkLedger>(
     if preflow.apply_as(event, share) == Outcome::Refused {
         return None;
     }
-    first(preflow, number, share)
+    look_or_mark(preflow, number, share)
 }
 
-/// Goes on until the preflow is quiet or a step was refused, as its marked share says. Each turn takes the lock once: it tries the
-/// event that the turn before it found, and looks for the next one. What was looked at may be stale by then, and then nothing changes.
-/// The gate is called between the two, without the lock.
+/// Goes on as the worker of this number, with an unmarked share, until the preflow is quiet or a step was refused, as the marked share
+/// says. Each turn takes the lock once: it tries the event that the turn before it found, and looks for the next one. What was looked
+/// at may be stale by then, and then nothing changes. The gate is called between the two, without the lock. It may wait for the lock.
 pub fn worker<L: NetworkLedger, R: Wait, G: Gate>(
     rt: &R,
     locked: &Locked<L>,
@@ -66,8 +70,10 @@ pub fn worker<L: NetworkLedger, R: Wait, G: Gate>(
 ) -> Share<L>
     requires unmarked { share.marked ≡ false }
     ensures marked { result.marked ≡ true }
+    // Its steps are added to the share's.
+    ensures counted { share.count ≤ result.count }
 {
-    let Some(mut event) = first(&*locked.lock(rt), number, &mut share) else {
+    let Some(mut event) = look_or_mark(&*locked.lock(rt), number, &mut share) else {
         return share;
     };
     let mut turn = 0u64;
