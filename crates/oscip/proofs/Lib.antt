@@ -1,5 +1,7 @@
 pub mod Commands
 pub mod Found
+pub mod Ranged
+pub mod Workers
 pub mod CheckRuns
 pub mod Sayable
 pub mod CutRuns

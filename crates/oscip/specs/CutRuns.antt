@@ -12,7 +12,7 @@ use Rattle.cut_solve.specs.Solving.{outcome_of as solve_outcome_of, IsSolveOutco
 use Rattle.oscip.specs.declared.fault.RunFault.{RunFault}
 use Rattle.oscip.specs.declared.fault.RunFault.TheVariants.{CannotRead, CannotWrite, Tree, Net, Report, Solve, Device, Memory}
 
--- The headline, here with one worker, so that nothing is claimed of interleavings; the network is that of the accepted
+-- The headline, as a run of any number of workers with any gate leaves it in the sink; the network is that of the accepted
 -- input, a tree or the lines of a network:
 -- for every accepted tree, two named modules and every interleaving of the workers' pushes and relabels: once no other
 -- module holds excess, removing the printed imports leaves no import chain from the first module to the second, their

@@ -124,3 +124,14 @@ is_device (Report fault) = false
 is_device (Solve fault) = false
 is_device Device = true
 is_device Memory = false
+
+-- a file or a folder can't be read, or memory ran out
+abbrev pub IsReadFault : RunFault → Type 0
+IsReadFault (CannotRead path) = Unit {0}
+IsReadFault (CannotWrite path) = ⊥
+IsReadFault (Tree fault) = ⊥
+IsReadFault (Net fault) = ⊥
+IsReadFault (Report fault) = ⊥
+IsReadFault (Solve fault) = ⊥
+IsReadFault Device = ⊥
+IsReadFault Memory = Unit {0}

@@ -20,7 +20,7 @@ IsCutJobRun IsOf IsRefused first second old new result =
 
 -- a run of the job's engine on an input, with the job's own names, or with the report
 abbrev pub IsJobRun : (Network → Type 0) → (RunFault → Type 0) → Job → List ℕ → Option (List ℕ) → Option (List ℕ) → Result Bool RunFault → Type 0
-IsJobRun IsOf IsRefused (Cut folder from to) report old new result = IsCutJobRun IsOf IsRefused (string_bytes from) (string_bytes to) old new result
+IsJobRun IsOf IsRefused (Cut folder from to workers) report old new result = IsCutJobRun IsOf IsRefused (string_bytes from) (string_bytes to) old new result
 IsJobRun IsOf IsRefused (Check folder other) report old new result = IsCheckRun IsOf IsRefused report old new result
-IsJobRun IsOf IsRefused (CutNet path from to) report old new result = IsCutJobRun IsOf IsRefused (string_bytes from) (string_bytes to) old new result
+IsJobRun IsOf IsRefused (CutNet path from to workers) report old new result = IsCutJobRun IsOf IsRefused (string_bytes from) (string_bytes to) old new result
 IsJobRun IsOf IsRefused (CheckNet path other) report old new result = IsCheckRun IsOf IsRefused report old new result

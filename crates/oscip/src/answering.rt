@@ -3,33 +3,44 @@ ghost use Rattle.std.specs.Prelude.{◌≡◌, false, true};
 ghost use Rattle.cut_report.specs.Sinks.{failures_by};
 ghost use Rattle.oscip.specs.Faults.{is_device};
 ghost use Rattle.oscip.specs.JobRuns.{IsJobRun};
-ghost use Rattle.oscip.specs.Jobs.{is_tree_job};
+ghost use Rattle.oscip.specs.Jobs.{is_tree_job, HasWorkers};
 ghost use Rattle.oscip.specs.Runs.{IsNetOfText, IsRefusedText, IsRefusedTree};
 ghost use Rattle.oscip.specs.Sources.{AreInOrder};
 ghost use Rattle.oscip.specs.Trees.{IsNetOfTree};
 
+use crate::gate::OpenGate;
 use crate::{Job, RunFault, Source, check_net_bytes, check_tree, cut_net_bytes, cut_tree};
 use cut_report::Sink;
 use std::alloc::Global;
+use std::sync::Wait;
+use std::thread::Threads;
 
-/// Runs the engine of a job on the bytes of its network and, where the job has one, of its report. False is a check that
-/// says no. Refuses as the engine does.
-pub fn answer<S: Sink>(
+/// Runs the engine of a job on the bytes of its network and, where the job has one, of its report. A cut is searched for
+/// by the job's number of workers. False is a check that says no. Refuses as the engine does.
+pub fn answer<R: Threads + Wait + Sync, S: Sink>(
+    rt: &R,
     alloc: Global,
     job: &Job,
     network: &[u8],
     report: &[u8],
     sink: &mut S,
 ) -> Result<bool, RunFault>
-    requires { is_tree_job job.now ≡ false }
+    requires network { is_tree_job job.now ≡ false }
+    requires workers { HasWorkers job.now }
     // What the job's engine reads and puts, with the job's own names.
     ensures run { IsJobRun (IsNetOfText network.now) (IsRefusedText network.now) job.now report.now (S.taken sink.old) (S.taken sink.new) result }
     // Device is answered where the sink counted a failure, and nowhere else.
     ensures failures { S.failures sink.new ≡ failures_by is_device result (S.failures sink.old) }
 {
     match job {
-        Job::CutNet { from, to, .. } => {
-            cut_net_bytes(alloc, network, from.as_str(), to.as_str(), sink)?;
+        Job::CutNet {
+            from,
+            to,
+            workers,
+            ..
+        } => {
+            let (from, to) = (from.as_str(), to.as_str());
+            cut_net_bytes(rt, alloc, network, from, to, *workers, &OpenGate, sink)?;
             Ok(true)
         }
         Job::CheckNet { .. } => check_net_bytes(alloc, network, report, sink),
@@ -37,9 +48,10 @@ pub fn answer<S: Sink>(
     }
 }
 
-/// Runs the engine of a job on the files of its tree and, where the job has one, on the bytes of its report. False is a
-/// check that says no. Refuses as the engine does.
-pub fn answer_tree<S: Sink>(
+/// Runs the engine of a job on the files of its tree and, where the job has one, on the bytes of its report. A cut is
+/// searched for by the job's number of workers. False is a check that says no. Refuses as the engine does.
+pub fn answer_tree<R: Threads + Wait + Sync, S: Sink>(
+    rt: &R,
     alloc: Global,
     job: &Job,
     sources: &[Source],
@@ -48,14 +60,21 @@ pub fn answer_tree<S: Sink>(
 ) -> Result<bool, RunFault>
     requires tree { is_tree_job job.now ≡ true }
     requires in_order { AreInOrder sources.now }
+    requires workers { HasWorkers job.now }
     // What the job's engine reads and puts, with the job's own names.
     ensures run { IsJobRun (IsNetOfTree sources.now) (IsRefusedTree sources.now) job.now report.now (S.taken sink.old) (S.taken sink.new) result }
     // Device is answered where the sink counted a failure, and nowhere else.
     ensures failures { S.failures sink.new ≡ failures_by is_device result (S.failures sink.old) }
 {
     match job {
-        Job::Cut { from, to, .. } => {
-            cut_tree(alloc, sources, from.as_str(), to.as_str(), sink)?;
+        Job::Cut {
+            from,
+            to,
+            workers,
+            ..
+        } => {
+            let (from, to) = (from.as_str(), to.as_str());
+            cut_tree(rt, alloc, sources, from, to, *workers, &OpenGate, sink)?;
             Ok(true)
         }
         Job::Check { .. } => check_tree(alloc, sources, report, sink),

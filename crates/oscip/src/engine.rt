@@ -5,6 +5,7 @@ ghost use Rattle.cut_net.specs.Network.{index_of, name_of};
 ghost use Rattle.cut_report.specs.Sinks.{failures_by};
 ghost use Rattle.oscip.specs.Faults.{is_device};
 ghost use Rattle.oscip.specs.CutRuns.{IsCutRun};
+ghost use Rattle.oscip.specs.Jobs.{MayWork};
 ghost use Rattle.oscip.specs.Runs.{is_yes, verdict_text, IsCheckRun, IsNetOfText, IsNeverRefused, IsRefusedText, IsRefusedTree, IsThis};
 ghost use Rattle.oscip.specs.Sources.{AreInOrder};
 ghost use Rattle.oscip.specs.Trees.{IsNetOfTree};
@@ -14,8 +15,10 @@ use crate::{RunFault, Source};
 use cut_check::{Verdict, check};
 use cut_net::Net;
 use cut_report::{Sink, put_all, write};
-use cut_solve::plain;
+use cut_solve::{Gate, solve};
 use std::alloc::{AllocError, Global};
+use std::sync::Wait;
+use std::thread::Threads;
 
 /// The name of a module, and no text where the network has no such module.
 fn name_or_none(net: &Net, node: u32) -> &str
@@ -123,12 +126,22 @@ fn module_of(net: &Net, name: &str) -> u32
 }
 
 /// Puts the report of a cheapest cut of a network between the modules of two names.
-fn cut_in<S: Sink>(alloc: Global, net: &Net, a: &str, b: &str, sink: &mut S) -> Result<(), RunFault>
+fn cut_in<R: Threads + Wait + Sync, G: Gate + Sync, S: Sink>(
+    rt: &R,
+    alloc: Global,
+    net: &Net,
+    a: &str,
+    b: &str,
+    workers: u32,
+    gate: &G,
+    sink: &mut S,
+) -> Result<(), RunFault>
+    requires { MayWork workers }
     ensures run { IsCutRun (IsThis net.now) IsNeverRefused a.now b.now (S.taken sink.old) (S.taken sink.new) result }
     ensures failures { S.failures sink.new ≡ failures_by is_device result (S.failures sink.old) }
 {
     net.keeps();
-    let cut = plain(alloc, net, a, b)?;
+    let cut = solve(rt, alloc, net, a, b, workers, gate)?;
     let from = module_of(net, a);
     let to = module_of(net, b);
     write(alloc, net, from, to, &cut, sink)?;
@@ -136,43 +149,70 @@ fn cut_in<S: Sink>(alloc: Global, net: &Net, a: &str, b: &str, sink: &mut S) -> 
 }
 
 /// Reads a network and puts the report of a cheapest cut between the modules of two names: the imports to be removed so
-/// that the first no longer reaches the second, their weight, and a flow of that value. `IsCutText` says what the report is.
+/// that the first no longer reaches the second, their weight, and a flow of that value. So many workers search for it, 1 to
+/// 64, each a thread, and wait for one another; the gate is called between a worker's look and its act.
+///
+/// For every accepted tree, two named modules and every interleaving of the workers' pushes and relabels: once no other
+/// module holds excess, removing the printed imports leaves no import chain from the first module to the second, their
+/// weight is the printed one, and every set of imports whose removal leaves none weighs at least as much; the printed flow
+/// has that value.
+///
+/// Here the lines of a network stand in place of the tree. Clause `run` carries it: at Ok the sink has a text that
+/// `IsCutText` says this of, for every number of workers and every gate, whatever the workers did in between.
+///
 /// Refuses with `Net` where the network is refused, then with `Solve` for the first name that no module has or where both
 /// are one module's, and with `Device` or `Memory`.
-pub fn cut_net_bytes<S: Sink>(
+pub fn cut_net_bytes<R: Threads + Wait + Sync, G: Gate + Sync, S: Sink>(
+    rt: &R,
     alloc: Global,
     network: &[u8],
     a: &str,
     b: &str,
+    workers: u32,
+    gate: &G,
     sink: &mut S,
 ) -> Result<(), RunFault>
+    requires workers { MayWork workers }
     // What was read, and the report that the sink took; after a refusal of the input it took nothing.
     ensures run { IsCutRun (IsNetOfText network.now) (IsRefusedText network.now) a.now b.now (S.taken sink.old) (S.taken sink.new) result }
     // Device is answered where the sink counted a failure, and nowhere else.
     ensures failures { S.failures sink.new ≡ failures_by is_device result (S.failures sink.old) }
 {
     let network = Net::read(alloc, network)?;
-    cut_in(alloc, &network, a, b, sink)
+    cut_in(rt, alloc, &network, a, b, workers, gate, sink)
 }
 
 /// Reads the files of a tree and puts the report of a cheapest cut between the modules of two names, as `cut_net_bytes`
 /// does for a network: each import weighs as much as the qualified uses that cross it.
+///
+/// For every accepted tree, two named modules and every interleaving of the workers' pushes and relabels: once no other
+/// module holds excess, removing the printed imports leaves no import chain from the first module to the second, their
+/// weight is the printed one, and every set of imports whose removal leaves none weighs at least as much; the printed flow
+/// has that value.
+///
+/// Clause `run` carries it: at Ok the sink has a text that `IsCutText` says this of, for every number of workers and every
+/// gate, whatever the workers did in between.
+///
 /// Refuses with `Tree` where the tree is refused, then with `Solve` for the first name that no module has or where both
 /// are one module's, and with `Device` or `Memory`.
-pub fn cut_tree<S: Sink>(
+pub fn cut_tree<R: Threads + Wait + Sync, G: Gate + Sync, S: Sink>(
+    rt: &R,
     alloc: Global,
     sources: &[Source],
     a: &str,
     b: &str,
+    workers: u32,
+    gate: &G,
     sink: &mut S,
 ) -> Result<(), RunFault>
     // The files stand in the order of their paths.
-    requires { AreInOrder sources.now }
+    requires in_order { AreInOrder sources.now }
+    requires workers { MayWork workers }
     // What was read, and the report that the sink took; after a refusal of the input it took nothing.
     ensures run { IsCutRun (IsNetOfTree sources.now) (IsRefusedTree sources.now) a.now b.now (S.taken sink.old) (S.taken sink.new) result }
     // Device is answered where the sink counted a failure, and nowhere else.
     ensures failures { S.failures sink.new ≡ failures_by is_device result (S.failures sink.old) }
 {
     let network = net_of(alloc, sources)?;
-    cut_in(alloc, &network, a, b, sink)
+    cut_in(rt, alloc, &network, a, b, workers, gate, sink)
 }

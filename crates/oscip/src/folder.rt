@@ -1,5 +1,6 @@
 //! The files of the modules below a folder.
-ghost use Rattle.std.specs.Prelude.{◌≤◌, IfOk};
+ghost use Rattle.std.specs.Prelude.{◌≤◌, IfErr, IfOk};
+ghost use Rattle.oscip.specs.Faults.{IsReadFault};
 ghost use Rattle.oscip.specs.Sources.{AreInOrder};
 
 use crate::reading::{cannot_read, fault_at, read_front};
@@ -54,7 +55,9 @@ fn leads_nowhere(error: &io::Error) -> bool {
 }
 
 /// Whether a folder is at the path. A module that can't be looked at is told of where it is read.
-fn is_folder<R: Files + AllocGlobal>(rt: &R, path: &str) -> Result<bool, RunFault> {
+fn is_folder<R: Files + AllocGlobal>(rt: &R, path: &str) -> Result<bool, RunFault>
+    ensures { IfErr result IsReadFault }
+{
     match fs::metadata(rt, path) {
         Ok(metadata) => Ok(metadata.is_dir()),
         Err(error) if is_module(path) || leads_nowhere(&error) => Ok(false),
@@ -72,7 +75,9 @@ fn names_of<R: Files + AllocGlobal + Clone + Drop>(
     alloc: Global,
     listing: ReadDir<R>,
     path: &str,
-) -> Result<Vec<String>, RunFault> {
+) -> Result<Vec<String>, RunFault>
+    ensures { IfErr result IsReadFault }
+{
     let mut names = Vec::new(alloc);
     for entry in listing {
         match entry {
@@ -87,7 +92,9 @@ fn names_of<R: Files + AllocGlobal + Clone + Drop>(
 fn names_in<R: Files + AllocGlobal + Clone + Drop>(
     rt: &R,
     path: &str,
-) -> Result<Vec<String>, RunFault> {
+) -> Result<Vec<String>, RunFault>
+    ensures { IfErr result IsReadFault }
+{
     match fs::read_dir(rt, path) {
         Ok(listing) => {
             let mut names = names_of(rt.alloc(), listing, path)?;
@@ -121,7 +128,9 @@ fn visit<R: Files + AllocGlobal + Clone + Drop>(
     folder: &str,
     place: Place,
     walk: &mut Walk,
-) -> Result<(), RunFault> {
+) -> Result<(), RunFault>
+    ensures { IfErr result IsReadFault }
+{
     let opened = joined(rt.alloc(), folder, place.path.as_str())?;
     if is_folder(rt, opened.as_str())? {
         if place.level > LEVELS {
@@ -140,7 +149,9 @@ fn finish<R: Files + AllocGlobal + Clone + Drop>(
     rt: &R,
     folder: &str,
     walk: &mut Walk,
-) -> Result<(), RunFault> {
+) -> Result<(), RunFault>
+    ensures { IfErr result IsReadFault }
+{
     for _ in 0..u64::MAX {
         let Some(place) = walk.pending.pop() else {
             return Ok(());
@@ -154,7 +165,9 @@ fn finish<R: Files + AllocGlobal + Clone + Drop>(
 fn paths_below<R: Files + AllocGlobal + Clone + Drop>(
     rt: &R,
     folder: &str,
-) -> Result<Vec<String>, RunFault> {
+) -> Result<Vec<String>, RunFault>
+    ensures { IfErr result IsReadFault }
+{
     let mut walk = Walk {
         pending: Vec::new(rt.alloc()),
         files: Vec::new(rt.alloc()),
@@ -170,7 +183,9 @@ fn paths_below<R: Files + AllocGlobal + Clone + Drop>(
 }
 
 /// The bytes of the regular file at this path, of which at most one beyond the limit of a module is read.
-fn read_module<R: Files + AllocGlobal>(rt: &R, path: &str) -> Result<Vec<u8>, RunFault> {
+fn read_module<R: Files + AllocGlobal>(rt: &R, path: &str) -> Result<Vec<u8>, RunFault>
+    ensures { IfErr result IsReadFault }
+{
     match fs::metadata(rt, path) {
         Ok(metadata) if metadata.is_file() => read_front(rt, path, MODULE_LIMIT + 1),
         Ok(_) => Err(cannot_read(rt.alloc(), path)),
@@ -178,11 +193,9 @@ fn read_module<R: Files + AllocGlobal>(rt: &R, path: &str) -> Result<Vec<u8>, Ru
     }
 }
 
-fn source_at<R: Files + AllocGlobal>(
-    rt: &R,
-    folder: &str,
-    path: String,
-) -> Result<Source, RunFault> {
+fn source_at<R: Files + AllocGlobal>(rt: &R, folder: &str, path: String) -> Result<Source, RunFault>
+    ensures { IfErr result IsReadFault }
+{
     let opened = joined(rt.alloc(), folder, path.as_str())?;
     let bytes = read_module(rt, opened.as_str())?;
     Ok(Source { path, bytes })
@@ -192,7 +205,9 @@ fn read_all<R: Files + AllocGlobal>(
     rt: &R,
     folder: &str,
     paths: Vec<String>,
-) -> Result<Vec<Source>, RunFault> {
+) -> Result<Vec<Source>, RunFault>
+    ensures { IfErr result IsReadFault }
+{
     let mut sources = Vec::new(rt.alloc());
     for path in paths {
         let source = source_at(rt, folder, path)?;
@@ -209,7 +224,8 @@ pub fn sources_of<R: Files + AllocGlobal + Clone + Drop>(
     rt: &R,
     folder: &str,
 ) -> Result<Vec<Source>, RunFault>
-    ensures { IfOk result (λ sources. AreInOrder sources.items) }
+    ensures order { IfOk result (λ sources. AreInOrder sources.items) }
+    ensures fault { IfErr result IsReadFault }
 {
     let mut paths = paths_below(rt, folder)?;
     paths.sort_unstable();

@@ -1,34 +1,45 @@
 //! What the words of a command line ask for.
-ghost use Rattle.std.specs.Prelude.{◌≡◌, IfOk, map, false};
+ghost use Rattle.std.specs.Prelude.{◌≡◌, IfOk, IfSome, codes, map, false};
 ghost use Rattle.std.specs.String.{string_bytes};
 ghost use Rattle.clap.specs.Words.{app_of, found_of, kind_of, rows_of, subcommand_of, subcommand_rows_of, with_rule};
 ghost use Rattle.clap.specs.declared.Command.TheViews.{out-Command as fields_of};
-ghost use Rattle.oscip.specs.Jobs.{check_app, check_net_app, cut_app, cut_net_app, oscip, required_rule, with_modules, Finds, Holds};
+ghost use Rattle.oscip.specs.Jobs.{check_app, check_net_app, cut_app, cut_net_app, oscip, required_rule, with_modules, with_workers, Finds, FindsNumber, HasWorkers, Holds, MayWork, NamesWorkers};
 
 use clap::error::ErrorKind;
-use clap::{Arg, ArgMatches, Command};
+use clap::{Arg, ArgMatches, Command, value_parser};
 use std::alloc::{AllocError, Global};
 use thiserror::Error;
+
+/// What help says of a folder of modules.
+const FOLDER_HELP: &str =
+    "The folder of the modules: its files, and those of its folders, that end in `.Mod` or `.mod`";
+
+/// What help says of a network.
+const NETWORK_HELP: &str = "The network: lines `module M` and `import M N w`";
 
 /// A command with the values of its words.
 #[derive(Debug, PartialEq, Eq, Drop)]
 pub enum Job {
-    /// Finds a cheapest cut of the modules below a folder, given by its path, between the modules of two names.
+    /// Finds a cheapest cut of the modules below a folder, given by its path, between the modules of two names, with 1 to
+    /// 64 workers.
     Cut {
         folder: String,
         from: String,
         to: String,
+        workers: u32,
     },
     /// Checks a report against the modules below a folder, both given as paths.
     Check {
         folder: String,
         report: String,
     },
-    /// Finds a cheapest cut of a network, given as the path of a file, between the modules of two names.
+    /// Finds a cheapest cut of a network, given as the path of a file, between the modules of two names, with 1 to 64
+    /// workers.
     CutNet {
         network: String,
         from: String,
         to: String,
+        workers: u32,
     },
     /// Checks a report against a network, both given as paths of files.
     CheckNet {
@@ -89,6 +100,20 @@ fn with_modules<'a>(alloc: Global, command: Command<'a>) -> Result<Command<'a>, 
     )
 }
 
+/// The command with the option of how many workers search, 1 to 64.
+fn with_workers<'a>(alloc: Global, command: Command<'a>) -> Result<Command<'a>, AllocError>
+    ensures app { IfOk result (λ c. app_of c ≡ with_workers (app_of command.entry)) }
+    ensures local { IfOk result (λ c. (fields_of command.entry).has_globals ≡ false → (fields_of c).has_globals ≡ false) }
+{
+    let workers = Arg::new(alloc, "workers")
+        .long("workers")
+        .value_name("N")
+        .value_parser(value_parser!(u32).range(1..=64))
+        .default_value("4")
+        .help("How many threads search for the cut, from 1 to 64");
+    command.arg(workers)
+}
+
 fn cut_command<'a>(alloc: Global) -> Result<Command<'a>, AllocError>
     ensures app { IfOk result (λ c. app_of c ≡ cut_app) }
     ensures local { IfOk result (λ c. (fields_of c).has_globals ≡ false) }
@@ -96,13 +121,9 @@ fn cut_command<'a>(alloc: Global) -> Result<Command<'a>, AllocError>
     let command = Command::new(alloc, "cut").about(
         "Find a cheapest set of imports of Oberon-07 modules to remove so that A no longer reaches B, with a flow that proves it",
     );
-    let command = with_required(
-        alloc,
-        command,
-        "DIR",
-        "The folder of the modules: its files, and those of its folders, that end in `.Mod` or `.mod`",
-    )?;
-    with_modules(alloc, command)
+    let command = with_required(alloc, command, "DIR", FOLDER_HELP)?;
+    let command = with_modules(alloc, command)?;
+    with_workers(alloc, command)
 }
 
 fn check_command<'a>(alloc: Global) -> Result<Command<'a>, AllocError>
@@ -112,12 +133,7 @@ fn check_command<'a>(alloc: Global) -> Result<Command<'a>, AllocError>
     let command = Command::new(alloc, "check").about(
         "Check a report's proof that its cut of Oberon-07 modules is cheapest",
     );
-    let command = with_required(
-        alloc,
-        command,
-        "DIR",
-        "The folder of the modules: its files, and those of its folders, that end in `.Mod` or `.mod`",
-    )?;
+    let command = with_required(alloc, command, "DIR", FOLDER_HELP)?;
     with_required(
         alloc,
         command,
@@ -133,13 +149,9 @@ fn cut_net_command<'a>(alloc: Global) -> Result<Command<'a>, AllocError>
     let command = Command::new(alloc, "cut-net").about(
         "Find a cheapest set of imports to remove so that A no longer reaches B, with a flow that proves it",
     );
-    let command = with_required(
-        alloc,
-        command,
-        "FILE",
-        "The network: lines `module M` and `import M N w`",
-    )?;
-    with_modules(alloc, command)
+    let command = with_required(alloc, command, "FILE", NETWORK_HELP)?;
+    let command = with_modules(alloc, command)?;
+    with_workers(alloc, command)
 }
 
 fn check_net_command<'a>(alloc: Global) -> Result<Command<'a>, AllocError>
@@ -149,12 +161,7 @@ fn check_net_command<'a>(alloc: Global) -> Result<Command<'a>, AllocError>
     let command = Command::new(alloc, "check-net").about(
         "Check a report's proof that its cut of a network is cheapest",
     );
-    let command = with_required(
-        alloc,
-        command,
-        "FILE",
-        "The network: lines `module M` and `import M N w`",
-    )?;
+    let command = with_required(alloc, command, "FILE", NETWORK_HELP)?;
     with_required(
         alloc,
         command,
@@ -190,17 +197,62 @@ fn value_of(alloc: Global, found: &ArgMatches<'_>, id: &str) -> Result<String, J
     }
 }
 
+/// The number of workers, as `clap` found it.
+fn workers_of(alloc: Global, found: &ArgMatches<'_>) -> Result<u32, JobFault>
+    requires { NamesWorkers (rows_of (found_of found.now)) }
+    ensures value { IfOk result (FindsNumber (rows_of (found_of found.now)) (codes "workers")) }
+    ensures within { IfOk result MayWork }
+{
+    match found.get_one::<u32>("workers") {
+        None => Err(refused(alloc)),
+        Some(workers) => Ok(workers),
+    }
+}
+
+fn cut_job(alloc: Global, found: &ArgMatches<'_>) -> Result<Job, JobFault>
+    requires { NamesWorkers (rows_of (found_of found.now)) }
+    ensures values { IfOk result (Holds (Some (codes "cut", rows_of (found_of found.now)))) }
+    ensures workers { IfOk result HasWorkers }
+{
+    let folder = value_of(alloc, found, "DIR")?;
+    let from = value_of(alloc, found, "A")?;
+    let to = value_of(alloc, found, "B")?;
+    let workers = workers_of(alloc, found)?;
+    Ok(Job::Cut {
+        folder,
+        from,
+        to,
+        workers,
+    })
+}
+
+fn cut_net_job(alloc: Global, found: &ArgMatches<'_>) -> Result<Job, JobFault>
+    requires { NamesWorkers (rows_of (found_of found.now)) }
+    ensures values { IfOk result (Holds (Some (codes "cut-net", rows_of (found_of found.now)))) }
+    ensures workers { IfOk result HasWorkers }
+{
+    let network = value_of(alloc, found, "FILE")?;
+    let from = value_of(alloc, found, "A")?;
+    let to = value_of(alloc, found, "B")?;
+    let workers = workers_of(alloc, found)?;
+    Ok(Job::CutNet {
+        network,
+        from,
+        to,
+        workers,
+    })
+}
+
 fn job_from(alloc: Global, matches: &ArgMatches<'_>) -> Result<Job, JobFault>
-    ensures { IfOk result (λ job. Holds (subcommand_rows_of matches.now) job) }
+    requires { IfSome (subcommand_rows_of matches.now) (λ found. NamesWorkers found.1) }
+    ensures values { IfOk result (Holds (subcommand_rows_of matches.now)) }
+    ensures workers { IfOk result HasWorkers }
 {
     let Some((name, found)) = matches.subcommand() else {
         return Err(refused(alloc));
     };
     if name == "cut" {
-        let folder = value_of(alloc, found, "DIR")?;
-        let from = value_of(alloc, found, "A")?;
-        let to = value_of(alloc, found, "B")?;
-        return Ok(Job::Cut { folder, from, to });
+        return cut_job(alloc, found);
     }
     if name == "check" {
         let folder = value_of(alloc, found, "DIR")?;
@@ -208,10 +260,7 @@ fn job_from(alloc: Global, matches: &ArgMatches<'_>) -> Result<Job, JobFault>
         return Ok(Job::Check { folder, report });
     }
     if name == "cut-net" {
-        let network = value_of(alloc, found, "FILE")?;
-        let from = value_of(alloc, found, "A")?;
-        let to = value_of(alloc, found, "B")?;
-        return Ok(Job::CutNet { network, from, to });
+        return cut_net_job(alloc, found);
     }
     if name == "check-net" {
         let network = value_of(alloc, found, "FILE")?;
@@ -242,7 +291,10 @@ fn fault_from(alloc: Global, error: &clap::Error) -> JobFault
 /// The job that the words ask for, the program's name first. Refuses with Line where `clap` refuses them, with Help
 /// where they ask for it, and with Memory.
 pub fn job_of(alloc: Global, words: &[String]) -> Result<Job, JobFault>
-    ensures { IfOk result (λ job. Holds (subcommand_of oscip (map string_bytes words.now)) job) }
+    // The job has the values that `clap` finds for the words.
+    ensures values { IfOk result (Holds (subcommand_of oscip (map string_bytes words.now))) }
+    // Its workers, where it has them, are 1 to 64.
+    ensures workers { IfOk result HasWorkers }
 {
     let command = command(alloc)?;
     match command.try_get_matches_from(words) {

@@ -4,12 +4,13 @@
 #![tactic(auto)]
 
 ghost use Rattle.std.specs.Prelude.{◌≡◌, true, false};
-ghost use Rattle.oscip.specs.Jobs.{is_tree_job};
+ghost use Rattle.oscip.specs.Jobs.{is_tree_job, HasWorkers};
 
 mod answering;
 mod engine;
 mod fault;
 mod folder;
+mod gate;
 mod job;
 pub mod laws;
 mod module_file;
@@ -30,6 +31,8 @@ pub use source::{Source, in_order};
 use std::io::ErrorKind;
 use std::process::ExitCode;
 use std::rt::{Env, Files};
+use std::sync::Wait;
+use std::thread::Threads;
 use std::{env, io};
 pub use tree::TreeFault;
 
@@ -47,17 +50,19 @@ fn report_of<R: Files + AllocGlobal>(rt: &R, job: &Job) -> Result<Vec<u8>, RunFa
     }
 }
 
-fn run_net<R: Files + AllocGlobal + Print>(
+fn run_net<R: Files + AllocGlobal + Print + Threads + Wait + Sync>(
     rt: &R,
     job: &Job,
     network: &str,
 ) -> Result<bool, RunFault>
-    requires { is_tree_job job.now ≡ false }
+    requires network { is_tree_job job.now ≡ false }
+    requires workers { HasWorkers job.now }
 {
     let network = read_file(rt, network)?;
     let report = report_of(rt, job)?;
     let mut sink = ToWrite::new(io::writer(rt));
     answer(
+        rt,
         rt.alloc(),
         job,
         network.as_slice(),
@@ -66,17 +71,19 @@ fn run_net<R: Files + AllocGlobal + Print>(
     )
 }
 
-fn run_tree<R: Files + AllocGlobal + Print + Clone + Drop>(
+fn run_tree<R: Files + AllocGlobal + Print + Threads + Wait + Sync + Clone + Drop>(
     rt: &R,
     job: &Job,
     folder: &str,
 ) -> Result<bool, RunFault>
-    requires { is_tree_job job.now ≡ true }
+    requires tree { is_tree_job job.now ≡ true }
+    requires workers { HasWorkers job.now }
 {
     let sources = sources_of(rt, folder)?;
     let report = report_of(rt, job)?;
     let mut sink = ToWrite::new(io::writer(rt));
     answer_tree(
+        rt,
         rt.alloc(),
         job,
         sources.as_slice(),
@@ -86,10 +93,12 @@ fn run_tree<R: Files + AllocGlobal + Print + Clone + Drop>(
 }
 
 /// Runs the job on the real standard output. Its files are read in the order of the words.
-fn run_job<R: Files + AllocGlobal + Print + Clone + Drop>(
+fn run_job<R: Files + AllocGlobal + Print + Threads + Wait + Sync + Clone + Drop>(
     rt: &R,
     job: &Job,
-) -> Result<bool, RunFault> {
+) -> Result<bool, RunFault>
+    requires { HasWorkers job.now }
+{
     match job {
         Job::Cut { folder, .. } | Job::Check { folder, .. } => run_tree(rt, job, folder.as_str()),
         Job::CutNet { network, .. } | Job::CheckNet { network, .. } => {
@@ -112,7 +121,7 @@ fn end_by<R: AllocGlobal + Eprint>(rt: &R, fault: &RunFault) -> ExitCode {
     }
 }
 
-fn run<R: Files + AllocGlobal + Print + Eprint + Clone + Drop>(
+fn run<R: Files + AllocGlobal + Print + Eprint + Threads + Wait + Sync + Clone + Drop>(
     rt: &R,
     words: &[String],
 ) -> ExitCode {

@@ -1,4 +1,7 @@
 //! The reading of files, and the fault of what can't be read.
+ghost use Rattle.std.specs.Prelude.{IfErr};
+ghost use Rattle.oscip.specs.Faults.{IsReadFault};
+
 use crate::RunFault;
 use std::alloc::Global;
 use std::io::{ErrorKind, Read};
@@ -9,7 +12,9 @@ use std::{fs, io};
 const FILE_LIMIT: u64 = 1 << 30;
 
 /// The fault that the path can't be read, or `Memory`.
-pub fn cannot_read(alloc: Global, path: &str) -> RunFault {
+pub fn cannot_read(alloc: Global, path: &str) -> RunFault
+    ensures { IsReadFault result }
+{
     match String::from_str(alloc, path) {
         Ok(path) => RunFault::CannotRead { path },
         Err(_) => RunFault::Memory,
@@ -17,7 +22,9 @@ pub fn cannot_read(alloc: Global, path: &str) -> RunFault {
 }
 
 /// The fault of a path that the system answered with an error.
-pub fn fault_at(alloc: Global, path: &str, error: &io::Error) -> RunFault {
+pub fn fault_at(alloc: Global, path: &str, error: &io::Error) -> RunFault
+    ensures { IsReadFault result }
+{
     if error.kind() == ErrorKind::OutOfMemory {
         RunFault::Memory
     } else {
@@ -30,7 +37,9 @@ pub fn read_front<R: Files + AllocGlobal>(
     rt: &R,
     path: &str,
     most: u64,
-) -> Result<Vec<u8>, RunFault> {
+) -> Result<Vec<u8>, RunFault>
+    ensures { IfErr result IsReadFault }
+{
     let Ok(file) = fs::open(rt, path) else {
         return Err(cannot_read(rt.alloc(), path));
     };
@@ -42,7 +51,9 @@ pub fn read_front<R: Files + AllocGlobal>(
 }
 
 /// The bytes of a network or a report, of which at most one beyond the limit is read.
-pub fn read_file<R: Files + AllocGlobal>(rt: &R, path: &str) -> Result<Vec<u8>, RunFault> {
+pub fn read_file<R: Files + AllocGlobal>(rt: &R, path: &str) -> Result<Vec<u8>, RunFault>
+    ensures { IfErr result IsReadFault }
+{
     let bytes = read_front(rt, path, FILE_LIMIT + 1)?;
     if bytes.len() as u64 <= FILE_LIMIT {
         Ok(bytes)

@@ -8,8 +8,26 @@ mod tree_runs;
 mod trees;
 mod words;
 
+use crate::Source;
 use cut_report::{Sink, SinkFault};
 use std::alloc::Global;
+use std::test::Fail;
+
+/// How many workers cut each worked network and tree, in turn.
+const WORKERS: [u32; 3] = [1, 2, 8];
+
+/// Paths and texts, in order.
+type Files<'a> = &'a [(&'a str, &'a str)];
+
+fn sources(alloc: Global, files: Files) -> Result<Vec<Source>, Fail> {
+    let mut sources = Vec::new(alloc);
+    for (path, text) in files {
+        let path = String::from_str(alloc, path)?;
+        let bytes = text.as_bytes().to_vec(alloc)?;
+        sources.push(Source { path, bytes })?;
+    }
+    Ok(sources)
+}
 
 const SIX: &[u8] = b"import A M 2\nimport M B 2\n";
 

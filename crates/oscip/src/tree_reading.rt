@@ -7,7 +7,7 @@ ghost use Rattle.oscip.specs.TreeReading.{AreRead, AreScopesOf, IsTreeOf};
 
 use crate::module_file::scopes_of;
 use crate::{Source, TreeFault};
-use cut_net::Net;
+use cut_net::{Net, NetFault};
 use ob_imports::{Graph, Parsed, graph};
 use ob_scope::Scopes;
 use ob_scope::laws::{identifiers_are_names, one_weight, weight_of_aliases};
@@ -95,6 +95,7 @@ pub(crate) fn net_of(alloc: Global, sources: &[Source]) -> Result<Net, TreeFault
     one_weight();
     match Net::from_graph(alloc, &tree.graph, tree.scopes.as_slice()) {
         Ok(net) => Ok(net),
-        Err(_) => Err(TreeFault::Memory),
+        Err(NetFault::Memory) => Err(TreeFault::Memory),
+        Err(_) => unreachable!(),
     }
 }

@@ -1,9 +1,14 @@
 //! Worked networks, each with the report of a cheapest cut between two of its modules, or the fault line and its status.
-use super::{Narrow, SIX, SIX_CUT};
+ghost use Rattle.oscip.specs.Jobs.{MayWork};
+
+use super::{Narrow, SIX, SIX_CUT, WORKERS};
+use crate::gate::OpenGate;
 use crate::{Job, RunFault, answer, check_net_bytes, cut_net_bytes, fault_line, status_of};
 use cut_net::Net;
 use std::process::Abort;
+use std::sync::Wait;
 use std::test::Fail;
+use std::thread::Threads;
 
 /// A detour over V costs nothing, and is none.
 const UNNEEDED: &[u8] = b"import A U 5\nimport U D 1\nimport A V 0\nimport V U 3\n";
@@ -30,30 +35,47 @@ fn passes(rt: &(impl Abort + AllocGlobal), net: &[u8], report: &[u8]) -> Result<
     Ok(())
 }
 
-/// Checks that the engine puts this report, and that the checker says yes to it.
-fn cuts(
-    rt: &(impl Abort + AllocGlobal),
+/// Checks that the engine puts this report with so many workers, and that the checker says yes to it.
+fn cuts_with<R: Abort + AllocGlobal + Threads + Wait + Sync>(
+    rt: &R,
+    net: &[u8],
+    a: &str,
+    b: &str,
+    workers: u32,
+    report: &[u8],
+) -> Result<(), Fail>
+    requires { MayWork workers }
+{
+    let mut out = Vec::new(rt.alloc());
+    cut_net_bytes(rt, rt.alloc(), net, a, b, workers, &OpenGate, &mut out)?;
+    assert_eq!(rt; out.as_slice(), report);
+    passes(rt, net, out.as_slice())
+}
+
+/// Checks this with each number of workers.
+fn cuts<R: Abort + AllocGlobal + Threads + Wait + Sync>(
+    rt: &R,
     net: &[u8],
     a: &str,
     b: &str,
     report: &[u8],
 ) -> Result<(), Fail> {
-    let mut out = Vec::new(rt.alloc());
-    cut_net_bytes(rt.alloc(), net, a, b, &mut out)?;
-    assert_eq!(rt; out.as_slice(), report);
-    passes(rt, net, out.as_slice())
+    for workers in WORKERS {
+        cuts_with(rt, net, a, b, workers, report)?;
+    }
+    Ok(())
 }
 
 /// Checks that the engine puts nothing and refuses its input with this fault line and status 1.
-fn refuses(
-    rt: &(impl Abort + AllocGlobal),
+fn refuses<R: Abort + AllocGlobal + Threads + Wait + Sync>(
+    rt: &R,
     net: &[u8],
     a: &str,
     b: &str,
     line: &str,
 ) -> Result<(), Fail> {
     let mut out = Vec::new(rt.alloc());
-    match cut_net_bytes(rt.alloc(), net, a, b, &mut out) {
+    match cut_net_bytes(rt, rt.alloc(), net, a, b, 2, &OpenGate, &mut out) {
         Ok(()) => assert!(rt; false, "accepted in place of {line}"),
         Err(fault) => {
             assert_eq!(rt; fault_line(rt.alloc(), &fault)?.as_str(), line);
@@ -64,17 +86,45 @@ fn refuses(
     Ok(())
 }
 
-/// Checks that the checker says yes to the report of every two modules of the network.
-fn passes_everywhere(rt: &(impl Abort + AllocGlobal), bytes: &[u8]) -> Result<(), Fail> {
+/// Checks that the checker says yes to the report of the two modules that the engine puts with each number of workers.
+fn passes_between<R: Abort + AllocGlobal + Threads + Wait + Sync>(
+    rt: &R,
+    net: &[u8],
+    a: &str,
+    b: &str,
+) -> Result<(), Fail> {
+    for workers in WORKERS {
+        let mut out = Vec::new(rt.alloc());
+        cut_net_bytes(rt, rt.alloc(), net, a, b, workers, &OpenGate, &mut out)?;
+        passes(rt, net, out.as_slice())?;
+    }
+    Ok(())
+}
+
+/// Checks this of the first module and each other one.
+fn passes_from<R: Abort + AllocGlobal + Threads + Wait + Sync>(
+    rt: &R,
+    bytes: &[u8],
+    net: &Net,
+    a: &str,
+) -> Result<(), Fail> {
+    for b in 0..net.nodes() {
+        let b = net.name(b);
+        if a != b {
+            passes_between(rt, bytes, a, b)?;
+        }
+    }
+    Ok(())
+}
+
+/// Checks this of every two modules of the network.
+fn passes_everywhere<R: Abort + AllocGlobal + Threads + Wait + Sync>(
+    rt: &R,
+    bytes: &[u8],
+) -> Result<(), Fail> {
     let net = Net::read(rt.alloc(), bytes)?;
     for a in 0..net.nodes() {
-        for b in 0..net.nodes() {
-            if a != b {
-                let mut out = Vec::new(rt.alloc());
-                cut_net_bytes(rt.alloc(), bytes, net.name(a), net.name(b), &mut out)?;
-                passes(rt, bytes, out.as_slice())?;
-            }
-        }
+        passes_from(rt, bytes, &net, net.name(a))?;
     }
     Ok(())
 }
@@ -167,15 +217,16 @@ fn a_job_is_answered_by_its_engine(rt: HostRuntime) -> Result<(), Fail> {
         network: path,
         from,
         to,
+        workers: 8,
     };
     let mut out = Vec::new(rt.alloc());
-    assert!(rt; answer(rt.alloc(), &job, SIX, b"", &mut out)?);
+    assert!(rt; answer(&rt, rt.alloc(), &job, SIX, b"", &mut out)?);
     assert_eq!(rt; out.as_slice(), SIX_CUT);
     let network = String::from_str(rt.alloc(), "six.net")?;
     let report = String::from_str(rt.alloc(), "six.cut")?;
     let job = Job::CheckNet { network, report };
     let mut out = Vec::new(rt.alloc());
-    assert!(rt; answer(rt.alloc(), &job, SIX, SIX_CUT, &mut out)?);
+    assert!(rt; answer(&rt, rt.alloc(), &job, SIX, SIX_CUT, &mut out)?);
     assert_eq!(rt; out.as_slice(), b"yes\n".as_slice());
     Ok(())
 }
@@ -195,7 +246,7 @@ fn names_are_refused(rt: HostRuntime) -> Result<(), Fail> {
 fn a_sink_that_fails_at_a_put_has_the_report_before_it(rt: HostRuntime) -> Result<(), Fail> {
     for puts in 0..SIX_CUT.len() {
         let mut sink = Narrow::new(rt.alloc(), puts as u64);
-        let answer = cut_net_bytes(rt.alloc(), SIX, "A", "B", &mut sink);
+        let answer = cut_net_bytes(&rt, rt.alloc(), SIX, "A", "B", 2, &OpenGate, &mut sink);
         assert_eq!(rt; answer, Err(RunFault::Device));
         assert_eq!(rt; sink.bytes.as_slice(), &SIX_CUT[..puts]);
         assert_eq!(rt; sink.failures, 1);

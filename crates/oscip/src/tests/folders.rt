@@ -3,7 +3,7 @@ use crate::{RunFault, Source, in_order, sources_of};
 use std::alloc::Global;
 use std::os::unix::fs::symlink;
 use std::test::Fail;
-use std::{fs, process};
+use std::{env, fs, process};
 
 fn sources(alloc: Global, paths: &[&str]) -> Result<Vec<Source>, Fail> {
     let mut sources = Vec::new(alloc);
@@ -35,7 +35,9 @@ fn order_is_strict_and_by_bytes(rt: HostRuntime) -> Result<(), Fail> {
 /// An empty folder of the test's own.
 fn new_folder(rt: &HostRuntime, test: &str) -> Result<String, Fail> {
     let id = process::id(rt.process());
-    let folder = format!(in rt.alloc(); "/tmp/oscip_{test}_{id}")?;
+    let place = env::temp_dir(rt)?;
+    let place = place.as_str();
+    let folder = format!(in rt.alloc(); "{place}/oscip_{test}_{id}")?;
     if fs::exists(rt, folder.as_str())? {
         fs::remove_dir_all(rt, folder.as_str())?;
     }
@@ -53,10 +55,24 @@ fn make_folder(rt: &HostRuntime, folder: &str, path: &str) -> Result<(), Fail> {
     Ok(())
 }
 
+fn make_folders(rt: &HostRuntime, folder: &str, paths: &[&str]) -> Result<(), Fail> {
+    for path in paths {
+        make_folder(rt, folder, path)?;
+    }
+    Ok(())
+}
+
 /// Makes a file that holds its own path.
 fn make_file(rt: &HostRuntime, folder: &str, path: &str) -> Result<(), Fail> {
     let place = below(rt.alloc(), folder, path)?;
     fs::write(rt, place.as_str(), path)?;
+    Ok(())
+}
+
+fn make_files(rt: &HostRuntime, folder: &str, paths: &[&str]) -> Result<(), Fail> {
+    for path in paths {
+        make_file(rt, folder, path)?;
+    }
     Ok(())
 }
 
@@ -79,9 +95,8 @@ fn is_refused(rt: &HostRuntime, folder: &str, walked: &str, path: &str) -> Resul
 #[test]
 fn modules_are_found_at_all_levels(rt: HostRuntime) -> Result<(), Fail> {
     let folder = new_folder(&rt, "found")?;
-    for path in ["a", "b/c.Mod", "empty/er", "other"] {
-        make_folder(&rt, folder.as_str(), path)?;
-    }
+    let folders = ["a", "b/c.Mod", "empty/er", "other"];
+    make_folders(&rt, folder.as_str(), folders.as_slice())?;
     let files = [
         "a.Mod",
         "a/z.Mod",
@@ -91,9 +106,7 @@ fn modules_are_found_at_all_levels(rt: HostRuntime) -> Result<(), Fail> {
         "x.MOD",
         "other/notes",
     ];
-    for path in files {
-        make_file(&rt, folder.as_str(), path)?;
-    }
+    make_files(&rt, folder.as_str(), files.as_slice())?;
     make_link(&rt, folder.as_str(), "nothing", "gone")?;
     let found = sources_of(&rt, folder.as_str());
     fs::remove_dir_all(&rt, folder.as_str())?;

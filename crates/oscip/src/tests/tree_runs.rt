@@ -1,14 +1,16 @@
 //! Worked trees, each with the report of a cheapest cut or the line of a check, or the fault line and its status.
-use super::Narrow;
+ghost use Rattle.oscip.specs.Jobs.{MayWork};
+
+use super::{Files, Narrow, WORKERS, sources};
+use crate::gate::OpenGate;
 use crate::{
     Job, RunFault, Source, answer_tree, check_tree, cut_tree, fault_line, in_order, status_of,
 };
 use std::alloc::Global;
 use std::process::Abort;
+use std::sync::Wait;
 use std::test::Fail;
-
-/// Paths and texts, in order.
-type Files<'a> = &'a [(&'a str, &'a str)];
+use std::thread::Threads;
 
 /// B uses D more often than A uses B, and C less often.
 const FOUR: [(&str, &str); 4] = [
@@ -27,16 +29,6 @@ const FOUR: [(&str, &str); 4] = [
 const FOUR_CUT: &[u8] =
     b"cut A D\nweight 2\nremove A B 1\nremove C D 1\nflow A B 1\nflow A C 1\nflow B D 1\nflow C D 1\nend\n";
 
-fn sources(alloc: Global, files: Files) -> Result<Vec<Source>, Fail> {
-    let mut sources = Vec::new(alloc);
-    for (path, text) in files {
-        let path = String::from_str(alloc, path)?;
-        let bytes = text.as_bytes().to_vec(alloc)?;
-        sources.push(Source { path, bytes })?;
-    }
-    Ok(sources)
-}
-
 /// Checks that the engine puts this line for a report and answers whether it is yes.
 fn says(
     rt: &(impl Abort + AllocGlobal),
@@ -53,25 +45,43 @@ fn says(
     Ok(())
 }
 
-/// Checks that the engine puts this report, and that the checker says yes to it.
-fn cuts(
-    rt: &(impl Abort + AllocGlobal),
+/// Checks that the engine puts this report with so many workers, and that the checker says yes to it.
+fn cuts_with<R: Abort + AllocGlobal + Threads + Wait + Sync>(
+    rt: &R,
+    files: Files,
+    a: &str,
+    b: &str,
+    workers: u32,
+    report: &[u8],
+) -> Result<(), Fail>
+    requires { MayWork workers }
+{
+    let sources = sources(rt.alloc(), files)?;
+    let sources = sources.as_slice();
+    assert!(rt; in_order(sources));
+    let mut out = Vec::new(rt.alloc());
+    cut_tree(rt, rt.alloc(), sources, a, b, workers, &OpenGate, &mut out)?;
+    assert_eq!(rt; out.as_slice(), report);
+    says(rt, files, out.as_slice(), b"yes\n")
+}
+
+/// Checks this with each number of workers.
+fn cuts<R: Abort + AllocGlobal + Threads + Wait + Sync>(
+    rt: &R,
     files: Files,
     a: &str,
     b: &str,
     report: &[u8],
 ) -> Result<(), Fail> {
-    let sources = sources(rt.alloc(), files)?;
-    assert!(rt; in_order(sources.as_slice()));
-    let mut out = Vec::new(rt.alloc());
-    cut_tree(rt.alloc(), sources.as_slice(), a, b, &mut out)?;
-    assert_eq!(rt; out.as_slice(), report);
-    says(rt, files, out.as_slice(), b"yes\n")
+    for workers in WORKERS {
+        cuts_with(rt, files, a, b, workers, report)?;
+    }
+    Ok(())
 }
 
 /// Checks that the search for a cut between A and B puts nothing and refuses the sources with this fault line and status 1.
-fn refuses_sources(
-    rt: &(impl Abort + AllocGlobal),
+fn refuses_sources<R: Abort + AllocGlobal + Threads + Wait + Sync>(
+    rt: &R,
     sources: &[Source],
     a: &str,
     b: &str,
@@ -79,7 +89,7 @@ fn refuses_sources(
 ) -> Result<(), Fail> {
     assert!(rt; in_order(sources));
     let mut out = Vec::new(rt.alloc());
-    match cut_tree(rt.alloc(), sources, a, b, &mut out) {
+    match cut_tree(rt, rt.alloc(), sources, a, b, 2, &OpenGate, &mut out) {
         Ok(()) => assert!(rt; false, "accepted in place of {line}"),
         Err(fault) => {
             assert_eq!(rt; fault_line(rt.alloc(), &fault)?.as_str(), line);
@@ -90,8 +100,8 @@ fn refuses_sources(
     Ok(())
 }
 
-fn refuses(
-    rt: &(impl Abort + AllocGlobal),
+fn refuses<R: Abort + AllocGlobal + Threads + Wait + Sync>(
+    rt: &R,
     files: Files,
     a: &str,
     b: &str,
@@ -102,7 +112,11 @@ fn refuses(
 }
 
 /// Checks that the text of M.Mod is refused with this line.
-fn refuses_text(rt: &(impl Abort + AllocGlobal), text: &str, line: &str) -> Result<(), Fail> {
+fn refuses_text<R: Abort + AllocGlobal + Threads + Wait + Sync>(
+    rt: &R,
+    text: &str,
+    line: &str,
+) -> Result<(), Fail> {
     refuses(rt, &[("M.Mod", text)], "A", "B", line)
 }
 
@@ -206,6 +220,22 @@ fn texts_without_tokens_are_refused(rt: HostRuntime) -> Result<(), Fail> {
     refuses_text(&rt, "a\rb\r\nc (* (* *)", "oscip: M.Mod:2:2: OpenComment\n")
 }
 
+/// The text of a module with an expression in so many brackets.
+fn nested(alloc: Global, levels: u32) -> Result<String, Fail> {
+    let opening = repeated(alloc, "(", levels)?;
+    let closing = repeated(alloc, ")", levels)?;
+    Ok(format!(in alloc; "MODULE M; BEGIN x := {opening}1{closing} END M.")?)
+}
+
+/// The text so many times in a row.
+fn repeated(alloc: Global, text: &str, times: u32) -> Result<String, Fail> {
+    let mut all = String::new(alloc);
+    for _ in 0..times {
+        all.push_str(text)?;
+    }
+    Ok(all)
+}
+
 #[test]
 fn tokens_without_a_tree_are_refused(rt: HostRuntime) -> Result<(), Fail> {
     refuses_text(&rt, "", "oscip: M.Mod:0:0: Syntax\n")?;
@@ -215,15 +245,7 @@ fn tokens_without_a_tree_are_refused(rt: HostRuntime) -> Result<(), Fail> {
         "oscip: M.Mod:0:21: Syntax\n",
     )?;
     refuses_text(&rt, "MODULE M; END N.", "oscip: M.Mod:0:14: EndName\n")?;
-    let mut deep = String::from_str(rt.alloc(), "MODULE M; BEGIN x := ")?;
-    for _ in 0..199 {
-        deep.push('(')?;
-    }
-    deep.push('1')?;
-    for _ in 0..199 {
-        deep.push(')')?;
-    }
-    deep.push_str(" END M.")?;
+    let deep = nested(rt.alloc(), 199)?;
     refuses_text(&rt, deep.as_str(), "oscip: M.Mod:0:220: TooDeep\n")
 }
 
@@ -309,15 +331,29 @@ fn a_job_on_a_tree_is_answered_by_its_engine(rt: HostRuntime) -> Result<(), Fail
     let folder = String::from_str(rt.alloc(), "four")?;
     let from = String::from_str(rt.alloc(), "A")?;
     let to = String::from_str(rt.alloc(), "D")?;
-    let job = Job::Cut { folder, from, to };
+    let job = Job::Cut {
+        folder,
+        from,
+        to,
+        workers: 8,
+    };
     let mut out = Vec::new(rt.alloc());
-    assert!(rt; answer_tree(rt.alloc(), &job, sources.as_slice(), b"", &mut out)?);
+    assert!(rt; answer_tree(&rt, rt.alloc(), &job, sources.as_slice(), b"", &mut out)?);
     assert_eq!(rt; out.as_slice(), FOUR_CUT);
     let folder = String::from_str(rt.alloc(), "four")?;
     let report = String::from_str(rt.alloc(), "four.cut")?;
     let job = Job::Check { folder, report };
     let mut out = Vec::new(rt.alloc());
-    assert!(rt; answer_tree(rt.alloc(), &job, sources.as_slice(), FOUR_CUT, &mut out)?);
+    assert!(rt;
+        answer_tree(
+            &rt,
+            rt.alloc(),
+            &job,
+            sources.as_slice(),
+            FOUR_CUT,
+            &mut out
+        )?
+    );
     assert_eq!(rt; out.as_slice(), b"yes\n".as_slice());
     Ok(())
 }
@@ -325,10 +361,11 @@ fn a_job_on_a_tree_is_answered_by_its_engine(rt: HostRuntime) -> Result<(), Fail
 #[test]
 fn a_sink_that_fails_at_a_put_has_the_front_of_the_report(rt: HostRuntime) -> Result<(), Fail> {
     let sources = sources(rt.alloc(), &FOUR)?;
-    assert!(rt; in_order(sources.as_slice()));
+    let sources = sources.as_slice();
+    assert!(rt; in_order(sources));
     for puts in 0..FOUR_CUT.len() {
         let mut sink = Narrow::new(rt.alloc(), puts as u64);
-        let answer = cut_tree(rt.alloc(), sources.as_slice(), "A", "D", &mut sink);
+        let answer = cut_tree(&rt, rt.alloc(), sources, "A", "D", 2, &OpenGate, &mut sink);
         assert_eq!(rt; answer, Err(RunFault::Device));
         assert_eq!(rt; sink.bytes.as_slice(), &FOUR_CUT[..puts]);
         assert_eq!(rt; sink.failures, 1);

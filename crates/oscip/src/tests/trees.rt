@@ -1,6 +1,7 @@
 //! Trees of files: their networks, and the fault that is answered of several.
+use super::{Files, sources};
+use crate::TreeFault;
 use crate::tree_reading::net_of;
-use crate::{Source, TreeFault};
 use cut_net::Priced;
 use ob_imports::GraphFault;
 use ob_parse::ParseFault;
@@ -10,24 +11,11 @@ use std::alloc::Global;
 use std::process::Abort;
 use std::test::Fail;
 
-/// Paths and texts, in order.
-type Files<'a> = &'a [(&'a str, &'a str)];
-
 const NO_TOKENS: &str = "MODULE A;\n  $\nEND A.";
 
 const NO_TREE: &str = "MODULE A; BEGIN x := END A.";
 
 const TWICE: &str = "MODULE A; VAR x, x: INTEGER; END A.";
-
-fn sources(alloc: Global, files: Files) -> Result<Vec<Source>, Fail> {
-    let mut sources = Vec::new(alloc);
-    for (path, text) in files {
-        let path = String::from_str(alloc, path)?;
-        let bytes = text.as_bytes().to_vec(alloc)?;
-        sources.push(Source { path, bytes })?;
-    }
-    Ok(sources)
-}
 
 fn fault_of(alloc: Global, files: Files) -> Result<Option<TreeFault>, Fail> {
     let sources = sources(alloc, files)?;
