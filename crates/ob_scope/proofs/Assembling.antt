@@ -1,26 +1,24 @@
 -- The scopes of what was found.
 use Rattle.std.proofs.Common.{◌≡◌, ℕ, suc, ◌+◌, ◌<◌, ◌≤◌, inl, inr, List, [], ◌∷◌, ◌++◌, length, map, take, Some, None, refl, sym, ap, ◌∙◌, subst, arith, length-append}
-use Rattle.std.specs.Prelude.{slice_get, slice_index, slice_index_or, Contains, String}
+use Rattle.std.specs.Prelude.{slice_get, slice_index, slice_index_or, Contains}
 use Rattle.std.specs.Str.{IsUtf8}
-use Rattle.std.specs.String.{string_bytes}
 use Rattle.std.proofs.lemmas.List.{length-map, take_all}
 use Rattle.std.proofs.lemmas.Option.{slice_get_within, get_or_from_slice_get}
 use Rattle.ob_scan.specs.declared.token.Token.{Token}
 use Rattle.ob_scope.specs.declared.meaning.MeaningRow.{MeaningRow}
 use Rattle.ob_scope.specs.declared.rows.Member.{Member}
-use Rattle.ob_scope.specs.declared.rows.Use.{Use}
 use Rattle.ob_scope.specs.declared.rows.Import.{Import}
 use Rattle.ob_scope.specs.declared.rows.Rows.{Rows}
-use Rattle.ob_scope.specs.declared.rows.Place.TheVariants as places
 use Rattle.ob_scope.specs.declared.module_scopes.Alias.{Alias}
 use Rattle.ob_scope.specs.Scope.{Block, Record, Declared, Used, NoneTwice, IsFirstTwice}
 use Rattle.ob_scope.specs.Standings.{text_at, token_at}
 use Rattle.ob_scope.specs.Listed.{ImportItem, Listing}
-use Rattle.ob_scope.specs.Rows.{block_at, declared_by, used_by}
-use Rattle.ob_scope.specs.Counted.{Counts, HasUses, IsQualifiedBy}
+use Rattle.ob_scope.specs.Rows.{declared_by, used_by}
+use Rattle.ob_scope.specs.Counted.{Counts, IsQualifiedBy}
 use Rattle.ob_scope.specs.Looked.{import_by, listing_by, no_member, AreWhole}
 use Rattle.ob_scope.specs.Places.{IsTwiceAt}
 use Rattle.ob_scope.specs.Found.{AreAliasRows, AreCounted, AreMeant, AreTexts, IsAliasRow, MeansBefore}
+use Rattle.ob_scope.specs.Interfaces.{ModuleInterface}
 use Rattle.ob_scope.specs.Kept.{alias_of, meaning_of, AreKept, AscendBy}
 use Rattle.ob_scope.specs.Weights.{uses_of_all}
 use Rattle.ob_scope.specs.Scoped.{AliasUses, AreAliases, AreScopes, IsAlias, Meaning, MeansBy, ModuleScopes}
@@ -132,11 +130,11 @@ ascend_aliases name l aliases up are i j x y below p q =
     omega (arith, (are.each i v.0 x v.1 p).alias, (are.each j w.0 y w.1 q).alias)
 
 -- the scopes are those of what the rows stand for
-pub are_scopes : (bytes : List ℕ) (ts : List Token) (r : Rows) (counts : List ℕ) (text : List ℕ) (rows : List MeaningRow) (aliases : List Alias) → AreTexts (text_at bytes ts) (listing_by r)
+pub are_scopes : (bytes : List ℕ) (ts : List Token) (r : Rows) (counts : List ℕ) (text : List ℕ) (rows : List MeaningRow) (aliases : List Alias) (seen : ModuleInterface) → AreTexts (text_at bytes ts) (listing_by r)
     → NoneTwice (text_at bytes ts) (listing_by r).members → AreMeant (text_at bytes ts) r (length r.uses.items) rows → AreCounted (text_at bytes ts) r (length r.uses.items) counts
     → AreAliasRows (text_at bytes ts) r counts (length r.imports.items) aliases → (IsUtf8 (text_at bytes ts 1) → text ≡ text_at bytes ts 1)
-    → AreScopes bytes ts (listing_by r) (record { name = text; meanings = map meaning_of rows; aliases = map alias_of aliases })
-are_scopes bytes ts r counts text rows aliases texts once meant c are is = record {
+    → AreScopes bytes ts (listing_by r) (record { name = text; meanings = map meaning_of rows; aliases = map alias_of aliases; interface = seen })
+are_scopes bytes ts r counts text rows aliases seen texts once meant c are is = record {
   once = once;
   name = is texts.first;
   meanings = λ used declared. (meaning_there (text_at bytes ts) r counts rows used declared meant, there_meaning (text_at bytes ts) r counts rows used declared meant);

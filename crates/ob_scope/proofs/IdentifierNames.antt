@@ -1,5 +1,5 @@
 -- The texts of a module's identifiers are names.
-use Rattle.std.proofs.Common.{◌≡◌, ℕ, zero, suc, ◌+◌, ◌-◌, ◌<◌, ◌⊎◌, Bool, true, false, cond, List, [], ◌∷◌, length, map, take, drop, Option, Some, None, refl, sym, ap, ◌∙◌, subst, inl, inr, arith, rules}
+use Rattle.std.proofs.Common.{◌≡◌, ℕ, zero, suc, ◌+◌, ◌-◌, ◌⊎◌, Bool, true, false, cond, List, [], ◌∷◌, length, map, take, drop, Option, Some, None, refl, sym, ap, ◌∙◌, subst, inl, inr, arith, rules}
 use Rattle.std.specs.Prelude.{◌&&◌, Contains, slice_get}
 use Rattle.std.specs.List.{All, filter_map}
 use Rattle.std.proofs.lemmas.Bool.{and_parts, cases_lt}
@@ -25,7 +25,7 @@ use Rattle.ob_tree.specs.Leaves.{leaf_of, leaves}
 use Rattle.ob_tree.specs.Marks.{Out, Begins, Ends, Identifier, Value, Word, Declares, Uses, Names, Repeats, construct, tokens_of}
 use Rattle.ob_scope.specs.declared.sort.Sort.{Sort}
 use Rattle.ob_scope.specs.declared.sort.Sort.TheVariants as sorts
-use Rattle.ob_scope.specs.Listed.{Declarer, ImportItem, Listing, declarer, declared_by, import_at, import_by, listing, member_at}
+use Rattle.ob_scope.specs.Listed.{Declarer, ImportItem, declarer, declared_by, import_at, import_by, member_at}
 use Rattle.ob_scope.specs.Scope.{Declared}
 use Rattle.ob_scope.specs.Standings.{Holder, Standing, holder, is_kind, no_token, standings, standings_from, text_at, token_at}
 use Rattle.ob_scope.specs.Identified.{AreNames}
@@ -33,17 +33,17 @@ use Rattle.ob_scope.specs.Scoped.{listing_of}
 
 -- ---- members of lists
 
-first_or_later : {X : Type 0} (y : X) (xs : List X) (x : X) → Contains (y ∷ xs) x → (y ≡ x) ⊎ Contains xs x
+pub first_or_later : {X : Type 0} (y : X) (xs : List X) (x : X) → Contains (y ∷ xs) x → (y ≡ x) ⊎ Contains xs x
 first_or_later y xs x (zero, l, e) = inl e
 first_or_later y xs x (suc k, l, e) = inr (k, omega arith, e)
 
-first_member : {X : Type 0} (y : X) (xs : List X) (x : X) → y ≡ x → Contains (y ∷ xs) x
+pub first_member : {X : Type 0} (y : X) (xs : List X) (x : X) → y ≡ x → Contains (y ∷ xs) x
 first_member y xs x e = (zero, omega arith, e)
 
-later_member : {X : Type 0} (y : X) (xs : List X) (x : X) → Contains xs x → Contains (y ∷ xs) x
+pub later_member : {X : Type 0} (y : X) (xs : List X) (x : X) → Contains xs x → Contains (y ∷ xs) x
 later_member y xs x (k, l, e) = (suc k, omega arith, e)
 
-no_member : {X : Type 0} {P : Type 0} (x : X) → Contains [] x → P
+pub no_member : {X : Type 0} {P : Type 0} (x : X) → Contains [] x → P
 no_member x (k, lt, e) = absurd (omega arith)
 
 -- ---- the kinds of identifiers
@@ -88,28 +88,39 @@ ended : {P : Type 0} (b : Bool) (k : ℕ) (hs : List Holder) (c : Construct) (is
 ended true k hs c is s f h = f (drop 1 hs) h
 ended false k hs c is s f h = f hs h
 
--- what is declared is an identifier
-declared_kind : (k : ℕ) (hs : List Holder) (ks : List Kind) (ms : Out) (s : Standing) (n : ℕ) → leaves k ks ≡ tokens_of ms → Contains (standings_from k hs (items_of ms)) s → s.item ≡ items.Declared n →
+-- an identifier
+abbrev pub IsIdentifier : Item → Type 0
+IsIdentifier (items.Begins c) = ⊥
+IsIdentifier (items.Ends c) = ⊥
+IsIdentifier (items.Declared n) = Unit {0}
+IsIdentifier (items.Used n) = Unit {0}
+IsIdentifier (items.Named n) = Unit {0}
+IsIdentifier (items.Repeated m n) = Unit {0}
+IsIdentifier (items.Value n) = ⊥
+IsIdentifier items.Word = ⊥
+
+-- an identifier's token is one
+identifier_kind : (k : ℕ) (hs : List Holder) (ks : List Kind) (ms : Out) (s : Standing) → leaves k ks ≡ tokens_of ms → Contains (standings_from k hs (items_of ms)) s → IsIdentifier s.item →
     IsKindAt k ks s.number kinds.Ident
-declared_kind k hs ks [] s n e h is = no_member s h
-declared_kind k hs ks (Begins c m ∷ ms) s n e h is = told (is_told c) k hs c (items_of ms) s (λ gs g. declared_kind k gs ks ms s n e g is) h
-declared_kind k hs ks (Ends c ∷ ms) s n e h is = ended (is_told c) k hs c (items_of ms) s (λ gs g. declared_kind k gs ks ms s n e g is) h
-declared_kind k hs ks (Identifier Declares m ∷ ms) s n e h is =
-    token_step k hs (items.Declared m) (leafs.Name m) ks (tokens_of ms) (standings_from (k + 1) hs (items_of ms)) s e h (λ same x f. ident_of k m x f) (λ rest f g. declared_kind (k + 1) hs rest ms s n f g is)
-declared_kind k hs ks (Identifier Uses m ∷ ms) s n e h is =
-    token_step k hs (items.Used m) (leafs.Name m) ks (tokens_of ms) (standings_from (k + 1) hs (items_of ms)) s e h (λ same x f. ident_of k m x f) (λ rest f g. declared_kind (k + 1) hs rest ms s n f g is)
-declared_kind k hs ks (Identifier Names m ∷ ms) s n e h is =
-    token_step k hs (items.Named m) (leafs.Name m) ks (tokens_of ms) (standings_from (k + 1) hs (items_of ms)) s e h (λ same x f. ident_of k m x f) (λ rest f g. declared_kind (k + 1) hs rest ms s n f g is)
-declared_kind k hs ks (Identifier (Repeats r) m ∷ ms) s n e h is =
-    token_step k hs (items.Repeated r m) (leafs.Name m) ks (tokens_of ms) (standings_from (k + 1) hs (items_of ms)) s e h (λ same x f. ident_of k m x f) (λ rest f g. declared_kind (k + 1) hs rest ms s n f g is)
-declared_kind k hs ks (Value l m ∷ ms) s n e h is =
-    token_step k hs (items.Value m) (leafs.Value l m) ks (tokens_of ms) (standings_from (k + 1) hs (items_of ms)) s e h (λ same x f. let g : items.Value m ≡ items.Declared n = same ∙ is in absurd cc) (λ rest f g. declared_kind (k + 1) hs rest ms s n f g is)
-declared_kind k hs ks (Word w ∷ ms) s n e h is =
-    token_step k hs items.Word (leafs.Word w) ks (tokens_of ms) (standings_from (k + 1) hs (items_of ms)) s e h (λ same x f. let g : items.Word ≡ items.Declared n = same ∙ is in absurd cc) (λ rest f g. declared_kind (k + 1) hs rest ms s n f g is)
+identifier_kind k hs ks [] s e h is = no_member s h
+identifier_kind k hs ks (Begins c m ∷ ms) s e h is = told (is_told c) k hs c (items_of ms) s (λ gs g. identifier_kind k gs ks ms s e g is) h
+identifier_kind k hs ks (Ends c ∷ ms) s e h is = ended (is_told c) k hs c (items_of ms) s (λ gs g. identifier_kind k gs ks ms s e g is) h
+identifier_kind k hs ks (Identifier Declares m ∷ ms) s e h is =
+    token_step k hs (items.Declared m) (leafs.Name m) ks (tokens_of ms) (standings_from (k + 1) hs (items_of ms)) s e h (λ same x f. ident_of k m x f) (λ rest f g. identifier_kind (k + 1) hs rest ms s f g is)
+identifier_kind k hs ks (Identifier Uses m ∷ ms) s e h is =
+    token_step k hs (items.Used m) (leafs.Name m) ks (tokens_of ms) (standings_from (k + 1) hs (items_of ms)) s e h (λ same x f. ident_of k m x f) (λ rest f g. identifier_kind (k + 1) hs rest ms s f g is)
+identifier_kind k hs ks (Identifier Names m ∷ ms) s e h is =
+    token_step k hs (items.Named m) (leafs.Name m) ks (tokens_of ms) (standings_from (k + 1) hs (items_of ms)) s e h (λ same x f. ident_of k m x f) (λ rest f g. identifier_kind (k + 1) hs rest ms s f g is)
+identifier_kind k hs ks (Identifier (Repeats r) m ∷ ms) s e h is =
+    token_step k hs (items.Repeated r m) (leafs.Name m) ks (tokens_of ms) (standings_from (k + 1) hs (items_of ms)) s e h (λ same x f. ident_of k m x f) (λ rest f g. identifier_kind (k + 1) hs rest ms s f g is)
+identifier_kind k hs ks (Value l m ∷ ms) s e h is =
+    token_step k hs (items.Value m) (leafs.Value l m) ks (tokens_of ms) (standings_from (k + 1) hs (items_of ms)) s e h (λ same x f. absurd (subst IsIdentifier (sym same) is)) (λ rest f g. identifier_kind (k + 1) hs rest ms s f g is)
+identifier_kind k hs ks (Word w ∷ ms) s e h is =
+    token_step k hs items.Word (leafs.Word w) ks (tokens_of ms) (standings_from (k + 1) hs (items_of ms)) s e h (λ same x f. absurd (subst IsIdentifier (sym same) is)) (λ rest f g. identifier_kind (k + 1) hs rest ms s f g is)
 
 -- ---- the names of imported modules
 
-from_filter_map : {X Y : Type 0} (f : X → Option Y) (xs : List X) (y : Y) → Contains (filter_map f xs) y → (x : X) × Contains xs x × (f x ≡ Some y)
+pub from_filter_map : {X Y : Type 0} (f : X → Option Y) (xs : List X) (y : Y) → Contains (filter_map f xs) y → (x : X) × Contains xs x × (f x ≡ Some y)
 from_filter_map f [] y h = no_member y h
 from_filter_map {X} {Y} f (x ∷ xs) y h = go (f x) refl (from_filter_map f xs y)
   where
@@ -126,7 +137,7 @@ from_filter_map {X} {Y} f (x ∷ xs) y h = go (f x) refl (from_filter_map f xs y
         ]
 
 -- the token that names the module of an import item
-abbrev named_at : List Token → ℕ → ℕ
+abbrev pub named_at : List Token → ℕ → ℕ
 named_at ts k = cond (is_kind ts (k + 1) kinds.Assign && is_kind ts (k + 2) kinds.Ident) (k + 2) k
 
 -- what an import item is made of
@@ -171,7 +182,7 @@ kind_there (t ∷ ts) (suc k) kind e = kind_there ts k kind e
 abbrev pub AreNamed : List ℕ → List Token → Type 0
 AreNamed bytes ts = All (λ t. t.kind ≡ kinds.Ident → is_name (take (t.end - t.start) (drop t.start bytes)) ≡ true) ts
 
-ident_named : (bytes : List ℕ) (ts : List Token) (k : ℕ) → AreNamed bytes ts → (token_at ts k).kind ≡ kinds.Ident → is_name (text_at bytes ts k) ≡ true
+pub ident_named : (bytes : List ℕ) (ts : List Token) (k : ℕ) → AreNamed bytes ts → (token_at ts k).kind ≡ kinds.Ident → is_name (text_at bytes ts k) ≡ true
 ident_named bytes ts k named e = elim (cases_lt k (length ts)) [
   | inl within ↦ All-get_or (λ (t : Token). t.kind ≡ kinds.Ident → is_name (take (t.end - t.start) (drop t.start bytes)) ≡ true) ts k no_token within named e
   | inr past ↦ let none : kinds.Dot ≡ kinds.Ident = sym (ap (λ (t : Token). t.kind) (get_or_past ts k no_token past)) ∙ e in absurd cc
@@ -216,11 +227,14 @@ module _ (bytes : List ℕ) (ts : List Token) (m : Module) (named : AreNamed byt
       let (l, ls, e) = name_spelled m in
       ident_named bytes ts 1 named (kind_there ts 1 kinds.Ident (second_ident _ l m.name ls (derived ∙ e)))
 
-  declared_ident : (s : Standing) (n : ℕ) → Contains (standings (items_of (module_outline m))) s → s.item ≡ items.Declared n → (token_at ts s.number).kind ≡ kinds.Ident
-  declared_ident s n h is =
-      let at = declared_kind 0 [] (map (λ (t : Token). t.kind) ts) (module_outline m) s n derived h is in
+  pub identifier_ident : (s : Standing) → Contains (standings (items_of (module_outline m))) s → IsIdentifier s.item → (token_at ts s.number).kind ≡ kinds.Ident
+  identifier_ident s h is =
+      let at = identifier_kind 0 [] (map (λ (t : Token). t.kind) ts) (module_outline m) s derived h is in
       let same : at.place ≡ s.number = (let e = at.is in omega arith) in
       subst (λ (k : ℕ). (token_at ts k).kind ≡ kinds.Ident) same (kind_there ts at.place kinds.Ident at.there)
+
+  declared_ident : (s : Standing) (n : ℕ) → Contains (standings (items_of (module_outline m))) s → s.item ≡ items.Declared n → (token_at ts s.number).kind ≡ kinds.Ident
+  declared_ident s n h is = identifier_ident s h (subst IsIdentifier (sym is) tt)
 
   member_named : (d : Declared) → Contains (listing_of ts m).members d → is_name (text_at bytes ts d.number) ≡ true
   member_named d h =

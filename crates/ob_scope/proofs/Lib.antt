@@ -24,3 +24,9 @@ pub mod FrameFacts
 pub mod IdentifierNames
 pub mod Whole
 pub mod TestCounts
+pub mod Copies
+pub mod TellerSteps
+pub mod ToldNames
+pub mod FormParts
+pub mod ToldSeen
+pub mod SeenMembers

@@ -1,5 +1,5 @@
 -- The rows of a module are whole, and stand for what it declares and looks up.
-use Rattle.std.proofs.Common.{◌≡◌, ℕ, zero, suc, ◌+◌, ◌<◌, ◌≤◌, Bool, true, false, cond, List, [], ◌∷◌, length, map, Some, None, refl, sym, ap, ap₂, ◌∙◌, subst, arith}
+use Rattle.std.proofs.Common.{◌≡◌, ℕ, zero, suc, ◌+◌, ◌<◌, ◌≤◌, Bool, true, false, cond, List, [], ◌∷◌, length, map, Some, refl, sym, ap, ap₂, ◌∙◌, subst, arith}
 use Rattle.std.specs.Prelude.{slice_get, slice_index_or}
 use Rattle.std.specs.List.{list_all}
 use Rattle.std.specs.Char.{is_ascii_alphabetic, is_ascii_alphanumeric}
@@ -12,9 +12,7 @@ use Rattle.std.proofs.lemmas.Str.{IsUtf8-from_ascii}
 use Rattle.std.proofs.lemmas.Str.Ascii.{IsAscii-nil, IsAscii-cons}
 use Rattle.ob_scan.specs.declared.kind.Kind.{Kind}
 use Rattle.ob_scan.specs.declared.token.Token.{Token}
-use Rattle.ob_scan.specs.Spelling.{IsOutcome, Reads, Spells, AreInText}
 use Rattle.ob_scan.specs.Tokens.{is_name}
-use Rattle.ob_tree.specs.declared.construct.Construct.{Construct}
 use Rattle.ob_tree.specs.declared.declaration.Module.{Module}
 use Rattle.ob_tree.specs.declared.item.Item.{Item}
 use Rattle.ob_tree.specs.declared.item.Item.TheVariants as items
@@ -23,7 +21,6 @@ use Rattle.ob_tree.specs.Declaring.{module_outline}
 use Rattle.ob_tree.specs.Derives.{Derives, items_of}
 use Rattle.ob_tree.specs.Leaves.{leaves}
 use Rattle.ob_tree.specs.Marks.{Out, Begins, Ends, Identifier, Value, Word, Declares, Uses, Names, Repeats, tokens_of}
-use Rattle.ob_scope.specs.declared.rows.Block.{Block as BlockRow}
 use Rattle.ob_scope.specs.declared.rows.Member.{Member}
 use Rattle.ob_scope.specs.declared.rows.Import.{Import}
 use Rattle.ob_scope.specs.declared.rows.Rows.{Rows}
@@ -34,7 +31,7 @@ use Rattle.ob_scope.specs.Looked.{import_by, listing_by, no_member, AreWhole}
 use Rattle.ob_scope.specs.Rows.{AreImports, AreRows, IsImport}
 use Rattle.ob_scope.specs.Scope.{Declared, Used}
 use Rattle.ob_scope.specs.Scoped.{listing_of}
-use Rattle.ob_scope.specs.Standings.{standings, text_at}
+use Rattle.ob_scope.specs.Standings.{standings}
 use Rattle.ob_scope.specs.Wholes.{tokens_in}
 use Rattle.ob_scope.proofs.Ascending.{ascending, imports-ascend}
 use Rattle.ob_scope.proofs.Elements.{slice_there}
@@ -134,7 +131,7 @@ others_ascii (b ∷ bytes) e =
     let p = and_parts _ _ e in
     IsAscii-cons b bytes (small b p.0) (others_ascii bytes p.1)
 
-name_is_text : (bytes : List ℕ) → is_name bytes ≡ true → IsUtf8 bytes
+pub name_is_text : (bytes : List ℕ) → is_name bytes ≡ true → IsUtf8 bytes
 name_is_text [] e = IsUtf8-from_ascii [] IsAscii-nil
 name_is_text (b ∷ bytes) e =
     let p = and_parts _ _ e in

@@ -2,6 +2,9 @@ pub mod Standings
 pub mod Wholes
 pub mod Scope
 pub mod Listed
+pub mod Interfaces
+pub mod Told
+pub mod ToldRows
 pub mod Identified
 pub mod Counted
 pub mod Rows

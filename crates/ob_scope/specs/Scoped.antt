@@ -2,7 +2,6 @@
 use Rattle.std.specs.Prelude.{◌≡◌, ℕ, ◌<◌, ◌↔◌, List, length, slice_get, Some, Contains}
 use Rattle.std.specs.String.{string_bytes}
 use Rattle.ob_scan.specs.declared.token.Token.{Token}
-use Rattle.ob_tree.specs.declared.item.Item.{Item}
 use Rattle.ob_tree.specs.declared.declaration.Module.{Module}
 use Rattle.ob_tree.specs.Declaring.{module_outline}
 use Rattle.ob_tree.specs.Derives.{items_of}
@@ -12,6 +11,7 @@ use Rattle.ob_scope.specs.Scope.{Block, Record, Declared, Used, Means, IsFirstTw
 use Rattle.ob_scope.specs.Standings.{text_at, token_at}
 use Rattle.ob_scope.specs.Listed.{ImportItem, Listing, listing}
 use Rattle.ob_scope.specs.Counted.{HasUses}
+use Rattle.ob_scope.specs.Interfaces.{ModuleInterface}
 
 -- a use with the declaration that it means, by their tokens
 pub record Meaning : Type 0 where
@@ -24,11 +24,12 @@ pub record AliasUses : Type 0 where
   pub imported : List ℕ
   pub uses : ℕ
 
--- the name of the module, what its uses mean, and its aliases, each list in order
+-- the name of the module, what its uses mean, and its aliases, each list in order, and what other modules see of it
 pub record ModuleScopes : Type 0 where
   pub name : List ℕ
   pub meanings : List Meaning
   pub aliases : List AliasUses
+  pub interface : ModuleInterface
 
 -- what a module of these tokens declares and looks up
 abbrev pub listing_of : List Token → Module → Listing

@@ -67,7 +67,7 @@ pub(crate) fn opens_with(tokens: &[Token], number: u32, items: &[Item], kind: Ki
 }
 
 /// What a construct declares its identifiers as.
-fn sort_of(construct: Construct) -> Option<Sort>
+pub(crate) fn sort_of(construct: Construct) -> Option<Sort>
     ensures { result ≡ declares construct }
 {
     match construct {

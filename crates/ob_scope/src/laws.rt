@@ -1,5 +1,5 @@
 //! Laws of scopes. Each function is a law: its body is empty, and its contract is proved.
-ghost use Rattle.std.specs.Prelude.{◌≡◌, if◌then◌else◌, ◌≤◌, ◌<◌, ◌+◌, ℕ, List, [], ◌∷◌, ◌++◌, Contains, Some, length, map, slice_get};
+ghost use Rattle.std.specs.Prelude.{◌≡◌, if◌then◌else◌, ◌≤◌, ◌<◌, ◌+◌, ℕ, List, [], ◌∷◌, ◌++◌, Contains, Some, true, length, map, slice_get};
 ghost use Rattle.ob_scan.specs.Spelling.{Spells};
 ghost use Rattle.ob_scan.specs.declared.token.Token.{Token};
 ghost use Rattle.ob_tree.specs.declared.construct.Construct.{Construct};
@@ -12,8 +12,9 @@ ghost use Rattle.ob_tree.specs.declared.declaration.Module.{Module};
 ghost use Rattle.ob_tree.specs.Declaring.{module_outline};
 ghost use Rattle.ob_scope.specs.Counted.{HasWeight};
 ghost use Rattle.ob_scope.specs.Identified.{AreNames};
+ghost use Rattle.ob_scope.specs.Interfaces.{interface_by, is_seen, Declaration, IsSeenAs};
 ghost use Rattle.ob_scope.specs.Listed.{ImportItem, Listing, listing};
-ghost use Rattle.ob_scope.specs.Scope.{Declared, IsFirstTwice, Means, NoneTwice, Used};
+ghost use Rattle.ob_scope.specs.Scope.{Block, Declared, IsFirstTwice, Means, NoneTwice, Used};
 ghost use Rattle.ob_scope.specs.Scoped.{AliasUses, AreScopes, ModuleScopes, listing_of};
 ghost use Rattle.ob_scope.specs.Standings.{Holder, holder, standings_from, text_at};
 ghost use Rattle.ob_scope.specs.Weights.{uses_across, uses_of_all};
@@ -98,4 +99,13 @@ pub fn whole_module()
 /// The identifiers of a module are names: its own, those that it declares, and those of the modules that it imports.
 pub fn identifiers_are_names()
     ensures { (bytes : List ℕ) (ts : List Token) (m : Module) → Spells bytes ts → Derives (map (λ t. t.kind) ts) m → AreNames (text_at bytes ts) (listing_of ts m) }
+{}
+
+/// What is seen of a module is what its block, and the records that stand there, declare; and each constant, type, variable
+/// and procedure of the block is seen.
+pub fn seen_declarations()
+    ensures declared { (bytes : List ℕ) (ts : List Token) (is : List Item) (x : Declaration) → Contains (interface_by bytes ts is).declarations x →
+        (d : Declared) × Contains (listing ts is).members d × IsSeenAs bytes ts d x }
+    ensures seen { (bytes : List ℕ) (ts : List Token) (is : List Item) (d : Declared) → Contains (listing ts is).members d → d.place ≡ Block [] → is_seen d.sort ≡ true →
+        (x : Declaration) × Contains (interface_by bytes ts is).declarations x × IsSeenAs bytes ts d x }
 {}

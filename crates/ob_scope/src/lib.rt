@@ -4,7 +4,10 @@
 #![tactic(auto)]
 
 mod fault;
+mod forms;
 mod frame;
+mod interfaces;
+mod interfacing;
 pub mod laws;
 mod listing;
 mod looking;
@@ -15,11 +18,14 @@ mod places;
 mod rows;
 mod scoping;
 mod sort;
+mod teller;
 mod text;
+mod told;
 mod uses;
 
 pub use fault::ScopeFault;
-pub use module_scopes::{Alias, Scopes};
+pub use interfaces::{Base, Declaration, ImportedModule, Interface, TypePart};
+pub use module_scopes::{Alias, Scopes, interface};
 pub use scoping::scopes;
 pub use sort::Sort;
 

@@ -34,7 +34,7 @@ pub(crate) struct Lister {
 }
 
 /// The number of the token that names what an import item imports.
-fn imported_by(tokens: &[Token], alias: u32) -> u32
+pub(crate) fn imported_by(tokens: &[Token], alias: u32) -> u32
     requires { alias ≤ 16777216 }
     ensures { import_by tokens.now alias sorts.Import ≡ Some (record { alias = alias; imported = result }) }
 {

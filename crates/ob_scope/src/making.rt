@@ -2,6 +2,7 @@
 ghost use Rattle.std.specs.Prelude.{◌≡◌, ◌<◌, ◌≤◌, ℕ, [], length, slice_get, Some, IfOk, IfErr};
 ghost use Rattle.ob_scan.specs.Spelling.{AreInText};
 ghost use Rattle.ob_scope.specs.Found.{AreAliasRows, AreCounted, AreMeant, AreTexts};
+ghost use Rattle.ob_scope.specs.Interfaces.{interface_said};
 ghost use Rattle.ob_scope.specs.Looked.{listing_by, AreWhole};
 ghost use Rattle.ob_scope.specs.Places.{IsTable, TellsTwice};
 ghost use Rattle.ob_scope.specs.Scope.{NoneTwice};
@@ -12,7 +13,7 @@ use crate::places::{TableFault, table_of};
 use crate::rows::{Place, Rows};
 use crate::text::Text;
 use crate::uses::{Found, found_by};
-use crate::{Alias, ScopeFault, Scopes};
+use crate::{Alias, Interface, ScopeFault, Scopes};
 use ob_scan::Token;
 use std::alloc::{AllocError, Global};
 
@@ -76,14 +77,21 @@ fn fault_of(
 }
 
 /// The scopes of what was found.
-fn scopes_of(alloc: Global, text: &Text, rows: &Rows, found: Found) -> Result<Scopes, AllocError>
+fn scopes_of(
+    alloc: Global,
+    text: &Text,
+    rows: &Rows,
+    found: Found,
+    interface: Interface,
+) -> Result<Scopes, AllocError>
     requires in_text { AreInText text.now.bytes.now text.now.tokens.now }
     requires whole { AreWhole rows.now }
     requires texts { AreTexts (text_at text.now.bytes.now text.now.tokens.now) (listing_by rows.now) }
     requires once { NoneTwice (text_at text.now.bytes.now text.now.tokens.now) (listing_by rows.now).members }
     requires meant { AreMeant (text_at text.now.bytes.now text.now.tokens.now) rows.now (length rows.now.uses.items) found.meanings.items }
     requires counted { AreCounted (text_at text.now.bytes.now text.now.tokens.now) rows.now (length rows.now.uses.items) found.counts.items }
-    ensures { IfOk result (AreScopes text.now.bytes.now text.now.tokens.now (listing_by rows.now)) }
+    ensures scoped { IfOk result (AreScopes text.now.bytes.now text.now.tokens.now (listing_by rows.now)) }
+    ensures seen { IfOk result (λ s. s.interface ≡ interface_said interface) }
 {
     let aliases = aliases_of(alloc, text, rows, found.counts.as_slice())?;
     let name = text.string(alloc, 1)?;
@@ -91,6 +99,7 @@ fn scopes_of(alloc: Global, text: &Text, rows: &Rows, found: Found) -> Result<Sc
         name,
         meanings: found.meanings,
         aliases,
+        interface,
     })
 }
 
@@ -98,6 +107,7 @@ fn scopes_of(alloc: Global, text: &Text, rows: &Rows, found: Found) -> Result<Sc
 pub(crate) fn scopes_from(
     alloc: Global,
     rows: &Rows,
+    interface: Interface,
     tokens: &[Token],
     bytes: &[u8],
 ) -> Result<Scopes, ScopeFault>
@@ -105,13 +115,14 @@ pub(crate) fn scopes_from(
     requires whole { AreWhole rows.now }
     requires texts { AreTexts (text_at bytes.now tokens.now) (listing_by rows.now) }
     ensures scoped { IfOk result (AreScopes bytes.now tokens.now (listing_by rows.now)) }
+    ensures seen { IfOk result (λ s. s.interface ≡ interface_said interface) }
     ensures fault { IfErr result (IsScopeFault bytes.now tokens.now (listing_by rows.now)) }
 {
     let text = Text { bytes, tokens };
     match table_of(alloc, &text, rows.members.as_slice()) {
         Ok(table) => {
             let found = found_by(alloc, &text, &table, rows)?;
-            Ok(scopes_of(alloc, &text, rows, found)?)
+            Ok(scopes_of(alloc, &text, rows, found, interface)?)
         }
         Err(fault) => Err(fault_of(alloc, &text, rows, fault)?),
     }

@@ -3,6 +3,7 @@ mod checks;
 mod cuts;
 mod faults;
 mod folders;
+mod interfaces;
 mod scopes;
 mod tree_runs;
 mod trees;

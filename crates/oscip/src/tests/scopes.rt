@@ -6,7 +6,11 @@ use std::alloc::Global;
 use std::process::Abort;
 use std::test::Fail;
 
-fn scopes_of(rt: &impl Abort, alloc: Global, bytes: &[u8]) -> Result<Scopes, ScopeFault> {
+pub(crate) fn scopes_of(
+    rt: &impl Abort,
+    alloc: Global,
+    bytes: &[u8],
+) -> Result<Scopes, ScopeFault> {
     let Ok(tokens) = scan(alloc, bytes) else {
         panic!(rt; "no tokens");
     };

@@ -1,0 +1,108 @@
+-- What is known of the rows that tokens tell while an interface is made.
+use Rattle.std.specs.Prelude.{ℕ, ◌==◌, ◌++◌, List, [], map, slice_index_or, Option, Some, None, if◌then◌else◌}
+use Rattle.std.specs.List.{filter_map}
+use Rattle.std.specs.Option.{option_to_list}
+use Rattle.std.specs.Str.{IsUtf8}
+use Rattle.std.specs.declared.alloc.Global.{Global}
+use Rattle.std.specs.declared.vec.Vec.{Vec}
+use Rattle.ob_scan.specs.declared.token.Token.{Token}
+use Rattle.ob_scope.specs.declared.told.Part.{Part as PartRow}
+use Rattle.ob_scope.specs.declared.told.Part.TheVariants as rows
+use Rattle.ob_scope.specs.declared.told.Told.{Told}
+use Rattle.ob_scope.specs.declared.told.Told.TheVariants as tolds
+use Rattle.ob_scope.specs.Standings.{text_at, token_at}
+use Rattle.ob_scope.specs.Interfaces.{Array, Pointer, Record, Procedure, Name, Qualified, Part, Declaration, Base, Imported, ModuleInterface}
+
+-- Below, a name is the text of a token by the token's number, and a start where it begins.
+
+-- a part with its names as texts
+abbrev pub part_text : (ℕ → List ℕ) → PartRow → Part
+part_text name rows.Array = Array
+part_text name rows.Pointer = Pointer
+part_text name (rows.Record k) = Record k
+part_text name rows.Procedure = Procedure
+part_text name (rows.Name k) = Name (name k)
+part_text name (rows.Qualified a k) = Qualified (name a) (name k)
+
+-- the part that a token tells of the form that this declaration gives
+abbrev pub part_of : ℕ → Told → Option PartRow
+part_of owner (tolds.Member k sort exported in_record o) = None
+part_of owner (tolds.Part o p) = if o == owner then Some p else None
+part_of owner (tolds.Base k p) = None
+part_of owner (tolds.Import a k) = None
+
+-- the form that a declaration gives: all parts that the tokens of its types tell, in order
+abbrev pub parts_of : List Told → ℕ → List PartRow
+parts_of told owner = filter_map (part_of owner) told
+
+-- a declaration as other modules see it, where each declaration gives these parts
+abbrev pub declaration_told : (ℕ → List ℕ) → (ℕ → ℕ) → (ℕ → List PartRow) → Told → Option Declaration
+declaration_told name start parts (tolds.Member k sort exported in_record o) =
+    Some (record { name = name k; start = start k; sort = sort; exported = exported; of_record = in_record; form = map (part_text name) (parts o) })
+declaration_told name start parts (tolds.Part o p) = None
+declaration_told name start parts (tolds.Base k p) = None
+declaration_told name start parts (tolds.Import a k) = None
+
+-- a base as other modules see it
+abbrev pub base_told : (ℕ → List ℕ) → Told → Option Base
+base_told name (tolds.Member k sort exported in_record o) = None
+base_told name (tolds.Part o p) = None
+base_told name (tolds.Base k p) = Some (record { of_record = k; name = part_text name p })
+base_told name (tolds.Import a k) = None
+
+-- an import item as other modules see it
+abbrev pub import_seen : (ℕ → List ℕ) → (ℕ → ℕ) → Told → Option Imported
+import_seen name start (tolds.Member k sort exported in_record o) = None
+import_seen name start (tolds.Part o p) = None
+import_seen name start (tolds.Base k p) = None
+import_seen name start (tolds.Import a k) = Some (record { alias = name a; start = start a; module_name = name k })
+
+-- the interface of a module whose tokens tell this, where each declaration gives these parts
+abbrev pub interface_rows : (ℕ → List ℕ) → (ℕ → ℕ) → (ℕ → List PartRow) → List Told → ModuleInterface
+interface_rows name start parts told = record {
+  name = name 1;
+  declarations = filter_map (declaration_told name start parts) told;
+  bases = filter_map (base_told name) told;
+  imports = filter_map (import_seen name start) told;
+}
+
+-- with what one more token tells
+abbrev pub interface_more : (ℕ → List ℕ) → (ℕ → ℕ) → (ℕ → List PartRow) → Told → ModuleInterface → ModuleInterface
+interface_more name start parts t i = record {
+  name = i.name;
+  declarations = i.declarations ++ option_to_list (declaration_told name start parts t);
+  bases = i.bases ++ option_to_list (base_told name t);
+  imports = i.imports ++ option_to_list (import_seen name start t);
+}
+
+-- where a token begins
+abbrev pub start_at : List Token → ℕ → ℕ
+start_at ts k = (token_at ts k).start
+
+-- the interface of a module of these bytes, whose tokens tell this
+abbrev pub interface_told : List ℕ → List Token → List Told → ModuleInterface
+interface_told bytes ts told = interface_rows (text_at bytes ts) (start_at ts) (parts_of told) told
+
+-- the lists of parts
+abbrev pub lists : List (Vec PartRow Global) → List (List PartRow)
+lists forms = map (λ f. f.items) forms
+
+-- the parts in the list of this number
+abbrev pub list_at : List (Vec PartRow Global) → ℕ → List PartRow
+list_at forms owner = slice_index_or (lists forms) owner []
+
+-- the names of a part are texts of characters
+abbrev pub IsPartText : (ℕ → List ℕ) → PartRow → Type 0
+IsPartText name rows.Array = Unit {0}
+IsPartText name rows.Pointer = Unit {0}
+IsPartText name (rows.Record k) = Unit {0}
+IsPartText name rows.Procedure = Unit {0}
+IsPartText name (rows.Name k) = IsUtf8 (name k)
+IsPartText name (rows.Qualified a k) = IsUtf8 (name a) × IsUtf8 (name k)
+
+-- the names of what a token tells are
+abbrev pub IsToldText : (ℕ → List ℕ) → Told → Type 0
+IsToldText name (tolds.Member k sort exported in_record o) = IsUtf8 (name k)
+IsToldText name (tolds.Part o p) = IsPartText name p
+IsToldText name (tolds.Base k p) = IsPartText name p
+IsToldText name (tolds.Import a k) = IsUtf8 (name a) × IsUtf8 (name k)

@@ -1,0 +1,143 @@
+//! Interfaces from what the tokens tell.
+ghost use Rattle.std.specs.Prelude.{◌≡◌, ◌≤◌, ℕ, map, length, IfOk};
+ghost use Rattle.std.specs.List.{All};
+ghost use Rattle.std.specs.Str.{IsUtf8};
+ghost use Rattle.ob_scan.specs.Spelling.{AreInText};
+ghost use Rattle.ob_scope.specs.Interfaces.{interface_said, part_said};
+ghost use Rattle.ob_scope.specs.ToldRows.{interface_more, interface_told, list_at, part_text, start_at, IsPartText, IsToldText};
+ghost use Rattle.ob_scope.specs.Standings.{standings, text_at};
+ghost use Rattle.ob_scope.specs.Told.{told_in};
+
+use crate::forms::{form_at, forms_of};
+use crate::interfaces::{Base, Declaration, ImportedModule, Interface, TypePart};
+use crate::teller::told_in;
+use crate::text::Text;
+use crate::told::{Part, Told};
+use ob_scan::Token;
+use ob_tree::item::Item;
+use std::alloc::{AllocError, Global};
+
+/// A part with its names as texts.
+fn part_text(alloc: Global, text: &Text, part: Part) -> Result<TypePart, AllocError>
+    requires in_text { AreInText text.now.bytes.now text.now.tokens.now }
+    requires names { IsPartText (text_at text.now.bytes.now text.now.tokens.now) part }
+    ensures { IfOk result (λ p. part_said p ≡ part_text (text_at text.now.bytes.now text.now.tokens.now) part) }
+{
+    match part {
+        Part::Array => Ok(TypePart::Array),
+        Part::Pointer => Ok(TypePart::Pointer),
+        Part::Record(number) => Ok(TypePart::Record(number)),
+        Part::Procedure => Ok(TypePart::Procedure),
+        Part::Name(number) => {
+            let name = text.string(alloc, number)?;
+            Ok(TypePart::Name(name))
+        }
+        Part::Qualified(alias, number) => {
+            let alias = text.string(alloc, alias)?;
+            let name = text.string(alloc, number)?;
+            Ok(TypePart::Qualified(alias, name))
+        }
+    }
+}
+
+/// A form with its names as texts.
+fn form_text(alloc: Global, text: &Text, parts: &[Part]) -> Result<Vec<TypePart>, AllocError>
+    requires in_text { AreInText text.now.bytes.now text.now.tokens.now }
+    requires names { All (IsPartText (text_at text.now.bytes.now text.now.tokens.now)) parts.now }
+    ensures { IfOk result (λ v. map part_said v.items ≡ map (part_text (text_at text.now.bytes.now text.now.tokens.now)) parts.now) }
+{
+    let mut form = Vec::new(alloc);
+    for part in parts {
+        form.push(part_text(alloc, text, *part)?)?;
+    }
+    Ok(form)
+}
+
+/// Adds what a token tells.
+fn add(
+    alloc: Global,
+    text: &Text,
+    forms: &[Vec<Part>],
+    told: Told,
+    interface: &mut Interface,
+) -> Result<(), AllocError>
+    requires in_text { AreInText text.now.bytes.now text.now.tokens.now }
+    requires names { IsToldText (text_at text.now.bytes.now text.now.tokens.now) told }
+    requires parts { (u : ℕ) → All (IsPartText (text_at text.now.bytes.now text.now.tokens.now)) (list_at forms.now u) }
+    ensures { IfOk result (λ _. interface_said interface.new ≡
+        interface_more (text_at text.now.bytes.now text.now.tokens.now) (start_at text.now.tokens.now) (list_at forms.now) told (interface_said interface.old)) }
+{
+    match told {
+        Told::Member {
+            number,
+            sort,
+            exported,
+            record,
+            owner,
+        } => {
+            let name = text.string(alloc, number)?;
+            let form = form_text(alloc, text, form_at(forms, owner))?;
+            interface.declarations.push(Declaration {
+                name,
+                start: text.start(number),
+                sort,
+                exported,
+                record,
+                form,
+            })?;
+        }
+        Told::Part { owner: _, part: _ } => {}
+        Told::Base { record, name } => {
+            let name = part_text(alloc, text, name)?;
+            interface.bases.push(Base { record, name })?;
+        }
+        Told::Import { alias, imported } => {
+            let name = text.string(alloc, alias)?;
+            let module = text.string(alloc, imported)?;
+            interface.imports.push(ImportedModule {
+                alias: name,
+                start: text.start(alias),
+                module,
+            })?;
+        }
+    }
+    Ok(())
+}
+
+/// The interface that the tokens tell.
+fn interface_from(alloc: Global, text: &Text, told: &[Told]) -> Result<Interface, AllocError>
+    requires in_text { AreInText text.now.bytes.now text.now.tokens.now }
+    requires first { IsUtf8 (text_at text.now.bytes.now text.now.tokens.now 1) }
+    requires names { All (IsToldText (text_at text.now.bytes.now text.now.tokens.now)) told.now }
+    ensures { IfOk result (λ i. interface_said i ≡ interface_told text.now.bytes.now text.now.tokens.now told.now) }
+{
+    let forms = forms_of(alloc, told)?;
+    let mut interface = Interface {
+        name: text.string(alloc, 1)?,
+        declarations: Vec::new(alloc),
+        bases: Vec::new(alloc),
+        imports: Vec::new(alloc),
+    };
+    for i in 0..told.len() {
+        add(alloc, text, forms.as_slice(), told[i], &mut interface)?;
+    }
+    Ok(interface)
+}
+
+/// The interface of the module of these items.
+pub(crate) fn interface_in(
+    alloc: Global,
+    items: &[Item],
+    tokens: &[Token],
+    bytes: &[u8],
+) -> Result<Interface, AllocError>
+    requires in_text { AreInText bytes.now tokens.now }
+    requires whole { length (standings items.now) ≤ length tokens.now }
+    requires few { length tokens.now ≤ 16777216 }
+    requires first { IsUtf8 (text_at bytes.now tokens.now 1) }
+    requires names { All (IsToldText (text_at bytes.now tokens.now)) (told_in tokens.now items.now) }
+    ensures { IfOk result (λ i. interface_said i ≡ interface_told bytes.now tokens.now (told_in tokens.now items.now)) }
+{
+    let told = told_in(alloc, items, tokens)?;
+    interface_from(alloc, &Text { bytes, tokens }, told.as_slice())
+}
