@@ -18,5 +18,10 @@ pub mod Sound
 pub mod Histories
 pub mod Playing
 pub mod Settling
-pub mod Spreading
+pub mod Searching
 pub mod Longer
+pub mod Carrying
+pub mod Saturating
+pub mod Leaving
+pub mod Fields
+pub mod Exchanging

@@ -22,14 +22,28 @@ get_or-opening_flows source [] i = sym (same_either_way (0 == source) 0)
 get_or-opening_flows source (e ∷ es) zero = refl
 get_or-opening_flows source (e ∷ es) (suc i) = get_or-opening_flows source es i
 
-pub get_or-zeros : (n v : ℕ) → ◌≡◌ {A = ℕ} (get_or (replicate n 0) v 0) 0
-get_or-zeros zero v = refl
-get_or-zeros (suc n) zero = refl
-get_or-zeros (suc n) (suc v) = get_or-zeros n v
+-- a list of one value, read with that value past its end
+pub get_or-alike : {A : Type 0} (n v : ℕ) (x : A) → get_or (replicate n x) v x ≡ x
+get_or-alike zero v x = refl
+get_or-alike (suc n) zero x = refl
+get_or-alike (suc n) (suc v) x = get_or-alike n v x
 
 -- every label but the source's is 0
 pub opening_label : (net : FlowNetwork) (v : ℕ) → v ≢ net.source → label_at (opening net) v ≡ 0
-opening_label net v ne = get_or-set_other (replicate net.nodes 0) net.source v net.nodes 0 ne ∙ get_or-zeros net.nodes v
+opening_label net v ne = get_or-set_other (replicate net.nodes 0) net.source v net.nodes 0 ne ∙ get_or-alike {A = ℕ} net.nodes v 0
+
+-- nothing leaves a node but the source
+pub opening_outflow : (net : FlowNetwork) (v : ℕ) → v ≢ net.source → outflow net (opening net) v ≡ 0
+opening_outflow net v ne = total-zero (count net) (λ i. if (import_at net i).from == v then flow_at (opening net) i else 0) each
+  where
+    each : (i : ℕ) → i < count net → (if (import_at net i).from == v then flow_at (opening net) i else 0) ≡ 0
+    each i il = elim (cases_eq (import_at net i).from v) [
+      | inl e ↦
+          choice_same (import_at net i).from v (flow_at (opening net) i) 0 e
+          ∙ get_or-opening_flows net.source net.imports i
+          ∙ choice_other (import_at net i).from net.source (import_at net i).amount 0 (λ q. ne (sym e ∙ q))
+      | inr other ↦ choice_other (import_at net i).from v (flow_at (opening net) i) 0 other
+    ]
 
 pub opening_keeps : (net : FlowNetwork) → IsFlowNetwork net → IsKept net (opening net)
 opening_keeps net is =
@@ -68,15 +82,7 @@ opening_keeps net is =
     ]
 
     no_debt : (v : ℕ) → v < net.nodes → v ≢ net.source → outflow net (opening net) v ≤ inflow net (opening net) v
-    no_debt v l ne =
-        let nothing = total-zero (count net) (λ i. if (import_at net i).from == v then flow_at (opening net) i else 0) each in
-        omega (arith, nothing)
-      where
-        each : (i : ℕ) → i < count net → (if (import_at net i).from == v then flow_at (opening net) i else 0) ≡ 0
-        each i il = elim (cases_eq (import_at net i).from v) [
-          | inl e ↦ choice_same (import_at net i).from v (flow_at (opening net) i) 0 e ∙ empty i (λ q. ne (sym e ∙ q))
-          | inr other ↦ choice_other (import_at net i).from v (flow_at (opening net) i) 0 other
-        ]
+    no_debt v l ne = omega (arith, opening_outflow net v ne)
 
     label_le : (v : ℕ) → label_at (opening net) v ≤ net.nodes
     label_le v = elim (cases_eq v net.source) [

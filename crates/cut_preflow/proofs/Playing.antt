@@ -14,7 +14,7 @@ use Rattle.cut_preflow.proofs.Kept.{Moves, moves}
 use Rattle.cut_preflow.proofs.Histories.{played-push, run-push}
 
 -- the answer of a test with a value
-some_from : (b : Bool) (x y : ℕ) → Some y ≡ (if b then Some x else None) → (b ≡ true) × (y ≡ x)
+pub some_from : (b : Bool) (x y : ℕ) → Some y ≡ (if b then Some x else None) → (b ≡ true) × (y ≡ x)
 some_from true x y e = (refl, cc)
 some_from false x y e = cc
 

@@ -1,11 +1,11 @@
 -- What the code needs to know of a state that a run can reach.
-use Rattle.std.proofs.Common.{◌≡◌, ℕ, ◌*◌, ◌/◌, ◌^◌, ◌<◌, inl, inr, Some, length, slice_index, sym, ap, subst, arith}
+use Rattle.std.proofs.Common.{◌≡◌, ℕ, ◌/◌, ◌^◌, ◌<◌, inl, inr, length, slice_index, sym, ap, subst, arith}
 use Rattle.cut_preflow.specs.Total.{total}
-use Rattle.cut_preflow.specs.Preflow.{FlowNetwork, State, count, import_at, flow_at, label_at, tail, head, is_forward, least_head}
+use Rattle.cut_preflow.specs.Preflow.{FlowNetwork, State, count, import_at, flow_at, tail, head, is_forward}
 use Rattle.cut_preflow.specs.Played.{IsSound}
 use Rattle.cut_preflow.proofs.Choices.{true_or_false}
 use Rattle.cut_preflow.proofs.Totals.{total-le}
-use Rattle.cut_preflow.proofs.Arcs.{ahead, back, least_at}
+use Rattle.cut_preflow.proofs.Arcs.{ahead, back}
 
 module _ (net : FlowNetwork) (s : State) (sound : IsSound net s) where
   pub one_each : count net ≡ length s.flow
@@ -30,17 +30,3 @@ module _ (net : FlowNetwork) (s : State) (sound : IsSound net s) where
     | inl e ↦ subst (λ x. x < net.nodes) (sym (ahead net s arc e).tail_is) (sound.network.from_low (arc / 2) l)
     | inr e ↦ subst (λ x. x < net.nodes) (sym (back net s arc e).tail_is) (sound.network.to_low (arc / 2) l)
   ]
-
-  pub head_labelled : (arc : ℕ) → arc / 2 < count net → head net arc < length s.label
-  head_labelled arc l = omega (arith, head_low arc l, sound.kept.labels)
-
-  pub tail_labelled : (arc : ℕ) → arc / 2 < count net → tail net arc < length s.label
-  tail_labelled arc l = omega (arith, tail_low arc l, sound.kept.labels)
-
-  pub label_small : (v : ℕ) → v < net.nodes → label_at s v < 16384
-  label_small v l = omega (arith, sound.kept.low v l, sound.limits.few_nodes)
-
-  pub least_small : (v least : ℕ) → least_head net s v (2 * count net) ≡ Some least → least < 16384
-  least_small v least e =
-      let w = least_at net s v (2 * count net) least e in
-      omega (arith, label_small (head net w.0) (head_low w.0 (omega (arith, w.1))), w.4)

@@ -1,5 +1,5 @@
 -- The marks of what the source reaches by arcs with residual above 0.
-use Rattle.std.specs.Prelude.{◌≡◌, ℕ, ◌*◌, ◌<◌, Bool, true, false, not, List, length, slice_index_or, count_by}
+use Rattle.std.specs.Prelude.{◌≡◌, ◌⊎◌, ℕ, ◌*◌, ◌<◌, Bool, true, false, not, List, length, slice_index_or, count_by, Contains}
 use Rattle.cut_net.specs.declared.priced.Priced.{Priced}
 use Rattle.cut_preflow.specs.Preflow.{tail_in, head_in, residual_in}
 
@@ -20,18 +20,21 @@ IsClosedBelow imports flow side arcs =
 abbrev pub IsWithin : List Bool → (ℕ → Bool) → Type 0
 IsWithin marks side = (v : ℕ) → has marks v ≡ true → side v ≡ true
 
--- each set that no arc leaves and that has the marks of the first list has those of the second
-abbrev pub KeepsWithin : List Priced → List ℕ → List Bool → List Bool → Type 0
-KeepsWithin imports flow old new =
-    (side : ℕ → Bool) → IsClosedBelow imports flow side (2 * length imports) → IsWithin old side → IsWithin new side
-
--- an arc with residual above 0 that leads from a marked node to this one, which is not marked
+-- an arc with residual above 0 that leads to this node, which is not marked
 pub record IsReached (imports : List Priced) (flow : List ℕ) (marks : List Bool) (arc v : ℕ) : Type 0 where
   pub head : v ≡ head_in imports arc
-  pub tail : has marks (tail_in imports arc) ≡ true
   pub residual : 0 < residual_in imports flow arc
   pub fresh : has marks v ≡ false
   pub low : v < length marks
+
+-- the marks have the source and are within the least set that has it; and no arc with residual above 0 leaves them but from the
+-- nodes that are waiting
+pub record IsSearched (imports : List Priced) (flow : List ℕ) (source : ℕ) (marks : List Bool) (waiting : List ℕ) : Type 0 where
+  pub starts : has marks source ≡ true
+  pub least : (side : ℕ → Bool) → side source ≡ true → IsClosedBelow imports flow side (2 * length imports) → IsWithin marks side
+  pub marked : (v : ℕ) → Contains waiting v → has marks v ≡ true
+  pub closed : (arc : ℕ) → arc < 2 * length imports → 0 < residual_in imports flow arc → has marks (tail_in imports arc) ≡ true →
+      (has marks (head_in imports arc) ≡ true) ⊎ Contains waiting (tail_in imports arc)
 
 -- the least set with the source that no arc with residual above 0 leaves
 pub record IsReach (imports : List Priced) (flow : List ℕ) (source : ℕ) (marks : List Bool) : Type 0 where

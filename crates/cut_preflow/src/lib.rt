@@ -5,7 +5,10 @@
 
 mod ends;
 mod event;
+mod excesses;
 pub mod laws;
+mod node_arcs;
+mod node_set;
 mod plain;
 mod preflow;
 mod share;

@@ -1,6 +1,6 @@
 //! A preflow with its history, before its steps are counted.
-ghost use Rattle.std.specs.Prelude.{◌≡◌, ◌≢◌, ◌+◌, ◌*◌, ◌/◌, ◌^◌, ◌<◌, ◌≤◌, ◌↔◌, ℕ, Bool, true, false, Some, None, IsTrue, IfOk, IfSome, IsNone, IsSome, OnOk, Err, length, slice_index, []};
-ghost use Rattle.cut_preflow.specs.Preflow.{count, import_at, flow_at, label_at, excess, inflow, outflow, is_active, applies, after, run, opening, is_legal};
+ghost use Rattle.std.specs.Prelude.{◌≡◌, ◌≢◌, ◌+◌, ◌*◌, ◌/◌, ◌^◌, ◌<◌, ◌≤◌, ◌↔◌, ℕ, Bool, true, false, Some, None, IsTrue, IfOk, IfSome, IsNone, IsSome, OnOk, Err, Contains, length, replicate, slice_index, slice_set, []};
+ghost use Rattle.cut_preflow.specs.Preflow.{count, head, import_at, residual, tail, flow_at, label_at, excess, inflow, outflow, is_active, applies, after, run, opening, opening_flows, is_legal};
 ghost use Rattle.cut_preflow.specs.Kept.{IsFlowNetwork, IsKept, IsQuiet};
 ghost use Rattle.cut_preflow.specs.Bound.{most_changes};
 ghost use Rattle.cut_preflow.specs.Flows.{AreEnds, AreNear, AreReached, HasFlow, network_between};
@@ -8,9 +8,10 @@ ghost use Rattle.cut_preflow.specs.Side.{has};
 ghost use Rattle.cut_preflow.specs.Played.{state_of, outcome_of, history_after, IsSound, IsWithinLimits, flow_network};
 
 use crate::ends::Ends;
-use crate::sides::reach;
-use crate::sums::excess;
-use crate::tries::{active_node, next_step, push_amount, raised_label};
+use crate::excesses::{carry, saturate};
+use crate::node_arcs::arcs_of;
+use crate::node_set::NodeSet;
+use crate::sums::{excess, head, residual, tail};
 use crate::{Event, Outcome, Step};
 use cut_net::{Net, Priced};
 use std::alloc::{AllocError, Global};
@@ -18,6 +19,8 @@ use std::marker::Model;
 
 /// A preflow on a network between two of its modules (Goldberg and Tarjan 1988, section 3): a flow for each import and a label for each
 /// module, with the events that were applied. Contracts see the network and the events: flows and labels are what these lead to.
+/// So that a step goes over the arcs of one node alone, it also has the arcs of each node, the excess of each node but the source,
+/// and the nodes that are active.
 #[derive(Drop)]
 pub(crate) struct PlainPreflow {
     ends: Ends,
@@ -25,16 +28,41 @@ pub(crate) struct PlainPreflow {
     flows: Vec<u64>,
     labels: Vec<u32>,
     history: Vec<Event>,
+    arcs: Vec<Vec<u32>>,
+    excesses: Vec<u64>,
+    active: NodeSet,
 }
 
 impl Model for PlainPreflow {
-    ghost use Rattle.cut_preflow.specs.Played.{Played, flow_network, IsPlayed};
+    ghost use Rattle.cut_preflow.specs.Indexed.{IsIndexed};
+    ghost use Rattle.cut_preflow.specs.NodeArcs.{lists};
+    ghost use Rattle.cut_preflow.specs.Played.{Played, flow_network, state_with, IsPlayed};
 
     ghost Value = { Played };
 
     ghost view = { λ p. record { net = flow_network p.ends p.imports.items; history = p.history.items } };
 
-    ghost invariant = { λ p. IsPlayed (flow_network p.ends p.imports.items) p.flows.items p.labels.items p.history.items };
+    ghost invariant = { λ p. IsPlayed (flow_network p.ends p.imports.items) p.flows.items p.labels.items p.history.items × IsIndexed (flow_network p.ends p.imports.items) (state_with p.flows.items p.labels.items) (lists p.arcs.items) p.excesses.items p.active };
+}
+
+/// The flows of the opening: the imports out of the source are saturated.
+fn opening_flows(alloc: Global, source: u32, imports: &[Priced]) -> Result<Vec<u64>, AllocError>
+    ensures { IfOk result (λ flows. flows.items ≡ opening_flows source imports.now) }
+{
+    imports
+        .iter()
+        .map(|i| if i.from == source { i.amount } else { 0 })
+        .collect(alloc)
+}
+
+/// The labels of the opening: the source's is the number of nodes.
+fn opening_labels(alloc: Global, ends: Ends) -> Result<Vec<u32>, AllocError>
+    requires { ends.source < ends.nodes }
+    ensures { IfOk result (λ labels. labels.items ≡ slice_set (replicate ends.nodes 0) ends.source ends.nodes) }
+{
+    let mut labels = vec![in alloc; 0u32; ends.nodes as usize]?;
+    labels[ends.source as usize] = ends.nodes;
+    Ok(labels)
 }
 
 /// The opening on a network of nodes.
@@ -43,19 +71,21 @@ fn opening(alloc: Global, ends: Ends, imports: Vec<Priced>) -> Result<PlainPrefl
     requires limits { IsWithinLimits (flow_network ends imports.items) }
     ensures { IfOk result (λ p. p ≡ record { net = flow_network ends imports.items; history = [] }) }
 {
-    let source = ends.source;
-    let flows = imports
-        .iter()
-        .map(|i| if i.from == source { i.amount } else { 0 })
-        .collect(alloc)?;
-    let mut labels = vec![in alloc; 0u32; ends.nodes as usize]?;
-    labels[source as usize] = ends.nodes;
+    let flows = opening_flows(alloc, ends.source, imports.as_slice())?;
+    let labels = opening_labels(alloc, ends)?;
+    let arcs = arcs_of(alloc, imports.as_slice(), ends.nodes)?;
+    let mut excesses = vec![in alloc; 0u64; ends.nodes as usize]?;
+    let mut active = NodeSet::new(alloc, ends.nodes)?;
+    saturate(ends, imports.as_slice(), &mut excesses, &mut active);
     Ok(PlainPreflow {
         ends,
         imports,
         flows,
         labels,
         history: Vec::new(alloc),
+        arcs,
+        excesses,
+        active,
     })
 }
 
@@ -140,7 +170,72 @@ impl PlainPreflow {
         ensures value { result ≡ excess self.now.net (state_of self.now) node }
         ensures exact { node ≢ self.now.net.source → outflow self.now.net (state_of self.now) node + result ≡ inflow self.now.net (state_of self.now) node }
     {
-        excess(self.imports.as_slice(), self.flows.as_slice(), node)
+        if node == self.ends.source {
+            excess(self.imports.as_slice(), self.flows.as_slice(), node)
+        } else {
+            self.excesses[node as usize]
+        }
+    }
+
+    /// How many nodes there are, and the two ends.
+    pub(crate) fn ends(&self) -> Ends
+        ensures nodes { result.nodes ≡ self.now.net.nodes }
+        ensures source { result.source ≡ self.now.net.source }
+        ensures sink { result.sink ≡ self.now.net.sink }
+    {
+        self.ends
+    }
+
+    /// How many imports there are.
+    pub(crate) fn count(&self) -> usize
+        ensures { result ≡ count self.now.net }
+    {
+        self.imports.len()
+    }
+
+    /// The arcs that leave from a node.
+    pub(crate) fn arcs_from(&self, node: u32) -> &[u32]
+        requires { node < self.now.net.nodes }
+        ensures { (a : ℕ) → Contains result.now a ↔ ((a < 2 * count self.now.net) × (tail self.now.net a ≡ node)) }
+    {
+        &self.arcs[node as usize]
+    }
+
+    /// The node that an arc leads from.
+    pub(crate) fn tail(&self, arc: u32) -> u32
+        requires { arc / 2 < count self.now.net }
+        ensures value { result ≡ tail self.now.net arc }
+        ensures low { result < self.now.net.nodes }
+    {
+        tail(self.imports.as_slice(), arc)
+    }
+
+    /// The node that an arc leads to.
+    pub(crate) fn head(&self, arc: u32) -> u32
+        requires { arc / 2 < count self.now.net }
+        ensures value { result ≡ head self.now.net arc }
+        ensures low { result < self.now.net.nodes }
+    {
+        head(self.imports.as_slice(), arc)
+    }
+
+    /// How much more an arc can carry.
+    pub(crate) fn residual(&self, arc: u32) -> u64
+        requires { arc / 2 < count self.now.net }
+        ensures { result ≡ residual self.now.net (state_of self.now) arc }
+    {
+        residual(self.imports.as_slice(), self.flows.as_slice(), arc)
+    }
+
+    /// Whether a node other than the two ends has excess.
+    pub(crate) fn is_active(&self, node: u32) -> bool
+        ensures value { result ≡ is_active self.now.net (state_of self.now) node }
+        ensures low { result ≡ true → node < self.now.net.nodes }
+    {
+        node < self.ends.nodes
+            && node != self.ends.source
+            && node != self.ends.sink
+            && self.excesses[node as usize] > 0
     }
 
     /// A node with excess that is neither end, if there is one.
@@ -148,26 +243,7 @@ impl PlainPreflow {
         ensures some { IfSome result (λ v. is_active self.now.net (state_of self.now) v ≡ true) }
         ensures none { IsNone result ↔ IsQuiet self.now.net (state_of self.now) }
     {
-        active_node(
-            self.ends,
-            self.imports.as_slice(),
-            self.flows.as_slice(),
-            self.labels.as_slice(),
-        )
-    }
-
-    /// A step that applies, unless the preflow is quiet.
-    pub(crate) fn next_step(&self) -> Option<Step>
-        ensures some { IfSome result (λ step. applies self.now.net (state_of self.now) step ≡ true) }
-        ensures none { IsNone result ↔ IsQuiet self.now.net (state_of self.now) }
-        ensures few { IsSome result → length self.now.history < most_changes self.now.net }
-    {
-        next_step(
-            self.ends,
-            self.imports.as_slice(),
-            self.flows.as_slice(),
-            self.labels.as_slice(),
-        )
+        self.active.last()
     }
 
     /// Marks what the source reaches by arcs with residual above 0. Once quiet, these are the near modules, and the sink is none of them.
@@ -177,13 +253,8 @@ impl PlainPreflow {
         ensures near { IsQuiet self.now.net (state_of self.now) → IfOk result (λ m. AreNear self.now.net m.items) }
         ensures end { IsQuiet self.now.net (state_of self.now) → IfOk result (λ m. has m.items self.now.net.sink ≡ false) }
     {
-        reach(
-            alloc,
-            self.ends.nodes,
-            self.ends.source,
-            self.imports.as_slice(),
-            self.flows.as_slice(),
-        )
+        self.keeps();
+        self.reach(alloc)
     }
 
     fn push(&mut self, event: Event, arc: u32) -> Outcome
@@ -192,15 +263,11 @@ impl PlainPreflow {
         ensures refused { result ≡ Outcome.Refused → applies self.old.net (state_of self.old) event.step ≡ true }
         ensures history { self.new ≡ record self.old { history = history_after self.old.history event result } }
     {
-        let Some(amount) = push_amount(
-            self.ends,
-            self.imports.as_slice(),
-            self.flows.as_slice(),
-            self.labels.as_slice(),
-            arc,
-        ) else {
+        let Some(amount) = self.push_amount(arc) else {
             return Outcome::Stale;
         };
+        let from = self.tail(arc);
+        let to = self.head(arc);
         let Ok(()) = self.history.push(event) else {
             return Outcome::Refused;
         };
@@ -212,6 +279,14 @@ impl PlainPreflow {
             flow - amount
         };
         self.flows[i] = next;
+        carry(
+            self.ends,
+            &mut self.excesses,
+            &mut self.active,
+            from,
+            to,
+            amount,
+        );
         Outcome::Moved { amount }
     }
 
@@ -221,13 +296,7 @@ impl PlainPreflow {
         ensures refused { result ≡ Outcome.Refused → applies self.old.net (state_of self.old) event.step ≡ true }
         ensures history { self.new ≡ record self.old { history = history_after self.old.history event result } }
     {
-        let Some(label) = raised_label(
-            self.ends,
-            self.imports.as_slice(),
-            self.flows.as_slice(),
-            self.labels.as_slice(),
-            node,
-        ) else {
+        let Some(label) = self.raised_label(node) else {
             return Outcome::Stale;
         };
         let Ok(()) = self.history.push(event) else {

@@ -1,7 +1,7 @@
 //! Sums and arcs, over the imports, their flows and the nodes' labels.
-ghost use Rattle.std.specs.Prelude.{◌≡◌, ◌+◌, ◌-◌, ◌*◌, ◌/◌, ◌^◌, ◌<◌, ◌≤◌, ℕ, Some, None, length, slice_index};
+ghost use Rattle.std.specs.Prelude.{◌≡◌, ◌-◌, ◌/◌, ◌^◌, ◌<◌, length, slice_index};
 ghost use Rattle.cut_preflow.specs.Total.{total};
-ghost use Rattle.cut_preflow.specs.Preflow.{into, out_of, tail_in, head_in, residual_in, least_head_in};
+ghost use Rattle.cut_preflow.specs.Preflow.{into, out_of, tail_in, head_in, residual_in};
 
 use cut_net::Priced;
 
@@ -74,30 +74,4 @@ pub(crate) fn residual(imports: &[Priced], flows: &[u64], arc: u32) -> u64
     } else {
         flow
     }
-}
-
-/// The least label that a node's arcs with residual above 0 lead to.
-pub(crate) fn least_head(
-    imports: &[Priced],
-    flows: &[u64],
-    labels: &[u32],
-    node: u32,
-) -> Option<u32>
-    requires few { length imports.now ≤ 65536 }
-    requires one_each { length imports.now ≡ length flows.now }
-    requires ends { (arc : ℕ) → arc / 2 < length imports.now → head_in imports.now arc < length labels.now }
-    ensures { result ≡ least_head_in imports.now flows.now labels.now node (2 * length imports.now) }
-{
-    let mut least = None;
-    let arcs = 2 * imports.len() as u32;
-    for arc in 0..arcs {
-        if tail(imports, arc) == node && residual(imports, flows, arc) > 0 {
-            let label = labels[head(imports, arc) as usize];
-            least = match least {
-                None => Some(label),
-                Some(other) => Some(label.min(other)),
-            };
-        }
-    }
-    least
 }

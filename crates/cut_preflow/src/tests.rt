@@ -2,8 +2,10 @@
 ghost use Rattle.std.specs.Prelude.{◌≡◌};
 ghost use Rattle.cut_preflow.specs.Flows.{AreEnds, network_between};
 
+use crate::node_arcs::arcs_of;
+use crate::node_set::NodeSet;
 use crate::{Event, NetworkLedger, Outcome, PARTS, Preflow, SettleFault, Share, Step};
-use cut_net::Net;
+use cut_net::{Net, Priced};
 use std::alloc::Global;
 use std::marker::Brand;
 use std::process::Abort;
@@ -373,4 +375,39 @@ impl Trial for CountsSteps {
 fn a_share_counts_its_steps(rt: HostRuntime) -> Result<(), Fail> {
     let net = Net::read(rt.alloc(), TWO_IMPORTS)?;
     run(&rt, &net, &CountsSteps)
+}
+
+#[test]
+fn a_set_has_what_was_added_and_not_removed(rt: HostRuntime) -> Result<(), Fail> {
+    let mut set = NodeSet::new(rt.alloc(), 3)?;
+    assert_eq!(rt; set.last(), None);
+    set.insert(2);
+    set.insert(0);
+    set.insert(2);
+    assert_eq!(rt; set.last(), Some(0));
+    set.remove(0);
+    set.remove(1);
+    assert_eq!(rt; set.last(), Some(2));
+    set.remove(2);
+    assert_eq!(rt; set.last(), None);
+    Ok(())
+}
+
+#[test]
+fn each_node_has_the_arcs_that_leave_from_it(rt: HostRuntime) -> Result<(), Fail> {
+    let there = Priced {
+        from: 0,
+        to: 2,
+        amount: 2,
+    };
+    let on = Priced {
+        from: 2,
+        to: 1,
+        amount: 2,
+    };
+    let arcs = arcs_of(rt.alloc(), [there, on].as_slice(), 3)?;
+    assert_eq!(rt; arcs[0].as_slice(), [0].as_slice());
+    assert_eq!(rt; arcs[1].as_slice(), [3].as_slice());
+    assert_eq!(rt; arcs[2].as_slice(), [1, 2].as_slice());
+    Ok(())
 }

@@ -138,31 +138,21 @@ fn qualified(block: u32, number: u32) -> Use {
     }
 }
 
-#[test]
-fn a_module_has_these_rows(rt: HostRuntime) -> Result<(), Fail> {
+/// The rows of a module with imports, a record, a pointer, a procedure and a procedure type.
+fn worked_rows(rt: &(impl Abort + AllocGlobal)) -> Result<Rows, Fail> {
     let text =
         b"MODULE M; IMPORT T := Texts, U; TYPE R = RECORD (T.B) a*, b: U.X END; P = POINTER TO R; PROCEDURE p*(VAR x: T.W): R; VAR y: PROCEDURE (z: P); BEGIN y(x) END p; END M.";
     let letters =
         b"wnwwIdwn)wId)wwTdwFwwuwnwLdwwdwFuwn))w))wTdwFwwFu)))wPwdwwSwdwuwn)wwuwwVdwFwwSdwu)w))wwuwEu)wwr)wwrw";
-    let rows = rows_of_letters(&rt, text, letters)?;
+    rows_of_letters(rt, text, letters)
+}
+
+#[test]
+fn a_module_has_these_members(rt: HostRuntime) -> Result<(), Fail> {
+    let rows = worked_rows(&rt)?;
     let outermost = Place::Block(0);
     let of_record = Place::Record(13);
     let of_procedure = Place::Block(1);
-    assert_eq!(rt;
-        rows.blocks.as_slice(),
-        [
-            Block { token: 0, outer: 0 },
-            Block {
-                token: 35,
-                outer: 0
-            },
-            Block {
-                token: 52,
-                outer: 1
-            },
-        ]
-        .as_slice()
-    );
     assert_eq!(rt;
         rows.members.as_slice(),
         [
@@ -179,6 +169,33 @@ fn a_module_has_these_rows(rt: HostRuntime) -> Result<(), Fail> {
         ]
         .as_slice()
     );
+    Ok(())
+}
+
+#[test]
+fn a_module_has_these_blocks(rt: HostRuntime) -> Result<(), Fail> {
+    let rows = worked_rows(&rt)?;
+    assert_eq!(rt;
+        rows.blocks.as_slice(),
+        [
+            Block { token: 0, outer: 0 },
+            Block {
+                token: 35,
+                outer: 0
+            },
+            Block {
+                token: 52,
+                outer: 1
+            },
+        ]
+        .as_slice()
+    );
+    Ok(())
+}
+
+#[test]
+fn a_module_has_these_uses_and_imports(rt: HostRuntime) -> Result<(), Fail> {
+    let rows = worked_rows(&rt)?;
     assert_eq!(rt;
         rows.uses.as_slice(),
         [

@@ -1,27 +1,25 @@
-use Rattle.std.proofs.Common.{◌≡◌, ◌-◌, ◌∙◌, sym, ap, length, arith}
-use Rattle.cut_preflow.specs.Preflow.{excess, into, out_of}
-use Rattle.cut_preflow.specs.Played.{flow_network, state_of}
-use Rattle.cut_preflow.proofs.Histories.{played_keeps, played_reads, played_sound}
+use Rattle.std.proofs.Common.{◌≡◌, ◌<◌, ◌+◌, ◌∙◌, sym, ap, length, arith}
+use Rattle.std.proofs.lemmas.List.{get_or_read}
+use Rattle.cut_preflow.specs.Preflow.{inflow, outflow}
+use Rattle.cut_preflow.proofs.Fields.{fields_of, net_of, seen, sound_fields}
 use Rattle.cut_preflow.proofs.Sound.{flows_fit}
 use Rattle.cut_preflow.proofs.plain.PlainPreflow.excess.Goals as goal
 
 pub excess-requires-clause-one_each : goal.excess-requires-clause-one_each
 excess-requires-clause-one_each c =
-    let sound = played_sound (flow_network c.self.inside.ends c.self.inside.imports.items) (record { flow = c.self.inside.flows.items; label = c.self.inside.labels.items }) c.self.inside.history.items c.self.invariant in
-    ap length c.as_slice.ensures.value ∙ sym sound.kept.flows ∙ sym (ap length c.as_slice-2.ensures.value)
+    ap length c.as_slice.ensures.value ∙ sym (sound_fields c.self.inside c.self.invariant.0).kept.flows ∙ sym (ap length c.as_slice-then-node-self.ensures.value)
 
 pub excess-requires-clause-fits : goal.excess-requires-clause-fits
 excess-requires-clause-fits c =
-    rw (c.as_slice-2.ensures.value)
-    (flows_fit (flow_network c.self.inside.ends c.self.inside.imports.items) (record { flow = c.self.inside.flows.items; label = c.self.inside.labels.items })
-    (played_sound (flow_network c.self.inside.ends c.self.inside.imports.items) (record { flow = c.self.inside.flows.items; label = c.self.inside.labels.items }) c.self.inside.history.items c.self.invariant))
+    rw (c.as_slice-then-node-self.ensures.value) (flows_fit (net_of c.self.inside) (fields_of c.self.inside) (sound_fields c.self.inside c.self.invariant.0))
 
-pub returns-clause-exact : goal.returns-clause-exact
-returns-clause-exact c = λ other.
-    let sound = played_keeps c.self.inside.ends c.self.inside.imports.items c.self.inside.flows.items c.self.inside.labels.items c.self.inside.history.items c.args.self.now c.self.invariant c.self.view_is in
-    let reads = played_reads c.self.inside.ends c.self.inside.imports.items c.self.inside.flows.items c.self.inside.labels.items c.self.inside.history.items c.args.self.now c.self.invariant c.self.view_is in
-    let here : c.excess.result ≡ excess c.args.self.now.net (state_of c.args.self.now) c.args.node =
-    c.excess.ensures
-    ∙ ap (λ xs. into xs c.as_slice-2.result.now c.args.node - out_of xs c.as_slice-2.result.now c.args.node) (c.as_slice.ensures.value ∙ ap (λ p. p.net.imports) c.self.view_is)
-    ∙ ap (λ ys. into c.args.self.now.net.imports ys c.args.node - out_of c.args.self.now.net.imports ys c.args.node) (c.as_slice-2.ensures.value ∙ ap (λ s. s.flow) reads) in
-    omega (arith, here, sound.kept.no_debt c.args.node c.requires other)
+pub returns-else-node-self-clause-exact : goal.returns-else-node-self-clause-exact
+returns-else-node-self-clause-exact c = λ _.
+    let nodes = ap (λ p. p.net.nodes) c.self.view_is in
+    let low : c.args.node < c.self.inside.ends.nodes = omega (arith, c.requires, nodes) in
+    let within : c.args.node < length c.self.inside.excesses.items = omega (arith, low, c.self.invariant.1.each_counted) in
+    let read = get_or_read c.self.inside.excesses.items c.args.node c.index.result.now within c.index.ensures 0 in
+    let is = c.self.invariant.1.excesses_are c.args.node low c.if-node-self.false in
+    let owes = (sound_fields c.self.inside c.self.invariant.0).kept.no_debt c.args.node low c.if-node-self.false in
+    let here : outflow (net_of c.self.inside) (fields_of c.self.inside) c.args.node + c.index.result.now ≡ inflow (net_of c.self.inside) (fields_of c.self.inside) c.args.node = omega (arith, read, is, owes) in
+    seen c.self.inside c.self.invariant.0 c.args.self.now c.self.view_is (λ net s. outflow net s c.args.node + c.index.result.now ≡ inflow net s c.args.node) here

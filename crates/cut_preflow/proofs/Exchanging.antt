@@ -1,0 +1,201 @@
+-- Two places of an order exchanged, and what that does to a set of nodes.
+use Rattle.std.proofs.Common.{◌≡◌, ◌≢◌, ℕ, zero, suc, ◌+◌, ◌-◌, ◌^◌, ◌<◌, ◌≤◌, Bool, true, false, nat_lt, List, [], ◌∷◌, length, get_or, set, map, replicate, inl, inr, refl, sym, ap, ◌∙◌, arith, length-set, get_or-set_same, get_or-set_other}
+use Rattle.std.proofs.lemmas.Bool.{cases_eq}
+use Rattle.std.proofs.lemmas.Bool.Decides.{nat_tests}
+use Rattle.std.proofs.lemmas.List.{ext_get_or, get_or-map, length-map, with_items_is}
+use Rattle.std.proofs.lemmas.List.FromFn.{length-range_with_len, get_or-range_with_len}
+use Rattle.std.specs.List.{range_with_len}
+use Rattle.std.specs.Vec.{with_items}
+use Rattle.std.specs.declared.alloc.Global.{Global}
+use Rattle.std.specs.declared.vec.Vec.{Vec}
+use Rattle.cut_preflow.specs.NodeSets.{AreInverse, IsArranged, exchanged}
+
+exchanged_first : (first second p : ℕ) → p ≡ first → exchanged first second p ≡ second
+exchanged_first first second p e = grind (arith, nat_tests)
+
+exchanged_second : (first second p : ℕ) → p ≡ second → exchanged first second p ≡ first
+exchanged_second first second p e = grind (arith, nat_tests)
+
+exchanged_other : (first second p : ℕ) → p ≢ first → p ≢ second → exchanged first second p ≡ p
+exchanged_other first second p f s = grind (arith, nat_tests)
+
+-- the nodes at two places, each given the other place
+pub places_exchanged : (order place : List ℕ) (first second : ℕ) → AreInverse order place → first < length order → second < length order →
+    set (set place (get_or order first 0) second) (get_or order second 0) first ≡ map (exchanged first second) place
+places_exchanged order place first second inv in_first in_second =
+    ext_get_or 0 (set (set place here second) there first) (map (exchanged first second) place) (sizes ∙ sym (length-map place (exchanged first second))) (λ v l. at v (omega (arith, l, sizes)))
+  where
+    here : ℕ
+    here = get_or order first 0
+
+    there : ℕ
+    there = get_or order second 0
+
+    sizes : length (set (set place here second) there first) ≡ length place
+    sizes = length-set (set place here second) there first ∙ length-set place here second
+
+    in_here : here < length place
+    in_here = inv.nodes first in_first
+
+    in_there : there < length (set place here second)
+    in_there = omega (arith, inv.nodes second in_second, length-set place here second)
+
+    at : (v : ℕ) → v < length place → get_or (set (set place here second) there first) v 0 ≡ get_or (map (exchanged first second) place) v 0
+    at v l =
+        let mapped = get_or-map (exchanged first second) place v 0 0 l in
+        elim (cases_eq v there) [
+          | inl e ↦
+              let own = ap (λ w. get_or (set (set place here second) there first) w 0) e ∙ get_or-set_same (set place here second) there first 0 in_there in
+              let place_is : get_or place v 0 ≡ second = ap (λ w. get_or place w 0) e ∙ inv.placed second in_second in
+              own ∙ sym (mapped ∙ exchanged_second first second (get_or place v 0) place_is)
+          | inr not_there ↦
+              let past = get_or-set_other (set place here second) there v first 0 not_there in
+              elim (cases_eq v here) [
+                | inl e ↦
+                    let own = ap (λ w. get_or (set place here second) w 0) e ∙ get_or-set_same place here second 0 in_here in
+                    let place_is : get_or place v 0 ≡ first = ap (λ w. get_or place w 0) e ∙ inv.placed first in_first in
+                    past ∙ own ∙ sym (mapped ∙ exchanged_first first second (get_or place v 0) place_is)
+                | inr not_here ↦
+                    let own = get_or-set_other place here v second 0 not_here in
+                    let not_first : get_or place v 0 ≢ first = λ e. not_here (sym (inv.ordered v l) ∙ ap (λ p. get_or order p 0) e) in
+                    let not_second : get_or place v 0 ≢ second = λ e. not_there (sym (inv.ordered v l) ∙ ap (λ p. get_or order p 0) e) in
+                    past ∙ own ∙ sym (mapped ∙ exchanged_other first second (get_or place v 0) not_first not_second)
+              ]
+        ]
+
+-- a node at another place, with another bound on the places of members, which is to change nothing for the other nodes
+pub members_exchanged : (order place : List ℕ) (node other old new : ℕ) (is : Bool) → AreInverse order place → node < length place →
+    nat_lt other new ≡ is →
+    ((p : ℕ) → p ≢ get_or place node 0 → nat_lt (exchanged (get_or place node 0) other p) new ≡ nat_lt p old) →
+    map (λ p. nat_lt p new) (map (exchanged (get_or place node 0) other) place) ≡ set (map (λ p. nat_lt p old) place) node is
+members_exchanged order place node other old new is inv l moved kept =
+    ext_get_or false (map test_new (map swap place)) (set (map test_old place) node is) (left_len ∙ sym right_len) (λ v h. at v (omega (arith, h, left_len)))
+  where
+    swap : ℕ → ℕ
+    swap = exchanged (get_or place node 0) other
+
+    test_new : ℕ → Bool
+    test_new p = nat_lt p new
+
+    test_old : ℕ → Bool
+    test_old p = nat_lt p old
+
+    left_len : length (map test_new (map swap place)) ≡ length place
+    left_len = length-map (map swap place) test_new ∙ length-map place swap
+
+    right_len : length (set (map test_old place) node is) ≡ length place
+    right_len = length-set (map test_old place) node is ∙ length-map place test_old
+
+    at : (v : ℕ) → v < length place → get_or (map test_new (map swap place)) v false ≡ get_or (set (map test_old place) node is) v false
+    at v h =
+        let left = get_or-map test_new (map swap place) v 0 false (omega (arith, h, length-map place swap)) ∙ ap test_new (get_or-map swap place v 0 0 h) in
+        elim (cases_eq v node) [
+          | inl e ↦
+              let own = ap (λ w. get_or (set (map test_old place) node is) w false) e ∙ get_or-set_same (map test_old place) node is false (omega (arith, l, length-map place test_old)) in
+              left ∙ ap test_new (exchanged_first (get_or place node 0) other (get_or place v 0) (ap (λ w. get_or place w 0) e)) ∙ moved ∙ sym own
+          | inr ne ↦
+              let own = get_or-set_other (map test_old place) node v is false ne ∙ get_or-map test_old place v 0 false h in
+              left ∙ kept (get_or place v 0) (λ e. ne (sym (inv.ordered v h) ∙ ap (λ p. get_or order p 0) e ∙ inv.ordered node l)) ∙ sym own
+        ]
+
+-- a node past the members at the end of these
+pub members_more : (order place : List ℕ) (node size : ℕ) → AreInverse order place → node < length place → size ≤ get_or place node 0 →
+    map (λ p. nat_lt p (size + 1)) (map (exchanged (get_or place node 0) size) place) ≡ set (map (λ p. nat_lt p size) place) node true
+members_more order place node size inv l past =
+    members_exchanged order place node size size (size + 1) true inv l (grind (arith, nat_tests)) (λ p ne. kept p ne)
+  where
+    kept : (p : ℕ) → p ≢ get_or place node 0 → nat_lt (exchanged (get_or place node 0) size p) (size + 1) ≡ nat_lt p size
+    kept p ne = elim (cases_eq p size) [
+      | inl e ↦
+          let new = ap (λ q. nat_lt q (size + 1)) (exchanged_second (get_or place node 0) size p e) in
+          new ∙ grind (arith, nat_tests)
+      | inr other ↦
+          let new = ap (λ q. nat_lt q (size + 1)) (exchanged_other (get_or place node 0) size p ne other) in
+          new ∙ grind (arith, nat_tests)
+    ]
+
+-- the last member in the place of another, which is then past the members
+pub members_less : (order place : List ℕ) (node size : ℕ) → AreInverse order place → node < length place → get_or place node 0 < size →
+    map (λ p. nat_lt p (size - 1)) (map (exchanged (get_or place node 0) (size - 1)) place) ≡ set (map (λ p. nat_lt p size) place) node false
+members_less order place node size inv l low =
+    members_exchanged order place node (size - 1) size (size - 1) false inv l (grind (arith, nat_tests)) (λ p ne. kept p ne)
+  where
+    kept : (p : ℕ) → p ≢ get_or place node 0 → nat_lt (exchanged (get_or place node 0) (size - 1) p) (size - 1) ≡ nat_lt p size
+    kept p ne = elim (cases_eq p (size - 1)) [
+      | inl e ↦
+          let new = ap (λ q. nat_lt q (size - 1)) (exchanged_second (get_or place node 0) (size - 1) p e) in
+          new ∙ grind (arith, nat_tests)
+      | inr other ↦
+          let new = ap (λ q. nat_lt q (size - 1)) (exchanged_other (get_or place node 0) (size - 1) p ne other) in
+          new ∙ grind (arith, nat_tests)
+    ]
+
+-- a write of what is there already
+pub members_same : (place : List ℕ) (node size : ℕ) (is : Bool) → node < length place → nat_lt (get_or place node 0) size ≡ is →
+    map (λ p. nat_lt p size) place ≡ set (map (λ p. nat_lt p size) place) node is
+members_same place node size is l was =
+    ext_get_or false (map test place) (set (map test place) node is) (sym (length-set (map test place) node is)) (λ v h. at v)
+  where
+    test : ℕ → Bool
+    test p = nat_lt p size
+
+    at : (v : ℕ) → get_or (map test place) v false ≡ get_or (set (map test place) node is) v false
+    at v = elim (cases_eq v node) [
+      | inl e ↦
+          let own = ap (λ w. get_or (set (map test place) node is) w false) e ∙ get_or-set_same (map test place) node is false (omega (arith, l, length-map place test)) in
+          ap (λ w. get_or (map test place) w false) e ∙ get_or-map test place node 0 false l ∙ was ∙ sym own
+      | inr ne ↦ sym (get_or-set_other (map test place) node v is false ne)
+    ]
+
+-- a vector of places written through its whole slice
+pub places_written : (places : Vec ℕ Global) (slice new : List ℕ) (first other node : ℕ) → length places.items ≡ places.len →
+    new ≡ map (exchanged first other) slice → slice ≡ places.items → first ≡ get_or places.items node 0 →
+    (with_items places new).items ≡ map (exchanged (get_or places.items node 0) other) places.items
+places_written places slice new first other node size new_is slice_is first_is =
+    with_items_is places new (omega (arith, size, ap length is, length-map places.items (exchanged (get_or places.items node 0) other))) ∙ is
+  where
+    is : new ≡ map (exchanged (get_or places.items node 0) other) places.items
+    is = new_is ∙ ap (map (exchanged first other)) slice_is ∙ ap (λ p. map (exchanged p other) places.items) first_is
+
+-- the first nodes of the order are members
+pub has_placed : (order place : List ℕ) (i size : ℕ) → AreInverse order place → i < length order → i < size →
+    get_or (map (λ p. nat_lt p size) place) (get_or order i 0) false ≡ true
+has_placed order place i size inv l low =
+    get_or-map (λ p. nat_lt p size) place (get_or order i 0) 0 false (inv.nodes i l)
+    ∙ ap (λ p. nat_lt p size) (inv.placed i l)
+    ∙ grind (arith, nat_tests)
+
+-- where there are no members, no node is one
+pub none_of_none : (place : List ℕ) (size v : ℕ) → size ≡ 0 → get_or (map (λ p. nat_lt p size) place) v false ≡ false
+none_of_none [] size v none = refl
+none_of_none (p ∷ ps) size zero none = grind (arith, nat_tests)
+none_of_none (p ∷ ps) size (suc v) none = none_of_none ps size v none
+
+-- nodes in the order of their numbers
+pub numbers_arranged : (n : ℕ) → n < 2 ^ 32 → IsArranged (range_with_len 0 n) (range_with_len 0 n) 0
+numbers_arranged n few =
+    record {
+      inverse = record {
+        lengths = refl;
+        nodes = low;
+        places = low;
+        placed = λ i l. read (get_or (range_with_len 0 n) i 0) (low i l) ∙ read i l;
+        ordered = λ i l. read (get_or (range_with_len 0 n) i 0) (low i l) ∙ read i l;
+      };
+      within = omega arith;
+      few = omega (arith, few, length-range_with_len 0 n);
+    }
+  where
+    read : (i : ℕ) → i < length (range_with_len 0 n) → get_or (range_with_len 0 n) i 0 ≡ i
+    read i l = get_or-range_with_len 0 n i 0 (omega (arith, l, length-range_with_len 0 n)) ∙ omega arith
+
+    low : (i : ℕ) → i < length (range_with_len 0 n) → get_or (range_with_len 0 n) i 0 < length (range_with_len 0 n)
+    low i l = omega (arith, l, read i l)
+
+none_below : (p : ℕ) → nat_lt p 0 ≡ false
+none_below p = grind (arith, nat_tests)
+
+-- and none of them a member
+pub none_marked : (places : List ℕ) → map (λ p. nat_lt p 0) places ≡ replicate (length places) false
+none_marked [] = refl
+none_marked (p ∷ ps) = ap (λ b. b ∷ map (λ q. nat_lt q 0) ps) (none_below p) ∙ ap (λ xs. false ∷ xs) (none_marked ps)

@@ -1,0 +1,23 @@
+-- What holds of a preflow's fields holds of what contracts see.
+use Rattle.std.proofs.Common.{◌≡◌, sym, subst}
+use Rattle.cut_preflow.specs.declared.plain.PlainPreflow.TheInside.{Inside}
+use Rattle.cut_preflow.specs.Preflow.{FlowNetwork, State}
+use Rattle.cut_preflow.specs.Played.{Played, flow_network, state_of, IsPlayed, IsSound}
+use Rattle.cut_preflow.proofs.Histories.{played_sound, played_state}
+
+abbrev pub net_of : Inside → FlowNetwork
+net_of q = flow_network q.ends q.imports.items
+
+abbrev pub fields_of : Inside → State
+fields_of q = record { flow = q.flows.items; label = q.labels.items }
+
+module _ (q : Inside) (is : IsPlayed (net_of q) q.flows.items q.labels.items q.history.items) where
+  pub sound_fields : IsSound (net_of q) (fields_of q)
+  sound_fields = played_sound (net_of q) (fields_of q) q.history.items is
+
+  module _ (p : Played) (view : record { net = net_of q; history = q.history.items } ≡ p) where
+    pub seen : (P : FlowNetwork → State → Type 0) → P (net_of q) (fields_of q) → P p.net (state_of p)
+    seen P h = subst (λ r. P r.net (state_of r)) view (subst (P (net_of q)) (played_state (net_of q) (fields_of q) q.history.items is) h)
+
+    pub unseen : (P : FlowNetwork → State → Type 0) → P p.net (state_of p) → P (net_of q) (fields_of q)
+    unseen P h = subst (P (net_of q)) (sym (played_state (net_of q) (fields_of q) q.history.items is)) (subst (λ r. P r.net (state_of r)) (sym view) h)

@@ -1,9 +1,0 @@
-use Rattle.cut_preflow.specs.Played.{flow_network}
-use Rattle.cut_preflow.proofs.Sound.{flows_fit}
-use Rattle.cut_preflow.proofs.tries.push_amount.Goals as goal
-
-pub is_active-requires-clause-fits : goal.is_active-requires-clause-fits
-is_active-requires-clause-fits c = flows_fit (flow_network c.args.ends c.args.imports.now) (record { flow = c.args.flows.now; label = c.args.labels.now }) c.requires
-
-pub excess-requires-clause-fits : goal.excess-requires-clause-fits
-excess-requires-clause-fits c = flows_fit (flow_network c.args.ends c.args.imports.now) (record { flow = c.args.flows.now; label = c.args.labels.now }) c.requires

@@ -1,0 +1,89 @@
+//! The excess of each node, and the set of the active nodes.
+ghost use Rattle.std.specs.Prelude.{◌≡◌, ◌≢◌, ◌+◌, ◌^◌, ◌<◌, ◌≤◌, ℕ, length, slice_index, slice_set};
+ghost use Rattle.cut_preflow.specs.Total.{total};
+ghost use Rattle.cut_preflow.specs.Preflow.{import_in, into, opening_flows};
+ghost use Rattle.cut_preflow.specs.Indexed.{AreActive, brought, carried};
+
+use crate::ends::Ends;
+use crate::node_set::NodeSet;
+use cut_net::Priced;
+
+/// Writes the excess of a node. The node becomes active or not by it, where it is neither end.
+fn write(ends: Ends, excesses: &mut Vec<u64>, active: &mut NodeSet, node: u32, excess: u64)
+    requires node { node < ends.nodes }
+    requires active { AreActive ends excesses.old.items active.old }
+    ensures excesses { excesses.new.items ≡ slice_set excesses.old.items node excess }
+    ensures active { AreActive ends excesses.new.items active.new }
+{
+    excesses[node as usize] = excess;
+    if node != ends.source && node != ends.sink {
+        if excess > 0 {
+            active.insert(node);
+        } else {
+            active.remove(node);
+        }
+    }
+}
+
+/// Brings an amount to a node. What comes to the source isn't counted.
+pub(crate) fn bring(
+    ends: Ends,
+    excesses: &mut Vec<u64>,
+    active: &mut NodeSet,
+    node: u32,
+    amount: u64,
+)
+    requires node { node < ends.nodes }
+    requires active { AreActive ends excesses.old.items active.old }
+    requires fits { node ≢ ends.source → slice_index excesses.old.items node + amount < 2 ^ 64 }
+    ensures excesses { excesses.new.items ≡ brought ends.source excesses.old.items node amount }
+    ensures active { AreActive ends excesses.new.items active.new }
+{
+    if node != ends.source {
+        let excess = excesses[node as usize] + amount;
+        write(ends, excesses, active, node, excess);
+    }
+}
+
+/// Carries an amount from one node to another.
+pub(crate) fn carry(
+    ends: Ends,
+    excesses: &mut Vec<u64>,
+    active: &mut NodeSet,
+    from: u32,
+    to: u32,
+    amount: u64,
+)
+    requires from { from < ends.nodes }
+    requires to { to < ends.nodes }
+    requires active { AreActive ends excesses.old.items active.old }
+    requires pays { amount ≤ slice_index excesses.old.items from }
+    requires fits { to ≢ ends.source → slice_index excesses.old.items to + amount < 2 ^ 64 }
+    ensures excesses { excesses.new.items ≡ carried ends.source excesses.old.items from to amount }
+    ensures active { AreActive ends excesses.new.items active.new }
+{
+    let left = excesses[from as usize] - amount;
+    write(ends, excesses, active, from, left);
+    bring(ends, excesses, active, to, amount);
+}
+
+/// Brings to each node what the imports out of the source bring to it at the opening.
+pub(crate) fn saturate(
+    ends: Ends,
+    imports: &[Priced],
+    excesses: &mut Vec<u64>,
+    active: &mut NodeSet,
+)
+    requires nodes { (i : ℕ) → i < length imports.now → (import_in imports.now i).to < ends.nodes }
+    requires weights { total (length imports.now) (λ i. (import_in imports.now i).amount) < 2 ^ 64 }
+    requires none { (v : ℕ) → slice_index excesses.old.items v ≡ 0 }
+    requires active { AreActive ends excesses.old.items active.old }
+    ensures excesses { (v : ℕ) → v ≢ ends.source → slice_index excesses.new.items v ≡ into imports.now (opening_flows ends.source imports.now) v }
+    ensures active { AreActive ends excesses.new.items active.new }
+{
+    for import in imports {
+        if import.from == ends.source {
+            bring(ends, excesses, active, import.to, import.amount);
+        }
+    }
+}
