@@ -96,7 +96,7 @@ impl NodeSet {
         }
     }
 
-    /// A member, if there is any. Where only the last is ever removed, it is the one that was added last of those that are left.
+    /// A member, if there is any.
     pub(crate) fn last(&self) -> Option<u32>
         ensures some { IfSome result (λ v. slice_index_or self.now v false ≡ true) }
         ensures none { IsNone result → (v : ℕ) → slice_index_or self.now v false ≡ false }

@@ -1,7 +1,7 @@
 //! A preflow with its history, before its steps are counted.
-ghost use Rattle.std.specs.Prelude.{◌≡◌, ◌≢◌, ◌+◌, ◌*◌, ◌/◌, ◌^◌, ◌<◌, ◌≤◌, ◌↔◌, ℕ, Bool, true, false, Some, None, IsTrue, IfOk, IfSome, IsNone, IsSome, OnOk, Err, Contains, length, replicate, slice_index, slice_set, []};
-ghost use Rattle.cut_preflow.specs.Preflow.{count, head, import_at, residual, tail, flow_at, label_at, excess, inflow, outflow, is_active, applies, after, run, opening, opening_flows, is_legal};
-ghost use Rattle.cut_preflow.specs.Kept.{IsFlowNetwork, IsKept, IsQuiet};
+ghost use Rattle.std.specs.Prelude.{◌≡◌, ◌≢◌, ◌+◌, ◌*◌, ◌/◌, ◌<◌, ◌≤◌, ◌↔◌, ℕ, true, false, IfOk, IfSome, IsNone, Contains, length, replicate, slice_set, []};
+ghost use Rattle.cut_preflow.specs.Preflow.{count, head, import_at, residual, tail, flow_at, label_at, excess, inflow, outflow, is_active, applies, after, opening, opening_flows, is_legal};
+ghost use Rattle.cut_preflow.specs.Kept.{IsFlowNetwork, IsQuiet};
 ghost use Rattle.cut_preflow.specs.Bound.{most_changes};
 ghost use Rattle.cut_preflow.specs.Flows.{AreEnds, AreNear, AreReached, HasFlow, network_between};
 ghost use Rattle.cut_preflow.specs.Side.{has};
@@ -164,7 +164,8 @@ impl PlainPreflow {
         self.flows[import as usize]
     }
 
-    /// The excess of a node: what enters it less what leaves it. Of the source, 0 where more leaves it than enters it.
+    /// The excess of a node: what enters it less what leaves it. Of the source, 0 where more leaves it than enters it; it isn't kept, but
+    /// summed over all imports.
     pub(crate) fn excess(&self, node: u32) -> u64
         requires { node < self.now.net.nodes }
         ensures value { result ≡ excess self.now.net (state_of self.now) node }
@@ -257,6 +258,7 @@ impl PlainPreflow {
         self.reach(alloc)
     }
 
+    /// Pushes over an arc, where that applies.
     fn push(&mut self, event: Event, arc: u32) -> Outcome
         requires { event.step ≡ Step.Push arc }
         ensures outcome { result ≢ Outcome.Refused → result ≡ outcome_of self.old.net (state_of self.old) event.step }
@@ -290,6 +292,7 @@ impl PlainPreflow {
         Outcome::Moved { amount }
     }
 
+    /// Raises the label of a node, where that applies.
     fn relabel(&mut self, event: Event, node: u32) -> Outcome
         requires { event.step ≡ Step.Relabel node }
         ensures outcome { result ≢ Outcome.Refused → result ≡ outcome_of self.old.net (state_of self.old) event.step }

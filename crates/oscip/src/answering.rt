@@ -8,21 +8,22 @@ ghost use Rattle.oscip.specs.Runs.{IsNetOfText, IsRefusedText, IsRefusedTree};
 ghost use Rattle.oscip.specs.Sources.{AreInOrder};
 ghost use Rattle.oscip.specs.Trees.{IsNetOfTree};
 
-use crate::gate::OpenGate;
 use crate::{Job, RunFault, Source, check_net_bytes, check_tree, cut_net_bytes, cut_tree};
 use cut_report::Sink;
+use cut_solve::Gate;
 use std::alloc::Global;
 use std::sync::Wait;
 use std::thread::Threads;
 
 /// Runs the engine of a job on the bytes of its network and, where the job has one, of its report. A cut is searched for
-/// by the job's number of workers. False is a check that says no. Refuses as the engine does.
-pub fn answer<R: Threads + Wait + Sync, S: Sink>(
+/// by the job's number of workers, with this gate. False is a check that says no. Refuses as the engine does.
+pub fn answer<R: Threads + Wait + Sync, G: Gate + Sync, S: Sink>(
     rt: &R,
     alloc: Global,
     job: &Job,
     network: &[u8],
     report: &[u8],
+    gate: &G,
     sink: &mut S,
 ) -> Result<bool, RunFault>
     requires network { is_tree_job job.now ≡ false }
@@ -40,7 +41,7 @@ pub fn answer<R: Threads + Wait + Sync, S: Sink>(
             ..
         } => {
             let (from, to) = (from.as_str(), to.as_str());
-            cut_net_bytes(rt, alloc, network, from, to, *workers, &OpenGate, sink)?;
+            cut_net_bytes(rt, alloc, network, from, to, *workers, gate, sink)?;
             Ok(true)
         }
         Job::CheckNet { .. } => check_net_bytes(alloc, network, report, sink),
@@ -49,13 +50,14 @@ pub fn answer<R: Threads + Wait + Sync, S: Sink>(
 }
 
 /// Runs the engine of a job on the files of its tree and, where the job has one, on the bytes of its report. A cut is
-/// searched for by the job's number of workers. False is a check that says no. Refuses as the engine does.
-pub fn answer_tree<R: Threads + Wait + Sync, S: Sink>(
+/// searched for by the job's number of workers, with this gate. False is a check that says no. Refuses as the engine does.
+pub fn answer_tree<R: Threads + Wait + Sync, G: Gate + Sync, S: Sink>(
     rt: &R,
     alloc: Global,
     job: &Job,
     sources: &[Source],
     report: &[u8],
+    gate: &G,
     sink: &mut S,
 ) -> Result<bool, RunFault>
     requires tree { is_tree_job job.now ≡ true }
@@ -74,7 +76,7 @@ pub fn answer_tree<R: Threads + Wait + Sync, S: Sink>(
             ..
         } => {
             let (from, to) = (from.as_str(), to.as_str());
-            cut_tree(rt, alloc, sources, from, to, *workers, &OpenGate, sink)?;
+            cut_tree(rt, alloc, sources, from, to, *workers, gate, sink)?;
             Ok(true)
         }
         Job::Check { .. } => check_tree(alloc, sources, report, sink),

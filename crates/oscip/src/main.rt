@@ -25,6 +25,7 @@ use cut_report::ToWrite;
 pub use engine::{check_net_bytes, check_tree, cut_net_bytes, cut_tree};
 pub use fault::{RunFault, fault_line, status_of};
 pub use folder::sources_of;
+use gate::OpenGate;
 pub use job::{Job, JobFault, job_of};
 use reading::read_file;
 pub use source::{Source, in_order};
@@ -67,6 +68,7 @@ fn run_net<R: Files + AllocGlobal + Print + Threads + Wait + Sync>(
         job,
         network.as_slice(),
         report.as_slice(),
+        &OpenGate,
         &mut sink,
     )
 }
@@ -88,6 +90,7 @@ fn run_tree<R: Files + AllocGlobal + Print + Threads + Wait + Sync + Clone + Dro
         job,
         sources.as_slice(),
         report.as_slice(),
+        &OpenGate,
         &mut sink,
     )
 }

@@ -11,8 +11,12 @@ mod words;
 
 use crate::Source;
 use cut_report::{Sink, SinkFault};
+use cut_solve::Gate;
 use std::alloc::Global;
+use std::sync::atomic::{AtomicU64, Ordering};
 use std::test::Fail;
+use std::thread;
+use std::time::{Clock, Duration};
 
 /// How many workers cut each worked network and tree, in turn.
 const WORKERS: [u32; 3] = [1, 2, 8];
@@ -28,6 +32,39 @@ fn sources(alloc: Global, files: Files) -> Result<Vec<Source>, Fail> {
         sources.push(Source { path, bytes })?;
     }
     Ok(sources)
+}
+
+/// Holds each worker at its first turn until all came there, or it waited for some seconds.
+#[derive(Drop)]
+struct AllCome<'a, R> {
+    clock: &'a R,
+    workers: u64,
+    came: AtomicU64,
+}
+
+impl<'a, R: Clock> AllCome<'a, R> {
+    fn new(clock: &'a R, workers: u64) -> AllCome<'a, R> {
+        AllCome {
+            clock,
+            workers,
+            came: AtomicU64::new(0),
+        }
+    }
+}
+
+impl<R: Clock> Gate for AllCome<'_, R> {
+    fn at(&self, _worker: u32, turn: u64) {
+        if turn > 0 {
+            return;
+        }
+        self.came.fetch_add(1, Ordering::SeqCst);
+        for _ in 0..1000u32 {
+            if self.came.load(Ordering::SeqCst) >= self.workers {
+                return;
+            }
+            thread::sleep(self.clock, Duration::from_millis(1));
+        }
+    }
 }
 
 const SIX: &[u8] = b"import A M 2\nimport M B 2\n";

@@ -1,12 +1,13 @@
 //! Worked networks, each with the report of a cheapest cut between two of its modules, or the fault line and its status.
 ghost use Rattle.oscip.specs.Jobs.{MayWork};
 
-use super::{Narrow, SIX, SIX_CUT, WORKERS};
+use super::{AllCome, Narrow, SIX, SIX_CUT, WORKERS};
 use crate::gate::OpenGate;
 use crate::{Job, RunFault, answer, check_net_bytes, cut_net_bytes, fault_line, status_of};
 use cut_net::Net;
 use std::process::Abort;
 use std::sync::Wait;
+use std::sync::atomic::Ordering;
 use std::test::Fail;
 use std::thread::Threads;
 
@@ -219,14 +220,16 @@ fn a_job_is_answered_by_its_engine(rt: HostRuntime) -> Result<(), Fail> {
         to,
         workers: 8,
     };
+    let gate = AllCome::new(&rt, 8);
     let mut out = Vec::new(rt.alloc());
-    assert!(rt; answer(&rt, rt.alloc(), &job, SIX, b"", &mut out)?);
+    assert!(rt; answer(&rt, rt.alloc(), &job, SIX, b"", &gate, &mut out)?);
+    assert_eq!(rt; gate.came.load(Ordering::SeqCst), 8);
     assert_eq!(rt; out.as_slice(), SIX_CUT);
     let network = String::from_str(rt.alloc(), "six.net")?;
     let report = String::from_str(rt.alloc(), "six.cut")?;
     let job = Job::CheckNet { network, report };
     let mut out = Vec::new(rt.alloc());
-    assert!(rt; answer(&rt, rt.alloc(), &job, SIX, SIX_CUT, &mut out)?);
+    assert!(rt; answer(&rt, rt.alloc(), &job, SIX, SIX_CUT, &OpenGate, &mut out)?);
     assert_eq!(rt; out.as_slice(), b"yes\n".as_slice());
     Ok(())
 }

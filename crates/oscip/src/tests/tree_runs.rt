@@ -1,7 +1,7 @@
 //! Worked trees, each with the report of a cheapest cut or the line of a check, or the fault line and its status.
 ghost use Rattle.oscip.specs.Jobs.{MayWork};
 
-use super::{Files, Narrow, WORKERS, sources};
+use super::{AllCome, Files, Narrow, WORKERS, sources};
 use crate::gate::OpenGate;
 use crate::{
     Job, RunFault, Source, answer_tree, check_tree, cut_tree, fault_line, in_order, status_of,
@@ -9,6 +9,7 @@ use crate::{
 use std::alloc::Global;
 use std::process::Abort;
 use std::sync::Wait;
+use std::sync::atomic::Ordering;
 use std::test::Fail;
 use std::thread::Threads;
 
@@ -337,8 +338,20 @@ fn a_job_on_a_tree_is_answered_by_its_engine(rt: HostRuntime) -> Result<(), Fail
         to,
         workers: 8,
     };
+    let gate = AllCome::new(&rt, 8);
     let mut out = Vec::new(rt.alloc());
-    assert!(rt; answer_tree(&rt, rt.alloc(), &job, sources.as_slice(), b"", &mut out)?);
+    assert!(rt;
+        answer_tree(
+            &rt,
+            rt.alloc(),
+            &job,
+            sources.as_slice(),
+            b"",
+            &gate,
+            &mut out
+        )?
+    );
+    assert_eq!(rt; gate.came.load(Ordering::SeqCst), 8);
     assert_eq!(rt; out.as_slice(), FOUR_CUT);
     let folder = String::from_str(rt.alloc(), "four")?;
     let report = String::from_str(rt.alloc(), "four.cut")?;
@@ -351,6 +364,7 @@ fn a_job_on_a_tree_is_answered_by_its_engine(rt: HostRuntime) -> Result<(), Fail
             &job,
             sources.as_slice(),
             FOUR_CUT,
+            &OpenGate,
             &mut out
         )?
     );
