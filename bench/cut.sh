@@ -3,12 +3,14 @@
 # Boost, where g++ finds their headers. Each report has to have the weight and the imports of the plain solver, and
 # check-net has to say yes to it.
 # Build the program first: (cd crates/oscip && rt run -- --help). Then: bench/cut.sh [PATH OF THE PROGRAM [SHAPE..]]
+# WORKERS is the number of workers, SIZES names the numbers of modules.
 set -eu
 here=$(cd "$(dirname "$0")" && pwd)
 oscip=$(realpath "${1:-$here/../crates/oscip/out/oscip}")
 shift || true
 [ $# -gt 0 ] || set -- banded layered powerlaw chain wide grid zeros
 shapes=$*
+workers=${WORKERS:-4}
 work=$(mktemp -d)
 trap 'rm -rf "$work"' EXIT
 for program in generate plain_cut; do g++ -O2 -o "$work/$program" "$here/$program.cpp"; done
@@ -69,9 +71,9 @@ printf '%-9s %8s %8s %8s | %9s %9s %9s %9s | %7s %7s %7s | %7s\n' shape modules 
   oscip_ms plain_ms lemon_ms boost_ms plain lemon boost memory
 : > ratios
 for shape in $shapes; do
-  for modules in 64 512 2048 8192; do
+  for modules in ${SIZES:-64 512 2048 8192}; do
     ends=$(./generate "$shape" 1 "$modules" $((8 * modules)) net)
-    "$oscip" cut-net net $ends > report || stop "cut-net ends with status $?"
+    "$oscip" cut-net net $ends --workers $workers > report || stop "cut-net ends with status $?"
     ./plain_cut net $ends > plain
     grep -E '^(weight|remove) ' report | cmp -s - plain || stop "another weight or other imports than the plain solver's"
     verdict=$("$oscip" check-net net report) || stop "check-net says $verdict"
@@ -81,11 +83,11 @@ for shape in $shapes; do
       [ "$("./$package" net $ends)" = "$(head -n 1 plain)" ] || stop "another weight than that of $package"
       commands="$commands -- ./$package net $ends"
     done
-    times=$(python3 "$here/measure.py" -- "$oscip" cut-net net $ends -- ./plain_cut net $ends $commands)
-    ours=$(env time -f %M "$oscip" cut-net net $ends 2>&1 > said)
+    times=$(python3 "$here/measure.py" -- "$oscip" cut-net net $ends --workers $workers -- ./plain_cut net $ends $commands)
+    ours=$(env time -f %M "$oscip" cut-net net $ends --workers $workers 2>&1 > said)
     plain=$(env time -f %M ./plain_cut net $ends 2>&1 > said)
     row $times
   done
 done
 echo "plain, lemon, boost: the program's time over theirs; memory: its greatest resident size over the plain solver's"
-figures
+[ -n "${SIZES:-}" ] || figures
