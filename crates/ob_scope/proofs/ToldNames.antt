@@ -4,7 +4,7 @@ use Rattle.std.specs.Prelude.{Contains, ◌==◌}
 use Rattle.std.specs.List.{All}
 use Rattle.std.specs.Str.{IsUtf8}
 use Rattle.std.proofs.lemmas.Bool.{and_parts}
-use Rattle.std.proofs.lemmas.List.Elements.{All-contains, All-contains_itself}
+use Rattle.std.proofs.lemmas.List.Elements.{All-contains_itself}
 use Rattle.std.proofs.lemmas.Option.{same_Some}
 use denote.Enum.Bare.{same_true}
 use Rattle.ob_scan.specs.contracts.kind.Kind.{the_type}
@@ -18,12 +18,11 @@ use Rattle.ob_tree.specs.Derives.{Derives, items_of}
 use Rattle.ob_scope.specs.declared.sort.Sort.{Sort}
 use Rattle.ob_scope.specs.declared.sort.Sort.TheVariants as sorts
 use Rattle.ob_scope.specs.declared.told.Owner.{Owner}
-use Rattle.ob_scope.specs.declared.told.Part.{Part}
 use Rattle.ob_scope.specs.declared.told.Part.TheVariants as parts
 use Rattle.ob_scope.specs.declared.told.Told.{Told}
 use Rattle.ob_scope.specs.declared.told.Told.TheVariants as tolds
 use Rattle.ob_scope.specs.Standings.{is_kind, standings, text_at, token_at}
-use Rattle.ob_scope.specs.ToldRows.{IsPartText, IsToldText, part_of, parts_of}
+use Rattle.ob_scope.specs.ToldRows.{IsPartText, IsToldText}
 use Rattle.ob_scope.specs.Told.{declared_told, name_at, name_told, owned, owner_of, part_at, told_at, told_by, told_in}
 use Rattle.ob_scope.specs.Interfaces.{form_of}
 use Rattle.ob_scope.proofs.IdentifierNames.{AreNamed, IsIdentifier, from_filter_map, ident_named, identifier_ident, named_at}
@@ -85,20 +84,6 @@ module _ (bytes : List ℕ) (ts : List Token) (named : AreNamed bytes ts) where
 -- what holds of each element, by place
 pub all_of : {X : Type 0} (P : X → Type 0) (xs : List X) → ((x : X) → Contains xs x → P x) → All P xs
 all_of P xs h = λ k d lt. h (get_or xs k d) (All-contains_itself xs k d lt)
-
--- the parts of a form are told
-parts_text : (name : ℕ → List ℕ) (owner : ℕ) (t : Told) (p : Part) → part_of owner t ≡ Some p → IsToldText name t → IsPartText name p
-parts_text name owner (tolds.Part o q) p e h = by (o == owner) e
-  where
-    by : (b : Bool) → cond b (Some q) None ≡ Some p → IsPartText name p
-    by true f = subst (IsPartText name) (same_Some _ _ f) h
-    by false f = absurd (let g : None ≡ Some p = f in cc)
-parts_text name owner t p e h = absurd (let g : None ≡ Some p = e in cc)
-
-pub parts_texts : (name : ℕ → List ℕ) (told : List Told) (owner : ℕ) → All (IsToldText name) told → All (IsPartText name) (parts_of told owner)
-parts_texts name told owner all = all_of (IsPartText name) (parts_of told owner) (λ p h.
-    let (t, has, made) = from_filter_map (part_of owner) told p h in
-    parts_text name owner t p made (All-contains (IsToldText name) told t all has))
 
 -- the texts of what is told are texts of characters
 pub told_texts : (bytes : List ℕ) (ts : List Token) (m : Module) → AreNamed bytes ts → Derives (map (λ (t : Token). t.kind) ts) m → All (IsToldText (text_at bytes ts)) (told_in ts (items_of (module_outline m)))

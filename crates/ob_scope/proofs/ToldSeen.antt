@@ -23,11 +23,11 @@ use Rattle.ob_scope.specs.ToldRows.{base_told, declaration_told, import_seen, in
 
 -- ---- lists
 
-then_by : {X Y : Type 0} → Option X → (X → Option Y) → Option Y
+unfoldable pub then_by : {X Y : Type 0} → Option X → (X → Option Y) → Option Y
 then_by None g = None
 then_by (Some x) g = g x
 
-through : {X Y Z : Type 0} (h : X → Option Y) (g : Y → Option Z) (xs : List X) → filter_map g (filter_map h xs) ≡ filter_map (λ x. then_by (h x) g) xs
+pub through : {X Y Z : Type 0} (h : X → Option Y) (g : Y → Option Z) (xs : List X) → filter_map g (filter_map h xs) ≡ filter_map (λ x. then_by (h x) g) xs
 unfolding then_by
 through h g [] = refl
 through {X} {Y} {Z} h g (x ∷ xs) = by (h x) (through h g xs)
@@ -36,7 +36,7 @@ through {X} {Y} {Z} h g (x ∷ xs) = by (h x) (through h g xs)
     by None e = e
     by (Some y) e = ap (cons_option (g y)) e
 
-mapped : {X Y Z : Type 0} (f : Y → Z) (h : X → Option Y) (xs : List X) → map f (filter_map h xs) ≡ filter_map (λ x. option_map f (h x)) xs
+pub mapped : {X Y Z : Type 0} (f : Y → Z) (h : X → Option Y) (xs : List X) → map f (filter_map h xs) ≡ filter_map (λ x. option_map f (h x)) xs
 mapped f h [] = refl
 mapped {X} {Y} {Z} f h (x ∷ xs) = by (h x) (mapped f h xs)
   where
@@ -44,7 +44,7 @@ mapped {X} {Y} {Z} f h (x ∷ xs) = by (h x) (mapped f h xs)
     by None e = e
     by (Some y) e = ap (λ ys. f y ∷ ys) e
 
-each : {X Y : Type 0} (f g : X → Option Y) (xs : List X) → ((x : X) → f x ≡ g x) → filter_map f xs ≡ filter_map g xs
+pub each : {X Y : Type 0} (f g : X → Option Y) (xs : List X) → ((x : X) → f x ≡ g x) → filter_map f xs ≡ filter_map g xs
 each f g xs h = λ i. filter_map (λ x. h x i) xs
 
 -- ---- a name and a word

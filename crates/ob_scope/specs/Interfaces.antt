@@ -18,6 +18,7 @@ use Rattle.ob_scope.specs.declared.sort.Sort.TheVariants as sorts
 use Rattle.ob_scope.specs.declared.interfaces.TypePart.{TypePart}
 use Rattle.ob_scope.specs.declared.interfaces.TypePart.TheVariants as types
 use Rattle.ob_scope.specs.declared.interfaces.Declaration.{Declaration as DeclarationValue}
+use Rattle.ob_scope.specs.declared.interfaces.FormPart.{FormPart}
 use Rattle.ob_scope.specs.declared.interfaces.Base.{Base as BaseValue}
 use Rattle.ob_scope.specs.declared.interfaces.ImportedModule.{ImportedModule}
 use Rattle.ob_scope.specs.declared.interfaces.Interface.{Interface}
@@ -214,9 +215,14 @@ part_said types.Procedure = Procedure
 part_said (types.Name s) = Name (string_bytes s)
 part_said (types.Qualified a s) = Qualified (string_bytes a) (string_bytes s)
 
--- what a declaration says
-abbrev pub declaration_said : DeclarationValue → Declaration
-declaration_said d = record { name = string_bytes d.name; start = d.start; sort = d.sort; exported = d.exported; of_record = d.«record»; form = map part_said d.form.items }
+-- what a part says of the form that the declaration with this first token gives
+abbrev pub form_part_said : ℕ → FormPart → Option Part
+form_part_said owner p = if p.declared_by == owner then Some (part_said p.part) else None
+
+-- what a declaration says: its form is those of these parts that its declaration gives
+abbrev pub declaration_said : List FormPart → DeclarationValue → Declaration
+declaration_said parts d =
+    record { name = string_bytes d.name; start = d.start; sort = d.sort; exported = d.exported; of_record = d.«record»; form = filter_map (form_part_said d.declared_by) parts }
 
 -- what a base says
 abbrev pub base_said : BaseValue → Base
@@ -230,7 +236,7 @@ import_said i = record { alias = string_bytes i.alias; start = i.start; module_n
 abbrev pub interface_said : Interface → ModuleInterface
 interface_said i = record {
   name = string_bytes i.name;
-  declarations = map declaration_said i.declarations.items;
+  declarations = map (declaration_said i.parts.items) i.declarations.items;
   bases = map base_said i.bases.items;
   imports = map import_said i.imports.items;
 }
