@@ -2,6 +2,8 @@
 use Rattle.std.proofs.Common.{◌≡◌, ℕ, List, [], ◌∷◌, map, Option, Some, None, Result, Ok, Err, IfOk, refl, ap, ap₂}
 use Rattle.std.specs.List.{AllZip}
 use Rattle.std.specs.Prelude.{MatchResult}
+use Rattle.ob_scope.specs.declared.interfaces.TypeName.{TypeName}
+use Rattle.ob_scope.specs.declared.interfaces.TypeName.TheVariants as names
 use Rattle.ob_scope.specs.declared.interfaces.TypePart.{TypePart}
 use Rattle.ob_scope.specs.declared.interfaces.TypePart.TheVariants as types
 use Rattle.ob_scope.specs.declared.interfaces.Declaration.{Declaration as DeclarationValue}
@@ -9,13 +11,14 @@ use Rattle.ob_scope.specs.declared.interfaces.FormPart.{FormPart}
 use Rattle.ob_scope.specs.declared.interfaces.Base.{Base as BaseValue}
 use Rattle.ob_scope.specs.declared.interfaces.ImportedModule.{ImportedModule}
 use Rattle.ob_scope.specs.declared.interfaces.Interface.{Interface}
+use Rattle.ob_scope.specs.contracts.interfaces.TypeNameClone.TheImpl as a_name
 use Rattle.ob_scope.specs.contracts.interfaces.TypePartClone.TheImpl as a_part
 use Rattle.ob_scope.specs.contracts.interfaces.DeclarationClone.TheImpl as a_declaration
 use Rattle.ob_scope.specs.contracts.interfaces.FormPartClone.TheImpl as a_form_part
 use Rattle.ob_scope.specs.contracts.interfaces.BaseClone.TheImpl as a_base
 use Rattle.ob_scope.specs.contracts.interfaces.ImportedModuleClone.TheImpl as an_import
 use Rattle.ob_scope.specs.contracts.interfaces.InterfaceClone.TheImpl as an_interface
-use Rattle.ob_scope.specs.Interfaces.{Record, Name, Qualified, part_said, base_said, import_said, interface_said}
+use Rattle.ob_scope.specs.Interfaces.{Alone, Qualified, Record, Named, name_said, part_said, base_said, import_said, interface_said}
 use Rattle.ob_scope.specs.ToldRows.{declaration_row, part_row}
 use Rattle.ob_scope.proofs.FormParts.{same_rows_said}
 
@@ -26,13 +29,17 @@ zip_says R said same [] (y ∷ ys) h = absurd h
 zip_says R said same (x ∷ xs) [] h = absurd h
 zip_says {X} {Y} R said same (x ∷ xs) (y ∷ ys) h = ap₂ (λ (v : Y) (vs : List Y). v ∷ vs) (same x y h.0) (zip_says R said same xs ys h.1)
 
+name_says : (x y : TypeName) → a_name.is_clone-value.it x y → name_said y ≡ name_said x
+name_says (names.Alone s) (names.Alone t) h = ap Alone h
+name_says (names.Qualified a s) (names.Qualified b t) h = ap₂ Qualified h.0 h.1
+name_says x y h = absurd h
+
 part_says : (x y : TypePart) → a_part.is_clone-value.it x y → part_said y ≡ part_said x
 part_says types.Array types.Array h = refl
 part_says types.Pointer types.Pointer h = refl
 part_says (types.Record k) (types.Record l) h = ap Record h
 part_says types.Procedure types.Procedure h = refl
-part_says (types.Name s) (types.Name t) h = ap Name h
-part_says (types.Qualified a s) (types.Qualified b t) h = ap₂ Qualified h.0 h.1
+part_says (types.Named m) (types.Named n) h = ap Named (name_says m n h)
 part_says x y h = absurd h
 
 record_says : (x y : DeclarationValue) (o p : Option ℕ) → a_declaration.is_clone-value.it (record x { «record» = o }) (record y { «record» = p }) → p ≡ o
@@ -50,7 +57,7 @@ form_part_says : (x y : FormPart) → a_form_part.is_clone-value.it x y → part
 form_part_says x y h = let same : part_said y.part ≡ part_said x.part = part_says x.part y.part h.1 in λ i. record { declared_by = h.0 i; part = same i }
 
 base_says : (x y : BaseValue) → a_base.is_clone-value.it x y → base_said y ≡ base_said x
-base_says x y h = let same : part_said y.name ≡ part_said x.name = part_says x.name y.name h.1 in λ i. record { of_record = h.0 i; name = same i }
+base_says x y h = let same : name_said y.name ≡ name_said x.name = name_says x.name y.name h.1 in λ i. record { of_record = h.0 i; name = same i }
 
 import_says : (x y : ImportedModule) → an_import.is_clone-value.it x y → import_said y ≡ import_said x
 import_says x y h = λ i. record { alias = h.0 i; start = h.1.0 i; module_name = h.1.1 i }

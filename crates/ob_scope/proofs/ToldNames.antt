@@ -18,11 +18,12 @@ use Rattle.ob_tree.specs.Derives.{Derives, items_of}
 use Rattle.ob_scope.specs.declared.sort.Sort.{Sort}
 use Rattle.ob_scope.specs.declared.sort.Sort.TheVariants as sorts
 use Rattle.ob_scope.specs.declared.told.Owner.{Owner}
+use Rattle.ob_scope.specs.declared.told.Name.TheVariants as names
 use Rattle.ob_scope.specs.declared.told.Part.TheVariants as parts
 use Rattle.ob_scope.specs.declared.told.Told.{Told}
 use Rattle.ob_scope.specs.declared.told.Told.TheVariants as tolds
 use Rattle.ob_scope.specs.Standings.{is_kind, standings, text_at, token_at}
-use Rattle.ob_scope.specs.ToldRows.{IsPartText, IsToldText}
+use Rattle.ob_scope.specs.ToldRows.{IsNameText, IsToldText}
 use Rattle.ob_scope.specs.Told.{declared_told, name_at, name_told, owned, owner_of, part_at, told_at, told_by, told_in}
 use Rattle.ob_scope.specs.Interfaces.{form_of}
 use Rattle.ob_scope.proofs.IdentifierNames.{AreNamed, IsIdentifier, from_filter_map, ident_named, identifier_ident, named_at}
@@ -33,10 +34,10 @@ module _ (bytes : List ℕ) (ts : List Token) (named : AreNamed bytes ts) where
   text_of k e = name_is_text (text_at bytes ts k) (ident_named bytes ts k named e)
 
   -- the name of a type
-  name_text : (k : ℕ) → (token_at ts k).kind ≡ kinds.Ident → IsPartText (text_at bytes ts) (name_at ts k)
+  name_text : (k : ℕ) → (token_at ts k).kind ≡ kinds.Ident → IsNameText (text_at bytes ts) (name_at ts k)
   name_text k e = by (is_kind ts (k + 1) kinds.Dot && is_kind ts (k + 2) kinds.Ident) refl
     where
-      by : (b : Bool) → (is_kind ts (k + 1) kinds.Dot && is_kind ts (k + 2) kinds.Ident) ≡ b → IsPartText (text_at bytes ts) (cond b (parts.Qualified k (k + 2)) (parts.Name k))
+      by : (b : Bool) → (is_kind ts (k + 1) kinds.Dot && is_kind ts (k + 2) kinds.Ident) ≡ b → IsNameText (text_at bytes ts) (cond b (names.Qualified k (k + 2)) (names.Alone k))
       by true f = (text_of k e, text_of (k + 2) (same_true the_type (search rules) _ _ (and_parts _ _ f).1))
       by false f = text_of k e
 
@@ -61,7 +62,7 @@ module _ (bytes : List ℕ) (ts : List Token) (named : AreNamed bytes ts) where
   used_text : (k : ℕ) (o : Owner) (first : ℕ) (t : Told) → (token_at ts k).kind ≡ kinds.Ident → name_told ts k o first ≡ Some t → IsToldText (text_at bytes ts) t
   used_text k o first t ident e = by (k == first) (is_kind ts first kinds.Record) e
     where
-      by : (a b : Bool) → cond a (owned o (Some (name_at ts k))) (cond b (Some (tolds.Base first (name_at ts k))) None) ≡ Some t → IsToldText (text_at bytes ts) t
+      by : (a b : Bool) → cond a (owned o (Some (parts.Named (name_at ts k)))) (cond b (Some (tolds.Base first (name_at ts k))) None) ≡ Some t → IsToldText (text_at bytes ts) t
       by true b f = subst (IsToldText (text_at bytes ts)) (same_Some _ _ f) (name_text k ident)
       by false true f = subst (IsToldText (text_at bytes ts)) (same_Some _ _ f) (name_text k ident)
       by false false f = absurd (let g : None ≡ Some t = f in cc)

@@ -9,24 +9,30 @@ use Rattle.ob_scope.specs.declared.sort.Sort.{Sort}
 use Rattle.ob_scope.specs.declared.interfaces.Declaration.{Declaration as DeclarationValue}
 use Rattle.ob_scope.specs.declared.interfaces.FormPart.{FormPart}
 use Rattle.ob_scope.specs.declared.interfaces.Interface.{Interface}
+use Rattle.ob_scope.specs.declared.told.Name.{Name as NameRow}
+use Rattle.ob_scope.specs.declared.told.Name.TheVariants as names
 use Rattle.ob_scope.specs.declared.told.Part.{Part as PartRow}
 use Rattle.ob_scope.specs.declared.told.Part.TheVariants as rows
 use Rattle.ob_scope.specs.declared.told.Told.{Told}
 use Rattle.ob_scope.specs.declared.told.Told.TheVariants as tolds
 use Rattle.ob_scope.specs.Standings.{text_at, token_at}
-use Rattle.ob_scope.specs.Interfaces.{Array, Pointer, Record, Procedure, Name, Qualified, Part, Declaration, Base, Imported, ModuleInterface}
+use Rattle.ob_scope.specs.Interfaces.{Alone, Qualified, TypeName, Array, Pointer, Record, Procedure, Named, Part, Declaration, Base, Imported, ModuleInterface}
 use Rattle.ob_scope.specs.Interfaces.{base_said, import_said, part_said}
 
 -- Below, a name is the text of a token by the token's number, and a start where it begins.
 
--- a part with its names as texts
+-- a type's name as texts
+abbrev pub name_text : (ℕ → List ℕ) → NameRow → TypeName
+name_text name (names.Alone k) = Alone (name k)
+name_text name (names.Qualified a k) = Qualified (name a) (name k)
+
+-- a part with its name as texts
 abbrev pub part_text : (ℕ → List ℕ) → PartRow → Part
 part_text name rows.Array = Array
 part_text name rows.Pointer = Pointer
 part_text name (rows.Record k) = Record k
 part_text name rows.Procedure = Procedure
-part_text name (rows.Name k) = Name (name k)
-part_text name (rows.Qualified a k) = Qualified (name a) (name k)
+part_text name (rows.Named n) = Named (name_text name n)
 
 -- the part that a token tells of the form that this declaration gives
 abbrev pub part_of : ℕ → Told → Option PartRow
@@ -51,7 +57,7 @@ declaration_told name start parts (tolds.Import a k) = None
 abbrev pub base_told : (ℕ → List ℕ) → Told → Option Base
 base_told name (tolds.Member k sort exported in_record o) = None
 base_told name (tolds.Part o p) = None
-base_told name (tolds.Base k p) = Some (record { of_record = k; name = part_text name p })
+base_told name (tolds.Base k n) = Some (record { of_record = k; name = name_text name n })
 base_told name (tolds.Import a k) = None
 
 -- an import item as other modules see it
@@ -157,18 +163,22 @@ rows_said i = record {
 
 -- ---- names
 
--- the names of a part are texts of characters
+-- the texts of a type's name are texts of characters
+abbrev pub IsNameText : (ℕ → List ℕ) → NameRow → Type 0
+IsNameText name (names.Alone k) = IsUtf8 (name k)
+IsNameText name (names.Qualified a k) = IsUtf8 (name a) × IsUtf8 (name k)
+
+-- those of a part are
 abbrev pub IsPartText : (ℕ → List ℕ) → PartRow → Type 0
 IsPartText name rows.Array = Unit {0}
 IsPartText name rows.Pointer = Unit {0}
 IsPartText name (rows.Record k) = Unit {0}
 IsPartText name rows.Procedure = Unit {0}
-IsPartText name (rows.Name k) = IsUtf8 (name k)
-IsPartText name (rows.Qualified a k) = IsUtf8 (name a) × IsUtf8 (name k)
+IsPartText name (rows.Named n) = IsNameText name n
 
 -- the names of what a token tells are
 abbrev pub IsToldText : (ℕ → List ℕ) → Told → Type 0
 IsToldText name (tolds.Member k sort exported in_record o) = IsUtf8 (name k)
 IsToldText name (tolds.Part o p) = IsPartText name p
-IsToldText name (tolds.Base k p) = IsPartText name p
+IsToldText name (tolds.Base k n) = IsNameText name n
 IsToldText name (tolds.Import a k) = IsUtf8 (name a) × IsUtf8 (name k)

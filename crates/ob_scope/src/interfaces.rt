@@ -14,8 +14,15 @@ pub enum TypePart {
     Record(u32),
     /// A procedure type; its parameters and its result are no part of the form.
     Procedure,
+    /// A name.
+    Named(TypeName),
+}
+
+/// The name of a type.
+#[derive(Clone, Drop)]
+pub enum TypeName {
     /// A name alone, of a type of the module or a predeclared one.
-    Name(String),
+    Alone(String),
     /// A name of another module: the alias, and the name behind its dot.
     Qualified(String, String),
 }
@@ -52,8 +59,8 @@ pub struct FormPart {
 pub struct Base {
     /// The number of the record's RECORD's token, from 0.
     pub record: u32,
-    /// The base's name, alone or qualified.
-    pub name: TypePart,
+    /// The base's name.
+    pub name: TypeName,
 }
 
 /// An import item.

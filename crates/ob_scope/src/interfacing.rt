@@ -3,20 +3,41 @@ ghost use Rattle.std.specs.Prelude.{◌≡◌, ◌≤◌, length, IfOk};
 ghost use Rattle.std.specs.List.{All};
 ghost use Rattle.std.specs.Str.{IsUtf8};
 ghost use Rattle.ob_scan.specs.Spelling.{AreInText};
-ghost use Rattle.ob_scope.specs.Interfaces.{interface_said, part_said};
-ghost use Rattle.ob_scope.specs.ToldRows.{interface_told, part_text, rows_more, rows_said, start_at, IsPartText, IsToldText};
+ghost use Rattle.ob_scope.specs.Interfaces.{interface_said, name_said, part_said};
+ghost use Rattle.ob_scope.specs.ToldRows.{interface_told, name_text, part_text, rows_more, rows_said, start_at, IsNameText, IsPartText, IsToldText};
 ghost use Rattle.ob_scope.specs.Standings.{standings, text_at};
 ghost use Rattle.ob_scope.specs.Told.{told_in};
 
-use crate::interfaces::{Base, Declaration, FormPart, ImportedModule, Interface, TypePart};
+use crate::interfaces::{
+    Base, Declaration, FormPart, ImportedModule, Interface, TypeName, TypePart,
+};
 use crate::teller::told_in;
 use crate::text::Text;
-use crate::told::{Part, Told};
+use crate::told::{Name, Part, Told};
 use ob_scan::Token;
 use ob_tree::item::Item;
 use std::alloc::{AllocError, Global};
 
-/// A part with its names as texts.
+/// A type's name as texts.
+fn name_text(alloc: Global, text: &Text, name: Name) -> Result<TypeName, AllocError>
+    requires in_text { AreInText text.now.bytes.now text.now.tokens.now }
+    requires names { IsNameText (text_at text.now.bytes.now text.now.tokens.now) name }
+    ensures { IfOk result (λ n. name_said n ≡ name_text (text_at text.now.bytes.now text.now.tokens.now) name) }
+{
+    match name {
+        Name::Alone(number) => {
+            let name = text.string(alloc, number)?;
+            Ok(TypeName::Alone(name))
+        }
+        Name::Qualified(alias, number) => {
+            let alias = text.string(alloc, alias)?;
+            let name = text.string(alloc, number)?;
+            Ok(TypeName::Qualified(alias, name))
+        }
+    }
+}
+
+/// A part with its name as texts.
 fn part_text(alloc: Global, text: &Text, part: Part) -> Result<TypePart, AllocError>
     requires in_text { AreInText text.now.bytes.now text.now.tokens.now }
     requires names { IsPartText (text_at text.now.bytes.now text.now.tokens.now) part }
@@ -27,14 +48,9 @@ fn part_text(alloc: Global, text: &Text, part: Part) -> Result<TypePart, AllocEr
         Part::Pointer => Ok(TypePart::Pointer),
         Part::Record(number) => Ok(TypePart::Record(number)),
         Part::Procedure => Ok(TypePart::Procedure),
-        Part::Name(number) => {
-            let name = text.string(alloc, number)?;
-            Ok(TypePart::Name(name))
-        }
-        Part::Qualified(alias, number) => {
-            let alias = text.string(alloc, alias)?;
-            let name = text.string(alloc, number)?;
-            Ok(TypePart::Qualified(alias, name))
+        Part::Named(name) => {
+            let name = name_text(alloc, text, name)?;
+            Ok(TypePart::Named(name))
         }
     }
 }
@@ -64,15 +80,15 @@ fn add(alloc: Global, text: &Text, told: Told, interface: &mut Interface) -> Res
                 declared_by: owner,
             })?;
         }
-        Told::Part { owner, part } => {
+        Told::Part {
+            owner: declared_by,
+            part,
+        } => {
             let part = part_text(alloc, text, part)?;
-            interface.parts.push(FormPart {
-                declared_by: owner,
-                part,
-            })?;
+            interface.parts.push(FormPart { declared_by, part })?;
         }
         Told::Base { record, name } => {
-            let name = part_text(alloc, text, name)?;
+            let name = name_text(alloc, text, name)?;
             interface.bases.push(Base { record, name })?;
         }
         Told::Import { alias, imported } => {

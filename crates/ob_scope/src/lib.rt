@@ -24,7 +24,7 @@ mod told;
 mod uses;
 
 pub use fault::ScopeFault;
-pub use interfaces::{Base, Declaration, FormPart, ImportedModule, Interface, TypePart};
+pub use interfaces::{Base, Declaration, FormPart, ImportedModule, Interface, TypeName, TypePart};
 pub use module_scopes::{Alias, Scopes, interface};
 pub use scoping::scopes;
 pub use sort::Sort;
