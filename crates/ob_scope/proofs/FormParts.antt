@@ -11,7 +11,7 @@ use Rattle.ob_scope.specs.declared.interfaces.Interface.{Interface}
 use Rattle.ob_scope.specs.declared.told.Told.{Told}
 use Rattle.ob_scope.specs.declared.told.Told.TheVariants as tolds
 use Rattle.ob_scope.specs.Interfaces.{Declaration, Part, ModuleInterface, declaration_said, form_part_said, interface_said}
-use Rattle.ob_scope.specs.ToldRows.{DeclarationRow, FormRow, Rows, base_told, declaration_row, declaration_told, form_row, import_seen, interface_rows, member_row, part_of, part_row, part_text, parts_of, rows_more, rows_said, rows_told}
+use Rattle.ob_scope.specs.ToldRows.{DeclarationRow, FormRow, InterfaceRows, base_told, declaration_row, declaration_told, form_row, import_seen, interface_rows, member_row, part_of, part_row, part_text, parts_of, rows_more, rows_said, rows_told}
 use Rattle.ob_scope.proofs.ToldSeen.{each, mapped, then_by, through}
 
 -- ---- one more token
@@ -49,7 +49,7 @@ formed : List FormRow → DeclarationRow → Declaration
 formed parts d = record { name = d.name; start = d.start; sort = d.sort; exported = d.exported; of_record = d.of_record; form = filter_map (part_among d.declared_by) parts }
 
 -- an interface of rows
-all_formed : Rows → ModuleInterface
+all_formed : InterfaceRows → ModuleInterface
 all_formed r = record { name = r.name; declarations = map (formed r.parts) r.declarations; bases = r.bases; imports = r.imports }
 
 -- the form of a value is that of its rows

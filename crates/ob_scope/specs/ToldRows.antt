@@ -101,7 +101,7 @@ pub record FormRow : Type 0 where
   pub part : Part
 
 -- an interface in rows
-pub record Rows : Type 0 where
+pub record InterfaceRows : Type 0 where
   pub name : List ℕ
   pub declarations : List DeclarationRow
   pub parts : List FormRow
@@ -124,7 +124,7 @@ form_row name (tolds.Base k p) = None
 form_row name (tolds.Import a k) = None
 
 -- the rows of a module whose tokens tell this
-abbrev pub rows_told : (ℕ → List ℕ) → (ℕ → ℕ) → List Told → Rows
+abbrev pub rows_told : (ℕ → List ℕ) → (ℕ → ℕ) → List Told → InterfaceRows
 rows_told name start told = record {
   name = name 1;
   declarations = filter_map (member_row name start) told;
@@ -134,7 +134,7 @@ rows_told name start told = record {
 }
 
 -- with what one more token tells
-abbrev pub rows_more : (ℕ → List ℕ) → (ℕ → ℕ) → Told → Rows → Rows
+abbrev pub rows_more : (ℕ → List ℕ) → (ℕ → ℕ) → Told → InterfaceRows → InterfaceRows
 rows_more name start t r = record {
   name = r.name;
   declarations = r.declarations ++ option_to_list (member_row name start t);
@@ -152,7 +152,7 @@ abbrev pub part_row : FormPart → FormRow
 part_row p = record { declared_by = p.declared_by; part = part_said p.part }
 
 -- the rows that an interface is
-abbrev pub rows_said : Interface → Rows
+abbrev pub rows_said : Interface → InterfaceRows
 rows_said i = record {
   name = string_bytes i.name;
   declarations = map declaration_row i.declarations.items;
@@ -168,7 +168,7 @@ abbrev pub IsNameText : (ℕ → List ℕ) → NameRow → Type 0
 IsNameText name (names.Alone k) = IsUtf8 (name k)
 IsNameText name (names.Qualified a k) = IsUtf8 (name a) × IsUtf8 (name k)
 
--- those of a part are
+-- the texts of a part's name are texts of characters
 abbrev pub IsPartText : (ℕ → List ℕ) → PartRow → Type 0
 IsPartText name rows.Array = Unit {0}
 IsPartText name rows.Pointer = Unit {0}
