@@ -4,7 +4,7 @@ use Rattle.std.specs.Prelude.{Contains, ◌==◌}
 use Rattle.std.specs.List.{All}
 use Rattle.std.specs.Str.{IsUtf8}
 use Rattle.std.proofs.lemmas.Bool.{and_parts}
-use Rattle.std.proofs.lemmas.List.Elements.{All-contains, All-contains_itself}
+use Rattle.std.proofs.lemmas.List.Elements.{All-contains_itself}
 use Rattle.std.proofs.lemmas.Option.{same_Some}
 use denote.Enum.Bare.{same_true}
 use Rattle.ob_scan.specs.contracts.kind.Kind.{the_type}
@@ -18,12 +18,12 @@ use Rattle.ob_tree.specs.Derives.{Derives, items_of}
 use Rattle.ob_scope.specs.declared.sort.Sort.{Sort}
 use Rattle.ob_scope.specs.declared.sort.Sort.TheVariants as sorts
 use Rattle.ob_scope.specs.declared.told.Owner.{Owner}
-use Rattle.ob_scope.specs.declared.told.Part.{Part}
+use Rattle.ob_scope.specs.declared.told.Name.TheVariants as names
 use Rattle.ob_scope.specs.declared.told.Part.TheVariants as parts
 use Rattle.ob_scope.specs.declared.told.Told.{Told}
 use Rattle.ob_scope.specs.declared.told.Told.TheVariants as tolds
 use Rattle.ob_scope.specs.Standings.{is_kind, standings, text_at, token_at}
-use Rattle.ob_scope.specs.ToldRows.{IsPartText, IsToldText, part_of, parts_of}
+use Rattle.ob_scope.specs.ToldRows.{IsNameText, IsToldText}
 use Rattle.ob_scope.specs.Told.{declared_told, name_at, name_told, owned, owner_of, part_at, told_at, told_by, told_in}
 use Rattle.ob_scope.specs.Interfaces.{form_of}
 use Rattle.ob_scope.proofs.IdentifierNames.{AreNamed, IsIdentifier, from_filter_map, ident_named, identifier_ident, named_at}
@@ -34,10 +34,10 @@ module _ (bytes : List ℕ) (ts : List Token) (named : AreNamed bytes ts) where
   text_of k e = name_is_text (text_at bytes ts k) (ident_named bytes ts k named e)
 
   -- the name of a type
-  name_text : (k : ℕ) → (token_at ts k).kind ≡ kinds.Ident → IsPartText (text_at bytes ts) (name_at ts k)
+  name_text : (k : ℕ) → (token_at ts k).kind ≡ kinds.Ident → IsNameText (text_at bytes ts) (name_at ts k)
   name_text k e = by (is_kind ts (k + 1) kinds.Dot && is_kind ts (k + 2) kinds.Ident) refl
     where
-      by : (b : Bool) → (is_kind ts (k + 1) kinds.Dot && is_kind ts (k + 2) kinds.Ident) ≡ b → IsPartText (text_at bytes ts) (cond b (parts.Qualified k (k + 2)) (parts.Name k))
+      by : (b : Bool) → (is_kind ts (k + 1) kinds.Dot && is_kind ts (k + 2) kinds.Ident) ≡ b → IsNameText (text_at bytes ts) (cond b (names.Qualified k (k + 2)) (names.Alone k))
       by true f = (text_of k e, text_of (k + 2) (same_true the_type (search rules) _ _ (and_parts _ _ f).1))
       by false f = text_of k e
 
@@ -62,7 +62,7 @@ module _ (bytes : List ℕ) (ts : List Token) (named : AreNamed bytes ts) where
   used_text : (k : ℕ) (o : Owner) (first : ℕ) (t : Told) → (token_at ts k).kind ≡ kinds.Ident → name_told ts k o first ≡ Some t → IsToldText (text_at bytes ts) t
   used_text k o first t ident e = by (k == first) (is_kind ts first kinds.Record) e
     where
-      by : (a b : Bool) → cond a (owned o (Some (name_at ts k))) (cond b (Some (tolds.Base first (name_at ts k))) None) ≡ Some t → IsToldText (text_at bytes ts) t
+      by : (a b : Bool) → cond a (owned o (Some (parts.Named (name_at ts k)))) (cond b (Some (tolds.Base first (name_at ts k))) None) ≡ Some t → IsToldText (text_at bytes ts) t
       by true b f = subst (IsToldText (text_at bytes ts)) (same_Some _ _ f) (name_text k ident)
       by false true f = subst (IsToldText (text_at bytes ts)) (same_Some _ _ f) (name_text k ident)
       by false false f = absurd (let g : None ≡ Some t = f in cc)
@@ -85,20 +85,6 @@ module _ (bytes : List ℕ) (ts : List Token) (named : AreNamed bytes ts) where
 -- what holds of each element, by place
 pub all_of : {X : Type 0} (P : X → Type 0) (xs : List X) → ((x : X) → Contains xs x → P x) → All P xs
 all_of P xs h = λ k d lt. h (get_or xs k d) (All-contains_itself xs k d lt)
-
--- the parts of a form are told
-parts_text : (name : ℕ → List ℕ) (owner : ℕ) (t : Told) (p : Part) → part_of owner t ≡ Some p → IsToldText name t → IsPartText name p
-parts_text name owner (tolds.Part o q) p e h = by (o == owner) e
-  where
-    by : (b : Bool) → cond b (Some q) None ≡ Some p → IsPartText name p
-    by true f = subst (IsPartText name) (same_Some _ _ f) h
-    by false f = absurd (let g : None ≡ Some p = f in cc)
-parts_text name owner t p e h = absurd (let g : None ≡ Some p = e in cc)
-
-pub parts_texts : (name : ℕ → List ℕ) (told : List Told) (owner : ℕ) → All (IsToldText name) told → All (IsPartText name) (parts_of told owner)
-parts_texts name told owner all = all_of (IsPartText name) (parts_of told owner) (λ p h.
-    let (t, has, made) = from_filter_map (part_of owner) told p h in
-    parts_text name owner t p made (All-contains (IsToldText name) told t all has))
 
 -- the texts of what is told are texts of characters
 pub told_texts : (bytes : List ℕ) (ts : List Token) (m : Module) → AreNamed bytes ts → Derives (map (λ (t : Token). t.kind) ts) m → All (IsToldText (text_at bytes ts)) (told_in ts (items_of (module_outline m)))

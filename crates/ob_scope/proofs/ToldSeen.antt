@@ -9,25 +9,26 @@ use Rattle.ob_tree.specs.declared.item.Item.TheVariants as items
 use Rattle.ob_scope.specs.declared.sort.Sort.{Sort}
 use Rattle.ob_scope.specs.declared.sort.Sort.TheVariants as sorts
 use Rattle.ob_scope.specs.declared.told.Owner.{Owner}
+use Rattle.ob_scope.specs.declared.told.Name.TheVariants as names
 use Rattle.ob_scope.specs.declared.told.Part.{Part as PartRow}
 use Rattle.ob_scope.specs.declared.told.Part.TheVariants as rows
 use Rattle.ob_scope.specs.declared.told.Told.{Told}
 use Rattle.ob_scope.specs.declared.told.Told.TheVariants as tolds
 use Rattle.ob_scope.specs.Standings.{is_kind, standings, text_at, token_at}
 use Rattle.ob_scope.specs.Listed.{Declarer}
-use Rattle.ob_scope.specs.Interfaces.{Array, Pointer, Record, Procedure, Name, Qualified, Part, Declaration, Base}
+use Rattle.ob_scope.specs.Interfaces.{Alone, Qualified, TypeName, Array, Pointer, Record, Procedure, Named, Part, Declaration, Base}
 use Rattle.ob_scope.specs.Interfaces.{base_at, base_by, declaration_as, declaration_at, declaration_by, form_by, form_of, imported_as, imported_at, imported_by, interface_by, outer_declarer, part_at, part_by, type_name, word_part}
 use Rattle.ob_scope.specs.Told.{declared_told, name_at, name_told, owned, owner_row, told_at, told_by, told_in}
 use Rattle.ob_scope.specs.Told.{part_at as part_row}
-use Rattle.ob_scope.specs.ToldRows.{base_told, declaration_told, import_seen, interface_told, part_of, part_text, parts_of, start_at}
+use Rattle.ob_scope.specs.ToldRows.{base_told, declaration_told, import_seen, interface_told, name_text, part_of, part_text, parts_of, start_at}
 
 -- ---- lists
 
-then_by : {X Y : Type 0} → Option X → (X → Option Y) → Option Y
+unfoldable pub then_by : {X Y : Type 0} → Option X → (X → Option Y) → Option Y
 then_by None g = None
 then_by (Some x) g = g x
 
-through : {X Y Z : Type 0} (h : X → Option Y) (g : Y → Option Z) (xs : List X) → filter_map g (filter_map h xs) ≡ filter_map (λ x. then_by (h x) g) xs
+pub through : {X Y Z : Type 0} (h : X → Option Y) (g : Y → Option Z) (xs : List X) → filter_map g (filter_map h xs) ≡ filter_map (λ x. then_by (h x) g) xs
 unfolding then_by
 through h g [] = refl
 through {X} {Y} {Z} h g (x ∷ xs) = by (h x) (through h g xs)
@@ -36,7 +37,7 @@ through {X} {Y} {Z} h g (x ∷ xs) = by (h x) (through h g xs)
     by None e = e
     by (Some y) e = ap (cons_option (g y)) e
 
-mapped : {X Y Z : Type 0} (f : Y → Z) (h : X → Option Y) (xs : List X) → map f (filter_map h xs) ≡ filter_map (λ x. option_map f (h x)) xs
+pub mapped : {X Y Z : Type 0} (f : Y → Z) (h : X → Option Y) (xs : List X) → map f (filter_map h xs) ≡ filter_map (λ x. option_map f (h x)) xs
 mapped f h [] = refl
 mapped {X} {Y} {Z} f h (x ∷ xs) = by (h x) (mapped f h xs)
   where
@@ -44,18 +45,18 @@ mapped {X} {Y} {Z} f h (x ∷ xs) = by (h x) (mapped f h xs)
     by None e = e
     by (Some y) e = ap (λ ys. f y ∷ ys) e
 
-each : {X Y : Type 0} (f g : X → Option Y) (xs : List X) → ((x : X) → f x ≡ g x) → filter_map f xs ≡ filter_map g xs
+pub each : {X Y : Type 0} (f g : X → Option Y) (xs : List X) → ((x : X) → f x ≡ g x) → filter_map f xs ≡ filter_map g xs
 each f g xs h = λ i. filter_map (λ x. h x i) xs
 
 -- ---- a name and a word
 
 of_name : {Y : Type 0} (ts : List Token) (k : ℕ) (o : Owner) (first : ℕ) (g : Told → Option Y)
-    → then_by (name_told ts k o first) g ≡ cond (k == first) (g (tolds.Part o.number (name_at ts k))) (cond (is_kind ts first kinds.Record) (g (tolds.Base first (name_at ts k))) None)
+    → then_by (name_told ts k o first) g ≡ cond (k == first) (g (tolds.Part o.number (rows.Named (name_at ts k)))) (cond (is_kind ts first kinds.Record) (g (tolds.Base first (name_at ts k))) None)
 unfolding then_by
 of_name {Y} ts k o first g = by (k == first) (is_kind ts first kinds.Record)
   where
-    by : (a b : Bool) → then_by (cond a (Some (tolds.Part o.number (name_at ts k))) (cond b (Some (tolds.Base first (name_at ts k))) None)) g
-        ≡ cond a (g (tolds.Part o.number (name_at ts k))) (cond b (g (tolds.Base first (name_at ts k))) None)
+    by : (a b : Bool) → then_by (cond a (Some (tolds.Part o.number (rows.Named (name_at ts k)))) (cond b (Some (tolds.Base first (name_at ts k))) None)) g
+        ≡ cond a (g (tolds.Part o.number (rows.Named (name_at ts k)))) (cond b (g (tolds.Base first (name_at ts k))) None)
     by true b = refl
     by false true = refl
     by false false = refl
@@ -82,10 +83,10 @@ of_declared ts k o sorts.Parameter g m i = refl
 of_declared ts k o sorts.Field g m i = m _ _ _ _ _
 
 module _ (bytes : List ℕ) (ts : List Token) where
-  name_same : (k : ℕ) → part_text (text_at bytes ts) (name_at ts k) ≡ type_name bytes ts k
+  name_same : (k : ℕ) → name_text (text_at bytes ts) (name_at ts k) ≡ type_name bytes ts k
   name_same k = by (is_kind ts (k + 1) kinds.Dot && is_kind ts (k + 2) kinds.Ident)
     where
-      by : (b : Bool) → part_text (text_at bytes ts) (cond b (rows.Qualified k (k + 2)) (rows.Name k)) ≡ cond b (Qualified (text_at bytes ts k) (text_at bytes ts (k + 2))) (Name (text_at bytes ts k))
+      by : (b : Bool) → name_text (text_at bytes ts) (cond b (names.Qualified k (k + 2)) (names.Alone k)) ≡ cond b (Qualified (text_at bytes ts k) (text_at bytes ts (k + 2))) (Alone (text_at bytes ts k))
       by true = refl
       by false = refl
 
@@ -109,9 +110,9 @@ module _ (bytes : List ℕ) (ts : List Token) where
   unfolding then_by given
   part_same u (items.Declared n) k (Some d) f = of_declared ts k (owner_row ts d) d.sort (given u) (λ n x e r p. refl) (λ a m. refl)
   part_same u (items.Used n) k (Some d) (Some first) =
-      of_name ts k (owner_row ts d) first (given u) ∙ by (k == first) (is_kind ts first kinds.Record) (d.number == u) ∙ ap (λ p. cond (d.number == u) (cond (k == first) (Some p) None) None) (name_same k)
+      of_name ts k (owner_row ts d) first (given u) ∙ by (k == first) (is_kind ts first kinds.Record) (d.number == u) ∙ ap (λ n. cond (d.number == u) (cond (k == first) (Some (Named n)) None) None) (name_same k)
     where
-      by : (a b c : Bool) → cond a (option_map (part_text (text_at bytes ts)) (cond c (Some (name_at ts k)) None)) (cond b None None) ≡ cond c (cond a (Some (part_text (text_at bytes ts) (name_at ts k))) None) None
+      by : (a b c : Bool) → cond a (option_map (part_text (text_at bytes ts)) (cond c (Some (rows.Named (name_at ts k))) None)) (cond b None None) ≡ cond c (cond a (Some (Named (name_text (text_at bytes ts) (name_at ts k)))) None) None
       by true b true = refl
       by true b false = refl
       by false true true = refl
@@ -169,7 +170,7 @@ module _ (bytes : List ℕ) (ts : List Token) where
   base_same (items.Declared n) k (Some d) f = of_declared ts k (owner_row ts d) d.sort (base_told (text_at bytes ts)) (λ n x e r p. refl) (λ a m. refl)
   base_same (items.Used n) k (Some d) (Some first) =
       of_name ts k (owner_row ts d) first (base_told (text_at bytes ts))
-      ∙ ap (λ (p : Part). cond (k == first) None (cond (is_kind ts first kinds.Record) (Some (let x : Base = record { of_record = first; name = p } in x)) None)) (name_same k)
+      ∙ ap (λ (n : TypeName). cond (k == first) None (cond (is_kind ts first kinds.Record) (Some (let x : Base = record { of_record = first; name = n } in x)) None)) (name_same k)
   base_same items.Word k (Some d) (Some first) = of_word (owner_row ts d) (part_row ts k) (base_told (text_at bytes ts)) (λ q. refl)
   base_same item k o f = refl
 

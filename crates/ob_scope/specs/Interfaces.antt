@@ -15,9 +15,12 @@ use Rattle.ob_tree.specs.Declaring.{module_outline}
 use Rattle.ob_tree.specs.Derives.{items_of}
 use Rattle.ob_scope.specs.declared.sort.Sort.{Sort}
 use Rattle.ob_scope.specs.declared.sort.Sort.TheVariants as sorts
+use Rattle.ob_scope.specs.declared.interfaces.TypeName.{TypeName as TypeNameValue}
+use Rattle.ob_scope.specs.declared.interfaces.TypeName.TheVariants as type_names
 use Rattle.ob_scope.specs.declared.interfaces.TypePart.{TypePart}
 use Rattle.ob_scope.specs.declared.interfaces.TypePart.TheVariants as types
 use Rattle.ob_scope.specs.declared.interfaces.Declaration.{Declaration as DeclarationValue}
+use Rattle.ob_scope.specs.declared.interfaces.FormPart.{FormPart}
 use Rattle.ob_scope.specs.declared.interfaces.Base.{Base as BaseValue}
 use Rattle.ob_scope.specs.declared.interfaces.ImportedModule.{ImportedModule}
 use Rattle.ob_scope.specs.declared.interfaces.Interface.{Interface}
@@ -26,14 +29,18 @@ use Rattle.ob_scope.specs.Scope.{Declared, Place}
 use Rattle.ob_scope.specs.Scope.{Block as InBlock, Record as InRecord}
 use Rattle.ob_scope.specs.Listed.{Declarer, declarer, blocks_of, record_of, ImportItem, import_by}
 
--- a part of a type's form, outermost first: ARRAY once for each of its lengths; a record by its RECORD; a name by its text, behind an alias by both
+-- the name of a type by its text, behind an alias by both
+pub data TypeName : Type 0 where
+  Alone : List ℕ → TypeName
+  Qualified : List ℕ → List ℕ → TypeName
+
+-- a part of a type's form, outermost first: ARRAY once for each of its lengths; a record by its RECORD
 pub data Part : Type 0 where
   Array : Part
   Pointer : Part
   Record : ℕ → Part
   Procedure : Part
-  Name : List ℕ → Part
-  Qualified : List ℕ → List ℕ → Part
+  Named : TypeName → Part
 
 -- what the module's block declares, or of a field its record: where its identifier begins, its mark, and the form of its type
 pub record Declaration : Type 0 where
@@ -47,7 +54,7 @@ pub record Declaration : Type 0 where
 -- the base of a record
 pub record Base : Type 0 where
   pub of_record : ℕ
-  pub name : Part
+  pub name : TypeName
 
 -- an import item
 pub record Imported : Type 0 where
@@ -89,8 +96,8 @@ form_of (h ∷ hs) = if is_construct h.construct constructs.TypeForm then Some h
 -- ---- the forms of types
 
 -- an identifier as a type's name: with the one behind its dot, or alone
-abbrev pub type_name : List ℕ → List Token → ℕ → Part
-type_name bytes ts k = if is_kind ts (k + 1) kinds.Dot && is_kind ts (k + 2) kinds.Ident then Qualified (text_at bytes ts k) (text_at bytes ts (k + 2)) else Name (text_at bytes ts k)
+abbrev pub type_name : List ℕ → List Token → ℕ → TypeName
+type_name bytes ts k = if is_kind ts (k + 1) kinds.Dot && is_kind ts (k + 2) kinds.Ident then Qualified (text_at bytes ts k) (text_at bytes ts (k + 2)) else Alone (text_at bytes ts k)
 
 -- the part that a word is of the type in which it stands directly: ARRAY and each comma between its lengths, POINTER, RECORD, PROCEDURE
 abbrev pub word_part : List Token → ℕ → Option Part
@@ -103,7 +110,7 @@ word_part ts k =
 
 -- the part that a token is of the form that the declaration with this first token gives: a word of a type, or a name that is the whole type
 abbrev pub part_by : List ℕ → List Token → ℕ → Item → ℕ → Option Declarer → Option ℕ → Option Part
-part_by bytes ts owner (items.Used n) k (Some d) (Some first) = if d.number == owner then (if k == first then Some (type_name bytes ts k) else None) else None
+part_by bytes ts owner (items.Used n) k (Some d) (Some first) = if d.number == owner then (if k == first then Some (Named (type_name bytes ts k)) else None) else None
 part_by bytes ts owner items.Word k (Some d) (Some first) = if d.number == owner then word_part ts k else None
 part_by bytes ts owner _ k _ _ = None
 
@@ -205,22 +212,31 @@ is_seen sorts.Field = false
 
 -- ---- what a value says, with its texts as lists of bytes
 
+-- what a name says
+abbrev pub name_said : TypeNameValue → TypeName
+name_said (type_names.Alone s) = Alone (string_bytes s)
+name_said (type_names.Qualified a s) = Qualified (string_bytes a) (string_bytes s)
+
 -- what a part says
 abbrev pub part_said : TypePart → Part
 part_said types.Array = Array
 part_said types.Pointer = Pointer
 part_said (types.Record k) = Record k
 part_said types.Procedure = Procedure
-part_said (types.Name s) = Name (string_bytes s)
-part_said (types.Qualified a s) = Qualified (string_bytes a) (string_bytes s)
+part_said (types.Named n) = Named (name_said n)
 
--- what a declaration says
-abbrev pub declaration_said : DeclarationValue → Declaration
-declaration_said d = record { name = string_bytes d.name; start = d.start; sort = d.sort; exported = d.exported; of_record = d.«record»; form = map part_said d.form.items }
+-- what a part says of the form that the declaration with this first token gives
+abbrev pub form_part_said : ℕ → FormPart → Option Part
+form_part_said owner p = if p.declared_by == owner then Some (part_said p.part) else None
+
+-- what a declaration says: its form is those of these parts that its declaration gives
+abbrev pub declaration_said : List FormPart → DeclarationValue → Declaration
+declaration_said parts d =
+    record { name = string_bytes d.name; start = d.start; sort = d.sort; exported = d.exported; of_record = d.«record»; form = filter_map (form_part_said d.declared_by) parts }
 
 -- what a base says
 abbrev pub base_said : BaseValue → Base
-base_said b = record { of_record = b.«record»; name = part_said b.name }
+base_said b = record { of_record = b.«record»; name = name_said b.name }
 
 -- what an import item says
 abbrev pub import_said : ImportedModule → Imported
@@ -230,7 +246,7 @@ import_said i = record { alias = string_bytes i.alias; start = i.start; module_n
 abbrev pub interface_said : Interface → ModuleInterface
 interface_said i = record {
   name = string_bytes i.name;
-  declarations = map declaration_said i.declarations.items;
+  declarations = map (declaration_said i.parts.items) i.declarations.items;
   bases = map base_said i.bases.items;
   imports = map import_said i.imports.items;
 }

@@ -8,6 +8,8 @@ use Rattle.ob_tree.specs.declared.item.Item.{Item}
 use Rattle.ob_tree.specs.declared.item.Item.TheVariants as items
 use Rattle.ob_scope.specs.declared.sort.Sort.{Sort}
 use Rattle.ob_scope.specs.declared.sort.Sort.TheVariants as sorts
+use Rattle.ob_scope.specs.declared.told.Name.{Name}
+use Rattle.ob_scope.specs.declared.told.Name.TheVariants as names
 use Rattle.ob_scope.specs.declared.told.Part.{Part}
 use Rattle.ob_scope.specs.declared.told.Part.TheVariants as parts
 use Rattle.ob_scope.specs.declared.told.Owner.{Owner}
@@ -28,8 +30,8 @@ abbrev pub owner_of : List Token → List Holder → Option Owner
 owner_of ts hs = option_map (owner_row ts) (outer_declarer ts hs)
 
 -- an identifier as a type's name: with the one behind its dot, or alone
-abbrev pub name_at : List Token → ℕ → Part
-name_at ts k = if is_kind ts (k + 1) kinds.Dot && is_kind ts (k + 2) kinds.Ident then parts.Qualified k (k + 2) else parts.Name k
+abbrev pub name_at : List Token → ℕ → Name
+name_at ts k = if is_kind ts (k + 1) kinds.Dot && is_kind ts (k + 2) kinds.Ident then names.Qualified k (k + 2) else names.Alone k
 
 -- the part that a word tells of the type in which it stands directly: ARRAY and each comma between its lengths, POINTER, RECORD, PROCEDURE
 abbrev pub part_at : List Token → ℕ → Option Part
@@ -48,7 +50,7 @@ owned o (Some p) = Some (tolds.Part o.number p)
 -- what a name tells of the type in which it stands directly: at its beginning it is the type, inside RECORD the base, else (a result) nothing
 abbrev pub name_told : List Token → ℕ → Owner → ℕ → Option Told
 name_told ts k o first =
-    if k == first then owned o (Some (name_at ts k))
+    if k == first then owned o (Some (parts.Named (name_at ts k)))
     else if is_kind ts first kinds.Record then Some (tolds.Base first (name_at ts k))
     else None
 

@@ -1,28 +1,38 @@
 -- What is known of the rows that tokens tell while an interface is made.
-use Rattle.std.specs.Prelude.{ℕ, ◌==◌, ◌++◌, List, [], map, slice_index_or, Option, Some, None, if◌then◌else◌}
+use Rattle.std.specs.Prelude.{ℕ, ◌==◌, ◌++◌, List, map, Option, Some, None, Bool, if◌then◌else◌}
 use Rattle.std.specs.List.{filter_map}
 use Rattle.std.specs.Option.{option_to_list}
 use Rattle.std.specs.Str.{IsUtf8}
-use Rattle.std.specs.declared.alloc.Global.{Global}
-use Rattle.std.specs.declared.vec.Vec.{Vec}
+use Rattle.std.specs.String.{string_bytes}
 use Rattle.ob_scan.specs.declared.token.Token.{Token}
+use Rattle.ob_scope.specs.declared.sort.Sort.{Sort}
+use Rattle.ob_scope.specs.declared.interfaces.Declaration.{Declaration as DeclarationValue}
+use Rattle.ob_scope.specs.declared.interfaces.FormPart.{FormPart}
+use Rattle.ob_scope.specs.declared.interfaces.Interface.{Interface}
+use Rattle.ob_scope.specs.declared.told.Name.{Name as NameRow}
+use Rattle.ob_scope.specs.declared.told.Name.TheVariants as names
 use Rattle.ob_scope.specs.declared.told.Part.{Part as PartRow}
 use Rattle.ob_scope.specs.declared.told.Part.TheVariants as rows
 use Rattle.ob_scope.specs.declared.told.Told.{Told}
 use Rattle.ob_scope.specs.declared.told.Told.TheVariants as tolds
 use Rattle.ob_scope.specs.Standings.{text_at, token_at}
-use Rattle.ob_scope.specs.Interfaces.{Array, Pointer, Record, Procedure, Name, Qualified, Part, Declaration, Base, Imported, ModuleInterface}
+use Rattle.ob_scope.specs.Interfaces.{Alone, Qualified, TypeName, Array, Pointer, Record, Procedure, Named, Part, Declaration, Base, Imported, ModuleInterface}
+use Rattle.ob_scope.specs.Interfaces.{base_said, import_said, part_said}
 
 -- Below, a name is the text of a token by the token's number, and a start where it begins.
 
--- a part with its names as texts
+-- a type's name as texts
+abbrev pub name_text : (ℕ → List ℕ) → NameRow → TypeName
+name_text name (names.Alone k) = Alone (name k)
+name_text name (names.Qualified a k) = Qualified (name a) (name k)
+
+-- a part with its name as texts
 abbrev pub part_text : (ℕ → List ℕ) → PartRow → Part
 part_text name rows.Array = Array
 part_text name rows.Pointer = Pointer
 part_text name (rows.Record k) = Record k
 part_text name rows.Procedure = Procedure
-part_text name (rows.Name k) = Name (name k)
-part_text name (rows.Qualified a k) = Qualified (name a) (name k)
+part_text name (rows.Named n) = Named (name_text name n)
 
 -- the part that a token tells of the form that this declaration gives
 abbrev pub part_of : ℕ → Told → Option PartRow
@@ -47,7 +57,7 @@ declaration_told name start parts (tolds.Import a k) = None
 abbrev pub base_told : (ℕ → List ℕ) → Told → Option Base
 base_told name (tolds.Member k sort exported in_record o) = None
 base_told name (tolds.Part o p) = None
-base_told name (tolds.Base k p) = Some (record { of_record = k; name = part_text name p })
+base_told name (tolds.Base k n) = Some (record { of_record = k; name = name_text name n })
 base_told name (tolds.Import a k) = None
 
 -- an import item as other modules see it
@@ -66,15 +76,6 @@ interface_rows name start parts told = record {
   imports = filter_map (import_seen name start) told;
 }
 
--- with what one more token tells
-abbrev pub interface_more : (ℕ → List ℕ) → (ℕ → ℕ) → (ℕ → List PartRow) → Told → ModuleInterface → ModuleInterface
-interface_more name start parts t i = record {
-  name = i.name;
-  declarations = i.declarations ++ option_to_list (declaration_told name start parts t);
-  bases = i.bases ++ option_to_list (base_told name t);
-  imports = i.imports ++ option_to_list (import_seen name start t);
-}
-
 -- where a token begins
 abbrev pub start_at : List Token → ℕ → ℕ
 start_at ts k = (token_at ts k).start
@@ -83,26 +84,101 @@ start_at ts k = (token_at ts k).start
 abbrev pub interface_told : List ℕ → List Token → List Told → ModuleInterface
 interface_told bytes ts told = interface_rows (text_at bytes ts) (start_at ts) (parts_of told) told
 
--- the lists of parts
-abbrev pub lists : List (Vec PartRow Global) → List (List PartRow)
-lists forms = map (λ f. f.items) forms
+-- ---- the rows, before each declaration has its form
 
--- the parts in the list of this number
-abbrev pub list_at : List (Vec PartRow Global) → ℕ → List PartRow
-list_at forms owner = slice_index_or (lists forms) owner []
+-- a declaration with the first token of the construct that declares it, which gives its form
+pub record DeclarationRow : Type 0 where
+  pub name : List ℕ
+  pub start : ℕ
+  pub sort : Sort
+  pub exported : Bool
+  pub of_record : Option ℕ
+  pub declared_by : ℕ
 
--- the names of a part are texts of characters
+-- a part with the first token of the construct that gives it
+pub record FormRow : Type 0 where
+  pub declared_by : ℕ
+  pub part : Part
+
+-- an interface in rows
+pub record InterfaceRows : Type 0 where
+  pub name : List ℕ
+  pub declarations : List DeclarationRow
+  pub parts : List FormRow
+  pub bases : List Base
+  pub imports : List Imported
+
+-- a declaration that a token tells
+abbrev pub member_row : (ℕ → List ℕ) → (ℕ → ℕ) → Told → Option DeclarationRow
+member_row name start (tolds.Member k sort exported in_record o) =
+    Some (record { name = name k; start = start k; sort = sort; exported = exported; of_record = in_record; declared_by = o })
+member_row name start (tolds.Part o p) = None
+member_row name start (tolds.Base k p) = None
+member_row name start (tolds.Import a k) = None
+
+-- a part that a token tells
+abbrev pub form_row : (ℕ → List ℕ) → Told → Option FormRow
+form_row name (tolds.Member k sort exported in_record o) = None
+form_row name (tolds.Part o p) = Some (record { declared_by = o; part = part_text name p })
+form_row name (tolds.Base k p) = None
+form_row name (tolds.Import a k) = None
+
+-- the rows of a module whose tokens tell this
+abbrev pub rows_told : (ℕ → List ℕ) → (ℕ → ℕ) → List Told → InterfaceRows
+rows_told name start told = record {
+  name = name 1;
+  declarations = filter_map (member_row name start) told;
+  parts = filter_map (form_row name) told;
+  bases = filter_map (base_told name) told;
+  imports = filter_map (import_seen name start) told;
+}
+
+-- with what one more token tells
+abbrev pub rows_more : (ℕ → List ℕ) → (ℕ → ℕ) → Told → InterfaceRows → InterfaceRows
+rows_more name start t r = record {
+  name = r.name;
+  declarations = r.declarations ++ option_to_list (member_row name start t);
+  parts = r.parts ++ option_to_list (form_row name t);
+  bases = r.bases ++ option_to_list (base_told name t);
+  imports = r.imports ++ option_to_list (import_seen name start t);
+}
+
+-- the row that a declaration is
+abbrev pub declaration_row : DeclarationValue → DeclarationRow
+declaration_row d = record { name = string_bytes d.name; start = d.start; sort = d.sort; exported = d.exported; of_record = d.«record»; declared_by = d.declared_by }
+
+-- the row that a part is
+abbrev pub part_row : FormPart → FormRow
+part_row p = record { declared_by = p.declared_by; part = part_said p.part }
+
+-- the rows that an interface is
+abbrev pub rows_said : Interface → InterfaceRows
+rows_said i = record {
+  name = string_bytes i.name;
+  declarations = map declaration_row i.declarations.items;
+  parts = map part_row i.parts.items;
+  bases = map base_said i.bases.items;
+  imports = map import_said i.imports.items;
+}
+
+-- ---- names
+
+-- the texts of a type's name are texts of characters
+abbrev pub IsNameText : (ℕ → List ℕ) → NameRow → Type 0
+IsNameText name (names.Alone k) = IsUtf8 (name k)
+IsNameText name (names.Qualified a k) = IsUtf8 (name a) × IsUtf8 (name k)
+
+-- the texts of a part's name are texts of characters
 abbrev pub IsPartText : (ℕ → List ℕ) → PartRow → Type 0
 IsPartText name rows.Array = Unit {0}
 IsPartText name rows.Pointer = Unit {0}
 IsPartText name (rows.Record k) = Unit {0}
 IsPartText name rows.Procedure = Unit {0}
-IsPartText name (rows.Name k) = IsUtf8 (name k)
-IsPartText name (rows.Qualified a k) = IsUtf8 (name a) × IsUtf8 (name k)
+IsPartText name (rows.Named n) = IsNameText name n
 
 -- the names of what a token tells are
 abbrev pub IsToldText : (ℕ → List ℕ) → Told → Type 0
 IsToldText name (tolds.Member k sort exported in_record o) = IsUtf8 (name k)
 IsToldText name (tolds.Part o p) = IsPartText name p
-IsToldText name (tolds.Base k p) = IsPartText name p
+IsToldText name (tolds.Base k n) = IsNameText name n
 IsToldText name (tolds.Import a k) = IsUtf8 (name a) × IsUtf8 (name k)

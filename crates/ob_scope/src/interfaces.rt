@@ -2,8 +2,8 @@
 
 use crate::Sort;
 
-/// A part of a type's form (Oberon-07 report, section 6). A form is a spine of parts, outermost first, that ends in a name,
-/// a record or a procedure type.
+/// A part of a type's form (Oberon-07 report, section 6). By the grammar a form is a spine of parts, outermost first, that
+/// ends in a name, a record or a procedure type.
 #[derive(Clone, Drop)]
 pub enum TypePart {
     /// ARRAY, once for each of its lengths.
@@ -14,8 +14,15 @@ pub enum TypePart {
     Record(u32),
     /// A procedure type; its parameters and its result are no part of the form.
     Procedure,
+    /// A name.
+    Named(TypeName),
+}
+
+/// The name of a type.
+#[derive(Clone, Drop)]
+pub enum TypeName {
     /// A name alone, of a type of the module or a predeclared one.
-    Name(String),
+    Alone(String),
     /// A name of another module: the alias, and the name behind its dot.
     Qualified(String, String),
 }
@@ -23,6 +30,7 @@ pub enum TypePart {
 /// A constant, a type, a variable or a procedure of the module's block, or a field of a record that stands there.
 #[derive(Clone, Drop)]
 pub struct Declaration {
+    /// Its identifier.
     pub name: String,
     /// Where its identifier begins, in bytes.
     pub start: u32,
@@ -30,24 +38,35 @@ pub struct Declaration {
     pub sort: Sort,
     /// Whether it has the export mark.
     pub exported: bool,
-    /// Of a field the number of its RECORD's token.
+    /// Of a field the number of its RECORD's token, from 0.
     pub record: Option<u32>,
-    /// The form of its type; empty for constants and procedures.
-    pub form: Vec<TypePart>,
+    /// The number of the first token of its declaration, from 0. The identifiers of one list share it, and one form: the
+    /// parts with this number. Constants and procedures have none.
+    pub declared_by: u32,
+}
+
+/// A part of the form of what a declaration declares.
+#[derive(Clone, Drop)]
+pub struct FormPart {
+    /// The number of the first token of the declaration, from 0.
+    pub declared_by: u32,
+    /// What it is.
+    pub part: TypePart,
 }
 
 /// The base of a record.
 #[derive(Clone, Drop)]
 pub struct Base {
-    /// The number of the record's RECORD's token.
+    /// The number of the record's RECORD's token, from 0.
     pub record: u32,
-    /// The base's name, alone or qualified.
-    pub name: TypePart,
+    /// The base's name.
+    pub name: TypeName,
 }
 
 /// An import item.
 #[derive(Clone, Drop)]
 pub struct ImportedModule {
+    /// The identifier that stands for the module.
     pub alias: String,
     /// Where the alias begins, in bytes.
     pub start: u32,
@@ -59,8 +78,14 @@ pub struct ImportedModule {
 /// types. Each list is in the order of the file.
 #[derive(Clone, Drop)]
 pub struct Interface {
+    /// The module's name.
     pub name: String,
+    /// What its block declares, and the records that stand there.
     pub declarations: Vec<Declaration>,
+    /// The parts of the forms of all declarations; the form of one is the parts of its declaration.
+    pub parts: Vec<FormPart>,
+    /// The bases of the records that have one.
     pub bases: Vec<Base>,
+    /// Its import items.
     pub imports: Vec<ImportedModule>,
 }

@@ -1,10 +1,10 @@
 //! The blocks of an Oberon-07 module, what is declared in them, and what each used name means.
 //! Stands on `ob_scan` and `ob_tree`, with `indexmap` for its tables and `thiserror` for its faults.
-//! Its contract: each use means the declaration that the scope rule gives it, or two identifiers of one name stand in one place.
+//! Its contract: each use means the declaration that the scope rule gives it, or two identifiers of one name stand in one place;
+//! and what other modules see of a module is its interface.
 #![tactic(auto)]
 
 mod fault;
-mod forms;
 mod frame;
 mod interfaces;
 mod interfacing;
@@ -24,7 +24,7 @@ mod told;
 mod uses;
 
 pub use fault::ScopeFault;
-pub use interfaces::{Base, Declaration, ImportedModule, Interface, TypePart};
+pub use interfaces::{Base, Declaration, FormPart, ImportedModule, Interface, TypeName, TypePart};
 pub use module_scopes::{Alias, Scopes, interface};
 pub use scoping::scopes;
 pub use sort::Sort;

@@ -11,7 +11,7 @@ ghost use Rattle.ob_scope.specs.Wholes.{is_token};
 use crate::Sort;
 use crate::frame::{is_at, opens_with, sort_of};
 use crate::listing::imported_by;
-use crate::told::{Owner, Part, Spot, Told};
+use crate::told::{Name, Owner, Part, Spot, Told};
 use ob_scan::{Kind, Token};
 use ob_tree::construct::Construct;
 use ob_tree::item::Item;
@@ -30,14 +30,14 @@ pub(crate) struct Teller {
 }
 
 /// An identifier as the name of a type.
-fn name_at(tokens: &[Token], number: u32) -> Part
+fn name_at(tokens: &[Token], number: u32) -> Name
     requires { number ≤ 16777216 }
     ensures { result ≡ name_at tokens.now number }
 {
     if is_at(tokens, number + 1, Kind::Dot) && is_at(tokens, number + 2, Kind::Ident) {
-        Part::Qualified(number, number + 2)
+        Name::Qualified(number, number + 2)
     } else {
-        Part::Name(number)
+        Name::Alone(number)
     }
 }
 
@@ -80,7 +80,7 @@ fn name_told(tokens: &[Token], number: u32, owner: Owner, first: u32) -> Option<
     if number == first {
         Some(Told::Part {
             owner: owner.number,
-            part: name,
+            part: Part::Named(name),
         })
     } else if is_at(tokens, first, Kind::Record) {
         Some(Told::Base {

@@ -12,8 +12,14 @@ pub(crate) enum Part {
     Record(u32),
     /// A procedure type.
     Procedure,
+    Named(Name),
+}
+
+/// The name of a type.
+#[derive(Clone, Copy)]
+pub(crate) enum Name {
     /// A name alone.
-    Name(u32),
+    Alone(u32),
     /// An alias, and the name behind its dot.
     Qualified(u32, u32),
 }
@@ -37,7 +43,7 @@ pub(crate) enum Told {
     /// The name of a record's base, with the RECORD.
     Base {
         record: u32,
-        name: Part,
+        name: Name,
     },
     /// An import item: its alias, and the name of the module.
     Import {
