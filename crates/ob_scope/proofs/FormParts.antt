@@ -46,7 +46,7 @@ part_among owner p = cond (eqb p.declared_by owner) (Some p.part) None
 
 -- a declaration with its form, the parts that its declaration gives
 formed : List FormRow → DeclarationRow → Declaration
-formed parts d = record { name = d.name; start = d.start; sort = d.sort; exported = d.exported; of_record = d.of_record; form = filter_map (part_among d.declared_by) parts }
+formed parts d = record { name = d.name; start = d.start; sort = d.sort; exported = d.exported; of_record = d.of_record; declared_by = d.declared_by; form = filter_map (part_among d.declared_by) parts }
 
 -- an interface of rows
 all_formed : InterfaceRows → ModuleInterface
@@ -96,7 +96,7 @@ module _ (name : ℕ → List ℕ) (start : ℕ → ℕ) (told : List Told) wher
   unfolding formed
   member_told (tolds.Member k sort exported in_record o) =
       let form = form_told o in
-      λ i. Some (record { name = name k; start = start k; sort = sort; exported = exported; of_record = in_record; form = form i })
+      λ i. Some (record { name = name k; start = start k; sort = sort; exported = exported; of_record = in_record; declared_by = o; form = form i })
   member_told t = refl
 
   -- the rows that are told stand for the interface that is told

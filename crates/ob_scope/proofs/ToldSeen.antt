@@ -149,9 +149,9 @@ module _ (bytes : List ℕ) (ts : List Token) where
     unfolding then_by
     declaration_same (items.Declared n) k (Some d) f = by d.sort
       where
-        one : (r : Option ℕ) → Some (let x : Declaration = record { name = text_at bytes ts k; start = (token_at ts k).start; sort = d.sort; exported = is_kind ts (k + 1) kinds.Star; of_record = r; form = map (part_text (text_at bytes ts)) (parts d.number) } in x)
-            ≡ Some (record { name = text_at bytes ts k; start = (token_at ts k).start; sort = d.sort; exported = is_kind ts (k + 1) kinds.Star; of_record = r; form = forms d.number })
-        one r = λ i. Some (record { name = text_at bytes ts k; start = (token_at ts k).start; sort = d.sort; exported = is_kind ts (k + 1) kinds.Star; of_record = r; form = same d.number i })
+        one : (r : Option ℕ) → Some (let x : Declaration = record { name = text_at bytes ts k; start = (token_at ts k).start; sort = d.sort; exported = is_kind ts (k + 1) kinds.Star; of_record = r; declared_by = d.number; form = map (part_text (text_at bytes ts)) (parts d.number) } in x)
+            ≡ Some (record { name = text_at bytes ts k; start = (token_at ts k).start; sort = d.sort; exported = is_kind ts (k + 1) kinds.Star; of_record = r; declared_by = d.number; form = forms d.number })
+        one r = λ i. Some (record { name = text_at bytes ts k; start = (token_at ts k).start; sort = d.sort; exported = is_kind ts (k + 1) kinds.Star; of_record = r; declared_by = d.number; form = same d.number i })
 
         by : (s : Sort) → then_by (declared_told ts k (owner_row ts d) s) (declaration_told (text_at bytes ts) (start_at ts) parts) ≡ declaration_as bytes ts forms k d s
         by sorts.Import = refl

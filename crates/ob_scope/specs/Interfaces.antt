@@ -42,13 +42,14 @@ pub data Part : Type 0 where
   Procedure : Part
   Named : TypeName → Part
 
--- what the module's block declares, or of a field its record: where its identifier begins, its mark, and the form of its type
+-- what the module's block declares, or of a field its record: where its identifier begins, its mark, the first token of its declaration, and the form of its type
 pub record Declaration : Type 0 where
   pub name : List ℕ
   pub start : ℕ
   pub sort : Sort
   pub exported : Bool
   pub of_record : Option ℕ
+  pub declared_by : ℕ
   pub form : List Part
 
 -- the base of a record
@@ -127,7 +128,7 @@ form_by bytes ts is owner = filter_map (part_at bytes ts owner) (standings is)
 -- an identifier as a declaration, in the block or in this record
 abbrev pub declaration : List ℕ → List Token → (ℕ → List Part) → ℕ → Declarer → Option ℕ → Declaration
 declaration bytes ts forms k d in_record =
-    record { name = text_at bytes ts k; start = (token_at ts k).start; sort = d.sort; exported = is_kind ts (k + 1) kinds.Star; of_record = in_record; form = forms d.number }
+    record { name = text_at bytes ts k; start = (token_at ts k).start; sort = d.sort; exported = is_kind ts (k + 1) kinds.Star; of_record = in_record; declared_by = d.number; form = forms d.number }
 
 -- an identifier as what it is declared: a field with its record; an alias is none, and no parameter is seen
 abbrev pub declaration_as : List ℕ → List Token → (ℕ → List Part) → ℕ → Declarer → Sort → Option Declaration
@@ -232,7 +233,7 @@ form_part_said owner p = if p.declared_by == owner then Some (part_said p.part) 
 -- what a declaration says: its form is those of these parts that its declaration gives
 abbrev pub declaration_said : List FormPart → DeclarationValue → Declaration
 declaration_said parts d =
-    record { name = string_bytes d.name; start = d.start; sort = d.sort; exported = d.exported; of_record = d.«record»; form = filter_map (form_part_said d.declared_by) parts }
+    record { name = string_bytes d.name; start = d.start; sort = d.sort; exported = d.exported; of_record = d.«record»; declared_by = d.declared_by; form = filter_map (form_part_said d.declared_by) parts }
 
 -- what a base says
 abbrev pub base_said : BaseValue → Base

@@ -48,7 +48,7 @@ parts_of told owner = filter_map (part_of owner) told
 -- a declaration as other modules see it, where each declaration gives these parts
 abbrev pub declaration_told : (ℕ → List ℕ) → (ℕ → ℕ) → (ℕ → List PartRow) → Told → Option Declaration
 declaration_told name start parts (tolds.Member k sort exported in_record o) =
-    Some (record { name = name k; start = start k; sort = sort; exported = exported; of_record = in_record; form = map (part_text name) (parts o) })
+    Some (record { name = name k; start = start k; sort = sort; exported = exported; of_record = in_record; declared_by = o; form = map (part_text name) (parts o) })
 declaration_told name start parts (tolds.Part o p) = None
 declaration_told name start parts (tolds.Base k p) = None
 declaration_told name start parts (tolds.Import a k) = None
