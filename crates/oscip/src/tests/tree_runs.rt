@@ -326,9 +326,10 @@ fn a_check_reads_the_tree_before_the_report(rt: HostRuntime) -> Result<(), Fail>
 }
 
 #[test]
-fn a_job_on_a_tree_is_answered_by_its_engine(rt: HostRuntime) -> Result<(), Fail> {
+fn a_cut_of_a_tree_is_answered_by_its_engine(rt: HostRuntime) -> Result<(), Fail> {
     let sources = sources(rt.alloc(), &FOUR)?;
-    assert!(rt; in_order(sources.as_slice()));
+    let sources = sources.as_slice();
+    assert!(rt; in_order(sources));
     let folder = String::from_str(rt.alloc(), "four")?;
     let from = String::from_str(rt.alloc(), "A")?;
     let to = String::from_str(rt.alloc(), "D")?;
@@ -340,19 +341,17 @@ fn a_job_on_a_tree_is_answered_by_its_engine(rt: HostRuntime) -> Result<(), Fail
     };
     let gate = AllCome::new(&rt, 8);
     let mut out = Vec::new(rt.alloc());
-    assert!(rt;
-        answer_tree(
-            &rt,
-            rt.alloc(),
-            &job,
-            sources.as_slice(),
-            b"",
-            &gate,
-            &mut out
-        )?
-    );
+    assert!(rt; answer_tree(&rt, rt.alloc(), &job, sources, b"", &gate, &mut out)?);
     assert_eq!(rt; gate.came.load(Ordering::SeqCst), 8);
     assert_eq!(rt; out.as_slice(), FOUR_CUT);
+    Ok(())
+}
+
+#[test]
+fn a_check_of_a_tree_is_answered_by_its_engine(rt: HostRuntime) -> Result<(), Fail> {
+    let sources = sources(rt.alloc(), &FOUR)?;
+    let sources = sources.as_slice();
+    assert!(rt; in_order(sources));
     let folder = String::from_str(rt.alloc(), "four")?;
     let report = String::from_str(rt.alloc(), "four.cut")?;
     let job = Job::Check { folder, report };
@@ -362,7 +361,7 @@ fn a_job_on_a_tree_is_answered_by_its_engine(rt: HostRuntime) -> Result<(), Fail
             &rt,
             rt.alloc(),
             &job,
-            sources.as_slice(),
+            sources,
             FOUR_CUT,
             &OpenGate,
             &mut out
