@@ -1,5 +1,5 @@
 -- The items of statements, by their parts.
-use Rattle.std.proofs.Common.{◌≡◌, ℕ, [], ◌∷◌, ◌++◌, Option, refl, append_assoc}
+use Rattle.std.proofs.Common.{◌≡◌, ℕ, List, [], ◌∷◌, ◌++◌, Option, refl, append_assoc}
 use Rattle.std.specs.Prelude.{Vec}
 use Rattle.std.specs.declared.boxed.Box.{Box}
 use Rattle.std.specs.declared.alloc.Global.{Global}
@@ -78,9 +78,15 @@ pub case_items : (e : Expr) (b : Box Case Global) (v : Vec Case Global) → item
     items.Word ∷ (items_of (expr_outline e) ++ (items.Word ∷ (items_of (case_outline b.value) ++ (items_of (each_after kinds.Bar case_outline v.items) ++ items.Word ∷ []))))
 case_items e b v = simp (case_made e b v, items-construct, items-append)
 
+-- Branches have one list of items, whichever word stands in them.
+pub branches_alike : (k j : Kind) (bs : List Branch) →
+    items_of (each_after kinds.Elsif (λ x. branch_outline x k) bs) ≡ items_of (each_after kinds.Elsif (λ x. branch_outline x j) bs)
+branches_alike k j [] = refl
+branches_alike k j (b ∷ bs) = simp (items-append, branch_items b k, branch_items b j, branches_alike k j bs)
+
 pub while_items : (b : Box Branch Global) (v : Vec Branch Global) → items_of (stmt_outline (statements.While b v)) ≡
-    items.Word ∷ (items_of (branch_outline b.value kinds.Do) ++ (items_of (each_after kinds.Elsif (λ x. branch_outline x kinds.Do) v.items) ++ items.Word ∷ []))
-while_items b v = simp (while_made b v, items-construct, items-append)
+    items.Word ∷ (items_of (branch_outline b.value kinds.Then) ++ (items_of (each_after kinds.Elsif (λ x. branch_outline x kinds.Then) v.items) ++ items.Word ∷ []))
+while_items b v = simp (while_made b v, items-construct, items-append, branch_items b.value kinds.Do, branch_items b.value kinds.Then, branches_alike kinds.Do kinds.Then v.items)
 
 pub repeat_items : (b : Box Block Global) (e : Expr) →
     items_of (stmt_outline (statements.Repeat b e)) ≡ items.Word ∷ (items_of (block_outline b.value) ++ (items.Word ∷ items_of (expr_outline e)))

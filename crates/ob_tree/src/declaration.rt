@@ -1,4 +1,4 @@
-//! Types, declarations and modules (Oberon-07 report, sections 5, 6, 7, 10 and 11).
+//! Types, declarations and modules (Oberon-07 report, sections 5, 6, 7, 10 and 11). Numbers are those of tokens, from 0.
 
 use crate::expression::{Expr, ExprList};
 use crate::name::{Identdef, OneOrMore, Qualident};

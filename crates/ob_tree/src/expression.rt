@@ -1,4 +1,4 @@
-//! Expressions and designators (Oberon-07 report, section 8).
+//! Expressions and designators (Oberon-07 report, section 8). Numbers are those of tokens, from 0.
 
 /// The relations.
 #[derive(Clone, Copy, PartialEq, Eq, Debug)]

@@ -1,4 +1,4 @@
-//! Names, and what stands once or more often (Oberon-07 report, section 4).
+//! Names, and what stands once or more often (Oberon-07 report, section 4). Numbers are those of tokens, from 0.
 
 /// One or more of a kind; what parts them in the text depends on where they stand.
 #[derive(Drop)]

@@ -1,4 +1,4 @@
-//! Statements (Oberon-07 report, section 9).
+//! Statements (Oberon-07 report, section 9). Numbers are those of tokens, from 0.
 
 use crate::expression::{Designator, Expr};
 use crate::name::{OneOrMore, Qualident};

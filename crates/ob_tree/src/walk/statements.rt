@@ -3,7 +3,7 @@
 ghost use Rattle.std.specs.Prelude.{◌≡◌, ◌++◌, IfOk};
 ghost use Rattle.ob_scan.specs.declared.kind.Kind.TheVariants as kinds;
 ghost use Rattle.ob_tree.specs.Derives.{items_of};
-ghost use Rattle.ob_tree.specs.Marks.{word, if_there};
+ghost use Rattle.ob_tree.specs.Marks.{word, if_there, each_after};
 ghost use Rattle.ob_tree.specs.Statements.{label_outline, label_range_outline, case_outline, stmt_outline, block_outline, branch_outline, for_outline};
 
 use crate::item::Item;
@@ -68,10 +68,7 @@ fn walk_stmt(out: &mut Vec<Item>, stmt: &Stmt) -> Result<(), AllocError>
         Stmt::If(first, rest, otherwise) => {
             out.push(Item::Word)?;
             walk_branch(out, first)?;
-            for branch in rest {
-                out.push(Item::Word)?;
-                walk_branch(out, branch)?;
-            }
+            walk_branches(out, rest)?;
             walk_otherwise(out, otherwise)?;
             out.push(Item::Word)?;
         }
@@ -80,19 +77,13 @@ fn walk_stmt(out: &mut Vec<Item>, stmt: &Stmt) -> Result<(), AllocError>
             walk_expr(out, chosen)?;
             out.push(Item::Word)?;
             walk_case(out, first)?;
-            for case in rest {
-                out.push(Item::Word)?;
-                walk_case(out, case)?;
-            }
+            walk_cases(out, rest)?;
             out.push(Item::Word)?;
         }
         Stmt::While(first, rest) => {
             out.push(Item::Word)?;
             walk_branch(out, first)?;
-            'while_branches: for branch in rest {
-                out.push(Item::Word)?;
-                walk_branch(out, branch)?;
-            }
+            walk_branches(out, rest)?;
             out.push(Item::Word)?;
         }
         Stmt::Repeat(body, until) => {
@@ -131,6 +122,32 @@ fn walk_branch(out: &mut Vec<Item>, branch: &Branch) -> Result<(), AllocError>
     walk_expr(out, &branch.condition)?;
     out.push(Item::Word)?;
     walk_block(out, &branch.body)
+}
+
+/// The branches behind the first one.
+#[cycle(statements)]
+#[tactic(auto, using(crate::proofs::StatementWalks::statement_items))]
+fn walk_branches(out: &mut Vec<Item>, branches: &Vec<Branch>) -> Result<(), AllocError>
+    ensures { IfOk result (λ _. out.new.items ≡ out.old.items ++ items_of (each_after kinds.Elsif (λ b. branch_outline b kinds.Then) branches.now.items)) }
+{
+    for branch in branches {
+        out.push(Item::Word)?;
+        walk_branch(out, branch)?;
+    }
+    Ok(())
+}
+
+/// The cases behind the first one.
+#[cycle(statements)]
+#[tactic(auto, using(crate::proofs::StatementWalks::statement_items))]
+fn walk_cases(out: &mut Vec<Item>, cases: &Vec<Case>) -> Result<(), AllocError>
+    ensures { IfOk result (λ _. out.new.items ≡ out.old.items ++ items_of (each_after kinds.Bar case_outline cases.now.items)) }
+{
+    for case in cases {
+        out.push(Item::Word)?;
+        walk_case(out, case)?;
+    }
+    Ok(())
 }
 
 #[cycle(statements)]
