@@ -54,11 +54,6 @@ passed_beyond imports marks v start p up starts le l other passed k low _ inside
       absurd (other (omega arith))
 ]
 
-pub starts_first : (imports : List Pair) (nodes : ℕ) (places : List ℕ) → places ≡ replicate nodes (length imports) → (v : ℕ) → v < nodes → StartsFrom imports v (place_at places v)
-starts_first imports nodes places e v l k low inside =
-    let at : place_at places v ≡ length imports = ap (λ (t : List ℕ). slice_index_or t v 0) e ∙ get_or-replicate nodes v (length imports) 0 l in
-    absurd (omega arith)
-
 -- one more import before those that are known
 pub starts_more : (imports : List Pair) (nodes : ℕ) (places : List ℕ) (p : ℕ) → IsAscending imports → p < length imports → ((v : ℕ) → v < nodes → StartsFrom imports v (place_at places v))
     → (v : ℕ) → v < nodes → StartsFrom imports v (place_at (slice_set places (import_at imports p).from p) v)
@@ -95,17 +90,6 @@ above_more imports places p l here above k le inside = elim (cases_eq (import_at
       ]
 ]
 
-pub starts_all : (imports : List Pair) (nodes : ℕ) (places : List ℕ) → length places ≡ nodes → ((v : ℕ) → v < nodes → StartsFrom imports v (place_at places v))
-    → ((k : ℕ) → 0 ≤ k → k < length imports → place_at places (import_at imports k).from ≤ k) → AreStarts imports nodes places
-starts_all imports nodes places size starts above = record {
-  size = size;
-  starts = starts;
-  passed = λ v k below inside is. (
-      let at : place_at places (import_at imports k).from ≤ k = above k (omega arith) inside in
-      let same : place_at places (import_at imports k).from ≡ place_at places v = ap (place_at places) is in
-      omega arith);
-}
-
 -- one more importer in its row
 pub importers_more : (imports : List Pair) (rows new : List (List ℕ)) (count : ℕ) → AreImporters imports rows count → (import_at imports count).to < length rows
     → new ≡ slice_set rows (import_at imports count).to (row_at rows (import_at imports count).to ++ (import_at imports count).from ∷ []) → AreImporters imports new (count + 1)
@@ -135,12 +119,6 @@ importers_more imports rows new count are within is =
             omega arith
       ];
     }
-
-pub importers_none : (imports : List Pair) (rows : List (List ℕ)) → ((v : ℕ) → row_at rows v ≡ []) → AreImporters imports rows 0
-importers_none imports rows none = record {
-  all = λ k l. absurd (omega arith);
-  few = λ v. rw (none v) (omega arith);
-}
 
 -- a mark stands within the list
 pub marked_below : (marks : List Bool) (v : ℕ) → marked marks v ≡ true → v < length marks
@@ -284,15 +262,6 @@ settled_leads imports nodes marks places s v h = elim (s.waits v h) [
   | inl listed ↦ absurd (let l : listed.0 < 0 = listed.1 in omega arith)
   | inr leads ↦ leads
 ]
-
-pub settled_knot : (imports : List Pair) (nodes : ℕ) (marks : List Bool) (places : List ℕ) → IsSettling imports nodes marks places [] → IsKnot (Leads imports) (marked marks)
-settled_knot imports nodes marks places s = record {
-  each = λ v h. (
-      let l = settled_leads imports nodes marks places s v h in
-      let p = place_at places v in
-      ((import_at imports p).to, subst (λ (u : ℕ). Leads imports u (import_at imports p).to) l.from (leads_at imports p l.within), l.to));
-  greatest = s.greatest;
-}
 
 pub settled_next : (imports : List Pair) (nodes : ℕ) (marks : List Bool) (places : List ℕ) → IsAscending imports → IsSettling imports nodes marks places [] → (v : ℕ) → marked marks v ≡ true
     → IsNext (Leads imports) (marked marks) v (import_at imports (place_at places v)).to

@@ -73,6 +73,25 @@ fn ready_modules_have_their_imports_done(rt: HostRuntime) -> Result<(), Fail> {
 }
 
 #[test]
+fn the_last_module_is_ready_first(rt: HostRuntime) -> Result<(), Fail> {
+    let graph = made(
+        rt.alloc(),
+        &[
+            ("A.Mod", "A", &["B", "C"]),
+            ("B.Mod", "B", &["D"]),
+            ("C.Mod", "C", &["D"]),
+            ("D.Mod", "D", &[]),
+        ],
+    )?;
+    assert_eq!(rt; graph.modules(), 4);
+    let first = graph.ready(rt.alloc(), &[false, false, false, false])?;
+    assert_eq!(rt; first.as_slice(), [3].as_slice());
+    let next = graph.ready(rt.alloc(), &[false, false, false, true])?;
+    assert_eq!(rt; next.as_slice(), [1, 2].as_slice());
+    Ok(())
+}
+
+#[test]
 fn the_least_name_and_its_least_paths_are_told(rt: HostRuntime) -> Result<(), Fail> {
     let answer = made(
         rt.alloc(),
