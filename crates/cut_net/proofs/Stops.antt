@@ -5,7 +5,7 @@ use Rattle.std.specs.List.{IsDistinct, list_any}
 use Rattle.std.specs.Str.{bytes_eq}
 use Rattle.std.proofs.lemmas.Bool.{cases_Bool, cases_order, or_cases, or_left, or_right}
 use Rattle.std.proofs.lemmas.List.{append-nil, get_or_append_left, take-append-drop}
-use Rattle.std.proofs.lemmas.List.Elements.{All-contains, All-contains_itself, All-filter, All-head, All-tail, Contains-append_left, filter-append, filter_passes}
+use Rattle.std.proofs.lemmas.List.Elements.{All-contains, All-head, All-tail, Contains-append_left, filter-append, filter_passes}
 use Rattle.std.proofs.lemmas.List.Kept.{AllPairs-filter}
 use Rattle.std.proofs.lemmas.List.Sums.{count_by-le-length, length-filter}
 use Rattle.std.proofs.lemmas.Map.Keys.{IsDistinct-from_apart, apart_from_distinct}
@@ -60,9 +60,6 @@ module _ {X : Type 0} where
     | inl passes ↦ rw passes (deeper y x (filter p ys) (kept p ys x (k, omega arith, is) e))
     | inr fails ↦ rw fails (kept p ys x (k, omega arith, is) e)
   ]
-
-  was_kept : (p : X → Bool) (xs : List X) (x : X) → Contains (filter p xs) x → Contains xs x
-  was_kept p xs x has = All-contains (Contains xs) (filter p xs) x (All-filter p (Contains xs) xs (All-contains_itself xs)) has
 
   passes_kept : (p : X → Bool) (xs : List X) (x : X) → Contains (filter p xs) x → p x ≡ true
   passes_kept p xs x has = All-contains (λ y. p y ≡ true) (filter p xs) x (filter_passes p xs) has

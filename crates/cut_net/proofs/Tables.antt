@@ -37,12 +37,6 @@ tables_none = record {
 
 -- ---- names with one more
 
-noted_old : (names : List (List ℕ)) (m : List ℕ) → list_any (bytes_eq m) names ≡ true → noted names m ≡ names
-noted_old names m e = rw e refl
-
-noted_new : (names : List (List ℕ)) (m : List ℕ) → list_any (bytes_eq m) names ≡ false → noted names m ≡ names ++ m ∷ []
-noted_new names m e = rw e refl
-
 noted_once : (names : List (List ℕ)) (m : List ℕ) → IsDistinct bytes_eq names → IsDistinct bytes_eq (noted names m)
 noted_once names m h =
     elim (cases_Bool (list_any (bytes_eq m) names)) [
@@ -361,11 +355,6 @@ takes_from_adds before piece line (Err fault.BadLine) draft written e good h = a
 takes_from_adds before piece line (Err fault.TwiceImport) draft written e good h = (line, e, good, h)
 takes_from_adds before piece line (Err fault.TooMany) draft written e good h = (line, e, good, h)
 takes_from_adds before piece line (Err fault.Memory) draft written e good h = tt
-
-pub takes_nothing : (before : List NetLine) (piece : List ℕ) (draft : Draft) → is_written piece ≡ false → IsDraft before draft → Takes before piece (Ok tt) draft
-takes_nothing before piece draft empty h =
-    let spelled : filter is_written (piece ∷ []) ≡ [] = rw empty refl in
-    ([], spelled, rw (append-nil before) h)
 
 pub not_read : (o : Option Line) (r : Option NetLine) → option_map line_said o ≡ r → ((x : Line) → o ≡ Some x → ⊥) → r ≡ None
 not_read None r e none = sym e

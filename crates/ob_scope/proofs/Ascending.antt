@@ -79,7 +79,15 @@ numbered k hs (items.Repeated m n ∷ is) = (omega arith, next k _ (numbered (k 
 numbered k hs (items.Value n ∷ is) = (omega arith, next k _ (numbered (k + 1) hs is))
 numbered k hs (items.Word ∷ is) = (omega arith, next k _ (numbered (k + 1) hs is))
 
-number_of_member : (ts : List Token) (k : ℕ) (i : Item) (hs : List Holder) (d : Declared) → member_at ts (record { number = k; item = i; within = hs }) ≡ Some d → d.number ≡ k
+-- so no token has a number before the first
+pub not_before : (k : ℕ) (hs : List Holder) (is : List Item) (s : Standing) → Contains (standings_from k hs is) s → k ≤ s.number
+not_before k hs is s h = let at = at_from_contains (standings_from k hs is) s h in above (λ (t : Standing). t.number) k (standings_from k hs is) at.place s (numbered k hs is) at.there
+
+-- so a number is one token's
+pub one_standing : (is : List Item) (s t : Standing) → Contains (standings is) s → Contains (standings is) t → s.number ≡ t.number → s ≡ t
+one_standing is = one_of_number (λ (s : Standing). s.number) (standings is) (ascending (λ (s : Standing). s.number) 0 (standings is) (numbered 0 [] is))
+
+pub number_of_member : (ts : List Token) (k : ℕ) (i : Item) (hs : List Holder) (d : Declared) → member_at ts (record { number = k; item = i; within = hs }) ≡ Some d → d.number ≡ k
 number_of_member ts k (items.Declared n) hs d e = go (declarer hs) refl
   where
     go : (o : Option Declarer) → declarer hs ≡ o → d.number ≡ k
@@ -96,7 +104,7 @@ number_of_member ts k (items.Repeated m n) hs d e = absurd cc
 number_of_member ts k (items.Value n) hs d e = absurd cc
 number_of_member ts k items.Word hs d e = absurd cc
 
-number_of_import : (ts : List Token) (k : ℕ) (i : Item) (hs : List Holder) (d : ImportItem) → import_at ts (record { number = k; item = i; within = hs }) ≡ Some d → d.alias ≡ k
+pub number_of_import : (ts : List Token) (k : ℕ) (i : Item) (hs : List Holder) (d : ImportItem) → import_at ts (record { number = k; item = i; within = hs }) ≡ Some d → d.alias ≡ k
 number_of_import ts k (items.Declared n) hs d e = go (declarer hs) refl
   where
     by_sort : (s : Sort) → import_by ts k s ≡ Some d → d.alias ≡ k

@@ -1,5 +1,5 @@
 -- The scopes of what was found.
-use Rattle.std.proofs.Common.{◌≡◌, ℕ, suc, ◌+◌, ◌<◌, ◌≤◌, inl, inr, List, [], ◌∷◌, ◌++◌, length, map, take, Some, None, refl, sym, ap, ◌∙◌, subst, arith, length-append}
+use Rattle.std.proofs.Common.{◌≡◌, ℕ, suc, ◌+◌, ◌<◌, ◌≤◌, inl, inr, List, [], ◌∷◌, ◌++◌, length, map, take, Some, refl, sym, ap, ◌∙◌, subst, arith, length-append}
 use Rattle.std.specs.Prelude.{slice_get, slice_index, slice_index_or, Contains}
 use Rattle.std.specs.Str.{IsUtf8}
 use Rattle.std.proofs.lemmas.List.{length-map, take_all}
@@ -31,9 +31,6 @@ use Rattle.ob_scope.proofs.Weighing.{uses_within}
 
 module _ (name : ℕ → List ℕ) (r : Rows) (counts : List ℕ) where
   -- ---- the rows of the aliases
-
-  pub rows_none : AreAliasRows name r counts 0 []
-  rows_none = record { as_many = refl; each = λ i row a e f. absurd (let g : None ≡ Some a = f in cc) }
 
   pub rows_more : (k : ℕ) (row : Import) (a : Alias) (aliases : List Alias) → AreAliasRows name r counts k aliases → slice_get r.imports.items k ≡ Some row → IsAliasRow name r counts row a
       → AreAliasRows name r counts (k + 1) (aliases ++ a ∷ [])

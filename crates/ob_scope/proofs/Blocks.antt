@@ -1,10 +1,10 @@
 -- Blocks by their rows.
-use Rattle.std.proofs.Common.{◌≡◌, ℕ, zero, suc, ◌<◌, ◌≤◌, inl, inr, ◌⊎◌, List, [], ◌∷◌, length, refl, sym, ap, ◌∙◌, subst, arith, ⊎_elim}
+use Rattle.std.proofs.Common.{◌≡◌, ℕ, zero, suc, ◌<◌, ◌≤◌, inl, List, [], ◌∷◌, length, refl, sym, ap, ◌∙◌, arith, ⊎_elim}
 use Rattle.std.proofs.lemmas.Bool.{cases_lt}
 use Rattle.ob_scope.specs.declared.rows.Block.{Block as BlockRow}
 use Rattle.ob_scope.specs.declared.rows.Place.{Place as PlaceRow}
 use Rattle.ob_scope.specs.declared.rows.Place.TheVariants as places
-use Rattle.ob_scope.specs.Scope.{Around, Block, Record, Place}
+use Rattle.ob_scope.specs.Scope.{Around, Block, Record}
 use Rattle.ob_scope.specs.Rows.{AreBlocks, IsPlaced, block_at, block_row, blocks_from, place_of}
 
 pub around-self : (b : List ℕ) → Around b b

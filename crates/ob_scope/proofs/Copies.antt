@@ -18,8 +18,8 @@ use Rattle.ob_scope.specs.contracts.interfaces.FormPartClone.TheImpl as a_form_p
 use Rattle.ob_scope.specs.contracts.interfaces.BaseClone.TheImpl as a_base
 use Rattle.ob_scope.specs.contracts.interfaces.ImportedModuleClone.TheImpl as an_import
 use Rattle.ob_scope.specs.contracts.interfaces.InterfaceClone.TheImpl as an_interface
-use Rattle.ob_scope.specs.Interfaces.{Alone, Qualified, Record, Named, name_said, part_said, base_said, import_said, interface_said}
-use Rattle.ob_scope.specs.ToldRows.{declaration_row, part_row}
+use Rattle.ob_scope.specs.Interfaces.{Alone, Qualified, Record, Named, name_said, part_said, base_said, form_part_said, import_said, interface_said}
+use Rattle.ob_scope.specs.ToldRows.{declaration_row}
 use Rattle.ob_scope.proofs.FormParts.{same_rows_said}
 
 -- element by element
@@ -39,7 +39,7 @@ part_says types.Array types.Array h = refl
 part_says types.Pointer types.Pointer h = refl
 part_says (types.Record k) (types.Record l) h = ap Record h
 part_says types.Procedure types.Procedure h = refl
-part_says (types.Named m) (types.Named n) h = ap Named (name_says m n h)
+part_says (types.Named j m) (types.Named k n) h = ap₂ Named h.0 (name_says m n h.1)
 part_says x y h = absurd h
 
 record_says : (x y : DeclarationValue) (o p : Option ℕ) → a_declaration.is_clone-value.it (record x { «record» = o }) (record y { «record» = p }) → p ≡ o
@@ -53,11 +53,11 @@ declaration_says x y h =
     let same_record : y.«record» ≡ x.«record» = record_says x y x.«record» y.«record» h in
     λ i. record { name = h.0 i; start = h.1.0 i; sort = h.1.1.0 i; exported = h.1.1.1.0 i; of_record = same_record i; declared_by = h.1.1.1.1.1 i }
 
-form_part_says : (x y : FormPart) → a_form_part.is_clone-value.it x y → part_row y ≡ part_row x
+form_part_says : (x y : FormPart) → a_form_part.is_clone-value.it x y → form_part_said y ≡ form_part_said x
 form_part_says x y h = let same : part_said y.part ≡ part_said x.part = part_says x.part y.part h.1 in λ i. record { declared_by = h.0 i; part = same i }
 
 base_says : (x y : BaseValue) → a_base.is_clone-value.it x y → base_said y ≡ base_said x
-base_says x y h = let same : name_said y.name ≡ name_said x.name = name_says x.name y.name h.1 in λ i. record { of_record = h.0 i; name = same i }
+base_says x y h = let same : name_said y.name ≡ name_said x.name = name_says x.name y.name h.1.1 in λ i. record { of_record = h.0 i; start = h.1.0 i; name = same i }
 
 import_says : (x y : ImportedModule) → an_import.is_clone-value.it x y → import_said y ≡ import_said x
 import_says x y h = λ i. record { alias = h.0 i; start = h.1.0 i; module_name = h.1.1 i }
@@ -65,7 +65,7 @@ import_says x y h = λ i. record { alias = h.0 i; start = h.1.0 i; module_name =
 copy_says : (x y : Interface) → an_interface.is_clone-value.it x y → interface_said y ≡ interface_said x
 copy_says x y h =
     let declarations : map declaration_row y.declarations.items ≡ map declaration_row x.declarations.items = zip_says a_declaration.is_clone-value.it declaration_row declaration_says x.declarations.items y.declarations.items h.1.0.0 in
-    let parts : map part_row y.parts.items ≡ map part_row x.parts.items = zip_says a_form_part.is_clone-value.it part_row form_part_says x.parts.items y.parts.items h.1.1.0.0 in
+    let parts : map form_part_said y.parts.items ≡ map form_part_said x.parts.items = zip_says a_form_part.is_clone-value.it form_part_said form_part_says x.parts.items y.parts.items h.1.1.0.0 in
     let bases : map base_said y.bases.items ≡ map base_said x.bases.items = zip_says a_base.is_clone-value.it base_said base_says x.bases.items y.bases.items h.1.1.1.0.0 in
     let imports : map import_said y.imports.items ≡ map import_said x.imports.items = zip_says an_import.is_clone-value.it import_said import_says x.imports.items y.imports.items h.1.1.1.1.0 in
     same_rows_said x y (λ i. record { name = h.0 i; declarations = declarations i; parts = parts i; bases = bases i; imports = imports i })

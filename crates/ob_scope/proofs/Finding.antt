@@ -1,9 +1,9 @@
 -- One use more that is looked up.
-use Rattle.std.proofs.Common.{◌≡◌, ℕ, zero, suc, ◌+◌, ◌<◌, ◌≤◌, inl, inr, ◌⊎◌, Bool, true, false, List, [], ◌∷◌, ◌++◌, length, get_or, map, take, Some, None, refl, sym, ap, ◌∙◌, subst, arith, ⊎_elim, length-append}
-use Rattle.std.specs.Prelude.{slice_get, slice_index, slice_set, Contains, IsTrue, ◌&&◌, if◌then◌else◌}
+use Rattle.std.proofs.Common.{◌≡◌, ℕ, zero, suc, ◌+◌, ◌<◌, ◌≤◌, inl, inr, ◌⊎◌, Bool, true, false, List, [], ◌∷◌, ◌++◌, length, take, Some, None, refl, sym, ap, ◌∙◌, subst, arith, ⊎_elim}
+use Rattle.std.specs.Prelude.{slice_get, slice_index, slice_set, ◌&&◌, if◌then◌else◌}
 use Rattle.std.proofs.lemmas.Bool.{cases_lt, cases_eq, false≢true}
-use Rattle.std.proofs.lemmas.List.{get_or-set_same, get_or-set_other, length-set, take_more, length-map}
-use Rattle.std.proofs.lemmas.Option.{slice_get_within, slice_get-get_or, get_or_from_slice_get}
+use Rattle.std.proofs.lemmas.List.{get_or-set_same, get_or-set_other, length-set, take_more}
+use Rattle.std.proofs.lemmas.Option.{slice_get_within, get_or_from_slice_get}
 use Rattle.ob_scope.specs.declared.meaning.MeaningRow.{MeaningRow}
 use Rattle.ob_scope.specs.declared.rows.Member.{Member}
 use Rattle.ob_scope.specs.declared.rows.Use.{Use}
@@ -11,13 +11,12 @@ use Rattle.ob_scope.specs.declared.rows.Rows.{Rows}
 use Rattle.ob_scope.specs.declared.sort.Sort.{Sort}
 use Rattle.ob_scope.specs.declared.sort.Sort.TheVariants as sorts
 use Rattle.ob_scope.specs.Scope.{Declared, Used, Means, NoneTwice}
-use Rattle.ob_scope.specs.Listed.{Listing}
 use Rattle.ob_scope.specs.Rows.{declared_by, used_by}
 use Rattle.ob_scope.specs.Counted.{Counts, IsQualifiedBy, none, one_more, other}
-use Rattle.ob_scope.specs.Looked.{listing_by, AreWhole, IsMeant, MeansNothing}
+use Rattle.ob_scope.specs.Looked.{listing_by, AreWhole, MeansNothing}
 use Rattle.ob_scope.specs.Found.{counted_for, is_import, AreCounted, AreMeant, MeansBefore}
-use Rattle.ob_scope.proofs.Elements.{contains_of, of_contains, slice_of, some_one}
-use Rattle.ob_scope.proofs.Meanings.{means_once, means-member}
+use Rattle.ob_scope.proofs.Elements.{slice_of, some_one}
+use Rattle.ob_scope.proofs.Meanings.{means_once}
 use Rattle.ob_scope.proofs.Named.{one_of_number}
 
 module _ {X : Type 0} where
@@ -47,15 +46,6 @@ module _ {X : Type 0} where
   counts_same P [] x n p none = other p none
   counts_same P (y ∷ xs) x n p (one_more q c) = one_more q (counts_same P xs x _ p c)
   counts_same P (y ∷ xs) x n p (other q c) = other q (counts_same P xs x n p c)
-
-import_is : (s : Sort) → is_import s ≡ true → s ≡ sorts.Import
-import_is sorts.Import e = refl
-import_is sorts.Constant e = absurd (false≢true e)
-import_is sorts.Type e = absurd (false≢true e)
-import_is sorts.Variable e = absurd (false≢true e)
-import_is sorts.Procedure e = absurd (false≢true e)
-import_is sorts.Parameter e = absurd (false≢true e)
-import_is sorts.Field e = absurd (false≢true e)
 
 abbrev counted : Bool → Sort → ℕ
 counted q s = if q && is_import s then 1 else 0

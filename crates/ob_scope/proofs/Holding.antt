@@ -23,10 +23,10 @@ word-end (items.Repeated m n ∷ a) rest c = refl
 word-end (items.Value n ∷ a) rest c = refl
 word-end (items.Word ∷ a) rest c = refl
 
-holder-end : (k : ℕ) (c : Construct) (a rest : List Item) → holder k c (a ++ (items.Ends c ∷ rest)) ≡ holder k c a
+pub holder-end : (k : ℕ) (c : Construct) (a rest : List Item) → holder k c (a ++ (items.Ends c ∷ rest)) ≡ holder k c a
 holder-end k c a rest = ap (λ (b : Bool). let h : Holder = record { construct = c; number = k; opens = b } in h) (word-end a rest c)
 
-tokens-append : (a b : List Item) → tokens_in (a ++ b) ≡ tokens_in a + tokens_in b
+pub tokens-append : (a b : List Item) → tokens_in (a ++ b) ≡ tokens_in a + tokens_in b
 tokens-append [] b = omega arith
 tokens-append (i ∷ a) b = let e = tokens-append a b in omega (arith, e)
 

@@ -78,12 +78,12 @@ token_step k hs i l (x ∷ ks) ls ss s e h first others =
     ]
 
 -- where a construct begins or ends that is told
-told : {P : Type 0} (b : Bool) (k : ℕ) (hs : List Holder) (c : Construct) (is : List Item) (s : Standing) →
+pub told : {P : Type 0} (b : Bool) (k : ℕ) (hs : List Holder) (c : Construct) (is : List Item) (s : Standing) →
     ((gs : List Holder) → Contains (standings_from k gs is) s → P) → Contains (standings_from k hs (cond b (items.Begins c ∷ is) is)) s → P
 told true k hs c is s f h = f (holder k c is ∷ hs) h
 told false k hs c is s f h = f hs h
 
-ended : {P : Type 0} (b : Bool) (k : ℕ) (hs : List Holder) (c : Construct) (is : List Item) (s : Standing) →
+pub ended : {P : Type 0} (b : Bool) (k : ℕ) (hs : List Holder) (c : Construct) (is : List Item) (s : Standing) →
     ((gs : List Holder) → Contains (standings_from k gs is) s → P) → Contains (standings_from k hs (cond b (items.Ends c ∷ is) is)) s → P
 ended true k hs c is s f h = f (drop 1 hs) h
 ended false k hs c is s f h = f hs h
@@ -173,7 +173,7 @@ import_of ts k items.Word hs i e = absurd cc
 
 -- ---- the texts of identifiers
 
-kind_there : (ts : List Token) (k : ℕ) (kind : Kind) → slice_get (map (λ (t : Token). t.kind) ts) k ≡ Some kind → (token_at ts k).kind ≡ kind
+pub kind_there : (ts : List Token) (k : ℕ) (kind : Kind) → slice_get (map (λ (t : Token). t.kind) ts) k ≡ Some kind → (token_at ts k).kind ≡ kind
 kind_there [] k kind e = absurd cc
 kind_there (t ∷ ts) zero kind e = cc
 kind_there (t ∷ ts) (suc k) kind e = kind_there ts k kind e
@@ -199,12 +199,12 @@ second_ident (x ∷ []) l n ls e = absurd cc
 second_ident (x ∷ y ∷ ks) l n ls e = let second : leaf_of 1 y ≡ leafs.Name n = cc in ap Some (ident_of 1 n y second)
 
 -- what is declared is made of
-record IsMemberAt (s : Standing) (d : Declared) : Type 0 where
-  number : ℕ
-  declared : s.item ≡ items.Declared number
-  same : d.number ≡ s.number
+pub record IsMemberAt (s : Standing) (d : Declared) : Type 0 where
+  pub number : ℕ
+  pub declared : s.item ≡ items.Declared number
+  pub same : d.number ≡ s.number
 
-member_of : (ts : List Token) (k : ℕ) (item : Item) (hs : List Holder) (d : Declared) → member_at ts (record { number = k; item = item; within = hs }) ≡ Some d → IsMemberAt (record { number = k; item = item; within = hs }) d
+pub member_of : (ts : List Token) (k : ℕ) (item : Item) (hs : List Holder) (d : Declared) → member_at ts (record { number = k; item = item; within = hs }) ≡ Some d → IsMemberAt (record { number = k; item = item; within = hs }) d
 member_of ts k (items.Declared n) hs d e = go (declarer hs) refl
   where
     go : (o : Option Declarer) → declarer hs ≡ o → IsMemberAt (record { number = k; item = items.Declared n; within = hs }) d

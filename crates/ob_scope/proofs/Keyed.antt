@@ -1,9 +1,9 @@
 -- Keys that are one say one place and one name; a table with one row more.
-use Rattle.std.proofs.Common.{◌≡◌, ℕ, ◌+◌, ◌<◌, ◌≤◌, inl, inr, Bool, true, false, cond, List, [], ◌∷◌, ◌++◌, length, get_or, map, take, Some, None, refl, sym, ap, ◌∙◌, subst, arith, ⊎_elim}
+use Rattle.std.proofs.Common.{◌≡◌, ℕ, ◌+◌, ◌<◌, ◌≤◌, Bool, true, false, List, [], ◌∷◌, ◌++◌, length, get_or, map, take, Some, refl, sym, ap, ◌∙◌, subst, arith, ⊎_elim}
 use Rattle.std.specs.Prelude.{◌&&◌, slice_get, position}
 use Rattle.std.specs.List.{list_any}
 use Rattle.std.specs.Str.{bytes_eq}
-use Rattle.std.proofs.lemmas.Bool.{eqb-true, cases_lt, cases_Bool, false≢true}
+use Rattle.std.proofs.lemmas.Bool.{eqb-true, cases_lt, false≢true}
 use Rattle.std.proofs.lemmas.List.{map_more, length-map}
 use Rattle.std.proofs.lemmas.List.Folds.{list_any_at}
 use Rattle.std.proofs.lemmas.List.Quantifiers.{position-Some}
@@ -16,7 +16,7 @@ use Rattle.ob_scope.specs.declared.places.Key.{Key}
 use Rattle.ob_scope.specs.declared.rows.Member.{Member}
 use Rattle.ob_scope.specs.declared.rows.Place.{Place}
 use Rattle.ob_scope.specs.declared.rows.Place.TheVariants as places
-use Rattle.ob_scope.specs.Places.{Entry, entry_of, entry_said, AreApart, HasNoEntry, IsEntryAt, IsTable, IsTwiceAt}
+use Rattle.ob_scope.specs.Places.{Entry, entry_of, entry_said, HasNoEntry, IsEntryAt, IsTable, IsTwiceAt}
 use Rattle.ob_scope.proofs.Elements.{of_slice, slice_of, some_one}
 
 abbrev pub place_eq : Place → Place → Bool
@@ -46,7 +46,7 @@ and_right : (a b : Bool) → a && b ≡ true → b ≡ true
 and_right true b e = e
 and_right false b e = absurd (false≢true e)
 
-entry_is : (p q : Place) (m n : List ℕ) → p ≡ q → m ≡ n → (let e : Entry = record { place = p; name = m } in e) ≡ record { place = q; name = n }
+pub entry_is : (p q : Place) (m n : List ℕ) → p ≡ q → m ≡ n → (let e : Entry = record { place = p; name = m } in e) ≡ record { place = q; name = n }
 entry_is p q m n e f = cc
 
 -- equal keys say one thing

@@ -30,3 +30,13 @@ pub mod ToldNames
 pub mod FormParts
 pub mod ToldSeen
 pub mod SeenMembers
+pub mod SeenImports
+pub mod Owners
+pub mod Bare
+pub mod FormsGiven
+pub mod FormTokens
+pub mod TypeParts
+pub mod FormedTypes
+pub mod FormsOfTypes
+pub mod NamesGiven
+pub mod Numbers

@@ -1,19 +1,14 @@
 -- The rows of a table, by the block and the name that they declare.
-use Rattle.std.proofs.Common.{◌≡◌, ℕ, ◌<◌, ◌≤◌, List, length, map, Some, None, Option, refl, sym, ap, ◌∙◌, subst, arith, ⊎_elim}
+use Rattle.std.proofs.Common.{◌≡◌, ℕ, ◌<◌, ◌≤◌, List, Some, None, Option, sym, ap, ◌∙◌, subst, arith, ⊎_elim}
 use Rattle.std.specs.Prelude.{slice_get, slice_index_or, IfSome, IfNone}
 use Rattle.std.proofs.lemmas.Bool.{cases_lt}
-use Rattle.std.proofs.lemmas.Option.{slice_get_within, get_or_from_slice_get}
+use Rattle.std.proofs.lemmas.Option.{get_or_from_slice_get}
 use Rattle.ob_scope.specs.declared.places.Key.{Key}
 use Rattle.ob_scope.specs.declared.rows.Member.{Member}
-use Rattle.ob_scope.specs.declared.rows.Place.{Place}
 use Rattle.ob_scope.specs.declared.rows.Place.TheVariants as places
 use Rattle.ob_scope.specs.Looked.{IsNamedIn}
-use Rattle.ob_scope.specs.Places.{Entry, entry_of, entry_said, AreApart, HasNoEntry, IsEntryAt, IsTable}
-use Rattle.ob_scope.proofs.Elements.{some_one}
-use Rattle.ob_scope.proofs.Keyed.{key_of_row, row_of_key}
-
-entry_is : (p q : Place) (m n : List ℕ) → p ≡ q → m ≡ n → (let e : Entry = record { place = p; name = m } in e) ≡ record { place = q; name = n }
-entry_is p q m n e f = cc
+use Rattle.ob_scope.specs.Places.{Entry, entry_of, AreApart, HasNoEntry, IsEntryAt, IsTable}
+use Rattle.ob_scope.proofs.Keyed.{entry_is, key_of_row, row_of_key}
 
 module _ (name : ℕ → List ℕ) (members : List Member) where
   -- the rows of one entry are one

@@ -1,5 +1,5 @@
 -- From one block to the one around it.
-use Rattle.std.proofs.Common.{◌≡◌, ℕ, ◌⊎◌, ◌≤◌, inl, inr, List, [], ◌∷◌, length, refl, sym, ap, ◌∙◌, subst}
+use Rattle.std.proofs.Common.{◌≡◌, ℕ, ◌⊎◌, inl, inr, List, [], ◌∷◌, sym, ap, ◌∙◌, subst}
 use Rattle.ob_scope.specs.Scope.{Declared, Used, Around, IsSeen, Resolves, ResolvesToNothing}
 use Rattle.ob_scope.proofs.Blocks.{around-self}
 use Rattle.ob_scope.proofs.Meanings.{around-length}

@@ -1,5 +1,5 @@
 -- One more row of each kind.
-use Rattle.std.proofs.Common.{◌≡◌, ℕ, ◌+◌, ◌<◌, ◌≤◌, ◌⊎◌, inl, inr, List, [], ◌∷◌, ◌++◌, length, map, get_or, Option, Some, None, refl, ap, sym, ◌∙◌, subst, arith}
+use Rattle.std.proofs.Common.{◌≡◌, ℕ, ◌+◌, ◌<◌, ◌≤◌, ◌⊎◌, inl, inr, List, [], ◌∷◌, ◌++◌, length, map, get_or, Some, refl, ap, sym, ◌∙◌, subst, arith}
 use Rattle.std.specs.Prelude.{slice_get}
 use Rattle.std.specs.List.{All}
 use Rattle.std.specs.Option.{option_to_list}
@@ -8,6 +8,7 @@ use Rattle.std.proofs.lemmas.List.{append-nil, get_or_append_left, get_or_push, 
 use Rattle.std.proofs.lemmas.List.Elements.{All-push}
 use Rattle.std.proofs.lemmas.Option.{slice_get_within, slice_get-get_or, get_or_from_slice_get}
 use Rattle.ob_scan.specs.declared.token.Token.{Token}
+use Rattle.ob_scope.specs.Kept.{AscendBy}
 use Rattle.ob_scope.specs.declared.rows.Block.{Block as BlockRow}
 use Rattle.ob_scope.specs.declared.rows.Member.{Member}
 use Rattle.ob_scope.specs.declared.rows.Use.{Use}
@@ -15,7 +16,7 @@ use Rattle.ob_scope.specs.declared.rows.Import.{Import}
 use Rattle.ob_scope.specs.declared.sort.Sort.{Sort}
 use Rattle.ob_scope.specs.declared.sort.Sort.TheVariants as sorts
 use Rattle.ob_scope.specs.Listed.{ImportItem, Listing, import_by}
-use Rattle.ob_scope.specs.Rows.{no_block, block_row, AreBlocks, AreMembers, AreUses, AreImports, IsImport, IsPlaced, AreRows, declared_by, used_by}
+use Rattle.ob_scope.specs.Rows.{no_block, block_row, AreBlocks, AreImports, IsImport, IsPlaced, AreRows, declared_by, used_by}
 use Rattle.ob_scope.specs.Stages.{AreRowsBefore, import_row}
 use Rattle.ob_scope.proofs.BlockRows.{block_row-push, IsPlaced-push, members-push, uses-push}
 
@@ -39,12 +40,9 @@ is_last xs x y j h at_j =
     let found : Some x ≡ Some y = sym (slice_get-last xs x) ∙ ap (slice_get (xs ++ x ∷ [])) (sym same) ∙ at_j in
     (same, cc)
 
--- the numbers of the rows ascend
-abbrev pub Ascends : {X : Type 0} → (X → ℕ) → List X → Type 0
-Ascends {X} f xs = (i j : ℕ) (x y : X) → i < j → slice_get xs i ≡ Some x → slice_get xs j ≡ Some y → f x < f y
-
-pub Ascends-push : {X : Type 0} (f : X → ℕ) (xs : List X) (x : X) (k : ℕ) → Ascends f xs → All (λ y. f y < k) xs → f x ≡ k → Ascends f (xs ++ x ∷ [])
-Ascends-push {X} f xs x k up below is_k i j a b lt at_i at_j = by (cases_lt j (length xs))
+-- the numbers of the rows ascend, with one more
+ascend-push : {X : Type 0} (f : X → ℕ) (xs : List X) (x : X) (k : ℕ) → AscendBy f xs → All (λ y. f y < k) xs → f x ≡ k → AscendBy f (xs ++ x ∷ [])
+ascend-push {X} f xs x k up below is_k i j a b lt at_i at_j = by (cases_lt j (length xs))
   where
     by : (j < length xs) ⊎ (length xs ≤ j) → f a < f b
     by (inl h) = up i j a b lt (sym (slice_get-push xs x i (omega arith)) ∙ at_i) (sym (slice_get-push xs x j h) ∙ at_j)
@@ -161,7 +159,7 @@ use_pushed {k} {free} {l} {blocks} {members} {uses} {imports} r u p n = record {
     are_uses = All-push (λ v. v.block < length blocks) uses u rs.are_uses p;
     members_listed = rs.members_listed;
     uses_listed = map-append (used_by blocks) uses (u ∷ []) ∙ ap (λ xs. xs ++ used_by blocks u ∷ []) rs.uses_listed;
-    uses_ascend = Ascends-push (λ v. v.number) uses u k rs.uses_ascend r.uses_before n;
+    uses_ascend = ascend-push (λ v. v.number) uses u k rs.uses_ascend r.uses_before n;
     imports_listed = rs.imports_listed;
   };
   blocks_before = r.blocks_before;
@@ -198,7 +196,7 @@ member_pushed {k} {free} {l} {blocks} {members} {uses} {imports} r m p n = recor
     are_blocks = rs.are_blocks;
     are_members = record {
       placed = All-push (λ x. IsPlaced blocks x.place) members m rs.are_members.placed p;
-      ascend = Ascends-push (λ x. x.number) members m k rs.are_members.ascend r.members_before n;
+      ascend = ascend-push (λ x. x.number) members m k rs.are_members.ascend r.members_before n;
     };
     are_uses = rs.are_uses;
     members_listed = map-append (declared_by blocks) members (m ∷ []) ∙ ap (λ xs. xs ++ declared_by blocks m ∷ []) rs.members_listed;

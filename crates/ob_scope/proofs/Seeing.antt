@@ -1,21 +1,16 @@
 -- What the rows of a table say of the declarations that they stand for.
-use Rattle.std.proofs.Common.{◌≡◌, ℕ, ◌<◌, List, length, map, get_or, Some, refl, sym, ap, ◌∙◌, subst}
-use Rattle.std.specs.Prelude.{slice_get, Contains}
-use Rattle.std.specs.List.{All}
+use Rattle.std.proofs.Common.{◌≡◌, ℕ, ◌<◌, List, length, map, Some, sym, ap, ◌∙◌, subst}
+use Rattle.std.specs.Prelude.{slice_get}
 use Rattle.std.proofs.lemmas.Option.{slice_get_within, get_or_from_slice_get}
 use Rattle.ob_scope.specs.declared.rows.Block.{Block as BlockRow}
 use Rattle.ob_scope.specs.declared.rows.Member.{Member}
-use Rattle.ob_scope.specs.declared.rows.Place.{Place as PlaceRow}
-use Rattle.ob_scope.specs.declared.rows.Place.TheVariants as places
 use Rattle.ob_scope.specs.Scope.{Block, Declared, Used, Around, IsSeen, IsLaterType, AreTwice, NoneTwice, IsFirstTwice}
 use Rattle.ob_scope.specs.Rows.{AreBlocks, AreMembers, IsPlaced, block_at, declared_by, place_of}
-use Rattle.ob_scope.specs.Looked.{IsNamedBefore, IsNamedIn, IsTypeAfter}
+use Rattle.ob_scope.specs.Looked.{IsNamedBefore, IsTypeAfter}
 use Rattle.ob_scope.specs.Places.{Entry, entry_of, AreApart, IsTwiceAt}
 use Rattle.ob_scope.proofs.Blocks.{in_block, place_of-one}
 use Rattle.ob_scope.proofs.Elements.{contains_of, of_contains, of_slice, slice_of}
-
-entry_is : (p q : PlaceRow) (m n : List ℕ) → p ≡ q → m ≡ n → (let e : Entry = record { place = p; name = m } in e) ≡ record { place = q; name = n }
-entry_is p q m n e f = cc
+use Rattle.ob_scope.proofs.Keyed.{entry_is}
 
 module _ (name : ℕ → List ℕ) (blocks : List BlockRow) (members : List Member) where
   abbrev declarations : List Declared

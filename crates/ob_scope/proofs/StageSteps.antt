@@ -1,5 +1,5 @@
 -- From a stage to the next, for each kind of item.
-use Rattle.std.proofs.Common.{◌≡◌, ℕ, ◌+◌, ◌-◌, ◌<◌, ◌≤◌, Bool, true, false, ◌&&◌, not, IsTrue, List, [], ◌∷◌, ◌++◌, length, map, drop, Option, Some, None, IsSome, unwrap_or, refl, ap, sym, ◌∙◌, subst, arith}
+use Rattle.std.proofs.Common.{◌≡◌, ℕ, ◌+◌, ◌-◌, ◌<◌, ◌≤◌, Bool, true, false, ◌&&◌, not, List, [], ◌∷◌, ◌++◌, length, map, drop, Option, Some, None, IsSome, unwrap_or, refl, ap, sym, ◌∙◌, subst, arith}
 use Rattle.std.specs.Prelude.{slice_get}
 use Rattle.std.specs.List.{filter_map, cons_option}
 use Rattle.std.specs.Option.{option_to_list}
@@ -18,10 +18,10 @@ use Rattle.ob_scope.specs.declared.rows.Import.{Import}
 use Rattle.ob_scope.specs.declared.frame.Declaring.{Declaring}
 use Rattle.ob_scope.specs.declared.frame.Frame.{Frame}
 use Rattle.ob_scope.specs.Standings.{Holder, Standing, holder, begins_word, is_kind, standings, standings_from}
-use Rattle.ob_scope.specs.Listed.{Declarer, declarer, ImportItem, Listing, listing, member_at, use_at, import_at, import_by}
-use Rattle.ob_scope.specs.Rows.{AreRows, block_row, block_at, declared_by, used_by, place_of, IsPlaced}
+use Rattle.ob_scope.specs.Listed.{Declarer, declarer, Listing, listing, member_at, use_at, import_at, import_by}
+use Rattle.ob_scope.specs.Rows.{declared_by, used_by, IsPlaced}
 use Rattle.ob_scope.specs.Frames.{IsDeclaring, AreDeclaring, Tells, TellOuter}
-use Rattle.ob_scope.specs.Stages.{Stage, unopened_by, unopened, AreRowsBefore, Completes, import_row, IsPassed, IsSmall, IsStage}
+use Rattle.ob_scope.specs.Stages.{Stage, unopened_by, unopened, AreRowsBefore, import_row, IsPassed, IsStage}
 use Rattle.ob_scope.proofs.BlockRows.{OutersFirst, block_at-first, block_at-push, IsPlaced-push, place_of-push}
 use Rattle.ob_scope.proofs.RowsBefore.{rows_later, block_pushed, member_pushed, use_pushed, import_listed, slice_get-last}
 
@@ -29,10 +29,6 @@ use Rattle.ob_scope.proofs.RowsBefore.{rows_later, block_pushed, member_pushed, 
 pub unopened_by-least : (k : ℕ) (b : Bool) → k ≤ unopened_by k b
 unopened_by-least k true = omega arith
 unopened_by-least k false = omega arith
-
-pub unopened_by-most : (k : ℕ) (b : Bool) → unopened_by k b ≤ k + 1
-unopened_by-most k true = omega arith
-unopened_by-most k false = omega arith
 
 -- a frame tells the same with a block more
 pub Tells-push : (ts : List Token) (blocks : List BlockRow) (r : BlockRow) (hs : List Holder) (f : Frame) → OutersFirst blocks
@@ -358,22 +354,3 @@ first_stage ts all w s e = subst (λ (x : Stage). IsStage ts (listing ts all) al
   where
     nothing : {X : Type 0} (i : ℕ) (x : X) → slice_get [] i ≡ Some x → ⊥
     nothing i x h = let lt : i < 0 = slice_get_within [] i x h in omega arith
-
--- there are few rows at each stage
-pub stage_small : {ts : List Token} {all : Listing} {is : List Item} {s : Stage} → IsStage ts all is s → length ts ≤ 16777216 → IsSmall s
-stage_small {ts} {all} {is} {s} st few =
-    let whole = st.whole in
-    let most = unopened_by-most s.number (begins_word is) in
-    let blocks = st.rows.few_blocks in
-    let members = st.rows.few_members in
-    record { number = omega arith; blocks = omega arith; members = omega arith }
-
--- behind the last item the rows are those of all
-pub last_stage : {ts : List Token} {all : Listing} {s : Stage} → IsStage ts all [] s → AreRows all s.blocks s.members s.uses s.imports
-last_stage {ts} {all} {s} st = subst (λ (l : Listing). AreRows l s.blocks s.members s.uses s.imports) same st.rows.are_rows
-  where
-    same : st.listed ≡ all
-    same =
-        ap (λ xs. record { members = xs; uses = st.listed.uses; imports = st.listed.imports }) (sym (append-nil st.listed.members) ∙ st.completes.members)
-        ∙ ap (λ xs. record { members = all.members; uses = xs; imports = st.listed.imports }) (sym (append-nil st.listed.uses) ∙ st.completes.uses)
-        ∙ ap (λ xs. record { members = all.members; uses = all.uses; imports = xs }) (sym (append-nil st.listed.imports) ∙ st.completes.imports)

@@ -1,5 +1,5 @@
 -- From a stage of the telling to the next.
-use Rattle.std.proofs.Common.{◌≡◌, ℕ, ◌+◌, ◌≤◌, Bool, true, false, cond, ◌&&◌, not, List, [], ◌∷◌, ◌++◌, length, drop, Option, Some, None, unwrap_or, refl, ap, sym, ◌∙◌, subst, arith}
+use Rattle.std.proofs.Common.{◌≡◌, ℕ, ◌+◌, Bool, true, false, cond, ◌&&◌, not, List, [], ◌∷◌, ◌++◌, length, drop, Option, Some, None, unwrap_or, refl, ap, sym, ◌∙◌, arith}
 use Rattle.std.specs.Prelude.{option_map}
 use Rattle.std.specs.List.{filter_map}
 use Rattle.std.specs.Option.{option_to_list}
@@ -12,7 +12,7 @@ use Rattle.ob_tree.specs.declared.item.Item.TheVariants as items
 use Rattle.ob_scope.specs.declared.sort.Sort.{Sort}
 use Rattle.ob_scope.specs.declared.told.Spot.{Spot}
 use Rattle.ob_scope.specs.declared.told.Told.{Told}
-use Rattle.ob_scope.specs.Standings.{Holder, Standing, holder, standings, standings_from}
+use Rattle.ob_scope.specs.Standings.{Holder, Standing, holder, standings_from}
 use Rattle.ob_scope.specs.Listed.{Declarer, declares, is_block, blocks_of, record_of}
 use Rattle.ob_scope.specs.Told.{IsTelling, Telling, owner_inside, owner_of, owner_row, spot_inside, spot_of, spots_of, told_at, told_by, told_in}
 use Rattle.ob_scope.specs.Interfaces.{form_of, is_none}
@@ -117,12 +117,3 @@ passed {ts} {all} {item} {rest} {t} token st o told is_o is_told = record {
 
     is_o' : o ≡ told_at ts standing
     is_o' = is_o ∙ ap (λ (s : Spot). told_by ts item t.number s.owner s.form) st.spot
-
--- before the first item nothing is told
-pub first_telling : (ts : List Token) (all : List Item) → length (standings all) ≤ length ts → (t : Telling)
-    → t ≡ record { told = []; spot = spot_of ts []; outer = []; number = 0 } → IsTelling ts all all t
-first_telling ts all w t e = subst (λ (x : Telling). IsTelling ts all all x) (sym e) (record { within = []; spot = refl; outer = refl; told = refl; whole = omega (arith, w) })
-
--- behind the last item all is told
-pub last_telling : {ts : List Token} {all : List Item} {t : Telling} → IsTelling ts all [] t → t.told ≡ told_in ts all
-last_telling {ts} {all} {t} st = sym (append-nil t.told) ∙ st.told

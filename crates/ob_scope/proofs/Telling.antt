@@ -1,45 +1,23 @@
 -- The items of a tree are whole.
-use Rattle.std.proofs.Common.{◌≡◌, map, ℕ, zero, suc, Bool, true, false, if◌then◌else◌, List, [], ◌∷◌, ◌++◌, Option, Some, None, refl, inl, inr, append-nil}
-use Rattle.std.proofs.lemmas.Bool.{cases_Bool}
+use Rattle.std.proofs.Common.{map, ℕ, zero, suc, Bool, true, false, if◌then◌else◌, List, [], ◌∷◌, ◌++◌, Option, Some, None, refl}
 use Rattle.ob_scan.specs.declared.kind.Kind.{Kind}
 use Rattle.ob_tree.specs.declared.construct.Construct.{Construct}
 use Rattle.ob_tree.specs.declared.expression.Literal.{Literal}
-use Rattle.ob_tree.specs.declared.item.Item.{Item}
 use Rattle.ob_tree.specs.declared.item.Item.TheVariants as items
 use Rattle.ob_tree.specs.declared.name.OneOrMore.{OneOrMore}
 use Rattle.ob_tree.specs.Constructs.{is_told}
 use Rattle.ob_tree.specs.Derives.{items_of}
-use Rattle.ob_tree.specs.Marks.{Out, Role, Begins, Ends, Identifier, Value, Word, Declares, Uses, Names, Repeats, construct, word, if_there, if_so, each, listed, times}
+use Rattle.ob_tree.specs.Marks.{Out, Role, Identifier, Value, Declares, Uses, Names, Repeats, construct, word, if_there, if_so, each, listed, times}
+use Rattle.ob_tree.proofs.Walks.{items-append, items-construct}
 use Rattle.ob_scope.specs.Wholes.{IsWhole, empty, token, part, both}
-
-more-if : (b : Bool) (i : Item) (is js : List Item) → (if b then i ∷ (is ++ js) else is ++ js) ≡ (if b then i ∷ is else is) ++ js
-more-if true i is js = refl
-more-if false i is js = refl
-
--- the items of two outlines
-pub items-append : (a b : Out) → items_of (a ++ b) ≡ items_of a ++ items_of b
-items-append [] b = refl
-items-append (Begins c n ∷ a) b = rw (items-append a b) (more-if (is_told c) (items.Begins c) (items_of a) (items_of b))
-items-append (Ends c ∷ a) b = rw (items-append a b) (more-if (is_told c) (items.Ends c) (items_of a) (items_of b))
-items-append (Identifier Declares n ∷ a) b = rw (items-append a b) refl
-items-append (Identifier Uses n ∷ a) b = rw (items-append a b) refl
-items-append (Identifier Names n ∷ a) b = rw (items-append a b) refl
-items-append (Identifier (Repeats m) n ∷ a) b = rw (items-append a b) refl
-items-append (Value k n ∷ a) b = rw (items-append a b) refl
-items-append (Word k ∷ a) b = rw (items-append a b) refl
-
--- a construct is told with its parts, or its parts alone
-pub items-construct : (c : Construct) (parts : Out) →
-    items_of (construct c parts) ≡ (if is_told c then items.Begins c ∷ (items_of parts ++ items.Ends c ∷ []) else items_of parts)
-unfolding construct
-items-construct c parts = elim (cases_Bool (is_told c)) [
-  | inl t ↦ rw (items-append parts (Ends c ∷ []), t) refl
-  | inr f ↦ rw (items-append parts (Ends c ∷ []), f) (append-nil (items_of parts))
-]
 
 -- an outline whose items are whole
 pub record Told (o : Out) : Type 0 where
   pub whole : IsWhole (items_of o)
+
+-- a part with the fact that it is told
+abbrev pub With : {X : Type 0} → (X → Type 0) → Type 0
+With {X} P = (x : X) × P x
 
 pub told-none : Told []
 told-none = record { whole = empty }

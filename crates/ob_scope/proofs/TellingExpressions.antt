@@ -1,5 +1,5 @@
--- The items of expressions are whole.
-use Rattle.std.proofs.Common.{◌≡◌, ◌++◌, Option, Some, None, sym, ap, ◌∙◌, subst}
+-- The items of expressions are whole, and no type is in them.
+use Rattle.std.proofs.Common.{◌≡◌, ◌++◌, Option, Some, None, refl, sym, ap, ◌∙◌, subst}
 use Rattle.std.specs.declared.boxed.Box.{Box}
 use Rattle.std.specs.declared.alloc.Global.{Global}
 use Rattle.ob_scan.specs.declared.kind.Kind.TheVariants as kinds
@@ -11,15 +11,16 @@ use Rattle.ob_tree.specs.declared.expression.Selector.{Selector, Selector-F, rol
 use Rattle.ob_tree.specs.declared.expression.Designator.{Designator, Designator-F, roll-Designator, out-roll-Designator, ind-Designator, map-Designator}
 use Rattle.ob_tree.specs.declared.expression.Element.{Element, Element-F, roll-Element, map-Element}
 use Rattle.ob_tree.specs.declared.expression.ElementList.{ElementList, ElementList-F, roll-ElementList, map-ElementList}
-use Rattle.ob_tree.specs.declared.expression.Expr.{Expr, Expr-F, roll-Expr, ind-Expr, map-Expr}
+use Rattle.ob_tree.specs.declared.expression.Expr.{Expr, Expr-F, roll-Expr, out-Expr, ind-Expr, map-Expr}
 use Rattle.ob_tree.specs.declared.expression.ExprList.{ExprList, ExprList-F, roll-ExprList, ind-ExprList, map-ExprList}
-use Rattle.ob_tree.specs.declared.expression.Sum.{Sum, Sum-F, roll-Sum, map-Sum}
+use Rattle.ob_tree.specs.declared.expression.Sum.{Sum, Sum-F, roll-Sum, ind-Sum, map-Sum}
 use Rattle.ob_tree.specs.declared.expression.Term.{Term, Term-F, roll-Term, out-roll-Term, map-Term}
 use Rattle.ob_tree.specs.declared.construct.Construct.TheVariants as constructs
 use Rattle.ob_tree.specs.Marks.{Out, Uses, Names, construct, word, used, if_there, each}
 use Rattle.ob_tree.specs.Expressions.{relation_kind, sign_kind, add_kind, mul_kind, factor_outline, selector_outline, designator_outline, element_outline, element_list_outline, expr_outline, expr_list_outline, sum_outline, term_outline}
 use Rattle.ob_tree.proofs.ExpressionLayers.{factor_shown, selector_shown, element_shown, element_list_shown, expr_list_shown, expr_shown, sum_shown, factor_out, selector_out, designator_out, term_out, expr_made, sum_made, element_made, element_list_made, expr_list_made}
-use Rattle.ob_scope.proofs.Telling.{Told, told-none, told-both, told-construct, told-word, told-identifier, told-value, told-there, told-map}
+use Rattle.ob_scope.proofs.Telling.{Told as Whole, With}
+use Rattle.ob_scope.proofs.Bare.{Bare as Told, bare-none as told-none, bare-both as told-both, bare-construct as told-construct, bare-word as told-word, bare-identifier as told-identifier, bare-value as told-value, bare-there as told-there, bare-map as told-map, bare-whole}
 
 -- each part is told
 
@@ -49,10 +50,6 @@ ToldSum t = Told (sum_outline t)
 
 abbrev ToldTerm : Term → Type 0
 ToldTerm t = Told (term_outline t)
-
--- a part with the fact that it is told
-abbrev With : {X : Type 0} → (X → Type 0) → Type 0
-With {X} P = (x : X) × P x
 
 -- a layer whose parts are told, and the layer itself
 
@@ -119,7 +116,7 @@ factor_told (layers.Set None) = told-both (told-word kinds.LeftBrace) (told-word
 factor_told (layers.Set (Some l)) = told-both (told-word kinds.LeftBrace) (told-both l.value.1 (told-word kinds.RightBrace))
 factor_told (layers.Name d) = d.1
 factor_told (layers.Group e) = told-both (told-word kinds.LeftParen) (told-both e.value.1 (told-word kinds.RightParen))
-factor_told (layers.Not f) = told-both (told-word kinds.Tilde) (told-construct constructs.Negated f.value.1)
+factor_told (layers.Not f) = told-both (told-word kinds.Tilde) (told-construct constructs.Negated refl f.value.1)
 
 selector_told : (y : WithSelector) → Told (selector_shown (selector_of y))
 selector_told (layers.Field n) = told-both (told-word kinds.Dot) (told-identifier Names n)
@@ -168,37 +165,53 @@ designator_told y = told-both (told-identifier Uses y.head) (told-map selector_o
 -- ---- layer by layer
 
 factor_step : (x : Factor-F Factor Selector Designator Element ElementList Expr ExprList Sum Term) (y : WithFactor) → factor_of y ≡ x → ToldFactor (roll-Factor x)
-factor_step x y is = subst Told (sym (factor_out (roll-Factor x) ∙ ap (λ (z : Factor-F Factor Selector Designator Element ElementList Expr ExprList Sum Term). construct constructs.Factor (factor_shown z)) (out-roll-Factor x ∙ sym is))) (told-construct constructs.Factor (factor_told y))
+factor_step x y is = subst Told (sym (factor_out (roll-Factor x) ∙ ap (λ (z : Factor-F Factor Selector Designator Element ElementList Expr ExprList Sum Term). construct constructs.Factor (factor_shown z)) (out-roll-Factor x ∙ sym is))) (told-construct constructs.Factor refl (factor_told y))
 
 selector_step : (x : Selector-F Factor Selector Designator Element ElementList Expr ExprList Sum Term) (y : WithSelector) → selector_of y ≡ x → ToldSelector (roll-Selector x)
-selector_step x y is = subst Told (sym (selector_out (roll-Selector x) ∙ ap (λ (z : Selector-F Factor Selector Designator Element ElementList Expr ExprList Sum Term). construct constructs.Selector (selector_shown z)) (out-roll-Selector x ∙ sym is))) (told-construct constructs.Selector (selector_told y))
+selector_step x y is = subst Told (sym (selector_out (roll-Selector x) ∙ ap (λ (z : Selector-F Factor Selector Designator Element ElementList Expr ExprList Sum Term). construct constructs.Selector (selector_shown z)) (out-roll-Selector x ∙ sym is))) (told-construct constructs.Selector refl (selector_told y))
 
 designator_step : (x : Designator-F Factor Selector Designator Element ElementList Expr ExprList Sum Term) (y : WithDesignator) → designator_of y ≡ x → ToldDesignator (roll-Designator x)
-designator_step x y is = subst Told (sym (designator_out (roll-Designator x) ∙ ap (λ (z : Designator-F Factor Selector Designator Element ElementList Expr ExprList Sum Term). construct constructs.Designator (designator_shown z)) (out-roll-Designator x ∙ sym is))) (told-construct constructs.Designator (designator_told y))
+designator_step x y is = subst Told (sym (designator_out (roll-Designator x) ∙ ap (λ (z : Designator-F Factor Selector Designator Element ElementList Expr ExprList Sum Term). construct constructs.Designator (designator_shown z)) (out-roll-Designator x ∙ sym is))) (told-construct constructs.Designator refl (designator_told y))
 
 element_step : (x : Element-F Factor Selector Designator Element ElementList Expr ExprList Sum Term) (y : WithElement) → element_of y ≡ x → ToldElement (roll-Element x)
-element_step x y is = subst Told (sym (element_made x ∙ ap (λ (z : Element-F Factor Selector Designator Element ElementList Expr ExprList Sum Term). construct constructs.Element (element_shown z)) (sym is))) (told-construct constructs.Element (element_told y))
+element_step x y is = subst Told (sym (element_made x ∙ ap (λ (z : Element-F Factor Selector Designator Element ElementList Expr ExprList Sum Term). construct constructs.Element (element_shown z)) (sym is))) (told-construct constructs.Element refl (element_told y))
 
 element_list_step : (x : ElementList-F Factor Selector Designator Element ElementList Expr ExprList Sum Term) (y : WithElementList) → element_list_of y ≡ x → ToldElementList (roll-ElementList x)
 element_list_step x y is = subst Told (sym (element_list_made x ∙ ap (λ (z : ElementList-F Factor Selector Designator Element ElementList Expr ExprList Sum Term). element_list_shown z) (sym is))) (element_list_told y)
 
 expr_step : (x : Expr-F Factor Selector Designator Element ElementList Expr ExprList Sum Term) (y : WithExpr) → expr_of y ≡ x → ToldExpr (roll-Expr x)
-expr_step x y is = subst Told (sym (expr_made x ∙ ap (λ (z : Expr-F Factor Selector Designator Element ElementList Expr ExprList Sum Term). construct constructs.Expression (expr_shown z)) (sym is))) (told-construct constructs.Expression (expr_told y))
+expr_step x y is = subst Told (sym (expr_made x ∙ ap (λ (z : Expr-F Factor Selector Designator Element ElementList Expr ExprList Sum Term). construct constructs.Expression (expr_shown z)) (sym is))) (told-construct constructs.Expression refl (expr_told y))
 
 expr_list_step : (x : ExprList-F Factor Selector Designator Element ElementList Expr ExprList Sum Term) (y : WithExprList) → expr_list_of y ≡ x → ToldExprList (roll-ExprList x)
 expr_list_step x y is = subst Told (sym (expr_list_made x ∙ ap (λ (z : ExprList-F Factor Selector Designator Element ElementList Expr ExprList Sum Term). expr_list_shown z) (sym is))) (expr_list_told y)
 
 sum_step : (x : Sum-F Factor Selector Designator Element ElementList Expr ExprList Sum Term) (y : WithSum) → sum_of y ≡ x → ToldSum (roll-Sum x)
-sum_step x y is = subst Told (sym (sum_made x ∙ ap (λ (z : Sum-F Factor Selector Designator Element ElementList Expr ExprList Sum Term). construct constructs.SimpleExpression (sum_shown z)) (sym is))) (told-construct constructs.SimpleExpression (sum_told y))
+sum_step x y is = subst Told (sym (sum_made x ∙ ap (λ (z : Sum-F Factor Selector Designator Element ElementList Expr ExprList Sum Term). construct constructs.SimpleExpression (sum_shown z)) (sym is))) (told-construct constructs.SimpleExpression refl (sum_told y))
 
 term_step : (x : Term-F Factor Selector Designator Element ElementList Expr ExprList Sum Term) (y : WithTerm) → term_of y ≡ x → ToldTerm (roll-Term x)
-term_step x y is = subst Told (sym (term_out (roll-Term x) ∙ ap (λ (z : Term-F Factor Selector Designator Element ElementList Expr ExprList Sum Term). construct constructs.Term (term_shown z)) (out-roll-Term x ∙ sym is))) (told-construct constructs.Term (term_told y))
+term_step x y is = subst Told (sym (term_out (roll-Term x) ∙ ap (λ (z : Term-F Factor Selector Designator Element ElementList Expr ExprList Sum Term). construct constructs.Term (term_shown z)) (out-roll-Term x ∙ sym is))) (told-construct constructs.Term refl (term_told y))
 
-pub expr_whole : (t : Expr) → Told (expr_outline t)
-expr_whole = ind-Expr ToldFactor ToldSelector ToldDesignator ToldElement ToldElementList ToldExpr ToldExprList ToldSum ToldTerm factor_step selector_step designator_step element_step element_list_step expr_step expr_list_step sum_step term_step
+expr_bare : (t : Expr) → Told (expr_outline t)
+expr_bare = ind-Expr ToldFactor ToldSelector ToldDesignator ToldElement ToldElementList ToldExpr ToldExprList ToldSum ToldTerm factor_step selector_step designator_step element_step element_list_step expr_step expr_list_step sum_step term_step
 
-pub designator_whole : (t : Designator) → Told (designator_outline t)
-designator_whole = ind-Designator ToldFactor ToldSelector ToldDesignator ToldElement ToldElementList ToldExpr ToldExprList ToldSum ToldTerm factor_step selector_step designator_step element_step element_list_step expr_step expr_list_step sum_step term_step
+sum_bare : (t : Sum) → Told (sum_outline t)
+sum_bare = ind-Sum ToldFactor ToldSelector ToldDesignator ToldElement ToldElementList ToldExpr ToldExprList ToldSum ToldTerm factor_step selector_step designator_step element_step element_list_step expr_step expr_list_step sum_step term_step
 
-pub expr_list_whole : (t : ExprList) → Told (expr_list_outline t)
-expr_list_whole = ind-ExprList ToldFactor ToldSelector ToldDesignator ToldElement ToldElementList ToldExpr ToldExprList ToldSum ToldTerm factor_step selector_step designator_step element_step element_list_step expr_step expr_list_step sum_step term_step
+designator_bare : (t : Designator) → Told (designator_outline t)
+designator_bare = ind-Designator ToldFactor ToldSelector ToldDesignator ToldElement ToldElementList ToldExpr ToldExprList ToldSum ToldTerm factor_step selector_step designator_step element_step element_list_step expr_step expr_list_step sum_step term_step
+
+expr_list_bare : (t : ExprList) → Told (expr_list_outline t)
+expr_list_bare = ind-ExprList ToldFactor ToldSelector ToldDesignator ToldElement ToldElementList ToldExpr ToldExprList ToldSum ToldTerm factor_step selector_step designator_step element_step element_list_step expr_step expr_list_step sum_step term_step
+
+pub expr_whole : (t : Expr) → Whole (expr_outline t)
+expr_whole t = bare-whole (expr_bare t)
+
+pub designator_whole : (t : Designator) → Whole (designator_outline t)
+designator_whole t = bare-whole (designator_bare t)
+
+pub expr_list_whole : (t : ExprList) → Whole (expr_list_outline t)
+expr_list_whole t = bare-whole (expr_list_bare t)
+
+-- the parts of an expression have no type in them
+pub expr_parts : (t : Expr) → Told (expr_shown (out-Expr t))
+expr_parts t = told-both (sum_bare _) (told-there (λ c. word (relation_kind c.0) ++ sum_outline c.1.value) (out-Expr t).compared (λ c. told-both (told-word (relation_kind c.0)) (sum_bare c.1.value)))

@@ -16,7 +16,7 @@ use Rattle.ob_tree.specs.Statements.{block_outline}
 use Rattle.ob_tree.specs.Types.{parameters_outline}
 use Rattle.ob_tree.specs.Declaring.{const_outline, type_decl_outline, variable_outline, part, declarations_outline, procedure_outline, import_outline, module_outline}
 use Rattle.ob_tree.proofs.DeclarationLayers.{declarations_shown, procedure_shown, declarations_out, procedure_out}
-use Rattle.ob_scope.proofs.Telling.{Told, told-both, told-construct, told-word, told-identifier, told-there, told-each, told-map, told-listed}
+use Rattle.ob_scope.proofs.Telling.{Told, With, told-both, told-construct, told-word, told-identifier, told-there, told-each, told-map, told-listed}
 use Rattle.ob_scope.proofs.TellingExpressions.{expr_whole}
 use Rattle.ob_scope.proofs.TellingStatements.{identdef_whole, block_whole}
 use Rattle.ob_scope.proofs.TellingTypes.{parameters_whole, type_whole, var_whole}
@@ -50,10 +50,6 @@ ToldDeclarations t = Told (declarations_outline t)
 
 abbrev ToldProcDecl : ProcDecl → Type 0
 ToldProcDecl t = Told (procedure_outline t)
-
--- a part with the fact that it is told
-abbrev With : {X : Type 0} → (X → Type 0) → Type 0
-With {X} P = (x : X) × P x
 
 -- a layer whose parts are told, and the layer itself
 

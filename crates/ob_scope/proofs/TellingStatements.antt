@@ -23,7 +23,7 @@ use Rattle.ob_tree.specs.Names.{qualident_outline, identdef_outline}
 use Rattle.ob_tree.specs.Expressions.{expr_outline}
 use Rattle.ob_tree.specs.Statements.{label_outline, label_range_outline, case_outline, stmt_outline, block_outline, branch_outline, for_outline}
 use Rattle.ob_tree.proofs.StatementLayers.{case_shown, stmt_shown, block_shown, branch_shown, for_shown, case_out, stmt_out, block_out, branch_out, for_out}
-use Rattle.ob_scope.proofs.Telling.{Told, told-none, told-both, told-construct, told-word, told-identifier, told-value, told-there, told-so, told-map, told-listed}
+use Rattle.ob_scope.proofs.Telling.{Told, With, told-none, told-both, told-construct, told-word, told-identifier, told-value, told-there, told-so, told-map, told-listed}
 use Rattle.ob_scope.proofs.TellingExpressions.{designator_whole, expr_whole}
 
 -- ---- names and labels
@@ -63,10 +63,6 @@ ToldBranch t = (k : Kind) → Told (branch_outline t k)
 
 abbrev ToldFor : For → Type 0
 ToldFor t = Told (for_outline t)
-
--- a part with the fact that it is told
-abbrev With : {X : Type 0} → (X → Type 0) → Type 0
-With {X} P = (x : X) × P x
 
 -- a layer whose parts are told, and the layer itself
 

@@ -12,21 +12,28 @@ use Rattle.ob_tree.specs.declared.declaration.Fields.{Fields, Fields-F, roll-Fie
 use Rattle.ob_tree.specs.declared.declaration.Record.{Record, Record-F, roll-Record, out-roll-Record, map-Record}
 use Rattle.ob_tree.specs.declared.declaration.VarDecl.{VarDecl, VarDecl-F, roll-VarDecl, out-roll-VarDecl, ind-VarDecl, map-VarDecl}
 use Rattle.ob_tree.specs.declared.construct.Construct.TheVariants as constructs
-use Rattle.ob_tree.specs.Marks.{Declares, construct, word, declared, if_there, listed}
+use Rattle.ob_tree.specs.Marks.{Out, Declares, construct, word, declared, if_there, if_so, listed, times}
 use Rattle.ob_tree.specs.Names.{qualident_outline, identdef_outline}
 use Rattle.ob_tree.specs.Types.{section_outline, parameters_outline, type_outline, fields_outline, record_outline, var_outline}
 use Rattle.ob_tree.proofs.TypeLayers.{type_shown, fields_shown, record_shown, var_shown, type_out, fields_out, record_out, var_out}
-use Rattle.ob_scope.proofs.Telling.{Told, told-none, told-both, told-construct, told-word, told-identifier, told-there, told-so, told-times, told-map, told-listed}
+use Rattle.ob_scope.proofs.Telling.{Told, With, told-none, told-both, told-construct, told-word, told-identifier, told-there, told-so, told-times, told-map, told-listed}
 use Rattle.ob_scope.proofs.TellingExpressions.{expr_list_whole}
 use Rattle.ob_scope.proofs.TellingStatements.{qualident_whole, identdef_whole}
 
 -- ---- parameters
 
+-- the parts of a section
+abbrev pub section_shown : ParameterSection → Out
+section_shown s = if_so s.variable (word kinds.Var) ++ (listed kinds.Comma declared s.names ++ (word kinds.Colon ++ (times s.open_arrays (word kinds.Array ++ word kinds.Of) ++ qualident_outline s.of)))
+
+pub section_parts : (s : ParameterSection) → Told (section_shown s)
+section_parts s =
+    told-both (told-so s.variable (told-word kinds.Var)) (told-both (told-listed kinds.Comma declared s.names (λ n. told-identifier Declares n))
+    (told-both (told-word kinds.Colon) (told-both (told-times s.open_arrays (told-both (told-word kinds.Array) (told-word kinds.Of))) (qualident_whole s.of))))
+
 section_whole : (s : ParameterSection) → Told (section_outline s)
 unfolding section_outline
-section_whole s =
-    told-construct constructs.FPSection (told-both (told-so s.variable (told-word kinds.Var)) (told-both (told-listed kinds.Comma declared s.names (λ n. told-identifier Declares n))
-    (told-both (told-word kinds.Colon) (told-both (told-times s.open_arrays (told-both (told-word kinds.Array) (told-word kinds.Of))) (qualident_whole s.of)))))
+section_whole s = told-construct constructs.FPSection (section_parts s)
 
 pub parameters_whole : (p : Parameters) → Told (parameters_outline p)
 unfolding parameters_outline
@@ -47,10 +54,6 @@ ToldRecord t = Told (record_outline t)
 
 abbrev ToldVarDecl : VarDecl → Type 0
 ToldVarDecl t = Told (var_outline t)
-
--- a part with the fact that it is told
-abbrev With : {X : Type 0} → (X → Type 0) → Type 0
-With {X} P = (x : X) × P x
 
 -- a layer whose parts are told, and the layer itself
 

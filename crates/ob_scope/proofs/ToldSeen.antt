@@ -1,5 +1,5 @@
 -- What the rows that tokens tell stand for is the interface.
-use Rattle.std.proofs.Common.{◌≡◌, ℕ, ◌+◌, Bool, true, false, cond, ◌||◌, ◌&&◌, List, [], ◌∷◌, map, Option, Some, None, refl, ap, ◌∙◌}
+use Rattle.std.proofs.Common.{◌≡◌, ℕ, ◌+◌, Bool, true, false, cond, ◌||◌, ◌&&◌, List, [], ◌∷◌, map, Option, Some, None, refl, ap, ap₂, ◌∙◌}
 use Rattle.std.specs.Prelude.{◌==◌, option_map}
 use Rattle.std.specs.List.{filter_map, cons_option}
 use Rattle.ob_scan.specs.declared.kind.Kind.TheVariants as kinds
@@ -16,11 +16,11 @@ use Rattle.ob_scope.specs.declared.told.Told.{Told}
 use Rattle.ob_scope.specs.declared.told.Told.TheVariants as tolds
 use Rattle.ob_scope.specs.Standings.{is_kind, standings, text_at, token_at}
 use Rattle.ob_scope.specs.Listed.{Declarer}
-use Rattle.ob_scope.specs.Interfaces.{Alone, Qualified, TypeName, Array, Pointer, Record, Procedure, Named, Part, Declaration, Base}
-use Rattle.ob_scope.specs.Interfaces.{base_at, base_by, declaration_as, declaration_at, declaration_by, form_by, form_of, imported_as, imported_at, imported_by, interface_by, outer_declarer, part_at, part_by, type_name, word_part}
+use Rattle.ob_scope.specs.Interfaces.{Alone, Qualified, TypeName, Array, Pointer, Record, Procedure, Named, Part, FormPart, Base}
+use Rattle.ob_scope.specs.Interfaces.{base_at, base_by, declaration_as, declaration_at, declaration_by, form_in, form_of, imported_as, imported_at, imported_by, interface_by, outer_declarer, owned_part, part_at, part_by, parts_by, type_name, word_part}
 use Rattle.ob_scope.specs.Told.{declared_told, name_at, name_told, owned, owner_row, told_at, told_by, told_in}
 use Rattle.ob_scope.specs.Told.{part_at as part_row}
-use Rattle.ob_scope.specs.ToldRows.{base_told, declaration_told, import_seen, interface_told, name_text, part_of, part_text, parts_of, start_at}
+use Rattle.ob_scope.specs.ToldRows.{base_told, declaration_told, first_of, form_part_told, import_seen, interface_told, name_text, part_text, start_at}
 
 -- ---- lists
 
@@ -90,10 +90,17 @@ module _ (bytes : List ℕ) (ts : List Token) where
       by true = refl
       by false = refl
 
-  word_same : (k : ℕ) → option_map (part_text (text_at bytes ts)) (part_row ts k) ≡ word_part ts k
+  start_same : (k : ℕ) → start_at ts (first_of (name_at ts k)) ≡ (token_at ts k).start
+  start_same k = by (is_kind ts (k + 1) kinds.Dot && is_kind ts (k + 2) kinds.Ident)
+    where
+      by : (b : Bool) → start_at ts (first_of (cond b (names.Qualified k (k + 2)) (names.Alone k))) ≡ (token_at ts k).start
+      by true = refl
+      by false = refl
+
+  word_same : (k : ℕ) → option_map (part_text (text_at bytes ts) (start_at ts)) (part_row ts k) ≡ word_part ts k
   word_same k = by (is_kind ts k kinds.Array || is_kind ts k kinds.Comma) (is_kind ts k kinds.Pointer) (is_kind ts k kinds.Record) (is_kind ts k kinds.Procedure)
     where
-      by : (a b c d : Bool) → option_map (part_text (text_at bytes ts)) (cond a (Some rows.Array) (cond b (Some rows.Pointer) (cond c (Some (rows.Record k)) (cond d (Some rows.Procedure) None))))
+      by : (a b c d : Bool) → option_map (part_text (text_at bytes ts) (start_at ts)) (cond a (Some rows.Array) (cond b (Some rows.Pointer) (cond c (Some (rows.Record k)) (cond d (Some rows.Procedure) None))))
           ≡ cond a (Some Array) (cond b (Some Pointer) (cond c (Some (Record k)) (cond d (Some Procedure) None)))
       by true b c d = refl
       by false true c d = refl
@@ -103,75 +110,59 @@ module _ (bytes : List ℕ) (ts : List Token) where
 
   -- ---- the parts of forms
 
-  given : ℕ → Told → Option Part
-  given u t = option_map (part_text (text_at bytes ts)) (part_of u t)
-
-  part_same : (u : ℕ) (item : Item) (k : ℕ) (o : Option Declarer) (f : Option ℕ) → then_by (told_by ts item k (option_map (owner_row ts) o) f) (given u) ≡ part_by bytes ts u item k o f
-  unfolding then_by given
-  part_same u (items.Declared n) k (Some d) f = of_declared ts k (owner_row ts d) d.sort (given u) (λ n x e r p. refl) (λ a m. refl)
-  part_same u (items.Used n) k (Some d) (Some first) =
-      of_name ts k (owner_row ts d) first (given u) ∙ by (k == first) (is_kind ts first kinds.Record) (d.number == u) ∙ ap (λ n. cond (d.number == u) (cond (k == first) (Some (Named n)) None) None) (name_same k)
+  part_same : (item : Item) (k : ℕ) (o : Option Declarer) (f : Option ℕ) → then_by (told_by ts item k (option_map (owner_row ts) o) f) (form_part_told (text_at bytes ts) (start_at ts)) ≡ part_by bytes ts item k o f
+  unfolding then_by
+  part_same (items.Declared n) k (Some d) f = of_declared ts k (owner_row ts d) d.sort (form_part_told (text_at bytes ts) (start_at ts)) (λ n x e r p. refl) (λ a m. refl)
+  part_same (items.Used n) k (Some d) (Some first) =
+      of_name ts k (owner_row ts d) first (form_part_told (text_at bytes ts) (start_at ts))
+      ∙ by (k == first) (is_kind ts first kinds.Record)
+      ∙ ap₂ (λ (j : ℕ) (n : TypeName). cond (k == first) (Some (let x : FormPart = record { declared_by = d.number; part = Named j n } in x)) None) (start_same k) (name_same k)
     where
-      by : (a b c : Bool) → cond a (option_map (part_text (text_at bytes ts)) (cond c (Some (rows.Named (name_at ts k))) None)) (cond b None None) ≡ cond c (cond a (Some (Named (name_text (text_at bytes ts) (name_at ts k)))) None) None
-      by true b true = refl
-      by true b false = refl
-      by false true true = refl
-      by false true false = refl
-      by false false true = refl
-      by false false false = refl
-  part_same u items.Word k (Some d) (Some first) = by (part_row ts k) ∙ ap (λ p. cond (d.number == u) p None) (word_same k)
+      told : FormPart
+      told = record { declared_by = d.number; part = Named (start_at ts (first_of (name_at ts k))) (name_text (text_at bytes ts) (name_at ts k)) }
+
+      by : (a b : Bool) → cond a (Some told) (cond b None None) ≡ cond a (Some told) None
+      by true b = refl
+      by false true = refl
+      by false false = refl
+  part_same items.Word k (Some d) (Some first) = by (part_row ts k) ∙ ap (owned_part d.number) (word_same k)
     where
-      same : (c : Bool) (q : PartRow) → option_map (part_text (text_at bytes ts)) (cond c (Some q) None) ≡ cond c (Some (part_text (text_at bytes ts) q)) None
-      same true q = refl
-      same false q = refl
+      by : (p : Option PartRow) → then_by (owned (owner_row ts d) p) (form_part_told (text_at bytes ts) (start_at ts)) ≡ owned_part d.number (option_map (part_text (text_at bytes ts) (start_at ts)) p)
+      by None = refl
+      by (Some q) = refl
+  part_same item k o f = refl
 
-      none : (c : Bool) → let n : Option Part = None in n ≡ cond c n n
-      none true = refl
-      none false = refl
-
-      by : (p : Option PartRow) → then_by (owned (owner_row ts d) p) (given u) ≡ cond (d.number == u) (option_map (part_text (text_at bytes ts)) p) None
-      by None = none (d.number == u)
-      by (Some q) = same (d.number == u) q
-  part_same u item k o f = refl
-
-  pub form_same : (is : List Item) (u : ℕ) → map (part_text (text_at bytes ts)) (parts_of (told_in ts is) u) ≡ form_by bytes ts is u
-  unfolding given
-  form_same is u =
-      mapped (part_text (text_at bytes ts)) (part_of u) (told_in ts is)
-      ∙ through (told_at ts) (given u) (standings is)
-      ∙ each (λ s. then_by (told_at ts s) (given u)) (part_at bytes ts u) (standings is) (λ s. part_same u s.item s.number (outer_declarer ts s.within) (form_of s.within))
+  pub parts_same : (is : List Item) → filter_map (form_part_told (text_at bytes ts) (start_at ts)) (told_in ts is) ≡ parts_by bytes ts is
+  parts_same is =
+      through (told_at ts) (form_part_told (text_at bytes ts) (start_at ts)) (standings is)
+      ∙ each (λ s. then_by (told_at ts s) (form_part_told (text_at bytes ts) (start_at ts))) (part_at bytes ts) (standings is) (λ s. part_same s.item s.number (outer_declarer ts s.within) (form_of s.within))
 
   -- ---- declarations, bases and imports
 
-  module _ (parts : ℕ → List PartRow) (forms : ℕ → List Part) (same : (u : ℕ) → map (part_text (text_at bytes ts)) (parts u) ≡ forms u) where
-    declaration_same : (item : Item) (k : ℕ) (o : Option Declarer) (f : Option ℕ)
-        → then_by (told_by ts item k (option_map (owner_row ts) o) f) (declaration_told (text_at bytes ts) (start_at ts) parts) ≡ declaration_by bytes ts forms item k o
-    unfolding then_by
-    declaration_same (items.Declared n) k (Some d) f = by d.sort
-      where
-        one : (r : Option ℕ) → Some (let x : Declaration = record { name = text_at bytes ts k; start = (token_at ts k).start; sort = d.sort; exported = is_kind ts (k + 1) kinds.Star; of_record = r; declared_by = d.number; form = map (part_text (text_at bytes ts)) (parts d.number) } in x)
-            ≡ Some (record { name = text_at bytes ts k; start = (token_at ts k).start; sort = d.sort; exported = is_kind ts (k + 1) kinds.Star; of_record = r; declared_by = d.number; form = forms d.number })
-        one r = λ i. Some (record { name = text_at bytes ts k; start = (token_at ts k).start; sort = d.sort; exported = is_kind ts (k + 1) kinds.Star; of_record = r; declared_by = d.number; form = same d.number i })
-
-        by : (s : Sort) → then_by (declared_told ts k (owner_row ts d) s) (declaration_told (text_at bytes ts) (start_at ts) parts) ≡ declaration_as bytes ts forms k d s
-        by sorts.Import = refl
-        by sorts.Constant = one None
-        by sorts.Type = one None
-        by sorts.Variable = one None
-        by sorts.Procedure = one None
-        by sorts.Parameter = refl
-        by sorts.Field = one (Some _)
-    declaration_same (items.Used n) k (Some d) (Some first) = of_name ts k (owner_row ts d) first (declaration_told (text_at bytes ts) (start_at ts) parts) ∙ nothing (k == first) (is_kind ts first kinds.Record)
-    declaration_same items.Word k (Some d) (Some first) = of_word (owner_row ts d) (part_row ts k) (declaration_told (text_at bytes ts) (start_at ts) parts) (λ q. refl)
-    declaration_same item k o f = refl
-
-  base_same : (item : Item) (k : ℕ) (o : Option Declarer) (f : Option ℕ) → then_by (told_by ts item k (option_map (owner_row ts) o) f) (base_told (text_at bytes ts)) ≡ base_by bytes ts item k o f
+  declaration_same : (forms : ℕ → List Part) (item : Item) (k : ℕ) (o : Option Declarer) (f : Option ℕ)
+      → then_by (told_by ts item k (option_map (owner_row ts) o) f) (declaration_told (text_at bytes ts) (start_at ts) forms) ≡ declaration_by bytes ts forms item k o
   unfolding then_by
-  base_same (items.Declared n) k (Some d) f = of_declared ts k (owner_row ts d) d.sort (base_told (text_at bytes ts)) (λ n x e r p. refl) (λ a m. refl)
+  declaration_same forms (items.Declared n) k (Some d) f = by d.sort
+    where
+      by : (s : Sort) → then_by (declared_told ts k (owner_row ts d) s) (declaration_told (text_at bytes ts) (start_at ts) forms) ≡ declaration_as bytes ts forms k d s
+      by sorts.Import = refl
+      by sorts.Constant = refl
+      by sorts.Type = refl
+      by sorts.Variable = refl
+      by sorts.Procedure = refl
+      by sorts.Parameter = refl
+      by sorts.Field = refl
+  declaration_same forms (items.Used n) k (Some d) (Some first) = of_name ts k (owner_row ts d) first (declaration_told (text_at bytes ts) (start_at ts) forms) ∙ nothing (k == first) (is_kind ts first kinds.Record)
+  declaration_same forms items.Word k (Some d) (Some first) = of_word (owner_row ts d) (part_row ts k) (declaration_told (text_at bytes ts) (start_at ts) forms) (λ q. refl)
+  declaration_same forms item k o f = refl
+
+  base_same : (item : Item) (k : ℕ) (o : Option Declarer) (f : Option ℕ) → then_by (told_by ts item k (option_map (owner_row ts) o) f) (base_told (text_at bytes ts) (start_at ts)) ≡ base_by bytes ts item k o f
+  unfolding then_by
+  base_same (items.Declared n) k (Some d) f = of_declared ts k (owner_row ts d) d.sort (base_told (text_at bytes ts) (start_at ts)) (λ n x e r p. refl) (λ a m. refl)
   base_same (items.Used n) k (Some d) (Some first) =
-      of_name ts k (owner_row ts d) first (base_told (text_at bytes ts))
-      ∙ ap (λ (n : TypeName). cond (k == first) None (cond (is_kind ts first kinds.Record) (Some (let x : Base = record { of_record = first; name = n } in x)) None)) (name_same k)
-  base_same items.Word k (Some d) (Some first) = of_word (owner_row ts d) (part_row ts k) (base_told (text_at bytes ts)) (λ q. refl)
+      of_name ts k (owner_row ts d) first (base_told (text_at bytes ts) (start_at ts))
+      ∙ ap₂ (λ (j : ℕ) (n : TypeName). cond (k == first) None (cond (is_kind ts first kinds.Record) (Some (let x : Base = record { of_record = first; start = j; name = n } in x)) None)) (start_same k) (name_same k)
+  base_same items.Word k (Some d) (Some first) = of_word (owner_row ts d) (part_row ts k) (base_told (text_at bytes ts) (start_at ts)) (λ q. refl)
   base_same item k o f = refl
 
   import_same : (item : Item) (k : ℕ) (o : Option Declarer) (f : Option ℕ) → then_by (told_by ts item k (option_map (owner_row ts) o) f) (import_seen (text_at bytes ts) (start_at ts)) ≡ imported_by bytes ts item k o
@@ -194,14 +185,17 @@ module _ (bytes : List ℕ) (ts : List Token) where
 pub interface_same : (bytes : List ℕ) (ts : List Token) (is : List Item) → interface_told bytes ts (told_in ts is) ≡ interface_by bytes ts is
 interface_same bytes ts is =
     let told = told_in ts is in
+    let parts = parts_same bytes ts is in
+    let forms = form_in (filter_map (form_part_told (text_at bytes ts) (start_at ts)) told) in
     let declarations =
-    through (told_at ts) (declaration_told (text_at bytes ts) (start_at ts) (parts_of told)) (standings is)
-    ∙ each (λ s. then_by (told_at ts s) (declaration_told (text_at bytes ts) (start_at ts) (parts_of told))) (declaration_at bytes ts (form_by bytes ts is)) (standings is)
-    (λ s. declaration_same bytes ts (parts_of told) (form_by bytes ts is) (form_same bytes ts is) s.item s.number (outer_declarer ts s.within) (form_of s.within)) in
+    through (told_at ts) (declaration_told (text_at bytes ts) (start_at ts) forms) (standings is)
+    ∙ each (λ s. then_by (told_at ts s) (declaration_told (text_at bytes ts) (start_at ts) forms)) (declaration_at bytes ts forms) (standings is)
+    (λ s. declaration_same bytes ts forms s.item s.number (outer_declarer ts s.within) (form_of s.within))
+    ∙ ap (λ (ps : List FormPart). filter_map (declaration_at bytes ts (form_in ps)) (standings is)) parts in
     let bases =
-    through (told_at ts) (base_told (text_at bytes ts)) (standings is)
-    ∙ each (λ s. then_by (told_at ts s) (base_told (text_at bytes ts))) (base_at bytes ts) (standings is) (λ s. base_same bytes ts s.item s.number (outer_declarer ts s.within) (form_of s.within)) in
+    through (told_at ts) (base_told (text_at bytes ts) (start_at ts)) (standings is)
+    ∙ each (λ s. then_by (told_at ts s) (base_told (text_at bytes ts) (start_at ts))) (base_at bytes ts) (standings is) (λ s. base_same bytes ts s.item s.number (outer_declarer ts s.within) (form_of s.within)) in
     let imports =
     through (told_at ts) (import_seen (text_at bytes ts) (start_at ts)) (standings is)
     ∙ each (λ s. then_by (told_at ts s) (import_seen (text_at bytes ts) (start_at ts))) (imported_at bytes ts) (standings is) (λ s. import_same bytes ts s.item s.number (outer_declarer ts s.within) (form_of s.within)) in
-    λ i. record { name = text_at bytes ts 1; declarations = declarations i; bases = bases i; imports = imports i }
+    λ i. record { name = text_at bytes ts 1; declarations = declarations i; parts = parts i; bases = bases i; imports = imports i }

@@ -1,8 +1,7 @@
 -- What is known once the uses are looked up, from first to last.
-use Rattle.std.specs.Prelude.{◌≡◌, ℕ, ◌<◌, ◌≤◌, List, length, map, take, slice_get, slice_index, Some, Bool, true, false, ◌&&◌, if◌then◌else◌, Contains}
+use Rattle.std.specs.Prelude.{◌≡◌, ℕ, ◌<◌, ◌≤◌, List, length, take, slice_get, slice_index, Some, Bool, true, false, ◌&&◌, if◌then◌else◌, Contains}
 use Rattle.std.specs.Str.{IsUtf8}
 use Rattle.std.specs.String.{string_bytes}
-use Rattle.ob_scan.specs.declared.token.Token.{Token}
 use Rattle.ob_scope.specs.declared.meaning.MeaningRow.{MeaningRow}
 use Rattle.ob_scope.specs.declared.rows.Member.{Member}
 use Rattle.ob_scope.specs.declared.rows.Use.{Use}
@@ -11,9 +10,9 @@ use Rattle.ob_scope.specs.declared.rows.Rows.{Rows}
 use Rattle.ob_scope.specs.declared.module_scopes.Alias.{Alias}
 use Rattle.ob_scope.specs.declared.sort.Sort.{Sort}
 use Rattle.ob_scope.specs.declared.sort.Sort.TheVariants as sorts
-use Rattle.ob_scope.specs.Scope.{Declared, Used, Means}
+use Rattle.ob_scope.specs.Scope.{Declared, Means}
 use Rattle.ob_scope.specs.Listed.{ImportItem, Listing}
-use Rattle.ob_scope.specs.Rows.{declared_by, used_by}
+use Rattle.ob_scope.specs.Rows.{used_by}
 use Rattle.ob_scope.specs.Counted.{Counts, IsQualifiedBy}
 use Rattle.ob_scope.specs.Looked.{listing_by}
 use Rattle.ob_scope.specs.Kept.{AscendBy}

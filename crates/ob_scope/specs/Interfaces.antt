@@ -1,5 +1,5 @@
 -- What other modules see of a module (Oberon-07 report, sections 4 to 6, 10 and 11).
-use Rattle.std.specs.Prelude.{◌≡◌, ℕ, ◌+◌, ◌==◌, List, [], ◌∷◌, map, Option, Some, None, Bool, true, false, ◌&&◌, ◌||◌, if◌then◌else◌}
+use Rattle.std.specs.Prelude.{◌≡◌, ℕ, ◌+◌, ◌==◌, List, [], ◌∷◌, map, Option, Some, None, Bool, true, false, ◌&&◌, ◌||◌, if◌then◌else◌, Contains}
 use Rattle.std.specs.List.{filter_map}
 use Rattle.std.specs.String.{string_bytes}
 use denote.Enum.Bare.{sameb}
@@ -20,27 +20,32 @@ use Rattle.ob_scope.specs.declared.interfaces.TypeName.TheVariants as type_names
 use Rattle.ob_scope.specs.declared.interfaces.TypePart.{TypePart}
 use Rattle.ob_scope.specs.declared.interfaces.TypePart.TheVariants as types
 use Rattle.ob_scope.specs.declared.interfaces.Declaration.{Declaration as DeclarationValue}
-use Rattle.ob_scope.specs.declared.interfaces.FormPart.{FormPart}
+use Rattle.ob_scope.specs.declared.interfaces.FormPart.{FormPart as FormPartValue}
 use Rattle.ob_scope.specs.declared.interfaces.Base.{Base as BaseValue}
 use Rattle.ob_scope.specs.declared.interfaces.ImportedModule.{ImportedModule}
 use Rattle.ob_scope.specs.declared.interfaces.Interface.{Interface}
 use Rattle.ob_scope.specs.Standings.{Holder, Standing, is_kind, standings, text_at, token_at}
 use Rattle.ob_scope.specs.Scope.{Declared, Place}
 use Rattle.ob_scope.specs.Scope.{Block as InBlock, Record as InRecord}
-use Rattle.ob_scope.specs.Listed.{Declarer, declarer, blocks_of, record_of, ImportItem, import_by}
+use Rattle.ob_scope.specs.Listed.{Declarer, declarer, blocks_of, record_of, ImportItem, import_by, member_at}
 
 -- the name of a type by its text, behind an alias by both
 pub data TypeName : Type 0 where
   Alone : List ℕ → TypeName
   Qualified : List ℕ → List ℕ → TypeName
 
--- a part of a type's form, outermost first: ARRAY once for each of its lengths; a record by its RECORD
+-- a part of a type's form, outermost first: ARRAY once for each of its lengths; a record by its RECORD; a name with where it begins
 pub data Part : Type 0 where
   Array : Part
   Pointer : Part
   Record : ℕ → Part
   Procedure : Part
-  Named : TypeName → Part
+  Named : ℕ → TypeName → Part
+
+-- a part of the form that a declaration gives, with the first token of the declaration
+pub record FormPart : Type 0 where
+  pub declared_by : ℕ
+  pub part : Part
 
 -- what the module's block declares, or of a field its record: where its identifier begins, its mark, the first token of its declaration, and the form of its type
 pub record Declaration : Type 0 where
@@ -52,9 +57,10 @@ pub record Declaration : Type 0 where
   pub declared_by : ℕ
   pub form : List Part
 
--- the base of a record
+-- the base of a record, and where its name begins
 pub record Base : Type 0 where
   pub of_record : ℕ
+  pub start : ℕ
   pub name : TypeName
 
 -- an import item
@@ -67,6 +73,7 @@ pub record Imported : Type 0 where
 pub record ModuleInterface : Type 0 where
   pub name : List ℕ
   pub declarations : List Declaration
+  pub parts : List FormPart
   pub bases : List Base
   pub imports : List Imported
 
@@ -109,19 +116,36 @@ word_part ts k =
     else if is_kind ts k kinds.Procedure then Some Procedure
     else None
 
--- the part that a token is of the form that the declaration with this first token gives: a word of a type, or a name that is the whole type
-abbrev pub part_by : List ℕ → List Token → ℕ → Item → ℕ → Option Declarer → Option ℕ → Option Part
-part_by bytes ts owner (items.Used n) k (Some d) (Some first) = if d.number == owner then (if k == first then Some (Named (type_name bytes ts k)) else None) else None
-part_by bytes ts owner items.Word k (Some d) (Some first) = if d.number == owner then word_part ts k else None
-part_by bytes ts owner _ k _ _ = None
+-- a part as the form's of the declaration with this first token
+abbrev pub owned_part : ℕ → Option Part → Option FormPart
+owned_part owner None = None
+owned_part owner (Some p) = Some (record { declared_by = owner; part = p })
+
+-- the part that a token is of a form, by what it does, the declarer around it and the type in which it stands directly: a word of a type, or a name that is the whole type
+abbrev pub part_by : List ℕ → List Token → Item → ℕ → Option Declarer → Option ℕ → Option FormPart
+part_by bytes ts (items.Used n) k (Some d) (Some first) = if k == first then owned_part d.number (Some (Named (token_at ts k).start (type_name bytes ts k))) else None
+part_by bytes ts items.Word k (Some d) (Some first) = owned_part d.number (word_part ts k)
+part_by bytes ts _ k _ _ = None
 
 -- the same of a token where it stands
-abbrev pub part_at : List ℕ → List Token → ℕ → Standing → Option Part
-part_at bytes ts owner s = part_by bytes ts owner s.item s.number (outer_declarer ts s.within) (form_of s.within)
+abbrev pub part_at : List ℕ → List Token → Standing → Option FormPart
+part_at bytes ts s = part_by bytes ts s.item s.number (outer_declarer ts s.within) (form_of s.within)
 
--- the form that the declaration with this first token gives
+-- the parts of the forms of all declarations, in the order of the file
+abbrev pub parts_by : List ℕ → List Token → List Item → List FormPart
+parts_by bytes ts is = filter_map (part_at bytes ts) (standings is)
+
+-- the part that a part is of the form that the declaration with this first token gives
+abbrev pub part_of : ℕ → FormPart → Option Part
+part_of owner p = if p.declared_by == owner then Some p.part else None
+
+-- the form that the declaration with this first token gives: those of these parts that are its, in order
+abbrev pub form_in : List FormPart → ℕ → List Part
+form_in parts owner = filter_map (part_of owner) parts
+
+-- the same of the parts of a module
 abbrev pub form_by : List ℕ → List Token → List Item → ℕ → List Part
-form_by bytes ts is owner = filter_map (part_at bytes ts owner) (standings is)
+form_by bytes ts is = form_in (parts_by bytes ts is)
 
 -- ---- what the tokens of a module tell, where each declaration gives a form by its first token
 
@@ -152,7 +176,7 @@ declaration_at bytes ts forms s = declaration_by bytes ts forms s.item s.number 
 -- a token as the name of a base, by what it does and the type in which it stands directly
 abbrev pub base_by : List ℕ → List Token → Item → ℕ → Option Declarer → Option ℕ → Option Base
 base_by bytes ts (items.Used n) k (Some d) (Some first) =
-    if k == first then None else if is_kind ts first kinds.Record then Some (record { of_record = first; name = type_name bytes ts k }) else None
+    if k == first then None else if is_kind ts first kinds.Record then Some (record { of_record = first; start = (token_at ts k).start; name = type_name bytes ts k }) else None
 base_by bytes ts _ k _ _ = None
 
 -- the base that a token names: a name directly in a type that begins with RECORD
@@ -178,6 +202,7 @@ abbrev pub interface_by : List ℕ → List Token → List Item → ModuleInterf
 interface_by bytes ts is = record {
   name = text_at bytes ts 1;
   declarations = filter_map (declaration_at bytes ts (form_by bytes ts is)) (standings is);
+  parts = parts_by bytes ts is;
   bases = filter_map (base_at bytes ts) (standings is);
   imports = filter_map (imported_at bytes ts) (standings is);
 }
@@ -211,6 +236,36 @@ is_seen sorts.Procedure = true
 is_seen sorts.Parameter = false
 is_seen sorts.Field = false
 
+-- constants, types, variables, procedures and fields are seen
+abbrev pub is_seen_or_field : Sort → Bool
+is_seen_or_field sorts.Import = false
+is_seen_or_field sorts.Constant = true
+is_seen_or_field sorts.Type = true
+is_seen_or_field sorts.Variable = true
+is_seen_or_field sorts.Procedure = true
+is_seen_or_field sorts.Parameter = false
+is_seen_or_field sorts.Field = true
+
+-- a token of these items declares this in the module's block, or in a record that stands there, and this construct around it declares; it is no import and no parameter
+pub record IsOuterDeclared (ts : List Token) (is : List Item) (o : Declarer) (d : Declared) : Type 0 where
+  pub standing : Standing
+  pub stands : Contains (standings is) standing
+  pub declared : member_at ts standing ≡ Some d
+  pub outer : outer_declarer ts standing.within ≡ Some o
+  pub sort : is_seen_or_field d.sort ≡ true
+
+-- what is seen of a declared identifier with the construct that declares it: its first token, and the form that this gives
+pub record IsSeenWith (bytes : List ℕ) (ts : List Token) (is : List Item) (o : Declarer) (d : Declared) (x : Declaration) : Type 0 where
+  pub seen : IsSeenAs bytes ts d x
+  pub declared_by : x.declared_by ≡ o.number
+  pub form : x.form ≡ form_by bytes ts is o.number
+
+-- what is seen of an import item
+pub record IsImportSeenAs (bytes : List ℕ) (ts : List Token) (i : ImportItem) (x : Imported) : Type 0 where
+  pub alias : x.alias ≡ text_at bytes ts i.alias
+  pub start : x.start ≡ (token_at ts i.alias).start
+  pub module_name : x.module_name ≡ text_at bytes ts i.imported
+
 -- ---- what a value says, with its texts as lists of bytes
 
 -- what a name says
@@ -224,30 +279,31 @@ part_said types.Array = Array
 part_said types.Pointer = Pointer
 part_said (types.Record k) = Record k
 part_said types.Procedure = Procedure
-part_said (types.Named n) = Named (name_said n)
+part_said (types.Named start n) = Named start (name_said n)
 
--- what a part says of the form that the declaration with this first token gives
-abbrev pub form_part_said : ℕ → FormPart → Option Part
-form_part_said owner p = if p.declared_by == owner then Some (part_said p.part) else None
+-- what a part says with its declaration's first token
+abbrev pub form_part_said : FormPartValue → FormPart
+form_part_said p = record { declared_by = p.declared_by; part = part_said p.part }
 
--- what a declaration says: its form is those of these parts that its declaration gives
-abbrev pub declaration_said : List FormPart → DeclarationValue → Declaration
-declaration_said parts d =
-    record { name = string_bytes d.name; start = d.start; sort = d.sort; exported = d.exported; of_record = d.«record»; declared_by = d.declared_by; form = filter_map (form_part_said d.declared_by) parts }
+-- what a declaration says, where each declaration gives a form by its first token
+abbrev pub declaration_said : (ℕ → List Part) → DeclarationValue → Declaration
+declaration_said forms d =
+    record { name = string_bytes d.name; start = d.start; sort = d.sort; exported = d.exported; of_record = d.«record»; declared_by = d.declared_by; form = forms d.declared_by }
 
 -- what a base says
 abbrev pub base_said : BaseValue → Base
-base_said b = record { of_record = b.«record»; name = name_said b.name }
+base_said b = record { of_record = b.«record»; start = b.start; name = name_said b.name }
 
 -- what an import item says
 abbrev pub import_said : ImportedModule → Imported
 import_said i = record { alias = string_bytes i.alias; start = i.start; module_name = string_bytes i.«module» }
 
--- what an interface says
+-- what an interface says: the form of a declaration is those of the parts that are its
 abbrev pub interface_said : Interface → ModuleInterface
 interface_said i = record {
   name = string_bytes i.name;
-  declarations = map (declaration_said i.parts.items) i.declarations.items;
+  declarations = map (declaration_said (form_in (map form_part_said i.parts.items))) i.declarations.items;
+  parts = map form_part_said i.parts.items;
   bases = map base_said i.bases.items;
   imports = map import_said i.imports.items;
 }

@@ -1,5 +1,5 @@
 -- What every value of the type of scopes keeps.
-use Rattle.std.specs.Prelude.{◌≡◌, ℕ, ◌<◌, ◌≤◌, List, map, slice_get, Some, String}
+use Rattle.std.specs.Prelude.{◌≡◌, ℕ, ◌<◌, ◌≤◌, List, slice_get, Some}
 use Rattle.std.specs.String.{string_bytes}
 use Rattle.ob_scope.specs.declared.meaning.MeaningRow.{MeaningRow}
 use Rattle.ob_scope.specs.declared.module_scopes.Alias.{Alias}

@@ -4,6 +4,7 @@ pub mod Scope
 pub mod Listed
 pub mod Interfaces
 pub mod Told
+pub mod TypeForms
 pub mod ToldRows
 pub mod Identified
 pub mod Counted

@@ -1,6 +1,5 @@
 -- A table of what is declared, by place and name.
 use Rattle.std.specs.Prelude.{◌≡◌, ℕ, ◌<◌, List, map, slice_get, Some}
-use denote.Ref.{Bor}
 use Rattle.ob_scope.specs.declared.rows.Place.{Place}
 use Rattle.ob_scope.specs.declared.rows.Member.{Member}
 use Rattle.ob_scope.specs.declared.places.Key.{Key}

@@ -14,8 +14,8 @@ pub enum TypePart {
     Record(u32),
     /// A procedure type; its parameters and its result are no part of the form.
     Procedure,
-    /// A name.
-    Named(TypeName),
+    /// A name, and where its first identifier begins, in bytes.
+    Named { start: u32, name: TypeName },
 }
 
 /// The name of a type.
@@ -59,6 +59,8 @@ pub struct FormPart {
 pub struct Base {
     /// The number of the record's RECORD's token, from 0.
     pub record: u32,
+    /// Where the first identifier of the base's name begins, in bytes.
+    pub start: u32,
     /// The base's name.
     pub name: TypeName,
 }

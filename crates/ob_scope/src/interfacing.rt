@@ -3,11 +3,12 @@ ghost use Rattle.std.specs.Prelude.{◌≡◌, ◌≤◌, length, IfOk};
 ghost use Rattle.std.specs.List.{All};
 ghost use Rattle.std.specs.Str.{IsUtf8};
 ghost use Rattle.ob_scan.specs.Spelling.{AreInText};
-ghost use Rattle.ob_scope.specs.Interfaces.{interface_said, name_said, part_said};
-ghost use Rattle.ob_scope.specs.ToldRows.{interface_told, name_text, part_text, rows_more, rows_said, start_at, IsNameText, IsPartText, IsToldText};
+ghost use Rattle.ob_scope.specs.Interfaces.{base_said, import_said, interface_said, name_said, part_said};
+ghost use Rattle.ob_scope.specs.ToldRows.{base_text, declaration_row, declaration_text, import_text, interface_told, name_text, part_text, rows_more, rows_said, start_at, IsNameText, IsPartText, IsToldText};
 ghost use Rattle.ob_scope.specs.Standings.{standings, text_at};
 ghost use Rattle.ob_scope.specs.Told.{told_in};
 
+use crate::Sort;
 use crate::interfaces::{
     Base, Declaration, FormPart, ImportedModule, Interface, TypeName, TypePart,
 };
@@ -37,11 +38,11 @@ fn name_text(alloc: Global, text: &Text, name: Name) -> Result<TypeName, AllocEr
     }
 }
 
-/// A part with its name as texts.
+/// A part with its name as texts, and where that begins.
 fn part_text(alloc: Global, text: &Text, part: Part) -> Result<TypePart, AllocError>
     requires in_text { AreInText text.now.bytes.now text.now.tokens.now }
     requires names { IsPartText (text_at text.now.bytes.now text.now.tokens.now) part }
-    ensures { IfOk result (λ p. part_said p ≡ part_text (text_at text.now.bytes.now text.now.tokens.now) part) }
+    ensures { IfOk result (λ p. part_said p ≡ part_text (text_at text.now.bytes.now text.now.tokens.now) (start_at text.now.tokens.now) part) }
 {
     match part {
         Part::Array => Ok(TypePart::Array),
@@ -49,10 +50,73 @@ fn part_text(alloc: Global, text: &Text, part: Part) -> Result<TypePart, AllocEr
         Part::Record(number) => Ok(TypePart::Record(number)),
         Part::Procedure => Ok(TypePart::Procedure),
         Part::Named(name) => {
+            let start = text.start(name.first());
             let name = name_text(alloc, text, name)?;
-            Ok(TypePart::Named(name))
+            Ok(TypePart::Named { start, name })
         }
     }
+}
+
+/// A declaration with its name as text, and where that begins.
+fn declaration_text(
+    alloc: Global,
+    text: &Text,
+    number: u32,
+    sort: Sort,
+    exported: bool,
+    in_record: Option<u32>,
+    declared_by: u32,
+) -> Result<Declaration, AllocError>
+    requires in_text { AreInText text.now.bytes.now text.now.tokens.now }
+    requires name { IsUtf8 (text_at text.now.bytes.now text.now.tokens.now number) }
+    ensures { IfOk result (λ d. declaration_row d ≡
+        declaration_text (text_at text.now.bytes.now text.now.tokens.now) (start_at text.now.tokens.now) number sort exported in_record declared_by) }
+{
+    let name = text.string(alloc, number)?;
+    Ok(Declaration {
+        name,
+        start: text.start(number),
+        sort,
+        exported,
+        record: in_record,
+        declared_by,
+    })
+}
+
+/// The base of a record with its name as texts, and where that begins.
+fn base_text(alloc: Global, text: &Text, of_record: u32, name: Name) -> Result<Base, AllocError>
+    requires in_text { AreInText text.now.bytes.now text.now.tokens.now }
+    requires names { IsNameText (text_at text.now.bytes.now text.now.tokens.now) name }
+    ensures { IfOk result (λ b. base_said b ≡ base_text (text_at text.now.bytes.now text.now.tokens.now) (start_at text.now.tokens.now) of_record name) }
+{
+    let start = text.start(name.first());
+    let name = name_text(alloc, text, name)?;
+    Ok(Base {
+        record: of_record,
+        start,
+        name,
+    })
+}
+
+/// An import item with its names as texts, and where the alias begins.
+fn import_text(
+    alloc: Global,
+    text: &Text,
+    alias: u32,
+    imported: u32,
+) -> Result<ImportedModule, AllocError>
+    requires in_text { AreInText text.now.bytes.now text.now.tokens.now }
+    requires alias { IsUtf8 (text_at text.now.bytes.now text.now.tokens.now alias) }
+    requires imported { IsUtf8 (text_at text.now.bytes.now text.now.tokens.now imported) }
+    ensures { IfOk result (λ i. import_said i ≡ import_text (text_at text.now.bytes.now text.now.tokens.now) (start_at text.now.tokens.now) alias imported) }
+{
+    let name = text.string(alloc, alias)?;
+    let module = text.string(alloc, imported)?;
+    Ok(ImportedModule {
+        alias: name,
+        start: text.start(alias),
+        module,
+    })
 }
 
 /// Adds what a token tells.
@@ -70,15 +134,8 @@ fn add(alloc: Global, text: &Text, told: Told, interface: &mut Interface) -> Res
             record,
             owner,
         } => {
-            let name = text.string(alloc, number)?;
-            interface.declarations.push(Declaration {
-                name,
-                start: text.start(number),
-                sort,
-                exported,
-                record,
-                declared_by: owner,
-            })?;
+            let declaration = declaration_text(alloc, text, number, sort, exported, record, owner)?;
+            interface.declarations.push(declaration)?;
         }
         Told::Part {
             owner: declared_by,
@@ -88,17 +145,12 @@ fn add(alloc: Global, text: &Text, told: Told, interface: &mut Interface) -> Res
             interface.parts.push(FormPart { declared_by, part })?;
         }
         Told::Base { record, name } => {
-            let name = name_text(alloc, text, name)?;
-            interface.bases.push(Base { record, name })?;
+            let base = base_text(alloc, text, record, name)?;
+            interface.bases.push(base)?;
         }
         Told::Import { alias, imported } => {
-            let name = text.string(alloc, alias)?;
-            let module = text.string(alloc, imported)?;
-            interface.imports.push(ImportedModule {
-                alias: name,
-                start: text.start(alias),
-                module,
-            })?;
+            let import = import_text(alloc, text, alias, imported)?;
+            interface.imports.push(import)?;
         }
     }
     Ok(())

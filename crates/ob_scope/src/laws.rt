@@ -1,22 +1,27 @@
 //! Laws of scopes. Each function is a law: its body is empty, and its contract is proved.
-ghost use Rattle.std.specs.Prelude.{◌≡◌, if◌then◌else◌, ◌≤◌, ◌<◌, ◌+◌, ℕ, List, [], ◌∷◌, ◌++◌, Contains, Some, true, length, map, slice_get};
+ghost use Rattle.std.specs.Prelude.{◌≡◌, if◌then◌else◌, ◌≤◌, ◌<◌, ◌+◌, ℕ, List, [], ◌∷◌, ◌++◌, Contains, Some, true, false, length, map, slice_get};
 ghost use Rattle.ob_scan.specs.Spelling.{Spells};
+ghost use Rattle.ob_scan.specs.declared.kind.Kind.{Kind};
+ghost use Rattle.ob_scan.specs.declared.kind.Kind.TheVariants as kinds;
 ghost use Rattle.ob_scan.specs.declared.token.Token.{Token};
 ghost use Rattle.ob_tree.specs.declared.construct.Construct.{Construct};
 ghost use Rattle.ob_tree.specs.declared.item.Item.{Item};
 ghost use Rattle.ob_tree.specs.declared.item.Item.TheVariants as items;
 ghost use Rattle.ob_tree.specs.Constructs.{is_told};
-ghost use Rattle.ob_tree.specs.Derives.{Derives, items_of};
-ghost use Rattle.ob_tree.specs.Marks.{Out, construct};
+ghost use Rattle.ob_tree.specs.Derives.{Derives, declared_in, items_of, used_in};
+ghost use Rattle.ob_tree.specs.Marks.{Out, construct, word};
 ghost use Rattle.ob_tree.specs.declared.declaration.Module.{Module};
+ghost use Rattle.ob_tree.specs.declared.declaration.TypeForm.{TypeForm};
+ghost use Rattle.ob_tree.specs.Leaves.{same_kind};
 ghost use Rattle.ob_tree.specs.Declaring.{module_outline};
 ghost use Rattle.ob_scope.specs.Counted.{HasWeight};
 ghost use Rattle.ob_scope.specs.Identified.{AreNames};
-ghost use Rattle.ob_scope.specs.Interfaces.{interface_by, is_seen, Declaration, IsSeenAs};
-ghost use Rattle.ob_scope.specs.Listed.{ImportItem, Listing, listing};
+ghost use Rattle.ob_scope.specs.Interfaces.{form_by, interface_by, is_seen, Declaration, Imported, IsImportSeenAs, IsOuterDeclared, IsSeenAs, IsSeenWith, Record, outer_declarer};
+ghost use Rattle.ob_scope.specs.Listed.{blocks_of, Declarer, ImportItem, Listing, listing};
 ghost use Rattle.ob_scope.specs.Scope.{Block, Declared, IsFirstTwice, Means, NoneTwice, Used};
 ghost use Rattle.ob_scope.specs.Scoped.{AliasUses, AreScopes, ModuleScopes, listing_of};
-ghost use Rattle.ob_scope.specs.Standings.{Holder, holder, standings_from, text_at};
+ghost use Rattle.ob_scope.specs.Standings.{Holder, Standing, holder, standings, standings_from, text_at};
+ghost use Rattle.ob_scope.specs.TypeForms.{Gives, IsSpine, held_between, type_form, width};
 ghost use Rattle.ob_scope.specs.Weights.{uses_across, uses_of_all};
 ghost use Rattle.ob_scope.specs.Wholes.{IsWhole, inside, tokens_in};
 
@@ -101,11 +106,48 @@ pub fn identifiers_are_names()
     ensures { (bytes : List ℕ) (ts : List Token) (m : Module) → Spells bytes ts → Derives (map (λ t. t.kind) ts) m → AreNames (text_at bytes ts) (listing_of ts m) }
 {}
 
-/// What is seen of a module is what its block, and the records that stand there, declare; and each constant, type, variable
-/// and procedure of the block is seen.
+/// Of a tree that derives the tokens: what is listed as uses is the identifiers that the tree looks up, in order; and what is
+/// listed as declared is among those that the tree declares.
+pub fn listed_numbers()
+    ensures uses { (ts : List Token) (m : Module) → Derives (map (λ t. t.kind) ts) m → map (λ u. u.number) (listing_of ts m).uses ≡ used_in (module_outline m) }
+    ensures members { (ts : List Token) (m : Module) (d : Declared) → Derives (map (λ t. t.kind) ts) m →
+        Contains (listing_of ts m).members d → Contains (declared_in (module_outline m)) d.number }
+{}
+
+/// What is seen of a module is what its block, and the records that stand there, declare, each with the first token of its
+/// declaration and the form that this gives; and all of it is seen. So each constant, type, variable and procedure of the
+/// block is seen. The imports that are seen are import items, and each import item of the block is seen.
 pub fn seen_declarations()
     ensures declared { (bytes : List ℕ) (ts : List Token) (is : List Item) (x : Declaration) → Contains (interface_by bytes ts is).declarations x →
-        (d : Declared) × Contains (listing ts is).members d × IsSeenAs bytes ts d x }
+        (d : Declared) × (o : Declarer) × Contains (listing ts is).members d × IsOuterDeclared ts is o d × IsSeenWith bytes ts is o d x }
+    ensures each { (bytes : List ℕ) (ts : List Token) (is : List Item) (o : Declarer) (d : Declared) → IsOuterDeclared ts is o d →
+        (x : Declaration) × Contains (interface_by bytes ts is).declarations x × IsSeenWith bytes ts is o d x }
     ensures seen { (bytes : List ℕ) (ts : List Token) (is : List Item) (d : Declared) → Contains (listing ts is).members d → d.place ≡ Block [] → is_seen d.sort ≡ true →
         (x : Declaration) × Contains (interface_by bytes ts is).declarations x × IsSeenAs bytes ts d x }
+    ensures import_declared { (bytes : List ℕ) (ts : List Token) (is : List Item) (x : Imported) → Contains (interface_by bytes ts is).imports x →
+        (i : ImportItem) × Contains (listing ts is).imports i × IsImportSeenAs bytes ts i x }
+    ensures import_seen { (bytes : List ℕ) (ts : List Token) (is : List Item) (i : ImportItem) (d : Declared) → Contains (listing ts is).imports i →
+        Contains (listing ts is).members d → d.number ≡ i.alias → d.place ≡ Block [] →
+        (x : Imported) × Contains (interface_by bytes ts is).imports x × IsImportSeenAs bytes ts i x }
+{}
+
+/// A record stands in the form of one declaration: two declarations that give it have one first token.
+pub fn one_owner()
+    ensures { (bytes : List ℕ) (ts : List Token) (is : List Item) (u v r : ℕ) → Contains (form_by bytes ts is u) (Record r) → Contains (form_by bytes ts is v) (Record r) → u ≡ v }
+{}
+
+/// The form that a declaration gives in the module's block, or in a record that stands there, is that of its type in the tree:
+/// arrays and pointers, and then one part. The declaration is any of the tree's, between two words, the second of which is no dot.
+/// Where its names stand the construct that declares is told by the declaration's first token, under which the form is told.
+pub fn forms_of_types()
+    ensures form { (bytes : List ℕ) (ts : List Token) (m : Module) (whole names : Out) (t : TypeForm) (before behind : Out) (i j : Kind) →
+        Derives (map (λ t. t.kind) ts) m → Gives whole names t → module_outline m ≡ before ++ (word i ++ (whole ++ (word j ++ behind))) →
+        same_kind j kinds.Dot ≡ false → blocks_of ts (held_between before (word i ++ (whole ++ (word j ++ behind)))) ≡ [] →
+        form_by bytes ts (items_of (module_outline m)) (width before + 1) ≡ type_form bytes ts t (width before + 1 + width names) }
+    ensures names { (ts : List Token) (m : Module) (whole names : Out) (t : TypeForm) (before behind : Out) (i j : Kind) (s : Standing) →
+        Gives whole names t → module_outline m ≡ before ++ (word i ++ (whole ++ (word j ++ behind))) →
+        blocks_of ts (held_between before (word i ++ (whole ++ (word j ++ behind)))) ≡ [] →
+        Contains (standings (items_of (module_outline m))) s → width before + 1 ≤ s.number → s.number < width before + 1 + width names →
+        (d : Declarer) × (outer_declarer ts s.within ≡ Some d) × (d.number ≡ width before + 1) }
+    ensures spine { (bytes : List ℕ) (ts : List Token) (t : TypeForm) (k : ℕ) → IsSpine (type_form bytes ts t k) }
 {}

@@ -1,5 +1,8 @@
 //! What the tokens of a module tell of what other modules see of it, by numbers of tokens.
 
+ghost use Rattle.std.specs.Prelude.{◌≡◌};
+ghost use Rattle.ob_scope.specs.ToldRows.{first_of};
+
 use crate::Sort;
 
 /// A part of a type's form.
@@ -22,6 +25,18 @@ pub(crate) enum Name {
     Alone(u32),
     /// An alias, and the name behind its dot.
     Qualified(u32, u32),
+}
+
+impl Name {
+    /// Its first identifier.
+    pub(crate) fn first(self) -> u32
+        ensures { result ≡ first_of self }
+    {
+        match self {
+            Name::Alone(number) => number,
+            Name::Qualified(alias, _) => alias,
+        }
+    }
 }
 
 /// What a token tells. An owner is the first token of a declaration.

@@ -32,7 +32,7 @@ pub fn fault_at(alloc: Global, path: &str, error: &io::Error) -> RunFault
     }
 }
 
-/// The bytes of a file, but no more than so many.
+/// The bytes of a file, but no more than so many. Refuses with `CannotRead` or `Memory`.
 pub fn read_front<R: Files + AllocGlobal>(
     rt: &R,
     path: &str,
@@ -50,7 +50,8 @@ pub fn read_front<R: Files + AllocGlobal>(
     }
 }
 
-/// The bytes of a network or a report, of which at most one beyond the limit is read.
+/// The bytes of a network or a report, of which at most one beyond the limit is read. Refuses with `CannotRead`, also above
+/// the limit, or `Memory`.
 pub fn read_file<R: Files + AllocGlobal>(rt: &R, path: &str) -> Result<Vec<u8>, RunFault>
     ensures { IfErr result IsReadFault }
 {

@@ -9,17 +9,17 @@ const MODULE: &[u8] =
     b"MODULE M; IMPORT T := Texts, U; CONST n* = 3; TYPE A = ARRAY n, n + 1 OF R; R* = RECORD (T.Reader) a*, b: INTEGER; c: POINTER TO RECORD d*: U.X END END; S = RECORD (R) END; VAR v*: ARRAY 2, 3 OF POINTER TO RECORD e: A END; f*: PROCEDURE (x: A; VAR y: ARRAY OF T.W): R; PROCEDURE p*(q: R): A; TYPE L = RECORD z: A END; VAR w: L; BEGIN RETURN w.z END p; END M.";
 
 /// Each identifier with its offset, what it is, its star, of a field the RECORD's token, the first token of its declaration,
-/// and the form.
+/// and the form, in it each name with its offset.
 const DECLARATIONS: &str = "n 38 constant* by 11
-A 51 type by 17: ARRAY ARRAY R
+A 51 type by 17: ARRAY ARRAY R@73
 R 76 type* by 28: RECORD31
-a 99 field* in 31 by 37: INTEGER
-b 103 field in 31 by 37: INTEGER
+a 99 field* in 31 by 37: INTEGER@106
+b 103 field in 31 by 37: INTEGER@106
 c 115 field in 31 by 44: POINTER RECORD48
-d 136 field* in 48 by 49: U.X
+d 136 field* in 48 by 49: U.X@140
 S 153 type by 58: RECORD60
 v 177 variable* by 67: ARRAY ARRAY POINTER RECORD77
-e 213 field in 77 by 78: A
+e 213 field in 77 by 78: A@216
 f 223 variable* by 83: PROCEDURE
 p 279 procedure* by 104
 ";
@@ -29,14 +29,14 @@ p 279 procedure* by 104
 const CORNERS: &[u8] =
     b"MODULE N; TYPE P = POINTER TO Q; Q* = RECORD inner*: RECORD x: CHAR END; y: P END; VAR a*, b: Q; g: ARRAY f(1, 2), a[1, 2] OF P; h: PROCEDURE; PROCEDURE r*; END r; END N.";
 
-const CORNER_DECLARATIONS: &str = "P 15 type by 4: POINTER Q
+const CORNER_DECLARATIONS: &str = "P 15 type by 4: POINTER Q@30
 Q 33 type* by 10: RECORD13
 inner 45 field* in 13 by 14: RECORD17
-x 60 field in 17 by 18: CHAR
-y 73 field in 13 by 23: P
-a 87 variable* by 29: Q
-b 91 variable by 29: Q
-g 97 variable by 36: ARRAY ARRAY P
+x 60 field in 17 by 18: CHAR@63
+y 73 field in 13 by 23: P@76
+a 87 variable* by 29: Q@94
+b 91 variable by 29: Q@94
+g 97 variable by 36: ARRAY ARRAY P@126
 h 129 variable by 55: PROCEDURE
 r 153 procedure* by 59
 ";
@@ -54,7 +54,10 @@ fn show_part(alloc: Global, part: &TypePart) -> Result<String, AllocError> {
         TypePart::Pointer => String::from_str(alloc, "POINTER"),
         TypePart::Record(number) => format!(in alloc; "RECORD{number}"),
         TypePart::Procedure => String::from_str(alloc, "PROCEDURE"),
-        TypePart::Named(name) => show_name(alloc, name),
+        TypePart::Named { start, name } => {
+            let name = show_name(alloc, name)?;
+            format!(in alloc; "{name}@{start}")
+        }
     }
 }
 
@@ -124,11 +127,13 @@ fn tells_what_other_modules_see(rt: HostRuntime) -> Result<(), Fail> {
     assert_eq!(rt; seen.parts.len(), 15);
     assert_eq!(rt; seen.bases.len(), 2);
     assert_eq!(rt; seen.bases[0].record, 31);
+    assert_eq!(rt; seen.bases[0].start, 89);
     assert_eq!(rt;
         show_name(rt.alloc(), &seen.bases[0].name)?.as_str(),
         "T.Reader"
     );
     assert_eq!(rt; seen.bases[1].record, 60);
+    assert_eq!(rt; seen.bases[1].start, 165);
     assert_eq!(rt; show_name(rt.alloc(), &seen.bases[1].name)?.as_str(), "R");
     assert_eq!(rt; seen.imports.len(), 2);
     assert_eq!(rt; seen.imports[0].alias.as_str(), "T");

@@ -1,4 +1,4 @@
-use Rattle.ob_scope.proofs.Telling.{items-construct}
+use Rattle.ob_tree.proofs.Walks.{items-construct}
 use Rattle.ob_scope.proofs.laws.told_parts.Goals as goal
 
 pub returns : goal.returns

@@ -1,8 +1,8 @@
 -- What is seen in the block, or else what is seen from the block around it.
-use Rattle.std.proofs.Common.{◌≡◌, ◌<◌, ℕ, Some, None, arith, ◌∙◌, ap, refl, subst, sym, [], ◌∷◌}
+use Rattle.std.proofs.Common.{◌≡◌, arith, ◌∙◌, ap, refl, subst, sym, [], ◌∷◌}
 use Rattle.std.proofs.lemmas.List.{get_or_default}
 use Rattle.ob_scope.specs.declared.rows.Block.{Block as BlockRow}
-use Rattle.ob_scope.specs.Looked.{use_in, IsResolved}
+use Rattle.ob_scope.specs.Looked.{use_in}
 use Rattle.ob_scope.specs.Rows.{block_at, block_row, declared_by}
 use Rattle.ob_scope.specs.Standings.{text_at}
 use Rattle.ob_scope.proofs.Blocks.{around-self, block_at-module, block_at-inside}

@@ -1,8 +1,8 @@
 -- What is seen, or else the later type.
-use Rattle.std.proofs.Common.{◌≡◌, ℕ, List, Some, None, refl, Bool, true, false, not, sym, ◌∙◌}
+use Rattle.std.proofs.Common.{◌≡◌, ℕ, List, refl, Bool, true, false, not, sym, ◌∙◌}
 use Rattle.std.proofs.lemmas.Bool.{false≢true}
 use Rattle.ob_scope.specs.Scope.{Declared, Used, Means, by_scope, as_target, IsLaterType, ResolvesToNothing}
-use Rattle.ob_scope.specs.Looked.{listing_by, use_in, IsMeant, MeansNothing}
+use Rattle.ob_scope.specs.Looked.{listing_by, use_in}
 use Rattle.ob_scope.specs.Rows.{declared_by, used_by}
 use Rattle.ob_scope.specs.Standings.{text_at}
 use Rattle.ob_scope.proofs.Named.{none_then, some_then}

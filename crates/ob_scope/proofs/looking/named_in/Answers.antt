@@ -1,5 +1,4 @@
 -- The row is the one of the key.
-use Rattle.std.proofs.Common.{◌≡◌, ℕ}
 use Rattle.std.proofs.lemmas.Option.{slice_get_within}
 use Rattle.ob_scope.specs.Standings.{text_at}
 use Rattle.ob_scope.proofs.Named.{named_found, named_none, named_one, named_read}

@@ -1,9 +1,8 @@
 -- Row after row.
-use Rattle.std.proofs.Common.{◌≡◌, ◌<◌, length, Some, refl, arith, sym, ap, ◌∙◌, subst}
+use Rattle.std.proofs.Common.{◌≡◌, Some, refl, arith, sym, ap, ◌∙◌}
 use Rattle.std.specs.Prelude.{slice_get}
-use Rattle.std.proofs.lemmas.Option.{slice_get_within, slice_get-get_or, get_or_from_slice_get}
+use Rattle.std.proofs.lemmas.Option.{slice_get-get_or, get_or_from_slice_get}
 use Rattle.ob_scope.specs.declared.rows.Member.{Member}
-use Rattle.ob_scope.specs.Looked.{import_by}
 use Rattle.ob_scope.specs.Standings.{text_at}
 use Rattle.ob_scope.proofs.Assembling.{rows_more, imported_at}
 use Rattle.ob_scope.proofs.making.aliases_of.Goals as goal

@@ -1,14 +1,12 @@
 -- The two members of the rows.
-use Rattle.std.proofs.Common.{◌≡◌, ◌<◌, ℕ, length, Some, arith, refl, sym, ap, ◌∙◌, subst}
-use Rattle.std.specs.Prelude.{slice_get}
-use Rattle.std.proofs.lemmas.Option.{slice_get_within, slice_get-get_or, get_or_from_slice_get}
+use Rattle.std.proofs.Common.{◌≡◌, sym, ap, ◌∙◌, subst}
+use Rattle.std.proofs.lemmas.Option.{get_or_from_slice_get}
 use Rattle.std.specs.Str.{IsUtf8}
 use Rattle.std.specs.String.{string_bytes}
 use Rattle.ob_scope.specs.declared.rows.Member.{Member}
 use Rattle.ob_scope.specs.Rows.{block_at, declared_by, place_of}
 use Rattle.ob_scope.specs.Standings.{text_at, token_at}
 use Rattle.ob_scope.proofs.Assembling.{is_twice}
-use Rattle.ob_scope.proofs.Elements.{some_one}
 use Rattle.ob_scope.proofs.making.fault_of.Goals as goal
 use Rattle.ob_scope.proofs.making.fault_of.Goals.{in-Block, in-Record}
 

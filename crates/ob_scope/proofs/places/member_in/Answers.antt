@@ -1,8 +1,6 @@
 -- The place of the key in the table.
-use Rattle.std.proofs.Common.{◌≡◌, Some, None, false, sym, ◌∙◌}
-use Rattle.std.specs.Prelude.{IfNone}
-use Rattle.std.specs.List.{list_any}
-use Rattle.ob_scope.proofs.Keyed.{key_eq, no_entry, entry_at}
+use Rattle.std.proofs.Common.{sym}
+use Rattle.ob_scope.proofs.Keyed.{no_entry, entry_at}
 use Rattle.ob_scope.proofs.places.member_in.Goals as goal
 
 pub returns-in_err-index-clause-none : goal.returns-in_err-index-clause-none

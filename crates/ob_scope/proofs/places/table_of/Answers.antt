@@ -1,10 +1,9 @@
 -- Each row is new, or the first that says what an earlier one says.
-use Rattle.std.proofs.Common.{◌≡◌, ◌<◌, length, Bool, true, false, Some, refl, List, ◌∷◌, [], ◌++◌, sym, ap, ◌∙◌, subst, arith}
-use Rattle.std.specs.Prelude.{slice_get, if◌then◌else◌, not}
+use Rattle.std.proofs.Common.{◌≡◌, Bool, true, false, refl, sym, ◌∙◌}
+use Rattle.std.specs.Prelude.{not}
 use Rattle.std.specs.List.{list_any}
 use Rattle.std.proofs.lemmas.Option.{slice_get-get_or}
 use Rattle.ob_scope.specs.Standings.{text_at}
-use Rattle.ob_scope.specs.Places.{entry_of, IsTable}
 use Rattle.ob_scope.proofs.Keyed.{key_eq, table_more, twice_at}
 use Rattle.ob_scope.proofs.places.table_of.Goals as goal
 

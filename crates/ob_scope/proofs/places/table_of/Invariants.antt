@@ -1,4 +1,4 @@
-use Rattle.std.specs.Prelude.{◌≡◌, map, take}
+use Rattle.std.specs.Prelude.{take}
 use Rattle.ob_scope.specs.Standings.{text_at}
 use Rattle.ob_scope.specs.Places.{IsTable}
 use Rattle.ob_scope.proofs.places.table_of.Given as goal

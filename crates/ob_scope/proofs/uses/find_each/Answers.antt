@@ -1,14 +1,12 @@
 -- Use after use.
-use Rattle.std.proofs.Common.{◌≡◌, ◌<◌, ◌+◌, length, Some, [], arith, subst, sym, ap, ◌∙◌, refl}
-use Rattle.std.specs.Prelude.{slice_get, slice_index}
-use Rattle.std.proofs.lemmas.List.{get_or_default}
+use Rattle.std.proofs.Common.{◌≡◌, ◌<◌, length, Some, arith, subst, sym, ap, ◌∙◌}
+use Rattle.std.specs.Prelude.{slice_get}
 use Rattle.std.proofs.lemmas.Option.{slice_get_within, slice_get-get_or}
 use Rattle.ob_scope.specs.declared.rows.Member.{Member}
 use Rattle.ob_scope.specs.Scope.{Means, NoneTwice}
 use Rattle.ob_scope.specs.Rows.{declared_by, used_by}
 use Rattle.ob_scope.specs.Looked.{listing_by}
 use Rattle.ob_scope.specs.Standings.{text_at}
-use Rattle.ob_scope.specs.Found.{AreCounted, AreMeant}
 use Rattle.ob_scope.proofs.Elements.{some_one}
 use Rattle.ob_scope.proofs.Finding.{meant_none, meant_other, meant_more, counted_none, counted_other, counted_more}
 use Rattle.ob_scope.proofs.Seeing.{none_twice}

@@ -1,5 +1,5 @@
 -- The alias at the place that was found, or 0 where none was.
-use Rattle.std.proofs.Common.{◌≡◌, ◌<◌, length, map, refl, subst, sym, ap, ◌∙◌, arith}
+use Rattle.std.proofs.Common.{◌≡◌, ◌<◌, length, map, subst, sym, ap, ◌∙◌, arith}
 use Rattle.std.specs.Prelude.{Contains, slice_get, Some}
 use Rattle.std.proofs.lemmas.Option.{slice_get_within, slice_get-get_or}
 use Rattle.ob_scope.specs.Kept.{alias_of}

@@ -1,6 +1,6 @@
 -- The row at the place that was found, read as a meaning.
 use Rattle.std.proofs.Common.{◌≡◌, ◌<◌, length, ℕ, refl, subst, sym, ap, ◌∙◌, arith}
-use Rattle.std.specs.Prelude.{Contains, IfNone, slice_get, Some}
+use Rattle.std.specs.Prelude.{Contains, slice_get, Some}
 use Rattle.std.proofs.lemmas.Option.{slice_get_within, slice_get-get_or}
 use Rattle.ob_scope.specs.Kept.{meaning_of}
 use Rattle.ob_scope.specs.Scoped.{Meaning, ModuleScopes}
