@@ -1,6 +1,5 @@
 -- What the imports out of the source bring to the nodes at the opening, one import after another.
-use Rattle.std.proofs.Common.{◌≡◌, ◌≢◌, ℕ, ◌+◌, ◌^◌, ◌<◌, Bool, true, false, not, ◌&&◌, ◌==◌, if◌then◌else◌, nat_lt, List, length, get_or, replicate, refl, sym, ap, ◌∙◌, add-one, arith}
-use Rattle.std.proofs.lemmas.List.{length-replicate}
+use Rattle.std.proofs.Common.{◌≡◌, ◌≢◌, ℕ, ◌+◌, ◌^◌, ◌<◌, Bool, ◌==◌, if◌then◌else◌, List, length, get_or, ap, ◌∙◌, add-one, arith}
 use Rattle.cut_net.specs.declared.priced.Priced.{Priced}
 use Rattle.cut_preflow.specs.declared.ends.Ends.{Ends}
 use Rattle.cut_preflow.specs.Total.{total}
@@ -10,7 +9,7 @@ use Rattle.cut_preflow.specs.Played.{flow_network}
 use Rattle.cut_preflow.specs.Indexed.{AreActive, IsIndexed, brought}
 use Rattle.cut_preflow.proofs.Choices.{choice_le, choice_same, choice_other}
 use Rattle.cut_preflow.proofs.Totals.{part_le-total}
-use Rattle.cut_preflow.proofs.Opening.{get_or-opening_flows, get_or-alike, opening_outflow}
+use Rattle.cut_preflow.proofs.Opening.{get_or-opening_flows, opening_outflow}
 use Rattle.cut_preflow.proofs.Carrying.{brought_at, indexed_from}
 
 -- what the imports below a number bring to a node
@@ -47,17 +46,3 @@ pub opening_indexed : (ends : Ends) (imports : List Priced) (arcs : List (List �
 opening_indexed ends imports arcs xs active listed are comes by =
     indexed_from ends imports (opening (flow_network ends imports)) arcs xs active listed are
     (λ v low ne. omega (arith, comes v ne, opening_outflow (flow_network ends imports) v ne)) by
-
-off : (a b c : Bool) (x : ℕ) → x ≡ 0 → (a && (b && (c && nat_lt 0 x))) ≡ false
-off false b c x e = refl
-off true false c x e = refl
-off true true false x e = refl
-off true true true x e = ap (nat_lt 0) e
-
--- without excess no node is active
-pub none_active : (ends : Ends) → AreActive ends (replicate ends.nodes 0) (replicate ends.nodes false)
-none_active ends = record {
-  each_counted = length-replicate {A = ℕ} ends.nodes 0;
-  each_tested = length-replicate {A = Bool} ends.nodes false;
-  active_are = λ v. get_or-alike ends.nodes v false ∙ sym (off (nat_lt v ends.nodes) (not (v == ends.source)) (not (v == ends.sink)) (get_or (replicate ends.nodes 0) v 0) (get_or-alike {A = ℕ} ends.nodes v 0));
-}

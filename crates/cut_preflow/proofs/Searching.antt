@@ -7,7 +7,7 @@ use Rattle.std.proofs.lemmas.List.Elements.{Contains-append_left, Contains-push,
 use Rattle.std.proofs.lemmas.List.Sums.{sum_by-set}
 use Rattle.cut_net.specs.declared.priced.Priced.{Priced}
 use Rattle.cut_preflow.specs.Preflow.{tail_in, head_in, residual_in}
-use Rattle.cut_preflow.specs.Side.{has, unmarked, IsClosedBelow, IsReach, IsReached, IsSearched, IsWithin}
+use Rattle.cut_preflow.specs.Side.{has, unmarked, IsClosedBelow, IsReached, IsSearched, IsWithin}
 use Rattle.cut_preflow.proofs.Opening.{get_or-alike}
 
 has_set : (marks : List Bool) (v x : ℕ) → v < length marks → has (set marks v true) x ≡ true → (x ≡ v) ⊎ (has marks x ≡ true)
@@ -63,21 +63,7 @@ module _ (imports : List Priced) (flow : List ℕ) (source : ℕ) where
         | inr was ↦ absurd (let none = get_or-alike nodes v false in cc)
       ]
 
-  -- at the end no node waits
-  pub searched-end : (marks : List Bool) → IsSearched imports flow source marks [] → IsReach imports flow source marks
-  searched-end marks s = record {
-    starts = s.starts;
-    closed = λ arc l room from. elim (s.closed arc l room from) [
-      | inl on ↦ on
-      | inr waits ↦ absurd (let at = waits.1 in omega (arith, at))
-    ];
-    least = s.least;
-  }
-
   module _ (marks : List Bool) (waiting : List ℕ) (node : ℕ) (arcs : List ℕ) where
-    pub visiting-start : IsSearched imports flow source marks (waiting ++ node ∷ []) → IsVisiting imports flow source marks waiting node arcs 0
-    visiting-start s = record { searched = s; looked = λ j l. absurd (omega arith) }
-
     -- an arc that reaches nothing new
     pub visiting-no : (many : ℕ) → IsVisiting imports flow source marks waiting node arcs many → (0 < residual_in imports flow (get_or arcs many 0) → has marks (head_in imports (get_or arcs many 0)) ≡ true) → IsVisiting imports flow source marks waiting node arcs (many + 1)
     visiting-no many v none = record {

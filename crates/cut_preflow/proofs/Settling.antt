@@ -1,6 +1,5 @@
 -- Histories that grow by the steps of one worker.
-use Rattle.std.proofs.Common.{◌≡◌, ◌≢◌, ℕ, ◌+◌, true, ◌==◌, List, [], ◌∷◌, ◌++◌, refl, sym, ap, ◌∙◌, arith, append_assoc, length-append}
-use Rattle.std.proofs.lemmas.List.{append-nil}
+use Rattle.std.proofs.Common.{◌≡◌, ◌≢◌, ℕ, ◌+◌, true, ◌==◌, List, [], ◌∷◌, ◌++◌, refl, ap, ◌∙◌, arith, append_assoc, length-append}
 use Rattle.cut_preflow.specs.declared.event.Event.{Event}
 use Rattle.cut_preflow.specs.declared.event.Outcome.{Outcome}
 use Rattle.cut_preflow.specs.declared.event.Outcome.TheVariants.{Moved, Raised, Stale, Refused}
@@ -13,9 +12,6 @@ are_by-push : (worker : ℕ) (es : List Event) (e : Event) → are_by worker es 
 are_by-push worker [] e h is = both_true (e.worker == worker) true (eq_true e.worker worker is) refl
 are_by-push worker (x ∷ xs) e h is =
     both_true (x.worker == worker) (are_by worker (xs ++ e ∷ [])) (left_true (x.worker == worker) (are_by worker xs) h) (are_by-push worker xs e (right_true (x.worker == worker) (are_by worker xs) h) is)
-
-pub Appends-none : (worker : ℕ) (old : List Event) → Appends worker 0 old old
-Appends-none worker old = record { added = []; appended = sym (append-nil old); many = refl; by = refl }
 
 pub Appends-push : (worker steps : ℕ) (old new : List Event) (e : Event) → Appends worker steps old new → e.worker ≡ worker → Appends worker (steps + 1) old (new ++ e ∷ [])
 Appends-push worker steps old new e a is =

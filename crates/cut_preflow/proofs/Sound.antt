@@ -1,7 +1,7 @@
 -- What the code needs to know of a state that a run can reach.
 use Rattle.std.proofs.Common.{◌≡◌, ℕ, ◌/◌, ◌^◌, ◌<◌, inl, inr, length, slice_index, sym, ap, subst, arith}
 use Rattle.cut_preflow.specs.Total.{total}
-use Rattle.cut_preflow.specs.Preflow.{FlowNetwork, State, count, import_at, flow_at, tail, head, is_forward}
+use Rattle.cut_preflow.specs.Preflow.{FlowNetwork, State, count, import_at, flow_at, head, is_forward}
 use Rattle.cut_preflow.specs.Played.{IsSound}
 use Rattle.cut_preflow.proofs.Choices.{true_or_false}
 use Rattle.cut_preflow.proofs.Totals.{total-le}
@@ -23,10 +23,4 @@ module _ (net : FlowNetwork) (s : State) (sound : IsSound net s) where
   head_low arc l = elim (true_or_false (is_forward arc)) [
     | inl e ↦ subst (λ x. x < net.nodes) (sym (ahead net s arc e).head_is) (sound.network.to_low (arc / 2) l)
     | inr e ↦ subst (λ x. x < net.nodes) (sym (back net s arc e).head_is) (sound.network.from_low (arc / 2) l)
-  ]
-
-  pub tail_low : (arc : ℕ) → arc / 2 < count net → tail net arc < net.nodes
-  tail_low arc l = elim (true_or_false (is_forward arc)) [
-    | inl e ↦ subst (λ x. x < net.nodes) (sym (ahead net s arc e).tail_is) (sound.network.from_low (arc / 2) l)
-    | inr e ↦ subst (λ x. x < net.nodes) (sym (back net s arc e).tail_is) (sound.network.to_low (arc / 2) l)
   ]

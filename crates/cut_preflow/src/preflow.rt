@@ -37,7 +37,7 @@ impl<L: NetworkLedger> Model for Preflow<L> {
 
     ghost view = { λ p. record { play = p.plain; booked = p.book.total; own = p.own.amount; out = p.out } };
 
-    ghost invariant = { λ p. (p.book.total ≡ length p.plain.history) × (p.own.parts + p.out ≡ L.parts) × (L.parts ≡ 65) × (p.out ≤ 64) × (p.plain.net ≡ L.net) };
+    ghost invariant = { λ p. (p.book.total ≡ length p.plain.history) × (p.own.parts + p.out ≡ L.parts) × (L.parts ≡ 65) × (p.out ≤ 64) × (p.plain.net ≡ L.net) × (p.out ≡ 0 → p.own.amount ≡ p.book.total) };
 }
 
 impl<L: NetworkLedger> Preflow<L> {
@@ -115,6 +115,8 @@ impl<L: NetworkLedger> Preflow<L> {
         let outcome = self.plain.apply(event);
         match outcome {
             Outcome::Moved { .. } | Outcome::Raised { .. } => {
+                // Gives nothing. So a share is out: the own share and this one have at most the ledger's 65 parts together.
+                self.own.give(&mut share.part, 0, 0);
                 self.book.add(&mut share.part, 1);
                 // So the share's count stays within 64 bits: the book has no less, and the history is within the bound on steps.
                 self.book.audit(&mut share.part);
@@ -159,12 +161,14 @@ impl<L: NetworkLedger> Preflow<L> {
 }
 
 impl<L: NetworkLedger> Preflow<L> {
-    /// What every preflow keeps: its network is the one that its type names, and its book is the length of its history, which is legal. Each
-    /// flow is within its import's weight, no module but the source sends out more than enters it, the labelling is valid, and labels stay
-    /// below twice the number of modules. And once quiet, the flow is a flow of the network.
+    /// What every preflow keeps: its network is the one that its type names, and its book is the length of its history, which is legal.
+    /// With no share out, its own share counts all steps. Each flow is within its import's weight, no module but the source sends out more
+    /// than enters it, the labelling is valid, and labels stay below twice the number of modules. And once quiet, the flow is a flow of
+    /// the network.
     pub fn keeps(&self)
         ensures net { self.now.play.net ≡ L.net }
         ensures booked { self.now.booked ≡ length self.now.play.history }
+        ensures whole { self.now.out ≡ 0 → self.now.own ≡ length self.now.play.history }
         ensures legal { is_legal self.now.play.net (opening self.now.play.net) self.now.play.history ≡ true }
         ensures sound { IsSound self.now.play.net (state_of self.now.play) }
         ensures flow { IsQuiet self.now.play.net (state_of self.now.play) → HasFlow self.now.play.net (state_of self.now.play) }
@@ -238,7 +242,8 @@ impl<L: NetworkLedger> Preflow<L> {
 
     /// Applies at most `fuel` steps as worker 0, until the preflow is quiet. The steps that were applied stay, and are counted in the
     /// preflow's own share. Answers Unfinished where it applied so many and isn't quiet, which never comes where the fuel is at least
-    /// 4n²m + 2nm + 4n² for n modules and m imports, and Memory where the history couldn't grow.
+    /// 4n²m + 2nm + 4n² for n modules and m imports, and Memory where the history couldn't grow: then it isn't quiet, and has applied
+    /// fewer steps.
     pub fn settle(&mut self, fuel: u64) -> Result<(), SettleFault>
         ensures net { self.new.play.net ≡ self.old.play.net }
         ensures appended { AppendsUpTo 0 fuel self.old.play.history self.new.play.history }
@@ -247,6 +252,7 @@ impl<L: NetworkLedger> Preflow<L> {
         ensures ok { OnOk result (IsQuiet self.new.play.net (state_of self.new.play)) }
         ensures enough { most_changes self.old.play.net ≤ fuel → result ≢ Err SettleFault.Unfinished }
         ensures unfinished { result ≡ Err SettleFault.Unfinished → (IsQuiet self.new.play.net (state_of self.new.play) → ⊥) × Appends 0 fuel self.old.play.history self.new.play.history }
+        ensures memory { result ≡ Err SettleFault.Memory → (IsQuiet self.new.play.net (state_of self.new.play) → ⊥) × (length self.new.play.history < length self.old.play.history + fuel) }
     {
         for _i in 0..fuel {
             let Some(step) = self.next_step() else {
