@@ -1,7 +1,7 @@
 -- Paths that are found from their end back, along falling levels: no arc is on them twice.
 use Rattle.std.proofs.Common.{◌≡◌, ◌≢◌, ℕ, zero, suc, ◌+◌, ◌≤◌, ◌<◌, Bool, true, false, List, [], ◌∷◌, ◌++◌, length, get_or, refl, sym, ap, ◌∙◌, reverse, subst, arith, inl, inr}
 use Rattle.std.specs.Prelude.{All, AllPairs}
-use Rattle.std.proofs.lemmas.List.{length_push, get_or_push, get_or_append_left, reverse-append}
+use Rattle.std.proofs.lemmas.List.{length_push, get_or_append_left, reverse-append}
 use Rattle.cut_residual.specs.declared.arc.Arc.{Arc}
 use Rattle.cut_residual.specs.declared.arc.ResidualArc.{ResidualArc}
 use Rattle.cut_residual.specs.Flows.{IsBalanced}
@@ -16,11 +16,6 @@ pub All-front : {X : Type 0} (P : X → Type 0) (xs : List X) (x : X) → All P 
 All-front P xs x all k d h =
     let len = length_push xs x in
     subst P (get_or_append_left xs (x ∷ []) d k h) (all k d (omega arith))
-
-pub All-last : {X : Type 0} (P : X → Type 0) (xs : List X) (x : X) → All P (xs ++ x ∷ []) → P x
-All-last P xs x all =
-    let len = length_push xs x in
-    subst P (get_or_push xs x x (length xs) refl) (all (length xs) x (omega arith))
 
 head_of_arc : (arcs : List Arc) (k : ℕ) (forward : Bool) → head arcs (opposite (record { arc = k; forward = forward })) ≡ tail arcs (record { arc = k; forward = forward })
 head_of_arc arcs k true = refl

@@ -172,6 +172,7 @@ fn by_two<R: Threads + Wait + Sync, G: Gate + Sync>(
     by_two_in::<Brand, R, G>(rt, alloc, Blank::new(PARTS), &net, gate)
 }
 
+// Where memory for the history is refused to a worker, the other waits at the gate in vain, and this test or the next fails.
 #[test]
 fn two_workers_take_turns(rt: HostRuntime) -> Result<(), Fail> {
     let gate = Holds::new(&rt);
@@ -282,6 +283,71 @@ fn each_worker_ends_marked(rt: HostRuntime) -> Result<(), Fail> {
         left.first.saturating_add(left.second),
         left.events.len() as u64
     );
+    assert!(rt; left.quiet);
+    Ok(())
+}
+
+/// What one worker left alone, and what was there once the rest was settled.
+#[derive(Drop)]
+struct LeftAlone {
+    count: u64,
+    marked: bool,
+    events: usize,
+    out: u32,
+    settled: usize,
+    quiet: bool,
+}
+
+fn alone_in<L: NetworkLedger, R: Wait>(
+    rt: &R,
+    alloc: Global,
+    blank: Blank,
+    net: &Net,
+) -> Result<LeftAlone, Fail>
+    requires ends { AreEnds net.now 0 1 }
+    requires net { network_between net.now 0 1 ≡ L.net }
+    requires name { blank.name ≡ L.name }
+    requires parts { (blank.parts ≡ 65) × (L.parts ≡ 65) }
+{
+    let mut preflow = Preflow::<L>::start(alloc, blank, net, 0, 1)?;
+    let Some(share) = preflow.share() else {
+        return Err(Fail::from("a share"));
+    };
+    let locked: Locked<L> = Mutex::new(preflow);
+    let share = worker(rt, &locked, 0, share, &Open);
+    let mut preflow = locked.into_inner();
+    let (count, marked) = (share.count(), share.is_marked());
+    let events = preflow.history().len();
+    let out = preflow.rejoin(share);
+    preflow.settle(4)?;
+    Ok(LeftAlone {
+        count,
+        marked,
+        events,
+        out,
+        settled: preflow.history().len(),
+        quiet: preflow.is_quiet(),
+    })
+}
+
+/// One worker, from the opening between the first two modules of the line of three imports.
+fn alone<R: Wait>(rt: &R, alloc: Global) -> Result<LeftAlone, Fail> {
+    let net = Net::read(alloc, LINE)?;
+    if net.nodes() < 2 {
+        return Err(Fail::from("two modules"));
+    }
+    alone_in::<Brand, R>(rt, alloc, Blank::new(PARTS), &net)
+}
+
+// Where memory for the history is refused, the worker ends at its first step, which isn't counted, and `settle` takes all four.
+#[test]
+fn one_worker_takes_all_steps_or_none(rt: HostRuntime) -> Result<(), Fail> {
+    let left = alone(&rt, rt.alloc())?;
+    assert!(rt; left.marked);
+    assert!(rt; left.events == 0 || left.events == 4);
+    assert_eq!(rt; left.count, left.events as u64);
+    assert_eq!(rt; left.out, 0);
+    assert_eq!(rt; left.settled, 4);
     assert!(rt; left.quiet);
     Ok(())
 }

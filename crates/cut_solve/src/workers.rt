@@ -1,4 +1,4 @@
-//! A worker looks under the lock, lets it go, and tries under the lock again.
+//! A worker holds the lock once a turn: it tries the event of the turn before and looks for the next.
 ghost use Rattle.std.specs.Prelude.{◌≡◌, ◌≤◌, ◌↔◌, true, false, IsNone, IfSome};
 ghost use Rattle.cut_preflow.specs.declared.event.Event.{Event as EventValue};
 ghost use Rattle.cut_preflow.specs.Kept.{IsQuiet};
