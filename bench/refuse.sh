@@ -12,6 +12,7 @@ gcc -shared -fPIC -O1 -o "$work/refuse.so" "$here/refuse.c" -ldl
 g++ -O2 -o "$work/generate" "$here/generate.cpp"
 cd "$work"
 cp "$here"/../examples/*.net "$here"/../examples/*.cut .
+cp -r "$here"/../examples/editor .
 printf 'import A B 1\nimport B C 1\nimport C A 1\n' > cycle.net
 printf 'import A B 1\nimport A B 1\n' > twice.net
 printf 'import A B 18446744073709551615\nimport B C 1\n' > overflow.net
@@ -81,7 +82,11 @@ for words in "six.net A A" "six.net A Absent" "six.net Absent A" "cycle.net A B"
 done
 trial 3 cut-net absent.net A B
 trial 2 cut-net six.net A
+for workers in 0 65; do
+  trial 2 cut-net --workers $workers six.net A B
+done
 trial 0 cut four A D
+trial 0 cut editor Edit Net
 trial 0 check four four.cut
 for words in "four A Z" "wrong A D" "twice A D"; do
   trial 1 cut $words

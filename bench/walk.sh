@@ -8,14 +8,16 @@ work=$(mktemp -d)
 trap 'chmod -R u+rwx "$work"; rm -rf "$work"' EXIT
 cd "$work"
 failed=0 passed=0
+program=("$oscip") no_flow=
 
-# row STATUS OUTPUT ERROR WORDS..: both texts as printf prints them, each with its last LF.
+# row STATUS OUTPUT ERROR WORDS..: both texts as printf prints them, each with its last LF. Where no_flow is set, flow lines are left out.
 row() {
   local status=$1 got=0
   printf "$2" > wanted_output
   printf "$3" > wanted_error
   shift 3
-  timeout 20 "$oscip" "$@" > output 2> error < /dev/null || got=$?
+  timeout 20 "${program[@]}" "$@" > output 2> error < /dev/null || got=$?
+  [ -z "$no_flow" ] || sed -i '/^flow /d' output
   if [ $got = "$status" ] && cmp -s output wanted_output && cmp -s error wanted_error; then
     passed=$((passed + 1))
   else
@@ -182,27 +184,42 @@ row 1 '' 'oscip: B.Mod:0:0: TooLong\n' cut long A C
 # An empty folder has no modules.
 row 1 '' 'oscip: NoSuchModule A\n' cut nested/empty A B
 
-# What may not be read. Root can read all, so that these rows are left out there.
+# The example of the README: of its flow there are several.
+editor=$here/../examples/editor
+no_flow=1 row 0 'cut Edit Net\nweight 5\nremove Dictionary Sync 1\nremove Edit Sync 1\nremove Log Mail 1\nremove Printer Spooler 2\nend\n' '' cut "$editor" Edit Net
+"$oscip" cut "$editor" Edit Net > edit.cut
+row 0 'yes\n' '' check "$editor" edit.cut
+
+# A number of workers that isn't 1 to 64.
+for number in 0 65; do
+  error="error: invalid value '$number' for '--workers <N>': $number is not in 1..=64\n\nFor more information, try '--help'.\n"
+  row 2 '' "$error" cut --workers $number nested A C
+  row 2 '' "$error" cut-net --workers $number nested A C
+done
+for number in 1 64; do row 0 "$chain" '' cut --workers $number nested A C; done
+
+# What may not be read. Root can read all, so root runs these rows as another user, with a copy of the program.
 if [ "$(id -u)" = 0 ]; then
-  echo "left out as root: a file and a folder that may not be read"
-else
-  file barred/A.Mod A B
-  file barred/deep/B.Mod B C
-  chmod a-r barred/deep/B.Mod
-  row 3 '' 'oscip: cannot read barred/deep/B.Mod\n' cut barred A B
-  chmod a-r barred/deep
-  row 3 '' 'oscip: cannot read barred/deep\n' cut barred A B
-  chmod a+r,a-x barred/deep
-  row 3 '' 'oscip: cannot read barred/deep/B.Mod\n' cut barred A B
-  chmod a+x barred/deep
-  : > barred/deep/notes
-  chmod a-x barred/deep
-  row 3 '' 'oscip: cannot read barred/deep/notes\n' cut barred A B
-  chmod a+rx barred/deep
-  chmod a+r barred/deep/B.Mod
-  chmod a-r barred/deep/notes
-  row 0 "$chain" '' cut barred A C
+  chmod a+rx .
+  cp "$oscip" copy
+  program=(setpriv --reuid=65534 --regid=65534 --clear-groups ./copy)
 fi
+file barred/A.Mod A B
+file barred/deep/B.Mod B C
+chmod a-r barred/deep/B.Mod
+row 3 '' 'oscip: cannot read barred/deep/B.Mod\n' cut barred A B
+chmod a-r barred/deep
+row 3 '' 'oscip: cannot read barred/deep\n' cut barred A B
+chmod a+r,a-x barred/deep
+row 3 '' 'oscip: cannot read barred/deep/B.Mod\n' cut barred A B
+chmod a+x barred/deep
+: > barred/deep/notes
+chmod a-x barred/deep
+row 3 '' 'oscip: cannot read barred/deep/notes\n' cut barred A B
+chmod a+rx barred/deep
+chmod a+r barred/deep/B.Mod
+chmod a-r barred/deep/notes
+row 0 "$chain" '' cut barred A C
 
 echo "$passed passed, $failed failed"
 [ $failed = 0 ]
