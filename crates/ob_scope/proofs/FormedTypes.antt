@@ -98,7 +98,7 @@ module _ (bytes : List ℕ) (ts : List Token) where
   module _ (owner : ℕ) where
     -- an outline inside a type gives this form by the number of its first token, where no dot is behind it
     record FormsInside (o : Out) (f : ℕ → List Part) : Type 0 where
-      told : Told o
+      told : Told false o
       gives : (k : ℕ) (a : List Item) (hs : List Holder) → Owns ts owner hs → owner < k → Fits ts k o → is_kind ts (k + width o) kinds.Dot ≡ false → given bytes ts owner k (in_type k a hs) (items_of o) ≡ f k
 
     -- the same of a type

@@ -31,7 +31,7 @@ use Rattle.ob_scope.proofs.FormsGiven.{AreOthers, bare_gives_none, first_passes,
 use Rattle.ob_scope.proofs.FormTokens.{Fits, fits-first, fits-parts, fits-second, module_fits, width-both, width-construct}
 use Rattle.ob_scope.proofs.FormedTypes.{type_gives}
 use Rattle.ob_tree.proofs.Walks.{items-append, items-construct}
-use Rattle.ob_scope.proofs.Telling.{Told, told-both, told-construct}
+use Rattle.ob_scope.proofs.Telling.{Told, told-both, told-declaring}
 use Rattle.ob_scope.proofs.TellingTypes.{type_whole}
 use Rattle.ob_scope.proofs.TypeParts.{Owns, given-outs}
 
@@ -44,14 +44,14 @@ pub record IsDeclaring (whole names : Out) (t : TypeForm) : Type 0 where
   pub told : is_told construct_of ≡ true
   pub plain : is_construct construct_of constructs.TypeForm ≡ false
   pub is : whole ≡ construct construct_of (names ++ type_outline t)
-  pub bare : Bare names
+  pub bare : Bare true names
   pub some : 0 < width names
 
-identdef_bare : (i : Identdef) → Bare (identdef_outline i)
+identdef_bare : (i : Identdef) → Bare true (identdef_outline i)
 unfolding identdef_outline
 identdef_bare i = bare-both (bare-identifier Declares i.name) (bare-so i.starred (bare-word kinds.Star))
 
-names_bare : (v : VarDecl) → Bare (names_outline v)
+names_bare : (v : VarDecl) → Bare true (names_outline v)
 names_bare v = bare-both (bare-listed kinds.Comma identdef_outline (out-VarDecl v).names identdef_bare) (bare-word kinds.Colon)
 
 some_tokens : (a : Out) (w : Kind) → 0 < width (a ++ word w)
@@ -93,8 +93,8 @@ declaring whole names t (of_fields v) = record {
   some = some_tokens (listed kinds.Comma identdef_outline (out-VarDecl v).names) kinds.Colon;
 }
 
-declaring_told : {whole names : Out} {t : TypeForm} → IsDeclaring whole names t → Told whole
-declaring_told {whole} {names} {t} d = subst Told (sym d.is) (told-construct d.construct_of (told-both (bare-whole d.bare) (type_whole t)))
+declaring_told : {whole names : Out} {t : TypeForm} → IsDeclaring whole names t → Told false whole
+declaring_told {whole} {names} {t} d = subst (Told false) (sym d.is) (told-declaring d.construct_of d.sort d.declaring d.told (told-both (bare-whole d.bare) (type_whole t)))
 
 declaring_width : {whole names : Out} {t : TypeForm} → IsDeclaring whole names t → width whole ≡ width names + width (type_outline t)
 declaring_width {whole} {names} {t} d = ap (λ (o : Out). width o) d.is ∙ width-construct d.construct_of (names ++ type_outline t) ∙ width-both names (type_outline t)

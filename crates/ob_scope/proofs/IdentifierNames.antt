@@ -78,12 +78,12 @@ token_step k hs i l (x ∷ ks) ls ss s e h first others =
     ]
 
 -- where a construct begins or ends that is told
-pub told : {P : Type 0} (b : Bool) (k : ℕ) (hs : List Holder) (c : Construct) (is : List Item) (s : Standing) →
+told : {P : Type 0} (b : Bool) (k : ℕ) (hs : List Holder) (c : Construct) (is : List Item) (s : Standing) →
     ((gs : List Holder) → Contains (standings_from k gs is) s → P) → Contains (standings_from k hs (cond b (items.Begins c ∷ is) is)) s → P
 told true k hs c is s f h = f (holder k c is ∷ hs) h
 told false k hs c is s f h = f hs h
 
-pub ended : {P : Type 0} (b : Bool) (k : ℕ) (hs : List Holder) (c : Construct) (is : List Item) (s : Standing) →
+ended : {P : Type 0} (b : Bool) (k : ℕ) (hs : List Holder) (c : Construct) (is : List Item) (s : Standing) →
     ((gs : List Holder) → Contains (standings_from k gs is) s → P) → Contains (standings_from k hs (cond b (items.Ends c ∷ is) is)) s → P
 ended true k hs c is s f h = f (drop 1 hs) h
 ended false k hs c is s f h = f hs h
@@ -199,12 +199,12 @@ second_ident (x ∷ []) l n ls e = absurd cc
 second_ident (x ∷ y ∷ ks) l n ls e = let second : leaf_of 1 y ≡ leafs.Name n = cc in ap Some (ident_of 1 n y second)
 
 -- what is declared is made of
-pub record IsMemberAt (s : Standing) (d : Declared) : Type 0 where
-  pub number : ℕ
-  pub declared : s.item ≡ items.Declared number
-  pub same : d.number ≡ s.number
+record IsMemberAt (s : Standing) (d : Declared) : Type 0 where
+  number : ℕ
+  declared : s.item ≡ items.Declared number
+  same : d.number ≡ s.number
 
-pub member_of : (ts : List Token) (k : ℕ) (item : Item) (hs : List Holder) (d : Declared) → member_at ts (record { number = k; item = item; within = hs }) ≡ Some d → IsMemberAt (record { number = k; item = item; within = hs }) d
+member_of : (ts : List Token) (k : ℕ) (item : Item) (hs : List Holder) (d : Declared) → member_at ts (record { number = k; item = item; within = hs }) ≡ Some d → IsMemberAt (record { number = k; item = item; within = hs }) d
 member_of ts k (items.Declared n) hs d e = go (declarer hs) refl
   where
     go : (o : Option Declarer) → declarer hs ≡ o → IsMemberAt (record { number = k; item = items.Declared n; within = hs }) d

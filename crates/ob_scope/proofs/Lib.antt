@@ -3,6 +3,7 @@ pub mod Ascending
 pub mod Meanings
 pub mod Weighing
 pub mod Holding
+pub mod ListedOutlines
 pub mod Telling
 pub mod TellingExpressions
 pub mod TellingModules

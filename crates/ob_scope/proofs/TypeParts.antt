@@ -33,7 +33,7 @@ use Rattle.ob_scope.proofs.Bare.{bare-whole}
 use Rattle.ob_scope.proofs.FormsGiven.{apart, bare_gives_none, given, given-both, given-held, other_gives_none, own_part}
 use Rattle.ob_scope.proofs.FormTokens.{Fits, fits-first, fits-second}
 use Rattle.ob_tree.proofs.Walks.{items-append, items-construct}
-use Rattle.ob_scope.proofs.Telling.{Told, told-none, told-both, told-construct, told-word, told-identifier}
+use Rattle.ob_scope.proofs.Telling.{Told, told-none, told-both, told-declaring, told-word, told-identifier}
 use Rattle.ob_scope.proofs.TellingExpressions.{expr_parts, expr_whole}
 use Rattle.ob_scope.proofs.TellingTypes.{section_parts, section_shown, var_whole}
 
@@ -78,13 +78,13 @@ module _ (bytes : List ℕ) (ts : List Token) (owner : ℕ) where
       ∙ ap (λ (b : Bool). cons_option (cond b (cond (j == first) (Some (Named (token_at ts j).start (type_name bytes ts j))) None) None) []) o.same
 
   -- one outline and another
-  pub given-outs : (a b : Out) (k : ℕ) (hs : List Holder) → Told a → given bytes ts owner k hs (items_of (a ++ b)) ≡ given bytes ts owner k hs (items_of a) ++ given bytes ts owner (k + width a) hs (items_of b)
+  pub given-outs : {loose : Bool} (a b : Out) (k : ℕ) (hs : List Holder) → Told loose a → given bytes ts owner k hs (items_of (a ++ b)) ≡ given bytes ts owner k hs (items_of a) ++ given bytes ts owner (k + width a) hs (items_of b)
   given-outs a b k hs w = ap (λ (is : List Item). given bytes ts owner k hs is) (items-append a b) ∙ given-both bytes ts owner k hs (items_of a) (items_of b) w.whole
 
   -- ---- what gives nothing behind the first token of a type
 
   pub record Dull (o : Out) : Type 0 where
-    pub told : Told o
+    pub told : Told false o
     pub nothing : (first j : ℕ) (a : List Item) (hs : List Holder) → Owns ts owner hs → owner < j → first < j → Fits ts j o → given bytes ts owner j (in_type first a hs) (items_of o) ≡ []
 
   pub dull-none : Dull []
@@ -123,9 +123,9 @@ module _ (bytes : List ℕ) (ts : List Token) (owner : ℕ) where
   dull-each f (x ∷ xs) w = dull-both (w x) (dull-each f xs w)
 
   -- a construct that declares
-  pub dull-declaring : (c : Construct) (s : Sort) → declares c ≡ Some s → is_told c ≡ true → {parts : Out} → Told parts → Dull (construct c parts)
+  pub dull-declaring : (c : Construct) (s : Sort) → declares c ≡ Some s → is_told c ≡ true → {parts : Out} → Told true parts → Dull (construct c parts)
   dull-declaring c s e t {parts} w = record {
-    told = told-construct c w;
+    told = told-declaring c s e t w;
     nothing = λ first j a hs o l m f.
         let told : items_of (construct c parts) ≡ items.Begins c ∷ (items_of parts ++ items.Ends c ∷ []) =
         items-construct c parts ∙ ap (λ (b : Bool). cond b (items.Begins c ∷ (items_of parts ++ items.Ends c ∷ [])) (items_of parts)) t in

@@ -23,7 +23,7 @@ pub enum TypePart {
 pub enum TypeName {
     /// A name alone, of a type of the module or a predeclared one.
     Alone(String),
-    /// A name of another module: the alias, and the name behind its dot.
+    /// A name behind a dot: the name before the dot, an alias where the type is another module's, and the name behind it.
     Qualified(String, String),
 }
 

@@ -106,12 +106,11 @@ pub fn identifiers_are_names()
     ensures { (bytes : List ℕ) (ts : List Token) (m : Module) → Spells bytes ts → Derives (map (λ t. t.kind) ts) m → AreNames (text_at bytes ts) (listing_of ts m) }
 {}
 
-/// Of a tree that derives the tokens: what is listed as uses is the identifiers that the tree looks up, in order; and what is
-/// listed as declared is among those that the tree declares.
+/// Of a tree that derives the tokens: what is listed as declared and as uses are the identifiers that the tree declares and looks
+/// up, each in order.
 pub fn listed_numbers()
     ensures uses { (ts : List Token) (m : Module) → Derives (map (λ t. t.kind) ts) m → map (λ u. u.number) (listing_of ts m).uses ≡ used_in (module_outline m) }
-    ensures members { (ts : List Token) (m : Module) (d : Declared) → Derives (map (λ t. t.kind) ts) m →
-        Contains (listing_of ts m).members d → Contains (declared_in (module_outline m)) d.number }
+    ensures members { (ts : List Token) (m : Module) → Derives (map (λ t. t.kind) ts) m → map (λ d. d.number) (listing_of ts m).members ≡ declared_in (module_outline m) }
 {}
 
 /// What is seen of a module is what its block, and the records that stand there, declare, each with the first token of its
