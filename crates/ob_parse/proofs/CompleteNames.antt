@@ -1,5 +1,5 @@
 -- Names are read as they are spelled, whatever follows that can't go on with them.
-use Rattle.std.proofs.Common.{◌≡◌, ℕ, Bool, true, false, List, [], ◌∷◌, ◌++◌, Option, Some, None, Ok, refl}
+use Rattle.std.proofs.Common.{◌≡◌, ℕ, Bool, true, false, List, [], ◌∷◌, ◌++◌, Option, Some, None, refl}
 use Rattle.ob_scan.specs.declared.kind.Kind.TheVariants as kinds
 use Rattle.ob_tree.specs.declared.token.Leaf.{Leaf}
 use Rattle.ob_tree.specs.declared.token.Leaf.TheVariants as leafs
@@ -8,8 +8,8 @@ use Rattle.ob_tree.specs.declared.name.Identdef.{Identdef}
 use Rattle.ob_tree.specs.Marks.{Out, word, declared, used, named, if_there, if_so, tokens_of}
 use Rattle.ob_tree.specs.Names.{qualident_outline, identdef_outline}
 use Rattle.ob_parse.specs.Forms.{accept_at, name_at, nothing, optional}
-use Rattle.ob_parse.specs.ReadNames.{qualident_after, qualident_at, identdef_at}
-use Rattle.ob_parse.proofs.ReadsBack.{Reads, reads_seq, reads_after, reads_nothing, reads_something, reads_name, accepts_word}
+use Rattle.ob_parse.specs.ReadNames.{qualident_at, identdef_at}
+use Rattle.ob_parse.proofs.ReadsBack.{Reads, reads_seq, reads_nothing, reads_something, reads_name, accepts_word}
 
 -- the part of a qualified name behind its first identifier
 abbrev pub member_shown : Option ℕ → Out
@@ -27,11 +27,6 @@ qualident_again q rest end = reads_seq (name_at used) (optional (accept_at kinds
 pub qualident_spelled : (q : Qualident) (rest : List Leaf) → tokens_of (qualident_outline q) ++ rest ≡ leafs.Name q.head ∷ (tokens_of (member_shown q.member) ++ rest)
 unfolding qualident_outline
 qualident_spelled q rest = refl
-
-pub qualident_after_again : (q : Qualident) (rest : List Leaf) → accept_at kinds.Dot rest ≡ None →
-    qualident_after q.head (tokens_of (member_shown q.member) ++ rest) ≡ Ok (qualident_outline q, rest)
-unfolding qualident_after qualident_outline
-qualident_after_again q rest end = reads_after (used q.head) (optional (accept_at kinds.Dot) (name_at named)) (member_shown q.member) rest (member_again q.member rest end)
 
 star_again : (b : Bool) (rest : List Leaf) → accept_at kinds.Star rest ≡ None → Reads (optional (accept_at kinds.Star) nothing) (if_so b (word kinds.Star)) rest
 star_again false rest end = reads_nothing (accept_at kinds.Star) nothing rest end

@@ -51,9 +51,6 @@ identdef_opens i x = record { number = i.name; tail = _; is = refl }
 qualident_opens : (q : Qualident) (x : List Leaf) → OpensName (tokens_of (qualident_outline q) ++ x)
 qualident_opens q x = record { number = q.head; tail = _; is = qualident_spelled q x }
 
-declared_opens : (n : ℕ) (x : List Leaf) → OpensName (tokens_of (declared n) ++ x)
-declared_opens n x = record { number = n; tail = x; is = refl }
-
 -- ---- parameters
 
 times_read : (n : ℕ) (rest : List Leaf) → accept_at kinds.Array rest ≡ None →

@@ -1,11 +1,10 @@
 -- A fault in a loop, and in what is read one after the other.
 use Rattle.std.proofs.Common.{◌≡◌, List, Some, Ok, refl, sym, ◌∙◌}
 use Rattle.ob_tree.specs.declared.token.Leaf.{Leaf}
-use Rattle.ob_tree.specs.declared.construct.Construct.{Construct}
 use Rattle.ob_tree.specs.Marks.{Out}
 use Rattle.ob_parse.specs.declared.stop.Stop.{Stop}
 use Rattle.ob_parse.specs.declared.stop.Stop.TheVariants as stops
-use Rattle.ob_parse.specs.Forms.{Read, Reader, Start, seq, node, many}
+use Rattle.ob_parse.specs.Forms.{Read, Reader, Start, seq, many}
 use Rattle.ob_parse.specs.Gives.{Fails}
 use Rattle.ob_parse.proofs.Loops.{Advances, with_front, many_step}
 
@@ -25,8 +24,3 @@ pub seq_second_fails : (x : Stop) (r s : Reader) (ls : List Leaf) (a : Out × Li
 seq_second_fails stops.Memory r s ls a e f = tt
 seq_second_fails (stops.Wrong at) r s ls a e f = rw (e, f) refl
 seq_second_fails (stops.Deep at) r s ls a e f = rw (e, f) refl
-
-pub node_fails : (x : Stop) (c : Construct) (r : Reader) (ls : List Leaf) → Fails x (r ls) → Fails x (node c r ls)
-node_fails stops.Memory c r ls f = tt
-node_fails (stops.Wrong at) c r ls f = rw f refl
-node_fails (stops.Deep at) c r ls f = rw f refl

@@ -1,22 +1,19 @@
 -- Files that are read one after another.
 use Rattle.std.proofs.Common.{◌≡◌, ℕ, zero, suc, ◌+◌, ◌<◌, ◌⊎◌, List, [], ◌∷◌, ◌++◌, length, get_or, map, take, drop, Some, refl, sym, ap, ◌∙◌, subst, inl, inr, add-one, length-append, arith}
-use Rattle.std.specs.Prelude.{IfSome, String, slice_get, option_map}
+use Rattle.std.specs.Prelude.{String, slice_get, option_map}
 use Rattle.std.specs.String.{string_bytes}
 use Rattle.std.proofs.Math.Seq.{drop-cons, take-length, take-suc}
 use Rattle.std.proofs.lemmas.List.{length-map, map-append, take-append-drop}
 use Rattle.std.proofs.lemmas.Option.{get_or_from_slice_get, slice_get-get_or, slice_get-map, slice_get_within}
-use Rattle.ob_imports.specs.declared.fault.GraphFault.{GraphFault}
-use Rattle.ob_imports.specs.declared.fault.GraphFault.TheVariants as graphs
 use Rattle.ob_imports.specs.declared.parsed.Parsed.{Parsed}
 use Rattle.ob_imports.specs.Files.{File, file_of as parsed_file, files_of as parsed_files}
 use Rattle.ob_imports.specs.Names.{texts}
-use Rattle.ob_imports.specs.Outcomes.{fault_said, IsGraphOutcome}
 use Rattle.ob_scope.specs.declared.module_scopes.Alias.{Alias}
 use Rattle.ob_scope.specs.Kept.{alias_of}
 use Rattle.ob_scope.specs.Listed.{ImportItem}
 use Rattle.ob_scope.specs.Scoped.{AliasUses, ModuleScopes}
 use Rattle.oscip.specs.Trees.{file_of, files_of, listing, names, AreAccepted, IsAccepted, IsFileFault, IsTreeFault, ModuleFile}
-use Rattle.oscip.specs.TreeReading.{of_graph, AreRead, AreScopesOf}
+use Rattle.oscip.specs.TreeReading.{AreRead, AreScopesOf}
 use Rattle.oscip.specs.declared.source.Source.{Source}
 use Rattle.oscip.specs.declared.tree.TreeFault.{TreeFault}
 use Rattle.oscip.specs.declared.tree.TreeFault.TheVariants as faults
@@ -113,13 +110,6 @@ first_fault sources i source files fault l is accepted = go fault
     go (faults.Scope path at fault) h = record { before = take i sources; source = source; after = drop (suc i) sources; split = split; files_before = files; accepted_before = accepted; has_fault = h }
     go (faults.Graph fault) h = absurd h
     go faults.Memory h = tt
-
--- the imports that are refused
-pub graph_fault : (sources : List Source) (files : List ModuleFile) → AreAccepted sources files → (fault : GraphFault) → IfSome (fault_said fault) (IsGraphOutcome (files_of files)) → IsTreeFault sources (of_graph fault)
-graph_fault sources files accepted (graphs.TwoModules name first second) h = record { files = files; accepted = accepted; outcome = _; said = refl; is_outcome = h }
-graph_fault sources files accepted (graphs.Cycle names) h = record { files = files; accepted = accepted; outcome = _; said = refl; is_outcome = h }
-graph_fault sources files accepted graphs.TooMany h = record { files = files; accepted = accepted; outcome = _; said = refl; is_outcome = h }
-graph_fault sources files accepted graphs.Memory h = tt
 
 -- ---- what the graph is made of
 

@@ -11,7 +11,7 @@ use Rattle.ob_scan.specs.Spelling.{AreInText, Spells}
 use Rattle.ob_scan.specs.declared.fault.ScanFault.{ScanFault}
 use Rattle.ob_scan.specs.declared.fault.ScanFault.TheVariants as scans
 use Rattle.ob_scan.specs.declared.token.Token.{Token}
-use Rattle.ob_parse.specs.Parsed.{IsPlace}
+use Rattle.ob_parse.proofs.OneTree.{place_in_text}
 use Rattle.ob_parse.specs.declared.fault.ParseFault.{ParseFault}
 use Rattle.ob_parse.specs.declared.fault.ParseFault.TheVariants as parses
 use Rattle.ob_scope.specs.Standings.{no_token, token_at}
@@ -58,10 +58,6 @@ start_in_text bytes ts k at t stand there e =
     let is : token_at ts k ≡ t = get_or_from_slice_get ts k t no_token there in
     let same : (token_at ts k).start ≡ t.start = rw is refl in
     omega arith
-
-place_in_text : (bytes : List ℕ) (ts : List Token) (at : ℕ) → AreInText bytes ts → IsPlace bytes ts at → at ≤ length bytes
-place_in_text bytes ts at stand (inl s) = start_in_text bytes ts s.number at s.token stand s.there s.begins
-place_in_text bytes ts at stand (inr e) = omega arith
 
 pub parse_in_text : StandIn → (bytes : List ℕ) (fault : ParseFault) → HasParseFault fault bytes → parse_offset fault ≤ length bytes
 parse_in_text law bytes (parses.Syntax at) (ts, reads, h) = place_in_text bytes ts at (law bytes ts reads.1) h.0
