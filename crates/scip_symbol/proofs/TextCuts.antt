@@ -1,0 +1,89 @@
+-- Cuts of a text, as std's methods make them, are the functions on lists.
+use Rattle.std.proofs.Common.{◌≡◌, ◌≢◌, ℕ, suc, ◌+◌, ◌<◌, Bool, cond, eqb, eq-eqb, ltb, List, [], ◌∷◌, ◌++◌, length, take, drop, Option, Some, None, refl, sym, ap, ◌∙◌, arith, inl, inr, Bor}
+use Rattle.std.specs.Prelude.{option_map, MatchOption}
+use Rattle.std.specs.List.{position, position_or_len, before_first, after_first}
+use Rattle.std.specs.Str.Pattern.{LacksTextAt, StripsPrefix, FindsTextPrefix}
+use Rattle.std.proofs.lemmas.Bool.{cases_lt, lt-ltb, le-ltb, cases_Bool, cases_eq, ne_eqb}
+use Rattle.std.proofs.lemmas.Option.{same_Some, none-some}
+use Rattle.scip_symbol.specs.Reading.{after_byte, after_bytes, cut_at, with_first}
+
+pub after_byte-same : (mark : ℕ) (rest : List ℕ) → after_byte mark (mark ∷ rest) ≡ Some rest
+after_byte-same mark rest = rw (eq-eqb mark mark refl) refl
+
+pub after_byte-other : (mark b : ℕ) (rest : List ℕ) → b ≢ mark → after_byte mark (b ∷ rest) ≡ None
+after_byte-other mark b rest ne = rw (ne_eqb b mark ne) refl
+
+none_after : (mark : ℕ) (text : List ℕ) → ((rest : List ℕ) → text ≢ mark ∷ rest) → None ≡ after_byte mark text
+none_after mark [] h = refl
+none_after mark (b ∷ rest) h = sym (after_byte-other mark b rest (λ e. h rest (ap (λ (x : ℕ). x ∷ rest) e)))
+
+pub after_from : (mark : ℕ) (text : List ℕ) (r : Option (Bor (List ℕ))) → MatchOption r ((rest : List ℕ) → text ≢ mark ∷ rest) (λ x. text ≡ mark ∷ x.now) → option_map (λ (x : Bor (List ℕ)). x.now) r ≡ after_byte mark text
+after_from mark text None h = none_after mark text h
+after_from mark text (Some x) h = sym (ap (after_byte mark) h ∙ after_byte-same mark x.now)
+
+pub after_bytes-again : (word rest : List ℕ) → after_bytes word (word ++ rest) ≡ Some rest
+after_bytes-again [] rest = refl
+after_bytes-again (w ∷ word) rest = rw (eq-eqb w w refl) (after_bytes-again word rest)
+
+pub none_after_word : (word text : List ℕ) → ((rest : List ℕ) → text ≢ word ++ rest) → None ≡ after_bytes word text
+none_after_word [] text h = absurd (h text refl)
+none_after_word (w ∷ word) [] h = refl
+none_after_word (w ∷ word) (b ∷ text) h =
+    elim (cases_eq b w) [
+      | inl e ↦ rw (eq-eqb b w e) (none_after_word word text (λ rest s. h rest (ap (λ (x : ℕ). x ∷ text) e ∙ ap (λ (xs : List ℕ). w ∷ xs) s)))
+      | inr ne ↦ rw (ne_eqb b w ne) refl
+    ]
+
+pub after_bytes_some : (word text rest : List ℕ) → after_bytes word text ≡ Some rest → text ≡ word ++ rest
+after_bytes_some [] text rest e = same_Some _ _ e
+after_bytes_some (w ∷ word) [] rest e = absurd cc
+after_bytes_some (w ∷ word) (b ∷ text) rest e =
+    elim (cases_eq b w) [
+      | inl s ↦ ap (λ (x : ℕ). x ∷ text) s ∙ ap (λ (xs : List ℕ). w ∷ xs) (after_bytes_some word text rest (rw (eq-eqb b w s) at e))
+      | inr ne ↦ absurd (let y = rw (ne_eqb b w ne) at e in cc)
+    ]
+
+-- where nothing follows a word, it doesn't stand in front
+pub not_word : (word text : List ℕ) → after_bytes word text ≡ None → (rest : List ℕ) → text ≢ word ++ rest
+not_word word text e rest s = none-some rest (sym e ∙ ap (after_bytes word) s ∙ after_bytes-again word rest)
+
+-- ---- at the first of several
+
+abbrev around : List ℕ → Option ℕ → Option (List ℕ × List ℕ)
+around bytes place = option_map (λ i. (take i bytes, drop (i + 1) bytes)) place
+
+abbrev below : ℕ → ℕ → Option ℕ
+below n len = cond (ltb n len) (Some n) None
+
+step : (b n : ℕ) (bytes : List ℕ) → around (b ∷ bytes) (below (1 + n) (suc (length bytes))) ≡ option_map (with_first b) (around bytes (below n (length bytes)))
+step b n bytes =
+    let e : 1 + n ≡ suc n = omega arith in
+    let f : suc n + 1 ≡ suc (n + 1) = omega arith in
+    elim (cases_lt n (length bytes)) [
+      | inl lt ↦ rw (e, lt-ltb (suc n) (suc (length bytes)) (omega arith), lt-ltb _ _ lt, f) refl
+      | inr le ↦ rw (e, le-ltb (suc n) (suc (length bytes)) (omega arith), le-ltb _ _ le) refl
+    ]
+
+by_place : (mark : ℕ) (bytes : List ℕ) → around bytes (position (λ b. eqb b mark) bytes) ≡ cut_at mark bytes
+unfolding cut_at
+by_place mark [] = refl
+by_place mark (b ∷ bytes) =
+    elim (cases_Bool (eqb b mark)) [
+      | inl stops ↦ rw (stops, lt-ltb 0 (suc (length bytes)) (omega arith)) refl
+      | inr goes ↦ rw goes (step b (position_or_len (λ x. eqb x mark) bytes) bytes ∙ ap (option_map (with_first b)) (by_place mark bytes))
+    ]
+
+pub cut_from : (mark : ℕ) (bytes : List ℕ) (r : Option (Bor (List ℕ) × Bor (List ℕ)))
+    → MatchOption r (position_or_len (λ b. eqb b mark) bytes ≡ length bytes) (λ x. (position_or_len (λ b. eqb b mark) bytes < length bytes) × (x.0.now ≡ before_first (λ b. eqb b mark) bytes) × (x.1.now ≡ after_first (λ b. eqb b mark) bytes))
+    → option_map (λ (x : Bor (List ℕ) × Bor (List ℕ)). (x.0.now, x.1.now)) r ≡ cut_at mark bytes
+cut_from mark bytes None h =
+    let n : ltb (position_or_len (λ b. eqb b mark) bytes) (length bytes) ≡ Bool.false = le-ltb _ _ (omega arith) in
+    (rw n at (by_place mark bytes))
+cut_from mark bytes (Some x) h =
+    let n : ltb (position_or_len (λ b. eqb b mark) bytes) (length bytes) ≡ Bool.true = lt-ltb _ _ h.0 in
+    rw (h.1, h.2) (rw n at (by_place mark bytes))
+
+pub word_stripped : (word text : List ℕ) (r : Option (Bor (List ℕ))) → MatchOption r (LacksTextAt word text 0) (λ x. StripsPrefix (FindsTextPrefix word) text x.now)
+    → option_map (λ (x : Bor (List ℕ)). x.now) r ≡ after_bytes word text
+word_stripped word text None h = none_after_word word text h
+word_stripped word text (Some x) h = sym (ap (after_bytes word) (h.1.1 ∙ ap (λ (t : List ℕ). word ++ t) (sym h.2)) ∙ after_bytes-again word x.now)

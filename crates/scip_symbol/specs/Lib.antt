@@ -1,0 +1,5 @@
+pub mod Bytes
+pub mod SymbolTexts
+pub mod Views
+pub mod Outcomes
+pub mod Reading

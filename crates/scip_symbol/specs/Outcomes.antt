@@ -1,0 +1,152 @@
+-- What a symbol or a text answers, with each refusal by what is wrong and by what isn't.
+use Rattle.std.specs.Prelude.{◌≡◌, ◌≢◌, ◌⊎◌, ℕ, ◌+◌, ◌<◌, ◌==◌, ◌||◌, Bool, true, false, not, List, [], ◌∷◌, ◌++◌, length, codes, Option, Some, None, Result, Ok, Err}
+use Rattle.std.specs.List.{list_any, flat_map, position_from, AllByRecursion}
+use Rattle.scip_symbol.specs.declared.kind.DescriptorKind.{DescriptorKind}
+use Rattle.scip_symbol.specs.declared.fault.SymbolFault.{SymbolFault}
+use Rattle.scip_symbol.specs.declared.fault.SymbolFault.TheVariants as faults
+use Rattle.scip_symbol.specs.Bytes.{IsNotFirst, IsUnended}
+use Rattle.scip_symbol.specs.SymbolTexts.{PlainDescriptor, PlainSymbol, Local, Global, is_simple, are_simple, opening, DescriptorText, DescriptorTexts, IsPart, ended_part, BeginsLocal, SymbolText, plain_text}
+
+-- ---- writing
+
+-- nothing stands here
+abbrev pub is_empty : {X : Type 0} → List X → Bool
+is_empty [] = true
+is_empty (x ∷ xs) = false
+
+-- an empty scheme, id, name or list of descriptors
+abbrev pub has_empty : PlainSymbol → Bool
+has_empty (Local id) = is_empty id
+has_empty (Global scheme manager package_name version descriptors) = is_empty scheme || (is_empty descriptors || list_any (λ d. is_empty d.name) descriptors)
+
+-- the scheme begins with `local`
+abbrev pub HasLocalScheme : PlainSymbol → Type 0
+HasLocalScheme (Local id) = ⊥
+HasLocalScheme (Global scheme manager package_name version descriptors) = BeginsLocal scheme
+
+-- a space stands in front
+abbrev pub begins_with_space : List ℕ → Bool
+begins_with_space [] = false
+begins_with_space (b ∷ bytes) = b == 32
+
+-- only a full stop
+abbrev pub is_stop : List ℕ → Bool
+is_stop [] = false
+is_stop (b ∷ []) = b == 46
+is_stop (b ∷ c ∷ bytes) = false
+
+-- what a manager, a package or a version may not be
+abbrev pub is_wrong_part : List ℕ → Bool
+is_wrong_part part = begins_with_space part || is_stop part
+
+-- the number of the first part that can't be written: 0 is the scheme, 1 the manager, 2 the package and 3 the version
+abbrev pub wrong_part_of : PlainSymbol → Option ℕ
+wrong_part_of (Local id) = None
+wrong_part_of (Global scheme manager package_name version descriptors) =
+    position_from (λ wrong. wrong) 0 (begins_with_space scheme ∷ is_wrong_part manager ∷ is_wrong_part package_name ∷ is_wrong_part version ∷ [])
+
+-- a disambiguator that can't be written
+abbrev pub is_wrong_descriptor : PlainDescriptor → Bool
+is_wrong_descriptor d = not (are_simple d.disambiguator)
+
+-- the number of the first descriptor that can't be written, from 0; 0 for an id that can't
+abbrev pub wrong_descriptor_of : PlainSymbol → Option ℕ
+wrong_descriptor_of (Local id) = position_from (λ wrong. wrong) 0 (not (are_simple id) ∷ [])
+wrong_descriptor_of (Global scheme manager package_name version descriptors) = position_from is_wrong_descriptor 0 descriptors
+
+-- nothing is refused in the symbol
+pub record IsWritable (s : PlainSymbol) : Type 0 where
+  pub no_empty : has_empty s ≡ false
+  pub not_local : HasLocalScheme s → ⊥
+  pub parts : wrong_part_of s ≡ None
+  pub descriptors : wrong_descriptor_of s ≡ None
+
+-- what is refused in a symbol, in order
+abbrev pub IsWriteRefusal : PlainSymbol → SymbolFault → Type 0
+IsWriteRefusal s faults.Empty = has_empty s ≡ true
+IsWriteRefusal s faults.LocalScheme = (has_empty s ≡ false) × HasLocalScheme s
+IsWriteRefusal s (faults.BadPart part) = (has_empty s ≡ false) × ¬ (HasLocalScheme s) × (wrong_part_of s ≡ Some part)
+IsWriteRefusal s (faults.BadDescriptor at) = (has_empty s ≡ false) × ¬ (HasLocalScheme s) × (wrong_part_of s ≡ None) × (wrong_descriptor_of s ≡ Some at)
+IsWriteRefusal s faults.OpenQuote = ⊥
+IsWriteRefusal s faults.Memory = ⊥
+
+-- a symbol is written as its plain text, or refused
+abbrev pub IsWriteOutcome : PlainSymbol → Result (List ℕ) SymbolFault → Type 0
+IsWriteOutcome s (Ok text) = SymbolText s text × (text ≡ plain_text s)
+IsWriteOutcome s (Err fault) = IsWriteRefusal s fault
+
+-- ---- reading
+
+-- the text isn't that of a local symbol and begins with these parts, each ended by an odd run of spaces; this is the rest
+pub record HasParts (text : List ℕ) (parts : List (List ℕ)) (rest : List ℕ) : Type 0 where
+  pub not_local : BeginsLocal text → ⊥
+  pub each : AllByRecursion IsPart parts
+  pub whole : text ≡ flat_map ended_part parts ++ rest
+  pub next : IsNotFirst 32 rest
+
+-- fewer than four parts are ended, so many
+pub record LacksPart (text : List ℕ) (count : ℕ) : Type 0 where
+  pub parts : List (List ℕ)
+  pub rest : List ℕ
+  pub has_parts : HasParts text parts rest
+  pub count_is : length parts ≡ count
+  pub few : count < 4
+  pub unended : IsUnended 32 rest
+
+-- a space stands in front of the text, or fewer than four parts are ended; then this is the number of the first that isn't
+pub record IsBadPart (text : List ℕ) (part : ℕ) : Type 0 where
+  pub some : text ≢ []
+  pub wrong : ((begins_with_space text ≡ true) × (part ≡ 0)) ⊎ LacksPart text part
+
+-- behind four parts and descriptors the text goes on so, from this place on
+pub record HasFront (text : List ℕ) (at : ℕ) (rest : List ℕ) : Type 0 where
+  pub parts : List (List ℕ)
+  pub descriptors : List PlainDescriptor
+  pub front : List ℕ
+  pub has_parts : HasParts text parts (front ++ rest)
+  pub four : length parts ≡ 4
+  pub front_is : DescriptorTexts descriptors front
+  pub place : at + length rest ≡ length text
+
+-- where a descriptor should stand, a name begins with a backtick that isn't closed
+pub record HasOpenQuote (rest : List ℕ) : Type 0 where
+  pub kind : DescriptorKind
+  pub inside : List ℕ
+  pub there : rest ≡ opening kind ++ 96 ∷ inside
+  pub open_is : IsUnended 96 inside
+
+-- no descriptor stands in front
+abbrev pub HasNoDescriptor : List ℕ → Type 0
+HasNoDescriptor rest = (d : PlainDescriptor) (first others : List ℕ) → DescriptorText d first → rest ≢ first ++ others
+
+-- the first byte of an id that isn't simple stands at this place
+pub record IsBadId (text : List ℕ) (at : ℕ) : Type 0 where
+  pub front : List ℕ
+  pub b : ℕ
+  pub others : List ℕ
+  pub whole : text ≡ codes "local " ++ front ++ b ∷ others
+  pub simple : are_simple front ≡ true
+  pub wrong : is_simple b ≡ false
+  pub place : at ≡ 6 + length front
+
+-- from this place on no descriptor stands, and something else does whose name has no open quote
+pub record IsBadDescriptor (text : List ℕ) (at : ℕ) : Type 0 where
+  pub rest : List ℕ
+  pub front : HasFront text at rest
+  pub some : rest ≢ []
+  pub none : HasNoDescriptor rest
+  pub no_quote : HasOpenQuote rest → ⊥
+
+-- what is refused in a text
+abbrev pub IsReadRefusal : List ℕ → SymbolFault → Type 0
+IsReadRefusal text faults.Empty = (text ≡ []) ⊎ ((text ≡ codes "local ") ⊎ ((parts : List (List ℕ)) × HasParts text parts [] × (length parts ≡ 4)))
+IsReadRefusal text (faults.BadDescriptor at) = IsBadId text at ⊎ IsBadDescriptor text at
+IsReadRefusal text faults.LocalScheme = BeginsLocal text × ((id : List ℕ) → text ≢ codes "local " ++ id)
+IsReadRefusal text faults.OpenQuote = (at : ℕ) × (rest : List ℕ) × HasFront text at rest × HasOpenQuote rest
+IsReadRefusal text faults.Memory = ⊥
+IsReadRefusal text (faults.BadPart part) = IsBadPart text part
+
+-- a text is read as the symbol that has it, or refused
+abbrev pub IsReadOutcome : List ℕ → Result PlainSymbol SymbolFault → Type 0
+IsReadOutcome text (Ok s) = SymbolText s text
+IsReadOutcome text (Err fault) = IsReadRefusal text fault

@@ -1,0 +1,202 @@
+-- What the private functions of the reader and the writer give. The public contracts are in the words of texts.
+use Rattle.std.specs.Prelude.{◌≡◌, ◌≢◌, ℕ, ◌+◌, ◌-◌, ◌==◌, List, [], ◌∷◌, ◌++◌, length, codes, Option, Some, None, option_map, Result, Ok, Err, if◌then◌else◌}
+use Rattle.std.specs.Option.{ok_or}
+use Rattle.std.specs.String.{string_bytes}
+use Rattle.scip_symbol.specs.declared.parts.Parts.{Parts}
+use Rattle.scip_symbol.specs.declared.kind.DescriptorKind.{DescriptorKind}
+use Rattle.scip_symbol.specs.declared.kind.DescriptorKind.TheVariants.{Namespace, TypeName, Term, Method, Meta, Macro, TypeParameter, Parameter}
+use Rattle.scip_symbol.specs.declared.fault.SymbolFault.{SymbolFault}
+use Rattle.scip_symbol.specs.declared.fault.SymbolFault.TheVariants as faults
+use Rattle.scip_symbol.specs.SymbolTexts.{PlainDescriptor, PlainSymbol, Local, is_simple, DescriptorTexts}
+
+infixl 10 ◌>>=◌
+abbrev pub ◌>>=◌ : {A B E : Type 0} → Result A E → (A → Result B E) → Result B E
+(Ok x) >>= f = f x
+(Err e) >>= f = Err e
+
+-- what a function answered is this, seen by view, unless memory ran out
+abbrev pub Fails : {Y : Type 0} → SymbolFault → Result Y SymbolFault → Type 0
+Fails faults.Empty read = read ≡ Err faults.Empty
+Fails (faults.BadDescriptor at) read = read ≡ Err (faults.BadDescriptor at)
+Fails faults.LocalScheme read = read ≡ Err faults.LocalScheme
+Fails faults.OpenQuote read = read ≡ Err faults.OpenQuote
+Fails faults.Memory read = Unit {0}
+Fails (faults.BadPart part) read = read ≡ Err (faults.BadPart part)
+
+abbrev pub Gives : {X Y : Type 0} → (X → Y) → Result X SymbolFault → Result Y SymbolFault → Type 0
+Gives view (Ok x) read = read ≡ Ok (view x)
+Gives view (Err e) read = Fails e read
+
+-- what follows this byte, where it stands in front
+abbrev pub after_byte : ℕ → List ℕ → Option (List ℕ)
+after_byte mark [] = None
+after_byte mark (b ∷ bytes) = if b == mark then Some bytes else None
+
+-- what follows these bytes, where they stand in front
+abbrev pub after_bytes : List ℕ → List ℕ → Option (List ℕ)
+after_bytes [] text = Some text
+after_bytes (w ∷ word) [] = None
+after_bytes (w ∷ word) (b ∷ bytes) = if b == w then after_bytes word bytes else None
+
+-- with one more byte in front of the first part
+abbrev pub with_first : ℕ → List ℕ × List ℕ → List ℕ × List ℕ
+with_first b parts = (b ∷ parts.0, parts.1)
+
+-- what stands before the first such byte, and what stands after it
+unfoldable pub cut_at : ℕ → List ℕ → Option (List ℕ × List ℕ)
+cut_at mark [] = None
+cut_at mark (b ∷ bytes) = if b == mark then Some ([], bytes) else option_map (with_first b) (cut_at mark bytes)
+
+-- the part in front and what follows the byte that ends it, if one does: in pairs such bytes belong to the part, a single one ends it
+unfoldable pub ended_by : ℕ → List ℕ → Option (List ℕ × List ℕ)
+ended_by mark [] = None
+ended_by mark (b ∷ []) = if b == mark then Some ([], []) else None
+ended_by mark (b ∷ c ∷ more) =
+    if b == mark then (if c == mark then option_map (with_first mark) (ended_by mark more) else Some ([], c ∷ more))
+    else option_map (with_first b) (ended_by mark (c ∷ more))
+
+-- the simple bytes in front, and what follows them
+unfoldable pub simple_front : List ℕ → List ℕ × List ℕ
+simple_front [] = ([], [])
+simple_front (b ∷ bytes) = if is_simple b then with_first b (simple_front bytes) else ([], b ∷ bytes)
+
+-- ---- descriptors; the place is that of the descriptor
+
+-- a name, if it isn't empty
+abbrev pub named : ℕ → List ℕ → List ℕ → Result (List ℕ × List ℕ) SymbolFault
+named at [] rest = Err (faults.BadDescriptor at)
+named at (b ∷ name) rest = Ok (b ∷ name, rest)
+
+unfoldable pub simple_name_at : ℕ → List ℕ → Result (List ℕ × List ℕ) SymbolFault
+simple_name_at at text = named at (simple_front text).0 (simple_front text).1
+
+-- the name whose first backtick is read
+unfoldable pub quoted_name_at : ℕ → List ℕ → Result (List ℕ × List ℕ) SymbolFault
+quoted_name_at at inside = do
+  x ← ok_or (ended_by 96 inside) faults.OpenQuote
+  named at x.0 x.1
+
+abbrev pub name_behind : ℕ → Option (List ℕ) → List ℕ → Result (List ℕ × List ℕ) SymbolFault
+name_behind at None text = simple_name_at at text
+name_behind at (Some inside) text = quoted_name_at at inside
+
+-- the name in front, and what follows it
+unfoldable pub name_at : ℕ → List ℕ → Result (List ℕ × List ℕ) SymbolFault
+name_at at text = name_behind at (after_byte 96 text) text
+
+-- a name and the byte that closes it
+unfoldable pub closed_at : ℕ → DescriptorKind → ℕ → List ℕ → Result (PlainDescriptor × List ℕ) SymbolFault
+closed_at at kind close inside = do
+  x ← name_at at inside
+  rest ← ok_or (after_byte close x.1) (faults.BadDescriptor at)
+  Ok (record { kind = kind; name = x.0; disambiguator = [] }, rest)
+
+-- a method whose name and `(` are read
+unfoldable pub method_at : ℕ → List ℕ → List ℕ → Result (PlainDescriptor × List ℕ) SymbolFault
+method_at at name inside = do
+  rest ← ok_or (after_bytes (codes ").") (simple_front inside).1) (faults.BadDescriptor at)
+  Ok (record { kind = Method; name = name; disambiguator = (simple_front inside).0 }, rest)
+
+-- the kind that a byte behind a name tells
+abbrev pub kind_of : ℕ → Option DescriptorKind
+kind_of b =
+    if b == 47 then Some Namespace
+    else if b == 35 then Some TypeName
+    else if b == 46 then Some Term
+    else if b == 58 then Some Meta
+    else if b == 33 then Some Macro
+    else None
+
+abbrev pub suffix_at : List ℕ → Option (DescriptorKind × List ℕ)
+suffix_at [] = None
+suffix_at (b ∷ rest) = option_map (λ kind. (kind, rest)) (kind_of b)
+
+-- one that is told by the byte behind its name
+unfoldable pub told_at : ℕ → List ℕ → List ℕ → Result (PlainDescriptor × List ℕ) SymbolFault
+told_at at name text = do
+  x ← ok_or (suffix_at text) (faults.BadDescriptor at)
+  Ok (record { kind = x.0; name = name; disambiguator = [] }, x.1)
+
+abbrev pub suffixed_behind : ℕ → List ℕ → Option (List ℕ) → List ℕ → Result (PlainDescriptor × List ℕ) SymbolFault
+suffixed_behind at name None text = told_at at name text
+suffixed_behind at name (Some inside) text = method_at at name inside
+
+-- a descriptor whose name is read
+unfoldable pub suffixed_at : ℕ → List ℕ → List ℕ → Result (PlainDescriptor × List ℕ) SymbolFault
+suffixed_at at name text = suffixed_behind at name (after_byte 40 text) text
+
+-- one that begins with its name
+unfoldable pub bare_at : ℕ → List ℕ → Result (PlainDescriptor × List ℕ) SymbolFault
+bare_at at text = do
+  x ← name_at at text
+  suffixed_at at x.0 x.1
+
+abbrev pub descriptor_behind : ℕ → Option (List ℕ) → Option (List ℕ) → List ℕ → Result (PlainDescriptor × List ℕ) SymbolFault
+descriptor_behind at None None text = bare_at at text
+descriptor_behind at None (Some inside) text = closed_at at Parameter 41 inside
+descriptor_behind at (Some inside) _ text = closed_at at TypeParameter 93 inside
+
+-- the descriptor in front, and what follows it
+unfoldable pub descriptor_at : ℕ → List ℕ → Result (PlainDescriptor × List ℕ) SymbolFault
+descriptor_at at text = descriptor_behind at (after_byte 91 text) (after_byte 40 text) text
+
+-- behind descriptors the text, which stands at the end of one of this length, has a rest that answers this
+pub record IsFirstWrong (whole : ℕ) (text : List ℕ) (fault : SymbolFault) : Type 0 where
+  pub descriptors : List PlainDescriptor
+  pub front : List ℕ
+  pub rest : List ℕ
+  pub front_is : DescriptorTexts descriptors front
+  pub split : text ≡ front ++ rest
+  pub some : rest ≢ []
+  pub answer : descriptor_at (whole - length rest) rest ≡ Err fault
+
+-- all descriptors of the text, or what the first wrong one answers
+abbrev pub IsDescriptorsOutcome : ℕ → List ℕ → Result (List PlainDescriptor) SymbolFault → Type 0
+IsDescriptorsOutcome whole text (Ok ds) = DescriptorTexts ds text
+IsDescriptorsOutcome whole text (Err fault) = IsFirstWrong whole text fault
+
+-- ---- parts
+
+-- the part in front of this number, and what follows the space that ends it
+unfoldable pub part_at : ℕ → List ℕ → Result (List ℕ × List ℕ) SymbolFault
+part_at number text = ok_or (ended_by 32 text) (faults.BadPart number)
+
+-- a shown part as it is
+abbrev pub part_meant : List ℕ → List ℕ
+part_meant [] = []
+part_meant (b ∷ []) = if b == 46 then [] else b ∷ []
+part_meant (b ∷ c ∷ part) = b ∷ c ∷ part
+
+unfoldable pub optional_part_at : ℕ → List ℕ → Result (List ℕ × List ℕ) SymbolFault
+optional_part_at number text = do
+  x ← part_at number text
+  Ok (part_meant x.0, x.1)
+
+-- the four parts as they are
+pub record PlainParts : Type 0 where
+  pub scheme : List ℕ
+  pub manager : List ℕ
+  pub package_name : List ℕ
+  pub version : List ℕ
+
+-- the four parts in front, and what follows them
+unfoldable pub parts_at : List ℕ → Result (PlainParts × List ℕ) SymbolFault
+parts_at text = do
+  scheme ← part_at 0 text
+  manager ← optional_part_at 1 scheme.1
+  package_name ← optional_part_at 2 manager.1
+  version ← optional_part_at 3 package_name.1
+  Ok (record { scheme = scheme.0; manager = manager.0; package_name = package_name.0; version = version.0 }, version.1)
+
+abbrev pub plain_parts : Parts → PlainParts
+plain_parts parts = record { scheme = string_bytes parts.scheme; manager = string_bytes parts.manager; package_name = string_bytes parts.package; version = string_bytes parts.version }
+
+-- ---- the id of a local symbol
+
+abbrev pub local_by : List ℕ → List ℕ → Result PlainSymbol SymbolFault
+local_by id [] = Ok (Local id)
+local_by id (c ∷ rest) = Err (faults.BadDescriptor (6 + length (simple_front id).0))
+
+unfoldable pub local_of : List ℕ → Result PlainSymbol SymbolFault
+local_of [] = Err faults.Empty
+local_of (b ∷ id) = local_by (b ∷ id) (simple_front (b ∷ id)).1

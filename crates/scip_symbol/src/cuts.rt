@@ -1,0 +1,80 @@
+//! Cuts of a text at single bytes.
+ghost use Rattle.std.specs.Prelude.{◌≡◌, ◌<◌, ◌==◌, ◌++◌, length, option_map, IfOk, not, slice_index};
+ghost use Rattle.std.specs.List.{prefix_len};
+ghost use Rattle.std.specs.String.{string_bytes};
+ghost use Rattle.scip_symbol.specs.SymbolTexts.{are_simple, is_simple};
+ghost use Rattle.scip_symbol.specs.Reading.{after_byte, after_bytes, cut_at, ended_by, simple_front};
+
+use std::alloc::{AllocError, Global};
+
+/// What follows an ASCII character, where it stands in front.
+pub(crate) fn after_mark(text: &str, mark: char) -> Option<&str>
+    requires { mark < 128 }
+    ensures { option_map (λ rest. rest.now) result ≡ after_byte mark text.now }
+{
+    text.strip_prefix(mark)
+}
+
+/// What follows a word, where it stands in front.
+pub(crate) fn after_word<'a>(text: &'a str, word: &str) -> Option<&'a str>
+    ensures { option_map (λ rest. rest.now) result ≡ after_bytes word.now text.now }
+{
+    text.strip_prefix(word)
+}
+
+/// What stands before the first such ASCII character, and what stands after it.
+pub(crate) fn cut_at_mark(text: &str, mark: char) -> Option<(&str, &str)>
+    requires { mark < 128 }
+    ensures { option_map (λ parts. (parts.0.now, parts.1.now)) result ≡ cut_at mark text.now }
+{
+    text.split_once(mark)
+}
+
+/// The part in front, each pair of such ASCII characters in the text as one in the part, and what follows the single one that ends it.
+pub(crate) fn ended_in(
+    alloc: Global,
+    text: &str,
+    mark: char,
+) -> Result<Option<(String, &str)>, AllocError>
+    requires { mark < 128 }
+    ensures { IfOk result (λ found. option_map (λ x. (string_bytes x.0, x.1.now)) found ≡ ended_by mark text.now) }
+{
+    let mut part = String::new(alloc);
+    let mut rest = text;
+    while let Some((front, after)) = cut_at_mark(rest, mark) {
+        part.push_str(front)?;
+        let Some(more) = after_mark(after, mark) else {
+            return Ok(Some((part, after)));
+        };
+        part.push(mark)?;
+        rest = more;
+    }
+    Ok(None)
+}
+
+fn is_simple_byte(b: u8) -> bool
+    ensures { result ≡ is_simple b }
+{
+    b.is_ascii_alphanumeric() || matches!(b, b'_' | b'+' | b'-' | b'$')
+}
+
+/// Whether all bytes are simple.
+pub(crate) fn is_simple_text(text: &str) -> bool
+    ensures { result ≡ are_simple text.now }
+{
+    text.as_bytes().iter().all(|b| is_simple_byte(*b))
+}
+
+/// How many simple bytes stand in front.
+fn simple_len(bytes: &[u8]) -> usize
+    ensures { result ≡ prefix_len is_simple bytes.now }
+{
+    bytes.iter().take_while(|b| is_simple_byte(**b)).count()
+}
+
+/// The simple bytes in front, and what follows them.
+pub(crate) fn simple_in(text: &str) -> (&str, &str)
+    ensures { (result.0.now, result.1.now) ≡ simple_front text.now }
+{
+    text.split_at(simple_len(text.as_bytes()))
+}

@@ -1,0 +1,134 @@
+//! Reading descriptors.
+ghost use Rattle.std.specs.Prelude.{◌≡◌, ◌≤◌, ◌<◌, [], length, option_map, IfSome};
+ghost use Rattle.std.specs.String.{string_bytes};
+ghost use Rattle.scip_symbol.specs.Views.{outcome_of, plain_descriptor, plain_descriptors};
+ghost use Rattle.scip_symbol.specs.Reading.{bare_at, closed_at, descriptor_at, kind_of, method_at, suffix_at, suffixed_at, told_at, Gives, IsDescriptorsOutcome};
+
+use crate::cuts::{after_mark, after_word, simple_in};
+use crate::name::name_in;
+use crate::{Descriptor, DescriptorKind, SymbolFault};
+use std::alloc::Global;
+
+/// A descriptor of a name and what closes it.
+#[tactic(auto, unfolding(crate::specs::Reading::closed_at))]
+fn closed_in(
+    alloc: Global,
+    at: usize,
+    kind: DescriptorKind,
+    close: char,
+    inside: &str,
+) -> Result<(Descriptor, &str), SymbolFault>
+    requires { close < 128 }
+    ensures { Gives (λ x. (plain_descriptor x.0, x.1.now)) result (closed_at at kind close inside.now) }
+{
+    let (name, rest) = name_in(alloc, at, inside)?;
+    let rest = after_mark(rest, close).ok_or(SymbolFault::BadDescriptor { at })?;
+    Ok((Descriptor::new(kind, name), rest))
+}
+
+/// A method of which the name and the `(` are read.
+#[tactic(auto, unfolding(crate::specs::Reading::method_at))]
+fn method_in(
+    alloc: Global,
+    at: usize,
+    name: String,
+    inside: &str,
+) -> Result<(Descriptor, &str), SymbolFault>
+    ensures { Gives (λ x. (plain_descriptor x.0, x.1.now)) result (method_at at (string_bytes name) inside.now) }
+{
+    let (disambiguator, rest) = simple_in(inside);
+    let rest = after_word(rest, ").").ok_or(SymbolFault::BadDescriptor { at })?;
+    let disambiguator = String::from_str(alloc, disambiguator)?;
+    Ok((Descriptor::method(name, disambiguator), rest))
+}
+
+/// The kind that a byte behind a name tells.
+fn kind_told(b: u8) -> Option<DescriptorKind>
+    ensures { result ≡ kind_of b }
+{
+    match b {
+        b'/' => Some(DescriptorKind::Namespace),
+        b'#' => Some(DescriptorKind::TypeName),
+        b'.' => Some(DescriptorKind::Term),
+        b':' => Some(DescriptorKind::Meta),
+        b'!' => Some(DescriptorKind::Macro),
+        _ => None,
+    }
+}
+
+/// The kind that the byte in front tells, and what follows it.
+fn suffix_in(text: &str) -> Option<(DescriptorKind, &str)>
+    ensures { option_map (λ x. (x.0, x.1.now)) result ≡ suffix_at text.now }
+{
+    let first = *text.as_bytes().first()?;
+    let kind = kind_told(first)?;
+    let (_, rest) = text.split_at(1);
+    Some((kind, rest))
+}
+
+/// A descriptor that is told by the byte behind its name.
+#[tactic(auto, unfolding(crate::specs::Reading::told_at))]
+fn told_in(at: usize, name: String, text: &str) -> Result<(Descriptor, &str), SymbolFault>
+    ensures { Gives (λ x. (plain_descriptor x.0, x.1.now)) result (told_at at (string_bytes name) text.now) }
+{
+    let (kind, rest) = suffix_in(text).ok_or(SymbolFault::BadDescriptor { at })?;
+    Ok((Descriptor::new(kind, name), rest))
+}
+
+/// A descriptor of which the name is read.
+#[tactic(auto, unfolding(crate::specs::Reading::suffixed_at))]
+fn suffixed_in(
+    alloc: Global,
+    at: usize,
+    name: String,
+    text: &str,
+) -> Result<(Descriptor, &str), SymbolFault>
+    ensures { Gives (λ x. (plain_descriptor x.0, x.1.now)) result (suffixed_at at (string_bytes name) text.now) }
+{
+    match after_mark(text, '(') {
+        None => told_in(at, name, text),
+        Some(inside) => method_in(alloc, at, name, inside),
+    }
+}
+
+/// A descriptor that begins with its name.
+#[tactic(auto, unfolding(crate::specs::Reading::bare_at))]
+fn bare_in(alloc: Global, at: usize, text: &str) -> Result<(Descriptor, &str), SymbolFault>
+    ensures { Gives (λ x. (plain_descriptor x.0, x.1.now)) result (bare_at at text.now) }
+{
+    let (name, rest) = name_in(alloc, at, text)?;
+    suffixed_in(alloc, at, name, rest)
+}
+
+/// The descriptor in front, which stands at this place, and what follows it.
+#[tactic(auto, unfolding(crate::specs::Reading::descriptor_at))]
+fn descriptor_in(alloc: Global, at: usize, text: &str) -> Result<(Descriptor, &str), SymbolFault>
+    ensures { Gives (λ x. (plain_descriptor x.0, x.1.now)) result (descriptor_at at text.now) }
+{
+    if let Some(inside) = after_mark(text, '[') {
+        return closed_in(alloc, at, DescriptorKind::TypeParameter, ']', inside);
+    }
+    match after_mark(text, '(') {
+        None => bare_in(alloc, at, text),
+        Some(inside) => closed_in(alloc, at, DescriptorKind::Parameter, ')', inside),
+    }
+}
+
+/// All descriptors of a text, which stands at the end of one of this length in bytes; or the fault of the first wrong one.
+pub(crate) fn descriptors_in(
+    alloc: Global,
+    whole: usize,
+    text: &str,
+) -> Result<Vec<Descriptor>, SymbolFault>
+    requires { length text.now ≤ whole }
+    ensures { IfSome (outcome_of (λ ds. plain_descriptors ds.items) result) (IsDescriptorsOutcome whole text.now) }
+{
+    let mut descriptors = Vec::new(alloc);
+    let mut rest = text;
+    while !rest.is_empty() {
+        let (descriptor, after) = descriptor_in(alloc, whole - rest.len(), rest)?;
+        descriptors.push(descriptor)?;
+        rest = after;
+    }
+    Ok(descriptors)
+}

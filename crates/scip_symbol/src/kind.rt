@@ -1,0 +1,22 @@
+//! What a descriptor names.
+
+/// What a descriptor names (scip.proto, `Descriptor.Suffix`).
+#[derive(Clone, Copy, Debug, PartialEq, Eq)]
+pub enum DescriptorKind {
+    /// A module or another space of names: `name/`.
+    Namespace,
+    /// A type: `name#`.
+    TypeName,
+    /// A constant, a variable or a field: `name.`.
+    Term,
+    /// A procedure: `name().`, or with a disambiguator `name(+1).`.
+    Method,
+    /// What belongs to no other kind: `name:`.
+    Meta,
+    /// A macro: `name!`.
+    Macro,
+    /// A parameter of a type: `[name]`.
+    TypeParameter,
+    /// A parameter: `(name)`.
+    Parameter,
+}

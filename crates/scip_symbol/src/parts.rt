@@ -1,0 +1,57 @@
+//! Reading the four parts of a symbol.
+ghost use Rattle.std.specs.Prelude.{◌≡◌};
+ghost use Rattle.std.specs.String.{string_bytes};
+ghost use Rattle.scip_symbol.specs.Reading.{optional_part_at, part_at, parts_at, plain_parts, Gives};
+
+use crate::SymbolFault;
+use crate::cuts::ended_in;
+use std::alloc::Global;
+
+/// What stands before the descriptors.
+#[derive(Drop)]
+pub(crate) struct Parts {
+    pub(crate) scheme: String,
+    pub(crate) manager: String,
+    pub(crate) package: String,
+    pub(crate) version: String,
+}
+
+/// The part in front, which has this number, and what follows it.
+#[tactic(auto, unfolding(crate::specs::Reading::part_at))]
+fn part_in(alloc: Global, part: usize, text: &str) -> Result<(String, &str), SymbolFault>
+    ensures { Gives (λ x. (string_bytes x.0, x.1.now)) result (part_at part text.now) }
+{
+    let found = ended_in(alloc, text, ' ')?;
+    let ended = found.ok_or(SymbolFault::BadPart { part })?;
+    Ok(ended)
+}
+
+/// The same of a part that may be empty, for which a full stop stands.
+#[tactic(auto, unfolding(crate::specs::Reading::optional_part_at))]
+fn optional_part_in(alloc: Global, part: usize, text: &str) -> Result<(String, &str), SymbolFault>
+    ensures { Gives (λ x. (string_bytes x.0, x.1.now)) result (optional_part_at part text.now) }
+{
+    let (mut shown, rest) = part_in(alloc, part, text)?;
+    if shown.as_str() == "." {
+        shown.clear();
+    }
+    Ok((shown, rest))
+}
+
+/// The four parts in front, and what follows them.
+#[tactic(auto, unfolding(crate::specs::Reading::parts_at))]
+pub(crate) fn parts_in(alloc: Global, text: &str) -> Result<(Parts, &str), SymbolFault>
+    ensures { Gives (λ x. (plain_parts x.0, x.1.now)) result (parts_at text.now) }
+{
+    let (scheme, rest) = part_in(alloc, 0, text)?;
+    let (manager, rest) = optional_part_in(alloc, 1, rest)?;
+    let (package, rest) = optional_part_in(alloc, 2, rest)?;
+    let (version, rest) = optional_part_in(alloc, 3, rest)?;
+    let parts = Parts {
+        scheme,
+        manager,
+        package,
+        version,
+    };
+    Ok((parts, rest))
+}

@@ -1,0 +1,166 @@
+//! Writing a symbol.
+ghost use Rattle.std.specs.Prelude.{◌≡◌, ◌<◌, ◌++◌, IfOk, IfSome, List, OnOk, Result, ℕ};
+ghost use Rattle.std.specs.List.{flat_map};
+ghost use Rattle.std.specs.String.{string_bytes};
+ghost use Rattle.scip_symbol.specs.declared.fault.SymbolFault.{SymbolFault};
+ghost use Rattle.scip_symbol.specs.Bytes.{doubled};
+ghost use Rattle.scip_symbol.specs.SymbolTexts.{closing, ended_part, opening, part_shown, parts_text, plain_descriptor_text, plain_name, plain_text};
+ghost use Rattle.scip_symbol.specs.Views.{outcome_of, plain_descriptor, plain_descriptors, plain_symbol};
+ghost use Rattle.scip_symbol.specs.Outcomes.{IsWriteOutcome};
+
+use crate::cuts::{cut_at_mark, is_simple_text};
+use crate::writable::check;
+use crate::{Descriptor, DescriptorKind, Symbol, SymbolFault};
+use std::alloc::{AllocError, Global};
+
+/// Puts a text with each such ASCII character twice.
+fn push_doubled(out: &mut String, text: &str, mark: char) -> Result<(), AllocError>
+    requires { mark < 128 }
+    ensures { OnOk result (string_bytes out.new ≡ string_bytes out.old ++ doubled mark text.now) }
+{
+    let mut rest = text;
+    while let Some((front, after)) = cut_at_mark(rest, mark) {
+        out.push_str(front)?;
+        out.push(mark)?;
+        out.push(mark)?;
+        rest = after;
+    }
+    out.push_str(rest)
+}
+
+/// Puts a name, in backticks only where it isn't simple.
+fn push_name(out: &mut String, name: &str) -> Result<(), AllocError>
+    ensures { OnOk result (string_bytes out.new ≡ string_bytes out.old ++ plain_name name.now) }
+{
+    if is_simple_text(name) {
+        return out.push_str(name);
+    }
+    out.push_str("`")?;
+    push_doubled(out, name, '`')?;
+    out.push_str("`")
+}
+
+/// What stands before a name.
+fn opening_of(kind: DescriptorKind) -> &'static str
+    ensures { result.now ≡ opening kind }
+{
+    match kind {
+        DescriptorKind::TypeParameter => "[",
+        DescriptorKind::Parameter => "(",
+        DescriptorKind::Namespace
+        | DescriptorKind::TypeName
+        | DescriptorKind::Term
+        | DescriptorKind::Method
+        | DescriptorKind::Meta
+        | DescriptorKind::Macro => "",
+    }
+}
+
+/// Puts what stands behind a name.
+fn push_closing(
+    out: &mut String,
+    kind: DescriptorKind,
+    disambiguator: &str,
+) -> Result<(), AllocError>
+    ensures { OnOk result (string_bytes out.new ≡ string_bytes out.old ++ closing kind disambiguator.now) }
+{
+    match kind {
+        DescriptorKind::Namespace => out.push_str("/"),
+        DescriptorKind::TypeName => out.push_str("#"),
+        DescriptorKind::Term => out.push_str("."),
+        DescriptorKind::Method => {
+            out.push_str("(")?;
+            out.push_str(disambiguator)?;
+            out.push_str(").")
+        }
+        DescriptorKind::Meta => out.push_str(":"),
+        DescriptorKind::Macro => out.push_str("!"),
+        DescriptorKind::TypeParameter => out.push_str("]"),
+        DescriptorKind::Parameter => out.push_str(")"),
+    }
+}
+
+fn push_descriptor(out: &mut String, descriptor: &Descriptor) -> Result<(), AllocError>
+    ensures { OnOk result (string_bytes out.new ≡ string_bytes out.old ++ plain_descriptor_text (plain_descriptor descriptor.now)) }
+{
+    let kind = descriptor.kind();
+    out.push_str(opening_of(kind))?;
+    push_name(out, descriptor.name())?;
+    push_closing(out, kind, descriptor.disambiguator())
+}
+
+fn push_descriptors(out: &mut String, descriptors: &[Descriptor]) -> Result<(), AllocError>
+    ensures { OnOk result (string_bytes out.new ≡ string_bytes out.old ++ flat_map plain_descriptor_text (plain_descriptors descriptors.now)) }
+{
+    for descriptor in descriptors {
+        push_descriptor(out, descriptor)?;
+    }
+    Ok(())
+}
+
+/// Puts a part that isn't empty.
+fn push_part(out: &mut String, part: &str) -> Result<(), AllocError>
+    ensures { OnOk result (string_bytes out.new ≡ string_bytes out.old ++ ended_part part.now) }
+{
+    push_doubled(out, part, ' ')?;
+    out.push_str(" ")
+}
+
+/// Puts a part that may be empty.
+fn push_optional_part(out: &mut String, part: &str) -> Result<(), AllocError>
+    ensures { OnOk result (string_bytes out.new ≡ string_bytes out.old ++ ended_part (part_shown part.now)) }
+{
+    if part.is_empty() {
+        push_part(out, ".")
+    } else {
+        push_part(out, part)
+    }
+}
+
+/// The text of a symbol, whatever it is.
+fn text_of(alloc: Global, symbol: &Symbol) -> Result<String, AllocError>
+    ensures { IfOk result (λ text. string_bytes text ≡ plain_text (plain_symbol symbol.now)) }
+{
+    let mut out = String::new(alloc);
+    match symbol {
+        Symbol::Local(id) => {
+            out.push_str("local ")?;
+            out.push_str(id.as_str())?;
+        }
+        Symbol::Global {
+            scheme,
+            manager,
+            package,
+            version,
+            descriptors,
+        } => {
+            push_part(&mut out, scheme.as_str())?;
+            push_optional_part(&mut out, manager.as_str())?;
+            push_optional_part(&mut out, package.as_str())?;
+            push_optional_part(&mut out, version.as_str())?;
+            push_descriptors(&mut out, descriptors.as_slice())?;
+        }
+    }
+    Ok(out)
+}
+
+/// The text of a symbol, or its first refusal.
+fn write_any(alloc: Global, symbol: &Symbol) -> Result<String, SymbolFault>
+    ensures { IfSome (outcome_of string_bytes result) (IsWriteOutcome (plain_symbol symbol.now)) }
+{
+    check(symbol)?;
+    Ok(text_of(alloc, symbol)?)
+}
+
+/// The one text of a symbol that has backticks only where they are needed (scip.proto, the grammar of `Symbol`), or the first refusal;
+/// Memory where a growth was refused. In order: Empty for an empty scheme, id, name or list of descriptors. LocalScheme for a scheme
+/// that begins with `local`. BadPart with the number of the first part that begins with a space, or is `.` and not the scheme.
+/// BadDescriptor with the number of the first descriptor whose disambiguator isn't simple, and with 0 for an id that isn't.
+pub fn write(alloc: Global, symbol: &Symbol) -> Result<String, SymbolFault>
+    // It is the symbol's plain text, or what is refused in the symbol.
+    ensures exact { IfSome (outcome_of string_bytes result) (IsWriteOutcome (plain_symbol symbol.now)) }
+    // The plain text, or what is refused, is answered unless memory runs out.
+    ensures only { (o : Result (List ℕ) SymbolFault) → IsWriteOutcome (plain_symbol symbol.now) o → IfSome (outcome_of string_bytes result) (λ p. p ≡ o) }
+{
+    write_any(alloc, symbol)
+}
