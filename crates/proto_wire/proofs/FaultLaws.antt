@@ -1,0 +1,13 @@
+-- What is said unless memory ran out.
+use Rattle.proto_wire.specs.declared.fault.WireFault.{WireFault}
+use Rattle.proto_wire.specs.declared.fault.WireFault.TheVariants.{Truncated, LongVarint, Group, ZeroField, BadText, Device, Memory}
+use Rattle.proto_wire.specs.Faults.{UnlessMemory}
+
+pub UnlessMemory-then : (fault : WireFault) {P Q : Type 0} → UnlessMemory fault P → (P → Q) → UnlessMemory fault Q
+UnlessMemory-then (Truncated at) h go = go h
+UnlessMemory-then (LongVarint at) h go = go h
+UnlessMemory-then (Group at) h go = go h
+UnlessMemory-then (ZeroField at) h go = go h
+UnlessMemory-then (BadText at) h go = go h
+UnlessMemory-then Device h go = go h
+UnlessMemory-then Memory h go = tt

@@ -1,0 +1,129 @@
+-- Records in a row (Protocol Buffers encoding, "Message Structure"), and the first that is wrong.
+use Rattle.std.specs.Prelude.{◌≡◌, ◌⊎◌, ℕ, ◌+◌, ◌*◌, ◌<◌, ◌≤◌, List, [], ◌∷◌, ◌++◌, length, map, Result, Ok, Err}
+use Rattle.proto_wire.specs.declared.fault.WireFault.{WireFault}
+use Rattle.proto_wire.specs.declared.fault.WireFault.TheVariants.{Truncated, LongVarint, Group, ZeroField, BadText, Device, Memory}
+use Rattle.proto_wire.specs.declared.record.WireRecord.{WireRecord}
+use Rattle.proto_wire.specs.declared.record.WireValue.{WireValue}
+use Rattle.proto_wire.specs.declared.record.WireValue.TheVariants.{Varint, Eight, Bytes, Four}
+use Rattle.proto_wire.specs.Varints.{IsVarint, IsOpen, IsLong}
+
+-- a record, with its bytes where it has a length
+pub record Piece : Type 0 where
+  pub wire : WireRecord
+  pub payload : List ℕ
+
+-- a field number
+pub record IsField (n : ℕ) : Type 0 where
+  pub some : 0 < n
+  pub most : n ≤ 536870911
+
+-- a key: the varint of a field number times 8 plus a wire type
+pub record IsKey (bytes : List ℕ) (field kind : ℕ) : Type 0 where
+  pub is_varint : IsVarint bytes (8 * field + kind)
+  pub is_kind : kind < 8
+  pub is_field : IsField field
+
+-- what stands behind a key of this wire type: type 0 a varint, 1 eight bytes, 2 a length and so many bytes, 5 four bytes.
+-- The payload is the bytes that have a length.
+abbrev pub IsValue : WireValue → ℕ → List ℕ → List ℕ → List ℕ → Type 0
+IsValue (Varint n) kind size content payload = (kind ≡ 0) × (size ≡ []) × IsVarint content n × (payload ≡ [])
+IsValue Eight kind size content payload = (kind ≡ 1) × (size ≡ []) × (length content ≡ 8) × (payload ≡ [])
+IsValue (Bytes count) kind size content payload = (kind ≡ 2) × IsVarint size count × (length content ≡ count) × (payload ≡ content)
+IsValue Four kind size content payload = (kind ≡ 5) × (size ≡ []) × (length content ≡ 4) × (payload ≡ [])
+
+-- the bytes, the first of which has this offset, are this record: a key, a length where the wire type has one, and the rest
+pub record IsRecord (at : ℕ) (bytes : List ℕ) (p : Piece) : Type 0 where
+  pub kind : ℕ
+  pub key : List ℕ
+  pub size : List ℕ
+  pub content : List ℕ
+  pub form : bytes ≡ key ++ (size ++ content)
+  pub is_key : IsKey key p.wire.field kind
+  pub is_value : IsValue p.wire.value kind size content p.payload
+  pub at_key : p.wire.at ≡ at
+  pub at_body : p.wire.body ≡ at + (length key + length size)
+
+-- the bytes, the first of which has this offset, are these records in a row
+abbrev pub AreRecords : ℕ → List ℕ → List Piece → Type 0
+AreRecords at bytes [] = bytes ≡ []
+AreRecords at bytes (p ∷ ps) = (first rest : List ℕ) × (bytes ≡ first ++ rest) × IsRecord at first p × AreRecords (at + length first) rest ps
+
+-- the bytes are the records of this list in a row
+abbrev pub Records : List ℕ → List WireRecord → Type 0
+Records bytes list = (pieces : List Piece) × AreRecords 0 bytes pieces × (list ≡ map (λ p. p.wire) pieces)
+
+-- a key of this wire type stands in front of the rest
+pub record HasKey (bytes : List ℕ) (kind : ℕ) (rest : List ℕ) : Type 0 where
+  pub field : ℕ
+  pub key : List ℕ
+  pub form : bytes ≡ key ++ rest
+  pub is_key : IsKey key field kind
+
+-- the bytes end inside the record in front
+pub data IsTruncated (bytes : List ℕ) : Type 0 where
+  in_key : IsOpen bytes → IsTruncated bytes
+  in_varint : (rest : List ℕ) → HasKey bytes 0 rest → IsOpen rest → IsTruncated bytes
+  in_eight : (rest : List ℕ) → HasKey bytes 1 rest → length rest < 8 → IsTruncated bytes
+  in_length : (rest : List ℕ) → HasKey bytes 2 rest → IsOpen rest → IsTruncated bytes
+  in_payload : (size rest : List ℕ) (count : ℕ) → HasKey bytes 2 (size ++ rest) → IsVarint size count → length rest < count → IsTruncated bytes
+  in_four : (rest : List ℕ) → HasKey bytes 5 rest → length rest < 4 → IsTruncated bytes
+
+-- the key, the number or the length of the record in front has ten bytes that all go on
+pub data IsTooLong (bytes : List ℕ) : Type 0 where
+  as_key : IsLong bytes → IsTooLong bytes
+  as_varint : (rest : List ℕ) → HasKey bytes 0 rest → IsLong rest → IsTooLong bytes
+  as_length : (rest : List ℕ) → HasKey bytes 2 rest → IsLong rest → IsTooLong bytes
+
+-- the key in front is of a wire type that is no plain value: 3, 4, 6 or 7
+pub record IsGroup (bytes : List ℕ) : Type 0 where
+  pub kind : ℕ
+  pub rest : List ℕ
+  pub has_key : HasKey bytes kind rest
+  pub no_value : (kind ≡ 3) ⊎ (kind ≡ 4) ⊎ (kind ≡ 6) ⊎ (kind ≡ 7)
+
+-- the number of the key in front is no field number
+pub record IsNoField (bytes : List ℕ) : Type 0 where
+  pub number : ℕ
+  pub kind : ℕ
+  pub key : List ℕ
+  pub rest : List ℕ
+  pub form : bytes ≡ key ++ rest
+  pub is_varint : IsVarint key (8 * number + kind)
+  pub is_kind : kind < 8
+  pub no_field : (number ≡ 0) ⊎ (536870911 < number)
+
+-- the record in front, whose key has this offset, has this fault
+abbrev pub IsWrong : ℕ → List ℕ → WireFault → Type 0
+IsWrong at bytes (Truncated place) = (place ≡ at) × IsTruncated bytes
+IsWrong at bytes (LongVarint place) = (place ≡ at) × IsTooLong bytes
+IsWrong at bytes (Group place) = (place ≡ at) × IsGroup bytes
+IsWrong at bytes (ZeroField place) = (place ≡ at) × IsNoField bytes
+IsWrong at bytes (BadText place) = ⊥
+IsWrong at bytes Device = ⊥
+IsWrong at bytes Memory = ⊥
+
+-- what stands in front of bytes: a record and what follows it, or the fault of a record that is wrong
+abbrev pub IsFirst : ℕ → List ℕ → Result (Piece × List ℕ) WireFault → Type 0
+IsFirst at bytes (Ok x) = (first : List ℕ) × (bytes ≡ first ++ x.1) × IsRecord at first x.0
+IsFirst at bytes (Err fault) = IsWrong at bytes fault
+
+-- these good records stand in front, and the one behind them has this fault
+pub record IsStopped (at : ℕ) (bytes : List ℕ) (before : List Piece) (fault : WireFault) : Type 0 where
+  pub good : List ℕ
+  pub rest : List ℕ
+  pub form : bytes ≡ good ++ rest
+  pub are_records : AreRecords at good before
+  pub some : 0 < length rest
+  pub is_wrong : IsWrong (at + length good) rest fault
+
+-- these good records stand in front, and then this rest, whose first byte has this offset
+pub record Reaches (start : ℕ) (bytes : List ℕ) (front : List Piece) (at : ℕ) (rest : List ℕ) : Type 0 where
+  pub good : List ℕ
+  pub form : bytes ≡ good ++ rest
+  pub are_records : AreRecords start good front
+  pub here : at ≡ start + length good
+
+-- what bytes are: records in a row, or the fault of the first record that is wrong
+abbrev pub IsOutcome : List ℕ → Result (List WireRecord) WireFault → Type 0
+IsOutcome bytes (Ok list) = Records bytes list
+IsOutcome bytes (Err fault) = (before : List Piece) × IsStopped 0 bytes before fault

@@ -1,0 +1,111 @@
+-- The one way in which fields are written.
+use Rattle.std.specs.Prelude.{◌≡◌, ◌<◌, ◌^◌, ℕ, zero, suc, ◌+◌, ◌*◌, ℤ, pos, negsuc, List, [], ◌∷◌, ◌++◌, length, map}
+use Rattle.std.specs.List.{flat_map}
+use Rattle.std.specs.Int.{w64, cast_unsigned}
+use Rattle.proto_wire.specs.declared.record.WireValue.TheVariants.{Varint, Bytes}
+use Rattle.proto_wire.specs.Varints.{varint}
+use Rattle.proto_wire.specs.Records.{Piece, IsField}
+use Rattle.proto_wire.specs.Readings.{piece}
+
+-- what a record carries
+pub data Content : Type 0 where
+  Number : (n : ℕ) → Content
+  Payload : (bytes : List ℕ) → Content
+
+-- a record before it has a place
+pub record Field : Type 0 where
+  pub number : ℕ
+  pub content : Content
+
+abbrev pub number_field : ℕ → ℕ → Field
+number_field k n = record { number = k; content = Number n }
+
+abbrev pub payload_field : ℕ → List ℕ → Field
+payload_field k bytes = record { number = k; content = Payload bytes }
+
+-- the key of this field and wire type
+abbrev pub key_of : ℕ → ℕ → List ℕ
+key_of k kind = varint (8 * k + kind)
+
+-- what stands in front of a payload of so many bytes: a key and the length
+abbrev pub head_of : ℕ → ℕ → List ℕ
+head_of k count = key_of k 2 ++ varint count
+
+-- a key, and a varint, or a length and so many bytes
+abbrev pub spelled_as : ℕ → Content → List ℕ
+spelled_as k (Number n) = key_of k 0 ++ varint n
+spelled_as k (Payload bytes) = head_of k (length bytes) ++ bytes
+
+abbrev pub spelled : Field → List ℕ
+spelled f = spelled_as f.number f.content
+
+-- the records of these fields in a row
+abbrev pub spelling : List Field → List ℕ
+spelling fields = flat_map spelled fields
+
+-- a number fits 64 bits, and so does a length
+abbrev pub ContentFits : Content → Type 0
+ContentFits (Number n) = n < 2 ^ 64
+ContentFits (Payload bytes) = length bytes < 2 ^ 64
+
+-- the field can be written as a record
+pub record FieldFits (f : Field) : Type 0 where
+  pub is_field : IsField f.number
+  pub content : ContentFits f.content
+
+abbrev pub placed : ℕ → ℕ → Content → Piece
+placed at k (Number n) = piece k (Varint n) at (at + length (key_of k 0)) []
+placed at k (Payload bytes) = piece k (Bytes (length bytes)) at (at + length (head_of k (length bytes))) bytes
+
+-- the record of the field, with its key at this offset
+abbrev pub piece_at : ℕ → Field → Piece
+piece_at at f = placed at f.number f.content
+
+-- the records of these fields in a row, the first at this offset
+abbrev pub pieces_at : ℕ → List Field → List Piece
+pieces_at at [] = []
+pieces_at at (f ∷ fs) = piece_at at f ∷ pieces_at (at + length (spelled f)) fs
+
+-- the record carries the field, wherever it stands
+abbrev pub CarriesContent : Piece → Content → Type 0
+CarriesContent p (Number n) = p.wire.value ≡ Varint n
+CarriesContent p (Payload bytes) = (p.wire.value ≡ Bytes (length bytes)) × (p.payload ≡ bytes)
+
+pub record Carries (p : Piece) (f : Field) : Type 0 where
+  pub number : p.wire.field ≡ f.number
+  pub content : CarriesContent p f.content
+
+-- each record carries its field
+abbrev pub CarryAll : List Piece → List Field → Type 0
+CarryAll [] [] = Unit {0}
+CarryAll [] (f ∷ fs) = ⊥
+CarryAll (p ∷ ps) [] = ⊥
+CarryAll (p ∷ ps) (f ∷ fs) = Carries p f × CarryAll ps fs
+
+-- a signed number as the 64 bits that are written; a negative one takes ten bytes
+abbrev pub bits_of : ℤ → ℕ
+bits_of z = cast_unsigned w64 z
+
+-- a number, unless it is 0
+abbrev pub number_fields : ℕ → ℤ → List Field
+number_fields k (pos zero) = []
+number_fields k (pos (suc n)) = number_field k (bits_of (pos (suc n))) ∷ []
+number_fields k (negsuc n) = number_field k (bits_of (negsuc n)) ∷ []
+
+-- a text, unless it is empty
+abbrev pub text_fields : ℕ → List ℕ → List Field
+text_fields k [] = []
+text_fields k (b ∷ bytes) = payload_field k (b ∷ bytes) ∷ []
+
+-- numbers in a row, each a varint
+abbrev pub packing : List ℤ → List ℕ
+packing zs = flat_map (λ z. varint (bits_of z)) zs
+
+-- packed numbers, unless there are none
+abbrev pub packed_fields : ℕ → List ℤ → List Field
+packed_fields k [] = []
+packed_fields k (z ∷ zs) = payload_field k (packing (z ∷ zs)) ∷ []
+
+-- texts or messages, empty ones too
+abbrev pub payload_fields : ℕ → List (List ℕ) → List Field
+payload_fields k payloads = map (payload_field k) payloads

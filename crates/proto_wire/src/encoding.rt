@@ -1,0 +1,57 @@
+//! Keys, numbers and payloads as bytes: the one place where they are made.
+ghost use Rattle.std.specs.Prelude.{◌≡◌, ◌<◌, ◌++◌, OnOk, IfOk};
+ghost use Rattle.proto_wire.specs.Varints.{varint};
+ghost use Rattle.proto_wire.specs.Writing.{bits_of, head_of, key_of, number_field, packing, payload_field, spelled};
+
+use crate::varint::push_varint;
+use std::alloc::{AllocError, Global};
+
+/// Puts the key of this field and wire type at the end.
+fn push_key(out: &mut Vec<u8>, field: u32, kind: u64) -> Result<(), AllocError>
+    requires { kind < 8 }
+    ensures { OnOk result (out.new.items ≡ out.old.items ++ key_of field kind) }
+{
+    push_varint(out, 8 * u64::from(field) + kind)
+}
+
+/// Puts a record with a varint at the end.
+pub(crate) fn push_number(out: &mut Vec<u8>, field: u32, number: u64) -> Result<(), AllocError>
+    ensures { OnOk result (out.new.items ≡ out.old.items ++ spelled (number_field field number)) }
+{
+    push_key(out, field, 0)?;
+    push_varint(out, number)
+}
+
+/// Puts at the end what stands in front of a payload of so many bytes: a key and the length.
+pub(crate) fn push_head(out: &mut Vec<u8>, field: u32, count: usize) -> Result<(), AllocError>
+    ensures { OnOk result (out.new.items ≡ out.old.items ++ head_of field count) }
+{
+    push_key(out, field, 2)?;
+    push_varint(out, count as u64)
+}
+
+/// Puts a record with this payload at the end.
+pub(crate) fn push_payload(out: &mut Vec<u8>, field: u32, payload: &[u8]) -> Result<(), AllocError>
+    ensures { OnOk result (out.new.items ≡ out.old.items ++ spelled (payload_field field payload.now)) }
+{
+    push_head(out, field, payload.len())?;
+    out.extend_from_slice(payload)
+}
+
+/// The 64 bits as which a signed number is written: a negative one takes ten bytes.
+pub(crate) fn bits_of(number: i32) -> u64
+    ensures { result ≡ bits_of number }
+{
+    i64::from(number).cast_unsigned()
+}
+
+/// Numbers in a row, each a varint.
+pub(crate) fn packing(alloc: Global, numbers: &[i32]) -> Result<Vec<u8>, AllocError>
+    ensures { IfOk result (λ v. v.items ≡ packing numbers.now) }
+{
+    let mut payload = Vec::new(alloc);
+    for number in numbers {
+        push_varint(&mut payload, bits_of(*number))?;
+    }
+    Ok(payload)
+}

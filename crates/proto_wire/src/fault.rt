@@ -1,0 +1,68 @@
+//! Why wire bytes could not be read or written.
+
+use cut_report::SinkFault;
+use std::alloc::{AllocError, AllocFailed};
+use thiserror::Error;
+
+/// The first fault of wire bytes, with the offset of its record's key in the whole input, in bytes from 0; or why a record
+/// could not be written.
+#[derive(Clone, Copy, Debug, PartialEq, Eq, Error)]
+pub enum WireFault {
+    /// The bytes end inside the record, or a packed payload inside a number.
+    #[error("the record at {at} is cut off")]
+    Truncated { at: usize },
+    /// Ten bytes of a varint all go on.
+    #[error("the record at {at} has a varint of more than ten bytes")]
+    LongVarint { at: usize },
+    /// A wire type that is no plain value: 3, 4, 6 or 7.
+    #[error("the record at {at} is a group")]
+    Group { at: usize },
+    /// A field number that is 0 or above 536,870,911.
+    #[error("the record at {at} has no field number")]
+    ZeroField { at: usize },
+    /// A text that isn't UTF-8.
+    #[error("the text of the record at {at} is no UTF-8")]
+    BadText { at: usize },
+    /// The device failed.
+    #[error("the device failed")]
+    Device,
+    /// A growth of memory was refused.
+    #[error("memory ran out")]
+    Memory,
+}
+
+impl From<AllocError> for WireFault {
+    ghost use Rattle.std.specs.Prelude.{◌≡◌};
+    ghost use Rattle.proto_wire.specs.declared.fault.WireFault.TheVariants.{Memory};
+
+    ghost from_gives = { λ _ fault. fault ≡ Memory };
+
+    fn from(_error: AllocError) -> WireFault {
+        WireFault::Memory
+    }
+}
+
+impl<T: Drop> From<AllocFailed<T>> for WireFault {
+    ghost use Rattle.std.specs.Prelude.{◌≡◌};
+    ghost use Rattle.proto_wire.specs.declared.fault.WireFault.TheVariants.{Memory};
+
+    ghost from_gives = { λ _ fault. fault ≡ Memory };
+
+    fn from(_error: AllocFailed<T>) -> WireFault {
+        WireFault::Memory
+    }
+}
+
+impl From<SinkFault> for WireFault {
+    ghost use Rattle.std.specs.Prelude.{◌≡◌};
+    ghost use Rattle.proto_wire.specs.Writers.{fault_of_sink};
+
+    ghost from_gives = { λ fault given. given ≡ fault_of_sink fault };
+
+    fn from(fault: SinkFault) -> WireFault {
+        match fault {
+            SinkFault::Memory => WireFault::Memory,
+            SinkFault::Device => WireFault::Device,
+        }
+    }
+}

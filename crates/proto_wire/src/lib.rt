@@ -1,0 +1,26 @@
+//! The wire format of Protocol Buffers: its records, read and written, and messages that are taken in record by record.
+//! Stands on the `Sink` of `cut_report`, with `thiserror` for its faults.
+//! Its contract: bytes are read as the records in a row that they are, or their first fault is told; a record is put whole, or a front of it; what was written is read again.
+#![tactic(auto)]
+
+mod encoding;
+mod fault;
+mod field;
+pub mod laws;
+mod message;
+mod record;
+mod varint;
+mod writer;
+mod writing;
+
+pub use fault::WireFault;
+pub use field::{packed_values, take_number, take_numbers, take_text, take_texts};
+pub use message::{Message, merge_message, read_message, take_messages};
+pub use record::{WireRecord, WireValue, record_at_front, records};
+pub use writer::Writer;
+pub use writing::{
+    Written, put_message, put_messages, put_number, put_packed, put_text, put_texts,
+};
+
+#[cfg(test)]
+mod tests;

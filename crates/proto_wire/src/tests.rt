@@ -1,0 +1,5 @@
+mod fields;
+mod messages;
+mod reading;
+mod writer;
+mod writing;
