@@ -110,6 +110,7 @@ fn named_type<'a>(
     let (name, here) = identdef(input)?;
     let here = expect(here, Kind::Equals)?;
     let (form, here) = type_form(alloc, here, depth)?;
+    let form = Box::into_inner(form);
     Ok((TypeDecl { name, form }, here))
 }
 
@@ -283,7 +284,7 @@ fn procedure_within<'a>(
     let (parameters, here) = some_parameters(alloc, here)?;
     let here = expect(here, Kind::Semicolon)?;
     let (declarations, here) = declarations(alloc, here, depth)?;
-    let (body, here) = boxed_body(alloc, here, depth)?;
+    let (body, here) = body(alloc, here, depth)?;
     let (returned, here) = returned(alloc, here, depth)?;
     let here = expect(here, Kind::End)?;
     let (end_name, here) = identifier(here)?;
@@ -325,27 +326,9 @@ pub(crate) fn declarations<'a>(
     ))
 }
 
-/// The statements behind BEGIN, if it stands here.
+/// The statements behind BEGIN, in a box, if it stands here.
 #[tactic(auto, unfolding(crate::specs::ReadModules::body_with))]
 pub(crate) fn body<'a>(
-    alloc: Global,
-    input: Input<'a>,
-    depth: u32,
-) -> Result<(Option<Block>, Input<'a>), Stop>
-    ensures { Gives (λ x. (if_there (λ b. word kinds.Begin ++ block_outline b) x.0, ahead x.1)) result (body_with (block_at depth) (ahead input.entry)) }
-{
-    match accept(input, Kind::Begin) {
-        Some(rest) => {
-            let (block, rest) = block(alloc, rest, depth)?;
-            Ok((Some(block), rest))
-        }
-        None => Ok((None, input)),
-    }
-}
-
-/// The same, in a box.
-#[tactic(auto, unfolding(crate::specs::ReadModules::body_with))]
-fn boxed_body<'a>(
     alloc: Global,
     input: Input<'a>,
     depth: u32,
@@ -355,7 +338,7 @@ fn boxed_body<'a>(
     match accept(input, Kind::Begin) {
         Some(rest) => {
             let (block, rest) = block(alloc, rest, depth)?;
-            Ok((Some(Box::new(alloc, block)?), rest))
+            Ok((Some(block), rest))
         }
         None => Ok((None, input)),
     }

@@ -3,9 +3,10 @@
 ghost use Rattle.std.specs.Prelude.{◌≡◌, ◌++◌};
 ghost use Rattle.ob_scan.specs.declared.kind.Kind.TheVariants as kinds;
 ghost use Rattle.ob_tree.specs.declared.construct.Construct.TheVariants as constructs;
+ghost use Rattle.ob_tree.specs.Marks as marks;
 ghost use Rattle.ob_tree.specs.Marks.{construct, word, if_there, each, each_after};
 ghost use Rattle.ob_tree.specs.Expressions.{mul_kind, add_kind, expr_outline, expr_list_outline, sum_outline, term_outline, factor_outline, element_outline, element_list_outline, designator_outline, selector_outline};
-ghost use Rattle.ob_parse.specs.Forms.{many, several, optional, unless, begins, accept_at};
+ghost use Rattle.ob_parse.specs.Forms.{many, several, optional, unless, begins, accept_at, expect_at, name_at, seq, prefixed, node};
 ghost use Rattle.ob_parse.specs.Gives.{Gives, ahead};
 ghost use Rattle.ob_parse.specs.ReadExpressions.{mul_start, add_start, selector_first, element_with, selector_with, designator_with, factor_at, negated_at, term_at, sum_at, expr_at};
 
@@ -66,12 +67,12 @@ pub(crate) fn expression_list<'a>(
     alloc: Global,
     input: Input<'a>,
     depth: u32,
-) -> Result<(ExprList, Input<'a>), Stop>
-    ensures { Gives (λ x. (expr_list_outline x.0, ahead x.1)) result (several kinds.Comma (expr_at depth) (ahead input.entry)) }
+) -> Result<(Box<ExprList>, Input<'a>), Stop>
+    ensures { Gives (λ x. (expr_list_outline x.0.value, ahead x.1)) result (several kinds.Comma (expr_at depth) (ahead input.entry)) }
 {
     let (first, here) = expression(alloc, input, depth)?;
     let (rest, here) = more_expressions(alloc, here, depth)?;
-    Ok((ExprList { first, rest }, here))
+    Ok((Box::new(alloc, ExprList { first, rest })?, here))
 }
 
 #[cycle(expressions)]
@@ -156,30 +157,66 @@ fn factor<'a>(alloc: Global, input: Input<'a>, depth: u32) -> Result<(Factor, In
     ensures { Gives (λ x. (factor_outline x.0, ahead x.1)) result (factor_at depth (ahead input.entry)) }
 {
     match input.next() {
-        Some((Leaf::Name(number), rest)) => {
-            let (designator, rest) = designator(alloc, number, rest, depth)?;
-            Ok((Factor::Name(designator), rest))
-        }
+        Some((Leaf::Name(number), rest)) => named(alloc, number, rest, depth),
         Some((Leaf::Value(literal, number), rest)) => Ok((Factor::Value(literal, number), rest)),
         Some((Leaf::Word(Kind::Nil), rest)) => Ok((Factor::Nil, rest)),
         Some((Leaf::Word(Kind::True), rest)) => Ok((Factor::True, rest)),
         Some((Leaf::Word(Kind::False), rest)) => Ok((Factor::False, rest)),
-        Some((Leaf::Word(Kind::LeftBrace), rest)) => {
-            let (elements, rest) = elements(alloc, rest, depth)?;
-            let rest = expect(rest, Kind::RightBrace)?;
-            Ok((Factor::Set(elements), rest))
-        }
-        Some((Leaf::Word(Kind::LeftParen), rest)) => {
-            let (inner, rest) = expression(alloc, rest, depth)?;
-            let rest = expect(rest, Kind::RightParen)?;
-            Ok((Factor::Group(Box::new(alloc, inner)?), rest))
-        }
-        Some((Leaf::Word(Kind::Tilde), rest)) => {
-            let (inner, rest) = negated(alloc, rest, depth)?;
-            Ok((Factor::Not(Box::new(alloc, inner)?), rest))
-        }
+        Some((Leaf::Word(Kind::LeftBrace), rest)) => set(alloc, rest, depth),
+        Some((Leaf::Word(Kind::LeftParen), rest)) => group(alloc, rest, depth),
+        Some((Leaf::Word(Kind::Tilde), rest)) => inverted(alloc, rest, depth),
         _ => Err(Stop::Wrong(input.number())),
     }
+}
+
+/// A designator as a factor, behind its name.
+#[cycle(expressions)]
+#[tactic(auto, using(ob_tree::proofs::ExpressionLayers::expressions_made))]
+fn named<'a>(
+    alloc: Global,
+    number: u32,
+    input: Input<'a>,
+    depth: u32,
+) -> Result<(Factor, Input<'a>), Stop>
+    ensures { Gives (λ x. (factor_outline x.0, ahead x.1)) result (node constructs.Factor (designator_with (expr_at depth) number) (ahead input.entry)) }
+{
+    let (designator, rest) = designator(alloc, number, input, depth)?;
+    Ok((Factor::Name(designator), rest))
+}
+
+/// What stands behind the brace that opens a set.
+#[cycle(expressions)]
+#[tactic(auto, using(ob_tree::proofs::ExpressionLayers::expressions_made))]
+fn set<'a>(alloc: Global, input: Input<'a>, depth: u32) -> Result<(Factor, Input<'a>), Stop>
+    ensures { Gives (λ x. (factor_outline x.0, ahead x.1)) result
+        (node constructs.Factor (prefixed (word kinds.LeftBrace) (seq (optional (unless kinds.RightBrace) (several kinds.Comma (element_with (expr_at depth)))) (expect_at kinds.RightBrace))) (ahead input.entry)) }
+{
+    let (elements, rest) = elements(alloc, input, depth)?;
+    let rest = expect(rest, Kind::RightBrace)?;
+    Ok((Factor::Set(elements), rest))
+}
+
+/// What stands behind a parenthesis.
+#[cycle(expressions)]
+#[tactic(auto, using(ob_tree::proofs::ExpressionLayers::expressions_made))]
+fn group<'a>(alloc: Global, input: Input<'a>, depth: u32) -> Result<(Factor, Input<'a>), Stop>
+    ensures { Gives (λ x. (factor_outline x.0, ahead x.1)) result
+        (node constructs.Factor (prefixed (word kinds.LeftParen) (seq (expr_at depth) (expect_at kinds.RightParen))) (ahead input.entry)) }
+{
+    let (inner, rest) = expression(alloc, input, depth)?;
+    let rest = expect(rest, Kind::RightParen)?;
+    Ok((Factor::Group(Box::new(alloc, inner)?), rest))
+}
+
+/// What stands behind a `~`.
+#[cycle(expressions)]
+#[tactic(auto, using(ob_tree::proofs::ExpressionLayers::expressions_made))]
+fn inverted<'a>(alloc: Global, input: Input<'a>, depth: u32) -> Result<(Factor, Input<'a>), Stop>
+    ensures { Gives (λ x. (factor_outline x.0, ahead x.1)) result
+        (node constructs.Factor (prefixed (word kinds.Tilde) (negated_at depth)) (ahead input.entry)) }
+{
+    let (inner, rest) = negated(alloc, input, depth)?;
+    Ok((Factor::Not(Box::new(alloc, inner)?), rest))
 }
 
 /// The factor behind a `~`, itself a level.
@@ -208,7 +245,7 @@ fn elements<'a>(
         return Ok((None, input));
     }
     let (list, rest) = element_list(alloc, input, depth)?;
-    Ok((Some(Box::new(alloc, list)?), rest))
+    Ok((Some(list), rest))
 }
 
 #[cycle(expressions)]
@@ -217,12 +254,12 @@ fn element_list<'a>(
     alloc: Global,
     input: Input<'a>,
     depth: u32,
-) -> Result<(ElementList, Input<'a>), Stop>
-    ensures { Gives (λ x. (element_list_outline x.0, ahead x.1)) result (several kinds.Comma (element_with (expr_at depth)) (ahead input.entry)) }
+) -> Result<(Box<ElementList>, Input<'a>), Stop>
+    ensures { Gives (λ x. (element_list_outline x.0.value, ahead x.1)) result (several kinds.Comma (element_with (expr_at depth)) (ahead input.entry)) }
 {
     let (first, here) = element(alloc, input, depth)?;
     let (rest, here) = more_elements(alloc, here, depth)?;
-    Ok((ElementList { first, rest }, here))
+    Ok((Box::new(alloc, ElementList { first, rest })?, here))
 }
 
 #[cycle(expressions)]
@@ -303,23 +340,45 @@ fn selector<'a>(alloc: Global, input: Input<'a>, depth: u32) -> Result<(Selector
     ensures { Gives (λ x. (selector_outline x.0, ahead x.1)) result (selector_with (expr_at depth) (ahead input.entry)) }
 {
     match input.next() {
-        Some((Leaf::Word(Kind::Dot), rest)) => {
-            let (field, rest) = identifier(rest)?;
-            Ok((Selector::Field(field), rest))
-        }
-        Some((Leaf::Word(Kind::LeftBracket), rest)) => {
-            let (list, rest) = expression_list(alloc, rest, depth)?;
-            let rest = expect(rest, Kind::RightBracket)?;
-            Ok((Selector::Index(Box::new(alloc, list)?), rest))
-        }
+        Some((Leaf::Word(Kind::Dot), rest)) => field(rest),
+        Some((Leaf::Word(Kind::LeftBracket), rest)) => index(alloc, rest, depth),
         Some((Leaf::Word(Kind::Caret), rest)) => Ok((Selector::Target, rest)),
-        Some((Leaf::Word(Kind::LeftParen), rest)) => {
-            let (list, rest) = arguments(alloc, rest, depth)?;
-            let rest = expect(rest, Kind::RightParen)?;
-            Ok((Selector::Arguments(list), rest))
-        }
+        Some((Leaf::Word(Kind::LeftParen), rest)) => call(alloc, rest, depth),
         _ => Err(Stop::Wrong(input.number())),
     }
+}
+
+/// The name behind a dot.
+#[tactic(auto, using(ob_tree::proofs::ExpressionLayers::expressions_made), unfolding(crate::specs::Forms::name_at))]
+fn field<'a>(input: Input<'a>) -> Result<(Selector, Input<'a>), Stop>
+    ensures { Gives (λ x. (selector_outline x.0, ahead x.1)) result (node constructs.Selector (prefixed (word kinds.Dot) (name_at marks.named)) (ahead input.entry)) }
+{
+    let (field, rest) = identifier(input)?;
+    Ok((Selector::Field(field), rest))
+}
+
+/// What stands behind a bracket.
+#[cycle(expressions)]
+#[tactic(auto, using(ob_tree::proofs::ExpressionLayers::expressions_made))]
+fn index<'a>(alloc: Global, input: Input<'a>, depth: u32) -> Result<(Selector, Input<'a>), Stop>
+    ensures { Gives (λ x. (selector_outline x.0, ahead x.1)) result
+        (node constructs.Selector (prefixed (word kinds.LeftBracket) (seq (several kinds.Comma (expr_at depth)) (expect_at kinds.RightBracket))) (ahead input.entry)) }
+{
+    let (list, rest) = expression_list(alloc, input, depth)?;
+    let rest = expect(rest, Kind::RightBracket)?;
+    Ok((Selector::Index(list), rest))
+}
+
+/// What stands behind the parenthesis of a call.
+#[cycle(expressions)]
+#[tactic(auto, using(ob_tree::proofs::ExpressionLayers::expressions_made))]
+fn call<'a>(alloc: Global, input: Input<'a>, depth: u32) -> Result<(Selector, Input<'a>), Stop>
+    ensures { Gives (λ x. (selector_outline x.0, ahead x.1)) result
+        (node constructs.Selector (prefixed (word kinds.LeftParen) (seq (optional (unless kinds.RightParen) (several kinds.Comma (expr_at depth))) (expect_at kinds.RightParen))) (ahead input.entry)) }
+{
+    let (list, rest) = arguments(alloc, input, depth)?;
+    let rest = expect(rest, Kind::RightParen)?;
+    Ok((Selector::Arguments(list), rest))
 }
 
 /// The arguments of a call, if there are any.
@@ -336,5 +395,5 @@ fn arguments<'a>(
         return Ok((None, input));
     }
     let (list, rest) = expression_list(alloc, input, depth)?;
-    Ok((Some(Box::new(alloc, list)?), rest))
+    Ok((Some(list), rest))
 }

@@ -1,8 +1,9 @@
 //! Modules (Oberon-07 report, section 11).
 
-ghost use Rattle.std.specs.Prelude.{◌++◌};
+ghost use Rattle.std.specs.Prelude.{◌≡◌, ◌++◌};
 ghost use Rattle.ob_scan.specs.declared.kind.Kind.TheVariants as kinds;
 ghost use Rattle.ob_tree.specs.Marks.{word, each_after, listed, if_there, named};
+ghost use Rattle.ob_tree.specs.Statements.{block_outline};
 ghost use Rattle.ob_tree.specs.Declaring.{import_outline, module_outline};
 ghost use Rattle.ob_parse.specs.Forms.{optional, accept_at, name_at, several, many};
 ghost use Rattle.ob_parse.specs.ReadModules.{import_at, imports_at, module_at, all_of};
@@ -15,6 +16,7 @@ use crate::symbols::{accept, expect, identifier};
 use ob_scan::Kind;
 use ob_tree::declaration::{ImportItem, Module};
 use ob_tree::name::OneOrMore;
+use ob_tree::statement::Block;
 use std::alloc::Global;
 
 /// The name of a module that is imported under another, behind `:=`.
@@ -86,14 +88,24 @@ fn imports<'a>(
     }
 }
 
+/// The statements of a module, out of their box.
+fn unboxed(body: Option<Box<Block>>) -> Option<Block>
+    ensures { if_there (λ b. word kinds.Begin ++ block_outline b) result ≡ if_there (λ b. word kinds.Begin ++ block_outline b.value) body }
+{
+    match body {
+        Some(block) => Some(Box::into_inner(block)),
+        None => None,
+    }
+}
+
 /// A module, with at most so many levels in it.
 #[tactic(auto, using(ob_tree::proofs::DeclarationLayers::declaring_made), unfolding(crate::specs::ReadModules::module_at, crate::specs::ReadModules::module_named, crate::specs::Forms::name_at))]
 pub(crate) fn module<'a>(
     alloc: Global,
     input: Input<'a>,
     depth: u32,
-) -> Result<(Module, Input<'a>), Stop>
-    ensures { Gives (λ x. (module_outline x.0, ahead x.1)) result (module_at depth (ahead input.entry)) }
+) -> Result<(Box<Module>, Input<'a>), Stop>
+    ensures { Gives (λ x. (module_outline x.0.value, ahead x.1)) result (module_at depth (ahead input.entry)) }
 {
     let here = expect(input, Kind::Module)?;
     let (name, here) = identifier(here)?;
@@ -104,22 +116,20 @@ pub(crate) fn module<'a>(
     let here = expect(here, Kind::End)?;
     let (end_name, here) = identifier(here)?;
     let here = expect(here, Kind::Dot)?;
-    Ok((
-        Module {
-            name,
-            imports,
-            declarations,
-            body,
-            end_name,
-        },
-        here,
-    ))
+    let module = Module {
+        name,
+        imports,
+        declarations,
+        body: unboxed(body),
+        end_name,
+    };
+    Ok((Box::new(alloc, module)?, here))
 }
 
 /// All of the tokens, as one module.
 #[tactic(auto, unfolding(crate::specs::ReadModules::all_of))]
-pub(crate) fn whole<'a>(alloc: Global, input: Input<'a>, depth: u32) -> Result<Module, Stop>
-    ensures { Gives module_outline result (all_of depth (ahead input.entry)) }
+pub(crate) fn whole<'a>(alloc: Global, input: Input<'a>, depth: u32) -> Result<Box<Module>, Stop>
+    ensures { Gives (λ m. module_outline m.value) result (all_of depth (ahead input.entry)) }
 {
     let (module, here) = module(alloc, input, depth)?;
     match here.next() {

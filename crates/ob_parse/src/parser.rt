@@ -24,9 +24,9 @@ use std::alloc::Global;
 /// How many procedure declarations, types, statements that are not empty, expressions and factors after `~` may hold one another.
 const DEEPEST: u32 = 200;
 
-fn tree_of(alloc: Global, tokens: &[Token]) -> Result<Module, Stop>
+fn tree_of(alloc: Global, tokens: &[Token]) -> Result<Box<Module>, Stop>
     requires { length tokens.now < 2 ^ 32 }
-    ensures { Gives module_outline result (all_of 200 (leaves 0 (kinds_of tokens.now))) }
+    ensures { Gives (λ m. module_outline m.value) result (all_of 200 (leaves 0 (kinds_of tokens.now))) }
 {
     whole(alloc, Input::new(tokens), DEEPEST)
 }
@@ -76,9 +76,9 @@ pub fn parse(alloc: Global, bytes: &[u8], tokens: &Tokens) -> Result<Module, Par
         Ok(tree) => tree,
         Err(stop) => return Err(fault_of(bytes.len() as u32, tokens, stop)),
     };
-    let ends = endings(alloc, &tree)?;
+    let ends = endings(alloc, &*tree)?;
     match wrong_end(bytes, tokens, ends.as_slice()) {
-        None => Ok(tree),
+        None => Ok(Box::into_inner(tree)),
         Some(offset) => Err(ParseFault::EndName { offset }),
     }
 }

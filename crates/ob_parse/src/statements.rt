@@ -115,12 +115,12 @@ pub(crate) fn block<'a>(
     alloc: Global,
     input: Input<'a>,
     depth: u32,
-) -> Result<(Block, Input<'a>), Stop>
-    ensures { Gives (λ x. (block_outline x.0, ahead x.1)) result (block_at depth (ahead input.entry)) }
+) -> Result<(Box<Block>, Input<'a>), Stop>
+    ensures { Gives (λ x. (block_outline x.0.value, ahead x.1)) result (block_at depth (ahead input.entry)) }
 {
     let (first, here) = statement(alloc, input, depth)?;
     let (rest, here) = more_statements(alloc, here, depth)?;
-    Ok((Block { first, rest }, here))
+    Ok((Box::new(alloc, Block { first, rest })?, here))
 }
 
 #[cycle(statements)]
@@ -149,13 +149,17 @@ fn branch<'a>(
     input: Input<'a>,
     depth: u32,
     keyword: Kind,
-) -> Result<(Branch, Input<'a>), Stop>
-    ensures { Gives (λ x. (branch_outline x.0 keyword, ahead x.1)) result (branch_with (expr_at depth) (block_at depth) keyword (ahead input.entry)) }
+) -> Result<(Box<Branch>, Input<'a>), Stop>
+    ensures { Gives (λ x. (branch_outline x.0.value keyword, ahead x.1)) result (branch_with (expr_at depth) (block_at depth) keyword (ahead input.entry)) }
 {
     let (condition, input) = expression(alloc, input, depth)?;
     let input = expect(input, keyword)?;
     let (body, input) = block(alloc, input, depth)?;
-    Ok((Branch { condition, body }, input))
+    let branch = Branch {
+        condition,
+        body: Box::into_inner(body),
+    };
+    Ok((Box::new(alloc, branch)?, input))
 }
 
 #[cycle(statements)]
@@ -172,7 +176,7 @@ fn more_branches<'a>(
     let mut here = input;
     'more: while let Some(after) = accept(here, Kind::Elsif) {
         let (next, after) = branch(alloc, after, depth, keyword)?;
-        rest.push(next)?;
+        rest.push(Box::into_inner(next))?;
         here = after;
     }
     Ok((rest, here))
@@ -191,7 +195,7 @@ fn otherwise<'a>(
         None => Ok((None, input)),
         Some(rest) => {
             let (body, rest) = block(alloc, rest, depth)?;
-            Ok((Some(Box::new(alloc, body)?), rest))
+            Ok((Some(body), rest))
         }
     }
 }
@@ -206,7 +210,7 @@ fn if_statement<'a>(alloc: Global, input: Input<'a>, depth: u32) -> Result<(Stmt
     let (rest, input) = more_branches(alloc, input, depth, Kind::Then)?;
     let (otherwise, input) = otherwise(alloc, input, depth)?;
     let input = expect(input, Kind::End)?;
-    Ok((Stmt::If(Box::new(alloc, first)?, rest, otherwise), input))
+    Ok((Stmt::If(first, rest, otherwise), input))
 }
 
 /// What stands behind CASE.
@@ -224,22 +228,23 @@ fn case_statement<'a>(
     let (first, input) = case(alloc, input, depth)?;
     let (rest, input) = more_cases(alloc, input, depth)?;
     let input = expect(input, Kind::End)?;
-    Ok((Stmt::Case(value, Box::new(alloc, first)?, rest), input))
+    Ok((Stmt::Case(value, first, rest), input))
 }
 
 /// One case, which may be empty.
 #[cycle(statements)]
 #[tactic(auto, using(crate::proofs::StatementSteps::made), unfolding(crate::specs::ReadStatements::case_with, crate::specs::Forms::begins))]
-fn case<'a>(alloc: Global, input: Input<'a>, depth: u32) -> Result<(Case, Input<'a>), Stop>
-    ensures { Gives (λ x. (case_outline x.0, ahead x.1)) result (case_with (block_at depth) (ahead input.entry)) }
+fn case<'a>(alloc: Global, input: Input<'a>, depth: u32) -> Result<(Box<Case>, Input<'a>), Stop>
+    ensures { Gives (λ x. (case_outline x.0.value, ahead x.1)) result (case_with (block_at depth) (ahead input.entry)) }
 {
     if !begins_label(input) {
-        return Ok((Case::Nothing, input));
+        return Ok((Box::new(alloc, Case::Nothing)?, input));
     }
     let (labels, input) = label_ranges(alloc, input)?;
     let input = expect(input, Kind::Colon)?;
     let (body, input) = block(alloc, input, depth)?;
-    Ok((Case::Labelled(labels, Box::new(alloc, body)?), input))
+    let labelled = Case::Labelled(labels, body);
+    Ok((Box::new(alloc, labelled)?, input))
 }
 
 #[cycle(statements)]
@@ -254,7 +259,7 @@ fn more_cases<'a>(
     let mut here = input;
     'more: while let Some(after) = accept(here, Kind::Bar) {
         let (next, after) = case(alloc, after, depth)?;
-        rest.push(next)?;
+        rest.push(Box::into_inner(next))?;
         here = after;
     }
     Ok((rest, here))
@@ -273,7 +278,7 @@ fn while_statement<'a>(
     let (first, input) = branch(alloc, input, depth, Kind::Do)?;
     let (rest, input) = more_branches(alloc, input, depth, Kind::Do)?;
     let input = expect(input, Kind::End)?;
-    Ok((Stmt::While(Box::new(alloc, first)?, rest), input))
+    Ok((Stmt::While(first, rest), input))
 }
 
 /// What stands behind REPEAT.
@@ -289,7 +294,7 @@ fn repeat_statement<'a>(
     let (body, input) = block(alloc, input, depth)?;
     let input = expect(input, Kind::Until)?;
     let (condition, input) = expression(alloc, input, depth)?;
-    Ok((Stmt::Repeat(Box::new(alloc, body)?, condition), input))
+    Ok((Stmt::Repeat(body, condition), input))
 }
 
 /// What stands behind FOR.
@@ -307,7 +312,7 @@ fn for_statement<'a>(alloc: Global, input: Input<'a>, depth: u32) -> Result<(Stm
         from,
         to,
         by,
-        body,
+        body: Box::into_inner(body),
     };
     Ok((Stmt::For(Box::new(alloc, statement)?), input))
 }
@@ -318,10 +323,10 @@ fn for_rest<'a>(
     alloc: Global,
     input: Input<'a>,
     depth: u32,
-) -> Result<((Expr, Option<Expr>, Block), Input<'a>), Stop>
+) -> Result<((Expr, Option<Expr>, Box<Block>), Input<'a>), Stop>
     ensures { Gives (λ x. (
       word kinds.To ++ (expr_outline x.0.0 ++ (if_there (λ e. word kinds.By ++ expr_outline e) x.0.1
-          ++ (word kinds.Do ++ (block_outline x.0.2 ++ word kinds.End)))),
+          ++ (word kinds.Do ++ (block_outline x.0.2.value ++ word kinds.End)))),
       ahead x.1,
     )) result
         (seq (expect_at kinds.To) (seq (expr_at depth) (seq (optional (accept_at kinds.By) (expr_at depth))
@@ -336,8 +341,8 @@ fn for_rest<'a>(
 
 /// The body of a FOR statement, between DO and END.
 #[cycle(statements)]
-fn for_body<'a>(alloc: Global, input: Input<'a>, depth: u32) -> Result<(Block, Input<'a>), Stop>
-    ensures { Gives (λ x. (word kinds.Do ++ (block_outline x.0 ++ word kinds.End), ahead x.1)) result (seq (expect_at kinds.Do) (seq (block_at depth) (expect_at kinds.End)) (ahead input.entry)) }
+fn for_body<'a>(alloc: Global, input: Input<'a>, depth: u32) -> Result<(Box<Block>, Input<'a>), Stop>
+    ensures { Gives (λ x. (word kinds.Do ++ (block_outline x.0.value ++ word kinds.End), ahead x.1)) result (seq (expect_at kinds.Do) (seq (block_at depth) (expect_at kinds.End)) (ahead input.entry)) }
 {
     let input = expect(input, Kind::Do)?;
     let (body, input) = block(alloc, input, depth)?;

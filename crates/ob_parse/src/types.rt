@@ -9,8 +9,9 @@ ghost use Rattle.ob_tree.specs.Types.{type_outline, fields_outline, record_outli
 ghost use Rattle.ob_parse.specs.Front.{front, uncons};
 ghost use Rattle.ob_parse.specs.Forms.{optional, accept_at, expect_at, nothing, many, several, unless, seq, node, prefixed};
 ghost use Rattle.ob_parse.specs.ReadExpressions.{expr_at};
+ghost use Rattle.ob_parse.specs.ReadNames as names;
 ghost use Rattle.ob_parse.specs.ReadNames.{qualident_at, identdef_at};
-ghost use Rattle.ob_parse.specs.ReadTypes.{type_first, var_with, field_start, fields_with, record_with, type_with, type_at};
+ghost use Rattle.ob_parse.specs.ReadTypes.{some_parameters_at, type_first, var_with, field_start, fields_with, record_with, type_with, type_at};
 ghost use Rattle.ob_parse.specs.Gives.{Gives, ahead, skipped};
 
 use crate::expressions::expression_list;
@@ -76,6 +77,7 @@ pub(crate) fn var_declaration<'a>(
     let (names, here) = identdefs(alloc, input)?;
     let here = expect(here, Kind::Colon)?;
     let (form, here) = type_form(alloc, here, depth)?;
+    let form = Box::into_inner(form);
     Ok((VarDecl { names, form }, here))
 }
 
@@ -134,20 +136,22 @@ fn semicolon<'a>(input: Input<'a>) -> Result<(bool, Input<'a>), Stop>
 /// The field lists of a record.
 #[cycle(types)]
 #[tactic(auto, using(ob_tree::proofs::TypeLayers::types_made), unfolding(crate::specs::ReadTypes::fields_with))]
-fn fields<'a>(alloc: Global, input: Input<'a>, depth: u32) -> Result<(Fields, Input<'a>), Stop>
-    ensures { Gives (λ x. (fields_outline x.0, ahead x.1)) result (fields_with (type_at depth) (ahead input.entry)) }
+fn fields<'a>(
+    alloc: Global,
+    input: Input<'a>,
+    depth: u32,
+) -> Result<(Box<Fields>, Input<'a>), Stop>
+    ensures { Gives (λ x. (fields_outline x.0.value, ahead x.1)) result (fields_with (type_at depth) (ahead input.entry)) }
 {
     let (first, here) = field_list(alloc, input, depth)?;
     let (rest, here) = more_fields(alloc, here, depth)?;
     let (closing_semicolon, here) = semicolon(here)?;
-    Ok((
-        Fields {
-            first,
-            rest,
-            closing_semicolon,
-        },
-        here,
-    ))
+    let fields = Fields {
+        first,
+        rest,
+        closing_semicolon,
+    };
+    Ok((Box::new(alloc, fields)?, here))
 }
 
 /// The base of a record, in parentheses.
@@ -179,7 +183,7 @@ fn some_fields<'a>(
         return Ok((None, input));
     }
     let (fields, here) = fields(alloc, input, depth)?;
-    Ok((Some(Box::new(alloc, fields)?), here))
+    Ok((Some(fields), here))
 }
 
 /// A record, behind RECORD.
@@ -205,32 +209,72 @@ fn type_within<'a>(
     ensures { Gives (λ x. (type_outline x.0, ahead x.1)) result (type_with (expr_at depth) (type_at depth) (ahead input.entry)) }
 {
     match input.next() {
-        Some((Leaf::Name(head), rest)) => {
-            let (name, rest) = qualident_after(head, rest)?;
-            Ok((TypeForm::Named(name), rest))
-        }
-        Some((Leaf::Word(Kind::Array), rest)) => {
-            let (lengths, rest) = expression_list(alloc, rest, depth)?;
-            let rest = expect(rest, Kind::Of)?;
-            let (of, rest) = type_form(alloc, rest, depth)?;
-            let of = Box::new(alloc, of)?;
-            Ok((TypeForm::ArrayOf(Box::new(alloc, lengths)?, of), rest))
-        }
-        Some((Leaf::Word(Kind::Record), rest)) => {
-            let (record, rest) = record(alloc, rest, depth)?;
-            Ok((TypeForm::RecordOf(record), rest))
-        }
-        Some((Leaf::Word(Kind::Pointer), rest)) => {
-            let rest = expect(rest, Kind::To)?;
-            let (to, rest) = type_form(alloc, rest, depth)?;
-            Ok((TypeForm::PointerTo(Box::new(alloc, to)?), rest))
-        }
-        Some((Leaf::Word(Kind::Procedure), rest)) => {
-            let (parameters, rest) = some_parameters(alloc, rest)?;
-            Ok((TypeForm::ProcOf(parameters), rest))
-        }
+        Some((Leaf::Name(head), rest)) => named(head, rest),
+        Some((Leaf::Word(Kind::Array), rest)) => array(alloc, rest, depth),
+        Some((Leaf::Word(Kind::Record), rest)) => record_form(alloc, rest, depth),
+        Some((Leaf::Word(Kind::Pointer), rest)) => pointer(alloc, rest, depth),
+        Some((Leaf::Word(Kind::Procedure), rest)) => procedure(alloc, rest),
         _ => Err(Stop::Wrong(input.number())),
     }
+}
+
+/// A type by its name, behind the first identifier.
+#[tactic(auto, using(ob_tree::proofs::TypeLayers::types_made))]
+fn named<'a>(head: u32, input: Input<'a>) -> Result<(TypeForm, Input<'a>), Stop>
+    ensures { Gives (λ x. (type_outline x.0, ahead x.1)) result (node constructs.TypeForm (names.qualident_after head) (ahead input.entry)) }
+{
+    let (name, rest) = qualident_after(head, input)?;
+    Ok((TypeForm::Named(name), rest))
+}
+
+/// What stands behind ARRAY.
+#[cycle(types)]
+#[tactic(auto, using(ob_tree::proofs::TypeLayers::types_made))]
+fn array<'a>(alloc: Global, input: Input<'a>, depth: u32) -> Result<(TypeForm, Input<'a>), Stop>
+    ensures { Gives (λ x. (type_outline x.0, ahead x.1)) result
+        (node constructs.TypeForm (prefixed (word kinds.Array) (seq (several kinds.Comma (expr_at depth)) (seq (expect_at kinds.Of) (type_at depth)))) (ahead input.entry)) }
+{
+    let (lengths, rest) = expression_list(alloc, input, depth)?;
+    let rest = expect(rest, Kind::Of)?;
+    let (of, rest) = type_form(alloc, rest, depth)?;
+    Ok((TypeForm::ArrayOf(lengths, of), rest))
+}
+
+/// What stands behind RECORD.
+#[cycle(types)]
+#[tactic(auto, using(ob_tree::proofs::TypeLayers::types_made))]
+fn record_form<'a>(
+    alloc: Global,
+    input: Input<'a>,
+    depth: u32,
+) -> Result<(TypeForm, Input<'a>), Stop>
+    ensures { Gives (λ x. (type_outline x.0, ahead x.1)) result
+        (node constructs.TypeForm (prefixed (word kinds.Record) (record_with (type_at depth))) (ahead input.entry)) }
+{
+    let (record, rest) = record(alloc, input, depth)?;
+    Ok((TypeForm::RecordOf(record), rest))
+}
+
+/// What stands behind POINTER.
+#[cycle(types)]
+#[tactic(auto, using(ob_tree::proofs::TypeLayers::types_made))]
+fn pointer<'a>(alloc: Global, input: Input<'a>, depth: u32) -> Result<(TypeForm, Input<'a>), Stop>
+    ensures { Gives (λ x. (type_outline x.0, ahead x.1)) result
+        (node constructs.TypeForm (prefixed (word kinds.Pointer) (seq (expect_at kinds.To) (type_at depth))) (ahead input.entry)) }
+{
+    let rest = expect(input, Kind::To)?;
+    let (to, rest) = type_form(alloc, rest, depth)?;
+    Ok((TypeForm::PointerTo(to), rest))
+}
+
+/// What stands behind PROCEDURE.
+#[tactic(auto, using(ob_tree::proofs::TypeLayers::types_made))]
+fn procedure<'a>(alloc: Global, input: Input<'a>) -> Result<(TypeForm, Input<'a>), Stop>
+    ensures { Gives (λ x. (type_outline x.0, ahead x.1)) result
+        (node constructs.TypeForm (prefixed (word kinds.Procedure) some_parameters_at) (ahead input.entry)) }
+{
+    let (parameters, rest) = some_parameters(alloc, input)?;
+    Ok((TypeForm::ProcOf(parameters), rest))
 }
 
 /// A type, with at most so many levels in it, itself one of them.
@@ -240,11 +284,12 @@ pub(crate) fn type_form<'a>(
     alloc: Global,
     input: Input<'a>,
     depth: u32,
-) -> Result<(TypeForm, Input<'a>), Stop>
-    ensures { Gives (λ x. (type_outline x.0, ahead x.1)) result (type_at depth (ahead input.entry)) }
+) -> Result<(Box<TypeForm>, Input<'a>), Stop>
+    ensures { Gives (λ x. (type_outline x.0.value, ahead x.1)) result (type_at depth (ahead input.entry)) }
 {
     if depth == 0 {
         return Err(beyond(input, begins_type(input)));
     }
-    type_within(alloc, input, depth - 1)
+    let (form, here) = type_within(alloc, input, depth - 1)?;
+    Ok((Box::new(alloc, form)?, here))
 }

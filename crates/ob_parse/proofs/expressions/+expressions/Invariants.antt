@@ -36,28 +36,46 @@ abbrev pub decreases-elements : goal.decreases-elements
 decreases-elements l = 16 * l.depth + 4
 
 abbrev pub decreases-selector : goal.decreases-selector
-decreases-selector l = 16 * l.depth + 4
+decreases-selector l = 16 * l.depth + 5
 
 abbrev pub decreases-more_selectors : goal.decreases-more_selectors
-decreases-more_selectors l = 16 * l.depth + 5
+decreases-more_selectors l = 16 * l.depth + 6
 
 abbrev pub decreases-designator : goal.decreases-designator
-decreases-designator l = 16 * l.depth + 6
+decreases-designator l = 16 * l.depth + 7
 
 abbrev pub decreases-factor : goal.decreases-factor
-decreases-factor l = 16 * l.depth + 7
+decreases-factor l = 16 * l.depth + 9
 
 abbrev pub decreases-more_factors : goal.decreases-more_factors
-decreases-more_factors l = 16 * l.depth + 8
+decreases-more_factors l = 16 * l.depth + 10
 
 abbrev pub decreases-term : goal.decreases-term
-decreases-term l = 16 * l.depth + 9
+decreases-term l = 16 * l.depth + 11
 
 abbrev pub decreases-more_terms : goal.decreases-more_terms
-decreases-more_terms l = 16 * l.depth + 10
+decreases-more_terms l = 16 * l.depth + 12
+
+abbrev pub decreases-index : goal.decreases-index
+decreases-index l = 16 * l.depth + 4
+
+abbrev pub decreases-call : goal.decreases-call
+decreases-call l = 16 * l.depth + 4
+
+abbrev pub decreases-named : goal.decreases-named
+decreases-named l = 16 * l.depth + 8
+
+abbrev pub decreases-set : goal.decreases-set
+decreases-set l = 16 * l.depth + 8
+
+abbrev pub decreases-group : goal.decreases-group
+decreases-group l = 16 * l.depth + 8
+
+abbrev pub decreases-inverted : goal.decreases-inverted
+decreases-inverted l = 16 * l.depth + 8
 
 abbrev pub decreases-sum : goal.decreases-sum
-decreases-sum l = 16 * l.depth + 11
+decreases-sum l = 16 * l.depth + 13
 
 abbrev pub invariant-more_expressions-more : goal.invariant-more_expressions-more
 invariant-more_expressions-more l =

@@ -28,26 +28,26 @@ returns-in-Err-clause-fault c =
 
 pub wrong_end-requires-clause-known : goal.wrong_end-requires-clause-known
 wrong_end-requires-clause-known c =
-    rw (c.as_slice.ensures.value, c.in_ok-ends.ensures) (endings_are_known c.as_slice-tokens.result.now (module_outline c.in-Ok.tree) c.in-Ok.ensures)
+    rw (c.as_slice.ensures.value, c.in_ok-ends.ensures, c.deref.ensures) (endings_are_known c.as_slice-tokens.result.now (module_outline c.in-Ok.tree.value) c.in-Ok.ensures)
 
 pub wrong_end-requires-clause-placed : goal.wrong_end-requires-clause-placed
 wrong_end-requires-clause-placed c = rw c.as_slice-tokens.ensures (tokens_placed c.args.bytes.now c.args.tokens.now (spelled_in_text c.args.bytes.now c.args.tokens.now c.requires.1))
 
 pub returns-in-None-clause-tree : goal.returns-in-None-clause-tree
-returns-in-None-clause-tree c = record {
-  tree = subst (λ (ts : List Token). IsOneTree ts c.in-Ok.tree) c.as_slice-tokens.ensures (one_tree c.as_slice-tokens.result.now c.in-Ok.tree c.in-Ok.ensures);
-  ended = rw (sym c.in_ok-ends.ensures, sym c.as_slice.ensures.value, sym c.as_slice-tokens.ensures) c.in-None.ensures;
-}
+returns-in-None-clause-tree c = rw c.into_inner.ensures (record {
+  tree = subst (λ (ts : List Token). IsOneTree ts c.in-Ok.tree.value) c.as_slice-tokens.ensures (one_tree c.as_slice-tokens.result.now c.in-Ok.tree.value c.in-Ok.ensures);
+  ended = rw (sym c.deref.ensures, sym c.in_ok-ends.ensures, sym c.as_slice.ensures.value, sym c.as_slice-tokens.ensures) c.in-None.ensures;
+})
 
 pub returns-in-None-clause-few : goal.returns-in-None-clause-few
 returns-in-None-clause-few c =
     let text = spelled_in_text c.args.bytes.now c.args.tokens.now c.requires.1 in
-    let tree = one_tree c.as_slice-tokens.result.now c.in-Ok.tree c.in-Ok.ensures in
-    few_tokens c.args.bytes.now c.args.tokens.now c.in-Ok.tree text c.requires.0 (subst (λ (ts : List Token). Derives (kinds_of ts) c.in-Ok.tree) c.as_slice-tokens.ensures tree.derived)
+    let tree = one_tree c.as_slice-tokens.result.now c.in-Ok.tree.value c.in-Ok.ensures in
+    rw c.into_inner.ensures (few_tokens c.args.bytes.now c.args.tokens.now c.in-Ok.tree.value text c.requires.0 (subst (λ (ts : List Token). Derives (kinds_of ts) c.in-Ok.tree.value) c.as_slice-tokens.ensures tree.derived))
 
 pub returns-in-Some-clause-fault : goal.returns-in-Some-clause-fault
 returns-in-Some-clause-fault c = record {
-  of = c.in-Ok.tree;
-  tree = subst (λ (ts : List Token). IsOneTree ts c.in-Ok.tree) c.as_slice-tokens.ensures (one_tree c.as_slice-tokens.result.now c.in-Ok.tree c.in-Ok.ensures);
-  first = rw (sym c.in_ok-ends.ensures, sym c.as_slice.ensures.value, sym c.as_slice-tokens.ensures) c.in-Some.ensures;
+  of = c.in-Ok.tree.value;
+  tree = subst (λ (ts : List Token). IsOneTree ts c.in-Ok.tree.value) c.as_slice-tokens.ensures (one_tree c.as_slice-tokens.result.now c.in-Ok.tree.value c.in-Ok.ensures);
+  first = rw (sym c.deref.ensures, sym c.in_ok-ends.ensures, sym c.as_slice.ensures.value, sym c.as_slice-tokens.ensures) c.in-Some.ensures;
 }

@@ -39,4 +39,13 @@ abbrev pub decreases-more_fields-more : goal.decreases-more_fields-more
 decreases-more_fields-more l = length (ahead l.here)
 
 abbrev pub decreases-type_within : goal.decreases-type_within
-decreases-type_within l = 16 * l.depth + 7
+decreases-type_within l = 16 * l.depth + 8
+
+abbrev pub decreases-array : goal.decreases-array
+decreases-array l = 16 * l.depth + 7
+
+abbrev pub decreases-record_form : goal.decreases-record_form
+decreases-record_form l = 16 * l.depth + 7
+
+abbrev pub decreases-pointer : goal.decreases-pointer
+decreases-pointer l = 16 * l.depth + 7
