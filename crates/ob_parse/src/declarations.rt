@@ -2,12 +2,12 @@
 
 ghost use Rattle.std.specs.Prelude.{◌≡◌, ◌++◌};
 ghost use Rattle.ob_scan.specs.declared.kind.Kind.TheVariants as kinds;
-ghost use Rattle.ob_tree.specs.Marks.{word, each, if_there};
+ghost use Rattle.ob_tree.specs.Marks.{word, each, if_there, repeated};
 ghost use Rattle.ob_tree.specs.Expressions.{expr_outline};
 ghost use Rattle.ob_tree.specs.Statements.{block_outline};
 ghost use Rattle.ob_tree.specs.Declaring.{const_outline, type_decl_outline, variable_outline, part, declarations_outline, procedure_outline};
 ghost use Rattle.ob_parse.specs.Front.{front, uncons, is_word};
-ghost use Rattle.ob_parse.specs.Forms.{optional, accept_at, many, begins};
+ghost use Rattle.ob_parse.specs.Forms.{optional, accept_at, expect_at, name_at, many, begins, seq};
 ghost use Rattle.ob_parse.specs.ReadExpressions.{expr_at};
 ghost use Rattle.ob_parse.specs.ReadStatements.{block_at};
 ghost use Rattle.ob_parse.specs.ReadTypes.{type_at};
@@ -45,6 +45,7 @@ fn constant<'a>(alloc: Global, input: Input<'a>, depth: u32) -> Result<(ConstDec
     let (name, here) = identdef(input)?;
     let here = expect(here, Kind::Equals)?;
     let (value, here) = expression(alloc, here, depth)?;
+    let value = Box::into_inner(value);
     Ok((ConstDecl { name, value }, here))
 }
 
@@ -283,11 +284,7 @@ fn procedure_within<'a>(
     let (starred, here) = star(here);
     let (parameters, here) = some_parameters(alloc, here)?;
     let here = expect(here, Kind::Semicolon)?;
-    let (declarations, here) = declarations(alloc, here, depth)?;
-    let (body, here) = body(alloc, here, depth)?;
-    let (returned, here) = returned(alloc, here, depth)?;
-    let here = expect(here, Kind::End)?;
-    let (end_name, here) = identifier(here)?;
+    let ((declarations, (body, returned, end_name)), here) = inside(alloc, here, depth, name)?;
     Ok((
         ProcDecl {
             name: Identdef { name, starred },
@@ -299,6 +296,53 @@ fn procedure_within<'a>(
         },
         here,
     ))
+}
+
+/// What stands behind the heading of the procedure of this name.
+#[cycle(declarations)]
+fn inside<'a>(
+    alloc: Global,
+    input: Input<'a>,
+    depth: u32,
+    name: u32,
+) -> Result<((Declarations, Ending), Input<'a>), Stop>
+    ensures { Gives (λ x. (
+      declarations_outline x.0.0 ++ (if_there (λ b. word kinds.Begin ++ block_outline b.value) x.0.1.0 ++
+          (if_there (λ e. word kinds.Return ++ expr_outline e.value) x.0.1.1 ++ (word kinds.End ++ repeated name x.0.1.2))),
+      ahead x.1,
+    )) result
+        (seq (declarations_at depth) (seq (body_with (block_at depth)) (seq (optional (accept_at kinds.Return) (expr_at depth))
+        (seq (expect_at kinds.End) (name_at (repeated name))))) (ahead input.entry)) }
+{
+    let (declarations, here) = declarations(alloc, input, depth)?;
+    let (ending, here) = ending(alloc, here, depth, name)?;
+    Ok(((declarations, ending), here))
+}
+
+/// The statements of a procedure, what stands after RETURN, and the number of the name after END.
+type Ending = (Option<Box<Block>>, Option<Box<Expr>>, u32);
+
+/// What stands behind the declarations in the procedure of this name.
+#[tactic(auto, unfolding(crate::specs::Forms::name_at))]
+fn ending<'a>(
+    alloc: Global,
+    input: Input<'a>,
+    depth: u32,
+    name: u32,
+) -> Result<(Ending, Input<'a>), Stop>
+    ensures { Gives (λ x. (
+      if_there (λ b. word kinds.Begin ++ block_outline b.value) x.0.0 ++
+          (if_there (λ e. word kinds.Return ++ expr_outline e.value) x.0.1 ++ (word kinds.End ++ repeated name x.0.2)),
+      ahead x.1,
+    )) result
+        (seq (body_with (block_at depth)) (seq (optional (accept_at kinds.Return) (expr_at depth))
+        (seq (expect_at kinds.End) (name_at (repeated name)))) (ahead input.entry)) }
+{
+    let (body, here) = body(alloc, input, depth)?;
+    let (returned, here) = returned(alloc, here, depth)?;
+    let here = expect(here, Kind::End)?;
+    let (end_name, here) = identifier(here)?;
+    Ok(((body, returned, end_name), here))
 }
 
 /// The declarations of a module or a procedure, with at most so many levels in them.
@@ -355,7 +399,7 @@ fn returned<'a>(
     match accept(input, Kind::Return) {
         Some(rest) => {
             let (value, rest) = expression(alloc, rest, depth)?;
-            Ok((Some(Box::new(alloc, value)?), rest))
+            Ok((Some(value), rest))
         }
         None => Ok((None, input)),
     }

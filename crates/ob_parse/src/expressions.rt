@@ -5,21 +5,21 @@ ghost use Rattle.ob_scan.specs.declared.kind.Kind.TheVariants as kinds;
 ghost use Rattle.ob_tree.specs.declared.construct.Construct.TheVariants as constructs;
 ghost use Rattle.ob_tree.specs.Marks as marks;
 ghost use Rattle.ob_tree.specs.Marks.{construct, word, if_there, each, each_after};
-ghost use Rattle.ob_tree.specs.Expressions.{mul_kind, add_kind, expr_outline, expr_list_outline, sum_outline, term_outline, factor_outline, element_outline, element_list_outline, designator_outline, selector_outline};
+ghost use Rattle.ob_tree.specs.Expressions.{relation_kind, mul_kind, add_kind, expr_outline, expr_list_outline, sum_outline, term_outline, factor_outline, element_outline, element_list_outline, designator_outline, selector_outline};
 ghost use Rattle.ob_parse.specs.Forms.{many, several, optional, unless, begins, accept_at, expect_at, name_at, seq, prefixed, node};
 ghost use Rattle.ob_parse.specs.Gives.{Gives, ahead};
-ghost use Rattle.ob_parse.specs.ReadExpressions.{mul_start, add_start, selector_first, element_with, selector_with, designator_with, factor_at, negated_at, term_at, sum_at, expr_at};
+ghost use Rattle.ob_parse.specs.ReadExpressions.{relation_start, mul_start, add_start, selector_first, element_with, selector_with, designator_with, factor_at, negated_at, term_at, sum_at, expr_at};
 
 use crate::input::Input;
 use crate::operators::{
     add_operator, begins_expression, begins_factor, begins_selector, mul_operator, relation, sign,
 };
-use crate::stop::Stop;
+use crate::stop::{Stop, boxed};
 use crate::symbols::{accept, beyond, expect, identifier, is_at};
 use ob_scan::Kind;
 use ob_tree::expression::{
-    AddOperator, Designator, Element, ElementList, Expr, ExprList, Factor, MulOperator, Selector,
-    Sum, Term,
+    AddOperator, Designator, Element, ElementList, Expr, ExprList, Factor, MulOperator, Relation,
+    Selector, Sum, Term,
 };
 use ob_tree::token::Leaf;
 use std::alloc::Global;
@@ -31,31 +31,32 @@ pub(crate) fn expression<'a>(
     alloc: Global,
     input: Input<'a>,
     depth: u32,
-) -> Result<(Expr, Input<'a>), Stop>
-    ensures { Gives (λ x. (expr_outline x.0, ahead x.1)) result (expr_at depth (ahead input.entry)) }
+) -> Result<(Box<Expr>, Input<'a>), Stop>
+    ensures { Gives (λ x. (expr_outline x.0.value, ahead x.1)) result (expr_at depth (ahead input.entry)) }
 {
     if depth == 0 {
         return Err(beyond(input, begins_expression(input)));
     }
     let (left, input) = sum(alloc, input, depth - 1)?;
+    let (compared, input) = compared(alloc, input, depth - 1)?;
+    let expression = Expr { left, compared };
+    Ok((boxed(alloc, expression)?, input))
+}
+
+/// A relation and its right side, if it stands here.
+#[cycle(expressions)]
+fn compared<'a>(
+    alloc: Global,
+    input: Input<'a>,
+    depth: u32,
+) -> Result<(Option<(Relation, Box<Sum>)>, Input<'a>), Stop>
+    ensures { Gives (λ x. (if_there (λ c. word (relation_kind c.0) ++ sum_outline c.1.value) x.0, ahead x.1)) result (optional relation_start (sum_at depth) (ahead input.entry)) }
+{
     match relation(input) {
-        None => Ok((
-            Expr {
-                left,
-                compared: None,
-            },
-            input,
-        )),
+        None => Ok((None, input)),
         Some((relation, rest)) => {
-            let (right, rest) = sum(alloc, rest, depth - 1)?;
-            let right = Box::new(alloc, right)?;
-            Ok((
-                Expr {
-                    left,
-                    compared: Some((relation, right)),
-                },
-                rest,
-            ))
+            let (right, rest) = sum(alloc, rest, depth)?;
+            Ok((Some((relation, boxed(alloc, right)?)), rest))
         }
     }
 }
@@ -72,7 +73,11 @@ pub(crate) fn expression_list<'a>(
 {
     let (first, here) = expression(alloc, input, depth)?;
     let (rest, here) = more_expressions(alloc, here, depth)?;
-    Ok((Box::new(alloc, ExprList { first, rest })?, here))
+    let list = ExprList {
+        first: Box::into_inner(first),
+        rest,
+    };
+    Ok((boxed(alloc, list)?, here))
 }
 
 #[cycle(expressions)]
@@ -87,7 +92,7 @@ fn more_expressions<'a>(
     let mut here = input;
     'more: while let Some(after) = accept(here, Kind::Comma) {
         let (next, after) = expression(alloc, after, depth)?;
-        rest.push(next)?;
+        rest.push(Box::into_inner(next))?;
         here = after;
     }
     Ok((rest, here))
@@ -205,7 +210,7 @@ fn group<'a>(alloc: Global, input: Input<'a>, depth: u32) -> Result<(Factor, Inp
 {
     let (inner, rest) = expression(alloc, input, depth)?;
     let rest = expect(rest, Kind::RightParen)?;
-    Ok((Factor::Group(Box::new(alloc, inner)?), rest))
+    Ok((Factor::Group(inner), rest))
 }
 
 /// What stands behind a `~`.
@@ -216,7 +221,7 @@ fn inverted<'a>(alloc: Global, input: Input<'a>, depth: u32) -> Result<(Factor, 
         (node constructs.Factor (prefixed (word kinds.Tilde) (negated_at depth)) (ahead input.entry)) }
 {
     let (inner, rest) = negated(alloc, input, depth)?;
-    Ok((Factor::Not(Box::new(alloc, inner)?), rest))
+    Ok((Factor::Not(boxed(alloc, inner)?), rest))
 }
 
 /// The factor behind a `~`, itself a level.
@@ -259,7 +264,7 @@ fn element_list<'a>(
 {
     let (first, here) = element(alloc, input, depth)?;
     let (rest, here) = more_elements(alloc, here, depth)?;
-    Ok((Box::new(alloc, ElementList { first, rest })?, here))
+    Ok((boxed(alloc, ElementList { first, rest })?, here))
 }
 
 #[cycle(expressions)]
@@ -286,17 +291,21 @@ fn element<'a>(alloc: Global, input: Input<'a>, depth: u32) -> Result<(Element, 
     ensures { Gives (λ x. (element_outline x.0, ahead x.1)) result (element_with (expr_at depth) (ahead input.entry)) }
 {
     let (low, here) = expression(alloc, input, depth)?;
-    match accept(here, Kind::DotDot) {
-        None => Ok((Element { low, high: None }, here)),
-        Some(here) => {
-            let (high, here) = expression(alloc, here, depth)?;
-            Ok((
-                Element {
-                    low,
-                    high: Some(high),
-                },
-                here,
-            ))
+    let (high, here) = high(alloc, here, depth)?;
+    let low = Box::into_inner(low);
+    Ok((Element { low, high }, here))
+}
+
+/// The end of a range behind its two dots, if they stand here.
+#[cycle(expressions)]
+fn high<'a>(alloc: Global, input: Input<'a>, depth: u32) -> Result<(Option<Expr>, Input<'a>), Stop>
+    ensures { Gives (λ x. (if_there (λ e. word kinds.DotDot ++ expr_outline e) x.0, ahead x.1)) result (optional (accept_at kinds.DotDot) (expr_at depth) (ahead input.entry)) }
+{
+    match accept(input, Kind::DotDot) {
+        None => Ok((None, input)),
+        Some(rest) => {
+            let (high, rest) = expression(alloc, rest, depth)?;
+            Ok((Some(Box::into_inner(high)), rest))
         }
     }
 }

@@ -2,19 +2,20 @@
 
 ghost use Rattle.std.specs.Prelude.{◌≡◌, ◌++◌};
 ghost use Rattle.ob_scan.specs.declared.kind.Kind.TheVariants as kinds;
-ghost use Rattle.ob_tree.specs.Marks.{word, each_after, listed, if_there, named};
+ghost use Rattle.ob_tree.specs.Marks.{word, each_after, listed, if_there, named, repeated};
 ghost use Rattle.ob_tree.specs.Statements.{block_outline};
-ghost use Rattle.ob_tree.specs.Declaring.{import_outline, module_outline};
-ghost use Rattle.ob_parse.specs.Forms.{optional, accept_at, name_at, several, many};
-ghost use Rattle.ob_parse.specs.ReadModules.{import_at, imports_at, module_at, all_of};
+ghost use Rattle.ob_tree.specs.Declaring.{declarations_outline, import_outline, module_outline};
+ghost use Rattle.ob_parse.specs.Forms.{optional, accept_at, expect_at, name_at, several, many, seq};
+ghost use Rattle.ob_parse.specs.ReadStatements.{block_at};
+ghost use Rattle.ob_parse.specs.ReadModules.{import_at, imports_at, declarations_at, body_with, module_at, all_of};
 ghost use Rattle.ob_parse.specs.Gives.{Gives, ahead};
 
 use crate::declarations::{body, declarations};
 use crate::input::Input;
-use crate::stop::Stop;
+use crate::stop::{Stop, boxed};
 use crate::symbols::{accept, expect, identifier};
 use ob_scan::Kind;
-use ob_tree::declaration::{ImportItem, Module};
+use ob_tree::declaration::{Declarations, ImportItem, Module};
 use ob_tree::name::OneOrMore;
 use ob_tree::statement::Block;
 use std::alloc::Global;
@@ -99,7 +100,7 @@ fn unboxed(body: Option<Box<Block>>) -> Option<Block>
 }
 
 /// A module, with at most so many levels in it.
-#[tactic(auto, using(ob_tree::proofs::DeclarationLayers::declaring_made), unfolding(crate::specs::ReadModules::module_at, crate::specs::ReadModules::module_named, crate::specs::Forms::name_at))]
+#[tactic(auto, using(ob_tree::proofs::DeclarationLayers::declaring_made), unfolding(crate::specs::ReadModules::module_at, crate::specs::ReadModules::module_named))]
 pub(crate) fn module<'a>(
     alloc: Global,
     input: Input<'a>,
@@ -111,11 +112,7 @@ pub(crate) fn module<'a>(
     let (name, here) = identifier(here)?;
     let here = expect(here, Kind::Semicolon)?;
     let (imports, here) = imports(alloc, here)?;
-    let (declarations, here) = declarations(alloc, here, depth)?;
-    let (body, here) = body(alloc, here, depth)?;
-    let here = expect(here, Kind::End)?;
-    let (end_name, here) = identifier(here)?;
-    let here = expect(here, Kind::Dot)?;
+    let ((declarations, body, end_name), here) = inside(alloc, here, depth, name)?;
     let module = Module {
         name,
         imports,
@@ -123,7 +120,40 @@ pub(crate) fn module<'a>(
         body: unboxed(body),
         end_name,
     };
-    Ok((Box::new(alloc, module)?, here))
+    Ok((boxed(alloc, module)?, here))
+}
+
+/// What stands behind the imports in the module of this name.
+fn inside<'a>(
+    alloc: Global,
+    input: Input<'a>,
+    depth: u32,
+    name: u32,
+) -> Result<((Declarations, Option<Box<Block>>, u32), Input<'a>), Stop>
+    ensures { Gives (λ x. (
+      declarations_outline x.0.0 ++ (if_there (λ b. word kinds.Begin ++ block_outline b.value) x.0.1 ++
+          (word kinds.End ++ (repeated name x.0.2 ++ word kinds.Dot))),
+      ahead x.1,
+    )) result
+        (seq (declarations_at depth) (seq (body_with (block_at depth)) (seq (expect_at kinds.End)
+        (seq (name_at (repeated name)) (expect_at kinds.Dot)))) (ahead input.entry)) }
+{
+    let (declarations, here) = declarations(alloc, input, depth)?;
+    let (body, here) = body(alloc, here, depth)?;
+    let (end_name, here) = ending(here, name)?;
+    Ok(((declarations, body, end_name), here))
+}
+
+/// What stands behind the statements of the module of this name.
+#[tactic(auto, unfolding(crate::specs::Forms::name_at))]
+fn ending<'a>(input: Input<'a>, name: u32) -> Result<(u32, Input<'a>), Stop>
+    ensures { Gives (λ x. (word kinds.End ++ (repeated name x.0 ++ word kinds.Dot), ahead x.1)) result
+        (seq (expect_at kinds.End) (seq (name_at (repeated name)) (expect_at kinds.Dot)) (ahead input.entry)) }
+{
+    let here = expect(input, Kind::End)?;
+    let (end_name, here) = identifier(here)?;
+    let here = expect(here, Kind::Dot)?;
+    Ok((end_name, here))
 }
 
 /// All of the tokens, as one module.

@@ -15,7 +15,7 @@ ghost use Rattle.ob_tree.specs.Statements.{block_outline, branch_outline, case_o
 use crate::expressions::{designator, expression};
 use crate::input::Input;
 use crate::labels::{begins_label, label_ranges};
-use crate::stop::Stop;
+use crate::stop::{Stop, boxed};
 use crate::symbols::{accept, expect, identifier};
 use ob_scan::Kind;
 use ob_tree::expression::Expr;
@@ -103,7 +103,7 @@ fn assignment<'a>(
         None => Ok((Stmt::Call(target), input)),
         Some(rest) => {
             let (value, rest) = expression(alloc, rest, depth)?;
-            Ok((Stmt::Assign(target, value), rest))
+            Ok((Stmt::Assign(target, Box::into_inner(value)), rest))
         }
     }
 }
@@ -120,7 +120,7 @@ pub(crate) fn block<'a>(
 {
     let (first, here) = statement(alloc, input, depth)?;
     let (rest, here) = more_statements(alloc, here, depth)?;
-    Ok((Box::new(alloc, Block { first, rest })?, here))
+    Ok((boxed(alloc, Block { first, rest })?, here))
 }
 
 #[cycle(statements)]
@@ -156,10 +156,10 @@ fn branch<'a>(
     let input = expect(input, keyword)?;
     let (body, input) = block(alloc, input, depth)?;
     let branch = Branch {
-        condition,
+        condition: Box::into_inner(condition),
         body: Box::into_inner(body),
     };
-    Ok((Box::new(alloc, branch)?, input))
+    Ok((boxed(alloc, branch)?, input))
 }
 
 #[cycle(statements)]
@@ -225,10 +225,24 @@ fn case_statement<'a>(
 {
     let (value, input) = expression(alloc, input, depth)?;
     let input = expect(input, Kind::Of)?;
+    let ((first, rest), input) = cases(alloc, input, depth)?;
+    Ok((Stmt::Case(Box::into_inner(value), first, rest), input))
+}
+
+/// The cases, up to their END.
+#[cycle(statements)]
+fn cases<'a>(
+    alloc: Global,
+    input: Input<'a>,
+    depth: u32,
+) -> Result<((Box<Case>, Vec<Case>), Input<'a>), Stop>
+    ensures { Gives (λ x. (case_outline x.0.0.value ++ (each_after kinds.Bar case_outline x.0.1.items ++ word kinds.End), ahead x.1)) result
+        (seq (case_with (block_at depth)) (seq (many (accept_at kinds.Bar) (case_with (block_at depth))) (expect_at kinds.End)) (ahead input.entry)) }
+{
     let (first, input) = case(alloc, input, depth)?;
     let (rest, input) = more_cases(alloc, input, depth)?;
     let input = expect(input, Kind::End)?;
-    Ok((Stmt::Case(value, first, rest), input))
+    Ok(((first, rest), input))
 }
 
 /// One case, which may be empty.
@@ -238,13 +252,12 @@ fn case<'a>(alloc: Global, input: Input<'a>, depth: u32) -> Result<(Box<Case>, I
     ensures { Gives (λ x. (case_outline x.0.value, ahead x.1)) result (case_with (block_at depth) (ahead input.entry)) }
 {
     if !begins_label(input) {
-        return Ok((Box::new(alloc, Case::Nothing)?, input));
+        return Ok((boxed(alloc, Case::Nothing)?, input));
     }
     let (labels, input) = label_ranges(alloc, input)?;
     let input = expect(input, Kind::Colon)?;
     let (body, input) = block(alloc, input, depth)?;
-    let labelled = Case::Labelled(labels, body);
-    Ok((Box::new(alloc, labelled)?, input))
+    Ok((boxed(alloc, Case::Labelled(labels, body))?, input))
 }
 
 #[cycle(statements)]
@@ -294,7 +307,7 @@ fn repeat_statement<'a>(
     let (body, input) = block(alloc, input, depth)?;
     let input = expect(input, Kind::Until)?;
     let (condition, input) = expression(alloc, input, depth)?;
-    Ok((Stmt::Repeat(body, condition), input))
+    Ok((Stmt::Repeat(body, Box::into_inner(condition)), input))
 }
 
 /// What stands behind FOR.
@@ -309,12 +322,12 @@ fn for_statement<'a>(alloc: Global, input: Input<'a>, depth: u32) -> Result<(Stm
     let ((to, by, body), input) = for_rest(alloc, input, depth)?;
     let statement = For {
         variable,
-        from,
-        to,
+        from: Box::into_inner(from),
+        to: Box::into_inner(to),
         by,
         body: Box::into_inner(body),
     };
-    Ok((Stmt::For(Box::new(alloc, statement)?), input))
+    Ok((Stmt::For(boxed(alloc, statement)?), input))
 }
 
 /// A FOR statement from its TO on: the limit, the step and the body.
@@ -323,9 +336,9 @@ fn for_rest<'a>(
     alloc: Global,
     input: Input<'a>,
     depth: u32,
-) -> Result<((Expr, Option<Expr>, Box<Block>), Input<'a>), Stop>
+) -> Result<((Box<Expr>, Option<Expr>, Box<Block>), Input<'a>), Stop>
     ensures { Gives (λ x. (
-      word kinds.To ++ (expr_outline x.0.0 ++ (if_there (λ e. word kinds.By ++ expr_outline e) x.0.1
+      word kinds.To ++ (expr_outline x.0.0.value ++ (if_there (λ e. word kinds.By ++ expr_outline e) x.0.1
           ++ (word kinds.Do ++ (block_outline x.0.2.value ++ word kinds.End)))),
       ahead x.1,
     )) result
@@ -341,7 +354,11 @@ fn for_rest<'a>(
 
 /// The body of a FOR statement, between DO and END.
 #[cycle(statements)]
-fn for_body<'a>(alloc: Global, input: Input<'a>, depth: u32) -> Result<(Box<Block>, Input<'a>), Stop>
+fn for_body<'a>(
+    alloc: Global,
+    input: Input<'a>,
+    depth: u32,
+) -> Result<(Box<Block>, Input<'a>), Stop>
     ensures { Gives (λ x. (word kinds.Do ++ (block_outline x.0.value ++ word kinds.End), ahead x.1)) result (seq (expect_at kinds.Do) (seq (block_at depth) (expect_at kinds.End)) (ahead input.entry)) }
 {
     let input = expect(input, Kind::Do)?;
@@ -362,7 +379,7 @@ fn for_step<'a>(
         None => Ok((None, input)),
         Some(rest) => {
             let (step, rest) = expression(alloc, rest, depth)?;
-            Ok((Some(step), rest))
+            Ok((Some(Box::into_inner(step)), rest))
         }
     }
 }

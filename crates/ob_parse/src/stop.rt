@@ -1,6 +1,9 @@
 //! Why the parser stops.
 
-use std::alloc::{AllocError, AllocFailed};
+ghost use Rattle.std.specs.Prelude.{◌≡◌, IfOk, IfErr};
+ghost use Rattle.ob_parse.specs.declared.stop.Stop.TheVariants.{Memory};
+
+use std::alloc::{AllocError, AllocFailed, Global};
 
 /// Why the parser stops before the end: at the token of this number, or behind the last one.
 #[derive(Clone, Copy)]
@@ -14,9 +17,6 @@ pub(crate) enum Stop {
 }
 
 impl From<AllocError> for Stop {
-    ghost use Rattle.std.specs.Prelude.{◌≡◌};
-    ghost use Rattle.ob_parse.specs.declared.stop.Stop.TheVariants.{Memory};
-
     ghost from_gives = { λ _ stop. stop ≡ Memory };
 
     fn from(_error: AllocError) -> Stop {
@@ -25,12 +25,17 @@ impl From<AllocError> for Stop {
 }
 
 impl<T: Drop> From<AllocFailed<T>> for Stop {
-    ghost use Rattle.std.specs.Prelude.{◌≡◌};
-    ghost use Rattle.ob_parse.specs.declared.stop.Stop.TheVariants.{Memory};
-
     ghost from_gives = { λ _ stop. stop ≡ Memory };
 
     fn from(_error: AllocFailed<T>) -> Stop {
         Stop::Memory
     }
+}
+
+/// A value in a box.
+pub(crate) fn boxed<T: Drop>(alloc: Global, value: T) -> Result<Box<T>, Stop>
+    ensures of { IfOk result (λ b. b.value ≡ value) }
+    ensures refused { IfErr result (λ stop. stop ≡ Memory) }
+{
+    Ok(Box::new(alloc, value)?)
 }

@@ -18,7 +18,7 @@ use crate::expressions::expression_list;
 use crate::input::Input;
 use crate::names::{identdef, qualident, qualident_after};
 use crate::parameters::some_parameters;
-use crate::stop::Stop;
+use crate::stop::{Stop, boxed};
 use crate::symbols::{accept, beyond, expect, is_at};
 use ob_scan::Kind;
 use ob_tree::declaration::{Fields, Record, TypeForm, VarDecl};
@@ -136,11 +136,7 @@ fn semicolon<'a>(input: Input<'a>) -> Result<(bool, Input<'a>), Stop>
 /// The field lists of a record.
 #[cycle(types)]
 #[tactic(auto, using(ob_tree::proofs::TypeLayers::types_made), unfolding(crate::specs::ReadTypes::fields_with))]
-fn fields<'a>(
-    alloc: Global,
-    input: Input<'a>,
-    depth: u32,
-) -> Result<(Box<Fields>, Input<'a>), Stop>
+fn fields<'a>(alloc: Global, input: Input<'a>, depth: u32) -> Result<(Box<Fields>, Input<'a>), Stop>
     ensures { Gives (λ x. (fields_outline x.0.value, ahead x.1)) result (fields_with (type_at depth) (ahead input.entry)) }
 {
     let (first, here) = field_list(alloc, input, depth)?;
@@ -151,7 +147,7 @@ fn fields<'a>(
         rest,
         closing_semicolon,
     };
-    Ok((Box::new(alloc, fields)?, here))
+    Ok((boxed(alloc, fields)?, here))
 }
 
 /// The base of a record, in parentheses.
@@ -291,5 +287,5 @@ pub(crate) fn type_form<'a>(
         return Err(beyond(input, begins_type(input)));
     }
     let (form, here) = type_within(alloc, input, depth - 1)?;
-    Ok((Box::new(alloc, form)?, here))
+    Ok((boxed(alloc, form)?, here))
 }

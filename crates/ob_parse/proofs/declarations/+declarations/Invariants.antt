@@ -21,8 +21,11 @@ decreases-procedures l = 16 * l.depth + 2
 abbrev pub decreases-declarations : goal.decreases-declarations
 decreases-declarations l = 16 * l.depth + 3
 
+abbrev pub decreases-inside : goal.decreases-inside
+decreases-inside l = 16 * l.depth + 4
+
 abbrev pub decreases-procedure_within : goal.decreases-procedure_within
-decreases-procedure_within l = 16 * l.depth + 4
+decreases-procedure_within l = 16 * l.depth + 5
 
 abbrev pub invariant-procedures-more : goal.invariant-procedures-more
 invariant-procedures-more l =

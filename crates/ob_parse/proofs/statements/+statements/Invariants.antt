@@ -33,29 +33,32 @@ decreases-more_branches l = 16 * l.depth + 6
 abbrev pub decreases-more_cases : goal.decreases-more_cases
 decreases-more_cases l = 16 * l.depth + 7
 
+abbrev pub decreases-cases : goal.decreases-cases
+decreases-cases l = 16 * l.depth + 8
+
 abbrev pub decreases-for_body : goal.decreases-for_body
-decreases-for_body l = 16 * l.depth + 8
+decreases-for_body l = 16 * l.depth + 9
 
 abbrev pub decreases-for_rest : goal.decreases-for_rest
-decreases-for_rest l = 16 * l.depth + 9
+decreases-for_rest l = 16 * l.depth + 10
 
 abbrev pub decreases-if_statement : goal.decreases-if_statement
-decreases-if_statement l = 16 * l.depth + 10
+decreases-if_statement l = 16 * l.depth + 11
 
 abbrev pub decreases-case_statement : goal.decreases-case_statement
 decreases-case_statement l = 16 * l.depth + 11
 
 abbrev pub decreases-while_statement : goal.decreases-while_statement
-decreases-while_statement l = 16 * l.depth + 12
+decreases-while_statement l = 16 * l.depth + 11
 
 abbrev pub decreases-repeat_statement : goal.decreases-repeat_statement
-decreases-repeat_statement l = 16 * l.depth + 13
+decreases-repeat_statement l = 16 * l.depth + 11
 
 abbrev pub decreases-for_statement : goal.decreases-for_statement
-decreases-for_statement l = 16 * l.depth + 14
+decreases-for_statement l = 16 * l.depth + 11
 
 abbrev pub decreases-statement_within : goal.decreases-statement_within
-decreases-statement_within l = 16 * l.depth + 15
+decreases-statement_within l = 16 * l.depth + 12
 
 abbrev pub invariant-more_statements-more : goal.invariant-more_statements-more
 invariant-more_statements-more l =
