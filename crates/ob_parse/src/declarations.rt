@@ -19,7 +19,7 @@ use crate::input::Input;
 use crate::names::{identdef, star};
 use crate::parameters::some_parameters;
 use crate::statements::block;
-use crate::stop::Stop;
+use crate::stop::{Stop, boxed};
 use crate::symbols::{accept, beyond, expect, identifier, is_at};
 use crate::types::{type_form, var_declaration};
 use ob_scan::Kind;
@@ -37,19 +37,8 @@ fn begins_declaration<'a>(input: Input<'a>) -> bool
     matches!(input.next(), Some((Leaf::Name(_), _)))
 }
 
-/// A constant.
-#[tactic(auto, using(ob_tree::proofs::DeclarationLayers::declaring_made), unfolding(crate::specs::ReadModules::const_with))]
-fn constant<'a>(alloc: Global, input: Input<'a>, depth: u32) -> Result<(ConstDecl, Input<'a>), Stop>
-    ensures { Gives (λ x. (const_outline x.0, ahead x.1)) result (const_with (expr_at depth) (ahead input.entry)) }
-{
-    let (name, here) = identdef(input)?;
-    let here = expect(here, Kind::Equals)?;
-    let (value, here) = expression(alloc, here, depth)?;
-    let value = Box::into_inner(value);
-    Ok((ConstDecl { name, value }, here))
-}
-
 /// A constant, and its semicolon.
+#[tactic(auto, using(ob_tree::proofs::DeclarationLayers::declaring_made), unfolding(crate::specs::ReadModules::const_with))]
 fn ended_constant<'a>(
     alloc: Global,
     input: Input<'a>,
@@ -57,9 +46,12 @@ fn ended_constant<'a>(
 ) -> Result<(ConstDecl, Input<'a>), Stop>
     ensures { Gives (λ x. (const_outline x.0 ++ word kinds.Semicolon, ahead x.1)) result (ended (const_with (expr_at depth)) (ahead input.entry)) }
 {
-    let (declaration, here) = constant(alloc, input, depth)?;
+    let (name, here) = identdef(input)?;
+    let here = expect(here, Kind::Equals)?;
+    let (value, here) = expression(alloc, here, depth)?;
     let here = expect(here, Kind::Semicolon)?;
-    Ok((declaration, here))
+    let value = Box::into_inner(value);
+    Ok((ConstDecl { name, value }, here))
 }
 
 /// Constants, each with its semicolon.
@@ -99,23 +91,8 @@ fn constant_section<'a>(
     }
 }
 
-/// A type with its name.
-#[tactic(auto, using(ob_tree::proofs::DeclarationLayers::declaring_made), unfolding(crate::specs::ReadModules::type_decl_with))]
-fn named_type<'a>(
-    alloc: Global,
-    input: Input<'a>,
-    depth: u32,
-) -> Result<(TypeDecl, Input<'a>), Stop>
-    ensures { Gives (λ x. (type_decl_outline x.0, ahead x.1)) result (type_decl_with (type_at depth) (ahead input.entry)) }
-{
-    let (name, here) = identdef(input)?;
-    let here = expect(here, Kind::Equals)?;
-    let (form, here) = type_form(alloc, here, depth)?;
-    let form = Box::into_inner(form);
-    Ok((TypeDecl { name, form }, here))
-}
-
 /// A type with its name, and its semicolon.
+#[tactic(auto, using(ob_tree::proofs::DeclarationLayers::declaring_made), unfolding(crate::specs::ReadModules::type_decl_with))]
 fn ended_named_type<'a>(
     alloc: Global,
     input: Input<'a>,
@@ -123,9 +100,12 @@ fn ended_named_type<'a>(
 ) -> Result<(TypeDecl, Input<'a>), Stop>
     ensures { Gives (λ x. (type_decl_outline x.0 ++ word kinds.Semicolon, ahead x.1)) result (ended (type_decl_with (type_at depth)) (ahead input.entry)) }
 {
-    let (declaration, here) = named_type(alloc, input, depth)?;
+    let (name, here) = identdef(input)?;
+    let here = expect(here, Kind::Equals)?;
+    let (form, here) = type_form(alloc, here, depth)?;
     let here = expect(here, Kind::Semicolon)?;
-    Ok((declaration, here))
+    let form = Box::into_inner(form);
+    Ok((TypeDecl { name, form }, here))
 }
 
 /// Types with names, each with its semicolon.
@@ -165,15 +145,8 @@ fn named_type_section<'a>(
     }
 }
 
-/// Variables of one type.
-#[tactic(auto, using(ob_tree::proofs::DeclarationLayers::declaring_made), unfolding(crate::specs::ReadModules::variable_with))]
-fn variable<'a>(alloc: Global, input: Input<'a>, depth: u32) -> Result<(VarDecl, Input<'a>), Stop>
-    ensures { Gives (λ x. (variable_outline x.0, ahead x.1)) result (variable_with (type_at depth) (ahead input.entry)) }
-{
-    var_declaration(alloc, input, depth)
-}
-
 /// Variables of one type, and its semicolon.
+#[tactic(auto, using(ob_tree::proofs::DeclarationLayers::declaring_made), unfolding(crate::specs::ReadModules::variable_with))]
 fn ended_variable<'a>(
     alloc: Global,
     input: Input<'a>,
@@ -181,9 +154,9 @@ fn ended_variable<'a>(
 ) -> Result<(VarDecl, Input<'a>), Stop>
     ensures { Gives (λ x. (variable_outline x.0 ++ word kinds.Semicolon, ahead x.1)) result (ended (variable_with (type_at depth)) (ahead input.entry)) }
 {
-    let (declaration, here) = variable(alloc, input, depth)?;
+    let (declaration, here) = var_declaration(alloc, input, depth)?;
     let here = expect(here, Kind::Semicolon)?;
-    Ok((declaration, here))
+    Ok((Box::into_inner(declaration), here))
 }
 
 /// The declarations of variables.
@@ -237,7 +210,7 @@ fn procedures<'a>(
     let mut here = input;
     'more: while is_at(here, Kind::Procedure) {
         let (next, after) = ended_procedure(alloc, here, depth)?;
-        declared.push(next)?;
+        declared.push(Box::into_inner(next))?;
         here = after;
     }
     Ok((declared, here))
@@ -249,8 +222,8 @@ fn ended_procedure<'a>(
     alloc: Global,
     input: Input<'a>,
     depth: u32,
-) -> Result<(ProcDecl, Input<'a>), Stop>
-    ensures { Gives (λ x. (procedure_outline x.0 ++ word kinds.Semicolon, ahead x.1)) result (ended (procedure_at depth) (ahead input.entry)) }
+) -> Result<(Box<ProcDecl>, Input<'a>), Stop>
+    ensures { Gives (λ x. (procedure_outline x.0.value ++ word kinds.Semicolon, ahead x.1)) result (ended (procedure_at depth) (ahead input.entry)) }
 {
     let (declaration, here) = procedure(alloc, input, depth)?;
     let here = expect(here, Kind::Semicolon)?;
@@ -260,8 +233,12 @@ fn ended_procedure<'a>(
 /// A procedure, with at most so many levels in it, itself one of them.
 #[cycle(declarations)]
 #[tactic(auto, unfolding(crate::specs::ReadModules::procedure_at, crate::specs::Forms::limit_at))]
-fn procedure<'a>(alloc: Global, input: Input<'a>, depth: u32) -> Result<(ProcDecl, Input<'a>), Stop>
-    ensures { Gives (λ x. (procedure_outline x.0, ahead x.1)) result (procedure_at depth (ahead input.entry)) }
+fn procedure<'a>(
+    alloc: Global,
+    input: Input<'a>,
+    depth: u32,
+) -> Result<(Box<ProcDecl>, Input<'a>), Stop>
+    ensures { Gives (λ x. (procedure_outline x.0.value, ahead x.1)) result (procedure_at depth (ahead input.entry)) }
 {
     if depth == 0 {
         return Err(beyond(input, is_at(input, Kind::Procedure)));
@@ -276,8 +253,8 @@ fn procedure_within<'a>(
     alloc: Global,
     input: Input<'a>,
     depth: u32,
-) -> Result<(ProcDecl, Input<'a>), Stop>
-    ensures { Gives (λ x. (procedure_outline x.0, ahead x.1)) result (procedure_with (expr_at depth) (block_at depth) (declarations_at depth) (ahead input.entry)) }
+) -> Result<(Box<ProcDecl>, Input<'a>), Stop>
+    ensures { Gives (λ x. (procedure_outline x.0.value, ahead x.1)) result (procedure_with (expr_at depth) (block_at depth) (declarations_at depth) (ahead input.entry)) }
 {
     let here = expect(input, Kind::Procedure)?;
     let (name, here) = identifier(here)?;
@@ -285,17 +262,15 @@ fn procedure_within<'a>(
     let (parameters, here) = some_parameters(alloc, here)?;
     let here = expect(here, Kind::Semicolon)?;
     let ((declarations, (body, returned, end_name)), here) = inside(alloc, here, depth, name)?;
-    Ok((
-        ProcDecl {
-            name: Identdef { name, starred },
-            parameters,
-            declarations,
-            body,
-            returned,
-            end_name,
-        },
-        here,
-    ))
+    let procedure = ProcDecl {
+        name: Identdef { name, starred },
+        parameters,
+        declarations: Box::into_inner(declarations),
+        body,
+        returned,
+        end_name,
+    };
+    Ok((boxed(alloc, procedure)?, here))
 }
 
 /// What stands behind the heading of the procedure of this name.
@@ -305,9 +280,9 @@ fn inside<'a>(
     input: Input<'a>,
     depth: u32,
     name: u32,
-) -> Result<((Declarations, Ending), Input<'a>), Stop>
+) -> Result<((Box<Declarations>, Ending), Input<'a>), Stop>
     ensures { Gives (λ x. (
-      declarations_outline x.0.0 ++ (if_there (λ b. word kinds.Begin ++ block_outline b.value) x.0.1.0 ++
+      declarations_outline x.0.0.value ++ (if_there (λ b. word kinds.Begin ++ block_outline b.value) x.0.1.0 ++
           (if_there (λ e. word kinds.Return ++ expr_outline e.value) x.0.1.1 ++ (word kinds.End ++ repeated name x.0.1.2))),
       ahead x.1,
     )) result
@@ -352,22 +327,20 @@ pub(crate) fn declarations<'a>(
     alloc: Global,
     input: Input<'a>,
     depth: u32,
-) -> Result<(Declarations, Input<'a>), Stop>
-    ensures { Gives (λ x. (declarations_outline x.0, ahead x.1)) result (declarations_at depth (ahead input.entry)) }
+) -> Result<(Box<Declarations>, Input<'a>), Stop>
+    ensures { Gives (λ x. (declarations_outline x.0.value, ahead x.1)) result (declarations_at depth (ahead input.entry)) }
 {
     let (constants, here) = constant_section(alloc, input, depth)?;
     let (types, here) = named_type_section(alloc, here, depth)?;
     let (variables, here) = variable_section(alloc, here, depth)?;
     let (procedures, here) = procedures(alloc, here, depth)?;
-    Ok((
-        Declarations {
-            constants,
-            types,
-            variables,
-            procedures,
-        },
-        here,
-    ))
+    let declarations = Declarations {
+        constants,
+        types,
+        variables,
+        procedures,
+    };
+    Ok((boxed(alloc, declarations)?, here))
 }
 
 /// The statements behind BEGIN, in a box, if it stands here.

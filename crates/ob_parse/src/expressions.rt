@@ -39,6 +39,7 @@ pub(crate) fn expression<'a>(
     }
     let (left, input) = sum(alloc, input, depth - 1)?;
     let (compared, input) = compared(alloc, input, depth - 1)?;
+    let left = Box::into_inner(left);
     let expression = Expr { left, compared };
     Ok((boxed(alloc, expression)?, input))
 }
@@ -56,7 +57,7 @@ fn compared<'a>(
         None => Ok((None, input)),
         Some((relation, rest)) => {
             let (right, rest) = sum(alloc, rest, depth)?;
-            Ok((Some((relation, boxed(alloc, right)?)), rest))
+            Ok((Some((relation, right)), rest))
         }
     }
 }
@@ -101,13 +102,13 @@ fn more_expressions<'a>(
 /// A simple expression.
 #[cycle(expressions)]
 #[tactic(auto, using(ob_tree::proofs::ExpressionLayers::expressions_made), unfolding(crate::specs::ReadExpressions::sum_with))]
-fn sum<'a>(alloc: Global, input: Input<'a>, depth: u32) -> Result<(Sum, Input<'a>), Stop>
-    ensures { Gives (λ x. (sum_outline x.0, ahead x.1)) result (sum_at depth (ahead input.entry)) }
+fn sum<'a>(alloc: Global, input: Input<'a>, depth: u32) -> Result<(Box<Sum>, Input<'a>), Stop>
+    ensures { Gives (λ x. (sum_outline x.0.value, ahead x.1)) result (sum_at depth (ahead input.entry)) }
 {
     let (sign, here) = sign(input);
     let (first, here) = term(alloc, here, depth)?;
     let (rest, here) = more_terms(alloc, here, depth)?;
-    Ok((Sum { sign, first, rest }, here))
+    Ok((boxed(alloc, Sum { sign, first, rest })?, here))
 }
 
 #[cycle(expressions)]
@@ -264,7 +265,11 @@ fn element_list<'a>(
 {
     let (first, here) = element(alloc, input, depth)?;
     let (rest, here) = more_elements(alloc, here, depth)?;
-    Ok((boxed(alloc, ElementList { first, rest })?, here))
+    let list = ElementList {
+        first: Box::into_inner(first),
+        rest,
+    };
+    Ok((boxed(alloc, list)?, here))
 }
 
 #[cycle(expressions)]
@@ -279,7 +284,7 @@ fn more_elements<'a>(
     let mut here = input;
     'more: while let Some(after) = accept(here, Kind::Comma) {
         let (next, after) = element(alloc, after, depth)?;
-        rest.push(next)?;
+        rest.push(Box::into_inner(next))?;
         here = after;
     }
     Ok((rest, here))
@@ -287,13 +292,20 @@ fn more_elements<'a>(
 
 #[cycle(expressions)]
 #[tactic(auto, using(ob_tree::proofs::ExpressionLayers::expressions_made), unfolding(crate::specs::ReadExpressions::element_with))]
-fn element<'a>(alloc: Global, input: Input<'a>, depth: u32) -> Result<(Element, Input<'a>), Stop>
-    ensures { Gives (λ x. (element_outline x.0, ahead x.1)) result (element_with (expr_at depth) (ahead input.entry)) }
+fn element<'a>(
+    alloc: Global,
+    input: Input<'a>,
+    depth: u32,
+) -> Result<(Box<Element>, Input<'a>), Stop>
+    ensures { Gives (λ x. (element_outline x.0.value, ahead x.1)) result (element_with (expr_at depth) (ahead input.entry)) }
 {
     let (low, here) = expression(alloc, input, depth)?;
     let (high, here) = high(alloc, here, depth)?;
-    let low = Box::into_inner(low);
-    Ok((Element { low, high }, here))
+    let element = Element {
+        low: Box::into_inner(low),
+        high,
+    };
+    Ok((boxed(alloc, element)?, here))
 }
 
 /// The end of a range behind its two dots, if they stand here.

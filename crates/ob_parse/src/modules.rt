@@ -116,7 +116,7 @@ pub(crate) fn module<'a>(
     let module = Module {
         name,
         imports,
-        declarations,
+        declarations: Box::into_inner(declarations),
         body: unboxed(body),
         end_name,
     };
@@ -129,9 +129,9 @@ fn inside<'a>(
     input: Input<'a>,
     depth: u32,
     name: u32,
-) -> Result<((Declarations, Option<Box<Block>>, u32), Input<'a>), Stop>
+) -> Result<((Box<Declarations>, Option<Box<Block>>, u32), Input<'a>), Stop>
     ensures { Gives (λ x. (
-      declarations_outline x.0.0 ++ (if_there (λ b. word kinds.Begin ++ block_outline b.value) x.0.1 ++
+      declarations_outline x.0.0.value ++ (if_there (λ b. word kinds.Begin ++ block_outline b.value) x.0.1 ++
           (word kinds.End ++ (repeated name x.0.2 ++ word kinds.Dot))),
       ahead x.1,
     )) result

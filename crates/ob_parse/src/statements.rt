@@ -40,31 +40,30 @@ fn begins_statement<'a>(input: Input<'a>) -> bool
 
 /// An empty statement, where the depth is used up.
 #[tactic(auto, using(crate::proofs::StatementSteps::made), unfolding(crate::specs::ReadStatements::statement_at, crate::specs::ReadStatements::empty_at))]
-fn empty_statement<'a>(input: Input<'a>) -> Result<(Stmt, Input<'a>), Stop>
-    ensures { Gives (λ x. (stmt_outline x.0, ahead x.1)) result (statement_at 0 (ahead input.entry)) }
+fn empty_statement<'a>(alloc: Global, input: Input<'a>) -> Result<(Box<Stmt>, Input<'a>), Stop>
+    ensures { Gives (λ x. (stmt_outline x.0.value, ahead x.1)) result (statement_at 0 (ahead input.entry)) }
 {
     if begins_statement(input) {
-        Err(Stop::Deep(input.number()))
-    } else {
-        Ok((Stmt::Empty, input))
+        return Err(Stop::Deep(input.number()));
     }
+    Ok((boxed(alloc, Stmt::Empty)?, input))
 }
 
 /// A statement, with at most so many levels in it, itself one of them.
 #[cycle(statements)]
 #[tactic(auto, unfolding(crate::specs::ReadStatements::statement_at))]
-pub(crate) fn statement<'a>(
+fn statement<'a>(
     alloc: Global,
     input: Input<'a>,
     depth: u32,
-) -> Result<(Stmt, Input<'a>), Stop>
-    ensures { Gives (λ x. (stmt_outline x.0, ahead x.1)) result (statement_at depth (ahead input.entry)) }
+) -> Result<(Box<Stmt>, Input<'a>), Stop>
+    ensures { Gives (λ x. (stmt_outline x.0.value, ahead x.1)) result (statement_at depth (ahead input.entry)) }
 {
     if depth == 0 {
-        empty_statement(input)
-    } else {
-        statement_within(alloc, input, depth - 1)
+        return empty_statement(alloc, input);
     }
+    let (statement, input) = statement_within(alloc, input, depth - 1)?;
+    Ok((boxed(alloc, statement)?, input))
 }
 
 /// A statement whose parts have at most so many levels in them.
@@ -120,7 +119,11 @@ pub(crate) fn block<'a>(
 {
     let (first, here) = statement(alloc, input, depth)?;
     let (rest, here) = more_statements(alloc, here, depth)?;
-    Ok((boxed(alloc, Block { first, rest })?, here))
+    let block = Block {
+        first: Box::into_inner(first),
+        rest,
+    };
+    Ok((boxed(alloc, block)?, here))
 }
 
 #[cycle(statements)]
@@ -135,7 +138,7 @@ fn more_statements<'a>(
     let mut here = input;
     'more: while let Some(after) = accept(here, Kind::Semicolon) {
         let (next, after) = statement(alloc, after, depth)?;
-        rest.push(next)?;
+        rest.push(Box::into_inner(next))?;
         here = after;
     }
     Ok((rest, here))
@@ -324,7 +327,7 @@ fn for_statement<'a>(alloc: Global, input: Input<'a>, depth: u32) -> Result<(Stm
         variable,
         from: Box::into_inner(from),
         to: Box::into_inner(to),
-        by,
+        by: unboxed(by),
         body: Box::into_inner(body),
     };
     Ok((Stmt::For(boxed(alloc, statement)?), input))
@@ -336,9 +339,9 @@ fn for_rest<'a>(
     alloc: Global,
     input: Input<'a>,
     depth: u32,
-) -> Result<((Box<Expr>, Option<Expr>, Box<Block>), Input<'a>), Stop>
+) -> Result<((Box<Expr>, Option<Box<Expr>>, Box<Block>), Input<'a>), Stop>
     ensures { Gives (λ x. (
-      word kinds.To ++ (expr_outline x.0.0.value ++ (if_there (λ e. word kinds.By ++ expr_outline e) x.0.1
+      word kinds.To ++ (expr_outline x.0.0.value ++ (if_there (λ e. word kinds.By ++ expr_outline e.value) x.0.1
           ++ (word kinds.Do ++ (block_outline x.0.2.value ++ word kinds.End)))),
       ahead x.1,
     )) result
@@ -372,14 +375,24 @@ fn for_step<'a>(
     alloc: Global,
     input: Input<'a>,
     depth: u32,
-) -> Result<(Option<Expr>, Input<'a>), Stop>
-    ensures { Gives (λ x. (if_there (λ e. word kinds.By ++ expr_outline e) x.0, ahead x.1)) result (optional (accept_at kinds.By) (expr_at depth) (ahead input.entry)) }
+) -> Result<(Option<Box<Expr>>, Input<'a>), Stop>
+    ensures { Gives (λ x. (if_there (λ e. word kinds.By ++ expr_outline e.value) x.0, ahead x.1)) result (optional (accept_at kinds.By) (expr_at depth) (ahead input.entry)) }
 {
     match accept(input, Kind::By) {
         None => Ok((None, input)),
         Some(rest) => {
             let (step, rest) = expression(alloc, rest, depth)?;
-            Ok((Some(Box::into_inner(step)), rest))
+            Ok((Some(step), rest))
         }
+    }
+}
+
+/// The step of a FOR statement, out of its box.
+fn unboxed(step: Option<Box<Expr>>) -> Option<Expr>
+    ensures { if_there (λ e. word kinds.By ++ expr_outline e) result ≡ if_there (λ e. word kinds.By ++ expr_outline e.value) step }
+{
+    match step {
+        Some(step) => Some(Box::into_inner(step)),
+        None => None,
     }
 }

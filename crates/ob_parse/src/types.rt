@@ -71,14 +71,14 @@ pub(crate) fn var_declaration<'a>(
     alloc: Global,
     input: Input<'a>,
     depth: u32,
-) -> Result<(VarDecl, Input<'a>), Stop>
-    ensures { Gives (λ x. (var_outline x.0, ahead x.1)) result (var_with (type_at depth) (ahead input.entry)) }
+) -> Result<(Box<VarDecl>, Input<'a>), Stop>
+    ensures { Gives (λ x. (var_outline x.0.value, ahead x.1)) result (var_with (type_at depth) (ahead input.entry)) }
 {
     let (names, here) = identdefs(alloc, input)?;
     let here = expect(here, Kind::Colon)?;
     let (form, here) = type_form(alloc, here, depth)?;
     let form = Box::into_inner(form);
-    Ok((VarDecl { names, form }, here))
+    Ok((boxed(alloc, VarDecl { names, form })?, here))
 }
 
 /// What stands behind a semicolon, if a field list begins there.
@@ -97,8 +97,12 @@ fn next_fields<'a>(input: Input<'a>) -> Option<Input<'a>>
 
 /// Fields of one type.
 #[cycle(types)]
-fn field_list<'a>(alloc: Global, input: Input<'a>, depth: u32) -> Result<(VarDecl, Input<'a>), Stop>
-    ensures { Gives (λ x. (construct constructs.FieldList (var_outline x.0), ahead x.1)) result (node constructs.FieldList (var_with (type_at depth)) (ahead input.entry)) }
+fn field_list<'a>(
+    alloc: Global,
+    input: Input<'a>,
+    depth: u32,
+) -> Result<(Box<VarDecl>, Input<'a>), Stop>
+    ensures { Gives (λ x. (construct constructs.FieldList (var_outline x.0.value), ahead x.1)) result (node constructs.FieldList (var_with (type_at depth)) (ahead input.entry)) }
 {
     var_declaration(alloc, input, depth)
 }
@@ -117,7 +121,7 @@ fn more_fields<'a>(
     let mut here = input;
     'more: while let Some(after) = next_fields(here) {
         let (next, after) = field_list(alloc, after, depth)?;
-        rest.push(next)?;
+        rest.push(Box::into_inner(next))?;
         here = after;
     }
     Ok((rest, here))
@@ -143,7 +147,7 @@ fn fields<'a>(alloc: Global, input: Input<'a>, depth: u32) -> Result<(Box<Fields
     let (rest, here) = more_fields(alloc, here, depth)?;
     let (closing_semicolon, here) = semicolon(here)?;
     let fields = Fields {
-        first,
+        first: Box::into_inner(first),
         rest,
         closing_semicolon,
     };

@@ -1,4 +1,4 @@
-use Rattle.std.proofs.Common.{ℕ, refl, sym, ap, ◌∙◌}
+use Rattle.std.proofs.Common.{ℕ, sym, ap, ◌∙◌}
 use Rattle.std.proofs.lemmas.Result.{err_from_is_err_and}
 use Rattle.ob_scan.specs.declared.kind.Kind.{Kind}
 use Rattle.ob_scan.specs.declared.kind.Kind.TheVariants as kinds
@@ -31,8 +31,8 @@ more_statements-more-smaller t c =
 pub more_statements-more-preserved : goal.more_statements-more-preserved
 more_statements-more-preserved t c =
     pushed_after (accept_at kinds.Semicolon) (statement_at c.args.depth) (semicolon_adv c.args.depth)
-    stmt_outline kinds.Semicolon c.more.rest.items _ c.in_ok-next.next (ahead c.more.here) (ahead c.in-Some.after) _ _ c.in_ok-push.ensures.items
-    (sym c.in-Some.ensures) c.in_ok-next.ensures refl c.more.invariant
+    stmt_outline kinds.Semicolon c.more.rest.items _ c.into_inner.result (ahead c.more.here) (ahead c.in-Some.after) _ _ c.in_ok-push.ensures.items
+    (sym c.in-Some.ensures) c.in_ok-next.ensures (ap stmt_outline c.into_inner.ensures) c.more.invariant
 
 pub more_statements-returns-in_err-next : goal.more_statements-returns-in_err-next
 more_statements-returns-in_err-next t c =
