@@ -10,6 +10,7 @@ mod fault;
 mod greatest;
 pub mod laws;
 mod names;
+mod open_gate;
 mod order;
 mod printing;
 mod settling;
@@ -19,6 +20,7 @@ mod turn;
 pub mod workers;
 
 pub use fault::SolveFault;
+pub use open_gate::OpenGate;
 pub use solver::plain;
 pub use solving::solve;
 pub use turn::{Gate, Locked, Look};
