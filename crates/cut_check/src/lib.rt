@@ -13,6 +13,3 @@ mod weights;
 
 pub use checking::check;
 pub use verdict::Verdict;
-
-#[cfg(test)]
-mod tests;

@@ -20,6 +20,3 @@ pub use cut::Cut;
 pub use fault::NetFault;
 pub use net::Net;
 pub use priced::Priced;
-
-#[cfg(test)]
-mod tests;

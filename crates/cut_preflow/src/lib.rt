@@ -19,6 +19,3 @@ mod tries;
 pub use event::{Event, Outcome, SettleFault, Step};
 pub use preflow::Preflow;
 pub use share::{NetworkLedger, PARTS, Share};
-
-#[cfg(test)]
-mod tests;

@@ -95,12 +95,12 @@ impl<L: NetworkLedger> Preflow<L> {
         ensures state { result ≢ Outcome.Refused → state_of self.new.play ≡ after self.old.play.net (state_of self.old.play) event.step }
         ensures counted { self.new ≡ record self.old { play = self.new.play; booked = count_after self.old.booked result; own = count_after self.old.own result } }
     {
-        let outcome = self.plain.apply(event);
-        match outcome {
+        let tried = self.plain.apply(event);
+        match tried {
             Outcome::Moved { .. } | Outcome::Raised { .. } => self.book.add(&mut self.own, 1),
             Outcome::Stale | Outcome::Refused => {}
         }
-        outcome
+        tried
     }
 
     /// As `apply`, with the step counted in this share. A refused step marks the share.

@@ -17,6 +17,3 @@ pub use reader::read;
 pub use report::Report;
 pub use sink::{Sink, SinkFault, ToWrite, put_all};
 pub use writer::write;
-
-#[cfg(test)]
-mod tests;

@@ -16,6 +16,3 @@ pub use found::Found;
 pub use graph::ResidualGraph;
 pub use paths::path_to;
 pub use searches::search;
-
-#[cfg(test)]
-mod tests;

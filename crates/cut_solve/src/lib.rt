@@ -25,8 +25,3 @@ pub use solver::plain;
 pub use solving::solve;
 pub use turn::{Gate, Locked, Look};
 pub use workers::worker;
-
-#[cfg(test)]
-mod gate_tests;
-#[cfg(test)]
-mod tests;

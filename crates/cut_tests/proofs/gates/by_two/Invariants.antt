@@ -1,5 +1,5 @@
 use Rattle.cut_preflow.specs.Flows.{network_between}
-use Rattle.cut_solve.proofs.gate_tests.by_two.Given as goal
+use Rattle.cut_tests.proofs.gates.by_two.Given as goal
 
 abbrev pub ghosts-by_two_in-L-NetworkLedger : goal.ghosts-by_two_in-L-NetworkLedger
 ghosts-by_two_in-L-NetworkLedger g a = record { net = network_between a.net.now 0 1 }

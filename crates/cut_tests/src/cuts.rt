@@ -1,0 +1,231 @@
+//! Worked networks, each with its cut, and names that are refused.
+ghost use Rattle.std.specs.Prelude.{◌≡◌, ◌≤◌};
+ghost use Rattle.cut_preflow.specs.Flows.{network_between};
+
+use crate::openings::{Trial, run};
+use crate::worked::{A_WAY_BACK, THREE_IMPORTS, TWO_IMPORTS, TWO_WAYS, told_cut, told_imports};
+use cut_check::check;
+use cut_net::{Cut, Net, Priced};
+use cut_preflow::{NetworkLedger, Preflow};
+use cut_solve::{OpenGate, SolveFault, plain, solve};
+use std::alloc::{AllocError, Global};
+use std::process::Abort;
+use std::sync::Wait;
+use std::test::Fail;
+use std::thread::Threads;
+
+/// Whether the imports lead out of the marked modules.
+fn leave(imports: &[Priced], side: &[bool]) -> bool {
+    imports.iter().all(|i| {
+        side.get(i.from as usize) == Some(&true) && side.get(i.to as usize) == Some(&false)
+    })
+}
+
+/// The imports that carry flow, each with its flow.
+fn flow_of<L: NetworkLedger>(
+    alloc: Global,
+    net: &Net,
+    _ends: (u32, u32),
+    preflow: &Preflow<L>,
+) -> Result<Vec<Priced>, AllocError>
+    requires { preflow.now.play.net ≡ network_between net.now _ends.0 _ends.1 }
+{
+    net.keeps();
+    let mut flow = Vec::new(alloc);
+    for number in 0..net.imports().len() as u32 {
+        let import = net.import(number);
+        let amount = preflow.flow(number);
+        if amount > 0 {
+            flow.push(Priced { amount, ..import })?;
+        }
+    }
+    Ok(flow)
+}
+
+/// The verdict on the imports and the weight of a cut, with this flow.
+fn judged(
+    alloc: Global,
+    net: &Net,
+    (from, to): (u32, u32),
+    cut: &Cut,
+    flow: Vec<Priced>,
+) -> Result<String, Fail> {
+    if from >= net.nodes() || to >= net.nodes() {
+        return Err(Fail::from("two modules"));
+    }
+    let cut = Cut {
+        imports: cut.imports.as_slice().to_vec(alloc)?,
+        weight: cut.weight,
+        flow,
+    };
+    let verdict = check(alloc, net, from, to, &cut)?;
+    Ok(format!(in alloc; "{verdict:?}")?)
+}
+
+/// Settles the opening with no worker before it. Tells whether the imports of a cut lead out of the modules that are near then, and the
+/// verdict on the cut with the flow that was found.
+#[derive(Drop)]
+struct SettlesAlone<'a>(&'a Cut);
+
+impl Trial for SettlesAlone<'_> {
+    fn on<L: NetworkLedger>(
+        &self,
+        alloc: Global,
+        net: &Net,
+        ends: (u32, u32),
+        mut preflow: Preflow<L>,
+    ) -> Result<String, Fail> {
+        preflow.settle(1_000_000)?;
+        let side = preflow.side(alloc)?;
+        let leave = leave(&self.0.imports, &side);
+        let flow = flow_of(alloc, net, ends, &preflow)?;
+        let verdict = judged(alloc, net, ends, self.0, flow)?;
+        Ok(format!(in alloc; "{leave} {verdict}")?)
+    }
+}
+
+/// Checks that a preflow that is settled from its opening alone shows the same imports and weight.
+fn settles_alone(
+    rt: &(impl Abort + AllocGlobal),
+    net: &Net,
+    (from, to): (&str, &str),
+    cut: &Cut,
+) -> Result<(), Fail> {
+    let (Some(from), Some(to)) = (net.index_of(from), net.index_of(to)) else {
+        return Err(Fail::from("two names"));
+    };
+    let found = run(rt.alloc(), net, (from, to), &SettlesAlone(cut))?;
+    assert_eq!(rt; found.as_str(), "true Yes");
+    Ok(())
+}
+
+/// Checks that so many workers tell the same imports and weight.
+fn settles<R: Abort + AllocGlobal + Threads + Wait + Sync>(
+    rt: &R,
+    net: &Net,
+    names: (&str, &str),
+    workers: u32,
+    want: &str,
+) -> Result<(), Fail>
+    requires { (1 ≤ workers) × (workers ≤ 64) }
+{
+    let (from, to) = names;
+    let cut = solve(rt, rt.alloc(), net, from, to, workers, &OpenGate)?;
+    let found = told_imports(rt.alloc(), &cut)?;
+    assert_eq!(rt; found.as_str(), want, "by {workers}");
+    Ok(())
+}
+
+/// Checks that this is the cut between the two modules, and that many workers tell the same.
+fn cuts<R: Abort + AllocGlobal + Threads + Wait + Sync>(
+    rt: &R,
+    net: &[u8],
+    names: (&str, &str),
+    want: &str,
+) -> Result<(), Fail> {
+    let net = Net::read(rt.alloc(), net)?;
+    let cut = plain(rt.alloc(), &net, names.0, names.1)?;
+    let found = told_cut(rt.alloc(), &cut)?;
+    assert_eq!(rt; found.as_str(), want);
+    settles_alone(rt, &net, names, &cut)?;
+    let imports = told_imports(rt.alloc(), &cut)?;
+    settles(rt, &net, names, 1, imports.as_str())?;
+    settles(rt, &net, names, 2, imports.as_str())?;
+    settles(rt, &net, names, 8, imports.as_str())?;
+    settles(rt, &net, names, 64, imports.as_str())
+}
+
+/// Networks, the names of two modules, and the cut by the numbers of the modules.
+const CUTS: &[(&[u8], (&str, &str), &str)] = &[
+    // Two imports in a row are cut at the first.
+    (
+        TWO_IMPORTS,
+        ("A", "B"),
+        "weight 2 remove 0 2 2 flow 0 2 2 flow 2 1 2",
+    ),
+    // A V leaves the modules that are near, and no chain needs it.
+    (
+        TWO_WAYS,
+        ("A", "D"),
+        "weight 1 remove 2 1 1 flow 0 2 1 flow 2 1 1",
+    ),
+    // An import of weight 0 is cut.
+    (b"import M N 0\n", ("M", "N"), "weight 0 remove 0 1 0"),
+    // Where there is no chain nothing is cut.
+    (TWO_IMPORTS, ("B", "A"), "weight 0"),
+    // A path goes back over flow.
+    (
+        A_WAY_BACK,
+        ("S", "T"),
+        "weight 2 remove 0 2 1 remove 0 3 1 flow 0 2 1 flow 0 3 1 flow 2 5 1 flow 3 4 1 flow 4 1 1 flow 5 1 1",
+    ),
+    // A line of three is cut at the first.
+    (
+        THREE_IMPORTS,
+        ("A", "B"),
+        "weight 2 remove 0 2 2 flow 0 2 2 flow 2 3 2 flow 3 1 2",
+    ),
+    // Two ways are cut where each is cheapest.
+    (
+        b"import A B 1\nimport A C 2\nimport B D 3\nimport C D 1\n",
+        ("A", "D"),
+        "weight 2 remove 0 1 1 remove 2 3 1 flow 0 1 1 flow 0 2 1 flow 1 3 1 flow 2 3 1",
+    ),
+    // A total weight of 64 bits is cut.
+    (
+        b"import A B 9223372036854775808\nimport B C 9223372036854775807\n",
+        ("A", "C"),
+        "weight 9223372036854775807 remove 1 2 9223372036854775807 \
+        flow 0 1 9223372036854775807 flow 1 2 9223372036854775807",
+    ),
+];
+
+#[test]
+fn worked_networks_have_their_cuts(rt: HostRuntime) -> Result<(), Fail> {
+    for (net, names, want) in CUTS {
+        cuts(&rt, net, *names, want)?;
+    }
+    Ok(())
+}
+
+fn told_answer(alloc: Global, answer: Result<Cut, SolveFault>) -> Result<String, AllocError> {
+    match answer {
+        Ok(cut) => told_cut(alloc, &cut),
+        Err(SolveFault::Memory) => Err(AllocError),
+        Err(fault) => format!(in alloc; "{fault}"),
+    }
+}
+
+/// Checks that both solvers refuse the names with this fault.
+fn refuses<R: Abort + AllocGlobal + Threads + Wait + Sync>(
+    rt: &R,
+    net: &Net,
+    (from, to): (&str, &str),
+    want: &str,
+) -> Result<(), Fail> {
+    let told = told_answer(rt.alloc(), plain(rt.alloc(), net, from, to))?;
+    assert_eq!(rt; told.as_str(), want);
+    let solved = solve(rt, rt.alloc(), net, from, to, 8, &OpenGate);
+    let told = told_answer(rt.alloc(), solved)?;
+    assert_eq!(rt; told.as_str(), want);
+    Ok(())
+}
+
+const REFUSED: &[((&str, &str), &str)] = &[
+    // The first unknown name is told.
+    (("Q", "B"), "no module is named Q"),
+    (("A", "Q"), "no module is named Q"),
+    (("Q", "Z"), "no module is named Q"),
+    (("Q", "Q"), "no module is named Q"),
+    // One module is not cut from itself.
+    (("M", "M"), "both names are of one module"),
+];
+
+#[test]
+fn names_are_refused(rt: HostRuntime) -> Result<(), Fail> {
+    let net = Net::read(rt.alloc(), TWO_IMPORTS)?;
+    for (names, want) in REFUSED {
+        refuses(&rt, &net, *names, want)?;
+    }
+    Ok(())
+}

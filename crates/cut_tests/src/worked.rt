@@ -1,0 +1,68 @@
+//! Worked networks, lines of imports, and lines told as text.
+
+use cut_net::{Cut, Priced};
+use std::alloc::{AllocError, Global};
+
+/// Two imports in a row. The modules are A, B and M, in this order.
+pub(crate) const TWO_IMPORTS: &[u8] = b"import A M 2\nimport M B 2\n";
+
+/// Three imports in a row. The modules are A, B, M and N.
+pub(crate) const THREE_IMPORTS: &[u8] = b"import A M 2\nimport M N 2\nimport N B 2\n";
+
+/// A detour over V costs nothing, and is none. The modules are A, D, U and V.
+pub(crate) const TWO_WAYS: &[u8] = b"import A U 5\nimport U D 1\nimport A V 0\nimport V U 3\n";
+
+/// A flow over U X and X T leaves S V no way on but back over U X. The modules are S, T, U, V, X and Y.
+pub(crate) const A_WAY_BACK: &[u8] =
+    b"import S U 1\nimport S V 1\nimport U X 1\nimport U Y 1\nimport V X 1\nimport X T 1\nimport Y T 1\n";
+
+/// A line of an import: the module that imports, the one that is imported, and an amount.
+pub(crate) type Line = (u32, u32, u64);
+
+fn lines(alloc: Global, lines: &[Line]) -> Result<Vec<Priced>, AllocError> {
+    let mut imports = Vec::new(alloc);
+    for (from, to, amount) in lines {
+        imports.push(Priced {
+            from: *from,
+            to: *to,
+            amount: *amount,
+        })?;
+    }
+    Ok(imports)
+}
+
+pub(crate) fn cut(
+    alloc: Global,
+    imports: &[Line],
+    weight: u64,
+    flow: &[Line],
+) -> Result<Cut, AllocError> {
+    let imports = lines(alloc, imports)?;
+    let flow = lines(alloc, flow)?;
+    Ok(Cut {
+        imports,
+        weight,
+        flow,
+    })
+}
+
+fn tell_lines(text: &mut String, word: &str, lines: &[Priced]) -> Result<(), AllocError> {
+    for line in lines {
+        write!(text, " {word} {} {} {}", line.from, line.to, line.amount)?;
+    }
+    Ok(())
+}
+
+/// The weight, and the imports to be removed.
+pub(crate) fn told_imports(alloc: Global, cut: &Cut) -> Result<String, AllocError> {
+    let mut text = format!(in alloc; "weight {}", cut.weight)?;
+    tell_lines(&mut text, "remove", &cut.imports)?;
+    Ok(text)
+}
+
+/// The weight, the imports to be removed, and the flow.
+pub(crate) fn told_cut(alloc: Global, cut: &Cut) -> Result<String, AllocError> {
+    let mut text = told_imports(alloc, cut)?;
+    tell_lines(&mut text, "flow", &cut.flow)?;
+    Ok(text)
+}
