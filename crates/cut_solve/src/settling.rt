@@ -64,24 +64,41 @@ fn flow_of<L: NetworkLedger>(
     Ok(flow)
 }
 
+/// The cheapest cut that a quiet preflow between two modules shows, with the flow that it has.
+fn quiet_cut<L: NetworkLedger>(
+    alloc: Global,
+    net: &Net,
+    preflow: &Preflow<L>,
+    from: u32,
+    to: u32,
+) -> Result<Cut, AllocError>
+    requires ends { AreEnds net.now from to }
+    requires between { preflow.now.play.net ≡ network_between net.now from to }
+    requires quiet { IsQuiet preflow.now.play.net (state_of preflow.now.play) }
+    ensures answer { IfOk result (λ cut. IsAnswer net.now from to (said_by cut)) }
+    ensures cheapest { IfOk result (λ cut. IsCheapestSaid net.now from to (said_by cut)) }
+{
+    net.keeps();
+    preflow.keeps();
+    let near = preflow.side(alloc)?;
+    let flow = flow_of(alloc, net.imports(), preflow)?;
+    cut_by(alloc, net, &near, flow, from, to)
+}
+
 /// The cheapest cut that a preflow between two modules comes to, with a flow that proves it: what is left to do is done first, by pushes
 /// and relabels of one worker (Goldberg and Tarjan, 1988).
 pub(crate) fn last_pass<L: NetworkLedger>(
     alloc: Global,
     net: &Net,
-    mut preflow: Preflow<L>,
+    preflow: &mut Preflow<L>,
     from: u32,
     to: u32,
 ) -> Result<Cut, AllocError>
     requires ends { AreEnds net.now from to }
-    requires between { preflow.play.net ≡ network_between net.now from to }
+    requires between { preflow.old.play.net ≡ network_between net.now from to }
     ensures answer { IfOk result (λ cut. IsAnswer net.now from to (said_by cut)) }
     ensures cheapest { IfOk result (λ cut. IsCheapestSaid net.now from to (said_by cut)) }
 {
-    net.keeps();
-    settle(net, &mut preflow, from, to)?;
-    preflow.keeps();
-    let near = preflow.side(alloc)?;
-    let flow = flow_of(alloc, net.imports(), &preflow)?;
-    cut_by(alloc, net, &near, flow, from, to)
+    settle(net, preflow, from, to)?;
+    quiet_cut(alloc, net, preflow, from, to)
 }

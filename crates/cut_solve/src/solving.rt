@@ -84,9 +84,9 @@ fn in_ledger<L: NetworkLedger + Send + Sync, R: Threads + Wait + Sync, G: Gate +
     let (from, to) = ends;
     let locked = Mutex::new(Preflow::<L>::start(alloc, blank, net, from, to)?);
     in_threads(rt, alloc, &locked, workers, gate)?;
-    let preflow = locked.into_inner();
+    let mut preflow = locked.into_inner();
     preflow.keeps();
-    last_pass(alloc, net, preflow, from, to)
+    last_pass(alloc, net, &mut preflow, from, to)
 }
 
 /// A cheapest cut between two modules, in a ledger of its own.

@@ -6,18 +6,18 @@ use Rattle.cut_preflow.specs.Side.{has}
 use Rattle.cut_solve.specs.GreatestFlow.{IsGreatest}
 use Rattle.cut_solve.specs.Settling.{carried}
 use Rattle.cut_solve.proofs.Settled.{settled_greatest}
-use Rattle.cut_solve.proofs.settling.last_pass.Goals as goal
+use Rattle.cut_solve.proofs.settling.quiet_cut.Goals as goal
 
 pub cut_by-requires-clause-greatest : goal.cut_by-requires-clause-greatest
 cut_by-requires-clause-greatest g c =
     let net = c.args.net.now in
     let a = c.args.from in
     let b = c.args.to in
-    let play = c.settle.new.preflow.play in
+    let play = c.args.preflow.now.play in
     let s = state_of play in
     let near = c.in_ok-near.near.items in
-    let of : play.net ≡ network_between net a b = c.in_ok-settle.ensures.net ∙ c.requires.between in
-    let quiet = c.in_ok-settle.ensures.quiet in
+    let of : play.net ≡ network_between net a b = c.requires.between in
+    let quiet = c.requires.quiet in
     let whole =
     settled_greatest net a b s near c.keeps.ensures.imports_ascend
     (subst (λ (f : FlowNetwork). length s.flow ≡ count f) of c.keeps-2.ensures.sound.kept.flows)
