@@ -1,36 +1,17 @@
 //! Verdicts on right cuts, and on cuts that are wrong in one thing each.
 
-use crate::worked::{Line, TWO_IMPORTS, TWO_WAYS, cut};
-use cut_check::check;
-use cut_net::Net;
-use std::alloc::Global;
+use crate::worked::{Line, TWO_IMPORTS, TWO_WAYS, cut, judged, net_of};
 use std::process::Abort;
 use std::test::Fail;
 
 /// A cut with its flow: the two ends, the imports, the weight, the flow, and the verdict.
 type Row<'a> = ((u32, u32), &'a [Line], u64, &'a [Line], &'a str);
 
-/// The verdict on a cut, as a text.
-fn told(
-    alloc: Global,
-    net: &[u8],
-    (from, to): (u32, u32),
-    imports: &[Line],
-    weight: u64,
-    flow: &[Line],
-) -> Result<String, Fail> {
-    let net = Net::read(alloc, net)?;
-    if from >= net.nodes() || to >= net.nodes() {
-        return Err(Fail::from("two modules"));
-    }
-    let cut = cut(alloc, imports, weight, flow)?;
-    let found = check(alloc, &net, from, to, &cut)?;
-    Ok(format!(in alloc; "{found:?}")?)
-}
-
 fn says(rt: &(impl Abort + AllocGlobal), net: &[u8], row: &Row) -> Result<(), Fail> {
     let (ends, imports, weight, flow, want) = *row;
-    let found = told(rt.alloc(), net, ends, imports, weight, flow)?;
+    let net = net_of(rt.alloc(), net)?;
+    let cut = cut(rt.alloc(), imports, weight, flow)?;
+    let found = judged(rt.alloc(), &*net, ends, &*cut)?;
     assert_eq!(rt; found.as_str(), want);
     Ok(())
 }

@@ -3,8 +3,9 @@ ghost use Rattle.std.specs.Prelude.{◌≡◌, ◌≤◌};
 ghost use Rattle.cut_preflow.specs.Flows.{network_between};
 
 use crate::openings::{Trial, run};
-use crate::worked::{A_WAY_BACK, THREE_IMPORTS, TWO_IMPORTS, TWO_WAYS, told_cut, told_imports};
-use cut_check::check;
+use crate::worked::{
+    A_WAY_BACK, THREE_IMPORTS, TWO_IMPORTS, TWO_WAYS, judged, net_of, told_cut, told_imports,
+};
 use cut_net::{Cut, Net, Priced};
 use cut_preflow::{NetworkLedger, Preflow};
 use cut_solve::{OpenGate, SolveFault, plain, solve};
@@ -42,24 +43,16 @@ fn flow_of<L: NetworkLedger>(
     Ok(flow)
 }
 
-/// The verdict on the imports and the weight of a cut, with this flow.
-fn judged(
-    alloc: Global,
-    net: &Net,
-    (from, to): (u32, u32),
-    cut: &Cut,
-    flow: Vec<Priced>,
-) -> Result<String, Fail> {
-    if from >= net.nodes() || to >= net.nodes() {
-        return Err(Fail::from("two modules"));
-    }
+/// The imports and the weight of a cut, with this flow.
+fn with_flow(alloc: Global, cut: &Cut, flow: Vec<Priced>) -> Result<Box<Cut>, AllocError> {
+    let imports = cut.imports.as_slice().to_vec(alloc)?;
+    let weight = cut.weight;
     let cut = Cut {
-        imports: cut.imports.as_slice().to_vec(alloc)?,
-        weight: cut.weight,
+        imports,
+        weight,
         flow,
     };
-    let verdict = check(alloc, net, from, to, &cut)?;
-    Ok(format!(in alloc; "{verdict:?}")?)
+    Ok(Box::new(alloc, cut)?)
 }
 
 /// Settles the opening with no worker before it. Tells whether the imports of a cut lead out of the modules that are near then, and the
@@ -73,13 +66,14 @@ impl Trial for SettlesAlone<'_> {
         alloc: Global,
         net: &Net,
         ends: (u32, u32),
-        mut preflow: Preflow<L>,
+        preflow: &mut Preflow<L>,
     ) -> Result<String, Fail> {
         preflow.settle(1_000_000)?;
         let side = preflow.side(alloc)?;
         let leave = leave(&self.0.imports, &side);
-        let flow = flow_of(alloc, net, ends, &preflow)?;
-        let verdict = judged(alloc, net, ends, self.0, flow)?;
+        let flow = flow_of(alloc, net, ends, preflow)?;
+        let cut = with_flow(alloc, self.0, flow)?;
+        let verdict = judged(alloc, net, ends, &*cut)?;
         Ok(format!(in alloc; "{leave} {verdict}")?)
     }
 }
@@ -99,6 +93,25 @@ fn settles_alone(
     Ok(())
 }
 
+/// The cut of the plain solver.
+fn plain_cut(alloc: Global, net: &Net, (from, to): (&str, &str)) -> Result<Box<Cut>, Fail> {
+    Ok(Box::new(alloc, plain(alloc, net, from, to)?)?)
+}
+
+/// What so many workers tell of the imports and the weight.
+fn told_by<R: AllocGlobal + Threads + Wait + Sync>(
+    rt: &R,
+    net: &Net,
+    names: (&str, &str),
+    workers: u32,
+) -> Result<String, Fail>
+    requires { (1 ≤ workers) × (workers ≤ 64) }
+{
+    let (from, to) = names;
+    let cut = solve(rt, rt.alloc(), net, from, to, workers, &OpenGate)?;
+    Ok(told_imports(rt.alloc(), &cut)?)
+}
+
 /// Checks that so many workers tell the same imports and weight.
 fn settles<R: Abort + AllocGlobal + Threads + Wait + Sync>(
     rt: &R,
@@ -109,11 +122,23 @@ fn settles<R: Abort + AllocGlobal + Threads + Wait + Sync>(
 ) -> Result<(), Fail>
     requires { (1 ≤ workers) × (workers ≤ 64) }
 {
-    let (from, to) = names;
-    let cut = solve(rt, rt.alloc(), net, from, to, workers, &OpenGate)?;
-    let found = told_imports(rt.alloc(), &cut)?;
+    let found = told_by(rt, net, names, workers)?;
     assert_eq!(rt; found.as_str(), want, "by {workers}");
     Ok(())
+}
+
+/// Checks that many workers tell the imports and the weight of the cut.
+fn settles_by_workers<R: Abort + AllocGlobal + Threads + Wait + Sync>(
+    rt: &R,
+    net: &Net,
+    names: (&str, &str),
+    cut: &Cut,
+) -> Result<(), Fail> {
+    let imports = told_imports(rt.alloc(), cut)?;
+    settles(rt, net, names, 1, imports.as_str())?;
+    settles(rt, net, names, 2, imports.as_str())?;
+    settles(rt, net, names, 8, imports.as_str())?;
+    settles(rt, net, names, 64, imports.as_str())
 }
 
 /// Checks that this is the cut between the two modules, and that many workers tell the same.
@@ -123,16 +148,12 @@ fn cuts<R: Abort + AllocGlobal + Threads + Wait + Sync>(
     names: (&str, &str),
     want: &str,
 ) -> Result<(), Fail> {
-    let net = Net::read(rt.alloc(), net)?;
-    let cut = plain(rt.alloc(), &net, names.0, names.1)?;
-    let found = told_cut(rt.alloc(), &cut)?;
+    let net = net_of(rt.alloc(), net)?;
+    let cut = plain_cut(rt.alloc(), &*net, names)?;
+    let found = told_cut(rt.alloc(), &*cut)?;
     assert_eq!(rt; found.as_str(), want);
-    settles_alone(rt, &net, names, &cut)?;
-    let imports = told_imports(rt.alloc(), &cut)?;
-    settles(rt, &net, names, 1, imports.as_str())?;
-    settles(rt, &net, names, 2, imports.as_str())?;
-    settles(rt, &net, names, 8, imports.as_str())?;
-    settles(rt, &net, names, 64, imports.as_str())
+    settles_alone(rt, &*net, names, &*cut)?;
+    settles_by_workers(rt, &*net, names, &*cut)
 }
 
 /// Networks, the names of two modules, and the cut by the numbers of the modules.
@@ -223,9 +244,9 @@ const REFUSED: &[((&str, &str), &str)] = &[
 
 #[test]
 fn names_are_refused(rt: HostRuntime) -> Result<(), Fail> {
-    let net = Net::read(rt.alloc(), TWO_IMPORTS)?;
+    let net = net_of(rt.alloc(), TWO_IMPORTS)?;
     for (names, want) in REFUSED {
-        refuses(&rt, &net, *names, want)?;
+        refuses(&rt, &*net, *names, want)?;
     }
     Ok(())
 }

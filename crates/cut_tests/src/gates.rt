@@ -2,10 +2,9 @@
 ghost use Rattle.std.specs.Prelude.{◌≡◌, ◌≤◌};
 ghost use Rattle.cut_preflow.specs.Flows.{AreEnds, network_between};
 
-use crate::openings::{Trial, run_on};
-use crate::worked::{THREE_IMPORTS, told_cut};
+use crate::worked::{THREE_IMPORTS, net_of, told_cut};
 use cut_net::Net;
-use cut_preflow::{NetworkLedger, PARTS, Preflow, Share};
+use cut_preflow::{Event, NetworkLedger, PARTS, Preflow, Share};
 use cut_solve::workers::look;
 use cut_solve::{Gate, Locked, OpenGate, solve, worker};
 use std::alloc::{AllocError, Global};
@@ -100,11 +99,21 @@ impl<R: Clock> Gate for Holds<'_, R> {
     }
 }
 
+/// How many events there are, and the first two.
+fn told_events(alloc: Global, events: &[Event]) -> Result<String, AllocError> {
+    format!(in alloc;
+        "{} events {:?} {:?}",
+        events.len(),
+        events.first(),
+        events.get(1)
+    )
+}
+
 /// What both shares and the preflow came to: whether the shares came back marked and count the steps, how many are out, whether it is
-/// quiet, how many steps there are, whether each worker took one, and the first two events.
+/// quiet, whether each worker took a step, and the events.
 fn told_end<L: NetworkLedger>(
     alloc: Global,
-    mut preflow: Preflow<L>,
+    preflow: &mut Preflow<L>,
     first: Share<L>,
     second: Share<L>,
 ) -> Result<String, AllocError> {
@@ -113,20 +122,12 @@ fn told_end<L: NetworkLedger>(
     let _ = preflow.rejoin(first);
     let out = preflow.rejoin(second);
     let quiet = preflow.is_quiet();
-    let events = preflow.history();
-    let counted = one.saturating_add(two) == events.len() as u64;
+    let counted = one.saturating_add(two) == preflow.history().len() as u64;
     let both = one > 0 && two > 0;
-    let mut text = format!(in alloc;
-        "marked {marked} counted {counted} out {out} quiet {quiet}; "
-    )?;
-    write!(
-        text,
-        "{} both {both} {:?} {:?}",
-        events.len(),
-        events.first(),
-        events.get(1)
-    )?;
-    Ok(text)
+    let events = told_events(alloc, preflow.history())?;
+    format!(in alloc;
+        "marked {marked} counted {counted} out {out} quiet {quiet}; both {both} {events}"
+    )
 }
 
 /// Two workers in threads of their own go on from the opening at a gate. Tells what worker 7 sees at the opening, and the end.
@@ -154,7 +155,8 @@ fn by_two_in<L: NetworkLedger + Send + Sync, R: Threads + Wait + Sync, G: Gate +
         move || worker(rt, lock, 0, first, gate),
         move || worker(rt, lock, 1, second, gate),
     );
-    let end = told_end(alloc, locked.into_inner(), first, second)?;
+    let mut preflow = locked.into_inner();
+    let end = told_end(alloc, &mut preflow, first, second)?;
     Ok(format!(in alloc; "{seen:?}; {end}")?)
 }
 
@@ -164,11 +166,11 @@ fn by_two<R: Threads + Wait + Sync, G: Gate + Sync>(
     alloc: Global,
     gate: &G,
 ) -> Result<String, Fail> {
-    let net = Net::read(alloc, THREE_IMPORTS)?;
+    let net = net_of(alloc, THREE_IMPORTS)?;
     if net.nodes() < 2 {
         return Err(Fail::from("two modules"));
     }
-    by_two_in::<Brand, R, G>(rt, alloc, Blank::new(PARTS), &net, gate)
+    by_two_in::<Brand, R, G>(rt, alloc, Blank::new(PARTS), &*net, gate)
 }
 
 // Where memory for the history is refused to a worker, the other waits at the gate in vain, and this test or the next fails.
@@ -181,7 +183,7 @@ fn two_workers_take_turns(rt: HostRuntime) -> Result<(), Fail> {
         found.as_str(),
         "Try { event: Event { worker: 7, step: Relabel { node: 2 } } }; \
         marked true counted true out 0 quiet true; \
-        4 both true Some(Event { worker: 1, step: Relabel { node: 2 } }) Some(Event { worker: 0, step: Push { arc: 2 } })"
+        both true 4 events Some(Event { worker: 1, step: Relabel { node: 2 } }) Some(Event { worker: 0, step: Push { arc: 2 } })"
     );
     Ok(())
 }
@@ -195,8 +197,8 @@ fn told_by<R: Threads + Wait + Sync, G: Gate + Sync>(
 ) -> Result<String, Fail>
     requires { (1 ≤ workers) × (workers ≤ 64) }
 {
-    let net = Net::read(alloc, THREE_IMPORTS)?;
-    let cut = solve(rt, alloc, &net, "A", "B", workers, gate)?;
+    let net = net_of(alloc, THREE_IMPORTS)?;
+    let cut = solve(rt, alloc, &*net, "A", "B", workers, gate)?;
     Ok(told_cut(alloc, &cut)?)
 }
 
@@ -234,44 +236,60 @@ fn each_worker_ends_marked(rt: HostRuntime) -> Result<(), Fail> {
     Ok(())
 }
 
-/// One worker goes on from the opening alone, and what it left is settled. Tells whether its share came back marked, whether it counts
-/// the steps, and whether these were none or all; then how many shares are out, and whether it is quiet after how many steps.
-#[derive(Drop)]
-struct ByOneWorker<'a, R> {
-    rt: &'a R,
+/// What one worker alone left: whether its share came back marked and counts the steps, and whether these were none or all; then what
+/// is left is settled: how many shares are out, and whether it is quiet after how many steps.
+fn told_alone<L: NetworkLedger>(
+    alloc: Global,
+    preflow: &mut Preflow<L>,
+    share: Share<L>,
+) -> Result<String, Fail> {
+    let marked = share.is_marked();
+    let events = preflow.history().len();
+    let counted = share.count() == events as u64;
+    let whole = events == 0 || events == 4;
+    let out = preflow.rejoin(share);
+    preflow.settle(4)?;
+    let (quiet, settled) = (preflow.is_quiet(), preflow.history().len());
+    Ok(format!(in alloc;
+        "marked {marked} counted {counted} whole {whole} out {out} quiet {quiet} after {settled}"
+    )?)
 }
 
-impl<R: Wait> Trial for ByOneWorker<'_, R> {
-    fn on<L: NetworkLedger>(
-        &self,
-        alloc: Global,
-        _net: &Net,
-        _ends: (u32, u32),
-        mut preflow: Preflow<L>,
-    ) -> Result<String, Fail> {
-        let Some(share) = preflow.share() else {
-            return Err(Fail::from("a share"));
-        };
-        let locked: Locked<L> = Mutex::new(preflow);
-        let share = worker(self.rt, &locked, 0, share, &OpenGate);
-        let mut preflow = locked.into_inner();
-        let (count, marked) = (share.count(), share.is_marked());
-        let events = preflow.history().len();
-        let counted = count == events as u64;
-        let whole = events == 0 || events == 4;
-        let out = preflow.rejoin(share);
-        preflow.settle(4)?;
-        let (quiet, settled) = (preflow.is_quiet(), preflow.history().len());
-        let mut text = format!(in alloc; "marked {marked} counted {counted} whole {whole} ")?;
-        write!(text, "out {out} quiet {quiet} after {settled}")?;
-        Ok(text)
+/// One worker goes on from the opening alone.
+fn alone_in<L: NetworkLedger, R: Wait>(
+    rt: &R,
+    alloc: Global,
+    blank: Blank,
+    net: &Net,
+) -> Result<String, Fail>
+    requires ends { AreEnds net.now 0 1 }
+    requires net { network_between net.now 0 1 ≡ L.net }
+    requires name { blank.name ≡ L.name }
+    requires parts { (blank.parts ≡ 65) × (L.parts ≡ 65) }
+{
+    let mut preflow = Preflow::<L>::start(alloc, blank, net, 0, 1)?;
+    let Some(share) = preflow.share() else {
+        return Err(Fail::from("a share"));
+    };
+    let locked: Locked<L> = Mutex::new(preflow);
+    let share = worker(rt, &locked, 0, share, &OpenGate);
+    let mut preflow = locked.into_inner();
+    told_alone(alloc, &mut preflow, share)
+}
+
+/// The same between the first two modules of the line of three imports.
+fn alone<R: Wait>(rt: &R, alloc: Global) -> Result<String, Fail> {
+    let net = net_of(alloc, THREE_IMPORTS)?;
+    if net.nodes() < 2 {
+        return Err(Fail::from("two modules"));
     }
+    alone_in::<Brand, R>(rt, alloc, Blank::new(PARTS), &*net)
 }
 
 // Where memory for the history is refused, the worker ends at its first step, which isn't counted, and `settle` takes all four.
 #[test]
 fn one_worker_takes_all_steps_or_none(rt: HostRuntime) -> Result<(), Fail> {
-    let found = run_on(rt.alloc(), THREE_IMPORTS, &ByOneWorker { rt: &rt })?;
+    let found = alone(&rt, rt.alloc())?;
     assert_eq!(rt;
         found.as_str(),
         "marked true counted true whole true out 0 quiet true after 4"

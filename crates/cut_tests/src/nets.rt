@@ -2,7 +2,6 @@
 
 use cut_net::fields::{cut_at_byte, is_identifier, name_in, number_in};
 use cut_net::{Net, NetFault};
-use ob_scope::Scopes;
 use std::alloc::{AllocError, Global};
 use std::process::Abort;
 use std::test::Fail;
@@ -171,24 +170,21 @@ fn a_graph_of_no_files_makes_a_network_of_no_modules(rt: HostRuntime) -> Result<
     let graph = ob_imports::graph(rt.alloc(), &[])?;
     assert_eq!(rt; graph.modules(), 0);
     assert_eq!(rt; graph.nodes(), 0);
-    let scopes: Vec<Scopes> = Vec::new(rt.alloc());
-    let net = Net::from_graph(rt.alloc(), &graph, scopes.as_slice())?;
+    let net = Net::from_graph(rt.alloc(), &graph, &[])?;
     assert_eq!(rt; net.nodes(), 0);
     assert_eq!(rt; net.imports().len(), 0);
     Ok(())
 }
 
 #[test]
-fn fields_are_cut_and_named(rt: HostRuntime) -> Result<(), Fail> {
-    let (before, after) = cut_at_byte(b"cut A D", b' ').ok_or("no space")?;
-    assert_eq!(rt; before, b"cut".as_slice());
-    assert_eq!(rt; after, b"A D".as_slice());
+fn fields_are_cut_and_named(rt: HostRuntime) {
+    let parts = (b"cut".as_slice(), b"A D".as_slice());
+    assert_eq!(rt; cut_at_byte(b"cut A D", b' '), Some(parts));
     assert!(rt; cut_at_byte(b"end", b' ').is_none());
     assert!(rt; is_identifier(b"M1"));
     assert!(rt; !is_identifier(b"1M"));
     assert!(rt; name_in(b"").is_none());
-    assert_eq!(rt; name_in(b"Texts").ok_or("no name")?, "Texts");
-    Ok(())
+    assert_eq!(rt; name_in(b"Texts"), Some("Texts"));
 }
 
 const NUMBERS: &[(&[u8], Option<u64>)] = &[

@@ -2,6 +2,7 @@
 ghost use Rattle.std.specs.Prelude.{◌≡◌};
 ghost use Rattle.cut_preflow.specs.Flows.{AreEnds, network_between};
 
+use crate::worked::net_of;
 use cut_net::Net;
 use cut_preflow::{Event, NetworkLedger, Outcome, PARTS, Preflow, Step};
 use std::alloc::Global;
@@ -16,9 +17,9 @@ pub(crate) trait Trial {
         alloc: Global,
         net: &Net,
         ends: (u32, u32),
-        preflow: Preflow<L>,
+        preflow: &mut Preflow<L>,
     ) -> Result<String, Fail>
-        requires { preflow.play.net ≡ network_between net.now ends.0 ends.1 };
+        requires { preflow.old.play.net ≡ network_between net.now ends.0 ends.1 };
 }
 
 fn in_ledger<L: NetworkLedger, T: Trial>(
@@ -33,8 +34,8 @@ fn in_ledger<L: NetworkLedger, T: Trial>(
     requires name { blank.name ≡ L.name }
     requires parts { (blank.parts ≡ 65) × (L.parts ≡ 65) }
 {
-    let preflow = Preflow::<L>::start(alloc, blank, net, ends.0, ends.1)?;
-    trial.on(alloc, net, ends, preflow)
+    let mut preflow = Preflow::<L>::start(alloc, blank, net, ends.0, ends.1)?;
+    trial.on(alloc, net, ends, &mut preflow)
 }
 
 /// Runs a trial on a network between two of its modules.
@@ -52,8 +53,8 @@ pub(crate) fn run<T: Trial>(
 
 /// Runs a trial on the network of a text between its first two modules.
 pub(crate) fn run_on<T: Trial>(alloc: Global, net: &[u8], trial: &T) -> Result<String, Fail> {
-    let net = Net::read(alloc, net)?;
-    run(alloc, &net, (0, 1), trial)
+    let net = net_of(alloc, net)?;
+    run(alloc, &*net, (0, 1), trial)
 }
 
 fn tried_once<L: NetworkLedger>(preflow: &mut Preflow<L>, step: Step) -> Outcome

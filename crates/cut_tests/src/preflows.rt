@@ -99,13 +99,13 @@ impl Trial for Plays<'_> {
         alloc: Global,
         net: &Net,
         ends: (u32, u32),
-        mut preflow: Preflow<L>,
+        preflow: &mut Preflow<L>,
     ) -> Result<String, Fail> {
         let mut text = String::new(alloc);
-        tell_state(&mut text, alloc, net, ends, &preflow)?;
-        tell_steps(&mut text, &mut preflow, self.0)?;
+        tell_state(&mut text, alloc, net, ends, preflow)?;
+        tell_steps(&mut text, preflow, self.0)?;
         text.push_str("; ")?;
-        tell_state(&mut text, alloc, net, ends, &preflow)?;
+        tell_state(&mut text, alloc, net, ends, preflow)?;
         Ok(text)
     }
 }
@@ -202,7 +202,7 @@ impl Trial for Settles {
         alloc: Global,
         _net: &Net,
         _ends: (u32, u32),
-        mut preflow: Preflow<L>,
+        preflow: &mut Preflow<L>,
     ) -> Result<String, Fail> {
         let mut end = preflow.settle(self.0);
         // Where memory for the history is refused, steps and fuel are left.
@@ -254,7 +254,7 @@ impl Trial for Stride {
         alloc: Global,
         _net: &Net,
         _ends: (u32, u32),
-        mut preflow: Preflow<L>,
+        preflow: &mut Preflow<L>,
     ) -> Result<String, Fail> {
         let steps = 20u32;
         for turn in 0..10000u32 {
@@ -262,7 +262,7 @@ impl Trial for Stride {
                 break;
             }
             let number = turn.wrapping_mul(self.0) % steps;
-            let _ = tried(&mut preflow, step_of(number, 14));
+            let _ = tried(preflow, step_of(number, 14));
         }
         let side = preflow.side(alloc)?;
         Ok(format!(in alloc; "quiet {} side {side:?}", preflow.is_quiet())?)
@@ -303,9 +303,9 @@ impl Trial for TakesShares {
         alloc: Global,
         _net: &Net,
         _ends: (u32, u32),
-        mut preflow: Preflow<L>,
+        preflow: &mut Preflow<L>,
     ) -> Result<String, Fail> {
-        let (taken, last) = take_shares(&mut preflow, 65);
+        let (taken, last) = take_shares(preflow, 65);
         let none = preflow.share().is_none();
         let Some(share) = last else {
             return Err(Fail::from("a share"));
@@ -336,7 +336,7 @@ impl Trial for CountsSteps {
         alloc: Global,
         _net: &Net,
         _ends: (u32, u32),
-        mut preflow: Preflow<L>,
+        preflow: &mut Preflow<L>,
     ) -> Result<String, Fail> {
         let Some(mut share) = preflow.share() else {
             return Err(Fail::from("a share"));
@@ -356,7 +356,7 @@ impl Trial for CountsSteps {
         let again = preflow.apply_as(relabel, &mut share);
         write!(text, "{again:?} {:?} ", preflow.history())?;
         tell_share(&mut text, &share)?;
-        let moved = tried(&mut preflow, Step::Push { arc: 2 });
+        let moved = tried(preflow, Step::Push { arc: 2 });
         let quiet = preflow.note_quiet(&mut share);
         write!(text, "{moved:?} {quiet} ")?;
         tell_share(&mut text, &share)?;

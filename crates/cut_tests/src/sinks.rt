@@ -61,11 +61,14 @@ fn puts_a_front(rt: &(impl Abort + AllocGlobal), puts: u64) -> Result<(), Fail> 
         put?;
     }
     let all = puts >= 6;
-    assert_eq!(rt; put.is_ok(), all, "at {puts}");
-    assert_eq!(rt; sink.failures, u64::from(!all), "at {puts}");
-    assert_eq!(rt; sink.taken.len() as u64, puts.min(6), "at {puts}");
+    let found = (
+        put.is_ok(),
+        sink.failures,
+        sink.taken.len() as u64,
+        sink.empty,
+    );
+    assert_eq!(rt; found, (all, u64::from(!all), puts.min(6), 0), "at {puts}");
     assert!(rt; b"report".starts_with(sink.taken.as_slice()), "at {puts}");
-    assert_eq!(rt; sink.empty, 0, "at {puts}");
     Ok(())
 }
 

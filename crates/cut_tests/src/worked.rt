@@ -1,7 +1,9 @@
 //! Worked networks, lines of imports, and lines told as text.
 
-use cut_net::{Cut, Priced};
+use cut_check::check;
+use cut_net::{Cut, Net, Priced};
 use std::alloc::{AllocError, Global};
+use std::test::Fail;
 
 /// Two imports in a row. The modules are A, B and M, in this order.
 pub(crate) const TWO_IMPORTS: &[u8] = b"import A M 2\nimport M B 2\n";
@@ -15,6 +17,11 @@ pub(crate) const TWO_WAYS: &[u8] = b"import A U 5\nimport U D 1\nimport A V 0\ni
 /// A flow over U X and X T leaves S V no way on but back over U X. The modules are S, T, U, V, X and Y.
 pub(crate) const A_WAY_BACK: &[u8] =
     b"import S U 1\nimport S V 1\nimport U X 1\nimport U Y 1\nimport V X 1\nimport X T 1\nimport Y T 1\n";
+
+/// The network of a text.
+pub(crate) fn net_of(alloc: Global, text: &[u8]) -> Result<Box<Net>, Fail> {
+    Ok(Box::new(alloc, Net::read(alloc, text)?)?)
+}
 
 /// A line of an import: the module that imports, the one that is imported, and an amount.
 pub(crate) type Line = (u32, u32, u64);
@@ -36,14 +43,29 @@ pub(crate) fn cut(
     imports: &[Line],
     weight: u64,
     flow: &[Line],
-) -> Result<Cut, AllocError> {
+) -> Result<Box<Cut>, AllocError> {
     let imports = lines(alloc, imports)?;
     let flow = lines(alloc, flow)?;
-    Ok(Cut {
+    let cut = Cut {
         imports,
         weight,
         flow,
-    })
+    };
+    Ok(Box::new(alloc, cut)?)
+}
+
+/// The verdict on a cut between two modules, as a text.
+pub(crate) fn judged(
+    alloc: Global,
+    net: &Net,
+    (from, to): (u32, u32),
+    cut: &Cut,
+) -> Result<String, Fail> {
+    if from >= net.nodes() || to >= net.nodes() {
+        return Err(Fail::from("two modules"));
+    }
+    let verdict = check(alloc, net, from, to, cut)?;
+    Ok(format!(in alloc; "{verdict:?}")?)
 }
 
 fn tell_lines(text: &mut String, word: &str, lines: &[Priced]) -> Result<(), AllocError> {
