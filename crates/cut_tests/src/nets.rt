@@ -139,7 +139,7 @@ fn there_are_at_most_8192_names(rt: HostRuntime) -> Result<(), Fail> {
 fn imports_of(alloc: Global, count: u32) -> Result<String, AllocError> {
     let mut text = String::new(alloc);
     for number in 0..count {
-        writeln!(text, "import F{} T{} 1", number / 256, number % 256)?;
+        writeln!(text, "import A{} Z{} 1", number / 256, number % 256)?;
     }
     Ok(text)
 }
@@ -153,7 +153,7 @@ fn there_are_at_most_65536_imports(rt: HostRuntime) -> Result<(), Fail> {
 #[test]
 fn a_repeated_import_is_no_further_one(rt: HostRuntime) -> Result<(), Fail> {
     let mut again = imports_of(rt.alloc(), 65536)?;
-    again.push_str("import F0 T0 1\n")?;
+    again.push_str("import A0 Z0 1\n")?;
     reads(&rt, again.as_bytes(), "line 65537 repeats an import")
 }
 
