@@ -78,7 +78,8 @@ impl Trial for SettlesAlone<'_> {
     }
 }
 
-/// Checks that a preflow that is settled from its opening alone shows the same imports and weight.
+/// Checks that the checker says yes to the cut, and that a preflow that is settled from its opening alone shows the same imports and
+/// weight.
 fn settles_alone(
     rt: &(impl Abort + AllocGlobal),
     net: &Net,
@@ -88,6 +89,8 @@ fn settles_alone(
     let (Some(from), Some(to)) = (net.index_of(from), net.index_of(to)) else {
         return Err(Fail::from("two names"));
     };
+    let verdict = judged(rt.alloc(), net, (from, to), cut)?;
+    assert_eq!(rt; verdict.as_str(), "Yes");
     let found = run(rt.alloc(), net, (from, to), &SettlesAlone(cut))?;
     assert_eq!(rt; found.as_str(), "true Yes");
     Ok(())
