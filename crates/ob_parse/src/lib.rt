@@ -22,6 +22,3 @@ mod types;
 
 pub use fault::ParseFault;
 pub use parser::parse;
-
-#[cfg(test)]
-mod tests;
