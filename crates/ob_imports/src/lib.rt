@@ -24,6 +24,3 @@ pub use making::graph;
 pub use named::cycle;
 pub use pair::Pair;
 pub use parsed::Parsed;
-
-#[cfg(test)]
-mod tests;

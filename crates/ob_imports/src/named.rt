@@ -52,6 +52,3 @@ pub fn cycle(alloc: Global, imports: &[Pair], nodes: usize) -> Result<Option<Vec
     turn(cycle.as_mut_slice());
     Ok(Some(cycle))
 }
-
-#[cfg(test)]
-mod tests;

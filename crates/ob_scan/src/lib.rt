@@ -23,6 +23,3 @@ pub use lines::position;
 pub use place::Position;
 pub use scanner::scan;
 pub use token::{Token, Tokens};
-
-#[cfg(test)]
-mod tests;

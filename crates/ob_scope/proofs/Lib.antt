@@ -24,7 +24,6 @@ pub mod StageSteps
 pub mod FrameFacts
 pub mod IdentifierNames
 pub mod Whole
-pub mod TestCounts
 pub mod Copies
 pub mod TellerSteps
 pub mod ToldNames

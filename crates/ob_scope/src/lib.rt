@@ -27,6 +27,3 @@ pub use interfaces::{Base, Declaration, FormPart, ImportedModule, Interface, Typ
 pub use module_scopes::{Alias, Scopes, interface};
 pub use scoping::scopes;
 pub use sort::Sort;
-
-#[cfg(test)]
-mod tests;
