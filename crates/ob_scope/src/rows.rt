@@ -3,14 +3,14 @@
 use crate::Sort;
 
 /// A block: the number of its PROCEDURE, and the row of the block around it. The first row is the module's.
-#[derive(Clone, Copy, PartialEq, Eq, Debug)]
+#[derive(Clone, Copy)]
 pub(crate) struct Block {
     pub(crate) token: u32,
     pub(crate) outer: u32,
 }
 
 /// Where an identifier is declared.
-#[derive(Clone, Copy, PartialEq, Eq, Hash, Debug)]
+#[derive(Clone, Copy, PartialEq, Eq, Hash)]
 pub(crate) enum Place {
     /// In the block of this row.
     Block(u32),
@@ -19,7 +19,7 @@ pub(crate) enum Place {
 }
 
 /// A declared identifier, by the number of its token.
-#[derive(Clone, Copy, PartialEq, Eq, Debug)]
+#[derive(Clone, Copy)]
 pub(crate) struct Member {
     pub(crate) place: Place,
     pub(crate) number: u32,
@@ -28,7 +28,7 @@ pub(crate) struct Member {
 }
 
 /// An identifier that is looked up, with the row of its block.
-#[derive(Clone, Copy, PartialEq, Eq, Debug)]
+#[derive(Clone, Copy)]
 pub(crate) struct Use {
     pub(crate) block: u32,
     pub(crate) number: u32,
@@ -39,7 +39,7 @@ pub(crate) struct Use {
 }
 
 /// An import: the row of the member that it declares, and the number of the token that names the module.
-#[derive(Clone, Copy, PartialEq, Eq, Debug)]
+#[derive(Clone, Copy)]
 pub(crate) struct Import {
     pub(crate) member: u32,
     pub(crate) imported: u32,
