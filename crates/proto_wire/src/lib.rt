@@ -21,6 +21,3 @@ pub use writer::Writer;
 pub use writing::{
     Written, put_message, put_messages, put_number, put_packed, put_text, put_texts,
 };
-
-#[cfg(test)]
-mod tests;

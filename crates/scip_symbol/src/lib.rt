@@ -22,6 +22,3 @@ pub use kind::DescriptorKind;
 pub use reader::read;
 pub use symbol::Symbol;
 pub use writer::write;
-
-#[cfg(test)]
-mod tests;

@@ -1,5 +1,0 @@
-mod fields;
-mod messages;
-mod reading;
-mod writer;
-mod writing;
