@@ -9,10 +9,9 @@ ghost use Rattle.ob_imports.specs.Outcomes.{outcome_of, GraphOutcome, IsCycleOf,
 
 use crate::alike::no_two_alike;
 use crate::named::cycle;
-use crate::pairing::pairs_of;
-use crate::tables::{nodes_of, put_names};
+use crate::pairing::{pairs_by, pairs_of};
+use crate::tables::nodes_of;
 use crate::{Graph, GraphFault, Parsed};
-use indexmap::IndexSet;
 use std::alloc::{AllocError, Global};
 
 const MOST_MODULES: usize = 4096;
@@ -67,9 +66,7 @@ fn cycle_in(
     ensures none { IfOk result (λ answer. IfNone answer (IsAcyclic (Imports (files_of parsed.now)))) }
 {
     let order = in_order(alloc, names)?;
-    let mut table = IndexSet::new(alloc);
-    put_names(alloc, &mut table, order.as_slice())?;
-    let pairs = pairs_of(alloc, parsed, &table)?;
+    let pairs = pairs_by(alloc, parsed, order.as_slice())?;
     match cycle(alloc, pairs.as_slice(), order.len())? {
         None => Ok(None),
         Some(cycle) => Ok(Some(names_at(alloc, order.as_slice(), cycle.as_slice())?)),

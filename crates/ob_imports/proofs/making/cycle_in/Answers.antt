@@ -20,43 +20,31 @@ use Rattle.ob_imports.proofs.making.cycle_in.Goals as goal
 pub in_order-requires : goal.in_order-requires
 in_order-requires c = record { once = nodes_apart (files_of c.args.parsed.now) (texts c.args.names.now) c.requires.differ c.requires.nodes }
 
-pub put_names-requires : goal.put_names-requires
-put_names-requires c =
-    let once = nodes_apart (files_of c.args.parsed.now) (texts c.args.names.now) c.requires.differ c.requires.nodes in
-    rw (nil_from_length _ c.new-table.ensures.len, c.as_slice.ensures.value) (IsDistinct-IsPermutation bytes_eq nat_list_eq_equiv.symm _ _ c.in_ok-order.ensures.same once)
-
-pub pairs_of-requires-clause-few : goal.pairs_of-requires-clause-few
-pairs_of-requires-clause-few c =
-    let order = texts c.in_ok-order.order.items in
-    let keys : texts c.put_names.new.table.keys ≡ order = c.in_ok-put_names.ensures ∙ rw (nil_from_length _ c.new-table.ensures.len, c.as_slice.ensures.value) refl in
-    let long_keys = length-map c.put_names.new.table.keys string_bytes in
+pub pairs_by-requires-clause-few : goal.pairs_by-requires-clause-few
+pairs_by-requires-clause-few c =
+    let long_order = length-map c.in_ok-order.order.items string_bytes in
     let long_names = length-map c.args.names.now string_bytes in
-    let moved = length_permutation (texts c.args.names.now) order c.in_ok-order.ensures.same in
-    let same = ap length keys in
+    let moved = length_permutation (texts c.args.names.now) (texts c.in_ok-order.order.items) c.in_ok-order.ensures.same in
+    let same = ap length c.as_slice.ensures.value in
     let few = c.requires.few in
     omega arith
 
-pub pairs_of-requires-clause-once : goal.pairs_of-requires-clause-once
-pairs_of-requires-clause-once c =
-    let order = texts c.in_ok-order.order.items in
-    let keys : texts c.put_names.new.table.keys ≡ order = c.in_ok-put_names.ensures ∙ rw (nil_from_length _ c.new-table.ensures.len, c.as_slice.ensures.value) refl in
+pub pairs_by-requires-clause-once : goal.pairs_by-requires-clause-once
+pairs_by-requires-clause-once c =
     let once = nodes_apart (files_of c.args.parsed.now) (texts c.args.names.now) c.requires.differ c.requires.nodes in
-    rw keys (IsDistinct-IsPermutation bytes_eq nat_list_eq_equiv.symm _ _ c.in_ok-order.ensures.same once)
+    rw c.as_slice.ensures.value (IsDistinct-IsPermutation bytes_eq nat_list_eq_equiv.symm _ _ c.in_ok-order.ensures.same once)
 
-pub pairs_of-requires-clause-known : goal.pairs_of-requires-clause-known
-pairs_of-requires-clause-known c n node =
-    let order = texts c.in_ok-order.order.items in
-    let keys : texts c.put_names.new.table.keys ≡ order = c.in_ok-put_names.ensures ∙ rw (nil_from_length _ c.new-table.ensures.len, c.as_slice.ensures.value) refl in
-    subst (λ (ns : List (List ℕ)). Contains ns n) (sym keys)
-    (Contains-permutation (texts c.args.names.now) order n c.in_ok-order.ensures.same (nodes_known (files_of c.args.parsed.now) (texts c.args.names.now) c.requires.nodes n node))
+pub pairs_by-requires-clause-known : goal.pairs_by-requires-clause-known
+pairs_by-requires-clause-known c n node =
+    rw c.as_slice.ensures.value
+    (Contains-permutation (texts c.args.names.now) (texts c.in_ok-order.order.items) n c.in_ok-order.ensures.same (nodes_known (files_of c.args.parsed.now) (texts c.args.names.now) c.requires.nodes n node))
 
 pub cycle-requires-clause-between : goal.cycle-requires-clause-between
 cycle-requires-clause-between c =
     let files = files_of c.args.parsed.now in
     let order = texts c.in_ok-order.order.items in
     let pairs = c.in_ok-pairs.pairs.items in
-    let keys : texts c.put_names.new.table.keys ≡ order = c.in_ok-put_names.ensures ∙ rw (nil_from_length _ c.new-table.ensures.len, c.as_slice.ensures.value) refl in
-    let leads : (v w : ℕ) → Leads pairs v w ↔ LeadsBy (Imports files) order v w = subst (λ (ks : List (List ℕ)). (v w : ℕ) → Leads pairs v w ↔ LeadsBy (Imports files) ks v w) keys c.in_ok-pairs.ensures.leads in
+    let leads : (v w : ℕ) → Leads pairs v w ↔ LeadsBy (Imports files) order v w = rw c.as_slice.ensures.value at c.in_ok-pairs.ensures.leads in
     let long = length-map c.in_ok-order.order.items string_bytes in
     let count : length order ≡ c.len.result = (let ok = c.in_ok-order.order.ok in let e = c.len.ensures in omega arith) in
     rw c.as_slice-2.ensures.value (subst (AreBetween pairs) count (between_names files order pairs leads))
@@ -76,8 +64,7 @@ returns-in-None-clause-none c =
     let files = files_of c.args.parsed.now in
     let order = texts c.in_ok-order.order.items in
     let pairs = c.in_ok-pairs.pairs.items in
-    let keys : texts c.put_names.new.table.keys ≡ order = c.in_ok-put_names.ensures ∙ rw (nil_from_length _ c.new-table.ensures.len, c.as_slice.ensures.value) refl in
-    let leads : (v w : ℕ) → Leads pairs v w ↔ LeadsBy (Imports files) order v w = subst (λ (ks : List (List ℕ)). (v w : ℕ) → Leads pairs v w ↔ LeadsBy (Imports files) ks v w) keys c.in_ok-pairs.ensures.leads in
+    let leads : (v w : ℕ) → Leads pairs v w ↔ LeadsBy (Imports files) order v w = rw c.as_slice.ensures.value at c.in_ok-pairs.ensures.leads in
     let none : IsAcyclic (Leads pairs) = rw c.as_slice-2.ensures.value at (rw c.in-None.is at c.in_ok-cycle.ensures.none) in
     acyclic_names files order (λ n node. Contains-permutation (texts c.args.names.now) order n c.in_ok-order.ensures.same (nodes_known files (texts c.args.names.now) c.requires.nodes n node))
     (acyclic_as (Leads pairs) (LeadsBy (Imports files) order) leads none)
@@ -87,8 +74,7 @@ returns-clause-named c =
     let files = files_of c.args.parsed.now in
     let order = texts c.in_ok-order.order.items in
     let pairs = c.in_ok-pairs.pairs.items in
-    let keys : texts c.put_names.new.table.keys ≡ order = c.in_ok-put_names.ensures ∙ rw (nil_from_length _ c.new-table.ensures.len, c.as_slice.ensures.value) refl in
-    let leads : (v w : ℕ) → Leads pairs v w ↔ LeadsBy (Imports files) order v w = subst (λ (ks : List (List ℕ)). (v w : ℕ) → Leads pairs v w ↔ LeadsBy (Imports files) ks v w) keys c.in_ok-pairs.ensures.leads in
+    let leads : (v w : ℕ) → Leads pairs v w ↔ LeadsBy (Imports files) order v w = rw c.as_slice.ensures.value at c.in_ok-pairs.ensures.leads in
     let named : NamesCycle (Leads pairs) c.in-Some.cycle.items = rw c.as_slice-2.ensures.value at (rw c.in-Some.is at c.in_ok-cycle.ensures.named) in
     record {
       order = order;
