@@ -3,7 +3,7 @@ mod reading;
 mod writing;
 
 use crate::told::is_told;
-use scip_symbol::{Descriptor, DescriptorKind, Symbol, SymbolFault, read, write};
+use scip_symbol::{Descriptor, DescriptorKind, Symbol, read, write};
 use std::alloc::{AllocError, Global};
 use std::process::Abort;
 use std::test::Fail;
@@ -33,7 +33,7 @@ fn path(alloc: Global, steps: &[Step]) -> Result<Vec<Descriptor>, AllocError> {
     Ok(descriptors)
 }
 
-fn global(alloc: Global, parts: Parts, steps: &[Step]) -> Result<Symbol, AllocError> {
+fn global_of(alloc: Global, parts: Parts, steps: &[Step]) -> Result<Symbol, AllocError> {
     let [scheme, manager, package, version] = parts;
     Ok(Symbol::Global {
         scheme: String::from_str(alloc, scheme)?,
@@ -44,11 +44,28 @@ fn global(alloc: Global, parts: Parts, steps: &[Step]) -> Result<Symbol, AllocEr
     })
 }
 
+fn global(alloc: Global, parts: Parts, steps: &[Step]) -> Result<Box<Symbol>, Fail> {
+    Ok(Box::new(alloc, global_of(alloc, parts, steps)?)?)
+}
+
+fn local(alloc: Global, id: &str) -> Result<Box<Symbol>, Fail> {
+    let id = String::from_str(alloc, id)?;
+    Ok(Box::new(alloc, Symbol::Local(id))?)
+}
+
 /// The text of a symbol, or why it has none.
 fn text_of(alloc: Global, symbol: &Symbol) -> Result<String, AllocError> {
     match write(alloc, symbol) {
         Ok(text) => Ok(text),
         Err(fault) => format!(in alloc; "{fault}"),
+    }
+}
+
+/// Whether a text is read as this symbol: "read", or "not read".
+fn told_read(alloc: Global, text: &str, symbol: &Symbol) -> &'static str {
+    match read(alloc, text) {
+        Ok(found) if found == *symbol => "read",
+        _ => "not read",
     }
 }
 
@@ -65,14 +82,6 @@ fn writes(
     Ok(())
 }
 
-/// Whether a text is read as this symbol.
-fn is_read_as(alloc: Global, text: &str, symbol: &Symbol) -> bool {
-    match read(alloc, text) {
-        Ok(found) => found == *symbol,
-        Err(_) => false,
-    }
-}
-
 /// Checks that a text is read as this symbol.
 fn reads(
     rt: &(impl Abort + AllocGlobal),
@@ -81,7 +90,7 @@ fn reads(
     steps: &[Step],
 ) -> Result<(), Fail> {
     let symbol = global(rt.alloc(), parts, steps)?;
-    assert!(rt; is_read_as(rt.alloc(), text, &symbol), "{text}");
+    is_told(rt, told_read(rt.alloc(), text, &symbol), "read");
     Ok(())
 }
 

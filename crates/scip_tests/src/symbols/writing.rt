@@ -1,6 +1,7 @@
-use super::{NO_PARTS, Parts, Step, is_read_as, reads, step, text_of, writes};
+use super::{NO_PARTS, Parts, Step, local, reads, step, text_of, told_read, writes};
 use crate::told::is_told;
-use scip_symbol::{DescriptorKind, Symbol};
+use scip_symbol::DescriptorKind;
+use std::alloc::{AllocError, Global};
 use std::process::Abort;
 use std::test::Fail;
 
@@ -206,32 +207,32 @@ fn symbols_are_refused(rt: HostRuntime) -> Result<(), Fail> {
     Ok(())
 }
 
-/// Ids of symbols of one document, with their texts or the reason that they have none, and whether the texts are read as
-/// the symbols again.
-const IDS: &[(&str, &str, bool)] = &[
-    ("0", "local 0", true),
-    ("a_+-$9", "local a_+-$9", true),
-    ("", "something is empty", false),
-    ("a b", "the descriptor at 0 is wrong", false),
+/// Ids of symbols of one document, with their texts or the reason that they have none, and whether these are read as the
+/// symbols.
+const IDS: &[(&str, &str, &str)] = &[
+    ("0", "local 0", "read"),
+    ("a_+-$9", "local a_+-$9", "read"),
+    ("", "something is empty", "not read"),
+    ("a b", "the descriptor at 0 is wrong", "not read"),
 ];
 
 fn writes_local(
     rt: &(impl Abort + AllocGlobal),
     id: &str,
     want: &str,
-    both_ways: bool,
+    again: &str,
 ) -> Result<(), Fail> {
-    let symbol = Symbol::Local(String::from_str(rt.alloc(), id)?);
+    let symbol = local(rt.alloc(), id)?;
     let text = text_of(rt.alloc(), &symbol)?;
     is_told(rt, text.as_str(), want);
-    assert_eq!(rt; is_read_as(rt.alloc(), want, &symbol), both_ways);
+    is_told(rt, told_read(rt.alloc(), want, &symbol), again);
     Ok(())
 }
 
 #[test]
 fn local_symbols(rt: HostRuntime) -> Result<(), Fail> {
-    for (id, text, both_ways) in IDS {
-        writes_local(&rt, id, text, *both_ways)?;
+    for (id, text, again) in IDS {
+        writes_local(&rt, id, text, again)?;
     }
     Ok(())
 }
@@ -242,12 +243,16 @@ const STEPS: &[(Step, &str)] = &[
     ((DescriptorKind::Method, "p", "+1"), "Method, p, +1"),
 ];
 
-fn tells(rt: &(impl Abort + AllocGlobal), given: Step, want: &str) -> Result<(), Fail> {
-    let descriptor = step(rt.alloc(), given)?;
+fn told(alloc: Global, given: Step) -> Result<String, AllocError> {
+    let descriptor = step(alloc, given)?;
     let kind = descriptor.kind();
     let name = descriptor.name();
     let disambiguator = descriptor.disambiguator();
-    let told = format!(in rt.alloc(); "{kind:?}, {name}, {disambiguator}")?;
+    format!(in alloc; "{kind:?}, {name}, {disambiguator}")
+}
+
+fn tells(rt: &(impl Abort + AllocGlobal), given: Step, want: &str) -> Result<(), Fail> {
+    let told = told(rt.alloc(), given)?;
     is_told(rt, told.as_str(), want);
     Ok(())
 }
