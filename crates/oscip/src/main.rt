@@ -1,41 +1,21 @@
 //! The program: reads files, runs one engine on the real standard output, and ends with a status.
-//! Stands on all crates below it, with `clap` for the command line and `thiserror` for its faults.
+//! Stands on `oscip_job` for the command line and on `oscip_run` for the files, the engines and the faults.
 //! Its contract: what an engine puts is what the definitions say of its inputs, and nothing else.
 #![tactic(auto)]
 
 ghost use Rattle.std.specs.Prelude.{◌≡◌, true, false};
-ghost use Rattle.oscip.specs.Jobs.{is_tree_job, HasWorkers};
+ghost use Rattle.oscip_job.specs.Jobs.{is_tree_job, HasWorkers};
 
-mod answering;
-mod engine;
-mod fault;
-mod folder;
-mod gate;
-mod job;
-pub mod laws;
-mod module_file;
-mod reading;
-mod source;
-mod tree;
-mod tree_fault;
-mod tree_reading;
-
-pub use answering::{answer, answer_tree};
 use cut_report::ToWrite;
-pub use engine::{check_net_bytes, check_tree, cut_net_bytes, cut_tree};
-pub use fault::{RunFault, fault_line, status_of};
-pub use folder::sources_of;
-use gate::OpenGate;
-pub use job::{Job, JobFault, job_of};
-use reading::read_file;
-pub use source::{Source, in_order};
+use cut_solve::OpenGate;
+use oscip_job::{Job, JobFault, job_of};
+use oscip_run::{RunFault, answer, answer_tree, fault_line, read_file, sources_of, status_of};
 use std::io::ErrorKind;
 use std::process::ExitCode;
 use std::rt::{Env, Files};
 use std::sync::Wait;
 use std::thread::Threads;
 use std::{env, io};
-pub use tree::TreeFault;
 
 /// The status of a check that says no.
 const SAYS_NO: u8 = 5;
@@ -124,25 +104,42 @@ fn end_by<R: AllocGlobal + Eprint>(rt: &R, fault: &RunFault) -> ExitCode {
     }
 }
 
+/// Runs the job, tells of its fault, and gives the status of its end.
+fn end_of_job<R: Files + AllocGlobal + Print + Eprint + Threads + Wait + Sync + Clone + Drop>(
+    rt: &R,
+    job: &Job,
+) -> ExitCode
+    requires { HasWorkers job.now }
+{
+    match run_job(rt, job) {
+        Ok(true) => ExitCode::SUCCESS,
+        Ok(false) => ExitCode::from(SAYS_NO),
+        Err(fault) => end_by(rt, &fault),
+    }
+}
+
+/// Tells why there is no job, or the help that was asked for, and gives the status of that end.
+fn end_without_job<R: AllocGlobal + Print + Eprint>(rt: &R, fault: &JobFault) -> ExitCode {
+    match fault {
+        JobFault::Line { text } => {
+            let _ = eprint!(rt; "{text}");
+            ExitCode::from(REFUSED)
+        }
+        JobFault::Help { text } => match print!(rt; "{text}") {
+            Ok(()) => ExitCode::SUCCESS,
+            Err(_) => end_by(rt, &RunFault::Device),
+        },
+        JobFault::Memory => end_by(rt, &RunFault::Memory),
+    }
+}
+
 fn run<R: Files + AllocGlobal + Print + Eprint + Threads + Wait + Sync + Clone + Drop>(
     rt: &R,
     words: &[String],
 ) -> ExitCode {
     match job_of(rt.alloc(), words) {
-        Ok(job) => match run_job(rt, &job) {
-            Ok(true) => ExitCode::SUCCESS,
-            Ok(false) => ExitCode::from(SAYS_NO),
-            Err(fault) => end_by(rt, &fault),
-        },
-        Err(JobFault::Line { text }) => {
-            let _ = eprint!(rt; "{text}");
-            ExitCode::from(REFUSED)
-        }
-        Err(JobFault::Help { text }) => match print!(rt; "{text}") {
-            Ok(()) => ExitCode::SUCCESS,
-            Err(_) => end_by(rt, &RunFault::Device),
-        },
-        Err(JobFault::Memory) => end_by(rt, &RunFault::Memory),
+        Ok(job) => end_of_job(rt, &job),
+        Err(fault) => end_without_job(rt, &fault),
     }
 }
 
@@ -162,6 +159,3 @@ fn main(rt: HostRuntime) -> ExitCode {
         }
     }
 }
-
-#[cfg(test)]
-mod tests;

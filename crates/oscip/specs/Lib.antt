@@ -1,9 +1,0 @@
-pub mod CutRuns
-pub mod Faults
-pub mod Jobs
-pub mod Runs
-pub mod JobRuns
-pub mod Sources
-pub mod Trees
-pub mod TreeReading
-pub mod TreeFaults

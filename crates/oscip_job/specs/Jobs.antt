@@ -1,0 +1,108 @@
+-- The command line as clap reads it, and the job that its words give.
+use Rattle.std.specs.Prelude.{◌≡◌, ◌<◌, ◌≤◌, ◌^◌, ℕ, List, [], ◌∷◌, Option, Some, None, codes, pos, Bool, true, false}
+use Rattle.std.specs.Str.Parse.{digits_value, without_leading_plus, IsNumeral}
+use Rattle.std.specs.String.{string_bytes}
+use Rattle.clap.specs.Words.{App, Row, Text, first_of, one_of, new_app, new_rule, with_rule, with_subcommand}
+use Rattle.clap.specs.Walk.{Rule}
+use Rattle.clap.specs.declared.builder.value_parser.ValueParser.TheVariants as parsers
+use Rattle.oscip_job.specs.declared.job.Job.{Job}
+use Rattle.oscip_job.specs.declared.job.Job.TheVariants.{Cut, Check, CutNet, CheckNet}
+
+-- an argument that has to be given
+abbrev pub required_rule : Text → Rule
+required_rule id = record (new_rule id) { required = true }
+
+-- A B
+abbrev pub with_modules : App → App
+with_modules app = with_rule (with_rule app (required_rule (codes "A"))) (required_rule (codes "B"))
+
+-- --workers N, a number from 1 to 64, and 4 where it isn't given
+abbrev pub workers_rule : Rule
+workers_rule = record (new_rule (codes "workers")) {
+  long = Some (codes "workers");
+  value_names = 1;
+  parser = Some (parsers.Signed (pos 1) (pos 64));
+  defaults = codes "4" ∷ [];
+}
+
+-- the command with that option
+abbrev pub with_workers : App → App
+with_workers app = with_rule app workers_rule
+
+-- cut [--workers N] DIR A B
+abbrev pub cut_app : App
+cut_app = with_workers (with_modules (with_rule (new_app (codes "cut")) (required_rule (codes "DIR"))))
+
+-- check DIR REPORT
+abbrev pub check_app : App
+check_app = with_rule (with_rule (new_app (codes "check")) (required_rule (codes "DIR"))) (required_rule (codes "REPORT"))
+
+-- cut-net [--workers N] FILE A B
+abbrev pub cut_net_app : App
+cut_net_app = with_workers (with_modules (with_rule (new_app (codes "cut-net")) (required_rule (codes "FILE"))))
+
+-- check-net FILE REPORT
+abbrev pub check_net_app : App
+check_net_app = with_rule (with_rule (new_app (codes "check-net")) (required_rule (codes "FILE"))) (required_rule (codes "REPORT"))
+
+-- the program, one of whose commands has to be given
+abbrev pub program_app : App
+program_app = record (new_app (codes "oscip")) { top = record (new_app (codes "oscip")).top { subcommand_required = true } }
+
+-- the program and its commands
+abbrev pub oscip : App
+oscip = with_subcommand (with_subcommand (with_subcommand (with_subcommand program_app cut_app.top) check_app.top) cut_net_app.top) check_net_app.top
+
+-- the text that was found for an argument
+abbrev pub Finds : List Row → Text → Text → Type 0
+Finds rows id text = first_of id rows ≡ Some text
+
+-- the number that was found for an argument, in decimal digits, before which a plus may stand
+abbrev pub FindsNumber : List Row → Text → ℕ → Type 0
+FindsNumber rows id n =
+    (text : Text) × (one_of id rows ≡ Some text) × IsNumeral 10 (without_leading_plus text) × (n ≡ digits_value 10 (without_leading_plus text))
+
+-- so many workers may search
+abbrev pub MayWork : ℕ → Type 0
+MayWork workers = (1 ≤ workers) × (workers ≤ 64)
+
+-- what was found for --workers are numbers from 1 to 64
+abbrev pub NamesWorkers : List Row → Type 0
+NamesWorkers rows = (n : ℕ) → n < 2 ^ 32 → FindsNumber rows (codes "workers") n → MayWork n
+
+-- the job holds the values that were found for its arguments
+abbrev pub HasValues : List Row → Job → Type 0
+HasValues rows (Cut folder from to workers) =
+    Finds rows (codes "DIR") (string_bytes folder) × Finds rows (codes "A") (string_bytes from) × Finds rows (codes "B") (string_bytes to)
+    × FindsNumber rows (codes "workers") workers
+HasValues rows (Check folder report) = Finds rows (codes "DIR") (string_bytes folder) × Finds rows (codes "REPORT") (string_bytes report)
+HasValues rows (CutNet network from to workers) =
+    Finds rows (codes "FILE") (string_bytes network) × Finds rows (codes "A") (string_bytes from) × Finds rows (codes "B") (string_bytes to)
+    × FindsNumber rows (codes "workers") workers
+HasValues rows (CheckNet network report) = Finds rows (codes "FILE") (string_bytes network) × Finds rows (codes "REPORT") (string_bytes report)
+
+-- the word that names the command
+abbrev pub command_name : Job → Text
+command_name (Cut folder from to workers) = codes "cut"
+command_name (Check folder report) = codes "check"
+command_name (CutNet network from to workers) = codes "cut-net"
+command_name (CheckNet network report) = codes "check-net"
+
+-- the command that clap found is the job's, with its values
+abbrev pub Holds : Option (Text × List Row) → Job → Type 0
+Holds None job = ⊥
+Holds (Some found) job = (found.0 ≡ command_name job) × HasValues found.1 job
+
+-- the job reads a folder of modules
+abbrev pub is_tree_job : Job → Bool
+is_tree_job (Cut folder from to workers) = true
+is_tree_job (Check folder report) = true
+is_tree_job (CutNet network from to workers) = false
+is_tree_job (CheckNet network report) = false
+
+-- the job's workers, where it has them, are 1 to 64
+abbrev pub HasWorkers : Job → Type 0
+HasWorkers (Cut folder from to workers) = MayWork workers
+HasWorkers (Check folder report) = Unit {0}
+HasWorkers (CutNet network from to workers) = MayWork workers
+HasWorkers (CheckNet network report) = Unit {0}

@@ -1,0 +1,375 @@
+//! What the words of a command line ask for.
+ghost use Rattle.std.specs.Prelude.{◌≡◌, IfOk, IfSome, codes, map, false};
+ghost use Rattle.std.specs.String.{string_bytes};
+ghost use Rattle.clap.specs.Words.{app_of, found_of, kind_of, new_app, rows_of, subcommand_of, subcommand_rows_of, with_rule, with_subcommand, App};
+ghost use Rattle.clap.specs.declared.Command.TheViews.{out-Command as fields_of};
+ghost use Rattle.oscip_job.specs.Jobs.{check_app, check_net_app, cut_app, cut_net_app, oscip, required_rule, with_modules, with_workers, Finds, FindsNumber, HasWorkers, Holds, MayWork, NamesWorkers};
+
+use clap::error::ErrorKind;
+use clap::{Arg, ArgMatches, Command, value_parser};
+use std::alloc::{AllocError, Global};
+use thiserror::Error;
+
+/// What help says of a folder of modules.
+const FOLDER_HELP: &str =
+    "The folder of the modules: its files, and those of its folders, that end in `.Mod` or `.mod`";
+
+/// What help says of a network.
+const NETWORK_HELP: &str = "The network: lines `module M` and `import M N w`";
+
+/// A command with the values of its words.
+#[derive(Drop)]
+pub enum Job {
+    /// Finds a cheapest cut of the modules below a folder, given by its path, between the modules of two names, with 1 to
+    /// 64 workers.
+    Cut {
+        folder: String,
+        from: String,
+        to: String,
+        workers: u32,
+    },
+    /// Checks a report against the modules below a folder, both given as paths.
+    Check {
+        folder: String,
+        report: String,
+    },
+    /// Finds a cheapest cut of a network, given as the path of a file, between the modules of two names, with 1 to 64
+    /// workers.
+    CutNet {
+        network: String,
+        from: String,
+        to: String,
+        workers: u32,
+    },
+    /// Checks a report against a network, both given as paths of files.
+    CheckNet {
+        network: String,
+        report: String,
+    },
+}
+
+/// Why there is no job.
+#[derive(Debug, Drop, Error)]
+pub enum JobFault {
+    /// The command line is refused, and this text says why.
+    #[error("{text}")]
+    Line { text: String },
+    /// Help was asked for, and this is its text.
+    #[error("{text}")]
+    Help { text: String },
+    /// A growth of memory was refused.
+    #[error("memory ran out")]
+    Memory,
+}
+
+impl From<AllocError> for JobFault {
+    fn from(_error: AllocError) -> JobFault {
+        JobFault::Memory
+    }
+}
+
+/// The command with one more argument that has to be given.
+fn with_required<'a>(
+    alloc: Global,
+    command: Command<'a>,
+    id: &'a str,
+    help: &'a str,
+) -> Result<Command<'a>, AllocError>
+    ensures app { IfOk result (λ c. app_of c ≡ with_rule (app_of command.entry) (required_rule id.entry.now)) }
+    ensures local { IfOk result (λ c. (fields_of command.entry).has_globals ≡ false → (fields_of c).has_globals ≡ false) }
+{
+    command.arg(Arg::new(alloc, id).required(true).help(help))
+}
+
+/// The command with the names of two modules, A and B.
+fn with_modules<'a>(alloc: Global, command: Command<'a>) -> Result<Command<'a>, AllocError>
+    ensures app { IfOk result (λ c. app_of c ≡ with_modules (app_of command.entry)) }
+    ensures local { IfOk result (λ c. (fields_of command.entry).has_globals ≡ false → (fields_of c).has_globals ≡ false) }
+{
+    let command = with_required(
+        alloc,
+        command,
+        "A",
+        "The name of the module that is to reach B no longer",
+    )?;
+    with_required(
+        alloc,
+        command,
+        "B",
+        "The name of the module that A is to reach no longer",
+    )
+}
+
+/// The command with the option of how many workers search, 1 to 64.
+fn with_workers<'a>(alloc: Global, command: Command<'a>) -> Result<Command<'a>, AllocError>
+    ensures app { IfOk result (λ c. app_of c ≡ with_workers (app_of command.entry)) }
+    ensures local { IfOk result (λ c. (fields_of command.entry).has_globals ≡ false → (fields_of c).has_globals ≡ false) }
+{
+    let workers = Arg::new(alloc, "workers")
+        .long("workers")
+        .value_name("N")
+        .value_parser(value_parser!(u32).range(1..=64))
+        .default_value("4")
+        .help("How many threads search for the cut, from 1 to 64");
+    command.arg(workers)
+}
+
+/// The command of this name with a cut's words: what is cut, the names of two modules, and how many workers search.
+fn cutting<'a>(
+    alloc: Global,
+    name: &'a str,
+    about: &'a str,
+    id: &'a str,
+    help: &'a str,
+) -> Result<Command<'a>, AllocError>
+    ensures app { IfOk result (λ c. app_of c ≡ with_workers (with_modules (with_rule (new_app name.entry.now) (required_rule id.entry.now)))) }
+    ensures local { IfOk result (λ c. (fields_of c).has_globals ≡ false) }
+{
+    let command = Command::new(alloc, name).about(about);
+    let command = with_required(alloc, command, id, help)?;
+    let command = with_modules(alloc, command)?;
+    with_workers(alloc, command)
+}
+
+/// The command of this name with a check's words: what was cut, and the report.
+fn checking<'a>(
+    alloc: Global,
+    name: &'a str,
+    about: &'a str,
+    id: &'a str,
+    help: &'a str,
+    report_help: &'a str,
+) -> Result<Command<'a>, AllocError>
+    ensures app { IfOk result (λ c. app_of c ≡ with_rule (with_rule (new_app name.entry.now) (required_rule id.entry.now)) (required_rule (codes "REPORT"))) }
+    ensures local { IfOk result (λ c. (fields_of c).has_globals ≡ false) }
+{
+    let command = Command::new(alloc, name).about(about);
+    let command = with_required(alloc, command, id, help)?;
+    with_required(alloc, command, "REPORT", report_help)
+}
+
+fn cut_command<'a>(alloc: Global) -> Result<Command<'a>, AllocError>
+    ensures app { IfOk result (λ c. app_of c ≡ cut_app) }
+    ensures local { IfOk result (λ c. (fields_of c).has_globals ≡ false) }
+{
+    cutting(
+        alloc,
+        "cut",
+        "Find a cheapest set of imports of Oberon-07 modules to remove so that A no longer reaches B, with a flow that proves it",
+        "DIR",
+        FOLDER_HELP,
+    )
+}
+
+fn check_command<'a>(alloc: Global) -> Result<Command<'a>, AllocError>
+    ensures app { IfOk result (λ c. app_of c ≡ check_app) }
+    ensures local { IfOk result (λ c. (fields_of c).has_globals ≡ false) }
+{
+    checking(
+        alloc,
+        "check",
+        "Check a report's proof that its cut of Oberon-07 modules is cheapest",
+        "DIR",
+        FOLDER_HELP,
+        "The report of a cut between two of the modules",
+    )
+}
+
+fn cut_net_command<'a>(alloc: Global) -> Result<Command<'a>, AllocError>
+    ensures app { IfOk result (λ c. app_of c ≡ cut_net_app) }
+    ensures local { IfOk result (λ c. (fields_of c).has_globals ≡ false) }
+{
+    cutting(
+        alloc,
+        "cut-net",
+        "Find a cheapest set of imports to remove so that A no longer reaches B, with a flow that proves it",
+        "FILE",
+        NETWORK_HELP,
+    )
+}
+
+fn check_net_command<'a>(alloc: Global) -> Result<Command<'a>, AllocError>
+    ensures app { IfOk result (λ c. app_of c ≡ check_net_app) }
+    ensures local { IfOk result (λ c. (fields_of c).has_globals ≡ false) }
+{
+    checking(
+        alloc,
+        "check-net",
+        "Check a report's proof that its cut of a network is cheapest",
+        "FILE",
+        NETWORK_HELP,
+        "The report of a cut between two of its modules",
+    )
+}
+
+/// The program with one more command, if there is memory for that.
+fn with_sub<'a>(
+    program: Command<'a>,
+    command: Result<Command<'a>, AllocError>,
+) -> Result<Command<'a>, AllocError>
+    ensures { (app : App) → IfOk command.entry (λ c. app_of c ≡ app) → IfOk command.entry (λ c. (fields_of c).has_globals ≡ false) →
+        IfOk result (λ c. app_of c ≡ with_subcommand (app_of program.entry) app.top) }
+{
+    program.subcommand(command?)
+}
+
+/// The program with the commands on folders of modules.
+fn with_trees<'a>(alloc: Global, program: Command<'a>) -> Result<Command<'a>, AllocError>
+    ensures { IfOk result (λ c. app_of c ≡ with_subcommand (with_subcommand (app_of program.entry) cut_app.top) check_app.top) }
+{
+    let program = with_sub(program, cut_command(alloc))?;
+    with_sub(program, check_command(alloc))
+}
+
+/// The program with the commands on networks.
+fn with_nets<'a>(alloc: Global, program: Command<'a>) -> Result<Command<'a>, AllocError>
+    ensures { IfOk result (λ c. app_of c ≡ with_subcommand (with_subcommand (app_of program.entry) cut_net_app.top) check_net_app.top) }
+{
+    let program = with_sub(program, cut_net_command(alloc))?;
+    with_sub(program, check_net_command(alloc))
+}
+
+fn command<'a>(alloc: Global) -> Result<Command<'a>, AllocError>
+    ensures { IfOk result (λ c. app_of c ≡ oscip) }
+{
+    let program = Command::new(alloc, "oscip")
+        .about("Finds and checks cheapest decoupling cuts of Oberon-07 modules")
+        .subcommand_required(true);
+    let program = with_trees(alloc, program)?;
+    with_nets(alloc, program)
+}
+
+fn refused(alloc: Global) -> JobFault {
+    let text = String::new(alloc);
+    JobFault::Line { text }
+}
+
+/// The value of an argument, as text of its own.
+fn value_of(alloc: Global, found: &ArgMatches<'_>, id: &str) -> Result<String, JobFault>
+    ensures { IfOk result (λ text. Finds (rows_of (found_of found.now)) id.now (string_bytes text)) }
+{
+    match found.get_str(id) {
+        None => Err(refused(alloc)),
+        Some(text) => Ok(String::from_str(alloc, text)?),
+    }
+}
+
+/// The number of workers, as `clap` found it.
+fn workers_of(alloc: Global, found: &ArgMatches<'_>) -> Result<u32, JobFault>
+    requires { NamesWorkers (rows_of (found_of found.now)) }
+    ensures value { IfOk result (FindsNumber (rows_of (found_of found.now)) (codes "workers")) }
+    ensures within { IfOk result MayWork }
+{
+    match found.get_one::<u32>("workers") {
+        None => Err(refused(alloc)),
+        Some(workers) => Ok(workers),
+    }
+}
+
+fn cut_job(alloc: Global, found: &ArgMatches<'_>) -> Result<Job, JobFault>
+    requires { NamesWorkers (rows_of (found_of found.now)) }
+    ensures values { IfOk result (Holds (Some (codes "cut", rows_of (found_of found.now)))) }
+    ensures workers { IfOk result HasWorkers }
+{
+    let folder = value_of(alloc, found, "DIR")?;
+    let from = value_of(alloc, found, "A")?;
+    let to = value_of(alloc, found, "B")?;
+    let workers = workers_of(alloc, found)?;
+    Ok(Job::Cut {
+        folder,
+        from,
+        to,
+        workers,
+    })
+}
+
+fn cut_net_job(alloc: Global, found: &ArgMatches<'_>) -> Result<Job, JobFault>
+    requires { NamesWorkers (rows_of (found_of found.now)) }
+    ensures values { IfOk result (Holds (Some (codes "cut-net", rows_of (found_of found.now)))) }
+    ensures workers { IfOk result HasWorkers }
+{
+    let network = value_of(alloc, found, "FILE")?;
+    let from = value_of(alloc, found, "A")?;
+    let to = value_of(alloc, found, "B")?;
+    let workers = workers_of(alloc, found)?;
+    Ok(Job::CutNet {
+        network,
+        from,
+        to,
+        workers,
+    })
+}
+
+fn check_job(alloc: Global, found: &ArgMatches<'_>) -> Result<Job, JobFault>
+    ensures values { IfOk result (Holds (Some (codes "check", rows_of (found_of found.now)))) }
+    ensures workers { IfOk result HasWorkers }
+{
+    let folder = value_of(alloc, found, "DIR")?;
+    let report = value_of(alloc, found, "REPORT")?;
+    Ok(Job::Check { folder, report })
+}
+
+fn check_net_job(alloc: Global, found: &ArgMatches<'_>) -> Result<Job, JobFault>
+    ensures values { IfOk result (Holds (Some (codes "check-net", rows_of (found_of found.now)))) }
+    ensures workers { IfOk result HasWorkers }
+{
+    let network = value_of(alloc, found, "FILE")?;
+    let report = value_of(alloc, found, "REPORT")?;
+    Ok(Job::CheckNet { network, report })
+}
+
+fn job_from(alloc: Global, matches: &ArgMatches<'_>) -> Result<Job, JobFault>
+    requires { IfSome (subcommand_rows_of matches.now) (λ found. NamesWorkers found.1) }
+    ensures values { IfOk result (Holds (subcommand_rows_of matches.now)) }
+    ensures workers { IfOk result HasWorkers }
+{
+    let Some((name, found)) = matches.subcommand() else {
+        return Err(refused(alloc));
+    };
+    if name == "cut" {
+        return cut_job(alloc, found);
+    }
+    if name == "check" {
+        return check_job(alloc, found);
+    }
+    if name == "cut-net" {
+        return cut_net_job(alloc, found);
+    }
+    if name == "check-net" {
+        return check_net_job(alloc, found);
+    }
+    Err(refused(alloc))
+}
+
+fn fault_from(alloc: Global, error: &clap::Error) -> JobFault
+    ensures { kind_of error.now ≡ ErrorKind.OutOfMemory → result ≡ JobFault.Memory }
+{
+    if error.kind() == ErrorKind::OutOfMemory {
+        return JobFault::Memory;
+    }
+    match error.to_string(alloc) {
+        Err(_) => JobFault::Memory,
+        Ok(text) => {
+            if error.use_stderr() {
+                JobFault::Line { text }
+            } else {
+                JobFault::Help { text }
+            }
+        }
+    }
+}
+
+/// The job that the words ask for, the program's name first. Refuses with Line where `clap` refuses them, with Help
+/// where they ask for it, and with Memory.
+pub fn job_of(alloc: Global, words: &[String]) -> Result<Job, JobFault>
+    // The job has the values that `clap` finds for the words.
+    ensures values { IfOk result (Holds (subcommand_of oscip (map string_bytes words.now))) }
+    // Its workers, where it has them, are 1 to 64.
+    ensures workers { IfOk result HasWorkers }
+{
+    let command = command(alloc)?;
+    match command.try_get_matches_from(words) {
+        Ok(matches) => job_from(alloc, &matches),
+        Err(error) => Err(fault_from(alloc, &error)),
+    }
+}

@@ -1,0 +1,110 @@
+-- From what the lower crates promise to what a run of the search for a cut is.
+use Rattle.std.proofs.Common.{◌≡◌, ℕ, List, Option, Some, Result, Ok, Err, true, refl, sym, subst, ◌∙◌, inl, inr}
+use Rattle.std.specs.Prelude.{IfSome}
+use Rattle.std.proofs.lemmas.Option.{same_Some}
+use Rattle.cut_net.specs.Network.{Network, index_of}
+use Rattle.cut_net.specs.ReportText.{report_text}
+use Rattle.cut_net.specs.Said.{Said, CutOf}
+use Rattle.cut_net.specs.WellFormed.{IsNetwork}
+use Rattle.cut_report.specs.Faults.{is_of_sink}
+use Rattle.cut_report.specs.Sinks.{PutsBy}
+use Rattle.cut_report.specs.declared.fault.ReportFault.{ReportFault}
+use Rattle.cut_report.specs.declared.fault.ReportFault.TheVariants as report
+use Rattle.cut_solve.specs.Solving.{IsSolved, IsSolveOutcome}
+use Rattle.cut_solve.specs.Solving as solving
+use Rattle.cut_solve.specs.declared.fault.SolveFault.{SolveFault}
+use Rattle.cut_solve.specs.declared.fault.SolveFault.TheVariants as solve
+use Rattle.oscip_run.specs.Faults.{of_report, of_solve}
+use Rattle.oscip_run.specs.CutRuns.{IsCutRun, IsCutText, PutsCutFront}
+use Rattle.oscip_run.specs.Runs.{IsNeverRefused, IsThis}
+use Rattle.oscip_run.specs.declared.fault.RunFault.{RunFault}
+use Rattle.oscip_run.specs.declared.fault.RunFault.TheVariants as run
+use Rattle.oscip_run.proofs.CheckRuns.{Keeps-same}
+use Rattle.oscip_run.proofs.Sayable.{is_report}
+
+-- refused names
+pub refused_names : (IsOf : Network → Type 0) (IsRefused : RunFault → Type 0) (first second : List ℕ) (known : Option (List ℕ)) (n : Network) → IsOf n → (fault : SolveFault) →
+    IfSome (solving.outcome_of (Err fault)) (IsSolveOutcome n first second) → IsCutRun IsOf IsRefused first second known known (Err (of_solve fault))
+refused_names IsOf IsRefused first second known n is solve.SameModule h = ((solving.SameModule, refl, (n, is, h)), Keeps-same known)
+refused_names IsOf IsRefused first second known n is (solve.NoSuchModule name) h = ((solving.NoSuchModule _, refl, (n, is, h)), Keeps-same known)
+refused_names IsOf IsRefused first second known n is solve.Memory h = inl (Keeps-same known)
+
+-- the text of an answer to two names
+pub cut_text : (IsOf : Network → Type 0) (first second : List ℕ) (n : Network) (from to : ℕ) (said : Said) → IsOf n →
+    IsNetwork n → Some from ≡ index_of n first → Some to ≡ index_of n second → IsSolved n first second said →
+    IsCutText IsOf first second (report_text n (record { from = from; to = to; said = said }))
+cut_text IsOf first second n from to (CutOf total printed flow) is keeps from_is to_is s =
+    let report = is_report n first second (record { from = from; to = to; said = CutOf total printed flow }) keeps from_is to_is s in
+    let a_is : s.a ≡ from = same_Some _ _ (sym s.from_is ∙ sym from_is) in
+    let b_is : s.b ≡ to = same_Some _ _ (sym s.to_is ∙ sym to_is) in
+    record {
+      net = n;
+      reads = is;
+      a = s.a;
+      first_is = s.from_is;
+      b = s.b;
+      second_is = s.to_is;
+      apart = s.apart;
+      total = total;
+      printed = printed;
+      flow = flow;
+      says = record { report = rw (a_is, b_is) report; spelled = rw (a_is, b_is) refl };
+      printed_in_order = s.answer.right.printed_in_order;
+      flow_in_order = s.answer.right.flow_in_order;
+      cheapest = s.cheapest;
+      weights = s.answer.right.weights;
+      is_flow = s.answer.right.is_flow;
+      are_printed = s.answer.are_printed;
+    }
+
+-- a sink that failed
+pub broken : (IsOf : Network → Type 0) (IsRefused : RunFault → Type 0) (first second : List ℕ) (old new : Option (List ℕ)) (text : List ℕ) (fault : ReportFault) → IsCutText IsOf first second text →
+    (is_of_sink fault ≡ true) → PutsBy {T = Unit {0}} is_of_sink old new (Err fault) text → IsCutRun IsOf IsRefused first second old new (Err (of_report fault))
+broken IsOf IsRefused first second old new text (report.BadLine line) is of_sink puts = absurd cc
+broken IsOf IsRefused first second old new text (report.UnknownName line) is of_sink puts = absurd cc
+broken IsOf IsRefused first second old new text (report.Order line) is of_sink puts = absurd cc
+broken IsOf IsRefused first second old new text report.NoEnd is of_sink puts = absurd cc
+broken IsOf IsRefused first second old new text report.Device is of_sink puts = (text, is, puts)
+broken IsOf IsRefused first second old new text report.Memory is of_sink puts = inr (text, is, puts)
+
+-- the report on a network is that on the input that has it
+text_of : (IsOf : Network → Type 0) (n : Network) → IsOf n → (first second text : List ℕ) → IsCutText (IsThis n) first second text → IsCutText IsOf first second text
+text_of IsOf n is first second text c = record {
+  net = c.net;
+  reads = subst IsOf (sym c.reads) is;
+  a = c.a;
+  first_is = c.first_is;
+  b = c.b;
+  second_is = c.second_is;
+  apart = c.apart;
+  total = c.total;
+  printed = c.printed;
+  flow = c.flow;
+  says = c.says;
+  printed_in_order = c.printed_in_order;
+  flow_in_order = c.flow_in_order;
+  cheapest = c.cheapest;
+  weights = c.weights;
+  is_flow = c.is_flow;
+  are_printed = c.are_printed;
+}
+
+front_of : (IsOf : Network → Type 0) (n : Network) → IsOf n → (first second : List ℕ) (old new : Option (List ℕ)) → PutsCutFront (IsThis n) first second old new → PutsCutFront IsOf first second old new
+front_of IsOf n is first second old new h = (h.0, text_of IsOf n is first second h.0 h.1, h.2)
+
+-- and so is a run
+pub run_of : (IsOf : Network → Type 0) (IsRefused : RunFault → Type 0) (n : Network) → IsOf n → (first second : List ℕ) (old new : Option (List ℕ)) (result : Result (Unit {0}) RunFault) →
+    IsCutRun (IsThis n) IsNeverRefused first second old new result → IsCutRun IsOf IsRefused first second old new result
+run_of IsOf IsRefused n is first second old new (Ok _) h = (h.0, text_of IsOf n is first second h.0 h.1, h.2)
+run_of IsOf IsRefused n is first second old new (Err (run.CannotRead path)) h = absurd h
+run_of IsOf IsRefused n is first second old new (Err (run.CannotWrite path)) h = absurd h
+run_of IsOf IsRefused n is first second old new (Err (run.Tree fault)) h = absurd h.0
+run_of IsOf IsRefused n is first second old new (Err (run.Net fault)) h = absurd h.0
+run_of IsOf IsRefused n is first second old new (Err (run.Report fault)) h = absurd h
+run_of IsOf IsRefused n is first second old new (Err (run.Solve fault)) h =
+    let refused = h.0 in
+    let of = refused.2 in
+    ((refused.0, refused.1, (of.0, subst IsOf (sym of.1) is, of.2)), h.1)
+run_of IsOf IsRefused n is first second old new (Err run.Device) h = front_of IsOf n is first second old new h
+run_of IsOf IsRefused n is first second old new (Err run.Memory) (inl h) = inl h
+run_of IsOf IsRefused n is first second old new (Err run.Memory) (inr h) = inr (front_of IsOf n is first second old new h)

@@ -1,0 +1,5 @@
+pub mod CheckRuns
+pub mod Sayable
+pub mod CutRuns
+pub mod JobRuns
+pub mod NoRefusal

@@ -1,0 +1,81 @@
+-- What a run of the search for a cheapest cut reads and puts.
+use Rattle.std.specs.Prelude.{◌≡◌, ◌≢◌, ◌⊎◌, ℕ, List, Option, Some, Result, Ok, Err}
+use Rattle.std.specs.Io.KnownBytes.{Appends, Keeps}
+use Rattle.cut_net.specs.declared.priced.Priced.{Priced}
+use Rattle.cut_net.specs.Network.{Network, index_of}
+use Rattle.cut_net.specs.Cuts.{ArePrinted, IsCheapest, IsFlow}
+use Rattle.cut_net.specs.Lines.{flow_by, removed_by, AreInOrder, AreWeights}
+use Rattle.cut_net.specs.ReportText.{ReportText}
+use Rattle.cut_net.specs.Said.{CutOf}
+use Rattle.cut_report.specs.Sinks.{AppendsFront}
+use Rattle.cut_solve.specs.Solving.{outcome_of as solve_outcome_of, IsSolveOutcome, SolveOutcome}
+use Rattle.oscip_run.specs.declared.fault.RunFault.{RunFault}
+use Rattle.oscip_run.specs.declared.fault.RunFault.TheVariants.{CannotRead, CannotWrite, Tree, Net, Report, Solve, Device, Memory}
+
+-- The headline, as a run of any number of workers with any gate leaves it in the sink; the network is that of the accepted
+-- input, a tree or the lines of a network:
+-- for every accepted tree, two named modules and every interleaving of the workers' pushes and relabels: once no other
+-- module holds excess, removing the printed imports leaves no import chain from the first module to the second, their
+-- weight is the printed one, and every set of imports whose removal leaves none weighs at least as much; the printed flow
+-- has that value.
+pub record IsCutText (IsOf : Network → Type 0) (first second text : List ℕ) : Type 0 where
+  -- the accepted network
+  pub net : Network
+  -- it is that of the input
+  pub reads : IsOf net
+  -- the first module
+  pub a : ℕ
+  -- it has the first name
+  pub first_is : index_of net first ≡ Some a
+  -- the second module
+  pub b : ℕ
+  -- it has the second name
+  pub second_is : index_of net second ≡ Some b
+  -- they are two modules
+  pub apart : a ≢ b
+  -- the printed weight
+  pub total : ℕ
+  -- the printed imports
+  pub printed : List Priced
+  -- the printed flow
+  pub flow : List Priced
+  -- the text is the one text of the report of these
+  pub says : ReportText net text (record { from = a; to = b; said = CutOf total printed flow })
+  -- the printed imports are imports of the network, in order
+  pub printed_in_order : AreInOrder net printed
+  -- and so are those with flow
+  pub flow_in_order : AreInOrder net flow
+  -- removing the printed imports leaves no chain from a to b, and every set of imports whose removal leaves none weighs
+  -- at least as much
+  pub cheapest : IsCheapest net a b (removed_by printed)
+  -- each is printed with its weight, and their weight is the printed one
+  pub weights : AreWeights net printed total
+  -- the printed flow keeps the weights, is kept at each other module, and has that value
+  pub is_flow : IsFlow net a b (flow_by flow) total
+  -- of all cheapest cuts it is the one that the definition names
+  pub are_printed : ArePrinted net a b (removed_by printed)
+
+-- the sink has the whole report
+abbrev pub PutsCut : (Network → Type 0) → List ℕ → List ℕ → Option (List ℕ) → Option (List ℕ) → Type 0
+PutsCut IsOf first second old new = (text : List ℕ) × IsCutText IsOf first second text × Appends old new text
+
+-- the sink has a front of the report
+abbrev pub PutsCutFront : (Network → Type 0) → List ℕ → List ℕ → Option (List ℕ) → Option (List ℕ) → Type 0
+PutsCutFront IsOf first second old new = (text : List ℕ) × IsCutText IsOf first second text × AppendsFront old new text
+
+-- the names were refused, and the input was not
+abbrev pub IsRefusedNames : (Network → Type 0) → List ℕ → List ℕ → SolveOutcome → Type 0
+IsRefusedNames IsOf first second outcome = (net : Network) × IsOf net × IsSolveOutcome net first second outcome
+
+-- a run of the engine: refused input leaves the sink as it was, with the fault that the input has
+abbrev pub IsCutRun : (Network → Type 0) → (RunFault → Type 0) → List ℕ → List ℕ → Option (List ℕ) → Option (List ℕ) → Result (Unit {0}) RunFault → Type 0
+IsCutRun IsOf IsRefused first second old new (Ok _) = PutsCut IsOf first second old new
+IsCutRun IsOf IsRefused first second old new (Err (CannotRead path)) = ⊥
+IsCutRun IsOf IsRefused first second old new (Err (CannotWrite path)) = ⊥
+IsCutRun IsOf IsRefused first second old new (Err (Tree fault)) = IsRefused (Tree fault) × Keeps old new
+IsCutRun IsOf IsRefused first second old new (Err (Net fault)) = IsRefused (Net fault) × Keeps old new
+IsCutRun IsOf IsRefused first second old new (Err (Report fault)) = ⊥
+IsCutRun IsOf IsRefused first second old new (Err (Solve fault)) =
+    ((outcome : SolveOutcome) × (solve_outcome_of (Err fault) ≡ Some outcome) × IsRefusedNames IsOf first second outcome) × Keeps old new
+IsCutRun IsOf IsRefused first second old new (Err Device) = PutsCutFront IsOf first second old new
+IsCutRun IsOf IsRefused first second old new (Err Memory) = Keeps old new ⊎ PutsCutFront IsOf first second old new

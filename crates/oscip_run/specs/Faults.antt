@@ -1,0 +1,137 @@
+-- How the faults of the lower crates become those of a run, what is told of them, and how a run ends.
+use Rattle.std.specs.Prelude.{ℕ, Bool, true, false, List, ◌++◌, codes, if◌then◌else◌}
+use Rattle.std.specs.List.{flat_map}
+use Rattle.std.specs.Fmt.{decimal}
+use Rattle.std.specs.String.{string_bytes}
+use Rattle.cut_net.specs.Network.{texts}
+use Rattle.cut_net.specs.declared.fault.NetFault.{NetFault}
+use Rattle.cut_net.specs.declared.fault.NetFault.TheVariants as net
+use Rattle.cut_report.specs.declared.fault.ReportFault.{ReportFault}
+use Rattle.cut_report.specs.declared.fault.ReportFault.TheVariants as report
+use Rattle.cut_report.specs.declared.sink.SinkFault.{SinkFault}
+use Rattle.cut_report.specs.declared.sink.SinkFault.TheVariants as sink
+use Rattle.cut_solve.specs.declared.fault.SolveFault.{SolveFault}
+use Rattle.cut_solve.specs.declared.fault.SolveFault.TheVariants as solve
+use Rattle.oscip_run.specs.declared.fault.RunFault.{RunFault}
+use Rattle.oscip_run.specs.declared.fault.RunFault.TheVariants.{CannotRead, CannotWrite, Tree, Net, Report, Solve, Device, Memory}
+use Rattle.oscip_tree.specs.declared.tree.TreeFault.{TreeFault}
+use Rattle.oscip_tree.specs.TreeFaults.{after_space, tree_fault_text, wants_memory}
+
+-- want of memory is one fault, whoever met it
+abbrev pub of_tree : TreeFault → RunFault
+of_tree fault = if wants_memory fault then Memory else Tree fault
+
+abbrev pub of_net : NetFault → RunFault
+of_net (net.BadLine line) = Net (net.BadLine line)
+of_net (net.TwiceImport line) = Net (net.TwiceImport line)
+of_net (net.Cycle names) = Net (net.Cycle names)
+of_net net.WeightOverflow = Net net.WeightOverflow
+of_net (net.TooMany line) = Net (net.TooMany line)
+of_net net.Memory = Memory
+
+-- and so is a failed device
+abbrev pub of_report : ReportFault → RunFault
+of_report (report.BadLine line) = Report (report.BadLine line)
+of_report (report.UnknownName line) = Report (report.UnknownName line)
+of_report (report.Order line) = Report (report.Order line)
+of_report report.NoEnd = Report report.NoEnd
+of_report report.Device = Device
+of_report report.Memory = Memory
+
+abbrev pub of_solve : SolveFault → RunFault
+of_solve solve.SameModule = Solve solve.SameModule
+of_solve (solve.NoSuchModule name) = Solve (solve.NoSuchModule name)
+of_solve solve.Memory = Memory
+
+abbrev pub of_sink : SinkFault → RunFault
+of_sink sink.Memory = Memory
+of_sink sink.Device = Device
+
+abbrev pub net_fault_text : NetFault → List ℕ
+net_fault_text (net.BadLine line) = decimal line ++ codes ": BadLine"
+net_fault_text (net.TwiceImport line) = decimal line ++ codes ": TwiceImport"
+net_fault_text (net.Cycle names) = codes "Cycle" ++ flat_map after_space (texts names.items)
+net_fault_text net.WeightOverflow = codes "WeightOverflow"
+net_fault_text (net.TooMany line) = decimal line ++ codes ": TooMany"
+net_fault_text net.Memory = codes "Memory"
+
+abbrev pub report_fault_text : ReportFault → List ℕ
+report_fault_text (report.BadLine line) = decimal line ++ codes ": BadLine"
+report_fault_text (report.UnknownName line) = decimal line ++ codes ": UnknownName"
+report_fault_text (report.Order line) = decimal line ++ codes ": Order"
+report_fault_text report.NoEnd = codes "NoEnd"
+report_fault_text report.Device = codes "cannot write"
+report_fault_text report.Memory = codes "Memory"
+
+abbrev pub solve_fault_text : SolveFault → List ℕ
+solve_fault_text solve.SameModule = codes "SameModule"
+solve_fault_text (solve.NoSuchModule name) = codes "NoSuchModule " ++ string_bytes name
+solve_fault_text solve.Memory = codes "Memory"
+
+-- what is told of a fault
+abbrev pub fault_text : RunFault → List ℕ
+fault_text (CannotRead path) = codes "cannot read " ++ string_bytes path
+fault_text (CannotWrite path) = codes "cannot write " ++ string_bytes path
+fault_text (Tree fault) = tree_fault_text fault
+fault_text (Net fault) = net_fault_text fault
+fault_text (Report fault) = report_fault_text fault
+fault_text (Solve fault) = solve_fault_text fault
+fault_text Device = codes "cannot write"
+fault_text Memory = codes "Memory"
+
+-- the status: 1 for refused input, 3 for a file or a device, 4 for memory
+abbrev pub net_status : NetFault → ℕ
+net_status (net.BadLine line) = 1
+net_status (net.TwiceImport line) = 1
+net_status (net.Cycle names) = 1
+net_status net.WeightOverflow = 1
+net_status (net.TooMany line) = 1
+net_status net.Memory = 4
+
+abbrev pub report_status : ReportFault → ℕ
+report_status (report.BadLine line) = 1
+report_status (report.UnknownName line) = 1
+report_status (report.Order line) = 1
+report_status report.NoEnd = 1
+report_status report.Device = 3
+report_status report.Memory = 4
+
+abbrev pub solve_status : SolveFault → ℕ
+solve_status solve.SameModule = 1
+solve_status (solve.NoSuchModule name) = 1
+solve_status solve.Memory = 4
+
+abbrev pub tree_status : TreeFault → ℕ
+tree_status fault = if wants_memory fault then 4 else 1
+
+abbrev pub status_number : RunFault → ℕ
+status_number (CannotRead path) = 3
+status_number (CannotWrite path) = 3
+status_number (Tree fault) = tree_status fault
+status_number (Net fault) = net_status fault
+status_number (Report fault) = report_status fault
+status_number (Solve fault) = solve_status fault
+status_number Device = 3
+status_number Memory = 4
+
+-- a device failed in the run
+abbrev pub is_device : RunFault → Bool
+is_device (CannotRead path) = false
+is_device (CannotWrite path) = false
+is_device (Tree fault) = false
+is_device (Net fault) = false
+is_device (Report fault) = false
+is_device (Solve fault) = false
+is_device Device = true
+is_device Memory = false
+
+-- a file or a folder can't be read, or memory ran out
+abbrev pub IsReadFault : RunFault → Type 0
+IsReadFault (CannotRead path) = Unit {0}
+IsReadFault (CannotWrite path) = ⊥
+IsReadFault (Tree fault) = ⊥
+IsReadFault (Net fault) = ⊥
+IsReadFault (Report fault) = ⊥
+IsReadFault (Solve fault) = ⊥
+IsReadFault Device = ⊥
+IsReadFault Memory = Unit {0}

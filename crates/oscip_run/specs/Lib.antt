@@ -1,0 +1,4 @@
+pub mod CutRuns
+pub mod Faults
+pub mod Runs
+pub mod JobRuns

@@ -1,0 +1,114 @@
+-- What a run of an engine reads and puts.
+use Rattle.std.specs.Prelude.{◌≡◌, ◌⊎◌, ℕ, Bool, true, false, List, ◌++◌, Option, Some, Result, Ok, Err, codes}
+use Rattle.std.specs.Io.KnownBytes.{Appends, Keeps}
+use Rattle.cut_net.specs.Network.{Network, name_of}
+use Rattle.cut_net.specs.Lines.{IsCheapestSaid}
+use Rattle.cut_net.specs.NetText.{IsNetOutcome}
+use Rattle.cut_net.specs.NetText as nets
+use Rattle.cut_net.specs.NetReading.{outcome_of as net_outcome_of}
+use Rattle.cut_net.specs.Said.{Entry}
+use Rattle.cut_net.specs.ReportLines.{IsReportOutcome}
+use Rattle.cut_net.specs.ReportLines as reports
+use Rattle.cut_report.specs.Reading.{outcome_of as report_outcome_of}
+use Rattle.cut_report.specs.Sinks.{AppendsFront}
+use Rattle.cut_check.specs.declared.verdict.Verdict.{Verdict}
+use Rattle.cut_check.specs.declared.verdict.Verdict.TheVariants.{Yes, NoSuchImport, StillChain, WrongWeight, OverWeight, NotKept, WrongValue}
+use Rattle.cut_check.specs.Verdicts.{IsVerdict}
+use Rattle.oscip_run.specs.declared.fault.RunFault.{RunFault}
+use Rattle.oscip_run.specs.declared.fault.RunFault.TheVariants.{CannotRead, CannotWrite, Tree, Net, Report, Solve, Device, Memory}
+use Rattle.oscip_tree.specs.declared.source.Source.{Source}
+use Rattle.oscip_tree.specs.TreeFaults.{wants_memory}
+use Rattle.oscip_tree.specs.Trees.{IsTreeFault}
+
+-- the text says this network
+abbrev pub IsNetOfText : List ℕ → Network → Type 0
+IsNetOfText text net = IsNetOutcome text (nets.Reads net)
+
+-- the text of a network is refused with this fault
+abbrev pub IsRefusedText : List ℕ → RunFault → Type 0
+IsRefusedText text (CannotRead path) = ⊥
+IsRefusedText text (CannotWrite path) = ⊥
+IsRefusedText text (Tree fault) = ⊥
+IsRefusedText text (Net fault) = (outcome : nets.NetOutcome) × (net_outcome_of (Err fault) ≡ Some outcome) × IsNetOutcome text outcome
+IsRefusedText text (Report fault) = ⊥
+IsRefusedText text (Solve fault) = ⊥
+IsRefusedText text Device = ⊥
+IsRefusedText text Memory = ⊥
+
+-- the tree of these files is refused with this fault
+abbrev pub IsRefusedTree : List Source → RunFault → Type 0
+IsRefusedTree sources (CannotRead path) = ⊥
+IsRefusedTree sources (CannotWrite path) = ⊥
+IsRefusedTree sources (Tree fault) = (wants_memory fault ≡ false) × IsTreeFault sources fault
+IsRefusedTree sources (Net fault) = ⊥
+IsRefusedTree sources (Report fault) = ⊥
+IsRefusedTree sources (Solve fault) = ⊥
+IsRefusedTree sources Device = ⊥
+IsRefusedTree sources Memory = ⊥
+
+-- it is this network
+abbrev pub IsThis : Network → Network → Type 0
+IsThis net other = other ≡ net
+
+-- nothing is refused
+abbrev pub IsNeverRefused : RunFault → Type 0
+IsNeverRefused fault = ⊥
+
+-- the line of a verdict
+abbrev pub verdict_text : Network → Verdict → List ℕ
+verdict_text net Yes = codes "yes\n"
+verdict_text net (NoSuchImport from to) = codes "no NoSuchImport " ++ name_of net from ++ codes " " ++ name_of net to ++ codes "\n"
+verdict_text net StillChain = codes "no StillChain\n"
+verdict_text net WrongWeight = codes "no WrongWeight\n"
+verdict_text net (OverWeight from to) = codes "no OverWeight " ++ name_of net from ++ codes " " ++ name_of net to ++ codes "\n"
+verdict_text net (NotKept m) = codes "no NotKept " ++ name_of net m ++ codes "\n"
+verdict_text net WrongValue = codes "no WrongValue\n"
+
+-- the verdict is yes
+abbrev pub is_yes : Verdict → Bool
+is_yes Yes = true
+is_yes (NoSuchImport from to) = false
+is_yes StillChain = false
+is_yes WrongWeight = false
+is_yes (OverWeight from to) = false
+is_yes (NotKept m) = false
+is_yes WrongValue = false
+
+-- Below a network is that of the input, a text or a tree.
+
+-- the report is one on the input's network, of which this is the verdict's line; at yes what it says is a cheapest cut
+pub record IsChecked (IsOf : Network → Type 0) (report line : List ℕ) (agrees : Bool) : Type 0 where
+  pub net : Network
+  pub reads : IsOf net
+  pub entry : Entry
+  pub says : IsReportOutcome net report (reports.Reads entry)
+  pub verdict : Verdict
+  pub holds : IsVerdict net entry.from entry.to entry.said verdict
+  pub line_is : line ≡ verdict_text net verdict
+  pub agrees_is : agrees ≡ is_yes verdict
+  pub cheapest : agrees ≡ true → IsCheapestSaid net entry.from entry.to entry.said
+
+-- the sink has the whole line of the check
+abbrev pub PutsCheck : (Network → Type 0) → List ℕ → Option (List ℕ) → Option (List ℕ) → Bool → Type 0
+PutsCheck IsOf report old new agrees = (line : List ℕ) × IsChecked IsOf report line agrees × Appends old new line
+
+-- the sink has a front of the line of the check
+abbrev pub PutsFront : (Network → Type 0) → List ℕ → Option (List ℕ) → Option (List ℕ) → Type 0
+PutsFront IsOf report old new = (line : List ℕ) × (agrees : Bool) × IsChecked IsOf report line agrees × AppendsFront old new line
+
+-- the report was refused, and the input was not
+abbrev pub IsRefusedReport : (Network → Type 0) → List ℕ → reports.ReportOutcome → Type 0
+IsRefusedReport IsOf report outcome = (net : Network) × IsOf net × IsReportOutcome net report outcome
+
+-- a run of the engine: refused input leaves the sink as it was, with the fault that the input has
+abbrev pub IsCheckRun : (Network → Type 0) → (RunFault → Type 0) → List ℕ → Option (List ℕ) → Option (List ℕ) → Result Bool RunFault → Type 0
+IsCheckRun IsOf IsRefused report old new (Ok agrees) = PutsCheck IsOf report old new agrees
+IsCheckRun IsOf IsRefused report old new (Err (CannotRead path)) = ⊥
+IsCheckRun IsOf IsRefused report old new (Err (CannotWrite path)) = ⊥
+IsCheckRun IsOf IsRefused report old new (Err (Tree fault)) = IsRefused (Tree fault) × Keeps old new
+IsCheckRun IsOf IsRefused report old new (Err (Net fault)) = IsRefused (Net fault) × Keeps old new
+IsCheckRun IsOf IsRefused report old new (Err (Report fault)) =
+    ((outcome : reports.ReportOutcome) × (report_outcome_of (Err fault) ≡ Some outcome) × IsRefusedReport IsOf report outcome) × Keeps old new
+IsCheckRun IsOf IsRefused report old new (Err (Solve fault)) = ⊥
+IsCheckRun IsOf IsRefused report old new (Err Device) = PutsFront IsOf report old new
+IsCheckRun IsOf IsRefused report old new (Err Memory) = Keeps old new ⊎ PutsFront IsOf report old new

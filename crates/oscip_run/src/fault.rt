@@ -1,0 +1,242 @@
+//! Why a run ends without an answer, the line that tells of it, and the status that it ends with.
+ghost use Rattle.std.specs.Prelude.{◌≡◌, ◌++◌, IfOk, codes};
+ghost use Rattle.std.specs.String.{string_bytes};
+ghost use Rattle.oscip_run.specs.Faults.{fault_text, net_status, net_fault_text, report_status, report_fault_text, solve_fault_text, solve_status, status_number, tree_status};
+
+use cut_net::NetFault;
+use cut_report::{ReportFault, SinkFault};
+use cut_solve::SolveFault;
+use oscip_tree::{TreeFault, after_spaces, tree_fault_text, wants_memory};
+use std::alloc::{AllocError, Global};
+use thiserror::Error;
+
+/// Why a run ends without an answer. As `From` makes them, `Tree`, `Net`, `Report` and `Solve` hold
+/// neither want of memory nor a failed device.
+#[derive(Debug, Drop, Error)]
+pub enum RunFault {
+    /// A file or a folder can't be read: it isn't there, is no regular file, has more than 2^30 bytes or a name that isn't UTF-8, or lies too deep.
+    #[error("cannot read {path}")]
+    CannotRead { path: String },
+    /// A file can't be written.
+    #[error("cannot write {path}")]
+    CannotWrite { path: String },
+    /// The tree is refused.
+    #[error(transparent)]
+    Tree(TreeFault),
+    /// The network is refused.
+    #[error(transparent)]
+    Net(NetFault),
+    /// The report is refused.
+    #[error(transparent)]
+    Report(ReportFault),
+    /// The names of a question are refused.
+    #[error(transparent)]
+    Solve(SolveFault),
+    /// The sink failed.
+    #[error("cannot write")]
+    Device,
+    /// A growth of memory was refused.
+    #[error("memory ran out")]
+    Memory,
+}
+
+impl From<AllocError> for RunFault {
+    ghost use Rattle.std.specs.Prelude.{◌≡◌};
+    ghost use Rattle.oscip_run.specs.declared.fault.RunFault.TheVariants.{Memory};
+
+    ghost from_gives = { λ _ fault. fault ≡ Memory };
+
+    fn from(_error: AllocError) -> RunFault {
+        RunFault::Memory
+    }
+}
+
+impl From<TreeFault> for RunFault {
+    ghost use Rattle.std.specs.Prelude.{◌≡◌};
+    ghost use Rattle.oscip_run.specs.Faults.{of_tree};
+
+    ghost from_gives = { λ lower fault. fault ≡ of_tree lower };
+
+    fn from(fault: TreeFault) -> RunFault {
+        if wants_memory(&fault) {
+            RunFault::Memory
+        } else {
+            RunFault::Tree(fault)
+        }
+    }
+}
+
+impl From<NetFault> for RunFault {
+    ghost use Rattle.std.specs.Prelude.{◌≡◌};
+    ghost use Rattle.oscip_run.specs.Faults.{of_net};
+
+    ghost from_gives = { λ lower fault. fault ≡ of_net lower };
+
+    fn from(fault: NetFault) -> RunFault {
+        match fault {
+            NetFault::Memory => RunFault::Memory,
+            fault => RunFault::Net(fault),
+        }
+    }
+}
+
+impl From<ReportFault> for RunFault {
+    ghost use Rattle.std.specs.Prelude.{◌≡◌};
+    ghost use Rattle.oscip_run.specs.Faults.{of_report};
+
+    ghost from_gives = { λ lower fault. fault ≡ of_report lower };
+
+    fn from(fault: ReportFault) -> RunFault {
+        match fault {
+            ReportFault::Memory => RunFault::Memory,
+            ReportFault::Device => RunFault::Device,
+            fault => RunFault::Report(fault),
+        }
+    }
+}
+
+impl From<SolveFault> for RunFault {
+    ghost use Rattle.std.specs.Prelude.{◌≡◌};
+    ghost use Rattle.oscip_run.specs.Faults.{of_solve};
+
+    ghost from_gives = { λ lower fault. fault ≡ of_solve lower };
+
+    fn from(fault: SolveFault) -> RunFault {
+        match fault {
+            SolveFault::Memory => RunFault::Memory,
+            fault => RunFault::Solve(fault),
+        }
+    }
+}
+
+impl From<SinkFault> for RunFault {
+    ghost use Rattle.std.specs.Prelude.{◌≡◌};
+    ghost use Rattle.oscip_run.specs.Faults.{of_sink};
+
+    ghost from_gives = { λ lower fault. fault ≡ of_sink lower };
+
+    fn from(fault: SinkFault) -> RunFault {
+        match fault {
+            SinkFault::Memory => RunFault::Memory,
+            SinkFault::Device => RunFault::Device,
+        }
+    }
+}
+
+fn net_fault_text(alloc: Global, fault: &NetFault) -> Result<String, AllocError>
+    ensures { IfOk result (λ t. string_bytes t ≡ net_fault_text fault.now) }
+{
+    match fault {
+        NetFault::BadLine { line } => format!(in alloc; "{line}: BadLine"),
+        NetFault::TwiceImport { line } => format!(in alloc; "{line}: TwiceImport"),
+        NetFault::Cycle { names } => {
+            let names = after_spaces(alloc, names.as_slice())?;
+            format!(in alloc; "Cycle{names}")
+        }
+        NetFault::WeightOverflow => String::from_str(alloc, "WeightOverflow"),
+        NetFault::TooMany { line } => format!(in alloc; "{line}: TooMany"),
+        NetFault::Memory => String::from_str(alloc, "Memory"),
+    }
+}
+
+fn report_fault_text(alloc: Global, fault: &ReportFault) -> Result<String, AllocError>
+    ensures { IfOk result (λ t. string_bytes t ≡ report_fault_text fault.now) }
+{
+    match fault {
+        ReportFault::BadLine { line } => format!(in alloc; "{line}: BadLine"),
+        ReportFault::UnknownName { line } => format!(in alloc; "{line}: UnknownName"),
+        ReportFault::Order { line } => format!(in alloc; "{line}: Order"),
+        ReportFault::NoEnd => String::from_str(alloc, "NoEnd"),
+        ReportFault::Device => String::from_str(alloc, "cannot write"),
+        ReportFault::Memory => String::from_str(alloc, "Memory"),
+    }
+}
+
+fn solve_fault_text(alloc: Global, fault: &SolveFault) -> Result<String, AllocError>
+    ensures { IfOk result (λ t. string_bytes t ≡ solve_fault_text fault.now) }
+{
+    match fault {
+        SolveFault::SameModule => String::from_str(alloc, "SameModule"),
+        SolveFault::NoSuchModule { name } => format!(in alloc; "NoSuchModule {name}"),
+        SolveFault::Memory => String::from_str(alloc, "Memory"),
+    }
+}
+
+fn text_of(alloc: Global, fault: &RunFault) -> Result<String, AllocError>
+    ensures { IfOk result (λ t. string_bytes t ≡ fault_text fault.now) }
+{
+    match fault {
+        RunFault::CannotRead { path } => format!(in alloc; "cannot read {path}"),
+        RunFault::CannotWrite { path } => format!(in alloc; "cannot write {path}"),
+        RunFault::Tree(fault) => tree_fault_text(alloc, fault),
+        RunFault::Net(fault) => net_fault_text(alloc, fault),
+        RunFault::Report(fault) => report_fault_text(alloc, fault),
+        RunFault::Solve(fault) => solve_fault_text(alloc, fault),
+        RunFault::Device => String::from_str(alloc, "cannot write"),
+        RunFault::Memory => String::from_str(alloc, "Memory"),
+    }
+}
+
+/// The line that tells of a fault: `oscip: `, the fault with names and paths as they were given, and an LF.
+/// Fails where memory is refused.
+pub fn fault_line(alloc: Global, fault: &RunFault) -> Result<String, AllocError>
+    ensures { IfOk result (λ t. string_bytes t ≡ codes "oscip: " ++ fault_text fault.now ++ codes "\n") }
+{
+    let text = text_of(alloc, fault)?;
+    format!(in alloc; "oscip: {text}\n")
+}
+
+fn net_status(fault: &NetFault) -> u8
+    ensures { result ≡ net_status fault.now }
+{
+    match fault {
+        NetFault::Memory => 4,
+        NetFault::BadLine { .. }
+        | NetFault::TwiceImport { .. }
+        | NetFault::Cycle { .. }
+        | NetFault::WeightOverflow
+        | NetFault::TooMany { .. } => 1,
+    }
+}
+
+fn report_status(fault: &ReportFault) -> u8
+    ensures { result ≡ report_status fault.now }
+{
+    match fault {
+        ReportFault::Memory => 4,
+        ReportFault::Device => 3,
+        ReportFault::BadLine { .. }
+        | ReportFault::UnknownName { .. }
+        | ReportFault::Order { .. }
+        | ReportFault::NoEnd => 1,
+    }
+}
+
+fn solve_status(fault: &SolveFault) -> u8
+    ensures { result ≡ solve_status fault.now }
+{
+    match fault {
+        SolveFault::Memory => 4,
+        SolveFault::SameModule | SolveFault::NoSuchModule { .. } => 1,
+    }
+}
+
+fn tree_status(fault: &TreeFault) -> u8
+    ensures { result ≡ tree_status fault.now }
+{
+    if wants_memory(fault) { 4 } else { 1 }
+}
+
+/// The status that a fault ends the program with: 1 for refused input, 3 for a file or a device, 4 for memory.
+pub fn status_of(fault: &RunFault) -> u8
+    ensures { result ≡ status_number fault.now }
+{
+    match fault {
+        RunFault::CannotRead { .. } | RunFault::CannotWrite { .. } | RunFault::Device => 3,
+        RunFault::Tree(fault) => tree_status(fault),
+        RunFault::Net(fault) => net_status(fault),
+        RunFault::Report(fault) => report_status(fault),
+        RunFault::Solve(fault) => solve_status(fault),
+        RunFault::Memory => 4,
+    }
+}

@@ -1,0 +1,248 @@
+//! The files of the modules below a folder.
+ghost use Rattle.std.specs.Prelude.{◌≤◌, IfErr, IfOk};
+ghost use Rattle.oscip_run.specs.Faults.{IsReadFault};
+ghost use Rattle.oscip_tree.specs.Sources.{AreInOrder};
+
+use crate::RunFault;
+use crate::reading::{ReadFault, cannot_read, fault_at, read_front};
+use oscip_tree::{Source, in_order};
+use std::alloc::{AllocError, Global};
+use std::fs::ReadDir;
+use std::io::ErrorKind;
+use std::rt::Files;
+use std::{fs, io};
+
+/// The most folders that a folder may lie in, below the one that is walked.
+const LEVELS: u32 = 32;
+
+/// The most bytes that a module may have.
+const MODULE_LIMIT: u64 = 1 << 24;
+
+/// A name that the walk came to.
+#[derive(Drop)]
+struct Place {
+    /// Its path below the folder that is walked, which is empty for that folder.
+    path: String,
+    /// How many levels it lies below that folder.
+    level: u32,
+}
+
+/// What a walk has yet to look at, the next place last, and the files that it found.
+#[derive(Drop)]
+struct Walk {
+    pending: Vec<Place>,
+    files: Vec<String>,
+}
+
+/// The path of a name in a folder, with a `/` between them where the folder's path doesn't end in one.
+fn joined(alloc: Global, folder: &str, name: &str) -> Result<String, AllocError> {
+    if folder.is_empty() || folder.ends_with('/') {
+        format!(in alloc; "{folder}{name}")
+    } else {
+        format!(in alloc; "{folder}/{name}")
+    }
+}
+
+fn is_module(path: &str) -> bool {
+    path.ends_with(".Mod") || path.ends_with(".mod")
+}
+
+/// Whether the path leads to nothing, as that of a link to a name that isn't there.
+fn leads_nowhere(error: &io::Error) -> bool {
+    matches!(
+        error.kind(),
+        ErrorKind::NotFound | ErrorKind::NotADirectory | ErrorKind::FilesystemLoop
+    )
+}
+
+/// Whether a folder is at the path. A module that can't be looked at is told of where it is read.
+fn is_folder<R: Files + AllocGlobal>(rt: &R, path: &str) -> Result<bool, ReadFault> {
+    match fs::metadata(rt, path) {
+        Ok(metadata) => Ok(metadata.is_dir()),
+        Err(error) if is_module(path) || leads_nowhere(&error) => Ok(false),
+        Err(error) => Err(fault_at(rt.alloc(), path, &error)),
+    }
+}
+
+fn add_name(alloc: Global, names: &mut Vec<String>, name: &str) -> Result<(), AllocError> {
+    names.push(String::from_str(alloc, name)?)?;
+    Ok(())
+}
+
+/// The names that are listed of the folder at this path.
+fn names_of<R: Files + AllocGlobal + Clone + Drop>(
+    alloc: Global,
+    listing: ReadDir<R>,
+    path: &str,
+) -> Result<Vec<String>, ReadFault> {
+    let mut names = Vec::new(alloc);
+    for entry in listing {
+        match entry {
+            Ok(entry) => add_name(alloc, &mut names, entry.file_name())?,
+            Err(error) => return Err(fault_at(alloc, path, &error)),
+        }
+    }
+    Ok(names)
+}
+
+/// The names in the folder at this path, in descending order.
+fn names_in<R: Files + AllocGlobal + Clone + Drop>(
+    rt: &R,
+    path: &str,
+) -> Result<Vec<String>, ReadFault> {
+    match fs::read_dir(rt, path) {
+        Ok(listing) => {
+            let mut names = names_of(rt.alloc(), listing, path)?;
+            names.sort_unstable_by(|first, second| second.cmp(first));
+            Ok(names)
+        }
+        Err(error) => Err(fault_at(rt.alloc(), path, &error)),
+    }
+}
+
+/// Puts the names of a folder among the places that are looked at next.
+fn add_names(
+    alloc: Global,
+    folder: &Place,
+    names: &[String],
+    pending: &mut Vec<Place>,
+) -> Result<(), AllocError>
+    requires { folder.now.level ≤ 32 }
+{
+    for name in names {
+        let path = joined(alloc, folder.path.as_str(), name.as_str())?;
+        let level = folder.level + 1;
+        pending.push(Place { path, level })?;
+    }
+    Ok(())
+}
+
+/// Has the names of a folder, which lies at this path, looked at next.
+fn enter<R: Files + AllocGlobal + Clone + Drop>(
+    rt: &R,
+    opened: &str,
+    place: &Place,
+    pending: &mut Vec<Place>,
+) -> Result<(), ReadFault> {
+    if place.level > LEVELS {
+        return Err(cannot_read(rt.alloc(), opened));
+    }
+    let names = names_in(rt, opened)?;
+    add_names(rt.alloc(), place, names.as_slice(), pending)?;
+    Ok(())
+}
+
+/// Looks at a place: the names of a folder are looked at next, and a module is among the files.
+fn visit<R: Files + AllocGlobal + Clone + Drop>(
+    rt: &R,
+    folder: &str,
+    place: Place,
+    walk: &mut Walk,
+) -> Result<(), ReadFault> {
+    let opened = joined(rt.alloc(), folder, place.path.as_str())?;
+    if is_folder(rt, opened.as_str())? {
+        return enter(rt, opened.as_str(), &place, &mut walk.pending);
+    }
+    if is_module(opened.as_str()) {
+        walk.files.push(place.path)?;
+    }
+    Ok(())
+}
+
+/// Looks at all places that are left, and at those that come of them.
+fn finish<R: Files + AllocGlobal + Clone + Drop>(
+    rt: &R,
+    folder: &str,
+    walk: &mut Walk,
+) -> Result<(), ReadFault> {
+    for _ in 0..u64::MAX {
+        let Some(place) = walk.pending.pop() else {
+            return Ok(());
+        };
+        visit(rt, folder, place, walk)?;
+    }
+    Err(cannot_read(rt.alloc(), folder))
+}
+
+/// The paths of the modules below a folder.
+fn paths_below<R: Files + AllocGlobal + Clone + Drop>(
+    rt: &R,
+    folder: &str,
+) -> Result<Vec<String>, ReadFault> {
+    let mut walk = Walk {
+        pending: Vec::new(rt.alloc()),
+        files: Vec::new(rt.alloc()),
+    };
+    let names = names_in(rt, folder)?;
+    let top = Place {
+        path: String::new(rt.alloc()),
+        level: 0,
+    };
+    add_names(rt.alloc(), &top, names.as_slice(), &mut walk.pending)?;
+    finish(rt, folder, &mut walk)?;
+    Ok(walk.files)
+}
+
+/// The bytes of the regular file at this path, of which at most one beyond the limit of a module is read.
+fn read_module<R: Files + AllocGlobal>(rt: &R, path: &str) -> Result<Vec<u8>, ReadFault> {
+    match fs::metadata(rt, path) {
+        Ok(metadata) if metadata.is_file() => read_front(rt, path, MODULE_LIMIT + 1),
+        Ok(_) => Err(cannot_read(rt.alloc(), path)),
+        Err(error) => Err(fault_at(rt.alloc(), path, &error)),
+    }
+}
+
+fn source_at<R: Files + AllocGlobal>(
+    rt: &R,
+    folder: &str,
+    path: String,
+) -> Result<Source, ReadFault> {
+    let opened = joined(rt.alloc(), folder, path.as_str())?;
+    let bytes = read_module(rt, opened.as_str())?;
+    Ok(Source { path, bytes })
+}
+
+fn read_all<R: Files + AllocGlobal>(
+    rt: &R,
+    folder: &str,
+    paths: Vec<String>,
+) -> Result<Vec<Source>, ReadFault> {
+    let mut sources = Vec::new(rt.alloc());
+    for path in paths {
+        let source = source_at(rt, folder, path)?;
+        sources.push(source)?;
+    }
+    Ok(sources)
+}
+
+/// The files below a folder, in the order of their paths.
+fn sources_below<R: Files + AllocGlobal + Clone + Drop>(
+    rt: &R,
+    folder: &str,
+) -> Result<Vec<Source>, ReadFault>
+    ensures { IfOk result (λ sources. AreInOrder sources.items) }
+{
+    let mut paths = paths_below(rt, folder)?;
+    paths.sort_unstable();
+    let sources = read_all(rt, folder, paths)?;
+    // They are, but where one name stood twice among those of a folder.
+    if in_order(sources.as_slice()) {
+        Ok(sources)
+    } else {
+        Err(cannot_read(rt.alloc(), folder))
+    }
+}
+
+/// The files below a folder whose names end in `.Mod` or `.mod`, in the order of their paths. Links are followed, and
+/// a folder is walked whatever its name. All names are walked first, and then the files are read by path, each to one
+/// byte beyond the limit of a module. Refuses with `CannotRead` a folder or file that can't be read, a folder below more
+/// than 32 others, a name that isn't UTF-8, by its folder, and a module that is no regular file; and with `Memory`.
+pub fn sources_of<R: Files + AllocGlobal + Clone + Drop>(
+    rt: &R,
+    folder: &str,
+) -> Result<Vec<Source>, RunFault>
+    ensures order { IfOk result (λ sources. AreInOrder sources.items) }
+    ensures fault { IfErr result IsReadFault }
+{
+    Ok(sources_below(rt, folder)?)
+}

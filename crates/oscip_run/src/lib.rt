@@ -1,0 +1,17 @@
+//! Runs: the files and folders that a job names, the engines that cut and check over any sink, and how a run ends.
+//! Stands on `oscip_job`, `oscip_tree` and the `cut_` crates, with `thiserror` for its faults.
+//! Its contract: what an engine puts is what the definitions say of its inputs, and nothing else.
+#![tactic(auto)]
+
+mod answering;
+mod engine;
+mod fault;
+mod folder;
+pub mod laws;
+mod reading;
+
+pub use answering::{answer, answer_tree};
+pub use engine::{check_net_bytes, check_tree, cut_net_bytes, cut_tree};
+pub use fault::{RunFault, fault_line, status_of};
+pub use folder::sources_of;
+pub use reading::read_file;

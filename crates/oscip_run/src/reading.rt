@@ -1,0 +1,97 @@
+//! The reading of files, and the fault of what can't be read.
+ghost use Rattle.std.specs.Prelude.{IfErr};
+ghost use Rattle.oscip_run.specs.Faults.{IsReadFault};
+
+use crate::RunFault;
+use std::alloc::{AllocError, AllocFailed, Global};
+use std::io::{ErrorKind, Read};
+use std::rt::Files;
+use std::{fs, io};
+
+/// The most bytes that a network or a report may have.
+const FILE_LIMIT: u64 = 1 << 30;
+
+/// Why a file or a folder isn't read.
+#[derive(Drop)]
+pub(crate) enum ReadFault {
+    /// This path can't be read.
+    CannotRead { path: String },
+    /// A growth of memory was refused.
+    Memory,
+}
+
+impl From<AllocError> for ReadFault {
+    fn from(_error: AllocError) -> ReadFault {
+        ReadFault::Memory
+    }
+}
+
+impl<T: Drop> From<AllocFailed<T>> for ReadFault {
+    fn from(_error: AllocFailed<T>) -> ReadFault {
+        ReadFault::Memory
+    }
+}
+
+impl From<ReadFault> for RunFault {
+    ghost use Rattle.oscip_run.specs.Faults.{IsReadFault};
+
+    ghost from_gives = { λ _ fault. IsReadFault fault };
+
+    fn from(fault: ReadFault) -> RunFault {
+        match fault {
+            ReadFault::CannotRead { path } => RunFault::CannotRead { path },
+            ReadFault::Memory => RunFault::Memory,
+        }
+    }
+}
+
+/// The fault that the path can't be read, or `Memory`.
+pub(crate) fn cannot_read(alloc: Global, path: &str) -> ReadFault {
+    match String::from_str(alloc, path) {
+        Ok(path) => ReadFault::CannotRead { path },
+        Err(_) => ReadFault::Memory,
+    }
+}
+
+/// The fault of a path that the system answered with an error.
+pub(crate) fn fault_at(alloc: Global, path: &str, error: &io::Error) -> ReadFault {
+    if error.kind() == ErrorKind::OutOfMemory {
+        ReadFault::Memory
+    } else {
+        cannot_read(alloc, path)
+    }
+}
+
+/// The bytes of a file, but no more than so many.
+pub(crate) fn read_front<R: Files + AllocGlobal>(
+    rt: &R,
+    path: &str,
+    most: u64,
+) -> Result<Vec<u8>, ReadFault> {
+    let Ok(file) = fs::open(rt, path) else {
+        return Err(cannot_read(rt.alloc(), path));
+    };
+    let mut bytes = Vec::new(rt.alloc());
+    match file.take(most).read_to_end(&mut bytes) {
+        Ok(_) => Ok(bytes),
+        Err(error) => Err(fault_at(rt.alloc(), path, &error)),
+    }
+}
+
+/// The bytes of a file that has no more than the limit.
+fn read_whole<R: Files + AllocGlobal>(rt: &R, path: &str) -> Result<Vec<u8>, ReadFault> {
+    let bytes = read_front(rt, path, FILE_LIMIT + 1)?;
+    if bytes.len() as u64 <= FILE_LIMIT {
+        Ok(bytes)
+    } else {
+        Err(cannot_read(rt.alloc(), path))
+    }
+}
+
+/// The bytes of a network or a report, of which at most one beyond the limit is read. Refuses with `CannotRead`, also above
+/// the limit, or `Memory`.
+pub fn read_file<R: Files + AllocGlobal>(rt: &R, path: &str) -> Result<Vec<u8>, RunFault>
+    ensures { IfErr result IsReadFault }
+{
+    Ok(read_whole(rt, path)?)
+}

@@ -1,0 +1,125 @@
+-- An accepted tree has no fault but want of memory.
+use Rattle.std.proofs.Common.{◌≡◌, ℕ, true, List, ◌∷◌, ◌++◌, length, Some, refl, sym, ap, ◌∙◌, subst, length-append, arith}
+use Rattle.std.specs.Prelude.{slice_get}
+use Rattle.std.proofs.Math.Seq.{get_or-append_seam}
+use Rattle.std.proofs.lemmas.Option.{slice_get-get_or}
+use Rattle.ob_imports.specs.declared.fault.GraphFault.{GraphFault}
+use Rattle.ob_imports.specs.declared.fault.GraphFault.TheVariants as graphs
+use Rattle.ob_imports.specs.Files.{File}
+use Rattle.ob_imports.specs.Graphs.{ImportGraph}
+use Rattle.ob_imports.specs.Outcomes.{IsGraphOutcome, Makes, fault_said}
+use Rattle.ob_imports.proofs.OneOutcome.{one_outcome}
+use Rattle.ob_scan.specs.declared.fault.ScanFault.{ScanFault}
+use Rattle.ob_scan.specs.declared.fault.ScanFault.TheVariants as scans
+use Rattle.ob_scan.specs.declared.token.Token.{Token}
+use Rattle.ob_scan.specs.Spelling.{BadByte, BadNumber, IsOutcome, OpenComment, OpenString, Outcome, Reads, TooLong}
+use Rattle.ob_scan.proofs.Outcomes.{outcome_once, spelled_once}
+use Rattle.ob_tree.specs.declared.declaration.Module.{Module}
+use Rattle.ob_parse.specs.declared.fault.ParseFault.{ParseFault}
+use Rattle.ob_parse.specs.declared.fault.ParseFault.TheVariants as parses
+use Rattle.ob_parse.specs.Parsed.{IsFaultOf, IsTheTree}
+use Rattle.ob_parse.proofs.OneTree.{no_fault}
+use Rattle.ob_scope.specs.declared.fault.ScopeFault.{ScopeFault}
+use Rattle.ob_scope.specs.declared.fault.ScopeFault.TheVariants as scopes
+use Rattle.ob_scope.specs.Listed.{Listing}
+use Rattle.ob_scope.specs.Scope.{NoneTwice}
+use Rattle.ob_scope.specs.Scoped.{IsScopeFault, listing_of}
+use Rattle.ob_scope.specs.Standings.{text_at}
+use Rattle.ob_scope.proofs.Meanings.{no_first}
+use Rattle.oscip_tree.specs.TreeFaults.{wants_memory}
+use Rattle.oscip_tree.specs.Trees.{files_of, listing, names, AreAccepted, HasParseFault, HasScanFault, HasScopeFault, IsAccepted, IsFileFault, IsFirstFault, IsGraphFault, IsTree, IsTreeFault, ModuleFile}
+use Rattle.oscip_tree.specs.declared.source.Source.{Source}
+use Rattle.oscip_tree.specs.declared.tree.TreeFault.{TreeFault}
+use Rattle.oscip_tree.specs.declared.tree.TreeFault.TheVariants as faults
+use Rattle.oscip_tree.proofs.SameFiles.{one_listing, same_files}
+use Rattle.oscip_tree.proofs.TreeFiles.{there}
+
+-- ---- one file
+
+no_other : (bytes : List ℕ) (ts : List Token) (o : Outcome) → IsOutcome bytes (Reads ts) → IsOutcome bytes o → Reads ts ≡ o
+no_other bytes ts o h k = outcome_once bytes (Reads ts) o h k
+
+-- bytes with tokens have no fault of the scanner
+pub no_scan_fault : (bytes : List ℕ) (ts : List Token) (fault : ScanFault) → IsOutcome bytes (Reads ts) → HasScanFault fault bytes → fault ≡ scans.Memory
+no_scan_fault bytes ts (scans.BadByte at) h f = let e = no_other bytes ts (BadByte at) h f in absurd cc
+no_scan_fault bytes ts (scans.BadNumber at) h f = let e = no_other bytes ts (BadNumber at) h f in absurd cc
+no_scan_fault bytes ts (scans.OpenString at) h f = let e = no_other bytes ts (OpenString at) h f in absurd cc
+no_scan_fault bytes ts (scans.OpenComment at) h f = let e = no_other bytes ts (OpenComment at) h f in absurd cc
+no_scan_fault bytes ts scans.TooLong h f = let e = no_other bytes ts TooLong h f in absurd cc
+no_scan_fault bytes ts scans.Memory h f = refl
+
+-- tokens with a tree have no fault of the parser
+pub no_parse_fault : (bytes : List ℕ) (ts : List Token) (m : Module) (fault : ParseFault) → IsOutcome bytes (Reads ts) → IsTheTree bytes ts m → HasParseFault fault bytes → fault ≡ parses.Memory
+no_parse_fault bytes ts m fault h tree (us, reads, f) =
+    no_fault bytes ts m fault tree (subst (λ (vs : List Token). IsFaultOf bytes vs fault) (spelled_once bytes us ts reads.1 h.1) f)
+
+-- names that are declared once are not declared twice
+no_twice : (bytes : List ℕ) (ts : List Token) (l : Listing) (fault : ScopeFault) → NoneTwice (text_at bytes ts) l.members → IsScopeFault bytes ts l fault → fault ≡ scopes.Memory
+no_twice bytes ts l (scopes.Twice name first second) once (d, e, block, placed, h) = absurd (no_first (text_at bytes ts) l.members d e once h.is_first)
+no_twice bytes ts l (scopes.TwiceField name first second) once (d, e, token, placed, h) = absurd (no_first (text_at bytes ts) l.members d e once h.is_first)
+no_twice bytes ts l scopes.Memory once h = refl
+
+-- a fault of names is one of the tokens and the tree that there are
+pub scope_fault_of : (bytes : List ℕ) (ts : List Token) (m : Module) (fault : ScopeFault) → IsOutcome bytes (Reads ts) → IsTheTree bytes ts m → HasScopeFault fault bytes → IsScopeFault bytes ts (listing_of ts m) fault
+scope_fault_of bytes ts m fault h tree (us, n, reads, other, f) =
+    let tokens : us ≡ ts = spelled_once bytes us ts reads.1 h.1 in
+    let listed : listing_of us n ≡ listing_of ts m = one_listing bytes us ts n m reads.1 h.1 other.tree.derived tree.tree.derived in
+    subst (λ (l : Listing). IsScopeFault bytes ts l fault) listed (subst (λ (vs : List Token). IsScopeFault bytes vs (listing_of us n) fault) tokens f)
+
+pub no_file_fault : (s : Source) (file : ModuleFile) (fault : TreeFault) → IsAccepted s file → IsFileFault s fault → wants_memory fault ≡ true
+no_file_fault s file fault ok h = go fault h
+  where
+    reads : IsOutcome s.bytes.items (Reads file.tokens)
+    reads = subst (λ (bs : List ℕ). IsOutcome bs (Reads file.tokens)) ok.bytes_are ok.reads
+
+    tree : IsTheTree s.bytes.items file.tokens file.tree
+    tree = subst (λ (bs : List ℕ). IsTheTree bs file.tokens file.tree) ok.bytes_are ok.is_tree
+
+    once : NoneTwice (text_at s.bytes.items file.tokens) (listing file).members
+    once = subst (λ (bs : List ℕ). NoneTwice (text_at bs file.tokens) (listing file).members) ok.bytes_are ok.once
+
+    go : (fault : TreeFault) → IsFileFault s fault → wants_memory fault ≡ true
+    go (faults.Scan path at fault) (known, h) = absurd (known (no_scan_fault s.bytes.items file.tokens fault reads h.has_fault))
+    go (faults.Parse path at fault) (known, h) = absurd (known (no_parse_fault s.bytes.items file.tokens file.tree fault reads tree h.has_fault))
+    go (faults.Scope path at fault) (known, h) =
+        absurd (known (no_twice s.bytes.items file.tokens (listing file) fault once (scope_fault_of s.bytes.items file.tokens file.tree fault reads tree h.has_fault)))
+    go (faults.Graph fault) h = absurd h
+    go faults.Memory h = refl
+
+-- ---- all files
+
+pub at_seam : {X : Type 0} (before after : List X) (x : X) → slice_get (before ++ x ∷ after) (length before) ≡ Some x
+at_seam before after x =
+    let long = length-append before (x ∷ after) in
+    slice_get-get_or (before ++ x ∷ after) (length before) x (omega arith) ∙ ap Some (get_or-append_seam before x after x)
+
+pub no_first_fault : (sources : List Source) (files : List ModuleFile) (fault : TreeFault) → AreAccepted sources files → IsFirstFault sources fault → wants_memory fault ≡ true
+no_first_fault sources files fault ok f =
+    let at : slice_get sources (length f.before) ≡ Some f.source = subst (λ (ss : List Source). slice_get ss (length f.before) ≡ Some f.source) (sym f.split) (at_seam f.before f.after f.source) in
+    let many : length sources ≡ length (f.before ++ f.source ∷ f.after) = ap length f.split in
+    let long = length-append f.before (f.source ∷ f.after) in
+    let as_many = ok.as_many in
+    let (file, at_file) = there files (length f.before) (omega arith) in
+    no_file_fault f.source file fault (ok.each (length f.before) f.source file at at_file) f.has_fault
+
+-- a fault says no graph
+no_graph : (fault : GraphFault) (g : ImportGraph) → fault_said fault ≡ Some (Makes g) → ⊥
+no_graph (graphs.TwoModules name first second) g e = absurd cc
+no_graph (graphs.Cycle names) g e = absurd cc
+no_graph graphs.TooMany g e = absurd cc
+no_graph graphs.Memory g e = absurd cc
+
+-- the imports of an accepted tree aren't refused
+no_graph_fault : (sources : List Source) (files : List ModuleFile) (fault : GraphFault) → IsTree sources files → IsGraphFault sources fault → ⊥
+no_graph_fault sources files fault tree f =
+    let same : files_of f.files ≡ files_of files = same_files sources f.files files f.accepted tree.accepted in
+    let outcome : IsGraphOutcome (files_of files) f.outcome = subst (λ (fs : List File). IsGraphOutcome fs f.outcome) same f.is_outcome in
+    let makes : f.outcome ≡ Makes tree.graph = one_outcome (files_of files) f.outcome (Makes tree.graph) outcome (tree.kept, tree.acyclic) in
+    no_graph fault tree.graph (f.said ∙ ap Some makes)
+
+pub no_tree_fault : (sources : List Source) (files : List ModuleFile) (fault : TreeFault) → IsTree sources files → IsTreeFault sources fault → wants_memory fault ≡ true
+no_tree_fault sources files (faults.Scan path at fault) tree h = no_first_fault sources files (faults.Scan path at fault) tree.accepted h
+no_tree_fault sources files (faults.Parse path at fault) tree h = no_first_fault sources files (faults.Parse path at fault) tree.accepted h
+no_tree_fault sources files (faults.Scope path at fault) tree h = no_first_fault sources files (faults.Scope path at fault) tree.accepted h
+no_tree_fault sources files (faults.Graph fault) tree h = absurd (no_graph_fault sources files fault tree h)
+no_tree_fault sources files faults.Memory tree h = refl

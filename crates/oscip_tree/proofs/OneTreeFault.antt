@@ -1,0 +1,335 @@
+-- A refused tree has one fault.
+use Rattle.std.proofs.Common.{◌≡◌, ◌≢◌, ℕ, ◌<◌, ◌⊎◌, true, false, List, [], ◌∷◌, ◌++◌, length, Option, None, Some, Err, refl, sym, ap, ap₂, ◌∙◌, subst, inl, inr, arith}
+use Rattle.std.specs.Prelude.{IfSome, codes, slice_get}
+use Rattle.std.specs.Fmt.{decimal}
+use Rattle.std.specs.List.{flat_map}
+use Rattle.std.specs.String.{string_bytes}
+use Rattle.std.proofs.lemmas.Bool.{cases_order, false≢true}
+use Rattle.std.proofs.lemmas.Option.{get_or_from_slice_get, slice_get_within}
+use Rattle.ob_imports.specs.declared.fault.GraphFault.{GraphFault}
+use Rattle.ob_imports.specs.declared.fault.GraphFault.TheVariants as graphs
+use Rattle.ob_imports.specs.Files.{File}
+use Rattle.ob_imports.specs.Outcomes.{GraphOutcome, IsGraphOutcome, Makes, TwoModules, Cycle, TooMany, fault_said}
+use Rattle.ob_imports.proofs.OneOutcome.{one_outcome}
+use Rattle.ob_scan.specs.declared.fault.ScanFault.{ScanFault}
+use Rattle.ob_scan.specs.declared.fault.ScanFault.TheVariants as scans
+use Rattle.ob_scan.specs.declared.place.Position.{Position}
+use Rattle.ob_scan.specs.declared.token.Token.{Token}
+use Rattle.ob_scan.specs.Position.{IsPosition}
+use Rattle.ob_scan.specs.Spelling.{BadByte, BadNumber, IsOutcome, OpenComment, OpenString, Outcome, Reads, TooLong, outcome_of as scan_outcome_of}
+use Rattle.ob_scan.proofs.Outcomes.{outcome_once, spelled_once}
+use Rattle.ob_tree.specs.Declaring.{module_outline}
+use Rattle.ob_tree.specs.Derives.{endings_in}
+use Rattle.ob_parse.specs.declared.fault.ParseFault.{ParseFault}
+use Rattle.ob_parse.specs.declared.fault.ParseFault.TheVariants as parses
+use Rattle.ob_parse.specs.Parsed.{bytes_of, IsEndFault, IsFaultOf, IsRightEnd, IsWrongEnd, Pair}
+use Rattle.ob_scope.specs.declared.fault.ScopeFault.{ScopeFault}
+use Rattle.ob_scope.specs.declared.fault.ScopeFault.TheVariants as scopes
+use Rattle.ob_scope.specs.Listed.{Listing}
+use Rattle.ob_scope.specs.Scope.{Block, Declared, IsFirstTwice, Place, Record}
+use Rattle.ob_scope.specs.Scoped.{IsScopeFault, listing_of}
+use Rattle.ob_scope.specs.Standings.{text_at, token_at}
+use Rattle.ob_scope.proofs.Meanings.{first_once}
+use Rattle.oscip_tree.specs.TreeFaults.{after_space, graph_fault_text, parse_fault_text, placed_text, says_no_tree, scan_fault_text, scope_fault_text, tree_fault_text, wants_memory, AreOneFault}
+use Rattle.oscip_tree.specs.Trees.{files_of, parse_offset, scan_offset, scope_offset, HasParseFault, HasScanFault, HasScopeFault, IsAccepted, IsFault, IsFileFault, IsFirstFault, IsGraphFault, IsTreeFault, ModuleFile}
+use Rattle.oscip_tree.specs.declared.source.Source.{Source}
+use Rattle.oscip_tree.specs.declared.tree.TreeFault.{TreeFault}
+use Rattle.oscip_tree.specs.declared.tree.TreeFault.TheVariants as faults
+use Rattle.oscip_tree.proofs.NoTreeFault.{at_seam, no_file_fault, no_first_fault, no_parse_fault, no_scan_fault, scope_fault_of}
+use Rattle.oscip_tree.proofs.SameFiles.{same_files}
+use Rattle.oscip_tree.proofs.TreeFiles.{there}
+use Rattle.oscip_tree.proofs.TreeNet.{at_left, same_at}
+
+-- ---- the first of a list without a property
+
+module _ {X : Type 0} (P : X → Type 0) (xs : List X) where
+  -- a place of the list, with the property at all places before it and not there
+  pub record IsFirstWithout (before : List X) (x : X) (after : List X) : Type 0 where
+    pub split : xs ≡ before ++ x ∷ after
+    pub have : (i : ℕ) (y : X) → slice_get before i ≡ Some y → P y
+    pub lacks : P x → ⊥
+
+  stands : (before after : List X) (x : X) → IsFirstWithout before x after → slice_get xs (length before) ≡ Some x
+  stands before after x h = subst (λ (ys : List X). slice_get ys (length before) ≡ Some x) (sym h.split) (at_seam before after x)
+
+  not_before : (before after others rest : List X) (x y : X) → IsFirstWithout before x after → IsFirstWithout others y rest → length before < length others → ⊥
+  not_before before after others rest x y h k less =
+      let (z, at) = there others (length before) less in
+      let whole : slice_get xs (length before) ≡ Some z = subst (λ (ys : List X). slice_get ys (length before) ≡ Some z) (sym k.split) (at_left others (y ∷ rest) (length before) z at) in
+      h.lacks (subst P (same_at xs (length before) z x whole (stands before after x h)) (k.have (length before) z at))
+
+  pub one_first : (before after others rest : List X) (x y : X) → IsFirstWithout before x after → IsFirstWithout others y rest → x ≡ y
+  one_first before after others rest x y h k = elim (cases_order (length before) (length others)) [
+    | inl same ↦ same_at xs (length others) x y (subst (λ (i : ℕ). slice_get xs i ≡ Some x) same (stands before after x h)) (stands others rest y k)
+    | inr (inl less) ↦ absurd (not_before before after others rest x y h k less)
+    | inr (inr less) ↦ absurd (not_before others rest before after y x k h less)
+  ]
+
+-- ---- places in a text
+
+-- of two lines of one offset neither begins later: the byte before it would end the other
+no_earlier : (bytes : List ℕ) (offset line column row place : ℕ) (p : IsPosition bytes offset line column) (q : IsPosition bytes offset row place) → p.first < q.first → ⊥
+no_earlier bytes offset line column row place p q less = elim q.begins [
+  | inl none ↦ absurd (omega arith)
+  | inr (last, next, ends) ↦
+      let whole = q.column_is in
+      false≢true (sym (p.whole last (omega arith) (omega arith)) ∙ ends)
+]
+
+one_column : (bytes : List ℕ) (offset line column row place : ℕ) → IsPosition bytes offset line column → IsPosition bytes offset row place → column ≡ place
+one_column bytes offset line column row place p q =
+    let a = p.column_is in
+    let b = q.column_is in
+    elim (cases_order p.first q.first) [
+      | inl same ↦ omega arith
+      | inr (inl less) ↦ absurd (no_earlier bytes offset line column row place p q less)
+      | inr (inr less) ↦ absurd (no_earlier bytes offset row place line column q p less)
+    ]
+
+-- the same is told of two faults of one file
+one_text : (s : Source) (path other : List ℕ) (at to : Position) (m n : ℕ) (told says : List ℕ) (H G : List ℕ → Type 0) → IsFault s path at m H → IsFault s other to n G →
+    m ≡ n → told ≡ says → placed_text path at told ≡ placed_text other to says
+one_text s path other at to m n told says H G h k same e = λ i. same_path i ++ codes ":" ++ decimal (line i) ++ codes ":" ++ decimal (column i) ++ codes ": " ++ e i
+  where
+    same_path : path ≡ other
+    same_path = h.path_is ∙ sym k.path_is
+
+    position : IsPosition s.bytes.items n at.line at.column
+    position = subst (λ (j : ℕ). IsPosition s.bytes.items j at.line at.column) same h.position
+
+    line : at.line ≡ to.line
+    line = position.line_is ∙ sym k.position.line_is
+
+    column : at.column ≡ to.column
+    column = one_column s.bytes.items n at.line at.column to.line to.column position k.position
+
+-- ---- the tokens
+
+-- the fault that an outcome is
+abbrev fault_of : Option Outcome → ScanFault
+fault_of None = scans.Memory
+fault_of (Some (Reads ts)) = scans.Memory
+fault_of (Some (BadByte at)) = scans.BadByte at
+fault_of (Some (BadNumber at)) = scans.BadNumber at
+fault_of (Some (OpenString at)) = scans.OpenString at
+fault_of (Some (OpenComment at)) = scans.OpenComment at
+fault_of (Some TooLong) = scans.TooLong
+
+is_fault_of : (fault : ScanFault) → fault ≡ fault_of (scan_outcome_of (Err fault))
+is_fault_of (scans.BadByte at) = refl
+is_fault_of (scans.BadNumber at) = refl
+is_fault_of (scans.OpenString at) = refl
+is_fault_of (scans.OpenComment at) = refl
+is_fault_of scans.TooLong = refl
+is_fault_of scans.Memory = refl
+
+one_said : (bytes : List ℕ) (x y : Option Outcome) → IfSome x (IsOutcome bytes) → IfSome y (IsOutcome bytes) → (x ≡ None → ⊥) → (y ≡ None → ⊥) → x ≡ y
+one_said bytes None y h k some other = absurd (some refl)
+one_said bytes (Some o) None h k some other = absurd (other refl)
+one_said bytes (Some o) (Some p) h k some other = ap Some (outcome_once bytes o p h k)
+
+known_said : (fault : ScanFault) → (fault ≢ scans.Memory) → scan_outcome_of (Err fault) ≡ None → ⊥
+known_said fault known none = known (is_fault_of fault ∙ ap fault_of none)
+
+one_scan_fault : (bytes : List ℕ) (f g : ScanFault) → (f ≢ scans.Memory) → (g ≢ scans.Memory) → HasScanFault f bytes → HasScanFault g bytes → f ≡ g
+one_scan_fault bytes f g known_f known_g h k =
+    let said = one_said bytes (scan_outcome_of (Err f)) (scan_outcome_of (Err g)) h k (known_said f known_f) (known_said g known_g) in
+    is_fault_of f ∙ ap fault_of said ∙ sym (is_fault_of g)
+
+-- ---- the tree
+
+-- the texts of a pair of tokens are told by their numbers
+same_pair : (bytes : List ℕ) (ts : List Token) (e : ℕ × ℕ) (p q : Pair ts e) → bytes_of bytes p.name ≡ bytes_of bytes p.end → bytes_of bytes q.name ≡ bytes_of bytes q.end
+same_pair bytes ts e p q same =
+    let name : p.name ≡ q.name = same_at ts e.0 p.name q.name p.name_there q.name_there in
+    let end : p.end ≡ q.end = same_at ts e.1 p.end q.end p.end_there q.end_there in
+    rw (sym name, sym end) same
+
+-- the first wrong name after END
+first_wrong : (bytes : List ℕ) (ts : List Token) (at : ℕ) (f : IsEndFault bytes ts at) → IsFirstWithout (IsRightEnd bytes ts) (endings_in (module_outline f.of)) f.first.before f.first.wrong f.first.after
+first_wrong bytes ts at f = record {
+  split = f.first.split;
+  have = λ i e there. subst (IsRightEnd bytes ts) (get_or_from_slice_get f.first.before i e e there) (f.first.right_before i e (slice_get_within f.first.before i e there));
+  lacks = λ right. f.first.is_wrong.differ (same_pair bytes ts f.first.wrong right.pair f.first.is_wrong.pair right.same);
+}
+
+begins_at : (bytes : List ℕ) (ts : List Token) (m n : ℕ) (e d : ℕ × ℕ) → e ≡ d → IsWrongEnd bytes ts m e → IsWrongEnd bytes ts n d → m ≡ n
+begins_at bytes ts m n e d same a b =
+    let c : IsWrongEnd bytes ts m d = subst (IsWrongEnd bytes ts m) same a in
+    let end : c.pair.end ≡ b.pair.end = same_at ts d.1 c.pair.end b.pair.end c.pair.end_there b.pair.end_there in
+    sym c.begins ∙ ap (λ (t : Token). t.start) end ∙ b.begins
+
+one_end_fault : (bytes : List ℕ) (ts : List Token) (m n : ℕ) → IsEndFault bytes ts m → IsEndFault bytes ts n → m ≡ n
+one_end_fault bytes ts m n f g =
+    let ends : endings_in (module_outline g.of) ≡ endings_in (module_outline f.of) = ap endings_in (f.tree.only g.of g.tree.derived) in
+    let other = subst (λ (es : List (ℕ × ℕ)). IsFirstWithout (IsRightEnd bytes ts) es g.first.before g.first.wrong g.first.after) ends (first_wrong bytes ts n g) in
+    let same = one_first (IsRightEnd bytes ts) (endings_in (module_outline f.of)) f.first.before f.first.after g.first.before g.first.after f.first.wrong g.first.wrong (first_wrong bytes ts m f) other in
+    begins_at bytes ts m n f.first.wrong g.first.wrong same f.first.is_wrong g.first.is_wrong
+
+-- two faults of the parser are one, or both say that there is no tree
+abbrev AreOneParseFault : ParseFault → ParseFault → Type 0
+AreOneParseFault f g = (f ≡ g) ⊎ ((says_no_tree f ≡ true) × (says_no_tree g ≡ true))
+
+one_fault_of : (bytes : List ℕ) (ts : List Token) (f g : ParseFault) → (f ≢ parses.Memory) → (g ≢ parses.Memory) → IsFaultOf bytes ts f → IsFaultOf bytes ts g → AreOneParseFault f g
+one_fault_of bytes ts (parses.Syntax at) (parses.Syntax to) some other h k = inr (refl, refl)
+one_fault_of bytes ts (parses.Syntax at) (parses.EndName to) some other h k = absurd (h.1 k.of k.tree.derived)
+one_fault_of bytes ts (parses.Syntax at) (parses.TooDeep to) some other h k = inr (refl, refl)
+one_fault_of bytes ts (parses.EndName at) (parses.Syntax to) some other h k = absurd (k.1 h.of h.tree.derived)
+one_fault_of bytes ts (parses.EndName at) (parses.EndName to) some other h k = inl (ap parses.EndName (one_end_fault bytes ts at to h k))
+one_fault_of bytes ts (parses.EndName at) (parses.TooDeep to) some other h k = let deep = k.1 h.of h.tree.derived in let shallow = h.tree.shallow in absurd (omega arith)
+one_fault_of bytes ts (parses.TooDeep at) (parses.Syntax to) some other h k = inr (refl, refl)
+one_fault_of bytes ts (parses.TooDeep at) (parses.EndName to) some other h k = let deep = h.1 k.of k.tree.derived in let shallow = k.tree.shallow in absurd (omega arith)
+one_fault_of bytes ts (parses.TooDeep at) (parses.TooDeep to) some other h k = inr (refl, refl)
+one_fault_of bytes ts f parses.Memory some other h k = absurd (other refl)
+one_fault_of bytes ts parses.Memory g some other h k = absurd (some refl)
+
+one_parse_fault : (bytes : List ℕ) (f g : ParseFault) → (f ≢ parses.Memory) → (g ≢ parses.Memory) → HasParseFault f bytes → HasParseFault g bytes → AreOneParseFault f g
+one_parse_fault bytes f g some other (ts, reads, h) (us, spells, k) =
+    one_fault_of bytes ts f g some other h (subst (λ (vs : List Token). IsFaultOf bytes vs g) (spelled_once bytes us ts spells.1 reads.1) k)
+
+-- ---- the names
+
+-- what is told of a name of a place that is declared twice
+abbrev told_of : Place → List ℕ → List ℕ
+told_of (Block block) name = codes "Twice " ++ name
+told_of (Record token) name = codes "TwiceField " ++ name
+
+-- the first pair, and that the fault tells it
+record ToldPair (bytes : List ℕ) (ts : List Token) (l : Listing) (fault : ScopeFault) : Type 0 where
+  d : Declared
+  e : Declared
+  is_first : IsFirstTwice (text_at bytes ts) l.members d e
+  offset : scope_offset fault ≡ (token_at ts e.number).start
+  text : scope_fault_text fault ≡ told_of e.place (text_at bytes ts d.number)
+
+told_pair : (bytes : List ℕ) (ts : List Token) (l : Listing) (fault : ScopeFault) → (fault ≢ scopes.Memory) → IsScopeFault bytes ts l fault → ToldPair bytes ts l fault
+told_pair bytes ts l (scopes.Twice name first second) known (d, e, block, placed, h) = record {
+  d = d;
+  e = e;
+  is_first = h.is_first;
+  offset = h.second_at;
+  text = ap (λ (n : List ℕ). codes "Twice " ++ n) h.named ∙ ap (λ (p : Place). told_of p (text_at bytes ts d.number)) (sym placed);
+}
+told_pair bytes ts l (scopes.TwiceField name first second) known (d, e, token, placed, h) = record {
+  d = d;
+  e = e;
+  is_first = h.is_first;
+  offset = h.second_at;
+  text = ap (λ (n : List ℕ). codes "TwiceField " ++ n) h.named ∙ ap (λ (p : Place). told_of p (text_at bytes ts d.number)) (sym placed);
+}
+told_pair bytes ts l scopes.Memory known h = absurd (known refl)
+
+one_pair : (bytes : List ℕ) (ts : List Token) (l : Listing) (f g : ScopeFault) → ToldPair bytes ts l f → ToldPair bytes ts l g → (scope_offset f ≡ scope_offset g) × (scope_fault_text f ≡ scope_fault_text g)
+one_pair bytes ts l f g p q =
+    let (same_d, same_e) = first_once (text_at bytes ts) l.members p.d p.e q.d q.e p.is_first q.is_first in (
+      p.offset ∙ ap (λ (x : Declared). (token_at ts x.number).start) same_e ∙ sym q.offset,
+      p.text ∙ ap₂ (λ (x y : Declared). told_of y.place (text_at bytes ts x.number)) same_d same_e ∙ sym q.text,
+    )
+
+one_scope_fault : (bytes : List ℕ) (f g : ScopeFault) → (f ≢ scopes.Memory) → (g ≢ scopes.Memory) → HasScopeFault f bytes → HasScopeFault g bytes → (scope_offset f ≡ scope_offset g) × (scope_fault_text f ≡ scope_fault_text g)
+one_scope_fault bytes f g some other (ts, m, reads, tree, h) k =
+    one_pair bytes ts (listing_of ts m) f g (told_pair bytes ts (listing_of ts m) f some h) (told_pair bytes ts (listing_of ts m) g other (scope_fault_of bytes ts m g reads tree k))
+
+-- ---- one file
+
+-- of a file's tokens, of its tree and of its names there is a fault where those before are right
+one_file_fault : (s : Source) (f g : TreeFault) → wants_memory f ≡ false → wants_memory g ≡ false → IsFileFault s f → IsFileFault s g → AreOneFault f g
+one_file_fault s (faults.Scan path at f) (faults.Scan other to g) some more (known, h) (sure, k) =
+    let same : f ≡ g = one_scan_fault s.bytes.items f g known sure h.has_fault k.has_fault in
+    inl (one_text s (string_bytes path) (string_bytes other) at to (scan_offset f) (scan_offset g) (scan_fault_text f) (scan_fault_text g) (HasScanFault f) (HasScanFault g) h k (ap scan_offset same) (ap scan_fault_text same))
+one_file_fault s (faults.Scan path at f) (faults.Parse other to g) some more (known, h) (sure, k) =
+    let (ts, reads, _) = k.has_fault in absurd (known (no_scan_fault s.bytes.items ts f reads h.has_fault))
+one_file_fault s (faults.Scan path at f) (faults.Scope other to g) some more (known, h) (sure, k) =
+    let (ts, m, reads, _, _) = k.has_fault in absurd (known (no_scan_fault s.bytes.items ts f reads h.has_fault))
+one_file_fault s (faults.Parse path at f) (faults.Scan other to g) some more (known, h) (sure, k) =
+    let (ts, reads, _) = h.has_fault in absurd (sure (no_scan_fault s.bytes.items ts g reads k.has_fault))
+one_file_fault s (faults.Parse path at f) (faults.Parse other to g) some more (known, h) (sure, k) =
+    elim (one_parse_fault s.bytes.items f g known sure h.has_fault k.has_fault) [
+      | inl same ↦ inl (one_text s (string_bytes path) (string_bytes other) at to (parse_offset f) (parse_offset g) (parse_fault_text f) (parse_fault_text g) (HasParseFault f) (HasParseFault g) h k (ap parse_offset same) (ap parse_fault_text same))
+      | inr none ↦ inr (string_bytes s.path, (h.path_is, none.0), (k.path_is, none.1))
+    ]
+one_file_fault s (faults.Parse path at f) (faults.Scope other to g) some more (known, h) (sure, k) =
+    let (ts, m, reads, tree, _) = k.has_fault in absurd (known (no_parse_fault s.bytes.items ts m f reads tree h.has_fault))
+one_file_fault s (faults.Scope path at f) (faults.Scan other to g) some more (known, h) (sure, k) =
+    let (ts, m, reads, _, _) = h.has_fault in absurd (sure (no_scan_fault s.bytes.items ts g reads k.has_fault))
+one_file_fault s (faults.Scope path at f) (faults.Parse other to g) some more (known, h) (sure, k) =
+    let (ts, m, reads, tree, _) = h.has_fault in absurd (sure (no_parse_fault s.bytes.items ts m g reads tree k.has_fault))
+one_file_fault s (faults.Scope path at f) (faults.Scope other to g) some more (known, h) (sure, k) =
+    let same = one_scope_fault s.bytes.items f g known sure h.has_fault k.has_fault in
+    inl (one_text s (string_bytes path) (string_bytes other) at to (scope_offset f) (scope_offset g) (scope_fault_text f) (scope_fault_text g) (HasScopeFault f) (HasScopeFault g) h k same.0 same.1)
+one_file_fault s f (faults.Graph g) some more h k = absurd k
+one_file_fault s f faults.Memory some more h k = absurd (false≢true (sym more))
+one_file_fault s (faults.Graph f) g some more h k = absurd h
+one_file_fault s faults.Memory g some more h k = absurd (false≢true (sym some))
+
+-- ---- all files
+
+-- the file is accepted
+abbrev HasTree : Source → Type 0
+HasTree s = (file : ModuleFile) × IsAccepted s file
+
+first_faulty : (sources : List Source) (fault : TreeFault) (f : IsFirstFault sources fault) → wants_memory fault ≡ false → IsFirstWithout HasTree sources f.before f.source f.after
+first_faulty sources fault f known = record {
+  split = f.split;
+  have = λ i s at.
+      let within = slice_get_within f.before i s at in
+      let many = f.accepted_before.as_many in
+      let (file, at_file) = there f.files_before i (omega arith) in
+      (file, f.accepted_before.each i s file at at_file);
+  lacks = λ (file, ok). false≢true (sym known ∙ no_file_fault f.source file fault ok f.has_fault);
+}
+
+one_first_fault : (sources : List Source) (f g : TreeFault) → wants_memory f ≡ false → wants_memory g ≡ false → IsFirstFault sources f → IsFirstFault sources g → AreOneFault f g
+one_first_fault sources f g some more h k =
+    let same : h.source ≡ k.source = one_first HasTree sources h.before h.after k.before k.after h.source k.source (first_faulty sources f h some) (first_faulty sources g k more) in
+    one_file_fault k.source f g some more (subst (λ (s : Source). IsFileFault s f) same h.has_fault) k.has_fault
+
+-- ---- the imports
+
+abbrev outcome_text : Option GraphOutcome → List ℕ
+outcome_text None = codes "Memory"
+outcome_text (Some (Makes g)) = []
+outcome_text (Some (TwoModules name first second)) = codes "TwoModules " ++ name ++ codes " " ++ first ++ codes " " ++ second
+outcome_text (Some (Cycle names)) = codes "Cycle" ++ flat_map after_space names
+outcome_text (Some TooMany) = codes "TooMany"
+
+told_outcome : (fault : GraphFault) → graph_fault_text fault ≡ outcome_text (fault_said fault)
+told_outcome (graphs.TwoModules name first second) = refl
+told_outcome (graphs.Cycle names) = refl
+told_outcome graphs.TooMany = refl
+told_outcome graphs.Memory = refl
+
+one_graph_fault : (sources : List Source) (f g : GraphFault) → IsGraphFault sources f → IsGraphFault sources g → graph_fault_text f ≡ graph_fault_text g
+one_graph_fault sources f g h k =
+    let files : files_of k.files ≡ files_of h.files = same_files sources k.files h.files k.accepted h.accepted in
+    let outcome : IsGraphOutcome (files_of h.files) k.outcome = subst (λ (fs : List File). IsGraphOutcome fs k.outcome) files k.is_outcome in
+    let same : h.outcome ≡ k.outcome = one_outcome (files_of h.files) h.outcome k.outcome h.is_outcome outcome in
+    let said : fault_said f ≡ fault_said g = h.said ∙ ap Some same ∙ sym k.said in
+    told_outcome f ∙ ap outcome_text said ∙ sym (told_outcome g)
+
+-- ---- the tree
+
+-- a fault is one of a file, or of the imports
+data IsOfTree (sources : List Source) (fault : TreeFault) : Type 0 where
+  of_file : IsFirstFault sources fault → IsOfTree sources fault
+  of_imports : (g : GraphFault) → fault ≡ faults.Graph g → IsGraphFault sources g → IsOfTree sources fault
+
+which : (sources : List Source) (fault : TreeFault) → wants_memory fault ≡ false → IsTreeFault sources fault → IsOfTree sources fault
+which sources (faults.Scan path at fault) known h = of_file h
+which sources (faults.Parse path at fault) known h = of_file h
+which sources (faults.Scope path at fault) known h = of_file h
+which sources (faults.Graph fault) known h = of_imports fault refl h
+which sources faults.Memory known h = absurd (false≢true (sym known))
+
+-- where the imports are refused no file is
+apart : (sources : List Source) (fault : TreeFault) (g : GraphFault) → wants_memory fault ≡ false → IsFirstFault sources fault → IsGraphFault sources g → ⊥
+apart sources fault g known h k = false≢true (sym known ∙ no_first_fault sources k.files fault k.accepted h)
+
+pub one_tree_fault : (sources : List Source) (fault other : TreeFault) → IsTreeFault sources fault → IsTreeFault sources other → wants_memory fault ≡ false → wants_memory other ≡ false → AreOneFault fault other
+one_tree_fault sources fault other h k some more = go (which sources fault some h) (which sources other more k)
+  where
+    go : IsOfTree sources fault → IsOfTree sources other → AreOneFault fault other
+    go (of_file a) (of_file b) = one_first_fault sources fault other some more a b
+    go (of_file a) (of_imports g e b) = absurd (apart sources fault g some a b)
+    go (of_imports f e a) (of_file b) = absurd (apart sources other f more b a)
+    go (of_imports f e a) (of_imports g d b) = inl (ap tree_fault_text e ∙ one_graph_fault sources f g a b ∙ sym (ap tree_fault_text d))

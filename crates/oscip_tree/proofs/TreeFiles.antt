@@ -1,0 +1,163 @@
+-- Files that are read one after another.
+use Rattle.std.proofs.Common.{◌≡◌, ℕ, zero, suc, ◌+◌, ◌<◌, ◌⊎◌, List, [], ◌∷◌, ◌++◌, length, get_or, map, take, drop, Some, refl, sym, ap, ◌∙◌, subst, inl, inr, add-one, length-append, arith}
+use Rattle.std.specs.Prelude.{String, slice_get, option_map}
+use Rattle.std.specs.String.{string_bytes}
+use Rattle.std.proofs.Math.Seq.{drop-cons, take-length, take-suc}
+use Rattle.std.proofs.lemmas.List.{length-map, map-append, take-append-drop}
+use Rattle.std.proofs.lemmas.Option.{get_or_from_slice_get, slice_get-get_or, slice_get-map, slice_get_within}
+use Rattle.ob_imports.specs.declared.parsed.Parsed.{Parsed}
+use Rattle.ob_imports.specs.Files.{File, file_of as parsed_file, files_of as parsed_files}
+use Rattle.ob_imports.specs.Names.{texts}
+use Rattle.ob_scope.specs.declared.module_scopes.Alias.{Alias}
+use Rattle.ob_scope.specs.Kept.{alias_of}
+use Rattle.ob_scope.specs.Listed.{ImportItem}
+use Rattle.ob_scope.specs.Scoped.{AliasUses, ModuleScopes}
+use Rattle.oscip_tree.specs.Trees.{file_of, files_of, listing, names, AreAccepted, IsAccepted, IsFileFault, IsTreeFault, ModuleFile}
+use Rattle.oscip_tree.specs.TreeReading.{AreRead, AreScopesOf}
+use Rattle.oscip_tree.specs.declared.source.Source.{Source}
+use Rattle.oscip_tree.specs.declared.tree.TreeFault.{TreeFault}
+use Rattle.oscip_tree.specs.declared.tree.TreeFault.TheVariants as faults
+
+-- ---- two lists of one length
+
+-- what holds of the elements at each place
+abbrev Each : {X Y : Type 0} → (X → Y → Type 0) → List X → List Y → Type 0
+Each {X} {Y} P xs ys = (i : ℕ) (x : X) (y : Y) → slice_get xs i ≡ Some x → slice_get ys i ≡ Some y → P x y
+
+-- an element of a list with one more is one of the list, or the last
+at_end : {X : Type 0} (xs : List X) (x y : X) (i : ℕ) → slice_get (xs ++ x ∷ []) i ≡ Some y → (slice_get xs i ≡ Some y) ⊎ ((i ≡ length xs) × (x ≡ y))
+at_end [] x y zero e = inr (refl, cc)
+at_end [] x y (suc i) e = absurd cc
+at_end (z ∷ xs) x y zero e = inl e
+at_end (z ∷ xs) x y (suc i) e = elim (at_end xs x y i e) [
+  | inl h ↦ inl h
+  | inr h ↦ inr ((let same = h.0 in omega arith), h.1)
+]
+
+each_more : {X Y : Type 0} (P : X → Y → Type 0) (xs : List X) (ys : List Y) (x : X) (y : Y) → length ys ≡ length xs → Each P xs ys → P x y → Each P (xs ++ x ∷ []) (ys ++ y ∷ [])
+each_more {X} {Y} P xs ys x y long each last i u v at_u at_v = go (at_end xs x u i at_u) (at_end ys y v i at_v)
+  where
+    go : (slice_get xs i ≡ Some u) ⊎ ((i ≡ length xs) × (x ≡ u)) → (slice_get ys i ≡ Some v) ⊎ ((i ≡ length ys) × (y ≡ v)) → P u v
+    go (inl p) (inl q) = each i u v p q
+    go (inl p) (inr q) = let within = slice_get_within xs i u p in let same = q.0 in absurd (omega arith)
+    go (inr p) (inl q) = let within = slice_get_within ys i v q in let same = p.0 in absurd (omega arith)
+    go (inr p) (inr q) = subst (λ (w : X). P w v) p.1 (subst (λ (w : Y). P x w) q.1 last)
+
+pub same_maps : {X Y Z : Type 0} (f : X → Z) (g : Y → Z) (xs : List X) (ys : List Y) → length xs ≡ length ys → Each (λ x y. f x ≡ g y) xs ys → map f xs ≡ map g ys
+same_maps f g [] [] e h = refl
+same_maps f g [] (y ∷ ys) e h = absurd (omega arith)
+same_maps f g (x ∷ xs) [] e h = absurd (omega arith)
+same_maps {X} {Y} f g (x ∷ xs) (y ∷ ys) e h =
+    let rest = same_maps f g xs ys (omega arith) (λ i a b p q. h (suc i) a b p q) in
+    rw (h zero x y refl refl, rest) refl
+
+pub there : {X : Type 0} (xs : List X) (i : ℕ) → i < length xs → (x : X) × (slice_get xs i ≡ Some x)
+there [] i l = absurd (omega arith)
+there (x ∷ xs) zero l = (x, refl)
+there (x ∷ xs) (suc i) l = there xs i (omega arith)
+
+take_at : {X : Type 0} (xs : List X) (i : ℕ) (x : X) → slice_get xs i ≡ Some x → take (i + 1) xs ≡ take i xs ++ x ∷ []
+take_at {X} xs i x e =
+    ap (λ (n : ℕ). take n xs) (add-one i) ∙ take-suc xs i x (slice_get_within xs i x e)
+    ∙ ap (λ (y : X). take i xs ++ y ∷ []) (get_or_from_slice_get xs i x x e)
+
+at_item : {X : Type 0} (xs : List X) (i : ℕ) (x : X) → i < length xs → x ≡ get_or xs i x → slice_get xs i ≡ Some x
+at_item xs i x l e = slice_get-get_or xs i x l ∙ ap Some (sym e)
+
+-- ---- files and their scopes
+
+pub read_none : AreRead [] [] []
+read_none = record {
+  accepted = record { as_many = refl; each = λ i s file p q. absurd cc };
+  as_many = refl;
+  each = λ i file s p q. absurd cc;
+}
+
+longer : {X Y : Type 0} (xs : List X) (ys : List Y) (x : X) (y : Y) → length xs ≡ length ys → length (xs ++ x ∷ []) ≡ length (ys ++ y ∷ [])
+longer xs ys x y e = let long_x = length-append xs (x ∷ []) in let long_y = length-append ys (y ∷ []) in omega arith
+
+read_more : (sources : List Source) (files : List ModuleFile) (ss : List ModuleScopes) (source : Source) (file : ModuleFile) (s : ModuleScopes) →
+    AreRead sources files ss → IsAccepted source file → AreScopesOf file s → AreRead (sources ++ source ∷ []) (files ++ file ∷ []) (ss ++ s ∷ [])
+read_more sources files ss source file s read accepted scoped = record {
+  accepted = record {
+    as_many = longer files sources file source read.accepted.as_many;
+    each = each_more IsAccepted sources files source file read.accepted.as_many read.accepted.each accepted;
+  };
+  as_many = longer ss files s file read.as_many;
+  each = each_more AreScopesOf files ss file s read.as_many read.each scoped;
+}
+
+-- one more of a list of files
+pub read_next : (sources : List Source) (i : ℕ) (source : Source) (ss : List ModuleScopes) (s : ModuleScopes) → i < length sources → source ≡ get_or sources i source →
+    (files : List ModuleFile) × AreRead (take i sources) files ss → (file : ModuleFile) × IsAccepted source file × AreScopesOf file s → (files : List ModuleFile) × AreRead (take (i + 1) sources) files (ss ++ s ∷ [])
+read_next sources i source ss s l is (files, read) (file, accepted, scoped) = (
+  files ++ file ∷ [],
+  subst (λ (front : List Source). AreRead front (files ++ file ∷ []) (ss ++ s ∷ [])) (sym (take_at sources i source (at_item sources i source l is))) (read_more (take i sources) files ss source file s read accepted scoped),
+)
+
+-- the first file with a fault
+pub first_fault : (sources : List Source) (i : ℕ) (source : Source) (files : List ModuleFile) (fault : TreeFault) → i < length sources → source ≡ get_or sources i source →
+    AreAccepted (take i sources) files → IsFileFault source fault → IsTreeFault sources fault
+first_fault sources i source files fault l is accepted = go fault
+  where
+    split : sources ≡ take i sources ++ source ∷ drop (suc i) sources
+    split = sym (take-append-drop i sources) ∙ ap (λ (t : List Source). take i sources ++ t) (drop-cons sources i source l)
+        ∙ ap (λ (s : Source). take i sources ++ s ∷ drop (suc i) sources) (sym is)
+
+    go : (fault : TreeFault) → IsFileFault source fault → IsTreeFault sources fault
+    go (faults.Scan path at fault) h = record { before = take i sources; source = source; after = drop (suc i) sources; split = split; files_before = files; accepted_before = accepted; has_fault = h }
+    go (faults.Parse path at fault) h = record { before = take i sources; source = source; after = drop (suc i) sources; split = split; files_before = files; accepted_before = accepted; has_fault = h }
+    go (faults.Scope path at fault) h = record { before = take i sources; source = source; after = drop (suc i) sources; split = split; files_before = files; accepted_before = accepted; has_fault = h }
+    go (faults.Graph fault) h = absurd h
+    go faults.Memory h = tt
+
+-- ---- what the graph is made of
+
+-- what is said of a file for the graph
+pub same_file : (source : Source) (file : ModuleFile) (s : ModuleScopes) (p : Parsed) → string_bytes p.path ≡ string_bytes source.path → string_bytes p.name ≡ s.name →
+    texts p.imports.items ≡ map (λ (a : AliasUses). a.imported) s.aliases → IsAccepted source file → AreScopesOf file s → parsed_file p ≡ file_of file
+same_file source file s p path name imports accepted scoped = λ k. record { path = same_path k; name = same_name k; imports = same_imports k }
+  where
+    same_path : string_bytes p.path ≡ file.path
+    same_path = path ∙ sym accepted.path_is
+
+    same_name : string_bytes p.name ≡ names file 1
+    same_name = name ∙ scoped.name
+
+    same_imports : texts p.imports.items ≡ map (λ (i : ImportItem). names file i.imported) (listing file).imports
+    same_imports = imports ∙ same_maps (λ (a : AliasUses). a.imported) (λ (i : ImportItem). names file i.imported) s.aliases (listing file).imports scoped.aliased.as_many
+        (λ i a item p q. (scoped.aliased.each i item a q p).imported)
+
+-- one more alias
+pub alias_next : {Z : Type 0} (rows : List Alias) (aliases : List AliasUses) (i : ℕ) (row : Alias) (ns : List (String Z)) (n : String Z) → map alias_of rows ≡ aliases → i < length rows →
+    row ≡ get_or rows i row → string_bytes n ≡ string_bytes row.«module» → texts ns ≡ map (λ (a : AliasUses). a.imported) (take i aliases) →
+    texts (ns ++ n ∷ []) ≡ map (λ (a : AliasUses). a.imported) (take (i + 1) aliases)
+alias_next rows aliases i row ns n all l is name so_far =
+    let at_row : slice_get (map alias_of rows) i ≡ Some (alias_of row) = slice_get-map alias_of rows i ∙ ap (option_map alias_of) (at_item rows i row l is) in
+    let at : slice_get aliases i ≡ Some (alias_of row) = subst (λ (xs : List AliasUses). slice_get xs i ≡ Some (alias_of row)) all at_row in
+    map-append string_bytes ns (n ∷ []) ∙ ap (λ (xs : List (List ℕ)). xs ++ string_bytes n ∷ []) so_far
+    ∙ ap (λ (x : List ℕ). map (λ (a : AliasUses). a.imported) (take i aliases) ++ x ∷ []) name
+    ∙ sym (map-append (λ (a : AliasUses). a.imported) (take i aliases) (alias_of row ∷ []))
+    ∙ ap (map (λ (a : AliasUses). a.imported)) (sym (take_at aliases i (alias_of row) at))
+
+-- one more file that is told
+pub parsed_next : (sources : List Source) (ss : List ModuleScopes) (files : List ModuleFile) (ps : List Parsed) (p : Parsed) (i : ℕ) (source : Source) (s : ModuleScopes) →
+    AreRead sources files ss → i < length sources → slice_get sources i ≡ Some source → slice_get ss i ≡ Some s →
+    ((file : ModuleFile) → IsAccepted source file → AreScopesOf file s → parsed_file p ≡ file_of file) →
+    parsed_files ps ≡ take i (files_of files) → parsed_files (ps ++ p ∷ []) ≡ take (i + 1) (files_of files)
+parsed_next sources ss files ps p i source s read l at_source at_scopes told so_far =
+    let many = read.accepted.as_many in
+    let (file, at_file) = there files i (omega arith) in
+    let is : parsed_file p ≡ file_of file = told file (read.accepted.each i source file at_source at_file) (read.each i file s at_file at_scopes) in
+    let at : slice_get (files_of files) i ≡ Some (file_of file) = slice_get-map file_of files i ∙ ap (option_map file_of) at_file in
+    map-append parsed_file ps (p ∷ []) ∙ ap (λ (fs : List File). fs ++ parsed_file p ∷ []) so_far
+    ∙ ap (λ (f : File). take i (files_of files) ++ f ∷ []) is ∙ sym (take_at (files_of files) i (file_of file) at)
+
+-- all files are told
+pub parsed_all : (sources : List Source) (ss : List ModuleScopes) (files : List ModuleFile) (ps : List Parsed) (i : ℕ) → AreRead sources files ss → i ≡ length sources →
+    parsed_files ps ≡ take i (files_of files) → parsed_files ps ≡ files_of files
+parsed_all sources ss files ps i read end so_far =
+    let many = read.accepted.as_many in
+    let long = length-map files file_of in
+    let all : i ≡ length (files_of files) = omega arith in
+    so_far ∙ ap (λ (n : ℕ). take n (files_of files)) all ∙ take-length (files_of files)

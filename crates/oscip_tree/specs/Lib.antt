@@ -1,0 +1,4 @@
+pub mod Sources
+pub mod Trees
+pub mod TreeReading
+pub mod TreeFaults

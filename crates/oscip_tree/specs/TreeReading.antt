@@ -1,0 +1,41 @@
+-- What is read of a tree on the way to its network.
+use Rattle.std.specs.Prelude.{◌≡◌, ℕ, List, length, slice_get, Some}
+use Rattle.ob_imports.specs.declared.fault.GraphFault.{GraphFault}
+use Rattle.ob_imports.specs.declared.fault.GraphFault.TheVariants as graphs
+use Rattle.ob_imports.specs.Chains.{IsAcyclic}
+use Rattle.ob_imports.specs.Files.{Imports}
+use Rattle.ob_imports.specs.Outcomes.{AreKept}
+use Rattle.ob_scope.specs.Scoped.{AreScopes, ModuleScopes}
+use Rattle.oscip_tree.specs.Trees.{AreAccepted, IsAccepted, ModuleFile, files_of, listing}
+use Rattle.oscip_tree.specs.declared.source.Source.{Source}
+use Rattle.oscip_tree.specs.declared.tree.TreeFault.{TreeFault}
+use Rattle.oscip_tree.specs.declared.tree.TreeFault.TheVariants.{Graph, Memory}
+use Rattle.oscip_tree.specs.declared.tree_reading.Tree.{Tree}
+
+-- want of memory is one fault, whoever met it
+abbrev pub of_graph : GraphFault → TreeFault
+of_graph (graphs.TwoModules name first second) = Graph (graphs.TwoModules name first second)
+of_graph (graphs.Cycle names) = Graph (graphs.Cycle names)
+of_graph graphs.TooMany = Graph graphs.TooMany
+of_graph graphs.Memory = Memory
+
+-- these are the scopes of the file's module
+abbrev pub AreScopesOf : ModuleFile → ModuleScopes → Type 0
+AreScopesOf file s = AreScopes file.bytes file.tokens (listing file) s
+
+-- the file is accepted, and these are the scopes of its module
+abbrev pub HasScopes : Source → ModuleScopes → Type 0
+HasScopes source s = (file : ModuleFile) × IsAccepted source file × AreScopesOf file s
+
+-- the files are accepted, and there are the scopes of each
+pub record AreRead (sources : List Source) (files : List ModuleFile) (ss : List ModuleScopes) : Type 0 where
+  pub accepted : AreAccepted sources files
+  pub as_many : length ss ≡ length files
+  pub each : (i : ℕ) (file : ModuleFile) (s : ModuleScopes) → slice_get files i ≡ Some file → slice_get ss i ≡ Some s → AreScopesOf file s
+
+-- the graph is that of the files, and there are the scopes of each
+pub record IsTreeOf (sources : List Source) (tree : Tree) : Type 0 where
+  pub files : List ModuleFile
+  pub read : AreRead sources files tree.scopes.items
+  pub kept : AreKept (files_of files) tree.graph
+  pub acyclic : IsAcyclic (Imports (files_of files))

@@ -1,0 +1,166 @@
+-- What a tree of files is, the network of its imports, and why it is refused.
+use Rattle.std.specs.Prelude.{◌≡◌, ◌≢◌, ◌↔◌, ℕ, ◌<◌, List, ◌∷◌, ◌++◌, length, map, slice_get, Some, IfSome, Err, Contains}
+use Rattle.std.specs.String.{string_bytes}
+use Rattle.ob_scan.specs.declared.fault.ScanFault.{ScanFault}
+use Rattle.ob_scan.specs.declared.fault.ScanFault.TheVariants as scans
+use Rattle.ob_scan.specs.declared.place.Position.{Position}
+use Rattle.ob_scan.specs.declared.token.Token.{Token}
+use Rattle.ob_scan.specs.Position.{IsPosition}
+use Rattle.ob_scan.specs.Spelling.{IsOutcome, Reads, outcome_of as scan_outcome_of}
+use Rattle.ob_tree.specs.declared.declaration.Module.{Module}
+use Rattle.ob_parse.specs.declared.fault.ParseFault.{ParseFault}
+use Rattle.ob_parse.specs.declared.fault.ParseFault.TheVariants as parses
+use Rattle.ob_parse.specs.Parsed.{IsTheTree, IsFaultOf}
+use Rattle.ob_scope.specs.declared.fault.ScopeFault.{ScopeFault}
+use Rattle.ob_scope.specs.declared.fault.ScopeFault.TheVariants as scopes
+use Rattle.ob_scope.specs.Counted.{HasWeight}
+use Rattle.ob_scope.specs.Listed.{Listing}
+use Rattle.ob_scope.specs.Scope.{NoneTwice}
+use Rattle.ob_scope.specs.Scoped.{IsScopeFault, listing_of}
+use Rattle.ob_scope.specs.Standings.{text_at}
+use Rattle.ob_imports.specs.declared.fault.GraphFault.{GraphFault}
+use Rattle.ob_imports.specs.Chains.{IsAcyclic}
+use Rattle.ob_imports.specs.Files.{File, Imports, IsNode}
+use Rattle.ob_imports.specs.Graphs.{ImportGraph}
+use Rattle.ob_imports.specs.Outcomes.{AreKept, GraphOutcome, IsGraphOutcome, fault_said}
+use Rattle.cut_net.specs.declared.priced.Priced.{Priced}
+use Rattle.cut_net.specs.Lines.{IsAscending}
+use Rattle.cut_net.specs.Network.{Network, name_of}
+use Rattle.cut_net.specs.WellFormed.{AreBetween, AreNamesInOrder}
+use Rattle.oscip_tree.specs.declared.source.Source.{Source}
+use Rattle.oscip_tree.specs.declared.tree.TreeFault.{TreeFault}
+use Rattle.oscip_tree.specs.declared.tree.TreeFault.TheVariants as faults
+
+-- a file as it was read: its path, its bytes, its tokens and its tree
+pub record ModuleFile : Type 0 where
+  pub path : List ℕ
+  pub bytes : List ℕ
+  pub tokens : List Token
+  pub tree : Module
+
+-- the text of a token, by its number
+abbrev pub names : ModuleFile → ℕ → List ℕ
+names file = text_at file.bytes file.tokens
+
+-- what the module declares and looks up
+abbrev pub listing : ModuleFile → Listing
+listing file = listing_of file.tokens file.tree
+
+-- the module's name stands behind MODULE; its imports are those of its import items
+abbrev pub file_of : ModuleFile → File
+file_of file = record { path = file.path; name = names file 1; imports = map (λ i. names file i.imported) (listing file).imports }
+
+abbrev pub files_of : List ModuleFile → List File
+files_of files = map file_of files
+
+-- the file's bytes have these tokens and this tree, which declares nothing twice
+pub record IsAccepted (s : Source) (file : ModuleFile) : Type 0 where
+  pub path_is : file.path ≡ string_bytes s.path
+  pub bytes_are : file.bytes ≡ s.bytes.items
+  pub reads : IsOutcome file.bytes (Reads file.tokens)
+  pub is_tree : IsTheTree file.bytes file.tokens file.tree
+  pub once : NoneTwice (names file) (listing file).members
+
+-- so for each of the files
+pub record AreAccepted (sources : List Source) (files : List ModuleFile) : Type 0 where
+  pub as_many : length files ≡ length sources
+  pub each : (i : ℕ) (s : Source) (file : ModuleFile) → slice_get sources i ≡ Some s → slice_get files i ≡ Some file → IsAccepted s file
+
+-- an accepted tree: each file is, the modules' names differ, modules and imports keep their limits, and no chain of imports comes back
+pub record IsTree (sources : List Source) (files : List ModuleFile) : Type 0 where
+  pub accepted : AreAccepted sources files
+  pub graph : ImportGraph
+  pub kept : AreKept (files_of files) graph
+  pub acyclic : IsAcyclic (Imports (files_of files))
+
+-- a module of the one name imports the other, and so many qualified uses cross that import
+pub record HasImport (files : List ModuleFile) (m n : List ℕ) (w : ℕ) : Type 0 where
+  pub importer : ModuleFile
+  pub is_of_tree : Contains files importer
+  pub named : names importer 1 ≡ m
+  pub imports : Contains (file_of importer).imports n
+  pub weight : HasWeight (names importer) (listing importer) n w
+
+-- the network of an accepted tree: the names of its modules and of those that they import, in order, and the imports with their weights, in order
+pub record IsNetOfTree (sources : List Source) (net : Network) : Type 0 where
+  pub files : List ModuleFile
+  pub is_tree : IsTree sources files
+  pub names_ascend : AreNamesInOrder net.names
+  pub named : (n : List ℕ) → Contains net.names n ↔ IsNode (files_of files) n
+  pub between : AreBetween net.imports (length net.names)
+  pub imports_ascend : IsAscending net.imports
+  pub listed : (i : Priced) → i.from < length net.names → i.to < length net.names →
+      Contains net.imports i ↔ HasImport files (name_of net i.from) (name_of net i.to) i.amount
+
+-- where a fault of the scanner stands: at the file's beginning where the file is too long
+abbrev pub scan_offset : ScanFault → ℕ
+scan_offset (scans.BadByte offset) = offset
+scan_offset (scans.BadNumber offset) = offset
+scan_offset (scans.OpenString offset) = offset
+scan_offset (scans.OpenComment offset) = offset
+scan_offset scans.TooLong = 0
+scan_offset scans.Memory = 0
+
+abbrev pub parse_offset : ParseFault → ℕ
+parse_offset (parses.Syntax offset) = offset
+parse_offset (parses.EndName offset) = offset
+parse_offset (parses.TooDeep offset) = offset
+parse_offset parses.Memory = 0
+
+-- where a name is declared for the second time
+abbrev pub scope_offset : ScopeFault → ℕ
+scope_offset (scopes.Twice name first second) = second
+scope_offset (scopes.TwiceField name first second) = second
+scope_offset scopes.Memory = 0
+
+-- the bytes have this fault of the scanner
+abbrev pub HasScanFault : ScanFault → List ℕ → Type 0
+HasScanFault fault bytes = IfSome (scan_outcome_of (Err fault)) (IsOutcome bytes)
+
+-- they have tokens, and these this fault of the parser
+abbrev pub HasParseFault : ParseFault → List ℕ → Type 0
+HasParseFault fault bytes = (ts : List Token) × IsOutcome bytes (Reads ts) × IsFaultOf bytes ts fault
+
+-- they have tokens and a tree, and this a name that is declared twice
+abbrev pub HasScopeFault : ScopeFault → List ℕ → Type 0
+HasScopeFault fault bytes = (ts : List Token) × (m : Module) × IsOutcome bytes (Reads ts) × IsTheTree bytes ts m × IsScopeFault bytes ts (listing_of ts m) fault
+
+-- the file has this path, and its bytes have the fault, at this line and column
+pub record IsFault (s : Source) (path : List ℕ) (at : Position) (offset : ℕ) (HasFault : List ℕ → Type 0) : Type 0 where
+  pub path_is : path ≡ string_bytes s.path
+  pub has_fault : HasFault s.bytes.items
+  pub position : IsPosition s.bytes.items offset at.line at.column
+
+-- what a fault of one file says, which is never that of a want of memory; that says nothing
+abbrev pub IsFileFault : Source → TreeFault → Type 0
+IsFileFault s (faults.Scan path at fault) = (fault ≢ scans.Memory) × IsFault s (string_bytes path) at (scan_offset fault) (HasScanFault fault)
+IsFileFault s (faults.Parse path at fault) = (fault ≢ parses.Memory) × IsFault s (string_bytes path) at (parse_offset fault) (HasParseFault fault)
+IsFileFault s (faults.Scope path at fault) = (fault ≢ scopes.Memory) × IsFault s (string_bytes path) at (scope_offset fault) (HasScopeFault fault)
+IsFileFault s (faults.Graph fault) = ⊥
+IsFileFault s faults.Memory = Unit {0}
+
+-- a file has this fault, and those before it are accepted
+pub record IsFirstFault (sources : List Source) (fault : TreeFault) : Type 0 where
+  pub before : List Source
+  pub source : Source
+  pub after : List Source
+  pub split : sources ≡ before ++ source ∷ after
+  pub files_before : List ModuleFile
+  pub accepted_before : AreAccepted before files_before
+  pub has_fault : IsFileFault source fault
+
+-- each file is accepted, and the graph of their imports is refused
+pub record IsGraphFault (sources : List Source) (fault : GraphFault) : Type 0 where
+  pub files : List ModuleFile
+  pub accepted : AreAccepted sources files
+  pub outcome : GraphOutcome
+  pub said : fault_said fault ≡ Some outcome
+  pub is_outcome : IsGraphOutcome (files_of files) outcome
+
+-- what a fault of a tree says: of the first file that has one, or else of the imports; a want of memory says nothing
+abbrev pub IsTreeFault : List Source → TreeFault → Type 0
+IsTreeFault sources (faults.Scan path at fault) = IsFirstFault sources (faults.Scan path at fault)
+IsTreeFault sources (faults.Parse path at fault) = IsFirstFault sources (faults.Parse path at fault)
+IsTreeFault sources (faults.Scope path at fault) = IsFirstFault sources (faults.Scope path at fault)
+IsTreeFault sources (faults.Graph fault) = IsGraphFault sources fault
+IsTreeFault sources faults.Memory = Unit {0}

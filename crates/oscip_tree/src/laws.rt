@@ -1,0 +1,26 @@
+//! Laws of trees of files: no tree is accepted and refused, an accepted tree has one network, and a refused tree one fault.
+//! Each function is a law: its body is empty, and its contract is proved.
+ghost use Rattle.std.specs.Prelude.{◌≡◌, false, true, List};
+ghost use Rattle.cut_net.specs.Network.{Network};
+ghost use Rattle.oscip_tree.specs.TreeFaults.{wants_memory, AreOneFault};
+ghost use Rattle.oscip_tree.specs.Trees.{IsNetOfTree, IsTree, IsTreeFault, ModuleFile};
+ghost use Rattle.oscip_tree.specs.declared.source.Source.{Source};
+ghost use Rattle.oscip_tree.specs.declared.tree.TreeFault.{TreeFault};
+
+/// An accepted tree has no fault but want of memory.
+pub fn no_fault_of_a_tree()
+    ensures { (sources : List Source) (files : List ModuleFile) (fault : TreeFault) →
+        IsTree sources files → IsTreeFault sources fault → wants_memory fault ≡ true }
+{}
+
+/// A tree has at most one network.
+pub fn one_network()
+    ensures { (sources : List Source) (net other : Network) → IsNetOfTree sources net → IsNetOfTree sources other → net ≡ other }
+{}
+
+/// A refused tree has one fault: one text is told of it, unless a file has no tree. That is Syntax or TooDeep of this
+/// file, and which of the two and where isn't fixed.
+pub fn one_fault()
+    ensures { (sources : List Source) (fault other : TreeFault) → IsTreeFault sources fault → IsTreeFault sources other →
+        wants_memory fault ≡ false → wants_memory other ≡ false → AreOneFault fault other }
+{}

@@ -1,0 +1,134 @@
+//! The scopes of one file of a tree, or its fault.
+ghost use Rattle.std.specs.Prelude.{◌≡◌, IfErr, IfOk};
+ghost use Rattle.ob_parse.specs.Parsed.{IsTheTree};
+ghost use Rattle.ob_scan.specs.Spelling.{IsOutcome, Reads};
+ghost use Rattle.oscip_tree.specs.Trees.{parse_offset, scan_offset, scope_offset, HasParseFault, HasScanFault, HasScopeFault, IsFileFault};
+ghost use Rattle.oscip_tree.specs.TreeReading.{HasScopes};
+
+use crate::{Source, TreeFault};
+use ob_parse::{ParseFault, parse};
+use ob_scan::laws::tokens_in_text;
+use ob_scan::{ScanFault, Tokens, position, scan};
+use ob_scope::{ScopeFault, Scopes, scopes};
+use ob_tree::declaration::Module;
+use std::alloc::Global;
+
+fn scan_offset(fault: ScanFault) -> u32
+    ensures { result ≡ scan_offset fault }
+{
+    match fault {
+        ScanFault::BadByte { offset }
+        | ScanFault::BadNumber { offset }
+        | ScanFault::OpenString { offset }
+        | ScanFault::OpenComment { offset } => offset,
+        ScanFault::TooLong | ScanFault::Memory => 0,
+    }
+}
+
+fn parse_offset(fault: ParseFault) -> u32
+    ensures { result ≡ parse_offset fault }
+{
+    match fault {
+        ParseFault::Syntax { offset }
+        | ParseFault::EndName { offset }
+        | ParseFault::TooDeep { offset } => offset,
+        ParseFault::Memory => 0,
+    }
+}
+
+fn scope_offset(fault: &ScopeFault) -> u32
+    ensures { result ≡ scope_offset fault.now }
+{
+    match fault {
+        ScopeFault::Twice { second, .. } | ScopeFault::TwiceField { second, .. } => *second,
+        ScopeFault::Memory => 0,
+    }
+}
+
+/// A fault of the scanner, with the place where it stands in the file.
+fn scan_fault(alloc: Global, source: &Source, fault: ScanFault) -> TreeFault
+    requires { HasScanFault fault source.now.bytes.items }
+    ensures { IsFileFault source.now result }
+{
+    if fault == ScanFault::Memory {
+        return TreeFault::Memory;
+    }
+    let at = position(source.bytes.as_slice(), scan_offset(fault));
+    match String::from_str(alloc, source.path.as_str()) {
+        Ok(path) => TreeFault::Scan { path, at, fault },
+        Err(_) => TreeFault::Memory,
+    }
+}
+
+/// A fault of the parser, with the place where it stands in the file.
+fn parse_fault(alloc: Global, source: &Source, fault: ParseFault) -> TreeFault
+    requires { HasParseFault fault source.now.bytes.items }
+    ensures { IsFileFault source.now result }
+{
+    if fault == ParseFault::Memory {
+        return TreeFault::Memory;
+    }
+    tokens_in_text();
+    let at = position(source.bytes.as_slice(), parse_offset(fault));
+    match String::from_str(alloc, source.path.as_str()) {
+        Ok(path) => TreeFault::Parse { path, at, fault },
+        Err(_) => TreeFault::Memory,
+    }
+}
+
+/// A name that is declared twice, with the place where that is so for the second time.
+fn scope_fault(alloc: Global, source: &Source, fault: ScopeFault) -> TreeFault
+    requires { HasScopeFault fault source.now.bytes.items }
+    ensures { IsFileFault source.now result }
+{
+    if fault == ScopeFault::Memory {
+        return TreeFault::Memory;
+    }
+    tokens_in_text();
+    let at = position(source.bytes.as_slice(), scope_offset(&fault));
+    match String::from_str(alloc, source.path.as_str()) {
+        Ok(path) => TreeFault::Scope { path, at, fault },
+        Err(_) => TreeFault::Memory,
+    }
+}
+
+/// The scopes of a file's module with this syntax tree, or the fault of its names.
+fn scopes_in(
+    alloc: Global,
+    source: &Source,
+    tokens: &Tokens,
+    module: &Module,
+) -> Result<Scopes, TreeFault>
+    requires spelled { IsOutcome source.now.bytes.items (Reads tokens.now) }
+    requires parsed { IsTheTree source.now.bytes.items tokens.now «module».now }
+    ensures scoped { IfOk result (HasScopes source.now) }
+    ensures fault { IfErr result (IsFileFault source.now) }
+{
+    match scopes(alloc, module, tokens, source.bytes.as_slice()) {
+        Ok(scopes) => Ok(scopes),
+        Err(fault) => Err(scope_fault(alloc, source, fault)),
+    }
+}
+
+/// The scopes of a file's module with these tokens, or the file's fault: that of its syntax tree or of its names.
+fn scopes_after(alloc: Global, source: &Source, tokens: &Tokens) -> Result<Scopes, TreeFault>
+    requires { IsOutcome source.now.bytes.items (Reads tokens.now) }
+    ensures scoped { IfOk result (HasScopes source.now) }
+    ensures fault { IfErr result (IsFileFault source.now) }
+{
+    match parse(alloc, source.bytes.as_slice(), tokens) {
+        Ok(module) => scopes_in(alloc, source, tokens, &module),
+        Err(fault) => Err(parse_fault(alloc, source, fault)),
+    }
+}
+
+/// The scopes of a file's module, or the file's fault: that of its tokens, of its syntax tree or of its names.
+pub(crate) fn scopes_of(alloc: Global, source: &Source) -> Result<Scopes, TreeFault>
+    ensures scoped { IfOk result (HasScopes source.now) }
+    ensures fault { IfErr result (IsFileFault source.now) }
+{
+    match scan(alloc, source.bytes.as_slice()) {
+        Ok(tokens) => scopes_after(alloc, source, &tokens),
+        Err(fault) => Err(scan_fault(alloc, source, fault)),
+    }
+}

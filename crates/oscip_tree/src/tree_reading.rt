@@ -1,0 +1,101 @@
+//! A tree of Oberon-07 modules, read from the bytes of its files, and the network of its imports.
+ghost use Rattle.std.specs.Prelude.{◌≡◌, IfErr, IfOk, List, length, map};
+ghost use Rattle.cut_net.specs.Network.{texts};
+ghost use Rattle.ob_imports.specs.Files.{file_of as parsed_file, files_of as parsed_files};
+ghost use Rattle.oscip_tree.specs.Trees.{IsAccepted, IsNetOfTree, IsTreeFault, ModuleFile, file_of, files_of};
+ghost use Rattle.oscip_tree.specs.TreeReading.{AreRead, AreScopesOf, IsTreeOf};
+
+use crate::module_file::scopes_of;
+use crate::{Source, TreeFault};
+use cut_net::{Net, NetFault};
+use ob_imports::{Graph, Parsed, graph};
+use ob_scope::Scopes;
+use ob_scope::laws::{identifiers_are_names, one_weight, weight_of_aliases};
+use std::alloc::{AllocError, Global};
+
+/// The graph of the imports of a tree, and the scopes of its modules by their numbers there.
+#[derive(Drop)]
+pub(crate) struct Tree {
+    pub(crate) graph: Graph,
+    pub(crate) scopes: Vec<Scopes>,
+}
+
+/// The scopes of each file, or the fault of the first file that has one.
+fn all_scopes(alloc: Global, sources: &[Source]) -> Result<Vec<Scopes>, TreeFault>
+    ensures read { IfOk result (λ v. (files : List ModuleFile) × AreRead sources.now files v.items) }
+    ensures fault { IfErr result (IsTreeFault sources.now) }
+{
+    let mut all = Vec::new(alloc);
+    for source in sources {
+        all.push(scopes_of(alloc, source)?)?;
+    }
+    Ok(all)
+}
+
+/// The names of the modules that a module imports, in the order of its import items.
+fn imports_of(alloc: Global, scopes: &Scopes) -> Result<Vec<String>, AllocError>
+    ensures { IfOk result (λ v. texts v.items ≡ map (λ a. a.imported) scopes.now.aliases) }
+{
+    let mut names = Vec::new(alloc);
+    for alias in scopes.aliases() {
+        names.push(String::from_str(alloc, alias.module.as_str())?)?;
+    }
+    Ok(names)
+}
+
+/// What the graph of imports is told of a file.
+fn parsed_of(alloc: Global, source: &Source, scopes: &Scopes) -> Result<Parsed, AllocError>
+    ensures { IfOk result (λ p. (file : ModuleFile) → IsAccepted source.now file → AreScopesOf file scopes.now → parsed_file p ≡ file_of file) }
+{
+    let path = String::from_str(alloc, source.path.as_str())?;
+    let name = String::from_str(alloc, scopes.name())?;
+    let imports = imports_of(alloc, scopes)?;
+    Ok(Parsed {
+        path,
+        name,
+        imports,
+    })
+}
+
+fn all_parsed(
+    alloc: Global,
+    sources: &[Source],
+    scopes: &[Scopes],
+) -> Result<Vec<Parsed>, AllocError>
+    requires { length scopes.now ≡ length sources.now }
+    ensures { IfOk result (λ v. (files : List ModuleFile) → AreRead sources.now files scopes.now → parsed_files v.items ≡ files_of files) }
+{
+    let mut all = Vec::new(alloc);
+    for i in 0..sources.len() {
+        all.push(parsed_of(alloc, &sources[i], &scopes[i])?)?;
+    }
+    Ok(all)
+}
+
+/// The tree of the files: of the first file that has a fault its fault, or else that of the imports.
+pub(crate) fn read_tree(alloc: Global, sources: &[Source]) -> Result<Tree, TreeFault>
+    ensures tree { IfOk result (IsTreeOf sources.now) }
+    ensures fault { IfErr result (IsTreeFault sources.now) }
+{
+    let scopes = all_scopes(alloc, sources)?;
+    let parsed = all_parsed(alloc, sources, scopes.as_slice())?;
+    let graph = graph(alloc, parsed.as_slice())?;
+    Ok(Tree { graph, scopes })
+}
+
+/// The network of the imports of a tree, each with how many qualified names cross it.
+pub fn net_of(alloc: Global, sources: &[Source]) -> Result<Net, TreeFault>
+    ensures net { IfOk result (IsNetOfTree sources.now) }
+    ensures fault { IfErr result (IsTreeFault sources.now) }
+{
+    let tree = read_tree(alloc, sources)?;
+    tree.graph.keeps();
+    identifiers_are_names();
+    weight_of_aliases();
+    one_weight();
+    match Net::from_graph(alloc, &tree.graph, tree.scopes.as_slice()) {
+        Ok(net) => Ok(net),
+        Err(NetFault::Memory) => Err(TreeFault::Memory),
+        Err(_) => unreachable!(),
+    }
+}
