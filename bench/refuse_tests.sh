@@ -2,7 +2,7 @@
 # Runs the tests of workers and gates before any proof, once for each N, with the Nth allocation of each test refused, and says how they ended.
 # Each has to pass, to end for want of memory, or, where a gate orders its workers' turns, to miss the turns of a worker that ended.
 # In the test of one worker alone the 40th allocation is the growth of the history: there it passes though the worker takes no step.
-# A run takes half a minute, most of which is the build. Usage: bench/refuse_tests.sh [FIRST LAST], which are 38 and 46 if left out.
+# A run takes minutes. Usage: bench/refuse_tests.sh [FIRST LAST], which are 38 and 46 if left out.
 set -eu
 cd "$(dirname "$0")/../crates/cut_tests"
 told=$(mktemp)
