@@ -1,5 +1,5 @@
 #!/usr/bin/env bash
-# Times the gate by crate: bench/gate.sh [proof] [tests] [edits] [CRATE ..]
+# Times the tests' command by crate, or the proofs of crates by function: bench/gate.sh run | all | CRATE ..
 set -eu
 cd "$(dirname "$0")/.."
 copy=$(mktemp -d)
