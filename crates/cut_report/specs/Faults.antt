@@ -1,7 +1,7 @@
 -- The faults of reports that come from a sink.
 use Rattle.std.specs.Prelude.{Bool, true, false}
-use Rattle.cut_report.specs.declared.sink.SinkFault.{SinkFault}
-use Rattle.cut_report.specs.declared.sink.SinkFault.TheVariants as sink_faults
+use Rattle.byte_sink.specs.declared.sink.SinkFault.{SinkFault}
+use Rattle.byte_sink.specs.declared.sink.SinkFault.TheVariants as sink_faults
 use Rattle.cut_report.specs.declared.fault.ReportFault.{ReportFault}
 use Rattle.cut_report.specs.declared.fault.ReportFault.TheVariants as faults
 

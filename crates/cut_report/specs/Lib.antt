@@ -1,4 +1,3 @@
-pub mod Sinks
 pub mod Faults
 pub mod Lines
 pub mod Drafts

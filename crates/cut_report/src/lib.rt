@@ -1,5 +1,5 @@
-//! Reports on cuts: their one spelling, the reader and the writer of it, and the sinks that take bytes.
-//! Stands on `cut_net`, with `thiserror` for its faults.
+//! Reports on cuts: their one spelling, the reader and the writer of it.
+//! Stands on `cut_net` and on `byte_sink`, whose names it gives out again, with `thiserror` for its faults.
 //! Its contract: a report is put as its one text, or a front of it; what is read is exactly what the text says, or its first fault; what was written is read again.
 #![tactic(auto)]
 
@@ -9,11 +9,10 @@ pub mod laws;
 mod line;
 mod reader;
 mod report;
-mod sink;
 mod writer;
 
+pub use byte_sink::{Sink, SinkFault, ToWrite, put_all};
 pub use fault::ReportFault;
 pub use reader::read;
 pub use report::Report;
-pub use sink::{Sink, SinkFault, ToWrite, put_all};
 pub use writer::write;

@@ -8,7 +8,7 @@ ghost use Rattle.cut_net.specs.WellFormed.{AreBetween};
 ghost use Rattle.cut_report.specs.Faults.{is_failure, is_of_sink};
 ghost use Rattle.cut_report.specs.Lines.{line_seen};
 ghost use Rattle.cut_report.specs.Reading.{said_of};
-ghost use Rattle.cut_report.specs.Sinks.{failures_by, PutsBy};
+ghost use Rattle.byte_sink.specs.Sinks.{failures_by, PutsBy};
 
 use crate::line::Line;
 use crate::{ReportFault, Sink, put_all};

@@ -1,6 +1,6 @@
 //! Sinks that take all, some and nothing.
 
-use cut_report::{Sink, SinkFault, ToWrite, put_all};
+use byte_sink::{Sink, SinkFault, ToWrite, put_all};
 use std::io;
 use std::process::Abort;
 use std::test::Fail;

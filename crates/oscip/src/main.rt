@@ -6,7 +6,7 @@
 ghost use Rattle.std.specs.Prelude.{◌≡◌, true, false};
 ghost use Rattle.oscip_job.specs.Jobs.{is_tree_job, HasWorkers};
 
-use cut_report::ToWrite;
+use byte_sink::ToWrite;
 use cut_solve::OpenGate;
 use oscip_job::{Job, JobFault, job_of};
 use oscip_run::{RunFault, answer, answer_tree, fault_line, read_file, sources_of, status_of};

@@ -13,12 +13,12 @@ use Rattle.cut_net.specs.declared.fault.NetFault.TheVariants as net
 use Rattle.cut_net.specs.ReportLines.{IsReportOutcome}
 use Rattle.cut_net.specs.ReportLines as reports
 use Rattle.cut_report.specs.Reading.{outcome_of as report_outcome_of, entry_of}
-use Rattle.cut_report.specs.Sinks.{AppendsFront}
+use Rattle.byte_sink.specs.Sinks.{AppendsFront}
 use Rattle.cut_report.specs.declared.report.Report.{Report as ReportRead}
 use Rattle.cut_report.specs.declared.fault.ReportFault.{ReportFault}
 use Rattle.cut_report.specs.declared.fault.ReportFault.TheVariants as report
-use Rattle.cut_report.specs.declared.sink.SinkFault.{SinkFault}
-use Rattle.cut_report.specs.declared.sink.SinkFault.TheVariants as sink
+use Rattle.byte_sink.specs.declared.sink.SinkFault.{SinkFault}
+use Rattle.byte_sink.specs.declared.sink.SinkFault.TheVariants as sink
 use Rattle.cut_check.specs.declared.verdict.Verdict.{Verdict}
 use Rattle.cut_check.specs.declared.verdict.Verdict.TheVariants.{Yes, NoSuchImport, StillChain, WrongWeight, OverWeight, NotKept, WrongValue}
 use Rattle.cut_check.specs.Verdicts.{IsVerdict}

@@ -7,7 +7,7 @@ use Rattle.cut_net.specs.ReportText.{report_text}
 use Rattle.cut_net.specs.Said.{Said, CutOf}
 use Rattle.cut_net.specs.WellFormed.{IsNetwork}
 use Rattle.cut_report.specs.Faults.{is_of_sink}
-use Rattle.cut_report.specs.Sinks.{PutsBy}
+use Rattle.byte_sink.specs.Sinks.{PutsBy}
 use Rattle.cut_report.specs.declared.fault.ReportFault.{ReportFault}
 use Rattle.cut_report.specs.declared.fault.ReportFault.TheVariants as report
 use Rattle.cut_solve.specs.Solving.{IsSolved, IsSolveOutcome}

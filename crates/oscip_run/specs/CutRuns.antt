@@ -7,7 +7,7 @@ use Rattle.cut_net.specs.Cuts.{ArePrinted, IsCheapest, IsFlow}
 use Rattle.cut_net.specs.Lines.{flow_by, removed_by, AreInOrder, AreWeights}
 use Rattle.cut_net.specs.ReportText.{ReportText}
 use Rattle.cut_net.specs.Said.{CutOf}
-use Rattle.cut_report.specs.Sinks.{AppendsFront}
+use Rattle.byte_sink.specs.Sinks.{AppendsFront}
 use Rattle.cut_solve.specs.Solving.{outcome_of as solve_outcome_of, IsSolveOutcome, SolveOutcome}
 use Rattle.oscip_run.specs.declared.fault.RunFault.{RunFault}
 use Rattle.oscip_run.specs.declared.fault.RunFault.TheVariants.{CannotRead, CannotWrite, Tree, Net, Report, Solve, Device, Memory}

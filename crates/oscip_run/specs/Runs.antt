@@ -10,7 +10,7 @@ use Rattle.cut_net.specs.Said.{Entry}
 use Rattle.cut_net.specs.ReportLines.{IsReportOutcome}
 use Rattle.cut_net.specs.ReportLines as reports
 use Rattle.cut_report.specs.Reading.{outcome_of as report_outcome_of}
-use Rattle.cut_report.specs.Sinks.{AppendsFront}
+use Rattle.byte_sink.specs.Sinks.{AppendsFront}
 use Rattle.cut_check.specs.declared.verdict.Verdict.{Verdict}
 use Rattle.cut_check.specs.declared.verdict.Verdict.TheVariants.{Yes, NoSuchImport, StillChain, WrongWeight, OverWeight, NotKept, WrongValue}
 use Rattle.cut_check.specs.Verdicts.{IsVerdict}

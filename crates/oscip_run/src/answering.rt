@@ -1,6 +1,6 @@
 //! What a job does with the bytes of its files.
 ghost use Rattle.std.specs.Prelude.{◌≡◌, false, true};
-ghost use Rattle.cut_report.specs.Sinks.{failures_by};
+ghost use Rattle.byte_sink.specs.Sinks.{failures_by};
 ghost use Rattle.oscip_run.specs.Faults.{is_device};
 ghost use Rattle.oscip_run.specs.JobRuns.{IsJobRun};
 ghost use Rattle.oscip_job.specs.Jobs.{is_tree_job, HasWorkers};
@@ -9,7 +9,7 @@ ghost use Rattle.oscip_tree.specs.Sources.{AreInOrder};
 ghost use Rattle.oscip_tree.specs.Trees.{IsNetOfTree};
 
 use crate::{RunFault, check_net_bytes, check_tree, cut_net_bytes, cut_tree};
-use cut_report::Sink;
+use byte_sink::Sink;
 use cut_solve::Gate;
 use oscip_job::Job;
 use oscip_tree::Source;

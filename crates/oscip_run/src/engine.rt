@@ -2,7 +2,7 @@
 ghost use Rattle.std.specs.Prelude.{◌≡◌, IfOk, IsSome};
 ghost use Rattle.std.specs.String.{string_bytes};
 ghost use Rattle.cut_net.specs.Network.{index_of, name_of};
-ghost use Rattle.cut_report.specs.Sinks.{failures_by};
+ghost use Rattle.byte_sink.specs.Sinks.{failures_by};
 ghost use Rattle.oscip_run.specs.Faults.{is_device};
 ghost use Rattle.oscip_run.specs.CutRuns.{IsCutRun};
 ghost use Rattle.oscip_job.specs.Jobs.{MayWork};
@@ -11,9 +11,10 @@ ghost use Rattle.oscip_tree.specs.Sources.{AreInOrder};
 ghost use Rattle.oscip_tree.specs.Trees.{IsNetOfTree};
 
 use crate::RunFault;
+use byte_sink::{Sink, put_all};
 use cut_check::{Verdict, check};
 use cut_net::Net;
-use cut_report::{Sink, put_all, write};
+use cut_report::write;
 use cut_solve::{Gate, solve};
 use oscip_tree::{Source, net_of};
 use std::alloc::{AllocError, Global};

@@ -3,8 +3,9 @@ ghost use Rattle.std.specs.Prelude.{◌≡◌, ◌++◌, IfOk, codes};
 ghost use Rattle.std.specs.String.{string_bytes};
 ghost use Rattle.oscip_run.specs.Faults.{fault_text, net_status, net_fault_text, report_status, report_fault_text, solve_fault_text, solve_status, status_number, tree_status};
 
+use byte_sink::SinkFault;
 use cut_net::NetFault;
-use cut_report::{ReportFault, SinkFault};
+use cut_report::ReportFault;
 use cut_solve::SolveFault;
 use oscip_tree::{TreeFault, after_spaces, tree_fault_text, wants_memory};
 use std::alloc::{AllocError, Global};

@@ -1,6 +1,6 @@
 //! Jobs, each answered by its engine.
 use crate::runs::{FOUR, FOUR_CUT, SIX, SIX_CUT, check_end, sources};
-use cut_report::Sink;
+use byte_sink::Sink;
 use cut_solve::{Gate, OpenGate};
 use oscip_job::Job;
 use oscip_run::{answer, answer_tree};

@@ -1,5 +1,5 @@
 //! Runs of the engines over any sink, each told as one text: how it ended.
-use cut_report::Sink;
+use byte_sink::Sink;
 use cut_solve::OpenGate;
 use oscip_run::{
     RunFault, check_net_bytes, check_tree, cut_net_bytes, cut_tree, fault_line, status_of,

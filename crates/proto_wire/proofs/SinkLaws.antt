@@ -1,8 +1,8 @@
 -- What a sink takes of two texts, one after the other.
 use Rattle.std.proofs.Common.{◌≡◌, ℕ, List, ◌++◌, Option, Some, None, Result, Ok, Err, sym, ap, ◌∙◌, append_assoc}
 use Rattle.std.specs.Io.KnownBytes.{Appends}
-use Rattle.cut_report.specs.declared.sink.SinkFault.{SinkFault}
-use Rattle.cut_report.specs.Sinks.{AppendsFront, Puts}
+use Rattle.byte_sink.specs.declared.sink.SinkFault.{SinkFault}
+use Rattle.byte_sink.specs.Sinks.{AppendsFront, Puts}
 
 -- known bytes that grow twice
 Appends-then : (old between new : Option (List ℕ)) (first second : List ℕ) → Appends old between first → Appends between new second → Appends old new (first ++ second)

@@ -1,8 +1,8 @@
 -- What a writer over a sink answers.
 use Rattle.std.specs.Prelude.{Bool, true, false, List, ℕ, Option, Some, None, Result, Ok, Err}
-use Rattle.cut_report.specs.declared.sink.SinkFault.{SinkFault}
-use Rattle.cut_report.specs.declared.sink.SinkFault.TheVariants as sink_faults
-use Rattle.cut_report.specs.Sinks.{PutsBy}
+use Rattle.byte_sink.specs.declared.sink.SinkFault.{SinkFault}
+use Rattle.byte_sink.specs.declared.sink.SinkFault.TheVariants as sink_faults
+use Rattle.byte_sink.specs.Sinks.{PutsBy}
 use Rattle.proto_wire.specs.declared.fault.WireFault.{WireFault}
 use Rattle.proto_wire.specs.declared.fault.WireFault.TheVariants as faults
 

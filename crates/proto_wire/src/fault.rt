@@ -1,6 +1,6 @@
 //! Why wire bytes could not be read or written.
 
-use cut_report::SinkFault;
+use byte_sink::SinkFault;
 use std::alloc::{AllocError, AllocFailed};
 use thiserror::Error;
 

@@ -1,5 +1,5 @@
 //! The wire format of Protocol Buffers: its records, read and written, and messages that are taken in record by record.
-//! Stands on the `Sink` of `cut_report`, with `thiserror` for its faults.
+//! Stands on the `Sink` of `byte_sink`, with `thiserror` for its faults.
 //! Its contract: bytes are read as the records in a row that they are, or their first fault is told; a record is put whole, or a front of it; what was written is read again.
 #![tactic(auto)]
 

@@ -1,14 +1,14 @@
 //! Records, put into a sink one after the other.
 ghost use Rattle.std.specs.Prelude.{◌≡◌, IfNone, IfOk, IfSome, IsOkUnless};
 ghost use Rattle.std.specs.Result.{result_err};
-ghost use Rattle.cut_report.specs.Sinks.{failures_after, failures_by, Puts};
+ghost use Rattle.byte_sink.specs.Sinks.{failures_after, failures_by, Puts};
 ghost use Rattle.proto_wire.specs.Records.{IsField};
 ghost use Rattle.proto_wire.specs.Writing.{head_of, number_field, packing, payload_field, spelled};
 ghost use Rattle.proto_wire.specs.Writers.{answer_of, is_failure, PutsRecord};
 
 use crate::WireFault;
 use crate::encoding::{packing, push_head, push_number};
-use cut_report::{Sink, SinkFault, put_all};
+use byte_sink::{Sink, SinkFault, put_all};
 use std::alloc::Global;
 use std::marker::Model;
 
@@ -75,7 +75,7 @@ pub struct Writer {
 
 impl Model for Writer {
     ghost use Rattle.std.specs.Prelude.{Option};
-    ghost use Rattle.cut_report.specs.declared.sink.SinkFault.{SinkFault};
+    ghost use Rattle.byte_sink.specs.declared.sink.SinkFault.{SinkFault};
 
     ghost Value = { Option SinkFault };
 

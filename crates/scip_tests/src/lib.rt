@@ -1,5 +1,5 @@
 //! Tests of symbols and of the wire format, from outside.
-//! Stands on `scip_symbol` and `proto_wire`, on the `Sink` of `cut_report`, and on `test_doubles` for a sink that fails.
+//! Stands on `scip_symbol` and `proto_wire`, on the `Sink` of `byte_sink`, and on `test_doubles` for a sink that fails.
 //! Its contract: none; it has nothing but tests.
 #![tactic(auto)]
 

@@ -1,6 +1,6 @@
 //! A sink that fails.
 
-use cut_report::{Sink, SinkFault};
+use byte_sink::{Sink, SinkFault};
 use std::alloc::Global;
 
 /// Takes one byte at a time, fails from its last put on, and counts the puts of no bytes.

@@ -1,7 +1,7 @@
 //! Records, put into sinks.
 use super::{show_fault, told};
 use crate::told::is_told;
-use cut_report::Sink;
+use byte_sink::Sink;
 use proto_wire::{WireFault, Writer};
 use std::alloc::{AllocError, Global};
 use std::process::Abort;

@@ -1,7 +1,7 @@
 use Rattle.std.proofs.Common.{◌≡◌, ℕ, ◌-◌, List, ◌++◌, take, drop, length, Option, Some, None, append_assoc, rules, arith}
 use Rattle.std.proofs.lemmas.List.{take-append-drop, take_all, length-drop}
 use Rattle.std.specs.Io.KnownBytes.{Appends}
-use Rattle.cut_report.proofs.sink.put_all.Goals as goal
+use Rattle.byte_sink.proofs.sink.put_all.Goals as goal
 
 -- known bytes that grow twice
 Appends-then : (a b c : Option (List ℕ)) (x y : List ℕ) → Appends a b x → Appends b c y → Appends a c (x ++ y)

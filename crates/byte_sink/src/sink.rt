@@ -1,6 +1,6 @@
 //! Where bytes go, and what became of them.
 ghost use Rattle.std.specs.Prelude.{◌≡◌, ℕ, ◌<◌, ◌≤◌, List, Option, Some, length, IfOk};
-ghost use Rattle.cut_report.specs.Sinks.{failures_after, Puts, Takes};
+ghost use Rattle.byte_sink.specs.Sinks.{failures_after, Puts, Takes};
 
 use std::io;
 use thiserror::Error;

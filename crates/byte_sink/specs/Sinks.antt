@@ -1,8 +1,8 @@
 -- What a sink has taken, and how often it failed.
 use Rattle.std.specs.Prelude.{◌≡◌, ℕ, ◌+◌, ◌-◌, ◌^◌, min, Bool, true, false, if◌then◌else◌, List, ◌++◌, take, Option, Result, Ok, Err, MatchBool, MatchResult}
 use Rattle.std.specs.Io.KnownBytes.{Appends, Keeps}
-use Rattle.cut_report.specs.declared.sink.SinkFault.{SinkFault}
-use Rattle.cut_report.specs.declared.sink.SinkFault.TheVariants as faults
+use Rattle.byte_sink.specs.declared.sink.SinkFault.{SinkFault}
+use Rattle.byte_sink.specs.declared.sink.SinkFault.TheVariants as faults
 
 -- one failure more; at 2 ^ 64 - 1 the count stays, and passes as risen
 abbrev pub one_more : ℕ → ℕ
