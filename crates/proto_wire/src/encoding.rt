@@ -1,10 +1,10 @@
 //! Keys, numbers and payloads as bytes: the one place where they are made.
-ghost use Rattle.std.specs.Prelude.{◌≡◌, ◌<◌, ◌++◌, OnOk, IfOk};
+ghost use Rattle.std.specs.Prelude.{◌≡◌, ◌<◌, ◌++◌, OnOk};
 ghost use Rattle.proto_wire.specs.Varints.{varint};
 ghost use Rattle.proto_wire.specs.Writing.{bits_of, head_of, key_of, number_field, packing, payload_field, spelled};
 
 use crate::varint::push_varint;
-use std::alloc::{AllocError, Global};
+use std::alloc::AllocError;
 
 /// Puts the key of this field and wire type at the end.
 fn push_key(out: &mut Vec<u8>, field: u32, kind: u64) -> Result<(), AllocError>
@@ -45,13 +45,12 @@ pub(crate) fn bits_of(number: i32) -> u64
     i64::from(number).cast_unsigned()
 }
 
-/// Numbers in a row, each a varint.
-pub(crate) fn packing(alloc: Global, numbers: &[i32]) -> Result<Vec<u8>, AllocError>
-    ensures { IfOk result (λ v. v.items ≡ packing numbers.now) }
+/// Puts numbers in a row at the end, each a varint.
+pub(crate) fn push_packing(out: &mut Vec<u8>, numbers: &[i32]) -> Result<(), AllocError>
+    ensures { OnOk result (out.new.items ≡ out.old.items ++ packing numbers.now) }
 {
-    let mut payload = Vec::new(alloc);
     for number in numbers {
-        push_varint(&mut payload, bits_of(*number))?;
+        push_varint(out, bits_of(*number))?;
     }
-    Ok(payload)
+    Ok(())
 }

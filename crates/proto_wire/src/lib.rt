@@ -9,6 +9,7 @@ mod field;
 pub mod laws;
 mod message;
 mod record;
+mod scratch;
 mod varint;
 mod writer;
 mod writing;
@@ -16,7 +17,8 @@ mod writing;
 pub use fault::WireFault;
 pub use field::{packed_values, take_number, take_numbers, take_text, take_texts};
 pub use message::{Message, merge_message, read_message, take_messages};
-pub use record::{WireRecord, WireValue, records};
+pub use record::{WireRecord, WireValue, record_at_front, records};
+pub use scratch::Scratch;
 pub use writer::Writer;
 pub use writing::{
     Written, put_message, put_messages, put_number, put_packed, put_text, put_texts,

@@ -145,10 +145,7 @@ fn first_record(at: usize, bytes: &[u8]) -> Result<(WireRecord, &[u8], &[u8]), W
 /// where its wire type has no length; and the bytes behind it.
 /// Refuses with `Truncated`, `LongVarint`, `ZeroField` and `Group`, with that offset: what comes first in the record is told.
 /// Protocol Buffers encoding, "Message Structure".
-pub(crate) fn record_at_front(
-    at: usize,
-    bytes: &[u8],
-) -> Result<(WireRecord, &[u8], &[u8]), WireFault>
+pub fn record_at_front(at: usize, bytes: &[u8]) -> Result<(WireRecord, &[u8], &[u8]), WireFault>
     requires { at + length bytes.now < 2 ^ 64 }
     // It is the record that stands in front, with what follows it, or the fault of the one that is wrong.
     ensures exact { Tells piece_view result (IsFirst at bytes.now) }

@@ -7,7 +7,7 @@ ghost use Rattle.proto_wire.specs.Writing.{head_of, number_field, packing, paylo
 ghost use Rattle.proto_wire.specs.Writers.{answer_of, is_failure, PutsRecord};
 
 use crate::WireFault;
-use crate::encoding::{packing, push_head, push_number};
+use crate::encoding::{push_head, push_number, push_packing};
 use byte_sink::{Sink, SinkFault, put_all};
 use std::alloc::Global;
 use std::marker::Model;
@@ -62,7 +62,8 @@ fn put_numbers<S: Sink>(
     ensures puts { Puts (S.taken sink.old) (S.taken sink.new) result (spelled (payload_field field (packing numbers.now))) }
     ensures failures { S.failures sink.new ≡ failures_after result (S.failures sink.old) }
 {
-    let payload = packing(alloc, numbers).map_err(|_| SinkFault::Memory)?;
+    let mut payload = Vec::new(alloc);
+    push_packing(&mut payload, numbers).map_err(|_| SinkFault::Memory)?;
     put_payload(alloc, field, &payload, sink)
 }
 

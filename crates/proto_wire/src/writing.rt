@@ -1,11 +1,12 @@
 //! The fields of a message as records, one after the other. Zeros, empty texts and empty lists of numbers are left out.
-ghost use Rattle.std.specs.Prelude.{◌≡◌, ◌++◌, ℕ, List, map, OnOk, IfOk};
+ghost use Rattle.std.specs.Prelude.{◌≡◌, ◌++◌, ℕ, List, map, OnOk};
 ghost use Rattle.std.specs.Option.{option_to_list};
 ghost use Rattle.std.specs.String.{string_bytes};
-ghost use Rattle.proto_wire.specs.Writing.{number_fields, packed_fields, payload_fields, spelling, text_fields};
+ghost use Rattle.proto_wire.specs.Writing.{number_fields, packed_fields, payload_field, payload_fields, spelled, spelling, text_fields};
 
-use crate::encoding::{bits_of, packing, push_number, push_payload};
-use std::alloc::{AllocError, Global};
+use crate::encoding::{bits_of, push_number, push_packing, push_payload};
+use crate::scratch::Scratch;
+use std::alloc::AllocError;
 
 /// Puts a number behind the bytes as a field of this number, unless it is 0. A negative one takes ten bytes.
 /// Where memory is refused, nothing is said of the bytes.
@@ -32,7 +33,7 @@ pub fn put_text(out: &mut Vec<u8>, field: u32, text: &str) -> Result<(), AllocEr
 /// Puts numbers behind the bytes as one packed field of this number, unless there are none.
 /// Where memory is refused, nothing is said of the bytes.
 pub fn put_packed(
-    alloc: Global,
+    scratch: &mut Scratch,
     out: &mut Vec<u8>,
     field: u32,
     numbers: &[i32],
@@ -42,8 +43,10 @@ pub fn put_packed(
     if numbers.is_empty() {
         return Ok(());
     }
-    let payload = packing(alloc, numbers)?;
-    push_payload(out, field, &payload)
+    let mut packed = scratch.take();
+    push_packing(&mut packed, numbers)?;
+    push_payload(out, field, &packed)?;
+    scratch.give_back(packed)
 }
 
 /// A message that is written as one list of bytes.
@@ -51,15 +54,30 @@ pub trait Written {
     /// The bytes of the message.
     ghost written: { Self → List ℕ };
 
-    /// The bytes of the message. Refuses where memory is refused.
-    fn bytes(&self, alloc: Global) -> Result<Vec<u8>, AllocError>
-        ensures { IfOk result (λ v. v.items ≡ written self.now) };
+    /// Puts the bytes of the message behind others. Where memory is refused, nothing is said of the bytes.
+    fn push_into(&self, scratch: &mut Scratch, out: &mut Vec<u8>) -> Result<(), AllocError>
+        ensures { OnOk result (out.new.items ≡ out.old.items ++ written self.now) };
+}
+
+/// Puts a record with the bytes of this message at the end. Its length is known when they are.
+fn push_message<M: Written>(
+    scratch: &mut Scratch,
+    out: &mut Vec<u8>,
+    field: u32,
+    message: &M,
+) -> Result<(), AllocError>
+    ensures { OnOk result (out.new.items ≡ out.old.items ++ spelled (payload_field field (M.written message.now))) }
+{
+    let mut payload = scratch.take();
+    message.push_into(scratch, &mut payload)?;
+    push_payload(out, field, &payload)?;
+    scratch.give_back(payload)
 }
 
 /// Puts messages behind the bytes as fields of this number, empty ones too.
 /// Where memory is refused, nothing is said of the bytes.
 pub fn put_messages<M: Written>(
-    alloc: Global,
+    scratch: &mut Scratch,
     out: &mut Vec<u8>,
     field: u32,
     messages: &[M],
@@ -67,8 +85,7 @@ pub fn put_messages<M: Written>(
     ensures { OnOk result (out.new.items ≡ out.old.items ++ spelling (payload_fields field (map M.written messages.now))) }
 {
     for message in messages {
-        let payload = message.bytes(alloc)?;
-        push_payload(out, field, &payload)?;
+        push_message(scratch, out, field, message)?;
     }
     Ok(())
 }
@@ -76,7 +93,7 @@ pub fn put_messages<M: Written>(
 /// Puts a message behind the bytes as a field of this number, if there is one, an empty one too.
 /// Where memory is refused, nothing is said of the bytes.
 pub fn put_message<M: Written>(
-    alloc: Global,
+    scratch: &mut Scratch,
     out: &mut Vec<u8>,
     field: u32,
     message: &Option<M>,
@@ -85,10 +102,7 @@ pub fn put_message<M: Written>(
 {
     match message {
         None => Ok(()),
-        Some(there) => {
-            let payload = there.bytes(alloc)?;
-            push_payload(out, field, &payload)
-        }
+        Some(there) => push_message(scratch, out, field, there),
     }
 }
 

@@ -1,6 +1,0 @@
-use Rattle.std.proofs.Common.{◌≡◌, take}
-use Rattle.proto_wire.specs.Writing.{packing}
-use Rattle.proto_wire.proofs.encoding.packing.Given as goal
-
-abbrev pub invariant-loop-number : goal.invariant-loop-number
-invariant-loop-number l = l.payload.items ≡ packing (take l.number-index l.numbers)
