@@ -13,24 +13,20 @@ use Rattle.scip_symbol.specs.SymbolTexts.{PlainDescriptor, PlainSymbol, Local, G
 use Rattle.scip_symbol.specs.Views.{plain_descriptors, plain_symbol}
 use Rattle.scip_symbol.specs.Reading.{after_bytes}
 use Rattle.scip_symbol.proofs.TextCuts.{after_bytes_some, not_word}
-use Rattle.scip_symbol.specs.Outcomes.{is_empty, has_empty, HasLocalScheme, begins_with_space, is_stop, is_wrong_part, wrong_part_of, is_wrong_descriptor, wrong_descriptor_of, IsWritable, IsWriteOutcome}
+use Rattle.scip_symbol.specs.Outcomes.{is_empty, has_empty, HasLocalScheme, begins_with_space, is_stop, is_wrong_part, wrong_part_of, is_wrong_descriptor, wrong_descriptor_of, AreOfMethods, IsWritable, IsWriteOutcome}
 
 -- ---- the type of descriptors keeps this
 
 abbrev AreKept : List PlainDescriptor → Type 0
 AreKept ds = AllByRecursion (λ d. IsOfMethod d.kind d.disambiguator) ds
 
-abbrev IsKept : PlainSymbol → Type 0
-IsKept (Local id) = Unit {0}
-IsKept (Global scheme m p v ds) = AreKept ds
-
 are_kept : (ds : List Descriptor) → AreKept (plain_descriptors ds)
 are_kept [] = tt
 are_kept (d ∷ ds) = (d.of_method, are_kept ds)
 
-is_kept : (s : Symbol) → IsKept (plain_symbol s)
-is_kept (symbols.Local id) = tt
-is_kept (symbols.Global scheme m p v ds) = are_kept ds.items
+pub are_of_methods : (s : Symbol) → AreOfMethods (plain_symbol s)
+are_of_methods (symbols.Local id) = tt
+are_of_methods (symbols.Global scheme m p v ds) = are_kept ds.items
 
 -- ---- what can be written has its plain text
 
@@ -77,7 +73,7 @@ is_optional part e =
     stop : (part : List ℕ) → is_stop part ≡ false → part ≡ codes "." → ⊥
     stop part e s = let k : is_stop (codes ".") ≡ false = subst (λ (x : List ℕ). is_stop x ≡ false) s e in absurd cc
 
-pub writable_text : (s : PlainSymbol) → IsKept s → IsWritable s → SymbolText s (plain_text s)
+pub writable_text : (s : PlainSymbol) → AreOfMethods s → IsWritable s → SymbolText s (plain_text s)
 writable_text (Local id) k w =
     let simple = none_from (not (are_simple id)) 0 None w.descriptors in
     (record { some = some_of id w.no_empty; simple = not-false (are_simple id) simple.0 }, refl)
@@ -100,19 +96,22 @@ writable_text (Global scheme m p v ds) k w =
       whole = refl;
     }
 
+pub writable_outcome : (s : PlainSymbol) → AreOfMethods s → IsWritable s → IsWriteOutcome s (Ok (plain_text s))
+writable_outcome s k w = (writable_text s k w, refl)
+
 pub symbol_text : (s : Symbol) → IsWritable (plain_symbol s) → SymbolText (plain_symbol s) (plain_text (plain_symbol s))
-symbol_text s w = writable_text (plain_symbol s) (is_kept s) w
+symbol_text s w = writable_text (plain_symbol s) (are_of_methods s) w
 
 -- ---- every symbol answers something
 
 abbrev SomeOutcome : PlainSymbol → Type 0
 SomeOutcome s = (o : Result (List ℕ) SymbolFault) × IsWriteOutcome s o
 
-by_descriptors : (s : PlainSymbol) (at : Option ℕ) → IsKept s → has_empty s ≡ false → (HasLocalScheme s → ⊥) → wrong_part_of s ≡ None → wrong_descriptor_of s ≡ at → SomeOutcome s
+by_descriptors : (s : PlainSymbol) (at : Option ℕ) → AreOfMethods s → has_empty s ≡ false → (HasLocalScheme s → ⊥) → wrong_part_of s ≡ None → wrong_descriptor_of s ≡ at → SomeOutcome s
 by_descriptors s None k e l p d = (Ok (plain_text s), (writable_text s k (record { no_empty = e; not_local = l; parts = p; descriptors = d }), refl))
 by_descriptors s (Some at) k e l p d = (Err (faults.BadDescriptor at), (e, l, p, d))
 
-by_part : (s : PlainSymbol) (part : Option ℕ) → IsKept s → has_empty s ≡ false → (HasLocalScheme s → ⊥) → wrong_part_of s ≡ part → SomeOutcome s
+by_part : (s : PlainSymbol) (part : Option ℕ) → AreOfMethods s → has_empty s ≡ false → (HasLocalScheme s → ⊥) → wrong_part_of s ≡ part → SomeOutcome s
 by_part s None k e l p = by_descriptors s (wrong_descriptor_of s) k e l p refl
 by_part s (Some part) k e l p = (Err (faults.BadPart part), (e, l, p))
 
@@ -124,7 +123,7 @@ has_local_or_not (Global scheme m p v ds) = go (after_bytes (codes "local") sche
     go (Some rest) e = inl (rest, after_bytes_some (codes "local") scheme rest e)
     go None e = inr (λ l. not_word (codes "local") scheme e l.0 l.1)
 
-some_writing : (s : PlainSymbol) → IsKept s → SomeOutcome s
+some_writing : (s : PlainSymbol) → AreOfMethods s → SomeOutcome s
 some_writing s k =
     elim (cases_Bool (has_empty s)) [
       | inl e ↦ (Err faults.Empty, e)
@@ -135,4 +134,4 @@ some_writing s k =
     ]
 
 pub symbol_outcome : (s : Symbol) → (o : Result (List ℕ) SymbolFault) × IsWriteOutcome (plain_symbol s) o
-symbol_outcome s = some_writing (plain_symbol s) (is_kept s)
+symbol_outcome s = some_writing (plain_symbol s) (are_of_methods s)

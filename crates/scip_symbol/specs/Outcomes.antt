@@ -5,7 +5,7 @@ use Rattle.scip_symbol.specs.declared.kind.DescriptorKind.{DescriptorKind}
 use Rattle.scip_symbol.specs.declared.fault.SymbolFault.{SymbolFault}
 use Rattle.scip_symbol.specs.declared.fault.SymbolFault.TheVariants as faults
 use Rattle.scip_symbol.specs.Bytes.{IsNotFirst, IsUnended}
-use Rattle.scip_symbol.specs.SymbolTexts.{PlainDescriptor, PlainSymbol, Local, Global, is_simple, are_simple, opening, DescriptorText, DescriptorTexts, IsPart, ended_part, BeginsLocal, SymbolText, plain_text}
+use Rattle.scip_symbol.specs.SymbolTexts.{PlainDescriptor, PlainSymbol, Local, Global, is_simple, are_simple, opening, IsOfMethod, DescriptorText, DescriptorTexts, IsPart, ended_part, BeginsLocal, SymbolText, plain_text}
 
 -- ---- writing
 
@@ -53,6 +53,11 @@ is_wrong_descriptor d = not (are_simple d.disambiguator)
 abbrev pub wrong_descriptor_of : PlainSymbol → Option ℕ
 wrong_descriptor_of (Local id) = position_from (λ wrong. wrong) 0 (not (are_simple id) ∷ [])
 wrong_descriptor_of (Global scheme manager package_name version descriptors) = position_from is_wrong_descriptor 0 descriptors
+
+-- only descriptors of methods have a disambiguator, as the type of descriptors keeps it
+abbrev pub AreOfMethods : PlainSymbol → Type 0
+AreOfMethods (Local id) = Unit {0}
+AreOfMethods (Global scheme manager package_name version descriptors) = AllByRecursion (λ d. IsOfMethod d.kind d.disambiguator) descriptors
 
 -- nothing is refused in the symbol
 pub record IsWritable (s : PlainSymbol) : Type 0 where

@@ -4,7 +4,7 @@ ghost use Rattle.scip_symbol.specs.declared.fault.SymbolFault.{SymbolFault};
 ghost use Rattle.scip_symbol.specs.declared.symbol.Symbol.{Symbol};
 ghost use Rattle.scip_symbol.specs.SymbolTexts.{plain_text, PlainSymbol, SymbolText};
 ghost use Rattle.scip_symbol.specs.Views.{plain_symbol};
-ghost use Rattle.scip_symbol.specs.Outcomes.{IsReadOutcome, IsWriteOutcome};
+ghost use Rattle.scip_symbol.specs.Outcomes.{AreOfMethods, IsReadOutcome, IsWritable, IsWriteOutcome};
 
 /// At most one symbol has a text.
 pub fn one_symbol()
@@ -40,6 +40,15 @@ pub fn some_writing()
 /// A symbol answers at most one thing: its plain text, or a refusal. So a symbol that has a text isn't refused.
 pub fn one_writing()
     ensures { (s : PlainSymbol) (o p : Result (List ℕ) SymbolFault) → IsWriteOutcome s o → IsWriteOutcome s p → o ≡ p }
+{}
+
+/// What is written: a symbol in which nothing is refused answers its plain text, and only such a symbol does. So where a caller
+/// knows that nothing is refused, `write` answers the text, unless memory runs out. The type of descriptors keeps that only those
+/// of methods have a disambiguator.
+pub fn what_is_writable_is_written()
+    ensures written { (s : PlainSymbol) → AreOfMethods s → IsWritable s → IsWriteOutcome s (Ok (plain_text s)) }
+    ensures kept { (s : Symbol) → AreOfMethods (plain_symbol s) }
+    ensures only { (s : PlainSymbol) (text : List ℕ) → IsWriteOutcome s (Ok text) → IsWritable s }
 {}
 
 /// How `write` and `read` meet: a text that is written answers the symbol that was written, and nothing else. So by its clause
