@@ -2,13 +2,13 @@
 use Rattle.std.proofs.Common.{ℕ, List, [], ◌∷◌, length, ap, subst, inl, inr}
 use Rattle.std.specs.Prelude.{Contains, ◌↔◌}
 use Rattle.std.proofs.lemmas.Option.{slice_get_within}
-use Rattle.ob_imports.specs.declared.pair.Pair.{Pair}
-use Rattle.ob_imports.specs.Chains.{Chain, IsAcyclic, IsChain}
+use Rattle.digraph.specs.declared.edge.Edge.{Edge}
+use Rattle.digraph.specs.Chains.{Chain, IsAcyclic, IsChain}
 use Rattle.ob_imports.specs.Files.{File, Imports, IsNode}
 use Rattle.ob_imports.specs.Names.{LeadsBy}
 use Rattle.ob_imports.specs.Numbering.{place_of}
-use Rattle.ob_imports.specs.Pairs.{AreBetween, Leads}
-use Rattle.ob_imports.proofs.Members.{in_map}
+use Rattle.digraph.specs.Edges.{AreBetween, Leads}
+use Rattle.digraph.proofs.Members.{in_map}
 use Rattle.ob_imports.proofs.Places.{name_at}
 
 -- what leads to what is kept by a map of modules: so are chains, and where none comes back below, none does above
@@ -28,7 +28,7 @@ acyclic_names files names known = acyclic_over (Imports files) (LeadsBy (Imports
     (m, n, name_at names m here, name_at names n there, (f, has, is, imports)))
 
 -- pairs that lead by places are between the places
-pub between_names : (files : List File) (names : List (List ℕ)) (pairs : List Pair) → ((v w : ℕ) → Leads pairs v w ↔ LeadsBy (Imports files) names v w) → AreBetween pairs (length names)
+pub between_names : (files : List File) (names : List (List ℕ)) (pairs : List Edge) → ((v w : ℕ) → Leads pairs v w ↔ LeadsBy (Imports files) names v w) → AreBetween pairs (length names)
 between_names files names pairs leads p h =
     let (m, n, at_from, at_to, _) = (leads p.from p.to).0 h in
     (slice_get_within names p.from m at_from, slice_get_within names p.to n at_to)

@@ -5,14 +5,14 @@ use Rattle.std.specs.List.{IsDistinct}
 use Rattle.std.specs.Str.{bytes_eq}
 use Rattle.std.proofs.lemmas.List.{get_or_append_left, length-map}
 use Rattle.std.proofs.lemmas.Option.{get_or_from_slice_get, slice_get-get_or}
-use Rattle.ob_imports.specs.Chains.{IsAcyclic}
+use Rattle.digraph.specs.Chains.{IsAcyclic}
 use Rattle.ob_imports.specs.Files.{AreNodes, File, Imports, names_of}
 use Rattle.ob_imports.specs.Graphs.{ImportGraph, IsGraph}
 use Rattle.ob_imports.specs.Names.{LeadsBy}
 use Rattle.ob_imports.specs.Outcomes.{AreKept}
-use Rattle.ob_imports.specs.Pairs.{Leads}
+use Rattle.digraph.specs.Edges.{Leads}
 use Rattle.ob_imports.proofs.ByName.{acyclic_over, between_names}
-use Rattle.ob_imports.proofs.Members.{in_map}
+use Rattle.digraph.proofs.Members.{in_map}
 use Rattle.ob_imports.proofs.Nodes.{nodes_apart}
 use Rattle.ob_imports.proofs.Places.{place_is}
 

@@ -2,21 +2,19 @@
 use Rattle.std.proofs.Common.{◌≡◌, ℕ, suc, ◌+◌, ◌-◌, ◌<◌, Bool, true, false, not, List, [], ◌∷◌, ◌++◌, length, get_or, map, take, Some, refl, sym, ap, ◌∙◌, arith, inl, inr, subst}
 use Rattle.std.specs.Prelude.{Contains, slice_get, ◌↔◌, flat_map}
 use Rattle.std.specs.List.{IsDistinct}
-use Rattle.std.specs.Ordering.{is_eq, nat_cmp}
-use Rattle.std.specs.Cmp.Lexicographic.{slice_cmp}
 use Rattle.std.specs.Str.{bytes_eq}
 use Rattle.std.proofs.lemmas.Bool.{cases_Bool, cases_lt, false≢true, false_from_ne_true}
 use Rattle.std.proofs.lemmas.List.{get_or-append_right, get_or_append_left}
 use Rattle.std.proofs.lemmas.List.Elements.{Contains-append_cases, Contains-append_left, Contains-append_right, Contains-get_or}
-use Rattle.std.proofs.lemmas.Map.Keys.{apart_from_distinct, IsDistinct-from_apart, Less-from_sorted}
-use Rattle.std.proofs.lemmas.Map.Text.{is_eq-slice_cmp}
+use Rattle.std.proofs.lemmas.Map.Keys.{apart_from_distinct, IsDistinct-from_apart}
 use Rattle.std.proofs.lemmas.Slice.Eq.{bytes_eq-Decides}
-use Rattle.ob_imports.specs.declared.pair.Pair.{Pair}
+use Rattle.digraph.specs.declared.edge.Edge.{Edge}
 use Rattle.ob_imports.specs.Files.{AreNodes, DifferInName, File, Imports, IsExternal, IsNode, names_of}
 use Rattle.ob_imports.specs.Names.{AreAscending, LeadsBy}
 use Rattle.ob_imports.specs.Numbering.{all_lacked, all_pairs, has_name, lacked, pairs_from, place_of}
-use Rattle.ob_imports.specs.Pairs.{Leads}
-use Rattle.ob_imports.proofs.Members.{first_member, first_or_later, from_map, in_filter, in_map, later_member, no_member, of_filter}
+use Rattle.digraph.specs.Edges.{Leads}
+use Rattle.digraph.proofs.Names.{ascending_apart}
+use Rattle.digraph.proofs.Members.{first_member, first_or_later, from_map, in_filter, in_map, later_member, no_member, of_filter}
 use Rattle.ob_imports.proofs.Places.{has_not, name_at, not_has, place_is}
 
 -- ---- members of a flat_map
@@ -61,8 +59,8 @@ pairs_lead names files once known v w = (
       let f = r.0 in
       let p = from_map (λ n. record { from = place_of names f.name; to = place_of names n }) f.imports (record { from = v; to = w }) r.2 in
       let n = p.0 in
-      let from : place_of names f.name ≡ v = ap (λ (q : Pair). q.from) p.2 in
-      let to : place_of names n ≡ w = ap (λ (q : Pair). q.to) p.2 in
+      let from : place_of names f.name ≡ v = ap (λ (q : Edge). q.from) p.2 in
+      let to : place_of names n ≡ w = ap (λ (q : Edge). q.to) p.2 in
       let here : Contains names f.name = known f.name (inl (in_map (λ (g : File). g.name) files f r.1)) in
       let imported : Contains names n = known n (inr (f.name, (f, r.1, refl, p.1))) in
       (f.name, n, subst (λ (k : ℕ). slice_get names k ≡ Some f.name) from (name_at names f.name here), subst (λ (k : ℕ). slice_get names k ≡ Some n) to (name_at names n imported), (f, r.1, refl, p.1))),
@@ -110,9 +108,6 @@ distinct_both xs ys a b apart = IsDistinct-from_apart bytes_eq (xs ++ ys) (λ i 
           let at_j : get_or (xs ++ ys) j d ≡ get_or ys (j - length xs) d = get_or-append_right xs ys (length xs) j d refl (omega arith) in
           false≢true (sym (apart_from_distinct bytes_eq ys (i - length xs) (j - length xs) d b (omega arith) (omega arith)) ∙ (bytes_eq-Decides (get_or ys (i - length xs) d) (get_or ys (j - length xs) d)).1 (sym at_i ∙ same ∙ at_j))
     ]))
-
-pub ascending_apart : (ns : List (List ℕ)) → AreAscending ns → IsDistinct bytes_eq ns
-ascending_apart ns up = IsDistinct-from_apart bytes_eq ns (λ i j d lt l. sym (is_eq-slice_cmp (get_or ns i d) (get_or ns j d)) ∙ ap is_eq (Less-from_sorted (slice_cmp nat_cmp) ns i j d up lt l))
 
 pub nodes_apart : (files : List File) (names : List (List ℕ)) → DifferInName files → AreNodes files names → IsDistinct bytes_eq names
 nodes_apart files names once nodes = subst (IsDistinct bytes_eq) (sym nodes.whole)

@@ -7,16 +7,16 @@ use Rattle.std.proofs.lemmas.List.Sorted.{Contains-permutation, IsPermutation-sy
 use Rattle.std.proofs.lemmas.Map.Keys.{apart_from_distinct}
 use Rattle.std.proofs.lemmas.Option.{IfSome_then}
 use Rattle.std.proofs.lemmas.Slice.Eq.{bytes_eq-Decides}
-use Rattle.ob_imports.specs.declared.pair.Pair.{Pair}
-use Rattle.ob_imports.specs.Chains.{IsAcyclic}
-use Rattle.ob_imports.specs.Cycle.{NamesCycle}
+use Rattle.digraph.specs.declared.edge.Edge.{Edge}
+use Rattle.digraph.specs.Chains.{IsAcyclic}
+use Rattle.digraph.specs.Cycle.{NamesCycle}
 use Rattle.ob_imports.specs.Files.{AreNodes, DifferInName, File, Imports, names_of, paths_of}
 use Rattle.ob_imports.specs.Graphs.{ImportGraph, IsGraphOf}
 use Rattle.ob_imports.specs.Names.{LeadsBy}
 use Rattle.ob_imports.specs.Outcomes.{AreKept, Cycle, GraphOutcome, IsCycle, IsCycleOf, IsGraphOutcome, IsTwoModules, Makes, TooMany, TwoModules}
-use Rattle.ob_imports.proofs.Ascending.{same_names, same_pairs}
+use Rattle.digraph.proofs.Ascending.{same_edges, same_names}
 use Rattle.ob_imports.proofs.KeptGraphs.{acyclic_places}
-use Rattle.ob_imports.proofs.OneCycle.{cyclic, one_cycle}
+use Rattle.digraph.proofs.OneCycle.{cyclic, one_cycle}
 use Rattle.ob_imports.proofs.OneOrder.{neither, one_sorting}
 use Rattle.ob_imports.proofs.SameNames.{once_from, paths_times, times}
 
@@ -27,14 +27,14 @@ one_nodes files a b p q =
     let others : p.others ≡ q.others = same_names p.others q.others p.ascend q.ascend (λ n h. (q.external n).1 ((p.external n).0 h)) (λ n h. (p.external n).1 ((q.external n).0 h)) in
     p.whole ∙ ap (λ (ns : List (List ℕ)). names_of files ++ ns) others ∙ sym q.whole
 
-pairs_over : (files : List File) (g h : ImportGraph) → IsGraphOf files g → IsGraphOf files h → g.names ≡ h.names → (p : Pair) → Contains g.pairs p → Contains h.pairs p
+pairs_over : (files : List File) (g h : ImportGraph) → IsGraphOf files g → IsGraphOf files h → g.names ≡ h.names → (p : Edge) → Contains g.pairs p → Contains h.pairs p
 pairs_over files g h a b names p has = (b.leads p.from p.to).1 (subst (λ (ns : List (List ℕ)). LeadsBy (Imports files) ns p.from p.to) names ((a.leads p.from p.to).0 has))
 
 one_graph : (files : List File) (g h : ImportGraph) → IsGraphOf files g → IsGraphOf files h → g ≡ h
 one_graph files g h a b =
     let names : g.names ≡ h.names = one_nodes files g.names h.names a.nodes b.nodes in
     let modules : g.modules ≡ h.modules = a.modules ∙ sym b.modules in
-    let pairs : g.pairs ≡ h.pairs = same_pairs g.pairs h.pairs a.ascend b.ascend (pairs_over files g h a b names) (pairs_over files h g b a (sym names)) in
+    let pairs : g.pairs ≡ h.pairs = same_edges g.pairs h.pairs a.ascend b.ascend (pairs_over files g h a b names) (pairs_over files h g b a (sym names)) in
     λ k. record { names = names k; modules = modules k; pairs = pairs k }
 
 -- ---- one cycle

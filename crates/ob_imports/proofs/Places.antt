@@ -1,12 +1,12 @@
 -- Places of names in lists.
 use Rattle.std.proofs.Common.{◌≡◌, ℕ, zero, suc, ◌+◌, ◌<◌, ◌≤◌, Bool, true, false, cond, not, ◌||◌, List, [], ◌∷◌, ◌++◌, length, get_or, map, take, drop, Some, refl, sym, ap, ◌∙◌, arith, inl, inr, subst}
 use Rattle.std.specs.Prelude.{Contains, String, slice_get}
-use Rattle.std.specs.List.{IsDistinct, list_any, position, prefix_len}
+use Rattle.std.specs.List.{IsDistinct, position}
 use Rattle.std.specs.Cmp.Lexicographic.{nat_list_eq_equiv}
 use Rattle.std.specs.Str.{bytes_eq}
 use Rattle.std.specs.String.{string_bytes, string_eq}
 use Rattle.std.proofs.lemmas.Bool.{cases_Bool, false≢true, false_from_ne_true, lt-ltb}
-use Rattle.std.proofs.lemmas.List.{append_assoc, get_or_append_left, length-map, map-append, map_push, take-append-drop}
+use Rattle.std.proofs.lemmas.List.{append_assoc, get_or_append_left, map-append, map_push, take-append-drop}
 use Rattle.std.proofs.lemmas.List.Elements.{filter-append}
 use Rattle.std.proofs.lemmas.List.Sums.{passes_at_first, position_or_len_is}
 use Rattle.std.proofs.lemmas.Map.Keys.{apart_from_distinct}
@@ -15,6 +15,7 @@ use Rattle.std.proofs.lemmas.Option.{get_or_from_slice_get, slice_get_within, sl
 use Rattle.std.proofs.lemmas.Slice.Eq.{bytes_eq-Decides}
 use Rattle.std.proofs.Math.Seq.{get_or-append_seam, take-suc}
 use Rattle.indexmap.specs.IndexSet.{insert_key}
+use Rattle.digraph.proofs.Names.{any_text, position-map}
 use Rattle.ob_imports.specs.Names.{place_in, texts}
 use Rattle.ob_imports.specs.Numbering.{has_name, lacked, place_of}
 
@@ -42,18 +43,7 @@ new_name xs name rest once = not_has xs name (λ (k, within, is). (
     let apart : bytes_eq (get_or all k name) (get_or all (length xs) name) ≡ false = apart_from_distinct bytes_eq all k (length xs) name once within long in
     false≢true (sym apart ∙ (bytes_eq-Decides (get_or all k name) (get_or all (length xs) name)).1 (left ∙ sym right))))
 
-prefix_len-map : {A B : Type 0} (p : B → Bool) (f : A → B) (xs : List A) → prefix_len p (map f xs) ≡ prefix_len (λ x. p (f x)) xs
-prefix_len-map p f [] = refl
-prefix_len-map p f (x ∷ xs) = ap (λ n. cond (p (f x)) (1 + n) 0) (prefix_len-map p f xs)
-
-pub position-map : {A B : Type 0} (p : B → Bool) (f : A → B) (xs : List A) → position p (map f xs) ≡ position (λ x. p (f x)) xs
-position-map p f xs = rw (prefix_len-map (λ y. not (p y)) f xs, length-map) refl
-
 module _ {Z : Type 0} where
-  pub any_text : (name : List ℕ) (names : List (String Z)) → list_any (λ x. bytes_eq name (string_bytes x)) names ≡ has_name (texts names) name
-  any_text name [] = refl
-  any_text name (x ∷ names) = ap (λ (b : Bool). bytes_eq name (string_bytes x) || b) (any_text name names)
-
   -- a new name goes last
   pub put_new : (keys : List (String Z)) (value : String Z) → has_name (texts keys) (string_bytes value) ≡ false → texts (insert_key string_eq keys value) ≡ texts keys ++ string_bytes value ∷ []
   put_new keys value new = rw (any_text (string_bytes value) keys, new) (map_push string_bytes keys value)

@@ -1,22 +1,22 @@
 -- What can be worked on, by the imports and by rows.
 use Rattle.std.proofs.Common.{◌≡◌, ℕ, ◌<◌, List, Bool, length, refl, sym, ◌∙◌, ap, arith, subst, eq-eqb, eqb-true}
 use Rattle.std.specs.Prelude.{Contains, filter, ◌↔◌, ◌==◌}
-use Rattle.ob_imports.specs.declared.pair.Pair.{Pair}
+use Rattle.digraph.specs.declared.edge.Edge.{Edge}
 use Rattle.ob_imports.specs.Graphs.{CanStart, ImportGraph, imported, IsListOf, IsReady}
-use Rattle.ob_imports.specs.Knots.{row_at}
-use Rattle.ob_imports.specs.Pairs.{Leads}
-use Rattle.ob_imports.proofs.Members.{from_map, in_filter, in_map, of_filter}
+use Rattle.digraph.specs.Marks.{row_at}
+use Rattle.digraph.specs.Edges.{Leads}
+use Rattle.digraph.proofs.Members.{from_map, in_filter, in_map, of_filter}
 
-pub imported_leads : (pairs : List Pair) (v w : ℕ) → Contains (imported pairs v) w ↔ Leads pairs v w
+pub imported_leads : (pairs : List Edge) (v w : ℕ) → Contains (imported pairs v) w ↔ Leads pairs v w
 imported_leads pairs v w = (
   λ h. (
-      let p = from_map (λ (q : Pair). q.to) (filter (λ q. q.from == v) pairs) w h in
-      let f = of_filter (λ (q : Pair). q.from == v) pairs p.0 p.1 in
+      let p = from_map (λ (q : Edge). q.to) (filter (λ q. q.from == v) pairs) w h in
+      let f = of_filter (λ (q : Edge). q.from == v) pairs p.0 p.1 in
       let from : p.0.from ≡ v = eqb-true p.0.from v f.1 in
       let to : p.0.to ≡ w = p.2 in
       let is : p.0 ≡ record { from = v; to = w } = ap (λ (x : ℕ). record { from = x; to = p.0.to }) from ∙ ap (λ (x : ℕ). record { from = v; to = x }) to in
       subst (Contains pairs) is f.0),
-  λ h. in_map (λ (q : Pair). q.to) (filter (λ q. q.from == v) pairs) (record { from = v; to = w }) (in_filter (λ (q : Pair). q.from == v) pairs (record { from = v; to = w }) (eq-eqb v v refl) h),
+  λ h. in_map (λ (q : Edge). q.to) (filter (λ q. q.from == v) pairs) (record { from = v; to = w }) (in_filter (λ (q : Edge). q.from == v) pairs (record { from = v; to = w }) (eq-eqb v v refl) h),
 )
 
 listed_as : (P Q : ℕ → Type 0) → ((v : ℕ) → P v ↔ Q v) → (vs : List ℕ) → IsListOf P vs → IsListOf Q vs

@@ -1,24 +1,23 @@
 -- Names that stand twice in a list.
-use Rattle.std.proofs.Common.{◌≡◌, ℕ, zero, suc, ◌+◌, ◌<◌, ◌≤◌, true, false, List, [], ◌∷◌, length, get_or, take, drop, refl, sym, ap, ◌∙◌, arith, inl, inr, subst, Ordering}
+use Rattle.std.proofs.Common.{◌≡◌, ℕ, zero, suc, ◌+◌, ◌<◌, ◌≤◌, false, List, [], ◌∷◌, length, get_or, take, drop, refl, sym, ap, ◌∙◌, arith, inl, inr, subst}
 use Rattle.std.specs.Prelude.{IsPermutation, String, sum_by, if◌then◌else◌}
-use Rattle.std.specs.List.{IsDistinct}
-use Rattle.std.specs.Ordering.{is_eq, is_lt, nat_cmp, ordering_reverse}
+use Rattle.std.specs.Ordering.{is_eq, is_lt, nat_cmp}
 use Rattle.std.specs.Cmp.Lexicographic.{slice_cmp, nat_list_cmp_total, nat_list_eq_equiv}
 use Rattle.std.specs.Str.{bytes_eq}
 use Rattle.std.specs.String.{string_bytes}
-use Rattle.std.specs.declared.cmp.Ordering.TheVariants.{Less, Equal, Greater}
+use Rattle.std.specs.declared.cmp.Ordering.TheVariants.{Less}
 use Rattle.std.proofs.lemmas.Bool.{cases_Bool, cases_lt, false≢true, false_from_ne_true}
 use Rattle.std.proofs.lemmas.List.{get_or-map, get_or-take}
 use Rattle.std.proofs.lemmas.List.MinMax.{ranks_by}
 use Rattle.std.proofs.lemmas.List.Sorted.{IsPermutation-sym, sorted_far, sum_by-IsPermutation}
 use Rattle.std.proofs.lemmas.List.Sums.{sum_by-cons}
-use Rattle.std.proofs.lemmas.Map.Keys.{apart_from_distinct, IsDistinct-IsPermutation, Less-from_sorted, sorted_from_all_adjacent}
+use Rattle.std.proofs.lemmas.Map.Keys.{IsDistinct-IsPermutation, Less-from_sorted, sorted_from_all_adjacent}
 use Rattle.std.proofs.lemmas.Map.Text.{is_eq-slice_cmp}
 use Rattle.std.proofs.lemmas.Slice.Eq.{bytes_eq-Decides}
 use Rattle.ob_imports.specs.Files.{DifferInName, File, names_of, paths_of}
 use Rattle.ob_imports.specs.Names.{AreAlike, AreAscending, AreInOrder, IsFirstAlike, texts}
 use Rattle.ob_imports.specs.Outcomes.{IsTwoModules}
-use Rattle.ob_imports.proofs.Nodes.{ascending_apart}
+use Rattle.digraph.proofs.Names.{ascending_apart, below, same_is}
 
 -- ---- how often
 
@@ -32,9 +31,6 @@ times_sum (x ∷ xs) name = elim (cases_Bool (bytes_eq x name)) [
   | inl t ↦ rw (sum_by-cons (λ n. if bytes_eq n name then 1 else 0) x xs, t) (ap (λ (k : ℕ). 1 + k) (times_sum xs name))
   | inr f ↦ rw (sum_by-cons (λ n. if bytes_eq n name then 1 else 0) x xs, f) (let rest = times_sum xs name in omega arith)
 ]
-
-same_is : (a b : List ℕ) → a ≡ b → bytes_eq a b ≡ true
-same_is a b e = (bytes_eq-Decides a b).1 e
 
 none_from : (xs : List (List ℕ)) (name : List ℕ) → ((i : ℕ) → i < length xs → get_or xs i name ≡ name → ⊥) → times xs name ≡ 0
 none_from [] name none = refl
@@ -81,15 +77,6 @@ pub times_moved : (xs ys : List (List ℕ)) (name : List ℕ) → IsPermutation 
 times_moved xs ys name moved = times_sum ys name ∙ sum_by-IsPermutation (λ n. if bytes_eq n name then 1 else 0) xs ys moved ∙ sym (times_sum xs name)
 
 -- ---- names in order
-
--- two texts that are apart and not the other way round are in order
-below : (a b : List ℕ) → is_lt (slice_cmp nat_cmp b a) ≡ false → (a ≡ b → ⊥) → slice_cmp nat_cmp a b ≡ Less
-below a b not_less apart = by (slice_cmp nat_cmp a b) refl
-  where
-    by : (o : Ordering) → slice_cmp nat_cmp a b ≡ o → o ≡ Less
-    by Less e = refl
-    by Equal e = absurd (apart ((bytes_eq-Decides a b).0 (sym (is_eq-slice_cmp a b) ∙ ap is_eq e)))
-    by Greater e = absurd (false≢true (sym not_less ∙ ap is_lt (nat_list_cmp_total.antisymm b a ∙ ap ordering_reverse e)))
 
 not_below : (a b : List ℕ) → a ≡ b → slice_cmp nat_cmp a b ≡ Less → ⊥
 not_below a b e less = false≢true (sym (ap is_eq less) ∙ is_eq-slice_cmp a b ∙ same_is a b e)
@@ -170,8 +157,3 @@ is_two files names paths p few moved sorted first paths_moved paths_sorted two =
 module _ {Z : Type 0} where
   pub text_at : (names : List (String Z)) (k : ℕ) (s : String Z) → k < length names → s ≡ get_or names k s → string_bytes s ≡ get_or (texts names) k []
   text_at names k s l is = ap string_bytes is ∙ sym (get_or-map string_bytes names k s [] l)
-
--- names in order that are apart ascend
-pub apart_ascend : (names : List (List ℕ)) → AreInOrder names → IsDistinct bytes_eq names → AreAscending names
-apart_ascend names sorted once = none_alike_ascend names sorted (λ k l alike.
-    false≢true (sym (apart_from_distinct bytes_eq names k (k + 1) [] once (omega arith) l) ∙ same_is (get_or names k []) (get_or names (k + 1) []) alike))

@@ -1,33 +1,27 @@
 -- The graph of the imports of a tree.
-use Rattle.std.specs.Prelude.{◌≡◌, ℕ, ◌+◌, ◌<◌, ◌≤◌, ◌==◌, ◌↔◌, List, [], length, map, filter, slice_index, Bool, true, false, Contains, String}
+use Rattle.std.specs.Prelude.{◌≡◌, ℕ, ◌+◌, ◌<◌, ◌≤◌, ◌↔◌, List, [], length, slice_index, Bool, true, false, Contains, String}
 use Rattle.std.specs.List.{IsDistinct, slice_index_or}
 use Rattle.std.specs.Str.{bytes_eq}
-use Rattle.ob_imports.specs.declared.pair.Pair.{Pair}
-use Rattle.ob_imports.specs.Chains.{IsAcyclic}
+use Rattle.digraph.specs.declared.edge.Edge.{Edge}
+use Rattle.digraph.specs.Chains.{IsAcyclic}
 use Rattle.ob_imports.specs.Files.{File, AreNodes, Imports}
-use Rattle.ob_imports.specs.Knots.{marked, row_at}
+use Rattle.digraph.specs.Marks.{marked, row_at}
 use Rattle.ob_imports.specs.Names.{LeadsBy, texts}
-use Rattle.ob_imports.specs.Pairs.{AreBetween, IsAscending, Leads}
+use Rattle.digraph.specs.Edges.{AreBetween, IsAscending, Leads}
+pub use Rattle.digraph.specs.Edges.{successors as imported, predecessors as importing}
 
 -- the names of the modules by their numbers, how many of them, the first ones, are of the tree, and the imports
 pub record ImportGraph : Type 0 where
   pub names : List (List ℕ)
   pub modules : ℕ
-  pub pairs : List Pair
+  pub pairs : List Edge
 
 -- the graph of a table
-abbrev pub graph_with : {Z : Type 0} → List (String Z) → ℕ → List Pair → ImportGraph
+abbrev pub graph_with : {Z : Type 0} → List (String Z) → ℕ → List Edge → ImportGraph
 graph_with names modules pairs = record { names = texts names; modules = modules; pairs = pairs }
 
 abbrev pub name_of : ImportGraph → ℕ → List ℕ
 name_of g v = slice_index_or g.names v []
-
--- those that the module imports, and those that import it
-abbrev pub imported : List Pair → ℕ → List ℕ
-imported pairs v = map (λ p. p.to) (filter (λ p. p.from == v) pairs)
-
-abbrev pub importing : List Pair → ℕ → List ℕ
-importing pairs v = map (λ p. p.from) (filter (λ p. p.to == v) pairs)
 
 -- the names differ, the imports ascend and lead from modules of the tree, all keep their limits, and no chain comes back
 pub record IsGraph (g : ImportGraph) : Type 0 where
@@ -38,7 +32,7 @@ pub record IsGraph (g : ImportGraph) : Type 0 where
   pub few_pairs : length g.pairs ≤ 65536
   pub between : AreBetween g.pairs (length g.names)
   pub ascend : IsAscending g.pairs
-  pub of_tree : (p : Pair) → Contains g.pairs p → p.from < g.modules
+  pub of_tree : (p : Edge) → Contains g.pairs p → p.from < g.modules
   pub acyclic : IsAcyclic (Leads g.pairs)
 
 -- the graph of these files

@@ -1,7 +1,3 @@
-pub mod Chains
-pub mod Cycle
-pub mod Pairs
-pub mod Knots
 pub mod Names
 pub mod Files
 pub mod Graphs

@@ -2,7 +2,7 @@
 use Rattle.std.specs.Prelude.{ℕ, List, not, map, filter, flat_map, Bool}
 use Rattle.std.specs.List.{list_any, position_or_len}
 use Rattle.std.specs.Str.{bytes_eq}
-use Rattle.ob_imports.specs.declared.pair.Pair.{Pair}
+use Rattle.digraph.specs.declared.edge.Edge.{Edge}
 use Rattle.ob_imports.specs.Files.{File}
 
 -- the list has the name
@@ -22,13 +22,9 @@ abbrev pub all_lacked : List (List ℕ) → List File → List (List ℕ)
 all_lacked names files = flat_map (λ f. lacked names f.imports) files
 
 -- the imports of one module, by places in a list of names
-abbrev pub pairs_from : List (List ℕ) → List ℕ → List (List ℕ) → List Pair
+abbrev pub pairs_from : List (List ℕ) → List ℕ → List (List ℕ) → List Edge
 pairs_from names name imports = map (λ n. record { from = place_of names name; to = place_of names n }) imports
 
 -- those of all files
-abbrev pub all_pairs : List (List ℕ) → List File → List Pair
+abbrev pub all_pairs : List (List ℕ) → List File → List Edge
 all_pairs names files = flat_map (λ f. pairs_from names f.name f.imports) files
-
--- the imports the other way round
-abbrev pub flipped : Pair → Pair
-flipped p = record { from = p.to; to = p.from }

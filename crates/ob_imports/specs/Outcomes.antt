@@ -7,8 +7,8 @@ use Rattle.std.specs.String.{string_bytes}
 use Rattle.std.specs.declared.cmp.Ordering.TheVariants.{Less}
 use Rattle.ob_imports.specs.declared.fault.GraphFault.{GraphFault}
 use Rattle.ob_imports.specs.declared.fault.GraphFault.TheVariants as faults
-use Rattle.ob_imports.specs.Chains.{IsAcyclic}
-use Rattle.ob_imports.specs.Cycle.{NamesCycle}
+use Rattle.digraph.specs.Chains.{IsAcyclic}
+use Rattle.digraph.specs.Cycle.{NamesCycle}
 use Rattle.ob_imports.specs.Files.{File, AreNodes, DifferInName, Imports, paths_of}
 use Rattle.ob_imports.specs.Graphs.{ImportGraph, IsGraphOf}
 use Rattle.ob_imports.specs.Names.{AreAscending, AreInOrder, LeadsBy, texts}

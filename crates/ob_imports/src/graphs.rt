@@ -5,7 +5,7 @@ ghost use Rattle.ob_imports.specs.Names.{place_in};
 
 use crate::Pair;
 use crate::ready::ready_in;
-use crate::rows::{flipped, rows_of};
+use digraph::{flipped, rows_of};
 use indexmap::IndexSet;
 use std::alloc::{AllocError, Global};
 use std::marker::Model;
@@ -26,7 +26,7 @@ pub struct Graph {
 impl Model for Graph {
     ghost use Rattle.std.specs.Prelude.{ℕ, ◌≡◌, ◌<◌, length, vec_len};
     ghost use Rattle.ob_imports.specs.Graphs.{imported, importing, ImportGraph, IsGraph};
-    ghost use Rattle.ob_imports.specs.Knots.{lists, row_at};
+    ghost use Rattle.digraph.specs.Marks.{lists, row_at};
     ghost use Rattle.ob_imports.specs.Names.{texts};
 
     ghost Value = { ImportGraph };

@@ -1,26 +1,20 @@
 //! The imports of modules: the graph that they make, and the one cycle that is named where they have one.
-//! Stands on std, with `indexmap` for its tables and `thiserror` for its faults.
+//! Stands on `digraph` for cycles, with `indexmap` for its tables and `thiserror` for its faults.
 //! Its contract: the graph is that of the files, or it is their first refusal; a cycle is named exactly where a chain comes back.
 #![tactic(auto)]
 
 mod alike;
 mod fault;
 mod graphs;
-mod knot;
 pub mod laws;
 mod making;
-mod named;
-mod pair;
 mod pairing;
 mod parsed;
 mod ready;
-mod rows;
 mod tables;
-mod walk;
 
+pub use digraph::{Edge as Pair, cycle};
 pub use fault::GraphFault;
 pub use graphs::Graph;
 pub use making::graph;
-pub use named::cycle;
-pub use pair::Pair;
 pub use parsed::Parsed;

@@ -2,16 +2,16 @@
 ghost use Rattle.std.specs.Prelude.{◌≡◌, ◌≤◌, ◌<◌, [], All, IfNone, IfOk, IfSome, IsPermutation, length, map};
 ghost use Rattle.std.specs.List.{slice_index_or, IsDistinct};
 ghost use Rattle.std.specs.Str.{bytes_eq};
-ghost use Rattle.ob_imports.specs.Chains.{IsAcyclic};
+ghost use Rattle.digraph.specs.Chains.{IsAcyclic};
 ghost use Rattle.ob_imports.specs.Files.{files_of, AreNodes, DifferInName, Imports};
 ghost use Rattle.ob_imports.specs.Names.{texts, AreAscending};
 ghost use Rattle.ob_imports.specs.Outcomes.{outcome_of, GraphOutcome, IsCycleOf, IsGraphOutcome};
 
 use crate::alike::no_two_alike;
-use crate::named::cycle;
 use crate::pairing::{pairs_by, pairs_of};
 use crate::tables::nodes_of;
 use crate::{Graph, GraphFault, Parsed};
+use digraph::cycle;
 use std::alloc::{AllocError, Global};
 
 const MOST_MODULES: usize = 4096;

@@ -3,14 +3,14 @@ ghost use Rattle.std.specs.Prelude.{◌≡◌, ◌≤◌, ◌↔◌, ◌++◌, �
 ghost use Rattle.std.specs.List.{IsDistinct};
 ghost use Rattle.std.specs.Str.{bytes_eq};
 ghost use Rattle.std.specs.String.{string_bytes};
-ghost use Rattle.ob_imports.specs.declared.pair.Pair.{Pair as ImportPair};
 ghost use Rattle.ob_imports.specs.Files.{files_of, Imports, IsNode};
 ghost use Rattle.ob_imports.specs.Names.{texts, LeadsBy};
 ghost use Rattle.ob_imports.specs.Numbering.{all_pairs, pairs_from};
-ghost use Rattle.ob_imports.specs.Pairs.{AreBetween, IsAscending, Leads};
+ghost use Rattle.digraph.specs.Edges.{AreBetween, IsAscending, Leads};
 
 use crate::tables::{number_of, put_names};
 use crate::{Pair, Parsed};
+use digraph::put_in_order;
 use indexmap::IndexSet;
 use std::alloc::{AllocError, Global};
 
@@ -45,15 +45,6 @@ fn all_of(
         add_pairs(&mut pairs, file, table)?;
     }
     Ok(pairs)
-}
-
-/// Puts the pairs in ascending order, each once.
-fn put_in_order(pairs: &mut Vec<Pair>)
-    ensures ascending { IsAscending pairs.new.items }
-    ensures same { (p : ImportPair) → Contains pairs.new.items p ↔ Contains pairs.old.items p }
-{
-    pairs.sort_unstable_by_key(|pair| (pair.from, pair.to));
-    pairs.dedup();
 }
 
 /// The imports of the files, by places in a table that has all their names: ascending, each once.

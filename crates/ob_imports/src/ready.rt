@@ -1,9 +1,9 @@
 //! The modules that can be worked on.
 ghost use Rattle.std.specs.Prelude.{◌≡◌, ◌<◌, ◌≤◌, ◌↔◌, ℕ, Contains, false, IfOk, IsTrue, length, true};
 ghost use Rattle.ob_imports.specs.Graphs.{CanStart, IsListOf};
-ghost use Rattle.ob_imports.specs.Knots.{lists, marked};
+ghost use Rattle.digraph.specs.Marks.{lists, marked};
 
-use crate::knot::is_marked;
+use digraph::is_marked;
 use std::alloc::{AllocError, Global};
 
 /// Whether all of these that are of the tree are done.

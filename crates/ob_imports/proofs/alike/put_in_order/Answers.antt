@@ -1,6 +1,6 @@
 use Rattle.std.specs.String.{string_bytes}
 use Rattle.std.proofs.lemmas.List.Sorted.{IsPermutation-map}
-use Rattle.ob_imports.proofs.Ordered.{texts_in_order}
+use Rattle.digraph.proofs.Ordered.{texts_in_order}
 use Rattle.ob_imports.proofs.alike.put_in_order.Goals as goal
 
 pub returns-clause-same : goal.returns-clause-same

@@ -1,20 +1,20 @@
 -- The cycle of the modules by the order of their names.
-use Rattle.std.proofs.Common.{◌≡◌, ℕ, List, ◌∙◌, ap, length, refl, sym, subst, arith}
-use Rattle.std.specs.Prelude.{Contains, ◌↔◌}
+use Rattle.std.proofs.Common.{◌≡◌, ℕ, ap, length, subst, arith}
+use Rattle.std.specs.Prelude.{◌↔◌}
 use Rattle.std.specs.Str.{bytes_eq}
 use Rattle.std.specs.String.{string_bytes}
 use Rattle.std.specs.Cmp.Lexicographic.{nat_list_eq_equiv}
-use Rattle.std.proofs.lemmas.List.{length-map, nil_from_length}
+use Rattle.std.proofs.lemmas.List.{length-map}
 use Rattle.std.proofs.lemmas.List.Sorted.{Contains-permutation, length_permutation}
 use Rattle.std.proofs.lemmas.Map.Keys.{IsDistinct-IsPermutation}
-use Rattle.ob_imports.specs.Chains.{IsAcyclic}
-use Rattle.ob_imports.specs.Cycle.{NamesCycle}
+use Rattle.digraph.specs.Chains.{IsAcyclic}
+use Rattle.digraph.specs.Cycle.{NamesCycle}
 use Rattle.ob_imports.specs.Files.{files_of, Imports}
 use Rattle.ob_imports.specs.Names.{LeadsBy, texts}
-use Rattle.ob_imports.specs.Pairs.{AreBetween, Leads}
+use Rattle.digraph.specs.Edges.{AreBetween, Leads}
 use Rattle.ob_imports.proofs.ByName.{acyclic_names, between_names}
 use Rattle.ob_imports.proofs.Nodes.{nodes_apart, nodes_known}
-use Rattle.ob_imports.proofs.SameGraphs.{acyclic_as, names_as}
+use Rattle.digraph.proofs.SameGraphs.{acyclic_as, names_as}
 use Rattle.ob_imports.proofs.making.cycle_in.Goals as goal
 
 pub in_order-requires : goal.in_order-requires

@@ -3,8 +3,8 @@ use Rattle.std.specs.Cmp.Lexicographic.{nat_list_eq_equiv}
 use Rattle.std.specs.Str.{bytes_eq}
 use Rattle.std.proofs.lemmas.List.Sorted.{IsPermutation-map}
 use Rattle.std.proofs.lemmas.Map.Keys.{IsDistinct-IsPermutation}
-use Rattle.ob_imports.proofs.Ordered.{texts_in_order}
-use Rattle.ob_imports.proofs.SameNames.{apart_ascend}
+use Rattle.digraph.proofs.Ordered.{texts_in_order}
+use Rattle.digraph.proofs.Names.{apart_ascend}
 use Rattle.ob_imports.proofs.making.in_order.Goals as goal
 
 pub returns-clause-same : goal.returns-clause-same

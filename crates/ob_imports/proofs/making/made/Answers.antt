@@ -2,7 +2,7 @@
 use Rattle.std.proofs.Common.{◌≡◌, length, inr, sym, arith}
 use Rattle.std.specs.String.{string_bytes}
 use Rattle.std.proofs.lemmas.List.{length-map}
-use Rattle.ob_imports.specs.Chains.{IsAcyclic}
+use Rattle.digraph.specs.Chains.{IsAcyclic}
 use Rattle.ob_imports.specs.Files.{file_of, files_of, Imports}
 use Rattle.ob_imports.specs.Graphs.{graph_with}
 use Rattle.ob_imports.specs.Names.{texts}

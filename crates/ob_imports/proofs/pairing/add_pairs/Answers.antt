@@ -3,7 +3,7 @@ use Rattle.std.proofs.Common.{List, [], inr, refl, sym, subst}
 use Rattle.std.specs.Prelude.{Contains}
 use Rattle.std.specs.String.{string_bytes}
 use Rattle.ob_imports.specs.Files.{file_of}
-use Rattle.ob_imports.proofs.Members.{first_member, in_map}
+use Rattle.digraph.proofs.Members.{first_member, in_map}
 use Rattle.ob_imports.proofs.pairing.add_pairs.Goals as goal
 
 pub number_of-to-requires-clause-known : goal.number_of-to-requires-clause-known

@@ -1,7 +1,7 @@
 -- The names of each file are known.
 use Rattle.std.proofs.Common.{sym}
 use Rattle.ob_imports.specs.Files.{file_of, files_of}
-use Rattle.ob_imports.proofs.Members.{in_map}
+use Rattle.digraph.proofs.Members.{in_map}
 use Rattle.ob_imports.proofs.Nodes.{node_of_one}
 use Rattle.ob_imports.proofs.pairing.all_of.Goals as goal
 

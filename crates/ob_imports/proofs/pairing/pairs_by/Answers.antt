@@ -5,7 +5,7 @@ use Rattle.std.specs.String.{string_bytes}
 use Rattle.std.proofs.lemmas.List.{length-map, nil_from_length}
 use Rattle.ob_imports.specs.Files.{files_of, Imports}
 use Rattle.ob_imports.specs.Names.{LeadsBy, texts}
-use Rattle.ob_imports.specs.Pairs.{Leads}
+use Rattle.digraph.specs.Edges.{Leads}
 use Rattle.ob_imports.proofs.pairing.pairs_by.Goals as goal
 
 pub put_names-requires : goal.put_names-requires

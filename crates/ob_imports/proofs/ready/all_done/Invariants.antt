@@ -1,6 +1,6 @@
 use Rattle.std.proofs.Common.{◌≡◌, ℕ, ◌<◌, length, true}
 use Rattle.std.specs.Prelude.{slice_index}
-use Rattle.ob_imports.specs.Knots.{marked}
+use Rattle.digraph.specs.Marks.{marked}
 use Rattle.ob_imports.proofs.ready.all_done.Given as goal
 
 abbrev pub invariant-loop-node : goal.invariant-loop-node

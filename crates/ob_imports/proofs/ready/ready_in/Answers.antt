@@ -1,7 +1,7 @@
 -- One module after the other.
 use Rattle.std.proofs.Common.{◌<◌, length, arith}
 use Rattle.ob_imports.specs.Graphs.{CanStart}
-use Rattle.ob_imports.specs.Knots.{lists}
+use Rattle.digraph.specs.Marks.{lists}
 use Rattle.ob_imports.proofs.Lists.{listed-none, listed-yes, listed-no, listed-all}
 use Rattle.ob_imports.proofs.ready.ready_in.Goals as goal
 use Rattle.ob_imports.proofs.ready.ready_in.Goals.{then-can_start+in_ok-push, else-can_start}

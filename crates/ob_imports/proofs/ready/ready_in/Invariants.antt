@@ -1,5 +1,5 @@
 use Rattle.ob_imports.specs.Graphs.{CanStart}
-use Rattle.ob_imports.specs.Knots.{lists}
+use Rattle.digraph.specs.Marks.{lists}
 use Rattle.ob_imports.proofs.Lists.{IsListBelow}
 use Rattle.ob_imports.proofs.ready.ready_in.Given as goal
 

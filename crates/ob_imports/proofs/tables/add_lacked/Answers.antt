@@ -4,7 +4,8 @@ use Rattle.std.specs.String.{string_bytes}
 use Rattle.std.proofs.lemmas.List.{append_assoc, append-nil, map_push}
 use Rattle.ob_imports.specs.Names.{texts}
 use Rattle.ob_imports.specs.Numbering.{has_name, lacked}
-use Rattle.ob_imports.proofs.Places.{any_text, lacked_more}
+use Rattle.digraph.proofs.Names.{any_text}
+use Rattle.ob_imports.proofs.Places.{lacked_more}
 use Rattle.ob_imports.proofs.tables.add_lacked.Goals as goal
 use Rattle.ob_imports.proofs.tables.add_lacked.Goals.{then-not-contains+in_ok-from_str+in_ok-push, else-not-contains}
 

@@ -1,6 +1,6 @@
 use Rattle.std.specs.String.{string_eq}
 use Rattle.std.proofs.lemmas.List.Filters.{dedup_is}
-use Rattle.ob_imports.proofs.Ordered.{ascending, members}
+use Rattle.digraph.proofs.Ordered.{ascending, members}
 use Rattle.ob_imports.proofs.tables.put_in_order.Goals as goal
 
 pub returns-clause-ascending : goal.returns-clause-ascending

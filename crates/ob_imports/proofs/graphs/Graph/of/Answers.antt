@@ -3,8 +3,8 @@ use Rattle.std.proofs.Common.{◌≡◌, ◌∙◌, length, subst, arith}
 use Rattle.std.specs.String.{string_bytes}
 use Rattle.std.proofs.lemmas.List.{length-map}
 use Rattle.ob_imports.specs.Names.{texts}
-use Rattle.ob_imports.specs.Pairs.{AreBetween}
-use Rattle.ob_imports.proofs.Importing.{flipped_between, importing_flipped}
+use Rattle.digraph.specs.Edges.{AreBetween}
+use Rattle.digraph.proofs.ByNode.{flipped_between, predecessors_flipped}
 use Rattle.ob_imports.proofs.graphs.Graph.of.Goals as goal
 
 pub rows_of-requires : goal.rows_of-requires
@@ -27,6 +27,6 @@ invariant_of-result c =
       c.requires,
       c.in_ok-imports.ensures.size ∙ c.len-nodes.ensures.len,
       c.in_ok-importers.ensures.size ∙ c.len-nodes.ensures.len,
-      λ v. c.in_ok-imports.ensures.rows v ∙ rw (c.as_slice-2.ensures.value, c.in_ok-others.ensures, c.as_slice.ensures.value) (importing_flipped pairs v),
+      λ v. c.in_ok-imports.ensures.rows v ∙ rw (c.as_slice-2.ensures.value, c.in_ok-others.ensures, c.as_slice.ensures.value) (predecessors_flipped pairs v),
       λ v. rw c.as_slice-3.ensures.value at (c.in_ok-importers.ensures.rows v),
     )

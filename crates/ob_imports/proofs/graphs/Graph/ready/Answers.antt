@@ -2,7 +2,7 @@
 use Rattle.std.proofs.Common.{◌≡◌, ℕ, subst}
 use Rattle.std.proofs.lemmas.Result.{IfOk-weaker}
 use Rattle.ob_imports.specs.Graphs.{imported, ImportGraph}
-use Rattle.ob_imports.specs.Knots.{lists, row_at}
+use Rattle.digraph.specs.Marks.{lists, row_at}
 use Rattle.ob_imports.proofs.ReadyLists.{ready_as}
 use Rattle.ob_imports.proofs.graphs.Graph.ready.Goals as goal
 

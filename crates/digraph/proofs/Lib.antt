@@ -1,0 +1,11 @@
+pub mod Ascending
+pub mod EdgeOrder
+pub mod Loops
+pub mod Members
+pub mod Names
+pub mod OneCycle
+pub mod Ordered
+pub mod ByNode
+pub mod SameGraphs
+pub mod Settling
+pub mod Walks

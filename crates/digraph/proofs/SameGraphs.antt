@@ -1,0 +1,56 @@
+-- Two graphs in which the same nodes lead to each other have the same cycles.
+use Rattle.std.proofs.Common.{ℕ, List, [], ◌∷◌, Bool}
+use Rattle.std.specs.Prelude.{◌↔◌}
+use Rattle.digraph.specs.Chains.{IsAcyclic, IsChain}
+use Rattle.digraph.specs.Cycle.{ComesBack, EachLeadsToMember, IsEndless, IsNext, IsWalk, NamesCycle}
+
+abbrev pub AreSame : (ℕ → ℕ → Type 0) → (ℕ → ℕ → Type 0) → Type 0
+AreSame G H = (m n : ℕ) → G m n ↔ H m n
+
+each_as : (G H : ℕ → ℕ → Type 0) → ((m n : ℕ) → G m n → H m n) → (s : ℕ → Bool) → EachLeadsToMember G s → EachLeadsToMember H s
+each_as G H to s each v h = let w = each v h in (w.0, to v w.0 w.1, w.2)
+
+module _ (G H : ℕ → ℕ → Type 0) (same : AreSame G H) where
+  endless_as : (s : ℕ → Bool) → IsEndless G s → IsEndless H s
+  endless_as s k = record {
+    each = each_as G H (λ m n. (same m n).0) s k.each;
+    greatest = λ t each. k.greatest t (each_as H G (λ m n. (same m n).1) t each);
+  }
+
+  next_as : (s : ℕ → Bool) (v w : ℕ) → IsNext G s v w → IsNext H s v w
+  next_as s v w n = record {
+    leads = (same v w).0 n.leads;
+    member = n.member;
+    least = λ u leads. n.least u ((same v u).1 leads);
+  }
+
+  walk_as : (s : ℕ → Bool) (walk : List ℕ) → IsWalk G s walk → IsWalk H s walk
+  walk_as s walk w = record {
+    begins = w.begins;
+    goes_on = λ k l. next_as s _ _ (w.goes_on k l);
+    once = w.once;
+  }
+
+  back_as : (s : ℕ → Bool) (walk : List ℕ) (place : ℕ) → ComesBack G s walk place → ComesBack H s walk place
+  back_as s walk place c = record {
+    walked = walk_as s walk c.walked;
+    place = c.place;
+    back = λ n e. next_as s _ _ (c.back n e);
+  }
+
+  pub names_as : (cycle : List ℕ) → NamesCycle G cycle → NamesCycle H cycle
+  names_as cycle c = record {
+    endless = c.endless;
+    is_endless = endless_as c.endless c.is_endless;
+    walk = c.walk;
+    place = c.place;
+    comes_back = back_as c.endless c.walk c.place c.comes_back;
+    turned = c.turned;
+  }
+
+  chain_as : (m : ℕ) (more : List ℕ) (b : ℕ) → IsChain H m more b → IsChain G m more b
+  chain_as m [] b e = e
+  chain_as m (n ∷ more) b c = ((same m n).1 c.0, chain_as n more b c.1)
+
+  pub acyclic_as : IsAcyclic G → IsAcyclic H
+  acyclic_as none m n leads (more, chain) = none m n ((same m n).1 leads) (more, chain_as n more m chain)

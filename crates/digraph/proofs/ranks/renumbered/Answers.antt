@@ -1,0 +1,27 @@
+-- Between the ranks, then in order.
+use Rattle.std.proofs.Common.{◌≡◌, ◌∙◌, ap, arith, map, subst, take, take_all}
+use Rattle.std.specs.Prelude.{Contains, ◌↔◌, List}
+use Rattle.std.proofs.lemmas.List.Elements.{Contains-get_or}
+use Rattle.digraph.specs.declared.edge.Edge.{Edge as GraphEdge}
+use Rattle.digraph.specs.Ranks.{by_ranks}
+use Rattle.digraph.specs.Marks.{edge_at, none_there}
+use Rattle.digraph.proofs.ranks.renumbered.Goals as goal
+
+pub bounds-ranks-edge : goal.bounds-ranks-edge
+bounds-ranks-edge c =
+    let edges = c.args.edges.now in
+    let k = c.loop-edge.edge-index in
+    (c.requires.between (edge_at edges k) (Contains-get_or edges k none_there c.loop-edge-test.true)).0
+
+pub bounds-ranks-edge-in-loop-edge : goal.bounds-ranks-edge-in-loop-edge
+bounds-ranks-edge-in-loop-edge c =
+    let edges = c.args.edges.now in
+    let k = c.loop-edge.edge-index in
+    (c.requires.between (edge_at edges k) (Contains-get_or edges k none_there c.loop-edge-test.true)).1
+
+pub returns-clause-same : goal.returns-clause-same
+returns-clause-same c p =
+    let edges = c.args.edges.now in
+    let all : take c.loop-edge.edge-index edges ≡ edges = take_all c.loop-edge.edge-index edges (omega arith) in
+    let whole : c.loop-edge.others.items ≡ map (by_ranks c.args.ranks.now) edges = c.loop-edge.invariant ∙ ap (map (by_ranks c.args.ranks.now)) all in
+    subst (λ (others : List GraphEdge). Contains c.put_in_order.new.edges.items p ↔ Contains others p) whole (c.put_in_order.ensures.same p)

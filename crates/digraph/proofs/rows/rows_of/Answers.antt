@@ -1,0 +1,29 @@
+-- One edge more.
+use Rattle.std.proofs.Common.{◌≡◌, ◌<◌, ◌∙◌, length, arith}
+use Rattle.std.specs.Prelude.{vec_len}
+use Rattle.std.proofs.lemmas.List.{length-map}
+use Rattle.std.proofs.lemmas.List.Elements.{Contains-get_or}
+use Rattle.digraph.specs.Marks.{edge_at, lists, none_there}
+use Rattle.digraph.proofs.ByNode.{rows_more}
+use Rattle.digraph.proofs.rows.rows_of.Goals as goal
+
+pub add-requires : goal.add-requires
+add-requires c =
+    let edges = c.args.edges.now in
+    let k = c.loop-edge.edge-index in
+    let b = c.requires.between (edge_at edges k) (Contains-get_or edges k none_there c.loop-edge-test.true) in
+    let l : (edge_at edges k).to < c.args.nodes = b.1 in
+    let size : vec_len c.loop-edge.rows ≡ c.args.nodes = c.loop-edge.invariant.0 in
+    omega arith
+
+pub loop-edge-preserved : goal.loop-edge-preserved
+loop-edge-preserved c =
+    let edges = c.args.edges.now in
+    let k = c.loop-edge.edge-index in
+    let old = c.loop-edge.rows.items in
+    let b = c.requires.between (edge_at edges k) (Contains-get_or edges k none_there c.loop-edge-test.true) in
+    let l : (edge_at edges k).to < c.args.nodes = b.1 in
+    let size : vec_len c.loop-edge.rows ≡ c.args.nodes = c.loop-edge.invariant.0 in
+    let ok = c.loop-edge.rows.ok.0 in
+    let len : length (lists old) ≡ length old = length-map old (λ v. v.items) in
+    (c.in_ok-add.ensures.size ∙ size, rows_more edges (lists old) (lists c.add.new.predecessors.items) k c.loop-edge-test.true (omega arith) c.loop-edge.invariant.1 c.in_ok-add.ensures.rows)

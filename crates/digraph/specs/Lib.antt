@@ -1,0 +1,5 @@
+pub mod Chains
+pub mod Cycle
+pub mod Edges
+pub mod Marks
+pub mod Ranks

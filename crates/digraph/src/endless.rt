@@ -1,0 +1,141 @@
+//! The greatest set of nodes each of which leads to a member.
+ghost use Rattle.std.specs.Prelude.{ℕ, ◌≡◌, ◌<◌, ◌≤◌, ◌+◌, ◌++◌, [], ◌∷◌, Contains, false, true, length, slice_set, vec_len, IfOk, IfSome, IfNone, OnOk};
+ghost use Rattle.digraph.specs.Cycle.{IsEndless, IsNext};
+ghost use Rattle.digraph.specs.Marks.{edge_at, marked, place_at, row_at, lists, work_left, StartsFrom, ArePassed, ArePredecessors, AreStarts, IsSettling, LeadsToMarked};
+ghost use Rattle.digraph.specs.Edges.{AreBetween, IsAscending, Leads};
+
+use crate::Edge;
+use crate::rows::{add, empty_rows};
+use std::alloc::{AllocError, Global};
+
+/// The nodes from which edges may still go on for ever, while they are sought, and in the end those from which they do.
+#[derive(Drop)]
+pub(crate) struct Endless {
+    /// Per node whether it is one of them.
+    pub(crate) marks: Vec<bool>,
+    /// Per node the place of one of its edges, before which none leads to a marked node; in the end that edge
+    /// does, for each node with a mark.
+    pub(crate) places: Vec<usize>,
+}
+
+/// Whether the node has a mark; past the end there is none.
+pub fn is_marked(marks: &[bool], node: u32) -> bool
+    ensures { result ≡ marked marks.now node }
+{
+    match marks.get(node as usize) {
+        Some(mark) => *mark,
+        None => false,
+    }
+}
+
+/// Per node the place of its first edge; one without edges has the end.
+fn starts_of(alloc: Global, edges: &[Edge], nodes: usize) -> Result<Vec<usize>, AllocError>
+    requires between { AreBetween edges.now nodes }
+    requires ascending { IsAscending edges.now }
+    ensures { IfOk result (λ places. AreStarts edges.now nodes places.items) }
+{
+    let mut places = vec![in alloc; edges.len(); nodes]?;
+    for place in (0..edges.len()).rev() {
+        places[edges[place].from as usize] = place;
+    }
+    Ok(places)
+}
+
+/// Per node those with an edge to it.
+fn predecessors_of(alloc: Global, edges: &[Edge], nodes: usize) -> Result<Vec<Vec<u32>>, AllocError>
+    requires between { AreBetween edges.now nodes }
+    ensures size { IfOk result (λ rows. vec_len rows ≡ nodes) }
+    ensures predecessors { IfOk result (λ rows. ArePredecessors edges.now (lists rows.items) (length edges.now)) }
+{
+    let mut predecessors = empty_rows(alloc, nodes)?;
+    for edge in edges {
+        add(&mut predecessors, *edge)?;
+    }
+    Ok(predecessors)
+}
+
+/// All nodes.
+fn each_node(alloc: Global, nodes: usize) -> Result<Vec<u32>, AllocError>
+    requires { nodes ≤ 8192 }
+    ensures { IfOk result (λ all. (v : ℕ) → v < nodes → Contains all.items v) }
+{
+    let mut all = Vec::new(alloc);
+    for node in 0..nodes {
+        all.push(node as u32)?;
+    }
+    Ok(all)
+}
+
+/// The place, from this one on, of the node's first edge to a marked node.
+fn marked_from(edges: &[Edge], marks: &[bool], node: u32, start: usize) -> Option<usize>
+    requires ascending { IsAscending edges.now }
+    requires start { StartsFrom edges.now node start }
+    ensures after { IfSome result (λ place. start ≤ place) }
+    ensures leads { IfSome result (λ place. LeadsToMarked edges.now marks.now node place) }
+    ensures passed { IfSome result (λ place. ArePassed edges.now marks.now node start place) }
+    ensures none { IfNone result (ArePassed edges.now marks.now node start (length edges.now)) }
+{
+    for place in start..edges.len() {
+        if edges[place].from != node {
+            return None;
+        }
+        if is_marked(marks, edges[place].to) {
+            return Some(place);
+        }
+    }
+    None
+}
+
+impl Endless {
+    /// Looks at a node again: goes on to its next edge to a marked node, or takes its mark away.
+    fn look(
+        &mut self,
+        edges: &[Edge],
+        predecessors: &[Vec<u32>],
+        node: u32,
+        again: &mut Vec<u32>,
+    ) -> Result<(), AllocError>
+        requires ascending { IsAscending edges.now }
+        requires between { AreBetween edges.now (length predecessors.now) }
+        requires predecessors { ArePredecessors edges.now (lists predecessors.now) (length edges.now) }
+        requires settling { IsSettling edges.now (length predecessors.now) self.old.marks.items self.old.places.items (again.old.items ++ node ∷ []) }
+        ensures settling { OnOk result (IsSettling edges.now (length predecessors.now) self.new.marks.items self.new.places.items again.new.items) }
+        ensures less { OnOk result (work_left edges.now self.new.marks.items again.new.items ≤ work_left edges.now self.old.marks.items again.old.items) }
+    {
+        if !is_marked(self.marks.as_slice(), node) {
+            return Ok(());
+        }
+        let start = self.places[node as usize];
+        match marked_from(edges, self.marks.as_slice(), node, start) {
+            Some(place) => self.places[node as usize] = place,
+            None => {
+                self.marks[node as usize] = false;
+                again.extend_from_slice(predecessors[node as usize].as_slice())?;
+            }
+        }
+        Ok(())
+    }
+}
+
+/// Marks the greatest set of nodes each of which leads to a member.
+pub(crate) fn endless_of(alloc: Global, edges: &[Edge], nodes: usize) -> Result<Endless, AllocError>
+    requires between { AreBetween edges.now nodes }
+    requires ascending { IsAscending edges.now }
+    requires few_nodes { nodes ≤ 8192 }
+    ensures endless { IfOk result (λ endless. IsEndless (Leads edges.now) (marked endless.marks.items)) }
+    ensures size { IfOk result (λ endless. vec_len endless.marks ≡ nodes) }
+    ensures placed { IfOk result (λ endless. vec_len endless.places ≡ nodes) }
+    ensures within { IfOk result (λ endless. (v : ℕ) → marked endless.marks.items v ≡ true → place_at endless.places.items v < length edges.now) }
+    ensures next { IfOk result (λ endless. (v : ℕ) → marked endless.marks.items v ≡ true →
+        IsNext (Leads edges.now) (marked endless.marks.items) v (edge_at edges.now (place_at endless.places.items v)).to) }
+{
+    let predecessors = predecessors_of(alloc, edges, nodes)?;
+    let marks = vec![in alloc; true; nodes]?;
+    let places = starts_of(alloc, edges, nodes)?;
+    let mut endless = Endless { marks, places };
+    let mut again = each_node(alloc, nodes)?;
+    while let Some(node) = again.pop() {
+        endless.look(edges, predecessors.as_slice(), node, &mut again)?;
+    }
+    Ok(endless)
+}

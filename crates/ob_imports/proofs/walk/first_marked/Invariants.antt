@@ -1,6 +1,0 @@
-use Rattle.std.proofs.Common.{ℕ, ◌<◌, ◌≡◌, false}
-use Rattle.ob_imports.specs.Knots.{marked}
-use Rattle.ob_imports.proofs.walk.first_marked.Given as goal
-
-abbrev pub invariant-loop-node : goal.invariant-loop-node
-invariant-loop-node l = (u : ℕ) → u < l.node → marked l.marks u ≡ false
