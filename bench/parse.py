@@ -1,6 +1,6 @@
 # Runs the program of bench/timing on folders of generated modules, beside other programs, and prints rates and ratios.
 # Each time is the least of seven rounds, or of as many as begin within 20 seconds; what is compared takes turns.
-# Usage: parse.py PROGRAM scan|parse|walk FOLDER SHAPE..
+# Usage: parse.py PROGRAM scan|lines|parse|walk FOLDER SHAPE..
 import os, subprocess, sys, time
 
 program, step, folder = sys.argv[1:4]
@@ -52,6 +52,15 @@ def memory(step, files):
 def rate(count, nanoseconds):
     return "%.0f" % (count * 1000 / nanoseconds) if nanoseconds > 1e6 else "-"
 
+
+if step == "lines":
+    print("| Shape | Tokens | Making the lines, scan | A place for each token, scan |\n|---|---|---|---|")
+    for shape in shapes:
+        files = files_of(shape)
+        best = least(lambda: own_times(step, files))
+        ratios = ["%.2f" % (best[name] / best["scan"]) for name in ("lines", "places")]
+        print("| %s | %d | %s | %s |" % (shape, best["tokens"], *ratios), flush=True)
+    sys.exit()
 
 source = files_of("c")
 size = sum(map(os.path.getsize, source))

@@ -1,8 +1,9 @@
 #!/usr/bin/env bash
-# Times the scanner, the parser and the walkers of Oberon-07 apart on generated modules, beside wc and ctags on the same
-# files, and beside a C compiler's pass over C of the same style and size.
+# Times the scanner, the lines, the parser and the walkers of Oberon-07 apart on generated modules, beside wc and ctags on
+# the same files, and beside a C compiler's pass over C of the same style and size.
 # It builds its own program in a repository of its own, from copies of the crates: bench/parse.sh [STEP [SHAPE..]]
-# STEP is the last of the steps: scan, parse or walk. TIMING names a program that is built, and KEEP a folder for the files.
+# STEP is the last of the steps: scan, parse or walk. With the STEP lines it times what places of tokens cost, and nothing else.
+# TIMING names a program that is built, and KEEP a folder for the files.
 set -eu
 here=$(cd "$(dirname "$0")" && pwd)
 step=${1:-walk}

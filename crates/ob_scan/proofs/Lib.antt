@@ -1,6 +1,7 @@
 pub mod Closings
 pub mod Continuing
 pub mod LineStarts
+pub mod LineTables
 pub mod Marks
 pub mod NameTokens
 pub mod Names

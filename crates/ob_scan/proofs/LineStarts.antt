@@ -14,7 +14,7 @@ pub record AtLine (bytes : List ℕ) (at line first : ℕ) : Type 0 where
   pub begins : (first ≡ 0) ⊎ ((last : ℕ) × (last + 1 ≡ first) × (ends_line bytes last ≡ true))
   pub whole : (k : ℕ) → first ≤ k → k < at → ends_line bytes k ≡ false
 
-range_last : (a n : ℕ) → range_with_len a (suc n) ≡ range_with_len a n ++ (a + n) ∷ []
+pub range_last : (a n : ℕ) → range_with_len a (suc n) ≡ range_with_len a n ++ (a + n) ∷ []
 range_last a zero = rw add-zero refl
 range_last a (suc n) =
     let next : (a + 1) + n ≡ a + suc n = omega arith in

@@ -1,6 +1,7 @@
 -- Lines and columns, from 0. A line ends at LF, at CR LF, or at a CR alone, and the bytes of its end belong to it.
-use Rattle.std.specs.Prelude.{◌≡◌, ℕ, ◌+◌, ◌≤◌, ◌<◌, List, Bool, true, false, ◌==◌, ◌&&◌, ◌||◌, not, ◌⊎◌, slice_index, count_by}
-use Rattle.std.specs.List.{range_with_len}
+use Rattle.std.specs.Prelude.{◌≡◌, ℕ, ◌+◌, ◌-◌, ◌≤◌, ◌<◌, List, Bool, true, false, ◌==◌, ◌&&◌, ◌||◌, not, ◌⊎◌, length, min, slice_index, count_by}
+use Rattle.std.specs.List.{range_with_len, filter}
+use Rattle.std.specs.List.Sorted.{IsNonDecreasing}
 
 -- the byte at this place is the last of a line's end: an LF, or a CR that no LF follows
 abbrev pub ends_line : List ℕ → ℕ → Bool
@@ -13,3 +14,18 @@ pub record IsPosition (bytes : List ℕ) (offset line column : ℕ) : Type 0 whe
   pub column_is : first + column ≡ offset
   pub begins : (first ≡ 0) ⊎ ((last : ℕ) × (last + 1 ≡ first) × (ends_line bytes last ≡ true))
   pub whole : (at : ℕ) → first ≤ at → at < offset → ends_line bytes at ≡ false
+
+-- a line begins at the text's start, and behind each line end
+abbrev pub begins_line : List ℕ → ℕ → Bool
+begins_line bytes offset = (offset == 0) || ends_line bytes (offset - 1)
+
+-- where the lines begin, of the offsets that 32 bits hold
+abbrev pub line_starts : List ℕ → List ℕ
+line_starts bytes = filter (begins_line bytes) (range_with_len 0 (min (length bytes + 1) 4294967296))
+
+-- what every table of lines keeps: a first line that begins at 0, none that begins before the one above it, and no more than 32 bits number
+pub record IsLineTable (starts : List ℕ) : Type 0 where
+  pub some : 0 < length starts
+  pub first : slice_index starts 0 ≡ 0
+  pub rising : IsNonDecreasing starts
+  pub few : length starts ≤ 4294967296

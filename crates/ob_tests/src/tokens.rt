@@ -1,6 +1,6 @@
 //! Texts, each with its tokens or its fault.
 use crate::texts::is_told;
-use ob_scan::{position, scan};
+use ob_scan::{Lines, lines, position, scan};
 use std::alloc::{AllocError, Global};
 use std::process::Abort;
 use std::test::Fail;
@@ -175,5 +175,73 @@ fn lines_end_at_each_of_three_ends(rt: HostRuntime) -> Result<(), Fail> {
     for (offset, want) in POSITIONS {
         stands(&rt, *offset, want)?;
     }
+    Ok(())
+}
+
+/// Texts, an offset in each, and its line and column by the text's lines.
+const PLACES: &[(&[u8], u32, &str)] = &[
+    // LF, CR LF, CR alone, and no end.
+    (b"ab\ncd", 3, "1 0"),
+    (b"ab\r\ncd", 3, "0 3"),
+    (b"ab\r\ncd", 4, "1 0"),
+    (b"ab\rcd", 3, "1 0"),
+    (b"abcd", 3, "0 3"),
+    // Ends of texts.
+    (b"ab\ncd", 5, "1 2"),
+    (b"ab\n\n", 4, "2 0"),
+    (b"ab\r", 3, "1 0"),
+    (b"", 0, "0 0"),
+];
+
+fn told_by_lines(alloc: Global, text: &[u8], offset: u32) -> Result<String, AllocError> {
+    let found = lines(alloc, text)?.position(offset);
+    let line = found.line;
+    let column = found.column;
+    format!(in alloc; "{line} {column}")
+}
+
+fn stands_by_lines(
+    rt: &(impl Abort + AllocGlobal),
+    text: &[u8],
+    offset: u32,
+    want: &str,
+) -> Result<(), Fail> {
+    let told = told_by_lines(rt.alloc(), text, offset)?;
+    is_told(rt, told.as_str(), want);
+    Ok(())
+}
+
+#[test]
+fn lines_tell_places(rt: HostRuntime) -> Result<(), Fail> {
+    for (text, offset, want) in PLACES {
+        stands_by_lines(&rt, text, *offset, want)?;
+    }
+    Ok(())
+}
+
+/// Checks that the lines of a text tell the same place as its bytes.
+fn agrees(rt: &impl Abort, text: &[u8], lines: &Lines, offset: u32) {
+    if offset as usize <= text.len() {
+        let place = position(text, offset);
+        assert_eq!(rt; lines.position(offset), place);
+    }
+}
+
+#[test]
+fn lines_tell_each_token_of_a_long_text(rt: HostRuntime) -> Result<(), Fail> {
+    let mut text = Vec::new(rt.alloc());
+    for _ in 0..100_000 {
+        text.extend_from_slice(b"x :=\t1;\r\n")?;
+    }
+    let tokens = scan(rt.alloc(), text.as_slice())?;
+    let table = lines(rt.alloc(), text.as_slice())?;
+    for (number, token) in tokens.as_slice().iter().enumerate() {
+        let place = table.position(token.start);
+        assert_eq!(&rt; place.line as usize, number / 4);
+        if number % 99_999 == 0 {
+            agrees(&rt, text.as_slice(), &table, token.start);
+        }
+    }
+    assert_eq!(&rt; tokens.len(), 400_000);
     Ok(())
 }

@@ -1,8 +1,9 @@
 //! Lines and columns.
-ghost use Rattle.std.specs.Prelude.{◌≡◌, ◌≤◌, ◌<◌, length};
-ghost use Rattle.ob_scan.specs.Position.{IsPosition, ends_line};
+ghost use Rattle.std.specs.Prelude.{◌≡◌, ◌≤◌, ◌<◌, length, IfOk};
+ghost use Rattle.ob_scan.specs.Position.{IsPosition, ends_line, line_starts};
 
-use crate::Position;
+use crate::{Lines, Position};
+use std::alloc::{AllocError, Global};
 
 fn ends_line(bytes: &[u8], at: usize) -> bool
     requires { at < length bytes.now }
@@ -33,4 +34,17 @@ pub fn position(bytes: &[u8], offset: u32) -> Position
         line,
         column: offset - first,
     }
+}
+
+/// Where the lines of a text begin. A text of more than 4 GiB has those that begin within the first 4 GiB.
+pub fn lines(alloc: Global, bytes: &[u8]) -> Result<Lines, AllocError>
+    ensures { IfOk result (λ l. l ≡ line_starts bytes.now) }
+{
+    let mut starts = vec![in alloc; 0]?;
+    for last in 0..bytes.len().min(u32::MAX as usize) as u32 {
+        if ends_line(bytes, last as usize) {
+            starts.push(last + 1)?;
+        }
+    }
+    Ok(Lines::of(starts))
 }

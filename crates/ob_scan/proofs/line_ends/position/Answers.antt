@@ -1,7 +1,7 @@
 use Rattle.std.proofs.Common.{sym, ◌∙◌}
 use Rattle.ob_scan.proofs.LineStarts.{line_ends, line_goes}
-use Rattle.ob_scan.proofs.lines.position.Goals as goal
-use Rattle.ob_scan.proofs.lines.position.Goals.{then-ends_line, else-ends_line}
+use Rattle.ob_scan.proofs.line_ends.position.Goals as goal
+use Rattle.ob_scan.proofs.line_ends.position.Goals.{then-ends_line, else-ends_line}
 
 pub loop-at-preserved : goal.loop-at-preserved
 loop-at-preserved c =
