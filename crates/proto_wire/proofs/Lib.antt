@@ -13,3 +13,4 @@ pub mod WritingLaws
 pub mod GivenLaws
 pub mod MessageSteps
 pub mod SinkLaws
+pub mod EachLaws

@@ -1,5 +1,7 @@
 //! Keys, numbers and payloads as bytes: the one place where they are made.
-ghost use Rattle.std.specs.Prelude.{◌≡◌, ◌<◌, ◌++◌, OnOk};
+ghost use Rattle.std.specs.Prelude.{◌≡◌, ◌<◌, ◌++◌, FitsSigned, OnOk};
+ghost use Rattle.std.specs.Int.{w32};
+ghost use Rattle.std.specs.List.{AllByRecursion};
 ghost use Rattle.proto_wire.specs.Varints.{varint};
 ghost use Rattle.proto_wire.specs.Writing.{bits_of, head_of, key_of, number_field, packing, payload_field, spelled};
 
@@ -47,7 +49,8 @@ pub(crate) fn bits_of(number: i32) -> u64
 
 /// Puts numbers in a row at the end, each a varint.
 pub(crate) fn push_packing(out: &mut Vec<u8>, numbers: &[i32]) -> Result<(), AllocError>
-    ensures { OnOk result (out.new.items ≡ out.old.items ++ packing numbers.now) }
+    ensures bytes { OnOk result (out.new.items ≡ out.old.items ++ packing numbers.now) }
+    ensures fits { OnOk result (AllByRecursion (FitsSigned w32) numbers.now) }
 {
     for number in numbers {
         push_varint(out, bits_of(*number))?;

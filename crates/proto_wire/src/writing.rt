@@ -1,5 +1,7 @@
 //! The fields of a message as records, one after the other. Zeros, empty texts and empty lists of numbers are left out.
-ghost use Rattle.std.specs.Prelude.{◌≡◌, ◌++◌, ℕ, List, map, OnOk};
+ghost use Rattle.std.specs.Prelude.{◌≡◌, ◌++◌, ℕ, FitsSigned, IfSome, List, map, OnOk};
+ghost use Rattle.std.specs.Int.{w32};
+ghost use Rattle.std.specs.List.{AllByRecursion};
 ghost use Rattle.std.specs.Option.{option_to_list};
 ghost use Rattle.std.specs.String.{string_bytes};
 ghost use Rattle.proto_wire.specs.Writing.{number_fields, packed_fields, payload_field, payload_fields, spelled, spelling, text_fields};
@@ -11,7 +13,9 @@ use std::alloc::AllocError;
 /// Puts a number behind the bytes as a field of this number, unless it is 0. A negative one takes ten bytes.
 /// Where memory is refused, nothing is said of the bytes.
 pub fn put_number(out: &mut Vec<u8>, field: u32, number: i32) -> Result<(), AllocError>
-    ensures { OnOk result (out.new.items ≡ out.old.items ++ spelling (number_fields field number)) }
+    ensures bytes { OnOk result (out.new.items ≡ out.old.items ++ spelling (number_fields field number)) }
+    // As any such number.
+    ensures fits { FitsSigned w32 number }
 {
     if number == 0 {
         return Ok(());
@@ -38,7 +42,9 @@ pub fn put_packed(
     field: u32,
     numbers: &[i32],
 ) -> Result<(), AllocError>
-    ensures { OnOk result (out.new.items ≡ out.old.items ++ spelling (packed_fields field numbers.now)) }
+    ensures bytes { OnOk result (out.new.items ≡ out.old.items ++ spelling (packed_fields field numbers.now)) }
+    // As any such numbers.
+    ensures fits { OnOk result (AllByRecursion (FitsSigned w32) numbers.now) }
 {
     if numbers.is_empty() {
         return Ok(());
@@ -54,9 +60,13 @@ pub trait Written {
     /// The bytes of the message.
     ghost written: { Self → List ℕ };
 
+    /// The numbers of the message fit their types, as all numbers do that code holds.
+    ghost fits: { Self → Type 0 };
+
     /// Puts the bytes of the message behind others. Where memory is refused, nothing is said of the bytes.
     fn push_into(&self, scratch: &mut Scratch, out: &mut Vec<u8>) -> Result<(), AllocError>
-        ensures { OnOk result (out.new.items ≡ out.old.items ++ written self.now) };
+        ensures bytes { OnOk result (out.new.items ≡ out.old.items ++ written self.now) }
+        ensures fits { OnOk result (fits self.now) };
 }
 
 /// Puts a record with the bytes of this message at the end. Its length is known when they are.
@@ -66,7 +76,8 @@ fn push_message<M: Written>(
     field: u32,
     message: &M,
 ) -> Result<(), AllocError>
-    ensures { OnOk result (out.new.items ≡ out.old.items ++ spelled (payload_field field (M.written message.now))) }
+    ensures bytes { OnOk result (out.new.items ≡ out.old.items ++ spelled (payload_field field (M.written message.now))) }
+    ensures fits { OnOk result (M.fits message.now) }
 {
     let mut payload = scratch.take();
     message.push_into(scratch, &mut payload)?;
@@ -82,7 +93,8 @@ pub fn put_messages<M: Written>(
     field: u32,
     messages: &[M],
 ) -> Result<(), AllocError>
-    ensures { OnOk result (out.new.items ≡ out.old.items ++ spelling (payload_fields field (map M.written messages.now))) }
+    ensures bytes { OnOk result (out.new.items ≡ out.old.items ++ spelling (payload_fields field (map M.written messages.now))) }
+    ensures fits { OnOk result (AllByRecursion M.fits messages.now) }
 {
     for message in messages {
         push_message(scratch, out, field, message)?;
@@ -98,7 +110,8 @@ pub fn put_message<M: Written>(
     field: u32,
     message: &Option<M>,
 ) -> Result<(), AllocError>
-    ensures { OnOk result (out.new.items ≡ out.old.items ++ spelling (payload_fields field (map M.written (option_to_list message.now)))) }
+    ensures bytes { OnOk result (out.new.items ≡ out.old.items ++ spelling (payload_fields field (map M.written (option_to_list message.now)))) }
+    ensures fits { OnOk result (IfSome message.now M.fits) }
 {
     match message {
         None => Ok(()),
