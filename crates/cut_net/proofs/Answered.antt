@@ -2,7 +2,7 @@
 use Rattle.std.proofs.Common.{◌≡◌, ℕ, ◌^◌, ◌<◌, ◌≤◌, true, List, length, get_or, inl, inr, subst}
 use Rattle.std.specs.Prelude.{All}
 use Rattle.std.proofs.lemmas.List.Elements.{All-contains, Contains-get_or}
-use Rattle.cut_net.specs.Fields.{is_name}
+use Rattle.texts.specs.Fields.{is_name}
 use Rattle.cut_net.specs.Network.{Network}
 use Rattle.cut_net.specs.NetText.{NetLine, Module, Import, IsNetLine, IsNetOf, Mentions, NetText}
 use Rattle.cut_net.specs.NetReading.{IsDraft, IsDraftOf}

@@ -17,7 +17,7 @@ use Rattle.ob_imports.proofs.Members.{from_map, in_map}
 use Rattle.ob_imports.proofs.Places.{place_is}
 use Rattle.ob_scope.specs.Scoped.{ModuleScopes}
 use Rattle.cut_net.specs.declared.priced.Priced.{Priced}
-use Rattle.cut_net.specs.Fields.{is_name}
+use Rattle.texts.specs.Fields.{is_name}
 use Rattle.cut_net.specs.GraphNet.{graph_entry, graph_import, graph_lines, graph_weight, AreLight}
 use Rattle.cut_net.specs.Network as network
 use Rattle.cut_net.specs.Network.{Network}

@@ -4,9 +4,6 @@ pub mod Chains
 pub mod Cycles
 pub mod Duality
 pub mod Ends
-pub mod FieldCuts
-pub mod FieldNames
-pub mod FieldNumbers
 pub mod Fronts
 pub mod GraphLines
 pub mod GraphTables

@@ -5,12 +5,12 @@ use Rattle.std.specs.Option.{option_map_or}
 use Rattle.std.specs.Fmt.{decimal}
 use Rattle.std.proofs.lemmas.Option.{cond_some, option_and_then_some}
 use Rattle.std.proofs.lemmas.Slice.Eq.{bytes_eq-Decides}
-use Rattle.cut_net.specs.Fields.{cut_at, named, number_of, is_name}
+use Rattle.texts.specs.Fields.{cut_at, named, number_of, is_name}
 use Rattle.cut_net.specs.NetText.{NetLine, Module, Import, net_line, IsNetLine}
 use Rattle.cut_net.specs.NetReading.{after_word, import_of, module_of, line_of_piece}
-use Rattle.cut_net.proofs.FieldCuts.{cut_takes, cut_again, without}
-use Rattle.cut_net.proofs.FieldNames.{named_takes, named_again, name_without}
-use Rattle.cut_net.proofs.FieldNumbers.{number_takes, number_again}
+use Rattle.texts.proofs.FieldCuts.{cut_takes, cut_again, without}
+use Rattle.texts.proofs.FieldNames.{named_takes, named_again, name_without}
+use Rattle.texts.proofs.FieldNumbers.{number_takes, number_again}
 
 pub word_takes : (word piece fields : List ℕ) → after_word word piece ≡ Some fields → piece ≡ word ++ 32 ∷ fields
 unfolding after_word

@@ -6,7 +6,7 @@ use Rattle.ob_imports.specs.Cycle.{NamesCycle}
 use Rattle.cut_net.specs.Network.{Network, name_of}
 use Rattle.cut_net.specs.WellFormed.{IsAcyclic, Leads, total_weight}
 use Rattle.cut_net.specs.NetText.{NetLine, Module, Import, net_line, IsNetLine, is_written, pieces_of, AreApart, AreFew, AreGood, IsBadLine, IsTwiceImport, IsTooMany, IsNetOf, NetText, IsOverflow, IsCycle, IsNetOutcome, NetOutcome, Reads, BadLine, TwiceImport, Cycle, WeightOverflow, TooMany}
-use Rattle.cut_net.proofs.FieldCuts.{some_is}
+use Rattle.texts.proofs.FieldCuts.{some_is}
 use Rattle.cut_net.proofs.NetLines.{line_once}
 use Rattle.ob_imports.proofs.OneCycle.{one_cycle, cyclic}
 use Rattle.cut_net.proofs.OneNetwork.{one_network}

@@ -13,9 +13,9 @@ use Rattle.std.proofs.lemmas.List.Sums.{length-filter}
 use Rattle.std.proofs.lemmas.Map.Keys.{IsDistinct-push, apart_from_distinct}
 use Rattle.std.proofs.lemmas.Map.Made.{is_member-Decides, length-from_same_keys}
 use Rattle.std.proofs.lemmas.Slice.Eq.{bytes_eq-Decides}
-use Rattle.cut_net.specs.Fields.{is_name}
+use Rattle.texts.specs.Fields.{is_name}
 use Rattle.cut_net.specs.NetText.{NetLine, Module, Import, net_line, is_import, is_written, AreApart, AreMentioning, AreNamesOf, IsNetLine, Mentions}
-use Rattle.cut_net.specs.NetReading.{entry_line, noted, Adds, AreTablesOf, IsDraft, IsMore, IsTwice, Takes, line_said}
+use Rattle.cut_net.specs.NetReading.{entry_line, noted, Adds, AreTablesOf, IsMore, IsTwice, Takes, line_said}
 use Rattle.cut_net.specs.declared.lines.Line.{Line}
 use Rattle.cut_net.specs.declared.draft.Draft.{Draft}
 use Rattle.cut_net.specs.declared.draft.LineFault.{LineFault}

@@ -1,4 +1,3 @@
-pub mod Fields
 pub mod Network
 pub mod Said
 pub mod Cuts
@@ -7,6 +6,3 @@ pub mod WellFormed
 pub mod NetText
 pub mod NetReading
 pub mod GraphNet
-pub mod ReportLine
-pub mod ReportText
-pub mod ReportLines

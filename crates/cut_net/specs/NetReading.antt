@@ -3,7 +3,7 @@ use Rattle.std.specs.Prelude.{◌≡◌, ◌≢◌, ℕ, ◌<◌, ◌≤◌, tru
 use Rattle.std.specs.List.{list_any, slice_index_or}
 use Rattle.std.specs.Option.{option_map_or}
 use Rattle.std.specs.Str.{bytes_eq}
-use Rattle.cut_net.specs.Fields.{cut_at, named, number_of}
+use Rattle.texts.specs.Fields.{cut_at, named, number_of}
 use Rattle.cut_net.specs.Network.{Network, texts}
 use Rattle.cut_net.specs.NetText.{NetLine, Module, Import, NetOutcome, Reads, BadLine, TwiceImport, Cycle, WeightOverflow, TooMany, net_line, is_import, is_written, pieces_of, AreApart, AreFew, AreNamesOf, IsNetLine, Spell}
 use Rattle.cut_net.specs.declared.draft.Draft.{Draft}

@@ -5,7 +5,7 @@ use Rattle.std.specs.Str.{bytes_eq}
 use Rattle.std.specs.Fmt.{decimal}
 use Rattle.ob_imports.specs.Cycle.{NamesCycle}
 use Rattle.cut_net.specs.declared.priced.Priced.{Priced}
-use Rattle.cut_net.specs.Fields.{is_name, line_of}
+use Rattle.texts.specs.Fields.{is_name, line_of}
 use Rattle.cut_net.specs.Network.{Network, name_of}
 use Rattle.cut_net.specs.Lines.{IsAscending}
 use Rattle.cut_net.specs.WellFormed.{AreBetween, AreNamesInOrder, IsAcyclic, Leads, total_weight}

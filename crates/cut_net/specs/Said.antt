@@ -5,9 +5,3 @@ use Rattle.cut_net.specs.declared.priced.Priced.{Priced}
 -- what is said of two modules: a cut of this weight, with its imports and a flow
 pub data Said : Type 0 where
   CutOf : ℕ → List Priced → List Priced → Said
-
--- a report: the numbers of the two modules, and what is said of them
-pub record Entry : Type 0 where
-  pub from : ℕ
-  pub to : ℕ
-  pub said : Said

@@ -3,7 +3,7 @@ ghost use Rattle.std.specs.Prelude.{◌≡◌, ◌<◌, ◌≤◌, ◌++◌, tru
 ghost use Rattle.cut_net.specs.declared.fault.NetFault.TheVariants.{Memory};
 ghost use Rattle.ob_imports.specs.Graphs.{imported};
 ghost use Rattle.ob_scope.specs.Weights.{uses_across};
-ghost use Rattle.cut_net.specs.Fields.{is_name};
+ghost use Rattle.texts.specs.Fields.{is_name};
 ghost use Rattle.cut_net.specs.GraphNet.{entry_to, graph_entry, graph_lines, sum_in, AreBefore, AreLight};
 ghost use Rattle.cut_net.specs.Network.{texts};
 ghost use Rattle.cut_net.specs.NetReading.{IsDraft};

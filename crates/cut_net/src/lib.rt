@@ -1,5 +1,5 @@
 //! Networks: modules by name, the imports between them, and what each import costs.
-//! Stands on `ob_imports` for cycles and graphs and on `ob_scope` for the uses of aliases, with `indexmap` for its tables and `thiserror` for its faults.
+//! Stands on `texts` for names and numbers, on `ob_imports` for cycles and graphs and on `ob_scope` for the uses of aliases, with `indexmap` for its tables and `thiserror` for its faults.
 //! Its contract: a network is exactly what its text says, or the graph and the scopes that it is made of; it keeps its limits and has no cycle; and the laws of cuts.
 #![tactic(auto)]
 
@@ -7,7 +7,6 @@ mod cut;
 mod cycle;
 mod draft;
 mod fault;
-pub mod fields;
 mod from_graph;
 pub mod laws;
 mod lines;
@@ -20,3 +19,4 @@ pub use cut::Cut;
 pub use fault::NetFault;
 pub use net::Net;
 pub use priced::Priced;
+pub use texts::fields;

@@ -2,7 +2,7 @@
 ghost use Rattle.std.specs.Prelude.{◌≡◌, None, option_map};
 ghost use Rattle.cut_net.specs.NetReading.{after_word, import_of, line_of_piece, line_said, module_of};
 
-use crate::fields::{cut_at_byte, name_in, number_in};
+use texts::fields::{cut_at_byte, name_in, number_in};
 
 /// What a line says.
 pub(crate) enum Line<'a> {

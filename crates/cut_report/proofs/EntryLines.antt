@@ -6,12 +6,13 @@ use Rattle.std.proofs.lemmas.List.Elements.{All-weaker}
 use Rattle.cut_net.specs.declared.priced.Priced.{Priced}
 use Rattle.cut_net.specs.Network.{Network, name_of, index_of}
 use Rattle.cut_net.specs.WellFormed.{IsNetwork}
-use Rattle.cut_net.specs.Said.{Entry, Said, CutOf}
-use Rattle.cut_net.specs.ReportText.{IsReport, IsSayable, MaySay}
-use Rattle.cut_net.specs.ReportLine.{ReportLine, Ends, Weighs, Removes, Flows, Last}
-use Rattle.cut_net.specs.ReportLines.{may_follow, is_above, IsGoodAfter, AreGoodAfter, last_of}
+use Rattle.cut_net.specs.Said.{Said, CutOf}
+use Rattle.cut_report.specs.Entry.{Entry}
+use Rattle.cut_report.specs.ReportText.{IsReport, IsSayable, MaySay}
+use Rattle.cut_report.specs.ReportLine.{ReportLine, Ends, Weighs, Removes, Flows, Last}
+use Rattle.cut_report.specs.ReportLines.{may_follow, is_above, IsGoodAfter, AreGoodAfter, last_of}
 use Rattle.cut_net.proofs.Places.{index_again}
-use Rattle.cut_net.specs.ReportLine.{removes, flows, said_lines, front_lines, entry_lines}
+use Rattle.cut_report.specs.ReportLine.{removes, flows, said_lines, front_lines, entry_lines}
 use Rattle.cut_report.proofs.NameOrder.{AreIn, apart, name_known}
 use Rattle.cut_report.proofs.ImportLines.{FitsWord, FitsFlow, IsRun, IsFirst, flow_lines, remove_lines, run_good, good_run, good_after, run_from, run_fits, run_between, run_ascends, named_in, name_is}
 

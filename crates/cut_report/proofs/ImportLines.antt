@@ -7,13 +7,13 @@ use Rattle.std.proofs.lemmas.List.{get_or_past}
 use Rattle.std.proofs.lemmas.List.Elements.{All-head, All-tail, All-cons, All-nil, All-get_or, All-contains}
 use Rattle.std.proofs.lemmas.List.Kept.{AllPairs-cons}
 use Rattle.cut_net.specs.declared.priced.Priced.{Priced}
-use Rattle.cut_net.specs.Fields.{is_name}
+use Rattle.texts.specs.Fields.{is_name}
 use Rattle.cut_net.specs.Network.{Network, name_of}
 use Rattle.cut_net.specs.Lines.{comes_before, IsAscending}
 use Rattle.cut_net.specs.WellFormed.{AreBetween, IsNetwork}
-use Rattle.cut_net.specs.ReportLine.{ReportLine}
-use Rattle.cut_net.specs.ReportLines.{HasForm, IsKnown, may_follow, is_above, AreGoodAfter, last_of}
-use Rattle.cut_net.specs.ReportLine.{removes, flows}
+use Rattle.cut_report.specs.ReportLine.{ReportLine}
+use Rattle.cut_report.specs.ReportLines.{HasForm, IsKnown, may_follow, is_above, AreGoodAfter, last_of}
+use Rattle.cut_report.specs.ReportLine.{removes, flows}
 use Rattle.cut_report.proofs.NameOrder.{AreIn, before_is, name_known}
 
 -- a module of a name is one of the network

@@ -8,3 +8,4 @@ pub mod Readings
 pub mod LastImports
 pub mod Standings
 pub mod TextSteps
+pub mod Rows

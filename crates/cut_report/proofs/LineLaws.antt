@@ -4,12 +4,12 @@ use Rattle.std.specs.Fmt.{decimal}
 use Rattle.std.specs.Str.{bytes_eq}
 use Rattle.std.proofs.lemmas.Bool.{and_parts, ltb-true, lt-ltb}
 use Rattle.std.proofs.lemmas.Slice.Eq.{bytes_eq-Decides}
-use Rattle.cut_net.specs.Fields.{cut_at, named, number_of, is_name}
-use Rattle.cut_net.specs.ReportLine.{ReportLine, Ends, Weighs, Removes, Flows, Last, report_line}
-use Rattle.cut_net.specs.ReportLines.{HasForm}
-use Rattle.cut_net.proofs.FieldCuts.{cut_takes, cut_again, cut_none, without, some_is}
-use Rattle.cut_net.proofs.FieldNames.{named_takes, named_again, name_without, decimal_without, without-append}
-use Rattle.cut_net.proofs.FieldNumbers.{number_takes, number_again}
+use Rattle.texts.specs.Fields.{cut_at, named, number_of, is_name}
+use Rattle.cut_report.specs.ReportLine.{ReportLine, Ends, Weighs, Removes, Flows, Last, report_line}
+use Rattle.cut_report.specs.ReportLines.{HasForm}
+use Rattle.texts.proofs.FieldCuts.{cut_takes, cut_again, cut_none, without, some_is}
+use Rattle.texts.proofs.FieldNames.{named_takes, named_again, name_without, decimal_without, without-append}
+use Rattle.texts.proofs.FieldNumbers.{number_takes, number_again}
 use Rattle.cut_report.specs.Lines.{◌>>=◌, amount_of, ends_of, import_under, line_of_text, line_under}
 
 -- the value of a step that gave one

@@ -13,7 +13,7 @@ use Rattle.cut_net.specs.declared.priced.Priced.{Priced}
 use Rattle.cut_net.specs.Network.{Network, name_of, index_of}
 use Rattle.cut_net.specs.Lines.{comes_before}
 use Rattle.cut_net.specs.WellFormed.{AreNamesInOrder}
-use Rattle.cut_net.specs.ReportLines.{IsKnownName, is_before}
+use Rattle.cut_report.specs.ReportLines.{IsKnownName, is_before}
 use Rattle.cut_net.proofs.Search.{AreApart}
 use Rattle.cut_net.proofs.Places.{index_takes, index_again}
 

@@ -4,13 +4,13 @@ use Rattle.std.specs.Prelude.{IfSome}
 use Rattle.std.proofs.lemmas.List.{append-nil}
 use Rattle.cut_net.specs.Network.{Network}
 use Rattle.cut_net.specs.WellFormed.{IsNetwork}
-use Rattle.cut_net.specs.Said.{Entry}
-use Rattle.cut_net.specs.ReportLine.{ReportLine, Last, written}
-use Rattle.cut_net.specs.ReportLines.{last_of, IsFront, ReportOutcome, Reads, BadLine, UnknownName, Order, NoEnd, IsReportOutcome}
+use Rattle.cut_report.specs.Entry.{Entry}
+use Rattle.cut_report.specs.ReportLine.{ReportLine, Last, written}
+use Rattle.cut_report.specs.ReportLines.{last_of, IsFront, ReportOutcome, Reads, BadLine, UnknownName, Order, NoEnd, IsReportOutcome}
 use Rattle.cut_report.specs.declared.fault.ReportFault.{ReportFault}
 use Rattle.cut_report.specs.declared.report.Report.{Report}
 use Rattle.cut_report.specs.Reading.{outcome_of}
-use Rattle.cut_net.specs.ReportLine.{front_lines, entry_lines}
+use Rattle.cut_report.specs.ReportLine.{front_lines, entry_lines}
 use Rattle.cut_report.proofs.RestKinds.{Kind, Good, Bad, Unknown, Below, Unended, Over, rest_kind, kind_bad, kind_unknown, kind_below, kind_unended, kind_over, fronts_once}
 use Rattle.cut_report.proofs.EntryLines.{report_good, entry_in, entry_again, last_of-append}
 

@@ -3,12 +3,12 @@ use Rattle.std.proofs.Common.{◌≡◌, ◌≢◌, ℕ, ◌&&◌, Bool, true, f
 use Rattle.std.specs.Prelude.{is_some}
 use Rattle.std.specs.Option.{option_map_or}
 use Rattle.std.proofs.lemmas.Bool.{and_parts, false_from_ne_true}
-use Rattle.cut_net.specs.Fields.{cut_at, ended}
+use Rattle.texts.specs.Fields.{cut_at, ended}
 use Rattle.cut_net.specs.Network.{Network, index_of}
 use Rattle.cut_net.specs.WellFormed.{AreNamesInOrder}
-use Rattle.cut_net.specs.ReportLine.{ReportLine, Ends, Weighs, Removes, Flows, Last, report_line, written}
-use Rattle.cut_net.specs.ReportLines.{may_follow, is_above, IsKnown, IsKnownName, IsGoodAfter, AreGoodAfter, IsNextLine, IsWrong, BeginsWith, has_line_end, last_of}
-use Rattle.cut_net.proofs.FieldCuts.{cut_none}
+use Rattle.cut_report.specs.ReportLine.{ReportLine, Ends, Weighs, Removes, Flows, Last, report_line, written}
+use Rattle.cut_report.specs.ReportLines.{may_follow, is_above, IsKnown, IsKnownName, IsGoodAfter, AreGoodAfter, IsNextLine, IsWrong, BeginsWith, has_line_end, last_of}
+use Rattle.texts.proofs.FieldCuts.{cut_none}
 use Rattle.cut_report.specs.Lines.{line_of_text}
 use Rattle.cut_report.proofs.LineLaws.{line_again, line_takes, line_once, line_without}
 use Rattle.cut_report.proofs.NameOrder.{known_from_index, index_from_known}

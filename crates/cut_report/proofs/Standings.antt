@@ -6,12 +6,12 @@ use Rattle.std.proofs.lemmas.List.{append-nil, map_push}
 use Rattle.cut_net.specs.declared.priced.Priced.{Priced}
 use Rattle.cut_net.specs.Network.{Network, name_of, index_of}
 use Rattle.cut_net.specs.WellFormed.{IsNetwork}
-use Rattle.cut_net.specs.ReportLine.{ReportLine, Ends, Weighs, Removes, Flows, Last}
-use Rattle.cut_net.specs.ReportLines.{HasForm, may_follow, is_above, IsKnown, IsKnownName, IsGoodAfter, AreGoodAfter, IsNextLine, last_of}
+use Rattle.cut_report.specs.ReportLine.{ReportLine, Ends, Weighs, Removes, Flows, Last}
+use Rattle.cut_report.specs.ReportLines.{HasForm, may_follow, is_above, IsKnown, IsKnownName, IsGoodAfter, AreGoodAfter, IsNextLine, last_of}
 use Rattle.cut_net.proofs.Places.{index_takes}
 use Rattle.cut_report.specs.declared.fault.LineFault.{LineFault}
 use Rattle.cut_report.specs.declared.fault.LineFault.TheVariants as faults
-use Rattle.cut_net.specs.ReportLine.{removes, flows, front_lines, entry_lines}
+use Rattle.cut_report.specs.ReportLine.{removes, flows, front_lines, entry_lines}
 use Rattle.cut_report.specs.Drafts.{◌>>=◌, Standing, Start, Named, Open, Ended, Part, entry_of_part, going_on, import_of, is_after, last_import, named_by, opened_by, step, with_removed}
 use Rattle.cut_report.proofs.NameOrder.{AreIn, index_from_known, known_from_index}
 use Rattle.cut_report.proofs.ImportLines.{AreLines, FitsWord, FitsFlow, IsRun, flow_lines, remove_lines, good_run, good_after}

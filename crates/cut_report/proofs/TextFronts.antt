@@ -1,9 +1,9 @@
 -- What a text begins with: a line and its end.
 use Rattle.std.proofs.Common.{◌≡◌, ℕ, true, false, not, eqb, List, [], ◌∷◌, ◌++◌, Some, refl, sym, ap, ◌∙◌, append_assoc}
 use Rattle.std.proofs.lemmas.Bool.{and_from, and_parts, not-true, or_parts}
-use Rattle.cut_net.specs.Fields.{cut_at, ended}
-use Rattle.cut_net.specs.ReportLines.{has_line_end}
-use Rattle.cut_net.proofs.FieldCuts.{cut_again, without, some_is}
+use Rattle.texts.specs.Fields.{cut_at, ended}
+use Rattle.cut_report.specs.ReportLines.{has_line_end}
+use Rattle.texts.proofs.FieldCuts.{cut_again, without, some_is}
 
 pub without_end : (bytes : List ℕ) → has_line_end bytes ≡ false → without 10 bytes ≡ true
 without_end [] e = refl

@@ -5,15 +5,15 @@ use Rattle.std.specs.Option.{ok_or}
 use Rattle.std.proofs.lemmas.Bool.{cases_Bool}
 use Rattle.std.proofs.lemmas.List.{append-nil, length_push, length-append}
 use Rattle.std.proofs.lemmas.List.Concat.{flat_map-append}
-use Rattle.cut_net.specs.Fields.{cut_at, ended, with_first}
+use Rattle.texts.specs.Fields.{cut_at, ended, with_first}
 use Rattle.cut_net.specs.Network.{Network}
 use Rattle.cut_net.specs.WellFormed.{IsNetwork}
-use Rattle.cut_net.specs.ReportLine.{ReportLine, Last, report_line, written}
-use Rattle.cut_net.specs.ReportLines.{HasForm, IsGoodAfter, IsNextLine, IsFront, BeginsWith, IsWrong, IsBadLine, IsUnknownName, IsOutOfOrder, has_line_end, last_of, IsReportOutcome}
-use Rattle.cut_net.proofs.FieldCuts.{cut_takes, without, some, some_is, with_some}
+use Rattle.cut_report.specs.ReportLine.{ReportLine, Last, report_line, written}
+use Rattle.cut_report.specs.ReportLines.{HasForm, IsGoodAfter, IsNextLine, IsFront, BeginsWith, IsWrong, IsBadLine, IsUnknownName, IsOutOfOrder, has_line_end, last_of, IsReportOutcome}
+use Rattle.texts.proofs.FieldCuts.{cut_takes, without, some, some_is, with_some}
 use Rattle.cut_report.specs.declared.fault.LineFault.{LineFault}
 use Rattle.cut_report.specs.declared.fault.LineFault.TheVariants as faults
-use Rattle.cut_net.specs.ReportLine.{front_lines, entry_lines}
+use Rattle.cut_report.specs.ReportLine.{front_lines, entry_lines}
 use Rattle.cut_report.specs.Lines.{line_of_text}
 use Rattle.cut_report.specs.declared.fault.ReportFault.{ReportFault}
 use Rattle.cut_report.specs.declared.draft.Draft.{Draft}

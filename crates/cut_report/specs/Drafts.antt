@@ -4,9 +4,10 @@ use Rattle.std.specs.Option.{ok_or}
 use Rattle.cut_net.specs.declared.priced.Priced.{Priced}
 use Rattle.cut_net.specs.Network.{Network, index_of}
 use Rattle.cut_net.specs.Lines.{comes_before}
-use Rattle.cut_net.specs.Said.{Entry, CutOf}
-use Rattle.cut_net.specs.ReportLine.{ReportLine, Ends, Weighs, Removes, Flows, Last}
-use Rattle.cut_net.specs.ReportLines.{ReportOutcome, Reads, BadLine, NoEnd}
+use Rattle.cut_net.specs.Said.{CutOf}
+use Rattle.cut_report.specs.Entry.{Entry}
+use Rattle.cut_report.specs.ReportLine.{ReportLine, Ends, Weighs, Removes, Flows, Last}
+use Rattle.cut_report.specs.ReportLines.{ReportOutcome, Reads, BadLine, NoEnd}
 use Rattle.cut_report.specs.declared.fault.LineFault.{LineFault}
 use Rattle.cut_report.specs.declared.fault.LineFault.TheVariants as faults
 use Rattle.cut_report.specs.declared.fault.ReportFault.{ReportFault}

@@ -1,3 +1,7 @@
+pub mod Entry
+pub mod ReportLine
+pub mod ReportText
+pub mod ReportLines
 pub mod Faults
 pub mod Lines
 pub mod Drafts

@@ -1,8 +1,8 @@
 -- A line of a report, read field by field: what the private functions of the reader give.
 use Rattle.std.specs.Prelude.{ℕ, ◌&&◌, nat_lt, List, codes, Option, Some, None, if◌then◌else◌}
 use Rattle.std.specs.Str.{bytes_eq}
-use Rattle.cut_net.specs.Fields.{cut_at, named, number_of}
-use Rattle.cut_net.specs.ReportLine.{ReportLine, Ends, Weighs, Removes, Flows, Last}
+use Rattle.texts.specs.Fields.{cut_at, named, number_of}
+use Rattle.cut_report.specs.ReportLine.{ReportLine, Ends, Weighs, Removes, Flows, Last}
 use Rattle.cut_report.specs.declared.line.Line.{Line}
 use Rattle.cut_report.specs.declared.line.Line.TheVariants as lines
 

@@ -1,8 +1,9 @@
 -- What a cut says of two modules, and what the reader's answer says of a text.
 use Rattle.std.specs.Prelude.{◌≢◌, ℕ, Option, Some, None, Result, Ok, Err, IfErr}
 use Rattle.cut_net.specs.declared.cut.Cut.{Cut}
-use Rattle.cut_net.specs.Said.{Entry, CutOf}
-use Rattle.cut_net.specs.ReportLines.{ReportOutcome, Reads, BadLine, UnknownName, Order, NoEnd}
+use Rattle.cut_net.specs.Said.{CutOf}
+use Rattle.cut_report.specs.Entry.{Entry}
+use Rattle.cut_report.specs.ReportLines.{ReportOutcome, Reads, BadLine, UnknownName, Order, NoEnd}
 use Rattle.cut_report.specs.declared.fault.ReportFault.{ReportFault}
 use Rattle.cut_report.specs.declared.fault.ReportFault.TheVariants as faults
 use Rattle.cut_report.specs.declared.report.Report.{Report}

@@ -1,10 +1,10 @@
 //! The laws of reports. Each function's body is empty, and its contract is proved.
 ghost use Rattle.std.specs.Prelude.{◌≡◌, ℕ, List};
 ghost use Rattle.cut_net.specs.Network.{Network};
-ghost use Rattle.cut_net.specs.Said.{Entry};
+ghost use Rattle.cut_report.specs.Entry.{Entry};
 ghost use Rattle.cut_net.specs.WellFormed.{IsNetwork};
-ghost use Rattle.cut_net.specs.ReportText.{report_text, IsReport, ReportText};
-ghost use Rattle.cut_net.specs.ReportLines.{IsReportOutcome, Reads, ReportOutcome};
+ghost use Rattle.cut_report.specs.ReportText.{report_text, IsReport, ReportText};
+ghost use Rattle.cut_report.specs.ReportLines.{IsReportOutcome, Reads, ReportOutcome};
 
 /// Of a network a text says at most one thing: a report or a first fault.
 pub fn one_reading()

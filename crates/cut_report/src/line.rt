@@ -2,8 +2,8 @@
 ghost use Rattle.std.specs.Prelude.{◌≡◌, option_map};
 ghost use Rattle.cut_report.specs.Lines.{amount_of, ends_of, line_of_text, line_seen, line_under};
 
-use cut_net::fields::{cut_at_byte, name_in, number_in};
 use std::fmt;
+use texts::fields::{cut_at_byte, name_in, number_in};
 
 /// What a line says.
 #[derive(Clone, Copy, Drop)]
@@ -23,7 +23,7 @@ pub(crate) enum Line<'a> {
 /// The line without its end.
 impl fmt::Display for Line<'_> {
     ghost use Rattle.std.specs.Prelude.{Some};
-    ghost use Rattle.cut_net.specs.ReportLine.{report_line};
+    ghost use Rattle.cut_report.specs.ReportLine.{report_line};
     ghost use Rattle.cut_report.specs.Lines.{line_seen};
 
     ghost output = { λ line. Some (report_line (line_seen line)) };

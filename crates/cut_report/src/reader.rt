@@ -1,14 +1,14 @@
 //! Reading a report.
 ghost use Rattle.std.specs.Prelude.{◌≡◌, IfSome};
 ghost use Rattle.cut_net.specs.WellFormed.{IsNetwork};
-ghost use Rattle.cut_net.specs.ReportLines.{IsReportOutcome, ReportOutcome};
+ghost use Rattle.cut_report.specs.ReportLines.{IsReportOutcome, ReportOutcome};
 ghost use Rattle.cut_report.specs.Reading.{outcome_of, IsOfText};
 
 use crate::draft::Draft;
 use crate::{Report, ReportFault};
 use cut_net::Net;
-use cut_net::fields::cut_at_byte;
 use std::alloc::Global;
+use texts::fields::cut_at_byte;
 
 /// What the bytes say, line by line.
 fn read_lines(alloc: Global, bytes: &[u8], net: &Net) -> Result<Report, ReportFault>

@@ -1,9 +1,9 @@
 //! Writing a report.
 ghost use Rattle.std.specs.Prelude.{◌≡◌, ◌++◌, true, length, map, IfErr, IfOk, OnOk};
 ghost use Rattle.std.specs.String.{string_bytes};
-ghost use Rattle.cut_net.specs.Fields.{ended};
-ghost use Rattle.cut_net.specs.ReportLine.{flows, removes, report_line, written};
-ghost use Rattle.cut_net.specs.ReportText.{report_text, IsReport};
+ghost use Rattle.texts.specs.Fields.{ended};
+ghost use Rattle.cut_report.specs.ReportLine.{flows, removes, report_line, written};
+ghost use Rattle.cut_report.specs.ReportText.{report_text, IsReport};
 ghost use Rattle.cut_net.specs.WellFormed.{AreBetween};
 ghost use Rattle.cut_report.specs.Faults.{is_failure, is_of_sink};
 ghost use Rattle.cut_report.specs.Lines.{line_seen};

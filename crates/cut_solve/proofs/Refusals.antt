@@ -1,7 +1,7 @@
 -- Names that are refused have no other answer.
 use Rattle.std.proofs.Common.{◌≡◌, ℕ, List, Option, refl, sym, ap, ◌∙◌, Some, None, inl, inr}
 use Rattle.std.proofs.lemmas.Option.{none-some}
-use Rattle.cut_net.proofs.FieldCuts.{some_is}
+use Rattle.texts.proofs.FieldCuts.{some_is}
 use Rattle.cut_net.specs.Network.{Network}
 use Rattle.cut_solve.specs.Solving.{IsRefusal, IsSolveOutcome, SolveOutcome, Solves, SameModule, NoSuchModule}
 

@@ -1,15 +1,11 @@
 -- The rows of a module are whole, and stand for what it declares and looks up.
 use Rattle.std.proofs.Common.{◌≡◌, ℕ, zero, suc, ◌+◌, ◌<◌, ◌≤◌, Bool, true, false, cond, List, [], ◌∷◌, length, map, Some, refl, sym, ap, ap₂, ◌∙◌, subst, arith}
 use Rattle.std.specs.Prelude.{slice_get, slice_index_or}
-use Rattle.std.specs.List.{list_all}
-use Rattle.std.specs.Char.{is_ascii_alphabetic, is_ascii_alphanumeric}
-use Rattle.std.specs.Str.{IsAscii, IsUtf8}
-use Rattle.std.proofs.lemmas.Bool.{and_parts}
-use Rattle.std.proofs.lemmas.Bool.Decides.{nat_tests}
+use Rattle.std.specs.Str.{IsUtf8}
 use Rattle.std.proofs.lemmas.List.{length-map}
 use Rattle.std.proofs.lemmas.Option.{same_Some, slice_get_within}
-use Rattle.std.proofs.lemmas.Str.{IsUtf8-from_ascii}
-use Rattle.std.proofs.lemmas.Str.Ascii.{IsAscii-nil, IsAscii-cons}
+use Rattle.texts.specs.Fields as fields
+use Rattle.texts.proofs.FieldNames as names
 use Rattle.ob_scan.specs.declared.kind.Kind.{Kind}
 use Rattle.ob_scan.specs.declared.token.Token.{Token}
 use Rattle.ob_scan.specs.Tokens.{is_name}
@@ -119,23 +115,13 @@ are_whole ts m r d few h =
 
 -- ---- texts
 
-small : (b : ℕ) → is_ascii_alphanumeric b ≡ true → b < 128
-small b e = grind (arith, nat_tests)
-
-letter_small : (b : ℕ) → is_ascii_alphabetic b ≡ true → b < 128
-letter_small b e = grind (arith, nat_tests)
-
-others_ascii : (bytes : List ℕ) → list_all is_ascii_alphanumeric bytes ≡ true → IsAscii bytes
-others_ascii [] e = IsAscii-nil
-others_ascii (b ∷ bytes) e =
-    let p = and_parts _ _ e in
-    IsAscii-cons b bytes (small b p.0) (others_ascii bytes p.1)
+-- the scanner's names are names of texts
+pub same_test : (bytes : List ℕ) → is_name bytes ≡ fields.is_name bytes
+same_test [] = refl
+same_test (b ∷ bytes) = refl
 
 pub name_is_text : (bytes : List ℕ) → is_name bytes ≡ true → IsUtf8 bytes
-name_is_text [] e = IsUtf8-from_ascii [] IsAscii-nil
-name_is_text (b ∷ bytes) e =
-    let p = and_parts _ _ e in
-    IsUtf8-from_ascii (b ∷ bytes) (IsAscii-cons b bytes (letter_small b p.0) (others_ascii bytes p.1))
+name_is_text bytes e = names.name_is_text bytes (sym (same_test bytes) ∙ e)
 
 pub are_texts : (name : ℕ → List ℕ) (l : Listing) → AreNames name l → AreTexts name l
 are_texts name l h = record {

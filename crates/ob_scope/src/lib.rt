@@ -1,5 +1,5 @@
 //! The blocks of an Oberon-07 module, what is declared in them, and what each used name means.
-//! Stands on `ob_scan` and `ob_tree`, with `indexmap` for its tables and `thiserror` for its faults.
+//! Stands on `ob_scan` and `ob_tree`, and on `texts` for names, with `indexmap` for its tables and `thiserror` for its faults.
 //! Its contract: each use means what the scope rule gives it, or two identifiers of one name stand in one place; and a module's interface is what others see of it.
 #![tactic(auto)]
 

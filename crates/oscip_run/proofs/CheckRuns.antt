@@ -10,8 +10,8 @@ use Rattle.cut_net.specs.NetText as nets
 use Rattle.cut_net.specs.NetReading.{outcome_of as net_outcome_of}
 use Rattle.cut_net.specs.declared.fault.NetFault.{NetFault}
 use Rattle.cut_net.specs.declared.fault.NetFault.TheVariants as net
-use Rattle.cut_net.specs.ReportLines.{IsReportOutcome}
-use Rattle.cut_net.specs.ReportLines as reports
+use Rattle.cut_report.specs.ReportLines.{IsReportOutcome}
+use Rattle.cut_report.specs.ReportLines as reports
 use Rattle.cut_report.specs.Reading.{outcome_of as report_outcome_of, entry_of}
 use Rattle.byte_sink.specs.Sinks.{AppendsFront}
 use Rattle.cut_report.specs.declared.report.Report.{Report as ReportRead}

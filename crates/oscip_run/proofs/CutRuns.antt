@@ -3,7 +3,7 @@ use Rattle.std.proofs.Common.{◌≡◌, ℕ, List, Option, Some, Result, Ok, Er
 use Rattle.std.specs.Prelude.{IfSome}
 use Rattle.std.proofs.lemmas.Option.{same_Some}
 use Rattle.cut_net.specs.Network.{Network, index_of}
-use Rattle.cut_net.specs.ReportText.{report_text}
+use Rattle.cut_report.specs.ReportText.{report_text}
 use Rattle.cut_net.specs.Said.{Said, CutOf}
 use Rattle.cut_net.specs.WellFormed.{IsNetwork}
 use Rattle.cut_report.specs.Faults.{is_of_sink}

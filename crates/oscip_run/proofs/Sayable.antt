@@ -11,8 +11,9 @@ use Rattle.cut_net.specs.declared.priced.Priced.{Priced}
 use Rattle.cut_net.specs.Network.{Network, index_of}
 use Rattle.cut_net.specs.Cuts.{same_ends}
 use Rattle.cut_net.specs.Lines.{amount_in, removed_by, AreInOrder, IsAnswer, IsAscending, IsImport}
-use Rattle.cut_net.specs.ReportText.{IsReport, MaySay}
-use Rattle.cut_net.specs.Said.{Entry, Said, CutOf}
+use Rattle.cut_report.specs.ReportText.{IsReport, MaySay}
+use Rattle.cut_net.specs.Said.{Said, CutOf}
+use Rattle.cut_report.specs.Entry.{Entry}
 use Rattle.cut_net.specs.WellFormed.{total_weight, AreBetween, IsNetwork}
 use Rattle.cut_net.proofs.Certificate.{weight-mono}
 use Rattle.cut_net.proofs.Places.{index_takes}

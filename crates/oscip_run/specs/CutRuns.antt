@@ -5,7 +5,7 @@ use Rattle.cut_net.specs.declared.priced.Priced.{Priced}
 use Rattle.cut_net.specs.Network.{Network, index_of}
 use Rattle.cut_net.specs.Cuts.{ArePrinted, IsCheapest, IsFlow}
 use Rattle.cut_net.specs.Lines.{flow_by, removed_by, AreInOrder, AreWeights}
-use Rattle.cut_net.specs.ReportText.{ReportText}
+use Rattle.cut_report.specs.ReportText.{ReportText}
 use Rattle.cut_net.specs.Said.{CutOf}
 use Rattle.byte_sink.specs.Sinks.{AppendsFront}
 use Rattle.cut_solve.specs.Solving.{outcome_of as solve_outcome_of, IsSolveOutcome, SolveOutcome}

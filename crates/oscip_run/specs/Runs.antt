@@ -6,9 +6,9 @@ use Rattle.cut_net.specs.Lines.{IsCheapestSaid}
 use Rattle.cut_net.specs.NetText.{IsNetOutcome}
 use Rattle.cut_net.specs.NetText as nets
 use Rattle.cut_net.specs.NetReading.{outcome_of as net_outcome_of}
-use Rattle.cut_net.specs.Said.{Entry}
-use Rattle.cut_net.specs.ReportLines.{IsReportOutcome}
-use Rattle.cut_net.specs.ReportLines as reports
+use Rattle.cut_report.specs.Entry.{Entry}
+use Rattle.cut_report.specs.ReportLines.{IsReportOutcome}
+use Rattle.cut_report.specs.ReportLines as reports
 use Rattle.cut_report.specs.Reading.{outcome_of as report_outcome_of}
 use Rattle.byte_sink.specs.Sinks.{AppendsFront}
 use Rattle.cut_check.specs.declared.verdict.Verdict.{Verdict}

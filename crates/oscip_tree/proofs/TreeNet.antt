@@ -9,7 +9,7 @@ use Rattle.std.proofs.lemmas.Map.Keys.{apart_from_distinct}
 use Rattle.std.proofs.lemmas.Option.{get_or_from_slice_get, slice_get-get_or, slice_get_within}
 use Rattle.std.proofs.lemmas.Slice.Eq.{bytes_eq-Decides}
 use Rattle.cut_net.specs.declared.priced.Priced.{Priced}
-use Rattle.cut_net.specs.Fields.{is_name}
+use Rattle.texts.specs.Fields.{is_name}
 use Rattle.cut_net.specs.GraphNet.{graph_import, graph_lines, graph_weight, no_scopes, scopes_at}
 use Rattle.cut_net.specs.Network.{Network, name_of}
 use Rattle.cut_net.specs.NetText.{NetLine, Module, Import, AreMentioning, IsNetOf, Mentions}
@@ -24,7 +24,6 @@ use Rattle.ob_imports.proofs.Members.{from_map, in_map}
 use Rattle.ob_imports.proofs.Nodes.{nodes_known}
 use Rattle.ob_scan.specs.declared.token.Token.{Token}
 use Rattle.ob_scan.specs.Spelling.{Spells}
-use Rattle.ob_scan.specs.Tokens as scanned
 use Rattle.ob_tree.specs.declared.item.Item.{Item}
 use Rattle.ob_tree.specs.Declaring.{module_outline}
 use Rattle.ob_tree.specs.Derives.{Derives, items_of}
@@ -36,6 +35,7 @@ use Rattle.ob_scope.specs.Identified.{AreNames}
 use Rattle.ob_scope.specs.Scoped.{AreScopes, ModuleScopes, listing_of}
 use Rattle.ob_scope.specs.Standings.{text_at}
 use Rattle.ob_scope.specs.Weights.{uses_across}
+use Rattle.ob_scope.proofs.Whole.{same_test}
 use Rattle.oscip_tree.specs.Trees.{file_of, files_of, listing, names, AreAccepted, HasImport, IsAccepted, IsNetOfTree, ModuleFile}
 use Rattle.oscip_tree.specs.TreeReading.{AreRead}
 use Rattle.oscip_tree.specs.declared.source.Source.{Source}
@@ -93,10 +93,6 @@ one_file fs f h differ (i, li, is_f) (j, lj, is_h) e = elim (cases_lt i j) [
         let at_h : get_or (names_of fs) j [] ≡ h.name = get_or-map (λ (x : File). x.name) fs j h [] lj ∙ ap (λ (x : File). x.name) is_h in
         false≢true (sym (apart_from_distinct bytes_eq (names_of fs) i j [] differ less (omega arith))
         ∙ (bytes_eq-Decides (get_or (names_of fs) i []) (get_or (names_of fs) j [])).1 (at_f ∙ e ∙ sym at_h))
-
-same_test : (n : List ℕ) → scanned.is_name n ≡ is_name n
-same_test [] = refl
-same_test (b ∷ n) = refl
 
 accepted_file : (sources : List Source) (files : List ModuleFile) (file : ModuleFile) → AreAccepted sources files → Contains files file → (source : Source) × IsAccepted source file
 accepted_file sources files file accepted has =

@@ -3,7 +3,7 @@ use Rattle.std.proofs.Common.{◌≡◌, ℕ, List, [], ◌∷◌, ◌++◌, Som
 use Rattle.std.specs.Prelude.{OnOk, is_ok, if◌then◌else◌}
 use Rattle.std.proofs.lemmas.Bool.{cases_eq, eq-eqb, ne_eqb}
 use Rattle.scip_symbol.specs.Bytes.{doubled}
-use Rattle.scip_symbol.specs.Reading.{cut_at}
+use Rattle.texts.specs.Fields.{cut_at}
 use Rattle.scip_symbol.proofs.Ends.{doubled-mark, doubled-byte, mapped_some, mapped_none}
 
 doubled_rest : (mark : ℕ) (text : List ℕ) → cut_at mark text ≡ None → doubled mark text ≡ text

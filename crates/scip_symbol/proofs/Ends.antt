@@ -5,7 +5,8 @@ use Rattle.std.proofs.lemmas.Bool.{cases_eq, eq-eqb, ne_eqb}
 use Rattle.std.proofs.lemmas.List.{append-nil}
 use Rattle.std.proofs.lemmas.Option.{none-some}
 use Rattle.scip_symbol.specs.Bytes.{doubled, IsNotFirst, IsEnded, IsUnended}
-use Rattle.scip_symbol.specs.Reading.{with_first, cut_at, after_byte, ended_by}
+use Rattle.texts.specs.Fields.{with_first, cut_at}
+use Rattle.scip_symbol.specs.Reading.{after_byte, ended_by}
 
 -- ---- one step
 

@@ -8,7 +8,8 @@ use Rattle.std.proofs.lemmas.List.Sums.{prefix_len-le-length}
 use Rattle.std.proofs.lemmas.Str.{IsUtf8-from_ascii, IsCharBoundary-from_take}
 use Rattle.std.proofs.lemmas.Str.Ascii.{IsAscii-nil, IsAscii-cons}
 use Rattle.scip_symbol.specs.SymbolTexts.{is_simple, are_simple}
-use Rattle.scip_symbol.specs.Reading.{with_first, simple_front}
+use Rattle.texts.specs.Fields.{with_first}
+use Rattle.scip_symbol.specs.Reading.{simple_front}
 
 pub front_split : (text : List ℕ) → (take (prefix_len is_simple text) text, drop (prefix_len is_simple text) text) ≡ simple_front text
 unfolding simple_front

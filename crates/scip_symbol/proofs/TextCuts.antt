@@ -1,11 +1,13 @@
 -- Cuts of a text, as std's methods make them, are the functions on lists.
-use Rattle.std.proofs.Common.{◌≡◌, ◌≢◌, ℕ, suc, ◌+◌, ◌<◌, Bool, cond, eqb, eq-eqb, ltb, List, [], ◌∷◌, ◌++◌, length, take, drop, Option, Some, None, refl, sym, ap, ◌∙◌, arith, inl, inr, Bor}
+use Rattle.std.proofs.Common.{◌≡◌, ◌≢◌, ℕ, ◌<◌, Bool, eqb, eq-eqb, ltb, List, [], ◌∷◌, ◌++◌, length, Option, Some, None, refl, sym, ap, ◌∙◌, arith, inl, inr, Bor}
 use Rattle.std.specs.Prelude.{option_map, MatchOption}
-use Rattle.std.specs.List.{position, position_or_len, before_first, after_first}
+use Rattle.std.specs.List.{position_or_len, before_first, after_first}
 use Rattle.std.specs.Str.Pattern.{LacksTextAt, StripsPrefix, FindsTextPrefix}
-use Rattle.std.proofs.lemmas.Bool.{cases_lt, lt-ltb, le-ltb, cases_Bool, cases_eq, ne_eqb}
+use Rattle.std.proofs.lemmas.Bool.{lt-ltb, le-ltb, cases_eq, ne_eqb}
 use Rattle.std.proofs.lemmas.Option.{same_Some, none-some}
-use Rattle.scip_symbol.specs.Reading.{after_byte, after_bytes, cut_at, with_first}
+use Rattle.texts.specs.Fields.{cut_at}
+use Rattle.texts.proofs.FieldCuts.{cut_is}
+use Rattle.scip_symbol.specs.Reading.{after_byte, after_bytes}
 
 pub after_byte-same : (mark : ℕ) (rest : List ℕ) → after_byte mark (mark ∷ rest) ≡ Some rest
 after_byte-same mark rest = rw (eq-eqb mark mark refl) refl
@@ -49,39 +51,15 @@ not_word word text e rest s = none-some rest (sym e ∙ ap (after_bytes word) s 
 
 -- ---- at the first of several
 
-abbrev around : List ℕ → Option ℕ → Option (List ℕ × List ℕ)
-around bytes place = option_map (λ i. (take i bytes, drop (i + 1) bytes)) place
-
-abbrev below : ℕ → ℕ → Option ℕ
-below n len = cond (ltb n len) (Some n) None
-
-step : (b n : ℕ) (bytes : List ℕ) → around (b ∷ bytes) (below (1 + n) (suc (length bytes))) ≡ option_map (with_first b) (around bytes (below n (length bytes)))
-step b n bytes =
-    let e : 1 + n ≡ suc n = omega arith in
-    let f : suc n + 1 ≡ suc (n + 1) = omega arith in
-    elim (cases_lt n (length bytes)) [
-      | inl lt ↦ rw (e, lt-ltb (suc n) (suc (length bytes)) (omega arith), lt-ltb _ _ lt, f) refl
-      | inr le ↦ rw (e, le-ltb (suc n) (suc (length bytes)) (omega arith), le-ltb _ _ le) refl
-    ]
-
-by_place : (mark : ℕ) (bytes : List ℕ) → around bytes (position (λ b. eqb b mark) bytes) ≡ cut_at mark bytes
-unfolding cut_at
-by_place mark [] = refl
-by_place mark (b ∷ bytes) =
-    elim (cases_Bool (eqb b mark)) [
-      | inl stops ↦ rw (stops, lt-ltb 0 (suc (length bytes)) (omega arith)) refl
-      | inr goes ↦ rw goes (step b (position_or_len (λ x. eqb x mark) bytes) bytes ∙ ap (option_map (with_first b)) (by_place mark bytes))
-    ]
-
 pub cut_from : (mark : ℕ) (bytes : List ℕ) (r : Option (Bor (List ℕ) × Bor (List ℕ)))
     → MatchOption r (position_or_len (λ b. eqb b mark) bytes ≡ length bytes) (λ x. (position_or_len (λ b. eqb b mark) bytes < length bytes) × (x.0.now ≡ before_first (λ b. eqb b mark) bytes) × (x.1.now ≡ after_first (λ b. eqb b mark) bytes))
     → option_map (λ (x : Bor (List ℕ) × Bor (List ℕ)). (x.0.now, x.1.now)) r ≡ cut_at mark bytes
 cut_from mark bytes None h =
     let n : ltb (position_or_len (λ b. eqb b mark) bytes) (length bytes) ≡ Bool.false = le-ltb _ _ (omega arith) in
-    (rw n at (by_place mark bytes))
+    rw n at (sym (cut_is mark bytes))
 cut_from mark bytes (Some x) h =
     let n : ltb (position_or_len (λ b. eqb b mark) bytes) (length bytes) ≡ Bool.true = lt-ltb _ _ h.0 in
-    rw (h.1, h.2) (rw n at (by_place mark bytes))
+    rw (h.1, h.2) (rw n at (sym (cut_is mark bytes)))
 
 pub word_stripped : (word text : List ℕ) (r : Option (Bor (List ℕ))) → MatchOption r (LacksTextAt word text 0) (λ x. StripsPrefix (FindsTextPrefix word) text x.now)
     → option_map (λ (x : Bor (List ℕ)). x.now) r ≡ after_bytes word text

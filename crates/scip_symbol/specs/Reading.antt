@@ -2,6 +2,7 @@
 use Rattle.std.specs.Prelude.{◌≡◌, ◌≢◌, ℕ, ◌+◌, ◌-◌, ◌==◌, List, [], ◌∷◌, ◌++◌, length, codes, Option, Some, None, option_map, Result, Ok, Err, if◌then◌else◌}
 use Rattle.std.specs.Option.{ok_or}
 use Rattle.std.specs.String.{string_bytes}
+use Rattle.texts.specs.Fields.{with_first}
 use Rattle.scip_symbol.specs.declared.parts.Parts.{Parts}
 use Rattle.scip_symbol.specs.declared.kind.DescriptorKind.{DescriptorKind}
 use Rattle.scip_symbol.specs.declared.kind.DescriptorKind.TheVariants.{Namespace, TypeName, Term, Method, Meta, Macro, TypeParameter, Parameter}
@@ -37,15 +38,6 @@ abbrev pub after_bytes : List ℕ → List ℕ → Option (List ℕ)
 after_bytes [] text = Some text
 after_bytes (w ∷ word) [] = None
 after_bytes (w ∷ word) (b ∷ bytes) = if b == w then after_bytes word bytes else None
-
--- with one more byte in front of the first part
-abbrev pub with_first : ℕ → List ℕ × List ℕ → List ℕ × List ℕ
-with_first b parts = (b ∷ parts.0, parts.1)
-
--- what stands before the first such byte, and what stands after it
-unfoldable pub cut_at : ℕ → List ℕ → Option (List ℕ × List ℕ)
-cut_at mark [] = None
-cut_at mark (b ∷ bytes) = if b == mark then Some ([], bytes) else option_map (with_first b) (cut_at mark bytes)
 
 -- the part in front and what follows the byte that ends it, if one does: in pairs such bytes belong to the part, a single one ends it
 unfoldable pub ended_by : ℕ → List ℕ → Option (List ℕ × List ℕ)

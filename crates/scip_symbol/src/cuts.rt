@@ -3,7 +3,8 @@ ghost use Rattle.std.specs.Prelude.{◌≡◌, ◌<◌, ◌==◌, ◌++◌, leng
 ghost use Rattle.std.specs.List.{prefix_len};
 ghost use Rattle.std.specs.String.{string_bytes};
 ghost use Rattle.scip_symbol.specs.SymbolTexts.{are_simple, is_simple};
-ghost use Rattle.scip_symbol.specs.Reading.{after_byte, after_bytes, cut_at, ended_by, simple_front};
+ghost use Rattle.texts.specs.Fields.{cut_at};
+ghost use Rattle.scip_symbol.specs.Reading.{after_byte, after_bytes, ended_by, simple_front};
 
 use std::alloc::{AllocError, Global};
 

@@ -1,5 +1,5 @@
 //! The texts of SCIP symbols: written with backticks only where they are needed, and read.
-//! Stands on std, with `thiserror` for its faults.
+//! Stands on `texts` for cuts at a byte, with `thiserror` for its faults.
 //! Its contract: a text is read exactly as the symbol that the grammar gives it, and a symbol is written as its one plain text; else the first refusal is answered, with its place.
 #![tactic(auto)]
 

@@ -1,4 +1,4 @@
-use Rattle.cut_net.specs.ReportLines.{Reads}
+use Rattle.cut_report.specs.ReportLines.{Reads}
 use Rattle.cut_report.proofs.Readings.{reading_once}
 use Rattle.cut_report.proofs.laws.what_is_written_is_read.Goals as goal
 

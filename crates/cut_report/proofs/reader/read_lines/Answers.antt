@@ -1,6 +1,6 @@
 use Rattle.std.proofs.Common.{◌≡◌, ◌+◌, ◌∙◌, ℕ, Some, sym, ap, arith}
 use Rattle.std.proofs.lemmas.Result.{err_from_is_err_and}
-use Rattle.cut_net.specs.Fields.{cut_at}
+use Rattle.texts.specs.Fields.{cut_at}
 use Rattle.cut_report.specs.Drafts.{standing_of}
 use Rattle.cut_report.proofs.TextSteps.{cut_length, fails, goes_on, rest_is}
 use Rattle.cut_report.proofs.reader.read_lines.Goals as goal

@@ -1,5 +1,5 @@
 use Rattle.std.proofs.Common.{◌≡◌, ◌+◌, ◌≤◌, length}
-use Rattle.cut_net.specs.ReportLines.{IsFront}
+use Rattle.cut_report.specs.ReportLines.{IsFront}
 use Rattle.cut_report.specs.Drafts.{standing_of}
 use Rattle.cut_report.proofs.Standings.{standing_lines}
 use Rattle.cut_report.proofs.reader.read_lines.Given as goal

@@ -1,6 +1,6 @@
 use Rattle.std.proofs.Common.{◌≡◌, ◌++◌, take, map}
 use Rattle.std.specs.String.{string_bytes}
-use Rattle.cut_net.specs.ReportLine.{removes, written}
+use Rattle.cut_report.specs.ReportLine.{removes, written}
 use Rattle.cut_report.proofs.writer.push_removes.Given as goal
 
 abbrev pub invariant-loop-import : goal.invariant-loop-import

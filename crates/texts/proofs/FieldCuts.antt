@@ -4,7 +4,7 @@ use Rattle.std.specs.Prelude.{option_map}
 use Rattle.std.specs.List.{position, prefix_len, list_all}
 use Rattle.std.proofs.lemmas.Bool.{and_parts, cases_lt, eqb-true, lt-ltb, le-ltb, cases_Bool}
 use Rattle.std.proofs.lemmas.Bool.Decides.{nat_tests}
-use Rattle.cut_net.specs.Fields.{cut_at, with_first}
+use Rattle.texts.specs.Fields.{cut_at, with_first}
 
 -- the two parts around a place
 abbrev around : List ℕ → Option ℕ → Option (List ℕ × List ℕ)

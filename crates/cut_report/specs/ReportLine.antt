@@ -3,9 +3,10 @@ use Rattle.std.specs.Prelude.{ℕ, List, [], ◌∷◌, ◌++◌, map, codes}
 use Rattle.std.specs.List.{flat_map}
 use Rattle.std.specs.Fmt.{decimal}
 use Rattle.cut_net.specs.declared.priced.Priced.{Priced}
-use Rattle.cut_net.specs.Fields.{ended, line_of}
+use Rattle.texts.specs.Fields.{ended, line_of}
 use Rattle.cut_net.specs.Network.{Network, name_of}
-use Rattle.cut_net.specs.Said.{Said, CutOf, Entry}
+use Rattle.cut_net.specs.Said.{Said, CutOf}
+use Rattle.cut_report.specs.Entry.{Entry}
 
 -- what a line says: the two modules, the weight, an import to be removed with its weight, one with its flow, the end
 pub data ReportLine : Type 0 where

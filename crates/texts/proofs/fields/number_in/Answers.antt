@@ -1,6 +1,6 @@
 use Rattle.std.proofs.Common.{sym, ◌∙◌}
-use Rattle.cut_net.proofs.FieldNumbers.{number_is_text, number_read}
-use Rattle.cut_net.proofs.fields.number_in.Goals as goal
+use Rattle.texts.proofs.FieldNumbers.{number_is_text, number_read}
+use Rattle.texts.proofs.fields.number_in.Goals as goal
 
 pub returns-in-Err : goal.returns-in-Err
 returns-in-Err c = absurd (c.in-Err.ensures.cases.0 (number_is_text c.args.bytes.now (sym c.if-not-is_plain.ensures)))

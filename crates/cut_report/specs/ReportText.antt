@@ -4,8 +4,9 @@ use Rattle.cut_net.specs.declared.priced.Priced.{Priced}
 use Rattle.cut_net.specs.Network.{Network}
 use Rattle.cut_net.specs.Lines.{IsAscending}
 use Rattle.cut_net.specs.WellFormed.{AreBetween}
-use Rattle.cut_net.specs.Said.{Said, CutOf, Entry}
-use Rattle.cut_net.specs.ReportLine.{entry_lines, written}
+use Rattle.cut_net.specs.Said.{Said, CutOf}
+use Rattle.cut_report.specs.Entry.{Entry}
+use Rattle.cut_report.specs.ReportLine.{entry_lines, written}
 
 -- the one text of a report
 abbrev pub report_text : Network → Entry → List ℕ

@@ -4,11 +4,11 @@ use Rattle.std.specs.List.{list_any}
 use Rattle.std.specs.Str.{bytes_eq}
 use Rattle.std.specs.Ordering.{nat_cmp, is_lt}
 use Rattle.std.specs.Cmp.Lexicographic.{slice_cmp}
-use Rattle.cut_net.specs.Fields.{ended, is_name}
+use Rattle.texts.specs.Fields.{ended, is_name}
 use Rattle.cut_net.specs.Network.{Network}
-use Rattle.cut_net.specs.Said.{Entry}
-use Rattle.cut_net.specs.ReportLine.{ReportLine, Ends, Weighs, Removes, Flows, Last, report_line, written}
-use Rattle.cut_net.specs.ReportText.{ReportText}
+use Rattle.cut_report.specs.Entry.{Entry}
+use Rattle.cut_report.specs.ReportLine.{ReportLine, Ends, Weighs, Removes, Flows, Last, report_line, written}
+use Rattle.cut_report.specs.ReportText.{ReportText}
 
 -- names are names, numbers fit 64 bits, and no flow is 0
 abbrev pub HasForm : ReportLine → Type 0

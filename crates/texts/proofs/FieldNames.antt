@@ -4,14 +4,14 @@ use Rattle.std.specs.List.{list_all}
 use Rattle.std.specs.Char.{is_ascii_alphabetic, is_ascii_alphanumeric, is_ascii_digit}
 use Rattle.std.specs.Fmt.{decimal}
 use Rattle.std.proofs.lemmas.Fmt.{digits_decimal}
-use Rattle.cut_net.proofs.FieldNumbers.{own}
+use Rattle.texts.proofs.FieldNumbers.{own}
 use Rattle.std.specs.Str.{IsAscii, IsUtf8}
 use Rattle.std.proofs.lemmas.Bool.{and_parts, and_from, cases_eq, false≢true}
 use Rattle.std.proofs.lemmas.Bool.Decides.{nat_tests}
 use Rattle.std.proofs.lemmas.Str.{IsUtf8-from_ascii}
 use Rattle.std.proofs.lemmas.Str.Ascii.{IsAscii-nil, IsAscii-cons}
-use Rattle.cut_net.specs.Fields.{is_name, named}
-use Rattle.cut_net.proofs.FieldCuts.{without}
+use Rattle.texts.specs.Fields.{is_name, named}
+use Rattle.texts.proofs.FieldCuts.{without}
 use Rattle.std.proofs.lemmas.Option.{cond_some}
 
 small : (b : ℕ) → is_ascii_alphanumeric b ≡ true → b < 128

@@ -1,0 +1,3 @@
+pub mod FieldCuts
+pub mod FieldNames
+pub mod FieldNumbers
