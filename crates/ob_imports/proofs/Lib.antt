@@ -7,3 +7,5 @@ pub mod Places
 pub mod ByName
 pub mod ReadyLists
 pub mod SameNames
+pub mod NameOrder
+pub mod RankedEdges

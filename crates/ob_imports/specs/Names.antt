@@ -1,5 +1,5 @@
 -- Texts, and places in lists of them.
-use Rattle.std.specs.Prelude.{◌≡◌, ℕ, ◌+◌, ◌<◌, length, List, [], Option, Some, map, slice_get, String}
+use Rattle.std.specs.Prelude.{◌≡◌, ℕ, ◌+◌, ◌<◌, length, List, [], Option, Some, map, slice_get, String, All, IsPermutation}
 use Rattle.std.specs.List.{position, slice_index_or}
 use Rattle.std.specs.List.Sorted.{IsSorted, IsStrictlySortedBy}
 use Rattle.std.specs.Ordering.{nat_cmp}
@@ -36,3 +36,13 @@ place_in names name = position (bytes_eq name) names
 -- what leads from name to name, by the places of the names in a list
 abbrev pub LeadsBy : (List ℕ → List ℕ → Type 0) → List (List ℕ) → ℕ → ℕ → Type 0
 LeadsBy Imports names r s = (m n : List ℕ) × (slice_get names r ≡ Some m) × (slice_get names s ≡ Some n) × Imports m n
+
+-- the names of these numbers
+abbrev pub names_by : List (List ℕ) → List ℕ → List (List ℕ)
+names_by names numbers = map (λ v. slice_index_or names v []) numbers
+
+-- the numbers of the names, each once, by ascending name
+pub record IsByName (names : List (List ℕ)) (order : List ℕ) : Type 0 where
+  pub within : All (λ v. v < length names) order
+  pub same : IsPermutation names (names_by names order)
+  pub ascend : AreAscending (names_by names order)

@@ -1,9 +1,12 @@
 -- How the graph of a tree is made: names in a table, and pairs of places in it.
-use Rattle.std.specs.Prelude.{ℕ, List, not, map, filter, flat_map, Bool}
+use Rattle.std.specs.Prelude.{◌≡◌, ◌↔◌, ℕ, ◌<◌, List, [], length, slice_index_or, not, map, filter, flat_map, Bool}
+use Rattle.std.specs.Borrow.{Bor}
 use Rattle.std.specs.List.{list_any, position_or_len}
 use Rattle.std.specs.Str.{bytes_eq}
 use Rattle.digraph.specs.declared.edge.Edge.{Edge}
-use Rattle.ob_imports.specs.Files.{File}
+use Rattle.digraph.specs.Edges.{Leads}
+use Rattle.ob_imports.specs.Files.{File, Imports}
+use Rattle.ob_imports.specs.Names.{LeadsBy}
 
 -- the list has the name
 abbrev pub has_name : List (List ℕ) → List ℕ → Bool
@@ -28,3 +31,12 @@ pairs_from names name imports = map (λ n. record { from = place_of names name; 
 -- those of all files
 abbrev pub all_pairs : List (List ℕ) → List File → List Edge
 all_pairs names files = flat_map (λ f. pairs_from names f.name f.imports) files
+
+-- the name has this number
+pub record IsNumbered (names : List (List ℕ)) (pair : Bor (List ℕ) × ℕ) : Type 0 where
+  pub within : pair.1 < length names
+  pub named : slice_index_or names pair.1 [] ≡ pair.0.now
+
+-- the pairs are the imports of the files, by the places of the names
+abbrev pub AreLed : List File → List (List ℕ) → List Edge → Type 0
+AreLed files names pairs = (v w : ℕ) → Leads pairs v w ↔ LeadsBy (Imports files) names v w

@@ -1,7 +1,7 @@
 //! The graph of the imports of a tree, and its readers.
 ghost use Rattle.std.specs.Prelude.{◌≡◌, ◌<◌, length, IfOk};
 ghost use Rattle.ob_imports.specs.Graphs.{graph_with, imported, importing, name_of, IsGraph, IsListOf, IsReady};
-ghost use Rattle.ob_imports.specs.Names.{place_in};
+ghost use Rattle.ob_imports.specs.Names.{place_in, texts, IsByName};
 
 use crate::Pair;
 use crate::ready::ready_in;
@@ -17,6 +17,8 @@ pub struct Graph {
     pub(crate) names: IndexSet<String>,
     pub(crate) modules: u32,
     pub(crate) pairs: Vec<Pair>,
+    /// The numbers of the modules by ascending name.
+    pub(crate) order: Vec<u32>,
     /// Per module those that it imports.
     pub(crate) imports: Vec<Vec<u32>>,
     /// Per module those that import it.
@@ -27,7 +29,7 @@ impl Model for Graph {
     ghost use Rattle.std.specs.Prelude.{ℕ, ◌≡◌, ◌<◌, length, vec_len};
     ghost use Rattle.ob_imports.specs.Graphs.{imported, importing, ImportGraph, IsGraph};
     ghost use Rattle.digraph.specs.Marks.{lists, row_at};
-    ghost use Rattle.ob_imports.specs.Names.{texts};
+    ghost use Rattle.ob_imports.specs.Names.{texts, IsByName};
 
     ghost Value = { ImportGraph };
 
@@ -35,6 +37,7 @@ impl Model for Graph {
 
     ghost invariant = { λ g. IsGraph (record { names = texts g.names.keys; modules = g.modules; pairs = g.pairs.items })
         × (vec_len g.imports ≡ length g.names.keys) × (vec_len g.importers ≡ length g.names.keys)
+        × IsByName (texts g.names.keys) g.order.items
         × ((v : ℕ) → row_at (lists g.imports.items) v ≡ imported g.pairs.items v)
         × ((v : ℕ) → row_at (lists g.importers.items) v ≡ importing g.pairs.items v) };
 }
@@ -46,8 +49,10 @@ impl Graph {
         names: IndexSet<String>,
         modules: u32,
         pairs: Vec<Pair>,
+        order: Vec<u32>,
     ) -> Result<Graph, AllocError>
-        requires { IsGraph (graph_with names.keys modules pairs.items) }
+        requires graph { IsGraph (graph_with names.keys modules pairs.items) }
+        requires order { IsByName (texts names.keys) order.items }
         ensures { IfOk result (λ graph. graph ≡ graph_with names.keys modules pairs.items) }
     {
         let nodes = names.len();
@@ -58,6 +63,7 @@ impl Graph {
             names,
             modules,
             pairs,
+            order,
             imports,
             importers,
         })
@@ -100,6 +106,13 @@ impl Graph {
     {
         let place = self.names.get_index_of(name)?;
         Some(place as u32)
+    }
+
+    /// The numbers of all modules, by ascending name.
+    pub fn by_name(&self) -> &[u32]
+        ensures { IsByName self.now.names result.now }
+    {
+        self.order.as_slice()
     }
 
     /// The modules that this one imports, ascending and each once.

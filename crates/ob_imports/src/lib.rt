@@ -8,6 +8,7 @@ mod fault;
 mod graphs;
 pub mod laws;
 mod making;
+mod order;
 mod pairing;
 mod parsed;
 mod ready;

@@ -1,17 +1,20 @@
 //! The graph of the files of a tree.
-ghost use Rattle.std.specs.Prelude.{◌≡◌, ◌≤◌, ◌<◌, [], All, IfNone, IfOk, IfSome, IsPermutation, length, map};
+ghost use Rattle.std.specs.Prelude.{◌≡◌, ◌≤◌, ◌<◌, [], All, IfNone, IfOk, IfSome, List, length, map};
 ghost use Rattle.std.specs.List.{slice_index_or, IsDistinct};
 ghost use Rattle.std.specs.Str.{bytes_eq};
 ghost use Rattle.digraph.specs.Chains.{IsAcyclic};
-ghost use Rattle.ob_imports.specs.Files.{files_of, AreNodes, DifferInName, Imports};
-ghost use Rattle.ob_imports.specs.Names.{texts, AreAscending};
+ghost use Rattle.digraph.specs.Edges.{AreBetween, Leads};
+ghost use Rattle.ob_imports.specs.Files.{files_of, File};
+ghost use Rattle.ob_imports.specs.Names.{names_by, texts, IsByName};
+ghost use Rattle.ob_imports.specs.Numbering.{AreLed};
 ghost use Rattle.ob_imports.specs.Outcomes.{outcome_of, GraphOutcome, IsCycleOf, IsGraphOutcome};
 
 use crate::alike::no_two_alike;
-use crate::pairing::{pairs_by, pairs_of};
+use crate::order::order_of;
+use crate::pairing::pairs_of;
 use crate::tables::nodes_of;
-use crate::{Graph, GraphFault, Parsed};
-use digraph::cycle;
+use crate::{Graph, GraphFault, Pair, Parsed};
+use digraph::{cycle, ranks_of, renumbered};
 use std::alloc::{AllocError, Global};
 
 const MOST_MODULES: usize = 4096;
@@ -20,56 +23,44 @@ const MOST_NODES: usize = 8192;
 
 const MOST_PAIRS: usize = 65536;
 
-fn copied(alloc: Global, names: &[String]) -> Result<Vec<String>, AllocError>
-    ensures { IfOk result (λ copies. texts copies.items ≡ texts names.now) }
-{
-    let mut copies = Vec::new(alloc);
-    for name in names {
-        copies.push(String::from_str(alloc, name.as_str())?)?;
-    }
-    Ok(copies)
-}
-
-/// The names in ascending order.
-fn in_order(alloc: Global, names: &[String]) -> Result<Vec<String>, AllocError>
-    requires once { IsDistinct bytes_eq (texts names.now) }
-    ensures same { IfOk result (λ order. IsPermutation (texts names.now) (texts order.items)) }
-    ensures ascending { IfOk result (λ order. AreAscending (texts order.items)) }
-{
-    let mut order = copied(alloc, names)?;
-    order.sort_unstable();
-    Ok(order)
-}
-
-/// The names of modules, by their places.
-fn names_at(alloc: Global, names: &[String], places: &[u32]) -> Result<Vec<String>, AllocError>
-    requires { All (λ r. r < length names.now) places.now }
-    ensures { IfOk result (λ named. texts named.items ≡ map (λ r. slice_index_or (texts names.now) r []) places.now) }
+/// The names of modules, by their places in an order of the names.
+fn names_at(
+    alloc: Global,
+    names: &[String],
+    order: &[u32],
+    places: &[u32],
+) -> Result<Vec<String>, AllocError>
+    requires order { All (λ v. v < length names.now) order.now }
+    requires places { All (λ r. r < length order.now) places.now }
+    ensures { IfOk result (λ named. texts named.items ≡ map (λ r. slice_index_or (names_by (texts names.now) order.now) r []) places.now) }
 {
     let mut named = Vec::new(alloc);
     for place in places {
-        named.push(String::from_str(alloc, names[*place as usize].as_str())?)?;
+        let node = order[*place as usize];
+        named.push(String::from_str(alloc, names[node as usize].as_str())?)?;
     }
     Ok(named)
 }
 
-/// The names of the cycle that is named, or none where no chain of imports comes back.
+/// The names of the cycle that is named by the order of the names, or none where no chain of imports comes back.
 fn cycle_in(
     alloc: Global,
-    parsed: &[Parsed],
+    pairs: &[Pair],
     names: &[String],
+    order: &[u32],
 ) -> Result<Option<Vec<String>>, AllocError>
-    requires differ { DifferInName (files_of parsed.now) }
-    requires nodes { AreNodes (files_of parsed.now) (texts names.now) }
+    requires between { AreBetween pairs.now (length names.now) }
+    requires once { IsDistinct bytes_eq (texts names.now) }
+    requires order { IsByName (texts names.now) order.now }
     requires few { length names.now ≤ 8192 }
-    ensures named { IfOk result (λ answer. IfSome answer (λ cycle. IsCycleOf (files_of parsed.now) (texts names.now) (texts cycle.items))) }
-    ensures none { IfOk result (λ answer. IfNone answer (IsAcyclic (Imports (files_of parsed.now)))) }
+    ensures named { IfOk result (λ answer. IfSome answer (λ cycle. (files : List File) → AreLed files (texts names.now) pairs.now → IsCycleOf files (texts names.now) (texts cycle.items))) }
+    ensures none { IfOk result (λ answer. IfNone answer (IsAcyclic (Leads pairs.now))) }
 {
-    let order = in_order(alloc, names)?;
-    let pairs = pairs_by(alloc, parsed, order.as_slice())?;
-    match cycle(alloc, pairs.as_slice(), order.len())? {
+    let ranks = ranks_of(alloc, order)?;
+    let others = renumbered(alloc, pairs, ranks.as_slice())?;
+    match cycle(alloc, others.as_slice(), order.len())? {
         None => Ok(None),
-        Some(cycle) => Ok(Some(names_at(alloc, order.as_slice(), cycle.as_slice())?)),
+        Some(cycle) => Ok(Some(names_at(alloc, names, order, cycle.as_slice())?)),
     }
 }
 
@@ -89,8 +80,9 @@ fn made(alloc: Global, parsed: &[Parsed]) -> Result<Graph, GraphFault>
     if pairs.len() > MOST_PAIRS {
         return Err(GraphFault::TooMany);
     }
-    match cycle_in(alloc, parsed, names.as_slice())? {
-        None => Ok(Graph::of(alloc, names, parsed.len() as u32, pairs)?),
+    let order = order_of(alloc, names.as_slice())?;
+    match cycle_in(alloc, pairs.as_slice(), names.as_slice(), order.as_slice())? {
+        None => Ok(Graph::of(alloc, names, parsed.len() as u32, pairs, order)?),
         Some(names) => Err(GraphFault::Cycle { names }),
     }
 }

@@ -8,7 +8,7 @@ ghost use Rattle.ob_imports.specs.Names.{texts, LeadsBy};
 ghost use Rattle.ob_imports.specs.Numbering.{all_pairs, pairs_from};
 ghost use Rattle.digraph.specs.Edges.{AreBetween, IsAscending, Leads};
 
-use crate::tables::{number_of, put_names};
+use crate::tables::number_of;
 use crate::{Pair, Parsed};
 use digraph::put_in_order;
 use indexmap::IndexSet;
@@ -62,21 +62,4 @@ pub(crate) fn pairs_of(
     let mut pairs = all_of(alloc, parsed, table)?;
     put_in_order(&mut pairs);
     Ok(pairs)
-}
-
-/// The imports of the files, by places in these names, which are all their names: ascending, each once.
-pub(crate) fn pairs_by(
-    alloc: Global,
-    parsed: &[Parsed],
-    names: &[String],
-) -> Result<Vec<Pair>, AllocError>
-    requires few { length names.now ≤ 8192 }
-    requires once { IsDistinct bytes_eq (texts names.now) }
-    requires known { (n : List ℕ) → IsNode (files_of parsed.now) n → Contains (texts names.now) n }
-    ensures ascending { IfOk result (λ pairs. IsAscending pairs.items) }
-    ensures leads { IfOk result (λ pairs. (v w : ℕ) → Leads pairs.items v w ↔ LeadsBy (Imports (files_of parsed.now)) (texts names.now) v w) }
-{
-    let mut table = IndexSet::new(alloc);
-    put_names(alloc, &mut table, names)?;
-    pairs_of(alloc, parsed, &table)
 }

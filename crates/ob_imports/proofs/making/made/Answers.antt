@@ -1,11 +1,15 @@
 -- What the files make, case by case.
-use Rattle.std.proofs.Common.{◌≡◌, length, inr, sym, arith}
+use Rattle.std.proofs.Common.{◌≡◌, length, inr, sym, subst, arith}
 use Rattle.std.specs.String.{string_bytes}
 use Rattle.std.proofs.lemmas.List.{length-map}
 use Rattle.digraph.specs.Chains.{IsAcyclic}
 use Rattle.ob_imports.specs.Files.{file_of, files_of, Imports}
 use Rattle.ob_imports.specs.Graphs.{graph_with}
-use Rattle.ob_imports.specs.Names.{texts}
+use Rattle.digraph.specs.Edges.{AreBetween, Leads}
+use Rattle.digraph.proofs.SameGraphs.{acyclic_as}
+use Rattle.ob_imports.specs.Names.{texts, LeadsBy}
+use Rattle.ob_imports.specs.Numbering.{AreLed}
+use Rattle.ob_imports.proofs.ByName.{acyclic_names, between_names}
 use Rattle.ob_imports.specs.Outcomes.{AreKept, IsCycleOf}
 use Rattle.ob_imports.proofs.KeptGraphs.{kept_graph}
 use Rattle.ob_imports.proofs.Nodes.{nodes_apart, nodes_known}
@@ -31,8 +35,21 @@ returns-then-len-gt-MOST_PAIRS c =
       many = (let l = c.len-2.ensures in omega arith);
     }))
 
-pub of-requires : goal.of-requires
-of-requires c =
+pub order_of-requires-clause-once : goal.order_of-requires-clause-once
+order_of-requires-clause-once c = rw c.as_slice.ensures.keys (nodes_apart (files_of c.args.parsed.now) (texts c.in_ok-names.names.keys) c.in_ok-no_two_alike.ensures.differ c.in_ok-names.ensures)
+
+pub cycle_in-requires-clause-between : goal.cycle_in-requires-clause-between
+cycle_in-requires-clause-between c =
+    let files = files_of c.args.parsed.now in
+    let names = texts c.in_ok-names.names.keys in
+    let count = length-map c.in_ok-names.names.keys string_bytes in
+    rw (c.as_slice-2.ensures.value, c.as_slice-3.ensures.keys) (subst (AreBetween c.in_ok-pairs.pairs.items) count (between_names files names c.in_ok-pairs.pairs.items c.in_ok-pairs.ensures.leads))
+
+pub cycle_in-requires-clause-once : goal.cycle_in-requires-clause-once
+cycle_in-requires-clause-once c = rw c.as_slice-3.ensures.keys (nodes_apart (files_of c.args.parsed.now) (texts c.in_ok-names.names.keys) c.in_ok-no_two_alike.ensures.differ c.in_ok-names.ensures)
+
+pub of-requires-clause-graph : goal.of-requires-clause-graph
+of-requires-clause-graph c =
     let files = files_of c.args.parsed.now in
     let count : length files ≡ length c.args.parsed.now = length-map c.args.parsed.now file_of in
     let long : length (texts c.in_ok-names.names.keys) ≡ length c.in_ok-names.names.keys = length-map c.in_ok-names.names.keys string_bytes in
@@ -44,7 +61,9 @@ of-requires c =
       few_names = (let l = c.len.ensures.len in omega arith);
       few_pairs = (let l = c.len-2.ensures in omega arith);
     } in
-    let none : IsAcyclic (Imports files) = rw c.in-None.is at c.in_ok-cycle_in.ensures.none in
+    let pairs_acyclic : IsAcyclic (Leads c.in_ok-pairs.pairs.items) = rw c.as_slice-2.ensures.value at (rw c.in-None.is at c.in_ok-cycle_in.ensures.none) in
+    let none : IsAcyclic (Imports files) = acyclic_names files (texts c.in_ok-names.names.keys) (nodes_known files (texts c.in_ok-names.names.keys) c.in_ok-names.ensures)
+    (acyclic_as (Leads c.in_ok-pairs.pairs.items) (LeadsBy (Imports files) (texts c.in_ok-names.names.keys)) c.in_ok-pairs.ensures.leads pairs_acyclic) in
     kept_graph files g kept none
 
 pub returns-in_ok-of-in-None : goal.returns-in_ok-of-in-None
@@ -60,7 +79,9 @@ returns-in_ok-of-in-None c =
       few_names = (let l = c.len.ensures.len in omega arith);
       few_pairs = (let l = c.len-2.ensures in omega arith);
     } in
-    let none : IsAcyclic (Imports files) = rw c.in-None.is at c.in_ok-cycle_in.ensures.none in
+    let pairs_acyclic : IsAcyclic (Leads c.in_ok-pairs.pairs.items) = rw c.as_slice-2.ensures.value at (rw c.in-None.is at c.in_ok-cycle_in.ensures.none) in
+    let none : IsAcyclic (Imports files) = acyclic_names files (texts c.in_ok-names.names.keys) (nodes_known files (texts c.in_ok-names.names.keys) c.in_ok-names.ensures)
+    (acyclic_as (Leads c.in_ok-pairs.pairs.items) (LeadsBy (Imports files) (texts c.in_ok-names.names.keys)) c.in_ok-pairs.ensures.leads pairs_acyclic) in
     rw c.in_ok-of-in-None.ensures (kept, none)
 
 pub returns-in-Some : goal.returns-in-Some
@@ -76,5 +97,6 @@ returns-in-Some c =
       few_names = (let l = c.len.ensures.len in omega arith);
       few_pairs = (let l = c.len-2.ensures in omega arith);
     } in
-    let cycle : IsCycleOf files (texts c.in_ok-names.names.keys) (texts c.in-Some.names.items) = rw c.as_slice.ensures.keys at (rw c.in-Some.is at c.in_ok-cycle_in.ensures.named) in
+    let led : AreLed files (texts c.as_slice-3.result.now) c.as_slice-2.result.now = rw (c.as_slice-3.ensures.keys, c.as_slice-2.ensures.value) c.in_ok-pairs.ensures.leads in
+    let cycle : IsCycleOf files (texts c.in_ok-names.names.keys) (texts c.in-Some.names.items) = rw c.as_slice-3.ensures.keys at ((rw c.in-Some.is at c.in_ok-cycle_in.ensures.named) files led) in
     record { graph = g; kept = kept; is_cycle = cycle }

@@ -10,5 +10,5 @@ pub returns : goal.returns
 returns c =
     let rows = lists c.as_slice.result.now in
     let are : (v : ℕ) → row_at rows v ≡ imported c.args.self.now.pairs v =
-    rw c.as_slice.ensures.value (subst (λ (g : ImportGraph). (v : ℕ) → row_at (lists c.self.inside.imports.items) v ≡ imported g.pairs v) c.self.view_is c.self.invariant.3) in
+    rw c.as_slice.ensures.value (subst (λ (g : ImportGraph). (v : ℕ) → row_at (lists c.self.inside.imports.items) v ≡ imported g.pairs v) c.self.view_is c.self.invariant.4) in
     IfOk-weaker c.ready_in.result _ _ (λ nodes h. ready_as c.args.self.now rows c.args.done.now c.requires are nodes.items h) c.ready_in.ensures

@@ -1,0 +1,43 @@
+//! The order of names.
+ghost use Rattle.std.specs.Prelude.{◌≡◌, ◌≤◌, ◌<◌, All, IfOk, IsPermutation, length, map};
+ghost use Rattle.std.specs.List.{slice_index_or, IsDistinct};
+ghost use Rattle.std.specs.Str.{bytes_eq};
+ghost use Rattle.ob_imports.specs.Names.{texts, IsByName};
+ghost use Rattle.ob_imports.specs.Numbering.{IsNumbered};
+
+use std::alloc::{AllocError, Global};
+
+/// Each name with its number.
+fn numbered<'a>(alloc: Global, names: &'a [String]) -> Result<Vec<(&'a str, u32)>, AllocError>
+    requires few { length names.now ≤ 8192 }
+    ensures names { IfOk result (λ pairs. map (λ p. p.0.now) pairs.items ≡ texts names.now) }
+    ensures numbers { IfOk result (λ pairs. All (IsNumbered (texts names.now)) pairs.items) }
+{
+    let mut pairs = Vec::new(alloc);
+    for number in 0..names.len() {
+        pairs.push((names[number].as_str(), number as u32))?;
+    }
+    Ok(pairs)
+}
+
+/// The numbers of the pairs.
+fn numbers_of(alloc: Global, pairs: &[(&str, u32)]) -> Result<Vec<u32>, AllocError>
+    ensures { IfOk result (λ numbers. numbers.items ≡ map (λ p. p.1) pairs.now) }
+{
+    let mut numbers = Vec::new(alloc);
+    for pair in pairs {
+        numbers.push(pair.1)?;
+    }
+    Ok(numbers)
+}
+
+/// The numbers of the names, by ascending name.
+pub(crate) fn order_of(alloc: Global, names: &[String]) -> Result<Vec<u32>, AllocError>
+    requires few { length names.now ≤ 8192 }
+    requires once { IsDistinct bytes_eq (texts names.now) }
+    ensures { IfOk result (λ order. IsByName (texts names.now) order.items) }
+{
+    let mut pairs = numbered(alloc, names)?;
+    pairs.sort_unstable();
+    numbers_of(alloc, pairs.as_slice())
+}
