@@ -5,8 +5,6 @@ pub mod Cycles
 pub mod Duality
 pub mod Ends
 pub mod Fronts
-pub mod GraphLines
-pub mod GraphTables
 pub mod ListSums
 pub mod Members
 pub mod NearSide

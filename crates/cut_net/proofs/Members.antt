@@ -1,2 +1,2 @@
 -- Members of lists that are filtered or mapped, passed on.
-pub use Rattle.ob_imports.proofs.Members.{from_filter, from_map, in_map}
+pub use Rattle.digraph.proofs.Members.{from_filter, from_map, in_map}

@@ -24,9 +24,9 @@ use Rattle.cut_net.specs.Network.{texts}
 use Rattle.cut_net.specs.NetText.{NetLine, Import, is_import, AreApart, IsNetOf}
 use Rattle.cut_net.specs.NetReading.{entry_line, import_line, AreTablesOf}
 use Rattle.cut_net.specs.WellFormed.{AreBetween, AreNamesInOrder}
-use Rattle.ob_imports.proofs.Members.{in_filter, from_filter, in_map, from_map}
-use Rattle.ob_imports.proofs.Ordered.{sorted_strings, texts_in_order}
-use Rattle.ob_imports.proofs.SameNames.{apart_ascend}
+use Rattle.digraph.proofs.Members.{in_filter, from_filter, in_map, from_map}
+use Rattle.digraph.proofs.Ordered.{sorted_strings, texts_in_order}
+use Rattle.digraph.proofs.Names.{apart_ascend}
 use Rattle.cut_net.proofs.Places.{index_again, position_named}
 use Rattle.cut_net.proofs.Search.{sorted_apart}
 

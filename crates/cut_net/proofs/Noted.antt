@@ -10,7 +10,7 @@ use Rattle.std.proofs.lemmas.List.{map_push, get_or-map, length-map}
 use Rattle.std.proofs.lemmas.Option.{slice_get_within, get_or_from_slice_get}
 use Rattle.std.proofs.lemmas.Slice.Eq.{bytes_eq-Decides}
 use Rattle.indexmap.specs.IndexSet.{insert_key}
-use Rattle.ob_imports.proofs.Places.{any_text}
+use Rattle.digraph.proofs.Names.{any_text}
 use Rattle.cut_net.specs.Network.{texts}
 use Rattle.cut_net.specs.NetReading.{noted}
 

@@ -2,13 +2,13 @@
 use Rattle.std.proofs.Common.{◌≡◌, ℕ, ◌+◌, ◌<◌, ◌≤◌, ◌^◌, List, [], ◌∷◌, ◌++◌, refl, sym, ◌∙◌, ap, subst, arith, true, Option, None, Some, take}
 use Rattle.std.specs.Prelude.{AllPairs, IfSome, map, slice_get}
 use Rattle.std.proofs.lemmas.List.Elements.{All-contains, Contains-push}
-use Rattle.ob_imports.specs.Cycle.{NamesCycle}
+use Rattle.digraph.specs.Cycle.{NamesCycle}
 use Rattle.cut_net.specs.Network.{Network, name_of}
 use Rattle.cut_net.specs.WellFormed.{IsAcyclic, Leads, total_weight}
 use Rattle.cut_net.specs.NetText.{NetLine, Module, Import, net_line, IsNetLine, is_written, pieces_of, AreApart, AreFew, AreGood, IsBadLine, IsTwiceImport, IsTooMany, IsNetOf, NetText, IsOverflow, IsCycle, IsNetOutcome, NetOutcome, Reads, BadLine, TwiceImport, Cycle, WeightOverflow, TooMany}
 use Rattle.texts.proofs.FieldCuts.{some_is}
 use Rattle.cut_net.proofs.NetLines.{line_once}
-use Rattle.ob_imports.proofs.OneCycle.{one_cycle, cyclic}
+use Rattle.digraph.proofs.OneCycle.{one_cycle, cyclic}
 use Rattle.cut_net.proofs.OneNetwork.{one_network}
 use Rattle.cut_net.proofs.Stops.{Stops, one_stop, no_stop, same_lines}
 

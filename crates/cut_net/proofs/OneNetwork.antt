@@ -2,8 +2,8 @@
 use Rattle.std.proofs.Common.{◌≡◌, ℕ, ◌<◌, List, [], length, sym, ◌∙◌, ap, subst, arith}
 use Rattle.std.specs.Prelude.{Contains, slice_index_or, IsTrue}
 use Rattle.std.proofs.lemmas.Bool.Decides.{nat_tests}
-use Rattle.ob_imports.proofs.Ascending.{same_members}
-use Rattle.ob_imports.proofs.Ascending as ascending
+use Rattle.digraph.proofs.Ascending.{same_members}
+use Rattle.digraph.proofs.Ascending as ascending
 use Rattle.cut_net.specs.declared.priced.Priced.{Priced}
 use Rattle.cut_net.specs.Lines.{comes_before}
 use Rattle.cut_net.specs.Network.{Network, name_of}

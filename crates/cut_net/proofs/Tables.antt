@@ -20,7 +20,7 @@ use Rattle.cut_net.specs.declared.lines.Line.{Line}
 use Rattle.cut_net.specs.declared.draft.Draft.{Draft}
 use Rattle.cut_net.specs.declared.draft.LineFault.{LineFault}
 use Rattle.cut_net.specs.declared.draft.LineFault.TheVariants as fault
-use Rattle.ob_imports.proofs.Members.{no_member, in_filter, from_filter, in_map, from_map}
+use Rattle.digraph.proofs.Members.{no_member, in_filter, from_filter, in_map, from_map}
 
 -- the tables of no lines
 pub tables_none : AreTablesOf [] [] []

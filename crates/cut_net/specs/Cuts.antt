@@ -1,7 +1,7 @@
 -- Chains, cuts and flows in a network. An import has the module that imports, the one that is imported, and its weight.
 -- A set of imports is a test of imports, a set of modules a test of their numbers.
 use Rattle.std.specs.Prelude.{◌≡◌, ◌≢◌, ◌↔◌, ℕ, ◌+◌, ◌≤◌, ◌<◌, ◌==◌, ◌&&◌, not, Bool, true, false, if◌then◌else◌, List, sum_by, Contains}
-use Rattle.ob_imports.specs.Chains as chains
+use Rattle.digraph.specs.Chains as chains
 use Rattle.cut_net.specs.declared.priced.Priced.{Priced}
 use Rattle.cut_net.specs.Network.{Network}
 

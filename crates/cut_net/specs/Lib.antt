@@ -5,4 +5,3 @@ pub mod Lines
 pub mod WellFormed
 pub mod NetText
 pub mod NetReading
-pub mod GraphNet

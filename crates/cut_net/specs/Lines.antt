@@ -1,6 +1,6 @@
 -- What lists of imports say of a network: a line has the modules of an import, and a weight or an amount of flow.
 use Rattle.std.specs.Prelude.{◌≡◌, ℕ, ◌<◌, ◌==◌, ◌&&◌, ◌||◌, nat_lt, Bool, List, Option, Some, None, is_some, IfSome, IsTrue, All, AllPairs, find, Contains}
-use Rattle.ob_imports.specs.declared.pair.Pair.{Pair}
+use Rattle.digraph.specs.declared.edge.Edge.{Edge}
 use Rattle.cut_net.specs.declared.priced.Priced.{Priced}
 use Rattle.cut_net.specs.Network.{Network}
 use Rattle.cut_net.specs.Said.{Said, CutOf}
@@ -11,7 +11,7 @@ abbrev pub comes_before : Priced → Priced → Bool
 comes_before i j = nat_lt i.from j.from || ((i.from == j.from) && nat_lt i.to j.to)
 
 -- an import without what it carries
-abbrev pub pair_of : Priced → Pair
+abbrev pub pair_of : Priced → Edge
 pair_of i = record { from = i.from; to = i.to }
 
 -- each comes before all later ones

@@ -3,7 +3,7 @@ use Rattle.std.specs.Prelude.{◌≡◌, ◌≢◌, ◌↔◌, ◌⊎◌, ℕ, �
 use Rattle.std.specs.List.{slice_split, IsDistinct}
 use Rattle.std.specs.Str.{bytes_eq}
 use Rattle.std.specs.Fmt.{decimal}
-use Rattle.ob_imports.specs.Cycle.{NamesCycle}
+use Rattle.digraph.specs.Cycle.{NamesCycle}
 use Rattle.cut_net.specs.declared.priced.Priced.{Priced}
 use Rattle.texts.specs.Fields.{is_name, line_of}
 use Rattle.cut_net.specs.Network.{Network, name_of}

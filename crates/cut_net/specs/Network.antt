@@ -1,9 +1,13 @@
 -- Networks: modules with names, and imports with weights. A module's number is the place of its name.
-use Rattle.std.specs.Prelude.{ℕ, List, [], Option}
+use Rattle.std.specs.Prelude.{ℕ, List, [], map, Option, String}
 use Rattle.std.specs.List.{slice_index_or, position}
 use Rattle.std.specs.Str.{bytes_eq}
-pub use Rattle.ob_imports.specs.Names.{texts}
+use Rattle.std.specs.String.{string_bytes}
 use Rattle.cut_net.specs.declared.priced.Priced.{Priced}
+
+-- the bytes of each text
+abbrev pub texts : {Z : Type 0} → List (String Z) → List (List ℕ)
+texts names = map string_bytes names
 
 -- the names of the modules in order, and the imports in order
 pub record Network : Type 0 where

@@ -1,20 +1,20 @@
 //! The named cycle of a network's imports.
 ghost use Rattle.std.specs.Prelude.{◌≡◌, ◌<◌, ◌≤◌, length, map, All, IfOk, IfSome, IfNone};
-ghost use Rattle.ob_imports.specs.Cycle.{NamesCycle};
+ghost use Rattle.digraph.specs.Cycle.{NamesCycle};
 ghost use Rattle.cut_net.specs.Lines.{IsAscending, pair_of};
 ghost use Rattle.cut_net.specs.WellFormed.{AreBetween, IsAcyclic, Leads};
 
 use crate::Priced;
-use ob_imports::Pair;
+use digraph::Edge;
 use std::alloc::{AllocError, Global};
 
 /// The imports without their weights.
-fn pairs_of(alloc: Global, imports: &[Priced]) -> Result<Vec<Pair>, AllocError>
+fn pairs_of(alloc: Global, imports: &[Priced]) -> Result<Vec<Edge>, AllocError>
     ensures { IfOk result (λ pairs. pairs.items ≡ map pair_of imports.now) }
 {
     let mut pairs = Vec::new(alloc);
     for import in imports {
-        pairs.push(Pair {
+        pairs.push(Edge {
             from: import.from,
             to: import.to,
         })?;
@@ -38,5 +38,5 @@ pub(crate) fn cycle_of(
     ensures none { IfOk result (λ answer. IfNone answer (IsAcyclic imports.now)) }
 {
     let pairs = pairs_of(alloc, imports)?;
-    ob_imports::cycle(alloc, pairs.as_slice(), nodes)
+    digraph::cycle(alloc, pairs.as_slice(), nodes)
 }

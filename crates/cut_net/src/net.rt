@@ -42,7 +42,7 @@ pub(crate) fn place_of(names: &[String], name: &str) -> Option<usize>
 
 impl Net {
     /// The network of names and imports that keep what every network keeps.
-    pub(crate) fn of(names: Vec<String>, imports: Vec<Priced>) -> Net
+    pub fn of(names: Vec<String>, imports: Vec<Priced>) -> Net
         requires { IsNetwork (net_of names.items imports.items) }
         ensures { result ≡ net_of names.items imports.items }
     {

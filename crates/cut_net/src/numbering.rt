@@ -77,7 +77,8 @@ fn numbered(alloc: Global, draft: &Draft, names: &[String]) -> Result<Vec<Priced
     Ok(imports)
 }
 
-fn put_in_order(imports: &mut Vec<Priced>)
+/// Puts imports in ascending order by their modules.
+pub fn put_in_order(imports: &mut Vec<Priced>)
     ensures same { IsPermutation imports.old.items imports.new.items }
     ensures ascending { IsDistinct same_ends imports.old.items → IsAscending imports.new.items }
 {

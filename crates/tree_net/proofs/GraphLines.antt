@@ -7,18 +7,18 @@ use Rattle.std.proofs.lemmas.List.Elements.{All-append, All-contains, All-get_or
 use Rattle.std.proofs.lemmas.List.Kept.{AllPairs-cons}
 use Rattle.std.proofs.lemmas.List.Sums.{sum_by-le}
 use Rattle.std.proofs.lemmas.Option.{slice_get-get_or}
-use Rattle.ob_imports.specs.declared.pair.Pair.{Pair}
+use Rattle.digraph.specs.declared.edge.Edge.{Edge}
 use Rattle.ob_imports.specs.Graphs.{ImportGraph, IsGraph, name_of}
-use Rattle.ob_imports.specs.Knots.{none_there}
+use Rattle.digraph.specs.Marks.{none_there}
 use Rattle.ob_imports.specs.Numbering.{place_of}
-use Rattle.ob_imports.specs.Pairs as pairs
+use Rattle.digraph.specs.Edges as edges
 use Rattle.ob_imports.proofs.ByName.{acyclic_over}
-use Rattle.ob_imports.proofs.Members.{from_map, in_map}
+use Rattle.digraph.proofs.Members.{from_map, in_map}
 use Rattle.ob_imports.proofs.Places.{place_is}
 use Rattle.ob_scope.specs.Scoped.{ModuleScopes}
 use Rattle.cut_net.specs.declared.priced.Priced.{Priced}
 use Rattle.texts.specs.Fields.{is_name}
-use Rattle.cut_net.specs.GraphNet.{graph_entry, graph_import, graph_lines, graph_weight, AreLight}
+use Rattle.tree_net.specs.GraphNet.{graph_entry, graph_import, graph_lines, graph_weight, AreLight}
 use Rattle.cut_net.specs.Network as network
 use Rattle.cut_net.specs.Network.{Network}
 use Rattle.cut_net.specs.NetText.{NetLine, Module, Import, is_import, AreApart, AreNamesOf, IsNetLine, IsNetOf, Mentions}
@@ -31,11 +31,11 @@ modules_dropped : (names : List (List ℕ)) → filter is_import (map Module nam
 modules_dropped [] = refl
 modules_dropped (n ∷ ns) = modules_dropped ns
 
-imports_kept : (g : ImportGraph) (ss : List ModuleScopes) (ps : List Pair) → filter is_import (map (graph_import g ss) ps) ≡ map (graph_import g ss) ps
+imports_kept : (g : ImportGraph) (ss : List ModuleScopes) (ps : List Edge) → filter is_import (map (graph_import g ss) ps) ≡ map (graph_import g ss) ps
 imports_kept g ss [] = refl
 imports_kept g ss (p ∷ ps) = ap (λ (t : List NetLine). graph_import g ss p ∷ t) (imports_kept g ss ps)
 
-entries_are : (g : ImportGraph) (ss : List ModuleScopes) (ps : List Pair) → map (graph_import g ss) ps ≡ map (entry_line g.names) (map (graph_entry g ss) ps)
+entries_are : (g : ImportGraph) (ss : List ModuleScopes) (ps : List Edge) → map (graph_import g ss) ps ≡ map (entry_line g.names) (map (graph_entry g ss) ps)
 entries_are g ss [] = refl
 entries_are g ss (p ∷ ps) = ap (λ (t : List NetLine). graph_import g ss p ∷ t) (entries_are g ss ps)
 
@@ -70,7 +70,7 @@ module _ (g : ImportGraph) (ss : List ModuleScopes) (graph : IsGraph g) where
   same_node v w lv lw e = sym (place_again v lv) ∙ ap (place_of g.names) e ∙ place_again w lw
 
   -- an import among the lines is one of the graph
-  pub import_of_line : (m n : List ℕ) (w : ℕ) → Contains (graph_lines g ss) (Import m n w) → (p : Pair) × Contains g.pairs p × (graph_import g ss p ≡ Import m n w)
+  pub import_of_line : (m n : List ℕ) (w : ℕ) → Contains (graph_lines g ss) (Import m n w) → (p : Edge) × Contains g.pairs p × (graph_import g ss p ≡ Import m n w)
   import_of_line m n w there = elim (Contains-append_cases (map Module g.names) (map (graph_import g ss) g.pairs) (Import m n w) there) [
     | inl named ↦ let x = from_map Module g.names (Import m n w) named in no_import x.0 m n w x.2
     | inr imported ↦ from_map (graph_import g ss) g.pairs (Import m n w) imported
@@ -121,11 +121,11 @@ module _ (g : ImportGraph) (ss : List ModuleScopes) (graph : IsGraph g) where
   }
 
   module _ (light : AreLight (map (graph_entry g ss) g.pairs)) where
-    light_import : (p : Pair) → Contains g.pairs p → graph_weight g ss p ≤ 16777216
+    light_import : (p : Edge) → Contains g.pairs p → graph_weight g ss p ≤ 16777216
     light_import p there = All-contains (λ (e : (ℕ × ℕ) × ℕ). e.1 ≤ 16777216) (map (graph_entry g ss) g.pairs) (graph_entry g ss p) light (in_map (graph_entry g ss) g.pairs p there)
 
     module _ (named : All (λ n. is_name n ≡ true) g.names) where
-      good_import : (p : Pair) → Contains g.pairs p → IsNetLine (graph_import g ss p)
+      good_import : (p : Edge) → Contains g.pairs p → IsNetLine (graph_import g ss p)
       good_import p there =
           let b = graph.between p there in
           let w = light_import p there in (
@@ -150,7 +150,7 @@ module _ (g : ImportGraph) (ss : List ModuleScopes) (graph : IsGraph g) where
 
       module _ (net : Network) (is : IsNetOf (graph_lines g ss) net) where
         -- an import of the network is one of the graph
-        import_of_net : (i : Priced) → Contains net.imports i → (p : Pair) × Contains g.pairs p × (graph_import g ss p ≡ Import (network.name_of net i.from) (network.name_of net i.to) i.amount)
+        import_of_net : (i : Priced) → Contains net.imports i → (p : Edge) × Contains g.pairs p × (graph_import g ss p ≡ Import (network.name_of net i.from) (network.name_of net i.to) i.amount)
         import_of_net i there =
             let b = is.between i there in
             import_of_line (network.name_of net i.from) (network.name_of net i.to) i.amount ((is.listed i b.0 b.1).0 there)
@@ -168,7 +168,7 @@ module _ (g : ImportGraph) (ss : List ModuleScopes) (graph : IsGraph g) where
 
         -- a chain of the network is one of the graph
         net_acyclic : IsAcyclic net.imports
-        net_acyclic = acyclic_over (Leads net.imports) (pairs.Leads g.pairs) (λ m. place_of g.names (network.name_of net m)) (λ m n (i, there, from, to, _).
+        net_acyclic = acyclic_over (Leads net.imports) (edges.Leads g.pairs) (λ m. place_of g.names (network.name_of net m)) (λ m n (i, there, from, to, _).
             let (p, has, e) = import_of_net i there in
             let b = graph.between p has in
             let e_from : name_of g p.from ≡ network.name_of net m = (same_import _ _ _ _ _ _ e).0 ∙ ap (network.name_of net) from in

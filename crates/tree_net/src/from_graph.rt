@@ -1,18 +1,15 @@
 //! The network of a graph of imports and of the scopes of its modules.
-ghost use Rattle.std.specs.Prelude.{◌≡◌, ◌<◌, ◌≤◌, ◌++◌, true, All, IfErr, IfOk, List, OnOk, length, map, ℕ};
-ghost use Rattle.cut_net.specs.declared.fault.NetFault.TheVariants.{Memory};
-ghost use Rattle.ob_imports.specs.Graphs.{imported};
+ghost use Rattle.std.specs.Prelude.{◌≡◌, ◌<◌, ◌≤◌, ◌++◌, true, All, IfOk, List, OnOk, length, map, ℕ};
+ghost use Rattle.ob_imports.specs.Graphs.{imported, name_of};
 ghost use Rattle.ob_scope.specs.Weights.{uses_across};
 ghost use Rattle.texts.specs.Fields.{is_name};
-ghost use Rattle.cut_net.specs.GraphNet.{entry_to, graph_entry, graph_lines, sum_in, AreBefore, AreLight};
 ghost use Rattle.cut_net.specs.Network.{texts};
-ghost use Rattle.cut_net.specs.NetReading.{IsDraft};
 ghost use Rattle.cut_net.specs.NetText.{IsNetOf};
+ghost use Rattle.tree_net.specs.GraphNet.{entry_to, graph_entry, graph_lines, ranked, sum_in, AreLight};
 
-use crate::draft::Draft;
-use crate::numbering::lists_of;
-use crate::{Net, NetFault};
-use indexmap::{IndexMap, IndexSet};
+use cut_net::{Net, Priced, put_in_order};
+use digraph::ranks_of;
+use indexmap::IndexMap;
 use ob_imports::Graph;
 use ob_scope::Scopes;
 use std::alloc::{AllocError, Global};
@@ -37,84 +34,77 @@ fn sum_of(sums: &IndexMap<&str, u64>, name: &str) -> u64
     sums.get(name).copied().unwrap_or(0)
 }
 
-/// Puts the imports of a module behind the others.
+/// Puts the imports of a module behind the others, by the ranks of their modules.
 fn add_imports(
     alloc: Global,
     graph: &Graph,
     scopes: &Scopes,
     from: u32,
-    imports: &mut IndexMap<(usize, usize), u64>,
+    ranks: &[u32],
+    imports: &mut Vec<Priced>,
 ) -> Result<(), AllocError>
     requires known { from < length graph.now.names }
-    requires before { AreBefore from imports.old.entries }
-    ensures last { OnOk result (imports.new.entries ≡ imports.old.entries ++ map (entry_to graph.now scopes.now from) (imported graph.now.pairs from)) }
+    requires all_ranked { length ranks.now ≡ length graph.now.names }
+    ensures last { OnOk result (imports.new.items ≡ imports.old.items ++ map (ranked ranks.now) (map (entry_to graph.now scopes.now from) (imported graph.now.pairs from))) }
 {
     graph.keeps();
     let sums = sums_of(alloc, scopes)?;
     for to in graph.imports_of(from) {
-        let weight = sum_of(&sums, graph.name(*to));
-        imports.insert((from as usize, *to as usize), weight)?;
+        let amount = sum_of(&sums, graph.name(*to));
+        imports.push(Priced {
+            from: ranks[from as usize],
+            to: ranks[*to as usize],
+            amount,
+        })?;
     }
     Ok(())
 }
 
-/// The imports of the graph, by the places of their names, with their weights.
+/// The imports of the graph, by the ranks of their modules, with their weights.
 fn imports_with(
     alloc: Global,
     graph: &Graph,
     scopes: &[Scopes],
-) -> Result<IndexMap<(usize, usize), u64>, AllocError>
+    ranks: &[u32],
+) -> Result<Vec<Priced>, AllocError>
     requires as_many { length scopes.now ≡ graph.now.modules }
-    ensures entries { IfOk result (λ imports. imports.entries ≡ map (graph_entry graph.now scopes.now) graph.now.pairs) }
-    ensures light { IfOk result (λ imports. AreLight imports.entries) }
+    requires all_ranked { length ranks.now ≡ length graph.now.names }
+    ensures entries { IfOk result (λ imports. imports.items ≡ map (ranked ranks.now) (map (graph_entry graph.now scopes.now) graph.now.pairs)) }
+    ensures light { IfOk result (λ _. AreLight (map (graph_entry graph.now scopes.now) graph.now.pairs)) }
 {
     graph.keeps();
-    let mut imports = IndexMap::new(alloc);
+    let mut imports = Vec::new(alloc);
     for from in 0..graph.modules() {
         let own = &scopes[from as usize];
         own.keeps();
-        add_imports(alloc, graph, own, from, &mut imports)?;
+        add_imports(alloc, graph, own, from, ranks, &mut imports)?;
     }
     Ok(imports)
 }
 
-fn names_of(alloc: Global, graph: &Graph) -> Result<IndexSet<String>, AllocError>
-    ensures { IfOk result (λ names. texts names.keys ≡ graph.now.names) }
+/// The names of modules of the graph, by their numbers there.
+fn names_at(alloc: Global, graph: &Graph, nodes: &[u32]) -> Result<Vec<String>, AllocError>
+    requires { All (λ v. v < length graph.now.names) nodes.now }
+    ensures { IfOk result (λ names. texts names.items ≡ map (name_of graph.now) nodes.now) }
 {
-    graph.keeps();
-    let mut names = IndexSet::new(alloc);
-    for node in 0..graph.nodes() {
-        names.insert(String::from_str(alloc, graph.name(node))?)?;
+    let mut names = Vec::new(alloc);
+    for node in nodes {
+        names.push(String::from_str(alloc, graph.name(*node))?)?;
     }
     Ok(names)
 }
 
-/// The tables of the lines of the graph.
-fn draft_with(alloc: Global, graph: &Graph, scopes: &[Scopes]) -> Result<Draft, AllocError>
+/// The network of a graph of imports, as `FromGraph` says; an error is want of memory.
+pub fn net_of_graph(alloc: Global, graph: &Graph, scopes: &[Scopes]) -> Result<Net, AllocError>
     requires as_many { length scopes.now ≡ graph.now.modules }
     requires named { All (λ n. is_name n ≡ true) graph.now.names }
-    ensures drafted { IfOk result (IsDraft (graph_lines graph.now scopes.now)) }
-    ensures light { IfOk result (λ _. AreLight (map (graph_entry graph.now scopes.now) graph.now.pairs)) }
+    ensures { IfOk result (IsNetOf (graph_lines graph.now scopes.now)) }
 {
     graph.keeps();
-    let names = names_of(alloc, graph)?;
-    let imports = imports_with(alloc, graph, scopes)?;
-    Ok(Draft { names, imports })
-}
-
-impl Net {
-    /// The network of a graph of imports: a module for each of the graph, the external ones too, and for each import its
-    /// weight, which is how many qualified names of the importing module go through aliases of the imported one. The scopes
-    /// are those of the modules of the tree, by their numbers in the graph.
-    pub fn from_graph(alloc: Global, graph: &Graph, scopes: &[Scopes]) -> Result<Net, NetFault>
-        requires as_many { length scopes.now ≡ graph.now.modules }
-        requires named { All (λ n. is_name n ≡ true) graph.now.names }
-        ensures net { IfOk result (IsNetOf (graph_lines graph.now scopes.now)) }
-        ensures memory { IfErr result (λ fault. fault ≡ Memory) }
-    {
-        graph.keeps();
-        let draft = draft_with(alloc, graph, scopes)?;
-        let (names, imports) = lists_of(alloc, &draft)?;
-        Ok(Net::of(names, imports))
-    }
+    let order = graph.by_name();
+    let ranks = ranks_of(alloc, order)?;
+    let names = names_at(alloc, graph, order)?;
+    let mut imports = imports_with(alloc, graph, scopes, ranks.as_slice())?;
+    put_in_order(&mut imports);
+    Ok(Net::of(names, imports))
 }

@@ -1,5 +1,5 @@
 use Rattle.std.proofs.Common.{◌≡◌, refl, sym, ◌∙◌}
-use Rattle.ob_imports.proofs.Ordered.{sorted_strings}
+use Rattle.digraph.proofs.Ordered.{sorted_strings}
 use Rattle.texts.proofs.FieldCuts.{some_is}
 use Rattle.cut_net.proofs.Networks.{place_known}
 use Rattle.cut_net.proofs.numbering.number_of.Goals as goal

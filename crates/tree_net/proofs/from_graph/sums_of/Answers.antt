@@ -3,9 +3,9 @@ use Rattle.std.specs.Str.{bytes_eq}
 use Rattle.std.proofs.lemmas.Map.Text.{hash_map_updates_str}
 use Rattle.indexmap.specs.IndexMap.{get_by}
 use Rattle.ob_scope.specs.Kept.{alias_of}
-use Rattle.cut_net.specs.GraphNet.{sum_in}
-use Rattle.cut_net.proofs.GraphTables.{across_fits, alias_at, sums_next}
-use Rattle.cut_net.proofs.from_graph.sums_of.Goals as goal
+use Rattle.tree_net.specs.GraphNet.{sum_in}
+use Rattle.tree_net.proofs.GraphTables.{across_fits, alias_at, sums_next}
+use Rattle.tree_net.proofs.from_graph.sums_of.Goals as goal
 
 pub overflow_add-before : goal.overflow_add-before
 overflow_add-before c =

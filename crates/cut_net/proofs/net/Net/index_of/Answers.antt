@@ -1,4 +1,4 @@
-use Rattle.ob_imports.proofs.Ordered.{sorted_strings}
+use Rattle.digraph.proofs.Ordered.{sorted_strings}
 use Rattle.cut_net.proofs.net.Net.index_of.Goals as goal
 
 pub place_of-requires : goal.place_of-requires

@@ -1,0 +1,3 @@
+pub mod GraphLines
+pub mod GraphTables
+pub mod Ranked
