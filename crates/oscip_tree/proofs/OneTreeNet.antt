@@ -2,7 +2,7 @@
 use Rattle.std.proofs.Common.{◌≡◌, ℕ, ◌<◌, List, [], length, sym, ap, ap₂, subst, arith}
 use Rattle.std.specs.Prelude.{Contains, IsTrue, slice_index_or}
 use Rattle.ob_imports.specs.Files.{File, IsNode}
-use Rattle.ob_imports.proofs.Ascending.{same_members, same_names}
+use Rattle.digraph.proofs.Ascending.{same_members, same_names}
 use Rattle.cut_net.specs.declared.priced.Priced.{Priced}
 use Rattle.cut_net.specs.Lines.{comes_before}
 use Rattle.cut_net.specs.Network.{Network, name_of}

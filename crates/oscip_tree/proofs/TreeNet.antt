@@ -10,17 +10,17 @@ use Rattle.std.proofs.lemmas.Option.{get_or_from_slice_get, slice_get-get_or, sl
 use Rattle.std.proofs.lemmas.Slice.Eq.{bytes_eq-Decides}
 use Rattle.cut_net.specs.declared.priced.Priced.{Priced}
 use Rattle.texts.specs.Fields.{is_name}
-use Rattle.cut_net.specs.GraphNet.{graph_import, graph_lines, graph_weight, no_scopes, scopes_at}
+use Rattle.tree_net.specs.GraphNet.{graph_import, graph_lines, graph_weight, no_scopes, scopes_at}
 use Rattle.cut_net.specs.Network.{Network, name_of}
 use Rattle.cut_net.specs.NetText.{NetLine, Module, Import, AreMentioning, IsNetOf, Mentions}
-use Rattle.cut_net.proofs.GraphLines.{import_of_line}
-use Rattle.ob_imports.specs.declared.pair.Pair.{Pair}
-use Rattle.ob_imports.specs.Chains.{IsAcyclic}
+use Rattle.tree_net.proofs.GraphLines.{import_of_line}
+use Rattle.digraph.specs.declared.edge.Edge.{Edge}
+use Rattle.digraph.specs.Chains.{IsAcyclic}
 use Rattle.ob_imports.specs.Files.{DifferInName, File, Imports, IsNode, names_of}
 use Rattle.ob_imports.specs.Graphs.{ImportGraph, IsGraph}
 use Rattle.ob_imports.specs.Graphs as graphs
 use Rattle.ob_imports.specs.Outcomes.{AreKept}
-use Rattle.ob_imports.proofs.Members.{from_map, in_map}
+use Rattle.digraph.proofs.Members.{from_map, in_map}
 use Rattle.ob_imports.proofs.Nodes.{nodes_known}
 use Rattle.ob_scan.specs.declared.token.Token.{Token}
 use Rattle.ob_scan.specs.Spelling.{Spells}
@@ -156,7 +156,7 @@ module _ (sources : List Source) (files : List ModuleFile) (g : ImportGraph) (ke
 
     module _ (graph : IsGraph g) where
       -- an import of the graph is one of the files
-      import_of_pair : (p : Pair) → Contains g.pairs p → HasImport files (graphs.name_of g p.from) (graphs.name_of g p.to) (graph_weight g ss p)
+      import_of_pair : (p : Edge) → Contains g.pairs p → HasImport files (graphs.name_of g p.from) (graphs.name_of g p.to) (graph_weight g ss p)
       import_of_pair p has =
           let (m, n, at_m, at_n, (f, in_files, is_m, imports)) = (kept.is_graph.leads p.from p.to).0 has in
           let many = length-map files file_of in

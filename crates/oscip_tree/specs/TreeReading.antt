@@ -2,7 +2,7 @@
 use Rattle.std.specs.Prelude.{◌≡◌, ℕ, List, length, slice_get, Some}
 use Rattle.ob_imports.specs.declared.fault.GraphFault.{GraphFault}
 use Rattle.ob_imports.specs.declared.fault.GraphFault.TheVariants as graphs
-use Rattle.ob_imports.specs.Chains.{IsAcyclic}
+use Rattle.digraph.specs.Chains.{IsAcyclic}
 use Rattle.ob_imports.specs.Files.{Imports}
 use Rattle.ob_imports.specs.Outcomes.{AreKept}
 use Rattle.ob_scope.specs.Scoped.{AreScopes, ModuleScopes}

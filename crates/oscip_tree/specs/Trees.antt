@@ -19,7 +19,7 @@ use Rattle.ob_scope.specs.Scope.{NoneTwice}
 use Rattle.ob_scope.specs.Scoped.{IsScopeFault, listing_of}
 use Rattle.ob_scope.specs.Standings.{text_at}
 use Rattle.ob_imports.specs.declared.fault.GraphFault.{GraphFault}
-use Rattle.ob_imports.specs.Chains.{IsAcyclic}
+use Rattle.digraph.specs.Chains.{IsAcyclic}
 use Rattle.ob_imports.specs.Files.{File, Imports, IsNode}
 use Rattle.ob_imports.specs.Graphs.{ImportGraph}
 use Rattle.ob_imports.specs.Outcomes.{AreKept, GraphOutcome, IsGraphOutcome, fault_said}

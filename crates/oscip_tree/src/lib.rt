@@ -1,5 +1,5 @@
 //! A tree of Oberon-07 modules: from the bytes of its files to the network of its imports, or to the tree's fault.
-//! Stands on `ob_scan` to `ob_imports` and on `cut_net`, with `thiserror` for its faults.
+//! Stands on `ob_scan` to `ob_imports`, on `tree_net` and `cut_net`, with `thiserror` for its faults.
 //! Its contract: the network is the tree's, or the fault is that of the first file that has one, or else of the imports.
 #![tactic(auto)]
 

@@ -7,11 +7,12 @@ ghost use Rattle.oscip_tree.specs.TreeReading.{AreRead, AreScopesOf, IsTreeOf};
 
 use crate::module_file::scopes_of;
 use crate::{Source, TreeFault};
-use cut_net::{Net, NetFault};
+use cut_net::Net;
 use ob_imports::{Graph, Parsed, graph};
 use ob_scope::Scopes;
 use ob_scope::laws::{identifiers_are_names, one_weight, weight_of_aliases};
 use std::alloc::{AllocError, Global};
+use tree_net::net_of_graph;
 
 /// The graph of the imports of a tree, and the scopes of its modules by their numbers there.
 #[derive(Drop)]
@@ -93,9 +94,5 @@ pub fn net_of(alloc: Global, sources: &[Source]) -> Result<Net, TreeFault>
     identifiers_are_names();
     weight_of_aliases();
     one_weight();
-    match Net::from_graph(alloc, &tree.graph, tree.scopes.as_slice()) {
-        Ok(net) => Ok(net),
-        Err(NetFault::Memory) => Err(TreeFault::Memory),
-        Err(_) => unreachable!(),
-    }
+    Ok(net_of_graph(alloc, &tree.graph, tree.scopes.as_slice())?)
 }

@@ -1,6 +1,6 @@
 use Rattle.std.proofs.Common.{arith}
 use Rattle.std.proofs.lemmas.List.{length-map}
-use Rattle.cut_net.specs.GraphNet.{graph_lines}
+use Rattle.tree_net.specs.GraphNet.{graph_lines}
 use Rattle.cut_net.specs.NetText.{IsNetOf}
 use Rattle.ob_scope.specs.Scoped.{ModuleScopes}
 use Rattle.std.proofs.Common.{List, subst}
@@ -8,22 +8,22 @@ use Rattle.oscip_tree.specs.Trees.{file_of}
 use Rattle.oscip_tree.proofs.TreeNet.{names_named, net_of_tree}
 use Rattle.oscip_tree.proofs.tree_reading.net_of.Goals as goal
 
-pub from_graph-requires-clause-as_many : goal.from_graph-requires-clause-as_many
-from_graph-requires-clause-as_many c =
+pub net_of_graph-requires-clause-as_many : goal.net_of_graph-requires-clause-as_many
+net_of_graph-requires-clause-as_many c =
     let of = c.in_ok-tree.ensures.tree in
     let many = of.read.as_many in
     let long = length-map of.files file_of in
     let count = of.kept.is_graph.modules in
     rw c.as_slice.ensures.value (omega arith)
 
-pub from_graph-requires-clause-named : goal.from_graph-requires-clause-named
-from_graph-requires-clause-named c =
+pub net_of_graph-requires-clause-named : goal.net_of_graph-requires-clause-named
+net_of_graph-requires-clause-named c =
     let of = c.in_ok-tree.ensures.tree in
     names_named c.args.sources.now of.files c.in_ok-tree.tree.graph of.kept of.read.accepted c.identifiers_are_names.ensures
 
-pub returns-in-Ok-clause-net : goal.returns-in-Ok-clause-net
-returns-in-Ok-clause-net c =
+pub returns-clause-net : goal.returns-clause-net
+returns-clause-net c =
     let of = c.in_ok-tree.ensures.tree in
     let g = c.in_ok-tree.tree.graph in
-    let is = subst (λ (ss : List ModuleScopes). IsNetOf (graph_lines g ss) c.in-Ok.net) c.as_slice.ensures.value c.in-Ok.ensures.net in
-    net_of_tree c.args.sources.now of.files g of.kept c.in_ok-tree.tree.scopes.items of.read c.weight_of_aliases.ensures c.keeps.ensures c.one_weight.ensures of.acyclic c.in-Ok.net is
+    let is = subst (λ (ss : List ModuleScopes). IsNetOf (graph_lines g ss) c.in_ok-net_of_graph.field-0) c.as_slice.ensures.value c.in_ok-net_of_graph.ensures in
+    net_of_tree c.args.sources.now of.files g of.kept c.in_ok-tree.tree.scopes.items of.read c.weight_of_aliases.ensures c.keeps.ensures c.one_weight.ensures of.acyclic c.in_ok-net_of_graph.field-0 is

@@ -1,5 +1,5 @@
 use Rattle.std.proofs.Common.{◌≡◌, ◌∙◌, List, ap, subst, sym}
-use Rattle.ob_imports.specs.Chains.{IsAcyclic}
+use Rattle.digraph.specs.Chains.{IsAcyclic}
 use Rattle.ob_imports.specs.Files.{files_of as parsed_files, File, Imports}
 use Rattle.ob_imports.specs.Outcomes.{AreKept}
 use Rattle.oscip_tree.specs.Trees.{files_of}
