@@ -1,0 +1,7 @@
+pub mod MeaningLaws
+pub mod WritingSteps
+pub mod OutcomeLaws
+pub mod Picking
+pub mod Again
+pub mod RoundTrips
+pub mod PartLaws

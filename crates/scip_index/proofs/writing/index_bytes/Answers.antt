@@ -1,0 +1,33 @@
+use Rattle.std.proofs.Common.{append_assoc}
+use Rattle.std.proofs.lemmas.List.Concat.{flat_map-append}
+use Rattle.scip_index.specs.Plain.{plain_document, plain_metadata, plain_symbol}
+use Rattle.scip_index.specs.Fits.{DocumentFits, MetadataFits, SymbolFits}
+use Rattle.scip_index.specs.Written.{written_document, written_metadata, written_symbol, written}
+use Rattle.scip_index.proofs.WritingSteps.{all-map, map-after, option-after, some-map}
+use Rattle.scip_index.proofs.writing.index_bytes.Goals as goal
+
+pub returns-clause-bytes : goal.returns-clause-bytes
+unfolding written
+returns-clause-bytes c =
+    let i = c.args.index.now in
+    rw (
+      c.in_ok-put_messages-2.ensures.bytes,
+      c.in_ok-put_messages.ensures.bytes,
+      c.in_ok-put_message.ensures.bytes,
+      c.new-out.ensures.items,
+      c.deref.ensures.value,
+      c.deref-2.ensures.value,
+      option-after plain_metadata written_metadata i.metadata,
+      map-after plain_document written_document i.documents.items,
+      map-after plain_symbol written_symbol i.external_symbols.items,
+    )
+    (simp (flat_map-append, append_assoc))
+
+pub returns-clause-fits : goal.returns-clause-fits
+returns-clause-fits c =
+    let i = c.args.index.now in
+    record {
+      metadata = some-map MetadataFits plain_metadata i.metadata c.in_ok-put_message.ensures.fits;
+      documents = all-map DocumentFits plain_document i.documents.items (rw (← c.deref.ensures.value) c.in_ok-put_messages.ensures.fits);
+      external_symbols = all-map SymbolFits plain_symbol i.external_symbols.items (rw (← c.deref-2.ensures.value) c.in_ok-put_messages-2.ensures.fits);
+    }

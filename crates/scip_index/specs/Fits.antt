@@ -1,0 +1,40 @@
+-- What every message that code holds keeps, so that what is written of it is read again: its numbers fit 32 bits, and its texts
+-- are UTF-8.
+use Rattle.std.specs.Prelude.{FitsSigned, IfSome}
+use Rattle.std.specs.Int.{w32}
+use Rattle.std.specs.List.{AllByRecursion}
+use Rattle.std.specs.Str.{IsUtf8}
+use Rattle.scip_index.specs.Plain.{PlainOccurrence, PlainSymbol, PlainDocument, PlainTool, PlainMetadata, PlainIndex}
+
+pub record OccurrenceFits (o : PlainOccurrence) : Type 0 where
+  pub range : AllByRecursion (FitsSigned w32) o.range
+  pub symbol : IsUtf8 o.symbol
+  pub symbol_roles : FitsSigned w32 o.symbol_roles
+  pub enclosing_range : AllByRecursion (FitsSigned w32) o.enclosing_range
+
+pub record SymbolFits (s : PlainSymbol) : Type 0 where
+  pub symbol : IsUtf8 s.symbol
+  pub display_name : IsUtf8 s.display_name
+
+pub record DocumentFits (d : PlainDocument) : Type 0 where
+  pub relative_path : IsUtf8 d.relative_path
+  pub occurrences : AllByRecursion OccurrenceFits d.occurrences
+  pub symbols : AllByRecursion SymbolFits d.symbols
+  pub language : IsUtf8 d.language
+  pub position_encoding : FitsSigned w32 d.position_encoding
+
+pub record ToolFits (t : PlainTool) : Type 0 where
+  pub name : IsUtf8 t.name
+  pub version : IsUtf8 t.version
+  pub arguments : AllByRecursion IsUtf8 t.arguments
+
+pub record MetadataFits (m : PlainMetadata) : Type 0 where
+  pub version : FitsSigned w32 m.version
+  pub tool_info : IfSome m.tool_info ToolFits
+  pub project_root : IsUtf8 m.project_root
+  pub text_document_encoding : FitsSigned w32 m.text_document_encoding
+
+pub record IndexFits (i : PlainIndex) : Type 0 where
+  pub metadata : IfSome i.metadata MetadataFits
+  pub documents : AllByRecursion DocumentFits i.documents
+  pub external_symbols : AllByRecursion SymbolFits i.external_symbols

@@ -1,0 +1,4 @@
+pub mod Plain
+pub mod Meaning
+pub mod Written
+pub mod Fits

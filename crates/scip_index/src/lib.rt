@@ -1,0 +1,13 @@
+//! SCIP indexes as messages: their bytes, both ways.
+//! Stands on `proto_wire`.
+//! Its contract: what is written of an index means it and no other; what is read is exactly what the bytes mean, or their first fault.
+#![tactic(auto)]
+
+mod index;
+pub mod laws;
+mod reading;
+mod writing;
+
+pub use index::{Document, Index, Metadata, Occurrence, SymbolInfo, ToolInfo};
+pub use reading::from_bytes;
+pub use writing::to_bytes;
