@@ -1,7 +1,6 @@
 -- Names that are refused have no other answer.
 use Rattle.std.proofs.Common.{◌≡◌, ℕ, List, Option, refl, sym, ap, ◌∙◌, Some, None, inl, inr}
-use Rattle.std.proofs.lemmas.Option.{none-some}
-use Rattle.texts.proofs.FieldCuts.{some_is}
+use Rattle.std.proofs.lemmas.Option.{none-some, same_Some}
 use Rattle.cut_net.specs.Network.{Network}
 use Rattle.cut_solve.specs.Solving.{IsRefusal, IsSolveOutcome, SolveOutcome, Solves, SameModule, NoSuchModule}
 
@@ -11,7 +10,7 @@ both o a none some = absurd (none-some a (sym none ∙ some))
 pub one_refusal : (net : Network) (from to : List ℕ) (o p : SolveOutcome) → IsRefusal o → IsSolveOutcome net from to o → IsSolveOutcome net from to p → p ≡ o
 one_refusal net from to (Solves said) p refused holds other = absurd refused
 one_refusal net from to SameModule (Solves said) refused holds other =
-    absurd (other.apart (some_is other.a other.b (sym other.from_is ∙ holds.from_is ∙ sym holds.to_is ∙ other.to_is)))
+    absurd (other.apart (same_Some other.a other.b (sym other.from_is ∙ holds.from_is ∙ sym holds.to_is ∙ other.to_is)))
 one_refusal net from to SameModule SameModule refused holds other = refl
 one_refusal net from to SameModule (NoSuchModule name) refused holds (inl unknown) = both _ holds.a unknown.0 holds.from_is
 one_refusal net from to SameModule (NoSuchModule name) refused holds (inr unknown) = both _ holds.a unknown.1 holds.to_is
