@@ -3,6 +3,7 @@
 gate.py COPY run        runs .ci/run in COPY, a copy of the repository's files, and prints what the proof, the tests and the edits that
                         are due cost for each crate: it looks once a second at what the provers have used
 gate.py COPY all        the same with all edits due
+gate.py . edits ..      runs .ci/edits in the repository itself, with the words that follow, and prints what that cost
 gate.py COPY CRATE ..   proves these crates and those below them from nothing, by one job each, and prints the functions that take
                         longest. LANES is the number of crates at once, which is the number of processors without it
 """
@@ -77,11 +78,11 @@ def look(root, seen, now):
         walk(root)
 
 
-def sampled(copy):
-    """Runs the tests' command, and returns what it printed, its status, processor and wall seconds, and those of each crate's parts."""
+def sampled(copy, *words):
+    """Runs a command of .ci, and returns what it printed, its status, processor and wall seconds, and those of each crate's parts."""
     seen, began = {}, time.time()
     with tempfile.TemporaryFile("w+", errors="replace") as out:
-        ran = subprocess.Popen([f"{copy}/.ci/run"], cwd=copy, stdin=subprocess.DEVNULL, stdout=out, stderr=subprocess.STDOUT)
+        ran = subprocess.Popen(words, cwd=copy, stdin=subprocess.DEVNULL, stdout=out, stderr=subprocess.STDOUT)
         while True:
             pid, status, used = os.wait4(ran.pid, os.WNOHANG)
             if pid:
@@ -107,11 +108,11 @@ def row_of(copy, name, said, costs):
     return f"| `{name}` | {functions[1] if functions else '-'} | {code} | {text} | {' | '.join(cells[:4])} | {tried} | {' | '.join(cells[4:])} |"
 
 
-def run(copy):
-    said, status, processor, wall, costs = sampled(copy)
+def run(copy, *words):
+    said, status, processor, wall, costs = sampled(copy, *words)
     print("| Crate | Functions | Lines of code | of definitions and proofs | Proof, processor | wall | Tests, processor | wall | Edits | processor | wall |")
     print("|" + "---|" * 11)
-    for name in crates_of(copy):
+    for name in [it for it in crates_of(copy) if any((it, part) in costs for part in PARTS)]:
         print(row_of(copy, name, said, costs))
     for part in PARTS:
         print(f"\n{part}: {sum(used for (_, it), (used, _) in costs.items() if it == part) / 60:.0f} minutes of processor time")
@@ -170,7 +171,9 @@ def main(copy, *words):
     if words == ("all",):
         os.remove(f"{copy}/.ci/tried")
     if words in ((), ("run",), ("all",)):
-        return run(copy)
+        return run(copy, ".ci/run")
+    if words[0] == "edits":
+        return run(copy, ".ci/edits", *words[1:])
     return functions(copy, words)
 
 
