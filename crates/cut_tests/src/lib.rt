@@ -1,5 +1,5 @@
 //! Tests of the public calls of `cut_residual`, `cut_net`, `cut_preflow`, `cut_report`, `cut_check` and `cut_solve`.
-//! Stands on those six and on `test_doubles`, and on `ob_imports` for a graph of no files.
+//! Stands on those six and on `test_doubles`.
 //! It has nothing but tests: worked networks, reports and cuts, each with what is known of it.
 #![tactic(auto)]
 

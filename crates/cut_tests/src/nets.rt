@@ -166,17 +166,6 @@ fn a_module_is_found_by_its_name(rt: HostRuntime) -> Result<(), Fail> {
 }
 
 #[test]
-fn a_graph_of_no_files_makes_a_network_of_no_modules(rt: HostRuntime) -> Result<(), Fail> {
-    let graph = ob_imports::graph(rt.alloc(), &[])?;
-    assert_eq!(rt; graph.modules(), 0);
-    assert_eq!(rt; graph.nodes(), 0);
-    let net = Net::from_graph(rt.alloc(), &graph, &[])?;
-    assert_eq!(rt; net.nodes(), 0);
-    assert_eq!(rt; net.imports().len(), 0);
-    Ok(())
-}
-
-#[test]
 fn fields_are_cut_and_named(rt: HostRuntime) {
     let parts = (b"cut".as_slice(), b"A D".as_slice());
     assert_eq!(rt; cut_at_byte(b"cut A D", b' '), Some(parts));

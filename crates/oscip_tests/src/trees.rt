@@ -4,6 +4,7 @@ use cut_net::{Net, Priced};
 use oscip_tree::{TreeFault, net_of};
 use std::alloc::{AllocError, Global};
 use std::test::Fail;
+use tree_net::FromGraph;
 
 const NO_TOKENS: &str = "MODULE A;\n  $\nEND A.";
 
@@ -93,5 +94,16 @@ fn trees_have_a_network_or_a_fault(rt: HostRuntime) -> Result<(), Fail> {
         let found = shown(rt.alloc(), files)?;
         assert_eq!(rt; found.as_str(), *wanted);
     }
+    Ok(())
+}
+
+#[test]
+fn a_graph_of_no_files_makes_a_network_of_no_modules(rt: HostRuntime) -> Result<(), Fail> {
+    let graph = ob_imports::graph(rt.alloc(), &[])?;
+    assert_eq!(rt; graph.modules(), 0);
+    assert_eq!(rt; graph.nodes(), 0);
+    let net = Net::from_graph(rt.alloc(), &graph, &[])?;
+    assert_eq!(rt; net.nodes(), 0);
+    assert_eq!(rt; net.imports().len(), 0);
     Ok(())
 }
