@@ -21,5 +21,5 @@ pub use record::{WireRecord, WireValue, record_at_front, records};
 pub use scratch::Scratch;
 pub use writer::Writer;
 pub use writing::{
-    Written, put_message, put_messages, put_number, put_packed, put_text, put_texts,
+    Written, push_message, put_message, put_messages, put_number, put_packed, put_text, put_texts,
 };

@@ -69,8 +69,9 @@ pub trait Written {
         ensures fits { OnOk result (fits self.now) };
 }
 
-/// Puts a record with the bytes of this message at the end. Its length is known when they are.
-fn push_message<M: Written>(
+/// Puts a message behind the bytes as a field of this number, an empty one too. Its length is known once its bytes are.
+/// Where memory is refused, nothing is said of the bytes.
+pub fn push_message<M: Written>(
     scratch: &mut Scratch,
     out: &mut Vec<u8>,
     field: u32,

@@ -5,3 +5,4 @@ pub mod Picking
 pub mod Again
 pub mod RoundTrips
 pub mod PartLaws
+pub mod StreamingLaws

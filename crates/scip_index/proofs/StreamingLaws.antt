@@ -1,0 +1,92 @@
+-- A record carries one message of a field at most, and what a reader keeps at its start and its end.
+use Rattle.std.proofs.Common.{◌≡◌, ◌≤◌, ◌++◌, ◌∷◌, [], ℕ, suc, true, false, List, take, length, map, Option, Some, None, refl, sym, ap, ◌∙◌, inl, inr, arith}
+use Rattle.std.specs.Prelude.{◌==◌, IfNone}
+use Rattle.std.specs.Option.{is_some, option_to_list}
+use Rattle.std.proofs.Math.Seq.{take-append_seam}
+use Rattle.std.proofs.lemmas.Bool.{cases_Bool}
+use Rattle.std.proofs.lemmas.List.{append-nil}
+use Rattle.proto_wire.specs.declared.fault.WireFault.{WireFault}
+use Rattle.proto_wire.specs.declared.record.WireValue.{WireValue}
+use Rattle.proto_wire.specs.declared.record.WireValue.TheVariants.{Varint, Eight, Bytes, Four}
+use Rattle.proto_wire.specs.Records.{Piece, Reaches}
+use Rattle.proto_wire.specs.Readings.{pieces_of}
+use Rattle.proto_wire.specs.Messages.{AddsMessages, each_of, if_field, records_inside, records_inside_given, MeansEach}
+use Rattle.proto_wire.proofs.PieceReadings.{records_found}
+use Rattle.proto_wire.proofs.RowLaws.{Reaches-start, Reaches-end}
+use Rattle.scip_index.specs.declared.index.Document.{Document}
+use Rattle.scip_index.specs.Plain.{plain_document, PlainDocument, PlainIndex, PlainMetadata, PlainSymbol}
+use Rattle.scip_index.specs.Meaning.{index_of, Means}
+use Rattle.scip_index.specs.Streaming.{documents_in, given, HasDocuments, Stands}
+
+each_length : {M : Type 0} (Means : M → List Piece → Type 0) (ms : List M) (given : List (List Piece)) → MeansEach Means ms given → length ms ≡ length given
+each_length Means [] [] h = refl
+each_length Means [] (ps ∷ given) h = absurd h
+each_length Means (m ∷ ms) [] h = absurd h
+each_length Means (m ∷ ms) (ps ∷ given) h = ap (λ (n : ℕ). suc n) (each_length Means ms given h.1)
+
+inside_one : (value : WireValue) (body : ℕ) (payload : List ℕ) → length (records_inside_given value body payload) ≤ 1
+inside_one (Varint n) body payload = omega arith
+inside_one Eight body payload = omega arith
+inside_one (Bytes count) body payload = omega arith
+inside_one Four body payload = omega arith
+
+given_one : (k : ℕ) (p : Piece) → length (if_field k p.wire (records_inside p)) ≤ 1
+unfolding if_field
+given_one k p =
+    elim (cases_Bool (p.wire.field == k)) [
+      | inl e ↦ rw e (inside_one p.wire.value p.wire.body p.payload)
+      | inr e ↦ rw e (omega arith)
+    ]
+
+pub at_most_one : {M : Type 0} {Means : M → List Piece → Type 0} (k : ℕ) (p : Piece) (new : List M) → AddsMessages Means (if_field k p.wire (records_inside p)) [] new → length new ≤ 1
+at_most_one {M} {Means} k p new h = omega (arith, ap length h.1, each_length Means h.0 (if_field k p.wire (records_inside p)) h.2, given_one k p)
+
+pub not_none : {X : Type 0} (o : Option X) (P : Type 0) → true ≡ is_some o → IfNone o P
+not_none None P e = absurd cc
+not_none (Some x) P e = tt
+
+pub none-then : {X : Type 0} (o : Option X) (P Q : Type 0) → IfNone o P → (P → Q) → IfNone o Q
+none-then None P Q h go = go h
+none-then (Some x) P Q h go = tt
+
+pub no_value : {X : Type 0} (o : Option X) → false ≡ is_some o → option_to_list o ≡ []
+no_value None e = refl
+no_value (Some x) e = absurd cc
+
+-- the records of the bytes that are read
+pub read_so_far : (bytes : List ℕ) (front : List Piece) (at : ℕ) (rest : List ℕ) → Reaches 0 bytes front at rest → pieces_of 0 (take at bytes) ≡ (front, None)
+read_so_far bytes front at rest r =
+    let here : at ≡ length r.good = omega (arith, r.here) in
+    let cut : take at bytes ≡ r.good = ap (λ (n : ℕ). take n bytes) here ∙ ap (λ (bs : List ℕ). take (length r.good) bs) r.form ∙ take-append_seam r.good rest in
+    ap (pieces_of 0) cut ∙ records_found 0 r.good front r.are_records
+
+pub given_is : (bytes : List ℕ) (at : ℕ) (refusal : Option WireFault) (front : List Piece) (rest : List ℕ) → Reaches 0 bytes front at rest → given (record { bytes = bytes; at = at; refusal = refusal }) ≡ documents_in front
+given_is bytes at refusal front rest r = ap (λ (x : List Piece × Option WireFault). documents_in x.0) (read_so_far bytes front at rest r)
+
+-- at the end the bytes mean what the reader keeps and gave
+pub ended : (bytes : List ℕ) (front : List Piece) (at : ℕ) (rest : List ℕ) (metadata : Option PlainMetadata) (externals : List PlainSymbol) → Stands bytes front at rest metadata externals → length rest ≡ 0
+    → (i : PlainIndex) × Means bytes i × (i.metadata ≡ metadata) × (i.external_symbols ≡ externals) × (i.documents ≡ documents_in front)
+ended bytes front at rest metadata externals s none = (
+  index_of front,
+  record { pieces = front; are_records = Reaches-end 0 bytes front at rest s.reached none; clean = s.clean; said = refl },
+  sym s.metadata_is,
+  sym s.externals_are,
+  refl,
+)
+
+-- a reader of which nothing is read
+pub fresh : (bytes : List ℕ) → Stands bytes [] 0 bytes None []
+unfolding each_of
+fresh bytes = record { reached = Reaches-start 0 bytes; clean = tt; metadata_is = refl; externals_are = refl }
+
+-- where no document came, all are given
+pub all_given : (bytes : List ℕ) (front more : List Piece) (at : ℕ) (rest : List ℕ) (metadata : Option PlainMetadata) (externals : List PlainSymbol) (document : Option Document) (before : List PlainDocument) → Stands bytes (front ++ more) at rest metadata externals
+    → documents_in (front ++ more) ≡ documents_in front ++ map plain_document (option_to_list document) → IfNone document (length rest ≡ 0) → before ≡ documents_in front → IfNone document (HasDocuments bytes before)
+all_given bytes front more at rest metadata externals None before s d none b =
+    let e = ended bytes (front ++ more) at rest metadata externals s none in
+    (e.0, e.1, e.4 ∙ d ∙ append-nil (documents_in front) ∙ sym b)
+all_given bytes front more at rest metadata externals (Some x) before s d none b = tt
+
+pub none_given : (bytes : List ℕ) → given (record { bytes = bytes; at = 0; refusal = None }) ≡ []
+unfolding each_of
+none_given bytes = given_is bytes 0 None [] bytes (Reaches-start 0 bytes)

@@ -1,0 +1,207 @@
+//! An index, read one document after the other.
+ghost use Rattle.std.specs.Prelude.{◌≡◌, ◌<◌, ◌≤◌, ◌+◌, ◌^◌, ◌++◌, ◌∷◌, [], ℕ, IfErr, IfNone, IfOk, IfSome, List, None, OnOk, Ok, Err, Result, Some, length, map, option_map};
+ghost use Rattle.std.specs.Option.{option_to_list};
+ghost use Rattle.std.specs.Result.{result_err};
+ghost use Rattle.proto_wire.specs.declared.fault.WireFault.{WireFault};
+ghost use Rattle.proto_wire.specs.Faults.{Tells, UnlessMemory};
+ghost use Rattle.proto_wire.specs.Messages.{IsFirstFault};
+ghost use Rattle.proto_wire.specs.Records.{Piece};
+ghost use Rattle.scip_index.specs.Plain.{plain_document, plain_metadata, plain_symbol};
+ghost use Rattle.scip_index.specs.Meaning.{index_fault};
+ghost use Rattle.scip_index.specs.Streaming.{documents_in, given, HasDocuments, IsRestOutcome, Stands};
+
+use crate::{Document, Metadata, SymbolInfo};
+use proto_wire::{WireFault, merge_message, record_at_front, take_messages};
+use std::alloc::Global;
+use std::marker::Model;
+
+/// The one value of a list, if it has one.
+fn sole(mut documents: Vec<Document>) -> Option<Document>
+    requires { length documents.items ≤ 1 }
+    ensures { documents.items ≡ option_to_list result }
+{
+    documents.pop()
+}
+
+/// Takes in the record at the front of the rest: its document, where it has one, where the next record stands, and what follows.
+fn take_record<'a>(
+    alloc: Global,
+    at: usize,
+    rest: &'a [u8],
+    metadata: &mut Option<Metadata>,
+    externals: &mut Vec<SymbolInfo>,
+) -> Result<(Option<Document>, usize, &'a [u8]), WireFault>
+    requires some { 0 < length rest.now }
+    requires inside { at + length rest.now < 2 ^ 64 }
+    ensures taken { IfOk result (λ x. (bytes : List ℕ) (front : List Piece) →
+        Stands bytes front at rest.now (option_map plain_metadata metadata.old) (map plain_symbol externals.old.items) →
+        (p : Piece) × Stands bytes (front ++ p ∷ []) x.1 x.2.now (option_map plain_metadata metadata.new) (map plain_symbol externals.new.items)
+        × (documents_in (front ++ p ∷ []) ≡ documents_in front ++ map plain_document (option_to_list x.0))) }
+    ensures shorter { IfOk result (λ x. (length x.2.now < length rest.now) × (x.1 + length x.2.now ≡ at + length rest.now)) }
+    ensures err { IfErr result (λ e. (bytes : List ℕ) (front : List Piece) →
+        Stands bytes front at rest.now (option_map plain_metadata metadata.old) (map plain_symbol externals.old.items) → UnlessMemory e (IsFirstFault index_fault 0 bytes e)) }
+{
+    let (wire, payload, after) = record_at_front(at, rest)?;
+    let mut documents = Vec::new(alloc);
+    merge_message(alloc, 1, metadata, &wire, payload)?;
+    take_messages(alloc, 2, &mut documents, &wire, payload)?;
+    take_messages(alloc, 3, externals, &wire, payload)?;
+    Ok((sole(documents), at + (rest.len() - after.len()), after))
+}
+
+/// Reads on to the next document: it, where the record behind it stands, and what follows; or none at the end of the bytes.
+fn next_document<'a>(
+    alloc: Global,
+    at: usize,
+    rest: &'a [u8],
+    metadata: &mut Option<Metadata>,
+    externals: &mut Vec<SymbolInfo>,
+) -> Result<(Option<Document>, usize, &'a [u8]), WireFault>
+    requires { at + length rest.now < 2 ^ 64 }
+    ensures found { IfOk result (λ x. (bytes : List ℕ) (front : List Piece) →
+        Stands bytes front at rest.now (option_map plain_metadata metadata.old) (map plain_symbol externals.old.items) →
+        (more : List Piece) × Stands bytes (front ++ more) x.1 x.2.now (option_map plain_metadata metadata.new) (map plain_symbol externals.new.items)
+        × (documents_in (front ++ more) ≡ documents_in front ++ map plain_document (option_to_list x.0))
+        × (IfNone x.0 (length x.2.now ≡ 0))) }
+    ensures err { IfErr result (λ e. (bytes : List ℕ) (front : List Piece) →
+        Stands bytes front at rest.now (option_map plain_metadata metadata.old) (map plain_symbol externals.old.items) → UnlessMemory e (IsFirstFault index_fault 0 bytes e)) }
+{
+    let mut place = at;
+    let mut left = rest;
+    'records: while !left.is_empty() {
+        let (document, next, after) = take_record(alloc, place, left, metadata, externals)?;
+        if document.is_some() {
+            return Ok((document, next, after));
+        }
+        place = next;
+        left = after;
+    }
+    Ok((None, place, left))
+}
+
+/// Reads on to the end of the bytes.
+fn read_rest(
+    alloc: Global,
+    at: usize,
+    rest: &[u8],
+    metadata: &mut Option<Metadata>,
+    externals: &mut Vec<SymbolInfo>,
+) -> Result<(), WireFault>
+    requires { at + length rest.now < 2 ^ 64 }
+    ensures read { OnOk result ((bytes : List ℕ) (front : List Piece) →
+        Stands bytes front at rest.now (option_map plain_metadata metadata.old) (map plain_symbol externals.old.items) →
+        IsRestOutcome bytes (Ok (option_map plain_metadata metadata.new, map plain_symbol externals.new.items))) }
+    ensures err { IfErr result (λ e. (bytes : List ℕ) (front : List Piece) →
+        Stands bytes front at rest.now (option_map plain_metadata metadata.old) (map plain_symbol externals.old.items) → UnlessMemory e (IsFirstFault index_fault 0 bytes e)) }
+{
+    let mut place = at;
+    let mut left = rest;
+    'records: while !left.is_empty() {
+        let (_, next, after) = take_record(alloc, place, left, metadata, externals)?;
+        place = next;
+        left = after;
+    }
+    Ok(())
+}
+
+/// Reads an index one document after the other, and holds one at a time. Contracts see the bytes, how many of them are read, and
+/// the fault that it has answered, if any: from then on it answers that again.
+#[derive(Drop)]
+pub struct IndexReader<'a> {
+    alloc: Global,
+    bytes: &'a [u8],
+    at: usize,
+    rest: &'a [u8],
+    metadata: Option<Metadata>,
+    externals: Vec<SymbolInfo>,
+    refusal: Option<WireFault>,
+}
+
+impl<'a> Model for IndexReader<'a> {
+    ghost use Rattle.std.specs.Prelude.{IfNone, map, option_map};
+    ghost use Rattle.scip_index.specs.Plain.{plain_metadata, plain_symbol};
+    ghost use Rattle.scip_index.specs.Streaming.{Keeps, ReaderState};
+
+    ghost Value = { ReaderState };
+
+    ghost view = { λ r. record { bytes = r.bytes.now; at = r.at; refusal = r.refusal } };
+
+    ghost invariant = { λ r. IfNone r.refusal (Keeps r.bytes.now r.at r.rest.now (option_map plain_metadata r.metadata) (map plain_symbol r.externals.items)) };
+}
+
+impl<'a> IndexReader<'a> {
+    /// A reader that has read nothing. Takes no memory.
+    pub fn new(alloc: Global, bytes: &'a [u8]) -> Self
+        ensures fresh { result ≡ record { bytes = bytes.now; at = 0; refusal = None } }
+        ensures given { given result ≡ [] }
+    {
+        IndexReader {
+            alloc,
+            bytes,
+            at: 0,
+            rest: bytes,
+            metadata: None,
+            externals: Vec::new(alloc),
+            refusal: None,
+        }
+    }
+
+    /// The next document; none at the end of the bytes.
+    /// Refuses with the first fault of the bytes, as `from_bytes` does, once it is reached, and with `Memory`.
+    pub fn next(&mut self) -> Result<Option<Document>, WireFault>
+        ensures same { self.new.bytes ≡ self.old.bytes }
+        // What it gives is the next of the documents that the bytes carry.
+        ensures found { IfNone self.old.refusal (IfOk result (λ x. given self.new ≡ given self.old ++ map plain_document (option_to_list x))) }
+        // It gives none only where the bytes mean an index, and all its documents are given.
+        ensures end { IfNone self.old.refusal (IfOk result (λ x. IfNone x (HasDocuments self.old.bytes (given self.old)))) }
+        // It refuses with the first fault of the bytes, unless memory ran out.
+        ensures fault { IfNone self.old.refusal (IfErr result (λ e. UnlessMemory e (IsFirstFault index_fault 0 self.old.bytes e))) }
+        // A refusal is kept.
+        ensures kept { self.new.refusal ≡ result_err result }
+        // It is answered again from then on.
+        ensures again { IfSome self.old.refusal (λ fault. (result ≡ Err fault) × (self.new ≡ self.old)) }
+    {
+        if let Some(fault) = self.refusal {
+            return Err(fault);
+        }
+        match next_document(
+            self.alloc,
+            self.at,
+            self.rest,
+            &mut self.metadata,
+            &mut self.externals,
+        ) {
+            Ok((document, at, rest)) => {
+                self.at = at;
+                self.rest = rest;
+                Ok(document)
+            }
+            Err(fault) => {
+                self.refusal = Some(fault);
+                Err(fault)
+            }
+        }
+    }
+
+    /// Reads on to the end of the bytes, and gives the metadata and the external symbols.
+    /// Refuses with the first fault of the bytes, as `from_bytes` does, and with `Memory`; a refusal of `next` is answered again.
+    pub fn rest(self) -> Result<(Option<Metadata>, Vec<SymbolInfo>), WireFault>
+        // They are those of the index that the bytes mean, or it is the first fault.
+        ensures exact { IfNone self.entry.refusal (Tells (λ x. (option_map plain_metadata x.0, map plain_symbol x.1.items)) result (IsRestOutcome self.entry.bytes)) }
+        ensures again { IfSome self.entry.refusal (λ fault. result ≡ Err fault) }
+    {
+        if let Some(fault) = self.refusal {
+            return Err(fault);
+        }
+        let IndexReader {
+            alloc,
+            at,
+            rest,
+            mut metadata,
+            mut externals,
+            ..
+        } = self;
+        read_rest(alloc, at, rest, &mut metadata, &mut externals)?;
+        Ok((metadata, externals))
+    }
+}
