@@ -1,5 +1,5 @@
 -- Counting ARRAY OF: no more often than there are tokens.
-use Rattle.std.proofs.Common.{◌≡◌, ℕ, zero, suc, ◌+◌, ◌<◌, ◌^◌, List, [], ◌∷◌, ◌++◌, length, Some, Ok, map, refl, sym, ap, ◌∙◌, append_assoc, arith}
+use Rattle.std.proofs.Common.{◌≡◌, ℕ, zero, suc, ◌+◌, ◌<◌, ◌^◌, List, [], ◌∷◌, ◌++◌, length, drop, take, length-drop, length-take, Some, Ok, map, refl, sym, ap, ◌∙◌, append_assoc, arith}
 use Rattle.std.proofs.lemmas.List.{append-nil}
 use Rattle.ob_scan.specs.declared.kind.Kind.TheVariants as kinds
 use Rattle.ob_scan.specs.declared.token.Token.{Token}
@@ -42,6 +42,8 @@ length-leaves : (n : ℕ) (ts : List Token) → length (leaves n (map kind_of ts
 length-leaves n [] = refl
 length-leaves n (t ∷ ts) = ap suc (length-leaves (n + 1) ts)
 
-pub few_ahead : (i : Input) → length (ahead i) < 2 ^ 32
+pub few_ahead : (ts : List Token) (i : Input) → length (ahead ts i) < 2 ^ 32
 unfolding ahead
-few_ahead i = omega (arith, length-leaves i.at i.rest.now, i.countable)
+few_ahead ts i =
+    let some = take 4294967295 ts in
+    omega (arith, length-leaves i.at (drop i.at some), length-drop i.at some, length-take 4294967295 ts)

@@ -1,3 +1,4 @@
+pub mod Ahead
 pub mod Arrays
 pub mod Bounded
 pub mod CompleteExpressions

@@ -1,5 +1,5 @@
 -- What the functions of the parser answer, by readers.
-use Rattle.std.specs.Prelude.{◌≡◌, List, map, Option, Some, None, Result, Ok, Err}
+use Rattle.std.specs.Prelude.{◌≡◌, List, map, drop, take, Option, Some, None, Result, Ok, Err}
 use Rattle.ob_scan.specs.declared.kind.Kind.{Kind}
 use Rattle.ob_scan.specs.declared.token.Token.{Token}
 use Rattle.ob_tree.specs.declared.token.Leaf.{Leaf}
@@ -13,19 +13,19 @@ use Rattle.ob_parse.specs.Forms.{Refusal, Wrong, Deep}
 abbrev pub kind_of : Token → Kind
 kind_of t = t.kind
 
--- the tokens that are still to be read
-unfoldable pub ahead : Input → List Leaf
-ahead i = leaves i.at (map kind_of i.rest.now)
+-- the tokens of a text that are still to be read, of those whose numbers 32 bits hold
+unfoldable pub ahead : List Token → Input → List Leaf
+ahead ts i = leaves i.at (map kind_of (drop i.at (take 4294967295 ts)))
 
 -- a token with those after it
-abbrev pub seen : {X : Type 0} → Option (X × Input) → Option (X × List Leaf)
-seen None = None
-seen (Some x) = Some (x.0, ahead x.1)
+abbrev pub seen : {X : Type 0} → List Token → Option (X × Input) → Option (X × List Leaf)
+seen ts None = None
+seen ts (Some x) = Some (x.0, ahead ts x.1)
 
 -- a token of this kind was found in front, with the tokens after it
-abbrev pub skipped : Kind → Option Input → Option (Out × List Leaf)
-skipped k None = None
-skipped k (Some i) = Some (word k, ahead i)
+abbrev pub skipped : List Token → Kind → Option Input → Option (Out × List Leaf)
+skipped ts k None = None
+skipped ts k (Some i) = Some (word k, ahead ts i)
 
 -- why the parser stopped says this of what was read
 abbrev pub Fails : {Y : Type 0} → Stop → Result Y Refusal → Type 0

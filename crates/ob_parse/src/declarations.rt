@@ -22,7 +22,7 @@ use crate::statements::block;
 use crate::stop::{Stop, boxed};
 use crate::symbols::{accept, beyond, expect, identifier, is_at};
 use crate::types::{type_form, var_declaration};
-use ob_scan::Kind;
+use ob_scan::{Kind, Token};
 use ob_tree::declaration::{ConstDecl, Declarations, ProcDecl, TypeDecl, VarDecl};
 use ob_tree::expression::Expr;
 use ob_tree::name::Identdef;
@@ -31,42 +31,44 @@ use ob_tree::token::Leaf;
 use std::alloc::Global;
 
 /// Whether a name stands here.
-fn begins_declaration<'a>(input: Input<'a>) -> bool
-    ensures { result ≡ front is_name (uncons (ahead input.entry)) }
+fn begins_declaration(tokens: &[Token], input: Input) -> bool
+    ensures { result ≡ front is_name (uncons (ahead tokens.now input)) }
 {
-    matches!(input.next(), Some((Leaf::Name(_), _)))
+    matches!(input.next(tokens), Some((Leaf::Name(_), _)))
 }
 
 /// A constant, and its semicolon.
 #[tactic(auto, using(ob_tree::proofs::DeclarationLayers::declaring_made), unfolding(crate::specs::ReadModules::const_with))]
-fn ended_constant<'a>(
+fn ended_constant(
     alloc: Global,
-    input: Input<'a>,
+    tokens: &[Token],
+    input: Input,
     depth: u32,
-) -> Result<(ConstDecl, Input<'a>), Stop>
-    ensures { Gives (λ x. (const_outline x.0 ++ word kinds.Semicolon, ahead x.1)) result (ended (const_with (expr_at depth)) (ahead input.entry)) }
+) -> Result<(ConstDecl, Input), Stop>
+    ensures { Gives (λ x. (const_outline x.0 ++ word kinds.Semicolon, ahead tokens.now x.1)) result (ended (const_with (expr_at depth)) (ahead tokens.now input)) }
 {
-    let (name, here) = identdef(input)?;
-    let here = expect(here, Kind::Equals)?;
-    let (value, here) = expression(alloc, here, depth)?;
-    let here = expect(here, Kind::Semicolon)?;
+    let (name, here) = identdef(tokens, input)?;
+    let here = expect(tokens, here, Kind::Equals)?;
+    let (value, here) = expression(alloc, tokens, here, depth)?;
+    let here = expect(tokens, here, Kind::Semicolon)?;
     let value = Box::into_inner(value);
     Ok((ConstDecl { name, value }, here))
 }
 
 /// Constants, each with its semicolon.
-fn constants<'a>(
+fn constants(
     alloc: Global,
-    input: Input<'a>,
+    tokens: &[Token],
+    input: Input,
     depth: u32,
-) -> Result<(Vec<ConstDecl>, Input<'a>), Stop>
-    ensures { Gives (λ x. (each (λ d. const_outline d ++ word kinds.Semicolon) x.0.items, ahead x.1)) result
-        (many (begins is_name) (ended (const_with (expr_at depth))) (ahead input.entry)) }
+) -> Result<(Vec<ConstDecl>, Input), Stop>
+    ensures { Gives (λ x. (each (λ d. const_outline d ++ word kinds.Semicolon) x.0.items, ahead tokens.now x.1)) result
+        (many (begins is_name) (ended (const_with (expr_at depth))) (ahead tokens.now input)) }
 {
     let mut declared = Vec::new(alloc);
     let mut here = input;
-    'more: while begins_declaration(here) {
-        let (next, after) = ended_constant(alloc, here, depth)?;
+    'more: while begins_declaration(tokens, here) {
+        let (next, after) = ended_constant(alloc, tokens, here, depth)?;
         declared.push(next)?;
         here = after;
     }
@@ -75,16 +77,17 @@ fn constants<'a>(
 
 /// The section of constants, if it stands here.
 #[tactic(auto, unfolding(crate::specs::ReadModules::part_with))]
-fn constant_section<'a>(
+fn constant_section(
     alloc: Global,
-    input: Input<'a>,
+    tokens: &[Token],
+    input: Input,
     depth: u32,
-) -> Result<(Option<Vec<ConstDecl>>, Input<'a>), Stop>
-    ensures { Gives (λ x. (if_there (λ v. part kinds.Const const_outline v.items) x.0, ahead x.1)) result (part_with kinds.Const (const_with (expr_at depth)) (ahead input.entry)) }
+) -> Result<(Option<Vec<ConstDecl>>, Input), Stop>
+    ensures { Gives (λ x. (if_there (λ v. part kinds.Const const_outline v.items) x.0, ahead tokens.now x.1)) result (part_with kinds.Const (const_with (expr_at depth)) (ahead tokens.now input)) }
 {
-    match accept(input, Kind::Const) {
+    match accept(tokens, input, Kind::Const) {
         Some(rest) => {
-            let (declared, rest) = constants(alloc, rest, depth)?;
+            let (declared, rest) = constants(alloc, tokens, rest, depth)?;
             Ok((Some(declared), rest))
         }
         None => Ok((None, input)),
@@ -93,34 +96,36 @@ fn constant_section<'a>(
 
 /// A type with its name, and its semicolon.
 #[tactic(auto, using(ob_tree::proofs::DeclarationLayers::declaring_made), unfolding(crate::specs::ReadModules::type_decl_with))]
-fn ended_named_type<'a>(
+fn ended_named_type(
     alloc: Global,
-    input: Input<'a>,
+    tokens: &[Token],
+    input: Input,
     depth: u32,
-) -> Result<(TypeDecl, Input<'a>), Stop>
-    ensures { Gives (λ x. (type_decl_outline x.0 ++ word kinds.Semicolon, ahead x.1)) result (ended (type_decl_with (type_at depth)) (ahead input.entry)) }
+) -> Result<(TypeDecl, Input), Stop>
+    ensures { Gives (λ x. (type_decl_outline x.0 ++ word kinds.Semicolon, ahead tokens.now x.1)) result (ended (type_decl_with (type_at depth)) (ahead tokens.now input)) }
 {
-    let (name, here) = identdef(input)?;
-    let here = expect(here, Kind::Equals)?;
-    let (form, here) = type_form(alloc, here, depth)?;
-    let here = expect(here, Kind::Semicolon)?;
+    let (name, here) = identdef(tokens, input)?;
+    let here = expect(tokens, here, Kind::Equals)?;
+    let (form, here) = type_form(alloc, tokens, here, depth)?;
+    let here = expect(tokens, here, Kind::Semicolon)?;
     let form = Box::into_inner(form);
     Ok((TypeDecl { name, form }, here))
 }
 
 /// Types with names, each with its semicolon.
-fn named_types<'a>(
+fn named_types(
     alloc: Global,
-    input: Input<'a>,
+    tokens: &[Token],
+    input: Input,
     depth: u32,
-) -> Result<(Vec<TypeDecl>, Input<'a>), Stop>
-    ensures { Gives (λ x. (each (λ d. type_decl_outline d ++ word kinds.Semicolon) x.0.items, ahead x.1)) result
-        (many (begins is_name) (ended (type_decl_with (type_at depth))) (ahead input.entry)) }
+) -> Result<(Vec<TypeDecl>, Input), Stop>
+    ensures { Gives (λ x. (each (λ d. type_decl_outline d ++ word kinds.Semicolon) x.0.items, ahead tokens.now x.1)) result
+        (many (begins is_name) (ended (type_decl_with (type_at depth))) (ahead tokens.now input)) }
 {
     let mut declared = Vec::new(alloc);
     let mut here = input;
-    'more: while begins_declaration(here) {
-        let (next, after) = ended_named_type(alloc, here, depth)?;
+    'more: while begins_declaration(tokens, here) {
+        let (next, after) = ended_named_type(alloc, tokens, here, depth)?;
         declared.push(next)?;
         here = after;
     }
@@ -129,16 +134,17 @@ fn named_types<'a>(
 
 /// TYPE and its declarations, if it stands here.
 #[tactic(auto, unfolding(crate::specs::ReadModules::part_with))]
-fn named_type_section<'a>(
+fn named_type_section(
     alloc: Global,
-    input: Input<'a>,
+    tokens: &[Token],
+    input: Input,
     depth: u32,
-) -> Result<(Option<Vec<TypeDecl>>, Input<'a>), Stop>
-    ensures { Gives (λ x. (if_there (λ v. part kinds.Type type_decl_outline v.items) x.0, ahead x.1)) result (part_with kinds.Type (type_decl_with (type_at depth)) (ahead input.entry)) }
+) -> Result<(Option<Vec<TypeDecl>>, Input), Stop>
+    ensures { Gives (λ x. (if_there (λ v. part kinds.Type type_decl_outline v.items) x.0, ahead tokens.now x.1)) result (part_with kinds.Type (type_decl_with (type_at depth)) (ahead tokens.now input)) }
 {
-    match accept(input, Kind::Type) {
+    match accept(tokens, input, Kind::Type) {
         Some(rest) => {
-            let (declared, rest) = named_types(alloc, rest, depth)?;
+            let (declared, rest) = named_types(alloc, tokens, rest, depth)?;
             Ok((Some(declared), rest))
         }
         None => Ok((None, input)),
@@ -147,31 +153,33 @@ fn named_type_section<'a>(
 
 /// Variables of one type, and its semicolon.
 #[tactic(auto, using(ob_tree::proofs::DeclarationLayers::declaring_made), unfolding(crate::specs::ReadModules::variable_with))]
-fn ended_variable<'a>(
+fn ended_variable(
     alloc: Global,
-    input: Input<'a>,
+    tokens: &[Token],
+    input: Input,
     depth: u32,
-) -> Result<(VarDecl, Input<'a>), Stop>
-    ensures { Gives (λ x. (variable_outline x.0 ++ word kinds.Semicolon, ahead x.1)) result (ended (variable_with (type_at depth)) (ahead input.entry)) }
+) -> Result<(VarDecl, Input), Stop>
+    ensures { Gives (λ x. (variable_outline x.0 ++ word kinds.Semicolon, ahead tokens.now x.1)) result (ended (variable_with (type_at depth)) (ahead tokens.now input)) }
 {
-    let (declaration, here) = var_declaration(alloc, input, depth)?;
-    let here = expect(here, Kind::Semicolon)?;
+    let (declaration, here) = var_declaration(alloc, tokens, input, depth)?;
+    let here = expect(tokens, here, Kind::Semicolon)?;
     Ok((Box::into_inner(declaration), here))
 }
 
 /// The declarations of variables.
-fn variables<'a>(
+fn variables(
     alloc: Global,
-    input: Input<'a>,
+    tokens: &[Token],
+    input: Input,
     depth: u32,
-) -> Result<(Vec<VarDecl>, Input<'a>), Stop>
-    ensures { Gives (λ x. (each (λ d. variable_outline d ++ word kinds.Semicolon) x.0.items, ahead x.1)) result
-        (many (begins is_name) (ended (variable_with (type_at depth))) (ahead input.entry)) }
+) -> Result<(Vec<VarDecl>, Input), Stop>
+    ensures { Gives (λ x. (each (λ d. variable_outline d ++ word kinds.Semicolon) x.0.items, ahead tokens.now x.1)) result
+        (many (begins is_name) (ended (variable_with (type_at depth))) (ahead tokens.now input)) }
 {
     let mut declared = Vec::new(alloc);
     let mut here = input;
-    'more: while begins_declaration(here) {
-        let (next, after) = ended_variable(alloc, here, depth)?;
+    'more: while begins_declaration(tokens, here) {
+        let (next, after) = ended_variable(alloc, tokens, here, depth)?;
         declared.push(next)?;
         here = after;
     }
@@ -180,16 +188,17 @@ fn variables<'a>(
 
 /// The section of variables, if it stands here.
 #[tactic(auto, unfolding(crate::specs::ReadModules::part_with))]
-fn variable_section<'a>(
+fn variable_section(
     alloc: Global,
-    input: Input<'a>,
+    tokens: &[Token],
+    input: Input,
     depth: u32,
-) -> Result<(Option<Vec<VarDecl>>, Input<'a>), Stop>
-    ensures { Gives (λ x. (if_there (λ v. part kinds.Var variable_outline v.items) x.0, ahead x.1)) result (part_with kinds.Var (variable_with (type_at depth)) (ahead input.entry)) }
+) -> Result<(Option<Vec<VarDecl>>, Input), Stop>
+    ensures { Gives (λ x. (if_there (λ v. part kinds.Var variable_outline v.items) x.0, ahead tokens.now x.1)) result (part_with kinds.Var (variable_with (type_at depth)) (ahead tokens.now input)) }
 {
-    match accept(input, Kind::Var) {
+    match accept(tokens, input, Kind::Var) {
         Some(rest) => {
-            let (declared, rest) = variables(alloc, rest, depth)?;
+            let (declared, rest) = variables(alloc, tokens, rest, depth)?;
             Ok((Some(declared), rest))
         }
         None => Ok((None, input)),
@@ -198,18 +207,19 @@ fn variable_section<'a>(
 
 /// The procedures that are declared here.
 #[cycle(declarations)]
-fn procedures<'a>(
+fn procedures(
     alloc: Global,
-    input: Input<'a>,
+    tokens: &[Token],
+    input: Input,
     depth: u32,
-) -> Result<(Vec<ProcDecl>, Input<'a>), Stop>
-    ensures { Gives (λ x. (each (λ p. procedure_outline p ++ word kinds.Semicolon) x.0.items, ahead x.1)) result
-        (many (begins (is_word kinds.Procedure)) (ended (procedure_at depth)) (ahead input.entry)) }
+) -> Result<(Vec<ProcDecl>, Input), Stop>
+    ensures { Gives (λ x. (each (λ p. procedure_outline p ++ word kinds.Semicolon) x.0.items, ahead tokens.now x.1)) result
+        (many (begins (is_word kinds.Procedure)) (ended (procedure_at depth)) (ahead tokens.now input)) }
 {
     let mut declared = Vec::new(alloc);
     let mut here = input;
-    'more: while is_at(here, Kind::Procedure) {
-        let (next, after) = ended_procedure(alloc, here, depth)?;
+    'more: while is_at(tokens, here, Kind::Procedure) {
+        let (next, after) = ended_procedure(alloc, tokens, here, depth)?;
         declared.push(Box::into_inner(next))?;
         here = after;
     }
@@ -218,50 +228,55 @@ fn procedures<'a>(
 
 /// A procedure, and its semicolon.
 #[cycle(declarations)]
-fn ended_procedure<'a>(
+fn ended_procedure(
     alloc: Global,
-    input: Input<'a>,
+    tokens: &[Token],
+    input: Input,
     depth: u32,
-) -> Result<(Box<ProcDecl>, Input<'a>), Stop>
-    ensures { Gives (λ x. (procedure_outline x.0.value ++ word kinds.Semicolon, ahead x.1)) result (ended (procedure_at depth) (ahead input.entry)) }
+) -> Result<(Box<ProcDecl>, Input), Stop>
+    ensures { Gives (λ x. (procedure_outline x.0.value ++ word kinds.Semicolon, ahead tokens.now x.1)) result (ended (procedure_at depth) (ahead tokens.now input)) }
 {
-    let (declaration, here) = procedure(alloc, input, depth)?;
-    let here = expect(here, Kind::Semicolon)?;
+    let (declaration, here) = procedure(alloc, tokens, input, depth)?;
+    let here = expect(tokens, here, Kind::Semicolon)?;
     Ok((declaration, here))
 }
 
 /// A procedure, with at most so many levels in it, itself one of them.
 #[cycle(declarations)]
 #[tactic(auto, unfolding(crate::specs::ReadModules::procedure_at, crate::specs::Forms::limit_at))]
-fn procedure<'a>(
+fn procedure(
     alloc: Global,
-    input: Input<'a>,
+    tokens: &[Token],
+    input: Input,
     depth: u32,
-) -> Result<(Box<ProcDecl>, Input<'a>), Stop>
-    ensures { Gives (λ x. (procedure_outline x.0.value, ahead x.1)) result (procedure_at depth (ahead input.entry)) }
+) -> Result<(Box<ProcDecl>, Input), Stop>
+    ensures { Gives (λ x. (procedure_outline x.0.value, ahead tokens.now x.1)) result (procedure_at depth (ahead tokens.now input)) }
 {
     if depth == 0 {
-        return Err(beyond(input, is_at(input, Kind::Procedure)));
+        return Err(beyond(input, is_at(tokens, input, Kind::Procedure)));
     }
-    procedure_within(alloc, input, depth - 1)
+    procedure_within(alloc, tokens, input, depth - 1)
 }
 
 /// A procedure, with at most so many levels in its parts.
 #[cycle(declarations)]
 #[tactic(auto, using(ob_tree::proofs::DeclarationLayers::declaring_made, ob_tree::proofs::NameLayers::names_made), unfolding(crate::specs::ReadModules::procedure_with, crate::specs::ReadModules::procedure_named, crate::specs::Forms::name_at))]
-fn procedure_within<'a>(
+fn procedure_within(
     alloc: Global,
-    input: Input<'a>,
+    tokens: &[Token],
+    input: Input,
     depth: u32,
-) -> Result<(Box<ProcDecl>, Input<'a>), Stop>
-    ensures { Gives (λ x. (procedure_outline x.0.value, ahead x.1)) result (procedure_with (expr_at depth) (block_at depth) (declarations_at depth) (ahead input.entry)) }
+) -> Result<(Box<ProcDecl>, Input), Stop>
+    ensures { Gives (λ x. (procedure_outline x.0.value, ahead tokens.now x.1)) result (procedure_with (expr_at depth) (block_at depth) (declarations_at depth) (ahead tokens.now input)) }
 {
-    let here = expect(input, Kind::Procedure)?;
-    let (name, here) = identifier(here)?;
-    let (starred, here) = star(here);
-    let (parameters, here) = some_parameters(alloc, here)?;
-    let here = expect(here, Kind::Semicolon)?;
-    let ((declarations, (body, returned, end_name)), here) = inside(alloc, here, depth, name)?;
+    let here = expect(tokens, input, Kind::Procedure)?;
+    let (name, here) = identifier(tokens, here)?;
+    let (starred, here) = star(tokens, here);
+    let (parameters, here) = some_parameters(alloc, tokens, here)?;
+    let here = expect(tokens, here, Kind::Semicolon)?;
+    let ((declarations, (body, returned, end_name)), here) = inside(
+        alloc, tokens, here, depth, name,
+    )?;
     let procedure = ProcDecl {
         name: Identdef { name, starred },
         parameters,
@@ -275,22 +290,23 @@ fn procedure_within<'a>(
 
 /// What stands behind the heading of the procedure of this name.
 #[cycle(declarations)]
-fn inside<'a>(
+fn inside(
     alloc: Global,
-    input: Input<'a>,
+    tokens: &[Token],
+    input: Input,
     depth: u32,
     name: u32,
-) -> Result<((Box<Declarations>, Ending), Input<'a>), Stop>
+) -> Result<((Box<Declarations>, Ending), Input), Stop>
     ensures { Gives (λ x. (
       declarations_outline x.0.0.value ++ (if_there (λ b. word kinds.Begin ++ block_outline b.value) x.0.1.0 ++
           (if_there (λ e. word kinds.Return ++ expr_outline e.value) x.0.1.1 ++ (word kinds.End ++ repeated name x.0.1.2))),
-      ahead x.1,
+      ahead tokens.now x.1,
     )) result
         (seq (declarations_at depth) (seq (body_with (block_at depth)) (seq (optional (accept_at kinds.Return) (expr_at depth))
-        (seq (expect_at kinds.End) (name_at (repeated name))))) (ahead input.entry)) }
+        (seq (expect_at kinds.End) (name_at (repeated name))))) (ahead tokens.now input)) }
 {
-    let (declarations, here) = declarations(alloc, input, depth)?;
-    let (ending, here) = ending(alloc, here, depth, name)?;
+    let (declarations, here) = declarations(alloc, tokens, input, depth)?;
+    let (ending, here) = ending(alloc, tokens, here, depth, name)?;
     Ok(((declarations, ending), here))
 }
 
@@ -299,41 +315,43 @@ type Ending = (Option<Box<Block>>, Option<Box<Expr>>, u32);
 
 /// What stands behind the declarations in the procedure of this name.
 #[tactic(auto, unfolding(crate::specs::Forms::name_at))]
-fn ending<'a>(
+fn ending(
     alloc: Global,
-    input: Input<'a>,
+    tokens: &[Token],
+    input: Input,
     depth: u32,
     name: u32,
-) -> Result<(Ending, Input<'a>), Stop>
+) -> Result<(Ending, Input), Stop>
     ensures { Gives (λ x. (
       if_there (λ b. word kinds.Begin ++ block_outline b.value) x.0.0 ++
           (if_there (λ e. word kinds.Return ++ expr_outline e.value) x.0.1 ++ (word kinds.End ++ repeated name x.0.2)),
-      ahead x.1,
+      ahead tokens.now x.1,
     )) result
         (seq (body_with (block_at depth)) (seq (optional (accept_at kinds.Return) (expr_at depth))
-        (seq (expect_at kinds.End) (name_at (repeated name)))) (ahead input.entry)) }
+        (seq (expect_at kinds.End) (name_at (repeated name)))) (ahead tokens.now input)) }
 {
-    let (body, here) = body(alloc, input, depth)?;
-    let (returned, here) = returned(alloc, here, depth)?;
-    let here = expect(here, Kind::End)?;
-    let (end_name, here) = identifier(here)?;
+    let (body, here) = body(alloc, tokens, input, depth)?;
+    let (returned, here) = returned(alloc, tokens, here, depth)?;
+    let here = expect(tokens, here, Kind::End)?;
+    let (end_name, here) = identifier(tokens, here)?;
     Ok(((body, returned, end_name), here))
 }
 
 /// The declarations of a module or a procedure, with at most so many levels in them.
 #[cycle(declarations)]
 #[tactic(auto, using(ob_tree::proofs::DeclarationLayers::declaring_made), unfolding(crate::specs::ReadModules::declarations_with, crate::specs::ReadModules::procedures_with))]
-pub(crate) fn declarations<'a>(
+pub(crate) fn declarations(
     alloc: Global,
-    input: Input<'a>,
+    tokens: &[Token],
+    input: Input,
     depth: u32,
-) -> Result<(Box<Declarations>, Input<'a>), Stop>
-    ensures { Gives (λ x. (declarations_outline x.0.value, ahead x.1)) result (declarations_at depth (ahead input.entry)) }
+) -> Result<(Box<Declarations>, Input), Stop>
+    ensures { Gives (λ x. (declarations_outline x.0.value, ahead tokens.now x.1)) result (declarations_at depth (ahead tokens.now input)) }
 {
-    let (constants, here) = constant_section(alloc, input, depth)?;
-    let (types, here) = named_type_section(alloc, here, depth)?;
-    let (variables, here) = variable_section(alloc, here, depth)?;
-    let (procedures, here) = procedures(alloc, here, depth)?;
+    let (constants, here) = constant_section(alloc, tokens, input, depth)?;
+    let (types, here) = named_type_section(alloc, tokens, here, depth)?;
+    let (variables, here) = variable_section(alloc, tokens, here, depth)?;
+    let (procedures, here) = procedures(alloc, tokens, here, depth)?;
     let declarations = Declarations {
         constants,
         types,
@@ -345,16 +363,17 @@ pub(crate) fn declarations<'a>(
 
 /// The statements behind BEGIN, in a box, if it stands here.
 #[tactic(auto, unfolding(crate::specs::ReadModules::body_with))]
-pub(crate) fn body<'a>(
+pub(crate) fn body(
     alloc: Global,
-    input: Input<'a>,
+    tokens: &[Token],
+    input: Input,
     depth: u32,
-) -> Result<(Option<Box<Block>>, Input<'a>), Stop>
-    ensures { Gives (λ x. (if_there (λ b. word kinds.Begin ++ block_outline b.value) x.0, ahead x.1)) result (body_with (block_at depth) (ahead input.entry)) }
+) -> Result<(Option<Box<Block>>, Input), Stop>
+    ensures { Gives (λ x. (if_there (λ b. word kinds.Begin ++ block_outline b.value) x.0, ahead tokens.now x.1)) result (body_with (block_at depth) (ahead tokens.now input)) }
 {
-    match accept(input, Kind::Begin) {
+    match accept(tokens, input, Kind::Begin) {
         Some(rest) => {
-            let (block, rest) = block(alloc, rest, depth)?;
+            let (block, rest) = block(alloc, tokens, rest, depth)?;
             Ok((Some(block), rest))
         }
         None => Ok((None, input)),
@@ -362,16 +381,17 @@ pub(crate) fn body<'a>(
 }
 
 /// The expression behind RETURN, if it stands here.
-fn returned<'a>(
+fn returned(
     alloc: Global,
-    input: Input<'a>,
+    tokens: &[Token],
+    input: Input,
     depth: u32,
-) -> Result<(Option<Box<Expr>>, Input<'a>), Stop>
-    ensures { Gives (λ x. (if_there (λ e. word kinds.Return ++ expr_outline e.value) x.0, ahead x.1)) result (optional (accept_at kinds.Return) (expr_at depth) (ahead input.entry)) }
+) -> Result<(Option<Box<Expr>>, Input), Stop>
+    ensures { Gives (λ x. (if_there (λ e. word kinds.Return ++ expr_outline e.value) x.0, ahead tokens.now x.1)) result (optional (accept_at kinds.Return) (expr_at depth) (ahead tokens.now input)) }
 {
-    match accept(input, Kind::Return) {
+    match accept(tokens, input, Kind::Return) {
         Some(rest) => {
-            let (value, rest) = expression(alloc, rest, depth)?;
+            let (value, rest) = expression(alloc, tokens, rest, depth)?;
             Ok((Some(value), rest))
         }
         None => Ok((None, input)),

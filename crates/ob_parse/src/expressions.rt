@@ -16,7 +16,7 @@ use crate::operators::{
 };
 use crate::stop::{Stop, boxed};
 use crate::symbols::{accept, beyond, expect, identifier, is_at};
-use ob_scan::Kind;
+use ob_scan::{Kind, Token};
 use ob_tree::expression::{
     AddOperator, Designator, Element, ElementList, Expr, ExprList, Factor, MulOperator, Relation,
     Selector, Sum, Term,
@@ -27,18 +27,19 @@ use std::alloc::Global;
 /// An expression, itself a level.
 #[cycle(expressions)]
 #[tactic(auto, using(ob_tree::proofs::ExpressionLayers::expressions_made), unfolding(crate::specs::ReadExpressions::expr_at, crate::specs::ReadExpressions::expr_with, crate::specs::Forms::limit_at))]
-pub(crate) fn expression<'a>(
+pub(crate) fn expression(
     alloc: Global,
-    input: Input<'a>,
+    tokens: &[Token],
+    input: Input,
     depth: u32,
-) -> Result<(Box<Expr>, Input<'a>), Stop>
-    ensures { Gives (λ x. (expr_outline x.0.value, ahead x.1)) result (expr_at depth (ahead input.entry)) }
+) -> Result<(Box<Expr>, Input), Stop>
+    ensures { Gives (λ x. (expr_outline x.0.value, ahead tokens.now x.1)) result (expr_at depth (ahead tokens.now input)) }
 {
     if depth == 0 {
-        return Err(beyond(input, begins_expression(input)));
+        return Err(beyond(input, begins_expression(tokens, input)));
     }
-    let (left, input) = sum(alloc, input, depth - 1)?;
-    let (compared, input) = compared(alloc, input, depth - 1)?;
+    let (left, input) = sum(alloc, tokens, input, depth - 1)?;
+    let (compared, input) = compared(alloc, tokens, input, depth - 1)?;
     let left = Box::into_inner(left);
     let expression = Expr { left, compared };
     Ok((boxed(alloc, expression)?, input))
@@ -46,17 +47,18 @@ pub(crate) fn expression<'a>(
 
 /// A relation and its right side, if it stands here.
 #[cycle(expressions)]
-fn compared<'a>(
+fn compared(
     alloc: Global,
-    input: Input<'a>,
+    tokens: &[Token],
+    input: Input,
     depth: u32,
-) -> Result<(Option<(Relation, Box<Sum>)>, Input<'a>), Stop>
-    ensures { Gives (λ x. (if_there (λ c. word (relation_kind c.0) ++ sum_outline c.1.value) x.0, ahead x.1)) result (optional relation_start (sum_at depth) (ahead input.entry)) }
+) -> Result<(Option<(Relation, Box<Sum>)>, Input), Stop>
+    ensures { Gives (λ x. (if_there (λ c. word (relation_kind c.0) ++ sum_outline c.1.value) x.0, ahead tokens.now x.1)) result (optional relation_start (sum_at depth) (ahead tokens.now input)) }
 {
-    match relation(input) {
+    match relation(tokens, input) {
         None => Ok((None, input)),
         Some((relation, rest)) => {
-            let (right, rest) = sum(alloc, rest, depth)?;
+            let (right, rest) = sum(alloc, tokens, rest, depth)?;
             Ok((Some((relation, right)), rest))
         }
     }
@@ -65,15 +67,16 @@ fn compared<'a>(
 /// Expressions with commas between them.
 #[cycle(expressions)]
 #[tactic(auto, using(ob_tree::proofs::ExpressionLayers::expressions_made), unfolding(crate::specs::Forms::several))]
-pub(crate) fn expression_list<'a>(
+pub(crate) fn expression_list(
     alloc: Global,
-    input: Input<'a>,
+    tokens: &[Token],
+    input: Input,
     depth: u32,
-) -> Result<(Box<ExprList>, Input<'a>), Stop>
-    ensures { Gives (λ x. (expr_list_outline x.0.value, ahead x.1)) result (several kinds.Comma (expr_at depth) (ahead input.entry)) }
+) -> Result<(Box<ExprList>, Input), Stop>
+    ensures { Gives (λ x. (expr_list_outline x.0.value, ahead tokens.now x.1)) result (several kinds.Comma (expr_at depth) (ahead tokens.now input)) }
 {
-    let (first, here) = expression(alloc, input, depth)?;
-    let (rest, here) = more_expressions(alloc, here, depth)?;
+    let (first, here) = expression(alloc, tokens, input, depth)?;
+    let (rest, here) = more_expressions(alloc, tokens, here, depth)?;
     let list = ExprList {
         first: Box::into_inner(first),
         rest,
@@ -82,17 +85,18 @@ pub(crate) fn expression_list<'a>(
 }
 
 #[cycle(expressions)]
-fn more_expressions<'a>(
+fn more_expressions(
     alloc: Global,
-    input: Input<'a>,
+    tokens: &[Token],
+    input: Input,
     depth: u32,
-) -> Result<(Vec<Expr>, Input<'a>), Stop>
-    ensures { Gives (λ x. (each_after kinds.Comma expr_outline x.0.items, ahead x.1)) result (many (accept_at kinds.Comma) (expr_at depth) (ahead input.entry)) }
+) -> Result<(Vec<Expr>, Input), Stop>
+    ensures { Gives (λ x. (each_after kinds.Comma expr_outline x.0.items, ahead tokens.now x.1)) result (many (accept_at kinds.Comma) (expr_at depth) (ahead tokens.now input)) }
 {
     let mut rest = Vec::new(alloc);
     let mut here = input;
-    'more: while let Some(after) = accept(here, Kind::Comma) {
-        let (next, after) = expression(alloc, after, depth)?;
+    'more: while let Some(after) = accept(tokens, here, Kind::Comma) {
+        let (next, after) = expression(alloc, tokens, after, depth)?;
         rest.push(Box::into_inner(next))?;
         here = after;
     }
@@ -102,27 +106,28 @@ fn more_expressions<'a>(
 /// A simple expression.
 #[cycle(expressions)]
 #[tactic(auto, using(ob_tree::proofs::ExpressionLayers::expressions_made), unfolding(crate::specs::ReadExpressions::sum_with))]
-fn sum<'a>(alloc: Global, input: Input<'a>, depth: u32) -> Result<(Box<Sum>, Input<'a>), Stop>
-    ensures { Gives (λ x. (sum_outline x.0.value, ahead x.1)) result (sum_at depth (ahead input.entry)) }
+fn sum(alloc: Global, tokens: &[Token], input: Input, depth: u32) -> Result<(Box<Sum>, Input), Stop>
+    ensures { Gives (λ x. (sum_outline x.0.value, ahead tokens.now x.1)) result (sum_at depth (ahead tokens.now input)) }
 {
-    let (sign, here) = sign(input);
-    let (first, here) = term(alloc, here, depth)?;
-    let (rest, here) = more_terms(alloc, here, depth)?;
+    let (sign, here) = sign(tokens, input);
+    let (first, here) = term(alloc, tokens, here, depth)?;
+    let (rest, here) = more_terms(alloc, tokens, here, depth)?;
     Ok((boxed(alloc, Sum { sign, first, rest })?, here))
 }
 
 #[cycle(expressions)]
-fn more_terms<'a>(
+fn more_terms(
     alloc: Global,
-    input: Input<'a>,
+    tokens: &[Token],
+    input: Input,
     depth: u32,
-) -> Result<(Vec<(AddOperator, Term)>, Input<'a>), Stop>
-    ensures { Gives (λ x. (each (λ p. word (add_kind p.0) ++ term_outline p.1) x.0.items, ahead x.1)) result (many add_start (term_at depth) (ahead input.entry)) }
+) -> Result<(Vec<(AddOperator, Term)>, Input), Stop>
+    ensures { Gives (λ x. (each (λ p. word (add_kind p.0) ++ term_outline p.1) x.0.items, ahead tokens.now x.1)) result (many add_start (term_at depth) (ahead tokens.now input)) }
 {
     let mut rest = Vec::new(alloc);
     let mut here = input;
-    'more: while let Some((operator, after)) = add_operator(here) {
-        let (next, after) = term(alloc, after, depth)?;
+    'more: while let Some((operator, after)) = add_operator(tokens, here) {
+        let (next, after) = term(alloc, tokens, after, depth)?;
         rest.push((operator, next))?;
         here = after;
     }
@@ -131,26 +136,27 @@ fn more_terms<'a>(
 
 #[cycle(expressions)]
 #[tactic(auto, using(ob_tree::proofs::ExpressionLayers::expressions_made), unfolding(crate::specs::ReadExpressions::term_with))]
-fn term<'a>(alloc: Global, input: Input<'a>, depth: u32) -> Result<(Term, Input<'a>), Stop>
-    ensures { Gives (λ x. (term_outline x.0, ahead x.1)) result (term_at depth (ahead input.entry)) }
+fn term(alloc: Global, tokens: &[Token], input: Input, depth: u32) -> Result<(Term, Input), Stop>
+    ensures { Gives (λ x. (term_outline x.0, ahead tokens.now x.1)) result (term_at depth (ahead tokens.now input)) }
 {
-    let (first, here) = factor(alloc, input, depth)?;
-    let (rest, here) = more_factors(alloc, here, depth)?;
+    let (first, here) = factor(alloc, tokens, input, depth)?;
+    let (rest, here) = more_factors(alloc, tokens, here, depth)?;
     Ok((Term { first, rest }, here))
 }
 
 #[cycle(expressions)]
-fn more_factors<'a>(
+fn more_factors(
     alloc: Global,
-    input: Input<'a>,
+    tokens: &[Token],
+    input: Input,
     depth: u32,
-) -> Result<(Vec<(MulOperator, Factor)>, Input<'a>), Stop>
-    ensures { Gives (λ x. (each (λ p. word (mul_kind p.0) ++ factor_outline p.1) x.0.items, ahead x.1)) result (many mul_start (factor_at depth) (ahead input.entry)) }
+) -> Result<(Vec<(MulOperator, Factor)>, Input), Stop>
+    ensures { Gives (λ x. (each (λ p. word (mul_kind p.0) ++ factor_outline p.1) x.0.items, ahead tokens.now x.1)) result (many mul_start (factor_at depth) (ahead tokens.now input)) }
 {
     let mut rest = Vec::new(alloc);
     let mut here = input;
-    'more: while let Some((operator, after)) = mul_operator(here) {
-        let (next, after) = factor(alloc, after, depth)?;
+    'more: while let Some((operator, after)) = mul_operator(tokens, here) {
+        let (next, after) = factor(alloc, tokens, after, depth)?;
         rest.push((operator, next))?;
         here = after;
     }
@@ -159,18 +165,23 @@ fn more_factors<'a>(
 
 #[cycle(expressions)]
 #[tactic(auto, using(ob_tree::proofs::ExpressionLayers::expressions_made), unfolding(crate::specs::ReadExpressions::factor_with))]
-fn factor<'a>(alloc: Global, input: Input<'a>, depth: u32) -> Result<(Factor, Input<'a>), Stop>
-    ensures { Gives (λ x. (factor_outline x.0, ahead x.1)) result (factor_at depth (ahead input.entry)) }
+fn factor(
+    alloc: Global,
+    tokens: &[Token],
+    input: Input,
+    depth: u32,
+) -> Result<(Factor, Input), Stop>
+    ensures { Gives (λ x. (factor_outline x.0, ahead tokens.now x.1)) result (factor_at depth (ahead tokens.now input)) }
 {
-    match input.next() {
-        Some((Leaf::Name(number), rest)) => named(alloc, number, rest, depth),
+    match input.next(tokens) {
+        Some((Leaf::Name(number), rest)) => named(alloc, tokens, number, rest, depth),
         Some((Leaf::Value(literal, number), rest)) => Ok((Factor::Value(literal, number), rest)),
         Some((Leaf::Word(Kind::Nil), rest)) => Ok((Factor::Nil, rest)),
         Some((Leaf::Word(Kind::True), rest)) => Ok((Factor::True, rest)),
         Some((Leaf::Word(Kind::False), rest)) => Ok((Factor::False, rest)),
-        Some((Leaf::Word(Kind::LeftBrace), rest)) => set(alloc, rest, depth),
-        Some((Leaf::Word(Kind::LeftParen), rest)) => group(alloc, rest, depth),
-        Some((Leaf::Word(Kind::Tilde), rest)) => inverted(alloc, rest, depth),
+        Some((Leaf::Word(Kind::LeftBrace), rest)) => set(alloc, tokens, rest, depth),
+        Some((Leaf::Word(Kind::LeftParen), rest)) => group(alloc, tokens, rest, depth),
+        Some((Leaf::Word(Kind::Tilde), rest)) => inverted(alloc, tokens, rest, depth),
         _ => Err(Stop::Wrong(input.number())),
     }
 }
@@ -178,93 +189,106 @@ fn factor<'a>(alloc: Global, input: Input<'a>, depth: u32) -> Result<(Factor, In
 /// A designator as a factor, behind its name.
 #[cycle(expressions)]
 #[tactic(auto, using(ob_tree::proofs::ExpressionLayers::expressions_made))]
-fn named<'a>(
+fn named(
     alloc: Global,
+    tokens: &[Token],
     number: u32,
-    input: Input<'a>,
+    input: Input,
     depth: u32,
-) -> Result<(Factor, Input<'a>), Stop>
-    ensures { Gives (λ x. (factor_outline x.0, ahead x.1)) result (node constructs.Factor (designator_with (expr_at depth) number) (ahead input.entry)) }
+) -> Result<(Factor, Input), Stop>
+    ensures { Gives (λ x. (factor_outline x.0, ahead tokens.now x.1)) result (node constructs.Factor (designator_with (expr_at depth) number) (ahead tokens.now input)) }
 {
-    let (designator, rest) = designator(alloc, number, input, depth)?;
+    let (designator, rest) = designator(alloc, tokens, number, input, depth)?;
     Ok((Factor::Name(designator), rest))
 }
 
 /// What stands behind the brace that opens a set.
 #[cycle(expressions)]
 #[tactic(auto, using(ob_tree::proofs::ExpressionLayers::expressions_made))]
-fn set<'a>(alloc: Global, input: Input<'a>, depth: u32) -> Result<(Factor, Input<'a>), Stop>
-    ensures { Gives (λ x. (factor_outline x.0, ahead x.1)) result
-        (node constructs.Factor (prefixed (word kinds.LeftBrace) (seq (optional (unless kinds.RightBrace) (several kinds.Comma (element_with (expr_at depth)))) (expect_at kinds.RightBrace))) (ahead input.entry)) }
+fn set(alloc: Global, tokens: &[Token], input: Input, depth: u32) -> Result<(Factor, Input), Stop>
+    ensures { Gives (λ x. (factor_outline x.0, ahead tokens.now x.1)) result
+        (node constructs.Factor (prefixed (word kinds.LeftBrace) (seq (optional (unless kinds.RightBrace) (several kinds.Comma (element_with (expr_at depth)))) (expect_at kinds.RightBrace))) (ahead tokens.now input)) }
 {
-    let (elements, rest) = elements(alloc, input, depth)?;
-    let rest = expect(rest, Kind::RightBrace)?;
+    let (elements, rest) = elements(alloc, tokens, input, depth)?;
+    let rest = expect(tokens, rest, Kind::RightBrace)?;
     Ok((Factor::Set(elements), rest))
 }
 
 /// What stands behind a parenthesis.
 #[cycle(expressions)]
 #[tactic(auto, using(ob_tree::proofs::ExpressionLayers::expressions_made))]
-fn group<'a>(alloc: Global, input: Input<'a>, depth: u32) -> Result<(Factor, Input<'a>), Stop>
-    ensures { Gives (λ x. (factor_outline x.0, ahead x.1)) result
-        (node constructs.Factor (prefixed (word kinds.LeftParen) (seq (expr_at depth) (expect_at kinds.RightParen))) (ahead input.entry)) }
+fn group(alloc: Global, tokens: &[Token], input: Input, depth: u32) -> Result<(Factor, Input), Stop>
+    ensures { Gives (λ x. (factor_outline x.0, ahead tokens.now x.1)) result
+        (node constructs.Factor (prefixed (word kinds.LeftParen) (seq (expr_at depth) (expect_at kinds.RightParen))) (ahead tokens.now input)) }
 {
-    let (inner, rest) = expression(alloc, input, depth)?;
-    let rest = expect(rest, Kind::RightParen)?;
+    let (inner, rest) = expression(alloc, tokens, input, depth)?;
+    let rest = expect(tokens, rest, Kind::RightParen)?;
     Ok((Factor::Group(inner), rest))
 }
 
 /// What stands behind a `~`.
 #[cycle(expressions)]
 #[tactic(auto, using(ob_tree::proofs::ExpressionLayers::expressions_made))]
-fn inverted<'a>(alloc: Global, input: Input<'a>, depth: u32) -> Result<(Factor, Input<'a>), Stop>
-    ensures { Gives (λ x. (factor_outline x.0, ahead x.1)) result
-        (node constructs.Factor (prefixed (word kinds.Tilde) (negated_at depth)) (ahead input.entry)) }
+fn inverted(
+    alloc: Global,
+    tokens: &[Token],
+    input: Input,
+    depth: u32,
+) -> Result<(Factor, Input), Stop>
+    ensures { Gives (λ x. (factor_outline x.0, ahead tokens.now x.1)) result
+        (node constructs.Factor (prefixed (word kinds.Tilde) (negated_at depth)) (ahead tokens.now input)) }
 {
-    let (inner, rest) = negated(alloc, input, depth)?;
+    let (inner, rest) = negated(alloc, tokens, input, depth)?;
     Ok((Factor::Not(boxed(alloc, inner)?), rest))
 }
 
 /// The factor behind a `~`, itself a level.
 #[cycle(expressions)]
 #[tactic(auto, unfolding(crate::specs::ReadExpressions::negated_at, crate::specs::Forms::limit_at))]
-fn negated<'a>(alloc: Global, input: Input<'a>, depth: u32) -> Result<(Factor, Input<'a>), Stop>
-    ensures { Gives (λ x. (construct constructs.Negated (factor_outline x.0), ahead x.1)) result (negated_at depth (ahead input.entry)) }
+fn negated(
+    alloc: Global,
+    tokens: &[Token],
+    input: Input,
+    depth: u32,
+) -> Result<(Factor, Input), Stop>
+    ensures { Gives (λ x. (construct constructs.Negated (factor_outline x.0), ahead tokens.now x.1)) result (negated_at depth (ahead tokens.now input)) }
 {
     if depth == 0 {
-        return Err(beyond(input, begins_factor(input)));
+        return Err(beyond(input, begins_factor(tokens, input)));
     }
-    factor(alloc, input, depth - 1)
+    factor(alloc, tokens, input, depth - 1)
 }
 
 /// The elements of a set, if it isn't empty.
 #[cycle(expressions)]
 #[tactic(auto, unfolding(crate::specs::Forms::unless))]
-fn elements<'a>(
+fn elements(
     alloc: Global,
-    input: Input<'a>,
+    tokens: &[Token],
+    input: Input,
     depth: u32,
-) -> Result<(Option<Box<ElementList>>, Input<'a>), Stop>
-    ensures { Gives (λ x. (if_there (λ l. element_list_outline l.value) x.0, ahead x.1)) result (optional (unless kinds.RightBrace) (several kinds.Comma (element_with (expr_at depth))) (ahead input.entry)) }
+) -> Result<(Option<Box<ElementList>>, Input), Stop>
+    ensures { Gives (λ x. (if_there (λ l. element_list_outline l.value) x.0, ahead tokens.now x.1)) result (optional (unless kinds.RightBrace) (several kinds.Comma (element_with (expr_at depth))) (ahead tokens.now input)) }
 {
-    if is_at(input, Kind::RightBrace) {
+    if is_at(tokens, input, Kind::RightBrace) {
         return Ok((None, input));
     }
-    let (list, rest) = element_list(alloc, input, depth)?;
+    let (list, rest) = element_list(alloc, tokens, input, depth)?;
     Ok((Some(list), rest))
 }
 
 #[cycle(expressions)]
 #[tactic(auto, using(ob_tree::proofs::ExpressionLayers::expressions_made), unfolding(crate::specs::Forms::several))]
-fn element_list<'a>(
+fn element_list(
     alloc: Global,
-    input: Input<'a>,
+    tokens: &[Token],
+    input: Input,
     depth: u32,
-) -> Result<(Box<ElementList>, Input<'a>), Stop>
-    ensures { Gives (λ x. (element_list_outline x.0.value, ahead x.1)) result (several kinds.Comma (element_with (expr_at depth)) (ahead input.entry)) }
+) -> Result<(Box<ElementList>, Input), Stop>
+    ensures { Gives (λ x. (element_list_outline x.0.value, ahead tokens.now x.1)) result (several kinds.Comma (element_with (expr_at depth)) (ahead tokens.now input)) }
 {
-    let (first, here) = element(alloc, input, depth)?;
-    let (rest, here) = more_elements(alloc, here, depth)?;
+    let (first, here) = element(alloc, tokens, input, depth)?;
+    let (rest, here) = more_elements(alloc, tokens, here, depth)?;
     let list = ElementList {
         first: Box::into_inner(first),
         rest,
@@ -273,17 +297,18 @@ fn element_list<'a>(
 }
 
 #[cycle(expressions)]
-fn more_elements<'a>(
+fn more_elements(
     alloc: Global,
-    input: Input<'a>,
+    tokens: &[Token],
+    input: Input,
     depth: u32,
-) -> Result<(Vec<Element>, Input<'a>), Stop>
-    ensures { Gives (λ x. (each_after kinds.Comma element_outline x.0.items, ahead x.1)) result (many (accept_at kinds.Comma) (element_with (expr_at depth)) (ahead input.entry)) }
+) -> Result<(Vec<Element>, Input), Stop>
+    ensures { Gives (λ x. (each_after kinds.Comma element_outline x.0.items, ahead tokens.now x.1)) result (many (accept_at kinds.Comma) (element_with (expr_at depth)) (ahead tokens.now input)) }
 {
     let mut rest = Vec::new(alloc);
     let mut here = input;
-    'more: while let Some(after) = accept(here, Kind::Comma) {
-        let (next, after) = element(alloc, after, depth)?;
+    'more: while let Some(after) = accept(tokens, here, Kind::Comma) {
+        let (next, after) = element(alloc, tokens, after, depth)?;
         rest.push(Box::into_inner(next))?;
         here = after;
     }
@@ -292,15 +317,16 @@ fn more_elements<'a>(
 
 #[cycle(expressions)]
 #[tactic(auto, using(ob_tree::proofs::ExpressionLayers::expressions_made), unfolding(crate::specs::ReadExpressions::element_with))]
-fn element<'a>(
+fn element(
     alloc: Global,
-    input: Input<'a>,
+    tokens: &[Token],
+    input: Input,
     depth: u32,
-) -> Result<(Box<Element>, Input<'a>), Stop>
-    ensures { Gives (λ x. (element_outline x.0.value, ahead x.1)) result (element_with (expr_at depth) (ahead input.entry)) }
+) -> Result<(Box<Element>, Input), Stop>
+    ensures { Gives (λ x. (element_outline x.0.value, ahead tokens.now x.1)) result (element_with (expr_at depth) (ahead tokens.now input)) }
 {
-    let (low, here) = expression(alloc, input, depth)?;
-    let (high, here) = high(alloc, here, depth)?;
+    let (low, here) = expression(alloc, tokens, input, depth)?;
+    let (high, here) = high(alloc, tokens, here, depth)?;
     let element = Element {
         low: Box::into_inner(low),
         high,
@@ -310,13 +336,18 @@ fn element<'a>(
 
 /// The end of a range behind its two dots, if they stand here.
 #[cycle(expressions)]
-fn high<'a>(alloc: Global, input: Input<'a>, depth: u32) -> Result<(Option<Expr>, Input<'a>), Stop>
-    ensures { Gives (λ x. (if_there (λ e. word kinds.DotDot ++ expr_outline e) x.0, ahead x.1)) result (optional (accept_at kinds.DotDot) (expr_at depth) (ahead input.entry)) }
+fn high(
+    alloc: Global,
+    tokens: &[Token],
+    input: Input,
+    depth: u32,
+) -> Result<(Option<Expr>, Input), Stop>
+    ensures { Gives (λ x. (if_there (λ e. word kinds.DotDot ++ expr_outline e) x.0, ahead tokens.now x.1)) result (optional (accept_at kinds.DotDot) (expr_at depth) (ahead tokens.now input)) }
 {
-    match accept(input, Kind::DotDot) {
+    match accept(tokens, input, Kind::DotDot) {
         None => Ok((None, input)),
         Some(rest) => {
-            let (high, rest) = expression(alloc, rest, depth)?;
+            let (high, rest) = expression(alloc, tokens, rest, depth)?;
             Ok((Some(Box::into_inner(high)), rest))
         }
     }
@@ -325,30 +356,32 @@ fn high<'a>(alloc: Global, input: Input<'a>, depth: u32) -> Result<(Option<Expr>
 /// A designator, behind its name.
 #[cycle(expressions)]
 #[tactic(auto, using(ob_tree::proofs::ExpressionLayers::expressions_made), unfolding(crate::specs::ReadExpressions::designator_with))]
-pub(crate) fn designator<'a>(
+pub(crate) fn designator(
     alloc: Global,
+    tokens: &[Token],
     head: u32,
-    input: Input<'a>,
+    input: Input,
     depth: u32,
-) -> Result<(Designator, Input<'a>), Stop>
-    ensures { Gives (λ x. (designator_outline x.0, ahead x.1)) result (designator_with (expr_at depth) head (ahead input.entry)) }
+) -> Result<(Designator, Input), Stop>
+    ensures { Gives (λ x. (designator_outline x.0, ahead tokens.now x.1)) result (designator_with (expr_at depth) head (ahead tokens.now input)) }
 {
-    let (selectors, here) = more_selectors(alloc, input, depth)?;
+    let (selectors, here) = more_selectors(alloc, tokens, input, depth)?;
     Ok((Designator { head, selectors }, here))
 }
 
 #[cycle(expressions)]
-fn more_selectors<'a>(
+fn more_selectors(
     alloc: Global,
-    input: Input<'a>,
+    tokens: &[Token],
+    input: Input,
     depth: u32,
-) -> Result<(Vec<Selector>, Input<'a>), Stop>
-    ensures { Gives (λ x. (each selector_outline x.0.items, ahead x.1)) result (many (begins selector_first) (selector_with (expr_at depth)) (ahead input.entry)) }
+) -> Result<(Vec<Selector>, Input), Stop>
+    ensures { Gives (λ x. (each selector_outline x.0.items, ahead tokens.now x.1)) result (many (begins selector_first) (selector_with (expr_at depth)) (ahead tokens.now input)) }
 {
     let mut selectors = Vec::new(alloc);
     let mut here = input;
-    'more: while begins_selector(here) {
-        let (next, after) = selector(alloc, here, depth)?;
+    'more: while begins_selector(tokens, here) {
+        let (next, after) = selector(alloc, tokens, here, depth)?;
         selectors.push(next)?;
         here = after;
     }
@@ -357,64 +390,80 @@ fn more_selectors<'a>(
 
 #[cycle(expressions)]
 #[tactic(auto, using(ob_tree::proofs::ExpressionLayers::expressions_made), unfolding(crate::specs::ReadExpressions::selector_with, crate::specs::Forms::name_at))]
-fn selector<'a>(alloc: Global, input: Input<'a>, depth: u32) -> Result<(Selector, Input<'a>), Stop>
-    ensures { Gives (λ x. (selector_outline x.0, ahead x.1)) result (selector_with (expr_at depth) (ahead input.entry)) }
+fn selector(
+    alloc: Global,
+    tokens: &[Token],
+    input: Input,
+    depth: u32,
+) -> Result<(Selector, Input), Stop>
+    ensures { Gives (λ x. (selector_outline x.0, ahead tokens.now x.1)) result (selector_with (expr_at depth) (ahead tokens.now input)) }
 {
-    match input.next() {
-        Some((Leaf::Word(Kind::Dot), rest)) => field(rest),
-        Some((Leaf::Word(Kind::LeftBracket), rest)) => index(alloc, rest, depth),
+    match input.next(tokens) {
+        Some((Leaf::Word(Kind::Dot), rest)) => field(tokens, rest),
+        Some((Leaf::Word(Kind::LeftBracket), rest)) => index(alloc, tokens, rest, depth),
         Some((Leaf::Word(Kind::Caret), rest)) => Ok((Selector::Target, rest)),
-        Some((Leaf::Word(Kind::LeftParen), rest)) => call(alloc, rest, depth),
+        Some((Leaf::Word(Kind::LeftParen), rest)) => call(alloc, tokens, rest, depth),
         _ => Err(Stop::Wrong(input.number())),
     }
 }
 
 /// The name behind a dot.
 #[tactic(auto, using(ob_tree::proofs::ExpressionLayers::expressions_made), unfolding(crate::specs::Forms::name_at))]
-fn field<'a>(input: Input<'a>) -> Result<(Selector, Input<'a>), Stop>
-    ensures { Gives (λ x. (selector_outline x.0, ahead x.1)) result (node constructs.Selector (prefixed (word kinds.Dot) (name_at marks.named)) (ahead input.entry)) }
+fn field(tokens: &[Token], input: Input) -> Result<(Selector, Input), Stop>
+    ensures { Gives (λ x. (selector_outline x.0, ahead tokens.now x.1)) result (node constructs.Selector (prefixed (word kinds.Dot) (name_at marks.named)) (ahead tokens.now input)) }
 {
-    let (field, rest) = identifier(input)?;
+    let (field, rest) = identifier(tokens, input)?;
     Ok((Selector::Field(field), rest))
 }
 
 /// What stands behind a bracket.
 #[cycle(expressions)]
 #[tactic(auto, using(ob_tree::proofs::ExpressionLayers::expressions_made))]
-fn index<'a>(alloc: Global, input: Input<'a>, depth: u32) -> Result<(Selector, Input<'a>), Stop>
-    ensures { Gives (λ x. (selector_outline x.0, ahead x.1)) result
-        (node constructs.Selector (prefixed (word kinds.LeftBracket) (seq (several kinds.Comma (expr_at depth)) (expect_at kinds.RightBracket))) (ahead input.entry)) }
+fn index(
+    alloc: Global,
+    tokens: &[Token],
+    input: Input,
+    depth: u32,
+) -> Result<(Selector, Input), Stop>
+    ensures { Gives (λ x. (selector_outline x.0, ahead tokens.now x.1)) result
+        (node constructs.Selector (prefixed (word kinds.LeftBracket) (seq (several kinds.Comma (expr_at depth)) (expect_at kinds.RightBracket))) (ahead tokens.now input)) }
 {
-    let (list, rest) = expression_list(alloc, input, depth)?;
-    let rest = expect(rest, Kind::RightBracket)?;
+    let (list, rest) = expression_list(alloc, tokens, input, depth)?;
+    let rest = expect(tokens, rest, Kind::RightBracket)?;
     Ok((Selector::Index(list), rest))
 }
 
 /// What stands behind the parenthesis of a call.
 #[cycle(expressions)]
 #[tactic(auto, using(ob_tree::proofs::ExpressionLayers::expressions_made))]
-fn call<'a>(alloc: Global, input: Input<'a>, depth: u32) -> Result<(Selector, Input<'a>), Stop>
-    ensures { Gives (λ x. (selector_outline x.0, ahead x.1)) result
-        (node constructs.Selector (prefixed (word kinds.LeftParen) (seq (optional (unless kinds.RightParen) (several kinds.Comma (expr_at depth))) (expect_at kinds.RightParen))) (ahead input.entry)) }
+fn call(
+    alloc: Global,
+    tokens: &[Token],
+    input: Input,
+    depth: u32,
+) -> Result<(Selector, Input), Stop>
+    ensures { Gives (λ x. (selector_outline x.0, ahead tokens.now x.1)) result
+        (node constructs.Selector (prefixed (word kinds.LeftParen) (seq (optional (unless kinds.RightParen) (several kinds.Comma (expr_at depth))) (expect_at kinds.RightParen))) (ahead tokens.now input)) }
 {
-    let (list, rest) = arguments(alloc, input, depth)?;
-    let rest = expect(rest, Kind::RightParen)?;
+    let (list, rest) = arguments(alloc, tokens, input, depth)?;
+    let rest = expect(tokens, rest, Kind::RightParen)?;
     Ok((Selector::Arguments(list), rest))
 }
 
 /// The arguments of a call, if there are any.
 #[cycle(expressions)]
 #[tactic(auto, unfolding(crate::specs::Forms::unless))]
-fn arguments<'a>(
+fn arguments(
     alloc: Global,
-    input: Input<'a>,
+    tokens: &[Token],
+    input: Input,
     depth: u32,
-) -> Result<(Option<Box<ExprList>>, Input<'a>), Stop>
-    ensures { Gives (λ x. (if_there (λ l. expr_list_outline l.value) x.0, ahead x.1)) result (optional (unless kinds.RightParen) (several kinds.Comma (expr_at depth)) (ahead input.entry)) }
+) -> Result<(Option<Box<ExprList>>, Input), Stop>
+    ensures { Gives (λ x. (if_there (λ l. expr_list_outline l.value) x.0, ahead tokens.now x.1)) result (optional (unless kinds.RightParen) (several kinds.Comma (expr_at depth)) (ahead tokens.now input)) }
 {
-    if is_at(input, Kind::RightParen) {
+    if is_at(tokens, input, Kind::RightParen) {
         return Ok((None, input));
     }
-    let (list, rest) = expression_list(alloc, input, depth)?;
+    let (list, rest) = expression_list(alloc, tokens, input, depth)?;
     Ok((Some(list), rest))
 }

@@ -1,49 +1,31 @@
 //! The tokens that are still to be read.
 
-ghost use Rattle.std.specs.Prelude.{◌≡◌, ◌+◌, ◌^◌, ◌<◌, length, map};
+ghost use Rattle.std.specs.Prelude.{◌≡◌};
 
 use ob_scan::Token;
 use ob_tree::token::{Leaf, leaf_at};
 
-/// The tokens from one place on.
+/// What is still to be read of a text's tokens: those from the one of this number on. It holds no token, and so has no lifetime.
 #[derive(Clone, Copy)]
-pub(crate) struct Input<'a> {
-    rest: &'a [Token],
+pub(crate) struct Input {
     at: u32,
-    ghost countable: { at + length rest.now < 2 ^ 32 },
 }
 
-#[tactic(auto, unfolding(crate::specs::Gives::ahead))]
-impl<'a> Input<'a> {
-    ghost use Rattle.ob_tree.specs.Leaves.{leaves};
+impl Input {
     ghost use Rattle.ob_parse.specs.Front.{uncons};
-    ghost use Rattle.ob_parse.specs.Gives.{ahead, seen, kind_of};
+    ghost use Rattle.ob_parse.specs.Gives.{ahead, seen};
 
     /// All tokens of a text.
-    pub(crate) fn new(tokens: &'a [Token]) -> Input<'a>
-        requires { length tokens.now < 2 ^ 32 }
-        ensures { ahead result ≡ leaves 0 (map kind_of tokens.entry.now) }
-    {
-        Input {
-            rest: tokens,
-            at: 0,
-        }
-    }
+    pub(crate) const ALL: Input = Input { at: 0 };
 
-    /// The next token, and those after it.
-    pub(crate) fn next(self) -> Option<(Leaf, Input<'a>)>
-        ensures { seen result ≡ uncons (ahead self.entry) }
+    /// The next of these tokens, and those after it.
+    #[tactic(auto, unfolding(crate::specs::Gives::ahead))]
+    pub(crate) fn next(self, tokens: &[Token]) -> Option<(Leaf, Input)>
+        ensures { seen tokens.now result ≡ uncons (ahead tokens.now self) }
     {
-        match self.rest {
-            [] => None,
-            [token, rest @ ..] => Some((
-                leaf_at(self.at, token.kind),
-                Input {
-                    rest,
-                    at: self.at + 1,
-                },
-            )),
-        }
+        let token = tokens.get(self.at as usize)?;
+        let at = self.at.checked_add(1)?;
+        Some((leaf_at(self.at, token.kind), Input { at }))
     }
 
     /// The number of the next token, or how many there are where there is none.

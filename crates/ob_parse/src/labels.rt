@@ -13,7 +13,7 @@ use crate::input::Input;
 use crate::names::qualident_after;
 use crate::stop::Stop;
 use crate::symbols::accept;
-use ob_scan::Kind;
+use ob_scan::{Kind, Token};
 use ob_tree::expression::Literal;
 use ob_tree::name::OneOrMore;
 use ob_tree::statement::{Label, LabelRange};
@@ -21,10 +21,10 @@ use ob_tree::token::Leaf;
 use std::alloc::Global;
 
 /// Whether a label begins here.
-pub(crate) fn begins_label<'a>(input: Input<'a>) -> bool
-    ensures { result ≡ front label_first (uncons (ahead input.entry)) }
+pub(crate) fn begins_label(tokens: &[Token], input: Input) -> bool
+    ensures { result ≡ front label_first (uncons (ahead tokens.now input)) }
 {
-    match input.next() {
+    match input.next(tokens) {
         Some((Leaf::Name(_), _)) => true,
         Some((Leaf::Value(Literal::Integer, _), _)) => true,
         Some((Leaf::Value(Literal::Text, _), _)) => true,
@@ -34,12 +34,12 @@ pub(crate) fn begins_label<'a>(input: Input<'a>) -> bool
 
 /// A label.
 #[tactic(auto, using(crate::proofs::StatementSteps::made), unfolding(crate::specs::ReadStatements::label_at))]
-fn label<'a>(input: Input<'a>) -> Result<(Label, Input<'a>), Stop>
-    ensures { Gives (λ x. (label_outline x.0, ahead x.1)) result (label_at (ahead input.entry)) }
+fn label(tokens: &[Token], input: Input) -> Result<(Label, Input), Stop>
+    ensures { Gives (λ x. (label_outline x.0, ahead tokens.now x.1)) result (label_at (ahead tokens.now input)) }
 {
-    match input.next() {
+    match input.next(tokens) {
         Some((Leaf::Name(number), rest)) => {
-            let (name, rest) = qualident_after(number, rest)?;
+            let (name, rest) = qualident_after(tokens, number, rest)?;
             Ok((Label::Name(name), rest))
         }
         Some((Leaf::Value(Literal::Integer, number), rest)) => Ok((Label::Integer(number), rest)),
@@ -50,14 +50,14 @@ fn label<'a>(input: Input<'a>) -> Result<(Label, Input<'a>), Stop>
 
 /// A label, or two with two dots between them.
 #[tactic(auto, using(crate::proofs::StatementSteps::made), unfolding(crate::specs::ReadStatements::label_range_at))]
-fn label_range<'a>(input: Input<'a>) -> Result<(LabelRange, Input<'a>), Stop>
-    ensures { Gives (λ x. (label_range_outline x.0, ahead x.1)) result (label_range_at (ahead input.entry)) }
+fn label_range(tokens: &[Token], input: Input) -> Result<(LabelRange, Input), Stop>
+    ensures { Gives (λ x. (label_range_outline x.0, ahead tokens.now x.1)) result (label_range_at (ahead tokens.now input)) }
 {
-    let (low, input) = label(input)?;
-    match accept(input, Kind::DotDot) {
+    let (low, input) = label(tokens, input)?;
+    match accept(tokens, input, Kind::DotDot) {
         None => Ok((LabelRange { low, high: None }, input)),
         Some(rest) => {
-            let (high, rest) = label(rest)?;
+            let (high, rest) = label(tokens, rest)?;
             Ok((
                 LabelRange {
                     low,
@@ -71,27 +71,29 @@ fn label_range<'a>(input: Input<'a>) -> Result<(LabelRange, Input<'a>), Stop>
 
 /// One label range or more, with commas between them.
 #[tactic(auto, unfolding(crate::specs::Forms::several))]
-pub(crate) fn label_ranges<'a>(
+pub(crate) fn label_ranges(
     alloc: Global,
-    input: Input<'a>,
-) -> Result<(OneOrMore<LabelRange>, Input<'a>), Stop>
-    ensures { Gives (λ x. (listed kinds.Comma label_range_outline x.0, ahead x.1)) result (several kinds.Comma label_range_at (ahead input.entry)) }
+    tokens: &[Token],
+    input: Input,
+) -> Result<(OneOrMore<LabelRange>, Input), Stop>
+    ensures { Gives (λ x. (listed kinds.Comma label_range_outline x.0, ahead tokens.now x.1)) result (several kinds.Comma label_range_at (ahead tokens.now input)) }
 {
-    let (first, here) = label_range(input)?;
-    let (rest, here) = more_label_ranges(alloc, here)?;
+    let (first, here) = label_range(tokens, input)?;
+    let (rest, here) = more_label_ranges(alloc, tokens, here)?;
     Ok((OneOrMore { first, rest }, here))
 }
 
-fn more_label_ranges<'a>(
+fn more_label_ranges(
     alloc: Global,
-    input: Input<'a>,
-) -> Result<(Vec<LabelRange>, Input<'a>), Stop>
-    ensures { Gives (λ x. (each_after kinds.Comma label_range_outline x.0.items, ahead x.1)) result (many (accept_at kinds.Comma) label_range_at (ahead input.entry)) }
+    tokens: &[Token],
+    input: Input,
+) -> Result<(Vec<LabelRange>, Input), Stop>
+    ensures { Gives (λ x. (each_after kinds.Comma label_range_outline x.0.items, ahead tokens.now x.1)) result (many (accept_at kinds.Comma) label_range_at (ahead tokens.now input)) }
 {
     let mut rest = Vec::new(alloc);
     let mut here = input;
-    'more: while let Some(after) = accept(here, Kind::Comma) {
-        let (next, after) = label_range(after)?;
+    'more: while let Some(after) = accept(tokens, here, Kind::Comma) {
+        let (next, after) = label_range(tokens, after)?;
         rest.push(next)?;
         here = after;
     }

@@ -14,7 +14,7 @@ use crate::declarations::{body, declarations};
 use crate::input::Input;
 use crate::stop::{Stop, boxed};
 use crate::symbols::{accept, expect, identifier};
-use ob_scan::Kind;
+use ob_scan::{Kind, Token};
 use ob_tree::declaration::{Declarations, ImportItem, Module};
 use ob_tree::name::OneOrMore;
 use ob_tree::statement::Block;
@@ -22,12 +22,12 @@ use std::alloc::Global;
 
 /// The name of a module that is imported under another, behind `:=`.
 #[tactic(auto, unfolding(crate::specs::Forms::name_at))]
-fn renamed<'a>(input: Input<'a>) -> Result<(Option<u32>, Input<'a>), Stop>
-    ensures { Gives (λ x. (if_there (λ m. word kinds.Assign ++ named m) x.0, ahead x.1)) result (optional (accept_at kinds.Assign) (name_at named) (ahead input.entry)) }
+fn renamed(tokens: &[Token], input: Input) -> Result<(Option<u32>, Input), Stop>
+    ensures { Gives (λ x. (if_there (λ m. word kinds.Assign ++ named m) x.0, ahead tokens.now x.1)) result (optional (accept_at kinds.Assign) (name_at named) (ahead tokens.now input)) }
 {
-    match accept(input, Kind::Assign) {
+    match accept(tokens, input, Kind::Assign) {
         Some(rest) => {
-            let (of, rest) = identifier(rest)?;
+            let (of, rest) = identifier(tokens, rest)?;
             Ok((Some(of), rest))
         }
         None => Ok((None, input)),
@@ -36,22 +36,26 @@ fn renamed<'a>(input: Input<'a>) -> Result<(Option<u32>, Input<'a>), Stop>
 
 /// An imported module.
 #[tactic(auto, using(ob_tree::proofs::DeclarationLayers::declaring_made), unfolding(crate::specs::ReadModules::import_at, crate::specs::Forms::name_at))]
-fn import<'a>(input: Input<'a>) -> Result<(ImportItem, Input<'a>), Stop>
-    ensures { Gives (λ x. (import_outline x.0, ahead x.1)) result (import_at (ahead input.entry)) }
+fn import(tokens: &[Token], input: Input) -> Result<(ImportItem, Input), Stop>
+    ensures { Gives (λ x. (import_outline x.0, ahead tokens.now x.1)) result (import_at (ahead tokens.now input)) }
 {
-    let (name, here) = identifier(input)?;
-    let (of, here) = renamed(here)?;
+    let (name, here) = identifier(tokens, input)?;
+    let (of, here) = renamed(tokens, here)?;
     Ok((ImportItem { name, of }, here))
 }
 
 /// Imported modules behind the first: each after a comma.
-fn more_imports<'a>(alloc: Global, input: Input<'a>) -> Result<(Vec<ImportItem>, Input<'a>), Stop>
-    ensures { Gives (λ x. (each_after kinds.Comma import_outline x.0.items, ahead x.1)) result (many (accept_at kinds.Comma) import_at (ahead input.entry)) }
+fn more_imports(
+    alloc: Global,
+    tokens: &[Token],
+    input: Input,
+) -> Result<(Vec<ImportItem>, Input), Stop>
+    ensures { Gives (λ x. (each_after kinds.Comma import_outline x.0.items, ahead tokens.now x.1)) result (many (accept_at kinds.Comma) import_at (ahead tokens.now input)) }
 {
     let mut rest = Vec::new(alloc);
     let mut here = input;
-    'more: while let Some(after) = accept(here, Kind::Comma) {
-        let (next, after) = import(after)?;
+    'more: while let Some(after) = accept(tokens, here, Kind::Comma) {
+        let (next, after) = import(tokens, after)?;
         rest.push(next)?;
         here = after;
     }
@@ -60,29 +64,31 @@ fn more_imports<'a>(alloc: Global, input: Input<'a>) -> Result<(Vec<ImportItem>,
 
 /// Imported modules with commas between them.
 #[tactic(auto, unfolding(crate::specs::Forms::several))]
-fn import_list<'a>(
+fn import_list(
     alloc: Global,
-    input: Input<'a>,
-) -> Result<(OneOrMore<ImportItem>, Input<'a>), Stop>
-    ensures { Gives (λ x. (listed kinds.Comma import_outline x.0, ahead x.1)) result (several kinds.Comma import_at (ahead input.entry)) }
+    tokens: &[Token],
+    input: Input,
+) -> Result<(OneOrMore<ImportItem>, Input), Stop>
+    ensures { Gives (λ x. (listed kinds.Comma import_outline x.0, ahead tokens.now x.1)) result (several kinds.Comma import_at (ahead tokens.now input)) }
 {
-    let (first, here) = import(input)?;
-    let (rest, here) = more_imports(alloc, here)?;
+    let (first, here) = import(tokens, input)?;
+    let (rest, here) = more_imports(alloc, tokens, here)?;
     Ok((OneOrMore { first, rest }, here))
 }
 
 /// The imports, if IMPORT stands here.
 #[tactic(auto, unfolding(crate::specs::ReadModules::imports_at))]
-fn imports<'a>(
+fn imports(
     alloc: Global,
-    input: Input<'a>,
-) -> Result<(Option<OneOrMore<ImportItem>>, Input<'a>), Stop>
-    ensures { Gives (λ x. (if_there (λ l. word kinds.Import ++ (listed kinds.Comma import_outline l ++ word kinds.Semicolon)) x.0, ahead x.1)) result (imports_at (ahead input.entry)) }
+    tokens: &[Token],
+    input: Input,
+) -> Result<(Option<OneOrMore<ImportItem>>, Input), Stop>
+    ensures { Gives (λ x. (if_there (λ l. word kinds.Import ++ (listed kinds.Comma import_outline l ++ word kinds.Semicolon)) x.0, ahead tokens.now x.1)) result (imports_at (ahead tokens.now input)) }
 {
-    match accept(input, Kind::Import) {
+    match accept(tokens, input, Kind::Import) {
         Some(rest) => {
-            let (list, rest) = import_list(alloc, rest)?;
-            let rest = expect(rest, Kind::Semicolon)?;
+            let (list, rest) = import_list(alloc, tokens, rest)?;
+            let rest = expect(tokens, rest, Kind::Semicolon)?;
             Ok((Some(list), rest))
         }
         None => Ok((None, input)),
@@ -101,18 +107,19 @@ fn unboxed(body: Option<Box<Block>>) -> Option<Block>
 
 /// A module, with at most so many levels in it.
 #[tactic(auto, using(ob_tree::proofs::DeclarationLayers::declaring_made), unfolding(crate::specs::ReadModules::module_at, crate::specs::ReadModules::module_named))]
-pub(crate) fn module<'a>(
+pub(crate) fn module(
     alloc: Global,
-    input: Input<'a>,
+    tokens: &[Token],
+    input: Input,
     depth: u32,
-) -> Result<(Box<Module>, Input<'a>), Stop>
-    ensures { Gives (λ x. (module_outline x.0.value, ahead x.1)) result (module_at depth (ahead input.entry)) }
+) -> Result<(Box<Module>, Input), Stop>
+    ensures { Gives (λ x. (module_outline x.0.value, ahead tokens.now x.1)) result (module_at depth (ahead tokens.now input)) }
 {
-    let here = expect(input, Kind::Module)?;
-    let (name, here) = identifier(here)?;
-    let here = expect(here, Kind::Semicolon)?;
-    let (imports, here) = imports(alloc, here)?;
-    let ((declarations, body, end_name), here) = inside(alloc, here, depth, name)?;
+    let here = expect(tokens, input, Kind::Module)?;
+    let (name, here) = identifier(tokens, here)?;
+    let here = expect(tokens, here, Kind::Semicolon)?;
+    let (imports, here) = imports(alloc, tokens, here)?;
+    let ((declarations, body, end_name), here) = inside(alloc, tokens, here, depth, name)?;
     let module = Module {
         name,
         imports,
@@ -124,45 +131,51 @@ pub(crate) fn module<'a>(
 }
 
 /// What stands behind the imports in the module of this name.
-fn inside<'a>(
+fn inside(
     alloc: Global,
-    input: Input<'a>,
+    tokens: &[Token],
+    input: Input,
     depth: u32,
     name: u32,
-) -> Result<((Box<Declarations>, Option<Box<Block>>, u32), Input<'a>), Stop>
+) -> Result<((Box<Declarations>, Option<Box<Block>>, u32), Input), Stop>
     ensures { Gives (λ x. (
       declarations_outline x.0.0.value ++ (if_there (λ b. word kinds.Begin ++ block_outline b.value) x.0.1 ++
           (word kinds.End ++ (repeated name x.0.2 ++ word kinds.Dot))),
-      ahead x.1,
+      ahead tokens.now x.1,
     )) result
         (seq (declarations_at depth) (seq (body_with (block_at depth)) (seq (expect_at kinds.End)
-        (seq (name_at (repeated name)) (expect_at kinds.Dot)))) (ahead input.entry)) }
+        (seq (name_at (repeated name)) (expect_at kinds.Dot)))) (ahead tokens.now input)) }
 {
-    let (declarations, here) = declarations(alloc, input, depth)?;
-    let (body, here) = body(alloc, here, depth)?;
-    let (end_name, here) = ending(here, name)?;
+    let (declarations, here) = declarations(alloc, tokens, input, depth)?;
+    let (body, here) = body(alloc, tokens, here, depth)?;
+    let (end_name, here) = ending(tokens, here, name)?;
     Ok(((declarations, body, end_name), here))
 }
 
 /// What stands behind the statements of the module of this name.
 #[tactic(auto, unfolding(crate::specs::Forms::name_at))]
-fn ending<'a>(input: Input<'a>, name: u32) -> Result<(u32, Input<'a>), Stop>
-    ensures { Gives (λ x. (word kinds.End ++ (repeated name x.0 ++ word kinds.Dot), ahead x.1)) result
-        (seq (expect_at kinds.End) (seq (name_at (repeated name)) (expect_at kinds.Dot)) (ahead input.entry)) }
+fn ending(tokens: &[Token], input: Input, name: u32) -> Result<(u32, Input), Stop>
+    ensures { Gives (λ x. (word kinds.End ++ (repeated name x.0 ++ word kinds.Dot), ahead tokens.now x.1)) result
+        (seq (expect_at kinds.End) (seq (name_at (repeated name)) (expect_at kinds.Dot)) (ahead tokens.now input)) }
 {
-    let here = expect(input, Kind::End)?;
-    let (end_name, here) = identifier(here)?;
-    let here = expect(here, Kind::Dot)?;
+    let here = expect(tokens, input, Kind::End)?;
+    let (end_name, here) = identifier(tokens, here)?;
+    let here = expect(tokens, here, Kind::Dot)?;
     Ok((end_name, here))
 }
 
 /// All of the tokens, as one module.
 #[tactic(auto, unfolding(crate::specs::ReadModules::all_of))]
-pub(crate) fn whole<'a>(alloc: Global, input: Input<'a>, depth: u32) -> Result<Box<Module>, Stop>
-    ensures { Gives (λ m. module_outline m.value) result (all_of depth (ahead input.entry)) }
+pub(crate) fn whole(
+    alloc: Global,
+    tokens: &[Token],
+    input: Input,
+    depth: u32,
+) -> Result<Box<Module>, Stop>
+    ensures { Gives (λ m. module_outline m.value) result (all_of depth (ahead tokens.now input)) }
 {
-    let (module, here) = module(alloc, input, depth)?;
-    match here.next() {
+    let (module, here) = module(alloc, tokens, input, depth)?;
+    match here.next(tokens) {
         None => Ok(module),
         Some(_) => Err(Stop::Wrong(here.number())),
     }

@@ -11,21 +11,22 @@ ghost use Rattle.ob_parse.specs.ReadNames as readers;
 use crate::input::Input;
 use crate::stop::Stop;
 use crate::symbols::{accept, identifier};
-use ob_scan::Kind;
+use ob_scan::{Kind, Token};
 use ob_tree::name::{Identdef, Qualident};
 
 /// A qualified identifier, behind its first name.
 #[tactic(auto, unfolding(ob_tree::specs::Names::qualident_outline, crate::specs::ReadNames::qualident_after, crate::specs::Forms::name_at))]
-pub(crate) fn qualident_after<'a>(
+pub(crate) fn qualident_after(
+    tokens: &[Token],
     head: u32,
-    input: Input<'a>,
-) -> Result<(Qualident, Input<'a>), Stop>
-    ensures { Gives (λ x. (qualident_outline x.0, ahead x.1)) result (readers.qualident_after head (ahead input.entry)) }
+    input: Input,
+) -> Result<(Qualident, Input), Stop>
+    ensures { Gives (λ x. (qualident_outline x.0, ahead tokens.now x.1)) result (readers.qualident_after head (ahead tokens.now input)) }
 {
-    match accept(input, Kind::Dot) {
+    match accept(tokens, input, Kind::Dot) {
         None => Ok((Qualident { head, member: None }, input)),
         Some(rest) => {
-            let (member, rest) = identifier(rest)?;
+            let (member, rest) = identifier(tokens, rest)?;
             Ok((
                 Qualident {
                     head,
@@ -39,18 +40,18 @@ pub(crate) fn qualident_after<'a>(
 
 /// A qualified identifier.
 #[tactic(auto, unfolding(crate::specs::ReadNames::qualident_after, crate::specs::ReadNames::qualident_at, crate::specs::Forms::name_at))]
-pub(crate) fn qualident<'a>(input: Input<'a>) -> Result<(Qualident, Input<'a>), Stop>
-    ensures { Gives (λ x. (qualident_outline x.0, ahead x.1)) result (readers.qualident_at (ahead input.entry)) }
+pub(crate) fn qualident(tokens: &[Token], input: Input) -> Result<(Qualident, Input), Stop>
+    ensures { Gives (λ x. (qualident_outline x.0, ahead tokens.now x.1)) result (readers.qualident_at (ahead tokens.now input)) }
 {
-    let (head, rest) = identifier(input)?;
-    qualident_after(head, rest)
+    let (head, rest) = identifier(tokens, input)?;
+    qualident_after(tokens, head, rest)
 }
 
 /// Whether a star stands here, and the tokens behind it.
-pub(crate) fn star<'a>(input: Input<'a>) -> (bool, Input<'a>)
-    ensures { Ok (if_so result.0 (word kinds.Star), ahead result.1) ≡ optional (accept_at kinds.Star) nothing (ahead input.entry) }
+pub(crate) fn star(tokens: &[Token], input: Input) -> (bool, Input)
+    ensures { Ok (if_so result.0 (word kinds.Star), ahead tokens.now result.1) ≡ optional (accept_at kinds.Star) nothing (ahead tokens.now input) }
 {
-    match accept(input, Kind::Star) {
+    match accept(tokens, input, Kind::Star) {
         None => (false, input),
         Some(rest) => (true, rest),
     }
@@ -58,10 +59,10 @@ pub(crate) fn star<'a>(input: Input<'a>) -> (bool, Input<'a>)
 
 /// A declaring identifier.
 #[tactic(auto, unfolding(ob_tree::specs::Names::identdef_outline, crate::specs::ReadNames::identdef_at, crate::specs::Forms::name_at))]
-pub(crate) fn identdef<'a>(input: Input<'a>) -> Result<(Identdef, Input<'a>), Stop>
-    ensures { Gives (λ x. (identdef_outline x.0, ahead x.1)) result (readers.identdef_at (ahead input.entry)) }
+pub(crate) fn identdef(tokens: &[Token], input: Input) -> Result<(Identdef, Input), Stop>
+    ensures { Gives (λ x. (identdef_outline x.0, ahead tokens.now x.1)) result (readers.identdef_at (ahead tokens.now input)) }
 {
-    let (name, rest) = identifier(input)?;
-    let (starred, rest) = star(rest);
+    let (name, rest) = identifier(tokens, input)?;
+    let (starred, rest) = star(tokens, rest);
     Ok((Identdef { name, starred }, rest))
 }

@@ -9,16 +9,16 @@ ghost use Rattle.ob_parse.specs.Gives.{ahead, seen};
 ghost use Rattle.ob_parse.specs.ReadExpressions.{relation_at, add_at, mul_at, sign_start, expr_first, factor_first, selector_first};
 
 use crate::input::Input;
-use ob_scan::Kind;
+use ob_scan::{Kind, Token};
 use ob_tree::expression::{AddOperator, MulOperator, Relation, Sign};
 use ob_tree::token::Leaf;
 
 /// The relation that stands here, if one does.
 #[tactic(auto, unfolding(crate::specs::ReadExpressions::relation_at))]
-pub(crate) fn relation<'a>(input: Input<'a>) -> Option<(Relation, Input<'a>)>
-    ensures { seen result ≡ relation_at (ahead input.entry) }
+pub(crate) fn relation(tokens: &[Token], input: Input) -> Option<(Relation, Input)>
+    ensures { seen tokens.now result ≡ relation_at (ahead tokens.now input) }
 {
-    let (leaf, rest) = input.next()?;
+    let (leaf, rest) = input.next(tokens)?;
     let relation = match leaf {
         Leaf::Word(Kind::Equals) => Relation::Equal,
         Leaf::Word(Kind::Hash) => Relation::Unequal,
@@ -35,10 +35,10 @@ pub(crate) fn relation<'a>(input: Input<'a>) -> Option<(Relation, Input<'a>)>
 
 /// The sign that stands here, if one does, and the tokens behind it.
 #[tactic(auto, unfolding(crate::specs::ReadExpressions::sign_at))]
-pub(crate) fn sign<'a>(input: Input<'a>) -> (Option<Sign>, Input<'a>)
-    ensures { Ok (if_there (λ x. word (sign_kind x)) result.0, ahead result.1) ≡ optional sign_start nothing (ahead input.entry) }
+pub(crate) fn sign(tokens: &[Token], input: Input) -> (Option<Sign>, Input)
+    ensures { Ok (if_there (λ x. word (sign_kind x)) result.0, ahead tokens.now result.1) ≡ optional sign_start nothing (ahead tokens.now input) }
 {
-    match input.next() {
+    match input.next(tokens) {
         Some((Leaf::Word(Kind::Plus), rest)) => (Some(Sign::Plus), rest),
         Some((Leaf::Word(Kind::Minus), rest)) => (Some(Sign::Minus), rest),
         _ => (None, input),
@@ -47,10 +47,10 @@ pub(crate) fn sign<'a>(input: Input<'a>) -> (Option<Sign>, Input<'a>)
 
 /// The operator between terms that stands here, if one does.
 #[tactic(auto, unfolding(crate::specs::ReadExpressions::add_at))]
-pub(crate) fn add_operator<'a>(input: Input<'a>) -> Option<(AddOperator, Input<'a>)>
-    ensures { seen result ≡ add_at (ahead input.entry) }
+pub(crate) fn add_operator(tokens: &[Token], input: Input) -> Option<(AddOperator, Input)>
+    ensures { seen tokens.now result ≡ add_at (ahead tokens.now input) }
 {
-    match input.next() {
+    match input.next(tokens) {
         Some((Leaf::Word(Kind::Plus), rest)) => Some((AddOperator::Plus, rest)),
         Some((Leaf::Word(Kind::Minus), rest)) => Some((AddOperator::Minus, rest)),
         Some((Leaf::Word(Kind::Or), rest)) => Some((AddOperator::Or, rest)),
@@ -60,10 +60,10 @@ pub(crate) fn add_operator<'a>(input: Input<'a>) -> Option<(AddOperator, Input<'
 
 /// The operator between factors that stands here, if one does.
 #[tactic(auto, unfolding(crate::specs::ReadExpressions::mul_at))]
-pub(crate) fn mul_operator<'a>(input: Input<'a>) -> Option<(MulOperator, Input<'a>)>
-    ensures { seen result ≡ mul_at (ahead input.entry) }
+pub(crate) fn mul_operator(tokens: &[Token], input: Input) -> Option<(MulOperator, Input)>
+    ensures { seen tokens.now result ≡ mul_at (ahead tokens.now input) }
 {
-    match input.next() {
+    match input.next(tokens) {
         Some((Leaf::Word(Kind::Star), rest)) => Some((MulOperator::Times, rest)),
         Some((Leaf::Word(Kind::Slash), rest)) => Some((MulOperator::Divide, rest)),
         Some((Leaf::Word(Kind::Div), rest)) => Some((MulOperator::Div, rest)),
@@ -74,10 +74,10 @@ pub(crate) fn mul_operator<'a>(input: Input<'a>) -> Option<(MulOperator, Input<'
 }
 
 /// Whether a selector begins here.
-pub(crate) fn begins_selector<'a>(input: Input<'a>) -> bool
-    ensures { result ≡ front selector_first (uncons (ahead input.entry)) }
+pub(crate) fn begins_selector(tokens: &[Token], input: Input) -> bool
+    ensures { result ≡ front selector_first (uncons (ahead tokens.now input)) }
 {
-    match input.next() {
+    match input.next(tokens) {
         Some((Leaf::Word(Kind::Dot), _)) => true,
         Some((Leaf::Word(Kind::LeftBracket), _)) => true,
         Some((Leaf::Word(Kind::Caret), _)) => true,
@@ -87,10 +87,10 @@ pub(crate) fn begins_selector<'a>(input: Input<'a>) -> bool
 }
 
 /// Whether a factor begins here.
-pub(crate) fn begins_factor<'a>(input: Input<'a>) -> bool
-    ensures { result ≡ front factor_first (uncons (ahead input.entry)) }
+pub(crate) fn begins_factor(tokens: &[Token], input: Input) -> bool
+    ensures { result ≡ front factor_first (uncons (ahead tokens.now input)) }
 {
-    match input.next() {
+    match input.next(tokens) {
         Some((Leaf::Name(_), _)) => true,
         Some((Leaf::Value(_, _), _)) => true,
         Some((Leaf::Word(Kind::Nil), _)) => true,
@@ -104,12 +104,12 @@ pub(crate) fn begins_factor<'a>(input: Input<'a>) -> bool
 }
 
 /// Whether an expression begins here.
-pub(crate) fn begins_expression<'a>(input: Input<'a>) -> bool
-    ensures { result ≡ front expr_first (uncons (ahead input.entry)) }
+pub(crate) fn begins_expression(tokens: &[Token], input: Input) -> bool
+    ensures { result ≡ front expr_first (uncons (ahead tokens.now input)) }
 {
-    match input.next() {
+    match input.next(tokens) {
         Some((Leaf::Word(Kind::Plus), _)) => true,
         Some((Leaf::Word(Kind::Minus), _)) => true,
-        _ => begins_factor(input),
+        _ => begins_factor(tokens, input),
     }
 }

@@ -14,27 +14,27 @@ use crate::input::Input;
 use crate::names::qualident;
 use crate::stop::Stop;
 use crate::symbols::{accept, expect, identifier, is_at};
-use ob_scan::Kind;
+use ob_scan::{Kind, Token};
 use ob_tree::declaration::{ParameterSection, Parameters};
 use ob_tree::name::{OneOrMore, Qualident};
 use std::alloc::Global;
 
 /// The name of a parameter.
 #[tactic(auto, unfolding(crate::specs::Forms::name_at))]
-fn name<'a>(input: Input<'a>) -> Result<(u32, Input<'a>), Stop>
-    ensures { Gives (λ x. (declared x.0, ahead x.1)) result (name_at declared (ahead input.entry)) }
+fn name(tokens: &[Token], input: Input) -> Result<(u32, Input), Stop>
+    ensures { Gives (λ x. (declared x.0, ahead tokens.now x.1)) result (name_at declared (ahead tokens.now input)) }
 {
-    identifier(input)
+    identifier(tokens, input)
 }
 
 /// The names of parameters behind the first: each after a comma.
-fn more_names<'a>(alloc: Global, input: Input<'a>) -> Result<(Vec<u32>, Input<'a>), Stop>
-    ensures { Gives (λ x. (each_after kinds.Comma declared x.0.items, ahead x.1)) result (many (accept_at kinds.Comma) (name_at declared) (ahead input.entry)) }
+fn more_names(alloc: Global, tokens: &[Token], input: Input) -> Result<(Vec<u32>, Input), Stop>
+    ensures { Gives (λ x. (each_after kinds.Comma declared x.0.items, ahead tokens.now x.1)) result (many (accept_at kinds.Comma) (name_at declared) (ahead tokens.now input)) }
 {
     let mut rest = Vec::new(alloc);
     let mut here = input;
-    'more: while let Some(after) = accept(here, Kind::Comma) {
-        let (next, after) = name(after)?;
+    'more: while let Some(after) = accept(tokens, here, Kind::Comma) {
+        let (next, after) = name(tokens, after)?;
         rest.push(next)?;
         here = after;
     }
@@ -43,32 +43,32 @@ fn more_names<'a>(alloc: Global, input: Input<'a>) -> Result<(Vec<u32>, Input<'a
 
 /// The names of parameters.
 #[tactic(auto, unfolding(crate::specs::Forms::several))]
-fn names<'a>(alloc: Global, input: Input<'a>) -> Result<(OneOrMore<u32>, Input<'a>), Stop>
-    ensures { Gives (λ x. (listed kinds.Comma declared x.0, ahead x.1)) result (several kinds.Comma (name_at declared) (ahead input.entry)) }
+fn names(alloc: Global, tokens: &[Token], input: Input) -> Result<(OneOrMore<u32>, Input), Stop>
+    ensures { Gives (λ x. (listed kinds.Comma declared x.0, ahead tokens.now x.1)) result (several kinds.Comma (name_at declared) (ahead tokens.now input)) }
 {
-    let (first, here) = name(input)?;
-    let (rest, here) = more_names(alloc, here)?;
+    let (first, here) = name(tokens, input)?;
+    let (rest, here) = more_names(alloc, tokens, here)?;
     Ok((OneOrMore { first, rest }, here))
 }
 
 /// How often ARRAY OF stands here.
-fn open_arrays<'a>(input: Input<'a>) -> Result<(u32, Input<'a>), Stop>
-    ensures { Gives (λ x. (times x.0 (word kinds.Array ++ word kinds.Of), ahead x.1)) result (many (accept_at kinds.Array) (expect_at kinds.Of) (ahead input.entry)) }
+fn open_arrays(tokens: &[Token], input: Input) -> Result<(u32, Input), Stop>
+    ensures { Gives (λ x. (times x.0 (word kinds.Array ++ word kinds.Of), ahead tokens.now x.1)) result (many (accept_at kinds.Array) (expect_at kinds.Of) (ahead tokens.now input)) }
 {
     let mut count = 0;
     let mut here = input;
-    'more: while let Some(after) = accept(here, Kind::Array) {
-        here = expect(after, Kind::Of)?;
+    'more: while let Some(after) = accept(tokens, here, Kind::Array) {
+        here = expect(tokens, after, Kind::Of)?;
         count += 1;
     }
     Ok((count, here))
 }
 
 /// Whether VAR stands here, and what follows.
-fn variable<'a>(input: Input<'a>) -> Result<(bool, Input<'a>), Stop>
-    ensures { Gives (λ x. (if_so x.0 (word kinds.Var), ahead x.1)) result (optional (accept_at kinds.Var) nothing (ahead input.entry)) }
+fn variable(tokens: &[Token], input: Input) -> Result<(bool, Input), Stop>
+    ensures { Gives (λ x. (if_so x.0 (word kinds.Var), ahead tokens.now x.1)) result (optional (accept_at kinds.Var) nothing (ahead tokens.now input)) }
 {
-    match accept(input, Kind::Var) {
+    match accept(tokens, input, Kind::Var) {
         Some(rest) => Ok((true, rest)),
         None => Ok((false, input)),
     }
@@ -76,14 +76,14 @@ fn variable<'a>(input: Input<'a>) -> Result<(bool, Input<'a>), Stop>
 
 /// Parameters of one formal type.
 #[tactic(auto, using(ob_tree::proofs::TypeLayers::types_made), unfolding(crate::specs::ReadTypes::section_at))]
-fn section<'a>(alloc: Global, input: Input<'a>) -> Result<(ParameterSection, Input<'a>), Stop>
-    ensures { Gives (λ x. (section_outline x.0, ahead x.1)) result (section_at (ahead input.entry)) }
+fn section(alloc: Global, tokens: &[Token], input: Input) -> Result<(ParameterSection, Input), Stop>
+    ensures { Gives (λ x. (section_outline x.0, ahead tokens.now x.1)) result (section_at (ahead tokens.now input)) }
 {
-    let (variable, here) = variable(input)?;
-    let (names, here) = names(alloc, here)?;
-    let here = expect(here, Kind::Colon)?;
-    let (open_arrays, here) = open_arrays(here)?;
-    let (of, here) = qualident(here)?;
+    let (variable, here) = variable(tokens, input)?;
+    let (names, here) = names(alloc, tokens, here)?;
+    let here = expect(tokens, here, Kind::Colon)?;
+    let (open_arrays, here) = open_arrays(tokens, here)?;
+    let (of, here) = qualident(tokens, here)?;
     Ok((
         ParameterSection {
             variable,
@@ -96,16 +96,17 @@ fn section<'a>(alloc: Global, input: Input<'a>) -> Result<(ParameterSection, Inp
 }
 
 /// Sections behind the first: each after a semicolon.
-fn more_sections<'a>(
+fn more_sections(
     alloc: Global,
-    input: Input<'a>,
-) -> Result<(Vec<ParameterSection>, Input<'a>), Stop>
-    ensures { Gives (λ x. (each_after kinds.Semicolon section_outline x.0.items, ahead x.1)) result (many (accept_at kinds.Semicolon) section_at (ahead input.entry)) }
+    tokens: &[Token],
+    input: Input,
+) -> Result<(Vec<ParameterSection>, Input), Stop>
+    ensures { Gives (λ x. (each_after kinds.Semicolon section_outline x.0.items, ahead tokens.now x.1)) result (many (accept_at kinds.Semicolon) section_at (ahead tokens.now input)) }
 {
     let mut rest = Vec::new(alloc);
     let mut here = input;
-    'more: while let Some(after) = accept(here, Kind::Semicolon) {
-        let (next, after) = section(alloc, after)?;
+    'more: while let Some(after) = accept(tokens, here, Kind::Semicolon) {
+        let (next, after) = section(alloc, tokens, after)?;
         rest.push(next)?;
         here = after;
     }
@@ -114,27 +115,28 @@ fn more_sections<'a>(
 
 /// The sections of formal parameters, up to the parenthesis that closes them.
 #[tactic(auto, unfolding(crate::specs::Forms::several, crate::specs::Forms::unless))]
-fn sections<'a>(
+fn sections(
     alloc: Global,
-    input: Input<'a>,
-) -> Result<(Option<OneOrMore<ParameterSection>>, Input<'a>), Stop>
-    ensures { Gives (λ x. (if_there (listed kinds.Semicolon section_outline) x.0, ahead x.1)) result (optional (unless kinds.RightParen) (several kinds.Semicolon section_at) (ahead input.entry)) }
+    tokens: &[Token],
+    input: Input,
+) -> Result<(Option<OneOrMore<ParameterSection>>, Input), Stop>
+    ensures { Gives (λ x. (if_there (listed kinds.Semicolon section_outline) x.0, ahead tokens.now x.1)) result (optional (unless kinds.RightParen) (several kinds.Semicolon section_at) (ahead tokens.now input)) }
 {
-    if is_at(input, Kind::RightParen) {
+    if is_at(tokens, input, Kind::RightParen) {
         return Ok((None, input));
     }
-    let (first, here) = section(alloc, input)?;
-    let (rest, here) = more_sections(alloc, here)?;
+    let (first, here) = section(alloc, tokens, input)?;
+    let (rest, here) = more_sections(alloc, tokens, here)?;
     Ok((Some(OneOrMore { first, rest }), here))
 }
 
 /// The type of a result.
-fn result_type<'a>(input: Input<'a>) -> Result<(Option<Qualident>, Input<'a>), Stop>
-    ensures { Gives (λ x. (if_there (λ q. word kinds.Colon ++ qualident_outline q) x.0, ahead x.1)) result (optional (accept_at kinds.Colon) qualident_at (ahead input.entry)) }
+fn result_type(tokens: &[Token], input: Input) -> Result<(Option<Qualident>, Input), Stop>
+    ensures { Gives (λ x. (if_there (λ q. word kinds.Colon ++ qualident_outline q) x.0, ahead tokens.now x.1)) result (optional (accept_at kinds.Colon) qualident_at (ahead tokens.now input)) }
 {
-    match accept(input, Kind::Colon) {
+    match accept(tokens, input, Kind::Colon) {
         Some(rest) => {
-            let (of, rest) = qualident(rest)?;
+            let (of, rest) = qualident(tokens, rest)?;
             Ok((Some(of), rest))
         }
         None => Ok((None, input)),
@@ -143,26 +145,27 @@ fn result_type<'a>(input: Input<'a>) -> Result<(Option<Qualident>, Input<'a>), S
 
 /// Formal parameters.
 #[tactic(auto, using(ob_tree::proofs::TypeLayers::types_made), unfolding(crate::specs::ReadTypes::parameters_at))]
-fn parameters<'a>(alloc: Global, input: Input<'a>) -> Result<(Parameters, Input<'a>), Stop>
-    ensures { Gives (λ x. (parameters_outline x.0, ahead x.1)) result (parameters_at (ahead input.entry)) }
+fn parameters(alloc: Global, tokens: &[Token], input: Input) -> Result<(Parameters, Input), Stop>
+    ensures { Gives (λ x. (parameters_outline x.0, ahead tokens.now x.1)) result (parameters_at (ahead tokens.now input)) }
 {
-    let here = expect(input, Kind::LeftParen)?;
-    let (sections, here) = sections(alloc, here)?;
-    let here = expect(here, Kind::RightParen)?;
-    let (result, here) = result_type(here)?;
+    let here = expect(tokens, input, Kind::LeftParen)?;
+    let (sections, here) = sections(alloc, tokens, here)?;
+    let here = expect(tokens, here, Kind::RightParen)?;
+    let (result, here) = result_type(tokens, here)?;
     Ok((Parameters { sections, result }, here))
 }
 
 /// Formal parameters, if they stand here.
 #[tactic(auto, unfolding(crate::specs::Forms::begins, crate::specs::ReadTypes::some_parameters_at))]
-pub(crate) fn some_parameters<'a>(
+pub(crate) fn some_parameters(
     alloc: Global,
-    input: Input<'a>,
-) -> Result<(Option<Parameters>, Input<'a>), Stop>
-    ensures { Gives (λ x. (if_there parameters_outline x.0, ahead x.1)) result (some_parameters_at (ahead input.entry)) }
+    tokens: &[Token],
+    input: Input,
+) -> Result<(Option<Parameters>, Input), Stop>
+    ensures { Gives (λ x. (if_there parameters_outline x.0, ahead tokens.now x.1)) result (some_parameters_at (ahead tokens.now input)) }
 {
-    if is_at(input, Kind::LeftParen) {
-        let (parameters, here) = parameters(alloc, input)?;
+    if is_at(tokens, input, Kind::LeftParen) {
+        let (parameters, here) = parameters(alloc, tokens, input)?;
         return Ok((Some(parameters), here));
     }
     Ok((None, input))

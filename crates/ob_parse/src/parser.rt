@@ -24,11 +24,12 @@ use std::alloc::Global;
 /// How many procedure declarations, types, statements that are not empty, expressions and factors after `~` may hold one another.
 const DEEPEST: u32 = 200;
 
+#[tactic(auto, using(crate::proofs::Ahead::all_ahead))]
 fn tree_of(alloc: Global, tokens: &[Token]) -> Result<Box<Module>, Stop>
     requires { length tokens.now < 2 ^ 32 }
     ensures { Gives (λ m. module_outline m.value) result (all_of 200 (leaves 0 (kinds_of tokens.now))) }
 {
-    whole(alloc, Input::new(tokens), DEEPEST)
+    whole(alloc, tokens, Input::ALL, DEEPEST)
 }
 
 /// The offset of the token of this number, or the text's length where there is none.

@@ -17,17 +17,17 @@ use crate::input::Input;
 use crate::labels::{begins_label, label_ranges};
 use crate::stop::{Stop, boxed};
 use crate::symbols::{accept, expect, identifier};
-use ob_scan::Kind;
+use ob_scan::{Kind, Token};
 use ob_tree::expression::Expr;
 use ob_tree::statement::{Block, Branch, Case, For, Stmt};
 use ob_tree::token::Leaf;
 use std::alloc::Global;
 
 /// Whether a statement that isn't empty begins here.
-fn begins_statement<'a>(input: Input<'a>) -> bool
-    ensures { result ≡ front statement_first (uncons (ahead input.entry)) }
+fn begins_statement(tokens: &[Token], input: Input) -> bool
+    ensures { result ≡ front statement_first (uncons (ahead tokens.now input)) }
 {
-    match input.next() {
+    match input.next(tokens) {
         Some((Leaf::Name(_), _)) => true,
         Some((Leaf::Word(Kind::If), _)) => true,
         Some((Leaf::Word(Kind::Case), _)) => true,
@@ -40,10 +40,14 @@ fn begins_statement<'a>(input: Input<'a>) -> bool
 
 /// An empty statement, where the depth is used up.
 #[tactic(auto, using(crate::proofs::StatementSteps::made), unfolding(crate::specs::ReadStatements::statement_at, crate::specs::ReadStatements::empty_at))]
-fn empty_statement<'a>(alloc: Global, input: Input<'a>) -> Result<(Box<Stmt>, Input<'a>), Stop>
-    ensures { Gives (λ x. (stmt_outline x.0.value, ahead x.1)) result (statement_at 0 (ahead input.entry)) }
+fn empty_statement(
+    alloc: Global,
+    tokens: &[Token],
+    input: Input,
+) -> Result<(Box<Stmt>, Input), Stop>
+    ensures { Gives (λ x. (stmt_outline x.0.value, ahead tokens.now x.1)) result (statement_at 0 (ahead tokens.now input)) }
 {
-    if begins_statement(input) {
+    if begins_statement(tokens, input) {
         return Err(Stop::Deep(input.number()));
     }
     Ok((boxed(alloc, Stmt::Empty)?, input))
@@ -52,56 +56,59 @@ fn empty_statement<'a>(alloc: Global, input: Input<'a>) -> Result<(Box<Stmt>, In
 /// A statement, with at most so many levels in it, itself one of them.
 #[cycle(statements)]
 #[tactic(auto, unfolding(crate::specs::ReadStatements::statement_at))]
-fn statement<'a>(
+fn statement(
     alloc: Global,
-    input: Input<'a>,
+    tokens: &[Token],
+    input: Input,
     depth: u32,
-) -> Result<(Box<Stmt>, Input<'a>), Stop>
-    ensures { Gives (λ x. (stmt_outline x.0.value, ahead x.1)) result (statement_at depth (ahead input.entry)) }
+) -> Result<(Box<Stmt>, Input), Stop>
+    ensures { Gives (λ x. (stmt_outline x.0.value, ahead tokens.now x.1)) result (statement_at depth (ahead tokens.now input)) }
 {
     if depth == 0 {
-        return empty_statement(alloc, input);
+        return empty_statement(alloc, tokens, input);
     }
-    let (statement, input) = statement_within(alloc, input, depth - 1)?;
+    let (statement, input) = statement_within(alloc, tokens, input, depth - 1)?;
     Ok((boxed(alloc, statement)?, input))
 }
 
 /// A statement whose parts have at most so many levels in them.
 #[cycle(statements)]
 #[tactic(auto, using(crate::proofs::StatementSteps::made), unfolding(crate::specs::ReadStatements::statement_with))]
-fn statement_within<'a>(
+fn statement_within(
     alloc: Global,
-    input: Input<'a>,
+    tokens: &[Token],
+    input: Input,
     depth: u32,
-) -> Result<(Stmt, Input<'a>), Stop>
-    ensures { Gives (λ x. (stmt_outline x.0, ahead x.1)) result (statement_with (expr_at depth) (block_at depth) (ahead input.entry)) }
+) -> Result<(Stmt, Input), Stop>
+    ensures { Gives (λ x. (stmt_outline x.0, ahead tokens.now x.1)) result (statement_with (expr_at depth) (block_at depth) (ahead tokens.now input)) }
 {
-    match input.next() {
-        Some((Leaf::Name(number), rest)) => assignment(alloc, number, rest, depth),
-        Some((Leaf::Word(Kind::If), rest)) => if_statement(alloc, rest, depth),
-        Some((Leaf::Word(Kind::Case), rest)) => case_statement(alloc, rest, depth),
-        Some((Leaf::Word(Kind::While), rest)) => while_statement(alloc, rest, depth),
-        Some((Leaf::Word(Kind::Repeat), rest)) => repeat_statement(alloc, rest, depth),
-        Some((Leaf::Word(Kind::For), rest)) => for_statement(alloc, rest, depth),
+    match input.next(tokens) {
+        Some((Leaf::Name(number), rest)) => assignment(alloc, tokens, number, rest, depth),
+        Some((Leaf::Word(Kind::If), rest)) => if_statement(alloc, tokens, rest, depth),
+        Some((Leaf::Word(Kind::Case), rest)) => case_statement(alloc, tokens, rest, depth),
+        Some((Leaf::Word(Kind::While), rest)) => while_statement(alloc, tokens, rest, depth),
+        Some((Leaf::Word(Kind::Repeat), rest)) => repeat_statement(alloc, tokens, rest, depth),
+        Some((Leaf::Word(Kind::For), rest)) => for_statement(alloc, tokens, rest, depth),
         _ => Ok((Stmt::Empty, input)),
     }
 }
 
 /// An assignment or a call, behind its first identifier.
 #[tactic(auto, using(crate::proofs::StatementSteps::made), unfolding(crate::specs::ReadStatements::assign_with))]
-fn assignment<'a>(
+fn assignment(
     alloc: Global,
+    tokens: &[Token],
     head: u32,
-    input: Input<'a>,
+    input: Input,
     depth: u32,
-) -> Result<(Stmt, Input<'a>), Stop>
-    ensures { Gives (λ x. (stmt_outline x.0, ahead x.1)) result (node constructs.Statement (assign_with (expr_at depth) head) (ahead input.entry)) }
+) -> Result<(Stmt, Input), Stop>
+    ensures { Gives (λ x. (stmt_outline x.0, ahead tokens.now x.1)) result (node constructs.Statement (assign_with (expr_at depth) head) (ahead tokens.now input)) }
 {
-    let (target, input) = designator(alloc, head, input, depth)?;
-    match accept(input, Kind::Assign) {
+    let (target, input) = designator(alloc, tokens, head, input, depth)?;
+    match accept(tokens, input, Kind::Assign) {
         None => Ok((Stmt::Call(target), input)),
         Some(rest) => {
-            let (value, rest) = expression(alloc, rest, depth)?;
+            let (value, rest) = expression(alloc, tokens, rest, depth)?;
             Ok((Stmt::Assign(target, Box::into_inner(value)), rest))
         }
     }
@@ -110,15 +117,16 @@ fn assignment<'a>(
 /// Statements with semicolons between them.
 #[cycle(statements)]
 #[tactic(auto, using(crate::proofs::StatementSteps::made), unfolding(crate::specs::ReadStatements::block_with, crate::specs::Forms::several))]
-pub(crate) fn block<'a>(
+pub(crate) fn block(
     alloc: Global,
-    input: Input<'a>,
+    tokens: &[Token],
+    input: Input,
     depth: u32,
-) -> Result<(Box<Block>, Input<'a>), Stop>
-    ensures { Gives (λ x. (block_outline x.0.value, ahead x.1)) result (block_at depth (ahead input.entry)) }
+) -> Result<(Box<Block>, Input), Stop>
+    ensures { Gives (λ x. (block_outline x.0.value, ahead tokens.now x.1)) result (block_at depth (ahead tokens.now input)) }
 {
-    let (first, here) = statement(alloc, input, depth)?;
-    let (rest, here) = more_statements(alloc, here, depth)?;
+    let (first, here) = statement(alloc, tokens, input, depth)?;
+    let (rest, here) = more_statements(alloc, tokens, here, depth)?;
     let block = Block {
         first: Box::into_inner(first),
         rest,
@@ -127,17 +135,18 @@ pub(crate) fn block<'a>(
 }
 
 #[cycle(statements)]
-fn more_statements<'a>(
+fn more_statements(
     alloc: Global,
-    input: Input<'a>,
+    tokens: &[Token],
+    input: Input,
     depth: u32,
-) -> Result<(Vec<Stmt>, Input<'a>), Stop>
-    ensures { Gives (λ x. (each_after kinds.Semicolon stmt_outline x.0.items, ahead x.1)) result (many (accept_at kinds.Semicolon) (statement_at depth) (ahead input.entry)) }
+) -> Result<(Vec<Stmt>, Input), Stop>
+    ensures { Gives (λ x. (each_after kinds.Semicolon stmt_outline x.0.items, ahead tokens.now x.1)) result (many (accept_at kinds.Semicolon) (statement_at depth) (ahead tokens.now input)) }
 {
     let mut rest = Vec::new(alloc);
     let mut here = input;
-    'more: while let Some(after) = accept(here, Kind::Semicolon) {
-        let (next, after) = statement(alloc, after, depth)?;
+    'more: while let Some(after) = accept(tokens, here, Kind::Semicolon) {
+        let (next, after) = statement(alloc, tokens, after, depth)?;
         rest.push(Box::into_inner(next))?;
         here = after;
     }
@@ -147,17 +156,18 @@ fn more_statements<'a>(
 /// A condition and the statements after it, with a keyword between them.
 #[cycle(statements)]
 #[tactic(auto, using(crate::proofs::StatementSteps::made), unfolding(crate::specs::ReadStatements::branch_with))]
-fn branch<'a>(
+fn branch(
     alloc: Global,
-    input: Input<'a>,
+    tokens: &[Token],
+    input: Input,
     depth: u32,
     keyword: Kind,
-) -> Result<(Box<Branch>, Input<'a>), Stop>
-    ensures { Gives (λ x. (branch_outline x.0.value keyword, ahead x.1)) result (branch_with (expr_at depth) (block_at depth) keyword (ahead input.entry)) }
+) -> Result<(Box<Branch>, Input), Stop>
+    ensures { Gives (λ x. (branch_outline x.0.value keyword, ahead tokens.now x.1)) result (branch_with (expr_at depth) (block_at depth) keyword (ahead tokens.now input)) }
 {
-    let (condition, input) = expression(alloc, input, depth)?;
-    let input = expect(input, keyword)?;
-    let (body, input) = block(alloc, input, depth)?;
+    let (condition, input) = expression(alloc, tokens, input, depth)?;
+    let input = expect(tokens, input, keyword)?;
+    let (body, input) = block(alloc, tokens, input, depth)?;
     let branch = Branch {
         condition: Box::into_inner(condition),
         body: Box::into_inner(body),
@@ -166,19 +176,20 @@ fn branch<'a>(
 }
 
 #[cycle(statements)]
-fn more_branches<'a>(
+fn more_branches(
     alloc: Global,
-    input: Input<'a>,
+    tokens: &[Token],
+    input: Input,
     depth: u32,
     keyword: Kind,
-) -> Result<(Vec<Branch>, Input<'a>), Stop>
-    ensures { Gives (λ x. (each_after kinds.Elsif (λ b. branch_outline b keyword) x.0.items, ahead x.1)) result
-        (many (accept_at kinds.Elsif) (branch_with (expr_at depth) (block_at depth) keyword) (ahead input.entry)) }
+) -> Result<(Vec<Branch>, Input), Stop>
+    ensures { Gives (λ x. (each_after kinds.Elsif (λ b. branch_outline b keyword) x.0.items, ahead tokens.now x.1)) result
+        (many (accept_at kinds.Elsif) (branch_with (expr_at depth) (block_at depth) keyword) (ahead tokens.now input)) }
 {
     let mut rest = Vec::new(alloc);
     let mut here = input;
-    'more: while let Some(after) = accept(here, Kind::Elsif) {
-        let (next, after) = branch(alloc, after, depth, keyword)?;
+    'more: while let Some(after) = accept(tokens, here, Kind::Elsif) {
+        let (next, after) = branch(alloc, tokens, after, depth, keyword)?;
         rest.push(Box::into_inner(next))?;
         here = after;
     }
@@ -187,17 +198,18 @@ fn more_branches<'a>(
 
 /// The statements after ELSE, if it stands here.
 #[cycle(statements)]
-fn otherwise<'a>(
+fn otherwise(
     alloc: Global,
-    input: Input<'a>,
+    tokens: &[Token],
+    input: Input,
     depth: u32,
-) -> Result<(Option<Box<Block>>, Input<'a>), Stop>
-    ensures { Gives (λ x. (if_there (λ b. word kinds.Else ++ block_outline b.value) x.0, ahead x.1)) result (optional (accept_at kinds.Else) (block_at depth) (ahead input.entry)) }
+) -> Result<(Option<Box<Block>>, Input), Stop>
+    ensures { Gives (λ x. (if_there (λ b. word kinds.Else ++ block_outline b.value) x.0, ahead tokens.now x.1)) result (optional (accept_at kinds.Else) (block_at depth) (ahead tokens.now input)) }
 {
-    match accept(input, Kind::Else) {
+    match accept(tokens, input, Kind::Else) {
         None => Ok((None, input)),
         Some(rest) => {
-            let (body, rest) = block(alloc, rest, depth)?;
+            let (body, rest) = block(alloc, tokens, rest, depth)?;
             Ok((Some(body), rest))
         }
     }
@@ -206,75 +218,88 @@ fn otherwise<'a>(
 /// What stands behind IF.
 #[cycle(statements)]
 #[tactic(auto, using(crate::proofs::StatementSteps::made), unfolding(crate::specs::ReadStatements::if_with))]
-fn if_statement<'a>(alloc: Global, input: Input<'a>, depth: u32) -> Result<(Stmt, Input<'a>), Stop>
-    ensures { Gives (λ x. (stmt_outline x.0, ahead x.1)) result (node constructs.Statement (prefixed (word kinds.If) (if_with (expr_at depth) (block_at depth))) (ahead input.entry)) }
+fn if_statement(
+    alloc: Global,
+    tokens: &[Token],
+    input: Input,
+    depth: u32,
+) -> Result<(Stmt, Input), Stop>
+    ensures { Gives (λ x. (stmt_outline x.0, ahead tokens.now x.1)) result (node constructs.Statement (prefixed (word kinds.If) (if_with (expr_at depth) (block_at depth))) (ahead tokens.now input)) }
 {
-    let (first, input) = branch(alloc, input, depth, Kind::Then)?;
-    let (rest, input) = more_branches(alloc, input, depth, Kind::Then)?;
-    let (otherwise, input) = otherwise(alloc, input, depth)?;
-    let input = expect(input, Kind::End)?;
+    let (first, input) = branch(alloc, tokens, input, depth, Kind::Then)?;
+    let (rest, input) = more_branches(alloc, tokens, input, depth, Kind::Then)?;
+    let (otherwise, input) = otherwise(alloc, tokens, input, depth)?;
+    let input = expect(tokens, input, Kind::End)?;
     Ok((Stmt::If(first, rest, otherwise), input))
 }
 
 /// What stands behind CASE.
 #[cycle(statements)]
 #[tactic(auto, using(crate::proofs::StatementSteps::made), unfolding(crate::specs::ReadStatements::cases_with))]
-fn case_statement<'a>(
+fn case_statement(
     alloc: Global,
-    input: Input<'a>,
+    tokens: &[Token],
+    input: Input,
     depth: u32,
-) -> Result<(Stmt, Input<'a>), Stop>
-    ensures { Gives (λ x. (stmt_outline x.0, ahead x.1)) result (node constructs.Statement (prefixed (word kinds.Case) (cases_with (expr_at depth) (block_at depth))) (ahead input.entry)) }
+) -> Result<(Stmt, Input), Stop>
+    ensures { Gives (λ x. (stmt_outline x.0, ahead tokens.now x.1)) result (node constructs.Statement (prefixed (word kinds.Case) (cases_with (expr_at depth) (block_at depth))) (ahead tokens.now input)) }
 {
-    let (value, input) = expression(alloc, input, depth)?;
-    let input = expect(input, Kind::Of)?;
-    let ((first, rest), input) = cases(alloc, input, depth)?;
+    let (value, input) = expression(alloc, tokens, input, depth)?;
+    let input = expect(tokens, input, Kind::Of)?;
+    let ((first, rest), input) = cases(alloc, tokens, input, depth)?;
     Ok((Stmt::Case(Box::into_inner(value), first, rest), input))
 }
 
 /// The cases, up to their END.
 #[cycle(statements)]
-fn cases<'a>(
+fn cases(
     alloc: Global,
-    input: Input<'a>,
+    tokens: &[Token],
+    input: Input,
     depth: u32,
-) -> Result<((Box<Case>, Vec<Case>), Input<'a>), Stop>
-    ensures { Gives (λ x. (case_outline x.0.0.value ++ (each_after kinds.Bar case_outline x.0.1.items ++ word kinds.End), ahead x.1)) result
-        (seq (case_with (block_at depth)) (seq (many (accept_at kinds.Bar) (case_with (block_at depth))) (expect_at kinds.End)) (ahead input.entry)) }
+) -> Result<((Box<Case>, Vec<Case>), Input), Stop>
+    ensures { Gives (λ x. (case_outline x.0.0.value ++ (each_after kinds.Bar case_outline x.0.1.items ++ word kinds.End), ahead tokens.now x.1)) result
+        (seq (case_with (block_at depth)) (seq (many (accept_at kinds.Bar) (case_with (block_at depth))) (expect_at kinds.End)) (ahead tokens.now input)) }
 {
-    let (first, input) = case(alloc, input, depth)?;
-    let (rest, input) = more_cases(alloc, input, depth)?;
-    let input = expect(input, Kind::End)?;
+    let (first, input) = case(alloc, tokens, input, depth)?;
+    let (rest, input) = more_cases(alloc, tokens, input, depth)?;
+    let input = expect(tokens, input, Kind::End)?;
     Ok(((first, rest), input))
 }
 
 /// One case, which may be empty.
 #[cycle(statements)]
 #[tactic(auto, using(crate::proofs::StatementSteps::made), unfolding(crate::specs::ReadStatements::case_with, crate::specs::Forms::begins))]
-fn case<'a>(alloc: Global, input: Input<'a>, depth: u32) -> Result<(Box<Case>, Input<'a>), Stop>
-    ensures { Gives (λ x. (case_outline x.0.value, ahead x.1)) result (case_with (block_at depth) (ahead input.entry)) }
+fn case(
+    alloc: Global,
+    tokens: &[Token],
+    input: Input,
+    depth: u32,
+) -> Result<(Box<Case>, Input), Stop>
+    ensures { Gives (λ x. (case_outline x.0.value, ahead tokens.now x.1)) result (case_with (block_at depth) (ahead tokens.now input)) }
 {
-    if !begins_label(input) {
+    if !begins_label(tokens, input) {
         return Ok((boxed(alloc, Case::Nothing)?, input));
     }
-    let (labels, input) = label_ranges(alloc, input)?;
-    let input = expect(input, Kind::Colon)?;
-    let (body, input) = block(alloc, input, depth)?;
+    let (labels, input) = label_ranges(alloc, tokens, input)?;
+    let input = expect(tokens, input, Kind::Colon)?;
+    let (body, input) = block(alloc, tokens, input, depth)?;
     Ok((boxed(alloc, Case::Labelled(labels, body))?, input))
 }
 
 #[cycle(statements)]
-fn more_cases<'a>(
+fn more_cases(
     alloc: Global,
-    input: Input<'a>,
+    tokens: &[Token],
+    input: Input,
     depth: u32,
-) -> Result<(Vec<Case>, Input<'a>), Stop>
-    ensures { Gives (λ x. (each_after kinds.Bar case_outline x.0.items, ahead x.1)) result (many (accept_at kinds.Bar) (case_with (block_at depth)) (ahead input.entry)) }
+) -> Result<(Vec<Case>, Input), Stop>
+    ensures { Gives (λ x. (each_after kinds.Bar case_outline x.0.items, ahead tokens.now x.1)) result (many (accept_at kinds.Bar) (case_with (block_at depth)) (ahead tokens.now input)) }
 {
     let mut rest = Vec::new(alloc);
     let mut here = input;
-    'more: while let Some(after) = accept(here, Kind::Bar) {
-        let (next, after) = case(alloc, after, depth)?;
+    'more: while let Some(after) = accept(tokens, here, Kind::Bar) {
+        let (next, after) = case(alloc, tokens, after, depth)?;
         rest.push(Box::into_inner(next))?;
         here = after;
     }
@@ -284,45 +309,52 @@ fn more_cases<'a>(
 /// What stands behind WHILE.
 #[cycle(statements)]
 #[tactic(auto, using(crate::proofs::StatementSteps::made), unfolding(crate::specs::ReadStatements::while_with))]
-fn while_statement<'a>(
+fn while_statement(
     alloc: Global,
-    input: Input<'a>,
+    tokens: &[Token],
+    input: Input,
     depth: u32,
-) -> Result<(Stmt, Input<'a>), Stop>
-    ensures { Gives (λ x. (stmt_outline x.0, ahead x.1)) result (node constructs.Statement (prefixed (word kinds.While) (while_with (expr_at depth) (block_at depth))) (ahead input.entry)) }
+) -> Result<(Stmt, Input), Stop>
+    ensures { Gives (λ x. (stmt_outline x.0, ahead tokens.now x.1)) result (node constructs.Statement (prefixed (word kinds.While) (while_with (expr_at depth) (block_at depth))) (ahead tokens.now input)) }
 {
-    let (first, input) = branch(alloc, input, depth, Kind::Do)?;
-    let (rest, input) = more_branches(alloc, input, depth, Kind::Do)?;
-    let input = expect(input, Kind::End)?;
+    let (first, input) = branch(alloc, tokens, input, depth, Kind::Do)?;
+    let (rest, input) = more_branches(alloc, tokens, input, depth, Kind::Do)?;
+    let input = expect(tokens, input, Kind::End)?;
     Ok((Stmt::While(first, rest), input))
 }
 
 /// What stands behind REPEAT.
 #[cycle(statements)]
 #[tactic(auto, using(crate::proofs::StatementSteps::made), unfolding(crate::specs::ReadStatements::repeat_with))]
-fn repeat_statement<'a>(
+fn repeat_statement(
     alloc: Global,
-    input: Input<'a>,
+    tokens: &[Token],
+    input: Input,
     depth: u32,
-) -> Result<(Stmt, Input<'a>), Stop>
-    ensures { Gives (λ x. (stmt_outline x.0, ahead x.1)) result (node constructs.Statement (prefixed (word kinds.Repeat) (repeat_with (expr_at depth) (block_at depth))) (ahead input.entry)) }
+) -> Result<(Stmt, Input), Stop>
+    ensures { Gives (λ x. (stmt_outline x.0, ahead tokens.now x.1)) result (node constructs.Statement (prefixed (word kinds.Repeat) (repeat_with (expr_at depth) (block_at depth))) (ahead tokens.now input)) }
 {
-    let (body, input) = block(alloc, input, depth)?;
-    let input = expect(input, Kind::Until)?;
-    let (condition, input) = expression(alloc, input, depth)?;
+    let (body, input) = block(alloc, tokens, input, depth)?;
+    let input = expect(tokens, input, Kind::Until)?;
+    let (condition, input) = expression(alloc, tokens, input, depth)?;
     Ok((Stmt::Repeat(body, Box::into_inner(condition)), input))
 }
 
 /// What stands behind FOR.
 #[cycle(statements)]
 #[tactic(auto, using(crate::proofs::StatementSteps::made), unfolding(crate::specs::ReadStatements::for_with, crate::specs::Forms::name_at))]
-fn for_statement<'a>(alloc: Global, input: Input<'a>, depth: u32) -> Result<(Stmt, Input<'a>), Stop>
-    ensures { Gives (λ x. (stmt_outline x.0, ahead x.1)) result (node constructs.Statement (prefixed (word kinds.For) (for_with (expr_at depth) (block_at depth))) (ahead input.entry)) }
+fn for_statement(
+    alloc: Global,
+    tokens: &[Token],
+    input: Input,
+    depth: u32,
+) -> Result<(Stmt, Input), Stop>
+    ensures { Gives (λ x. (stmt_outline x.0, ahead tokens.now x.1)) result (node constructs.Statement (prefixed (word kinds.For) (for_with (expr_at depth) (block_at depth))) (ahead tokens.now input)) }
 {
-    let (variable, input) = identifier(input)?;
-    let input = expect(input, Kind::Assign)?;
-    let (from, input) = expression(alloc, input, depth)?;
-    let ((to, by, body), input) = for_rest(alloc, input, depth)?;
+    let (variable, input) = identifier(tokens, input)?;
+    let input = expect(tokens, input, Kind::Assign)?;
+    let (from, input) = expression(alloc, tokens, input, depth)?;
+    let ((to, by, body), input) = for_rest(alloc, tokens, input, depth)?;
     let statement = For {
         variable,
         from: Box::into_inner(from),
@@ -335,53 +367,56 @@ fn for_statement<'a>(alloc: Global, input: Input<'a>, depth: u32) -> Result<(Stm
 
 /// A FOR statement from its TO on: the limit, the step and the body.
 #[cycle(statements)]
-fn for_rest<'a>(
+fn for_rest(
     alloc: Global,
-    input: Input<'a>,
+    tokens: &[Token],
+    input: Input,
     depth: u32,
-) -> Result<((Box<Expr>, Option<Box<Expr>>, Box<Block>), Input<'a>), Stop>
+) -> Result<((Box<Expr>, Option<Box<Expr>>, Box<Block>), Input), Stop>
     ensures { Gives (λ x. (
       word kinds.To ++ (expr_outline x.0.0.value ++ (if_there (λ e. word kinds.By ++ expr_outline e.value) x.0.1
           ++ (word kinds.Do ++ (block_outline x.0.2.value ++ word kinds.End)))),
-      ahead x.1,
+      ahead tokens.now x.1,
     )) result
         (seq (expect_at kinds.To) (seq (expr_at depth) (seq (optional (accept_at kinds.By) (expr_at depth))
-        (seq (expect_at kinds.Do) (seq (block_at depth) (expect_at kinds.End))))) (ahead input.entry)) }
+        (seq (expect_at kinds.Do) (seq (block_at depth) (expect_at kinds.End))))) (ahead tokens.now input)) }
 {
-    let input = expect(input, Kind::To)?;
-    let (to, input) = expression(alloc, input, depth)?;
-    let (by, input) = for_step(alloc, input, depth)?;
-    let (body, input) = for_body(alloc, input, depth)?;
+    let input = expect(tokens, input, Kind::To)?;
+    let (to, input) = expression(alloc, tokens, input, depth)?;
+    let (by, input) = for_step(alloc, tokens, input, depth)?;
+    let (body, input) = for_body(alloc, tokens, input, depth)?;
     Ok(((to, by, body), input))
 }
 
 /// The body of a FOR statement, between DO and END.
 #[cycle(statements)]
-fn for_body<'a>(
+fn for_body(
     alloc: Global,
-    input: Input<'a>,
+    tokens: &[Token],
+    input: Input,
     depth: u32,
-) -> Result<(Box<Block>, Input<'a>), Stop>
-    ensures { Gives (λ x. (word kinds.Do ++ (block_outline x.0.value ++ word kinds.End), ahead x.1)) result (seq (expect_at kinds.Do) (seq (block_at depth) (expect_at kinds.End)) (ahead input.entry)) }
+) -> Result<(Box<Block>, Input), Stop>
+    ensures { Gives (λ x. (word kinds.Do ++ (block_outline x.0.value ++ word kinds.End), ahead tokens.now x.1)) result (seq (expect_at kinds.Do) (seq (block_at depth) (expect_at kinds.End)) (ahead tokens.now input)) }
 {
-    let input = expect(input, Kind::Do)?;
-    let (body, input) = block(alloc, input, depth)?;
-    let input = expect(input, Kind::End)?;
+    let input = expect(tokens, input, Kind::Do)?;
+    let (body, input) = block(alloc, tokens, input, depth)?;
+    let input = expect(tokens, input, Kind::End)?;
     Ok((body, input))
 }
 
 /// The step of a FOR statement after BY, if it stands here.
-fn for_step<'a>(
+fn for_step(
     alloc: Global,
-    input: Input<'a>,
+    tokens: &[Token],
+    input: Input,
     depth: u32,
-) -> Result<(Option<Box<Expr>>, Input<'a>), Stop>
-    ensures { Gives (λ x. (if_there (λ e. word kinds.By ++ expr_outline e.value) x.0, ahead x.1)) result (optional (accept_at kinds.By) (expr_at depth) (ahead input.entry)) }
+) -> Result<(Option<Box<Expr>>, Input), Stop>
+    ensures { Gives (λ x. (if_there (λ e. word kinds.By ++ expr_outline e.value) x.0, ahead tokens.now x.1)) result (optional (accept_at kinds.By) (expr_at depth) (ahead tokens.now input)) }
 {
-    match accept(input, Kind::By) {
+    match accept(tokens, input, Kind::By) {
         None => Ok((None, input)),
         Some(rest) => {
-            let (step, rest) = expression(alloc, rest, depth)?;
+            let (step, rest) = expression(alloc, tokens, rest, depth)?;
             Ok((Some(step), rest))
         }
     }

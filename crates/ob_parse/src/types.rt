@@ -20,17 +20,17 @@ use crate::names::{identdef, qualident, qualident_after};
 use crate::parameters::some_parameters;
 use crate::stop::{Stop, boxed};
 use crate::symbols::{accept, beyond, expect, is_at};
-use ob_scan::Kind;
+use ob_scan::{Kind, Token};
 use ob_tree::declaration::{Fields, Record, TypeForm, VarDecl};
 use ob_tree::name::{Identdef, OneOrMore, Qualident};
 use ob_tree::token::Leaf;
 use std::alloc::Global;
 
 /// Whether a type begins here.
-fn begins_type<'a>(input: Input<'a>) -> bool
-    ensures { result ≡ front type_first (uncons (ahead input.entry)) }
+fn begins_type(tokens: &[Token], input: Input) -> bool
+    ensures { result ≡ front type_first (uncons (ahead tokens.now input)) }
 {
-    match input.next() {
+    match input.next(tokens) {
         Some((Leaf::Name(_), _)) => true,
         Some((Leaf::Word(Kind::Array), _)) => true,
         Some((Leaf::Word(Kind::Record), _)) => true,
@@ -41,13 +41,17 @@ fn begins_type<'a>(input: Input<'a>) -> bool
 }
 
 /// Declaring identifiers behind the first: each after a comma.
-fn more_identdefs<'a>(alloc: Global, input: Input<'a>) -> Result<(Vec<Identdef>, Input<'a>), Stop>
-    ensures { Gives (λ x. (each_after kinds.Comma identdef_outline x.0.items, ahead x.1)) result (many (accept_at kinds.Comma) identdef_at (ahead input.entry)) }
+fn more_identdefs(
+    alloc: Global,
+    tokens: &[Token],
+    input: Input,
+) -> Result<(Vec<Identdef>, Input), Stop>
+    ensures { Gives (λ x. (each_after kinds.Comma identdef_outline x.0.items, ahead tokens.now x.1)) result (many (accept_at kinds.Comma) identdef_at (ahead tokens.now input)) }
 {
     let mut rest = Vec::new(alloc);
     let mut here = input;
-    'more: while let Some(after) = accept(here, Kind::Comma) {
-        let (next, after) = identdef(after)?;
+    'more: while let Some(after) = accept(tokens, here, Kind::Comma) {
+        let (next, after) = identdef(tokens, after)?;
         rest.push(next)?;
         here = after;
     }
@@ -56,38 +60,43 @@ fn more_identdefs<'a>(alloc: Global, input: Input<'a>) -> Result<(Vec<Identdef>,
 
 /// Declaring identifiers with commas between them.
 #[tactic(auto, unfolding(crate::specs::Forms::several))]
-fn identdefs<'a>(alloc: Global, input: Input<'a>) -> Result<(OneOrMore<Identdef>, Input<'a>), Stop>
-    ensures { Gives (λ x. (listed kinds.Comma identdef_outline x.0, ahead x.1)) result (several kinds.Comma identdef_at (ahead input.entry)) }
+fn identdefs(
+    alloc: Global,
+    tokens: &[Token],
+    input: Input,
+) -> Result<(OneOrMore<Identdef>, Input), Stop>
+    ensures { Gives (λ x. (listed kinds.Comma identdef_outline x.0, ahead tokens.now x.1)) result (several kinds.Comma identdef_at (ahead tokens.now input)) }
 {
-    let (first, here) = identdef(input)?;
-    let (rest, here) = more_identdefs(alloc, here)?;
+    let (first, here) = identdef(tokens, input)?;
+    let (rest, here) = more_identdefs(alloc, tokens, here)?;
     Ok((OneOrMore { first, rest }, here))
 }
 
 /// Variables or fields of one type.
 #[cycle(types)]
 #[tactic(auto, using(ob_tree::proofs::TypeLayers::types_made), unfolding(crate::specs::ReadTypes::var_with))]
-pub(crate) fn var_declaration<'a>(
+pub(crate) fn var_declaration(
     alloc: Global,
-    input: Input<'a>,
+    tokens: &[Token],
+    input: Input,
     depth: u32,
-) -> Result<(Box<VarDecl>, Input<'a>), Stop>
-    ensures { Gives (λ x. (var_outline x.0.value, ahead x.1)) result (var_with (type_at depth) (ahead input.entry)) }
+) -> Result<(Box<VarDecl>, Input), Stop>
+    ensures { Gives (λ x. (var_outline x.0.value, ahead tokens.now x.1)) result (var_with (type_at depth) (ahead tokens.now input)) }
 {
-    let (names, here) = identdefs(alloc, input)?;
-    let here = expect(here, Kind::Colon)?;
-    let (form, here) = type_form(alloc, here, depth)?;
+    let (names, here) = identdefs(alloc, tokens, input)?;
+    let here = expect(tokens, here, Kind::Colon)?;
+    let (form, here) = type_form(alloc, tokens, here, depth)?;
     let form = Box::into_inner(form);
     Ok((boxed(alloc, VarDecl { names, form })?, here))
 }
 
 /// What stands behind a semicolon, if a field list begins there.
 #[tactic(auto, unfolding(crate::specs::ReadTypes::field_start))]
-fn next_fields<'a>(input: Input<'a>) -> Option<Input<'a>>
-    ensures { skipped kinds.Semicolon result ≡ field_start (ahead input.entry) }
+fn next_fields(tokens: &[Token], input: Input) -> Option<Input>
+    ensures { skipped tokens.now kinds.Semicolon result ≡ field_start (ahead tokens.now input) }
 {
-    match input.next() {
-        Some((Leaf::Word(Kind::Semicolon), rest)) => match rest.next() {
+    match input.next(tokens) {
+        Some((Leaf::Word(Kind::Semicolon), rest)) => match rest.next(tokens) {
             Some((Leaf::Name(_), _)) => Some(rest),
             _ => None,
         },
@@ -97,30 +106,32 @@ fn next_fields<'a>(input: Input<'a>) -> Option<Input<'a>>
 
 /// Fields of one type.
 #[cycle(types)]
-fn field_list<'a>(
+fn field_list(
     alloc: Global,
-    input: Input<'a>,
+    tokens: &[Token],
+    input: Input,
     depth: u32,
-) -> Result<(Box<VarDecl>, Input<'a>), Stop>
-    ensures { Gives (λ x. (construct constructs.FieldList (var_outline x.0.value), ahead x.1)) result (node constructs.FieldList (var_with (type_at depth)) (ahead input.entry)) }
+) -> Result<(Box<VarDecl>, Input), Stop>
+    ensures { Gives (λ x. (construct constructs.FieldList (var_outline x.0.value), ahead tokens.now x.1)) result (node constructs.FieldList (var_with (type_at depth)) (ahead tokens.now input)) }
 {
-    var_declaration(alloc, input, depth)
+    var_declaration(alloc, tokens, input, depth)
 }
 
 /// Field lists behind the first: each after a semicolon.
 #[cycle(types)]
-fn more_fields<'a>(
+fn more_fields(
     alloc: Global,
-    input: Input<'a>,
+    tokens: &[Token],
+    input: Input,
     depth: u32,
-) -> Result<(Vec<VarDecl>, Input<'a>), Stop>
-    ensures { Gives (λ x. (each_after kinds.Semicolon (λ v. construct constructs.FieldList (var_outline v)) x.0.items, ahead x.1)) result
-        (many field_start (node constructs.FieldList (var_with (type_at depth))) (ahead input.entry)) }
+) -> Result<(Vec<VarDecl>, Input), Stop>
+    ensures { Gives (λ x. (each_after kinds.Semicolon (λ v. construct constructs.FieldList (var_outline v)) x.0.items, ahead tokens.now x.1)) result
+        (many field_start (node constructs.FieldList (var_with (type_at depth))) (ahead tokens.now input)) }
 {
     let mut rest = Vec::new(alloc);
     let mut here = input;
-    'more: while let Some(after) = next_fields(here) {
-        let (next, after) = field_list(alloc, after, depth)?;
+    'more: while let Some(after) = next_fields(tokens, here) {
+        let (next, after) = field_list(alloc, tokens, after, depth)?;
         rest.push(Box::into_inner(next))?;
         here = after;
     }
@@ -128,10 +139,10 @@ fn more_fields<'a>(
 }
 
 /// Whether a semicolon stands here, and what follows.
-fn semicolon<'a>(input: Input<'a>) -> Result<(bool, Input<'a>), Stop>
-    ensures { Gives (λ x. (if_so x.0 (word kinds.Semicolon), ahead x.1)) result (optional (accept_at kinds.Semicolon) nothing (ahead input.entry)) }
+fn semicolon(tokens: &[Token], input: Input) -> Result<(bool, Input), Stop>
+    ensures { Gives (λ x. (if_so x.0 (word kinds.Semicolon), ahead tokens.now x.1)) result (optional (accept_at kinds.Semicolon) nothing (ahead tokens.now input)) }
 {
-    match accept(input, Kind::Semicolon) {
+    match accept(tokens, input, Kind::Semicolon) {
         Some(rest) => Ok((true, rest)),
         None => Ok((false, input)),
     }
@@ -140,12 +151,17 @@ fn semicolon<'a>(input: Input<'a>) -> Result<(bool, Input<'a>), Stop>
 /// The field lists of a record.
 #[cycle(types)]
 #[tactic(auto, using(ob_tree::proofs::TypeLayers::types_made), unfolding(crate::specs::ReadTypes::fields_with))]
-fn fields<'a>(alloc: Global, input: Input<'a>, depth: u32) -> Result<(Box<Fields>, Input<'a>), Stop>
-    ensures { Gives (λ x. (fields_outline x.0.value, ahead x.1)) result (fields_with (type_at depth) (ahead input.entry)) }
+fn fields(
+    alloc: Global,
+    tokens: &[Token],
+    input: Input,
+    depth: u32,
+) -> Result<(Box<Fields>, Input), Stop>
+    ensures { Gives (λ x. (fields_outline x.0.value, ahead tokens.now x.1)) result (fields_with (type_at depth) (ahead tokens.now input)) }
 {
-    let (first, here) = field_list(alloc, input, depth)?;
-    let (rest, here) = more_fields(alloc, here, depth)?;
-    let (closing_semicolon, here) = semicolon(here)?;
+    let (first, here) = field_list(alloc, tokens, input, depth)?;
+    let (rest, here) = more_fields(alloc, tokens, here, depth)?;
+    let (closing_semicolon, here) = semicolon(tokens, here)?;
     let fields = Fields {
         first: Box::into_inner(first),
         rest,
@@ -155,14 +171,14 @@ fn fields<'a>(alloc: Global, input: Input<'a>, depth: u32) -> Result<(Box<Fields
 }
 
 /// The base of a record, in parentheses.
-fn base<'a>(input: Input<'a>) -> Result<(Option<Qualident>, Input<'a>), Stop>
-    ensures { Gives (λ x. (if_there (λ q. word kinds.LeftParen ++ (qualident_outline q ++ word kinds.RightParen)) x.0, ahead x.1)) result
-        (optional (accept_at kinds.LeftParen) (seq qualident_at (expect_at kinds.RightParen)) (ahead input.entry)) }
+fn base(tokens: &[Token], input: Input) -> Result<(Option<Qualident>, Input), Stop>
+    ensures { Gives (λ x. (if_there (λ q. word kinds.LeftParen ++ (qualident_outline q ++ word kinds.RightParen)) x.0, ahead tokens.now x.1)) result
+        (optional (accept_at kinds.LeftParen) (seq qualident_at (expect_at kinds.RightParen)) (ahead tokens.now input)) }
 {
-    match accept(input, Kind::LeftParen) {
+    match accept(tokens, input, Kind::LeftParen) {
         Some(rest) => {
-            let (base, rest) = qualident(rest)?;
-            let rest = expect(rest, Kind::RightParen)?;
+            let (base, rest) = qualident(tokens, rest)?;
+            let rest = expect(tokens, rest, Kind::RightParen)?;
             Ok((Some(base), rest))
         }
         None => Ok((None, input)),
@@ -172,124 +188,143 @@ fn base<'a>(input: Input<'a>) -> Result<(Option<Qualident>, Input<'a>), Stop>
 /// The field lists of a record, up to its END.
 #[cycle(types)]
 #[tactic(auto, unfolding(crate::specs::Forms::unless))]
-fn some_fields<'a>(
+fn some_fields(
     alloc: Global,
-    input: Input<'a>,
+    tokens: &[Token],
+    input: Input,
     depth: u32,
-) -> Result<(Option<Box<Fields>>, Input<'a>), Stop>
-    ensures { Gives (λ x. (if_there (λ f. fields_outline f.value) x.0, ahead x.1)) result (optional (unless kinds.End) (fields_with (type_at depth)) (ahead input.entry)) }
+) -> Result<(Option<Box<Fields>>, Input), Stop>
+    ensures { Gives (λ x. (if_there (λ f. fields_outline f.value) x.0, ahead tokens.now x.1)) result (optional (unless kinds.End) (fields_with (type_at depth)) (ahead tokens.now input)) }
 {
-    if is_at(input, Kind::End) {
+    if is_at(tokens, input, Kind::End) {
         return Ok((None, input));
     }
-    let (fields, here) = fields(alloc, input, depth)?;
+    let (fields, here) = fields(alloc, tokens, input, depth)?;
     Ok((Some(fields), here))
 }
 
 /// A record, behind RECORD.
 #[cycle(types)]
 #[tactic(auto, using(ob_tree::proofs::TypeLayers::types_made), unfolding(crate::specs::ReadTypes::record_with))]
-fn record<'a>(alloc: Global, input: Input<'a>, depth: u32) -> Result<(Record, Input<'a>), Stop>
-    ensures { Gives (λ x. (record_outline x.0, ahead x.1)) result (prefixed (word kinds.Record) (record_with (type_at depth)) (ahead input.entry)) }
+fn record(
+    alloc: Global,
+    tokens: &[Token],
+    input: Input,
+    depth: u32,
+) -> Result<(Record, Input), Stop>
+    ensures { Gives (λ x. (record_outline x.0, ahead tokens.now x.1)) result (prefixed (word kinds.Record) (record_with (type_at depth)) (ahead tokens.now input)) }
 {
-    let (base, here) = base(input)?;
-    let (fields, here) = some_fields(alloc, here, depth)?;
-    let here = expect(here, Kind::End)?;
+    let (base, here) = base(tokens, input)?;
+    let (fields, here) = some_fields(alloc, tokens, here, depth)?;
+    let here = expect(tokens, here, Kind::End)?;
     Ok((Record { base, fields }, here))
 }
 
 /// A type, with at most so many levels in its parts.
 #[cycle(types)]
 #[tactic(auto, using(ob_tree::proofs::TypeLayers::types_made), unfolding(crate::specs::ReadTypes::type_with))]
-fn type_within<'a>(
+fn type_within(
     alloc: Global,
-    input: Input<'a>,
+    tokens: &[Token],
+    input: Input,
     depth: u32,
-) -> Result<(TypeForm, Input<'a>), Stop>
-    ensures { Gives (λ x. (type_outline x.0, ahead x.1)) result (type_with (expr_at depth) (type_at depth) (ahead input.entry)) }
+) -> Result<(TypeForm, Input), Stop>
+    ensures { Gives (λ x. (type_outline x.0, ahead tokens.now x.1)) result (type_with (expr_at depth) (type_at depth) (ahead tokens.now input)) }
 {
-    match input.next() {
-        Some((Leaf::Name(head), rest)) => named(head, rest),
-        Some((Leaf::Word(Kind::Array), rest)) => array(alloc, rest, depth),
-        Some((Leaf::Word(Kind::Record), rest)) => record_form(alloc, rest, depth),
-        Some((Leaf::Word(Kind::Pointer), rest)) => pointer(alloc, rest, depth),
-        Some((Leaf::Word(Kind::Procedure), rest)) => procedure(alloc, rest),
+    match input.next(tokens) {
+        Some((Leaf::Name(head), rest)) => named(tokens, head, rest),
+        Some((Leaf::Word(Kind::Array), rest)) => array(alloc, tokens, rest, depth),
+        Some((Leaf::Word(Kind::Record), rest)) => record_form(alloc, tokens, rest, depth),
+        Some((Leaf::Word(Kind::Pointer), rest)) => pointer(alloc, tokens, rest, depth),
+        Some((Leaf::Word(Kind::Procedure), rest)) => procedure(alloc, tokens, rest),
         _ => Err(Stop::Wrong(input.number())),
     }
 }
 
 /// A type by its name, behind the first identifier.
 #[tactic(auto, using(ob_tree::proofs::TypeLayers::types_made))]
-fn named<'a>(head: u32, input: Input<'a>) -> Result<(TypeForm, Input<'a>), Stop>
-    ensures { Gives (λ x. (type_outline x.0, ahead x.1)) result (node constructs.TypeForm (names.qualident_after head) (ahead input.entry)) }
+fn named(tokens: &[Token], head: u32, input: Input) -> Result<(TypeForm, Input), Stop>
+    ensures { Gives (λ x. (type_outline x.0, ahead tokens.now x.1)) result (node constructs.TypeForm (names.qualident_after head) (ahead tokens.now input)) }
 {
-    let (name, rest) = qualident_after(head, input)?;
+    let (name, rest) = qualident_after(tokens, head, input)?;
     Ok((TypeForm::Named(name), rest))
 }
 
 /// What stands behind ARRAY.
 #[cycle(types)]
 #[tactic(auto, using(ob_tree::proofs::TypeLayers::types_made))]
-fn array<'a>(alloc: Global, input: Input<'a>, depth: u32) -> Result<(TypeForm, Input<'a>), Stop>
-    ensures { Gives (λ x. (type_outline x.0, ahead x.1)) result
-        (node constructs.TypeForm (prefixed (word kinds.Array) (seq (several kinds.Comma (expr_at depth)) (seq (expect_at kinds.Of) (type_at depth)))) (ahead input.entry)) }
+fn array(
+    alloc: Global,
+    tokens: &[Token],
+    input: Input,
+    depth: u32,
+) -> Result<(TypeForm, Input), Stop>
+    ensures { Gives (λ x. (type_outline x.0, ahead tokens.now x.1)) result
+        (node constructs.TypeForm (prefixed (word kinds.Array) (seq (several kinds.Comma (expr_at depth)) (seq (expect_at kinds.Of) (type_at depth)))) (ahead tokens.now input)) }
 {
-    let (lengths, rest) = expression_list(alloc, input, depth)?;
-    let rest = expect(rest, Kind::Of)?;
-    let (of, rest) = type_form(alloc, rest, depth)?;
+    let (lengths, rest) = expression_list(alloc, tokens, input, depth)?;
+    let rest = expect(tokens, rest, Kind::Of)?;
+    let (of, rest) = type_form(alloc, tokens, rest, depth)?;
     Ok((TypeForm::ArrayOf(lengths, of), rest))
 }
 
 /// What stands behind RECORD.
 #[cycle(types)]
 #[tactic(auto, using(ob_tree::proofs::TypeLayers::types_made))]
-fn record_form<'a>(
+fn record_form(
     alloc: Global,
-    input: Input<'a>,
+    tokens: &[Token],
+    input: Input,
     depth: u32,
-) -> Result<(TypeForm, Input<'a>), Stop>
-    ensures { Gives (λ x. (type_outline x.0, ahead x.1)) result
-        (node constructs.TypeForm (prefixed (word kinds.Record) (record_with (type_at depth))) (ahead input.entry)) }
+) -> Result<(TypeForm, Input), Stop>
+    ensures { Gives (λ x. (type_outline x.0, ahead tokens.now x.1)) result
+        (node constructs.TypeForm (prefixed (word kinds.Record) (record_with (type_at depth))) (ahead tokens.now input)) }
 {
-    let (record, rest) = record(alloc, input, depth)?;
+    let (record, rest) = record(alloc, tokens, input, depth)?;
     Ok((TypeForm::RecordOf(record), rest))
 }
 
 /// What stands behind POINTER.
 #[cycle(types)]
 #[tactic(auto, using(ob_tree::proofs::TypeLayers::types_made))]
-fn pointer<'a>(alloc: Global, input: Input<'a>, depth: u32) -> Result<(TypeForm, Input<'a>), Stop>
-    ensures { Gives (λ x. (type_outline x.0, ahead x.1)) result
-        (node constructs.TypeForm (prefixed (word kinds.Pointer) (seq (expect_at kinds.To) (type_at depth))) (ahead input.entry)) }
+fn pointer(
+    alloc: Global,
+    tokens: &[Token],
+    input: Input,
+    depth: u32,
+) -> Result<(TypeForm, Input), Stop>
+    ensures { Gives (λ x. (type_outline x.0, ahead tokens.now x.1)) result
+        (node constructs.TypeForm (prefixed (word kinds.Pointer) (seq (expect_at kinds.To) (type_at depth))) (ahead tokens.now input)) }
 {
-    let rest = expect(input, Kind::To)?;
-    let (to, rest) = type_form(alloc, rest, depth)?;
+    let rest = expect(tokens, input, Kind::To)?;
+    let (to, rest) = type_form(alloc, tokens, rest, depth)?;
     Ok((TypeForm::PointerTo(to), rest))
 }
 
 /// What stands behind PROCEDURE.
 #[tactic(auto, using(ob_tree::proofs::TypeLayers::types_made))]
-fn procedure<'a>(alloc: Global, input: Input<'a>) -> Result<(TypeForm, Input<'a>), Stop>
-    ensures { Gives (λ x. (type_outline x.0, ahead x.1)) result
-        (node constructs.TypeForm (prefixed (word kinds.Procedure) some_parameters_at) (ahead input.entry)) }
+fn procedure(alloc: Global, tokens: &[Token], input: Input) -> Result<(TypeForm, Input), Stop>
+    ensures { Gives (λ x. (type_outline x.0, ahead tokens.now x.1)) result
+        (node constructs.TypeForm (prefixed (word kinds.Procedure) some_parameters_at) (ahead tokens.now input)) }
 {
-    let (parameters, rest) = some_parameters(alloc, input)?;
+    let (parameters, rest) = some_parameters(alloc, tokens, input)?;
     Ok((TypeForm::ProcOf(parameters), rest))
 }
 
 /// A type, with at most so many levels in it, itself one of them.
 #[cycle(types)]
 #[tactic(auto, unfolding(crate::specs::ReadTypes::type_at, crate::specs::Forms::limit_at))]
-pub(crate) fn type_form<'a>(
+pub(crate) fn type_form(
     alloc: Global,
-    input: Input<'a>,
+    tokens: &[Token],
+    input: Input,
     depth: u32,
-) -> Result<(Box<TypeForm>, Input<'a>), Stop>
-    ensures { Gives (λ x. (type_outline x.0.value, ahead x.1)) result (type_at depth (ahead input.entry)) }
+) -> Result<(Box<TypeForm>, Input), Stop>
+    ensures { Gives (λ x. (type_outline x.0.value, ahead tokens.now x.1)) result (type_at depth (ahead tokens.now input)) }
 {
     if depth == 0 {
-        return Err(beyond(input, begins_type(input)));
+        return Err(beyond(input, begins_type(tokens, input)));
     }
-    let (form, here) = type_within(alloc, input, depth - 1)?;
+    let (form, here) = type_within(alloc, tokens, input, depth - 1)?;
     Ok((boxed(alloc, form)?, here))
 }

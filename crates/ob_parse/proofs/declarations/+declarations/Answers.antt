@@ -20,22 +20,22 @@ abbrev shown : ProcDecl → Out
 shown p = procedure_outline p ++ word kinds.Semicolon
 
 pub procedures-more-smaller : goal.procedures-more-smaller
-procedures-more-smaller t c = smaller (begins (is_word kinds.Procedure)) (declared_at c.args.depth) (procedure_advances c.args.depth) (ahead c.more.here) _ _
+procedures-more-smaller t c = smaller (begins (is_word kinds.Procedure)) (declared_at c.args.depth) (procedure_advances c.args.depth) (ahead c.args.tokens.now c.more.here) _ _
     (has_begun (is_word kinds.Procedure) _ (sym c.is_at.ensures ∙ c.more-test.true)) c.in_ok-next.ensures
 
 pub procedures-more-preserved : goal.procedures-more-preserved
 procedures-more-preserved t c = pushed (begins (is_word kinds.Procedure)) (declared_at c.args.depth) (procedure_advances c.args.depth) shown c.more.declared.items _ c.into_inner.result
-    (ahead c.more.here) ([], ahead c.more.here) _ _ c.in_ok-push.ensures.items (has_begun (is_word kinds.Procedure) _ (sym c.is_at.ensures ∙ c.more-test.true)) c.in_ok-next.ensures (ap shown c.into_inner.ensures) c.more.invariant
+    (ahead c.args.tokens.now c.more.here) ([], ahead c.args.tokens.now c.more.here) _ _ c.in_ok-push.ensures.items (has_begun (is_word kinds.Procedure) _ (sym c.is_at.ensures ∙ c.more-test.true)) c.in_ok-next.ensures (ap shown c.into_inner.ensures) c.more.invariant
 
 pub procedures-returns-in_err-next : goal.procedures-returns-in_err-next
 procedures-returns-in_err-next t c =
     let p = err_from_is_err_and c.from_residual.result c.from_residual.ensures.1 in
     rw (p.1, p.2) (ends (begins (is_word kinds.Procedure)) (declared_at c.args.depth) (procedure_advances c.args.depth) c.in_err-next.field-0.0
-    (each shown c.more.declared.items) (ahead c.more.here) _
-    (many (begins (is_word kinds.Procedure)) (declared_at c.args.depth) (ahead c.args.input))
+    (each shown c.more.declared.items) (ahead c.args.tokens.now c.more.here) _
+    (many (begins (is_word kinds.Procedure)) (declared_at c.args.depth) (ahead c.args.tokens.now c.args.input))
     (has_begun (is_word kinds.Procedure) _ (sym c.is_at.ensures ∙ c.more-test.true)) c.in_err-next.ensures c.more.invariant)
 
 pub procedures-returns : goal.procedures-returns
-procedures-returns t c = is_done (begins (is_word kinds.Procedure)) (declared_at c.args.depth) (procedure_advances c.args.depth) (each shown c.more.declared.items) (ahead c.more.here)
-    (many (begins (is_word kinds.Procedure)) (declared_at c.args.depth) (ahead c.args.input))
+procedures-returns t c = is_done (begins (is_word kinds.Procedure)) (declared_at c.args.depth) (procedure_advances c.args.depth) (each shown c.more.declared.items) (ahead c.args.tokens.now c.more.here)
+    (many (begins (is_word kinds.Procedure)) (declared_at c.args.depth) (ahead c.args.tokens.now c.args.input))
     (has_not_begun (is_word kinds.Procedure) _ (sym c.is_at.ensures ∙ c.more-test.false)) c.more.invariant

@@ -29,8 +29,8 @@ decreases-procedure_within l = 16 * l.depth + 5
 
 abbrev pub invariant-procedures-more : goal.invariant-procedures-more
 invariant-procedures-more l =
-    with_front (each (λ p. procedure_outline p ++ word kinds.Semicolon) l.declared.items) (many (begins (is_word kinds.Procedure)) (ended (procedure_at l.depth)) (ahead l.here))
-    ≡ many (begins (is_word kinds.Procedure)) (ended (procedure_at l.depth)) (ahead l.fn.input)
+    with_front (each (λ p. procedure_outline p ++ word kinds.Semicolon) l.declared.items) (many (begins (is_word kinds.Procedure)) (ended (procedure_at l.depth)) (ahead l.fn.tokens l.here))
+    ≡ many (begins (is_word kinds.Procedure)) (ended (procedure_at l.depth)) (ahead l.fn.tokens l.fn.input)
 
 abbrev pub decreases-procedures-more : goal.decreases-procedures-more
-decreases-procedures-more l = length (ahead l.here)
+decreases-procedures-more l = length (ahead l.fn.tokens l.here)

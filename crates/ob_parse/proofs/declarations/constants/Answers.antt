@@ -23,21 +23,21 @@ advances : (d : ℕ) → Advances (begins is_name) (declared_at d)
 advances d = const_advances d _ (expr_at_sound d)
 
 pub more-smaller : goal.more-smaller
-more-smaller c = smaller (begins is_name) (declared_at c.args.depth) (advances c.args.depth) (ahead c.more.here) _ _
+more-smaller c = smaller (begins is_name) (declared_at c.args.depth) (advances c.args.depth) (ahead c.args.tokens.now c.more.here) _ _
     (has_begun is_name _ (sym c.begins_declaration.ensures ∙ c.more-test.true)) c.in_ok-next.ensures
 
 pub more-preserved : goal.more-preserved
-more-preserved c = pushed (begins is_name) (declared_at c.args.depth) (advances c.args.depth) shown c.more.declared.items _ c.in_ok-next.next (ahead c.more.here) ([], ahead c.more.here) _ _
+more-preserved c = pushed (begins is_name) (declared_at c.args.depth) (advances c.args.depth) shown c.more.declared.items _ c.in_ok-next.next (ahead c.args.tokens.now c.more.here) ([], ahead c.args.tokens.now c.more.here) _ _
     c.in_ok-push.ensures.items (has_begun is_name _ (sym c.begins_declaration.ensures ∙ c.more-test.true)) c.in_ok-next.ensures refl c.more.invariant
 
 pub returns-in_err-next : goal.returns-in_err-next
 returns-in_err-next c =
     let p = err_from_is_err_and c.from_residual.result c.from_residual.ensures.1 in
     rw (p.1, p.2) (ends (begins is_name) (declared_at c.args.depth) (advances c.args.depth) c.in_err-next.field-0.0
-    (each shown c.more.declared.items) (ahead c.more.here) _ (many (begins is_name) (declared_at c.args.depth) (ahead c.args.input))
+    (each shown c.more.declared.items) (ahead c.args.tokens.now c.more.here) _ (many (begins is_name) (declared_at c.args.depth) (ahead c.args.tokens.now c.args.input))
     (has_begun is_name _ (sym c.begins_declaration.ensures ∙ c.more-test.true)) c.in_err-next.ensures c.more.invariant)
 
 pub returns : goal.returns
-returns c = is_done (begins is_name) (declared_at c.args.depth) (advances c.args.depth) (each shown c.more.declared.items) (ahead c.more.here)
-    (many (begins is_name) (declared_at c.args.depth) (ahead c.args.input))
+returns c = is_done (begins is_name) (declared_at c.args.depth) (advances c.args.depth) (each shown c.more.declared.items) (ahead c.args.tokens.now c.more.here)
+    (many (begins is_name) (declared_at c.args.depth) (ahead c.args.tokens.now c.args.input))
     (has_not_begun is_name _ (sym c.begins_declaration.ensures ∙ c.more-test.false)) c.more.invariant

@@ -11,8 +11,8 @@ use Rattle.ob_parse.proofs.declarations.named_types.Given as goal
 
 abbrev pub invariant-more : goal.invariant-more
 invariant-more l =
-    with_front (each (λ d. type_decl_outline d ++ word kinds.Semicolon) l.declared.items) (many (begins is_name) (ended (type_decl_with (type_at l.depth))) (ahead l.here))
-    ≡ many (begins is_name) (ended (type_decl_with (type_at l.depth))) (ahead l.fn.input)
+    with_front (each (λ d. type_decl_outline d ++ word kinds.Semicolon) l.declared.items) (many (begins is_name) (ended (type_decl_with (type_at l.depth))) (ahead l.fn.tokens l.here))
+    ≡ many (begins is_name) (ended (type_decl_with (type_at l.depth))) (ahead l.fn.tokens l.fn.input)
 
 abbrev pub decreases-more : goal.decreases-more
-decreases-more l = length (ahead l.here)
+decreases-more l = length (ahead l.fn.tokens l.here)

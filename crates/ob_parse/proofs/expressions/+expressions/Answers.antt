@@ -28,120 +28,120 @@ selector_adv d = selector_advances d _ (expr_at_sound d)
 
 pub more_factors-more-smaller : goal.more_factors-more-smaller
 more_factors-more-smaller t c =
-    smaller mul_start (factor_at c.args.depth) (mul_adv c.args.depth) (ahead c.more.here) _ _
-    (marked_some mul_kind c.in-Some.operator (ahead c.in-Some.after) _ c.in-Some.ensures) c.in_ok-next.ensures
+    smaller mul_start (factor_at c.args.depth) (mul_adv c.args.depth) (ahead c.args.tokens.now c.more.here) _ _
+    (marked_some mul_kind c.in-Some.operator (ahead c.args.tokens.now c.in-Some.after) _ c.in-Some.ensures) c.in_ok-next.ensures
 
 pub more_factors-more-preserved : goal.more_factors-more-preserved
 more_factors-more-preserved t c =
     pushed mul_start (factor_at c.args.depth) (mul_adv c.args.depth)
-    (λ p. word (mul_kind p.0) ++ factor_outline p.1) c.more.rest.items _ (c.in-Some.operator, c.in_ok-next.next) (ahead c.more.here) _ _ _ c.in_ok-push.ensures.items
-    (marked_some mul_kind c.in-Some.operator (ahead c.in-Some.after) _ c.in-Some.ensures) c.in_ok-next.ensures refl c.more.invariant
+    (λ p. word (mul_kind p.0) ++ factor_outline p.1) c.more.rest.items _ (c.in-Some.operator, c.in_ok-next.next) (ahead c.args.tokens.now c.more.here) _ _ _ c.in_ok-push.ensures.items
+    (marked_some mul_kind c.in-Some.operator (ahead c.args.tokens.now c.in-Some.after) _ c.in-Some.ensures) c.in_ok-next.ensures refl c.more.invariant
 
 pub more_factors-returns-in_err-next : goal.more_factors-returns-in_err-next
 more_factors-returns-in_err-next t c =
     let p = err_from_is_err_and c.from_residual.result c.from_residual.ensures.1 in
     rw (p.1, p.2) (ends mul_start (factor_at c.args.depth) (mul_adv c.args.depth) c.in_err-next.field-0.0
-    (each (λ p. word (mul_kind p.0) ++ factor_outline p.1) c.more.rest.items) (ahead c.more.here) _ (many mul_start (factor_at c.args.depth) (ahead c.args.input))
-    (marked_some mul_kind c.in-Some.operator (ahead c.in-Some.after) _ c.in-Some.ensures) c.in_err-next.ensures c.more.invariant)
+    (each (λ p. word (mul_kind p.0) ++ factor_outline p.1) c.more.rest.items) (ahead c.args.tokens.now c.more.here) _ (many mul_start (factor_at c.args.depth) (ahead c.args.tokens.now c.args.input))
+    (marked_some mul_kind c.in-Some.operator (ahead c.args.tokens.now c.in-Some.after) _ c.in-Some.ensures) c.in_err-next.ensures c.more.invariant)
 
 pub more_factors-returns : goal.more_factors-returns
 more_factors-returns t c =
     is_done mul_start (factor_at c.args.depth) (mul_adv c.args.depth)
-    (each (λ p. word (mul_kind p.0) ++ factor_outline p.1) c.more.rest.items) (ahead c.more.here) (many mul_start (factor_at c.args.depth) (ahead c.args.input))
-    (marked_none mul_kind _ (sym (ap seen c.in_default.is) ∙ c.mul_operator.ensures)) c.more.invariant
+    (each (λ p. word (mul_kind p.0) ++ factor_outline p.1) c.more.rest.items) (ahead c.args.tokens.now c.more.here) (many mul_start (factor_at c.args.depth) (ahead c.args.tokens.now c.args.input))
+    (marked_none mul_kind _ (sym (ap (seen c.args.tokens.now) c.in_default.is) ∙ c.mul_operator.ensures)) c.more.invariant
 
 pub more_terms-more-smaller : goal.more_terms-more-smaller
 more_terms-more-smaller t c =
-    smaller add_start (term_at c.args.depth) (add_adv c.args.depth) (ahead c.more.here) _ _
-    (marked_some add_kind c.in-Some.operator (ahead c.in-Some.after) _ c.in-Some.ensures) c.in_ok-next.ensures
+    smaller add_start (term_at c.args.depth) (add_adv c.args.depth) (ahead c.args.tokens.now c.more.here) _ _
+    (marked_some add_kind c.in-Some.operator (ahead c.args.tokens.now c.in-Some.after) _ c.in-Some.ensures) c.in_ok-next.ensures
 
 pub more_terms-more-preserved : goal.more_terms-more-preserved
 more_terms-more-preserved t c =
     pushed add_start (term_at c.args.depth) (add_adv c.args.depth)
-    (λ p. word (add_kind p.0) ++ term_outline p.1) c.more.rest.items _ (c.in-Some.operator, c.in_ok-next.next) (ahead c.more.here) _ _ _ c.in_ok-push.ensures.items
-    (marked_some add_kind c.in-Some.operator (ahead c.in-Some.after) _ c.in-Some.ensures) c.in_ok-next.ensures refl c.more.invariant
+    (λ p. word (add_kind p.0) ++ term_outline p.1) c.more.rest.items _ (c.in-Some.operator, c.in_ok-next.next) (ahead c.args.tokens.now c.more.here) _ _ _ c.in_ok-push.ensures.items
+    (marked_some add_kind c.in-Some.operator (ahead c.args.tokens.now c.in-Some.after) _ c.in-Some.ensures) c.in_ok-next.ensures refl c.more.invariant
 
 pub more_terms-returns-in_err-next : goal.more_terms-returns-in_err-next
 more_terms-returns-in_err-next t c =
     let p = err_from_is_err_and c.from_residual.result c.from_residual.ensures.1 in
     rw (p.1, p.2) (ends add_start (term_at c.args.depth) (add_adv c.args.depth) c.in_err-next.field-0.0
-    (each (λ p. word (add_kind p.0) ++ term_outline p.1) c.more.rest.items) (ahead c.more.here) _ (many add_start (term_at c.args.depth) (ahead c.args.input))
-    (marked_some add_kind c.in-Some.operator (ahead c.in-Some.after) _ c.in-Some.ensures) c.in_err-next.ensures c.more.invariant)
+    (each (λ p. word (add_kind p.0) ++ term_outline p.1) c.more.rest.items) (ahead c.args.tokens.now c.more.here) _ (many add_start (term_at c.args.depth) (ahead c.args.tokens.now c.args.input))
+    (marked_some add_kind c.in-Some.operator (ahead c.args.tokens.now c.in-Some.after) _ c.in-Some.ensures) c.in_err-next.ensures c.more.invariant)
 
 pub more_terms-returns : goal.more_terms-returns
 more_terms-returns t c =
     is_done add_start (term_at c.args.depth) (add_adv c.args.depth)
-    (each (λ p. word (add_kind p.0) ++ term_outline p.1) c.more.rest.items) (ahead c.more.here) (many add_start (term_at c.args.depth) (ahead c.args.input))
-    (marked_none add_kind _ (sym (ap seen c.in_default.is) ∙ c.add_operator.ensures)) c.more.invariant
+    (each (λ p. word (add_kind p.0) ++ term_outline p.1) c.more.rest.items) (ahead c.args.tokens.now c.more.here) (many add_start (term_at c.args.depth) (ahead c.args.tokens.now c.args.input))
+    (marked_none add_kind _ (sym (ap (seen c.args.tokens.now) c.in_default.is) ∙ c.add_operator.ensures)) c.more.invariant
 
 pub more_expressions-more-smaller : goal.more_expressions-more-smaller
 more_expressions-more-smaller t c =
-    smaller (accept_at kinds.Comma) (expr_at c.args.depth) (comma_adv c.args.depth) (ahead c.more.here) _ _
+    smaller (accept_at kinds.Comma) (expr_at c.args.depth) (comma_adv c.args.depth) (ahead c.args.tokens.now c.more.here) _ _
     (sym c.in-Some.ensures) c.in_ok-next.ensures
 
 pub more_expressions-more-preserved : goal.more_expressions-more-preserved
 more_expressions-more-preserved t c =
     pushed_after (accept_at kinds.Comma) (expr_at c.args.depth) (comma_adv c.args.depth)
-    expr_outline kinds.Comma c.more.rest.items _ c.into_inner.result (ahead c.more.here) (ahead c.in-Some.after) _ _ c.in_ok-push.ensures.items
+    expr_outline kinds.Comma c.more.rest.items _ c.into_inner.result (ahead c.args.tokens.now c.more.here) (ahead c.args.tokens.now c.in-Some.after) _ _ c.in_ok-push.ensures.items
     (sym c.in-Some.ensures) c.in_ok-next.ensures (ap expr_outline c.into_inner.ensures) c.more.invariant
 
 pub more_expressions-returns-in_err-next : goal.more_expressions-returns-in_err-next
 more_expressions-returns-in_err-next t c =
     let p = err_from_is_err_and c.from_residual.result c.from_residual.ensures.1 in
     rw (p.1, p.2) (ends (accept_at kinds.Comma) (expr_at c.args.depth) (comma_adv c.args.depth) c.in_err-next.field-0.0
-    (each_after kinds.Comma expr_outline c.more.rest.items) (ahead c.more.here) _ (many (accept_at kinds.Comma) (expr_at c.args.depth) (ahead c.args.input))
+    (each_after kinds.Comma expr_outline c.more.rest.items) (ahead c.args.tokens.now c.more.here) _ (many (accept_at kinds.Comma) (expr_at c.args.depth) (ahead c.args.tokens.now c.args.input))
     (sym c.in-Some.ensures) c.in_err-next.ensures c.more.invariant)
 
 pub more_expressions-returns : goal.more_expressions-returns
 more_expressions-returns t c =
     is_done (accept_at kinds.Comma) (expr_at c.args.depth) (comma_adv c.args.depth)
-    (each_after kinds.Comma expr_outline c.more.rest.items) (ahead c.more.here) (many (accept_at kinds.Comma) (expr_at c.args.depth) (ahead c.args.input))
-    (sym (sym (ap (skipped kinds.Comma) c.in_default.is) ∙ c.accept.ensures)) c.more.invariant
+    (each_after kinds.Comma expr_outline c.more.rest.items) (ahead c.args.tokens.now c.more.here) (many (accept_at kinds.Comma) (expr_at c.args.depth) (ahead c.args.tokens.now c.args.input))
+    (sym (sym (ap (skipped c.args.tokens.now kinds.Comma) c.in_default.is) ∙ c.accept.ensures)) c.more.invariant
 
 pub more_elements-more-smaller : goal.more_elements-more-smaller
 more_elements-more-smaller t c =
-    smaller (accept_at kinds.Comma) (element_with (expr_at c.args.depth)) (element_adv c.args.depth) (ahead c.more.here) _ _
+    smaller (accept_at kinds.Comma) (element_with (expr_at c.args.depth)) (element_adv c.args.depth) (ahead c.args.tokens.now c.more.here) _ _
     (sym c.in-Some.ensures) c.in_ok-next.ensures
 
 pub more_elements-more-preserved : goal.more_elements-more-preserved
 more_elements-more-preserved t c =
     pushed_after (accept_at kinds.Comma) (element_with (expr_at c.args.depth)) (element_adv c.args.depth)
-    element_outline kinds.Comma c.more.rest.items _ c.into_inner.result (ahead c.more.here) (ahead c.in-Some.after) _ _ c.in_ok-push.ensures.items
+    element_outline kinds.Comma c.more.rest.items _ c.into_inner.result (ahead c.args.tokens.now c.more.here) (ahead c.args.tokens.now c.in-Some.after) _ _ c.in_ok-push.ensures.items
     (sym c.in-Some.ensures) c.in_ok-next.ensures (ap element_outline c.into_inner.ensures) c.more.invariant
 
 pub more_elements-returns-in_err-next : goal.more_elements-returns-in_err-next
 more_elements-returns-in_err-next t c =
     let p = err_from_is_err_and c.from_residual.result c.from_residual.ensures.1 in
     rw (p.1, p.2) (ends (accept_at kinds.Comma) (element_with (expr_at c.args.depth)) (element_adv c.args.depth) c.in_err-next.field-0.0
-    (each_after kinds.Comma element_outline c.more.rest.items) (ahead c.more.here) _ (many (accept_at kinds.Comma) (element_with (expr_at c.args.depth)) (ahead c.args.input))
+    (each_after kinds.Comma element_outline c.more.rest.items) (ahead c.args.tokens.now c.more.here) _ (many (accept_at kinds.Comma) (element_with (expr_at c.args.depth)) (ahead c.args.tokens.now c.args.input))
     (sym c.in-Some.ensures) c.in_err-next.ensures c.more.invariant)
 
 pub more_elements-returns : goal.more_elements-returns
 more_elements-returns t c =
     is_done (accept_at kinds.Comma) (element_with (expr_at c.args.depth)) (element_adv c.args.depth)
-    (each_after kinds.Comma element_outline c.more.rest.items) (ahead c.more.here) (many (accept_at kinds.Comma) (element_with (expr_at c.args.depth)) (ahead c.args.input))
-    (sym (sym (ap (skipped kinds.Comma) c.in_default.is) ∙ c.accept.ensures)) c.more.invariant
+    (each_after kinds.Comma element_outline c.more.rest.items) (ahead c.args.tokens.now c.more.here) (many (accept_at kinds.Comma) (element_with (expr_at c.args.depth)) (ahead c.args.tokens.now c.args.input))
+    (sym (sym (ap (skipped c.args.tokens.now kinds.Comma) c.in_default.is) ∙ c.accept.ensures)) c.more.invariant
 
 pub more_selectors-more-smaller : goal.more_selectors-more-smaller
 more_selectors-more-smaller t c =
-    smaller (begins selector_first) (selector_with (expr_at c.args.depth)) (selector_adv c.args.depth) (ahead c.more.here) _ _
-    (has_begun selector_first (ahead c.more.here) (sym c.begins_selector.ensures ∙ c.more-test.true)) c.in_ok-next.ensures
+    smaller (begins selector_first) (selector_with (expr_at c.args.depth)) (selector_adv c.args.depth) (ahead c.args.tokens.now c.more.here) _ _
+    (has_begun selector_first (ahead c.args.tokens.now c.more.here) (sym c.begins_selector.ensures ∙ c.more-test.true)) c.in_ok-next.ensures
 
 pub more_selectors-more-preserved : goal.more_selectors-more-preserved
 more_selectors-more-preserved t c =
     pushed (begins selector_first) (selector_with (expr_at c.args.depth)) (selector_adv c.args.depth)
-    selector_outline c.more.selectors.items _ c.in_ok-next.next (ahead c.more.here) ([], ahead c.more.here) _ _ c.in_ok-push.ensures.items
-    (has_begun selector_first (ahead c.more.here) (sym c.begins_selector.ensures ∙ c.more-test.true)) c.in_ok-next.ensures refl c.more.invariant
+    selector_outline c.more.selectors.items _ c.in_ok-next.next (ahead c.args.tokens.now c.more.here) ([], ahead c.args.tokens.now c.more.here) _ _ c.in_ok-push.ensures.items
+    (has_begun selector_first (ahead c.args.tokens.now c.more.here) (sym c.begins_selector.ensures ∙ c.more-test.true)) c.in_ok-next.ensures refl c.more.invariant
 
 pub more_selectors-returns-in_err-next : goal.more_selectors-returns-in_err-next
 more_selectors-returns-in_err-next t c =
     let p = err_from_is_err_and c.from_residual.result c.from_residual.ensures.1 in
     rw (p.1, p.2) (ends (begins selector_first) (selector_with (expr_at c.args.depth)) (selector_adv c.args.depth) c.in_err-next.field-0.0
-    (each selector_outline c.more.selectors.items) (ahead c.more.here) _ (many (begins selector_first) (selector_with (expr_at c.args.depth)) (ahead c.args.input))
-    (has_begun selector_first (ahead c.more.here) (sym c.begins_selector.ensures ∙ c.more-test.true)) c.in_err-next.ensures c.more.invariant)
+    (each selector_outline c.more.selectors.items) (ahead c.args.tokens.now c.more.here) _ (many (begins selector_first) (selector_with (expr_at c.args.depth)) (ahead c.args.tokens.now c.args.input))
+    (has_begun selector_first (ahead c.args.tokens.now c.more.here) (sym c.begins_selector.ensures ∙ c.more-test.true)) c.in_err-next.ensures c.more.invariant)
 
 pub more_selectors-returns : goal.more_selectors-returns
 more_selectors-returns t c =
     is_done (begins selector_first) (selector_with (expr_at c.args.depth)) (selector_adv c.args.depth)
-    (each selector_outline c.more.selectors.items) (ahead c.more.here) (many (begins selector_first) (selector_with (expr_at c.args.depth)) (ahead c.args.input))
-    (has_not_begun selector_first (ahead c.more.here) (sym c.begins_selector.ensures ∙ c.more-test.false)) c.more.invariant
+    (each selector_outline c.more.selectors.items) (ahead c.args.tokens.now c.more.here) (many (begins selector_first) (selector_with (expr_at c.args.depth)) (ahead c.args.tokens.now c.args.input))
+    (has_not_begun selector_first (ahead c.args.tokens.now c.more.here) (sym c.begins_selector.ensures ∙ c.more-test.false)) c.more.invariant

@@ -85,40 +85,40 @@ decreases-compared l = 16 * l.depth + 14
 
 abbrev pub invariant-more_expressions-more : goal.invariant-more_expressions-more
 invariant-more_expressions-more l =
-    with_front (each_after kinds.Comma expr_outline l.rest.items) (many (accept_at kinds.Comma) (expr_at l.depth) (ahead l.here)) ≡
-    many (accept_at kinds.Comma) (expr_at l.depth) (ahead l.fn.input)
+    with_front (each_after kinds.Comma expr_outline l.rest.items) (many (accept_at kinds.Comma) (expr_at l.depth) (ahead l.fn.tokens l.here)) ≡
+    many (accept_at kinds.Comma) (expr_at l.depth) (ahead l.fn.tokens l.fn.input)
 
 abbrev pub decreases-more_expressions-more : goal.decreases-more_expressions-more
-decreases-more_expressions-more l = length (ahead l.here)
+decreases-more_expressions-more l = length (ahead l.fn.tokens l.here)
 
 abbrev pub invariant-more_terms-more : goal.invariant-more_terms-more
 invariant-more_terms-more l =
-    with_front (each (λ p. word (add_kind p.0) ++ term_outline p.1) l.rest.items) (many add_start (term_at l.depth) (ahead l.here)) ≡
-    many add_start (term_at l.depth) (ahead l.fn.input)
+    with_front (each (λ p. word (add_kind p.0) ++ term_outline p.1) l.rest.items) (many add_start (term_at l.depth) (ahead l.fn.tokens l.here)) ≡
+    many add_start (term_at l.depth) (ahead l.fn.tokens l.fn.input)
 
 abbrev pub decreases-more_terms-more : goal.decreases-more_terms-more
-decreases-more_terms-more l = length (ahead l.here)
+decreases-more_terms-more l = length (ahead l.fn.tokens l.here)
 
 abbrev pub invariant-more_factors-more : goal.invariant-more_factors-more
 invariant-more_factors-more l =
-    with_front (each (λ p. word (mul_kind p.0) ++ factor_outline p.1) l.rest.items) (many mul_start (factor_at l.depth) (ahead l.here)) ≡
-    many mul_start (factor_at l.depth) (ahead l.fn.input)
+    with_front (each (λ p. word (mul_kind p.0) ++ factor_outline p.1) l.rest.items) (many mul_start (factor_at l.depth) (ahead l.fn.tokens l.here)) ≡
+    many mul_start (factor_at l.depth) (ahead l.fn.tokens l.fn.input)
 
 abbrev pub decreases-more_factors-more : goal.decreases-more_factors-more
-decreases-more_factors-more l = length (ahead l.here)
+decreases-more_factors-more l = length (ahead l.fn.tokens l.here)
 
 abbrev pub invariant-more_elements-more : goal.invariant-more_elements-more
 invariant-more_elements-more l =
-    with_front (each_after kinds.Comma element_outline l.rest.items) (many (accept_at kinds.Comma) (element_with (expr_at l.depth)) (ahead l.here)) ≡
-    many (accept_at kinds.Comma) (element_with (expr_at l.depth)) (ahead l.fn.input)
+    with_front (each_after kinds.Comma element_outline l.rest.items) (many (accept_at kinds.Comma) (element_with (expr_at l.depth)) (ahead l.fn.tokens l.here)) ≡
+    many (accept_at kinds.Comma) (element_with (expr_at l.depth)) (ahead l.fn.tokens l.fn.input)
 
 abbrev pub decreases-more_elements-more : goal.decreases-more_elements-more
-decreases-more_elements-more l = length (ahead l.here)
+decreases-more_elements-more l = length (ahead l.fn.tokens l.here)
 
 abbrev pub invariant-more_selectors-more : goal.invariant-more_selectors-more
 invariant-more_selectors-more l =
-    with_front (each selector_outline l.selectors.items) (many (begins selector_first) (selector_with (expr_at l.depth)) (ahead l.here)) ≡
-    many (begins selector_first) (selector_with (expr_at l.depth)) (ahead l.fn.input)
+    with_front (each selector_outline l.selectors.items) (many (begins selector_first) (selector_with (expr_at l.depth)) (ahead l.fn.tokens l.here)) ≡
+    many (begins selector_first) (selector_with (expr_at l.depth)) (ahead l.fn.tokens l.fn.input)
 
 abbrev pub decreases-more_selectors-more : goal.decreases-more_selectors-more
-decreases-more_selectors-more l = length (ahead l.here)
+decreases-more_selectors-more l = length (ahead l.fn.tokens l.here)

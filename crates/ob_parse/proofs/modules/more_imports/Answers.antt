@@ -15,20 +15,20 @@ advances : Advances (accept_at kinds.Comma) import_at
 advances = accept_advances zero kinds.Comma _ (import_sound zero)
 
 pub more-smaller : goal.more-smaller
-more-smaller c = smaller (accept_at kinds.Comma) import_at advances (ahead c.more.here) _ _ (sym c.in-Some.ensures) c.in_ok-next.ensures
+more-smaller c = smaller (accept_at kinds.Comma) import_at advances (ahead c.args.tokens.now c.more.here) _ _ (sym c.in-Some.ensures) c.in_ok-next.ensures
 
 pub more-preserved : goal.more-preserved
-more-preserved c = pushed_after (accept_at kinds.Comma) import_at advances import_outline kinds.Comma c.more.rest.items _ c.in_ok-next.next (ahead c.more.here) (ahead c.in-Some.after) _ _
+more-preserved c = pushed_after (accept_at kinds.Comma) import_at advances import_outline kinds.Comma c.more.rest.items _ c.in_ok-next.next (ahead c.args.tokens.now c.more.here) (ahead c.args.tokens.now c.in-Some.after) _ _
     c.in_ok-push.ensures.items (sym c.in-Some.ensures) c.in_ok-next.ensures refl c.more.invariant
 
 pub returns-in_err-next : goal.returns-in_err-next
 returns-in_err-next c =
     let p = err_from_is_err_and c.from_residual.result c.from_residual.ensures.1 in
     rw (p.1, p.2) (ends (accept_at kinds.Comma) import_at advances c.in_err-next.field-0.0
-    (each_after kinds.Comma import_outline c.more.rest.items) (ahead c.more.here) _ (many (accept_at kinds.Comma) import_at (ahead c.args.input))
+    (each_after kinds.Comma import_outline c.more.rest.items) (ahead c.args.tokens.now c.more.here) _ (many (accept_at kinds.Comma) import_at (ahead c.args.tokens.now c.args.input))
     (sym c.in-Some.ensures) c.in_err-next.ensures c.more.invariant)
 
 pub returns : goal.returns
-returns c = is_done (accept_at kinds.Comma) import_at advances (each_after kinds.Comma import_outline c.more.rest.items) (ahead c.more.here)
-    (many (accept_at kinds.Comma) import_at (ahead c.args.input))
-    (sym (sym (ap (skipped kinds.Comma) c.in_default.is) ∙ c.accept.ensures)) c.more.invariant
+returns c = is_done (accept_at kinds.Comma) import_at advances (each_after kinds.Comma import_outline c.more.rest.items) (ahead c.args.tokens.now c.more.here)
+    (many (accept_at kinds.Comma) import_at (ahead c.args.tokens.now c.args.input))
+    (sym (sym (ap (skipped c.args.tokens.now kinds.Comma) c.in_default.is) ∙ c.accept.ensures)) c.more.invariant

@@ -8,8 +8,8 @@ use Rattle.ob_parse.proofs.parameters.more_names.Given as goal
 
 abbrev pub invariant-more : goal.invariant-more
 invariant-more l =
-    with_front (each_after kinds.Comma declared l.rest.items) (many (accept_at kinds.Comma) (name_at declared) (ahead l.here))
-    ≡ many (accept_at kinds.Comma) (name_at declared) (ahead l.fn.input)
+    with_front (each_after kinds.Comma declared l.rest.items) (many (accept_at kinds.Comma) (name_at declared) (ahead l.fn.tokens l.here))
+    ≡ many (accept_at kinds.Comma) (name_at declared) (ahead l.fn.tokens l.fn.input)
 
 abbrev pub decreases-more : goal.decreases-more
-decreases-more l = length (ahead l.here)
+decreases-more l = length (ahead l.fn.tokens l.here)

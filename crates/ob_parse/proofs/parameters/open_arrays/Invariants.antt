@@ -8,9 +8,9 @@ use Rattle.ob_parse.proofs.parameters.open_arrays.Given as goal
 
 abbrev pub invariant-more : goal.invariant-more
 invariant-more l =
-    (with_front (times l.count (word kinds.Array ++ word kinds.Of)) (many (accept_at kinds.Array) (expect_at kinds.Of) (ahead l.here))
-    ≡ many (accept_at kinds.Array) (expect_at kinds.Of) (ahead l.fn.input))
-    × (l.count + length (ahead l.here) ≤ length (ahead l.fn.input))
+    (with_front (times l.count (word kinds.Array ++ word kinds.Of)) (many (accept_at kinds.Array) (expect_at kinds.Of) (ahead l.fn.tokens l.here))
+    ≡ many (accept_at kinds.Array) (expect_at kinds.Of) (ahead l.fn.tokens l.fn.input))
+    × (l.count + length (ahead l.fn.tokens l.here) ≤ length (ahead l.fn.tokens l.fn.input))
 
 abbrev pub decreases-more : goal.decreases-more
-decreases-more l = length (ahead l.here)
+decreases-more l = length (ahead l.fn.tokens l.here)

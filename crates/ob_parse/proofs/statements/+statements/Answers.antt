@@ -25,74 +25,74 @@ bar_adv d = accept_advances d kinds.Bar _ (case_sound d _ (block_at_sound d))
 
 pub more_statements-more-smaller : goal.more_statements-more-smaller
 more_statements-more-smaller t c =
-    smaller (accept_at kinds.Semicolon) (statement_at c.args.depth) (semicolon_adv c.args.depth) (ahead c.more.here) _ _
+    smaller (accept_at kinds.Semicolon) (statement_at c.args.depth) (semicolon_adv c.args.depth) (ahead c.args.tokens.now c.more.here) _ _
     (sym c.in-Some.ensures) c.in_ok-next.ensures
 
 pub more_statements-more-preserved : goal.more_statements-more-preserved
 more_statements-more-preserved t c =
     pushed_after (accept_at kinds.Semicolon) (statement_at c.args.depth) (semicolon_adv c.args.depth)
-    stmt_outline kinds.Semicolon c.more.rest.items _ c.into_inner.result (ahead c.more.here) (ahead c.in-Some.after) _ _ c.in_ok-push.ensures.items
+    stmt_outline kinds.Semicolon c.more.rest.items _ c.into_inner.result (ahead c.args.tokens.now c.more.here) (ahead c.args.tokens.now c.in-Some.after) _ _ c.in_ok-push.ensures.items
     (sym c.in-Some.ensures) c.in_ok-next.ensures (ap stmt_outline c.into_inner.ensures) c.more.invariant
 
 pub more_statements-returns-in_err-next : goal.more_statements-returns-in_err-next
 more_statements-returns-in_err-next t c =
     let p = err_from_is_err_and c.from_residual.result c.from_residual.ensures.1 in
     rw (p.1, p.2) (ends (accept_at kinds.Semicolon) (statement_at c.args.depth) (semicolon_adv c.args.depth) c.in_err-next.field-0.0
-    (each_after kinds.Semicolon stmt_outline c.more.rest.items) (ahead c.more.here) _ (many (accept_at kinds.Semicolon) (statement_at c.args.depth) (ahead c.args.input))
+    (each_after kinds.Semicolon stmt_outline c.more.rest.items) (ahead c.args.tokens.now c.more.here) _ (many (accept_at kinds.Semicolon) (statement_at c.args.depth) (ahead c.args.tokens.now c.args.input))
     (sym c.in-Some.ensures) c.in_err-next.ensures c.more.invariant)
 
 pub more_statements-returns : goal.more_statements-returns
 more_statements-returns t c =
     is_done (accept_at kinds.Semicolon) (statement_at c.args.depth) (semicolon_adv c.args.depth)
-    (each_after kinds.Semicolon stmt_outline c.more.rest.items) (ahead c.more.here) (many (accept_at kinds.Semicolon) (statement_at c.args.depth) (ahead c.args.input))
-    (sym c.accept.ensures ∙ ap (skipped kinds.Semicolon) c.in_default.is) c.more.invariant
+    (each_after kinds.Semicolon stmt_outline c.more.rest.items) (ahead c.args.tokens.now c.more.here) (many (accept_at kinds.Semicolon) (statement_at c.args.depth) (ahead c.args.tokens.now c.args.input))
+    (sym c.accept.ensures ∙ ap (skipped c.args.tokens.now kinds.Semicolon) c.in_default.is) c.more.invariant
 
 pub more_branches-more-smaller : goal.more_branches-more-smaller
 more_branches-more-smaller t c =
-    smaller (accept_at kinds.Elsif) (branch_with (expr_at c.args.depth) (block_at c.args.depth) c.args.keyword) (elsif_adv c.args.depth c.args.keyword) (ahead c.more.here) _ _
+    smaller (accept_at kinds.Elsif) (branch_with (expr_at c.args.depth) (block_at c.args.depth) c.args.keyword) (elsif_adv c.args.depth c.args.keyword) (ahead c.args.tokens.now c.more.here) _ _
     (sym c.in-Some.ensures) c.in_ok-next.ensures
 
 pub more_branches-more-preserved : goal.more_branches-more-preserved
 more_branches-more-preserved t c =
     pushed_after (accept_at kinds.Elsif) (branch_with (expr_at c.args.depth) (block_at c.args.depth) c.args.keyword) (elsif_adv c.args.depth c.args.keyword)
-    (λ b. branch_outline b c.args.keyword) kinds.Elsif c.more.rest.items _ c.into_inner.result (ahead c.more.here) (ahead c.in-Some.after) _ _ c.in_ok-push.ensures.items
+    (λ b. branch_outline b c.args.keyword) kinds.Elsif c.more.rest.items _ c.into_inner.result (ahead c.args.tokens.now c.more.here) (ahead c.args.tokens.now c.in-Some.after) _ _ c.in_ok-push.ensures.items
     (sym c.in-Some.ensures) c.in_ok-next.ensures (ap (λ b. branch_outline b c.args.keyword) c.into_inner.ensures) c.more.invariant
 
 pub more_branches-returns-in_err-next : goal.more_branches-returns-in_err-next
 more_branches-returns-in_err-next t c =
     let p = err_from_is_err_and c.from_residual.result c.from_residual.ensures.1 in
     rw (p.1, p.2) (ends (accept_at kinds.Elsif) (branch_with (expr_at c.args.depth) (block_at c.args.depth) c.args.keyword) (elsif_adv c.args.depth c.args.keyword) c.in_err-next.field-0.0
-    (each_after kinds.Elsif (λ b. branch_outline b c.args.keyword) c.more.rest.items) (ahead c.more.here) _
-    (many (accept_at kinds.Elsif) (branch_with (expr_at c.args.depth) (block_at c.args.depth) c.args.keyword) (ahead c.args.input))
+    (each_after kinds.Elsif (λ b. branch_outline b c.args.keyword) c.more.rest.items) (ahead c.args.tokens.now c.more.here) _
+    (many (accept_at kinds.Elsif) (branch_with (expr_at c.args.depth) (block_at c.args.depth) c.args.keyword) (ahead c.args.tokens.now c.args.input))
     (sym c.in-Some.ensures) c.in_err-next.ensures c.more.invariant)
 
 pub more_branches-returns : goal.more_branches-returns
 more_branches-returns t c =
     is_done (accept_at kinds.Elsif) (branch_with (expr_at c.args.depth) (block_at c.args.depth) c.args.keyword) (elsif_adv c.args.depth c.args.keyword)
-    (each_after kinds.Elsif (λ b. branch_outline b c.args.keyword) c.more.rest.items) (ahead c.more.here)
-    (many (accept_at kinds.Elsif) (branch_with (expr_at c.args.depth) (block_at c.args.depth) c.args.keyword) (ahead c.args.input))
-    (sym c.accept.ensures ∙ ap (skipped kinds.Elsif) c.in_default.is) c.more.invariant
+    (each_after kinds.Elsif (λ b. branch_outline b c.args.keyword) c.more.rest.items) (ahead c.args.tokens.now c.more.here)
+    (many (accept_at kinds.Elsif) (branch_with (expr_at c.args.depth) (block_at c.args.depth) c.args.keyword) (ahead c.args.tokens.now c.args.input))
+    (sym c.accept.ensures ∙ ap (skipped c.args.tokens.now kinds.Elsif) c.in_default.is) c.more.invariant
 
 pub more_cases-more-smaller : goal.more_cases-more-smaller
 more_cases-more-smaller t c =
-    smaller (accept_at kinds.Bar) (case_with (block_at c.args.depth)) (bar_adv c.args.depth) (ahead c.more.here) _ _
+    smaller (accept_at kinds.Bar) (case_with (block_at c.args.depth)) (bar_adv c.args.depth) (ahead c.args.tokens.now c.more.here) _ _
     (sym c.in-Some.ensures) c.in_ok-next.ensures
 
 pub more_cases-more-preserved : goal.more_cases-more-preserved
 more_cases-more-preserved t c =
     pushed_after (accept_at kinds.Bar) (case_with (block_at c.args.depth)) (bar_adv c.args.depth)
-    case_outline kinds.Bar c.more.rest.items _ c.into_inner.result (ahead c.more.here) (ahead c.in-Some.after) _ _ c.in_ok-push.ensures.items
+    case_outline kinds.Bar c.more.rest.items _ c.into_inner.result (ahead c.args.tokens.now c.more.here) (ahead c.args.tokens.now c.in-Some.after) _ _ c.in_ok-push.ensures.items
     (sym c.in-Some.ensures) c.in_ok-next.ensures (ap case_outline c.into_inner.ensures) c.more.invariant
 
 pub more_cases-returns-in_err-next : goal.more_cases-returns-in_err-next
 more_cases-returns-in_err-next t c =
     let p = err_from_is_err_and c.from_residual.result c.from_residual.ensures.1 in
     rw (p.1, p.2) (ends (accept_at kinds.Bar) (case_with (block_at c.args.depth)) (bar_adv c.args.depth) c.in_err-next.field-0.0
-    (each_after kinds.Bar case_outline c.more.rest.items) (ahead c.more.here) _ (many (accept_at kinds.Bar) (case_with (block_at c.args.depth)) (ahead c.args.input))
+    (each_after kinds.Bar case_outline c.more.rest.items) (ahead c.args.tokens.now c.more.here) _ (many (accept_at kinds.Bar) (case_with (block_at c.args.depth)) (ahead c.args.tokens.now c.args.input))
     (sym c.in-Some.ensures) c.in_err-next.ensures c.more.invariant)
 
 pub more_cases-returns : goal.more_cases-returns
 more_cases-returns t c =
     is_done (accept_at kinds.Bar) (case_with (block_at c.args.depth)) (bar_adv c.args.depth)
-    (each_after kinds.Bar case_outline c.more.rest.items) (ahead c.more.here) (many (accept_at kinds.Bar) (case_with (block_at c.args.depth)) (ahead c.args.input))
-    (sym c.accept.ensures ∙ ap (skipped kinds.Bar) c.in_default.is) c.more.invariant
+    (each_after kinds.Bar case_outline c.more.rest.items) (ahead c.args.tokens.now c.more.here) (many (accept_at kinds.Bar) (case_with (block_at c.args.depth)) (ahead c.args.tokens.now c.args.input))
+    (sym c.accept.ensures ∙ ap (skipped c.args.tokens.now kinds.Bar) c.in_default.is) c.more.invariant

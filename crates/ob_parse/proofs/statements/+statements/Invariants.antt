@@ -62,24 +62,24 @@ decreases-statement_within l = 16 * l.depth + 12
 
 abbrev pub invariant-more_statements-more : goal.invariant-more_statements-more
 invariant-more_statements-more l =
-    with_front (each_after kinds.Semicolon stmt_outline l.rest.items) (many (accept_at kinds.Semicolon) (statement_at l.depth) (ahead l.here))
-    ≡ many (accept_at kinds.Semicolon) (statement_at l.depth) (ahead l.fn.input)
+    with_front (each_after kinds.Semicolon stmt_outline l.rest.items) (many (accept_at kinds.Semicolon) (statement_at l.depth) (ahead l.fn.tokens l.here))
+    ≡ many (accept_at kinds.Semicolon) (statement_at l.depth) (ahead l.fn.tokens l.fn.input)
 
 abbrev pub decreases-more_statements-more : goal.decreases-more_statements-more
-decreases-more_statements-more l = length (ahead l.here)
+decreases-more_statements-more l = length (ahead l.fn.tokens l.here)
 
 abbrev pub invariant-more_branches-more : goal.invariant-more_branches-more
 invariant-more_branches-more l =
-    with_front (each_after kinds.Elsif (λ b. branch_outline b l.keyword) l.rest.items) (many (accept_at kinds.Elsif) (branch_with (expr_at l.depth) (block_at l.depth) l.keyword) (ahead l.here))
-    ≡ many (accept_at kinds.Elsif) (branch_with (expr_at l.depth) (block_at l.depth) l.keyword) (ahead l.fn.input)
+    with_front (each_after kinds.Elsif (λ b. branch_outline b l.keyword) l.rest.items) (many (accept_at kinds.Elsif) (branch_with (expr_at l.depth) (block_at l.depth) l.keyword) (ahead l.fn.tokens l.here))
+    ≡ many (accept_at kinds.Elsif) (branch_with (expr_at l.depth) (block_at l.depth) l.keyword) (ahead l.fn.tokens l.fn.input)
 
 abbrev pub decreases-more_branches-more : goal.decreases-more_branches-more
-decreases-more_branches-more l = length (ahead l.here)
+decreases-more_branches-more l = length (ahead l.fn.tokens l.here)
 
 abbrev pub invariant-more_cases-more : goal.invariant-more_cases-more
 invariant-more_cases-more l =
-    with_front (each_after kinds.Bar case_outline l.rest.items) (many (accept_at kinds.Bar) (case_with (block_at l.depth)) (ahead l.here))
-    ≡ many (accept_at kinds.Bar) (case_with (block_at l.depth)) (ahead l.fn.input)
+    with_front (each_after kinds.Bar case_outline l.rest.items) (many (accept_at kinds.Bar) (case_with (block_at l.depth)) (ahead l.fn.tokens l.here))
+    ≡ many (accept_at kinds.Bar) (case_with (block_at l.depth)) (ahead l.fn.tokens l.fn.input)
 
 abbrev pub decreases-more_cases-more : goal.decreases-more_cases-more
-decreases-more_cases-more l = length (ahead l.here)
+decreases-more_cases-more l = length (ahead l.fn.tokens l.here)

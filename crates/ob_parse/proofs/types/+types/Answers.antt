@@ -24,20 +24,20 @@ advances : (d : ℕ) → Advances field_start (field_at d)
 advances d = field_advances d _ (sound_flat d _ _ refl (var_sound d _ (type_at_sound d)))
 
 pub more_fields-more-smaller : goal.more_fields-more-smaller
-more_fields-more-smaller t c = smaller field_start (field_at c.args.depth) (advances c.args.depth) (ahead c.more.here) _ _ (sym c.in-Some.ensures) c.in_ok-next.ensures
+more_fields-more-smaller t c = smaller field_start (field_at c.args.depth) (advances c.args.depth) (ahead c.args.tokens.now c.more.here) _ _ (sym c.in-Some.ensures) c.in_ok-next.ensures
 
 pub more_fields-more-preserved : goal.more_fields-more-preserved
 more_fields-more-preserved t c = pushed_after field_start (field_at c.args.depth) (advances c.args.depth) field_outline kinds.Semicolon c.more.rest.items _ c.into_inner.result
-    (ahead c.more.here) (ahead c.in-Some.after) _ _ c.in_ok-push.ensures.items (sym c.in-Some.ensures) c.in_ok-next.ensures (ap field_outline c.into_inner.ensures) c.more.invariant
+    (ahead c.args.tokens.now c.more.here) (ahead c.args.tokens.now c.in-Some.after) _ _ c.in_ok-push.ensures.items (sym c.in-Some.ensures) c.in_ok-next.ensures (ap field_outline c.into_inner.ensures) c.more.invariant
 
 pub more_fields-returns-in_err-next : goal.more_fields-returns-in_err-next
 more_fields-returns-in_err-next t c =
     let p = err_from_is_err_and c.from_residual.result c.from_residual.ensures.1 in
     rw (p.1, p.2) (ends field_start (field_at c.args.depth) (advances c.args.depth) c.in_err-next.field-0.0
-    (each_after kinds.Semicolon field_outline c.more.rest.items) (ahead c.more.here) _
-    (many field_start (field_at c.args.depth) (ahead c.args.input)) (sym c.in-Some.ensures) c.in_err-next.ensures c.more.invariant)
+    (each_after kinds.Semicolon field_outline c.more.rest.items) (ahead c.args.tokens.now c.more.here) _
+    (many field_start (field_at c.args.depth) (ahead c.args.tokens.now c.args.input)) (sym c.in-Some.ensures) c.in_err-next.ensures c.more.invariant)
 
 pub more_fields-returns : goal.more_fields-returns
 more_fields-returns t c = is_done field_start (field_at c.args.depth) (advances c.args.depth)
-    (each_after kinds.Semicolon field_outline c.more.rest.items) (ahead c.more.here) (many field_start (field_at c.args.depth) (ahead c.args.input))
-    (sym (sym (ap (skipped kinds.Semicolon) c.in_default.is) ∙ c.next_fields.ensures)) c.more.invariant
+    (each_after kinds.Semicolon field_outline c.more.rest.items) (ahead c.args.tokens.now c.more.here) (many field_start (field_at c.args.depth) (ahead c.args.tokens.now c.args.input))
+    (sym (sym (ap (skipped c.args.tokens.now kinds.Semicolon) c.in_default.is) ∙ c.next_fields.ensures)) c.more.invariant

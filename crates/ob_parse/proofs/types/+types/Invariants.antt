@@ -32,11 +32,11 @@ decreases-record l = 16 * l.depth + 6
 
 abbrev pub invariant-more_fields-more : goal.invariant-more_fields-more
 invariant-more_fields-more l =
-    with_front (each_after kinds.Semicolon (λ v. construct constructs.FieldList (var_outline v)) l.rest.items) (many field_start (node constructs.FieldList (var_with (type_at l.depth))) (ahead l.here))
-    ≡ many field_start (node constructs.FieldList (var_with (type_at l.depth))) (ahead l.fn.input)
+    with_front (each_after kinds.Semicolon (λ v. construct constructs.FieldList (var_outline v)) l.rest.items) (many field_start (node constructs.FieldList (var_with (type_at l.depth))) (ahead l.fn.tokens l.here))
+    ≡ many field_start (node constructs.FieldList (var_with (type_at l.depth))) (ahead l.fn.tokens l.fn.input)
 
 abbrev pub decreases-more_fields-more : goal.decreases-more_fields-more
-decreases-more_fields-more l = length (ahead l.here)
+decreases-more_fields-more l = length (ahead l.fn.tokens l.here)
 
 abbrev pub decreases-type_within : goal.decreases-type_within
 decreases-type_within l = 16 * l.depth + 8

@@ -10,8 +10,8 @@ use Rattle.ob_parse.proofs.types.more_identdefs.Given as goal
 
 abbrev pub invariant-more : goal.invariant-more
 invariant-more l =
-    with_front (each_after kinds.Comma identdef_outline l.rest.items) (many (accept_at kinds.Comma) identdef_at (ahead l.here))
-    ≡ many (accept_at kinds.Comma) identdef_at (ahead l.fn.input)
+    with_front (each_after kinds.Comma identdef_outline l.rest.items) (many (accept_at kinds.Comma) identdef_at (ahead l.fn.tokens l.here))
+    ≡ many (accept_at kinds.Comma) identdef_at (ahead l.fn.tokens l.fn.input)
 
 abbrev pub decreases-more : goal.decreases-more
-decreases-more l = length (ahead l.here)
+decreases-more l = length (ahead l.fn.tokens l.here)

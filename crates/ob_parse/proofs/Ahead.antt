@@ -1,0 +1,37 @@
+-- The token that is next, and those after it.
+use Rattle.std.proofs.Common.{◌≡◌, ℕ, ◌+◌, ◌≤◌, ◌<◌, ◌^◌, List, ◌∷◌, length, map, drop, take, get_or, Option, Some, None, sym, ap, ◌∙◌, arith}
+use Rattle.std.proofs.lemmas.List.{drop_all, drop_more, get_or-take, length-take, take_all}
+use Rattle.ob_scan.specs.declared.token.Token.{Token}
+use Rattle.ob_tree.specs.declared.token.Leaf.{Leaf}
+use Rattle.ob_tree.specs.Leaves.{leaf_of, leaves}
+use Rattle.ob_parse.specs.declared.input.Input.{Input}
+use Rattle.ob_parse.specs.Front.{uncons}
+use Rattle.ob_parse.specs.Gives.{ahead, kind_of}
+
+abbrev front : ℕ → List Token → Option (Leaf × List Leaf)
+front n ts = uncons (leaves n (map kind_of ts))
+
+none_left : (ts : List Token) (at : ℕ) → length (take 4294967295 ts) ≤ at → front at (drop at (take 4294967295 ts)) ≡ None
+none_left ts at h = ap (front at) (drop_all at (take 4294967295 ts) h)
+
+pub past_end : (ts : List Token) (i : Input) → length ts ≤ i.at → uncons (ahead ts i) ≡ None
+unfolding ahead
+past_end ts i h = none_left ts i.at (omega (arith, length-take 4294967295 ts, h))
+
+pub past_numbers : (ts : List Token) (i : Input) → 4294967295 ≤ i.at → uncons (ahead ts i) ≡ None
+unfolding ahead
+past_numbers ts i h = none_left ts i.at (omega (arith, length-take 4294967295 ts, h))
+
+pub next_ahead : (ts : List Token) (i : Input) (t : Token) (n : ℕ) → i.at < length ts → t ≡ get_or ts i.at t → n ≡ i.at + 1 → n < 4294967296 →
+    uncons (ahead ts i) ≡ Some (leaf_of i.at t.kind, ahead ts (record { at = n }))
+unfolding ahead
+next_ahead ts i t n placed e m lt =
+    let some = take 4294967295 ts in
+    let within : i.at < length some = omega (arith, length-take 4294967295 ts, placed, m, lt) in
+    let here : get_or some i.at t ≡ t = get_or-take 4294967295 ts i.at t (omega (arith, m, lt)) ∙ sym e in
+    let parts : drop i.at some ≡ t ∷ drop (i.at + 1) some = drop_more some i.at t within ∙ ap (λ (x : Token). x ∷ drop (i.at + 1) some) here in
+    rw m (ap (front i.at) parts)
+
+pub all_ahead : (ts : List Token) → length ts < 2 ^ 32 → ahead ts (record { at = 0 }) ≡ leaves 0 (map kind_of ts)
+unfolding ahead
+all_ahead ts few = ap (λ (us : List Token). leaves 0 (map kind_of us)) (take_all 4294967295 ts (omega (arith, few)))
