@@ -50,16 +50,28 @@ fn word_of_four(text: &[u8]) -> Option<Kind>
 fn word_of_five(text: &[u8]) -> Option<Kind>
     ensures { result ≡ word_of_five text.now }
 {
-    match text {
-        b"ARRAY" => Some(Kind::Array),
-        b"BEGIN" => Some(Kind::Begin),
-        b"CONST" => Some(Kind::Const),
-        b"ELSIF" => Some(Kind::Elsif),
-        b"FALSE" => Some(Kind::False),
-        b"UNTIL" => Some(Kind::Until),
-        b"WHILE" => Some(Kind::While),
-        _ => None,
+    if text == b"ARRAY".as_slice() {
+        return Some(Kind::Array);
     }
+    if text == b"BEGIN".as_slice() {
+        return Some(Kind::Begin);
+    }
+    if text == b"CONST".as_slice() {
+        return Some(Kind::Const);
+    }
+    if text == b"ELSIF".as_slice() {
+        return Some(Kind::Elsif);
+    }
+    if text == b"FALSE".as_slice() {
+        return Some(Kind::False);
+    }
+    if text == b"UNTIL".as_slice() {
+        return Some(Kind::Until);
+    }
+    if text == b"WHILE".as_slice() {
+        return Some(Kind::While);
+    }
+    None
 }
 
 fn long_word_of(text: &[u8]) -> Option<Kind>
