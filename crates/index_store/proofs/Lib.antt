@@ -1,0 +1,4 @@
+pub mod TableLemmas
+pub mod StoreLemmas
+pub mod AskedLemmas
+pub mod OneSymbol

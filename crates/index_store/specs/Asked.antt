@@ -1,0 +1,38 @@
+-- What the private functions of a store give to a question.
+use Rattle.std.specs.Prelude.{Bool, true, false, not, ◌&&◌, ◌||◌, ℕ, List, [], ◌∷◌, fold, Option, Some, None, if◌then◌else◌}
+use Rattle.std.specs.Str.{bytes_eq}
+use Rattle.scip_index.specs.Plain.{PlainIndex}
+use Rattle.index_store.specs.declared.place.Position.{Position}
+use Rattle.index_store.specs.declared.row.Covering.{Covering}
+use Rattle.index_store.specs.declared.span.Span.{Span}
+use Rattle.index_store.specs.Queries.{PlainPlace, definitions, references}
+use Rattle.index_store.specs.Spans.{is_in, is_nearer}
+use Rattle.index_store.specs.Stores.{Mentioned}
+
+-- the nearer of two that cover the position; of two that are equally near the one that came first
+abbrev pub nearer_of : {A : Type 0} → (A → Span) → Option A → A → A
+nearer_of span None row = row
+nearer_of span (Some other) row = if is_nearer (span row) (span other) then row else other
+
+-- the nearest so far, and one more
+abbrev pub nearer : {A : Type 0} → (A → Span) → Position → Option A → A → Option A
+nearer span at best row = if is_in at (span row) then Some (nearer_of span best row) else best
+
+abbrev pub covering_span : Covering → Span
+covering_span c = c.span
+
+-- the nearest of the rows
+abbrev pub nearest : List Covering → Position → Option Covering
+nearest rows at = fold (nearer covering_span at) None rows
+
+-- definitions or references are asked for, of all paths or of one
+abbrev pub is_asked : Bool → Bool → List ℕ → Mentioned → Bool
+is_asked defines local path m = (if defines then m.defines else not m.defines) && (not local || bytes_eq m.path path)
+
+abbrev pub place_asked : Bool → Bool → List ℕ → Mentioned → List PlainPlace
+place_asked defines local path m = if is_asked defines local path m then record { path = m.path; span = m.span } ∷ [] else []
+
+-- the definitions of a symbol, or else its references
+abbrev pub places_wanted : Bool → PlainIndex → List ℕ → List ℕ → List PlainPlace
+places_wanted true index path symbol = definitions index path symbol
+places_wanted false index path symbol = references index path symbol

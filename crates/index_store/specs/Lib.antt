@@ -1,0 +1,5 @@
+pub mod Spans
+pub mod Tables
+pub mod Queries
+pub mod Stores
+pub mod Asked

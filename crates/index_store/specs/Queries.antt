@@ -1,0 +1,120 @@
+-- Questions to the list of all occurrences of all documents, in the index's order.
+use Rattle.std.specs.Prelude.{◌≡◌, ◌≢◌, ℕ, ◌%◌, ◌==◌, ◌&&◌, ◌||◌, Bool, true, false, not, nat_eq, List, [], ◌∷◌, ◌++◌, map, filter, Option, Some, None, Result, Ok, Err, Contains}
+use Rattle.std.specs.List.{flat_map, starts_with}
+use Rattle.std.specs.Int.{w32, cast_unsigned}
+use Rattle.std.specs.Str.{bytes_eq}
+use Rattle.std.specs.String.{string_bytes}
+use Rattle.scip_index.specs.Plain.{PlainOccurrence, PlainDocument, PlainIndex}
+use Rattle.index_store.specs.declared.fault.StoreFault.{StoreFault}
+use Rattle.index_store.specs.declared.fault.StoreFault.TheVariants as faults
+use Rattle.index_store.specs.declared.place.Place.{Place}
+use Rattle.index_store.specs.declared.place.Position.{Position}
+use Rattle.index_store.specs.declared.span.Span.{Span}
+use Rattle.index_store.specs.Spans.{is_in, is_nearer, span_of}
+
+-- an occurrence with its document's path
+pub record Found : Type 0 where
+  pub path : List ℕ
+  pub occurrence : PlainOccurrence
+
+abbrev pub found_at : List ℕ → PlainOccurrence → Found
+found_at path occurrence = record { path = path; occurrence = occurrence }
+
+abbrev pub found_in : PlainDocument → List Found
+found_in document = map (found_at document.relative_path) document.occurrences
+
+-- all occurrences of all documents
+abbrev pub all_found : PlainIndex → List Found
+all_found index = flat_map found_in index.documents
+
+-- some document has this path
+abbrev pub HasPath : PlainIndex → List ℕ → Type 0
+HasPath index path = Contains (map (λ document. document.relative_path) index.documents) path
+
+-- what is answered, with the value seen so
+abbrev pub answered : {A B E : Type 0} → (A → B) → Result A E → Result B E
+answered seen (Ok x) = Ok (seen x)
+answered seen (Err e) = Err e
+
+-- ---- what stands at a position
+
+-- the occurrence has a symbol, is in this document, and the position is in its span
+pub record Covers (path : List ℕ) (at : Position) (f : Found) (span : Span) : Type 0 where
+  pub here : f.path ≡ path
+  pub some : f.occurrence.symbol ≢ []
+  pub placed : span_of f.occurrence.range ≡ Some span
+  pub inside : is_in at span ≡ true
+
+-- of the covering ones the one that no other is nearer than, and the first of those
+pub record IsNearest (found : List Found) (path : List ℕ) (at : Position) (f : Found) (span : Span) : Type 0 where
+  pub before : List Found
+  pub after : List Found
+  pub among : found ≡ before ++ f ∷ after
+  pub covers : Covers path at f span
+  pub first : (g : Found) (other : Span) → Contains before g → Covers path at g other → is_nearer span other ≡ true
+  pub latest : (g : Found) (other : Span) → Contains after g → Covers path at g other → is_nearer other span ≡ false
+
+-- none covers the position
+abbrev pub NoneCovers : List Found → List ℕ → Position → Type 0
+NoneCovers found path at = (g : Found) (other : Span) → Contains found g → Covers path at g other → ⊥
+
+-- the symbol of the nearest one, or none where none covers
+abbrev pub IsSymbolAt : List Found → List ℕ → Position → Option (List ℕ) → Type 0
+IsSymbolAt found path at None = NoneCovers found path at
+IsSymbolAt found path at (Some symbol) = (f : Found) × (span : Span) × IsNearest found path at f span × (f.occurrence.symbol ≡ symbol)
+
+-- what a store answers, which no refusal of memory keeps from it
+abbrev pub IsSymbolAnswer : PlainIndex → List ℕ → Position → Result (Option (List ℕ)) StoreFault → Type 0
+IsSymbolAnswer index path at (Ok symbol) = HasPath index path × IsSymbolAt (all_found index) path at symbol
+IsSymbolAnswer index path at (Err faults.NoDocument) = HasPath index path → ⊥
+IsSymbolAnswer index path at (Err faults.Memory) = ⊥
+
+-- ---- where a symbol is defined and used
+
+-- the bytes of "local "
+abbrev pub local_front : List ℕ
+local_front = 108 ∷ 111 ∷ 99 ∷ 97 ∷ 108 ∷ 32 ∷ []
+
+abbrev pub is_local : List ℕ → Bool
+is_local symbol = starts_with nat_eq symbol local_front
+
+-- a local symbol is sought in the documents of its path alone
+abbrev pub is_sought : List ℕ → List ℕ → Found → Bool
+is_sought path symbol f = bytes_eq f.occurrence.symbol symbol && (not (is_local symbol) || bytes_eq f.path path)
+
+-- the lowest bit of the roles is set
+abbrev pub is_definition : PlainOccurrence → Bool
+is_definition o = cast_unsigned w32 o.symbol_roles % 2 == 1
+
+-- a path with a span of it
+pub record PlainPlace : Type 0 where
+  pub path : List ℕ
+  pub span : Span
+
+abbrev pub plain_place : Place → PlainPlace
+plain_place p = record { path = string_bytes p.path; span = record { start = p.start; end = p.end } }
+
+-- the place of an occurrence, where its range is one
+abbrev pub place_given : List ℕ → Option Span → List PlainPlace
+place_given path None = []
+place_given path (Some span) = record { path = path; span = span } ∷ []
+
+abbrev pub place_of : Found → List PlainPlace
+place_of f = place_given f.path (span_of f.occurrence.range)
+
+abbrev pub places_of : List Found → List PlainPlace
+places_of found = flat_map place_of found
+
+-- the places where the symbol is defined, in the index's order
+abbrev pub definitions : PlainIndex → List ℕ → List ℕ → List PlainPlace
+definitions index path symbol = places_of (filter (λ f. is_sought path symbol f && is_definition f.occurrence) (all_found index))
+
+-- the places where it occurs and is not defined
+abbrev pub references : PlainIndex → List ℕ → List ℕ → List PlainPlace
+references index path symbol = places_of (filter (λ f. is_sought path symbol f && not (is_definition f.occurrence)) (all_found index))
+
+-- what a store answers, unless memory runs out
+abbrev pub ArePlacesAnswer : PlainIndex → List ℕ → List PlainPlace → Result (List PlainPlace) StoreFault → Type 0
+ArePlacesAnswer index path wanted (Ok places) = HasPath index path × (places ≡ wanted)
+ArePlacesAnswer index path wanted (Err faults.NoDocument) = HasPath index path → ⊥
+ArePlacesAnswer index path wanted (Err faults.Memory) = Unit {0}

@@ -1,0 +1,93 @@
+-- What the tables of a store keep of documents with these paths and of these occurrences.
+use Rattle.std.specs.Prelude.{◌≡◌, ◌↔◌, ℕ, ◌<◌, Bool, List, [], ◌∷◌, length, map, Option, Some, None, All, Contains, if◌then◌else◌}
+use Rattle.std.specs.List.{flat_map}
+use Rattle.std.specs.Str.{bytes_eq}
+use Rattle.scip_index.specs.Plain.{PlainDocument, PlainIndex}
+use Rattle.index_store.specs.declared.row.Covering.{Covering}
+use Rattle.index_store.specs.declared.row.Mention.{Mention}
+use Rattle.index_store.specs.declared.span.Span.{Span}
+use Rattle.index_store.specs.declared.table.Table.{Table}
+use Rattle.index_store.specs.declared.draft.Draft.{Draft}
+use Rattle.index_store.specs.Queries.{Found, all_found, is_definition}
+use Rattle.index_store.specs.Spans.{span_of}
+use Rattle.index_store.specs.Tables.{rows_in, rows_under, text_at, texts_in}
+
+-- ---- what is kept of an occurrence
+
+-- a span with a symbol that isn't empty
+abbrev pub covering_given : Option Span → List ℕ → List (Span × List ℕ)
+covering_given None symbol = []
+covering_given (Some span) [] = []
+covering_given (Some span) (b ∷ symbol) = (span, b ∷ symbol) ∷ []
+
+-- in a document of this path
+abbrev pub covering_in : List ℕ → Found → List (Span × List ℕ)
+covering_in path f = if bytes_eq path f.path then covering_given (span_of f.occurrence.range) f.occurrence.symbol else []
+
+-- where a symbol stands, and whether it is defined there
+pub record Mentioned : Type 0 where
+  pub path : List ℕ
+  pub span : Span
+  pub defines : Bool
+
+abbrev pub mention_given : Option Span → List ℕ → Bool → List Mentioned
+mention_given None path defines = []
+mention_given (Some span) path defines = record { path = path; span = span; defines = defines } ∷ []
+
+-- of this symbol
+abbrev pub mention_of : List ℕ → Found → List Mentioned
+mention_of symbol f = if bytes_eq symbol f.occurrence.symbol then mention_given (span_of f.occurrence.range) f.path (is_definition f.occurrence) else []
+
+-- ---- tables
+
+-- the paths with their coverings, and the symbols with their mentions
+pub record Tables : Type 0 where
+  pub paths : List (List ℕ)
+  pub coverings : List (List Covering)
+  pub symbols : List (List ℕ)
+  pub mentions : List (List Mention)
+
+abbrev pub tables_in : Table Covering → Table Mention → Tables
+tables_in by_path by_symbol = record { paths = texts_in by_path; coverings = rows_in by_path; symbols = texts_in by_symbol; mentions = rows_in by_symbol }
+
+abbrev pub tables_of : Draft → Tables
+tables_of d = tables_in d.by_path d.by_symbol
+
+-- each text has rows
+pub record AreWhole (t : Tables) : Type 0 where
+  pub of_paths : length t.paths ≡ length t.coverings
+  pub of_symbols : length t.symbols ≡ length t.mentions
+
+abbrev pub said_covering : List (List ℕ) → Covering → Span × List ℕ
+said_covering symbols c = (c.span, text_at symbols c.symbol)
+
+abbrev pub said_mention : List (List ℕ) → Mention → Mentioned
+said_mention paths m = record { path = text_at paths m.path; span = m.span; defines = m.defines }
+
+abbrev pub coverings_under : Tables → List ℕ → List Covering
+coverings_under t path = rows_under t.paths t.coverings path
+
+abbrev pub mentions_under : Tables → List ℕ → List Mention
+mentions_under t symbol = rows_under t.symbols t.mentions symbol
+
+-- the paths are those of the documents, under a path stand the spans that have a symbol there, and under a symbol its places
+pub record Keeps (paths : List (List ℕ)) (found : List Found) (t : Tables) : Type 0 where
+  pub named : (path : List ℕ) → Contains t.paths path ↔ Contains paths path
+  pub coverings : (path : List ℕ) → map (said_covering t.symbols) (coverings_under t path) ≡ flat_map (covering_in path) found
+  pub mentions : (symbol : List ℕ) → map (said_mention t.paths) (mentions_under t symbol) ≡ flat_map (mention_of symbol) found
+  pub symbols_there : (path : List ℕ) → All (λ c. c.symbol < length t.symbols) (coverings_under t path)
+  pub paths_there : (symbol : List ℕ) → All (λ m. m.path < length t.paths) (mentions_under t symbol)
+
+abbrev pub paths_of : List PlainDocument → List (List ℕ)
+paths_of documents = map (λ document. document.relative_path) documents
+
+-- the tables are those of an index
+abbrev pub IsStoreOf : PlainIndex → Tables → Type 0
+IsStoreOf index t = Keeps (paths_of index.documents) (all_found index) t
+
+-- what every store keeps: its tables are whole, and those of some documents
+pub record IsSound (t : Tables) : Type 0 where
+  pub whole : AreWhole t
+  pub paths : List (List ℕ)
+  pub found : List Found
+  pub keeps : Keeps paths found t

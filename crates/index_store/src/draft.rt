@@ -1,0 +1,84 @@
+//! The tables of a store, while they are made of an index.
+ghost use Rattle.std.specs.Prelude.{◌≡◌, ◌<◌, ◌++◌, [], ◌∷◌, Some, length, List, ℕ, IfOk, OnOk};
+ghost use Rattle.scip_index.specs.Plain.{plain_document, plain_index, plain_occurrence};
+ghost use Rattle.index_store.specs.Queries.{Found, found_at, found_in, is_definition};
+ghost use Rattle.index_store.specs.Stores.{tables_of, AreWhole, IsStoreOf, Keeps};
+ghost use Rattle.index_store.specs.Tables.{number_of, texts_in};
+
+use crate::row::{Covering, Mention};
+use crate::span::span_of;
+use crate::table::Table;
+use scip_index::{Document, Index, Occurrence};
+use std::alloc::{AllocError, Global};
+
+/// The occurrences so far that are places, by their paths and by their symbols.
+#[derive(Drop)]
+pub(crate) struct Draft {
+    pub(crate) by_path: Table<Covering>,
+    pub(crate) by_symbol: Table<Mention>,
+}
+
+/// Whether the lowest bit of the roles is set.
+fn is_definition(occurrence: &Occurrence) -> bool
+    ensures { result ≡ is_definition (plain_occurrence occurrence.now) }
+{
+    occurrence.symbol_roles.cast_unsigned() % 2 == 1
+}
+
+impl Draft {
+    /// Keeps an occurrence of the document whose path has this number.
+    fn add(&mut self, alloc: Global, path: usize, occurrence: &Occurrence) -> Result<(), AllocError>
+        requires whole { AreWhole (tables_of self.old) }
+        requires within { path < length (texts_in self.old.by_path) }
+        ensures whole { OnOk result (AreWhole (tables_of self.new)) }
+        ensures paths { texts_in self.new.by_path ≡ texts_in self.old.by_path }
+        ensures kept { (paths : List (List ℕ)) (found : List Found) (name : List ℕ) → Keeps paths found (tables_of self.old) → number_of (texts_in self.old.by_path) name ≡ Some path → OnOk result (Keeps paths (found ++ found_at name (plain_occurrence occurrence.now) ∷ []) (tables_of self.new)) }
+    {
+        let Some(span) = span_of(occurrence.range.as_slice()) else {
+            return Ok(());
+        };
+        let defines = is_definition(occurrence);
+        let text = occurrence.symbol.as_str();
+        let symbol = self.by_symbol.enter(alloc, text)?;
+        self.by_symbol.push(
+            symbol,
+            Mention {
+                path,
+                span,
+                defines,
+            },
+        )?;
+        if !text.is_empty() {
+            self.by_path.push(path, Covering { span, symbol })?;
+        }
+        Ok(())
+    }
+
+    /// Keeps the occurrences of a document.
+    fn add_document(&mut self, alloc: Global, document: &Document) -> Result<(), AllocError>
+        requires whole { AreWhole (tables_of self.old) }
+        ensures whole { OnOk result (AreWhole (tables_of self.new)) }
+        ensures kept { (paths : List (List ℕ)) (found : List Found) → Keeps paths found (tables_of self.old) → OnOk result (Keeps (paths ++ (plain_document document.now).relative_path ∷ []) (found ++ found_in (plain_document document.now)) (tables_of self.new)) }
+    {
+        let path = self.by_path.enter(alloc, document.relative_path.as_str())?;
+        for occurrence in &document.occurrences {
+            self.add(alloc, path, occurrence)?;
+        }
+        Ok(())
+    }
+}
+
+/// The tables of an index.
+pub(crate) fn draft_of(alloc: Global, index: &Index) -> Result<Draft, AllocError>
+    ensures whole { IfOk result (λ draft. AreWhole (tables_of draft)) }
+    ensures kept { IfOk result (λ draft. IsStoreOf (plain_index index.now) (tables_of draft)) }
+{
+    let mut draft = Draft {
+        by_path: Table::new(alloc),
+        by_symbol: Table::new(alloc),
+    };
+    for document in &index.documents {
+        draft.add_document(alloc, document)?;
+    }
+    Ok(draft)
+}

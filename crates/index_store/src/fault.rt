@@ -1,0 +1,26 @@
+//! Why a store gives no answer.
+
+use std::alloc::AllocError;
+use thiserror::Error;
+
+/// Why a store can't be made, or a question to it has no answer.
+#[derive(Clone, Copy, Debug, PartialEq, Eq, Error)]
+pub enum StoreFault {
+    /// No document has the path.
+    #[error("no document has this path")]
+    NoDocument,
+    /// A growth of memory was refused.
+    #[error("memory ran out")]
+    Memory,
+}
+
+impl From<AllocError> for StoreFault {
+    ghost use Rattle.std.specs.Prelude.{◌≡◌};
+    ghost use Rattle.index_store.specs.declared.fault.StoreFault.TheVariants.{Memory};
+
+    ghost from_gives = { λ _ fault. fault ≡ Memory };
+
+    fn from(_error: AllocError) -> StoreFault {
+        StoreFault::Memory
+    }
+}

@@ -1,0 +1,19 @@
+//! Questions to an index: what a position means, and where that is defined and used.
+//! Stands on `scip_index`, with `indexmap` for its tables and `thiserror` for its fault.
+//! Its contract: the answers are exactly those that all occurrences of the index give, in its order, or no document has the path.
+#![tactic(auto)]
+
+mod draft;
+mod fault;
+pub mod laws;
+mod nearest;
+mod place;
+mod places;
+mod row;
+mod span;
+mod store;
+mod table;
+
+pub use fault::StoreFault;
+pub use place::{Place, Position};
+pub use store::Store;

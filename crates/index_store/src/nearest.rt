@@ -1,0 +1,31 @@
+//! The nearest occurrence at a position.
+ghost use Rattle.std.specs.Prelude.{◌≡◌};
+ghost use Rattle.index_store.specs.Asked.{covering_span, nearer, nearest};
+
+use crate::Position;
+use crate::row::Covering;
+use crate::span::{is_in, is_nearer};
+
+/// The nearest so far, and one more.
+fn nearer(at: Position, best: Option<Covering>, row: Covering) -> Option<Covering>
+    ensures { result ≡ nearer covering_span at best row }
+{
+    if !is_in(at, row.span) {
+        return best;
+    }
+    match best {
+        Some(other) if !is_nearer(row.span, other.span) => Some(other),
+        _ => Some(row),
+    }
+}
+
+/// The nearest of the rows in whose spans the position is.
+pub(crate) fn nearest(rows: &[Covering], at: Position) -> Option<Covering>
+    ensures { result ≡ nearest rows.now at }
+{
+    let mut best = None;
+    for row in rows {
+        best = nearer(at, best, *row);
+    }
+    best
+}

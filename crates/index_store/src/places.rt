@@ -1,0 +1,66 @@
+//! The places of a symbol.
+ghost use Rattle.std.specs.Prelude.{◌≡◌, ◌<◌, All, IfOk, length, map};
+ghost use Rattle.std.specs.List.{flat_map};
+ghost use Rattle.index_store.specs.Asked.{is_asked, place_asked};
+ghost use Rattle.index_store.specs.Queries.{is_local, plain_place};
+ghost use Rattle.index_store.specs.Stores.{said_mention};
+ghost use Rattle.index_store.specs.Tables.{text_at, texts_in};
+
+use crate::Place;
+use crate::row::{Covering, Mention};
+use crate::table::Table;
+use std::alloc::{AllocError, Global};
+
+/// What is asked of a symbol: where it is defined, or else where it is used, and in which documents.
+#[derive(Clone, Copy)]
+pub(crate) struct Asked<'a> {
+    pub(crate) defines: bool,
+    /// Whether the documents of the path alone are looked at.
+    pub(crate) local: bool,
+    pub(crate) path: &'a str,
+}
+
+pub(crate) fn is_local(symbol: &str) -> bool
+    ensures { result ≡ is_local symbol.now }
+{
+    symbol.as_bytes().starts_with(b"local ")
+}
+
+fn is_asked(asked: Asked, paths: &Table<Covering>, mention: Mention) -> bool
+    requires there { mention.path < length (texts_in paths.now) }
+    ensures { result ≡ is_asked asked.entry.defines asked.entry.local asked.entry.path.now (said_mention (texts_in paths.now) mention) }
+{
+    mention.defines == asked.defines && (!asked.local || paths.text(mention.path) == asked.path)
+}
+
+fn place_of(alloc: Global, paths: &Table<Covering>, mention: Mention) -> Result<Place, AllocError>
+    requires there { mention.path < length (texts_in paths.now) }
+    ensures path { IfOk result (λ place. (plain_place place).path ≡ text_at (texts_in paths.now) mention.path) }
+    ensures span { IfOk result (λ place. (plain_place place).span ≡ mention.span) }
+{
+    let path = String::from_str(alloc, paths.text(mention.path))?;
+    Ok(Place {
+        path,
+        start: mention.span.start,
+        end: mention.span.end,
+    })
+}
+
+/// The places of the mentions that are asked for, in their order.
+pub(crate) fn places_asked(
+    alloc: Global,
+    asked: Asked,
+    paths: &Table<Covering>,
+    mentions: &[Mention],
+) -> Result<Vec<Place>, AllocError>
+    requires there { All (λ m. m.path < length (texts_in paths.now)) mentions.now }
+    ensures { IfOk result (λ places. map plain_place places.items ≡ flat_map (place_asked asked.entry.defines asked.entry.local asked.entry.path.now) (map (said_mention (texts_in paths.now)) mentions.now)) }
+{
+    let mut places = Vec::new(alloc);
+    for mention in mentions {
+        if is_asked(asked, paths, *mention) {
+            places.push(place_of(alloc, paths, *mention)?)?;
+        }
+    }
+    Ok(places)
+}

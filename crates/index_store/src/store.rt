@@ -1,0 +1,125 @@
+//! Stores of indexes, and the questions to them.
+ghost use Rattle.std.specs.Prelude.{◌≡◌, IfErr, IfOk, map, option_map};
+ghost use Rattle.std.specs.List.{flat_map};
+ghost use Rattle.scip_index.specs.Plain.{plain_index, PlainIndex};
+ghost use Rattle.index_store.specs.declared.fault.StoreFault.TheVariants.{Memory};
+ghost use Rattle.index_store.specs.Asked.{place_asked, places_wanted};
+ghost use Rattle.index_store.specs.Queries.{answered, definitions, is_local, plain_place, references, ArePlacesAnswer, IsSymbolAnswer};
+ghost use Rattle.index_store.specs.Stores.{mentions_under, said_mention, IsStoreOf};
+
+use crate::draft::draft_of;
+use crate::nearest::nearest;
+use crate::places::{Asked, is_local, places_asked};
+use crate::row::{Covering, Mention};
+use crate::table::Table;
+use crate::{Place, Position, StoreFault};
+use scip_index::Index;
+use std::alloc::{AllocError, Global};
+use std::marker::Model;
+
+/// An index by its paths and its symbols: the occurrences that are places.
+#[derive(Drop)]
+pub struct Store {
+    by_path: Table<Covering>,
+    by_symbol: Table<Mention>,
+}
+
+impl Model for Store {
+    ghost use Rattle.index_store.specs.Stores.{tables_in, IsSound, Tables};
+
+    ghost Value = { Tables };
+
+    ghost view = { λ s. tables_in s.by_path s.by_symbol };
+
+    ghost invariant = { λ s. IsSound (tables_in s.by_path s.by_symbol) };
+}
+
+impl Store {
+    /// The store of an index, which is given up. Its one refusal is `Memory`.
+    pub fn new(alloc: Global, index: Index) -> Result<Store, StoreFault>
+        ensures exact { IfOk result (IsStoreOf (plain_index index)) }
+        ensures memory { IfErr result (λ fault. fault ≡ Memory) }
+    {
+        let draft = draft_of(alloc, &index)?;
+        Ok(Store {
+            by_path: draft.by_path,
+            by_symbol: draft.by_symbol,
+        })
+    }
+
+    /// The symbol of the occurrence at a position of a document: of those that cover it the one that starts last, then the
+    /// one that ends first, then the first; or none where none does. Its one refusal is `NoDocument`.
+    pub fn symbol_at(&self, path: &str, at: Position) -> Result<Option<&str>, StoreFault>
+        ensures exact { (index : PlainIndex) → IsStoreOf index self.now → IsSymbolAnswer index path.now at (answered (option_map (λ symbol. symbol.now)) result) }
+    {
+        match self.by_path.number_of(path) {
+            None => Err(StoreFault::NoDocument),
+            Some(number) => match nearest(self.by_path.rows(number), at) {
+                None => Ok(None),
+                Some(covering) => Ok(Some(self.by_symbol.text(covering.symbol))),
+            },
+        }
+    }
+
+    fn places_of(
+        &self,
+        alloc: Global,
+        path: &str,
+        symbol: &str,
+        defines: bool,
+    ) -> Result<Vec<Place>, AllocError>
+        ensures { IfOk result (λ places. map plain_place places.items ≡ flat_map (place_asked defines (is_local symbol.now) path.now) (map (said_mention self.now.paths) (mentions_under self.now symbol.now))) }
+    {
+        let asked = Asked {
+            defines,
+            local: is_local(symbol),
+            path,
+        };
+        match self.by_symbol.number_of(symbol) {
+            None => Ok(Vec::new(alloc)),
+            Some(number) => {
+                places_asked(alloc, asked, &self.by_path, self.by_symbol.rows(number))
+            }
+        }
+    }
+
+    fn places(
+        &self,
+        alloc: Global,
+        path: &str,
+        symbol: &str,
+        defines: bool,
+    ) -> Result<Vec<Place>, StoreFault>
+        ensures exact { (index : PlainIndex) → IsStoreOf index self.now → ArePlacesAnswer index path.now (places_wanted defines index path.now symbol.now) (answered (λ places. map plain_place places.items) result) }
+    {
+        match self.by_path.number_of(path) {
+            None => Err(StoreFault::NoDocument),
+            Some(_) => Ok(self.places_of(alloc, path, symbol, defines)?),
+        }
+    }
+
+    /// The places where a symbol is defined, in the index's order; those of a symbol whose text begins with `local ` in the
+    /// documents of the path alone. Refuses with `NoDocument` where no document has the path, and with `Memory`.
+    pub fn definitions(
+        &self,
+        alloc: Global,
+        path: &str,
+        symbol: &str,
+    ) -> Result<Vec<Place>, StoreFault>
+        ensures exact { (index : PlainIndex) → IsStoreOf index self.now → ArePlacesAnswer index path.now (definitions index path.now symbol.now) (answered (λ places. map plain_place places.items) result) }
+    {
+        self.places(alloc, path, symbol, true)
+    }
+
+    /// The places where a symbol is used and not defined; otherwise as `definitions`.
+    pub fn references(
+        &self,
+        alloc: Global,
+        path: &str,
+        symbol: &str,
+    ) -> Result<Vec<Place>, StoreFault>
+        ensures exact { (index : PlainIndex) → IsStoreOf index self.now → ArePlacesAnswer index path.now (references index path.now symbol.now) (answered (λ places. map plain_place places.items) result) }
+    {
+        self.places(alloc, path, symbol, false)
+    }
+}

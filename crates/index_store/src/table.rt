@@ -1,0 +1,79 @@
+//! Rows under texts.
+ghost use Rattle.std.specs.Prelude.{◌≡◌, ◌<◌, ◌++◌, [], ◌∷◌, length, slice_set, IfOk, OnOk, None};
+ghost use Rattle.index_store.specs.Tables.{number_of, rows_at, rows_in, text_at, texts_in, IsEntered};
+
+use indexmap::IndexSet;
+use std::alloc::{AllocError, Global};
+
+/// Texts, once each in the order in which they come, and the rows of each.
+#[derive(Drop)]
+pub(crate) struct Table<T: Drop> {
+    texts: IndexSet<String>,
+    rows: Vec<Vec<T>>,
+}
+
+impl<T: Drop> Table<T> {
+    pub(crate) fn new(alloc: Global) -> Table<T>
+        ensures texts { texts_in result ≡ [] }
+        ensures rows { rows_in result ≡ [] }
+    {
+        Table {
+            texts: IndexSet::new(alloc),
+            rows: Vec::new(alloc),
+        }
+    }
+
+    pub(crate) fn number_of(&self, text: &str) -> Option<usize>
+        ensures { result ≡ number_of (texts_in self.now) text.now }
+    {
+        self.texts.get_index_of(text)
+    }
+
+    fn add(&mut self, alloc: Global, text: &str) -> Result<usize, AllocError>
+        requires new { number_of (texts_in self.old) text.now ≡ None }
+        requires as_many { length (texts_in self.old) ≡ length (rows_in self.old) }
+        ensures texts { OnOk result (texts_in self.new ≡ texts_in self.old ++ text.now ∷ []) }
+        ensures rows { OnOk result (rows_in self.new ≡ rows_in self.old ++ [] ∷ []) }
+        ensures last { IfOk result (λ n. n ≡ length (texts_in self.old)) }
+    {
+        let number = self.rows.len();
+        self.texts.insert(String::from_str(alloc, text)?)?;
+        self.rows.push(Vec::new(alloc))?;
+        Ok(number)
+    }
+
+    /// The number of the text, which is put behind the others if it isn't there.
+    pub(crate) fn enter(&mut self, alloc: Global, text: &str) -> Result<usize, AllocError>
+        requires as_many { length (texts_in self.old) ≡ length (rows_in self.old) }
+        ensures { IfOk result (IsEntered (texts_in self.old) (rows_in self.old) text.now (texts_in self.new) (rows_in self.new)) }
+    {
+        match self.number_of(text) {
+            Some(number) => Ok(number),
+            None => self.add(alloc, text),
+        }
+    }
+
+    /// Puts a row behind those of the number.
+    pub(crate) fn push(&mut self, number: usize, row: T) -> Result<(), AllocError>
+        requires within { number < length (rows_in self.old) }
+        ensures texts { texts_in self.new ≡ texts_in self.old }
+        ensures rows { OnOk result (rows_in self.new ≡ slice_set (rows_in self.old) number (rows_at (rows_in self.old) number ++ row ∷ [])) }
+    {
+        self.rows[number].push(row)?;
+        Ok(())
+    }
+
+    pub(crate) fn text(&self, number: usize) -> &str
+        requires within { number < length (texts_in self.now) }
+        ensures { result.now ≡ text_at (texts_in self.now) number }
+    {
+        self.texts[number].as_str()
+    }
+
+    pub(crate) fn rows(&self, number: usize) -> &[T]
+        requires within { number < length (rows_in self.now) }
+        ensures { result.now ≡ rows_at (rows_in self.now) number }
+    {
+        self.rows[number].as_slice()
+    }
+}
