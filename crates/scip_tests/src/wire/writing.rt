@@ -2,7 +2,10 @@
 ghost use Rattle.std.specs.String.{string_bytes};
 ghost use Rattle.proto_wire.specs.Writing.{spelling, text_fields};
 
-use proto_wire::{Written, put_message, put_messages, put_number, put_packed, put_text, put_texts};
+use proto_wire::{
+    Scratch, Written, push_message, put_message, put_messages, put_number, put_packed, put_text,
+    put_texts,
+};
 use std::alloc::{AllocError, Global};
 use std::process::Abort;
 use std::test::Fail;
@@ -16,10 +19,10 @@ struct Note {
 impl Written for Note {
     ghost written = { λ n. spelling (text_fields 1 (string_bytes n.text)) };
 
-    fn bytes(&self, alloc: Global) -> Result<Vec<u8>, AllocError> {
-        let mut out = Vec::new(alloc);
-        put_text(&mut out, 1, self.text.as_str())?;
-        Ok(out)
+    ghost fits = { λ _. Unit {0} };
+
+    fn push_into(&self, _scratch: &mut Scratch, out: &mut Vec<u8>) -> Result<(), AllocError> {
+        put_text(out, 1, self.text.as_str())
     }
 }
 
@@ -30,12 +33,13 @@ fn note_of(alloc: Global, text: &str) -> Result<Note, AllocError> {
 }
 
 fn put_all_numbers(alloc: Global, out: &mut Vec<u8>) -> Result<(), AllocError> {
+    let mut scratch = Scratch::new(alloc);
     put_number(out, 1, 0)?;
     put_number(out, 1, 150)?;
     put_number(out, 6, -2)?;
-    put_packed(alloc, out, 4, &[])?;
-    put_packed(alloc, out, 4, &[3, 270, 86942])?;
-    put_packed(alloc, out, 1, &[-1])
+    put_packed(&mut scratch, out, 4, &[])?;
+    put_packed(&mut scratch, out, 4, &[3, 270, 86942])?;
+    put_packed(&mut scratch, out, 1, &[-1])
 }
 
 #[test]
@@ -58,13 +62,15 @@ fn put_all_texts(alloc: Global, out: &mut Vec<u8>) -> Result<(), AllocError> {
 }
 
 fn put_all_notes(alloc: Global, out: &mut Vec<u8>) -> Result<(), AllocError> {
-    put_message(alloc, out, 1, &Some(note_of(alloc, "b")?))?;
+    let mut scratch = Scratch::new(alloc);
+    put_message(&mut scratch, out, 1, &Some(note_of(alloc, "b")?))?;
+    push_message(&mut scratch, out, 2, &note_of(alloc, "")?)?;
     let none: Option<Note> = None;
-    put_message(alloc, out, 1, &none)?;
+    put_message(&mut scratch, out, 1, &none)?;
     let mut notes = Vec::new(alloc);
     notes.push(note_of(alloc, "")?)?;
     notes.push(note_of(alloc, "c")?)?;
-    put_messages(alloc, out, 20, notes.as_slice())
+    put_messages(&mut scratch, out, 20, notes.as_slice())
 }
 
 #[test]
@@ -73,7 +79,7 @@ fn texts_and_messages_are_written(rt: HostRuntime) -> Result<(), Fail> {
     put_all_texts(rt.alloc(), &mut out)?;
     put_all_notes(rt.alloc(), &mut out)?;
     let want =
-        b"\x12\x07testing\x1a\x00\x1a\x01a\x0a\x03\x0a\x01b\xa2\x01\x00\xa2\x01\x03\x0a\x01c";
+        b"\x12\x07testing\x1a\x00\x1a\x01a\x0a\x03\x0a\x01b\x12\x00\xa2\x01\x00\xa2\x01\x03\x0a\x01c";
     assert_eq!(rt; out.as_slice(), want.as_slice());
     Ok(())
 }
