@@ -7,7 +7,7 @@ use scip_index::{Document, Index, Metadata, Occurrence, SymbolInfo};
 use std::alloc::{AllocError, Global};
 
 /// An index of another producer: a document with an unpacked range and an unknown field 99, and then metadata.
-const FOREIGN: &[u8] =
+pub(crate) const FOREIGN: &[u8] =
     b"\x12\x19\x0a\x01a\x12\x11\x08\x00\x08\x07\x08\x08\x12\x07local 0\x18\x01\x98\x06\x01\x0a\x02\x20\x01";
 
 /// The index of no modules, with the tool's name and version, and UTF-8.

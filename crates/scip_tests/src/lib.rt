@@ -1,10 +1,12 @@
-//! Tests of symbols, of the wire format and of indexes, from outside.
-//! Stands on `scip_symbol`, `proto_wire` and `scip_index`, on the `Sink` of `byte_sink`, and on `test_doubles` for a sink that fails.
+//! Tests of symbols, of the wire format, of indexes and of questions to them, from outside.
+//! Stands on `scip_symbol`, `proto_wire`, `scip_index` and `index_store`, on the `Sink` of `byte_sink`, and on `test_doubles` for a sink that fails.
 //! Its contract: none; it has nothing but tests.
 #![tactic(auto)]
 
 #[cfg(test)]
 mod index;
+#[cfg(test)]
+mod store;
 #[cfg(test)]
 mod symbols;
 #[cfg(test)]
