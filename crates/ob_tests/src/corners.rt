@@ -1,5 +1,5 @@
 //! Corners of the grammar.
-use crate::texts::parses;
+use crate::readings::parses;
 use std::test::Fail;
 
 const MODULES: &[&[u8]] = &[

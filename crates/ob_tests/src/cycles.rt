@@ -1,5 +1,5 @@
 //! Imports between numbered modules, with and without a cycle.
-use crate::texts::is_told;
+use crate::readings::is_told;
 use ob_imports::{Pair, cycle};
 use std::alloc::AllocError;
 use std::process::Abort;

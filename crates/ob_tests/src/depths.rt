@@ -1,5 +1,5 @@
 //! Texts that are nested deep, or long.
-use crate::texts::parses;
+use crate::readings::parses;
 use std::alloc::{AllocError, Global};
 use std::process::Abort;
 use std::test::Fail;

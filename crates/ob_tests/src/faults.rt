@@ -1,5 +1,5 @@
 //! Texts without a tree, each with its fault.
-use crate::texts::parses;
+use crate::readings::parses;
 use std::test::Fail;
 
 const SYNTAX: &[(&[u8], &str)] = &[

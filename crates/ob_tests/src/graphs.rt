@@ -1,5 +1,5 @@
 //! The graphs of files' imports.
-use crate::texts::is_told;
+use crate::readings::is_told;
 use ob_imports::{Graph, GraphFault, Parsed, graph};
 use std::alloc::{AllocError, Global};
 use std::process::Abort;

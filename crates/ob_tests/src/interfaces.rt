@@ -1,5 +1,5 @@
 //! What other modules see of a module, from its text.
-use crate::texts::{is_told, scopes_of};
+use crate::readings::{is_told, scopes_of};
 use ob_scope::{Base, Declaration, ImportedModule, Interface, Sort, TypeName, TypePart, interface};
 use std::alloc::{AllocError, Global};
 use std::process::Abort;

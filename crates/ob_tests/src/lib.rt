@@ -16,9 +16,9 @@ mod graphs;
 #[cfg(test)]
 mod interfaces;
 #[cfg(test)]
-mod scopes;
+mod readings;
 #[cfg(test)]
-mod texts;
+mod scopes;
 #[cfg(test)]
 mod tokens;
 #[cfg(test)]

@@ -1,5 +1,5 @@
 //! The scopes of modules, from their texts.
-use crate::texts::{is_told, scopes_of, told_scopes};
+use crate::readings::{is_told, scopes_of, told_scopes};
 use ob_scope::Scopes;
 use std::alloc::{AllocError, Global};
 use std::process::Abort;

@@ -1,5 +1,5 @@
 //! Texts, each with its tokens or its fault.
-use crate::texts::is_told;
+use crate::readings::is_told;
 use ob_scan::{Lines, lines, position, scan};
 use std::alloc::{AllocError, Global};
 use std::process::Abort;

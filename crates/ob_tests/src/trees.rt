@@ -1,5 +1,5 @@
 //! Texts, each with what its tree holds. Identifiers and literals are told by the numbers of their tokens.
-use crate::texts::{is_told, tree_of};
+use crate::readings::{is_told, tree_of};
 use ob_tree::declaration::Module;
 use ob_tree::expression::{Expr, Factor, Sum, Term};
 use ob_tree::statement::{Block, Branch, Stmt};

@@ -1,5 +1,5 @@
 //! Texts, each with what the walkers tell of its tree.
-use crate::texts::{is_told, show_numbers, tree_of};
+use crate::readings::{is_told, show_numbers, tree_of};
 use ob_tree::walkers::{declarations, endings, items, uses, yield_of};
 use std::alloc::Global;
 use std::process::Abort;
