@@ -238,3 +238,10 @@ nothing_kept = (
     paths_there = λ s i d l. absurd (omega (arith, l));
   },
 )
+
+-- what keeps the documents that were given before, and one more, keeps those that are given now
+pub kept_more : (old new : List PlainDocument) (d : PlainDocument) (t : Tables) → new ≡ old ++ d ∷ [] → Keeps (paths_of old ++ d.relative_path ∷ []) (flat_map found_in old ++ found_in d) t → Keeps (paths_of new) (flat_map found_in new) t
+kept_more old new d t is k =
+    let paths : paths_of new ≡ paths_of old ++ d.relative_path ∷ [] = ap paths_of is ∙ map-append (λ (x : PlainDocument). x.relative_path) old (d ∷ []) in
+    let found : flat_map found_in new ≡ flat_map found_in old ++ found_in d = ap (flat_map found_in) is ∙ flat_map-append found_in old (d ∷ []) ∙ ap (λ (fs : List Found). flat_map found_in old ++ fs) (append-nil (found_in d)) in
+    rw (paths, found) k

@@ -3,7 +3,6 @@ use Rattle.std.specs.Prelude.{◌≡◌, ◌≢◌, ℕ, ◌%◌, ◌==◌, ◌&
 use Rattle.std.specs.List.{flat_map, starts_with}
 use Rattle.std.specs.Int.{w32, cast_unsigned}
 use Rattle.std.specs.Str.{bytes_eq}
-use Rattle.std.specs.String.{string_bytes}
 use Rattle.scip_index.specs.Plain.{PlainOccurrence, PlainDocument, PlainIndex}
 use Rattle.index_store.specs.declared.fault.StoreFault.{StoreFault}
 use Rattle.index_store.specs.declared.fault.StoreFault.TheVariants as faults
@@ -92,7 +91,7 @@ pub record PlainPlace : Type 0 where
   pub span : Span
 
 abbrev pub plain_place : Place → PlainPlace
-plain_place p = record { path = string_bytes p.path; span = record { start = p.start; end = p.end } }
+plain_place p = record { path = p.path.now; span = record { start = p.start; end = p.end } }
 
 -- the place of an occurrence, where its range is one
 abbrev pub place_given : List ℕ → Option Span → List PlainPlace

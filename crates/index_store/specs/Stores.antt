@@ -2,6 +2,7 @@
 use Rattle.std.specs.Prelude.{◌≡◌, ◌↔◌, ℕ, ◌<◌, Bool, List, [], ◌∷◌, length, map, Option, Some, None, All, Contains, if◌then◌else◌}
 use Rattle.std.specs.List.{flat_map}
 use Rattle.std.specs.Str.{bytes_eq}
+use Rattle.scip_index.specs.Meaning.{Means}
 use Rattle.scip_index.specs.Plain.{PlainDocument, PlainIndex}
 use Rattle.index_store.specs.declared.row.Covering.{Covering}
 use Rattle.index_store.specs.declared.row.Mention.{Mention}
@@ -84,6 +85,10 @@ paths_of documents = map (λ document. document.relative_path) documents
 -- the tables are those of an index
 abbrev pub IsStoreOf : PlainIndex → Tables → Type 0
 IsStoreOf index t = Keeps (paths_of index.documents) (all_found index) t
+
+-- the bytes mean an index, and the tables are those of it
+abbrev pub IsStoreOfBytes : List ℕ → Tables → Type 0
+IsStoreOfBytes bytes t = (index : PlainIndex) × Means bytes index × IsStoreOf index t
 
 -- what every store keeps: its tables are whole, and those of some documents
 pub record IsSound (t : Tables) : Type 0 where

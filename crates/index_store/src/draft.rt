@@ -1,14 +1,19 @@
 //! The tables of a store, while they are made of an index.
-ghost use Rattle.std.specs.Prelude.{◌≡◌, ◌<◌, ◌++◌, [], ◌∷◌, Some, length, List, ℕ, IfOk, OnOk};
+ghost use Rattle.std.specs.Prelude.{◌≡◌, ◌<◌, ◌++◌, [], ◌∷◌, Some, length, List, None, ℕ, IfErr, IfOk, OnOk};
+ghost use Rattle.proto_wire.specs.Faults.{UnlessMemory};
+ghost use Rattle.proto_wire.specs.Messages.{IsFirstFault};
+ghost use Rattle.scip_index.specs.Meaning.{index_fault};
+ghost use Rattle.scip_index.specs.Streaming.{given};
 ghost use Rattle.scip_index.specs.Plain.{plain_document, plain_index, plain_occurrence};
 ghost use Rattle.index_store.specs.Queries.{Found, found_at, found_in, is_definition};
-ghost use Rattle.index_store.specs.Stores.{tables_of, AreWhole, IsStoreOf, Keeps};
+ghost use Rattle.index_store.specs.Stores.{tables_of, AreWhole, IsStoreOf, IsStoreOfBytes, Keeps};
 ghost use Rattle.index_store.specs.Tables.{number_of, texts_in};
 
 use crate::row::{Covering, Mention};
 use crate::span::span_of;
 use crate::table::Table;
-use scip_index::{Document, Index, Occurrence};
+use proto_wire::WireFault;
+use scip_index::{Document, Index, IndexReader, Occurrence};
 use std::alloc::{AllocError, Global};
 
 /// The occurrences so far that are places, by their paths and by their symbols.
@@ -26,6 +31,17 @@ fn is_definition(occurrence: &Occurrence) -> bool
 }
 
 impl Draft {
+    /// Tables with nothing in them.
+    fn new(alloc: Global) -> Draft
+        ensures whole { AreWhole (tables_of result) }
+        ensures nothing { Keeps [] [] (tables_of result) }
+    {
+        Draft {
+            by_path: Table::new(alloc),
+            by_symbol: Table::new(alloc),
+        }
+    }
+
     /// Keeps an occurrence of the document whose path has this number.
     fn add(&mut self, alloc: Global, path: usize, occurrence: &Occurrence) -> Result<(), AllocError>
         requires whole { AreWhole (tables_of self.old) }
@@ -73,12 +89,24 @@ pub(crate) fn draft_of(alloc: Global, index: &Index) -> Result<Draft, AllocError
     ensures whole { IfOk result (λ draft. AreWhole (tables_of draft)) }
     ensures kept { IfOk result (λ draft. IsStoreOf (plain_index index.now) (tables_of draft)) }
 {
-    let mut draft = Draft {
-        by_path: Table::new(alloc),
-        by_symbol: Table::new(alloc),
-    };
+    let mut draft = Draft::new(alloc);
     for document in &index.documents {
         draft.add_document(alloc, document)?;
+    }
+    Ok(draft)
+}
+
+/// The tables of the index that a reader reads, of which one document at a time is held.
+pub(crate) fn draft_read(alloc: Global, mut reader: IndexReader<'_>) -> Result<Draft, WireFault>
+    requires fresh { given reader ≡ [] }
+    requires sound { reader.refusal ≡ None }
+    ensures whole { IfOk result (λ draft. AreWhole (tables_of draft)) }
+    ensures kept { IfOk result (λ draft. IsStoreOfBytes reader.entry.bytes (tables_of draft)) }
+    ensures fault { IfErr result (λ e. UnlessMemory e (IsFirstFault index_fault 0 reader.entry.bytes e)) }
+{
+    let mut draft = Draft::new(alloc);
+    'documents: while let Some(document) = reader.next()? {
+        draft.add_document(alloc, &document)?;
     }
     Ok(draft)
 }

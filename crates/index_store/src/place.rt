@@ -7,10 +7,10 @@ pub struct Position {
     pub column: u32,
 }
 
-/// Part of a document, half open.
-#[derive(Debug, PartialEq, Eq, Drop)]
-pub struct Place {
-    pub path: String,
+/// Part of a document, half open: the position `start` is in it, and `end` isn't. Its path is the store's own, and not copied.
+#[derive(Clone, Copy, Debug, PartialEq, Eq)]
+pub struct Place<'a> {
+    pub path: &'a str,
     pub start: Position,
     pub end: Position,
 }

@@ -33,33 +33,32 @@ fn is_asked(asked: Asked, paths: &Table<Covering>, mention: Mention) -> bool
     mention.defines == asked.defines && (!asked.local || paths.text(mention.path) == asked.path)
 }
 
-fn place_of(alloc: Global, paths: &Table<Covering>, mention: Mention) -> Result<Place, AllocError>
+fn place_of<'a>(paths: &'a Table<Covering>, mention: Mention) -> Place<'a>
     requires there { mention.path < length (texts_in paths.now) }
-    ensures path { IfOk result (λ place. (plain_place place).path ≡ text_at (texts_in paths.now) mention.path) }
-    ensures span { IfOk result (λ place. (plain_place place).span ≡ mention.span) }
+    ensures path { (plain_place result).path ≡ text_at (texts_in paths.now) mention.path }
+    ensures span { (plain_place result).span ≡ mention.span }
 {
-    let path = String::from_str(alloc, paths.text(mention.path))?;
-    Ok(Place {
-        path,
+    Place {
+        path: paths.text(mention.path),
         start: mention.span.start,
         end: mention.span.end,
-    })
+    }
 }
 
 /// The places of the mentions that are asked for, in their order.
-pub(crate) fn places_asked(
+pub(crate) fn places_asked<'a>(
     alloc: Global,
-    asked: Asked,
-    paths: &Table<Covering>,
+    asked: Asked<'_>,
+    paths: &'a Table<Covering>,
     mentions: &[Mention],
-) -> Result<Vec<Place>, AllocError>
+) -> Result<Vec<Place<'a>>, AllocError>
     requires there { All (λ m. m.path < length (texts_in paths.now)) mentions.now }
     ensures { IfOk result (λ places. map plain_place places.items ≡ flat_map (place_asked asked.entry.defines asked.entry.local asked.entry.path.now) (map (said_mention (texts_in paths.now)) mentions.now)) }
 {
     let mut places = Vec::new(alloc);
     for mention in mentions {
         if is_asked(asked, paths, *mention) {
-            places.push(place_of(alloc, paths, *mention)?)?;
+            places.push(place_of(paths, *mention))?;
         }
     }
     Ok(places)

@@ -1,19 +1,24 @@
 //! Stores of indexes, and the questions to them.
-ghost use Rattle.std.specs.Prelude.{◌≡◌, IfErr, IfOk, map, option_map};
+ghost use Rattle.std.specs.Prelude.{◌≡◌, [], IfErr, IfOk, None, map, option_map};
 ghost use Rattle.std.specs.List.{flat_map};
+ghost use Rattle.proto_wire.specs.Faults.{UnlessMemory};
+ghost use Rattle.proto_wire.specs.Messages.{IsFirstFault};
+ghost use Rattle.scip_index.specs.Meaning.{index_fault};
+ghost use Rattle.scip_index.specs.Streaming.{given};
 ghost use Rattle.scip_index.specs.Plain.{plain_index, PlainIndex};
 ghost use Rattle.index_store.specs.declared.fault.StoreFault.TheVariants.{Memory};
 ghost use Rattle.index_store.specs.Asked.{place_asked, places_wanted};
 ghost use Rattle.index_store.specs.Queries.{answered, definitions, is_local, plain_place, references, ArePlacesAnswer, IsSymbolAnswer};
-ghost use Rattle.index_store.specs.Stores.{mentions_under, said_mention, IsStoreOf};
+ghost use Rattle.index_store.specs.Stores.{mentions_under, said_mention, IsStoreOf, IsStoreOfBytes};
 
-use crate::draft::draft_of;
+use crate::draft::{draft_of, draft_read};
 use crate::nearest::nearest;
 use crate::places::{Asked, is_local, places_asked};
 use crate::row::{Covering, Mention};
 use crate::table::Table;
 use crate::{Place, Position, StoreFault};
-use scip_index::Index;
+use proto_wire::WireFault;
+use scip_index::{Index, IndexReader};
 use std::alloc::{AllocError, Global};
 use std::marker::Model;
 
@@ -47,8 +52,26 @@ impl Store {
         })
     }
 
+    /// The store of the index that a reader reads whose `next` wasn't called yet. It holds one document at a time, and of each only
+    /// what is a place. Refuses with the first fault of the bytes, as `from_bytes` does, and with `Memory`.
+    pub fn from_reader(alloc: Global, reader: IndexReader<'_>) -> Result<Store, WireFault>
+        requires fresh { given reader ≡ [] }
+        requires sound { reader.refusal ≡ None }
+        // The bytes mean an index, and it is the store of that.
+        ensures exact { IfOk result (λ store. IsStoreOfBytes reader.entry.bytes store) }
+        // It is the first fault of the bytes, unless memory ran out.
+        ensures fault { IfErr result (λ e. UnlessMemory e (IsFirstFault index_fault 0 reader.entry.bytes e)) }
+    {
+        let draft = draft_read(alloc, reader)?;
+        Ok(Store {
+            by_path: draft.by_path,
+            by_symbol: draft.by_symbol,
+        })
+    }
+
     /// The symbol of the occurrence at a position of a document: of those that cover it the one that starts last, then the
-    /// one that ends first, then the first; or none where none does. Its one refusal is `NoDocument`.
+    /// one that ends first, then the first; or none where none does. An occurrence covers its start and what follows, up to its
+    /// end, which is left out. Its one refusal is `NoDocument`.
     pub fn symbol_at(&self, path: &str, at: Position) -> Result<Option<&str>, StoreFault>
         ensures exact { (index : PlainIndex) → IsStoreOf index self.now → IsSymbolAnswer index path.now at (answered (option_map (λ symbol. symbol.now)) result) }
     {
@@ -61,13 +84,13 @@ impl Store {
         }
     }
 
-    fn places_of(
-        &self,
+    fn places_of<'a>(
+        &'a self,
         alloc: Global,
         path: &str,
         symbol: &str,
         defines: bool,
-    ) -> Result<Vec<Place>, AllocError>
+    ) -> Result<Vec<Place<'a>>, AllocError>
         ensures { IfOk result (λ places. map plain_place places.items ≡ flat_map (place_asked defines (is_local symbol.now) path.now) (map (said_mention self.now.paths) (mentions_under self.now symbol.now))) }
     {
         let asked = Asked {
@@ -83,13 +106,13 @@ impl Store {
         }
     }
 
-    fn places(
-        &self,
+    fn places<'a>(
+        &'a self,
         alloc: Global,
         path: &str,
         symbol: &str,
         defines: bool,
-    ) -> Result<Vec<Place>, StoreFault>
+    ) -> Result<Vec<Place<'a>>, StoreFault>
         ensures exact { (index : PlainIndex) → IsStoreOf index self.now → ArePlacesAnswer index path.now (places_wanted defines index path.now symbol.now) (answered (λ places. map plain_place places.items) result) }
     {
         match self.by_path.number_of(path) {
@@ -100,24 +123,24 @@ impl Store {
 
     /// The places where a symbol is defined, in the index's order; those of a symbol whose text begins with `local ` in the
     /// documents of the path alone. Refuses with `NoDocument` where no document has the path, and with `Memory`.
-    pub fn definitions(
-        &self,
+    pub fn definitions<'a>(
+        &'a self,
         alloc: Global,
         path: &str,
         symbol: &str,
-    ) -> Result<Vec<Place>, StoreFault>
+    ) -> Result<Vec<Place<'a>>, StoreFault>
         ensures exact { (index : PlainIndex) → IsStoreOf index self.now → ArePlacesAnswer index path.now (definitions index path.now symbol.now) (answered (λ places. map plain_place places.items) result) }
     {
         self.places(alloc, path, symbol, true)
     }
 
     /// The places where a symbol is used and not defined; otherwise as `definitions`.
-    pub fn references(
-        &self,
+    pub fn references<'a>(
+        &'a self,
         alloc: Global,
         path: &str,
         symbol: &str,
-    ) -> Result<Vec<Place>, StoreFault>
+    ) -> Result<Vec<Place<'a>>, StoreFault>
         ensures exact { (index : PlainIndex) → IsStoreOf index self.now → ArePlacesAnswer index path.now (references index path.now symbol.now) (answered (λ places. map plain_place places.items) result) }
     {
         self.places(alloc, path, symbol, false)

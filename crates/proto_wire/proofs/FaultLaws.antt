@@ -11,3 +11,12 @@ UnlessMemory-then (ZeroField at) h go = go h
 UnlessMemory-then (BadText at) h go = go h
 UnlessMemory-then Device h go = go h
 UnlessMemory-then Memory h go = tt
+
+pub UnlessMemory-from : (fault : WireFault) {P : Type 0} → P → UnlessMemory fault P
+UnlessMemory-from (Truncated at) h = h
+UnlessMemory-from (LongVarint at) h = h
+UnlessMemory-from (Group at) h = h
+UnlessMemory-from (ZeroField at) h = h
+UnlessMemory-from (BadText at) h = h
+UnlessMemory-from Device h = h
+UnlessMemory-from Memory h = tt

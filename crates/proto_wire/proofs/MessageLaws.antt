@@ -116,12 +116,12 @@ first_fault_iff inside start bytes fault = (λ e. told (pieces_of start bytes).0
     placed pieces end read (inl h) =
         let split = subst (λ (ps : List Piece). PiecesRead start bytes ps end) (h.3 ∙ sym (append_assoc h.0 (h.1 ∷ []) h.2)) read in
         let so_far = reached start bytes (h.0 ++ h.1 ∷ []) h.2 end split in
-        in_record h.0 h.1 so_far.0 so_far.1 h.4 so_far.2 h.5
-    placed pieces end read (inr h) = of_record pieces h.0 (subst (PiecesRead start bytes pieces) h.1 read)
+        (h.0, h.4, in_record h.1 so_far.0 so_far.1 so_far.2 h.5)
+    placed pieces end read (inr h) = (pieces, h.0, of_record (subst (PiecesRead start bytes pieces) h.1 read))
 
     told : (pieces : List Piece) (end : Option WireFault) → PiecesRead start bytes pieces end → first_fault inside pieces end ≡ Some fault → IsFirstFault inside start bytes fault
     told pieces end read e = placed pieces end read (first_fault-some inside pieces end fault e)
 
     found : IsFirstFault inside start bytes fault → fault_of inside start bytes ≡ Some fault
-    found (in_record front p at rest clean so_far e) = fault_of-inside inside start bytes front p at rest fault clean so_far e
-    found (of_record before clean stopped) = fault_of-end inside start bytes before (Some fault) clean (stop_found start bytes before fault stopped)
+    found (front, clean, in_record p at rest so_far e) = fault_of-inside inside start bytes front p at rest fault clean so_far e
+    found (before, clean, of_record stopped) = fault_of-end inside start bytes before (Some fault) clean (stop_found start bytes before fault stopped)

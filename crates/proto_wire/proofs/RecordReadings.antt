@@ -6,11 +6,10 @@ use Rattle.proto_wire.specs.declared.fault.WireFault.{WireFault}
 use Rattle.proto_wire.specs.declared.fault.WireFault.TheVariants.{Truncated, LongVarint, Group, ZeroField, BadText, Device, Memory}
 use Rattle.proto_wire.specs.declared.record.WireValue.{WireValue}
 use Rattle.proto_wire.specs.declared.record.WireValue.TheVariants.{Varint, Eight, Bytes, Four}
-use Rattle.proto_wire.specs.Faults.{◌>>=◌, Gives, Tells}
+use Rattle.proto_wire.specs.Faults.{◌>>=◌, Gives, Shows}
 use Rattle.proto_wire.specs.Varints.{IsVarint, IsNoVarint, varint_in}
 use Rattle.proto_wire.specs.Records.{Piece, IsField, IsKey, IsValue, IsRecord, HasKey, IsTruncated, in_key, in_varint, in_eight, in_length, in_payload, in_four, IsTooLong, as_key, as_varint, as_length, IsGroup, IsNoField, IsWrong, IsFirst}
 use Rattle.proto_wire.specs.Readings.{piece, is_field, fixed_in, payload_in, value_in, record_in}
-use Rattle.proto_wire.proofs.FaultLaws.{UnlessMemory-then}
 use Rattle.proto_wire.proofs.VarintReadings.{varint_found, open_found, long_found, VarintRead, varint_read, varint_bytes}
 
 field_is : (n : ℕ) → IsField n → is_field n ≡ true
@@ -276,6 +275,6 @@ first_iff at bytes o = (λ e. subst (IsFirst at bytes) e (record_read at bytes),
     first_found at bytes (Err fault) h = wrong_found at bytes fault h
 
 -- an answer that the function gives is what stands in front
-pub first_told : {X : Type 0} (view : X → Piece × List ℕ) (at : ℕ) (bytes : List ℕ) (result : Result X WireFault) → Gives view result (record_in at bytes) → Tells view result (IsFirst at bytes)
+pub first_told : {X : Type 0} (view : X → Piece × List ℕ) (at : ℕ) (bytes : List ℕ) (result : Result X WireFault) → Gives view result (record_in at bytes) → Shows view result (IsFirst at bytes)
 first_told view at bytes (Ok x) e = (first_iff at bytes (Ok (view x))).0 e
-first_told view at bytes (Err fault) e = UnlessMemory-then fault e (first_iff at bytes (Err fault)).0
+first_told view at bytes (Err fault) e = (first_iff at bytes (Err fault)).0 e

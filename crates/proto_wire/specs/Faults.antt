@@ -24,9 +24,14 @@ abbrev pub Tells : {X Y : Type 0} → (X → Y) → Result X WireFault → (Resu
 Tells view (Ok x) IsOutcome = IsOutcome (Ok (view x))
 Tells view (Err fault) IsOutcome = UnlessMemory fault (IsOutcome (Err fault))
 
--- what was answered, seen by view, is what the reading gives, unless memory ran out
+-- what was answered, seen by view, is such an outcome, as it always is where no memory is taken
+abbrev pub Shows : {X Y : Type 0} → (X → Y) → Result X WireFault → (Result Y WireFault → Type 0) → Type 0
+Shows view (Ok x) IsOutcome = IsOutcome (Ok (view x))
+Shows view (Err fault) IsOutcome = IsOutcome (Err fault)
+
+-- what was answered, seen by view, is what the reading gives
 abbrev pub Gives : {X Y : Type 0} → (X → Y) → Result X WireFault → Result Y WireFault → Type 0
-Gives view result reading = Tells view result (λ outcome. reading ≡ outcome)
+Gives view result reading = Shows view result (λ outcome. reading ≡ outcome)
 
 -- the fault is the one that was found, unless memory ran out
 abbrev pub Stops : WireFault → Option WireFault → Type 0

@@ -30,11 +30,15 @@ fault_of inside at bytes = first_fault inside (pieces_of at bytes).0 (pieces_of 
 abbrev pub IsClean : (Piece → Option WireFault) → List Piece → Type 0
 IsClean inside pieces = AllByRecursion (λ p. inside p ≡ None) pieces
 
--- the fault is the first one of a message's bytes, the first of which has this offset: the fault inside a record, behind records
--- without one, or that of the record that is wrong
-pub data IsFirstFault (inside : Piece → Option WireFault) (start : ℕ) (bytes : List ℕ) (fault : WireFault) : Type 0 where
-  in_record : (front : List Piece) (p : Piece) (at : ℕ) (rest : List ℕ) → IsClean inside front → Reaches start bytes (front ++ p ∷ []) at rest → inside p ≡ Some fault → IsFirstFault inside start bytes fault
-  of_record : (before : List Piece) → IsClean inside before → IsStopped start bytes before fault → IsFirstFault inside start bytes fault
+-- behind these records, which stand in front of a message's bytes, comes this fault: inside the next record, or of the one that
+-- is wrong. The first byte has this offset.
+pub data IsFaultBehind (inside : Piece → Option WireFault) (start : ℕ) (bytes : List ℕ) (front : List Piece) (fault : WireFault) : Type 0 where
+  in_record : (p : Piece) (at : ℕ) (rest : List ℕ) → Reaches start bytes (front ++ p ∷ []) at rest → inside p ≡ Some fault → IsFaultBehind inside start bytes front fault
+  of_record : IsStopped start bytes front fault → IsFaultBehind inside start bytes front fault
+
+-- the fault is the first one of a message's bytes: it comes behind records without one
+abbrev pub IsFirstFault : (Piece → Option WireFault) → ℕ → List ℕ → WireFault → Type 0
+IsFirstFault inside start bytes fault = (front : List Piece) × IsClean inside front × IsFaultBehind inside start bytes front fault
 
 -- a record of the code with its bytes
 abbrev pub piece_of : WireRecord → List ℕ → Piece

@@ -2,7 +2,7 @@
 ghost use Rattle.std.specs.Prelude.{◌≡◌, ◌<◌, ◌≤◌, ◌+◌, ◌-◌, ◌^◌, List, Result, length, IfOk};
 ghost use Rattle.proto_wire.specs.declared.record.WireRecord.{WireRecord};
 ghost use Rattle.proto_wire.specs.declared.fault.WireFault.{WireFault};
-ghost use Rattle.proto_wire.specs.Faults.{Gives, Tells};
+ghost use Rattle.proto_wire.specs.Faults.{Gives, Shows, Tells};
 ghost use Rattle.proto_wire.specs.Records.{IsFirst, IsOutcome};
 ghost use Rattle.proto_wire.specs.Readings.{piece_view, fixed_in, payload_in, record_in, value_in};
 
@@ -148,7 +148,7 @@ fn first_record(at: usize, bytes: &[u8]) -> Result<(WireRecord, &[u8], &[u8]), W
 pub fn record_at_front(at: usize, bytes: &[u8]) -> Result<(WireRecord, &[u8], &[u8]), WireFault>
     requires { at + length bytes.now < 2 ^ 64 }
     // It is the record that stands in front, with what follows it, or the fault of the one that is wrong.
-    ensures exact { Tells piece_view result (IsFirst at bytes.now) }
+    ensures exact { Shows piece_view result (IsFirst at bytes.now) }
     ensures shorter { IfOk result (λ x. length x.2.now < length bytes.now) }
     ensures inside { IfOk result (λ x. x.0.body + length x.1.now ≤ at + length bytes.now) }
 {

@@ -1,9 +1,11 @@
 //! The fields of a message as records, one after the other. Zeros, empty texts and empty lists of numbers are left out.
+//! A field number is from 1 to 536,870,911.
 ghost use Rattle.std.specs.Prelude.{◌≡◌, ◌++◌, ℕ, FitsSigned, IfSome, List, map, OnOk};
 ghost use Rattle.std.specs.Int.{w32};
 ghost use Rattle.std.specs.List.{AllByRecursion};
 ghost use Rattle.std.specs.Option.{option_to_list};
 ghost use Rattle.std.specs.String.{string_bytes};
+ghost use Rattle.proto_wire.specs.Records.{IsField};
 ghost use Rattle.proto_wire.specs.Writing.{number_fields, packed_fields, payload_field, payload_fields, spelled, spelling, text_fields};
 
 use crate::encoding::{bits_of, push_number, push_packing, push_payload};
@@ -13,6 +15,7 @@ use std::alloc::AllocError;
 /// Puts a number behind the bytes as a field of this number, unless it is 0. A negative one takes ten bytes.
 /// Where memory is refused, nothing is said of the bytes.
 pub fn put_number(out: &mut Vec<u8>, field: u32, number: i32) -> Result<(), AllocError>
+    requires { IsField field }
     ensures bytes { OnOk result (out.new.items ≡ out.old.items ++ spelling (number_fields field number)) }
     // As any such number.
     ensures fits { FitsSigned w32 number }
@@ -26,6 +29,7 @@ pub fn put_number(out: &mut Vec<u8>, field: u32, number: i32) -> Result<(), Allo
 /// Puts a text behind the bytes as a field of this number, unless it is empty.
 /// Where memory is refused, nothing is said of the bytes.
 pub fn put_text(out: &mut Vec<u8>, field: u32, text: &str) -> Result<(), AllocError>
+    requires { IsField field }
     ensures { OnOk result (out.new.items ≡ out.old.items ++ spelling (text_fields field text.now)) }
 {
     if text.is_empty() {
@@ -42,6 +46,7 @@ pub fn put_packed(
     field: u32,
     numbers: &[i32],
 ) -> Result<(), AllocError>
+    requires { IsField field }
     ensures bytes { OnOk result (out.new.items ≡ out.old.items ++ spelling (packed_fields field numbers.now)) }
     // As any such numbers.
     ensures fits { OnOk result (AllByRecursion (FitsSigned w32) numbers.now) }
@@ -77,6 +82,7 @@ pub fn push_message<M: Written>(
     field: u32,
     message: &M,
 ) -> Result<(), AllocError>
+    requires { IsField field }
     ensures bytes { OnOk result (out.new.items ≡ out.old.items ++ spelled (payload_field field (M.written message.now))) }
     ensures fits { OnOk result (M.fits message.now) }
 {
@@ -94,6 +100,7 @@ pub fn put_messages<M: Written>(
     field: u32,
     messages: &[M],
 ) -> Result<(), AllocError>
+    requires { IsField field }
     ensures bytes { OnOk result (out.new.items ≡ out.old.items ++ spelling (payload_fields field (map M.written messages.now))) }
     ensures fits { OnOk result (AllByRecursion M.fits messages.now) }
 {
@@ -111,6 +118,7 @@ pub fn put_message<M: Written>(
     field: u32,
     message: &Option<M>,
 ) -> Result<(), AllocError>
+    requires { IsField field }
     ensures bytes { OnOk result (out.new.items ≡ out.old.items ++ spelling (payload_fields field (map M.written (option_to_list message.now)))) }
     ensures fits { OnOk result (IfSome message.now M.fits) }
 {
@@ -123,6 +131,7 @@ pub fn put_message<M: Written>(
 /// Puts texts behind the bytes as fields of this number, empty ones too.
 /// Where memory is refused, nothing is said of the bytes.
 pub fn put_texts(out: &mut Vec<u8>, field: u32, texts: &[String]) -> Result<(), AllocError>
+    requires { IsField field }
     ensures { OnOk result (out.new.items ≡ out.old.items ++ spelling (payload_fields field (map string_bytes texts.now))) }
 {
     for text in texts {

@@ -1,5 +1,5 @@
 -- What bytes are, once.
-use Rattle.std.proofs.Common.{◌≡◌, ℕ, List, Option, Some, None, Result, Ok, Err, sym, ap, ◌∙◌}
+use Rattle.std.proofs.Common.{◌≡◌, ℕ, List, Option, Some, None, Result, Ok, Err, sym, refl, ap, ◌∙◌}
 use Rattle.std.specs.Prelude.{IfErr, IfOk, OnOk}
 use Rattle.proto_wire.specs.declared.fault.WireFault.{WireFault}
 use Rattle.proto_wire.specs.Faults.{Stops, Tells}
@@ -41,6 +41,13 @@ one_outcome bytes (Ok i) (Ok j) m n = ap (λ (x : PlainIndex). Ok x) (one_meanin
 one_outcome bytes (Ok i) (Err f) m n = absurd (apart f (sym (no_fault bytes i m) ∙ (first_fault_iff index_fault 0 bytes f).1 n))
 one_outcome bytes (Err f) (Ok j) m n = absurd (apart f (sym (no_fault bytes j n) ∙ (first_fault_iff index_fault 0 bytes f).1 m))
 one_outcome bytes (Err f) (Err g) m n = ap (λ (x : WireFault). Err x) (same_fault f g (sym ((first_fault_iff index_fault 0 bytes f).1 m) ∙ (first_fault_iff index_fault 0 bytes g).1 n))
+
+pub some_outcome : (bytes : List ℕ) → (o : Result PlainIndex WireFault) × IsIndexOutcome bytes o
+some_outcome bytes = told (fault_of index_fault 0 bytes) refl
+  where
+    told : (found : Option WireFault) → fault_of index_fault 0 bytes ≡ found → (o : Result PlainIndex WireFault) × IsIndexOutcome bytes o
+    told None clean = (Ok (index_of (pieces_of 0 bytes).0), means_from bytes (index_of (pieces_of 0 bytes).0) clean refl)
+    told (Some fault) is = (Err fault, (first_fault_iff index_fault 0 bytes fault).0 is)
 
 pub tells-then : {X Y : Type 0} (view : X → Y) (result : Result X WireFault) (P Q : Result Y WireFault → Type 0) → Tells view result P → ((o : Result Y WireFault) → P o → Q o) → Tells view result Q
 tells-then view (Ok x) P Q h go = go (Ok (view x)) h

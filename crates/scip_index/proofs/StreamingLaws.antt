@@ -1,21 +1,21 @@
 -- A record carries one message of a field at most, and what a reader keeps at its start and its end.
-use Rattle.std.proofs.Common.{◌≡◌, ◌≤◌, ◌++◌, ◌∷◌, [], ℕ, suc, true, false, List, take, length, map, Option, Some, None, refl, sym, ap, ◌∙◌, inl, inr, arith}
-use Rattle.std.specs.Prelude.{◌==◌, IfNone}
+use Rattle.std.proofs.Common.{◌≡◌, ◌<◌, ◌≤◌, ◌++◌, ◌∷◌, [], ℕ, suc, true, false, List, take, length, map, Option, Some, None, refl, sym, ap, subst, ◌∙◌, inl, inr, arith}
+use Rattle.std.specs.Prelude.{◌==◌, IfNone, IfSome}
 use Rattle.std.specs.Option.{is_some, option_to_list}
 use Rattle.std.proofs.Math.Seq.{take-append_seam}
 use Rattle.std.proofs.lemmas.Bool.{cases_Bool}
-use Rattle.std.proofs.lemmas.List.{append-nil}
+use Rattle.std.proofs.lemmas.List.{append-nil, length-append}
 use Rattle.proto_wire.specs.declared.fault.WireFault.{WireFault}
 use Rattle.proto_wire.specs.declared.record.WireValue.{WireValue}
 use Rattle.proto_wire.specs.declared.record.WireValue.TheVariants.{Varint, Eight, Bytes, Four}
 use Rattle.proto_wire.specs.Records.{Piece, Reaches}
 use Rattle.proto_wire.specs.Readings.{pieces_of}
-use Rattle.proto_wire.specs.Messages.{AddsMessages, each_of, if_field, records_inside, records_inside_given, MeansEach}
+use Rattle.proto_wire.specs.Messages.{AddsMessages, each_of, if_field, records_inside, records_inside_given, IsClean, MeansEach}
 use Rattle.proto_wire.proofs.PieceReadings.{records_found}
 use Rattle.proto_wire.proofs.RowLaws.{Reaches-start, Reaches-end}
 use Rattle.scip_index.specs.declared.index.Document.{Document}
 use Rattle.scip_index.specs.Plain.{plain_document, PlainDocument, PlainIndex, PlainMetadata, PlainSymbol}
-use Rattle.scip_index.specs.Meaning.{index_of, Means}
+use Rattle.scip_index.specs.Meaning.{index_fault, index_of, Means}
 use Rattle.scip_index.specs.Streaming.{documents_in, given, HasDocuments, Stands}
 
 each_length : {M : Type 0} (Means : M → List Piece → Type 0) (ms : List M) (given : List (List Piece)) → MeansEach Means ms given → length ms ≡ length given
@@ -53,15 +53,25 @@ pub no_value : {X : Type 0} (o : Option X) → false ≡ is_some o → option_to
 no_value None e = refl
 no_value (Some x) e = absurd cc
 
--- the records of the bytes that are read
-pub read_so_far : (bytes : List ℕ) (front : List Piece) (at : ℕ) (rest : List ℕ) → Reaches 0 bytes front at rest → pieces_of 0 (take at bytes) ≡ (front, None)
-read_so_far bytes front at rest r =
+-- the bytes that are read
+read_bytes : (bytes : List ℕ) (front : List Piece) (at : ℕ) (rest : List ℕ) (r : Reaches 0 bytes front at rest) → take at bytes ≡ r.good
+read_bytes bytes front at rest r =
     let here : at ≡ length r.good = omega (arith, r.here) in
-    let cut : take at bytes ≡ r.good = ap (λ (n : ℕ). take n bytes) here ∙ ap (λ (bs : List ℕ). take (length r.good) bs) r.form ∙ take-append_seam r.good rest in
-    ap (pieces_of 0) cut ∙ records_found 0 r.good front r.are_records
+    ap (λ (n : ℕ). take n bytes) here ∙ ap (λ (bs : List ℕ). take (length r.good) bs) r.form ∙ take-append_seam r.good rest
+
+-- their records
+pub read_so_far : (bytes : List ℕ) (front : List Piece) (at : ℕ) (rest : List ℕ) → Reaches 0 bytes front at rest → pieces_of 0 (take at bytes) ≡ (front, None)
+read_so_far bytes front at rest r = ap (pieces_of 0) (read_bytes bytes front at rest r) ∙ records_found 0 r.good front r.are_records
 
 pub given_is : (bytes : List ℕ) (at : ℕ) (refusal : Option WireFault) (front : List Piece) (rest : List ℕ) → Reaches 0 bytes front at rest → given (record { bytes = bytes; at = at; refusal = refusal }) ≡ documents_in front
 given_is bytes at refusal front rest r = ap (λ (x : List Piece × Option WireFault). documents_in x.0) (read_so_far bytes front at rest r)
+
+-- the bytes that are read mean an index with the documents that are given
+pub read_means : (bytes : List ℕ) (at : ℕ) (refusal : Option WireFault) (front : List Piece) (rest : List ℕ) → Reaches 0 bytes front at rest → IsClean index_fault front
+    → HasDocuments (take at bytes) (given (record { bytes = bytes; at = at; refusal = refusal }))
+read_means bytes at refusal front rest r clean =
+    subst (λ (read : List ℕ). HasDocuments read (given (record { bytes = bytes; at = at; refusal = refusal }))) (sym (read_bytes bytes front at rest r))
+    (index_of front, record { pieces = front; are_records = r.are_records; clean = clean; said = refl }, sym (given_is bytes at refusal front rest r))
 
 -- at the end the bytes mean what the reader keeps and gave
 pub ended : (bytes : List ℕ) (front : List Piece) (at : ℕ) (rest : List ℕ) (metadata : Option PlainMetadata) (externals : List PlainSymbol) → Stands bytes front at rest metadata externals → length rest ≡ 0
@@ -73,6 +83,15 @@ ended bytes front at rest metadata externals s none = (
   sym s.externals_are,
   refl,
 )
+
+-- a reader that comes to a shorter rest has read on
+pub onward : {X : Type 0} (bytes : List ℕ) (front more : List Piece) (at next : ℕ) (rest after : List ℕ) (document : Option X) → Reaches 0 bytes front at rest → Reaches 0 bytes more next after
+    → IfSome document (λ _. length after < length rest) → IfSome document (λ _. (at < next) × (next ≤ length bytes))
+onward bytes front more at next rest after None r s h = tt
+onward bytes front more at next rest after (Some x) r s h =
+    let old = ap length r.form ∙ length-append r.good rest in
+    let new = ap length s.form ∙ length-append s.good after in
+    (omega (arith, old, new, r.here, s.here, h), omega (arith, new, s.here))
 
 -- a reader of which nothing is read
 pub fresh : (bytes : List ℕ) → Stands bytes [] 0 bytes None []

@@ -2,7 +2,7 @@
 use Rattle.std.specs.Prelude.{◌≡◌, ℕ, List, take, map, Option, Result, Ok, Err}
 use Rattle.proto_wire.specs.declared.fault.WireFault.{WireFault}
 use Rattle.proto_wire.specs.Records.{Piece, Reaches}
-use Rattle.proto_wire.specs.Messages.{each_of, records_inside, IsClean, IsFirstFault}
+use Rattle.proto_wire.specs.Messages.{each_of, records_inside, IsClean, IsFaultBehind, IsFirstFault}
 use Rattle.proto_wire.specs.Readings.{pieces_of}
 use Rattle.scip_index.specs.Plain.{PlainMetadata, PlainSymbol, PlainDocument, PlainIndex}
 use Rattle.scip_index.specs.Meaning.{metadata_of, symbol_of, document_of, merged, index_fault, Means}
@@ -35,6 +35,10 @@ Keeps bytes at rest metadata externals = (front : List Piece) × Stands bytes fr
 -- the bytes mean an index with these documents
 abbrev pub HasDocuments : List ℕ → List PlainDocument → Type 0
 HasDocuments bytes documents = (i : PlainIndex) × Means bytes i × (i.documents ≡ documents)
+
+-- the first fault of the bytes comes behind records with these documents
+abbrev pub IsFaultAfter : List ℕ → List PlainDocument → WireFault → Type 0
+IsFaultAfter bytes documents fault = (front : List Piece) × IsClean index_fault front × IsFaultBehind index_fault 0 bytes front fault × (documents_in front ≡ documents)
 
 -- what stands beside the documents in the index that the bytes mean, or their first fault
 abbrev pub IsRestOutcome : List ℕ → Result (Option PlainMetadata × List PlainSymbol) WireFault → Type 0

@@ -11,6 +11,11 @@ pub fn one_outcome()
     ensures { (bytes : List ℕ) (o p : Result PlainIndex WireFault) → IsIndexOutcome bytes o → IsIndexOutcome bytes p → o ≡ p }
 {}
 
+/// Any bytes mean an index or have a first fault.
+pub fn some_outcome()
+    ensures { (bytes : List ℕ) → (o : Result PlainIndex WireFault) × IsIndexOutcome bytes o }
+{}
+
 /// How `to_bytes` and `from_bytes` meet: what is written of an index means it, and nothing else. So by its clause `only`
 /// `from_bytes` gives the index back, unless memory runs out.
 pub fn what_is_written_is_read()

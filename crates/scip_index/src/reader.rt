@@ -1,14 +1,14 @@
 //! An index, read one document after the other.
-ghost use Rattle.std.specs.Prelude.{◌≡◌, ◌<◌, ◌≤◌, ◌+◌, ◌^◌, ◌++◌, ◌∷◌, [], ℕ, IfErr, IfNone, IfOk, IfSome, List, None, OnOk, Ok, Err, Result, Some, length, map, option_map};
+ghost use Rattle.std.specs.Prelude.{◌≡◌, ◌<◌, ◌≤◌, ◌+◌, ◌^◌, ◌++◌, ◌∷◌, [], ℕ, IfErr, IfNone, IfOk, IfSome, List, None, OnOk, Ok, Err, Result, Some, length, map, option_map, take};
 ghost use Rattle.std.specs.Option.{option_to_list};
 ghost use Rattle.std.specs.Result.{result_err};
 ghost use Rattle.proto_wire.specs.declared.fault.WireFault.{WireFault};
 ghost use Rattle.proto_wire.specs.Faults.{Tells, UnlessMemory};
-ghost use Rattle.proto_wire.specs.Messages.{IsFirstFault};
+ghost use Rattle.proto_wire.specs.Messages.{IsFaultBehind, IsFirstFault};
 ghost use Rattle.proto_wire.specs.Records.{Piece};
 ghost use Rattle.scip_index.specs.Plain.{plain_document, plain_metadata, plain_symbol};
 ghost use Rattle.scip_index.specs.Meaning.{index_fault};
-ghost use Rattle.scip_index.specs.Streaming.{documents_in, given, HasDocuments, IsRestOutcome, Stands};
+ghost use Rattle.scip_index.specs.Streaming.{documents_in, given, HasDocuments, IsFaultAfter, IsRestOutcome, Stands};
 
 use crate::{Document, Metadata, SymbolInfo};
 use proto_wire::{WireFault, merge_message, record_at_front, take_messages};
@@ -39,7 +39,7 @@ fn take_record<'a>(
         × (documents_in (front ++ p ∷ []) ≡ documents_in front ++ map plain_document (option_to_list x.0))) }
     ensures shorter { IfOk result (λ x. (length x.2.now < length rest.now) × (x.1 + length x.2.now ≡ at + length rest.now)) }
     ensures err { IfErr result (λ e. (bytes : List ℕ) (front : List Piece) →
-        Stands bytes front at rest.now (option_map plain_metadata metadata.old) (map plain_symbol externals.old.items) → UnlessMemory e (IsFirstFault index_fault 0 bytes e)) }
+        Stands bytes front at rest.now (option_map plain_metadata metadata.old) (map plain_symbol externals.old.items) → UnlessMemory e (IsFaultBehind index_fault 0 bytes front e)) }
 {
     let (wire, payload, after) = record_at_front(at, rest)?;
     let mut documents = Vec::new(alloc);
@@ -63,8 +63,9 @@ fn next_document<'a>(
         (more : List Piece) × Stands bytes (front ++ more) x.1 x.2.now (option_map plain_metadata metadata.new) (map plain_symbol externals.new.items)
         × (documents_in (front ++ more) ≡ documents_in front ++ map plain_document (option_to_list x.0))
         × (IfNone x.0 (length x.2.now ≡ 0))) }
+    ensures shorter { IfOk result (λ x. IfSome x.0 (λ _. length x.2.now < length rest.now)) }
     ensures err { IfErr result (λ e. (bytes : List ℕ) (front : List Piece) →
-        Stands bytes front at rest.now (option_map plain_metadata metadata.old) (map plain_symbol externals.old.items) → UnlessMemory e (IsFirstFault index_fault 0 bytes e)) }
+        Stands bytes front at rest.now (option_map plain_metadata metadata.old) (map plain_symbol externals.old.items) → UnlessMemory e (IsFaultAfter bytes (documents_in front) e)) }
 {
     let mut place = at;
     let mut left = rest;
@@ -147,15 +148,19 @@ impl<'a> IndexReader<'a> {
     }
 
     /// The next document; none at the end of the bytes.
-    /// Refuses with the first fault of the bytes, as `from_bytes` does, once it is reached, and with `Memory`.
+    /// Refuses with the first fault of the bytes, as `from_bytes` does, once all documents in front of it are given, and with `Memory`.
     pub fn next(&mut self) -> Result<Option<Document>, WireFault>
         ensures same { self.new.bytes ≡ self.old.bytes }
         // What it gives is the next of the documents that the bytes carry.
         ensures found { IfNone self.old.refusal (IfOk result (λ x. given self.new ≡ given self.old ++ map plain_document (option_to_list x))) }
+        // The bytes that are read have no fault: they mean an index with the documents that are given.
+        ensures sound { IfNone self.old.refusal (IfOk result (λ _. HasDocuments (take self.new.at self.old.bytes) (given self.new))) }
         // It gives none only where the bytes mean an index, and all its documents are given.
         ensures end { IfNone self.old.refusal (IfOk result (λ x. IfNone x (HasDocuments self.old.bytes (given self.old)))) }
-        // It refuses with the first fault of the bytes, unless memory ran out.
-        ensures fault { IfNone self.old.refusal (IfErr result (λ e. UnlessMemory e (IsFirstFault index_fault 0 self.old.bytes e))) }
+        // With a document it has read on, and never beyond the bytes.
+        ensures onward { IfNone self.old.refusal (IfOk result (λ x. IfSome x (λ _. (self.old.at < self.new.at) × (self.new.at ≤ length self.old.bytes)))) }
+        // It refuses with the first fault of the bytes, once all documents in front of that are given, unless memory ran out.
+        ensures fault { IfNone self.old.refusal (IfErr result (λ e. UnlessMemory e (IsFaultAfter self.old.bytes (given self.old) e))) }
         // A refusal is kept.
         ensures kept { self.new.refusal ≡ result_err result }
         // It is answered again from then on.

@@ -1,9 +1,11 @@
 //! An index, put into a sink one document after the other.
 ghost use Rattle.std.specs.Prelude.{◌≡◌, IfNone, IfSome, None, OnOk, Some, map};
+ghost use Rattle.std.specs.List.{AllByRecursion};
 ghost use Rattle.std.specs.Result.{result_err};
 ghost use Rattle.byte_sink.specs.Sinks.{failures_after, failures_by, Puts};
 ghost use Rattle.proto_wire.specs.Writers.{answer_of, is_failure, PutsRecord};
 ghost use Rattle.scip_index.specs.declared.writer.Stage.TheVariants.{Fresh, Open, Ended};
+ghost use Rattle.scip_index.specs.Fits.{DocumentFits, MetadataFits, SymbolFits};
 ghost use Rattle.scip_index.specs.Plain.{plain_document, plain_metadata, plain_symbol};
 ghost use Rattle.scip_index.specs.Written.{document_part, externals_part, metadata_part};
 ghost use Rattle.scip_index.specs.Writers.{after_put, MayCall};
@@ -33,6 +35,7 @@ fn put_metadata<S: Sink>(
     sink: &mut S,
 ) -> Result<(), SinkFault>
     ensures puts { Puts (S.taken sink.old) (S.taken sink.new) result (metadata_part (Some (plain_metadata metadata.now))) }
+    ensures fits { OnOk result (MetadataFits (plain_metadata metadata.now)) }
     ensures failures { S.failures sink.new ≡ failures_after result (S.failures sink.old) }
 {
     bytes.clear();
@@ -48,6 +51,7 @@ fn put_document<S: Sink>(
     sink: &mut S,
 ) -> Result<(), SinkFault>
     ensures puts { Puts (S.taken sink.old) (S.taken sink.new) result (document_part (plain_document document.now)) }
+    ensures fits { OnOk result (DocumentFits (plain_document document.now)) }
     ensures failures { S.failures sink.new ≡ failures_after result (S.failures sink.old) }
 {
     bytes.clear();
@@ -61,7 +65,8 @@ fn gather_externals(
     bytes: &mut Vec<u8>,
     externals: &[SymbolInfo],
 ) -> Result<(), AllocError>
-    ensures { OnOk result (bytes.new.items ≡ externals_part (map plain_symbol externals.now)) }
+    ensures bytes { OnOk result (bytes.new.items ≡ externals_part (map plain_symbol externals.now)) }
+    ensures fits { OnOk result (AllByRecursion SymbolFits (map plain_symbol externals.now)) }
 {
     bytes.clear();
     put_messages(scratch, bytes, 3, externals)
@@ -75,6 +80,7 @@ fn put_externals<S: Sink>(
     sink: &mut S,
 ) -> Result<(), SinkFault>
     ensures puts { Puts (S.taken sink.old) (S.taken sink.new) result (externals_part (map plain_symbol externals.now)) }
+    ensures fits { OnOk result (AllByRecursion SymbolFits (map plain_symbol externals.now)) }
     ensures failures { S.failures sink.new ≡ failures_after result (S.failures sink.old) }
 {
     gather_externals(scratch, bytes, externals).map_err(|_| SinkFault::Memory)?;
@@ -147,6 +153,8 @@ impl IndexWriter {
         requires { MayCall self.old Fresh }
         // The whole part at Ok, and a front of it at a refusal.
         ensures puts { IfNone self.old.refusal (PutsRecord (S.taken sink.old) (S.taken sink.new) result (metadata_part (Some (plain_metadata metadata.now)))) }
+        // What is put can be read again, as all that code holds.
+        ensures fits { OnOk result (MetadataFits (plain_metadata metadata.now)) }
         // Device is answered where the sink counted a failure, and nowhere else.
         ensures failures { IfNone self.old.refusal (S.failures sink.new ≡ failures_by is_failure result (S.failures sink.old)) }
         // A refusal is kept, and is one of a sink.
@@ -166,6 +174,8 @@ impl IndexWriter {
         requires { MayCall self.old Open }
         // The whole part at Ok, and a front of it at a refusal.
         ensures puts { IfNone self.old.refusal (PutsRecord (S.taken sink.old) (S.taken sink.new) result (document_part (plain_document document.now))) }
+        // What is put can be read again, as all that code holds.
+        ensures fits { OnOk result (DocumentFits (plain_document document.now)) }
         // Device is answered where the sink counted a failure, and nowhere else.
         ensures failures { IfNone self.old.refusal (S.failures sink.new ≡ failures_by is_failure result (S.failures sink.old)) }
         // A refusal is kept, and is one of a sink.
@@ -185,6 +195,8 @@ impl IndexWriter {
         requires { MayCall self.old Open }
         // The whole part at Ok, and a front of it at a refusal.
         ensures puts { IfNone self.old.refusal (PutsRecord (S.taken sink.old) (S.taken sink.new) result (externals_part (map plain_symbol externals.now))) }
+        // What is put can be read again, as all that code holds.
+        ensures fits { OnOk result (AllByRecursion SymbolFits (map plain_symbol externals.now)) }
         // Device is answered where the sink counted a failure, and nowhere else.
         ensures failures { IfNone self.old.refusal (S.failures sink.new ≡ failures_by is_failure result (S.failures sink.old)) }
         // A refusal is kept, and is one of a sink.

@@ -1,10 +1,14 @@
 //! Tests of symbols, of the wire format, of indexes and of questions to them, from outside.
-//! Stands on `scip_symbol`, `proto_wire`, `scip_index` and `index_store`, on the `Sink` of `byte_sink`, and on `test_doubles` for a sink that fails.
+//! Stands on `scip_symbol`, `proto_wire`, `scip_index`, `index_store` and `oscip_query`, on the `Sink` of `byte_sink`, and on `test_doubles` for a sink that fails.
 //! Its contract: none; it has nothing but tests.
 #![tactic(auto)]
 
 #[cfg(test)]
+mod foreign_bytes;
+#[cfg(test)]
 mod index;
+#[cfg(test)]
+mod questions;
 #[cfg(test)]
 mod store;
 #[cfg(test)]

@@ -1,4 +1,6 @@
 //! Questions to indexes. The answers are worked by hand from the occurrences.
+mod readers;
+
 use crate::index::FOREIGN;
 use crate::told::is_told;
 use index_store::{Place, Position, Store, StoreFault};
@@ -25,7 +27,7 @@ fn show_symbol(
 }
 
 fn show_place(alloc: Global, place: &Place) -> Result<String, AllocError> {
-    let path = place.path.as_str();
+    let path = place.path;
     let (start, end) = (place.start, place.end);
     let (line, column) = (start.line, start.column);
     let (last, until) = (end.line, end.column);
@@ -275,18 +277,17 @@ fn documents(alloc: Global) -> Result<Vec<Document>, AllocError> {
     Ok(documents)
 }
 
-fn by_hand(alloc: Global) -> Result<Store, Fail> {
-    let index = Index {
+fn index_by_hand(alloc: Global) -> Result<Index, AllocError> {
+    Ok(Index {
         metadata: None,
         documents: documents(alloc)?,
         external_symbols: Vec::new(alloc),
-    };
-    Ok(Store::new(alloc, index)?)
+    })
 }
 
 #[test]
 fn an_index_made_by_hand_is_asked(rt: HostRuntime) -> Result<(), Fail> {
-    let store = by_hand(rt.alloc())?;
+    let store = Store::new(rt.alloc(), index_by_hand(rt.alloc())?)?;
     tells_symbols(&rt, &store, SYMBOLS)?;
     tells_places(&rt, &store, PLACES)
 }

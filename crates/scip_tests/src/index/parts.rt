@@ -1,5 +1,7 @@
 //! Indexes, written and read one document after the other.
-use super::{ENCLOSED, FOREIGN, show_document, show_fault, show_metadata, show_symbols};
+use super::{
+    EMPTY, ENCLOSED, FOREIGN, TWO, show_document, show_fault, show_metadata, show_symbols,
+};
 use crate::told::is_told;
 use byte_sink::Sink;
 use proto_wire::WireFault;
@@ -39,6 +41,40 @@ fn the_parts_are_the_whole(rt: HostRuntime) -> Result<(), Fail> {
     let (metadata, document) = parts_of(&index).ok_or("it has both")?;
     put_parts(rt.alloc(), metadata, document, &mut out)?;
     assert_eq!(rt; out.as_slice(), ENCLOSED);
+    Ok(())
+}
+
+/// What a writer puts of metadata alone.
+fn put_none(alloc: Global, bytes: &[u8]) -> Result<Vec<u8>, Fail> {
+    let index = index_of(alloc, bytes)?;
+    let metadata = index.metadata.as_ref().ok_or("it has metadata")?;
+    let mut out = Vec::new(alloc);
+    let mut writer = IndexWriter::new(alloc);
+    writer.metadata(metadata, &mut out)?;
+    writer.end(&[], &mut out)?;
+    Ok(out)
+}
+
+/// What a writer puts of metadata, two documents and external symbols.
+fn put_two(alloc: Global, bytes: &[u8]) -> Result<Vec<u8>, Fail> {
+    let index = index_of(alloc, bytes)?;
+    let (metadata, first) = parts_of(&index).ok_or("it has both")?;
+    let second = index.documents.get(1).ok_or("it has two")?;
+    let mut out = Vec::new(alloc);
+    let mut writer = IndexWriter::new(alloc);
+    writer.metadata(metadata, &mut out)?;
+    writer.document(first, &mut out)?;
+    writer.document(second, &mut out)?;
+    writer.end(index.external_symbols.as_slice(), &mut out)?;
+    Ok(out)
+}
+
+#[test]
+fn no_document_and_two_are_put_by_parts(rt: HostRuntime) -> Result<(), Fail> {
+    let put = put_none(rt.alloc(), EMPTY)?;
+    assert_eq!(rt; put.as_slice(), EMPTY);
+    let put = put_two(rt.alloc(), TWO)?;
+    assert_eq!(rt; put.as_slice(), TWO);
     Ok(())
 }
 
@@ -150,6 +186,36 @@ const READ: &[(usize, u32, &str)] = &[
         "the record at 0 is cut off; the record at 0 is cut off",
     ),
 ];
+
+/// Bytes, how many documents are asked for, and what is answered.
+const WHOLE: &[(&[u8], u32, &str)] = &[
+    (
+        TWO,
+        3,
+        "a in  0; b in  0; none; encoding 1 root \"r\" x is X y is ",
+    ),
+    (TWO, 1, "a in  0; encoding 1 root \"r\" x is X y is "),
+    // What stands behind a fault is not given, be the fault inside a symbol or inside a range.
+    (
+        b"\x12\x03\x0a\x01a\x1a\x03\x32\x01\xff\x12\x03\x0a\x01b",
+        2,
+        "a in  0; the text of the record at 7 is no UTF-8; the text of the record at 7 is no UTF-8",
+    ),
+    (
+        b"\x12\x05\x12\x03\x0a\x01\x80",
+        1,
+        "the record at 4 is cut off; the record at 4 is cut off",
+    ),
+];
+
+#[test]
+fn what_stands_behind_a_fault_is_not_given(rt: HostRuntime) -> Result<(), Fail> {
+    for (bytes, times, want) in WHOLE {
+        let told = told(rt.alloc(), bytes, *times)?;
+        is_told(&rt, told.as_str(), want);
+    }
+    Ok(())
+}
 
 #[test]
 fn documents_are_read_one_after_the_other(rt: HostRuntime) -> Result<(), Fail> {

@@ -1,5 +1,5 @@
 //! What the bytes of an index mean, and the bytes that are written of one.
-use super::{EMPTY, ENCLOSED, FOREIGN, MODULE, show, show_fault};
+use super::{EMPTY, ENCLOSED, FOREIGN, MODULE, TWO, show, show_fault};
 use crate::told::is_told;
 use scip_index::{
     Document, Index, Metadata, Occurrence, SymbolInfo, ToolInfo, from_bytes, to_bytes,
@@ -27,6 +27,7 @@ const READ: &[(&[u8], &str)] = &[
         ENCLOSED,
         "encoding 1 root \"\" by oscip 1 with 0; M.Mod in Oberon 1 [0, 7, 8] scip-oberon . . . M/ 1 [0, 0, 16] [0, 14, 15] scip-oberon . . . M/ 0 [] scip-oberon . . . M/ is M",
     ),
+    (TWO, "encoding 1 root \"r\"; a in  0; b in  0 x is X y is "),
     // A range that is packed and unpacked, negative numbers, and the last of several texts and numbers.
     (
         b"\x12\x1c\x12\x1a\x08\x01\x0a\x01\x02\x08\xff\xff\xff\xff\xff\xff\xff\xff\xff\x01\x12\x01a\x12\x01b\x18\x04\x18\x08",
@@ -100,6 +101,7 @@ const WRITTEN: &[(&[u8], &[u8])] = &[
     (EMPTY, EMPTY),
     (MODULE, MODULE),
     (ENCLOSED, ENCLOSED),
+    (TWO, TWO),
     (
         FOREIGN,
         b"\x0a\x02\x20\x01\x12\x15\x0a\x01a\x12\x10\x0a\x03\x00\x07\x08\x12\x07local 0\x18\x01",

@@ -1,14 +1,11 @@
 //! What bytes are read as.
 use super::{show_fault, told};
+use crate::index::FOREIGN;
 use crate::told::is_told;
 use proto_wire::packed_values;
 use std::alloc::{AllocError, Global};
 use std::process::Abort;
 use std::test::Fail;
-
-/// An index of another producer: a document with an unpacked range and an unknown field 99, and then metadata.
-const FOREIGN: &[u8] =
-    b"\x12\x19\x0a\x01a\x12\x11\x08\x00\x08\x07\x08\x08\x12\x07local 0\x18\x01\x98\x06\x01\x0a\x02\x20\x01";
 
 fn reads(rt: &(impl Abort + AllocGlobal), bytes: &[u8], want: &str) -> Result<(), Fail> {
     let told = told(rt.alloc(), bytes)?;

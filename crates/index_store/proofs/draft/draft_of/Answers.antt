@@ -4,11 +4,11 @@ use Rattle.std.specs.List.{flat_map}
 use Rattle.scip_index.specs.Plain.{plain_document}
 use Rattle.index_store.specs.Queries.{found_in}
 use Rattle.index_store.specs.Stores.{paths_of}
-use Rattle.index_store.proofs.StoreLemmas.{documents_more, nothing_kept}
+use Rattle.index_store.proofs.StoreLemmas.{documents_more}
 use Rattle.index_store.proofs.draft.draft_of.Goals as goal
 
 pub loop-document-init : goal.loop-document-init
-loop-document-init c = rw (c.new-2.ensures.texts, c.new-2.ensures.rows, c.new.ensures.texts, c.new.ensures.rows) nothing_kept
+loop-document-init c = (c.new-draft.ensures.whole, c.new-draft.ensures.nothing)
 
 pub loop-document-preserved : goal.loop-document-preserved
 loop-document-preserved c =

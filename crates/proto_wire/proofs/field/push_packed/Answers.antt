@@ -6,7 +6,7 @@ use Rattle.std.proofs.lemmas.List.{append-nil}
 use Rattle.std.proofs.lemmas.Bool.{eqb-true}
 use Rattle.proto_wire.specs.Packed.{int32}
 use Rattle.proto_wire.proofs.PieceLaws.{some_from_test}
-use Rattle.proto_wire.proofs.FaultLaws.{UnlessMemory-then}
+use Rattle.proto_wire.proofs.FaultLaws.{UnlessMemory-from}
 use Rattle.proto_wire.proofs.PackedLaws.{Counts-start, Counts-step, Counts-fault, Counts-end}
 use Rattle.proto_wire.proofs.field.push_packed.Goals as goal
 
@@ -19,8 +19,8 @@ returns-in_err-number-clause-err c =
     let read = c.loop-rest.invariant in
     let fault = c.in_err-number.field-0.0 in
     rw (p.1, p.2)
-    (UnlessMemory-then fault c.in_err-number.ensures.value
-    (λ e. Counts-fault c.args.at c.args.payload.now read.0 c.loop-rest.rest.now fault read.2 (some_from_test _ (sym c.loop-rest-test.ensures)) e))
+    (UnlessMemory-from fault
+    (Counts-fault c.args.at c.args.payload.now read.0 c.loop-rest.rest.now fault read.2 (some_from_test _ (sym c.loop-rest-test.ensures)) c.in_err-number.ensures.value))
 
 pub loop-rest-preserved : goal.loop-rest-preserved
 loop-rest-preserved c =

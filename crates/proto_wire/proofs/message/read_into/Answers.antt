@@ -8,7 +8,7 @@ use Rattle.proto_wire.proofs.PieceLaws.{some_from_test}
 use Rattle.proto_wire.proofs.PieceReadings.{records_found, stop_found}
 use Rattle.proto_wire.proofs.RowLaws.{Reaches-start, Reaches-step, Reaches-fault, Reaches-end}
 use Rattle.proto_wire.proofs.MessageLaws.{IsClean-push, fault_of-end, fault_of-inside}
-use Rattle.proto_wire.proofs.FaultLaws.{UnlessMemory-then}
+use Rattle.proto_wire.proofs.FaultLaws.{UnlessMemory-from, UnlessMemory-then}
 use Rattle.proto_wire.proofs.message.read_into.Goals as goal
 
 pub loop-rest-init : goal.loop-rest-init
@@ -24,8 +24,9 @@ returns-in_err-wire-clause-err g c =
     let inside = g.M.Message.fault_in in
     let fault = c.in_err-wire.field-0.0 in
     rw (p.1, p.2)
-    (UnlessMemory-then fault c.in_err-wire.ensures.exact
-    (λ wrong. fault_of-end inside c.args.start c.args.bytes.now read.0 (Some fault) read.1 (stop_found c.args.start c.args.bytes.now read.0 fault (Reaches-fault c.args.start c.args.bytes.now read.0 c.loop-rest.at c.loop-rest.rest.now fault read.3 (some_from_test _ (sym c.loop-rest-test.ensures)) wrong))))
+    (UnlessMemory-from fault
+    (fault_of-end inside c.args.start c.args.bytes.now read.0 (Some fault) read.1
+    (stop_found c.args.start c.args.bytes.now read.0 fault (Reaches-fault c.args.start c.args.bytes.now read.0 c.loop-rest.at c.loop-rest.rest.now fault read.3 (some_from_test _ (sym c.loop-rest-test.ensures)) c.in_err-wire.ensures.exact))))
 
 pub returns-in_err-take-clause-err : goal.returns-in_err-take-clause-err
 returns-in_err-take-clause-err g c =

@@ -3,7 +3,7 @@ use Rattle.std.proofs.lemmas.Result.{err_from_is_err_and}
 use Rattle.std.proofs.lemmas.List.{map_push}
 use Rattle.std.proofs.lemmas.Bool.{eqb-true}
 use Rattle.proto_wire.specs.Records.{Piece}
-use Rattle.proto_wire.proofs.FaultLaws.{UnlessMemory-then}
+use Rattle.proto_wire.proofs.FaultLaws.{UnlessMemory-from}
 use Rattle.proto_wire.proofs.PieceLaws.{some_from_test}
 use Rattle.proto_wire.proofs.RowLaws.{Reaches-start, Reaches-step, Reaches-fault, Reaches-end}
 use Rattle.proto_wire.proofs.PieceReadings.{one_outcome}
@@ -17,11 +17,10 @@ returns-in_err-record c =
     let p = err_from_is_err_and c.from_residual.result c.from_residual.ensures.1 in
     let read = c.loop-rest.invariant.read in
     let fault = c.in_err-record.field-0.0 in
-    let stopped = UnlessMemory-then fault c.in_err-record.ensures.exact
-    (Reaches-fault 0 c.args.bytes.now read.0 c.loop-rest.at c.loop-rest.rest.now fault read.2 (some_from_test _ (sym c.loop-rest-test.ensures))) in
+    let stopped = Reaches-fault 0 c.args.bytes.now read.0 c.loop-rest.at c.loop-rest.rest.now fault read.2 (some_from_test _ (sym c.loop-rest-test.ensures)) c.in_err-record.ensures.exact in
     rw (p.1, p.2) (record {
-      exact = UnlessMemory-then fault stopped (λ s. (read.0, s));
-      only = λ o h. UnlessMemory-then fault stopped (λ s. one_outcome c.args.bytes.now (Err fault) o (read.0, s) h);
+      exact = UnlessMemory-from fault (read.0, stopped);
+      only = λ o h. UnlessMemory-from fault (one_outcome c.args.bytes.now (Err fault) o (read.0, stopped) h);
     })
 
 pub loop-rest-preserved : goal.loop-rest-preserved

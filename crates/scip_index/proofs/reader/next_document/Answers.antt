@@ -5,6 +5,7 @@ use Rattle.std.proofs.lemmas.Result.{err_from_is_err_and}
 use Rattle.std.proofs.lemmas.List.{append-nil}
 use Rattle.std.proofs.lemmas.Bool.{eqb-true}
 use Rattle.proto_wire.specs.Records.{Piece}
+use Rattle.proto_wire.proofs.FaultLaws.{UnlessMemory-then}
 use Rattle.scip_index.specs.Plain.{plain_document, plain_metadata, plain_symbol, PlainDocument}
 use Rattle.scip_index.specs.Streaming.{Stands, documents_in}
 use Rattle.scip_index.proofs.StreamingLaws.{no_value, not_none}
@@ -16,7 +17,7 @@ returns-in_err-document-clause-err c =
     rw (q.1, q.2)
     (λ bytes front s.
     let k = c.records.invariant.skipped bytes front s in
-    c.in_err-document.ensures.err bytes (front ++ k.0) k.1)
+    UnlessMemory-then c.in_err-document.field-0.0 (c.in_err-document.ensures.err bytes (front ++ k.0) k.1) (λ behind. (front ++ k.0, k.1.clean, behind, k.2)))
 
 pub returns-then-is_some-clause-found : goal.returns-then-is_some-clause-found
 returns-then-is_some-clause-found c = λ bytes front s.
@@ -49,6 +50,7 @@ records-preserved c =
                 ∙ ap (λ ds. documents_in front ++ map plain_document ds) none ∙ append-nil (documents_in front),
           );
       inside = omega (arith, here.ensures.shorter.1, c.records.invariant.inside);
+      below = omega (arith, here.ensures.shorter.0, c.records.invariant.below);
     }
 
 pub returns-clause-found : goal.returns-clause-found

@@ -1,4 +1,4 @@
-use Rattle.std.proofs.Common.{◌≡◌, ◌+◌, ◌++◌, ℕ, List, map, length}
+use Rattle.std.proofs.Common.{◌≡◌, ◌+◌, ◌≤◌, ◌++◌, ℕ, List, map, length}
 use Rattle.std.specs.Prelude.{option_map}
 use Rattle.proto_wire.specs.Records.{Piece}
 use Rattle.scip_index.specs.Plain.{plain_metadata, plain_symbol}
@@ -10,6 +10,7 @@ invariant-records l = record {
   skipped : (bytes : List ℕ) (front : List Piece) → Stands bytes front l.at l.rest (option_map plain_metadata l.initial.metadata) (map plain_symbol l.initial.externals.items)
       → (more : List Piece) × Stands bytes (front ++ more) l.place l.left (option_map plain_metadata l.metadata) (map plain_symbol l.externals.items) × (documents_in (front ++ more) ≡ documents_in front);
   inside : l.place + length l.left ≡ l.at + length l.rest;
+  below : length l.left ≤ length l.rest;
 }
 
 abbrev pub decreases-records : goal.decreases-records

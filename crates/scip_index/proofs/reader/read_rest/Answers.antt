@@ -3,6 +3,7 @@ use Rattle.std.specs.Prelude.{option_map}
 use Rattle.std.proofs.lemmas.Result.{err_from_is_err_and}
 use Rattle.std.proofs.lemmas.Bool.{eqb-true}
 use Rattle.proto_wire.specs.Records.{Piece}
+use Rattle.proto_wire.proofs.FaultLaws.{UnlessMemory-then}
 use Rattle.scip_index.specs.Plain.{plain_metadata, plain_symbol}
 use Rattle.scip_index.specs.Streaming.{Stands}
 use Rattle.scip_index.proofs.StreamingLaws.{ended}
@@ -14,7 +15,7 @@ returns-in_err-next-clause-err c =
     rw (q.1, q.2)
     (λ bytes front s.
     let k = c.records.invariant.skipped bytes front s in
-    c.in_err-next.ensures.err bytes (front ++ k.0) k.1)
+    UnlessMemory-then c.in_err-next.field-0.0 (c.in_err-next.ensures.err bytes (front ++ k.0) k.1) (λ behind. (front ++ k.0, k.1.clean, behind)))
 
 pub records-preserved : goal.records-preserved
 records-preserved c =

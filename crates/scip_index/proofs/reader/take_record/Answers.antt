@@ -3,8 +3,8 @@ use Rattle.std.proofs.lemmas.Result.{err_from_is_err_and}
 use Rattle.proto_wire.specs.declared.fault.WireFault.{WireFault}
 use Rattle.proto_wire.specs.Faults.{Stops, UnlessMemory}
 use Rattle.proto_wire.specs.Records.{Piece, IsFirst}
-use Rattle.proto_wire.specs.Messages.{piece_of, each_of, if_field, fault_at, message_fault, records_inside, in_record, of_record, IsFirstFault}
-use Rattle.proto_wire.proofs.FaultLaws.{UnlessMemory-then}
+use Rattle.proto_wire.specs.Messages.{piece_of, each_of, if_field, fault_at, message_fault, records_inside, in_record, of_record, IsFaultBehind}
+use Rattle.proto_wire.proofs.FaultLaws.{UnlessMemory-from, UnlessMemory-then}
 use Rattle.proto_wire.proofs.MessageSteps.{each_of-push}
 use Rattle.proto_wire.proofs.RowLaws.{Reaches-step, Reaches-fault}
 use Rattle.proto_wire.proofs.MessageLaws.{IsClean-push}
@@ -17,18 +17,17 @@ use Rattle.scip_index.proofs.reader.take_record.Goals as goal
 
 -- a fault inside a record that was read is the index's
 stops_inside : (fault : WireFault) (bytes : List ℕ) (front : List Piece) (at : ℕ) (rest : List ℕ) (metadata : Option PlainMetadata) (externals : List PlainSymbol) (p : Piece) (after : List ℕ) (inner : Option WireFault)
-    → Stands bytes front at rest metadata externals → IsFirst at rest (Ok (p, after)) → Stops fault inner → (inner ≡ Some fault → index_fault p ≡ Some fault) → UnlessMemory fault (IsFirstFault index_fault 0 bytes fault)
+    → Stands bytes front at rest metadata externals → IsFirst at rest (Ok (p, after)) → Stops fault inner → (inner ≡ Some fault → index_fault p ≡ Some fault) → UnlessMemory fault (IsFaultBehind index_fault 0 bytes front fault)
 stops_inside fault bytes front at rest metadata externals p after inner s read h go =
     UnlessMemory-then fault h
-    (λ e. in_record front p _ after s.clean (Reaches-step 0 bytes front at rest p after s.reached read) (go e))
+    (λ e. in_record p _ after (Reaches-step 0 bytes front at rest p after s.reached read) (go e))
 
 pub returns-in_err-wire-clause-err : goal.returns-in_err-wire-clause-err
 returns-in_err-wire-clause-err c =
     let q = err_from_is_err_and c.from_residual.result c.from_residual.ensures.1 in
     let fault = c.in_err-wire.field-0.0 in
     rw (q.1, q.2)
-    (λ bytes front s. UnlessMemory-then fault c.in_err-wire.ensures.exact
-    (λ wrong. of_record front s.clean (Reaches-fault 0 bytes front c.args.at c.args.rest.now fault s.reached c.requires.some wrong)))
+    (λ bytes front s. UnlessMemory-from fault (of_record (Reaches-fault 0 bytes front c.args.at c.args.rest.now fault s.reached c.requires.some c.in_err-wire.ensures.exact)))
 
 pub returns-in_err-merge_message-clause-err : goal.returns-in_err-merge_message-clause-err
 returns-in_err-merge_message-clause-err c =
