@@ -11,15 +11,15 @@ use Rattle.ob_parse.specs.Forms.{Refusal, Wrong, Deep, ◌>>=◌, Read, Reader, 
 use Rattle.ob_parse.specs.ReadExpressions.{mul_start, add_start, relation_start, sign_start, sign_at, selector_first, factor_first, expr_first, term_with, sum_with, expr_with, element_with, selector_from, selector_with, designator_with, factor_from, factor_with, expr_at, negated_at}
 use Rattle.ob_parse.specs.ReadModules.{name_then}
 
--- the first is too deep, or both are the same
+-- the first is too deep somewhere, or both are the same
 abbrev pub Agree : Read → Read → Type 0
-Agree a b = (a ≡ Err Deep) ⊎ (a ≡ b)
+Agree a b = ((x : Leaf × List Leaf) × (a ≡ Err (Deep x))) ⊎ (a ≡ b)
 
 abbrev pub Extends : Reader → Reader → Type 0
 Extends r s = (ls : List Leaf) → Agree (r ls) (s ls)
 
 then_agree : (a b : Read) (f g : Out × List Leaf → Read) → Agree a b → ((x : Out × List Leaf) → Agree (f x) (g x)) → Agree (a >>= f) (b >>= g)
-then_agree a b f g (inl e) h = inl (rw e refl)
+then_agree a b f g (inl d) h = inl (d.0, rw d.1 refl)
 then_agree (Ok x) b f g (inr e) h = elim (h x) [ inl d ↦ inl d | inr s ↦ inr (s ∙ ap (λ (y : Read). y >>= g) e) ]
 then_agree (Err x) b f g (inr e) h = inr (ap (λ (y : Read). y >>= g) e)
 
@@ -70,7 +70,7 @@ name_then_extends role r s p ls = named_agree role r s p (identifier_at ls)
 
 -- what is wrong where no token of these stands in front
 abbrev pub Needs : (Leaf → Bool) → Reader → Type 0
-Needs p r = (ls : List Leaf) → front p (uncons ls) ≡ false → r ls ≡ Err Wrong
+Needs p r = (ls : List Leaf) → front p (uncons ls) ≡ false → r ls ≡ Err (Wrong (uncons ls))
 
 pub seq_needs : (p : Leaf → Bool) (r s : Reader) → Needs p r → Needs p (seq r s)
 seq_needs p r s h ls e = rw (h ls e) refl
@@ -85,13 +85,14 @@ expect_needs k (leafs.Name n ∷ rest) e = refl
 expect_needs k (leafs.Value v n ∷ rest) e = refl
 expect_needs k (leafs.Word j ∷ rest) e = rw e refl
 
-limit_agrees : (b : Bool) (read : Read) → (b ≡ false → read ≡ Err Wrong) → Agree (cond b (Err Deep) (Err Wrong)) read
-limit_agrees true read h = inl refl
-limit_agrees false read h = inr (sym (h refl))
+limit_agrees : (b : Bool) (x : Leaf × List Leaf) (read : Read) → (b ≡ false → read ≡ Err (Wrong (Some x))) → Agree (cond b (Err (Deep x)) (Err (Wrong (Some x)))) read
+limit_agrees true x read h = inl (x, refl)
+limit_agrees false x read h = inr (sym (h refl))
 
 pub limit_extends : (p : Leaf → Bool) (s : Reader) → Needs p s → Extends (limit_at p) s
 unfolding limit_at
-limit_extends p s h ls = limit_agrees (front p (uncons ls)) (s ls) (h ls)
+limit_extends p s h [] = inr (sym (h [] refl))
+limit_extends p s h (l ∷ ls) = limit_agrees (p l) (l, ls) (s (l ∷ ls)) (h (l ∷ ls))
 
 -- ---- expressions
 

@@ -82,13 +82,14 @@ no_statement r b (leafs.Word kinds.Repeat ∷ rest) e = absurd cc
 no_statement r b (leafs.Word kinds.For ∷ rest) e = absurd cc
 no_statement r b (l ∷ rest) e = refl
 
-empty_agrees : (b : Bool) (empty read : Read) → (b ≡ false → read ≡ empty) → Agree (cond b (Err Deep) empty) read
-empty_agrees true empty read h = inl refl
-empty_agrees false empty read h = inr (sym (h refl))
+empty_agrees : (b : Bool) (x : Leaf × List Leaf) (empty read : Read) → (b ≡ false → read ≡ empty) → Agree (cond b (Err (Deep x)) empty) read
+empty_agrees true x empty read h = inl (x, refl)
+empty_agrees false x empty read h = inr (sym (h refl))
 
 empty_extends : (r b : Reader) → Extends empty_at (statement_with r b)
 unfolding empty_at statement_with
-empty_extends r b ls = empty_agrees (front statement_first (uncons ls)) _ _ (no_statement r b ls)
+empty_extends r b [] = inr refl
+empty_extends r b (l ∷ ls) = empty_agrees (statement_first l) (l, ls) _ _ (no_statement r b (l ∷ ls))
 
 pub statement_at_extends : (d k : ℕ) → d ≤ k → Extends (statement_at d) (statement_at k)
 unfolding statement_at

@@ -20,11 +20,12 @@ use Rattle.ob_tree.specs.declared.token.Leaf.TheVariants as leafs
 use Rattle.ob_tree.specs.declared.construct.Construct.TheVariants as constructs
 use Rattle.ob_tree.specs.declared.construct.Construct.{Construct}
 use Rattle.ob_tree.specs.Leaves.{same_kind, leaf_of, leaves}
-use Rattle.ob_tree.specs.Marks.{Declares, Uses, Names, Repeats, Begins, Ends, Identifier, Value, Word, Out, construct, word, declared, used, named, repeated}
+use Rattle.ob_tree.specs.Marks.{Value, Out, construct, word, declared, used, named, repeated}
 use Rattle.ob_tree.specs.Expressions.{relation_kind, sign_kind, add_kind, mul_kind}
 use Rattle.ob_tree.specs.Derives.{endings_in}
+use Rattle.ob_tree.proofs.EndNames.{endings-append, endings-construct}
 use Rattle.ob_parse.specs.Front.{uncons, front, is_word}
-use Rattle.ob_parse.specs.Forms.{Wrong, Deep, Read, ◌>>=◌, Reader, Front, Start, expect_at, accept_at, identifier_at, name_at, begins, unless, nothing, seq, prefixed, node, if_found, optional, so_often, many, several, limit_at}
+use Rattle.ob_parse.specs.Forms.{Refusal, Wrong, deep_at, Read, ◌>>=◌, Reader, Front, Start, expect_at, accept_at, identifier_at, name_at, begins, unless, nothing, seq, prefixed, node, if_found, optional, so_often, many, several, limit_at}
 use Rattle.ob_parse.specs.ReadNames.{qualident_after, qualident_at, identdef_at}
 use Rattle.ob_parse.specs.ReadExpressions.{after_relation, after_sign, after_add, after_mul, relation_at, sign_at, add_at, mul_at, marked, mul_start, add_start, relation_start, sign_start, selector_first, term_with, sum_with, expr_with, element_with, selector_from, selector_with, designator_with, factor_from, factor_with, expr_at, negated_at}
 use Rattle.ob_parse.specs.ReadStatements.{label_first, statement_first, label_from, label_at, label_range_at, case_with, block_with, branch_with, if_with, cases_with, while_with, repeat_with, for_with, assign_with, statement_from, statement_with, empty_at, statement_at, block_at}
@@ -63,26 +64,11 @@ KnowsStart bound start = (ls : List Leaf) (x : Out × List Leaf) → LeavesBelow
 
 -- ---- outlines
 
-pub endings_in-append : (a b : Out) → endings_in (a ++ b) ≡ endings_in a ++ endings_in b
-endings_in-append [] b = refl
-endings_in-append (Begins c n ∷ a) b = endings_in-append a b
-endings_in-append (Ends c ∷ a) b = endings_in-append a b
-endings_in-append (Identifier Declares n ∷ a) b = endings_in-append a b
-endings_in-append (Identifier Uses n ∷ a) b = endings_in-append a b
-endings_in-append (Identifier Names n ∷ a) b = endings_in-append a b
-endings_in-append (Identifier (Repeats m) n ∷ a) b = ap (λ (es : List (ℕ × ℕ)). (m, n) ∷ es) (endings_in-append a b)
-endings_in-append (Value k n ∷ a) b = endings_in-append a b
-endings_in-append (Word k ∷ a) b = endings_in-append a b
-
-pub endings_in-construct : (c : Construct) (o : Out) → endings_in (construct c o) ≡ endings_in o
-unfolding construct
-endings_in-construct c o = endings_in-append o (Ends c ∷ []) ∙ append-nil (endings_in o)
-
 both_below : (bound : ℕ) (a b : Out) → EndingsBelow bound a → EndingsBelow bound b → EndingsBelow bound (a ++ b)
-both_below bound a b p q = record { each_one = rw (endings_in-append a b) (All-append (AreBelow bound) (endings_in a) (endings_in b) p.each_one q.each_one) }
+both_below bound a b p q = record { each_one = rw (endings-append a b) (All-append (AreBelow bound) (endings_in a) (endings_in b) p.each_one q.each_one) }
 
 construct_below : (bound : ℕ) (c : Construct) (o : Out) → EndingsBelow bound o → EndingsBelow bound (construct c o)
-construct_below bound c o p = record { each_one = rw (endings_in-construct c o) p.each_one }
+construct_below bound c o p = record { each_one = rw (endings-construct c o) p.each_one }
 
 nothing_below : (bound : ℕ) → EndingsBelow bound []
 nothing_below bound = record { each_one = All-nil (AreBelow bound) }
@@ -182,16 +168,16 @@ knows_many bound start r hs hr ls x l e = knows_so_often bound start r (length l
 
 -- ---- tokens
 
-expected_knows : (bound : ℕ) (k : Kind) (b : Bool) (rest : List Leaf) (x : Out × List Leaf) → LeavesBelow bound rest → cond b (done (word k, rest)) (Err Wrong) ≡ Ok x → Known bound x.0 x.1
-expected_knows bound k true rest x l e = known_at_once bound rest (word k) x (word_below bound k) l e
-expected_knows bound k false rest x l e = absurd cc
+expected_knows : (bound : ℕ) (k : Kind) (b : Bool) (rest : List Leaf) (x : Out × List Leaf) → LeavesBelow bound rest → (r : Refusal) → cond b (done (word k, rest)) (Err r) ≡ Ok x → Known bound x.0 x.1
+expected_knows bound k true rest x l r e = known_at_once bound rest (word k) x (word_below bound k) l e
+expected_knows bound k false rest x l r e = absurd cc
 
 expect_knows : (bound : ℕ) (k : Kind) → Knows bound (expect_at k)
 unfolding expect_at
 expect_knows bound k [] x l e = absurd cc
 expect_knows bound k (leafs.Name n ∷ rest) x l e = absurd cc
 expect_knows bound k (leafs.Value v n ∷ rest) x l e = absurd cc
-expect_knows bound k (leafs.Word j ∷ rest) x l e = expected_knows bound k (same_kind j k) rest x (tail_below bound (leafs.Word j) rest l) e
+expect_knows bound k (leafs.Word j ∷ rest) x l e = expected_knows bound k (same_kind j k) rest x (tail_below bound (leafs.Word j) rest l) (Wrong (Some (leafs.Word j, rest))) e
 
 accepted_knows : (bound : ℕ) (k : Kind) (b : Bool) (rest : List Leaf) (x : Out × List Leaf) → LeavesBelow bound rest → cond b (Some (word k, rest)) None ≡ Some x → Known bound x.0 x.1
 accepted_knows bound k true rest x l e = start_at_once bound rest (word k) x (word_below bound k) l e
@@ -264,13 +250,13 @@ knows_several : (bound : ℕ) (k : Kind) (item : Reader) → Knows bound item �
 unfolding several
 knows_several bound k item h = knows_seq bound item (many (accept_at k) item) h (knows_many bound (accept_at k) item (accept_knows bound k) h)
 
-limited_knows : (bound : ℕ) (b : Bool) (x : Out × List Leaf) → cond b (Err Deep) (Err Wrong) ≡ Ok x → Known bound x.0 x.1
-limited_knows bound true x e = absurd cc
-limited_knows bound false x e = absurd cc
+limited_knows : (bound : ℕ) (b : Bool) (o : Option (Leaf × List Leaf)) (x : Out × List Leaf) → cond b (Err (deep_at o)) (Err (Wrong o)) ≡ Ok x → Known bound x.0 x.1
+limited_knows bound true o x e = absurd cc
+limited_knows bound false o x e = absurd cc
 
 limit_knows : (bound : ℕ) (p : Leaf → Bool) → Knows bound (limit_at p)
 unfolding limit_at
-limit_knows bound p ls x l e = limited_knows bound (front p (uncons ls)) x e
+limit_knows bound p ls x l e = limited_knows bound (front p (uncons ls)) (uncons ls) x e
 
 -- a word where a token of this kind may stand, and what is read behind it
 knows_accepted : (bound : ℕ) (k : Kind) (r : Reader) → Knows bound r → Knows bound (optional (accept_at k) r)
@@ -517,14 +503,14 @@ statement_knows : (bound : ℕ) (r b : Reader) → Knows bound r → Knows bound
 unfolding statement_with
 statement_knows bound r b h g ls x l e = statement_from_knows bound r b h g ls x l e
 
-empty_or_deep_knows : (bound : ℕ) (b : Bool) (ls : List Leaf) (x : Out × List Leaf) → LeavesBelow bound ls
-    → cond b (Err Deep) (done (construct constructs.EmptyStatement [], ls)) ≡ Ok x → Known bound x.0 x.1
-empty_or_deep_knows bound true ls x l e = absurd cc
-empty_or_deep_knows bound false ls x l e = empty_knows bound ls x l e
+empty_or_deep_knows : (bound : ℕ) (b : Bool) (r : Refusal) (ls : List Leaf) (x : Out × List Leaf) → LeavesBelow bound ls
+    → cond b (Err r) (done (construct constructs.EmptyStatement [], ls)) ≡ Ok x → Known bound x.0 x.1
+empty_or_deep_knows bound true r ls x l e = absurd cc
+empty_or_deep_knows bound false r ls x l e = empty_knows bound ls x l e
 
 empty_at_knows : (bound : ℕ) → Knows bound empty_at
 unfolding empty_at
-empty_at_knows bound ls x l e = empty_or_deep_knows bound (front statement_first (uncons ls)) ls x l e
+empty_at_knows bound ls x l e = empty_or_deep_knows bound (front statement_first (uncons ls)) (deep_at (uncons ls)) ls x l e
 
 statement_at_knows : (bound d : ℕ) → Knows bound (statement_at d)
 unfolding statement_at

@@ -14,6 +14,7 @@ pub mod Endings
 pub mod LoopEnds
 pub mod LoopProcedures
 pub mod Loops
+pub mod OneFault
 pub mod OneTree
 pub mod ReadsBack
 pub mod RightEnds

@@ -1,10 +1,10 @@
 -- The loop over procedures.
-use Rattle.std.proofs.Common.{◌≡◌, ℕ, zero, suc, Bool, true, false, cond, ◌<◌, List, length, Ok, Err}
+use Rattle.std.proofs.Common.{◌≡◌, ℕ, zero, suc, Bool, true, false, cond, ◌<◌, List, length, Option, Ok, Err}
 use Rattle.ob_scan.specs.declared.kind.Kind.TheVariants as kinds
 use Rattle.ob_tree.specs.declared.token.Leaf.{Leaf}
 use Rattle.ob_tree.specs.Marks.{Out}
 use Rattle.ob_parse.specs.Front.{uncons, front, is_word}
-use Rattle.ob_parse.specs.Forms.{Wrong, Deep, Reader, begins, limit_at}
+use Rattle.ob_parse.specs.Forms.{Wrong, deep_at, Reader, begins, limit_at}
 use Rattle.ob_parse.specs.ReadModules.{ended, procedure_with, procedure_at}
 use Rattle.ob_parse.proofs.Sound.{Sound, expect_sound}
 use Rattle.ob_parse.proofs.SoundExpressions.{expr_at_sound}
@@ -13,13 +13,13 @@ use Rattle.ob_parse.proofs.SoundModules.{procedure_name_sound, declarations_at_s
 use Rattle.ob_parse.proofs.Loops.{Advances, Shortens, sound_no_longer, shortens_seq, shortens_node, shortens_expect, begins_advances}
 
 -- nothing is read at the limit
-limited_shortens : (b : Bool) (ls : List Leaf) (x : Out × List Leaf) → cond b (Err Deep) (Err Wrong) ≡ Ok x → length x.1 < length ls
-limited_shortens true ls x e = absurd cc
-limited_shortens false ls x e = absurd cc
+limited_shortens : (b : Bool) (o : Option (Leaf × List Leaf)) (ls : List Leaf) (x : Out × List Leaf) → cond b (Err (deep_at o)) (Err (Wrong o)) ≡ Ok x → length x.1 < length ls
+limited_shortens true o ls x e = absurd cc
+limited_shortens false o ls x e = absurd cc
 
 limit_shortens : (p : Leaf → Bool) → Shortens (limit_at p)
 unfolding limit_at
-limit_shortens p ls x e = limited_shortens (front p (uncons ls)) ls x e
+limit_shortens p ls x e = limited_shortens (front p (uncons ls)) (uncons ls) ls x e
 
 procedure_with_shortens : (d : ℕ) (expr block declarations : Reader) → Sound d expr → Sound d block → Sound d declarations → Shortens (procedure_with expr block declarations)
 unfolding procedure_with

@@ -150,7 +150,7 @@ shortens_name role ls x e =
     let a = bind_ok (identifier_at ls) (λ a. Ok (role a.0, a.1)) x e in
     omega (arith, ap length (identifier_spelt ls a.0 a.1), ap length (left_same (role a.0.0) a.0.1 x a.2))
 
-expected_shortens : (k : Kind) (b : Bool) (rest : List Leaf) (j : Kind) (x : Out × List Leaf) → cond b (done (word k, rest)) (Err Wrong) ≡ Ok x → length x.1 < length (leafs.Word j ∷ rest)
+expected_shortens : (k : Kind) (b : Bool) (rest : List Leaf) (j : Kind) (x : Out × List Leaf) → cond b (done (word k, rest)) (Err (Wrong (Some (leafs.Word j, rest)))) ≡ Ok x → length x.1 < length (leafs.Word j ∷ rest)
 expected_shortens k true rest j x e = omega (arith, ap length (left_same (word k) rest x e))
 expected_shortens k false rest j x e = absurd cc
 

@@ -1,9 +1,9 @@
 -- The whole text: one tree, or none.
-use Rattle.std.proofs.Common.{◌≡◌, ℕ, ◌+◌, ◌<◌, ◌≤◌, List, [], ◌∷◌, suc, ◌^◌, ◌++◌, Option, None, Some, slice_get, get_or, Result, Ok, Err, length, refl, sym, ap, ◌∙◌, subst, arith, length-append, inl, inr}
+use Rattle.std.proofs.Common.{◌≡◌, ℕ, ◌+◌, ◌<◌, ◌≤◌, List, [], ◌∷◌, suc, ◌^◌, ◌++◌, Option, None, Some, slice_get, get_or, drop, Result, Ok, Err, length, refl, sym, ap, ◌∙◌, subst, arith, length-append, inl, inr}
 use Rattle.std.proofs.Math.Seq.{get_or-append_seam}
-use Rattle.std.proofs.lemmas.Option.{get_or_from_slice_get, slice_get_within}
+use Rattle.std.proofs.lemmas.Option.{get_or_from_slice_get, slice_get_cases, slice_get_within}
 use Rattle.std.proofs.lemmas.Bool.{cases_lt}
-use Rattle.std.proofs.lemmas.List.{length-map}
+use Rattle.std.proofs.lemmas.List.{drop_all, drop_more, length-map, take_all}
 use Rattle.std.specs.Prelude.{All}
 use Rattle.ob_scan.specs.declared.kind.Kind.{Kind}
 use Rattle.ob_scan.specs.declared.token.Token.{Token}
@@ -11,21 +11,27 @@ use Rattle.ob_scan.specs.Spelling.{AreInText}
 use Rattle.ob_tree.specs.declared.declaration.Module.{Module}
 use Rattle.ob_tree.specs.Declaring.{module_outline}
 use Rattle.ob_tree.specs.Derives.{Derives, depth, endings_in, spelling}
-use Rattle.ob_tree.specs.Leaves.{leaves}
+use Rattle.ob_tree.specs.declared.token.Leaf.{Leaf}
+use Rattle.ob_tree.specs.Leaves.{leaf_of, leaves}
 use Rattle.ob_tree.specs.Marks.{Out}
 use Rattle.ob_parse.specs.declared.fault.ParseFault.{ParseFault}
 use Rattle.ob_parse.specs.declared.fault.ParseFault.TheVariants as faults
-use Rattle.ob_parse.specs.Forms.{Refusal, Wrong, Deep}
-use Rattle.ob_parse.specs.Gives.{Fails}
+use Rattle.ob_parse.specs.Front.{uncons}
+use Rattle.ob_parse.specs.Forms.{Refusal, Wrong, Deep, deep_at}
+use Rattle.ob_parse.specs.Gives.{Fails, ahead}
+use Rattle.ob_parse.specs.declared.input.Input.{Input}
 use Rattle.ob_parse.specs.declared.stop.Stop.{Stop}
 use Rattle.ob_parse.specs.declared.stop.Stop.TheVariants as stops
-use Rattle.ob_parse.specs.Ends.{IsKnown, IsPlaced, start_or, told}
-use Rattle.ob_parse.specs.Parsed.{Pair, IsOneTree, IsTheTree, IsRightEnd, IsWrongEnd, IsEndFault, IsFaultOf, IsPlace, kinds_of, bytes_of}
+use Rattle.ob_parse.specs.Ends.{IsKnown, IsPlaced, deep_told, told}
+use Rattle.ob_parse.specs.Parsed.{Pair, IsOneTree, IsTheTree, IsRightEnd, IsWrongEnd, IsEndFault, IsFaultOf, IsPlace, kinds_of, bytes_of, from_token, read_left, start_or}
 use Rattle.ob_parse.specs.ReadModules.{all_of}
 use Rattle.ob_parse.proofs.SoundModules.{all_sound}
 use Rattle.ob_parse.proofs.Whole.{still_wrong, still_ok}
 use Rattle.ob_parse.proofs.CompleteModules.{all_again}
 use Rattle.ob_parse.proofs.Endings.{endings_known, leaves_below}
+
+abbrev refused : Refusal → Result Out Refusal
+refused r = Err r
 
 ok_same : (x y : Out) (r : Result Out Refusal) → r ≡ Ok x → r ≡ Ok y → x ≡ y
 ok_same x y r e f = cc
@@ -46,24 +52,48 @@ one_tree ts m e =
       only = λ other h. ok_same (module_outline other) (module_outline m) (all_of (200 + depth other) (leaves 0 (kinds_of ts))) (again (kinds_of ts) (200 + depth other) other h (omega arith)) (still_ok 200 (200 + depth other) (leaves 0 (kinds_of ts)) (module_outline m) (omega arith) e);
     }
 
-no_tree : (ts : List Token) → all_of 200 (leaves 0 (kinds_of ts)) ≡ Err Wrong → (other : Module) → Derives (kinds_of ts) other → ⊥
-no_tree ts e other h = never (all_of (200 + depth other) (leaves 0 (kinds_of ts))) (module_outline other) Wrong (again (kinds_of ts) (200 + depth other) other h (omega arith)) (still_wrong 200 (200 + depth other) (leaves 0 (kinds_of ts)) (omega arith) e)
+no_tree : (ts : List Token) (o : Option (Leaf × List Leaf)) → read_left ts ≡ Err (Wrong o) → (other : Module) → Derives (kinds_of ts) other → ⊥
+no_tree ts o e other h = never (all_of (200 + depth other) (leaves 0 (kinds_of ts))) (module_outline other) (Wrong o) (again (kinds_of ts) (200 + depth other) other h (omega arith)) (still_wrong 200 (200 + depth other) (leaves 0 (kinds_of ts)) o (omega arith) e)
 
-no_low_tree : (ts : List Token) → all_of 200 (leaves 0 (kinds_of ts)) ≡ Err Deep → (other : Module) → Derives (kinds_of ts) other → 200 < depth other
-no_low_tree ts e other h = elim (cases_lt 200 (depth other)) [
+no_low_tree : (ts : List Token) (x : Leaf × List Leaf) → read_left ts ≡ Err (Deep x) → (other : Module) → Derives (kinds_of ts) other → 200 < depth other
+no_low_tree ts x e other h = elim (cases_lt 200 (depth other)) [
   | inl lt ↦ lt
-  | inr le ↦ absurd (never (all_of 200 (leaves 0 (kinds_of ts))) (module_outline other) Deep (again (kinds_of ts) 200 other h le) e)
+  | inr le ↦ absurd (never (read_left ts) (module_outline other) (Deep x) (again (kinds_of ts) 200 other h le) e)
 ]
 
--- the place that is told of a token's number
-place_is : (bytes : List ℕ) (ts : List Token) (n : ℕ) (o : Option Token) → slice_get ts n ≡ o → IsPlace bytes ts (start_or (length bytes) o)
-place_is bytes ts n None e = inr refl
-place_is bytes ts n (Some t) e = inl (record { number = n; token = t; there = e; begins = refl })
+-- ---- where the parser stops
 
-pub why_none : (bytes : List ℕ) (ts : List Token) (stop : Stop) → Fails {Y = Out} stop (all_of 200 (leaves 0 (kinds_of ts))) → IsFaultOf bytes ts (told (length bytes) ts stop)
-why_none bytes ts stops.Memory e = tt
-why_none bytes ts (stops.Wrong n) e = (place_is bytes ts n (slice_get ts n) refl, no_tree ts e)
-why_none bytes ts (stops.Deep n) e = (place_is bytes ts n (slice_get ts n) refl, no_low_tree ts e)
+-- what is ahead is what stands from the token of that number on
+ahead_is : (ts : List Token) (i : Input) → length ts < 2 ^ 32 → uncons (ahead ts i) ≡ from_token ts i.at
+unfolding ahead
+ahead_is ts i few = ap (λ (us : List Token). uncons (leaves i.at (kinds_of (drop i.at us)))) (take_all 4294967295 ts (omega (arith, few)))
+
+nothing_from : (ts : List Token) (n : ℕ) → length ts ≤ n → from_token ts n ≡ None
+nothing_from ts n h = ap (λ (us : List Token). uncons (leaves n (kinds_of us))) (drop_all n ts h)
+
+token_from : (ts : List Token) (n : ℕ) (t : Token) → n < length ts → get_or ts n t ≡ t → from_token ts n ≡ Some (leaf_of n t.kind, leaves (n + 1) (kinds_of (drop (n + 1) ts)))
+token_from ts n t h e = ap (λ (us : List Token). uncons (leaves n (kinds_of us))) (drop_more ts n t h ∙ ap (λ (u : Token). u ∷ drop (n + 1) ts) e)
+
+wrong_fault : (bytes : List ℕ) (ts : List Token) (n : ℕ) → read_left ts ≡ Err (Wrong (from_token ts n)) → IsFaultOf bytes ts (faults.Syntax (start_or (length bytes) (slice_get ts n)))
+wrong_fault bytes ts n e = (record { number = n; begins = refl; stops = e }, no_tree ts (from_token ts n) e)
+
+deep_fault : (bytes : List ℕ) (ts : List Token) (n : ℕ) → read_left ts ≡ Err (deep_at (from_token ts n)) → IsFaultOf bytes ts (deep_told (length bytes) (slice_get ts n))
+deep_fault bytes ts n e = elim (slice_get_cases ts n).1 [
+  | inl (t, within, there, at) ↦
+      let is_ahead = token_from ts n t within at in
+      let stops : read_left ts ≡ Err (Deep (leaf_of n t.kind, leaves (n + 1) (kinds_of (drop (n + 1) ts)))) = e ∙ ap (λ (o : Option (Leaf × List Leaf)). refused (deep_at o)) is_ahead in
+      subst (λ (o : Option Token). IsFaultOf bytes ts (deep_told (length bytes) o)) (sym there)
+      (record { number = n; token = t; there = there; begins = refl; ahead = (leaf_of n t.kind, leaves (n + 1) (kinds_of (drop (n + 1) ts))); is_ahead = is_ahead; stops = stops }, no_low_tree ts _ stops)
+  | inr (past, none) ↦
+      let stops : read_left ts ≡ Err (Wrong (from_token ts n)) = e ∙ ap (λ (o : Option (Leaf × List Leaf)). refused (deep_at o)) (nothing_from ts n past) ∙ ap (λ (o : Option (Leaf × List Leaf)). refused (Wrong o)) (sym (nothing_from ts n past)) in
+      subst (λ (o : Option Token). IsFaultOf bytes ts (deep_told (length bytes) o)) (sym none)
+      (subst (λ (o : Option Token). IsFaultOf bytes ts (faults.Syntax (start_or (length bytes) o))) none (wrong_fault bytes ts n stops))
+]
+
+pub why_none : (bytes : List ℕ) (ts : List Token) (stop : Stop) → length ts < 2 ^ 32 → Fails {Y = Out} ts stop (read_left ts) → IsFaultOf bytes ts (told (length bytes) ts stop)
+why_none bytes ts stops.Memory few e = tt
+why_none bytes ts (stops.Wrong i) few e = wrong_fault bytes ts i.at (e ∙ ap (λ (o : Option (Leaf × List Leaf)). refused (Wrong o)) (ahead_is ts i few))
+why_none bytes ts (stops.Deep i) few e = deep_fault bytes ts i.at (e ∙ ap (λ (o : Option (Leaf × List Leaf)). refused (deep_at o)) (ahead_is ts i few))
 
 -- both numbers of each ending are those of tokens
 pub endings_are_known : (ts : List Token) (o : Out) → all_of 200 (leaves 0 (kinds_of ts)) ≡ Ok o → All (IsKnown ts) (endings_in o)
@@ -76,7 +106,7 @@ tokens_placed bytes ts h = λ i d in_i. let a = h.some i d in_i in (omega arith,
 pub trees_same : (kinds : List Kind) (m n : Module) → Derives kinds m → Derives kinds n → module_outline m ≡ module_outline n
 trees_same kinds m n h k = ok_same (module_outline m) (module_outline n) (all_of (depth m + depth n) (leaves 0 kinds)) (again kinds (depth m + depth n) m h (omega arith)) (again kinds (depth m + depth n) n k (omega arith))
 
-some_is : {X : Type 0} (x y : X) → Some x ≡ Some y → x ≡ y
+pub some_is : {X : Type 0} (x y : X) → Some x ≡ Some y → x ≡ y
 some_is x y e = cc
 
 -- the texts of a pair are those of its tokens, whichever way they are found
@@ -86,7 +116,7 @@ pair_texts bytes ts e p q same =
     let end : p.end ≡ q.end = some_is p.end q.end (sym p.end_there ∙ q.end_there) in
     rw (sym name, sym end) same
 
-not_wrong : (bytes : List ℕ) (ts : List Token) (at : ℕ) (e : ℕ × ℕ) → IsRightEnd bytes ts e → IsWrongEnd bytes ts at e → ⊥
+pub not_wrong : (bytes : List ℕ) (ts : List Token) (at : ℕ) (e : ℕ × ℕ) → IsRightEnd bytes ts e → IsWrongEnd bytes ts at e → ⊥
 not_wrong bytes ts at e r w = w.differ (pair_texts bytes ts e r.pair w.pair r.same)
 
 pub no_end_fault : (bytes : List ℕ) (ts : List Token) (m : Module) (at : ℕ) → IsTheTree bytes ts m → IsEndFault bytes ts at → ⊥
@@ -114,7 +144,7 @@ place_in_text bytes ts at h (inl s) =
     let start : (get_or ts s.number s.token).start ≡ at = ap (λ (t : Token). t.start) here ∙ s.begins in
     omega (arith, token.0, token.1, start)
 
-leaves_length : (n : ℕ) (kinds : List Kind) → length (leaves n kinds) ≡ length kinds
+pub leaves_length : (n : ℕ) (kinds : List Kind) → length (leaves n kinds) ≡ length kinds
 leaves_length n [] = refl
 leaves_length n (k ∷ kinds) = ap suc (leaves_length (n + 1) kinds)
 

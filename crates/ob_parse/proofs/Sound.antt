@@ -1,5 +1,5 @@
 -- What is read is spelled so: the tokens of the outline, and the rest. And the outline is no higher than the reader may go.
-use Rattle.std.proofs.Common.{◌≡◌, ℕ, zero, suc, ◌≤◌, Bool, true, false, cond, List, [], ◌∷◌, ◌++◌, length, Some, None, Result, Ok, Err, refl, sym, ap, subst, ◌∙◌, append_assoc, arith}
+use Rattle.std.proofs.Common.{◌≡◌, ℕ, zero, suc, ◌≤◌, Bool, true, false, cond, List, [], ◌∷◌, ◌++◌, length, Option, Some, None, Result, Ok, Err, refl, sym, ap, subst, ◌∙◌, append_assoc, arith}
 use Rattle.std.specs.Prelude.{max}
 use Rattle.std.proofs.Math.Nat.{max-zero, zero-max}
 use Rattle.std.proofs.lemmas.List.{append-nil}
@@ -13,7 +13,7 @@ use Rattle.ob_tree.specs.Constructs.{is_level}
 use Rattle.ob_tree.specs.Marks.{Role, Begins, Ends, Identifier, Value, Word, Out, tokens_of, height, construct, word}
 use Rattle.ob_tree.proofs.Same.{same_is}
 use Rattle.ob_parse.specs.Front.{uncons, front, is_word}
-use Rattle.ob_parse.specs.Forms.{Refusal, Wrong, Deep, ◌>>=◌, Reader, Front, Start, expect_at, accept_at, identifier_at, name_at, begins, unless, nothing, seq, prefixed, node, if_found, optional, so_often, many, several, limit_at}
+use Rattle.ob_parse.specs.Forms.{Refusal, Wrong, deep_at, ◌>>=◌, Reader, Front, Start, expect_at, accept_at, identifier_at, name_at, begins, unless, nothing, seq, prefixed, node, if_found, optional, so_often, many, several, limit_at}
 use Rattle.ob_parse.specs.ReadModules.{name_then}
 
 -- the tokens are those of the outline, and the rest; the outline has at most so many levels
@@ -207,7 +207,7 @@ sound_many d start r hs hr ls x e = sound_so_often d start r (length ls) hs hr l
 
 -- ---- tokens
 
-expected_sound : (d : ℕ) (k : Kind) (b : Bool) (rest : List Leaf) (j : Kind) (x : Out × List Leaf) → same_kind j k ≡ b → cond b (done (word k, rest)) (Err Wrong) ≡ Ok x
+expected_sound : (d : ℕ) (k : Kind) (b : Bool) (rest : List Leaf) (j : Kind) (x : Out × List Leaf) → same_kind j k ≡ b → cond b (done (word k, rest)) (Err (Wrong (Some (leafs.Word j, rest)))) ≡ Ok x
     → Takes d (leafs.Word j ∷ rest) x.0 x.1
 expected_sound d k true rest j x h e = sound_at_once d (leafs.Word j ∷ rest) rest (word k) x (record { parts = ap (λ (i : Kind). leafs.Word i ∷ rest) (same_is j k h); low = omega arith }) e
 expected_sound d k false rest j x h e = absurd cc
@@ -272,10 +272,10 @@ pub sound_several : (d : ℕ) (k : Kind) (item : Reader) → Sound d item → So
 unfolding several
 sound_several d k item h = sound_seq d item (many (accept_at k) item) h (sound_many d (accept_at k) item (accept_sound d k) h)
 
-limited_sound : (d : ℕ) (b : Bool) (ls : List Leaf) (x : Out × List Leaf) → cond b (Err Deep) (Err Wrong) ≡ Ok x → Takes d ls x.0 x.1
-limited_sound d true ls x e = absurd cc
-limited_sound d false ls x e = absurd cc
+limited_sound : (d : ℕ) (b : Bool) (o : Option (Leaf × List Leaf)) (ls : List Leaf) (x : Out × List Leaf) → cond b (Err (deep_at o)) (Err (Wrong o)) ≡ Ok x → Takes d ls x.0 x.1
+limited_sound d true o ls x e = absurd cc
+limited_sound d false o ls x e = absurd cc
 
 pub limit_sound : (d : ℕ) (p : Leaf → Bool) → Sound d (limit_at p)
 unfolding limit_at
-limit_sound d p ls x e = limited_sound d (front p (uncons ls)) ls x e
+limit_sound d p ls x e = limited_sound d (front p (uncons ls)) (uncons ls) ls x e

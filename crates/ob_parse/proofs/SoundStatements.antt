@@ -8,7 +8,7 @@ use Rattle.ob_tree.specs.declared.token.Leaf.TheVariants as leafs
 use Rattle.ob_tree.specs.declared.construct.Construct.TheVariants as constructs
 use Rattle.ob_tree.specs.Marks.{Out, construct}
 use Rattle.ob_parse.specs.Front.{uncons, front}
-use Rattle.ob_parse.specs.Forms.{Deep, Reader}
+use Rattle.ob_parse.specs.Forms.{Refusal, deep_at, Reader}
 use Rattle.ob_parse.specs.ReadStatements.{label_first, statement_first, label_at, label_range_at, case_with, block_with, branch_with, if_with, cases_with, while_with, repeat_with, for_with, assign_with, statement_from, statement_with, empty_at, statement_at, block_at}
 use Rattle.ob_parse.proofs.Sound.{Sound, SoundBehind, Takes, done, takes_none, takes_flat, word_takes, value_takes, sound_at_once, sound_seq, sound_flat, sound_optional, sound_many, sound_several, behind_seq, behind_level, behind_prefixed, behind_at_once, expect_sound, accept_sound, begins_sound}
 use Rattle.ob_parse.proofs.SoundExpressions.{used_sound, qualident_after_sound, designator_sound, expr_at_sound}
@@ -90,13 +90,13 @@ statement_with_sound : (d : ℕ) (expr block : Reader) → Sound d expr → Soun
 unfolding statement_with
 statement_with_sound d expr block he hb ls x e = statement_from_sound d expr block he hb ls x e
 
-empty_or_deep_sound : (d : ℕ) (b : Bool) (ls : List Leaf) (x : Out × List Leaf) → cond b (Err Deep) (done (construct constructs.EmptyStatement [], ls)) ≡ Ok x → Takes d ls x.0 x.1
-empty_or_deep_sound d true ls x e = absurd cc
-empty_or_deep_sound d false ls x e = sound_at_once d ls ls _ x (empty_takes d ls) e
+empty_or_deep_sound : (d : ℕ) (b : Bool) (r : Refusal) (ls : List Leaf) (x : Out × List Leaf) → cond b (Err r) (done (construct constructs.EmptyStatement [], ls)) ≡ Ok x → Takes d ls x.0 x.1
+empty_or_deep_sound d true r ls x e = absurd cc
+empty_or_deep_sound d false r ls x e = sound_at_once d ls ls _ x (empty_takes d ls) e
 
 empty_sound : (d : ℕ) → Sound d empty_at
 unfolding empty_at
-empty_sound d ls x e = empty_or_deep_sound d (front statement_first (uncons ls)) ls x e
+empty_sound d ls x e = empty_or_deep_sound d (front statement_first (uncons ls)) (deep_at (uncons ls)) ls x e
 
 pub statement_at_sound : (d : ℕ) → Sound d (statement_at d)
 unfolding statement_at

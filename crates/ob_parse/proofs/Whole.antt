@@ -1,5 +1,5 @@
 -- The whole text: what was not too deep is the same at each greater depth.
-use Rattle.std.proofs.Common.{◌≡◌, ℕ, ◌≤◌, List, Result, Ok, Err, sym, ap, ◌∙◌, inl, inr, refl}
+use Rattle.std.proofs.Common.{◌≡◌, ℕ, ◌≤◌, List, Option, Result, Ok, Err, sym, ap, ◌∙◌, inl, inr, refl}
 use Rattle.ob_tree.specs.declared.token.Leaf.{Leaf}
 use Rattle.ob_tree.specs.Marks.{Out}
 use Rattle.ob_parse.specs.Front.{uncons}
@@ -7,18 +7,18 @@ use Rattle.ob_parse.specs.Forms.{Refusal, Wrong, Deep, ◌>>=◌, Read}
 use Rattle.ob_parse.specs.ReadModules.{nothing_left, all_of}
 use Rattle.ob_parse.proofs.DeeperModules.{module_at_extends}
 
-never_deep : (r : Result Out Refusal) → r ≡ Err Deep → r ≡ Err Wrong → ⊥
-never_deep r x y = cc
+pub never_deep : (r : Result Out Refusal) (x : Leaf × List Leaf) (o : Option (Leaf × List Leaf)) → r ≡ Err (Deep x) → r ≡ Err (Wrong o) → ⊥
+never_deep r x o d w = cc
 
-never_too_deep : (r : Result Out Refusal) (o : Out) → r ≡ Err Deep → r ≡ Ok o → ⊥
-never_too_deep r o x y = cc
+never_too_deep : (r : Result Out Refusal) (x : Leaf × List Leaf) (o : Out) → r ≡ Err (Deep x) → r ≡ Ok o → ⊥
+never_too_deep r x o d e = cc
 
 -- what is wrong at one depth is wrong at each greater one
-pub still_wrong : (d k : ℕ) (ls : List Leaf) → d ≤ k → all_of d ls ≡ Err Wrong → all_of k ls ≡ Err Wrong
+pub still_wrong : (d k : ℕ) (ls : List Leaf) (o : Option (Leaf × List Leaf)) → d ≤ k → all_of d ls ≡ Err (Wrong o) → all_of k ls ≡ Err (Wrong o)
 unfolding all_of
-still_wrong d k ls le e =
+still_wrong d k ls o le e =
     elim (module_at_extends d k le ls) [
-      | inl deep ↦ absurd (never_deep (all_of d ls) (rw deep refl) e)
+      | inl deep ↦ absurd (never_deep (all_of d ls) deep.0 o (rw deep.1 refl) e)
       | inr same ↦ ap (λ (r : Read). r >>= λ a. nothing_left a.0 (uncons a.1)) (sym same) ∙ e
     ]
 
@@ -27,6 +27,6 @@ pub still_ok : (d k : ℕ) (ls : List Leaf) (o : Out) → d ≤ k → all_of d l
 unfolding all_of
 still_ok d k ls o le e =
     elim (module_at_extends d k le ls) [
-      | inl deep ↦ absurd (never_too_deep (all_of d ls) o (rw deep refl) e)
+      | inl deep ↦ absurd (never_too_deep (all_of d ls) deep.0 o (rw deep.1 refl) e)
       | inr same ↦ ap (λ (r : Read). r >>= λ a. nothing_left a.0 (uncons a.1)) (sym same) ∙ e
     ]

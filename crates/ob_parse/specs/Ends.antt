@@ -6,7 +6,7 @@ use Rattle.ob_parse.specs.declared.fault.ParseFault.{ParseFault}
 use Rattle.ob_parse.specs.declared.fault.ParseFault.TheVariants as faults
 use Rattle.ob_parse.specs.declared.stop.Stop.{Stop}
 use Rattle.ob_parse.specs.declared.stop.Stop.TheVariants as stops
-use Rattle.ob_parse.specs.Parsed.{Pair, IsRightEnd, IsFirstWrong, bytes_of}
+use Rattle.ob_parse.specs.Parsed.{Pair, IsRightEnd, IsFirstWrong, bytes_of, start_or}
 
 -- both are numbers of tokens
 abbrev pub IsKnown : List Token → ℕ × ℕ → Type 0
@@ -26,13 +26,13 @@ abbrev pub FirstWrong : List ℕ → List Token → List (ℕ × ℕ) → Option
 FirstWrong bytes ts ends None = All (IsRightEnd bytes ts) ends
 FirstWrong bytes ts ends (Some at) = IsFirstWrong bytes ts ends at
 
--- where a token begins, or the text's end where there is none of this number
-abbrev pub start_or : ℕ → Option Token → ℕ
-start_or end None = end
-start_or end (Some t) = t.start
+-- the fault that is told of a construct that is too deep at this token, if there is one
+abbrev pub deep_told : ℕ → Option Token → ParseFault
+deep_told end None = faults.Syntax end
+deep_told end (Some t) = faults.TooDeep t.start
 
 -- the fault that is told of a stop
 abbrev pub told : ℕ → List Token → Stop → ParseFault
-told end ts (stops.Wrong n) = faults.Syntax (start_or end (slice_get ts n))
-told end ts (stops.Deep n) = faults.TooDeep (start_or end (slice_get ts n))
+told end ts (stops.Wrong i) = faults.Syntax (start_or end (slice_get ts i.at))
+told end ts (stops.Deep i) = deep_told end (slice_get ts i.at)
 told end ts stops.Memory = faults.Memory

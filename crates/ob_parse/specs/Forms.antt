@@ -8,10 +8,16 @@ use Rattle.ob_tree.specs.declared.construct.Construct.{Construct}
 use Rattle.ob_tree.specs.Marks.{Out, construct, word}
 use Rattle.ob_parse.specs.Front.{uncons, front, is_word}
 
--- why nothing is read: a token is wrong, or a construct is too deep
+-- why nothing is read: what stands next is wrong, or it begins a construct that is too deep. It is a token with those after it,
+-- or nothing where a token has to stand
 pub data Refusal : Type 0 where
-  Wrong : Refusal
-  Deep : Refusal
+  Wrong : Option (Leaf × List Leaf) → Refusal
+  Deep : Leaf × List Leaf → Refusal
+
+-- what would begin here is too deep
+abbrev pub deep_at : Option (Leaf × List Leaf) → Refusal
+deep_at None = Wrong None
+deep_at (Some x) = Deep x
 
 infixl 10 ◌>>=◌
 abbrev pub ◌>>=◌ : {A B : Type 0} → Result A Refusal → (A → Result B Refusal) → Result B Refusal
@@ -35,8 +41,8 @@ Start = List Leaf → Front Out
 
 -- a token that must stand here
 abbrev pub expected : Kind → Option (Leaf × List Leaf) → Read
-expected k (Some (leafs.Word j, rest)) = if same_kind j k then Ok (word k, rest) else Err Wrong
-expected k _ = Err Wrong
+expected k (Some (leafs.Word j, rest)) = if same_kind j k then Ok (word k, rest) else Err (Wrong (Some (leafs.Word j, rest)))
+expected k o = Err (Wrong o)
 
 unfoldable pub expect_at : Kind → Reader
 expect_at k ls = expected k (uncons ls)
@@ -52,7 +58,7 @@ accept_at k ls = accepted k (uncons ls)
 -- an identifier's number
 abbrev pub identified : Option (Leaf × List Leaf) → Result (ℕ × List Leaf) Refusal
 identified (Some (leafs.Name n, rest)) = Ok (n, rest)
-identified _ = Err Wrong
+identified o = Err (Wrong o)
 
 unfoldable pub identifier_at : List Leaf → Result (ℕ × List Leaf) Refusal
 identifier_at ls = identified (uncons ls)
@@ -119,11 +125,11 @@ several k item = seq item (many (accept_at k) item)
 -- ---- the limit of depth
 
 -- what would be too deep: where a token of these stands it is so, and any other is wrong
-abbrev pub limited : Bool → Read
-limited begun = if begun then Err Deep else Err Wrong
+abbrev pub limited : Bool → Option (Leaf × List Leaf) → Read
+limited begun o = if begun then Err (deep_at o) else Err (Wrong o)
 
 abbrev pub limit : (Leaf → Bool) → Option (Leaf × List Leaf) → Read
-limit p o = limited (front p o)
+limit p o = limited (front p o) o
 
 unfoldable pub limit_at : (Leaf → Bool) → Reader
 limit_at p ls = limit p (uncons ls)

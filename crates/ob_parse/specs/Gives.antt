@@ -8,7 +8,8 @@ use Rattle.ob_tree.specs.Marks.{Out, word}
 use Rattle.ob_parse.specs.declared.stop.Stop.{Stop}
 use Rattle.ob_parse.specs.declared.stop.Stop.TheVariants as stops
 use Rattle.ob_parse.specs.declared.input.Input.{Input}
-use Rattle.ob_parse.specs.Forms.{Refusal, Wrong, Deep}
+use Rattle.ob_parse.specs.Front.{uncons}
+use Rattle.ob_parse.specs.Forms.{Refusal, Wrong, deep_at}
 
 abbrev pub kind_of : Token → Kind
 kind_of t = t.kind
@@ -28,12 +29,12 @@ skipped ts k None = None
 skipped ts k (Some i) = Some (word k, ahead ts i)
 
 -- why the parser stopped says this of what was read
-abbrev pub Fails : {Y : Type 0} → Stop → Result Y Refusal → Type 0
-Fails (stops.Wrong number) read = read ≡ Err Wrong
-Fails (stops.Deep number) read = read ≡ Err Deep
-Fails stops.Memory read = Unit {0}
+abbrev pub Fails : {Y : Type 0} → List Token → Stop → Result Y Refusal → Type 0
+Fails ts (stops.Wrong i) read = read ≡ Err (Wrong (uncons (ahead ts i)))
+Fails ts (stops.Deep i) read = read ≡ Err (deep_at (uncons (ahead ts i)))
+Fails ts stops.Memory read = Unit {0}
 
 -- what a function returned, seen by view, is what reading gives, unless memory ran out
-abbrev pub Gives : {X Y : Type 0} → (X → Y) → Result X Stop → Result Y Refusal → Type 0
-Gives view (Ok x) read = read ≡ Ok (view x)
-Gives view (Err e) read = Fails e read
+abbrev pub Gives : {X Y : Type 0} → List Token → (X → Y) → Result X Stop → Result Y Refusal → Type 0
+Gives ts view (Ok x) read = read ≡ Ok (view x)
+Gives ts view (Err e) read = Fails ts e read

@@ -1,11 +1,17 @@
 -- What the tree of a text is, and why there is none (Oberon-07 report, appendix).
-use Rattle.std.specs.Prelude.{◌≡◌, ◌≢◌, ◌≤◌, ◌<◌, ◌-◌, ℕ, List, ◌∷◌, ◌++◌, map, take, drop, Some, slice_get, length, ◌⊎◌}
+use Rattle.std.specs.Prelude.{◌≡◌, ◌≢◌, ◌≤◌, ◌<◌, ◌-◌, ℕ, List, ◌∷◌, ◌++◌, map, take, drop, Option, Some, None, Result, Err, slice_get, length, ◌⊎◌}
 use Rattle.std.specs.List.{All}
 use Rattle.ob_scan.specs.declared.kind.Kind.{Kind}
 use Rattle.ob_scan.specs.declared.token.Token.{Token}
 use Rattle.ob_tree.specs.declared.declaration.Module.{Module}
 use Rattle.ob_tree.specs.Declaring.{module_outline}
 use Rattle.ob_tree.specs.Derives.{Derives, depth, endings_in}
+use Rattle.ob_tree.specs.declared.token.Leaf.{Leaf}
+use Rattle.ob_tree.specs.Leaves.{leaves}
+use Rattle.ob_tree.specs.Marks.{Out}
+use Rattle.ob_parse.specs.Front.{uncons}
+use Rattle.ob_parse.specs.Forms.{Refusal, Wrong, Deep}
+use Rattle.ob_parse.specs.ReadModules.{all_of}
 use Rattle.ob_parse.specs.declared.fault.ParseFault.{ParseFault}
 use Rattle.ob_parse.specs.declared.fault.ParseFault.TheVariants as faults
 
@@ -71,10 +77,39 @@ pub record IsStart (ts : List Token) (at : ℕ) : Type 0 where
 abbrev pub IsPlace : List ℕ → List Token → ℕ → Type 0
 IsPlace bytes ts at = IsStart ts at ⊎ (at ≡ length bytes)
 
--- Syntax: no tree derives the tokens; TooDeep: none of at most 200 levels does; EndName: the first wrong name after END.
--- Of Syntax and TooDeep this says that the offset is a token's or the text's end, and not which token's it is.
+-- where a token begins, or the text's end where there is none of this number
+abbrev pub start_or : ℕ → Option Token → ℕ
+start_or end None = end
+start_or end (Some t) = t.start
+
+-- the token of this number and those after it, or nothing behind the last
+abbrev pub from_token : List Token → ℕ → Option (Leaf × List Leaf)
+from_token ts n = uncons (leaves n (kinds_of (drop n ts)))
+
+-- the tokens read from the left, a production at a time, as one module of at most 200 levels
+abbrev pub read_left : List Token → Result Out Refusal
+read_left ts = all_of 200 (leaves 0 (kinds_of ts))
+
+-- reading comes to the token that begins at this offset, or to the text's end, and it can't stand there, nor the end
+pub record IsWrongToken (bytes : List ℕ) (ts : List Token) (at : ℕ) : Type 0 where
+  pub number : ℕ
+  pub begins : start_or (length bytes) (slice_get ts number) ≡ at
+  pub stops : read_left ts ≡ Err (Wrong (from_token ts number))
+
+-- reading comes to the token that begins at this offset, which begins a construct that has no level left
+pub record IsDeepToken (ts : List Token) (at : ℕ) : Type 0 where
+  pub number : ℕ
+  pub token : Token
+  pub there : slice_get ts number ≡ Some token
+  pub begins : token.start ≡ at
+  pub ahead : Leaf × List Leaf
+  pub is_ahead : from_token ts number ≡ Some ahead
+  pub stops : read_left ts ≡ Err (Deep ahead)
+
+-- Syntax: no tree derives the tokens, and reading them comes to a wrong one; TooDeep: none of at most 200 levels derives them, and
+-- reading comes to a construct that has no level left; EndName: the first wrong name after END
 abbrev pub IsFaultOf : List ℕ → List Token → ParseFault → Type 0
-IsFaultOf bytes ts (faults.Syntax at) = IsPlace bytes ts at × ((other : Module) → Derives (kinds_of ts) other → ⊥)
+IsFaultOf bytes ts (faults.Syntax at) = IsWrongToken bytes ts at × ((other : Module) → Derives (kinds_of ts) other → ⊥)
 IsFaultOf bytes ts (faults.EndName at) = IsEndFault bytes ts at
-IsFaultOf bytes ts (faults.TooDeep at) = IsPlace bytes ts at × ((other : Module) → Derives (kinds_of ts) other → 200 < depth other)
+IsFaultOf bytes ts (faults.TooDeep at) = IsDeepToken ts at × ((other : Module) → Derives (kinds_of ts) other → 200 < depth other)
 IsFaultOf bytes ts faults.Memory = Unit {0}

@@ -128,7 +128,7 @@ selector_from expr (Some (leafs.Word kinds.Dot, rest)) = prefixed (word kinds.Do
 selector_from expr (Some (leafs.Word kinds.LeftBracket, rest)) = prefixed (word kinds.LeftBracket) (seq (several kinds.Comma expr) (expect_at kinds.RightBracket)) rest
 selector_from expr (Some (leafs.Word kinds.Caret, rest)) = Ok (word kinds.Caret, rest)
 selector_from expr (Some (leafs.Word kinds.LeftParen, rest)) = prefixed (word kinds.LeftParen) (seq (optional (unless kinds.RightParen) (several kinds.Comma expr)) (expect_at kinds.RightParen)) rest
-selector_from expr _ = Err Wrong
+selector_from expr o = Err (Wrong o)
 
 unfoldable pub selector_with : Reader → Reader
 selector_with expr = node constructs.Selector (λ ls. selector_from expr (uncons ls))
@@ -147,7 +147,7 @@ factor_from expr negated (Some (leafs.Word kinds.False, rest)) = Ok (word kinds.
 factor_from expr negated (Some (leafs.Word kinds.LeftBrace, rest)) = prefixed (word kinds.LeftBrace) (seq (optional (unless kinds.RightBrace) (several kinds.Comma (element_with expr))) (expect_at kinds.RightBrace)) rest
 factor_from expr negated (Some (leafs.Word kinds.LeftParen, rest)) = prefixed (word kinds.LeftParen) (seq expr (expect_at kinds.RightParen)) rest
 factor_from expr negated (Some (leafs.Word kinds.Tilde, rest)) = prefixed (word kinds.Tilde) negated rest
-factor_from expr negated _ = Err Wrong
+factor_from expr negated o = Err (Wrong o)
 
 -- a factor, where expr and negated read what is one level deeper
 unfoldable pub factor_with : Reader → Reader → Reader

@@ -94,7 +94,7 @@ module_at d = node constructs.Module (seq (expect_at kinds.Module) (name_then na
 -- the outline, where nothing is left
 abbrev pub nothing_left : Out → Option (Leaf × List Leaf) → Result Out Refusal
 nothing_left o None = Ok o
-nothing_left o (Some x) = Err Wrong
+nothing_left o (Some x) = Err (Wrong (Some x))
 
 -- all of the tokens
 unfoldable pub all_of : ℕ → List Leaf → Result Out Refusal

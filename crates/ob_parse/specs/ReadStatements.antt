@@ -8,7 +8,7 @@ use Rattle.ob_tree.specs.declared.token.Leaf.TheVariants as leafs
 use Rattle.ob_tree.specs.declared.construct.Construct.TheVariants as constructs
 use Rattle.ob_tree.specs.Marks.{Value, construct, word, used}
 use Rattle.ob_parse.specs.Front.{uncons, front}
-use Rattle.ob_parse.specs.Forms.{Wrong, Deep, Read, Reader, expect_at, accept_at, name_at, begins, seq, prefixed, node, optional, many, several}
+use Rattle.ob_parse.specs.Forms.{Wrong, deep_at, Read, Reader, expect_at, accept_at, name_at, begins, seq, prefixed, node, optional, many, several}
 use Rattle.ob_parse.specs.ReadNames.{qualident_after}
 use Rattle.ob_parse.specs.ReadExpressions.{designator_with, expr_at}
 
@@ -36,7 +36,7 @@ abbrev pub label_from : Option (Leaf × List Leaf) → Read
 label_from (Some (leafs.Name n, rest)) = qualident_after n rest
 label_from (Some (leafs.Value literals.Integer n, rest)) = Ok (Value literals.Integer n ∷ [], rest)
 label_from (Some (leafs.Value literals.Text n, rest)) = Ok (Value literals.Text n ∷ [], rest)
-label_from _ = Err Wrong
+label_from o = Err (Wrong o)
 
 unfoldable pub label_at : Reader
 label_at ls = label_from (uncons ls)
@@ -96,7 +96,7 @@ statement_with expr block ls = statement_from expr block ls (uncons ls)
 
 -- an empty statement, where no other begins
 abbrev pub empty_or_deep : List Leaf → Option (Leaf × List Leaf) → Read
-empty_or_deep ls o = if front statement_first o then Err Deep else Ok (construct constructs.EmptyStatement [], ls)
+empty_or_deep ls o = if front statement_first o then Err (deep_at o) else Ok (construct constructs.EmptyStatement [], ls)
 
 unfoldable pub empty_at : Reader
 empty_at ls = empty_or_deep ls (uncons ls)

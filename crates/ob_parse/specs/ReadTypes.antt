@@ -61,7 +61,7 @@ type_from expr type (Some (leafs.Word kinds.Array, rest)) = prefixed (word kinds
 type_from expr type (Some (leafs.Word kinds.Record, rest)) = prefixed (word kinds.Record) (record_with type) rest
 type_from expr type (Some (leafs.Word kinds.Pointer, rest)) = prefixed (word kinds.Pointer) (seq (expect_at kinds.To) type) rest
 type_from expr type (Some (leafs.Word kinds.Procedure, rest)) = prefixed (word kinds.Procedure) some_parameters_at rest
-type_from expr type _ = Err Wrong
+type_from expr type o = Err (Wrong o)
 
 unfoldable pub type_with : Reader → Reader → Reader
 type_with expr type = node constructs.TypeForm (λ ls. type_from expr type (uncons ls))

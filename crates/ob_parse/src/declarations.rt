@@ -45,7 +45,7 @@ fn ended_constant(
     input: Input,
     depth: u32,
 ) -> Result<(ConstDecl, Input), Stop>
-    ensures { Gives (λ x. (const_outline x.0 ++ word kinds.Semicolon, ahead tokens.now x.1)) result (ended (const_with (expr_at depth)) (ahead tokens.now input)) }
+    ensures { Gives tokens.now (λ x. (const_outline x.0 ++ word kinds.Semicolon, ahead tokens.now x.1)) result (ended (const_with (expr_at depth)) (ahead tokens.now input)) }
 {
     let (name, here) = identdef(tokens, input)?;
     let here = expect(tokens, here, Kind::Equals)?;
@@ -62,7 +62,7 @@ fn constants(
     input: Input,
     depth: u32,
 ) -> Result<(Vec<ConstDecl>, Input), Stop>
-    ensures { Gives (λ x. (each (λ d. const_outline d ++ word kinds.Semicolon) x.0.items, ahead tokens.now x.1)) result
+    ensures { Gives tokens.now (λ x. (each (λ d. const_outline d ++ word kinds.Semicolon) x.0.items, ahead tokens.now x.1)) result
         (many (begins is_name) (ended (const_with (expr_at depth))) (ahead tokens.now input)) }
 {
     let mut declared = Vec::new(alloc);
@@ -83,7 +83,7 @@ fn constant_section(
     input: Input,
     depth: u32,
 ) -> Result<(Option<Vec<ConstDecl>>, Input), Stop>
-    ensures { Gives (λ x. (if_there (λ v. part kinds.Const const_outline v.items) x.0, ahead tokens.now x.1)) result (part_with kinds.Const (const_with (expr_at depth)) (ahead tokens.now input)) }
+    ensures { Gives tokens.now (λ x. (if_there (λ v. part kinds.Const const_outline v.items) x.0, ahead tokens.now x.1)) result (part_with kinds.Const (const_with (expr_at depth)) (ahead tokens.now input)) }
 {
     match accept(tokens, input, Kind::Const) {
         Some(rest) => {
@@ -102,7 +102,7 @@ fn ended_named_type(
     input: Input,
     depth: u32,
 ) -> Result<(TypeDecl, Input), Stop>
-    ensures { Gives (λ x. (type_decl_outline x.0 ++ word kinds.Semicolon, ahead tokens.now x.1)) result (ended (type_decl_with (type_at depth)) (ahead tokens.now input)) }
+    ensures { Gives tokens.now (λ x. (type_decl_outline x.0 ++ word kinds.Semicolon, ahead tokens.now x.1)) result (ended (type_decl_with (type_at depth)) (ahead tokens.now input)) }
 {
     let (name, here) = identdef(tokens, input)?;
     let here = expect(tokens, here, Kind::Equals)?;
@@ -119,7 +119,7 @@ fn named_types(
     input: Input,
     depth: u32,
 ) -> Result<(Vec<TypeDecl>, Input), Stop>
-    ensures { Gives (λ x. (each (λ d. type_decl_outline d ++ word kinds.Semicolon) x.0.items, ahead tokens.now x.1)) result
+    ensures { Gives tokens.now (λ x. (each (λ d. type_decl_outline d ++ word kinds.Semicolon) x.0.items, ahead tokens.now x.1)) result
         (many (begins is_name) (ended (type_decl_with (type_at depth))) (ahead tokens.now input)) }
 {
     let mut declared = Vec::new(alloc);
@@ -140,7 +140,7 @@ fn named_type_section(
     input: Input,
     depth: u32,
 ) -> Result<(Option<Vec<TypeDecl>>, Input), Stop>
-    ensures { Gives (λ x. (if_there (λ v. part kinds.Type type_decl_outline v.items) x.0, ahead tokens.now x.1)) result (part_with kinds.Type (type_decl_with (type_at depth)) (ahead tokens.now input)) }
+    ensures { Gives tokens.now (λ x. (if_there (λ v. part kinds.Type type_decl_outline v.items) x.0, ahead tokens.now x.1)) result (part_with kinds.Type (type_decl_with (type_at depth)) (ahead tokens.now input)) }
 {
     match accept(tokens, input, Kind::Type) {
         Some(rest) => {
@@ -159,7 +159,7 @@ fn ended_variable(
     input: Input,
     depth: u32,
 ) -> Result<(VarDecl, Input), Stop>
-    ensures { Gives (λ x. (variable_outline x.0 ++ word kinds.Semicolon, ahead tokens.now x.1)) result (ended (variable_with (type_at depth)) (ahead tokens.now input)) }
+    ensures { Gives tokens.now (λ x. (variable_outline x.0 ++ word kinds.Semicolon, ahead tokens.now x.1)) result (ended (variable_with (type_at depth)) (ahead tokens.now input)) }
 {
     let (declaration, here) = var_declaration(alloc, tokens, input, depth)?;
     let here = expect(tokens, here, Kind::Semicolon)?;
@@ -173,7 +173,7 @@ fn variables(
     input: Input,
     depth: u32,
 ) -> Result<(Vec<VarDecl>, Input), Stop>
-    ensures { Gives (λ x. (each (λ d. variable_outline d ++ word kinds.Semicolon) x.0.items, ahead tokens.now x.1)) result
+    ensures { Gives tokens.now (λ x. (each (λ d. variable_outline d ++ word kinds.Semicolon) x.0.items, ahead tokens.now x.1)) result
         (many (begins is_name) (ended (variable_with (type_at depth))) (ahead tokens.now input)) }
 {
     let mut declared = Vec::new(alloc);
@@ -194,7 +194,7 @@ fn variable_section(
     input: Input,
     depth: u32,
 ) -> Result<(Option<Vec<VarDecl>>, Input), Stop>
-    ensures { Gives (λ x. (if_there (λ v. part kinds.Var variable_outline v.items) x.0, ahead tokens.now x.1)) result (part_with kinds.Var (variable_with (type_at depth)) (ahead tokens.now input)) }
+    ensures { Gives tokens.now (λ x. (if_there (λ v. part kinds.Var variable_outline v.items) x.0, ahead tokens.now x.1)) result (part_with kinds.Var (variable_with (type_at depth)) (ahead tokens.now input)) }
 {
     match accept(tokens, input, Kind::Var) {
         Some(rest) => {
@@ -213,7 +213,7 @@ fn procedures(
     input: Input,
     depth: u32,
 ) -> Result<(Vec<ProcDecl>, Input), Stop>
-    ensures { Gives (λ x. (each (λ p. procedure_outline p ++ word kinds.Semicolon) x.0.items, ahead tokens.now x.1)) result
+    ensures { Gives tokens.now (λ x. (each (λ p. procedure_outline p ++ word kinds.Semicolon) x.0.items, ahead tokens.now x.1)) result
         (many (begins (is_word kinds.Procedure)) (ended (procedure_at depth)) (ahead tokens.now input)) }
 {
     let mut declared = Vec::new(alloc);
@@ -234,7 +234,7 @@ fn ended_procedure(
     input: Input,
     depth: u32,
 ) -> Result<(Box<ProcDecl>, Input), Stop>
-    ensures { Gives (λ x. (procedure_outline x.0.value ++ word kinds.Semicolon, ahead tokens.now x.1)) result (ended (procedure_at depth) (ahead tokens.now input)) }
+    ensures { Gives tokens.now (λ x. (procedure_outline x.0.value ++ word kinds.Semicolon, ahead tokens.now x.1)) result (ended (procedure_at depth) (ahead tokens.now input)) }
 {
     let (declaration, here) = procedure(alloc, tokens, input, depth)?;
     let here = expect(tokens, here, Kind::Semicolon)?;
@@ -250,10 +250,10 @@ fn procedure(
     input: Input,
     depth: u32,
 ) -> Result<(Box<ProcDecl>, Input), Stop>
-    ensures { Gives (λ x. (procedure_outline x.0.value, ahead tokens.now x.1)) result (procedure_at depth (ahead tokens.now input)) }
+    ensures { Gives tokens.now (λ x. (procedure_outline x.0.value, ahead tokens.now x.1)) result (procedure_at depth (ahead tokens.now input)) }
 {
     if depth == 0 {
-        return Err(beyond(input, is_at(tokens, input, Kind::Procedure)));
+        return Err(beyond(tokens, input, is_at(tokens, input, Kind::Procedure)));
     }
     procedure_within(alloc, tokens, input, depth - 1)
 }
@@ -267,7 +267,7 @@ fn procedure_within(
     input: Input,
     depth: u32,
 ) -> Result<(Box<ProcDecl>, Input), Stop>
-    ensures { Gives (λ x. (procedure_outline x.0.value, ahead tokens.now x.1)) result (procedure_with (expr_at depth) (block_at depth) (declarations_at depth) (ahead tokens.now input)) }
+    ensures { Gives tokens.now (λ x. (procedure_outline x.0.value, ahead tokens.now x.1)) result (procedure_with (expr_at depth) (block_at depth) (declarations_at depth) (ahead tokens.now input)) }
 {
     let here = expect(tokens, input, Kind::Procedure)?;
     let (name, here) = identifier(tokens, here)?;
@@ -297,7 +297,7 @@ fn inside(
     depth: u32,
     name: u32,
 ) -> Result<((Box<Declarations>, Ending), Input), Stop>
-    ensures { Gives (λ x. (
+    ensures { Gives tokens.now (λ x. (
       declarations_outline x.0.0.value ++ (if_there (λ b. word kinds.Begin ++ block_outline b.value) x.0.1.0 ++
           (if_there (λ e. word kinds.Return ++ expr_outline e.value) x.0.1.1 ++ (word kinds.End ++ repeated name x.0.1.2))),
       ahead tokens.now x.1,
@@ -322,7 +322,7 @@ fn ending(
     depth: u32,
     name: u32,
 ) -> Result<(Ending, Input), Stop>
-    ensures { Gives (λ x. (
+    ensures { Gives tokens.now (λ x. (
       if_there (λ b. word kinds.Begin ++ block_outline b.value) x.0.0 ++
           (if_there (λ e. word kinds.Return ++ expr_outline e.value) x.0.1 ++ (word kinds.End ++ repeated name x.0.2)),
       ahead tokens.now x.1,
@@ -346,7 +346,7 @@ pub(crate) fn declarations(
     input: Input,
     depth: u32,
 ) -> Result<(Box<Declarations>, Input), Stop>
-    ensures { Gives (λ x. (declarations_outline x.0.value, ahead tokens.now x.1)) result (declarations_at depth (ahead tokens.now input)) }
+    ensures { Gives tokens.now (λ x. (declarations_outline x.0.value, ahead tokens.now x.1)) result (declarations_at depth (ahead tokens.now input)) }
 {
     let (constants, here) = constant_section(alloc, tokens, input, depth)?;
     let (types, here) = named_type_section(alloc, tokens, here, depth)?;
@@ -369,7 +369,7 @@ pub(crate) fn body(
     input: Input,
     depth: u32,
 ) -> Result<(Option<Box<Block>>, Input), Stop>
-    ensures { Gives (λ x. (if_there (λ b. word kinds.Begin ++ block_outline b.value) x.0, ahead tokens.now x.1)) result (body_with (block_at depth) (ahead tokens.now input)) }
+    ensures { Gives tokens.now (λ x. (if_there (λ b. word kinds.Begin ++ block_outline b.value) x.0, ahead tokens.now x.1)) result (body_with (block_at depth) (ahead tokens.now input)) }
 {
     match accept(tokens, input, Kind::Begin) {
         Some(rest) => {
@@ -387,7 +387,7 @@ fn returned(
     input: Input,
     depth: u32,
 ) -> Result<(Option<Box<Expr>>, Input), Stop>
-    ensures { Gives (λ x. (if_there (λ e. word kinds.Return ++ expr_outline e.value) x.0, ahead tokens.now x.1)) result (optional (accept_at kinds.Return) (expr_at depth) (ahead tokens.now input)) }
+    ensures { Gives tokens.now (λ x. (if_there (λ e. word kinds.Return ++ expr_outline e.value) x.0, ahead tokens.now x.1)) result (optional (accept_at kinds.Return) (expr_at depth) (ahead tokens.now input)) }
 {
     match accept(tokens, input, Kind::Return) {
         Some(rest) => {

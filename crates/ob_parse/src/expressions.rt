@@ -33,10 +33,10 @@ pub(crate) fn expression(
     input: Input,
     depth: u32,
 ) -> Result<(Box<Expr>, Input), Stop>
-    ensures { Gives (λ x. (expr_outline x.0.value, ahead tokens.now x.1)) result (expr_at depth (ahead tokens.now input)) }
+    ensures { Gives tokens.now (λ x. (expr_outline x.0.value, ahead tokens.now x.1)) result (expr_at depth (ahead tokens.now input)) }
 {
     if depth == 0 {
-        return Err(beyond(input, begins_expression(tokens, input)));
+        return Err(beyond(tokens, input, begins_expression(tokens, input)));
     }
     let (left, input) = sum(alloc, tokens, input, depth - 1)?;
     let (compared, input) = compared(alloc, tokens, input, depth - 1)?;
@@ -53,7 +53,7 @@ fn compared(
     input: Input,
     depth: u32,
 ) -> Result<(Option<(Relation, Box<Sum>)>, Input), Stop>
-    ensures { Gives (λ x. (if_there (λ c. word (relation_kind c.0) ++ sum_outline c.1.value) x.0, ahead tokens.now x.1)) result (optional relation_start (sum_at depth) (ahead tokens.now input)) }
+    ensures { Gives tokens.now (λ x. (if_there (λ c. word (relation_kind c.0) ++ sum_outline c.1.value) x.0, ahead tokens.now x.1)) result (optional relation_start (sum_at depth) (ahead tokens.now input)) }
 {
     match relation(tokens, input) {
         None => Ok((None, input)),
@@ -73,7 +73,7 @@ pub(crate) fn expression_list(
     input: Input,
     depth: u32,
 ) -> Result<(Box<ExprList>, Input), Stop>
-    ensures { Gives (λ x. (expr_list_outline x.0.value, ahead tokens.now x.1)) result (several kinds.Comma (expr_at depth) (ahead tokens.now input)) }
+    ensures { Gives tokens.now (λ x. (expr_list_outline x.0.value, ahead tokens.now x.1)) result (several kinds.Comma (expr_at depth) (ahead tokens.now input)) }
 {
     let (first, here) = expression(alloc, tokens, input, depth)?;
     let (rest, here) = more_expressions(alloc, tokens, here, depth)?;
@@ -91,7 +91,7 @@ fn more_expressions(
     input: Input,
     depth: u32,
 ) -> Result<(Vec<Expr>, Input), Stop>
-    ensures { Gives (λ x. (each_after kinds.Comma expr_outline x.0.items, ahead tokens.now x.1)) result (many (accept_at kinds.Comma) (expr_at depth) (ahead tokens.now input)) }
+    ensures { Gives tokens.now (λ x. (each_after kinds.Comma expr_outline x.0.items, ahead tokens.now x.1)) result (many (accept_at kinds.Comma) (expr_at depth) (ahead tokens.now input)) }
 {
     let mut rest = Vec::new(alloc);
     let mut here = input;
@@ -107,7 +107,7 @@ fn more_expressions(
 #[cycle(expressions)]
 #[tactic(auto, using(ob_tree::proofs::ExpressionLayers::expressions_made), unfolding(crate::specs::ReadExpressions::sum_with))]
 fn sum(alloc: Global, tokens: &[Token], input: Input, depth: u32) -> Result<(Box<Sum>, Input), Stop>
-    ensures { Gives (λ x. (sum_outline x.0.value, ahead tokens.now x.1)) result (sum_at depth (ahead tokens.now input)) }
+    ensures { Gives tokens.now (λ x. (sum_outline x.0.value, ahead tokens.now x.1)) result (sum_at depth (ahead tokens.now input)) }
 {
     let (sign, here) = sign(tokens, input);
     let (first, here) = term(alloc, tokens, here, depth)?;
@@ -122,7 +122,7 @@ fn more_terms(
     input: Input,
     depth: u32,
 ) -> Result<(Vec<(AddOperator, Term)>, Input), Stop>
-    ensures { Gives (λ x. (each (λ p. word (add_kind p.0) ++ term_outline p.1) x.0.items, ahead tokens.now x.1)) result (many add_start (term_at depth) (ahead tokens.now input)) }
+    ensures { Gives tokens.now (λ x. (each (λ p. word (add_kind p.0) ++ term_outline p.1) x.0.items, ahead tokens.now x.1)) result (many add_start (term_at depth) (ahead tokens.now input)) }
 {
     let mut rest = Vec::new(alloc);
     let mut here = input;
@@ -137,7 +137,7 @@ fn more_terms(
 #[cycle(expressions)]
 #[tactic(auto, using(ob_tree::proofs::ExpressionLayers::expressions_made), unfolding(crate::specs::ReadExpressions::term_with))]
 fn term(alloc: Global, tokens: &[Token], input: Input, depth: u32) -> Result<(Term, Input), Stop>
-    ensures { Gives (λ x. (term_outline x.0, ahead tokens.now x.1)) result (term_at depth (ahead tokens.now input)) }
+    ensures { Gives tokens.now (λ x. (term_outline x.0, ahead tokens.now x.1)) result (term_at depth (ahead tokens.now input)) }
 {
     let (first, here) = factor(alloc, tokens, input, depth)?;
     let (rest, here) = more_factors(alloc, tokens, here, depth)?;
@@ -151,7 +151,7 @@ fn more_factors(
     input: Input,
     depth: u32,
 ) -> Result<(Vec<(MulOperator, Factor)>, Input), Stop>
-    ensures { Gives (λ x. (each (λ p. word (mul_kind p.0) ++ factor_outline p.1) x.0.items, ahead tokens.now x.1)) result (many mul_start (factor_at depth) (ahead tokens.now input)) }
+    ensures { Gives tokens.now (λ x. (each (λ p. word (mul_kind p.0) ++ factor_outline p.1) x.0.items, ahead tokens.now x.1)) result (many mul_start (factor_at depth) (ahead tokens.now input)) }
 {
     let mut rest = Vec::new(alloc);
     let mut here = input;
@@ -171,7 +171,7 @@ fn factor(
     input: Input,
     depth: u32,
 ) -> Result<(Factor, Input), Stop>
-    ensures { Gives (λ x. (factor_outline x.0, ahead tokens.now x.1)) result (factor_at depth (ahead tokens.now input)) }
+    ensures { Gives tokens.now (λ x. (factor_outline x.0, ahead tokens.now x.1)) result (factor_at depth (ahead tokens.now input)) }
 {
     match input.next(tokens) {
         Some((Leaf::Name(number), rest)) => named(alloc, tokens, number, rest, depth),
@@ -182,7 +182,7 @@ fn factor(
         Some((Leaf::Word(Kind::LeftBrace), rest)) => set(alloc, tokens, rest, depth),
         Some((Leaf::Word(Kind::LeftParen), rest)) => group(alloc, tokens, rest, depth),
         Some((Leaf::Word(Kind::Tilde), rest)) => inverted(alloc, tokens, rest, depth),
-        _ => Err(Stop::Wrong(input.number())),
+        _ => Err(Stop::Wrong(input)),
     }
 }
 
@@ -196,7 +196,7 @@ fn named(
     input: Input,
     depth: u32,
 ) -> Result<(Factor, Input), Stop>
-    ensures { Gives (λ x. (factor_outline x.0, ahead tokens.now x.1)) result (node constructs.Factor (designator_with (expr_at depth) number) (ahead tokens.now input)) }
+    ensures { Gives tokens.now (λ x. (factor_outline x.0, ahead tokens.now x.1)) result (node constructs.Factor (designator_with (expr_at depth) number) (ahead tokens.now input)) }
 {
     let (designator, rest) = designator(alloc, tokens, number, input, depth)?;
     Ok((Factor::Name(designator), rest))
@@ -206,7 +206,7 @@ fn named(
 #[cycle(expressions)]
 #[tactic(auto, using(ob_tree::proofs::ExpressionLayers::expressions_made))]
 fn set(alloc: Global, tokens: &[Token], input: Input, depth: u32) -> Result<(Factor, Input), Stop>
-    ensures { Gives (λ x. (factor_outline x.0, ahead tokens.now x.1)) result
+    ensures { Gives tokens.now (λ x. (factor_outline x.0, ahead tokens.now x.1)) result
         (node constructs.Factor (prefixed (word kinds.LeftBrace) (seq (optional (unless kinds.RightBrace) (several kinds.Comma (element_with (expr_at depth)))) (expect_at kinds.RightBrace))) (ahead tokens.now input)) }
 {
     let (elements, rest) = elements(alloc, tokens, input, depth)?;
@@ -218,7 +218,7 @@ fn set(alloc: Global, tokens: &[Token], input: Input, depth: u32) -> Result<(Fac
 #[cycle(expressions)]
 #[tactic(auto, using(ob_tree::proofs::ExpressionLayers::expressions_made))]
 fn group(alloc: Global, tokens: &[Token], input: Input, depth: u32) -> Result<(Factor, Input), Stop>
-    ensures { Gives (λ x. (factor_outline x.0, ahead tokens.now x.1)) result
+    ensures { Gives tokens.now (λ x. (factor_outline x.0, ahead tokens.now x.1)) result
         (node constructs.Factor (prefixed (word kinds.LeftParen) (seq (expr_at depth) (expect_at kinds.RightParen))) (ahead tokens.now input)) }
 {
     let (inner, rest) = expression(alloc, tokens, input, depth)?;
@@ -235,7 +235,7 @@ fn inverted(
     input: Input,
     depth: u32,
 ) -> Result<(Factor, Input), Stop>
-    ensures { Gives (λ x. (factor_outline x.0, ahead tokens.now x.1)) result
+    ensures { Gives tokens.now (λ x. (factor_outline x.0, ahead tokens.now x.1)) result
         (node constructs.Factor (prefixed (word kinds.Tilde) (negated_at depth)) (ahead tokens.now input)) }
 {
     let (inner, rest) = negated(alloc, tokens, input, depth)?;
@@ -251,10 +251,10 @@ fn negated(
     input: Input,
     depth: u32,
 ) -> Result<(Factor, Input), Stop>
-    ensures { Gives (λ x. (construct constructs.Negated (factor_outline x.0), ahead tokens.now x.1)) result (negated_at depth (ahead tokens.now input)) }
+    ensures { Gives tokens.now (λ x. (construct constructs.Negated (factor_outline x.0), ahead tokens.now x.1)) result (negated_at depth (ahead tokens.now input)) }
 {
     if depth == 0 {
-        return Err(beyond(input, begins_factor(tokens, input)));
+        return Err(beyond(tokens, input, begins_factor(tokens, input)));
     }
     factor(alloc, tokens, input, depth - 1)
 }
@@ -268,7 +268,7 @@ fn elements(
     input: Input,
     depth: u32,
 ) -> Result<(Option<Box<ElementList>>, Input), Stop>
-    ensures { Gives (λ x. (if_there (λ l. element_list_outline l.value) x.0, ahead tokens.now x.1)) result (optional (unless kinds.RightBrace) (several kinds.Comma (element_with (expr_at depth))) (ahead tokens.now input)) }
+    ensures { Gives tokens.now (λ x. (if_there (λ l. element_list_outline l.value) x.0, ahead tokens.now x.1)) result (optional (unless kinds.RightBrace) (several kinds.Comma (element_with (expr_at depth))) (ahead tokens.now input)) }
 {
     if is_at(tokens, input, Kind::RightBrace) {
         return Ok((None, input));
@@ -285,7 +285,7 @@ fn element_list(
     input: Input,
     depth: u32,
 ) -> Result<(Box<ElementList>, Input), Stop>
-    ensures { Gives (λ x. (element_list_outline x.0.value, ahead tokens.now x.1)) result (several kinds.Comma (element_with (expr_at depth)) (ahead tokens.now input)) }
+    ensures { Gives tokens.now (λ x. (element_list_outline x.0.value, ahead tokens.now x.1)) result (several kinds.Comma (element_with (expr_at depth)) (ahead tokens.now input)) }
 {
     let (first, here) = element(alloc, tokens, input, depth)?;
     let (rest, here) = more_elements(alloc, tokens, here, depth)?;
@@ -303,7 +303,7 @@ fn more_elements(
     input: Input,
     depth: u32,
 ) -> Result<(Vec<Element>, Input), Stop>
-    ensures { Gives (λ x. (each_after kinds.Comma element_outline x.0.items, ahead tokens.now x.1)) result (many (accept_at kinds.Comma) (element_with (expr_at depth)) (ahead tokens.now input)) }
+    ensures { Gives tokens.now (λ x. (each_after kinds.Comma element_outline x.0.items, ahead tokens.now x.1)) result (many (accept_at kinds.Comma) (element_with (expr_at depth)) (ahead tokens.now input)) }
 {
     let mut rest = Vec::new(alloc);
     let mut here = input;
@@ -323,7 +323,7 @@ fn element(
     input: Input,
     depth: u32,
 ) -> Result<(Box<Element>, Input), Stop>
-    ensures { Gives (λ x. (element_outline x.0.value, ahead tokens.now x.1)) result (element_with (expr_at depth) (ahead tokens.now input)) }
+    ensures { Gives tokens.now (λ x. (element_outline x.0.value, ahead tokens.now x.1)) result (element_with (expr_at depth) (ahead tokens.now input)) }
 {
     let (low, here) = expression(alloc, tokens, input, depth)?;
     let (high, here) = high(alloc, tokens, here, depth)?;
@@ -342,7 +342,7 @@ fn high(
     input: Input,
     depth: u32,
 ) -> Result<(Option<Expr>, Input), Stop>
-    ensures { Gives (λ x. (if_there (λ e. word kinds.DotDot ++ expr_outline e) x.0, ahead tokens.now x.1)) result (optional (accept_at kinds.DotDot) (expr_at depth) (ahead tokens.now input)) }
+    ensures { Gives tokens.now (λ x. (if_there (λ e. word kinds.DotDot ++ expr_outline e) x.0, ahead tokens.now x.1)) result (optional (accept_at kinds.DotDot) (expr_at depth) (ahead tokens.now input)) }
 {
     match accept(tokens, input, Kind::DotDot) {
         None => Ok((None, input)),
@@ -363,7 +363,7 @@ pub(crate) fn designator(
     input: Input,
     depth: u32,
 ) -> Result<(Designator, Input), Stop>
-    ensures { Gives (λ x. (designator_outline x.0, ahead tokens.now x.1)) result (designator_with (expr_at depth) head (ahead tokens.now input)) }
+    ensures { Gives tokens.now (λ x. (designator_outline x.0, ahead tokens.now x.1)) result (designator_with (expr_at depth) head (ahead tokens.now input)) }
 {
     let (selectors, here) = more_selectors(alloc, tokens, input, depth)?;
     Ok((Designator { head, selectors }, here))
@@ -376,7 +376,7 @@ fn more_selectors(
     input: Input,
     depth: u32,
 ) -> Result<(Vec<Selector>, Input), Stop>
-    ensures { Gives (λ x. (each selector_outline x.0.items, ahead tokens.now x.1)) result (many (begins selector_first) (selector_with (expr_at depth)) (ahead tokens.now input)) }
+    ensures { Gives tokens.now (λ x. (each selector_outline x.0.items, ahead tokens.now x.1)) result (many (begins selector_first) (selector_with (expr_at depth)) (ahead tokens.now input)) }
 {
     let mut selectors = Vec::new(alloc);
     let mut here = input;
@@ -396,21 +396,21 @@ fn selector(
     input: Input,
     depth: u32,
 ) -> Result<(Selector, Input), Stop>
-    ensures { Gives (λ x. (selector_outline x.0, ahead tokens.now x.1)) result (selector_with (expr_at depth) (ahead tokens.now input)) }
+    ensures { Gives tokens.now (λ x. (selector_outline x.0, ahead tokens.now x.1)) result (selector_with (expr_at depth) (ahead tokens.now input)) }
 {
     match input.next(tokens) {
         Some((Leaf::Word(Kind::Dot), rest)) => field(tokens, rest),
         Some((Leaf::Word(Kind::LeftBracket), rest)) => index(alloc, tokens, rest, depth),
         Some((Leaf::Word(Kind::Caret), rest)) => Ok((Selector::Target, rest)),
         Some((Leaf::Word(Kind::LeftParen), rest)) => call(alloc, tokens, rest, depth),
-        _ => Err(Stop::Wrong(input.number())),
+        _ => Err(Stop::Wrong(input)),
     }
 }
 
 /// The name behind a dot.
 #[tactic(auto, using(ob_tree::proofs::ExpressionLayers::expressions_made), unfolding(crate::specs::Forms::name_at))]
 fn field(tokens: &[Token], input: Input) -> Result<(Selector, Input), Stop>
-    ensures { Gives (λ x. (selector_outline x.0, ahead tokens.now x.1)) result (node constructs.Selector (prefixed (word kinds.Dot) (name_at marks.named)) (ahead tokens.now input)) }
+    ensures { Gives tokens.now (λ x. (selector_outline x.0, ahead tokens.now x.1)) result (node constructs.Selector (prefixed (word kinds.Dot) (name_at marks.named)) (ahead tokens.now input)) }
 {
     let (field, rest) = identifier(tokens, input)?;
     Ok((Selector::Field(field), rest))
@@ -425,7 +425,7 @@ fn index(
     input: Input,
     depth: u32,
 ) -> Result<(Selector, Input), Stop>
-    ensures { Gives (λ x. (selector_outline x.0, ahead tokens.now x.1)) result
+    ensures { Gives tokens.now (λ x. (selector_outline x.0, ahead tokens.now x.1)) result
         (node constructs.Selector (prefixed (word kinds.LeftBracket) (seq (several kinds.Comma (expr_at depth)) (expect_at kinds.RightBracket))) (ahead tokens.now input)) }
 {
     let (list, rest) = expression_list(alloc, tokens, input, depth)?;
@@ -442,7 +442,7 @@ fn call(
     input: Input,
     depth: u32,
 ) -> Result<(Selector, Input), Stop>
-    ensures { Gives (λ x. (selector_outline x.0, ahead tokens.now x.1)) result
+    ensures { Gives tokens.now (λ x. (selector_outline x.0, ahead tokens.now x.1)) result
         (node constructs.Selector (prefixed (word kinds.LeftParen) (seq (optional (unless kinds.RightParen) (several kinds.Comma (expr_at depth))) (expect_at kinds.RightParen))) (ahead tokens.now input)) }
 {
     let (list, rest) = arguments(alloc, tokens, input, depth)?;
@@ -459,7 +459,7 @@ fn arguments(
     input: Input,
     depth: u32,
 ) -> Result<(Option<Box<ExprList>>, Input), Stop>
-    ensures { Gives (λ x. (if_there (λ l. expr_list_outline l.value) x.0, ahead tokens.now x.1)) result (optional (unless kinds.RightParen) (several kinds.Comma (expr_at depth)) (ahead tokens.now input)) }
+    ensures { Gives tokens.now (λ x. (if_there (λ l. expr_list_outline l.value) x.0, ahead tokens.now x.1)) result (optional (unless kinds.RightParen) (several kinds.Comma (expr_at depth)) (ahead tokens.now input)) }
 {
     if is_at(tokens, input, Kind::RightParen) {
         return Ok((None, input));

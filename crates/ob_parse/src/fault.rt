@@ -6,15 +6,15 @@ use thiserror::Error;
 /// Why no tree was made. Offsets are in bytes, from 0.
 #[derive(Clone, Copy, Debug, PartialEq, Eq, Error)]
 pub enum ParseFault {
-    /// No tree derives the tokens. The offset is that of the first token that no module has after the tokens before it,
-    /// or the text's length where it ends too early (tested, not proved).
+    /// No tree derives the tokens. Read from the left, the token at the offset can't stand where it does; the offset is
+    /// the text's length where it ends too early.
     #[error("the token at {offset} is wrong")]
     Syntax { offset: u32 },
     /// The tree has a name after an END that isn't the one of its module or procedure; the first such name begins there.
     #[error("the name at {offset} is not that of its module or procedure")]
     EndName { offset: u32 },
-    /// No tree of at most 200 levels derives the tokens. The first construct beyond them begins there (tested,
-    /// not proved). It is answered only where that token can begin the construct; else it is Syntax.
+    /// No tree of at most 200 levels derives the tokens. Read from the left, the token at the offset begins a construct
+    /// that has no level left. A token that begins none is wrong there, which is Syntax.
     #[error("the construct at {offset} is nested too deep")]
     TooDeep { offset: u32 },
     /// A growth of memory was refused.

@@ -29,7 +29,9 @@ impl Input {
     }
 
     /// The number of the next token, or how many there are where there is none.
-    pub(crate) fn number(self) -> u32 {
+    pub(crate) fn number(self) -> u32
+        ensures { result ≡ self.at }
+    {
         self.at
     }
 }

@@ -35,7 +35,7 @@ pub(crate) fn begins_label(tokens: &[Token], input: Input) -> bool
 /// A label.
 #[tactic(auto, using(crate::proofs::StatementSteps::made), unfolding(crate::specs::ReadStatements::label_at))]
 fn label(tokens: &[Token], input: Input) -> Result<(Label, Input), Stop>
-    ensures { Gives (λ x. (label_outline x.0, ahead tokens.now x.1)) result (label_at (ahead tokens.now input)) }
+    ensures { Gives tokens.now (λ x. (label_outline x.0, ahead tokens.now x.1)) result (label_at (ahead tokens.now input)) }
 {
     match input.next(tokens) {
         Some((Leaf::Name(number), rest)) => {
@@ -44,14 +44,14 @@ fn label(tokens: &[Token], input: Input) -> Result<(Label, Input), Stop>
         }
         Some((Leaf::Value(Literal::Integer, number), rest)) => Ok((Label::Integer(number), rest)),
         Some((Leaf::Value(Literal::Text, number), rest)) => Ok((Label::Text(number), rest)),
-        _ => Err(Stop::Wrong(input.number())),
+        _ => Err(Stop::Wrong(input)),
     }
 }
 
 /// A label, or two with two dots between them.
 #[tactic(auto, using(crate::proofs::StatementSteps::made), unfolding(crate::specs::ReadStatements::label_range_at))]
 fn label_range(tokens: &[Token], input: Input) -> Result<(LabelRange, Input), Stop>
-    ensures { Gives (λ x. (label_range_outline x.0, ahead tokens.now x.1)) result (label_range_at (ahead tokens.now input)) }
+    ensures { Gives tokens.now (λ x. (label_range_outline x.0, ahead tokens.now x.1)) result (label_range_at (ahead tokens.now input)) }
 {
     let (low, input) = label(tokens, input)?;
     match accept(tokens, input, Kind::DotDot) {
@@ -76,7 +76,7 @@ pub(crate) fn label_ranges(
     tokens: &[Token],
     input: Input,
 ) -> Result<(OneOrMore<LabelRange>, Input), Stop>
-    ensures { Gives (λ x. (listed kinds.Comma label_range_outline x.0, ahead tokens.now x.1)) result (several kinds.Comma label_range_at (ahead tokens.now input)) }
+    ensures { Gives tokens.now (λ x. (listed kinds.Comma label_range_outline x.0, ahead tokens.now x.1)) result (several kinds.Comma label_range_at (ahead tokens.now input)) }
 {
     let (first, here) = label_range(tokens, input)?;
     let (rest, here) = more_label_ranges(alloc, tokens, here)?;
@@ -88,7 +88,7 @@ fn more_label_ranges(
     tokens: &[Token],
     input: Input,
 ) -> Result<(Vec<LabelRange>, Input), Stop>
-    ensures { Gives (λ x. (each_after kinds.Comma label_range_outline x.0.items, ahead tokens.now x.1)) result (many (accept_at kinds.Comma) label_range_at (ahead tokens.now input)) }
+    ensures { Gives tokens.now (λ x. (each_after kinds.Comma label_range_outline x.0.items, ahead tokens.now x.1)) result (many (accept_at kinds.Comma) label_range_at (ahead tokens.now input)) }
 {
     let mut rest = Vec::new(alloc);
     let mut here = input;

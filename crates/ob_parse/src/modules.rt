@@ -23,7 +23,7 @@ use std::alloc::Global;
 /// The name of a module that is imported under another, behind `:=`.
 #[tactic(auto, unfolding(crate::specs::Forms::name_at))]
 fn renamed(tokens: &[Token], input: Input) -> Result<(Option<u32>, Input), Stop>
-    ensures { Gives (λ x. (if_there (λ m. word kinds.Assign ++ named m) x.0, ahead tokens.now x.1)) result (optional (accept_at kinds.Assign) (name_at named) (ahead tokens.now input)) }
+    ensures { Gives tokens.now (λ x. (if_there (λ m. word kinds.Assign ++ named m) x.0, ahead tokens.now x.1)) result (optional (accept_at kinds.Assign) (name_at named) (ahead tokens.now input)) }
 {
     match accept(tokens, input, Kind::Assign) {
         Some(rest) => {
@@ -37,7 +37,7 @@ fn renamed(tokens: &[Token], input: Input) -> Result<(Option<u32>, Input), Stop>
 /// An imported module.
 #[tactic(auto, using(ob_tree::proofs::DeclarationLayers::declaring_made), unfolding(crate::specs::ReadModules::import_at, crate::specs::Forms::name_at))]
 fn import(tokens: &[Token], input: Input) -> Result<(ImportItem, Input), Stop>
-    ensures { Gives (λ x. (import_outline x.0, ahead tokens.now x.1)) result (import_at (ahead tokens.now input)) }
+    ensures { Gives tokens.now (λ x. (import_outline x.0, ahead tokens.now x.1)) result (import_at (ahead tokens.now input)) }
 {
     let (name, here) = identifier(tokens, input)?;
     let (of, here) = renamed(tokens, here)?;
@@ -50,7 +50,7 @@ fn more_imports(
     tokens: &[Token],
     input: Input,
 ) -> Result<(Vec<ImportItem>, Input), Stop>
-    ensures { Gives (λ x. (each_after kinds.Comma import_outline x.0.items, ahead tokens.now x.1)) result (many (accept_at kinds.Comma) import_at (ahead tokens.now input)) }
+    ensures { Gives tokens.now (λ x. (each_after kinds.Comma import_outline x.0.items, ahead tokens.now x.1)) result (many (accept_at kinds.Comma) import_at (ahead tokens.now input)) }
 {
     let mut rest = Vec::new(alloc);
     let mut here = input;
@@ -69,7 +69,7 @@ fn import_list(
     tokens: &[Token],
     input: Input,
 ) -> Result<(OneOrMore<ImportItem>, Input), Stop>
-    ensures { Gives (λ x. (listed kinds.Comma import_outline x.0, ahead tokens.now x.1)) result (several kinds.Comma import_at (ahead tokens.now input)) }
+    ensures { Gives tokens.now (λ x. (listed kinds.Comma import_outline x.0, ahead tokens.now x.1)) result (several kinds.Comma import_at (ahead tokens.now input)) }
 {
     let (first, here) = import(tokens, input)?;
     let (rest, here) = more_imports(alloc, tokens, here)?;
@@ -83,7 +83,7 @@ fn imports(
     tokens: &[Token],
     input: Input,
 ) -> Result<(Option<OneOrMore<ImportItem>>, Input), Stop>
-    ensures { Gives (λ x. (if_there (λ l. word kinds.Import ++ (listed kinds.Comma import_outline l ++ word kinds.Semicolon)) x.0, ahead tokens.now x.1)) result (imports_at (ahead tokens.now input)) }
+    ensures { Gives tokens.now (λ x. (if_there (λ l. word kinds.Import ++ (listed kinds.Comma import_outline l ++ word kinds.Semicolon)) x.0, ahead tokens.now x.1)) result (imports_at (ahead tokens.now input)) }
 {
     match accept(tokens, input, Kind::Import) {
         Some(rest) => {
@@ -113,7 +113,7 @@ pub(crate) fn module(
     input: Input,
     depth: u32,
 ) -> Result<(Box<Module>, Input), Stop>
-    ensures { Gives (λ x. (module_outline x.0.value, ahead tokens.now x.1)) result (module_at depth (ahead tokens.now input)) }
+    ensures { Gives tokens.now (λ x. (module_outline x.0.value, ahead tokens.now x.1)) result (module_at depth (ahead tokens.now input)) }
 {
     let here = expect(tokens, input, Kind::Module)?;
     let (name, here) = identifier(tokens, here)?;
@@ -138,7 +138,7 @@ fn inside(
     depth: u32,
     name: u32,
 ) -> Result<((Box<Declarations>, Option<Box<Block>>, u32), Input), Stop>
-    ensures { Gives (λ x. (
+    ensures { Gives tokens.now (λ x. (
       declarations_outline x.0.0.value ++ (if_there (λ b. word kinds.Begin ++ block_outline b.value) x.0.1 ++
           (word kinds.End ++ (repeated name x.0.2 ++ word kinds.Dot))),
       ahead tokens.now x.1,
@@ -155,7 +155,7 @@ fn inside(
 /// What stands behind the statements of the module of this name.
 #[tactic(auto, unfolding(crate::specs::Forms::name_at))]
 fn ending(tokens: &[Token], input: Input, name: u32) -> Result<(u32, Input), Stop>
-    ensures { Gives (λ x. (word kinds.End ++ (repeated name x.0 ++ word kinds.Dot), ahead tokens.now x.1)) result
+    ensures { Gives tokens.now (λ x. (word kinds.End ++ (repeated name x.0 ++ word kinds.Dot), ahead tokens.now x.1)) result
         (seq (expect_at kinds.End) (seq (name_at (repeated name)) (expect_at kinds.Dot)) (ahead tokens.now input)) }
 {
     let here = expect(tokens, input, Kind::End)?;
@@ -172,11 +172,11 @@ pub(crate) fn whole(
     input: Input,
     depth: u32,
 ) -> Result<Box<Module>, Stop>
-    ensures { Gives (λ m. module_outline m.value) result (all_of depth (ahead tokens.now input)) }
+    ensures { Gives tokens.now (λ m. module_outline m.value) result (all_of depth (ahead tokens.now input)) }
 {
     let (module, here) = module(alloc, tokens, input, depth)?;
     match here.next(tokens) {
         None => Ok(module),
-        Some(_) => Err(Stop::Wrong(here.number())),
+        Some(_) => Err(Stop::Wrong(here)),
     }
 }

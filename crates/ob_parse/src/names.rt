@@ -21,7 +21,7 @@ pub(crate) fn qualident_after(
     head: u32,
     input: Input,
 ) -> Result<(Qualident, Input), Stop>
-    ensures { Gives (λ x. (qualident_outline x.0, ahead tokens.now x.1)) result (readers.qualident_after head (ahead tokens.now input)) }
+    ensures { Gives tokens.now (λ x. (qualident_outline x.0, ahead tokens.now x.1)) result (readers.qualident_after head (ahead tokens.now input)) }
 {
     match accept(tokens, input, Kind::Dot) {
         None => Ok((Qualident { head, member: None }, input)),
@@ -41,7 +41,7 @@ pub(crate) fn qualident_after(
 /// A qualified identifier.
 #[tactic(auto, unfolding(crate::specs::ReadNames::qualident_after, crate::specs::ReadNames::qualident_at, crate::specs::Forms::name_at))]
 pub(crate) fn qualident(tokens: &[Token], input: Input) -> Result<(Qualident, Input), Stop>
-    ensures { Gives (λ x. (qualident_outline x.0, ahead tokens.now x.1)) result (readers.qualident_at (ahead tokens.now input)) }
+    ensures { Gives tokens.now (λ x. (qualident_outline x.0, ahead tokens.now x.1)) result (readers.qualident_at (ahead tokens.now input)) }
 {
     let (head, rest) = identifier(tokens, input)?;
     qualident_after(tokens, head, rest)
@@ -60,7 +60,7 @@ pub(crate) fn star(tokens: &[Token], input: Input) -> (bool, Input)
 /// A declaring identifier.
 #[tactic(auto, unfolding(ob_tree::specs::Names::identdef_outline, crate::specs::ReadNames::identdef_at, crate::specs::Forms::name_at))]
 pub(crate) fn identdef(tokens: &[Token], input: Input) -> Result<(Identdef, Input), Stop>
-    ensures { Gives (λ x. (identdef_outline x.0, ahead tokens.now x.1)) result (readers.identdef_at (ahead tokens.now input)) }
+    ensures { Gives tokens.now (λ x. (identdef_outline x.0, ahead tokens.now x.1)) result (readers.identdef_at (ahead tokens.now input)) }
 {
     let (name, rest) = identifier(tokens, input)?;
     let (starred, rest) = star(tokens, rest);

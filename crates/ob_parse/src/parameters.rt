@@ -22,14 +22,14 @@ use std::alloc::Global;
 /// The name of a parameter.
 #[tactic(auto, unfolding(crate::specs::Forms::name_at))]
 fn name(tokens: &[Token], input: Input) -> Result<(u32, Input), Stop>
-    ensures { Gives (λ x. (declared x.0, ahead tokens.now x.1)) result (name_at declared (ahead tokens.now input)) }
+    ensures { Gives tokens.now (λ x. (declared x.0, ahead tokens.now x.1)) result (name_at declared (ahead tokens.now input)) }
 {
     identifier(tokens, input)
 }
 
 /// The names of parameters behind the first: each after a comma.
 fn more_names(alloc: Global, tokens: &[Token], input: Input) -> Result<(Vec<u32>, Input), Stop>
-    ensures { Gives (λ x. (each_after kinds.Comma declared x.0.items, ahead tokens.now x.1)) result (many (accept_at kinds.Comma) (name_at declared) (ahead tokens.now input)) }
+    ensures { Gives tokens.now (λ x. (each_after kinds.Comma declared x.0.items, ahead tokens.now x.1)) result (many (accept_at kinds.Comma) (name_at declared) (ahead tokens.now input)) }
 {
     let mut rest = Vec::new(alloc);
     let mut here = input;
@@ -44,7 +44,7 @@ fn more_names(alloc: Global, tokens: &[Token], input: Input) -> Result<(Vec<u32>
 /// The names of parameters.
 #[tactic(auto, unfolding(crate::specs::Forms::several))]
 fn names(alloc: Global, tokens: &[Token], input: Input) -> Result<(OneOrMore<u32>, Input), Stop>
-    ensures { Gives (λ x. (listed kinds.Comma declared x.0, ahead tokens.now x.1)) result (several kinds.Comma (name_at declared) (ahead tokens.now input)) }
+    ensures { Gives tokens.now (λ x. (listed kinds.Comma declared x.0, ahead tokens.now x.1)) result (several kinds.Comma (name_at declared) (ahead tokens.now input)) }
 {
     let (first, here) = name(tokens, input)?;
     let (rest, here) = more_names(alloc, tokens, here)?;
@@ -53,7 +53,7 @@ fn names(alloc: Global, tokens: &[Token], input: Input) -> Result<(OneOrMore<u32
 
 /// How often ARRAY OF stands here.
 fn open_arrays(tokens: &[Token], input: Input) -> Result<(u32, Input), Stop>
-    ensures { Gives (λ x. (times x.0 (word kinds.Array ++ word kinds.Of), ahead tokens.now x.1)) result (many (accept_at kinds.Array) (expect_at kinds.Of) (ahead tokens.now input)) }
+    ensures { Gives tokens.now (λ x. (times x.0 (word kinds.Array ++ word kinds.Of), ahead tokens.now x.1)) result (many (accept_at kinds.Array) (expect_at kinds.Of) (ahead tokens.now input)) }
 {
     let mut count = 0;
     let mut here = input;
@@ -66,7 +66,7 @@ fn open_arrays(tokens: &[Token], input: Input) -> Result<(u32, Input), Stop>
 
 /// Whether VAR stands here, and what follows.
 fn variable(tokens: &[Token], input: Input) -> Result<(bool, Input), Stop>
-    ensures { Gives (λ x. (if_so x.0 (word kinds.Var), ahead tokens.now x.1)) result (optional (accept_at kinds.Var) nothing (ahead tokens.now input)) }
+    ensures { Gives tokens.now (λ x. (if_so x.0 (word kinds.Var), ahead tokens.now x.1)) result (optional (accept_at kinds.Var) nothing (ahead tokens.now input)) }
 {
     match accept(tokens, input, Kind::Var) {
         Some(rest) => Ok((true, rest)),
@@ -77,7 +77,7 @@ fn variable(tokens: &[Token], input: Input) -> Result<(bool, Input), Stop>
 /// Parameters of one formal type.
 #[tactic(auto, using(ob_tree::proofs::TypeLayers::types_made), unfolding(crate::specs::ReadTypes::section_at))]
 fn section(alloc: Global, tokens: &[Token], input: Input) -> Result<(ParameterSection, Input), Stop>
-    ensures { Gives (λ x. (section_outline x.0, ahead tokens.now x.1)) result (section_at (ahead tokens.now input)) }
+    ensures { Gives tokens.now (λ x. (section_outline x.0, ahead tokens.now x.1)) result (section_at (ahead tokens.now input)) }
 {
     let (variable, here) = variable(tokens, input)?;
     let (names, here) = names(alloc, tokens, here)?;
@@ -101,7 +101,7 @@ fn more_sections(
     tokens: &[Token],
     input: Input,
 ) -> Result<(Vec<ParameterSection>, Input), Stop>
-    ensures { Gives (λ x. (each_after kinds.Semicolon section_outline x.0.items, ahead tokens.now x.1)) result (many (accept_at kinds.Semicolon) section_at (ahead tokens.now input)) }
+    ensures { Gives tokens.now (λ x. (each_after kinds.Semicolon section_outline x.0.items, ahead tokens.now x.1)) result (many (accept_at kinds.Semicolon) section_at (ahead tokens.now input)) }
 {
     let mut rest = Vec::new(alloc);
     let mut here = input;
@@ -120,7 +120,7 @@ fn sections(
     tokens: &[Token],
     input: Input,
 ) -> Result<(Option<OneOrMore<ParameterSection>>, Input), Stop>
-    ensures { Gives (λ x. (if_there (listed kinds.Semicolon section_outline) x.0, ahead tokens.now x.1)) result (optional (unless kinds.RightParen) (several kinds.Semicolon section_at) (ahead tokens.now input)) }
+    ensures { Gives tokens.now (λ x. (if_there (listed kinds.Semicolon section_outline) x.0, ahead tokens.now x.1)) result (optional (unless kinds.RightParen) (several kinds.Semicolon section_at) (ahead tokens.now input)) }
 {
     if is_at(tokens, input, Kind::RightParen) {
         return Ok((None, input));
@@ -132,7 +132,7 @@ fn sections(
 
 /// The type of a result.
 fn result_type(tokens: &[Token], input: Input) -> Result<(Option<Qualident>, Input), Stop>
-    ensures { Gives (λ x. (if_there (λ q. word kinds.Colon ++ qualident_outline q) x.0, ahead tokens.now x.1)) result (optional (accept_at kinds.Colon) qualident_at (ahead tokens.now input)) }
+    ensures { Gives tokens.now (λ x. (if_there (λ q. word kinds.Colon ++ qualident_outline q) x.0, ahead tokens.now x.1)) result (optional (accept_at kinds.Colon) qualident_at (ahead tokens.now input)) }
 {
     match accept(tokens, input, Kind::Colon) {
         Some(rest) => {
@@ -146,7 +146,7 @@ fn result_type(tokens: &[Token], input: Input) -> Result<(Option<Qualident>, Inp
 /// Formal parameters.
 #[tactic(auto, using(ob_tree::proofs::TypeLayers::types_made), unfolding(crate::specs::ReadTypes::parameters_at))]
 fn parameters(alloc: Global, tokens: &[Token], input: Input) -> Result<(Parameters, Input), Stop>
-    ensures { Gives (λ x. (parameters_outline x.0, ahead tokens.now x.1)) result (parameters_at (ahead tokens.now input)) }
+    ensures { Gives tokens.now (λ x. (parameters_outline x.0, ahead tokens.now x.1)) result (parameters_at (ahead tokens.now input)) }
 {
     let here = expect(tokens, input, Kind::LeftParen)?;
     let (sections, here) = sections(alloc, tokens, here)?;
@@ -162,7 +162,7 @@ pub(crate) fn some_parameters(
     tokens: &[Token],
     input: Input,
 ) -> Result<(Option<Parameters>, Input), Stop>
-    ensures { Gives (λ x. (if_there parameters_outline x.0, ahead tokens.now x.1)) result (some_parameters_at (ahead tokens.now input)) }
+    ensures { Gives tokens.now (λ x. (if_there parameters_outline x.0, ahead tokens.now x.1)) result (some_parameters_at (ahead tokens.now input)) }
 {
     if is_at(tokens, input, Kind::LeftParen) {
         let (parameters, here) = parameters(alloc, tokens, input)?;

@@ -7,8 +7,8 @@ ghost use Rattle.ob_tree.specs.Declaring.{module_outline};
 ghost use Rattle.ob_tree.specs.Derives.{spelling};
 ghost use Rattle.ob_tree.specs.Leaves.{leaves};
 ghost use Rattle.ob_parse.specs.Gives.{Gives};
-ghost use Rattle.ob_parse.specs.Ends.{start_or, told};
-ghost use Rattle.ob_parse.specs.Parsed.{IsTheTree, IsFaultOf, kinds_of};
+ghost use Rattle.ob_parse.specs.Ends.{told};
+ghost use Rattle.ob_parse.specs.Parsed.{IsTheTree, IsFaultOf, kinds_of, start_or};
 ghost use Rattle.ob_parse.specs.ReadModules.{all_of};
 
 use crate::ParseFault;
@@ -27,7 +27,7 @@ const DEEPEST: u32 = 200;
 #[tactic(auto, using(crate::proofs::Ahead::all_ahead))]
 fn tree_of(alloc: Global, tokens: &[Token]) -> Result<Box<Module>, Stop>
     requires { length tokens.now < 2 ^ 32 }
-    ensures { Gives (λ m. module_outline m.value) result (all_of 200 (leaves 0 (kinds_of tokens.now))) }
+    ensures { Gives tokens.now (λ m. module_outline m.value) result (all_of 200 (leaves 0 (kinds_of tokens.now))) }
 {
     whole(alloc, tokens, Input::ALL, DEEPEST)
 }
@@ -46,11 +46,14 @@ fn fault_of(end: u32, tokens: &[Token], stop: Stop) -> ParseFault
     ensures { result ≡ told end tokens.now stop }
 {
     match stop {
-        Stop::Wrong(number) => ParseFault::Syntax {
-            offset: offset_of(end, tokens, number),
+        Stop::Wrong(input) => ParseFault::Syntax {
+            offset: offset_of(end, tokens, input.number()),
         },
-        Stop::Deep(number) => ParseFault::TooDeep {
-            offset: offset_of(end, tokens, number),
+        Stop::Deep(input) => match tokens.get(input.number() as usize) {
+            None => ParseFault::Syntax { offset: end },
+            Some(token) => ParseFault::TooDeep {
+                offset: token.start,
+            },
         },
         Stop::Memory => ParseFault::Memory,
     }
@@ -58,9 +61,9 @@ fn fault_of(end: u32, tokens: &[Token], stop: Stop) -> ParseFault
 
 /// The syntax tree of the tokens of a text of these bytes (Oberon-07 report, appendix).
 ///
-/// Syntax is answered where no tree derives the tokens, TooDeep only where none of at most 200 levels does, and EndName
-/// where the tree has a wrong name after an END. Which tokens' offsets Syntax and TooDeep have is tested, not proved.
-/// Memory is answered where a growth of memory is refused.
+/// Syntax is answered where no tree derives the tokens, and TooDeep where none of at most 200 levels does: at the token
+/// where reading them from the left stops, since it is wrong there, or since it begins a construct with no level left.
+/// EndName is answered where the tree has a wrong name after an END, and Memory where a growth of memory is refused.
 pub fn parse(alloc: Global, bytes: &[u8], tokens: &Tokens) -> Result<Module, ParseFault>
     // The tokens are those of the bytes.
     requires { IsOutcome bytes.now (Reads tokens.now) }

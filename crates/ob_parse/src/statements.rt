@@ -45,10 +45,10 @@ fn empty_statement(
     tokens: &[Token],
     input: Input,
 ) -> Result<(Box<Stmt>, Input), Stop>
-    ensures { Gives (λ x. (stmt_outline x.0.value, ahead tokens.now x.1)) result (statement_at 0 (ahead tokens.now input)) }
+    ensures { Gives tokens.now (λ x. (stmt_outline x.0.value, ahead tokens.now x.1)) result (statement_at 0 (ahead tokens.now input)) }
 {
     if begins_statement(tokens, input) {
-        return Err(Stop::Deep(input.number()));
+        return Err(Stop::Deep(input));
     }
     Ok((boxed(alloc, Stmt::Empty)?, input))
 }
@@ -62,7 +62,7 @@ fn statement(
     input: Input,
     depth: u32,
 ) -> Result<(Box<Stmt>, Input), Stop>
-    ensures { Gives (λ x. (stmt_outline x.0.value, ahead tokens.now x.1)) result (statement_at depth (ahead tokens.now input)) }
+    ensures { Gives tokens.now (λ x. (stmt_outline x.0.value, ahead tokens.now x.1)) result (statement_at depth (ahead tokens.now input)) }
 {
     if depth == 0 {
         return empty_statement(alloc, tokens, input);
@@ -80,7 +80,7 @@ fn statement_within(
     input: Input,
     depth: u32,
 ) -> Result<(Stmt, Input), Stop>
-    ensures { Gives (λ x. (stmt_outline x.0, ahead tokens.now x.1)) result (statement_with (expr_at depth) (block_at depth) (ahead tokens.now input)) }
+    ensures { Gives tokens.now (λ x. (stmt_outline x.0, ahead tokens.now x.1)) result (statement_with (expr_at depth) (block_at depth) (ahead tokens.now input)) }
 {
     match input.next(tokens) {
         Some((Leaf::Name(number), rest)) => assignment(alloc, tokens, number, rest, depth),
@@ -102,7 +102,7 @@ fn assignment(
     input: Input,
     depth: u32,
 ) -> Result<(Stmt, Input), Stop>
-    ensures { Gives (λ x. (stmt_outline x.0, ahead tokens.now x.1)) result (node constructs.Statement (assign_with (expr_at depth) head) (ahead tokens.now input)) }
+    ensures { Gives tokens.now (λ x. (stmt_outline x.0, ahead tokens.now x.1)) result (node constructs.Statement (assign_with (expr_at depth) head) (ahead tokens.now input)) }
 {
     let (target, input) = designator(alloc, tokens, head, input, depth)?;
     match accept(tokens, input, Kind::Assign) {
@@ -123,7 +123,7 @@ pub(crate) fn block(
     input: Input,
     depth: u32,
 ) -> Result<(Box<Block>, Input), Stop>
-    ensures { Gives (λ x. (block_outline x.0.value, ahead tokens.now x.1)) result (block_at depth (ahead tokens.now input)) }
+    ensures { Gives tokens.now (λ x. (block_outline x.0.value, ahead tokens.now x.1)) result (block_at depth (ahead tokens.now input)) }
 {
     let (first, here) = statement(alloc, tokens, input, depth)?;
     let (rest, here) = more_statements(alloc, tokens, here, depth)?;
@@ -141,7 +141,7 @@ fn more_statements(
     input: Input,
     depth: u32,
 ) -> Result<(Vec<Stmt>, Input), Stop>
-    ensures { Gives (λ x. (each_after kinds.Semicolon stmt_outline x.0.items, ahead tokens.now x.1)) result (many (accept_at kinds.Semicolon) (statement_at depth) (ahead tokens.now input)) }
+    ensures { Gives tokens.now (λ x. (each_after kinds.Semicolon stmt_outline x.0.items, ahead tokens.now x.1)) result (many (accept_at kinds.Semicolon) (statement_at depth) (ahead tokens.now input)) }
 {
     let mut rest = Vec::new(alloc);
     let mut here = input;
@@ -163,7 +163,7 @@ fn branch(
     depth: u32,
     keyword: Kind,
 ) -> Result<(Box<Branch>, Input), Stop>
-    ensures { Gives (λ x. (branch_outline x.0.value keyword, ahead tokens.now x.1)) result (branch_with (expr_at depth) (block_at depth) keyword (ahead tokens.now input)) }
+    ensures { Gives tokens.now (λ x. (branch_outline x.0.value keyword, ahead tokens.now x.1)) result (branch_with (expr_at depth) (block_at depth) keyword (ahead tokens.now input)) }
 {
     let (condition, input) = expression(alloc, tokens, input, depth)?;
     let input = expect(tokens, input, keyword)?;
@@ -183,7 +183,7 @@ fn more_branches(
     depth: u32,
     keyword: Kind,
 ) -> Result<(Vec<Branch>, Input), Stop>
-    ensures { Gives (λ x. (each_after kinds.Elsif (λ b. branch_outline b keyword) x.0.items, ahead tokens.now x.1)) result
+    ensures { Gives tokens.now (λ x. (each_after kinds.Elsif (λ b. branch_outline b keyword) x.0.items, ahead tokens.now x.1)) result
         (many (accept_at kinds.Elsif) (branch_with (expr_at depth) (block_at depth) keyword) (ahead tokens.now input)) }
 {
     let mut rest = Vec::new(alloc);
@@ -204,7 +204,7 @@ fn otherwise(
     input: Input,
     depth: u32,
 ) -> Result<(Option<Box<Block>>, Input), Stop>
-    ensures { Gives (λ x. (if_there (λ b. word kinds.Else ++ block_outline b.value) x.0, ahead tokens.now x.1)) result (optional (accept_at kinds.Else) (block_at depth) (ahead tokens.now input)) }
+    ensures { Gives tokens.now (λ x. (if_there (λ b. word kinds.Else ++ block_outline b.value) x.0, ahead tokens.now x.1)) result (optional (accept_at kinds.Else) (block_at depth) (ahead tokens.now input)) }
 {
     match accept(tokens, input, Kind::Else) {
         None => Ok((None, input)),
@@ -224,7 +224,7 @@ fn if_statement(
     input: Input,
     depth: u32,
 ) -> Result<(Stmt, Input), Stop>
-    ensures { Gives (λ x. (stmt_outline x.0, ahead tokens.now x.1)) result (node constructs.Statement (prefixed (word kinds.If) (if_with (expr_at depth) (block_at depth))) (ahead tokens.now input)) }
+    ensures { Gives tokens.now (λ x. (stmt_outline x.0, ahead tokens.now x.1)) result (node constructs.Statement (prefixed (word kinds.If) (if_with (expr_at depth) (block_at depth))) (ahead tokens.now input)) }
 {
     let (first, input) = branch(alloc, tokens, input, depth, Kind::Then)?;
     let (rest, input) = more_branches(alloc, tokens, input, depth, Kind::Then)?;
@@ -242,7 +242,7 @@ fn case_statement(
     input: Input,
     depth: u32,
 ) -> Result<(Stmt, Input), Stop>
-    ensures { Gives (λ x. (stmt_outline x.0, ahead tokens.now x.1)) result (node constructs.Statement (prefixed (word kinds.Case) (cases_with (expr_at depth) (block_at depth))) (ahead tokens.now input)) }
+    ensures { Gives tokens.now (λ x. (stmt_outline x.0, ahead tokens.now x.1)) result (node constructs.Statement (prefixed (word kinds.Case) (cases_with (expr_at depth) (block_at depth))) (ahead tokens.now input)) }
 {
     let (value, input) = expression(alloc, tokens, input, depth)?;
     let input = expect(tokens, input, Kind::Of)?;
@@ -258,7 +258,7 @@ fn cases(
     input: Input,
     depth: u32,
 ) -> Result<((Box<Case>, Vec<Case>), Input), Stop>
-    ensures { Gives (λ x. (case_outline x.0.0.value ++ (each_after kinds.Bar case_outline x.0.1.items ++ word kinds.End), ahead tokens.now x.1)) result
+    ensures { Gives tokens.now (λ x. (case_outline x.0.0.value ++ (each_after kinds.Bar case_outline x.0.1.items ++ word kinds.End), ahead tokens.now x.1)) result
         (seq (case_with (block_at depth)) (seq (many (accept_at kinds.Bar) (case_with (block_at depth))) (expect_at kinds.End)) (ahead tokens.now input)) }
 {
     let (first, input) = case(alloc, tokens, input, depth)?;
@@ -276,7 +276,7 @@ fn case(
     input: Input,
     depth: u32,
 ) -> Result<(Box<Case>, Input), Stop>
-    ensures { Gives (λ x. (case_outline x.0.value, ahead tokens.now x.1)) result (case_with (block_at depth) (ahead tokens.now input)) }
+    ensures { Gives tokens.now (λ x. (case_outline x.0.value, ahead tokens.now x.1)) result (case_with (block_at depth) (ahead tokens.now input)) }
 {
     if !begins_label(tokens, input) {
         return Ok((boxed(alloc, Case::Nothing)?, input));
@@ -294,7 +294,7 @@ fn more_cases(
     input: Input,
     depth: u32,
 ) -> Result<(Vec<Case>, Input), Stop>
-    ensures { Gives (λ x. (each_after kinds.Bar case_outline x.0.items, ahead tokens.now x.1)) result (many (accept_at kinds.Bar) (case_with (block_at depth)) (ahead tokens.now input)) }
+    ensures { Gives tokens.now (λ x. (each_after kinds.Bar case_outline x.0.items, ahead tokens.now x.1)) result (many (accept_at kinds.Bar) (case_with (block_at depth)) (ahead tokens.now input)) }
 {
     let mut rest = Vec::new(alloc);
     let mut here = input;
@@ -315,7 +315,7 @@ fn while_statement(
     input: Input,
     depth: u32,
 ) -> Result<(Stmt, Input), Stop>
-    ensures { Gives (λ x. (stmt_outline x.0, ahead tokens.now x.1)) result (node constructs.Statement (prefixed (word kinds.While) (while_with (expr_at depth) (block_at depth))) (ahead tokens.now input)) }
+    ensures { Gives tokens.now (λ x. (stmt_outline x.0, ahead tokens.now x.1)) result (node constructs.Statement (prefixed (word kinds.While) (while_with (expr_at depth) (block_at depth))) (ahead tokens.now input)) }
 {
     let (first, input) = branch(alloc, tokens, input, depth, Kind::Do)?;
     let (rest, input) = more_branches(alloc, tokens, input, depth, Kind::Do)?;
@@ -332,7 +332,7 @@ fn repeat_statement(
     input: Input,
     depth: u32,
 ) -> Result<(Stmt, Input), Stop>
-    ensures { Gives (λ x. (stmt_outline x.0, ahead tokens.now x.1)) result (node constructs.Statement (prefixed (word kinds.Repeat) (repeat_with (expr_at depth) (block_at depth))) (ahead tokens.now input)) }
+    ensures { Gives tokens.now (λ x. (stmt_outline x.0, ahead tokens.now x.1)) result (node constructs.Statement (prefixed (word kinds.Repeat) (repeat_with (expr_at depth) (block_at depth))) (ahead tokens.now input)) }
 {
     let (body, input) = block(alloc, tokens, input, depth)?;
     let input = expect(tokens, input, Kind::Until)?;
@@ -349,7 +349,7 @@ fn for_statement(
     input: Input,
     depth: u32,
 ) -> Result<(Stmt, Input), Stop>
-    ensures { Gives (λ x. (stmt_outline x.0, ahead tokens.now x.1)) result (node constructs.Statement (prefixed (word kinds.For) (for_with (expr_at depth) (block_at depth))) (ahead tokens.now input)) }
+    ensures { Gives tokens.now (λ x. (stmt_outline x.0, ahead tokens.now x.1)) result (node constructs.Statement (prefixed (word kinds.For) (for_with (expr_at depth) (block_at depth))) (ahead tokens.now input)) }
 {
     let (variable, input) = identifier(tokens, input)?;
     let input = expect(tokens, input, Kind::Assign)?;
@@ -373,7 +373,7 @@ fn for_rest(
     input: Input,
     depth: u32,
 ) -> Result<((Box<Expr>, Option<Box<Expr>>, Box<Block>), Input), Stop>
-    ensures { Gives (λ x. (
+    ensures { Gives tokens.now (λ x. (
       word kinds.To ++ (expr_outline x.0.0.value ++ (if_there (λ e. word kinds.By ++ expr_outline e.value) x.0.1
           ++ (word kinds.Do ++ (block_outline x.0.2.value ++ word kinds.End)))),
       ahead tokens.now x.1,
@@ -396,7 +396,7 @@ fn for_body(
     input: Input,
     depth: u32,
 ) -> Result<(Box<Block>, Input), Stop>
-    ensures { Gives (λ x. (word kinds.Do ++ (block_outline x.0.value ++ word kinds.End), ahead tokens.now x.1)) result (seq (expect_at kinds.Do) (seq (block_at depth) (expect_at kinds.End)) (ahead tokens.now input)) }
+    ensures { Gives tokens.now (λ x. (word kinds.Do ++ (block_outline x.0.value ++ word kinds.End), ahead tokens.now x.1)) result (seq (expect_at kinds.Do) (seq (block_at depth) (expect_at kinds.End)) (ahead tokens.now input)) }
 {
     let input = expect(tokens, input, Kind::Do)?;
     let (body, input) = block(alloc, tokens, input, depth)?;
@@ -411,7 +411,7 @@ fn for_step(
     input: Input,
     depth: u32,
 ) -> Result<(Option<Box<Expr>>, Input), Stop>
-    ensures { Gives (λ x. (if_there (λ e. word kinds.By ++ expr_outline e.value) x.0, ahead tokens.now x.1)) result (optional (accept_at kinds.By) (expr_at depth) (ahead tokens.now input)) }
+    ensures { Gives tokens.now (λ x. (if_there (λ e. word kinds.By ++ expr_outline e.value) x.0, ahead tokens.now x.1)) result (optional (accept_at kinds.By) (expr_at depth) (ahead tokens.now input)) }
 {
     match accept(tokens, input, Kind::By) {
         None => Ok((None, input)),

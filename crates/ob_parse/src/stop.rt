@@ -3,15 +3,16 @@
 ghost use Rattle.std.specs.Prelude.{◌≡◌, IfOk, IfErr};
 ghost use Rattle.ob_parse.specs.declared.stop.Stop.TheVariants.{Memory};
 
+use crate::input::Input;
 use std::alloc::{AllocError, AllocFailed, Global};
 
-/// Why the parser stops before the end: at the token of this number, or behind the last one.
+/// Why the parser stops before the end, with what is still to be read.
 #[derive(Clone, Copy)]
 pub(crate) enum Stop {
-    /// The token is wrong, or there is none.
-    Wrong(u32),
+    /// The next token is wrong, or there is none.
+    Wrong(Input),
     /// A construct that begins with it is nested too deep.
-    Deep(u32),
+    Deep(Input),
     /// A growth of memory was refused.
     Memory,
 }

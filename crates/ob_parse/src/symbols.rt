@@ -14,11 +14,11 @@ use ob_tree::token::Leaf;
 /// A token of this kind, which has to stand here.
 #[tactic(auto, unfolding(crate::specs::Forms::expect_at))]
 pub(crate) fn expect(tokens: &[Token], input: Input, kind: Kind) -> Result<Input, Stop>
-    ensures { Gives (λ rest. (word kind, ahead tokens.now rest)) result (expect_at kind (ahead tokens.now input)) }
+    ensures { Gives tokens.now (λ rest. (word kind, ahead tokens.now rest)) result (expect_at kind (ahead tokens.now input)) }
 {
     match input.next(tokens) {
         Some((Leaf::Word(found), rest)) if found == kind => Ok(rest),
-        _ => Err(Stop::Wrong(input.number())),
+        _ => Err(Stop::Wrong(input)),
     }
 }
 
@@ -46,21 +46,21 @@ pub(crate) fn is_at(tokens: &[Token], input: Input, kind: Kind) -> bool
 /// An identifier, which has to stand here.
 #[tactic(auto, unfolding(crate::specs::Forms::identifier_at))]
 pub(crate) fn identifier(tokens: &[Token], input: Input) -> Result<(u32, Input), Stop>
-    ensures { Gives (λ x. (x.0, ahead tokens.now x.1)) result (identifier_at (ahead tokens.now input)) }
+    ensures { Gives tokens.now (λ x. (x.0, ahead tokens.now x.1)) result (identifier_at (ahead tokens.now input)) }
 {
     match input.next(tokens) {
         Some((Leaf::Name(number), rest)) => Ok((number, rest)),
-        _ => Err(Stop::Wrong(input.number())),
+        _ => Err(Stop::Wrong(input)),
     }
 }
 
 /// Why the parser stops where the depth is used up: at the construct that begins here, or else at a wrong token.
-pub(crate) fn beyond(input: Input, begins: bool) -> Stop
-    ensures { Fails result (limited begins) }
+pub(crate) fn beyond(tokens: &[Token], input: Input, begins: bool) -> Stop
+    ensures { Fails tokens.now result (limited begins (uncons (ahead tokens.now input))) }
 {
     if begins {
-        Stop::Deep(input.number())
+        Stop::Deep(input)
     } else {
-        Stop::Wrong(input.number())
+        Stop::Wrong(input)
     }
 }

@@ -46,7 +46,7 @@ fn more_identdefs(
     tokens: &[Token],
     input: Input,
 ) -> Result<(Vec<Identdef>, Input), Stop>
-    ensures { Gives (λ x. (each_after kinds.Comma identdef_outline x.0.items, ahead tokens.now x.1)) result (many (accept_at kinds.Comma) identdef_at (ahead tokens.now input)) }
+    ensures { Gives tokens.now (λ x. (each_after kinds.Comma identdef_outline x.0.items, ahead tokens.now x.1)) result (many (accept_at kinds.Comma) identdef_at (ahead tokens.now input)) }
 {
     let mut rest = Vec::new(alloc);
     let mut here = input;
@@ -65,7 +65,7 @@ fn identdefs(
     tokens: &[Token],
     input: Input,
 ) -> Result<(OneOrMore<Identdef>, Input), Stop>
-    ensures { Gives (λ x. (listed kinds.Comma identdef_outline x.0, ahead tokens.now x.1)) result (several kinds.Comma identdef_at (ahead tokens.now input)) }
+    ensures { Gives tokens.now (λ x. (listed kinds.Comma identdef_outline x.0, ahead tokens.now x.1)) result (several kinds.Comma identdef_at (ahead tokens.now input)) }
 {
     let (first, here) = identdef(tokens, input)?;
     let (rest, here) = more_identdefs(alloc, tokens, here)?;
@@ -81,7 +81,7 @@ pub(crate) fn var_declaration(
     input: Input,
     depth: u32,
 ) -> Result<(Box<VarDecl>, Input), Stop>
-    ensures { Gives (λ x. (var_outline x.0.value, ahead tokens.now x.1)) result (var_with (type_at depth) (ahead tokens.now input)) }
+    ensures { Gives tokens.now (λ x. (var_outline x.0.value, ahead tokens.now x.1)) result (var_with (type_at depth) (ahead tokens.now input)) }
 {
     let (names, here) = identdefs(alloc, tokens, input)?;
     let here = expect(tokens, here, Kind::Colon)?;
@@ -112,7 +112,7 @@ fn field_list(
     input: Input,
     depth: u32,
 ) -> Result<(Box<VarDecl>, Input), Stop>
-    ensures { Gives (λ x. (construct constructs.FieldList (var_outline x.0.value), ahead tokens.now x.1)) result (node constructs.FieldList (var_with (type_at depth)) (ahead tokens.now input)) }
+    ensures { Gives tokens.now (λ x. (construct constructs.FieldList (var_outline x.0.value), ahead tokens.now x.1)) result (node constructs.FieldList (var_with (type_at depth)) (ahead tokens.now input)) }
 {
     var_declaration(alloc, tokens, input, depth)
 }
@@ -125,7 +125,7 @@ fn more_fields(
     input: Input,
     depth: u32,
 ) -> Result<(Vec<VarDecl>, Input), Stop>
-    ensures { Gives (λ x. (each_after kinds.Semicolon (λ v. construct constructs.FieldList (var_outline v)) x.0.items, ahead tokens.now x.1)) result
+    ensures { Gives tokens.now (λ x. (each_after kinds.Semicolon (λ v. construct constructs.FieldList (var_outline v)) x.0.items, ahead tokens.now x.1)) result
         (many field_start (node constructs.FieldList (var_with (type_at depth))) (ahead tokens.now input)) }
 {
     let mut rest = Vec::new(alloc);
@@ -140,7 +140,7 @@ fn more_fields(
 
 /// Whether a semicolon stands here, and what follows.
 fn semicolon(tokens: &[Token], input: Input) -> Result<(bool, Input), Stop>
-    ensures { Gives (λ x. (if_so x.0 (word kinds.Semicolon), ahead tokens.now x.1)) result (optional (accept_at kinds.Semicolon) nothing (ahead tokens.now input)) }
+    ensures { Gives tokens.now (λ x. (if_so x.0 (word kinds.Semicolon), ahead tokens.now x.1)) result (optional (accept_at kinds.Semicolon) nothing (ahead tokens.now input)) }
 {
     match accept(tokens, input, Kind::Semicolon) {
         Some(rest) => Ok((true, rest)),
@@ -157,7 +157,7 @@ fn fields(
     input: Input,
     depth: u32,
 ) -> Result<(Box<Fields>, Input), Stop>
-    ensures { Gives (λ x. (fields_outline x.0.value, ahead tokens.now x.1)) result (fields_with (type_at depth) (ahead tokens.now input)) }
+    ensures { Gives tokens.now (λ x. (fields_outline x.0.value, ahead tokens.now x.1)) result (fields_with (type_at depth) (ahead tokens.now input)) }
 {
     let (first, here) = field_list(alloc, tokens, input, depth)?;
     let (rest, here) = more_fields(alloc, tokens, here, depth)?;
@@ -172,7 +172,7 @@ fn fields(
 
 /// The base of a record, in parentheses.
 fn base(tokens: &[Token], input: Input) -> Result<(Option<Qualident>, Input), Stop>
-    ensures { Gives (λ x. (if_there (λ q. word kinds.LeftParen ++ (qualident_outline q ++ word kinds.RightParen)) x.0, ahead tokens.now x.1)) result
+    ensures { Gives tokens.now (λ x. (if_there (λ q. word kinds.LeftParen ++ (qualident_outline q ++ word kinds.RightParen)) x.0, ahead tokens.now x.1)) result
         (optional (accept_at kinds.LeftParen) (seq qualident_at (expect_at kinds.RightParen)) (ahead tokens.now input)) }
 {
     match accept(tokens, input, Kind::LeftParen) {
@@ -194,7 +194,7 @@ fn some_fields(
     input: Input,
     depth: u32,
 ) -> Result<(Option<Box<Fields>>, Input), Stop>
-    ensures { Gives (λ x. (if_there (λ f. fields_outline f.value) x.0, ahead tokens.now x.1)) result (optional (unless kinds.End) (fields_with (type_at depth)) (ahead tokens.now input)) }
+    ensures { Gives tokens.now (λ x. (if_there (λ f. fields_outline f.value) x.0, ahead tokens.now x.1)) result (optional (unless kinds.End) (fields_with (type_at depth)) (ahead tokens.now input)) }
 {
     if is_at(tokens, input, Kind::End) {
         return Ok((None, input));
@@ -212,7 +212,7 @@ fn record(
     input: Input,
     depth: u32,
 ) -> Result<(Record, Input), Stop>
-    ensures { Gives (λ x. (record_outline x.0, ahead tokens.now x.1)) result (prefixed (word kinds.Record) (record_with (type_at depth)) (ahead tokens.now input)) }
+    ensures { Gives tokens.now (λ x. (record_outline x.0, ahead tokens.now x.1)) result (prefixed (word kinds.Record) (record_with (type_at depth)) (ahead tokens.now input)) }
 {
     let (base, here) = base(tokens, input)?;
     let (fields, here) = some_fields(alloc, tokens, here, depth)?;
@@ -229,7 +229,7 @@ fn type_within(
     input: Input,
     depth: u32,
 ) -> Result<(TypeForm, Input), Stop>
-    ensures { Gives (λ x. (type_outline x.0, ahead tokens.now x.1)) result (type_with (expr_at depth) (type_at depth) (ahead tokens.now input)) }
+    ensures { Gives tokens.now (λ x. (type_outline x.0, ahead tokens.now x.1)) result (type_with (expr_at depth) (type_at depth) (ahead tokens.now input)) }
 {
     match input.next(tokens) {
         Some((Leaf::Name(head), rest)) => named(tokens, head, rest),
@@ -237,14 +237,14 @@ fn type_within(
         Some((Leaf::Word(Kind::Record), rest)) => record_form(alloc, tokens, rest, depth),
         Some((Leaf::Word(Kind::Pointer), rest)) => pointer(alloc, tokens, rest, depth),
         Some((Leaf::Word(Kind::Procedure), rest)) => procedure(alloc, tokens, rest),
-        _ => Err(Stop::Wrong(input.number())),
+        _ => Err(Stop::Wrong(input)),
     }
 }
 
 /// A type by its name, behind the first identifier.
 #[tactic(auto, using(ob_tree::proofs::TypeLayers::types_made))]
 fn named(tokens: &[Token], head: u32, input: Input) -> Result<(TypeForm, Input), Stop>
-    ensures { Gives (λ x. (type_outline x.0, ahead tokens.now x.1)) result (node constructs.TypeForm (names.qualident_after head) (ahead tokens.now input)) }
+    ensures { Gives tokens.now (λ x. (type_outline x.0, ahead tokens.now x.1)) result (node constructs.TypeForm (names.qualident_after head) (ahead tokens.now input)) }
 {
     let (name, rest) = qualident_after(tokens, head, input)?;
     Ok((TypeForm::Named(name), rest))
@@ -259,7 +259,7 @@ fn array(
     input: Input,
     depth: u32,
 ) -> Result<(TypeForm, Input), Stop>
-    ensures { Gives (λ x. (type_outline x.0, ahead tokens.now x.1)) result
+    ensures { Gives tokens.now (λ x. (type_outline x.0, ahead tokens.now x.1)) result
         (node constructs.TypeForm (prefixed (word kinds.Array) (seq (several kinds.Comma (expr_at depth)) (seq (expect_at kinds.Of) (type_at depth)))) (ahead tokens.now input)) }
 {
     let (lengths, rest) = expression_list(alloc, tokens, input, depth)?;
@@ -277,7 +277,7 @@ fn record_form(
     input: Input,
     depth: u32,
 ) -> Result<(TypeForm, Input), Stop>
-    ensures { Gives (λ x. (type_outline x.0, ahead tokens.now x.1)) result
+    ensures { Gives tokens.now (λ x. (type_outline x.0, ahead tokens.now x.1)) result
         (node constructs.TypeForm (prefixed (word kinds.Record) (record_with (type_at depth))) (ahead tokens.now input)) }
 {
     let (record, rest) = record(alloc, tokens, input, depth)?;
@@ -293,7 +293,7 @@ fn pointer(
     input: Input,
     depth: u32,
 ) -> Result<(TypeForm, Input), Stop>
-    ensures { Gives (λ x. (type_outline x.0, ahead tokens.now x.1)) result
+    ensures { Gives tokens.now (λ x. (type_outline x.0, ahead tokens.now x.1)) result
         (node constructs.TypeForm (prefixed (word kinds.Pointer) (seq (expect_at kinds.To) (type_at depth))) (ahead tokens.now input)) }
 {
     let rest = expect(tokens, input, Kind::To)?;
@@ -304,7 +304,7 @@ fn pointer(
 /// What stands behind PROCEDURE.
 #[tactic(auto, using(ob_tree::proofs::TypeLayers::types_made))]
 fn procedure(alloc: Global, tokens: &[Token], input: Input) -> Result<(TypeForm, Input), Stop>
-    ensures { Gives (λ x. (type_outline x.0, ahead tokens.now x.1)) result
+    ensures { Gives tokens.now (λ x. (type_outline x.0, ahead tokens.now x.1)) result
         (node constructs.TypeForm (prefixed (word kinds.Procedure) some_parameters_at) (ahead tokens.now input)) }
 {
     let (parameters, rest) = some_parameters(alloc, tokens, input)?;
@@ -320,10 +320,10 @@ pub(crate) fn type_form(
     input: Input,
     depth: u32,
 ) -> Result<(Box<TypeForm>, Input), Stop>
-    ensures { Gives (λ x. (type_outline x.0.value, ahead tokens.now x.1)) result (type_at depth (ahead tokens.now input)) }
+    ensures { Gives tokens.now (λ x. (type_outline x.0.value, ahead tokens.now x.1)) result (type_at depth (ahead tokens.now input)) }
 {
     if depth == 0 {
-        return Err(beyond(input, begins_type(tokens, input)));
+        return Err(beyond(tokens, input, begins_type(tokens, input)));
     }
     let (form, here) = type_within(alloc, tokens, input, depth - 1)?;
     Ok((boxed(alloc, form)?, here))

@@ -185,6 +185,18 @@ const DEEP: &[(Nested, &str)] = &[
         },
         "the construct at 220 is nested too deep",
     ),
+    // A wrong token stands before the first construct that is too deep.
+    (
+        Nested {
+            head: "MODULE M; BEGIN x := )",
+            opens: "(",
+            times: MANY,
+            middle: "",
+            closes: "",
+            tail: "",
+        },
+        "the token at 21 is wrong",
+    ),
     // A word that begins no expression.
     (
         Nested {

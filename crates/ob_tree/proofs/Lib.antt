@@ -1,6 +1,11 @@
+pub mod Closed
+pub mod ClosedExpressions
+pub mod ClosedStatements
+pub mod ClosedTypes
 pub mod DeclarationLayers
 pub mod DeclarationWalks
 pub mod Eaches
+pub mod EndNames
 pub mod ExpressionLayers
 pub mod ExpressionWalks
 pub mod KindLeaves

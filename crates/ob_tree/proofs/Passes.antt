@@ -15,7 +15,7 @@ use Rattle.ob_tree.specs.Constructs.{is_told}
 use Rattle.ob_tree.specs.Declaring.{module_outline}
 use Rattle.ob_tree.specs.Leaves.{leaf_of, leaves}
 use Rattle.ob_tree.specs.Marks.{Out, Begins, Ends, Identifier, Value, Word, Declares, Uses, Names, Repeats, tokens_of}
-use Rattle.ob_tree.specs.Derives.{Derives, declared_in, endings_in, items_of, numbers_from, used_in, yields}
+use Rattle.ob_tree.specs.Derives.{Derives, declared_in, items_of, numbers_from, used_in, yields}
 
 -- an item that changes nothing, where it is there
 unmoved : {X : Type 0} (f : List Item → X) (told : Bool) (i : Item) (is : List Item) → f (i ∷ is) ≡ f is → f (if told then i ∷ is else is) ≡ f is
@@ -113,10 +113,6 @@ abbrev pub used_at : Item → Option ℕ
 used_at (items.Used n) = Some n
 used_at i = None
 
-abbrev pub ending_at : Item → Option (ℕ × ℕ)
-ending_at (items.Repeated name n) = Some (name, n)
-ending_at i = None
-
 pub declared-items : (ms : Out) → filter_map declared_at (items_of ms) ≡ declared_in ms
 declared-items [] = refl
 declared-items (Begins c n ∷ ms) = unmoved (filter_map declared_at) (is_told c) (items.Begins c) (items_of ms) refl ∙ declared-items ms
@@ -139,15 +135,4 @@ used-items (Identifier (Repeats name) n ∷ ms) = used-items ms
 used-items (Value k n ∷ ms) = used-items ms
 used-items (Word k ∷ ms) = used-items ms
 
-pub endings-items : (ms : Out) → filter_map ending_at (items_of ms) ≡ endings_in ms
-endings-items [] = refl
-endings-items (Begins c n ∷ ms) = unmoved (filter_map ending_at) (is_told c) (items.Begins c) (items_of ms) refl ∙ endings-items ms
-endings-items (Ends c ∷ ms) = unmoved (filter_map ending_at) (is_told c) (items.Ends c) (items_of ms) refl ∙ endings-items ms
-endings-items (Identifier Declares n ∷ ms) = endings-items ms
-endings-items (Identifier Uses n ∷ ms) = endings-items ms
-endings-items (Identifier Names n ∷ ms) = endings-items ms
-endings-items (Identifier (Repeats name) n ∷ ms) = ap (λ (ns : List (ℕ × ℕ)). (name, n) ∷ ns) (endings-items ms)
-endings-items (Value k n ∷ ms) = endings-items ms
-endings-items (Word k ∷ ms) = endings-items ms
-
-pub ruleset passes = (all_numbers, filter_map-append, take_at_read, take_all, declared-items, used-items, endings-items, append-nil)
+pub ruleset passes = (all_numbers, filter_map-append, take_at_read, take_all, declared-items, used-items, append-nil)

@@ -10,6 +10,7 @@ ghost use Rattle.ob_tree.specs.Derives.{Derives, declared_in, endings_in, items_
 use crate::declaration::Module;
 use crate::item::Item;
 use crate::walk::declarations::walk_module;
+use crate::walk::ends::module_ends;
 use std::alloc::{AllocError, Global};
 
 /// The tokens of a module's tree in order, each with what it does there, and where each construct begins and ends that
@@ -94,17 +95,10 @@ pub fn uses(alloc: Global, module: &Module) -> Result<Vec<u32>, AllocError>
 
 /// The names after END in order, as pairs of numbers: first of the identifier whose name has to stand there, the module's
 /// or the procedure's, and then of the one that does.
-#[tactic(auto, using(crate::proofs::Passes::passes))]
 pub fn endings(alloc: Global, module: &Module) -> Result<Vec<(u32, u32)>, AllocError>
     ensures { IfOk result (λ v. v.items ≡ endings_in (module_outline «module».now)) }
 {
-    let items = items(alloc, module)?;
     let mut pairs = Vec::new(alloc);
-    for item in &items {
-        match *item {
-            Item::Repeated(name, number) => pairs.push((name, number))?,
-            _ => {}
-        }
-    }
+    module_ends(&mut pairs, module)?;
     Ok(pairs)
 }

@@ -30,7 +30,7 @@ procedures-more-preserved t c = pushed (begins (is_word kinds.Procedure)) (decla
 pub procedures-returns-in_err-next : goal.procedures-returns-in_err-next
 procedures-returns-in_err-next t c =
     let p = err_from_is_err_and c.from_residual.result c.from_residual.ensures.1 in
-    rw (p.1, p.2) (ends (begins (is_word kinds.Procedure)) (declared_at c.args.depth) (procedure_advances c.args.depth) c.in_err-next.field-0.0
+    rw (p.1, p.2) (ends (begins (is_word kinds.Procedure)) (declared_at c.args.depth) (procedure_advances c.args.depth) c.args.tokens.now c.in_err-next.field-0.0
     (each shown c.more.declared.items) (ahead c.args.tokens.now c.more.here) _
     (many (begins (is_word kinds.Procedure)) (declared_at c.args.depth) (ahead c.args.tokens.now c.args.input))
     (has_begun (is_word kinds.Procedure) _ (sym c.is_at.ensures ∙ c.more-test.true)) c.in_err-next.ensures c.more.invariant)

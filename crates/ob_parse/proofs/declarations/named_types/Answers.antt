@@ -33,7 +33,7 @@ more-preserved c = pushed (begins is_name) (declared_at c.args.depth) (advances 
 pub returns-in_err-next : goal.returns-in_err-next
 returns-in_err-next c =
     let p = err_from_is_err_and c.from_residual.result c.from_residual.ensures.1 in
-    rw (p.1, p.2) (ends (begins is_name) (declared_at c.args.depth) (advances c.args.depth) c.in_err-next.field-0.0
+    rw (p.1, p.2) (ends (begins is_name) (declared_at c.args.depth) (advances c.args.depth) c.args.tokens.now c.in_err-next.field-0.0
     (each shown c.more.declared.items) (ahead c.args.tokens.now c.more.here) _ (many (begins is_name) (declared_at c.args.depth) (ahead c.args.tokens.now c.args.input))
     (has_begun is_name _ (sym c.begins_declaration.ensures ∙ c.more-test.true)) c.in_err-next.ensures c.more.invariant)
 

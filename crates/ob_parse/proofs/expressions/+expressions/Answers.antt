@@ -40,7 +40,7 @@ more_factors-more-preserved t c =
 pub more_factors-returns-in_err-next : goal.more_factors-returns-in_err-next
 more_factors-returns-in_err-next t c =
     let p = err_from_is_err_and c.from_residual.result c.from_residual.ensures.1 in
-    rw (p.1, p.2) (ends mul_start (factor_at c.args.depth) (mul_adv c.args.depth) c.in_err-next.field-0.0
+    rw (p.1, p.2) (ends mul_start (factor_at c.args.depth) (mul_adv c.args.depth) c.args.tokens.now c.in_err-next.field-0.0
     (each (λ p. word (mul_kind p.0) ++ factor_outline p.1) c.more.rest.items) (ahead c.args.tokens.now c.more.here) _ (many mul_start (factor_at c.args.depth) (ahead c.args.tokens.now c.args.input))
     (marked_some mul_kind c.in-Some.operator (ahead c.args.tokens.now c.in-Some.after) _ c.in-Some.ensures) c.in_err-next.ensures c.more.invariant)
 
@@ -64,7 +64,7 @@ more_terms-more-preserved t c =
 pub more_terms-returns-in_err-next : goal.more_terms-returns-in_err-next
 more_terms-returns-in_err-next t c =
     let p = err_from_is_err_and c.from_residual.result c.from_residual.ensures.1 in
-    rw (p.1, p.2) (ends add_start (term_at c.args.depth) (add_adv c.args.depth) c.in_err-next.field-0.0
+    rw (p.1, p.2) (ends add_start (term_at c.args.depth) (add_adv c.args.depth) c.args.tokens.now c.in_err-next.field-0.0
     (each (λ p. word (add_kind p.0) ++ term_outline p.1) c.more.rest.items) (ahead c.args.tokens.now c.more.here) _ (many add_start (term_at c.args.depth) (ahead c.args.tokens.now c.args.input))
     (marked_some add_kind c.in-Some.operator (ahead c.args.tokens.now c.in-Some.after) _ c.in-Some.ensures) c.in_err-next.ensures c.more.invariant)
 
@@ -88,7 +88,7 @@ more_expressions-more-preserved t c =
 pub more_expressions-returns-in_err-next : goal.more_expressions-returns-in_err-next
 more_expressions-returns-in_err-next t c =
     let p = err_from_is_err_and c.from_residual.result c.from_residual.ensures.1 in
-    rw (p.1, p.2) (ends (accept_at kinds.Comma) (expr_at c.args.depth) (comma_adv c.args.depth) c.in_err-next.field-0.0
+    rw (p.1, p.2) (ends (accept_at kinds.Comma) (expr_at c.args.depth) (comma_adv c.args.depth) c.args.tokens.now c.in_err-next.field-0.0
     (each_after kinds.Comma expr_outline c.more.rest.items) (ahead c.args.tokens.now c.more.here) _ (many (accept_at kinds.Comma) (expr_at c.args.depth) (ahead c.args.tokens.now c.args.input))
     (sym c.in-Some.ensures) c.in_err-next.ensures c.more.invariant)
 
@@ -112,7 +112,7 @@ more_elements-more-preserved t c =
 pub more_elements-returns-in_err-next : goal.more_elements-returns-in_err-next
 more_elements-returns-in_err-next t c =
     let p = err_from_is_err_and c.from_residual.result c.from_residual.ensures.1 in
-    rw (p.1, p.2) (ends (accept_at kinds.Comma) (element_with (expr_at c.args.depth)) (element_adv c.args.depth) c.in_err-next.field-0.0
+    rw (p.1, p.2) (ends (accept_at kinds.Comma) (element_with (expr_at c.args.depth)) (element_adv c.args.depth) c.args.tokens.now c.in_err-next.field-0.0
     (each_after kinds.Comma element_outline c.more.rest.items) (ahead c.args.tokens.now c.more.here) _ (many (accept_at kinds.Comma) (element_with (expr_at c.args.depth)) (ahead c.args.tokens.now c.args.input))
     (sym c.in-Some.ensures) c.in_err-next.ensures c.more.invariant)
 
@@ -136,7 +136,7 @@ more_selectors-more-preserved t c =
 pub more_selectors-returns-in_err-next : goal.more_selectors-returns-in_err-next
 more_selectors-returns-in_err-next t c =
     let p = err_from_is_err_and c.from_residual.result c.from_residual.ensures.1 in
-    rw (p.1, p.2) (ends (begins selector_first) (selector_with (expr_at c.args.depth)) (selector_adv c.args.depth) c.in_err-next.field-0.0
+    rw (p.1, p.2) (ends (begins selector_first) (selector_with (expr_at c.args.depth)) (selector_adv c.args.depth) c.args.tokens.now c.in_err-next.field-0.0
     (each selector_outline c.more.selectors.items) (ahead c.args.tokens.now c.more.here) _ (many (begins selector_first) (selector_with (expr_at c.args.depth)) (ahead c.args.tokens.now c.args.input))
     (has_begun selector_first (ahead c.args.tokens.now c.more.here) (sym c.begins_selector.ensures ∙ c.more-test.true)) c.in_err-next.ensures c.more.invariant)
 

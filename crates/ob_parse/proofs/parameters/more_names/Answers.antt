@@ -22,7 +22,7 @@ more-preserved c = pushed_after (accept_at kinds.Comma) (name_at declared) advan
 pub returns-in_err-next : goal.returns-in_err-next
 returns-in_err-next c =
     let p = err_from_is_err_and c.from_residual.result c.from_residual.ensures.1 in
-    rw (p.1, p.2) (ends (accept_at kinds.Comma) (name_at declared) advances c.in_err-next.field-0.0
+    rw (p.1, p.2) (ends (accept_at kinds.Comma) (name_at declared) advances c.args.tokens.now c.in_err-next.field-0.0
     (each_after kinds.Comma declared c.more.rest.items) (ahead c.args.tokens.now c.more.here) _ (many (accept_at kinds.Comma) (name_at declared) (ahead c.args.tokens.now c.args.input))
     (sym c.in-Some.ensures) c.in_err-next.ensures c.more.invariant)
 

@@ -29,7 +29,7 @@ more-preserved c =
 pub returns-in_err-here : goal.returns-in_err-here
 returns-in_err-here c =
     let p = err_from_is_err_and c.from_residual.result c.from_residual.ensures.1 in
-    rw (p.1, p.2) (ends (accept_at kinds.Array) (expect_at kinds.Of) array_advances c.in_err-here.field-0.0 (times c.more.count array_of) (ahead c.args.tokens.now c.more.here) _
+    rw (p.1, p.2) (ends (accept_at kinds.Array) (expect_at kinds.Of) array_advances c.args.tokens.now c.in_err-here.field-0.0 (times c.more.count array_of) (ahead c.args.tokens.now c.more.here) _
     (many (accept_at kinds.Array) (expect_at kinds.Of) (ahead c.args.tokens.now c.args.input)) (sym c.in-Some.ensures) c.in_err-here.ensures c.more.invariant.0)
 
 pub returns : goal.returns

@@ -1,14 +1,11 @@
-use Rattle.std.proofs.Common.{ap, sym, subst, length, List, Result, arith}
+use Rattle.std.proofs.Common.{ap, sym, subst, length, List, arith}
 use Rattle.ob_scan.proofs.Places.{spelled_in_text}
 use Rattle.ob_scan.specs.declared.token.Token.{Token}
 use Rattle.ob_tree.specs.Declaring.{module_outline}
 use Rattle.ob_tree.specs.Derives.{Derives}
-use Rattle.ob_tree.specs.Leaves.{leaves}
 use Rattle.ob_tree.specs.Marks.{Out}
-use Rattle.ob_parse.specs.Forms.{Refusal}
 use Rattle.ob_parse.specs.Gives.{Fails}
-use Rattle.ob_parse.specs.Parsed.{IsOneTree, kinds_of}
-use Rattle.ob_parse.specs.ReadModules.{all_of}
+use Rattle.ob_parse.specs.Parsed.{IsOneTree, kinds_of, read_left}
 use Rattle.ob_parse.proofs.OneTree.{one_tree, why_none, endings_are_known, tokens_placed, few_tokens}
 use Rattle.ob_parse.proofs.parser.parse.Goals as goal
 
@@ -17,14 +14,11 @@ tree_of-requires c =
     let placed = spelled_in_text c.args.bytes.now c.args.tokens.now c.requires.1 in
     omega (arith, placed.few, c.requires.0, ap length c.as_slice-tokens.ensures)
 
--- the reader's answer on these tokens, wherever they stand
-abbrev read : List Token → Result Out Refusal
-read ts = all_of 200 (leaves 0 (kinds_of ts))
-
 pub returns-in-Err-clause-fault : goal.returns-in-Err-clause-fault
 returns-in-Err-clause-fault c =
-    let stopped : Fails {Y = Out} c.in-Err.stop (read c.args.tokens.now) = subst (λ (ts : List Token). Fails {Y = Out} c.in-Err.stop (read ts)) c.as_slice-tokens.ensures c.in-Err.ensures in
-    rw (c.fault_of.ensures, c.as_slice-tokens.ensures) (why_none c.args.bytes.now c.args.tokens.now c.in-Err.stop stopped)
+    let placed = spelled_in_text c.args.bytes.now c.args.tokens.now c.requires.1 in
+    let stopped : Fails {Y = Out} c.args.tokens.now c.in-Err.stop (read_left c.args.tokens.now) = subst (λ (ts : List Token). Fails {Y = Out} ts c.in-Err.stop (read_left ts)) c.as_slice-tokens.ensures c.in-Err.ensures in
+    rw (c.fault_of.ensures, c.as_slice-tokens.ensures) (why_none c.args.bytes.now c.args.tokens.now c.in-Err.stop (omega (arith, placed.few, c.requires.0)) stopped)
 
 pub wrong_end-requires-clause-known : goal.wrong_end-requires-clause-known
 wrong_end-requires-clause-known c =

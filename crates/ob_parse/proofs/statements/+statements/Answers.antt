@@ -37,7 +37,7 @@ more_statements-more-preserved t c =
 pub more_statements-returns-in_err-next : goal.more_statements-returns-in_err-next
 more_statements-returns-in_err-next t c =
     let p = err_from_is_err_and c.from_residual.result c.from_residual.ensures.1 in
-    rw (p.1, p.2) (ends (accept_at kinds.Semicolon) (statement_at c.args.depth) (semicolon_adv c.args.depth) c.in_err-next.field-0.0
+    rw (p.1, p.2) (ends (accept_at kinds.Semicolon) (statement_at c.args.depth) (semicolon_adv c.args.depth) c.args.tokens.now c.in_err-next.field-0.0
     (each_after kinds.Semicolon stmt_outline c.more.rest.items) (ahead c.args.tokens.now c.more.here) _ (many (accept_at kinds.Semicolon) (statement_at c.args.depth) (ahead c.args.tokens.now c.args.input))
     (sym c.in-Some.ensures) c.in_err-next.ensures c.more.invariant)
 
@@ -61,7 +61,7 @@ more_branches-more-preserved t c =
 pub more_branches-returns-in_err-next : goal.more_branches-returns-in_err-next
 more_branches-returns-in_err-next t c =
     let p = err_from_is_err_and c.from_residual.result c.from_residual.ensures.1 in
-    rw (p.1, p.2) (ends (accept_at kinds.Elsif) (branch_with (expr_at c.args.depth) (block_at c.args.depth) c.args.keyword) (elsif_adv c.args.depth c.args.keyword) c.in_err-next.field-0.0
+    rw (p.1, p.2) (ends (accept_at kinds.Elsif) (branch_with (expr_at c.args.depth) (block_at c.args.depth) c.args.keyword) (elsif_adv c.args.depth c.args.keyword) c.args.tokens.now c.in_err-next.field-0.0
     (each_after kinds.Elsif (λ b. branch_outline b c.args.keyword) c.more.rest.items) (ahead c.args.tokens.now c.more.here) _
     (many (accept_at kinds.Elsif) (branch_with (expr_at c.args.depth) (block_at c.args.depth) c.args.keyword) (ahead c.args.tokens.now c.args.input))
     (sym c.in-Some.ensures) c.in_err-next.ensures c.more.invariant)
@@ -87,7 +87,7 @@ more_cases-more-preserved t c =
 pub more_cases-returns-in_err-next : goal.more_cases-returns-in_err-next
 more_cases-returns-in_err-next t c =
     let p = err_from_is_err_and c.from_residual.result c.from_residual.ensures.1 in
-    rw (p.1, p.2) (ends (accept_at kinds.Bar) (case_with (block_at c.args.depth)) (bar_adv c.args.depth) c.in_err-next.field-0.0
+    rw (p.1, p.2) (ends (accept_at kinds.Bar) (case_with (block_at c.args.depth)) (bar_adv c.args.depth) c.args.tokens.now c.in_err-next.field-0.0
     (each_after kinds.Bar case_outline c.more.rest.items) (ahead c.args.tokens.now c.more.here) _ (many (accept_at kinds.Bar) (case_with (block_at c.args.depth)) (ahead c.args.tokens.now c.args.input))
     (sym c.in-Some.ensures) c.in_err-next.ensures c.more.invariant)
 

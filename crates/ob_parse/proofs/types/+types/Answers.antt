@@ -33,7 +33,7 @@ more_fields-more-preserved t c = pushed_after field_start (field_at c.args.depth
 pub more_fields-returns-in_err-next : goal.more_fields-returns-in_err-next
 more_fields-returns-in_err-next t c =
     let p = err_from_is_err_and c.from_residual.result c.from_residual.ensures.1 in
-    rw (p.1, p.2) (ends field_start (field_at c.args.depth) (advances c.args.depth) c.in_err-next.field-0.0
+    rw (p.1, p.2) (ends field_start (field_at c.args.depth) (advances c.args.depth) c.args.tokens.now c.in_err-next.field-0.0
     (each_after kinds.Semicolon field_outline c.more.rest.items) (ahead c.args.tokens.now c.more.here) _
     (many field_start (field_at c.args.depth) (ahead c.args.tokens.now c.args.input)) (sym c.in-Some.ensures) c.in_err-next.ensures c.more.invariant)
 

@@ -1,0 +1,134 @@
+-- The names after END stand in declarations of procedures and modules alone.
+use Rattle.std.proofs.Common.{◌≡◌, ℕ, List, [], ◌∷◌, ◌++◌, refl, ap, ◌∙◌, append_assoc}
+use Rattle.std.proofs.lemmas.List.{append-nil, take_all}
+use Rattle.std.proofs.lemmas.Grind.{take_at_read}
+use Rattle.ob_scan.specs.declared.kind.Kind.{Kind}
+use Rattle.ob_scan.specs.declared.kind.Kind.TheVariants as kinds
+use Rattle.ob_tree.specs.declared.construct.Construct.{Construct}
+use Rattle.ob_tree.specs.declared.construct.Construct.TheVariants as constructs
+use Rattle.ob_tree.specs.declared.declaration.ConstDecl.{ConstDecl}
+use Rattle.ob_tree.specs.declared.declaration.TypeDecl.{TypeDecl}
+use Rattle.ob_tree.specs.declared.declaration.VarDecl.{VarDecl}
+use Rattle.ob_tree.specs.declared.declaration.ImportItem.{ImportItem}
+use Rattle.ob_tree.specs.declared.declaration.Module.{Module}
+use Rattle.ob_tree.specs.declared.declaration.Declarations.{Declarations, out-Declarations}
+use Rattle.ob_tree.specs.declared.declaration.ProcDecl.{ProcDecl, out-ProcDecl}
+use Rattle.ob_tree.specs.Marks.{Out, Begins, Ends, Identifier, Value, Word, Declares, Uses, Names, Repeats, construct, word, named, declared, each, if_there, listed}
+use Rattle.ob_tree.specs.Expressions.{expr_outline}
+use Rattle.ob_tree.specs.Statements.{block_outline}
+use Rattle.ob_tree.specs.Types.{parameters_outline}
+use Rattle.ob_tree.specs.Declaring.{const_outline, type_decl_outline, variable_outline, part, declarations_outline, procedure_outline, import_outline, module_outline}
+use Rattle.ob_tree.specs.Derives.{endings_in}
+use Rattle.ob_tree.proofs.DeclarationLayers.{procedure_shown, declarations_out, procedure_out}
+use Rattle.ob_tree.proofs.Walks.{each_push}
+use Rattle.ob_tree.proofs.Closed.{IsClosed, closed-both, closed-construct, closed-there, closed-each, closed-listed}
+use Rattle.ob_tree.proofs.ClosedExpressions.{closed-expr}
+use Rattle.ob_tree.proofs.ClosedStatements.{closed-block}
+use Rattle.ob_tree.proofs.ClosedTypes.{closed-identdef, closed-parameters, closed-type, closed-var}
+
+pub endings-append : (a b : Out) → endings_in (a ++ b) ≡ endings_in a ++ endings_in b
+endings-append [] b = refl
+endings-append (Begins c n ∷ a) b = endings-append a b
+endings-append (Ends c ∷ a) b = endings-append a b
+endings-append (Identifier Declares n ∷ a) b = endings-append a b
+endings-append (Identifier Uses n ∷ a) b = endings-append a b
+endings-append (Identifier Names n ∷ a) b = endings-append a b
+endings-append (Identifier (Repeats m) n ∷ a) b = ap (λ (es : List (ℕ × ℕ)). (m, n) ∷ es) (endings-append a b)
+endings-append (Value k n ∷ a) b = endings-append a b
+endings-append (Word k ∷ a) b = endings-append a b
+
+pub endings-construct : (c : Construct) (o : Out) → endings_in (construct c o) ≡ endings_in o
+unfolding construct
+endings-construct c o = endings-append o (Ends c ∷ []) ∙ append-nil (endings_in o)
+
+-- ---- what has none
+
+-- no name after END is in it
+pub record NoEnd (o : Out) : Type 0 where
+  pub none : endings_in o ≡ []
+
+both_none : (a b : Out) → NoEnd a → NoEnd b → NoEnd (a ++ b)
+both_none a b p q = record { none = endings-append a b ∙ rw (p.none, q.none) refl }
+
+no_end : IsClosed NoEnd
+no_end = record {
+  nothing = record { none = refl };
+  one_after = both_none;
+  a_word = λ k. record { none = refl };
+  a_value = λ k n. record { none = refl };
+  a_use = λ n. record { none = refl };
+  a_name = λ n. record { none = refl };
+  held = λ c o p. record { none = endings-construct c o ∙ p.none };
+}
+
+declares : (n : ℕ) → NoEnd (declared n)
+declares n = record { none = refl }
+
+const_none : (c : ConstDecl) → NoEnd (const_outline c)
+unfolding const_outline
+const_none c = closed-construct NoEnd no_end constructs.ConstDeclaration (closed-both NoEnd no_end (closed-identdef NoEnd no_end declares c.name) (closed-both NoEnd no_end (no_end.a_word kinds.Equals) (closed-expr NoEnd no_end c.value)))
+
+type_decl_none : (t : TypeDecl) → NoEnd (type_decl_outline t)
+unfolding type_decl_outline
+type_decl_none t = closed-construct NoEnd no_end constructs.TypeDeclaration (closed-both NoEnd no_end (closed-identdef NoEnd no_end declares t.name) (closed-both NoEnd no_end (no_end.a_word kinds.Equals) (closed-type NoEnd no_end declares t.form)))
+
+variable_none : (v : VarDecl) → NoEnd (variable_outline v)
+unfolding variable_outline
+variable_none v = closed-construct NoEnd no_end constructs.VariableDeclaration (closed-var NoEnd no_end declares v)
+
+import_none : (i : ImportItem) → NoEnd (import_outline i)
+unfolding import_outline
+import_none i =
+    closed-construct NoEnd no_end constructs.Import (closed-both NoEnd no_end (declares i.name)
+    (closed-there NoEnd no_end (λ m. word kinds.Assign ++ named m) i.of (λ m. closed-both NoEnd no_end (no_end.a_word kinds.Assign) (no_end.a_name m))))
+
+part_none : {X : Type 0} (k : Kind) (f : X → Out) (xs : List X) → ((x : X) → NoEnd (f x)) → NoEnd (part k f xs)
+part_none k f xs w = closed-both NoEnd no_end (no_end.a_word k) (closed-each NoEnd no_end (λ x. f x ++ word kinds.Semicolon) xs (λ x. closed-both NoEnd no_end (w x) (no_end.a_word kinds.Semicolon)))
+
+-- ---- what has some
+
+-- what stands behind a part that has none
+past : (a b : Out) → NoEnd a → endings_in (a ++ b) ≡ endings_in b
+past a b p = endings-append a b ∙ ap (λ (es : List (ℕ × ℕ)). es ++ endings_in b) p.none
+
+-- the semicolons between them have none
+after_each : {X : Type 0} (k : Kind) (f : X → Out) (xs : List X) → endings_in (each (λ x. f x ++ word k) xs) ≡ endings_in (each f xs)
+after_each k f [] = refl
+after_each k f (x ∷ xs) =
+    endings-append (f x ++ word k) (each (λ y. f y ++ word k) xs) ∙ ap (λ (es : List (ℕ × ℕ)). es ++ endings_in (each (λ y. f y ++ word k) xs)) (endings-append (f x) (word k) ∙ append-nil (endings_in (f x)))
+    ∙ ap (λ (es : List (ℕ × ℕ)). endings_in (f x) ++ es) (after_each k f xs) ∙ rw (endings-append (f x) (each f xs)) refl
+
+pub endings-each_push : {X : Type 0} (f : X → Out) (xs : List X) (x : X) → endings_in (each f (xs ++ x ∷ [])) ≡ endings_in (each f xs) ++ endings_in (f x)
+endings-each_push f xs x = rw (each_push, endings-append) refl
+
+-- the procedures' alone
+pub declarations_ends : (d : Declarations) → endings_in (declarations_outline d) ≡ endings_in (each procedure_outline (out-Declarations d).procedures.items)
+declarations_ends d =
+    ap endings_in (declarations_out d)
+    ∙ past _ _ (closed-there NoEnd no_end (λ v. part kinds.Const const_outline v.items) (out-Declarations d).constants (λ v. part_none kinds.Const const_outline v.items const_none))
+    ∙ past _ _ (closed-there NoEnd no_end (λ v. part kinds.Type type_decl_outline v.items) (out-Declarations d).types (λ v. part_none kinds.Type type_decl_outline v.items type_decl_none))
+    ∙ past _ _ (closed-there NoEnd no_end (λ v. part kinds.Var variable_outline v.items) (out-Declarations d).variables (λ v. part_none kinds.Var variable_outline v.items variable_none))
+    ∙ after_each kinds.Semicolon procedure_outline (out-Declarations d).procedures.items
+
+-- those of the procedures inside, and its own behind them
+pub procedure_ends : (p : ProcDecl) → endings_in (procedure_outline p) ≡ endings_in (declarations_outline (out-ProcDecl p).declarations) ++ ((out-ProcDecl p).name.name, (out-ProcDecl p).end_name) ∷ []
+procedure_ends p =
+    ap endings_in (procedure_out p) ∙ endings-construct constructs.ProcedureDeclaration (procedure_shown (out-ProcDecl p))
+    ∙ past _ _ (closed-identdef NoEnd no_end declares (out-ProcDecl p).name)
+    ∙ past _ _ (closed-there NoEnd no_end parameters_outline (out-ProcDecl p).parameters (closed-parameters NoEnd no_end declares))
+    ∙ endings-append (declarations_outline (out-ProcDecl p).declarations) _
+    ∙ ap (λ (es : List (ℕ × ℕ)). endings_in (declarations_outline (out-ProcDecl p).declarations) ++ es) (
+    past _ _ (closed-there NoEnd no_end (λ b. word kinds.Begin ++ block_outline b.value) (out-ProcDecl p).body (λ b. closed-both NoEnd no_end (no_end.a_word kinds.Begin) (closed-block NoEnd no_end b.value)))
+    ∙ past _ _ (closed-there NoEnd no_end (λ e. word kinds.Return ++ expr_outline e.value) (out-ProcDecl p).returned (λ e. closed-both NoEnd no_end (no_end.a_word kinds.Return) (closed-expr NoEnd no_end e.value))))
+
+pub module_ends : (m : Module) → endings_in (module_outline m) ≡ endings_in (declarations_outline m.declarations) ++ (m.name, m.end_name) ∷ []
+unfolding module_outline
+module_ends m =
+    endings-construct constructs.Module _
+    ∙ past _ _ (closed-there NoEnd no_end (λ l. word kinds.Import ++ (listed kinds.Comma import_outline l ++ word kinds.Semicolon)) m.imports
+    (λ l. closed-both NoEnd no_end (no_end.a_word kinds.Import) (closed-both NoEnd no_end (closed-listed NoEnd no_end kinds.Comma import_outline l import_none) (no_end.a_word kinds.Semicolon))))
+    ∙ endings-append (declarations_outline m.declarations) _
+    ∙ ap (λ (es : List (ℕ × ℕ)). endings_in (declarations_outline m.declarations) ++ es)
+    (past _ _ (closed-there NoEnd no_end (λ b. word kinds.Begin ++ block_outline b) m.body (λ b. closed-both NoEnd no_end (no_end.a_word kinds.Begin) (closed-block NoEnd no_end b))))
+
+pub ruleset end_walks = (append_assoc, append-nil, endings-each_push, take_at_read, take_all, declarations_ends, procedure_ends, module_ends)
