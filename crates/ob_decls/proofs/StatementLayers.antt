@@ -1,0 +1,169 @@
+-- What names and statements tell, layer by layer.
+use Rattle.std.proofs.Common.{◌≡◌, ℕ, List, Option, Some, None, refl, ap, ◌∙◌}
+use Rattle.std.specs.Prelude.{Vec}
+use Rattle.std.specs.declared.boxed.Box.{Box}
+use Rattle.std.specs.declared.alloc.Global.{Global}
+use Rattle.ob_tree.specs.declared.expression.Designator.{Designator}
+use Rattle.ob_tree.specs.declared.expression.Expr.{Expr}
+use Rattle.ob_tree.specs.declared.name.OneOrMore.{OneOrMore}
+use Rattle.ob_tree.specs.declared.name.Qualident.{Qualident}
+use Rattle.ob_tree.specs.declared.statement.Label.TheVariants as labels
+use Rattle.ob_tree.specs.declared.statement.LabelRange.{LabelRange}
+use Rattle.ob_tree.specs.declared.statement.Case.{Case, Case-F, fold_out-Case, out-Case, map-Case}
+use Rattle.ob_tree.specs.declared.statement.Case.TheOpen as layers
+use Rattle.ob_tree.specs.declared.statement.Case.TheShapes as shapes
+use Rattle.ob_tree.specs.declared.statement.Case.TheVariants as cases
+use Rattle.ob_tree.specs.declared.statement.Stmt.{Stmt, Stmt-F, fold_out-Stmt, out-Stmt, map-Stmt}
+use Rattle.ob_tree.specs.declared.statement.Stmt.TheVariants as statements
+use Rattle.ob_tree.specs.declared.statement.Block.{Block, fold_out-Block, out-Block}
+use Rattle.ob_tree.specs.declared.statement.Branch.{Branch, fold_out-Branch, out-Branch}
+use Rattle.ob_tree.specs.declared.statement.For.{For, fold_out-For, out-For}
+use Rattle.ob_decls.specs.declared.draft.Context.{Context}
+use Rattle.ob_decls.specs.Drafts.{Stage, after, passed}
+use Rattle.ob_decls.specs.Parts.{Piece, nothing, token, both, if_there, each}
+use Rattle.ob_decls.specs.Expressions.{used, each_after, expr_piece, designator_piece}
+use Rattle.ob_decls.specs.Statements.{qualident_piece, label_piece, label_range_piece, case_step, stmt_step, block_step, branch_step, for_step, case_piece, stmt_piece, block_piece, branch_piece, for_piece}
+use Rattle.ob_decls.proofs.Steps.{each-map, after_both, after_token, steps}
+
+else_there : (f : Block → Piece) (o : Option (Box Block Global)) → if_there (λ b. both token b.value) ((shapes.former-Stmt-If-2).map Block Piece f o)
+    ≡ if_there (λ b. both token (f b.value)) o
+else_there f None = refl
+else_there f (Some b) = refl
+
+pub qualident_out : (q : Qualident) → qualident_piece q ≡ both (used q.head q.member) (if_there (λ m. both token token) q.member)
+unfolding qualident_piece
+qualident_out q = refl
+
+pub integer_label : (n : ℕ) → label_piece (labels.Integer n) ≡ token
+unfolding label_piece
+integer_label n = refl
+
+pub text_label : (n : ℕ) → label_piece (labels.Text n) ≡ token
+unfolding label_piece
+text_label n = refl
+
+pub name_label : (q : Qualident) → label_piece (labels.Name q) ≡ qualident_piece q
+unfolding label_piece
+name_label q = refl
+
+pub label_range_out : (r : LabelRange) → label_range_piece r ≡ both (label_piece r.low) (if_there (λ l. both token (label_piece l)) r.high)
+unfolding label_range_piece
+label_range_out r = refl
+
+abbrev pub case_shown : Case-F Case Stmt Block Branch For → Piece
+case_shown layers.Nothing = nothing
+case_shown (layers.Labelled ranges body) = both (label_range_piece ranges.first) (both (each_after label_range_piece ranges.rest.items) (both token (block_piece body.value)))
+
+abbrev pub if_shown : Box Branch Global → Piece → Piece → Piece
+if_shown first rest otherwise = both token (both (branch_piece first.value) (both rest (both otherwise token)))
+
+abbrev pub stmt_shown : Stmt-F Case Stmt Block Branch For → Piece
+stmt_shown layers.Empty = nothing
+stmt_shown (layers.Assign d e) = both (designator_piece d) (both token (expr_piece e))
+stmt_shown (layers.Call d) = designator_piece d
+stmt_shown (layers.If first rest otherwise) = if_shown first (each_after branch_piece rest.items) (if_there (λ b. both token (block_piece b.value)) otherwise)
+stmt_shown (layers.Case e first rest) = both token (both (expr_piece e) (both token (both (case_piece first.value) (both (each_after case_piece rest.items) token))))
+stmt_shown (layers.While first rest) = both token (both (branch_piece first.value) (both (each_after branch_piece rest.items) token))
+stmt_shown (layers.Repeat body e) = both token (both (block_piece body.value) (both token (expr_piece e)))
+stmt_shown (layers.For f) = for_piece f.value
+
+case_seen : (x : Case-F Case Stmt Block Branch For) → case_step (map-Case Case Stmt Block Branch For Piece Piece Piece Piece Piece case_piece stmt_piece block_piece branch_piece for_piece x) ≡ case_shown x
+case_seen layers.Nothing = refl
+case_seen (layers.Labelled ranges body) = refl
+
+case_out : (c : Case) → case_piece c ≡ case_shown (out-Case c)
+unfolding case_piece stmt_piece block_piece branch_piece for_piece
+case_out c = fold_out-Case Piece Piece Piece Piece Piece case_step stmt_step block_step branch_step for_step c ∙ case_seen (out-Case c)
+
+stmt_seen : (x : Stmt-F Case Stmt Block Branch For) → stmt_step (map-Stmt Case Stmt Block Branch For Piece Piece Piece Piece Piece case_piece stmt_piece block_piece branch_piece for_piece x) ≡ stmt_shown x
+stmt_seen layers.Empty = refl
+stmt_seen (layers.Assign d e) = refl
+stmt_seen (layers.Call d) = refl
+stmt_seen (layers.If first rest otherwise) =
+    ap (λ (o : Piece). if_shown first o (if_there (λ b. both token b.value) ((shapes.former-Stmt-If-2).map Block Piece block_piece otherwise))) (each-map (λ (b : Piece). both token b) branch_piece rest.items)
+    ∙ ap (λ (o : Piece). if_shown first (each_after branch_piece rest.items) o) (else_there block_piece otherwise)
+stmt_seen (layers.Case e first rest) = ap (λ (o : Piece). both token (both (expr_piece e) (both token (both (case_piece first.value) (both o token))))) (each-map (λ (c : Piece). both token c) case_piece rest.items)
+stmt_seen (layers.While first rest) = ap (λ (o : Piece). both token (both (branch_piece first.value) (both o token))) (each-map (λ (b : Piece). both token b) branch_piece rest.items)
+stmt_seen (layers.Repeat body e) = refl
+stmt_seen (layers.For f) = refl
+
+stmt_out : (s : Stmt) → stmt_piece s ≡ stmt_shown (out-Stmt s)
+unfolding case_piece stmt_piece block_piece branch_piece for_piece
+stmt_out s = fold_out-Stmt Piece Piece Piece Piece Piece case_step stmt_step block_step branch_step for_step s ∙ stmt_seen (out-Stmt s)
+
+pub block_out : (b : Block) → block_piece b ≡ both (stmt_piece (out-Block b).first) (each_after stmt_piece (out-Block b).rest.items)
+unfolding block_piece stmt_piece
+block_out b =
+    fold_out-Block Piece Piece Piece Piece Piece case_step stmt_step block_step branch_step for_step b
+    ∙ ap (λ (o : Piece). both (stmt_piece (out-Block b).first) o) (each-map (λ (s : Piece). both token s) _ (out-Block b).rest.items)
+
+pub branch_out : (b : Branch) → branch_piece b ≡ both (expr_piece (out-Branch b).condition) (both token (block_piece (out-Branch b).body))
+unfolding branch_piece block_piece
+branch_out b = fold_out-Branch Piece Piece Piece Piece Piece case_step stmt_step block_step branch_step for_step b
+
+pub for_out : (f : For) → for_piece f ≡
+    both token (both (used (out-For f).variable None) (both token (both (expr_piece (out-For f).from) (both token (both (expr_piece (out-For f).to)
+    (both (if_there (λ e. both token (expr_piece e)) (out-For f).by) (both token (both (block_piece (out-For f).body) token))))))))
+unfolding for_piece block_piece
+for_out f = fold_out-For Piece Piece Piece Piece Piece case_step stmt_step block_step branch_step for_step f
+
+-- the same at a value that is made
+
+cased : (c : Case) (x : Case-F Case Stmt Block Branch For) → out-Case c ≡ x → case_piece c ≡ case_shown x
+cased c x e = case_out c ∙ ap (λ y. case_shown y) e
+
+pub nothing_made : case_piece cases.Nothing ≡ nothing
+nothing_made = cased _ _ cases.outs-Nothing
+
+pub labelled_made : (l : OneOrMore LabelRange) (b : Box Block Global) → case_piece (cases.Labelled l b)
+    ≡ both (label_range_piece l.first) (both (each_after label_range_piece l.rest.items) (both token (block_piece b.value)))
+labelled_made l b = cased _ _ (cases.outs-Labelled l b)
+
+stated : (s : Stmt) (x : Stmt-F Case Stmt Block Branch For) → out-Stmt s ≡ x → stmt_piece s ≡ stmt_shown x
+stated s x e = stmt_out s ∙ ap (λ y. stmt_shown y) e
+
+pub empty_made : stmt_piece statements.Empty ≡ nothing
+empty_made = stated _ _ statements.outs-Empty
+
+pub assign_made : (d : Designator) (e : Expr) → stmt_piece (statements.Assign d e) ≡ both (designator_piece d) (both token (expr_piece e))
+assign_made d e = stated _ _ (statements.outs-Assign d e)
+
+pub call_made : (d : Designator) → stmt_piece (statements.Call d) ≡ designator_piece d
+call_made d = stated _ _ (statements.outs-Call d)
+
+pub if_made : (b : Box Branch Global) (v : Vec Branch Global) (o : Option (Box Block Global)) → stmt_piece (statements.If b v o)
+    ≡ both token (both (branch_piece b.value) (both (each_after branch_piece v.items) (both (if_there (λ x. both token (block_piece x.value)) o) token)))
+if_made b v o = stated _ _ (statements.outs-If b v o)
+
+pub case_made : (e : Expr) (b : Box Case Global) (v : Vec Case Global) → stmt_piece (statements.Case e b v)
+    ≡ both token (both (expr_piece e) (both token (both (case_piece b.value) (both (each_after case_piece v.items) token))))
+case_made e b v = stated _ _ (statements.outs-Case e b v)
+
+pub while_made : (b : Box Branch Global) (v : Vec Branch Global) → stmt_piece (statements.While b v)
+    ≡ both token (both (branch_piece b.value) (both (each_after branch_piece v.items) token))
+while_made b v = stated _ _ (statements.outs-While b v)
+
+pub repeat_made : (b : Box Block Global) (e : Expr) → stmt_piece (statements.Repeat b e) ≡ both token (both (block_piece b.value) (both token (expr_piece e)))
+repeat_made b e = stated _ _ (statements.outs-Repeat b e)
+
+pub for_stmt_made : (b : Box For Global) → stmt_piece (statements.For b) ≡ for_piece b.value
+for_stmt_made b = stated _ _ (statements.outs-For b)
+
+-- the longest of them, one step behind the other
+
+pub if_after : (b : Box Branch Global) (v : Vec Branch Global) (o : Option (Box Block Global)) (c : Context) (s : Stage) → after (stmt_piece (statements.If b v o)) c s
+    ≡ passed (after (if_there (λ x. both token (block_piece x.value)) o) c (after (each_after branch_piece v.items) c (after (branch_piece b.value) c (passed s))))
+if_after b v o c s = simp (if_made b v o, after_both, after_token)
+
+pub case_after : (e : Expr) (b : Box Case Global) (v : Vec Case Global) (c : Context) (s : Stage) → after (stmt_piece (statements.Case e b v)) c s
+    ≡ passed (after (each_after case_piece v.items) c (after (case_piece b.value) c (passed (after (expr_piece e) c (passed s)))))
+case_after e b v c s = simp (case_made e b v, after_both, after_token)
+
+pub for_after : (f : For) (c : Context) (s : Stage) → after (for_piece f) c s
+    ≡ passed (after (block_piece (out-For f).body) c (passed (after (if_there (λ e. both token (expr_piece e)) (out-For f).by) c
+    (after (expr_piece (out-For f).to) c (passed (after (expr_piece (out-For f).from) c (passed (after (used (out-For f).variable None) c (passed s)))))))))
+for_after f c s = simp (for_out f, after_both, after_token)
+
+pub ruleset labels_made = (steps, qualident_out, integer_label, text_label, name_label, label_range_out)
+
+pub ruleset statements_made = (steps, block_out, branch_out, for_after, nothing_made, labelled_made, empty_made, assign_made, call_made, if_after, case_after, while_made, repeat_made, for_stmt_made)

@@ -1,0 +1,9 @@
+use Rattle.std.proofs.Common.{◌≡◌, take}
+use Rattle.ob_decls.specs.Drafts.{after, stage_of}
+use Rattle.ob_decls.specs.Parts.{both, declaring, each, tells, token}
+use Rattle.ob_decls.specs.Expressions.{each_after, expr_piece}
+use Rattle.ob_decls.specs.Types.{section_piece}
+use Rattle.ob_decls.proofs.walk.types.walk_parameters.Given as goal
+
+abbrev pub invariant-loop-section : goal.invariant-loop-section
+invariant-loop-section l = stage_of l.draft ≡ after (each_after section_piece (take l.section-index l.section-items)) l.inside (stage_of l.initial.draft)

@@ -1,0 +1,49 @@
+-- How far a table is made.
+use Rattle.std.specs.Prelude.{ℕ, ◌+◌, ◌-◌, List}
+use Rattle.std.specs.Prelude.{set}
+use Rattle.ob_decls.specs.declared.rows.Declarer.{Declarer}
+use Rattle.ob_decls.specs.declared.draft.Context.{Context}
+use Rattle.ob_decls.specs.declared.draft.Draft.{Draft}
+use Rattle.ob_decls.specs.Parts.{Rows, Piece, joined, no_rows}
+
+-- the number of the next token, and the rows before it
+pub record Stage : Type 0 where
+  pub number : ℕ
+  pub rows : Rows
+
+abbrev pub stage_of : Draft → Stage
+stage_of d = record {
+  number = d.number;
+  rows = record {
+    declarers = d.declarers.items;
+    declared = d.declared.items;
+    uses = d.uses.items;
+    blocks = d.blocks.items;
+    imports = d.imports.items;
+    parts = d.parts.items;
+    records = d.records.items;
+  };
+}
+
+-- before the first token
+abbrev pub start : Stage
+start = record { number = 0; rows = no_rows }
+
+-- behind a part
+unfoldable pub after : Piece → Context → Stage → Stage
+after p c s = record { number = s.number + p.width; rows = joined s.rows (p.rows c s.number) }
+
+-- behind one more token
+unfoldable pub passed : Stage → Stage
+passed s = record { number = s.number + 1; rows = s.rows }
+
+-- with rows of its own
+unfoldable pub added : Rows → Stage → Stage
+added r s = record { number = s.number; rows = joined s.rows r }
+
+-- with the last token of the construct whose row this is
+unfoldable pub closed : ℕ → Declarer → Stage → Stage
+closed at row s = record {
+  number = s.number;
+  rows = record (s.rows) { declarers = set s.rows.declarers at (record row { last = s.number - 1 }) };
+}

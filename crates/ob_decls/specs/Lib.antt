@@ -1,0 +1,6 @@
+pub mod Declaring
+pub mod Drafts
+pub mod Expressions
+pub mod Parts
+pub mod Statements
+pub mod Types

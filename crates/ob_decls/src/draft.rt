@@ -1,0 +1,185 @@
+//! A table that is being made.
+
+ghost use Rattle.std.specs.Prelude.{◌≡◌, length, IfOk};
+ghost use Rattle.ob_decls.specs.Parts.{declarer, declaring_at, in_block, one_block, one_declarer, one_declared, one_import, one_part, one_record, one_used, record_for};
+ghost use Rattle.ob_decls.specs.Drafts.{added, closed, passed, stage_of, start};
+
+use crate::rows::{Block, Declared, Declarer, FormPart, Import, Part, Record, Sort, Used};
+use std::alloc::{AllocError, Global};
+
+/// What is around a part of a tree.
+#[derive(Clone, Copy)]
+pub(crate) struct Context {
+    /// The first token of the block.
+    pub(crate) block: u32,
+    /// The first token of the innermost construct that declares.
+    pub(crate) declarer: u32,
+    /// The RECORD of the innermost record, or 0.
+    pub(crate) of_record: u32,
+    /// Whether POINTER TO stands directly before it.
+    pub(crate) is_target: bool,
+}
+
+/// The rows so far, and the number of the next token.
+#[derive(Drop)]
+pub(crate) struct Draft {
+    pub(crate) number: u32,
+    pub(crate) declarers: Vec<Declarer>,
+    pub(crate) declared: Vec<Declared>,
+    pub(crate) uses: Vec<Used>,
+    pub(crate) blocks: Vec<Block>,
+    pub(crate) imports: Vec<Import>,
+    pub(crate) parts: Vec<FormPart>,
+    pub(crate) records: Vec<Record>,
+}
+
+impl Draft {
+    /// Passes a token. AllocError is answered behind 2^32 - 1 tokens.
+    #[tactic(auto, using(crate::proofs::Steps::growing), unfolding(crate::specs::Drafts::passed, crate::specs::Drafts::added, crate::specs::Drafts::closed, crate::specs::Parts::joined))]
+    pub(crate) fn pass(&mut self) -> Result<(), AllocError>
+        ensures { IfOk result (λ _. stage_of self.new ≡ passed (stage_of self.old)) }
+    {
+        match self.number.checked_add(1) {
+            None => Err(AllocError),
+            Some(number) => {
+                self.number = number;
+                Ok(())
+            }
+        }
+    }
+
+    /// Adds an identifier that is declared.
+    #[tactic(auto, using(crate::proofs::Steps::growing), unfolding(crate::specs::Drafts::passed, crate::specs::Drafts::added, crate::specs::Drafts::closed, crate::specs::Parts::joined))]
+    pub(crate) fn add_declared(&mut self, row: Declared) -> Result<(), AllocError>
+        ensures { IfOk result (λ _. stage_of self.new ≡ added (one_declared row) (stage_of self.old)) }
+    {
+        self.declared.push(row)?;
+        Ok(())
+    }
+
+    /// Adds an identifier that is looked up.
+    #[tactic(auto, using(crate::proofs::Steps::growing), unfolding(crate::specs::Drafts::passed, crate::specs::Drafts::added, crate::specs::Drafts::closed, crate::specs::Parts::joined))]
+    pub(crate) fn add_used(&mut self, row: Used) -> Result<(), AllocError>
+        ensures { IfOk result (λ _. stage_of self.new ≡ added (one_used row) (stage_of self.old)) }
+    {
+        self.uses.push(row)?;
+        Ok(())
+    }
+
+    /// Adds a block that begins with the next token.
+    #[tactic(auto, using(crate::proofs::Steps::growing), unfolding(crate::specs::Drafts::passed, crate::specs::Drafts::added, crate::specs::Drafts::closed, crate::specs::Parts::joined))]
+    pub(crate) fn add_block(&mut self, row: Block) -> Result<(), AllocError>
+        ensures { IfOk result (λ _. stage_of self.new ≡ added (one_block row) (stage_of self.old)) }
+    {
+        self.blocks.push(row)?;
+        Ok(())
+    }
+
+    /// Adds an import item.
+    #[tactic(auto, using(crate::proofs::Steps::growing), unfolding(crate::specs::Drafts::passed, crate::specs::Drafts::added, crate::specs::Drafts::closed, crate::specs::Parts::joined))]
+    pub(crate) fn add_import(&mut self, row: Import) -> Result<(), AllocError>
+        ensures { IfOk result (λ _. stage_of self.new ≡ added (one_import row) (stage_of self.old)) }
+    {
+        self.imports.push(row)?;
+        Ok(())
+    }
+
+    /// Adds a part of a form.
+    #[tactic(auto, using(crate::proofs::Steps::growing), unfolding(crate::specs::Drafts::passed, crate::specs::Drafts::added, crate::specs::Drafts::closed, crate::specs::Parts::joined))]
+    pub(crate) fn add_part(&mut self, row: FormPart) -> Result<(), AllocError>
+        ensures { IfOk result (λ _. stage_of self.new ≡ added (one_part row) (stage_of self.old)) }
+    {
+        self.parts.push(row)?;
+        Ok(())
+    }
+
+    /// Adds a record.
+    #[tactic(auto, using(crate::proofs::Steps::growing), unfolding(crate::specs::Drafts::passed, crate::specs::Drafts::added, crate::specs::Drafts::closed, crate::specs::Parts::joined))]
+    pub(crate) fn add_record(&mut self, row: Record) -> Result<(), AllocError>
+        ensures { IfOk result (λ _. stage_of self.new ≡ added (one_record row) (stage_of self.old)) }
+    {
+        self.records.push(row)?;
+        Ok(())
+    }
+
+    /// Begins a construct that declares, whose last token isn't known yet.
+    #[tactic(auto, using(crate::proofs::Steps::growing), unfolding(crate::specs::Drafts::passed, crate::specs::Drafts::added, crate::specs::Drafts::closed, crate::specs::Parts::joined))]
+    pub(crate) fn open(&mut self, row: Declarer) -> Result<usize, AllocError>
+        ensures row { IfOk result (λ _. stage_of self.new ≡ added (one_declarer row) (stage_of self.old)) }
+        ensures place { IfOk result (λ at. at ≡ length self.old.declarers.items) }
+    {
+        let at = self.declarers.len();
+        self.declarers.push(row)?;
+        Ok(at)
+    }
+
+    /// Ends the construct of this row, behind its last token.
+    #[tactic(auto, using(crate::proofs::Steps::growing), unfolding(crate::specs::Drafts::passed, crate::specs::Drafts::added, crate::specs::Drafts::closed, crate::specs::Parts::joined))]
+    pub(crate) fn close(&mut self, at: usize, row: Declarer)
+        ensures { stage_of self.new ≡ closed at row (stage_of self.old) }
+    {
+        if at < self.declarers.len() {
+            self.declarers[at] = Declarer {
+                last: self.number.saturating_sub(1),
+                ..row
+            };
+        }
+    }
+}
+
+/// The row of a construct that declares as this and begins with this token.
+pub(crate) fn declarer_at(sort: Sort, inside: Context, first: u32) -> Declarer
+    ensures { result ≡ declarer sort inside first 0 }
+{
+    let of_record = match sort {
+        Sort::Field => Some(inside.of_record),
+        _ => None,
+    };
+    Declarer {
+        sort,
+        first,
+        last: 0,
+        block: inside.block,
+        of_record,
+    }
+}
+
+/// What is around the parts of a construct that declares and begins with this token.
+pub(crate) fn declaring_from(inside: Context, first: u32) -> Context
+    ensures { result ≡ declaring_at inside first }
+{
+    Context {
+        declarer: first,
+        is_target: false,
+        ..inside
+    }
+}
+
+/// What is around the parts of a block that begins with this token.
+pub(crate) fn block_from(inside: Context, first: u32) -> Context
+    ensures { result ≡ in_block inside first }
+{
+    Context {
+        block: first,
+        ..inside
+    }
+}
+
+impl Draft {
+    /// Before the first token.
+    #[tactic(auto, unfolding(crate::specs::Parts::no_rows))]
+    pub(crate) fn new(alloc: Global) -> Draft
+        ensures { stage_of result ≡ start }
+    {
+        Draft {
+            number: 0,
+            declarers: Vec::new(alloc),
+            declared: Vec::new(alloc),
+            uses: Vec::new(alloc),
+            blocks: Vec::new(alloc),
+            imports: Vec::new(alloc),
+            parts: Vec::new(alloc),
+            records: Vec::new(alloc),
+        }
+    }
+}

@@ -1,0 +1,12 @@
+//! What an Oberon-07 module declares and uses, as one table over its tree.
+//! Stands on `ob_tree`, and on `ob_scan` below it.
+//! Its contract: the table is exactly the rows that each production of the tree gives, in the order of the tokens.
+#![tactic(auto)]
+
+mod draft;
+mod rows;
+mod table;
+mod walk;
+
+pub use rows::{Base, Block, Declared, Declarer, FormPart, Import, Part, Record, Sort, Used};
+pub use table::{Table, table_of};
