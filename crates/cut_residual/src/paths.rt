@@ -24,7 +24,7 @@ fn place_of(places: &[Place], node: u32) -> usize
 
 /// An augmenting path from the start of the search to a node that it marked. `found` has to be what a search of this graph
 /// left, with the flow that it has now: of others nothing is promised.
-/// Takes time in proportion to nodes, and fails where memory is refused.
+/// By its code it takes time in proportion to nodes. Fails where memory is refused.
 pub fn path_to(
     alloc: Global,
     graph: &ResidualGraph,

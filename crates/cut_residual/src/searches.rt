@@ -54,7 +54,7 @@ fn visit(
 }
 
 /// Marks the nodes that augmenting paths lead to from the start, which is below `nodes`.
-/// Takes time in proportion to nodes and arcs, and fails where memory is refused.
+/// By its code it takes time in proportion to nodes and arcs. Fails where memory is refused.
 pub fn search(alloc: Global, graph: &ResidualGraph, start: u32) -> Result<Found, AllocError>
     requires { start < graph.now.nodes }
     ensures reached { IfOk result (λ found. AreReached graph.now start found.seen.items) }

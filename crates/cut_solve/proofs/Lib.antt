@@ -1,5 +1,6 @@
 pub mod Descending
 pub mod Measure
+pub mod Parted
 pub mod Listing
 pub mod Far
 pub mod Flowing

@@ -6,9 +6,11 @@ ghost use Rattle.cut_solve.specs.Solving.{outcome_of, said_by, IsModuleOr, IsRef
 
 use crate::names::module_of;
 use crate::settling::last_pass;
+use crate::whole::whole_cut;
 use crate::workers::worker;
 use crate::{Gate, Locked, SolveFault};
 use cut_net::{Cut, Net};
+use cut_part::between;
 use cut_preflow::{NetworkLedger, PARTS, Preflow, Share};
 use std::alloc::{AllocError, Global};
 use std::marker::Brand;
@@ -105,8 +107,29 @@ fn in_own_ledger<R: Threads + Wait + Sync, G: Gate + Sync>(
     in_ledger::<Brand, R, G>(rt, alloc, Blank::new(PARTS), net, ends, workers, gate)
 }
 
+/// A cheapest cut between two modules, found in the part of the network that lies between them.
+fn in_part<R: Threads + Wait + Sync, G: Gate + Sync>(
+    rt: &R,
+    alloc: Global,
+    net: &Net,
+    ends: (u32, u32),
+    workers: u32,
+    gate: &G,
+) -> Result<Cut, AllocError>
+    requires { AreEnds net.now ends.0 ends.1 }
+    ensures answer { IfOk result (λ cut. IsAnswer net.now ends.0 ends.1 (said_by cut)) }
+    ensures cheapest { IfOk result (λ cut. IsCheapestSaid net.now ends.0 ends.1 (said_by cut)) }
+{
+    let (from, to) = ends;
+    let part = between(alloc, net, from, to)?;
+    let here = (part.places[from as usize], part.places[to as usize]);
+    let cut = in_own_ledger(rt, alloc, &part.net, here, workers, gate)?;
+    let whole = whole_cut(alloc, &cut, &part.numbers)?;
+    Ok(whole)
+}
+
 /// A cheapest cut between the modules of two names, as `plain` tells it, by 1 to 64 threads that push and relabel on one locked
-/// preflow (Goldberg and Tarjan 1988) and call the gate between their turns. Whatever turns they take, the imports and the weight are
+/// preflow (Goldberg and Tarjan 1988) of the modules between the two, and call the gate between their turns. Whatever turns they take, the imports and the weight are
 /// the same; the flow may be another one of that value. A worker that memory is refused to ends alone, a thread that can't be started is
 /// left out, and a last pass does what is left. It is proved that this pass never runs out of fuel, so there is no refusal for it.
 /// The names are looked up first, `from` before `to`. Refuses with `NoSuchModule` for the first that no module has, with
@@ -131,6 +154,6 @@ pub fn solve<R: Threads + Wait + Sync, G: Gate + Sync>(
     if from == to {
         return Err(SolveFault::SameModule);
     }
-    let cut = in_own_ledger(rt, alloc, net, (from, to), workers, gate)?;
+    let cut = in_part(rt, alloc, net, (from, to), workers, gate)?;
     Ok(cut)
 }

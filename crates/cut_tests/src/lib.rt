@@ -1,5 +1,5 @@
-//! Tests of the public calls of `cut_residual`, `cut_net`, `cut_preflow`, `cut_report`, `cut_check` and `cut_solve`.
-//! Stands on those six and on `test_doubles`.
+//! Tests of the public calls of `cut_residual`, `cut_net`, `cut_part`, `cut_preflow`, `cut_report`, `cut_check` and `cut_solve`.
+//! Stands on those seven and on `test_doubles`.
 //! It has nothing but tests: worked networks, reports and cuts, each with what is known of it.
 #![tactic(auto)]
 
@@ -15,6 +15,8 @@ mod graphs;
 mod nets;
 #[cfg(test)]
 mod openings;
+#[cfg(test)]
+mod parts;
 #[cfg(test)]
 mod preflows;
 #[cfg(test)]

@@ -30,7 +30,7 @@ fn tell_imports(text: &mut String, net: &Net) -> Result<(), AllocError> {
 }
 
 /// How many modules, and their names; then the imports by the numbers of their modules.
-fn told_net(alloc: Global, net: &Net) -> Result<String, AllocError> {
+pub(crate) fn told_net(alloc: Global, net: &Net) -> Result<String, AllocError> {
     let mut text = format!(in alloc; "{} modules", net.nodes())?;
     tell_modules(&mut text, net)?;
     tell_imports(&mut text, net)?;

@@ -1,0 +1,37 @@
+-- Flows by number and flows by ends are the same where no two imports have the same ends: no order is needed.
+use Rattle.std.proofs.Common.{◌≡◌, ℕ, zero, suc, ◌<◌, Bool, true, false, eqb, ◌&&◌, List, [], ◌∷◌, length, map, get_or, refl, ◌∙◌, arith}
+use Rattle.std.proofs.lemmas.Bool.{false_from_ne_true}
+use Rattle.std.proofs.lemmas.List.{length-map, get_or-map}
+use Rattle.cut_net.specs.declared.priced.Priced.{Priced}
+use Rattle.cut_net.specs.Network.{none_there}
+use Rattle.cut_net.specs.Lines.{flow_by, IsAscending}
+use Rattle.cut_net.proofs.Ends.{apart, before_from, same_from, same_sym, same_true}
+use Rattle.cut_part.specs.Apart.{AreApart, flow_lines}
+use Rattle.cut_part.specs.Narrowing.{import_in}
+use Rattle.cut_part.specs.Turning.{turned}
+
+-- imports in order are apart
+pub ascending_apart : (imports : List Priced) → IsAscending imports → AreApart imports
+ascending_apart imports up j k d less in_k =
+    false_from_ne_true _ (λ t. apart {i = get_or imports j d} {j = get_or imports k d} (before_from (get_or imports j d) (get_or imports k d) (up j k d less in_k)) (same_sym (same_from (get_or imports k d) (get_or imports j d) t)))
+
+both_orders : (t u : Bool) → (t && u) ≡ (u && t)
+both_orders true true = refl
+both_orders true false = refl
+both_orders false true = refl
+both_orders false false = refl
+
+-- and so they are when each is turned round
+pub turned_apart : (imports : List Priced) → AreApart imports → AreApart (map turned imports)
+turned_apart imports are j k d less in_k =
+    let len = length-map imports turned in
+    rw (get_or-map turned imports j none_there d (omega arith), get_or-map turned imports k none_there d (omega arith))
+    (both_orders (eqb (import_in imports k).to (import_in imports j).to) (eqb (import_in imports k).from (import_in imports j).from) ∙ are j k none_there less (omega arith))
+
+pub flow_by_number : (imports : List Priced) (flow : List ℕ) → AreApart imports → length flow ≡ length imports → (k : ℕ) → k < length imports → flow_by (flow_lines imports flow) (import_in imports k) ≡ get_or flow k 0
+flow_by_number [] flow are same k h = absurd (omega arith)
+flow_by_number (i ∷ more) [] are same k h = absurd (omega arith)
+flow_by_number (i ∷ more) (f ∷ flow) are same zero h = rw (same_true i i (record { from = refl; to = refl })) refl
+flow_by_number (i ∷ more) (f ∷ flow) are same (suc k) h =
+    rw (are 0 (suc k) none_there (omega arith) (omega arith))
+    (flow_by_number more flow (λ a b e less in_b. are (suc a) (suc b) e (omega arith) (omega arith)) (omega arith) k (omega arith))

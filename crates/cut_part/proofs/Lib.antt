@@ -1,0 +1,15 @@
+pub mod Adding
+pub mod Apart
+pub mod Conserved
+pub mod Greatest
+pub mod Inside
+pub mod Marking
+pub mod Narrowing
+pub mod Numbering
+pub mod Parts
+pub mod PrintedBetween
+pub mod Renumbering
+pub mod Sums
+pub mod Tallies
+pub mod Turning
+pub mod Whole

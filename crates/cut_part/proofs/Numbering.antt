@@ -1,0 +1,97 @@
+-- Numbering the marked modules, one after the other.
+use Rattle.std.proofs.Common.{◌≡◌, ℕ, ◌+◌, ◌<◌, Bool, true, false, List, [], ◌∷◌, ◌++◌, length, get_or, refl, sym, ap, ◌∙◌, arith, inl, inr}
+use Rattle.std.proofs.lemmas.Bool.{cases_lt, both_ways}
+use Rattle.std.proofs.lemmas.List.{get_or_push, get_or_append_left, get_or_past, length_push}
+use Rattle.cut_residual.specs.Graphs.{is_seen}
+use Rattle.cut_part.specs.Marks.{IsNumbering, IsNumberingTo}
+
+pub numbering_none : (marks : List Bool) → IsNumberingTo marks [] [] 0
+numbering_none marks = record {
+  size = refl;
+  few = omega arith;
+  ascend = λ x y less h. absurd (omega arith);
+  low = λ x h. absurd (omega arith);
+  marked = λ x h. absurd (omega arith);
+  place_is = λ x h. absurd (omega arith);
+  place_low = λ m h. absurd (omega arith);
+  number_is = λ m h. absurd (omega arith);
+}
+
+module _ (marks : List Bool) (numbers places : List ℕ) (count : ℕ) (is : IsNumberingTo marks numbers places count) where
+  old_place : (m p : ℕ) → m < count → get_or (places ++ p ∷ []) m 0 ≡ get_or places m 0
+  old_place m p h = get_or_append_left places (p ∷ []) 0 m (let size = is.size in omega arith)
+
+  pub numbering_over : (p : ℕ) → is_seen marks count ≡ false → IsNumberingTo marks numbers (places ++ p ∷ []) (count + 1)
+  numbering_over p f =
+      let size = is.size in
+      let few = is.few in
+      record {
+        size = let long = length_push places p in omega arith;
+        few = omega arith;
+        ascend = is.ascend;
+        low = λ x h. let low = is.low x h in omega arith;
+        marked = is.marked;
+        place_is = λ x h. old_place (get_or numbers x 0) p (is.low x h) ∙ is.place_is x h;
+        place_low = λ m h t. elim (cases_lt m count) [
+          | inl low ↦ let same = old_place m p low in let old = is.place_low m low t in omega arith
+          | inr high ↦ let e : m ≡ count = omega arith in absurd (both_ways (is_seen marks count) f (rw e at t))
+        ];
+        number_is = λ m h t. elim (cases_lt m count) [
+          | inl low ↦ ap (λ n. get_or numbers n 0) (old_place m p low) ∙ is.number_is m low t
+          | inr high ↦ let e : m ≡ count = omega arith in absurd (both_ways (is_seen marks count) f (rw e at t))
+        ];
+      }
+
+  pub numbering_with : is_seen marks count ≡ true → IsNumberingTo marks (numbers ++ count ∷ []) (places ++ length numbers ∷ []) (count + 1)
+  numbering_with t_count =
+      let size = is.size in
+      let few = is.few in
+      let long = length_push numbers count in
+      let old = λ (x : ℕ) (h : x < length numbers). get_or_append_left numbers (count ∷ []) 0 x h in
+      let last : get_or (numbers ++ count ∷ []) (length numbers) 0 ≡ count = get_or_push numbers count 0 (length numbers) refl in
+      let last_place : get_or (places ++ length numbers ∷ []) count 0 ≡ length numbers = get_or_push places (length numbers) 0 count size in
+      record {
+        size = let long = length_push places (length numbers) in omega arith;
+        few = omega arith;
+        ascend = λ x y less h. elim (cases_lt y (length numbers)) [
+          | inl low ↦ rw (old x (omega arith), old y low) (is.ascend x y less low)
+          | inr high ↦ let e : y ≡ length numbers = omega arith in let l = is.low x (omega arith) in rw (e, last, old x (omega arith)) l
+        ];
+        low = λ x h. elim (cases_lt x (length numbers)) [
+          | inl low ↦ let e = old x low in let l = is.low x low in omega arith
+          | inr high ↦ let e : x ≡ length numbers = omega arith in rw (e, last) (omega arith)
+        ];
+        marked = λ x h. elim (cases_lt x (length numbers)) [
+          | inl low ↦ rw (old x low) (is.marked x low)
+          | inr high ↦ let e : x ≡ length numbers = omega arith in rw (e, last) t_count
+        ];
+        place_is = λ x h. elim (cases_lt x (length numbers)) [
+          | inl low ↦ rw (old x low) (old_place (get_or numbers x 0) (length numbers) (is.low x low) ∙ is.place_is x low)
+          | inr high ↦ let e : x ≡ length numbers = omega arith in rw (e, last) last_place
+        ];
+        place_low = λ m h t. elim (cases_lt m count) [
+          | inl low ↦ let same = old_place m (length numbers) low in let l = is.place_low m low t in omega arith
+          | inr high ↦ let e : m ≡ count = omega arith in rw (e, last_place) (omega arith)
+        ];
+        number_is = λ m h t. elim (cases_lt m count) [
+          | inl low ↦ rw (old_place m (length numbers) low) (old (get_or places m 0) (is.place_low m low t) ∙ is.number_is m low t)
+          | inr high ↦ let e : m ≡ count = omega arith in rw (e, last_place) last
+        ];
+      }
+
+  pub numbering_all : length marks ≡ count → IsNumbering marks numbers places
+  numbering_all all =
+      let in_marks : (m : ℕ) → is_seen marks m ≡ true → m < count = λ m t. elim (cases_lt m count) [
+        | inl low ↦ low
+        | inr high ↦ absurd (both_ways (is_seen marks m) (get_or_past marks m false (omega arith)) t)
+      ] in
+      record {
+        count = is.size ∙ sym all;
+        few = let few = is.few in omega arith;
+        ascend = is.ascend;
+        low = λ x h. let l = is.low x h in omega arith;
+        marked = is.marked;
+        place_is = is.place_is;
+        place_low = λ m t. is.place_low m (in_marks m t) t;
+        number_is = λ m t. is.number_is m (in_marks m t) t;
+      }

@@ -1,0 +1,5 @@
+use Rattle.cut_part.proofs.Narrowing.{by_lines}
+use Rattle.cut_part.proofs.laws.lines_are_by_ends.Goals as goal
+
+pub returns : goal.returns
+returns c = by_lines

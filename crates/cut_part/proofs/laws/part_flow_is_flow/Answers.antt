@@ -1,0 +1,5 @@
+use Rattle.cut_part.proofs.Inside.{flow_of_part}
+use Rattle.cut_part.proofs.laws.part_flow_is_flow.Goals as goal
+
+pub returns : goal.returns
+returns c = flow_of_part

@@ -1,0 +1,5 @@
+use Rattle.cut_part.proofs.Narrowing.{lowered_all}
+use Rattle.cut_part.proofs.laws.steps_keep_flows.Goals as goal
+
+pub returns : goal.returns
+returns c = lowered_all

@@ -1,0 +1,43 @@
+-- A question in the part between its two modules, and its answer told of the whole network.
+use Rattle.std.proofs.Common.{◌≡◌, ℕ, ◌<◌, Bool, List, length, get_or, set, true, sym, subst, arith}
+use Rattle.std.proofs.lemmas.List.{length-set}
+use Rattle.cut_net.specs.declared.priced.Priced.{Priced}
+use Rattle.cut_net.specs.Lines.{IsAnswer, IsCheapestSaid, IsCutAnswer}
+use Rattle.cut_net.specs.Network.{Network}
+use Rattle.cut_net.specs.Said.{Said}
+use Rattle.cut_net.specs.WellFormed.{AreBetween}
+use Rattle.cut_part.proofs.Parts.{end_low, ends_apart, start_low}
+use Rattle.cut_part.proofs.Whole.{answer_up, cheapest_up, lines_low}
+use Rattle.cut_part.specs.Marks.{said_whole, IsPart}
+use Rattle.cut_preflow.specs.Flows.{AreEnds}
+
+module _ (net : Network) (a b : ℕ) (marks : List Bool) (numbers places : List ℕ) (small : Network) (part : IsPart net a b marks numbers places small) (ends : AreEnds net a b) where
+  pub place_in : (m : ℕ) → m < length net.names → m < length places
+  place_in m h =
+      let one = length-set marks a true in
+      let two = length-set (set marks a true) b true in
+      let size = part.size in
+      let count = part.numbered.count in
+      omega arith
+
+  pub ends_there : AreEnds small (get_or places a 0) (get_or places b 0)
+  ends_there = record {
+    from_in = start_low net a b ends.from_in ends.to_in marks numbers places small part;
+    to_in = end_low net a b ends.from_in ends.to_in marks numbers places small part;
+    apart = ends_apart net a b ends.from_in ends.to_in marks numbers places small part ends.apart;
+  }
+
+  pub lines_between : (m n : ℕ) (printed : List Priced) (total : ℕ) (flow : List Priced) → IsCutAnswer small m n printed total flow →
+      AreBetween printed (length numbers) × AreBetween flow (length numbers)
+  lines_between m n printed total flow is = (
+    lines_low net a b ends.from_in ends.to_in marks numbers places small part printed is.right.printed_in_order,
+    lines_low net a b ends.from_in ends.to_in marks numbers places small part flow is.right.flow_in_order,
+  )
+
+  pub answer_whole : (said whole : Said) → whole ≡ said_whole numbers said → IsAnswer small (get_or places a 0) (get_or places b 0) said → IsAnswer net a b whole
+  answer_whole said whole e is = subst (λ (s : Said). IsAnswer net a b s) (sym e) (answer_up net a b ends.from_in ends.to_in marks numbers places small part said is)
+
+  pub cheapest_whole : (said whole : Said) → whole ≡ said_whole numbers said → IsAnswer small (get_or places a 0) (get_or places b 0) said →
+      IsCheapestSaid small (get_or places a 0) (get_or places b 0) said → IsCheapestSaid net a b whole
+  cheapest_whole said whole e is cheapest =
+      subst (λ (s : Said). IsCheapestSaid net a b s) (sym e) (cheapest_up net a b ends.from_in ends.to_in marks numbers places small part said is cheapest)

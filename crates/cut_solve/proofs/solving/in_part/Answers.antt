@@ -1,0 +1,85 @@
+use Rattle.std.proofs.Common.{◌≡◌, ◌∙◌, ℕ, List, length, get_or, subst, sym, ap}
+use Rattle.std.proofs.lemmas.List.{get_or_default}
+use Rattle.cut_net.specs.declared.priced.Priced.{Priced}
+use Rattle.cut_net.specs.Lines.{IsAnswer, IsCheapestSaid}
+use Rattle.cut_net.specs.Said.{Said}
+use Rattle.cut_net.specs.WellFormed.{AreBetween}
+use Rattle.cut_part.specs.Marks.{said_whole}
+use Rattle.cut_preflow.specs.Flows.{AreEnds}
+use Rattle.cut_solve.specs.Solving.{said_by}
+use Rattle.cut_solve.proofs.Parted.{answer_whole, cheapest_whole, ends_there, lines_between, place_in}
+use Rattle.cut_solve.proofs.solving.in_part.Goals as goal
+
+pub in_own_ledger-requires-after_bounds : goal.in_own_ledger-requires-after_bounds
+in_own_ledger-requires-after_bounds g c κs within =
+    let net = c.args.net.now in
+    let a = c.args.ends.0 in
+    let b = c.args.ends.1 in
+    let part = c.in_ok-part.part in
+    let is = c.in_ok-part.ensures in
+    let a_in = place_in net a b part.marks.items part.numbers.items part.places.items part.net is c.requires a c.requires.from_in in
+    let b_in = place_in net a b part.marks.items part.numbers.items part.places.items part.net is c.requires b c.requires.to_in in
+    let from : c.index.result.now ≡ get_or part.places.items a 0 = c.index.ensures ∙ get_or_default part.places.items a c.index.result.now 0 a_in in
+    let to : c.index-2.result.now ≡ get_or part.places.items b 0 = c.index-2.ensures ∙ get_or_default part.places.items b c.index-2.result.now 0 b_in in
+    subst (λ (m : ℕ). AreEnds part.net m c.index-2.result.now) (sym from)
+    (subst (λ (n : ℕ). AreEnds part.net (get_or part.places.items a 0) n) (sym to)
+    (ends_there net a b part.marks.items part.numbers.items part.places.items part.net is c.requires))
+
+pub whole_cut-requires-clause-imports : goal.whole_cut-requires-clause-imports
+whole_cut-requires-clause-imports g c =
+    let net = c.args.net.now in
+    let a = c.args.ends.0 in
+    let b = c.args.ends.1 in
+    let part = c.in_ok-part.part in
+    subst (λ (numbers : List ℕ). AreBetween c.in_ok-cut.cut.imports.items (length numbers)) (sym c.deref.ensures.value)
+    (lines_between net a b part.marks.items part.numbers.items part.places.items part.net c.in_ok-part.ensures c.requires c.index.result.now c.index-2.result.now
+    c.in_ok-cut.cut.imports.items c.in_ok-cut.cut.weight c.in_ok-cut.cut.flow.items c.in_ok-cut.ensures.answer).0
+
+pub whole_cut-requires-clause-flow : goal.whole_cut-requires-clause-flow
+whole_cut-requires-clause-flow g c =
+    let net = c.args.net.now in
+    let a = c.args.ends.0 in
+    let b = c.args.ends.1 in
+    let part = c.in_ok-part.part in
+    subst (λ (numbers : List ℕ). AreBetween c.in_ok-cut.cut.flow.items (length numbers)) (sym c.deref.ensures.value)
+    (lines_between net a b part.marks.items part.numbers.items part.places.items part.net c.in_ok-part.ensures c.requires c.index.result.now c.index-2.result.now
+    c.in_ok-cut.cut.imports.items c.in_ok-cut.cut.weight c.in_ok-cut.cut.flow.items c.in_ok-cut.ensures.answer).1
+
+pub returns-clause-answer : goal.returns-clause-answer
+returns-clause-answer g c =
+    let net = c.args.net.now in
+    let a = c.args.ends.0 in
+    let b = c.args.ends.1 in
+    let part = c.in_ok-part.part in
+    let is = c.in_ok-part.ensures in
+    let said = said_by c.in_ok-cut.cut in
+    let a_in = place_in net a b part.marks.items part.numbers.items part.places.items part.net is c.requires a c.requires.from_in in
+    let b_in = place_in net a b part.marks.items part.numbers.items part.places.items part.net is c.requires b c.requires.to_in in
+    let from : c.index.result.now ≡ get_or part.places.items a 0 = c.index.ensures ∙ get_or_default part.places.items a c.index.result.now 0 a_in in
+    let to : c.index-2.result.now ≡ get_or part.places.items b 0 = c.index-2.ensures ∙ get_or_default part.places.items b c.index-2.result.now 0 b_in in
+    let here : IsAnswer part.net (get_or part.places.items a 0) (get_or part.places.items b 0) said =
+    subst (λ (m : ℕ). IsAnswer part.net m (get_or part.places.items b 0) said) from
+    (subst (λ (n : ℕ). IsAnswer part.net c.index.result.now n said) to c.in_ok-cut.ensures.answer) in
+    let same : said_by c.in_ok-whole.whole ≡ said_whole part.numbers.items said = c.in_ok-whole.ensures ∙ ap (λ (numbers : List ℕ). said_whole numbers said) c.deref.ensures.value in
+    answer_whole net a b part.marks.items part.numbers.items part.places.items part.net is c.requires said (said_by c.in_ok-whole.whole) same here
+
+pub returns-clause-cheapest : goal.returns-clause-cheapest
+returns-clause-cheapest g c =
+    let net = c.args.net.now in
+    let a = c.args.ends.0 in
+    let b = c.args.ends.1 in
+    let part = c.in_ok-part.part in
+    let is = c.in_ok-part.ensures in
+    let said = said_by c.in_ok-cut.cut in
+    let a_in = place_in net a b part.marks.items part.numbers.items part.places.items part.net is c.requires a c.requires.from_in in
+    let b_in = place_in net a b part.marks.items part.numbers.items part.places.items part.net is c.requires b c.requires.to_in in
+    let from : c.index.result.now ≡ get_or part.places.items a 0 = c.index.ensures ∙ get_or_default part.places.items a c.index.result.now 0 a_in in
+    let to : c.index-2.result.now ≡ get_or part.places.items b 0 = c.index-2.ensures ∙ get_or_default part.places.items b c.index-2.result.now 0 b_in in
+    let here : IsAnswer part.net (get_or part.places.items a 0) (get_or part.places.items b 0) said =
+    subst (λ (m : ℕ). IsAnswer part.net m (get_or part.places.items b 0) said) from
+    (subst (λ (n : ℕ). IsAnswer part.net c.index.result.now n said) to c.in_ok-cut.ensures.answer) in
+    let least : IsCheapestSaid part.net (get_or part.places.items a 0) (get_or part.places.items b 0) said =
+    subst (λ (m : ℕ). IsCheapestSaid part.net m (get_or part.places.items b 0) said) from
+    (subst (λ (n : ℕ). IsCheapestSaid part.net c.index.result.now n said) to c.in_ok-cut.ensures.cheapest) in
+    let same : said_by c.in_ok-whole.whole ≡ said_whole part.numbers.items said = c.in_ok-whole.ensures ∙ ap (λ (numbers : List ℕ). said_whole numbers said) c.deref.ensures.value in
+    cheapest_whole net a b part.marks.items part.numbers.items part.places.items part.net is c.requires said (said_by c.in_ok-whole.whole) same here least

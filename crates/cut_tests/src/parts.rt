@@ -1,0 +1,131 @@
+//! The part of a network between two modules, weights narrowed, and imports turned round.
+ghost use Rattle.std.specs.Prelude.{◌<◌, IsTrue};
+
+use crate::nets::told_net;
+use crate::worked::{TWO_IMPORTS, TWO_WAYS, net_of};
+use cut_net::{Net, Priced};
+use cut_part::{between, narrowed, turned_imports};
+use std::alloc::{AllocError, Global};
+use std::rt::HostRuntime;
+use std::test::Fail;
+
+/// Two ways from A to D. The modules are A, B, C and D.
+const DIAMOND: &[u8] = b"import A B 1\nimport A C 2\nimport B D 3\nimport C D 1\n";
+
+/// A and X import B and nothing leads to them, Y is a way out of C. The modules are A, B, C, D, X and Y.
+const WITH_ODDS: &[u8] =
+    b"import A B 1\nimport B C 2\nimport C D 3\nimport A D 9\nimport X B 1\nimport C Y 1\n";
+
+/// A narrow way into a wide one. The modules are A, B, M and N.
+const NARROW_FIRST: &[u8] = b"import A M 2\nimport M N 7\nimport N B 5\n";
+
+fn told_imports(alloc: Global, imports: &[Priced]) -> Result<String, AllocError> {
+    let mut text = String::new(alloc);
+    for import in imports {
+        write!(text, "{} {} {}, ", import.from, import.to, import.amount)?;
+    }
+    Ok(text)
+}
+
+/// The smaller network, and the number in the whole one of each of its modules.
+fn told_part(alloc: Global, net: &Net, from: u32, to: u32) -> Result<String, AllocError> {
+    if from >= net.nodes() || to >= net.nodes() {
+        return Err(AllocError);
+    }
+    let part = between(alloc, net, from, to)?;
+    let small = told_net(alloc, &part.net)?;
+    let numbers = part.numbers.as_slice();
+    let marks = part.marks.as_slice();
+    format!(in alloc; "{small}; {numbers:?} {marks:?}")
+}
+
+/// Whether the number is that of one of so many imports.
+fn is_number(number: u32, imports: usize) -> bool
+    ensures { IsTrue result → number < imports }
+{
+    (number as usize) < imports
+}
+
+/// The imports with their weights lowered, in this order of their numbers.
+fn told_narrowed(
+    alloc: Global,
+    net: &Net,
+    order: &[u32],
+    (from, to): (u32, u32),
+) -> Result<String, AllocError> {
+    net.keeps();
+    let imports = net.imports();
+    if from >= net.nodes() || from == to || order.iter().any(|k| !is_number(*k, imports.len())) {
+        return Err(AllocError);
+    }
+    let less = narrowed(alloc, imports, net.nodes(), order, from, to)?;
+    told_imports(alloc, less.as_slice())
+}
+
+#[test]
+fn all_modules_on_two_ways_are_kept(rt: HostRuntime) -> Result<(), Fail> {
+    let net = net_of(rt.alloc(), TWO_WAYS)?;
+    let found = told_part(rt.alloc(), &net, 0, 1)?;
+    let want =
+        "4 modules A D U V, 0 2 5, 0 3 0, 2 1 1, 3 2 3; [0, 1, 2, 3] [true, true, true, true]";
+    assert_eq!(rt; found.as_str(), want);
+    Ok(())
+}
+
+#[test]
+fn one_import_is_kept(rt: HostRuntime) -> Result<(), Fail> {
+    let net = net_of(rt.alloc(), DIAMOND)?;
+    let found = told_part(rt.alloc(), &net, 1, 3)?;
+    let want = "2 modules B D, 0 1 3; [1, 3] [false, true, false, true]";
+    assert_eq!(rt; found.as_str(), want);
+    Ok(())
+}
+
+#[test]
+fn both_ends_are_kept_where_no_chain_leads(rt: HostRuntime) -> Result<(), Fail> {
+    let net = net_of(rt.alloc(), DIAMOND)?;
+    let found = told_part(rt.alloc(), &net, 3, 0)?;
+    let want = "2 modules A D; [0, 3] [false, false, false, false]";
+    assert_eq!(rt; found.as_str(), want);
+    let found = told_part(rt.alloc(), &net, 1, 2)?;
+    let want = "2 modules B C; [1, 2] [false, false, false, false]";
+    assert_eq!(rt; found.as_str(), want);
+    Ok(())
+}
+
+#[test]
+fn modules_on_no_chain_are_left_out(rt: HostRuntime) -> Result<(), Fail> {
+    let net = net_of(rt.alloc(), WITH_ODDS)?;
+    let found = told_part(rt.alloc(), &net, 1, 3)?;
+    let want = "3 modules B C D, 0 1 2, 1 2 3; [1, 2, 3] [false, true, true, true, false, false]";
+    assert_eq!(rt; found.as_str(), want);
+    Ok(())
+}
+
+#[test]
+fn weights_are_lowered_both_ways(rt: HostRuntime) -> Result<(), Fail> {
+    let net = net_of(rt.alloc(), NARROW_FIRST)?;
+    let found = told_narrowed(rt.alloc(), &net, &[0, 1, 2], (0, 1))?;
+    assert_eq!(rt; found.as_str(), "0 2 2, 2 3 2, 3 1 2, ");
+    let net = net_of(rt.alloc(), TWO_WAYS)?;
+    let found = told_narrowed(rt.alloc(), &net, &[0, 1, 3, 2], (0, 1))?;
+    assert_eq!(rt; found.as_str(), "0 2 1, 0 3 0, 2 1 1, 3 2 0, ");
+    Ok(())
+}
+
+#[test]
+fn weights_that_fit_stay(rt: HostRuntime) -> Result<(), Fail> {
+    let net = net_of(rt.alloc(), TWO_IMPORTS)?;
+    let found = told_narrowed(rt.alloc(), &net, &[0, 1], (0, 1))?;
+    assert_eq!(rt; found.as_str(), "0 2 2, 2 1 2, ");
+    Ok(())
+}
+
+#[test]
+fn imports_are_turned(rt: HostRuntime) -> Result<(), Fail> {
+    let net = net_of(rt.alloc(), TWO_WAYS)?;
+    let turned = turned_imports(rt.alloc(), net.imports())?;
+    let found = told_imports(rt.alloc(), turned.as_slice())?;
+    assert_eq!(rt; found.as_str(), "2 0 5, 3 0 0, 1 2 1, 2 3 3, ");
+    Ok(())
+}
