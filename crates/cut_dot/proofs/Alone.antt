@@ -1,0 +1,30 @@
+-- A picture where no chain leads.
+use Rattle.std.proofs.Common.{◌≡◌, ℕ, Bool, false, ◌||◌, ◌&&◌, List, [], ◌∷◌, filter, refl, ap, ap₂, ◌∙◌, inl, inr}
+use Rattle.std.proofs.lemmas.Bool.{cases_Bool, false_from_ne_true}
+use Rattle.cut_net.specs.declared.priced.Priced.{Priced}
+use Rattle.cut_net.specs.Cuts.{Any, Chain}
+use Rattle.cut_net.specs.Network.{Network}
+use Rattle.cut_net.proofs.Chains.{joined}
+use Rattle.cut_part.specs.Inside.{inside}
+use Rattle.cut_dot.specs.Ends.{is_end}
+use Rattle.cut_dot.specs.Pictures.{drawn_imports, drawn_modules, is_drawn, numbers, AreStillReached, IsPicture}
+use Rattle.cut_dot.specs.Texts.{picture_text}
+
+same_members : {X : Type 0} (p q : X → Bool) → ((x : X) → p x ≡ q x) → (xs : List X) → filter p xs ≡ filter q xs
+same_members p q same [] = refl
+same_members p q same (x ∷ xs) = elim (cases_Bool (q x)) [
+  | inl t ↦ rw (same x, t) (ap (λ ys. x ∷ ys) (same_members p q same xs))
+  | inr f ↦ rw (same x, f) (same_members p q same xs)
+]
+
+no_members : {X : Type 0} (p : X → Bool) → ((x : X) → p x ≡ false) → (xs : List X) → filter p xs ≡ []
+no_members p none [] = refl
+no_members p none (x ∷ xs) = rw (none x) (no_members p none xs)
+
+pub alone : (net : Network) (a b : ℕ) (printed flow : List Priced) (text : List ℕ) → IsPicture net a b printed flow text → (Chain net.imports Any a b → ⊥)
+    → (reached : ℕ → Bool) × AreStillReached net a printed reached × (text ≡ picture_text net a b printed flow reached (filter (is_end a b) (numbers net)) [])
+alone net a b printed flow text is no_chain =
+    let none : (m : ℕ) → is.between m ≡ false = λ m. false_from_ne_true _ (λ t. let on = (is.are_between m).0 t in no_chain (joined net.imports Any a m b on.0 on.1)) in
+    let modules : drawn_modules net a b is.between ≡ filter (is_end a b) (numbers net) = same_members (is_drawn a b is.between) (is_end a b) (λ m. ap (λ (t : Bool). t || is_end a b m) (none m)) (numbers net) in
+    let imports : drawn_imports net is.between ≡ [] = no_members (inside is.between) (λ i. ap (λ (t : Bool). t && is.between i.to) (none i.from)) net.imports in
+    (is.reached, is.are_reached, is.text_is ∙ ap₂ (λ (ms : List ℕ) (some : List Priced). picture_text net a b printed flow is.reached ms some) modules imports)

@@ -1,0 +1,6 @@
+pub mod LineSearch
+pub mod Passing
+pub mod Staying
+pub mod Alone
+pub mod Escapes
+pub mod Drawn

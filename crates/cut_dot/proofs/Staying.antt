@@ -1,0 +1,37 @@
+-- Chains by imports that aren't removed.
+use Rattle.std.proofs.Common.{◌≡◌, ℕ, Bool, true, false, not, List, filter, refl, ap}
+use Rattle.digraph.proofs.Members.{in_filter, of_filter}
+use Rattle.cut_net.specs.declared.priced.Priced.{Priced}
+use Rattle.cut_net.specs.Cuts.{Any, AreThose, Chain, Outside}
+use Rattle.cut_net.specs.Lines.{removed_by}
+use Rattle.cut_net.specs.WellFormed.{AreBetween}
+use Rattle.cut_net.proofs.Chains.{widened}
+use Rattle.cut_residual.specs.Graphs.{is_seen}
+use Rattle.cut_part.specs.Marks.{AreChained}
+use Rattle.cut_dot.specs.Pictures.{stays}
+
+not_true : (t : Bool) → not t ≡ true → t ≡ false
+not_true true e = absurd cc
+not_true false e = refl
+
+module _ (imports printed : List Priced) where
+  pub staying_between : (n : ℕ) → AreBetween imports n → AreBetween (filter (stays printed) imports) n
+  staying_between n between i h = between i (of_filter (stays printed) imports i h).0
+
+  to_outside : (a m : ℕ) → Chain (filter (stays printed) imports) Any a m → Chain imports (Outside (removed_by printed)) a m
+  to_outside a m c = (
+    c.0,
+    widened (filter (stays printed) imports) imports Any (Outside (removed_by printed))
+        (λ i h any. let f = of_filter (stays printed) imports i h in (f.0, not_true (removed_by printed i) f.1)) a c.0 m c.1,
+  )
+
+  from_outside : (a m : ℕ) → Chain imports (Outside (removed_by printed)) a m → Chain (filter (stays printed) imports) Any a m
+  from_outside a m c = (
+    c.0,
+    widened imports (filter (stays printed) imports) (Outside (removed_by printed)) Any
+        (λ i h outside. let stays_i : stays printed i ≡ true = ap not outside in (in_filter (stays printed) imports i stays_i h, tt)) a c.0 m c.1,
+  )
+
+  -- the marked modules are those that are reached by the imports that stay
+  pub still_reached : (a : ℕ) (marks : List Bool) → AreChained (filter (stays printed) imports) a marks → AreThose (is_seen marks) (Chain imports (Outside (removed_by printed)) a)
+  still_reached a marks chained m = (λ t. to_outside a m ((chained m).0 t), λ c. (chained m).1 (from_outside a m c))

@@ -1,0 +1,4 @@
+pub mod Ends
+pub mod Pictures
+pub mod Texts
+pub mod Drawing

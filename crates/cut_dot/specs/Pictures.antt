@@ -1,0 +1,45 @@
+-- The picture of what is said of two modules of a network: of imports to be removed, and of a flow.
+use Rattle.std.specs.Prelude.{◌≡◌, ℕ, Bool, not, ◌||◌, List, length, filter}
+use Rattle.std.specs.List.{range_with_len}
+use Rattle.cut_net.specs.declared.priced.Priced.{Priced}
+use Rattle.cut_net.specs.Network.{Network}
+use Rattle.cut_net.specs.Cuts.{AreThose, Chain, Outside}
+use Rattle.cut_net.specs.Lines.{removed_by}
+use Rattle.cut_part.specs.Inside.{inside, IsBetween}
+use Rattle.cut_dot.specs.Ends.{is_end}
+use Rattle.cut_dot.specs.Texts.{picture_text}
+
+-- all modules, in order
+abbrev pub numbers : Network → List ℕ
+numbers net = range_with_len 0 (length net.names)
+
+-- the module is in the picture: it is between, or one of the two ends
+abbrev pub is_drawn : ℕ → ℕ → (ℕ → Bool) → ℕ → Bool
+is_drawn a b between m = between m || is_end a b m
+
+-- the modules of the picture, in order
+abbrev pub drawn_modules : Network → ℕ → ℕ → (ℕ → Bool) → List ℕ
+drawn_modules net a b between = filter (is_drawn a b between) (numbers net)
+
+-- the imports of the picture, in order: those whose modules are both between
+abbrev pub drawn_imports : Network → (ℕ → Bool) → List Priced
+drawn_imports net between = filter (inside between) net.imports
+
+-- the import isn't removed
+abbrev pub stays : List Priced → Priced → Bool
+stays printed i = not (removed_by printed i)
+
+-- the modules that a reaches by imports that aren't removed
+abbrev pub AreStillReached : Network → ℕ → List Priced → (ℕ → Bool) → Type 0
+AreStillReached net a printed reached = AreThose reached (Chain net.imports (Outside (removed_by printed)) a)
+
+-- the text is the picture: the modules on a chain from a to b with a and b, the imports among those on a chain, each once, and their marks
+pub record IsPicture (net : Network) (a b : ℕ) (printed flow : List Priced) (text : List ℕ) : Type 0 where
+  -- the modules on a chain from a to b
+  pub between : ℕ → Bool
+  pub are_between : AreThose between (IsBetween net a b)
+  -- those that a still reaches
+  pub reached : ℕ → Bool
+  pub are_reached : AreStillReached net a printed reached
+  -- the lines of these modules and imports
+  pub text_is : text ≡ picture_text net a b printed flow reached (drawn_modules net a b between) (drawn_imports net between)

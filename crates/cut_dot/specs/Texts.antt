@@ -1,0 +1,56 @@
+-- The text of a picture, in the language DOT of Graphviz (graphviz.org, "DOT Language" and "Node, Edge and Graph Attributes").
+use Rattle.std.specs.Prelude.{◌≢◌, ℕ, Bool, true, false, List, [], ◌++◌, codes, All}
+use Rattle.std.specs.List.{flat_map}
+use Rattle.std.specs.Fmt.{decimal}
+use Rattle.cut_net.specs.declared.priced.Priced.{Priced}
+use Rattle.cut_net.specs.Lines.{flow_by, removed_by}
+use Rattle.cut_net.specs.Network.{Network, name_of}
+use Rattle.cut_dot.specs.Ends.{is_end}
+
+-- A and B have a double border
+abbrev pub end_mark : Bool → List ℕ
+end_mark true = codes " [peripheries=2]"
+end_mark false = []
+
+-- a module that is still reached is shaded
+abbrev pub reached_mark : Bool → List ℕ
+reached_mark true = codes " [style=filled]"
+reached_mark false = []
+
+-- a removed import is dashed and red
+abbrev pub removed_mark : Bool → List ℕ
+removed_mark true = codes " [style=dashed, color=red]"
+removed_mark false = []
+
+-- the line of a module: its name between quotation marks, since a bare one might be a keyword, and its marks
+abbrev pub module_line : List ℕ → Bool → Bool → List ℕ
+module_line name end reached = codes "  \"" ++ name ++ codes "\"" ++ end_mark end ++ reached_mark reached ++ codes ";\n"
+
+-- the two names of an import
+abbrev pub ends_text : List ℕ → List ℕ → List ℕ
+ends_text from to = codes "  \"" ++ from ++ codes "\" -> \"" ++ to ++ codes "\""
+
+-- its flow, its weight, and its mark
+abbrev pub label_text : ℕ → ℕ → Bool → List ℕ
+label_text flow weight removed = codes " [label=\"" ++ decimal flow ++ codes "/" ++ decimal weight ++ codes "\"]" ++ removed_mark removed ++ codes ";\n"
+
+-- the line of an import
+abbrev pub import_line : List ℕ → List ℕ → ℕ → ℕ → Bool → List ℕ
+import_line from to flow weight removed = ends_text from to ++ label_text flow weight removed
+
+-- the line of the module of this number, between the ends a and b
+abbrev pub module_at : Network → ℕ → ℕ → (ℕ → Bool) → ℕ → List ℕ
+module_at net a b reached m = module_line (name_of net m) (is_end a b m) (reached m)
+
+-- the line of this import, by the lines of the removed imports and of the flow
+abbrev pub import_at : Network → List Priced → List Priced → Priced → List ℕ
+import_at net printed flow i = import_line (name_of net i.from) (name_of net i.to) (flow_by flow i) i.amount (removed_by printed i)
+
+-- the graph with these modules and these imports
+abbrev pub picture_text : Network → ℕ → ℕ → List Priced → List Priced → (ℕ → Bool) → List ℕ → List Priced → List ℕ
+picture_text net a b printed flow reached modules imports =
+    codes "digraph cut {\n  rankdir=LR;\n" ++ flat_map (module_at net a b reached) modules ++ flat_map (import_at net printed flow) imports ++ codes "}\n"
+
+-- no byte is a quotation mark or a backslash
+abbrev pub NeedsNoEscape : List ℕ → Type 0
+NeedsNoEscape name = All (λ c. (c ≢ 34) × (c ≢ 92)) name
