@@ -3,13 +3,17 @@
 //! Its contract: what an engine puts is what the definitions say of its inputs, and nothing else.
 #![tactic(auto)]
 
-ghost use Rattle.std.specs.Prelude.{◌≡◌, true, false};
-ghost use Rattle.oscip_job.specs.Jobs.{is_tree_job, HasWorkers};
+ghost use Rattle.std.specs.Prelude.{◌≡◌, true};
+ghost use Rattle.oscip_job.specs.Jobs.{is_net_job, is_query_job, is_tree_job, HasWorkers};
 
 use byte_sink::ToWrite;
 use cut_solve::OpenGate;
 use oscip_job::{Job, JobFault, job_of};
-use oscip_run::{RunFault, answer, answer_tree, fault_line, read_file, sources_of, status_of};
+use oscip_run::{
+    RunFault, answer, answer_question, answer_tree, fault_line, read_file, sources_of,
+    status_of_run, status_of_words,
+};
+use std::alloc::Global;
 use std::io::ErrorKind;
 use std::process::ExitCode;
 use std::rt::{Env, Files};
@@ -17,17 +21,13 @@ use std::sync::Wait;
 use std::thread::Threads;
 use std::{env, io};
 
-/// The status of a check that says no.
-const SAYS_NO: u8 = 5;
-
-/// The status of a refused command line.
-const REFUSED: u8 = 2;
-
 /// The bytes of the job's report, and none where it has no report.
 fn report_of<R: Files + AllocGlobal>(rt: &R, job: &Job) -> Result<Vec<u8>, RunFault> {
     match job {
         Job::Check { report, .. } | Job::CheckNet { report, .. } => read_file(rt, report.as_str()),
-        Job::Cut { .. } | Job::CutNet { .. } => Ok(Vec::new(rt.alloc())),
+        Job::Cut { .. } | Job::CutNet { .. } | Job::Def(_) | Job::Refs(_) => {
+            Ok(Vec::new(rt.alloc()))
+        }
     }
 }
 
@@ -36,7 +36,7 @@ fn run_net<R: Files + AllocGlobal + Print + Threads + Wait + Sync>(
     job: &Job,
     network: &str,
 ) -> Result<bool, RunFault>
-    requires network { is_tree_job job.now ≡ false }
+    requires network { is_net_job job.now ≡ true }
     requires workers { HasWorkers job.now }
 {
     let network = read_file(rt, network)?;
@@ -75,6 +75,20 @@ fn run_tree<R: Files + AllocGlobal + Print + Threads + Wait + Sync + Clone + Dro
     )
 }
 
+/// Answers a question. Nothing of it is a check that says no.
+fn run_question<R: Files + AllocGlobal + Print>(
+    rt: &R,
+    job: &Job,
+    index: &str,
+) -> Result<bool, RunFault>
+    requires { is_query_job job.now ≡ true }
+{
+    let index = read_file(rt, index)?;
+    let mut sink = ToWrite::new(io::writer(rt));
+    answer_question(rt.alloc(), job, index.as_slice(), &mut sink)?;
+    Ok(true)
+}
+
 /// Runs the job on the real standard output. Its files are read in the order of the words.
 fn run_job<R: Files + AllocGlobal + Print + Threads + Wait + Sync + Clone + Drop>(
     rt: &R,
@@ -87,21 +101,29 @@ fn run_job<R: Files + AllocGlobal + Print + Threads + Wait + Sync + Clone + Drop
         Job::CutNet { network, .. } | Job::CheckNet { network, .. } => {
             run_net(rt, job, network.as_str())
         }
+        Job::Def(question) | Job::Refs(question) => {
+            run_question(rt, job, question.index.as_str())
+        }
     }
 }
 
-/// Tells of the fault in one line on standard error, and gives its status.
-fn end_by<R: AllocGlobal + Eprint>(rt: &R, fault: &RunFault) -> ExitCode {
-    match fault_line(rt.alloc(), fault) {
+/// Tells of the fault in one line on standard error, and gives the fault that was told of: it, or want of memory.
+fn told<R: AllocGlobal + Eprint>(rt: &R, fault: RunFault) -> RunFault {
+    match fault_line(rt.alloc(), &fault) {
         Ok(line) => {
             let _ = eprint!(rt; "{line}");
-            ExitCode::from(status_of(fault))
+            fault
         }
         Err(_) => {
             let _ = eprintln!(rt; "oscip: Memory");
-            ExitCode::from(status_of(&RunFault::Memory))
+            RunFault::Memory
         }
     }
+}
+
+/// Tells of the fault, and gives the status of the end.
+fn end_by<R: AllocGlobal + Eprint>(rt: &R, fault: RunFault) -> ExitCode {
+    ExitCode::from(status_of_run(&Err(told(rt, fault))))
 }
 
 /// Runs the job, tells of its fault, and gives the status of its end.
@@ -112,9 +134,8 @@ fn end_of_job<R: Files + AllocGlobal + Print + Eprint + Threads + Wait + Sync + 
     requires { HasWorkers job.now }
 {
     match run_job(rt, job) {
-        Ok(true) => ExitCode::SUCCESS,
-        Ok(false) => ExitCode::from(SAYS_NO),
-        Err(fault) => end_by(rt, &fault),
+        Ok(agrees) => ExitCode::from(status_of_run(&Ok(agrees))),
+        Err(fault) => end_by(rt, fault),
     }
 }
 
@@ -123,14 +144,17 @@ fn end_without_job<R: AllocGlobal + Print + Eprint>(rt: &R, fault: &JobFault) ->
     match fault {
         JobFault::Line { text } => {
             let _ = eprint!(rt; "{text}");
-            ExitCode::from(REFUSED)
         }
-        JobFault::Help { text } => match print!(rt; "{text}") {
-            Ok(()) => ExitCode::SUCCESS,
-            Err(_) => end_by(rt, &RunFault::Device),
-        },
-        JobFault::Memory => end_by(rt, &RunFault::Memory),
+        JobFault::Help { text } => {
+            if print!(rt; "{text}").is_err() {
+                return end_by(rt, RunFault::Device);
+            }
+        }
+        JobFault::Memory => {
+            let _ = eprintln!(rt; "oscip: Memory");
+        }
     }
+    ExitCode::from(status_of_words(fault))
 }
 
 fn run<R: Files + AllocGlobal + Print + Eprint + Threads + Wait + Sync + Clone + Drop>(
@@ -143,6 +167,14 @@ fn run<R: Files + AllocGlobal + Print + Eprint + Threads + Wait + Sync + Clone +
     }
 }
 
+/// Why there is no job where a word of the command line isn't UTF-8.
+fn not_words(alloc: Global) -> JobFault {
+    match String::from_str(alloc, "error: a word of the command line isn't UTF-8\n") {
+        Ok(text) => JobFault::Line { text },
+        Err(_) => JobFault::Memory,
+    }
+}
+
 /// The words of the command line, the program's name first.
 fn words_of<R: Env + AllocGlobal>(rt: &R) -> io::Result<Vec<String>> {
     let words = env::args(rt)?;
@@ -152,10 +184,7 @@ fn words_of<R: Env + AllocGlobal>(rt: &R) -> io::Result<Vec<String>> {
 fn main(rt: HostRuntime) -> ExitCode {
     match words_of(&rt) {
         Ok(words) => run(&rt, words.as_slice()),
-        Err(error) if error.kind() == ErrorKind::OutOfMemory => end_by(&rt, &RunFault::Memory),
-        Err(_) => {
-            let _ = eprintln!(rt; "error: a word of the command line isn't UTF-8");
-            ExitCode::from(REFUSED)
-        }
+        Err(error) if error.kind() == ErrorKind::OutOfMemory => end_by(&rt, RunFault::Memory),
+        Err(_) => end_without_job(&rt, &not_words(rt.alloc())),
     }
 }

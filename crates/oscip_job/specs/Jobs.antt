@@ -6,7 +6,8 @@ use Rattle.clap.specs.Words.{App, Row, Text, first_of, one_of, new_app, new_rule
 use Rattle.clap.specs.Walk.{Rule}
 use Rattle.clap.specs.declared.builder.value_parser.ValueParser.TheVariants as parsers
 use Rattle.oscip_job.specs.declared.job.Job.{Job}
-use Rattle.oscip_job.specs.declared.job.Job.TheVariants.{Cut, Check, CutNet, CheckNet}
+use Rattle.oscip_job.specs.declared.job.Job.TheVariants.{Cut, Check, CutNet, CheckNet, Def, Refs}
+use Rattle.oscip_job.specs.declared.job.Question.{Question}
 
 -- an argument that has to be given
 abbrev pub required_rule : Text → Rule
@@ -45,13 +46,35 @@ cut_net_app = with_workers (with_modules (with_rule (new_app (codes "cut-net")) 
 abbrev pub check_net_app : App
 check_net_app = with_rule (with_rule (new_app (codes "check-net")) (required_rule (codes "FILE"))) (required_rule (codes "REPORT"))
 
--- the program, one of whose commands has to be given
+-- a number from 0 to 2147483647 that has to be given
+abbrev pub number_rule : Text → Rule
+number_rule id = record (new_rule id) { required = true; parser = Some (parsers.Signed (pos 0) (pos 2147483647)) }
+
+-- LINE COL
+abbrev pub with_position : App → App
+with_position app = with_rule (with_rule app (number_rule (codes "LINE"))) (number_rule (codes "COL"))
+
+-- a command of this name, INDEX PATH LINE COL
+abbrev pub asking_app : Text → App
+asking_app name = with_position (with_rule (with_rule (new_app name) (required_rule (codes "INDEX"))) (required_rule (codes "PATH")))
+
+-- def INDEX PATH LINE COL
+abbrev pub def_app : App
+def_app = asking_app (codes "def")
+
+-- refs INDEX PATH LINE COL
+abbrev pub refs_app : App
+refs_app = asking_app (codes "refs")
+
+-- the program, which tells its version, and one of whose commands has to be given
 abbrev pub program_app : App
-program_app = record (new_app (codes "oscip")) { top = record (new_app (codes "oscip")).top { subcommand_required = true } }
+program_app = record (new_app (codes "oscip")) { top = record (new_app (codes "oscip")).top { subcommand_required = true; has_version = true } }
 
 -- the program and its commands
 abbrev pub oscip : App
-oscip = with_subcommand (with_subcommand (with_subcommand (with_subcommand program_app cut_app.top) check_app.top) cut_net_app.top) check_net_app.top
+oscip =
+    with_subcommand (with_subcommand (with_subcommand (with_subcommand (with_subcommand (with_subcommand program_app cut_app.top) check_app.top) cut_net_app.top) check_net_app.top)
+    def_app.top) refs_app.top
 
 -- the text that was found for an argument
 abbrev pub Finds : List Row → Text → Text → Type 0
@@ -66,9 +89,26 @@ FindsNumber rows id n =
 abbrev pub MayWork : ℕ → Type 0
 MayWork workers = (1 ≤ workers) × (workers ≤ 64)
 
--- what was found for --workers are numbers from 1 to 64
+-- what was found for an argument are numbers from the one to the other
+abbrev pub NamesWithin : Text → ℕ → ℕ → List Row → Type 0
+NamesWithin id least most rows = (n : ℕ) → n < 2 ^ 32 → FindsNumber rows id n → (least ≤ n) × (n ≤ most)
+
+-- those of --workers are 1 to 64
 abbrev pub NamesWorkers : List Row → Type 0
-NamesWorkers rows = (n : ℕ) → n < 2 ^ 32 → FindsNumber rows (codes "workers") n → MayWork n
+NamesWorkers rows = NamesWithin (codes "workers") 1 64 rows
+
+-- those of LINE and COL are 0 to 2147483647
+abbrev pub NamesPosition : List Row → Type 0
+NamesPosition rows = NamesWithin (codes "LINE") 0 2147483647 rows × NamesWithin (codes "COL") 0 2147483647 rows
+
+abbrev pub NamesNumbers : List Row → Type 0
+NamesNumbers rows = NamesWorkers rows × NamesPosition rows
+
+-- the question holds the values that were found for its arguments
+abbrev pub HasQuestion : List Row → Question → Type 0
+HasQuestion rows q =
+    Finds rows (codes "INDEX") (string_bytes q.index) × Finds rows (codes "PATH") (string_bytes q.path)
+    × FindsNumber rows (codes "LINE") q.line × FindsNumber rows (codes "COL") q.column
 
 -- the job holds the values that were found for its arguments
 abbrev pub HasValues : List Row → Job → Type 0
@@ -80,6 +120,8 @@ HasValues rows (CutNet network from to workers) =
     Finds rows (codes "FILE") (string_bytes network) × Finds rows (codes "A") (string_bytes from) × Finds rows (codes "B") (string_bytes to)
     × FindsNumber rows (codes "workers") workers
 HasValues rows (CheckNet network report) = Finds rows (codes "FILE") (string_bytes network) × Finds rows (codes "REPORT") (string_bytes report)
+HasValues rows (Def question) = HasQuestion rows question
+HasValues rows (Refs question) = HasQuestion rows question
 
 -- the word that names the command
 abbrev pub command_name : Job → Text
@@ -87,6 +129,8 @@ command_name (Cut folder from to workers) = codes "cut"
 command_name (Check folder report) = codes "check"
 command_name (CutNet network from to workers) = codes "cut-net"
 command_name (CheckNet network report) = codes "check-net"
+command_name (Def question) = codes "def"
+command_name (Refs question) = codes "refs"
 
 -- the command that clap found is the job's, with its values
 abbrev pub Holds : Option (Text × List Row) → Job → Type 0
@@ -99,6 +143,26 @@ is_tree_job (Cut folder from to workers) = true
 is_tree_job (Check folder report) = true
 is_tree_job (CutNet network from to workers) = false
 is_tree_job (CheckNet network report) = false
+is_tree_job (Def question) = false
+is_tree_job (Refs question) = false
+
+-- the job reads the lines of a network
+abbrev pub is_net_job : Job → Bool
+is_net_job (Cut folder from to workers) = false
+is_net_job (Check folder report) = false
+is_net_job (CutNet network from to workers) = true
+is_net_job (CheckNet network report) = true
+is_net_job (Def question) = false
+is_net_job (Refs question) = false
+
+-- the job asks an index
+abbrev pub is_query_job : Job → Bool
+is_query_job (Cut folder from to workers) = false
+is_query_job (Check folder report) = false
+is_query_job (CutNet network from to workers) = false
+is_query_job (CheckNet network report) = false
+is_query_job (Def question) = true
+is_query_job (Refs question) = true
 
 -- the job's workers, where it has them, are 1 to 64
 abbrev pub HasWorkers : Job → Type 0
@@ -106,3 +170,18 @@ HasWorkers (Cut folder from to workers) = MayWork workers
 HasWorkers (Check folder report) = Unit {0}
 HasWorkers (CutNet network from to workers) = MayWork workers
 HasWorkers (CheckNet network report) = Unit {0}
+HasWorkers (Def question) = Unit {0}
+HasWorkers (Refs question) = Unit {0}
+
+-- the position's line and column are at most 2147483647
+abbrev pub IsPositionOf : Question → Type 0
+IsPositionOf q = (q.line ≤ 2147483647) × (q.column ≤ 2147483647)
+
+-- so those of the job, where it has them
+abbrev pub HasPosition : Job → Type 0
+HasPosition (Cut folder from to workers) = Unit {0}
+HasPosition (Check folder report) = Unit {0}
+HasPosition (CutNet network from to workers) = Unit {0}
+HasPosition (CheckNet network report) = Unit {0}
+HasPosition (Def question) = IsPositionOf question
+HasPosition (Refs question) = IsPositionOf question

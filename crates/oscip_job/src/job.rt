@@ -1,9 +1,9 @@
 //! What the words of a command line ask for.
-ghost use Rattle.std.specs.Prelude.{◌≡◌, IfOk, IfSome, codes, map, false};
+ghost use Rattle.std.specs.Prelude.{◌≡◌, ◌≤◌, IfOk, IfSome, codes, map, false};
 ghost use Rattle.std.specs.String.{string_bytes};
 ghost use Rattle.clap.specs.Words.{app_of, found_of, kind_of, new_app, rows_of, subcommand_of, subcommand_rows_of, with_rule, with_subcommand, App};
 ghost use Rattle.clap.specs.declared.Command.TheViews.{out-Command as fields_of};
-ghost use Rattle.oscip_job.specs.Jobs.{check_app, check_net_app, cut_app, cut_net_app, oscip, required_rule, with_modules, with_workers, Finds, FindsNumber, HasWorkers, Holds, MayWork, NamesWorkers};
+ghost use Rattle.oscip_job.specs.Jobs.{asking_app, check_app, check_net_app, cut_app, cut_net_app, def_app, number_rule, oscip, refs_app, required_rule, with_modules, with_position, with_workers, Finds, FindsNumber, HasPosition, HasQuestion, HasWorkers, Holds, IsPositionOf, MayWork, NamesNumbers, NamesPosition, NamesWithin, NamesWorkers};
 
 use clap::error::ErrorKind;
 use clap::{Arg, ArgMatches, Command, value_parser};
@@ -16,6 +16,53 @@ const FOLDER_HELP: &str =
 
 /// What help says of a network.
 const NETWORK_HELP: &str = "The network: lines `module M` and `import M N w`";
+
+/// What `--version` tells behind the program's name.
+const VERSION: &str = "0.1.0";
+
+/// What stands at the end of the program's help.
+const PROGRAM_END: &str = "Example: oscip cut examples/editor Edit Net{n}{n}\
+    `oscip COMMAND --help` has an example of each command and the statuses that it ends with.";
+
+/// What stands at the end of the help of a command that cuts.
+const CUT_END: &str = "Example: oscip cut examples/editor Edit Net{n}{n}\
+    Status: 0 the report is printed, 1 a module or a name is refused, 2 the command line is refused,{n}\
+    3 a file can't be read or standard output takes nothing, 4 memory ran out";
+
+const CUT_NET_END: &str = "Example: oscip cut-net examples/six.net A B{n}{n}\
+    Status: 0 the report is printed, 1 the network or a name is refused, 2 the command line is refused,{n}\
+    3 a file can't be read or standard output takes nothing, 4 memory ran out";
+
+/// What stands at the end of the help of a command that checks.
+const CHECK_END: &str = "Example: oscip check examples/editor edit.cut{n}{n}\
+    Status: 0 yes, 5 no, 1 a module or the report is refused, 2 the command line is refused,{n}\
+    3 a file can't be read or standard output takes nothing, 4 memory ran out";
+
+const CHECK_NET_END: &str = "Example: oscip check-net examples/six.net examples/six.cut{n}{n}\
+    Status: 0 yes, 5 no, 1 the network or the report is refused, 2 the command line is refused,{n}\
+    3 a file can't be read or standard output takes nothing, 4 memory ran out";
+
+/// What stands at the end of the help of a question to an index.
+const DEF_END: &str = "Example: oscip def examples/foreign.scip src/view.ts 2 19{n}{n}\
+    Status: 0 the places are printed, 1 the index or the path is refused, 2 the command line is refused,{n}\
+    3 a file can't be read or standard output takes nothing, 4 memory ran out";
+
+const REFS_END: &str = "Example: oscip refs examples/foreign.scip src/view.ts 2 19{n}{n}\
+    Status: 0 the places are printed, 1 the index or the path is refused, 2 the command line is refused,{n}\
+    3 a file can't be read or standard output takes nothing, 4 memory ran out";
+
+/// What is asked of an index.
+#[derive(Drop)]
+pub struct Question {
+    /// The path of the index's file.
+    pub index: String,
+    /// The path of a document, as the index has it.
+    pub path: String,
+    /// A line of it, from 0 to 2,147,483,647.
+    pub line: u32,
+    /// A column of that line, from 0 to 2,147,483,647.
+    pub column: u32,
+}
 
 /// A command with the values of its words.
 #[derive(Drop)]
@@ -46,6 +93,10 @@ pub enum Job {
         network: String,
         report: String,
     },
+    /// Tells where the symbol at a position is defined.
+    Def(Question),
+    /// Tells where the symbol at a position is used and not defined.
+    Refs(Question),
 }
 
 /// Why there is no job.
@@ -54,7 +105,7 @@ pub enum JobFault {
     /// The command line is refused, and this text says why.
     #[error("{text}")]
     Line { text: String },
-    /// Help was asked for, and this is its text.
+    /// Help or the version was asked for, and this is its text.
     #[error("{text}")]
     Help { text: String },
     /// A growth of memory was refused.
@@ -119,13 +170,14 @@ fn cutting<'a>(
     alloc: Global,
     name: &'a str,
     about: &'a str,
+    end: &'a str,
     id: &'a str,
     help: &'a str,
 ) -> Result<Command<'a>, AllocError>
     ensures app { IfOk result (λ c. app_of c ≡ with_workers (with_modules (with_rule (new_app name.entry.now) (required_rule id.entry.now)))) }
     ensures local { IfOk result (λ c. (fields_of c).has_globals ≡ false) }
 {
-    let command = Command::new(alloc, name).about(about);
+    let command = Command::new(alloc, name).about(about).after_help(end);
     let command = with_required(alloc, command, id, help)?;
     let command = with_modules(alloc, command)?;
     with_workers(alloc, command)
@@ -136,6 +188,7 @@ fn checking<'a>(
     alloc: Global,
     name: &'a str,
     about: &'a str,
+    end: &'a str,
     id: &'a str,
     help: &'a str,
     report_help: &'a str,
@@ -143,7 +196,7 @@ fn checking<'a>(
     ensures app { IfOk result (λ c. app_of c ≡ with_rule (with_rule (new_app name.entry.now) (required_rule id.entry.now)) (required_rule (codes "REPORT"))) }
     ensures local { IfOk result (λ c. (fields_of c).has_globals ≡ false) }
 {
-    let command = Command::new(alloc, name).about(about);
+    let command = Command::new(alloc, name).about(about).after_help(end);
     let command = with_required(alloc, command, id, help)?;
     with_required(alloc, command, "REPORT", report_help)
 }
@@ -156,6 +209,7 @@ fn cut_command<'a>(alloc: Global) -> Result<Command<'a>, AllocError>
         alloc,
         "cut",
         "Find a cheapest set of imports of Oberon-07 modules to remove so that A no longer reaches B, with a flow that proves it",
+        CUT_END,
         "DIR",
         FOLDER_HELP,
     )
@@ -169,6 +223,7 @@ fn check_command<'a>(alloc: Global) -> Result<Command<'a>, AllocError>
         alloc,
         "check",
         "Check a report's proof that its cut of Oberon-07 modules is cheapest",
+        CHECK_END,
         "DIR",
         FOLDER_HELP,
         "The report of a cut between two of the modules",
@@ -183,6 +238,7 @@ fn cut_net_command<'a>(alloc: Global) -> Result<Command<'a>, AllocError>
         alloc,
         "cut-net",
         "Find a cheapest set of imports to remove so that A no longer reaches B, with a flow that proves it",
+        CUT_NET_END,
         "FILE",
         NETWORK_HELP,
     )
@@ -196,9 +252,96 @@ fn check_net_command<'a>(alloc: Global) -> Result<Command<'a>, AllocError>
         alloc,
         "check-net",
         "Check a report's proof that its cut of a network is cheapest",
+        CHECK_NET_END,
         "FILE",
         NETWORK_HELP,
         "The report of a cut between two of its modules",
+    )
+}
+
+/// The command with one more number that has to be given, from 0 to 2,147,483,647.
+fn with_number<'a>(
+    alloc: Global,
+    command: Command<'a>,
+    id: &'a str,
+    help: &'a str,
+) -> Result<Command<'a>, AllocError>
+    ensures app { IfOk result (λ c. app_of c ≡ with_rule (app_of command.entry) (number_rule id.entry.now)) }
+    ensures local { IfOk result (λ c. (fields_of command.entry).has_globals ≡ false → (fields_of c).has_globals ≡ false) }
+{
+    let number = Arg::new(alloc, id)
+        .required(true)
+        .value_parser(value_parser!(u32).range(0..=2147483647))
+        .help(help);
+    command.arg(number)
+}
+
+/// The command with the line and the column of a position.
+fn with_position<'a>(alloc: Global, command: Command<'a>) -> Result<Command<'a>, AllocError>
+    ensures app { IfOk result (λ c. app_of c ≡ with_position (app_of command.entry)) }
+    ensures local { IfOk result (λ c. (fields_of command.entry).has_globals ≡ false → (fields_of c).has_globals ≡ false) }
+{
+    let command = with_number(
+        alloc,
+        command,
+        "LINE",
+        "A line of the document, counted from 0",
+    )?;
+    with_number(
+        alloc,
+        command,
+        "COL",
+        "A column of that line, counted from 0 in the units of the index",
+    )
+}
+
+/// The command of this name with a question's words: the index, a document of it, and a position in that.
+fn asking<'a>(
+    alloc: Global,
+    name: &'a str,
+    about: &'a str,
+    end: &'a str,
+) -> Result<Command<'a>, AllocError>
+    ensures app { IfOk result (λ c. app_of c ≡ asking_app name.entry.now) }
+    ensures local { IfOk result (λ c. (fields_of c).has_globals ≡ false) }
+{
+    let command = Command::new(alloc, name).about(about).after_help(end);
+    let command = with_required(
+        alloc,
+        command,
+        "INDEX",
+        "The file of an index in the SCIP format",
+    )?;
+    let command = with_required(
+        alloc,
+        command,
+        "PATH",
+        "The path of a document, as the index has it",
+    )?;
+    with_position(alloc, command)
+}
+
+fn def_command<'a>(alloc: Global) -> Result<Command<'a>, AllocError>
+    ensures app { IfOk result (λ c. app_of c ≡ def_app) }
+    ensures local { IfOk result (λ c. (fields_of c).has_globals ≡ false) }
+{
+    asking(
+        alloc,
+        "def",
+        "Tell where the symbol at a position is defined, by an index in the SCIP format",
+        DEF_END,
+    )
+}
+
+fn refs_command<'a>(alloc: Global) -> Result<Command<'a>, AllocError>
+    ensures app { IfOk result (λ c. app_of c ≡ refs_app) }
+    ensures local { IfOk result (λ c. (fields_of c).has_globals ≡ false) }
+{
+    asking(
+        alloc,
+        "refs",
+        "Tell where the symbol at a position is used and not defined, by an index in the SCIP format",
+        REFS_END,
     )
 }
 
@@ -229,14 +372,27 @@ fn with_nets<'a>(alloc: Global, program: Command<'a>) -> Result<Command<'a>, All
     with_sub(program, check_net_command(alloc))
 }
 
+/// The program with the commands on indexes.
+fn with_indexes<'a>(alloc: Global, program: Command<'a>) -> Result<Command<'a>, AllocError>
+    ensures { IfOk result (λ c. app_of c ≡ with_subcommand (with_subcommand (app_of program.entry) def_app.top) refs_app.top) }
+{
+    let program = with_sub(program, def_command(alloc))?;
+    with_sub(program, refs_command(alloc))
+}
+
 fn command<'a>(alloc: Global) -> Result<Command<'a>, AllocError>
     ensures { IfOk result (λ c. app_of c ≡ oscip) }
 {
     let program = Command::new(alloc, "oscip")
-        .about("Finds and checks cheapest decoupling cuts of Oberon-07 modules")
+        .about(
+            "Finds and checks cheapest decoupling cuts of Oberon-07 modules, and answers questions to indexes in the SCIP format",
+        )
+        .version(VERSION)
+        .after_help(PROGRAM_END)
         .subcommand_required(true);
     let program = with_trees(alloc, program)?;
-    with_nets(alloc, program)
+    let program = with_nets(alloc, program)?;
+    with_indexes(alloc, program)
 }
 
 fn refused(alloc: Global) -> JobFault {
@@ -270,6 +426,7 @@ fn cut_job(alloc: Global, found: &ArgMatches<'_>) -> Result<Job, JobFault>
     requires { NamesWorkers (rows_of (found_of found.now)) }
     ensures values { IfOk result (Holds (Some (codes "cut", rows_of (found_of found.now)))) }
     ensures workers { IfOk result HasWorkers }
+    ensures position { IfOk result HasPosition }
 {
     let folder = value_of(alloc, found, "DIR")?;
     let from = value_of(alloc, found, "A")?;
@@ -287,6 +444,7 @@ fn cut_net_job(alloc: Global, found: &ArgMatches<'_>) -> Result<Job, JobFault>
     requires { NamesWorkers (rows_of (found_of found.now)) }
     ensures values { IfOk result (Holds (Some (codes "cut-net", rows_of (found_of found.now)))) }
     ensures workers { IfOk result HasWorkers }
+    ensures position { IfOk result HasPosition }
 {
     let network = value_of(alloc, found, "FILE")?;
     let from = value_of(alloc, found, "A")?;
@@ -303,6 +461,7 @@ fn cut_net_job(alloc: Global, found: &ArgMatches<'_>) -> Result<Job, JobFault>
 fn check_job(alloc: Global, found: &ArgMatches<'_>) -> Result<Job, JobFault>
     ensures values { IfOk result (Holds (Some (codes "check", rows_of (found_of found.now)))) }
     ensures workers { IfOk result HasWorkers }
+    ensures position { IfOk result HasPosition }
 {
     let folder = value_of(alloc, found, "DIR")?;
     let report = value_of(alloc, found, "REPORT")?;
@@ -312,16 +471,66 @@ fn check_job(alloc: Global, found: &ArgMatches<'_>) -> Result<Job, JobFault>
 fn check_net_job(alloc: Global, found: &ArgMatches<'_>) -> Result<Job, JobFault>
     ensures values { IfOk result (Holds (Some (codes "check-net", rows_of (found_of found.now)))) }
     ensures workers { IfOk result HasWorkers }
+    ensures position { IfOk result HasPosition }
 {
     let network = value_of(alloc, found, "FILE")?;
     let report = value_of(alloc, found, "REPORT")?;
     Ok(Job::CheckNet { network, report })
 }
 
+/// A number of a position, as `clap` found it.
+fn number_of(alloc: Global, found: &ArgMatches<'_>, id: &str) -> Result<u32, JobFault>
+    requires { NamesWithin id.now 0 2147483647 (rows_of (found_of found.now)) }
+    ensures value { IfOk result (FindsNumber (rows_of (found_of found.now)) id.now) }
+    ensures within { IfOk result (λ number. number ≤ 2147483647) }
+{
+    match found.get_one::<u32>(id) {
+        None => Err(refused(alloc)),
+        Some(number) => Ok(number),
+    }
+}
+
+/// The question of a command on indexes.
+fn question_of(alloc: Global, found: &ArgMatches<'_>) -> Result<Question, JobFault>
+    requires { NamesPosition (rows_of (found_of found.now)) }
+    ensures values { IfOk result (HasQuestion (rows_of (found_of found.now))) }
+    ensures position { IfOk result IsPositionOf }
+{
+    let line = number_of(alloc, found, "LINE")?;
+    let column = number_of(alloc, found, "COL")?;
+    let index = value_of(alloc, found, "INDEX")?;
+    let path = value_of(alloc, found, "PATH")?;
+    Ok(Question {
+        index,
+        path,
+        line,
+        column,
+    })
+}
+
+fn def_job(alloc: Global, found: &ArgMatches<'_>) -> Result<Job, JobFault>
+    requires { NamesPosition (rows_of (found_of found.now)) }
+    ensures values { IfOk result (Holds (Some (codes "def", rows_of (found_of found.now)))) }
+    ensures workers { IfOk result HasWorkers }
+    ensures position { IfOk result HasPosition }
+{
+    Ok(Job::Def(question_of(alloc, found)?))
+}
+
+fn refs_job(alloc: Global, found: &ArgMatches<'_>) -> Result<Job, JobFault>
+    requires { NamesPosition (rows_of (found_of found.now)) }
+    ensures values { IfOk result (Holds (Some (codes "refs", rows_of (found_of found.now)))) }
+    ensures workers { IfOk result HasWorkers }
+    ensures position { IfOk result HasPosition }
+{
+    Ok(Job::Refs(question_of(alloc, found)?))
+}
+
 fn job_from(alloc: Global, matches: &ArgMatches<'_>) -> Result<Job, JobFault>
-    requires { IfSome (subcommand_rows_of matches.now) (λ found. NamesWorkers found.1) }
+    requires { IfSome (subcommand_rows_of matches.now) (λ found. NamesNumbers found.1) }
     ensures values { IfOk result (Holds (subcommand_rows_of matches.now)) }
     ensures workers { IfOk result HasWorkers }
+    ensures position { IfOk result HasPosition }
 {
     let Some((name, found)) = matches.subcommand() else {
         return Err(refused(alloc));
@@ -337,6 +546,12 @@ fn job_from(alloc: Global, matches: &ArgMatches<'_>) -> Result<Job, JobFault>
     }
     if name == "check-net" {
         return check_net_job(alloc, found);
+    }
+    if name == "def" {
+        return def_job(alloc, found);
+    }
+    if name == "refs" {
+        return refs_job(alloc, found);
     }
     Err(refused(alloc))
 }
@@ -360,12 +575,14 @@ fn fault_from(alloc: Global, error: &clap::Error) -> JobFault
 }
 
 /// The job that the words ask for, the program's name first. Refuses with Line where `clap` refuses them, with Help
-/// where they ask for it, and with Memory.
+/// where they ask for help or the version, and with Memory.
 pub fn job_of(alloc: Global, words: &[String]) -> Result<Job, JobFault>
     // The job has the values that `clap` finds for the words.
     ensures values { IfOk result (Holds (subcommand_of oscip (map string_bytes words.now))) }
     // Its workers, where it has them, are 1 to 64.
     ensures workers { IfOk result HasWorkers }
+    // Its line and its column, where it has them, are at most 2,147,483,647.
+    ensures position { IfOk result HasPosition }
 {
     let command = command(alloc)?;
     match command.try_get_matches_from(words) {

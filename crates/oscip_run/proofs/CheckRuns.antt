@@ -122,6 +122,7 @@ run_of IsOf IsRefused n is report old new (Err (run.Report fault)) h =
     let of = refused.2 in
     ((refused.0, refused.1, (of.0, subst IsOf (sym of.1) is, of.2)), h.1)
 run_of IsOf IsRefused n is report old new (Err (run.Solve fault)) h = absurd h
+run_of IsOf IsRefused n is report old new (Err (run.Query fault)) h = absurd h
 run_of IsOf IsRefused n is report old new (Err run.Device) h = front_of IsOf n is report old new h
 run_of IsOf IsRefused n is report old new (Err run.Memory) (inl h) = inl h
 run_of IsOf IsRefused n is report old new (Err run.Memory) (inr h) = inr (front_of IsOf n is report old new h)

@@ -105,6 +105,7 @@ run_of IsOf IsRefused n is first second old new (Err (run.Solve fault)) h =
     let refused = h.0 in
     let of = refused.2 in
     ((refused.0, refused.1, (of.0, subst IsOf (sym of.1) is, of.2)), h.1)
+run_of IsOf IsRefused n is first second old new (Err (run.Query fault)) h = absurd h
 run_of IsOf IsRefused n is first second old new (Err run.Device) h = front_of IsOf n is first second old new h
 run_of IsOf IsRefused n is first second old new (Err run.Memory) (inl h) = inl h
 run_of IsOf IsRefused n is first second old new (Err run.Memory) (inr h) = inr (front_of IsOf n is first second old new h)

@@ -17,5 +17,6 @@ no_refusal sources net (runs.Tree fault) of h = false≢true (sym h.0 ∙ no_tre
 no_refusal sources net (runs.Net fault) of h = h
 no_refusal sources net (runs.Report fault) of h = h
 no_refusal sources net (runs.Solve fault) of h = h
+no_refusal sources net (runs.Query fault) of h = h
 no_refusal sources net runs.Device of h = h
 no_refusal sources net runs.Memory of h = h

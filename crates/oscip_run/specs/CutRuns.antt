@@ -10,7 +10,7 @@ use Rattle.cut_net.specs.Said.{CutOf}
 use Rattle.byte_sink.specs.Sinks.{AppendsFront}
 use Rattle.cut_solve.specs.Solving.{outcome_of as solve_outcome_of, IsSolveOutcome, SolveOutcome}
 use Rattle.oscip_run.specs.declared.fault.RunFault.{RunFault}
-use Rattle.oscip_run.specs.declared.fault.RunFault.TheVariants.{CannotRead, CannotWrite, Tree, Net, Report, Solve, Device, Memory}
+use Rattle.oscip_run.specs.declared.fault.RunFault.TheVariants.{CannotRead, CannotWrite, Tree, Net, Report, Solve, Query, Device, Memory}
 
 -- The headline, as a run of any number of workers with any gate leaves it in the sink; the network is that of the accepted
 -- input, a tree or the lines of a network:
@@ -77,5 +77,6 @@ IsCutRun IsOf IsRefused first second old new (Err (Net fault)) = IsRefused (Net 
 IsCutRun IsOf IsRefused first second old new (Err (Report fault)) = ⊥
 IsCutRun IsOf IsRefused first second old new (Err (Solve fault)) =
     ((outcome : SolveOutcome) × (solve_outcome_of (Err fault) ≡ Some outcome) × IsRefusedNames IsOf first second outcome) × Keeps old new
+IsCutRun IsOf IsRefused first second old new (Err (Query fault)) = ⊥
 IsCutRun IsOf IsRefused first second old new (Err Device) = PutsCutFront IsOf first second old new
 IsCutRun IsOf IsRefused first second old new (Err Memory) = Keeps old new ⊎ PutsCutFront IsOf first second old new

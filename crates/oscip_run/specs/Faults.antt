@@ -13,7 +13,10 @@ use Rattle.byte_sink.specs.declared.sink.SinkFault.TheVariants as sink
 use Rattle.cut_solve.specs.declared.fault.SolveFault.{SolveFault}
 use Rattle.cut_solve.specs.declared.fault.SolveFault.TheVariants as solve
 use Rattle.oscip_run.specs.declared.fault.RunFault.{RunFault}
-use Rattle.oscip_run.specs.declared.fault.RunFault.TheVariants.{CannotRead, CannotWrite, Tree, Net, Report, Solve, Device, Memory}
+use Rattle.oscip_query.specs.Faults.{query_fault_text, query_status}
+use Rattle.oscip_query.specs.declared.fault.QueryFault.{QueryFault}
+use Rattle.oscip_query.specs.declared.fault.QueryFault.TheVariants as query
+use Rattle.oscip_run.specs.declared.fault.RunFault.TheVariants.{CannotRead, CannotWrite, Tree, Net, Report, Solve, Query, Device, Memory}
 use Rattle.oscip_tree.specs.declared.tree.TreeFault.{TreeFault}
 use Rattle.oscip_tree.specs.TreeFaults.{after_space, tree_fault_text, wants_memory}
 
@@ -42,6 +45,12 @@ abbrev pub of_solve : SolveFault → RunFault
 of_solve solve.SameModule = Solve solve.SameModule
 of_solve (solve.NoSuchModule name) = Solve (solve.NoSuchModule name)
 of_solve solve.Memory = Memory
+
+abbrev pub of_query : QueryFault → RunFault
+of_query (query.Wire fault) = Query (query.Wire fault)
+of_query query.NoDocument = Query query.NoDocument
+of_query query.Device = Device
+of_query query.Memory = Memory
 
 abbrev pub of_sink : SinkFault → RunFault
 of_sink sink.Memory = Memory
@@ -76,6 +85,7 @@ fault_text (Tree fault) = tree_fault_text fault
 fault_text (Net fault) = net_fault_text fault
 fault_text (Report fault) = report_fault_text fault
 fault_text (Solve fault) = solve_fault_text fault
+fault_text (Query fault) = query_fault_text fault
 fault_text Device = codes "cannot write"
 fault_text Memory = codes "Memory"
 
@@ -111,6 +121,7 @@ status_number (Tree fault) = tree_status fault
 status_number (Net fault) = net_status fault
 status_number (Report fault) = report_status fault
 status_number (Solve fault) = solve_status fault
+status_number (Query fault) = query_status fault
 status_number Device = 3
 status_number Memory = 4
 
@@ -122,6 +133,7 @@ is_device (Tree fault) = false
 is_device (Net fault) = false
 is_device (Report fault) = false
 is_device (Solve fault) = false
+is_device (Query fault) = false
 is_device Device = true
 is_device Memory = false
 
@@ -133,5 +145,6 @@ IsReadFault (Tree fault) = ⊥
 IsReadFault (Net fault) = ⊥
 IsReadFault (Report fault) = ⊥
 IsReadFault (Solve fault) = ⊥
+IsReadFault (Query fault) = ⊥
 IsReadFault Device = ⊥
 IsReadFault Memory = Unit {0}

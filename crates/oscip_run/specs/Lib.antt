@@ -2,3 +2,6 @@ pub mod CutRuns
 pub mod Faults
 pub mod Runs
 pub mod JobRuns
+pub mod Endings
+pub mod Files
+pub mod AskedRuns

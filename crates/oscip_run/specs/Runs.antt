@@ -15,7 +15,7 @@ use Rattle.cut_check.specs.declared.verdict.Verdict.{Verdict}
 use Rattle.cut_check.specs.declared.verdict.Verdict.TheVariants.{Yes, NoSuchImport, StillChain, WrongWeight, OverWeight, NotKept, WrongValue}
 use Rattle.cut_check.specs.Verdicts.{IsVerdict}
 use Rattle.oscip_run.specs.declared.fault.RunFault.{RunFault}
-use Rattle.oscip_run.specs.declared.fault.RunFault.TheVariants.{CannotRead, CannotWrite, Tree, Net, Report, Solve, Device, Memory}
+use Rattle.oscip_run.specs.declared.fault.RunFault.TheVariants.{CannotRead, CannotWrite, Tree, Net, Report, Solve, Query, Device, Memory}
 use Rattle.oscip_tree.specs.declared.source.Source.{Source}
 use Rattle.oscip_tree.specs.TreeFaults.{wants_memory}
 use Rattle.oscip_tree.specs.Trees.{IsTreeFault}
@@ -32,6 +32,7 @@ IsRefusedText text (Tree fault) = ⊥
 IsRefusedText text (Net fault) = (outcome : nets.NetOutcome) × (net_outcome_of (Err fault) ≡ Some outcome) × IsNetOutcome text outcome
 IsRefusedText text (Report fault) = ⊥
 IsRefusedText text (Solve fault) = ⊥
+IsRefusedText text (Query fault) = ⊥
 IsRefusedText text Device = ⊥
 IsRefusedText text Memory = ⊥
 
@@ -43,6 +44,7 @@ IsRefusedTree sources (Tree fault) = (wants_memory fault ≡ false) × IsTreeFau
 IsRefusedTree sources (Net fault) = ⊥
 IsRefusedTree sources (Report fault) = ⊥
 IsRefusedTree sources (Solve fault) = ⊥
+IsRefusedTree sources (Query fault) = ⊥
 IsRefusedTree sources Device = ⊥
 IsRefusedTree sources Memory = ⊥
 
@@ -110,5 +112,6 @@ IsCheckRun IsOf IsRefused report old new (Err (Net fault)) = IsRefused (Net faul
 IsCheckRun IsOf IsRefused report old new (Err (Report fault)) =
     ((outcome : reports.ReportOutcome) × (report_outcome_of (Err fault) ≡ Some outcome) × IsRefusedReport IsOf report outcome) × Keeps old new
 IsCheckRun IsOf IsRefused report old new (Err (Solve fault)) = ⊥
+IsCheckRun IsOf IsRefused report old new (Err (Query fault)) = ⊥
 IsCheckRun IsOf IsRefused report old new (Err Device) = PutsFront IsOf report old new
 IsCheckRun IsOf IsRefused report old new (Err Memory) = Keeps old new ⊎ PutsFront IsOf report old new

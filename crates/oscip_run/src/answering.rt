@@ -1,9 +1,9 @@
 //! What a job does with the bytes of its files.
-ghost use Rattle.std.specs.Prelude.{◌≡◌, false, true};
+ghost use Rattle.std.specs.Prelude.{◌≡◌, true};
 ghost use Rattle.byte_sink.specs.Sinks.{failures_by};
 ghost use Rattle.oscip_run.specs.Faults.{is_device};
 ghost use Rattle.oscip_run.specs.JobRuns.{IsJobRun};
-ghost use Rattle.oscip_job.specs.Jobs.{is_tree_job, HasWorkers};
+ghost use Rattle.oscip_job.specs.Jobs.{is_net_job, is_tree_job, HasWorkers};
 ghost use Rattle.oscip_run.specs.Runs.{IsNetOfText, IsRefusedText, IsRefusedTree};
 ghost use Rattle.oscip_tree.specs.Sources.{AreInOrder};
 ghost use Rattle.oscip_tree.specs.Trees.{IsNetOfTree};
@@ -28,7 +28,7 @@ pub fn answer<R: Threads + Wait + Sync, G: Gate + Sync, S: Sink>(
     gate: &G,
     sink: &mut S,
 ) -> Result<bool, RunFault>
-    requires network { is_tree_job job.now ≡ false }
+    requires network { is_net_job job.now ≡ true }
     requires workers { HasWorkers job.now }
     // What the job's engine reads and puts, with the job's own names.
     ensures run { IsJobRun (IsNetOfText network.now) (IsRefusedText network.now) job.now report.now (S.taken sink.old) (S.taken sink.new) result }
@@ -47,7 +47,7 @@ pub fn answer<R: Threads + Wait + Sync, G: Gate + Sync, S: Sink>(
             Ok(true)
         }
         Job::CheckNet { .. } => check_net_bytes(alloc, network, report, sink),
-        Job::Cut { .. } | Job::Check { .. } => unreachable!(),
+        Job::Cut { .. } | Job::Check { .. } | Job::Def(_) | Job::Refs(_) => unreachable!(),
     }
 }
 
@@ -82,6 +82,6 @@ pub fn answer_tree<R: Threads + Wait + Sync, G: Gate + Sync, S: Sink>(
             Ok(true)
         }
         Job::Check { .. } => check_tree(alloc, sources, report, sink),
-        Job::CutNet { .. } | Job::CheckNet { .. } => unreachable!(),
+        Job::CutNet { .. } | Job::CheckNet { .. } | Job::Def(_) | Job::Refs(_) => unreachable!(),
     }
 }

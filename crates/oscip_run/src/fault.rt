@@ -7,11 +7,12 @@ use byte_sink::SinkFault;
 use cut_net::NetFault;
 use cut_report::ReportFault;
 use cut_solve::SolveFault;
+use oscip_query::{QueryFault, query_fault_text, query_status};
 use oscip_tree::{TreeFault, after_spaces, tree_fault_text, wants_memory};
 use std::alloc::{AllocError, Global};
 use thiserror::Error;
 
-/// Why a run ends without an answer. As `From` makes them, `Tree`, `Net`, `Report` and `Solve` hold
+/// Why a run ends without an answer. As `From` makes them, `Tree`, `Net`, `Report`, `Solve` and `Query` hold
 /// neither want of memory nor a failed device.
 #[derive(Debug, Drop, Error)]
 pub enum RunFault {
@@ -33,6 +34,9 @@ pub enum RunFault {
     /// The names of a question are refused.
     #[error(transparent)]
     Solve(SolveFault),
+    /// The index is refused, or it has no document of the path.
+    #[error(transparent)]
+    Query(QueryFault),
     /// The sink failed.
     #[error("cannot write")]
     Device,
@@ -110,6 +114,21 @@ impl From<SolveFault> for RunFault {
     }
 }
 
+impl From<QueryFault> for RunFault {
+    ghost use Rattle.std.specs.Prelude.{◌≡◌};
+    ghost use Rattle.oscip_run.specs.Faults.{of_query};
+
+    ghost from_gives = { λ lower fault. fault ≡ of_query lower };
+
+    fn from(fault: QueryFault) -> RunFault {
+        match fault {
+            QueryFault::Memory => RunFault::Memory,
+            QueryFault::Device => RunFault::Device,
+            fault => RunFault::Query(fault),
+        }
+    }
+}
+
 impl From<SinkFault> for RunFault {
     ghost use Rattle.std.specs.Prelude.{◌≡◌};
     ghost use Rattle.oscip_run.specs.Faults.{of_sink};
@@ -173,6 +192,7 @@ fn text_of(alloc: Global, fault: &RunFault) -> Result<String, AllocError>
         RunFault::Net(fault) => net_fault_text(alloc, fault),
         RunFault::Report(fault) => report_fault_text(alloc, fault),
         RunFault::Solve(fault) => solve_fault_text(alloc, fault),
+        RunFault::Query(fault) => query_fault_text(alloc, fault),
         RunFault::Device => String::from_str(alloc, "cannot write"),
         RunFault::Memory => String::from_str(alloc, "Memory"),
     }
@@ -238,6 +258,7 @@ pub fn status_of(fault: &RunFault) -> u8
         RunFault::Net(fault) => net_status(fault),
         RunFault::Report(fault) => report_status(fault),
         RunFault::Solve(fault) => solve_status(fault),
+        RunFault::Query(fault) => query_status(fault),
         RunFault::Memory => 4,
     }
 }

@@ -1,6 +1,7 @@
 //! The files of the modules below a folder.
 ghost use Rattle.std.specs.Prelude.{◌≤◌, IfErr, IfOk};
 ghost use Rattle.oscip_run.specs.Faults.{IsReadFault};
+ghost use Rattle.oscip_run.specs.Files.{AreFronts, IsFrontOfModule};
 ghost use Rattle.oscip_tree.specs.Sources.{AreInOrder};
 
 use crate::RunFault;
@@ -184,7 +185,9 @@ fn paths_below<R: Files + AllocGlobal + Clone + Drop>(
 }
 
 /// The bytes of the regular file at this path, of which at most one beyond the limit of a module is read.
-fn read_module<R: Files + AllocGlobal>(rt: &R, path: &str) -> Result<Vec<u8>, ReadFault> {
+fn read_module<R: Files + AllocGlobal>(rt: &R, path: &str) -> Result<Vec<u8>, ReadFault>
+    ensures { IfOk result (λ bytes. IsFrontOfModule bytes.items) }
+{
     match fs::metadata(rt, path) {
         Ok(metadata) if metadata.is_file() => read_front(rt, path, MODULE_LIMIT + 1),
         Ok(_) => Err(cannot_read(rt.alloc(), path)),
@@ -196,7 +199,9 @@ fn source_at<R: Files + AllocGlobal>(
     rt: &R,
     folder: &str,
     path: String,
-) -> Result<Source, ReadFault> {
+) -> Result<Source, ReadFault>
+    ensures { IfOk result (λ source. IsFrontOfModule source.bytes.items) }
+{
     let opened = joined(rt.alloc(), folder, path.as_str())?;
     let bytes = read_module(rt, opened.as_str())?;
     Ok(Source { path, bytes })
@@ -206,7 +211,9 @@ fn read_all<R: Files + AllocGlobal>(
     rt: &R,
     folder: &str,
     paths: Vec<String>,
-) -> Result<Vec<Source>, ReadFault> {
+) -> Result<Vec<Source>, ReadFault>
+    ensures { IfOk result (λ sources. AreFronts sources.items) }
+{
     let mut sources = Vec::new(rt.alloc());
     for path in paths {
         let source = source_at(rt, folder, path)?;
@@ -220,7 +227,8 @@ fn sources_below<R: Files + AllocGlobal + Clone + Drop>(
     rt: &R,
     folder: &str,
 ) -> Result<Vec<Source>, ReadFault>
-    ensures { IfOk result (λ sources. AreInOrder sources.items) }
+    ensures order { IfOk result (λ sources. AreInOrder sources.items) }
+    ensures most { IfOk result (λ sources. AreFronts sources.items) }
 {
     let mut paths = paths_below(rt, folder)?;
     paths.sort_unstable();
@@ -242,6 +250,8 @@ pub fn sources_of<R: Files + AllocGlobal + Clone + Drop>(
     folder: &str,
 ) -> Result<Vec<Source>, RunFault>
     ensures order { IfOk result (λ sources. AreInOrder sources.items) }
+    // Of each file one byte beyond a module's limit is taken at most.
+    ensures most { IfOk result (λ sources. AreFronts sources.items) }
     ensures fault { IfErr result IsReadFault }
 {
     Ok(sources_below(rt, folder)?)

@@ -1,9 +1,11 @@
-//! Runs: the files and folders that a job names, the engines that cut and check over any sink, and how a run ends.
-//! Stands on `oscip_job`, `oscip_tree` and the `cut_` crates, with `thiserror` for its faults.
+//! Runs: the files and folders that a job names, the engines that cut, check and answer questions over any sink, and how a run ends.
+//! Stands on `oscip_job`, `oscip_tree`, `oscip_query` and the `cut_` crates, with `thiserror` for its faults.
 //! Its contract: what an engine puts is what the definitions say of its inputs, and nothing else.
 #![tactic(auto)]
 
 mod answering;
+mod asking;
+mod ending;
 mod engine;
 mod fault;
 mod folder;
@@ -11,6 +13,8 @@ pub mod laws;
 mod reading;
 
 pub use answering::{answer, answer_tree};
+pub use asking::answer_question;
+pub use ending::{status_of_run, status_of_words};
 pub use engine::{check_net_bytes, check_tree, cut_net_bytes, cut_tree};
 pub use fault::{RunFault, fault_line, status_of};
 pub use folder::sources_of;

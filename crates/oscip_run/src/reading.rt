@@ -1,6 +1,7 @@
 //! The reading of files, and the fault of what can't be read.
-ghost use Rattle.std.specs.Prelude.{IfErr};
+ghost use Rattle.std.specs.Prelude.{◌≤◌, IfErr, IfOk, length};
 ghost use Rattle.oscip_run.specs.Faults.{IsReadFault};
+ghost use Rattle.oscip_run.specs.Files.{IsFile};
 
 use crate::RunFault;
 use std::alloc::{AllocError, AllocFailed, Global};
@@ -67,19 +68,36 @@ pub(crate) fn read_front<R: Files + AllocGlobal>(
     rt: &R,
     path: &str,
     most: u64,
-) -> Result<Vec<u8>, ReadFault> {
+) -> Result<Vec<u8>, ReadFault>
+    ensures { IfOk result (λ bytes. length bytes.items ≤ most) }
+{
     let Ok(file) = fs::open(rt, path) else {
         return Err(cannot_read(rt.alloc(), path));
     };
     let mut bytes = Vec::new(rt.alloc());
     match file.take(most).read_to_end(&mut bytes) {
-        Ok(_) => Ok(bytes),
+        // std says no bound of what is taken
+        Ok(_) if bytes.len() as u64 <= most => Ok(bytes),
+        Ok(_) => Err(cannot_read(rt.alloc(), path)),
         Err(error) => Err(fault_at(rt.alloc(), path, &error)),
     }
 }
 
+/// Whether the system says that the file at this path has more bytes.
+fn is_longer<R: Files>(rt: &R, path: &str, most: u64) -> bool {
+    match fs::metadata(rt, path) {
+        Ok(metadata) => metadata.len() > most,
+        Err(_) => false,
+    }
+}
+
 /// The bytes of a file that has no more than the limit.
-fn read_whole<R: Files + AllocGlobal>(rt: &R, path: &str) -> Result<Vec<u8>, ReadFault> {
+fn read_whole<R: Files + AllocGlobal>(rt: &R, path: &str) -> Result<Vec<u8>, ReadFault>
+    ensures { IfOk result (λ bytes. IsFile bytes.items) }
+{
+    if is_longer(rt, path, FILE_LIMIT) {
+        return Err(cannot_read(rt.alloc(), path));
+    }
     let bytes = read_front(rt, path, FILE_LIMIT + 1)?;
     if bytes.len() as u64 <= FILE_LIMIT {
         Ok(bytes)
@@ -88,10 +106,11 @@ fn read_whole<R: Files + AllocGlobal>(rt: &R, path: &str) -> Result<Vec<u8>, Rea
     }
 }
 
-/// The bytes of a network or a report, of which at most one beyond the limit is read. Refuses with `CannotRead`, also above
-/// the limit, or `Memory`.
+/// The bytes of a network or a report, of which at most one beyond the limit of 2^30 is read. Refuses with `CannotRead`, also
+/// above the limit, or `Memory`.
 pub fn read_file<R: Files + AllocGlobal>(rt: &R, path: &str) -> Result<Vec<u8>, RunFault>
-    ensures { IfErr result IsReadFault }
+    ensures most { IfOk result (λ bytes. IsFile bytes.items) }
+    ensures fault { IfErr result IsReadFault }
 {
     Ok(read_whole(rt, path)?)
 }

@@ -4,7 +4,7 @@ use ob_imports::GraphFault;
 use ob_parse::ParseFault;
 use ob_scan::{Position, ScanFault};
 use ob_scope::ScopeFault;
-use oscip_run::RunFault;
+use oscip_run::{RunFault, check_net_bytes, status_of_run};
 use oscip_tree::TreeFault;
 use std::alloc::{AllocError, Global};
 use std::process::Abort;
@@ -185,5 +185,29 @@ fn faults_of_files_devices_and_memory_have_their_lines(rt: HostRuntime) -> Resul
     is_told(&rt, in_graph, "4 oscip: Memory\n");
     let in_tree = tree_told(alloc, TreeFault::Memory)?;
     is_told(&rt, in_tree, "4 oscip: Memory\n");
+    Ok(())
+}
+
+/// A network and a report on it, and the status that a check of it ends with.
+const ENDS: &[(&str, &str, u8)] = &[
+    (
+        "import A B 1\n",
+        "cut A B\nweight 1\nremove A B 1\nflow A B 1\nend\n",
+        0,
+    ),
+    ("import A B 1\n", "cut A B\nweight 0\nend\n", 5),
+    ("import A B 1\n", "cut A B\n", 1),
+    ("import A B\n", "cut A B\nweight 0\nend\n", 1),
+];
+
+#[test]
+fn a_run_ends_with_its_status(rt: HostRuntime) -> Result<(), Fail> {
+    for (net, report, status) in ENDS {
+        let mut out = Vec::new(rt.alloc());
+        let ended = check_net_bytes(rt.alloc(), net.as_bytes(), report.as_bytes(), &mut out);
+        assert_eq!(rt; status_of_run(&ended), *status);
+    }
+    assert_eq!(rt; status_of_run(&Err(RunFault::Device)), 3);
+    assert_eq!(rt; status_of_run(&Err(RunFault::Memory)), 4);
     Ok(())
 }

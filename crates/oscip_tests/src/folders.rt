@@ -1,8 +1,9 @@
 //! The order of files, and folders of the system with the files that are found below them.
-use crate::runs::fault_told;
-use oscip_run::{RunFault, sources_of};
+use crate::runs::{check_end, fault_told};
+use oscip_run::{RunFault, check_tree, read_file, sources_of};
 use oscip_tree::{Source, in_order};
 use std::alloc::{AllocError, Global};
+use std::fs::OpenFile;
 use std::os::unix::fs::symlink;
 use std::test::Fail;
 use std::{env, fs, process};
@@ -187,5 +188,55 @@ fn modules_are_found_below_folders(rt: HostRuntime) -> Result<(), Fail> {
         let found = row_found(&rt, number, row)?;
         assert_eq!(rt; found.as_str(), row.found);
     }
+    Ok(())
+}
+
+/// A file of zeros, which takes no room of the system.
+fn make_zeros(rt: &HostRuntime, path: &str, size: u64) -> Result<(), Fail> {
+    let file = fs::create(rt, path)?;
+    file.set_len(size)?;
+    Ok(())
+}
+
+/// How a check of a folder ends whose one module is so many zeros.
+fn end_of_zeros(rt: &HostRuntime, number: usize, size: u64) -> Result<String, Fail> {
+    let folder = new_folder(rt, number)?;
+    let path = below(rt.alloc(), folder.as_str(), "x.Mod")?;
+    make_zeros(rt, path.as_str(), size)?;
+    let end = match sources_of(rt, folder.as_str()) {
+        Ok(sources) => {
+            let mut out = Vec::new(rt.alloc());
+            check_end(
+                rt.alloc(),
+                check_tree(rt.alloc(), sources.as_slice(), b"", &mut out),
+            )?
+        }
+        Err(fault) => fault_told(rt.alloc(), &fault)?,
+    };
+    fs::remove_dir_all(rt, folder.as_str())?;
+    Ok(end)
+}
+
+// Zeros are blanks, so a module that was cut short would not be too long.
+#[test]
+fn modules_are_not_cut_short(rt: HostRuntime) -> Result<(), Fail> {
+    let end = end_of_zeros(&rt, 100, 16_777_216)?;
+    assert_eq!(rt; end.as_str(), "1 oscip: x.Mod:0:16777216: Syntax\n");
+    let end = end_of_zeros(&rt, 101, 16_777_217)?;
+    assert_eq!(rt; end.as_str(), "1 oscip: x.Mod:0:0: TooLong\n");
+    Ok(())
+}
+
+#[test]
+fn networks_and_reports_have_a_limit(rt: HostRuntime) -> Result<(), Fail> {
+    let folder = new_folder(&rt, 102)?;
+    let path = below(rt.alloc(), folder.as_str(), "x.net")?;
+    make_zeros(&rt, path.as_str(), 1_073_741_825)?;
+    let told = match read_file(&rt, path.as_str()) {
+        Ok(_) => String::from_str(rt.alloc(), "read")?,
+        Err(fault) => fault_below(rt.alloc(), folder.as_str(), &fault)?,
+    };
+    fs::remove_dir_all(&rt, folder.as_str())?;
+    assert_eq!(rt; told.as_str(), "3 oscip: cannot read ../x.net\n");
     Ok(())
 }

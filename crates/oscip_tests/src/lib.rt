@@ -14,6 +14,8 @@ mod folders;
 #[cfg(test)]
 mod jobs;
 #[cfg(test)]
+mod questions;
+#[cfg(test)]
 mod runs;
 #[cfg(test)]
 mod tree_runs;

@@ -1,9 +1,12 @@
 //! Command lines, each with the job that it gives, or with how it is refused.
-use oscip_job::{Job, JobFault, job_of};
+use oscip_job::{Job, JobFault, Question, job_of};
+use oscip_run::status_of_words;
 use std::alloc::{AllocError, Global};
+use std::process::Abort;
 use std::test::Fail;
 
-/// The words behind the program's name, and what they ask for: a command with its values, `refused` or `help`.
+/// The words behind the program's name, and what they ask for: a command with its values, or `refused` or `help` with the
+/// status that they end with.
 const ROWS: &[(&[&str], &str)] = &[
     (
         &["check-net", "six.net", "six.cut"],
@@ -81,66 +84,116 @@ const ROWS: &[(&[&str], &str)] = &[
         "cut-net six.net A B 4",
     ),
     // Other words are refused.
-    (&[], "refused"),
-    (&["cut"], "refused"),
-    (&["cut", "editor", "A"], "refused"),
-    (&["cut", "editor", "A", "B", "C"], "refused"),
-    (&["check", "editor"], "refused"),
-    (&["check", "editor", "a", "b"], "refused"),
-    (&["check-net", "a"], "refused"),
-    (&["check-net", "a", "b", "c"], "refused"),
-    (&["cut-net", "six.net", "A"], "refused"),
-    (&["cut-net", "six.net", "A", "B", "C"], "refused"),
-    // So are other numbers of workers.
-    (&["cut", "--workers", "0", "a", "A", "B"], "refused"),
-    (&["cut", "--workers", "65", "a", "A", "B"], "refused"),
-    (&["cut", "--workers", "x", "a", "A", "B"], "refused"),
-    (&["cut", "--workers", "", "a", "A", "B"], "refused"),
-    (&["cut", "--workers", "-1", "a", "A", "B"], "refused"),
-    (&["cut", "--workers", "1.5", "a", "A", "B"], "refused"),
-    (&["cut", "--workers", " 4", "a", "A", "B"], "refused"),
+    (&[], "refused 2"),
+    (&["cut"], "refused 2"),
+    (&["cut", "editor", "A"], "refused 2"),
+    (&["cut", "editor", "A", "B", "C"], "refused 2"),
+    (&["check", "editor"], "refused 2"),
+    (&["check", "editor", "a", "b"], "refused 2"),
+    (&["check-net", "a"], "refused 2"),
+    (&["check-net", "a", "b", "c"], "refused 2"),
+    (&["cut-net", "six.net", "A"], "refused 2"),
+    (&["cut-net", "six.net", "A", "B", "C"], "refused 2"),
+    // There are no such commands and options.
+    (&["index", "editor"], "refused 2"),
+    (&["unresolved", "editor"], "refused 2"),
+    (&["cut", "--prices", "p", "a", "A", "B"], "refused 2"),
+    (&["cut", "--package", "p", "a", "A", "B"], "refused 2"),
+    (&["cut", "--root", "r", "a", "A", "B"], "refused 2"),
+    (&["--help"], "help 0"),
+    (&["check", "--help"], "help 0"),
+    (&["cut", "--help"], "help 0"),
+    (&["check-net", "--help"], "help 0"),
+    (&["cut-net", "--help"], "help 0"),
+    (&["def", "--help"], "help 0"),
+    (&["refs", "--help"], "help 0"),
+];
+
+/// Words with a number of workers, which are refused.
+const WORKERS: &[(&[&str], &str)] = &[
+    (&["cut", "--workers", "0", "a", "A", "B"], "refused 2"),
+    (&["cut", "--workers", "65", "a", "A", "B"], "refused 2"),
+    (&["cut", "--workers", "x", "a", "A", "B"], "refused 2"),
+    (&["cut", "--workers", "", "a", "A", "B"], "refused 2"),
+    (&["cut", "--workers", "-1", "a", "A", "B"], "refused 2"),
+    (&["cut", "--workers", "1.5", "a", "A", "B"], "refused 2"),
+    (&["cut", "--workers", " 4", "a", "A", "B"], "refused 2"),
     (
         &["cut", "--workers", "4294967297", "a", "A", "B"],
-        "refused",
+        "refused 2",
     ),
-    (&["cut-net", "--workers", "0", "a", "A", "B"], "refused"),
-    (&["cut-net", "--workers", "65", "a", "A", "B"], "refused"),
-    (&["cut-net", "--workers", "x", "a", "A", "B"], "refused"),
-    (&["cut-net", "--workers", "", "a", "A", "B"], "refused"),
-    (&["cut-net", "--workers", "-1", "a", "A", "B"], "refused"),
-    (&["cut-net", "--workers", "1.5", "a", "A", "B"], "refused"),
-    (&["cut-net", "--workers", " 4", "a", "A", "B"], "refused"),
+    (&["cut-net", "--workers", "0", "a", "A", "B"], "refused 2"),
+    (&["cut-net", "--workers", "65", "a", "A", "B"], "refused 2"),
+    (&["cut-net", "--workers", "x", "a", "A", "B"], "refused 2"),
+    (&["cut-net", "--workers", "", "a", "A", "B"], "refused 2"),
+    (&["cut-net", "--workers", "-1", "a", "A", "B"], "refused 2"),
+    (&["cut-net", "--workers", "1.5", "a", "A", "B"], "refused 2"),
+    (&["cut-net", "--workers", " 4", "a", "A", "B"], "refused 2"),
     (
         &["cut-net", "--workers", "4294967297", "a", "A", "B"],
-        "refused",
+        "refused 2",
     ),
     // The option wants a number and a cut, and stands once.
-    (&["cut", "a", "A", "B", "--workers"], "refused"),
-    (&["cut-net", "a", "A", "B", "--workers"], "refused"),
-    (&["--workers", "4", "cut", "a", "A", "B"], "refused"),
-    (&["check", "--workers", "4", "a", "b"], "refused"),
-    (&["check-net", "--workers", "4", "a", "b"], "refused"),
+    (&["cut", "a", "A", "B", "--workers"], "refused 2"),
+    (&["cut-net", "a", "A", "B", "--workers"], "refused 2"),
+    (&["--workers", "4", "cut", "a", "A", "B"], "refused 2"),
+    (&["check", "--workers", "4", "a", "b"], "refused 2"),
+    (&["check-net", "--workers", "4", "a", "b"], "refused 2"),
     (
         &["cut", "--workers", "4", "--workers", "4", "a", "A", "B"],
-        "refused",
+        "refused 2",
     ),
     (
         &["cut-net", "--workers", "4", "--workers=4", "a", "A", "B"],
-        "refused",
+        "refused 2",
     ),
-    // There are no such commands and options.
-    (&["index", "editor"], "refused"),
-    (&["def", "editor", "a.Mod", "0", "0"], "refused"),
-    (&["refs", "editor", "a.Mod", "0", "0"], "refused"),
-    (&["unresolved", "editor"], "refused"),
-    (&["cut", "--prices", "p", "a", "A", "B"], "refused"),
-    (&["cut", "--package", "p", "a", "A", "B"], "refused"),
-    (&["cut", "--root", "r", "a", "A", "B"], "refused"),
-    (&["--help"], "help"),
-    (&["check", "--help"], "help"),
-    (&["cut", "--help"], "help"),
-    (&["check-net", "--help"], "help"),
-    (&["cut-net", "--help"], "help"),
+];
+
+/// Words of questions.
+const QUESTIONS: &[(&[&str], &str)] = &[
+    // Lines and columns are 0 to 2147483647, in decimal digits.
+    (
+        &["def", "a.scip", "src/a.ts", "3", "14"],
+        "def a.scip src/a.ts 3 14",
+    ),
+    (
+        &["refs", "a.scip", "src/a.ts", "0", "2147483647"],
+        "refs a.scip src/a.ts 0 2147483647",
+    ),
+    (
+        &["def", "a.scip", "src/a.ts", "2147483647", "0"],
+        "def a.scip src/a.ts 2147483647 0",
+    ),
+    (&["refs", "a.scip", "", "007", "+7"], "refs a.scip  7 7"),
+    // What begins with a dash is a text behind two of them.
+    (
+        &["def", "a.scip", "--", "-p", "0", "0"],
+        "def a.scip -p 0 0",
+    ),
+    (
+        &["refs", "--", "-a", "--help", "0", "0"],
+        "refs -a --help 0 0",
+    ),
+    (&["def", "a.scip", "-p", "0", "0"], "refused 2"),
+    (&["refs", "a.scip", "--", "p", "-1", "0"], "refused 2"),
+    (&["def", "a.scip", "p", "-1", "0"], "refused 2"),
+    (&["def", "a.scip", "p", "0", "-1"], "refused 2"),
+    (&["def", "a.scip", "p", "2147483648", "0"], "refused 2"),
+    (&["def", "a.scip", "p", "0", "2147483648"], "refused 2"),
+    (&["refs", "a.scip", "p", "2147483648", "0"], "refused 2"),
+    (&["refs", "a.scip", "p", "0", "4294967296"], "refused 2"),
+    (&["refs", "a.scip", "p", "x", "0"], "refused 2"),
+    (&["refs", "a.scip", "p", "0", ""], "refused 2"),
+    (&["refs", "a.scip", "p", "0x1", "0"], "refused 2"),
+    (&["refs", "a.scip", "p", "1.5", "0"], "refused 2"),
+    (&["refs", "a.scip", "p", " 1", "0"], "refused 2"),
+    (&["def"], "refused 2"),
+    (&["def", "a.scip", "p", "0"], "refused 2"),
+    (&["refs", "a.scip", "p", "0", "0", "0"], "refused 2"),
+    (
+        &["def", "--workers", "4", "a.scip", "p", "0", "0"],
+        "refused 2",
+    ),
 ];
 
 /// The program's name and the words behind it.
@@ -151,6 +204,13 @@ fn line_of(alloc: Global, words: &[&str]) -> Result<Vec<String>, AllocError> {
         line.push(String::from_str(alloc, word)?)?;
     }
     Ok(line)
+}
+
+/// A question's command with its values.
+fn question_shown(alloc: Global, command: &str, question: &Question) -> Result<String, AllocError> {
+    let (index, path) = (question.index.as_str(), question.path.as_str());
+    let (line, column) = (question.line, question.column);
+    format!(in alloc; "{command} {index} {path} {line} {column}")
 }
 
 /// The job's command with its values.
@@ -170,6 +230,8 @@ fn shown(alloc: Global, job: &Job) -> Result<String, AllocError> {
             workers,
         } => format!(in alloc; "cut-net {network} {from} {to} {workers}"),
         Job::CheckNet { network, report } => format!(in alloc; "check-net {network} {report}"),
+        Job::Def(question) => question_shown(alloc, "def", question),
+        Job::Refs(question) => question_shown(alloc, "refs", question),
     }
 }
 
@@ -182,20 +244,53 @@ fn kind_of(fault: &JobFault) -> &'static str {
     }
 }
 
+/// How the words are refused, and the status that they end with.
+fn end_told(alloc: Global, fault: &JobFault) -> Result<String, AllocError> {
+    let (kind, status) = (kind_of(fault), status_of_words(fault));
+    format!(in alloc; "{kind} {status}")
+}
+
 /// What the words ask for.
 fn asked(alloc: Global, line: &[String]) -> Result<String, AllocError> {
     match job_of(alloc, line) {
         Ok(job) => shown(alloc, &job),
-        Err(fault) => String::from_str(alloc, kind_of(&fault)),
+        Err(fault) => end_told(alloc, &fault),
     }
 }
 
-#[test]
-fn words_ask_for_a_job_or_are_refused(rt: HostRuntime) -> Result<(), Fail> {
-    for (words, wanted) in ROWS {
+/// Checks what each of the rows asks for.
+fn ask(rt: &(impl Abort + AllocGlobal), rows: &[(&[&str], &str)]) -> Result<(), Fail> {
+    for (words, wanted) in rows {
         let line = line_of(rt.alloc(), words)?;
         let found = asked(rt.alloc(), line.as_slice())?;
         assert_eq!(rt; found.as_str(), *wanted);
     }
     Ok(())
+}
+
+#[test]
+fn words_ask_for_a_job_or_are_refused(rt: HostRuntime) -> Result<(), Fail> {
+    ask(&rt, ROWS)
+}
+
+/// The version is asked for in front of any command.
+const VERSIONS: &[(&[&str], &str)] = &[
+    (&["--version"], "help 0"),
+    (&["-V"], "help 0"),
+    (&["cut", "--version"], "refused 2"),
+];
+
+#[test]
+fn the_version_is_told(rt: HostRuntime) -> Result<(), Fail> {
+    ask(&rt, VERSIONS)
+}
+
+#[test]
+fn other_workers_are_refused(rt: HostRuntime) -> Result<(), Fail> {
+    ask(&rt, WORKERS)
+}
+
+#[test]
+fn words_ask_a_question_or_are_refused(rt: HostRuntime) -> Result<(), Fail> {
+    ask(&rt, QUESTIONS)
 }

@@ -11,6 +11,7 @@ use Rattle.ob_scan.specs.Spelling.{AreInText, Spells}
 use Rattle.ob_scan.specs.declared.fault.ScanFault.{ScanFault}
 use Rattle.ob_scan.specs.declared.fault.ScanFault.TheVariants as scans
 use Rattle.ob_scan.specs.declared.token.Token.{Token}
+use Rattle.ob_parse.proofs.OneFault.{syntax_place}
 use Rattle.ob_parse.proofs.OneTree.{place_in_text}
 use Rattle.ob_parse.specs.declared.fault.ParseFault.{ParseFault}
 use Rattle.ob_parse.specs.declared.fault.ParseFault.TheVariants as parses
@@ -60,11 +61,11 @@ start_in_text bytes ts k at t stand there e =
     omega arith
 
 pub parse_in_text : StandIn → (bytes : List ℕ) (fault : ParseFault) → HasParseFault fault bytes → parse_offset fault ≤ length bytes
-parse_in_text law bytes (parses.Syntax at) (ts, reads, h) = place_in_text bytes ts at (law bytes ts reads.1) h.0
+parse_in_text law bytes (parses.Syntax at) (ts, reads, h) = place_in_text bytes ts at (law bytes ts reads.1) (syntax_place bytes ts at h)
 parse_in_text law bytes (parses.EndName at) (ts, reads, h) =
     let wrong = h.first.is_wrong in
     start_in_text bytes ts _ at wrong.pair.end (law bytes ts reads.1) wrong.pair.end_there wrong.begins
-parse_in_text law bytes (parses.TooDeep at) (ts, reads, h) = place_in_text bytes ts at (law bytes ts reads.1) h.0
+parse_in_text law bytes (parses.TooDeep at) (ts, reads, h) = start_in_text bytes ts h.0.number at h.0.token (law bytes ts reads.1) h.0.there h.0.begins
 parse_in_text law bytes parses.Memory h = omega arith
 
 pub scope_in_text : StandIn → (bytes : List ℕ) (fault : ScopeFault) → HasScopeFault fault bytes → scope_offset fault ≤ length bytes

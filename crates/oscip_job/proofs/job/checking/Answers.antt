@@ -7,11 +7,11 @@ use Rattle.oscip_job.proofs.job.checking.Goals as goal
 
 pub returns-clause-app : goal.returns-clause-app
 returns-clause-app c =
-    let bare : app_of c.about-command.result ≡ new_app c.args.name.now = search rules in
+    let bare : app_of c.after_help-command.result ≡ new_app c.args.name.now = search rules in
     let first = c.in_ok-command.ensures.app ∙ ap (λ (a : App). with_rule a (required_rule c.args.id.now)) bare in
     IfOk-weaker c.with_required-2.result _ _ (λ all h. h ∙ ap (λ (a : App). with_rule a (required_rule (codes "REPORT"))) first) c.with_required-2.ensures.app
 
 pub returns-clause-local : goal.returns-clause-local
 returns-clause-local c =
-    let bare : (fields_of c.about-command.result).has_globals ≡ false = search rules in
+    let bare : (fields_of c.after_help-command.result).has_globals ≡ false = search rules in
     IfOk-weaker c.with_required-2.result _ _ (λ all h. h (c.in_ok-command.ensures.local bare)) c.with_required-2.ensures.local
