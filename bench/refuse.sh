@@ -11,7 +11,8 @@ trap 'rm -rf "$work"' EXIT
 gcc -shared -fPIC -O1 -o "$work/refuse.so" "$here/refuse.c" -ldl
 g++ -O2 -o "$work/generate" "$here/generate.cpp"
 cd "$work"
-cp "$here"/../examples/*.net "$here"/../examples/*.cut .
+cp "$here"/../examples/*.net "$here"/../examples/*.cut "$here"/../examples/*.scip .
+head -c 3000 foreign.scip > short.scip
 cp -r "$here"/../examples/editor .
 printf 'import A B 1\nimport B C 1\nimport C A 1\n' > cycle.net
 printf 'import A B 1\nimport A B 1\n' > twice.net
@@ -92,3 +93,8 @@ for words in "four A Z" "wrong A D" "twice A D"; do
   trial 1 cut $words
 done
 trial 3 cut absent A D
+trial 0 def foreign.scip src/view.ts 2 19
+trial 0 refs foreign.scip src/view.ts 6 9
+trial 1 def foreign.scip view.ts 2 19
+trial 1 refs short.scip src/view.ts 2 19
+trial 2 def foreign.scip view.ts x 19
