@@ -1,4 +1,4 @@
-//! Sets of nodes in which a member is added, removed and found in constant time, with no memory but the set's own.
+//! Sets of nodes in which a member is added, removed and found by its place, with no memory but the set's own.
 ghost use Rattle.std.specs.Prelude.{◌≡◌, ◌<◌, ℕ, true, false, IfOk, IfSome, IsNone, length, map, replicate, slice_index_or, slice_set};
 ghost use Rattle.std.specs.List.{range_with_len};
 ghost use Rattle.cut_preflow.specs.NodeSets.{AreInverse, exchanged};

@@ -248,14 +248,14 @@ impl PlainPreflow {
     }
 
     /// Marks what the source reaches by arcs with residual above 0. Once quiet, these are the near modules, and the sink is none of them.
-    pub(crate) fn side(&self, alloc: Global) -> Result<Vec<bool>, AllocError>
+    pub(crate) fn side(&self) -> Result<Vec<bool>, AllocError>
         ensures size { IfOk result (λ m. length m.items ≡ self.now.net.nodes) }
         ensures reached { IfOk result (λ m. AreReached self.now.net (state_of self.now) m.items) }
         ensures near { IsQuiet self.now.net (state_of self.now) → IfOk result (λ m. AreNear self.now.net m.items) }
         ensures end { IsQuiet self.now.net (state_of self.now) → IfOk result (λ m. has m.items self.now.net.sink ≡ false) }
     {
         self.keeps();
-        self.reach(alloc)
+        self.reach(*self.arcs.allocator())
     }
 
     /// Pushes over an arc, where that applies.

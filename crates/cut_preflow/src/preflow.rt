@@ -271,12 +271,12 @@ impl<L: NetworkLedger> Preflow<L> {
 
     /// Marks what the source reaches by arcs with residual above 0, by the modules' numbers. Once quiet, these are the near modules, and
     /// the sink is none of them. Fails where memory is refused.
-    pub fn side(&self, alloc: Global) -> Result<Vec<bool>, AllocError>
+    pub fn side(&self) -> Result<Vec<bool>, AllocError>
         ensures size { IfOk result (λ m. length m.items ≡ self.now.play.net.nodes) }
         ensures reached { IfOk result (λ m. AreReached self.now.play.net (state_of self.now.play) m.items) }
         ensures near { IsQuiet self.now.play.net (state_of self.now.play) → IfOk result (λ m. AreNear self.now.play.net m.items) }
         ensures end { IsQuiet self.now.play.net (state_of self.now.play) → IfOk result (λ m. has m.items self.now.play.net.sink ≡ false) }
     {
-        self.plain.side(alloc)
+        self.plain.side()
     }
 }

@@ -80,7 +80,7 @@ fn quiet_cut<L: NetworkLedger>(
 {
     net.keeps();
     preflow.keeps();
-    let near = preflow.side(alloc)?;
+    let near = preflow.side()?;
     let flow = flow_of(alloc, net.imports(), preflow)?;
     cut_by(alloc, net, &near, flow, from, to)
 }

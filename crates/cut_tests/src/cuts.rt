@@ -69,7 +69,7 @@ impl Trial for SettlesAlone<'_> {
         preflow: &mut Preflow<L>,
     ) -> Result<String, Fail> {
         preflow.settle(1_000_000)?;
-        let side = preflow.side(alloc)?;
+        let side = preflow.side()?;
         let leave = leave(&self.0.imports, &side);
         let flow = flow_of(alloc, net, ends, preflow)?;
         let cut = with_flow(alloc, self.0, flow)?;

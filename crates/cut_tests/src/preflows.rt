@@ -51,7 +51,7 @@ fn tell_look<L: NetworkLedger>(
     let next = preflow.next_step();
     let quiet = preflow.is_quiet();
     let steps = preflow.history().len();
-    let side = preflow.side(alloc)?;
+    let side = preflow.side()?;
     write!(
         text,
         "{active:?} {next:?} quiet {quiet} after {steps} side {side:?}"
@@ -264,7 +264,7 @@ impl Trial for Stride {
             let number = turn.wrapping_mul(self.0) % steps;
             let _ = tried(preflow, step_of(number, 14));
         }
-        let side = preflow.side(alloc)?;
+        let side = preflow.side()?;
         Ok(format!(in alloc; "quiet {} side {side:?}", preflow.is_quiet())?)
     }
 }

@@ -132,10 +132,11 @@ impl Graph {
     }
 
     /// The modules of the tree that aren't done and whose imports in the tree are all done, ascending.
-    pub fn ready(&self, alloc: Global, done: &[bool]) -> Result<Vec<u32>, AllocError>
+    /// AllocError is answered where a growth of memory is refused.
+    pub fn ready(&self, done: &[bool]) -> Result<Vec<u32>, AllocError>
         requires { length done.now ≡ self.now.modules }
         ensures { IfOk result (λ nodes. IsListOf (IsReady self.now done.now) nodes.items) }
     {
-        ready_in(alloc, self.imports.as_slice(), done)
+        ready_in(*self.imports.allocator(), self.imports.as_slice(), done)
     }
 }

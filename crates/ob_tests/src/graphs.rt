@@ -161,7 +161,7 @@ fn told_ready(alloc: Global, files: &[File], done: &[bool]) -> Result<String, Fa
     if graph.modules() as usize != done.len() {
         return Ok(String::from_str(alloc, "another number of modules")?);
     }
-    let ready = graph.ready(alloc, done)?;
+    let ready = graph.ready(done)?;
     Ok(format!(in alloc; "{ready:?}")?)
 }
 
