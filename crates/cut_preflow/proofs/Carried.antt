@@ -1,17 +1,16 @@
 -- The core's sums and flows by number as those of a network's imports.
-use Rattle.std.proofs.Common.{◌≡◌, ℕ, zero, suc, ◌+◌, ◌<◌, ◌==◌, if◌then◌else◌, true, false, List, [], ◌∷◌, length, get_or, refl, sym, ap, ◌∙◌, subst, arith, sum_by}
+use Rattle.std.proofs.Common.{◌≡◌, ℕ, zero, suc, ◌+◌, ◌<◌, ◌==◌, if◌then◌else◌, List, [], ◌∷◌, length, refl, sym, ap, ◌∙◌, subst, arith, sum_by}
 use Rattle.std.specs.Prelude.{Contains}
-use Rattle.std.proofs.lemmas.Bool.{false_from_ne_true}
 use Rattle.std.proofs.lemmas.List.{get_or_default}
 use Rattle.std.proofs.lemmas.List.Sums.{sum_by-cons}
 use Rattle.cut_net.specs.declared.priced.Priced.{Priced}
 use Rattle.cut_net.specs.Network.{none_there}
-use Rattle.cut_net.specs.Cuts.{entering, leaving, same_ends}
-use Rattle.cut_net.specs.Lines.{comes_before, flow_by, IsAscending}
-use Rattle.cut_net.proofs.Ends.{apart, before_from, same_from, same_sym, same_true}
+use Rattle.cut_net.specs.Cuts.{entering, leaving}
+use Rattle.cut_part.specs.Apart.{AreApart}
+use Rattle.cut_part.proofs.Apart.{flow_by_number}
 use Rattle.cut_preflow.specs.Total.{total}
 use Rattle.cut_preflow.specs.Preflow.{FlowNetwork, State, count, flow_at, import_at, import_in, inflow, outflow}
-use Rattle.cut_preflow.specs.Flows.{flow_lines, flow_on}
+use Rattle.cut_preflow.specs.Flows.{flow_on}
 use Rattle.cut_preflow.proofs.Totals.{total-same}
 
 -- what holds at each number holds of each import
@@ -29,21 +28,9 @@ total-sum f [] = refl
 total-sum f (i ∷ more) =
     omega (arith, total-front (length more) (λ k. f (import_in (i ∷ more) k)), total-sum f more, sum_by-cons f i more)
 
-passed : (i j : Priced) → comes_before i j ≡ true → same_ends j i ≡ false
-passed i j e = false_from_ne_true _ (λ t. apart {i = i} {j = j} (before_from i j e) (same_sym (same_from j i t)))
-
--- of imports in order, each one's line is that of its number
-pub flow_by_number : (imports : List Priced) (flow : List ℕ) → IsAscending imports → length flow ≡ length imports → (k : ℕ) → k < length imports → flow_by (flow_lines imports flow) (import_in imports k) ≡ get_or flow k 0
-flow_by_number [] flow up same k h = absurd (omega arith)
-flow_by_number (i ∷ more) [] up same k h = absurd (omega arith)
-flow_by_number (i ∷ more) (f ∷ flow) up same zero h = rw (same_true i i (record { from = refl; to = refl })) refl
-flow_by_number (i ∷ more) (f ∷ flow) up same (suc k) h =
-    rw (passed i (get_or more k none_there) (up 0 (suc k) none_there (omega arith) (omega arith)))
-    (flow_by_number more flow (λ a b e less in_b. up (suc a) (suc b) e (omega arith) (omega arith)) (omega arith) k (omega arith))
-
-module _ (net : FlowNetwork) (s : State) (up : IsAscending net.imports) (size : length s.flow ≡ count net) where
+module _ (net : FlowNetwork) (s : State) (are : AreApart net.imports) (size : length s.flow ≡ count net) where
   pub flow_is : (k : ℕ) → k < count net → flow_on net s (import_at net k) ≡ flow_at s k
-  flow_is k h = flow_by_number net.imports s.flow up size k h
+  flow_is k h = flow_by_number net.imports s.flow are size k h
 
   pub entering_is : (m : ℕ) → entering net.imports (flow_on net s) m ≡ inflow net s m
   entering_is m =

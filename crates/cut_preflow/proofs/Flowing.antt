@@ -21,7 +21,7 @@ module _ (net : Network) (a b : ℕ) (s : State) (is : IsFlowNetwork (network_be
   flow_net = network_between net a b
 
   pub flow_here : (k : ℕ) → k < length net.imports → flow_on flow_net s (import_at flow_net k) ≡ flow_at s k
-  flow_here k h = flow_is flow_net s is.ascend size k h
+  flow_here k h = flow_is flow_net s is.apart_ends size k h
 
   between : AreBetween net.imports (length net.names)
   between = at_numbers net.imports (λ i. (i.from < length net.names) × (i.to < length net.names)) (λ k h. (is.from_low k h, is.to_low k h))
@@ -68,8 +68,8 @@ module _ (net : Network) (a b : ℕ) (s : State) (is : IsFlowNetwork (network_be
     pub has_flow : IsFlow net a b (flow_on flow_net s) (value_of flow_net s)
     has_flow = record {
       within = at_numbers net.imports (λ i. flow_on flow_net s i ≤ i.amount) (λ k h. omega (arith, flow_here k h, kept.fits k h));
-      kept = λ m not_a not_b. entering_is flow_net s is.ascend size m ∙ conserves m not_a not_b ∙ sym (leaving_is flow_net s is.ascend size m);
-      at_start = omega (arith, entering_is flow_net s is.ascend size a, leaving_is flow_net s is.ascend size a, source_gives flow_net s is kept quiet);
+      kept = λ m not_a not_b. entering_is flow_net s is.apart_ends size m ∙ conserves m not_a not_b ∙ sym (leaving_is flow_net s is.apart_ends size m);
+      at_start = omega (arith, entering_is flow_net s is.apart_ends size a, leaving_is flow_net s is.apart_ends size a, source_gives flow_net s is kept quiet);
     }
 
     -- so what is reached is what is near

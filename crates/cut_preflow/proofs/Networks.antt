@@ -3,6 +3,7 @@ use Rattle.std.proofs.Common.{ℕ, arith}
 use Rattle.std.proofs.lemmas.List.Elements.{Contains-get_or}
 use Rattle.cut_net.specs.Network.{Network, none_there}
 use Rattle.cut_net.specs.WellFormed.{IsNetwork}
+use Rattle.cut_part.proofs.Apart.{ascending_apart}
 use Rattle.cut_preflow.specs.Kept.{IsFlowNetwork}
 use Rattle.cut_preflow.specs.Played.{IsWithinLimits}
 use Rattle.cut_preflow.specs.Flows.{AreEnds, network_between}
@@ -15,7 +16,7 @@ between_is net a b is ends = record {
   source_low = ends.from_in;
   sink_low = ends.to_in;
   apart = ends.apart;
-  ascend = is.imports_ascend;
+  apart_ends = ascending_apart net.imports is.imports_ascend;
 }
 
 pub between_limits : (net : Network) (a b : ℕ) → IsNetwork net → IsWithinLimits (network_between net a b)

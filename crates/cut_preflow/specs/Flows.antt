@@ -1,9 +1,10 @@
 -- The core's flow and side in the words of networks: flows, residual imports and near modules (Goldberg and Tarjan 1988, section 2).
-use Rattle.std.specs.Prelude.{◌≡◌, ◌≢◌, ℕ, ◌-◌, ◌<◌, Bool, List, [], ◌∷◌, length}
+use Rattle.std.specs.Prelude.{◌≡◌, ◌≢◌, ℕ, ◌-◌, ◌<◌, Bool, List, length}
 use Rattle.cut_net.specs.declared.priced.Priced.{Priced}
 use Rattle.cut_net.specs.Network.{Network}
 use Rattle.cut_net.specs.Cuts.{AreThose, IsFlow, Near, Reached}
 use Rattle.cut_net.specs.Lines.{flow_by}
+use Rattle.cut_part.specs.Apart.{flow_lines}
 use Rattle.cut_preflow.specs.Preflow.{FlowNetwork, State, inflow, outflow}
 use Rattle.cut_preflow.specs.Side.{has}
 
@@ -17,15 +18,13 @@ pub record AreEnds (net : Network) (a b : ℕ) : Type 0 where
 abbrev pub network_between : Network → ℕ → ℕ → FlowNetwork
 network_between net a b = record { nodes = length net.names; imports = net.imports; source = a; sink = b }
 
+-- the network of so many nodes and these imports, between two of its nodes
+abbrev pub network_on : ℕ → List Priced → ℕ → ℕ → FlowNetwork
+network_on nodes imports source sink = record { nodes = nodes; imports = imports; source = source; sink = sink }
+
 -- these are the nodes and imports of the network
 abbrev pub IsOf : Network → FlowNetwork → Type 0
 IsOf net flow_net = flow_net ≡ network_between net flow_net.source flow_net.sink
-
--- each import with its flow, in order of the imports' numbers
-abbrev pub flow_lines : List Priced → List ℕ → List Priced
-flow_lines [] flow = []
-flow_lines (i ∷ more) [] = []
-flow_lines (i ∷ more) (f ∷ flow) = record { from = i.from; to = i.to; amount = f } ∷ flow_lines more flow
 
 -- the state's flow on an import of the network
 abbrev pub flow_on : FlowNetwork → State → Priced → ℕ

@@ -1,16 +1,16 @@
 -- What every list of events keeps (Goldberg and Tarjan 1988, section 3).
 use Rattle.std.specs.Prelude.{◌≡◌, ◌≢◌, ℕ, ◌+◌, ◌*◌, ◌<◌, ◌≤◌, false, length}
-use Rattle.cut_net.specs.Lines.{IsAscending}
+use Rattle.cut_part.specs.Apart.{AreApart}
 use Rattle.cut_preflow.specs.Preflow.{FlowNetwork, State, count, import_at, flow_at, label_at, inflow, outflow, is_active}
 
--- the imports ascend, and their ends and the two ends of the question are nodes
+-- the ends of the imports and the two ends of the question are nodes, and no two imports lead between the same ones
 pub record IsFlowNetwork (net : FlowNetwork) : Type 0 where
   pub from_low : (i : ℕ) → i < count net → (import_at net i).from < net.nodes
   pub to_low : (i : ℕ) → i < count net → (import_at net i).to < net.nodes
   pub source_low : net.source < net.nodes
   pub sink_low : net.sink < net.nodes
   pub apart : net.source ≢ net.sink
-  pub ascend : IsAscending net.imports
+  pub apart_ends : AreApart net.imports
 
 -- what every run keeps
 pub record IsKept (net : FlowNetwork) (s : State) : Type 0 where

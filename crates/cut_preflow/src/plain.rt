@@ -65,8 +65,12 @@ fn opening_labels(alloc: Global, ends: Ends) -> Result<Vec<u32>, AllocError>
     Ok(labels)
 }
 
-/// The opening on a network of nodes.
-fn opening(alloc: Global, ends: Ends, imports: Vec<Priced>) -> Result<PlainPreflow, AllocError>
+/// The opening on a network of nodes, whose imports stand in any order.
+pub(crate) fn opening(
+    alloc: Global,
+    ends: Ends,
+    imports: Vec<Priced>,
+) -> Result<PlainPreflow, AllocError>
     requires network { IsFlowNetwork (flow_network ends imports.items) }
     requires limits { IsWithinLimits (flow_network ends imports.items) }
     ensures { IfOk result (λ p. p ≡ record { net = flow_network ends imports.items; history = [] }) }

@@ -1,18 +1,19 @@
 //! A preflow that workers share: each step is counted in a share of a ledger, whose book is the length of the history.
 ghost use Rattle.std.specs.Prelude.{◌≡◌, ◌≢◌, ◌+◌, ◌*◌, ◌<◌, ◌≤◌, ◌↔◌, ◌||◌, ℕ, true, false, IsTrue, IfOk, IfSome, IsNone, IsSome, OnOk, Err, length, []};
 ghost use Rattle.cut_preflow.specs.Preflow.{count, import_at, flow_at, label_at, excess, inflow, outflow, is_active, applies, after, opening, is_legal};
-ghost use Rattle.cut_preflow.specs.Kept.{IsQuiet};
+ghost use Rattle.cut_preflow.specs.Kept.{IsFlowNetwork, IsQuiet};
 ghost use Rattle.cut_preflow.specs.Bound.{most_changes};
-ghost use Rattle.cut_preflow.specs.Flows.{AreEnds, AreNear, AreReached, HasFlow, network_between};
-ghost use Rattle.cut_preflow.specs.Played.{state_of, outcome_of, history_after, IsSound};
+ghost use Rattle.cut_preflow.specs.Flows.{AreEnds, AreNear, AreReached, HasFlow, network_between, network_on};
+ghost use Rattle.cut_preflow.specs.Played.{state_of, outcome_of, history_after, IsSound, IsWithinLimits};
 ghost use Rattle.cut_preflow.specs.Settled.{Appends, AppendsUpTo};
 ghost use Rattle.cut_preflow.specs.Shares.{count_after, mark_after};
 ghost use Rattle.cut_preflow.specs.Side.{has};
 
-use crate::plain::PlainPreflow;
+use crate::ends::Ends;
+use crate::plain::{PlainPreflow, opening};
 use crate::share::MOST_SHARES;
 use crate::{Event, NetworkLedger, Outcome, SettleFault, Share, Step};
-use cut_net::Net;
+use cut_net::{Net, Priced};
 use std::alloc::{AllocError, Global};
 use std::marker::Model;
 use std::sync::ledger;
@@ -58,6 +59,37 @@ impl<L: NetworkLedger> Preflow<L> {
         ensures { IfOk result (λ p. p ≡ record { play = record { net = network_between net.now from to; history = [] }; booked = 0; own = 0; out = 0 }) }
     {
         let plain = PlainPreflow::start(alloc, net, from, to)?;
+        let (book, own) = blank.open::<L>();
+        Ok(Preflow {
+            plain,
+            book,
+            own,
+            out: 0,
+        })
+    }
+
+    /// As `start`, on a network of so many nodes, whose imports stand in any order.
+    pub fn start_on(
+        alloc: Global,
+        blank: Blank,
+        nodes: u32,
+        imports: Vec<Priced>,
+        from: u32,
+        to: u32,
+    ) -> Result<Preflow<L>, AllocError>
+        requires network { IsFlowNetwork (network_on nodes imports.items from to) }
+        requires limits { IsWithinLimits (network_on nodes imports.items from to) }
+        requires net { network_on nodes imports.items from to ≡ L.net }
+        requires name { blank.name ≡ L.name }
+        requires parts { (blank.parts ≡ 65) × (L.parts ≡ 65) }
+        ensures { IfOk result (λ p. p ≡ record { play = record { net = network_on nodes imports.items from to; history = [] }; booked = 0; own = 0; out = 0 }) }
+    {
+        let ends = Ends {
+            nodes,
+            source: from,
+            sink: to,
+        };
+        let plain = opening(alloc, ends, imports)?;
         let (book, own) = blank.open::<L>();
         Ok(Preflow {
             plain,

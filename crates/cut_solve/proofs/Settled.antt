@@ -11,7 +11,8 @@ use Rattle.cut_net.specs.Cuts.{same_ends, AreThose, IsClosed, IsFlow, Reached}
 use Rattle.cut_net.specs.Lines.{amount_in, comes_before, flow_by, IsAscending, IsImport}
 use Rattle.cut_net.proofs.ListSums.{sum_by-same}
 use Rattle.cut_preflow.specs.Preflow.{State}
-use Rattle.cut_preflow.specs.Flows.{AreReached, flow_lines, flow_on, HasFlow, network_between, value_of}
+use Rattle.cut_part.specs.Apart.{flow_lines}
+use Rattle.cut_preflow.specs.Flows.{AreReached, flow_on, HasFlow, network_between, value_of}
 use Rattle.cut_preflow.proofs.Carried.{at_numbers, flow_by_number}
 use Rattle.cut_residual.specs.Graphs.{is_seen}
 use Rattle.cut_solve.specs.GreatestFlow.{IsGreatest}

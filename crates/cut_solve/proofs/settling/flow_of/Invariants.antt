@@ -1,6 +1,6 @@
 use Rattle.std.proofs.Common.{◌≡◌, take}
 use Rattle.std.specs.Prelude.{filter}
-use Rattle.cut_preflow.specs.Flows.{flow_lines}
+use Rattle.cut_part.specs.Apart.{flow_lines}
 use Rattle.cut_preflow.specs.Played.{state_of}
 use Rattle.cut_solve.specs.Lines.{has_flow}
 use Rattle.cut_solve.proofs.settling.flow_of.Given as goal
