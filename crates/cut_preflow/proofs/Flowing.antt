@@ -6,9 +6,10 @@ use Rattle.cut_net.specs.Network.{Network, none_there}
 use Rattle.cut_net.specs.WellFormed.{AreBetween}
 use Rattle.cut_net.specs.Cuts.{AreThose, IsClosed, IsFlow, Near, Reached}
 use Rattle.cut_net.proofs.NearSide.{is_near}
+use Rattle.cut_part.specs.Narrowing.{IsBarred}
 use Rattle.cut_preflow.specs.Preflow.{FlowNetwork, State, count, flow_at, import_at, inflow, outflow}
 use Rattle.cut_preflow.specs.Kept.{IsFlowNetwork, IsKept, IsQuiet}
-use Rattle.cut_preflow.specs.Flows.{AreNear, AreReached, HasFlow, flow_on, network_between, value_of}
+use Rattle.cut_preflow.specs.Flows.{AreNear, AreReached, HasFlow, IsShutOff, flow_on, network_between, value_of}
 use Rattle.cut_preflow.specs.Side.{has, IsReach}
 use Rattle.cut_preflow.proofs.Choices.{choice_other}
 use Rattle.cut_preflow.proofs.Totals.{total-zero}
@@ -72,6 +73,11 @@ module _ (net : Network) (a b : ℕ) (s : State) (is : IsFlowNetwork (network_be
       at_start = omega (arith, entering_is flow_net s is.apart_ends size a, leaving_is flow_net s is.apart_ends size a, source_gives flow_net s is kept quiet);
     }
 
+    pub shut_off : IsBarred net (flow_on flow_net s) a b
+    shut_off =
+        let some = closed_side flow_net s is kept quiet in
+        (some.0, record { start = some.1; end = some.2; closed = shut_closed some.0 some.3 })
+
     -- so what is reached is what is near
     pub near : (modules : ℕ → Bool) → AreThose modules (Reached net (flow_on flow_net s) a) → AreThose modules (Near net a b)
     near modules those = is_near net a b (flow_on flow_net s) (value_of flow_net s) between is.source_low has_flow modules those without
@@ -86,6 +92,11 @@ pub quiet_has_flow : (flow_net : FlowNetwork) (s : State) → IsFlowNetwork flow
 quiet_has_flow flow_net s is kept quiet net of =
     subst (λ f. IsFlowNetwork f → IsKept f s → IsQuiet f s → IsFlow net f.source f.sink (flow_on f s) (value_of f s)) (sym of)
     (λ is' kept' quiet'. has_flow net flow_net.source flow_net.sink s is' kept'.flows kept' quiet') is kept quiet
+
+pub quiet_is_shut_off : (flow_net : FlowNetwork) (s : State) → IsFlowNetwork flow_net → IsKept flow_net s → IsQuiet flow_net s → IsShutOff flow_net s
+quiet_is_shut_off flow_net s is kept quiet net of =
+    subst (λ f. IsFlowNetwork f → IsKept f s → IsQuiet f s → IsBarred net (flow_on f s) f.source f.sink) (sym of)
+    (λ is' kept' quiet'. shut_off net flow_net.source flow_net.sink s is' kept'.flows kept' quiet') is kept quiet
 
 pub marks_reached : (flow_net : FlowNetwork) (s : State) (marks : List Bool) → IsFlowNetwork flow_net → length s.flow ≡ count flow_net → IsReach flow_net.imports s.flow flow_net.source marks → AreReached flow_net s marks
 marks_reached flow_net s marks is size reach net of =

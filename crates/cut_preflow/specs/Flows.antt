@@ -5,6 +5,7 @@ use Rattle.cut_net.specs.Network.{Network}
 use Rattle.cut_net.specs.Cuts.{AreThose, IsFlow, Near, Reached}
 use Rattle.cut_net.specs.Lines.{flow_by}
 use Rattle.cut_part.specs.Apart.{flow_lines}
+use Rattle.cut_part.specs.Narrowing.{IsBarred}
 use Rattle.cut_preflow.specs.Preflow.{FlowNetwork, State, inflow, outflow}
 use Rattle.cut_preflow.specs.Side.{has}
 
@@ -37,6 +38,10 @@ value_of flow_net s = outflow flow_net s flow_net.source - inflow flow_net s flo
 -- the state's flow is a flow of the network, of its value
 abbrev pub HasFlow : FlowNetwork → State → Type 0
 HasFlow flow_net s = (net : Network) → IsOf net flow_net → IsFlow net flow_net.source flow_net.sink (flow_on flow_net s) (value_of flow_net s)
+
+-- the residual imports of the state's flow don't lead from the source to the sink
+abbrev pub IsShutOff : FlowNetwork → State → Type 0
+IsShutOff flow_net s = (net : Network) → IsOf net flow_net → IsBarred net (flow_on flow_net s) flow_net.source flow_net.sink
 
 -- the marked modules are those that the source reaches by residual imports of the state's flow
 abbrev pub AreReached : FlowNetwork → State → List Bool → Type 0

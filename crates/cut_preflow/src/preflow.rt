@@ -3,7 +3,7 @@ ghost use Rattle.std.specs.Prelude.{◌≡◌, ◌≢◌, ◌+◌, ◌*◌, ◌<
 ghost use Rattle.cut_preflow.specs.Preflow.{count, import_at, flow_at, label_at, excess, inflow, outflow, is_active, applies, after, opening, is_legal};
 ghost use Rattle.cut_preflow.specs.Kept.{IsFlowNetwork, IsQuiet};
 ghost use Rattle.cut_preflow.specs.Bound.{most_changes};
-ghost use Rattle.cut_preflow.specs.Flows.{AreEnds, AreNear, AreReached, HasFlow, network_between, network_on};
+ghost use Rattle.cut_preflow.specs.Flows.{AreEnds, AreNear, AreReached, HasFlow, IsShutOff, network_between, network_on};
 ghost use Rattle.cut_preflow.specs.Played.{state_of, outcome_of, history_after, IsSound, IsWithinLimits};
 ghost use Rattle.cut_preflow.specs.Settled.{Appends, AppendsUpTo};
 ghost use Rattle.cut_preflow.specs.Shares.{count_after, mark_after};
@@ -204,6 +204,7 @@ impl<L: NetworkLedger> Preflow<L> {
         ensures legal { is_legal self.now.play.net (opening self.now.play.net) self.now.play.history ≡ true }
         ensures sound { IsSound self.now.play.net (state_of self.now.play) }
         ensures flow { IsQuiet self.now.play.net (state_of self.now.play) → HasFlow self.now.play.net (state_of self.now.play) }
+        ensures shut { IsQuiet self.now.play.net (state_of self.now.play) → IsShutOff self.now.play.net (state_of self.now.play) }
     {
         // Its clause says that the history is legal.
         let _ = self.plain.history();

@@ -3,4 +3,5 @@ pub mod GreatestFlow
 pub mod Lines
 pub mod Settling
 pub mod Solving
+pub mod Starts
 pub mod Turns

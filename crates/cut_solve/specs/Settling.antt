@@ -1,9 +1,10 @@
--- The flow of a settled preflow as lines.
-use Rattle.std.specs.Prelude.{ℕ, List, filter}
+-- The flow of a settled preflow on the imports that a cut is asked of.
+use Rattle.std.specs.Prelude.{ℕ, List, [], ◌∷◌}
 use Rattle.cut_net.specs.declared.priced.Priced.{Priced}
-use Rattle.cut_part.specs.Apart.{flow_lines}
-use Rattle.cut_solve.specs.Lines.{has_flow}
+use Rattle.cut_residual.specs.declared.arc.Arc.{Arc}
 
--- the imports that carry flow, each with its flow
-abbrev pub carried : List Priced → List ℕ → List Priced
-carried imports flow = filter has_flow (flow_lines imports flow)
+-- the imports as arcs, each with its flow, by their numbers
+abbrev pub carrying : List Priced → List ℕ → List Arc
+carrying [] flow = []
+carrying (i ∷ more) [] = []
+carrying (i ∷ more) (f ∷ flow) = record { from = i.from; to = i.to; capacity = i.amount; flow = f } ∷ carrying more flow

@@ -1,9 +1,9 @@
 //! Imports as arcs of a graph, and the flow of arcs as lines.
-ghost use Rattle.std.specs.Prelude.{◌≡◌, IfOk, filter, map};
+ghost use Rattle.std.specs.Prelude.{◌≡◌, IfOk, filter, length, map};
 ghost use Rattle.cut_solve.specs.Lines.{empty_of, has_flow, flow_line};
 
-use cut_net::Priced;
-use cut_residual::Arc;
+use cut_net::{Net, Priced};
+use cut_residual::{Arc, ResidualGraph};
 use std::alloc::{AllocError, Global};
 
 /// For each import an arc whose capacity is the import's weight, without flow.
@@ -20,6 +20,15 @@ pub(crate) fn arcs_of(alloc: Global, imports: &[Priced]) -> Result<Vec<Arc>, All
         })?;
     }
     Ok(arcs)
+}
+
+/// The imports of a network as arcs between its modules, without flow.
+pub(crate) fn graph_of(alloc: Global, net: &Net) -> Result<ResidualGraph, AllocError>
+    ensures { IfOk result (λ graph. graph ≡ record { nodes = length net.now.names; arcs = map empty_of net.now.imports }) }
+{
+    net.keeps();
+    let arcs = arcs_of(alloc, net.imports())?;
+    ResidualGraph::new(alloc, arcs, net.nodes())
 }
 
 /// The arcs that carry flow, each with its flow.

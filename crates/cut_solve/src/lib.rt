@@ -16,6 +16,7 @@ mod printing;
 mod settling;
 mod solver;
 mod solving;
+mod start;
 mod turn;
 mod whole;
 pub mod workers;

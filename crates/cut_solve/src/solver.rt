@@ -4,12 +4,11 @@ ghost use Rattle.cut_net.specs.Lines.{IsAnswer, IsCheapestSaid};
 ghost use Rattle.cut_solve.specs.Solving.{outcome_of, said_by, IsRefusal, IsSolveOutcome, SolveOutcome};
 
 use crate::SolveFault;
-use crate::arcs::{arcs_of, flow_of};
+use crate::arcs::{flow_of, graph_of};
 use crate::cutting::cut_by;
 use crate::greatest::greatest_flow;
 use crate::names::module_of;
 use cut_net::{Cut, Net};
-use cut_residual::ResidualGraph;
 use std::alloc::{AllocError, Global};
 
 /// A cheapest cut between two modules, with a flow that proves it.
@@ -21,9 +20,7 @@ fn solve(alloc: Global, net: &Net, from: u32, to: u32) -> Result<Cut, AllocError
     ensures cheapest { IfOk result (λ cut. IsCheapestSaid net.now from to (said_by cut)) }
 {
     net.keeps();
-    let imports = net.imports();
-    let arcs = arcs_of(alloc, imports)?;
-    let mut graph = ResidualGraph::new(alloc, arcs, net.nodes())?;
+    let mut graph = graph_of(alloc, net)?;
     let near = greatest_flow(alloc, &mut graph, from, to)?;
     graph.keeps();
     let flow = flow_of(alloc, graph.arcs())?;

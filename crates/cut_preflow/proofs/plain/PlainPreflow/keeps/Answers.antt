@@ -1,5 +1,5 @@
 use Rattle.cut_preflow.specs.Played.{state_of, IsSound}
-use Rattle.cut_preflow.proofs.Flowing.{quiet_has_flow}
+use Rattle.cut_preflow.proofs.Flowing.{quiet_has_flow, quiet_is_shut_off}
 use Rattle.cut_preflow.proofs.Histories.{played_keeps}
 use Rattle.cut_preflow.proofs.plain.PlainPreflow.keeps.Goals as goal
 use Rattle.cut_preflow.proofs.plain.PlainPreflow.keeps.Goals.{After-self}
@@ -12,3 +12,6 @@ returns-clause-sound c = sound c
 
 pub returns-clause-flow : goal.returns-clause-flow
 returns-clause-flow c = λ quiet. quiet_has_flow c.args.self.now.net (state_of c.args.self.now) (sound c).network (sound c).kept quiet
+
+pub returns-clause-shut : goal.returns-clause-shut
+returns-clause-shut c = λ quiet. quiet_is_shut_off c.args.self.now.net (state_of c.args.self.now) (sound c).network (sound c).kept quiet

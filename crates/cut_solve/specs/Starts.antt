@@ -1,0 +1,16 @@
+-- The network that a preflow starts on, in place of the one that a cut is asked of.
+use Rattle.std.specs.Prelude.{◌≡◌, ◌⊎◌, ℕ, List, map}
+use Rattle.cut_net.specs.declared.priced.Priced.{Priced}
+use Rattle.cut_net.specs.Network.{Network}
+use Rattle.cut_part.specs.Narrowing.{IsNarrowed}
+use Rattle.cut_part.specs.Turning.{turned}
+
+-- the network with other weights on its imports
+abbrev pub with_imports : Network → List Priced → Network
+with_imports net imports = record { names = net.names; imports = imports }
+
+-- the imports between a and b, their weights narrowed: as they stand, from a to b, or turned round, from b to a
+pub record IsStart (net : Network) (a b : ℕ) (imports : List Priced) (source sink : ℕ) : Type 0 where
+  pub narrow : List Priced
+  pub narrowed : IsNarrowed net (with_imports net narrow) a b
+  pub way : ((imports ≡ narrow) × (source ≡ a) × (sink ≡ b)) ⊎ ((imports ≡ map turned narrow) × (source ≡ b) × (sink ≡ a))
