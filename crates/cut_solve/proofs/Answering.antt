@@ -12,12 +12,14 @@ use Rattle.cut_net.specs.WellFormed.{AreBetween}
 use Rattle.cut_net.proofs.Chains.{widened}
 use Rattle.cut_net.proofs.Members.{from_filter, from_map, in_map}
 use Rattle.cut_net.proofs.NearSide.{is_near, is_cheapest, weighs}
+use Rattle.cut_part.specs.Narrowing.{IsGreatestFlow}
+use Rattle.cut_part.proofs.Greatest.{end_unreached}
 use Rattle.cut_residual.specs.declared.arc.Arc.{Arc}
 use Rattle.cut_residual.specs.Flows.{IsBalanced}
 use Rattle.cut_residual.specs.Graphs.{is_seen, AreClosed, AreReached}
 use Rattle.cut_solve.specs.GreatestFlow.{IsGreatest}
 use Rattle.cut_solve.specs.Lines.{has_flow, import_on, is_printed, flow_line}
-use Rattle.cut_solve.proofs.Flowing.{imports_of, is_flow, lines_ascend, net_of, reached}
+use Rattle.cut_solve.proofs.Flowing.{flow_on, imports_of, is_flow, lines_ascend, net_of, reached}
 use Rattle.cut_solve.proofs.Listing.{each_kept, removed_is, weight_kept}
 
 -- the imports that lead from marked modules to far ones are those that the definition prints
@@ -110,7 +112,7 @@ kept_above_zero lines k d h = ltb-true 0 (get_or (filter has_flow lines) k d).am
 
 -- a flow of arcs whose residual arcs lead from the marked nodes to no others
 module _ (names : List (List ℕ)) (arcs : List Arc) (a b value : ℕ) (up : IsAscending (imports_of arcs)) (a_in : a < length names)
-    (within : All (λ r. r.flow ≤ r.capacity) arcs) (balanced : IsBalanced arcs a b value) (near : List Bool) (are : AreReached (record { nodes = length names; arcs = arcs }) a near)
+    (carried : IsFlow (net_of names arcs) a b (flow_on arcs) value) (near : List Bool) (are : AreReached (record { nodes = length names; arcs = arcs }) a near)
     (shut : AreClosed arcs near) (ends : is_seen near b ≡ false) where
   line_known : (line : Priced) → Contains (map flow_line arcs) line → IsImport (net_of names arcs) line
   line_known line c =
@@ -125,7 +127,7 @@ module _ (names : List (List ℕ)) (arcs : List Arc) (a b value : ℕ) (up : IsA
     in_order = kept_lines (net_of names arcs) (map flow_line arcs) (lines_ascend arcs up) line_known;
     above_zero = kept_above_zero (map flow_line arcs);
     value = value;
-    is_flow = is_flow names arcs up a b value within balanced;
+    is_flow = carried;
   }
 
 -- the same of a network whose imports are those of the arcs
@@ -133,5 +135,18 @@ pub greatest_for : (net : Network) (arcs : List Arc) (a b value : ℕ) → impor
     All (λ r. r.flow ≤ r.capacity) arcs → IsBalanced arcs a b value → (near : List Bool) → AreReached (record { nodes = length net.names; arcs = arcs }) a near → AreClosed arcs near →
     is_seen near b ≡ false → IsGreatest net a b near (filter has_flow (map flow_line arcs))
 greatest_for net arcs a b value same up a_in within balanced near are shut ends =
+    let here = subst IsAscending (sym same) up in
     subst (λ v. IsGreatest (record { names = net.names; imports = v }) a b near (filter has_flow (map flow_line arcs))) same
-    (greatest_on net.names arcs a b value (subst IsAscending (sym same) up) a_in within balanced near are shut ends)
+    (greatest_on net.names arcs a b value here a_in (is_flow net.names arcs here a b value within balanced) near are shut ends)
+
+-- and of a flow whose residual imports don't lead to the end
+pub greatest_by : (net : Network) (arcs : List Arc) (a b value : ℕ) → imports_of arcs ≡ net.imports → IsAscending net.imports → a < length net.names →
+    IsGreatestFlow net a b (flow_on arcs) value → (near : List Bool) → AreReached (record { nodes = length net.names; arcs = arcs }) a near → AreClosed arcs near →
+    IsGreatest net a b near (filter has_flow (map flow_line arcs))
+greatest_by net arcs a b value same up a_in greatest near are shut =
+    let here = subst IsAscending (sym same) up in
+    let those : AreThose (is_seen near) (Reached net (flow_on arcs) a) =
+    subst (λ v. AreThose (is_seen near) (Reached (record { names = net.names; imports = v }) (flow_on arcs) a)) same (reached net.names arcs here a near a_in are shut) in
+    subst (λ v. IsGreatest (record { names = net.names; imports = v }) a b near (filter has_flow (map flow_line arcs))) same
+    (greatest_on net.names arcs a b value here a_in (subst (λ v. IsFlow (record { names = net.names; imports = v }) a b (flow_on arcs) value) (sym same) greatest.is_flow) near are shut
+    (end_unreached net a b (flow_on arcs) (is_seen near) greatest.barred those))

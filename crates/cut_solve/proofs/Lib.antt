@@ -5,5 +5,6 @@ pub mod Listing
 pub mod Far
 pub mod Flowing
 pub mod Answering
+pub mod Started
 pub mod Settled
 pub mod Refusals

@@ -2,15 +2,19 @@
 ghost use Rattle.std.specs.Prelude.{◌≡◌, ◌<◌, ◌≤◌, ◌+◌, ◌*◌, IfOk, OnOk, length};
 ghost use Rattle.cut_net.specs.Lines.{IsAnswer, IsCheapestSaid};
 ghost use Rattle.cut_preflow.specs.Bound.{most_changes};
-ghost use Rattle.cut_preflow.specs.Flows.{AreEnds, network_between};
+ghost use Rattle.cut_preflow.specs.Flows.{AreEnds};
 ghost use Rattle.cut_preflow.specs.Kept.{IsQuiet};
 ghost use Rattle.cut_preflow.specs.Played.{state_of};
-ghost use Rattle.cut_solve.specs.Settling.{carried};
+ghost use Rattle.cut_preflow.specs.Preflow.{count};
+ghost use Rattle.cut_solve.specs.Settling.{carrying};
 ghost use Rattle.cut_solve.specs.Solving.{said_by};
+ghost use Rattle.cut_solve.specs.Starts.{IsStart};
 
+use crate::arcs::flow_of;
 use crate::cutting::cut_by;
 use cut_net::{Cut, Net, Priced};
 use cut_preflow::{NetworkLedger, Preflow, SettleFault};
+use cut_residual::{Arc, ResidualGraph, search};
 use std::alloc::{AllocError, Global};
 
 /// As many steps as can be applied between two modules of a network: 4n²m + 2nm + 4n² for n modules and m imports.
@@ -23,13 +27,9 @@ fn fuel_of(nodes: u64, imports: u64) -> u64
 }
 
 /// Applies steps until the preflow is quiet. Fails where memory is refused.
-fn settle<L: NetworkLedger>(
-    net: &Net,
-    preflow: &mut Preflow<L>,
-    from: u32,
-    to: u32,
-) -> Result<(), AllocError>
-    requires { preflow.old.play.net ≡ network_between net.now from to }
+fn settle<L: NetworkLedger>(net: &Net, preflow: &mut Preflow<L>) -> Result<(), AllocError>
+    requires nodes { preflow.old.play.net.nodes ≡ length net.now.names }
+    requires imports { count preflow.old.play.net ≡ length net.now.imports }
     ensures net { preflow.new.play.net ≡ preflow.old.play.net }
     ensures quiet { OnOk result (IsQuiet preflow.new.play.net (state_of preflow.new.play)) }
 {
@@ -42,29 +42,32 @@ fn settle<L: NetworkLedger>(
     }
 }
 
-/// The imports that carry flow, each with its flow.
-fn flow_of<L: NetworkLedger>(
+/// The imports as arcs that carry the flow of a preflow on as many imports.
+fn carrying<L: NetworkLedger>(
     alloc: Global,
     imports: &[Priced],
     preflow: &Preflow<L>,
-) -> Result<Vec<Priced>, AllocError>
+) -> Result<Vec<Arc>, AllocError>
     requires few { length imports.now ≤ 65536 }
-    requires imports { preflow.now.play.net.imports ≡ imports.now }
-    ensures { IfOk result (λ flow. flow.items ≡ carried imports.now (state_of preflow.now.play).flow) }
+    requires imports { count preflow.now.play.net ≡ length imports.now }
+    ensures { IfOk result (λ arcs. arcs.items ≡ carrying imports.now (state_of preflow.now.play).flow) }
 {
     preflow.keeps();
-    let mut flow = Vec::new(alloc);
+    let mut arcs = Vec::new(alloc);
     for number in 0..imports.len() {
-        let amount = preflow.flow(number as u32);
-        if amount > 0 {
-            let import = imports[number];
-            flow.push(Priced { amount, ..import })?;
-        }
+        let import = imports[number];
+        arcs.push(Arc {
+            from: import.from,
+            to: import.to,
+            capacity: import.amount,
+            flow: preflow.flow(number as u32),
+        })?;
     }
-    Ok(flow)
+    Ok(arcs)
 }
 
-/// The cheapest cut that a quiet preflow between two modules shows, with the flow that it has.
+/// The cheapest cut between two modules that the flow of a quiet preflow shows: its flow is a greatest one of the network too, whose near
+/// modules are told by a search there.
 fn quiet_cut<L: NetworkLedger>(
     alloc: Global,
     net: &Net,
@@ -73,19 +76,23 @@ fn quiet_cut<L: NetworkLedger>(
     to: u32,
 ) -> Result<Cut, AllocError>
     requires ends { AreEnds net.now from to }
-    requires between { preflow.now.play.net ≡ network_between net.now from to }
+    requires nodes { preflow.now.play.net.nodes ≡ length net.now.names }
+    requires start { IsStart net.now from to preflow.now.play.net.imports preflow.now.play.net.source preflow.now.play.net.sink }
     requires quiet { IsQuiet preflow.now.play.net (state_of preflow.now.play) }
     ensures answer { IfOk result (λ cut. IsAnswer net.now from to (said_by cut)) }
     ensures cheapest { IfOk result (λ cut. IsCheapestSaid net.now from to (said_by cut)) }
 {
     net.keeps();
     preflow.keeps();
-    let near = preflow.side()?;
-    let flow = flow_of(alloc, net.imports(), preflow)?;
-    cut_by(alloc, net, &near, flow, from, to)
+    let arcs = carrying(alloc, net.imports(), preflow)?;
+    let graph = ResidualGraph::new(alloc, arcs, net.nodes())?;
+    graph.keeps();
+    let near = search(alloc, &graph, from)?;
+    let flow = flow_of(alloc, graph.arcs())?;
+    cut_by(alloc, net, &near.seen, flow, from, to)
 }
 
-/// The cheapest cut that a preflow between two modules comes to, with a flow that proves it: what is left to do is done first, by pushes
+/// The cheapest cut between two modules that a preflow comes to, with a flow that proves it: what is left to do is done first, by pushes
 /// and relabels of one worker (Goldberg and Tarjan, 1988).
 pub(crate) fn last_pass<L: NetworkLedger>(
     alloc: Global,
@@ -95,10 +102,11 @@ pub(crate) fn last_pass<L: NetworkLedger>(
     to: u32,
 ) -> Result<Cut, AllocError>
     requires ends { AreEnds net.now from to }
-    requires between { preflow.old.play.net ≡ network_between net.now from to }
+    requires nodes { preflow.old.play.net.nodes ≡ length net.now.names }
+    requires start { IsStart net.now from to preflow.old.play.net.imports preflow.old.play.net.source preflow.old.play.net.sink }
     ensures answer { IfOk result (λ cut. IsAnswer net.now from to (said_by cut)) }
     ensures cheapest { IfOk result (λ cut. IsCheapestSaid net.now from to (said_by cut)) }
 {
-    settle(net, preflow, from, to)?;
+    settle(net, preflow)?;
     quiet_cut(alloc, net, preflow, from, to)
 }

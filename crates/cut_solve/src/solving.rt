@@ -1,11 +1,13 @@
 //! The solver by many workers: pushes and relabels on one locked preflow, and a last pass for what they left.
-ghost use Rattle.std.specs.Prelude.{◌≡◌, ◌≢◌, ◌≤◌, IfOk, IfSome};
+ghost use Rattle.std.specs.Prelude.{◌≡◌, ◌≢◌, ◌≤◌, IfOk, IfSome, length};
 ghost use Rattle.cut_net.specs.Lines.{IsAnswer, IsCheapestSaid};
-ghost use Rattle.cut_preflow.specs.Flows.{AreEnds, network_between};
+ghost use Rattle.cut_preflow.specs.Flows.{AreEnds, network_on};
 ghost use Rattle.cut_solve.specs.Solving.{outcome_of, said_by, IsModuleOr, IsRefusal, IsSolveOutcome, SolveOutcome};
+ghost use Rattle.cut_solve.specs.Starts.{IsStart};
 
 use crate::names::module_of;
 use crate::settling::last_pass;
+use crate::start::{Start, start_between};
 use crate::whole::whole_cut;
 use crate::workers::worker;
 use crate::{Gate, Locked, SolveFault};
@@ -71,20 +73,35 @@ fn in_ledger<L: NetworkLedger + Send + Sync, R: Threads + Wait + Sync, G: Gate +
     rt: &R,
     alloc: Global,
     blank: Blank,
+    start: Start,
     net: &Net,
     ends: (u32, u32),
     workers: u32,
     gate: &G,
 ) -> Result<Cut, AllocError>
     requires ends { AreEnds net.now ends.0 ends.1 }
-    requires net { network_between net.now ends.0 ends.1 ≡ L.net }
+    requires start { IsStart net.now ends.0 ends.1 start.imports.items start.source start.sink }
+    requires net { network_on (length net.now.names) start.imports.items start.source start.sink ≡ L.net }
     requires name { blank.name ≡ L.name }
     requires parts { (blank.parts ≡ 65) × (L.parts ≡ 65) }
     ensures answer { IfOk result (λ cut. IsAnswer net.now ends.0 ends.1 (said_by cut)) }
     ensures cheapest { IfOk result (λ cut. IsCheapestSaid net.now ends.0 ends.1 (said_by cut)) }
 {
+    net.keeps();
     let (from, to) = ends;
-    let locked = Mutex::new(Preflow::<L>::start(alloc, blank, net, from, to)?);
+    let Start {
+        imports,
+        source,
+        sink,
+    } = start;
+    let locked = Mutex::new(Preflow::<L>::start_on(
+        alloc,
+        blank,
+        net.nodes(),
+        imports,
+        source,
+        sink,
+    )?);
     in_threads(rt, alloc, &locked, workers, gate)?;
     let mut preflow = locked.into_inner();
     preflow.keeps();
@@ -104,7 +121,17 @@ fn in_own_ledger<R: Threads + Wait + Sync, G: Gate + Sync>(
     ensures answer { IfOk result (λ cut. IsAnswer net.now ends.0 ends.1 (said_by cut)) }
     ensures cheapest { IfOk result (λ cut. IsCheapestSaid net.now ends.0 ends.1 (said_by cut)) }
 {
-    in_ledger::<Brand, R, G>(rt, alloc, Blank::new(PARTS), net, ends, workers, gate)
+    let start = start_between(alloc, net, ends.0, ends.1)?;
+    in_ledger::<Brand, R, G>(
+        rt,
+        alloc,
+        Blank::new(PARTS),
+        start,
+        net,
+        ends,
+        workers,
+        gate,
+    )
 }
 
 /// A cheapest cut between two modules, found in the part of the network that lies between them.

@@ -1,5 +1,5 @@
 //! The network that a preflow starts on: its weights narrowed, from the end whose imports weigh less.
-ghost use Rattle.std.specs.Prelude.{◌≡◌, ◌<◌, All, IfOk, length, vec_len};
+ghost use Rattle.std.specs.Prelude.{◌≡◌, ◌<◌, ◌^◌, All, IfOk, length, map, vec_len};
 ghost use Rattle.cut_net.specs.WellFormed.{AreBetween};
 ghost use Rattle.cut_part.specs.Narrowing.{IsNarrowed};
 ghost use Rattle.cut_preflow.specs.Flows.{AreEnds};

@@ -1,30 +1,76 @@
-use Rattle.std.proofs.Common.{◌≡◌, ◌∙◌, false, length, ap, sym, subst}
+use Rattle.std.proofs.Common.{◌≡◌, ◌<◌, ◌≤◌, ◌∙◌, ℕ, List, length, get_or, ap, sym, subst, arith}
+use Rattle.std.specs.Prelude.{All, filter, map}
+use Rattle.std.proofs.lemmas.List.Elements.{Contains-get_or}
+use Rattle.cut_net.specs.declared.priced.Priced.{Priced}
+use Rattle.cut_net.specs.Network.{Network, none_there}
+use Rattle.cut_part.specs.Narrowing.{import_in}
 use Rattle.cut_preflow.specs.Preflow.{count, FlowNetwork}
-use Rattle.cut_preflow.specs.Flows.{AreReached, HasFlow, network_between}
+use Rattle.cut_preflow.specs.Flows.{HasFlow, IsShutOff, network_on}
 use Rattle.cut_preflow.specs.Played.{state_of}
-use Rattle.cut_preflow.specs.Side.{has}
+use Rattle.cut_residual.specs.declared.arc.Arc.{Arc}
+use Rattle.cut_residual.specs.Graphs.{Graph, AreClosed, AreReached}
 use Rattle.cut_solve.specs.GreatestFlow.{IsGreatest}
-use Rattle.cut_solve.specs.Settling.{carried}
-use Rattle.cut_solve.proofs.Settled.{settled_greatest}
+use Rattle.cut_solve.specs.Lines.{has_flow, flow_line}
+use Rattle.cut_solve.specs.Settling.{carrying}
+use Rattle.cut_solve.proofs.Settled.{carrying_between, carrying_within, settled_flow, settled_greatest}
+use Rattle.cut_solve.proofs.Started.{start_lowered, start_size}
 use Rattle.cut_solve.proofs.settling.quiet_cut.Goals as goal
+
+-- what the preflow started on, as a network of the modules
+module _ (net : Network) (a b : ℕ) (p : FlowNetwork) (nodes : p.nodes ≡ length net.names) where
+  pub started : p ≡ network_on (length net.names) p.imports p.source p.sink
+  started i = record { nodes = nodes i; imports = p.imports; source = p.source; sink = p.sink }
+
+pub carrying-requires-clause-imports : goal.carrying-requires-clause-imports
+carrying-requires-clause-imports g c =
+    let p = c.args.preflow.now.play.net in
+    start_size c.args.net.now c.args.from c.args.to c.keeps.ensures c.requires.ends p.imports p.source p.sink c.requires.start ∙ ap length (sym c.imports.ensures)
+
+pub new-requires-clause-within : goal.new-requires-clause-within
+new-requires-clause-within g c =
+    let net = c.args.net.now in
+    let p = c.args.preflow.now.play.net in
+    let s = state_of c.args.preflow.now.play in
+    let kept = c.keeps-2.ensures.sound.kept in
+    let size = start_size net c.args.from c.args.to c.keeps.ensures c.requires.ends p.imports p.source p.sink c.requires.start in
+    let arcs : c.in_ok-arcs.arcs.items ≡ carrying net.imports s.flow = c.in_ok-arcs.ensures ∙ ap (λ v. carrying v s.flow) c.imports.ensures in
+    subst (All (λ (r : Arc). r.flow ≤ r.capacity)) (sym arcs) (carrying_within net.imports s.flow (kept.flows ∙ size) (λ k h.
+    let low = start_lowered net c.args.from c.args.to c.keeps.ensures c.requires.ends p.imports p.source p.sink c.requires.start k h in
+    let fits = kept.fits k (omega arith) in
+    omega arith))
+
+pub new-requires-clause-between : goal.new-requires-clause-between
+new-requires-clause-between g c =
+    let net = c.args.net.now in
+    let p = c.args.preflow.now.play.net in
+    let s = state_of c.args.preflow.now.play in
+    let kept = c.keeps-2.ensures.sound.kept in
+    let size = start_size net c.args.from c.args.to c.keeps.ensures c.requires.ends p.imports p.source p.sink c.requires.start in
+    let arcs : c.in_ok-arcs.arcs.items ≡ carrying net.imports s.flow = c.in_ok-arcs.ensures ∙ ap (λ v. carrying v s.flow) c.imports.ensures in
+    subst (λ n. All (λ (r : Arc). (r.from < n) × (r.to < n)) c.in_ok-arcs.arcs.items) (sym c.nodes.ensures)
+    (subst (All (λ (r : Arc). (r.from < length net.names) × (r.to < length net.names))) (sym arcs)
+    (carrying_between net.imports s.flow (length net.names) (kept.flows ∙ size) (λ k h. c.keeps.ensures.between _ (Contains-get_or net.imports k none_there h))))
 
 pub cut_by-requires-clause-greatest : goal.cut_by-requires-clause-greatest
 cut_by-requires-clause-greatest g c =
     let net = c.args.net.now in
     let a = c.args.from in
     let b = c.args.to in
-    let play = c.args.preflow.now.play in
-    let s = state_of play in
-    let near = c.in_ok-near.near.items in
-    let of : play.net ≡ network_between net a b = c.requires.between in
-    let quiet = c.requires.quiet in
-    let whole =
-    settled_greatest net a b s near c.keeps.ensures.imports_ascend
-    (subst (λ (f : FlowNetwork). length s.flow ≡ count f) of c.keeps-2.ensures.sound.kept.flows)
-    (c.in_ok-near.ensures.size ∙ ap (λ (f : FlowNetwork). f.nodes) of)
-    (subst (λ (f : FlowNetwork). AreReached f s near) of c.in_ok-near.ensures.reached)
-    (subst (λ (f : FlowNetwork). has near f.sink ≡ false) of (c.in_ok-near.ensures.end quiet))
-    (subst (λ (f : FlowNetwork). HasFlow f s) of (c.keeps-2.ensures.flow quiet)) in
-    let flow_is : c.in_ok-flow.flow.items ≡ carried net.imports s.flow = c.in_ok-flow.ensures ∙ ap (λ v. carried v s.flow) c.imports.ensures in
+    let p = c.args.preflow.now.play.net in
+    let s = state_of c.args.preflow.now.play in
+    let near = c.in_ok-near.near.seen.items in
+    let whole = started net a b p c.requires.nodes in
+    let size = start_size net a b c.keeps.ensures c.requires.ends p.imports p.source p.sink c.requires.start in
+    let arcs : c.in_ok-arcs.arcs.items ≡ carrying net.imports s.flow = c.in_ok-arcs.ensures ∙ ap (λ v. carrying v s.flow) c.imports.ensures in
+    let graph : c.in_ok-graph.graph ≡ record { nodes = length net.names; arcs = carrying net.imports s.flow } =
+    c.in_ok-graph.ensures ∙ (λ i. record { nodes = c.nodes.ensures i; arcs = arcs i }) in
+    let flow = settled_flow net a b c.keeps.ensures c.requires.ends p.imports p.source p.sink c.requires.start s
+    (subst (λ (f : FlowNetwork). HasFlow f s) whole (c.keeps-2.ensures.flow c.requires.quiet))
+    (subst (λ (f : FlowNetwork). IsShutOff f s) whole (c.keeps-2.ensures.shut c.requires.quiet)) in
+    let greatest = settled_greatest net a b s.flow flow.0 near c.keeps.ensures.imports_ascend c.requires.ends.from_in (c.keeps-2.ensures.sound.kept.flows ∙ size) flow.1
+    (subst (λ (v : Graph). AreReached v a near) graph c.in_ok-near.ensures.reached)
+    (subst (λ (v : Graph). AreClosed v.arcs near) graph c.in_ok-near.ensures.closed) in
+    let lines : c.in_ok-flow.flow.items ≡ filter has_flow (map flow_line (carrying net.imports s.flow)) =
+    c.in_ok-flow.ensures ∙ ap (λ v. filter has_flow (map flow_line v)) (c.arcs.ensures ∙ ap (λ (v : Graph). v.arcs) graph) in
     subst (λ v. IsGreatest net a b v c.in_ok-flow.flow.items) (sym c.deref.ensures.value)
-    (subst (IsGreatest net a b near) (sym flow_is) whole)
+    (subst (IsGreatest net a b near) (sym lines) greatest)

@@ -1,36 +1,25 @@
-use Rattle.std.proofs.Common.{◌≡◌, ◌<◌, ◌≤◌, ◌∙◌, length, sym, ap, subst}
-use Rattle.std.specs.Prelude.{All, filter, map}
-use Rattle.cut_net.specs.WellFormed.{AreBetween}
-use Rattle.cut_residual.specs.declared.arc.Arc.{Arc}
+use Rattle.std.proofs.Common.{◌≡◌, ◌∙◌, length, sym, ap, subst}
+use Rattle.std.specs.Prelude.{filter, map}
 use Rattle.cut_residual.specs.Flows.{AreSameArcs, IsBalanced}
 use Rattle.cut_residual.specs.Graphs.{Graph, AreReached}
 use Rattle.cut_solve.specs.GreatestFlow.{IsGreatest}
 use Rattle.cut_solve.specs.Lines.{empty_of, has_flow, flow_line}
 use Rattle.cut_solve.proofs.Answering.{greatest_for}
-use Rattle.cut_solve.proofs.Flowing.{empty_balanced, empty_between, empty_within, same_imports}
+use Rattle.cut_solve.proofs.Flowing.{empty_balanced, same_imports}
 use Rattle.cut_solve.proofs.solver.solve.Goals as goal
-
-pub new-requires-clause-within : goal.new-requires-clause-within
-new-requires-clause-within c = subst (All (λ (r : Arc). r.flow ≤ r.capacity)) (sym c.in_ok-arcs.ensures) (empty_within c.imports-imports.result.now)
-
-pub new-requires-clause-between : goal.new-requires-clause-between
-new-requires-clause-between c =
-    let between = subst (λ v. AreBetween v (length c.args.net.now.names)) (sym c.imports-imports.ensures) c.keeps.ensures.between in
-    subst (All (λ (r : Arc). (r.from < c.nodes.result) × (r.to < c.nodes.result))) (sym c.in_ok-arcs.ensures)
-    (empty_between c.imports-imports.result.now c.nodes.result (subst (AreBetween c.imports-imports.result.now) (sym c.nodes.ensures) between))
 
 pub greatest_flow-requires-clause-balanced : goal.greatest_flow-requires-clause-balanced
 greatest_flow-requires-clause-balanced c =
-    let graph_is = ap (λ (g : Graph). g.arcs) c.in_ok-graph.ensures ∙ c.in_ok-arcs.ensures in
-    subst (λ v. IsBalanced v c.args.from c.args.to 0) (sym graph_is) (empty_balanced c.imports-imports.result.now c.args.from c.args.to)
+    let graph_is = ap (λ (g : Graph). g.arcs) c.in_ok-graph.ensures in
+    subst (λ v. IsBalanced v c.args.from c.args.to 0) (sym graph_is) (empty_balanced c.args.net.now.imports c.args.from c.args.to)
 
 pub cut_by-requires-clause-greatest : goal.cut_by-requires-clause-greatest
 cut_by-requires-clause-greatest c =
     let net = c.args.net.now in
     let arcs = c.greatest_flow.new.graph.arcs in
-    let graph_is : c.in_ok-graph.graph.arcs ≡ map empty_of net.imports = ap (λ (g : Graph). g.arcs) c.in_ok-graph.ensures ∙ c.in_ok-arcs.ensures ∙ ap (map empty_of) c.imports-imports.ensures in
+    let graph_is : c.in_ok-graph.graph.arcs ≡ map empty_of net.imports = ap (λ (g : Graph). g.arcs) c.in_ok-graph.ensures in
     let same = same_imports net.imports arcs (subst (λ v. AreSameArcs v arcs) graph_is c.in_ok-near.ensures.same) in
-    let nodes : c.greatest_flow.new.graph.nodes ≡ length net.names = c.in_ok-near.ensures.nodes ∙ ap (λ (g : Graph). g.nodes) c.in_ok-graph.ensures ∙ c.nodes.ensures in
+    let nodes : c.greatest_flow.new.graph.nodes ≡ length net.names = c.in_ok-near.ensures.nodes ∙ ap (λ (g : Graph). g.nodes) c.in_ok-graph.ensures in
     let near = c.in_ok-near.near.seen.items in
     let reached = subst (λ n. AreReached (record { nodes = n; arcs = arcs }) c.args.from near) nodes c.in_ok-near.ensures.reached in
     let lines = filter has_flow (map flow_line arcs) in

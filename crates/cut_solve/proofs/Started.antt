@@ -1,0 +1,106 @@
+-- The network that a preflow starts on is one that the core takes.
+use Rattle.std.proofs.Common.{◌≡◌, ◌≢◌, ℕ, ◌+◌, ◌≤◌, ◌<◌, true, false, List, length, get_or, map, refl, sym, ap, ◌∙◌, subst, arith, inl, inr}
+use Rattle.std.specs.Prelude.{Contains, ◌^◌}
+use Rattle.std.proofs.lemmas.Bool.{both_ways, false_from_ne_true}
+use Rattle.std.proofs.lemmas.List.{get_or_default, get_or-map, length-map}
+use Rattle.std.proofs.lemmas.List.Elements.{Contains-get_or}
+use Rattle.digraph.specs.declared.edge.Edge.{Edge}
+use Rattle.cut_net.specs.declared.priced.Priced.{Priced}
+use Rattle.cut_net.specs.Network.{Network, none_there}
+use Rattle.cut_net.specs.Cuts.{same_ends}
+use Rattle.cut_net.specs.Lines.{pair_of}
+use Rattle.cut_net.specs.WellFormed.{AreBetween, IsNetwork}
+use Rattle.cut_net.proofs.Ends.{same_from, same_true}
+use Rattle.cut_part.specs.Apart.{AreApart}
+use Rattle.cut_part.specs.Narrowing.{ends_of, import_in, IsNarrowed}
+use Rattle.cut_part.specs.Turning.{turned}
+use Rattle.cut_part.proofs.Apart.{ascending_apart, turned_apart}
+use Rattle.cut_part.proofs.Narrowing.{same_pair, still_between}
+use Rattle.cut_part.proofs.Turning.{between_turned}
+use Rattle.cut_preflow.specs.Total.{total}
+use Rattle.cut_preflow.specs.Kept.{IsFlowNetwork}
+use Rattle.cut_preflow.specs.Played.{IsWithinLimits}
+use Rattle.cut_preflow.specs.Flows.{AreEnds, network_on}
+use Rattle.cut_preflow.proofs.Networks.{between_limits}
+use Rattle.cut_preflow.proofs.Totals.{total-le, total-same}
+use Rattle.cut_solve.specs.Starts.{with_imports, IsStart}
+
+-- what holds both ways holds of the start
+pub either_way : (net : Network) (a b : ℕ) (imports : List Priced) (source sink : ℕ) (start : IsStart net a b imports source sink) (P : List Priced → ℕ → ℕ → Type 0) →
+    P start.narrow a b → P (map turned start.narrow) b a → P imports source sink
+either_way net a b imports source sink start P forth back = elim start.way [
+  | inl w ↦ subst (λ v. P v source sink) (sym w.0) (subst (λ m. P start.narrow m sink) (sym w.1) (subst (P start.narrow a) (sym w.2) forth))
+  | inr w ↦ subst (λ v. P v source sink) (sym w.0) (subst (λ m. P (map turned start.narrow) m sink) (sym w.1) (subst (P (map turned start.narrow) b) (sym w.2) back))
+]
+
+same_length : (xs ys : List Priced) → ends_of xs ≡ ends_of ys → length xs ≡ length ys
+same_length xs ys e = sym (length-map xs pair_of) ∙ ap length e ∙ length-map ys pair_of
+
+-- imports with the ends of others are apart as these are
+apart_by_ends : (xs ys : List Priced) → ends_of xs ≡ ends_of ys → AreApart ys → AreApart xs
+apart_by_ends xs ys e are j k d less in_k =
+    let size = same_length xs ys e in
+    let first = same_pair xs ys j e in
+    let second = same_pair xs ys k e in
+    let here : same_ends (import_in xs k) (import_in xs j) ≡ false = false_from_ne_true _ (λ t.
+    let same = same_from (import_in xs k) (import_in xs j) t in
+    let there = same_true (import_in ys k) (import_in ys j) (record {
+      from = sym (ap (λ (p : Edge). p.from) second) ∙ same.from ∙ ap (λ (p : Edge). p.from) first;
+      to = sym (ap (λ (p : Edge). p.to) second) ∙ same.to ∙ ap (λ (p : Edge). p.to) first;
+    }) in
+    both_ways _ (are j k none_there less (omega arith)) there) in
+    subst (λ v. same_ends (get_or xs k d) v ≡ false) (get_or_default xs j none_there d (omega arith))
+    (subst (λ v. same_ends v (import_in xs j) ≡ false) (get_or_default xs k none_there d (omega arith)) here)
+
+-- imports between the nodes, no two with the same ends
+flow_network : (n : ℕ) (imports : List Priced) (a b : ℕ) → AreBetween imports n → AreApart imports → a < n → b < n → a ≢ b → IsFlowNetwork (network_on n imports a b)
+flow_network n imports a b between are a_in b_in apart = record {
+  from_low = λ k h. (between _ (Contains-get_or imports k none_there h)).0;
+  to_low = λ k h. (between _ (Contains-get_or imports k none_there h)).1;
+  source_low = a_in;
+  sink_low = b_in;
+  apart = apart;
+  apart_ends = are;
+}
+
+module _ (net : Network) (a b : ℕ) (is : IsNetwork net) (ends : AreEnds net a b) (imports : List Priced) (source sink : ℕ) (start : IsStart net a b imports source sink) where
+  abbrev narrow : List Priced
+  narrow = start.narrow
+
+  pub narrow_between : AreBetween narrow (length net.names)
+  narrow_between = still_between narrow net.imports (length net.names) start.narrowed.ends is.between
+
+  narrow_apart : AreApart narrow
+  narrow_apart = apart_by_ends narrow net.imports start.narrowed.ends (ascending_apart net.imports is.imports_ascend)
+
+  pub start_is : IsFlowNetwork (network_on (length net.names) imports source sink)
+  start_is = either_way net a b imports source sink start (λ v m k. IsFlowNetwork (network_on (length net.names) v m k))
+      (flow_network (length net.names) narrow a b narrow_between narrow_apart ends.from_in ends.to_in ends.apart)
+      (flow_network (length net.names) (map turned narrow) b a (between_turned narrow (length net.names) narrow_between) (turned_apart narrow narrow_apart) ends.to_in ends.from_in (λ e. ends.apart (sym e)))
+
+  narrow_size : length narrow ≡ length net.imports
+  narrow_size = same_length narrow net.imports start.narrowed.ends
+
+  pub start_size : length imports ≡ length net.imports
+  start_size = either_way net a b imports source sink start (λ v m k. length v ≡ length net.imports) narrow_size (length-map narrow turned ∙ narrow_size)
+
+  -- no weight is higher than in the network
+  pub start_lowered : (k : ℕ) → k < length net.imports → (import_in imports k).amount ≤ (import_in net.imports k).amount
+  start_lowered k h = either_way net a b imports source sink start (λ v m n. (import_in v k).amount ≤ (import_in net.imports k).amount)
+      (start.narrowed.lowered k)
+      (let size = narrow_size in subst (λ (i : Priced). i.amount ≤ (import_in net.imports k).amount) (sym (get_or-map turned narrow k none_there none_there (omega arith))) (start.narrowed.lowered k))
+
+  pub start_limits : IsWithinLimits (network_on (length net.names) imports source sink)
+  start_limits =
+      let limits = between_limits net a b is in
+      let size = start_size in
+      let fewer = total-le (length net.imports) (λ k. (import_in imports k).amount) (λ k. (import_in net.imports k).amount) start_lowered in
+      let here : total (length imports) (λ k. (import_in imports k).amount) ≡ total (length net.imports) (λ k. (import_in imports k).amount) =
+      ap (λ n. total n (λ k. (import_in imports k).amount)) size in
+      let most = limits.weights in
+      let few = limits.few_imports in
+      record {
+        few_nodes = limits.few_nodes;
+        few_imports = omega arith;
+        weights = omega arith;
+      }
