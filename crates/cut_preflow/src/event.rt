@@ -1,7 +1,6 @@
 //! Events, and what becomes of them.
 
 use std::mem::size_of;
-use thiserror::Error;
 
 /// A step that is tried (Goldberg and Tarjan 1988, section 3). An import of number i has the forward arc 2i, from the module that
 /// imports to the one that is imported, and the backward arc 2i + 1.
@@ -39,12 +38,10 @@ pub enum Outcome {
 }
 
 /// Why a preflow was not settled. The steps that were applied stay.
-#[derive(Clone, Copy, Debug, PartialEq, Eq, Error)]
-pub enum SettleFault {
+#[derive(Clone, Copy)]
+pub(crate) enum SettleFault {
     /// As many steps as were allowed were applied, and it isn't quiet.
-    #[error("the preflow isn't settled yet")]
     Unfinished,
     /// A growth of memory was refused.
-    #[error("memory ran out")]
     Memory,
 }

@@ -244,6 +244,15 @@ impl PlainPreflow {
             && self.excesses[node as usize] > 0
     }
 
+    /// As many steps as can be applied: 4n²m + 2nm + 4n² for n modules and m imports.
+    pub(crate) fn most_steps(&self) -> u64
+        ensures { result ≡ most_changes self.now.net }
+    {
+        self.keeps();
+        let (nodes, imports) = (u64::from(self.ends.nodes), self.imports.len() as u64);
+        4 * nodes * nodes * imports + 2 * nodes * imports + 4 * nodes * nodes
+    }
+
     /// A node with excess that is neither end, if there is one.
     pub(crate) fn active(&self) -> Option<u32>
         ensures some { IfSome result (λ v. is_active self.now.net (state_of self.now) v ≡ true) }

@@ -1,5 +1,5 @@
 //! A preflow that workers share: each step is counted in a share of a ledger, whose book is the length of the history.
-ghost use Rattle.std.specs.Prelude.{◌≡◌, ◌≢◌, ◌+◌, ◌*◌, ◌<◌, ◌≤◌, ◌↔◌, ◌||◌, ℕ, true, false, IsTrue, IfOk, IfSome, IsNone, IsSome, OnOk, Err, length, []};
+ghost use Rattle.std.specs.Prelude.{◌≡◌, ◌≢◌, ◌+◌, ◌*◌, ◌<◌, ◌≤◌, ◌↔◌, ◌||◌, ℕ, true, false, IsTrue, IfOk, IfSome, IsNone, IsErr, IsSome, OnOk, Err, length, []};
 ghost use Rattle.cut_preflow.specs.Preflow.{count, import_at, flow_at, label_at, excess, inflow, outflow, is_active, applies, after, opening, is_legal};
 ghost use Rattle.cut_preflow.specs.Kept.{IsFlowNetwork, IsQuiet};
 ghost use Rattle.cut_preflow.specs.Bound.{most_changes};
@@ -10,9 +10,10 @@ ghost use Rattle.cut_preflow.specs.Shares.{count_after, mark_after};
 ghost use Rattle.cut_preflow.specs.Side.{has};
 
 use crate::ends::Ends;
+use crate::event::SettleFault;
 use crate::plain::{PlainPreflow, opening};
 use crate::share::MOST_SHARES;
-use crate::{Event, NetworkLedger, Outcome, SettleFault, Share, Step};
+use crate::{Event, NetworkLedger, Outcome, Share, Step};
 use cut_net::{Net, Priced};
 use std::alloc::{AllocError, Global};
 use std::marker::Model;
@@ -273,11 +274,8 @@ impl<L: NetworkLedger> Preflow<L> {
         self.plain.next_step()
     }
 
-    /// Applies at most `fuel` steps as worker 0, until the preflow is quiet. The steps that were applied stay, and are counted in the
-    /// preflow's own share. Answers Unfinished where it applied so many and isn't quiet, which never comes where the fuel is at least
-    /// 4n²m + 2nm + 4n² for n modules and m imports, and Memory where the history couldn't grow: then it isn't quiet, and has applied
-    /// fewer steps.
-    pub fn settle(&mut self, fuel: u64) -> Result<(), SettleFault>
+    /// Applies at most `fuel` steps as worker 0, until the preflow is quiet.
+    fn settle_within(&mut self, fuel: u64) -> Result<(), SettleFault>
         ensures net { self.new.play.net ≡ self.old.play.net }
         ensures appended { AppendsUpTo 0 fuel self.old.play.history self.new.play.history }
         ensures own { self.new.own + length self.old.play.history ≡ self.old.own + length self.new.play.history }
@@ -299,6 +297,26 @@ impl<L: NetworkLedger> Preflow<L> {
         match self.next_step() {
             None => Ok(()),
             Some(_) => Err(SettleFault::Unfinished),
+        }
+    }
+
+    /// Applies steps as worker 0, until the preflow is quiet: no more than 4n²m + 2nm + 4n² for n modules and m imports. They are counted
+    /// in the preflow's own share. AllocError is answered where the history couldn't grow; the steps that were applied stay, and the
+    /// preflow isn't quiet.
+    pub fn settle(&mut self) -> Result<(), AllocError>
+        ensures net { self.new.play.net ≡ self.old.play.net }
+        ensures appended { AppendsUpTo 0 (most_changes self.old.play.net) self.old.play.history self.new.play.history }
+        ensures own { self.new.own + length self.old.play.history ≡ self.old.own + length self.new.play.history }
+        ensures out { self.new.out ≡ self.old.out }
+        ensures ok { OnOk result (IsQuiet self.new.play.net (state_of self.new.play)) }
+        ensures memory { IsErr result → IsQuiet self.new.play.net (state_of self.new.play) → ⊥ }
+    {
+        self.keeps();
+        let most = self.plain.most_steps();
+        match self.settle_within(most) {
+            Ok(()) => Ok(()),
+            Err(SettleFault::Unfinished) => unreachable!(),
+            Err(SettleFault::Memory) => Err(AllocError),
         }
     }
 

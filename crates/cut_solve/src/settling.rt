@@ -1,7 +1,6 @@
 //! The last pass: a preflow is settled by one worker, and told as a cut.
-ghost use Rattle.std.specs.Prelude.{◌≡◌, ◌<◌, ◌≤◌, ◌+◌, ◌*◌, IfOk, OnOk, length};
+ghost use Rattle.std.specs.Prelude.{◌≡◌, ◌≤◌, IfOk, length};
 ghost use Rattle.cut_net.specs.Lines.{IsAnswer, IsCheapestSaid};
-ghost use Rattle.cut_preflow.specs.Bound.{most_changes};
 ghost use Rattle.cut_preflow.specs.Flows.{AreEnds};
 ghost use Rattle.cut_preflow.specs.Kept.{IsQuiet};
 ghost use Rattle.cut_preflow.specs.Played.{state_of};
@@ -13,34 +12,9 @@ ghost use Rattle.cut_solve.specs.Starts.{IsStart};
 use crate::arcs::flow_of;
 use crate::cutting::cut_by;
 use cut_net::{Cut, Net, Priced};
-use cut_preflow::{NetworkLedger, Preflow, SettleFault};
+use cut_preflow::{NetworkLedger, Preflow};
 use cut_residual::{Arc, ResidualGraph, search};
 use std::alloc::{AllocError, Global};
-
-/// As many steps as can be applied between two modules of a network: 4n²m + 2nm + 4n² for n modules and m imports.
-fn fuel_of(nodes: u64, imports: u64) -> u64
-    requires nodes { nodes ≤ 8192 }
-    requires imports { imports ≤ 65536 }
-    ensures { result ≡ 4 * nodes * nodes * imports + 2 * nodes * imports + 4 * nodes * nodes }
-{
-    4 * nodes * nodes * imports + 2 * nodes * imports + 4 * nodes * nodes
-}
-
-/// Applies steps until the preflow is quiet. Fails where memory is refused.
-fn settle<L: NetworkLedger>(net: &Net, preflow: &mut Preflow<L>) -> Result<(), AllocError>
-    requires nodes { preflow.old.play.net.nodes ≡ length net.now.names }
-    requires imports { count preflow.old.play.net ≡ length net.now.imports }
-    ensures net { preflow.new.play.net ≡ preflow.old.play.net }
-    ensures quiet { OnOk result (IsQuiet preflow.new.play.net (state_of preflow.new.play)) }
-{
-    net.keeps();
-    let fuel = fuel_of(u64::from(net.nodes()), net.imports().len() as u64);
-    match preflow.settle(fuel) {
-        Ok(()) => Ok(()),
-        Err(SettleFault::Unfinished) => unreachable!(),
-        Err(SettleFault::Memory) => Err(AllocError),
-    }
-}
 
 /// The imports as arcs that carry the flow of a preflow on as many imports.
 fn carrying<L: NetworkLedger>(
@@ -107,6 +81,6 @@ pub(crate) fn last_pass<L: NetworkLedger>(
     ensures answer { IfOk result (λ cut. IsAnswer net.now from to (said_by cut)) }
     ensures cheapest { IfOk result (λ cut. IsCheapestSaid net.now from to (said_by cut)) }
 {
-    settle(net, preflow)?;
+    preflow.settle()?;
     quiet_cut(alloc, net, preflow, from, to)
 }

@@ -2,7 +2,7 @@ use Rattle.std.proofs.Common.{◌≢◌, ◌+◌, ◌∙◌, sym, ap, refl, subs
 use Rattle.cut_preflow.specs.declared.event.Outcome.TheVariants.{Stale}
 use Rattle.cut_preflow.specs.Settled.{Appends}
 use Rattle.cut_preflow.proofs.Settling.{Appends-push, count_after-applied, history_after-applied}
-use Rattle.cut_preflow.proofs.preflow.Preflow.settle.Goals as goal
+use Rattle.cut_preflow.proofs.preflow.Preflow.settle_within.Goals as goal
 
 pub loop-i-preserved : goal.loop-i-preserved
 loop-i-preserved g c =

@@ -1,6 +1,6 @@
 use Rattle.std.proofs.Common.{◌≡◌, ◌+◌}
 use Rattle.cut_preflow.specs.Settled.{Appends}
-use Rattle.cut_preflow.proofs.preflow.Preflow.settle.Given as goal
+use Rattle.cut_preflow.proofs.preflow.Preflow.settle_within.Given as goal
 
 abbrev pub invariant-loop-i : goal.invariant-loop-i
 invariant-loop-i g l = record {
