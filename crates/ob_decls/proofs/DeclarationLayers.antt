@@ -1,5 +1,5 @@
 -- What declarations and modules tell, layer by layer.
-use Rattle.std.proofs.Common.{◌≡◌, Option, Some, None, false, refl, ap, ◌∙◌}
+use Rattle.std.proofs.Common.{◌≡◌, false, refl, ap, ◌∙◌}
 use Rattle.ob_tree.specs.declared.name.OneOrMore.{OneOrMore}
 use Rattle.ob_tree.specs.declared.declaration.ConstDecl.{ConstDecl}
 use Rattle.ob_tree.specs.declared.declaration.TypeDecl.{TypeDecl}
@@ -11,13 +11,12 @@ use Rattle.ob_tree.specs.declared.declaration.ProcDecl.{ProcDecl, fold_out-ProcD
 use Rattle.ob_decls.specs.declared.rows.Sort.TheVariants as sorts
 use Rattle.ob_decls.specs.declared.draft.Context.{Context}
 use Rattle.ob_decls.specs.Drafts.{Stage, after, passed}
-use Rattle.ob_decls.specs.Parts.{Piece, nothing, token, both, tells, if_there, each, declaring, opening}
+use Rattle.ob_decls.specs.Parts.{Piece, token, both, tells, if_there, each, declaring, opening}
 use Rattle.ob_decls.specs.Expressions.{each_after, expr_piece}
 use Rattle.ob_decls.specs.Statements.{block_piece}
 use Rattle.ob_decls.specs.Types.{declared_row, identdef_piece, parameters_piece, type_piece, var_piece}
-use Rattle.ob_decls.specs.Declaring.{const_piece, type_decl_piece, variable_piece, part, declarations_step, procedure_step, declarations_piece, procedure_piece, procedure_inner, import_row, import_inner, import_piece, imports_piece, module_piece}
-use Rattle.ob_decls.proofs.TypeLayers.{added_number}
-use Rattle.ob_decls.proofs.Steps.{each-map, after_both, after_token, after_nothing, after_declaring, steps}
+use Rattle.ob_decls.specs.Declaring.{procedure_end, module_end, const_piece, type_decl_piece, variable_piece, part, declarations_step, procedure_step, declarations_piece, procedure_piece, procedure_inner, import_row, import_inner, import_piece, imports_piece, module_piece}
+use Rattle.ob_decls.proofs.Steps.{added_number, each-map, after_both, after_token, after_nothing, after_declaring, steps}
 
 pub const_out : (c : ConstDecl) → const_piece c ≡ declaring sorts.Constant (both (identdef_piece c.name) (both token (expr_piece c.value)))
 unfolding const_piece
@@ -46,7 +45,7 @@ declarations_out d =
 pub procedure_inner_out : (p : ProcDecl) → procedure_inner p ≡
     both token (both (identdef_piece (out-ProcDecl p).name) (both (if_there parameters_piece (out-ProcDecl p).parameters) (both token
     (both (declarations_piece (out-ProcDecl p).declarations) (both (if_there (λ b. both token (block_piece b.value)) (out-ProcDecl p).body)
-    (both (if_there (λ e. both token (expr_piece e.value)) (out-ProcDecl p).returned) (both token token)))))))
+    (both (if_there (λ e. both token (expr_piece e.value)) (out-ProcDecl p).returned) (both token (tells procedure_end token))))))))
 unfolding procedure_inner
 procedure_inner_out p = refl
 
@@ -54,7 +53,7 @@ pub procedure_out : (p : ProcDecl) → procedure_piece p ≡ declaring sorts.Pro
 unfolding declarations_piece procedure_piece procedure_inner
 procedure_out p = fold_out-ProcDecl Piece Piece declarations_step procedure_step p
 
-pub import_inner_out : (i : ImportItem) → import_inner i ≡ tells (import_row i) (tells (declared_row i.name false) (both token (if_there (λ m. both token token) i.of)))
+pub import_inner_out : (i : ImportItem) → import_inner i ≡ tells (import_row i) (tells (declared_row false) (both token (if_there (λ m. both token token) i.of)))
 unfolding import_inner
 import_inner_out i = refl
 
@@ -68,12 +67,12 @@ imports_out l = refl
 
 pub module_out : (m : Module) → module_piece m ≡
     both token (both token (both token (both (if_there imports_piece m.imports) (
-    both (declarations_piece m.declarations) (both (if_there (λ b. both token (block_piece b)) m.body) (both token (both token token)))))))
+    both (declarations_piece m.declarations) (both (if_there (λ b. both token (block_piece b)) m.body) (both token (both (tells module_end token) token)))))))
 unfolding module_piece
 module_out m = refl
 
 pub module_after : (m : Module) (c : Context) (s : Stage) → after (module_piece m) c s
-    ≡ passed (passed (passed (after (if_there (λ b. both token (block_piece b)) m.body) c (after (declarations_piece m.declarations) c
+    ≡ passed (after (tells module_end token) c (passed (after (if_there (λ b. both token (block_piece b)) m.body) c (after (declarations_piece m.declarations) c
     (after (if_there imports_piece m.imports) c (passed (passed (passed s))))))))
 module_after m c s = simp (module_out m, after_both, after_token)
 

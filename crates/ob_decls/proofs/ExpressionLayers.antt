@@ -1,5 +1,5 @@
 -- What expressions tell, layer by layer.
-use Rattle.std.proofs.Common.{◌≡◌, ℕ, List, [], ◌∷◌, map, Option, Some, None, refl, ap, ◌∙◌}
+use Rattle.std.proofs.Common.{◌≡◌, ℕ, suc, ◌+◌, Bool, false, List, [], ◌∷◌, length, map, Option, Some, None, refl, ap, ◌∙◌}
 use Rattle.std.specs.declared.boxed.Box.{Box}
 use Rattle.std.specs.declared.alloc.Global.{Global}
 use Rattle.ob_tree.specs.declared.expression.Relation.{Relation}
@@ -19,83 +19,136 @@ use Rattle.ob_tree.specs.declared.expression.Expr.{Expr, fold_out-Expr, out-Expr
 use Rattle.ob_tree.specs.declared.expression.ExprList.{ExprList, fold_out-ExprList, out-ExprList}
 use Rattle.ob_tree.specs.declared.expression.Sum.{Sum, fold_out-Sum, out-Sum}
 use Rattle.ob_tree.specs.declared.expression.Term.{Term, fold_out-Term}
-use Rattle.ob_decls.specs.Parts.{Piece, nothing, token, both, if_there, each}
-use Rattle.ob_decls.specs.Expressions.{Selected, used, first_name, each_after, factor_piece, selected, designator_piece, element_piece, element_list_piece, expr_piece, expr_list_piece, sum_piece, term_piece, factor_step, selector_step, designator_step, element_step, element_list_step, expr_step, expr_list_step, sum_step, term_step}
+use Rattle.ob_decls.specs.declared.rows.Step.TheVariants as steps_of
+use Rattle.ob_decls.specs.Parts.{Piece, token, both, tells, if_there, each}
+use Rattle.ob_decls.specs.Expressions.{Phrase, Listed, Selected, Denoted, Lone, between, no_name, used, first_name, name_with, if_alone, if_bare, its_selectors, designator_row, each_after, factor_piece, designator_piece, element_piece, element_list_piece, expr_piece, expr_list_piece, sum_piece, term_piece}
+use Rattle.ob_decls.specs.Expressions.{factor_phrase, selected, denoted, expr_phrase, listed, sum_phrase, term_phrase, factor_step, selector_step, designator_step, element_step, element_list_step, expr_step, expr_list_step, sum_step, term_step}
 use Rattle.ob_decls.proofs.Steps.{each-map, steps}
 
-there : (f : Sum → Piece) (o : Option (Relation × Box Sum Global)) →
-    if_there (λ c. both token c.1.value) ((shapes.former-Expr-compared).map Sum Piece f o) ≡ if_there (λ c. both token (f c.1.value)) o
-there f None = refl
-there f (Some c) = refl
+there : (o : Option (Relation × Box Sum Global)) →
+    if_there (λ c. both token c.1.value.piece) ((shapes.former-Expr-compared).map Sum Phrase sum_phrase o) ≡ if_there (λ c. both token (sum_piece c.1.value)) o
+unfolding sum_piece
+there None = refl
+there (Some c) = refl
 
-high_there : (f : Expr → Piece) (o : Option Expr) →
-    if_there (λ h. both token h) ((shapes.former-Element-high).map Expr Piece f o) ≡ if_there (λ h. both token (f h)) o
-high_there f None = refl
-high_there f (Some c) = refl
+bare : (f : Sum → Phrase) (o : Option (Relation × Box Sum Global)) (n : Lone) → if_bare ((shapes.former-Expr-compared).map Sum Phrase f o) n ≡ if_bare o n
+bare f None n = refl
+bare f (Some c) n = refl
+
+high_there : (o : Option Expr) →
+    if_there (λ h. both token h.piece) ((shapes.former-Element-high).map Expr Phrase expr_phrase o) ≡ if_there (λ h. both token (expr_piece h)) o
+unfolding expr_piece
+high_there None = refl
+high_there (Some c) = refl
+
+alone : {X Y : Type 0} (f : X → Y) (xs : List X) (n : Lone) → if_alone (map f xs) n ≡ if_alone xs n
+alone f [] n = refl
+alone f (x ∷ xs) n = refl
+
+pub length_map : {X Y : Type 0} (f : X → Y) (xs : List X) → length (map f xs) ≡ length xs
+length_map f [] = refl
+length_map f (x ∷ xs) = ap suc (length_map f xs)
 
 -- each layer, with what each part tells in its place
 
-abbrev pub factor_shown : Factor-F Factor Selector Designator Element ElementList Expr ExprList Sum Term → Piece
-factor_shown (layers.Value k n) = token
-factor_shown layers.Nil = token
-factor_shown layers.True = token
-factor_shown layers.False = token
-factor_shown (layers.Set elements) = both token (both (if_there (λ l. element_list_piece l.value) elements) token)
-factor_shown (layers.Name d) = designator_piece d
-factor_shown (layers.Group e) = both token (both (expr_piece e.value) token)
-factor_shown (layers.Not f) = both token (factor_piece f.value)
+abbrev pub factor_shown : Factor-F Factor Selector Designator Element ElementList Expr ExprList Sum Term → Phrase
+factor_shown (layers.Value k n) = record { piece = token; name = no_name }
+factor_shown layers.Nil = record { piece = token; name = no_name }
+factor_shown layers.True = record { piece = token; name = no_name }
+factor_shown layers.False = record { piece = token; name = no_name }
+factor_shown (layers.Set elements) = record { piece = both token (both (if_there (λ l. element_list_piece l.value) elements) token); name = no_name }
+factor_shown (layers.Name d) = record { piece = designator_piece false d; name = (denoted d).name }
+factor_shown (layers.Group e) = record { piece = both token (both (expr_piece e.value) token); name = no_name }
+factor_shown (layers.Not f) = record { piece = both token (factor_piece f.value); name = no_name }
 
 abbrev pub selector_shown : Selector-F Factor Selector Designator Element ElementList Expr ExprList Sum Term → Selected
-selector_shown (layers.Field n) = record { name = Some n; piece = both token token }
-selector_shown (layers.Index list) = record { name = None; piece = both token (both (expr_list_piece list.value) token) }
-selector_shown layers.Target = record { name = None; piece = token }
-selector_shown (layers.Arguments list) = record { name = None; piece = both token (both (if_there (λ l. expr_list_piece l.value) list) token) }
+selector_shown (layers.Field n) = record { name = Some n; step = λ k. steps_of.Field (k + 1); piece = both token token }
+selector_shown (layers.Index list) = record { name = None; step = λ k. steps_of.Elements (listed list.value).count; piece = both token (both (expr_list_piece list.value) token) }
+selector_shown layers.Target = record { name = None; step = λ k. steps_of.Target; piece = token }
+selector_shown (layers.Arguments list) = record {
+  name = None;
+  step = λ k. steps_of.Arguments (between list k);
+  piece = both token (both (if_there (λ l. expr_list_piece l.value) list) token);
+}
 
 pub expr_out : (e : Expr) → expr_piece e ≡ both (sum_piece (out-Expr e).left) (if_there (λ c. both token (sum_piece c.1.value)) (out-Expr e).compared)
-unfolding expr_piece sum_piece
+unfolding expr_piece sum_piece expr_phrase sum_phrase
 expr_out e =
-    fold_out-Expr Piece Selected Piece Piece Piece Piece Piece Piece Piece factor_step selector_step designator_step element_step element_list_step expr_step expr_list_step sum_step term_step e ∙
-    ap (λ (o : Piece). both (sum_piece (out-Expr e).left) o) (there sum_piece (out-Expr e).compared)
+    ap (λ (p : Phrase). p.piece) (fold_out-Expr Phrase Selected Denoted Piece Piece Phrase Listed Phrase Phrase factor_step selector_step designator_step element_step element_list_step expr_step expr_list_step sum_step term_step e) ∙
+    ap (λ (o : Piece). both (sum_piece (out-Expr e).left) o) (there (out-Expr e).compared)
+
+pub expr_name : (e : Expr) (k : ℕ) → (expr_phrase e).name k ≡ if_bare (out-Expr e).compared (sum_phrase (out-Expr e).left).name k
+unfolding expr_phrase sum_phrase
+expr_name e k =
+    ap (λ (p : Phrase). p.name k) (fold_out-Expr Phrase Selected Denoted Piece Piece Phrase Listed Phrase Phrase factor_step selector_step designator_step element_step element_list_step expr_step expr_list_step sum_step term_step e) ∙
+    ap (λ (n : Lone). n k) (bare sum_phrase (out-Expr e).compared (sum_phrase (out-Expr e).left).name)
 
 pub sum_out : (s : Sum) → sum_piece s ≡ both (if_there (λ x. token) (out-Sum s).sign) (both (term_piece (out-Sum s).first) (each (λ p. both token (term_piece p.1)) (out-Sum s).rest.items))
-unfolding sum_piece term_piece
+unfolding sum_piece term_piece sum_phrase term_phrase
 sum_out s =
-    fold_out-Sum Piece Selected Piece Piece Piece Piece Piece Piece Piece factor_step selector_step designator_step element_step element_list_step expr_step expr_list_step sum_step term_step s ∙
-    ap (λ (o : Piece). both (if_there (λ x. token) (out-Sum s).sign) (both (term_piece (out-Sum s).first) o)) (each-map (λ (p : AddOperator × Piece). both token p.1) _ (out-Sum s).rest.items)
+    ap (λ (p : Phrase). p.piece) (fold_out-Sum Phrase Selected Denoted Piece Piece Phrase Listed Phrase Phrase factor_step selector_step designator_step element_step element_list_step expr_step expr_list_step sum_step term_step s) ∙
+    ap (λ (o : Piece). both (if_there (λ x. token) (out-Sum s).sign) (both (term_piece (out-Sum s).first) o)) (each-map (λ (p : AddOperator × Phrase). both token p.1.piece) _ (out-Sum s).rest.items)
+
+pub sum_name : (s : Sum) (k : ℕ) → (sum_phrase s).name k ≡ if_bare (out-Sum s).sign (if_alone (out-Sum s).rest.items (term_phrase (out-Sum s).first).name) k
+unfolding sum_phrase term_phrase
+sum_name s k =
+    ap (λ (p : Phrase). p.name k) (fold_out-Sum Phrase Selected Denoted Piece Piece Phrase Listed Phrase Phrase factor_step selector_step designator_step element_step element_list_step expr_step expr_list_step sum_step term_step s) ∙
+    ap (λ (n : Lone). if_bare (out-Sum s).sign n k) (alone _ (out-Sum s).rest.items (term_phrase (out-Sum s).first).name)
 
 pub term_out : (t : Term) → term_piece t ≡ both (factor_piece t.first) (each (λ p. both token (factor_piece p.1)) t.rest.items)
-unfolding term_piece factor_piece
+unfolding term_piece factor_piece term_phrase factor_phrase
 term_out t =
-    fold_out-Term Piece Selected Piece Piece Piece Piece Piece Piece Piece factor_step selector_step designator_step element_step element_list_step expr_step expr_list_step sum_step term_step t ∙
-    ap (λ (o : Piece). both (factor_piece t.first) o) (each-map (λ (p : MulOperator × Piece). both token p.1) _ t.rest.items)
+    ap (λ (p : Phrase). p.piece) (fold_out-Term Phrase Selected Denoted Piece Piece Phrase Listed Phrase Phrase factor_step selector_step designator_step element_step element_list_step expr_step expr_list_step sum_step term_step t) ∙
+    ap (λ (o : Piece). both (factor_piece t.first) o) (each-map (λ (p : MulOperator × Phrase). both token p.1.piece) _ t.rest.items)
+
+pub term_name : (t : Term) (k : ℕ) → (term_phrase t).name k ≡ if_alone t.rest.items (factor_phrase t.first).name k
+unfolding term_phrase factor_phrase
+term_name t k =
+    ap (λ (p : Phrase). p.name k) (fold_out-Term Phrase Selected Denoted Piece Piece Phrase Listed Phrase Phrase factor_step selector_step designator_step element_step element_list_step expr_step expr_list_step sum_step term_step t) ∙
+    ap (λ (n : Lone). n k) (alone _ t.rest.items (factor_phrase t.first).name)
 
 pub element_out : (e : Element) → element_piece e ≡ both (expr_piece (out-Element e).low) (if_there (λ h. both token (expr_piece h)) (out-Element e).high)
-unfolding element_piece expr_piece
+unfolding element_piece expr_piece expr_phrase
 element_out e =
-    fold_out-Element Piece Selected Piece Piece Piece Piece Piece Piece Piece factor_step selector_step designator_step element_step element_list_step expr_step expr_list_step sum_step term_step e ∙
-    ap (λ (o : Piece). both (expr_piece (out-Element e).low) o) (high_there expr_piece (out-Element e).high)
+    fold_out-Element Phrase Selected Denoted Piece Piece Phrase Listed Phrase Phrase factor_step selector_step designator_step element_step element_list_step expr_step expr_list_step sum_step term_step e ∙
+    ap (λ (o : Piece). both (expr_piece (out-Element e).low) o) (high_there (out-Element e).high)
 
 pub element_list_out : (l : ElementList) → element_list_piece l ≡ both (element_piece (out-ElementList l).first) (each_after element_piece (out-ElementList l).rest.items)
 unfolding element_list_piece element_piece
 element_list_out l =
-    fold_out-ElementList Piece Selected Piece Piece Piece Piece Piece Piece Piece factor_step selector_step designator_step element_step element_list_step expr_step expr_list_step sum_step term_step l ∙
+    fold_out-ElementList Phrase Selected Denoted Piece Piece Phrase Listed Phrase Phrase factor_step selector_step designator_step element_step element_list_step expr_step expr_list_step sum_step term_step l ∙
     ap (λ (o : Piece). both (element_piece (out-ElementList l).first) o) (each-map (λ (e : Piece). both token e) _ (out-ElementList l).rest.items)
 
 pub expr_list_out : (l : ExprList) → expr_list_piece l ≡ both (expr_piece (out-ExprList l).first) (each_after expr_piece (out-ExprList l).rest.items)
-unfolding expr_list_piece expr_piece
+unfolding expr_list_piece expr_piece listed expr_phrase
 expr_list_out l =
-    fold_out-ExprList Piece Selected Piece Piece Piece Piece Piece Piece Piece factor_step selector_step designator_step element_step element_list_step expr_step expr_list_step sum_step term_step l ∙
-    ap (λ (o : Piece). both (expr_piece (out-ExprList l).first) o) (each-map (λ (e : Piece). both token e) _ (out-ExprList l).rest.items)
+    ap (λ (p : Listed). p.piece) (fold_out-ExprList Phrase Selected Denoted Piece Piece Phrase Listed Phrase Phrase factor_step selector_step designator_step element_step element_list_step expr_step expr_list_step sum_step term_step l) ∙
+    ap (λ (o : Piece). both (expr_piece (out-ExprList l).first) o) (each-map (λ (e : Phrase). both token e.piece) _ (out-ExprList l).rest.items)
 
-pub designator_out : (d : Designator) → designator_piece d ≡ both (used d.head (first_name (map selected d.selectors.items))) (each (λ s. (selected s).piece) d.selectors.items)
-unfolding designator_piece selected
-designator_out d =
-    fold_out-Designator Piece Selected Piece Piece Piece Piece Piece Piece Piece factor_step selector_step designator_step element_step element_list_step expr_step expr_list_step sum_step term_step d ∙
-    ap (λ (o : Piece). both (used d.head (first_name (map selected d.selectors.items))) o) (each-map (λ (s : Selected). s.piece) selected d.selectors.items)
+pub expr_list_count : (l : ExprList) → (listed l).count ≡ suc (length (out-ExprList l).rest.items)
+unfolding listed
+expr_list_count l =
+    ap (λ (p : Listed). p.count) (fold_out-ExprList Phrase Selected Denoted Piece Piece Phrase Listed Phrase Phrase factor_step selector_step designator_step element_step element_list_step expr_step expr_list_step sum_step term_step l) ∙
+    ap suc (length_map _ (out-ExprList l).rest.items)
+
+pub expr_list_name : (l : ExprList) (k : ℕ) → (listed l).name k ≡ if_alone (out-ExprList l).rest.items (expr_phrase (out-ExprList l).first).name k
+unfolding listed expr_phrase
+expr_list_name l k =
+    ap (λ (p : Listed). p.name k) (fold_out-ExprList Phrase Selected Denoted Piece Piece Phrase Listed Phrase Phrase factor_step selector_step designator_step element_step element_list_step expr_step expr_list_step sum_step term_step l) ∙
+    ap (λ (n : Lone). n k) (alone _ (out-ExprList l).rest.items (expr_phrase (out-ExprList l).first).name)
+
+pub designator_out : (w : Bool) (d : Designator) → designator_piece w d ≡ tells (designator_row w) (tells (its_selectors (map selected d.selectors.items))
+    (both (used (first_name (map selected d.selectors.items))) (each (λ s. s.piece) (map selected d.selectors.items))))
+unfolding designator_piece denoted selected
+designator_out w d = ap (λ (p : Denoted). p.piece w) (fold_out-Designator Phrase Selected Denoted Piece Piece Phrase Listed Phrase Phrase factor_step selector_step designator_step element_step element_list_step expr_step expr_list_step sum_step term_step d)
+
+pub designator_name : (d : Designator) (k : ℕ) → (denoted d).name k ≡ name_with (map selected d.selectors.items) k
+unfolding denoted selected
+designator_name d k = ap (λ (p : Denoted). p.name k) (fold_out-Designator Phrase Selected Denoted Piece Piece Phrase Listed Phrase Phrase factor_step selector_step designator_step element_step element_list_step expr_step expr_list_step sum_step term_step d)
 
 factor_seen : (x : Factor-F Factor Selector Designator Element ElementList Expr ExprList Sum Term) →
-    factor_step (map-Factor Factor Selector Designator Element ElementList Expr ExprList Sum Term Piece Selected Piece Piece Piece Piece Piece Piece Piece
-    factor_piece selected designator_piece element_piece element_list_piece expr_piece expr_list_piece sum_piece term_piece x) ≡ factor_shown x
+    factor_step (map-Factor Factor Selector Designator Element ElementList Expr ExprList Sum Term Phrase Selected Denoted Piece Piece Phrase Listed Phrase Phrase factor_phrase selected denoted element_piece element_list_piece expr_phrase listed sum_phrase term_phrase x) ≡ factor_shown x
+unfolding factor_piece designator_piece expr_piece expr_list_piece sum_piece term_piece
 factor_seen (layers.Value k n) = refl
 factor_seen layers.Nil = refl
 factor_seen layers.True = refl
@@ -106,15 +159,13 @@ factor_seen (layers.Name d) = refl
 factor_seen (layers.Group e) = refl
 factor_seen (layers.Not f) = refl
 
-factor_out : (f : Factor) → factor_piece f ≡ factor_shown (out-Factor f)
-unfolding factor_piece selected designator_piece element_piece element_list_piece expr_piece expr_list_piece sum_piece term_piece
-factor_out f =
-    fold_out-Factor Piece Selected Piece Piece Piece Piece Piece Piece Piece factor_step selector_step designator_step element_step element_list_step expr_step expr_list_step sum_step term_step f ∙
-    factor_seen (out-Factor f)
+factor_out : (f : Factor) → factor_phrase f ≡ factor_shown (out-Factor f)
+unfolding factor_phrase selected denoted element_piece element_list_piece expr_phrase listed sum_phrase term_phrase
+factor_out f = fold_out-Factor Phrase Selected Denoted Piece Piece Phrase Listed Phrase Phrase factor_step selector_step designator_step element_step element_list_step expr_step expr_list_step sum_step term_step f ∙ factor_seen (out-Factor f)
 
 selector_seen : (x : Selector-F Factor Selector Designator Element ElementList Expr ExprList Sum Term) →
-    selector_step (map-Selector Factor Selector Designator Element ElementList Expr ExprList Sum Term Piece Selected Piece Piece Piece Piece Piece Piece Piece
-    factor_piece selected designator_piece element_piece element_list_piece expr_piece expr_list_piece sum_piece term_piece x) ≡ selector_shown x
+    selector_step (map-Selector Factor Selector Designator Element ElementList Expr ExprList Sum Term Phrase Selected Denoted Piece Piece Phrase Listed Phrase Phrase factor_phrase selected denoted element_piece element_list_piece expr_phrase listed sum_phrase term_phrase x) ≡ selector_shown x
+unfolding factor_piece designator_piece expr_piece expr_list_piece sum_piece term_piece
 selector_seen (layers.Field n) = refl
 selector_seen (layers.Index list) = refl
 selector_seen layers.Target = refl
@@ -122,15 +173,17 @@ selector_seen (layers.Arguments None) = refl
 selector_seen (layers.Arguments (Some list)) = refl
 
 selector_out : (s : Selector) → selected s ≡ selector_shown (out-Selector s)
-unfolding factor_piece selected designator_piece element_piece element_list_piece expr_piece expr_list_piece sum_piece term_piece
-selector_out s =
-    fold_out-Selector Piece Selected Piece Piece Piece Piece Piece Piece Piece factor_step selector_step designator_step element_step element_list_step expr_step expr_list_step sum_step term_step s ∙
-    selector_seen (out-Selector s)
+unfolding factor_phrase selected denoted element_piece element_list_piece expr_phrase listed sum_phrase term_phrase
+selector_out s = fold_out-Selector Phrase Selected Denoted Piece Piece Phrase Listed Phrase Phrase factor_step selector_step designator_step element_step element_list_step expr_step expr_list_step sum_step term_step s ∙ selector_seen (out-Selector s)
 
 -- the same at a value that is made
 
-factor_of : (f : Factor) (x : Factor-F Factor Selector Designator Element ElementList Expr ExprList Sum Term) → out-Factor f ≡ x → factor_piece f ≡ factor_shown x
-factor_of f x e = factor_out f ∙ ap (λ y. factor_shown y) e
+factor_of : (f : Factor) (x : Factor-F Factor Selector Designator Element ElementList Expr ExprList Sum Term) → out-Factor f ≡ x → factor_piece f ≡ (factor_shown x).piece
+unfolding factor_piece
+factor_of f x e = ap (λ (p : Phrase). p.piece) (factor_out f) ∙ ap (λ y. (factor_shown y).piece) e
+
+named_of : (f : Factor) (x : Factor-F Factor Selector Designator Element ElementList Expr ExprList Sum Term) (n : ℕ) → out-Factor f ≡ x → (factor_phrase f).name n ≡ (factor_shown x).name n
+named_of f x n e = ap (λ (p : Phrase). p.name n) (factor_out f) ∙ ap (λ y. (factor_shown y).name n) e
 
 pub value_made : (k : Literal) (n : ℕ) → factor_piece (factors.Value k n) ≡ token
 value_made k n = factor_of _ _ (factors.outs-Value k n)
@@ -147,7 +200,7 @@ false_made = factor_of _ _ factors.outs-False
 pub set_made : (o : Option (Box ElementList Global)) → factor_piece (factors.Set o) ≡ both token (both (if_there (λ l. element_list_piece l.value) o) token)
 set_made o = factor_of _ _ (factors.outs-Set o)
 
-pub name_made : (d : Designator) → factor_piece (factors.Name d) ≡ designator_piece d
+pub name_made : (d : Designator) → factor_piece (factors.Name d) ≡ designator_piece false d
 name_made d = factor_of _ _ (factors.outs-Name d)
 
 pub group_made : (b : Box Expr Global) → factor_piece (factors.Group b) ≡ both token (both (expr_piece b.value) token)
@@ -159,18 +212,46 @@ not_made b = factor_of _ _ (factors.outs-Not b)
 selector_of : (s : Selector) (x : Selector-F Factor Selector Designator Element ElementList Expr ExprList Sum Term) → out-Selector s ≡ x → selected s ≡ selector_shown x
 selector_of s x e = selector_out s ∙ ap (λ y. selector_shown y) e
 
-pub field_made : (n : ℕ) → selected (selectors.Field n) ≡ record { name = Some n; piece = both token token }
+pub field_made : (n : ℕ) → selected (selectors.Field n) ≡ selector_shown (layers.Field n)
 field_made n = selector_of _ _ (selectors.outs-Field n)
 
-pub index_made : (b : Box ExprList Global) → selected (selectors.Index b) ≡ record { name = None; piece = both token (both (expr_list_piece b.value) token) }
+pub index_made : (b : Box ExprList Global) → selected (selectors.Index b) ≡ selector_shown (layers.Index b)
 index_made b = selector_of _ _ (selectors.outs-Index b)
 
-pub target_made : selected selectors.Target ≡ record { name = None; piece = token }
+pub target_made : selected selectors.Target ≡ selector_shown layers.Target
 target_made = selector_of _ _ selectors.outs-Target
 
-pub arguments_made : (o : Option (Box ExprList Global)) → selected (selectors.Arguments o) ≡ record { name = None; piece = both token (both (if_there (λ l. expr_list_piece l.value) o) token) }
+pub arguments_made : (o : Option (Box ExprList Global)) → selected (selectors.Arguments o) ≡ selector_shown (layers.Arguments o)
 arguments_made o = selector_of _ _ (selectors.outs-Arguments o)
 
-pub ruleset selectors_made = (field_made, index_made, target_made, arguments_made)
+-- which expressions are a name alone
 
-pub ruleset expressions_made = (steps, expr_out, sum_out, term_out, element_out, element_list_out, expr_list_out, designator_out, value_made, nil_made, true_made, false_made, set_made, name_made, group_made, not_made, field_made, index_made, target_made, arguments_made)
+pub value_named : (k : Literal) (n : ℕ) (at : ℕ) → (factor_phrase (factors.Value k n)).name at ≡ None
+value_named k n at = named_of _ _ at (factors.outs-Value k n)
+
+pub nil_named : (at : ℕ) → (factor_phrase factors.Nil).name at ≡ None
+nil_named at = named_of _ _ at factors.outs-Nil
+
+pub true_named : (at : ℕ) → (factor_phrase factors.True).name at ≡ None
+true_named at = named_of _ _ at factors.outs-True
+
+pub false_named : (at : ℕ) → (factor_phrase factors.False).name at ≡ None
+false_named at = named_of _ _ at factors.outs-False
+
+pub set_named : (o : Option (Box ElementList Global)) (at : ℕ) → (factor_phrase (factors.Set o)).name at ≡ None
+set_named o at = named_of _ _ at (factors.outs-Set o)
+
+pub name_named : (d : Designator) (at : ℕ) → (factor_phrase (factors.Name d)).name at ≡ (denoted d).name at
+name_named d at = named_of _ _ at (factors.outs-Name d)
+
+pub group_named : (b : Box Expr Global) (at : ℕ) → (factor_phrase (factors.Group b)).name at ≡ None
+group_named b at = named_of _ _ at (factors.outs-Group b)
+
+pub not_named : (b : Box Factor Global) (at : ℕ) → (factor_phrase (factors.Not b)).name at ≡ None
+not_named b at = named_of _ _ at (factors.outs-Not b)
+
+pub ruleset selectors_made = (field_made, index_made, target_made, arguments_made, expr_list_count)
+
+pub ruleset names_alone = (selectors_made, expr_name, sum_name, term_name, expr_list_name, designator_name, value_named, nil_named, true_named, false_named, set_named, name_named, group_named, not_named)
+
+pub ruleset expressions_made = (steps, expr_out, sum_out, term_out, element_out, element_list_out, expr_list_out, value_made, nil_made, true_made, false_made, set_made, name_made, group_made, not_made, field_made, index_made, target_made, arguments_made)

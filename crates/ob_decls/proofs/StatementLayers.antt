@@ -1,5 +1,5 @@
 -- What names and statements tell, layer by layer.
-use Rattle.std.proofs.Common.{◌≡◌, ℕ, List, Option, Some, None, refl, ap, ◌∙◌}
+use Rattle.std.proofs.Common.{◌≡◌, ℕ, Option, Some, None, true, false, refl, ap, ◌∙◌}
 use Rattle.std.specs.Prelude.{Vec}
 use Rattle.std.specs.declared.boxed.Box.{Box}
 use Rattle.std.specs.declared.alloc.Global.{Global}
@@ -20,9 +20,9 @@ use Rattle.ob_tree.specs.declared.statement.Branch.{Branch, fold_out-Branch, out
 use Rattle.ob_tree.specs.declared.statement.For.{For, fold_out-For, out-For}
 use Rattle.ob_decls.specs.declared.draft.Context.{Context}
 use Rattle.ob_decls.specs.Drafts.{Stage, after, passed}
-use Rattle.ob_decls.specs.Parts.{Piece, nothing, token, both, if_there, each}
-use Rattle.ob_decls.specs.Expressions.{used, each_after, expr_piece, designator_piece}
-use Rattle.ob_decls.specs.Statements.{qualident_piece, label_piece, label_range_piece, case_step, stmt_step, block_step, branch_step, for_step, case_piece, stmt_piece, block_piece, branch_piece, for_piece}
+use Rattle.ob_decls.specs.Parts.{Piece, nothing, token, both, tells, if_there}
+use Rattle.ob_decls.specs.Expressions.{used, designator_row, each_after, expr_piece, designator_piece}
+use Rattle.ob_decls.specs.Statements.{variable_piece, qualident_piece, label_piece, label_range_piece, case_step, stmt_step, block_step, branch_step, for_step, case_piece, stmt_piece, block_piece, branch_piece, for_piece}
 use Rattle.ob_decls.proofs.Steps.{each-map, after_both, after_token, steps}
 
 else_there : (f : Block → Piece) (o : Option (Box Block Global)) → if_there (λ b. both token b.value) ((shapes.former-Stmt-If-2).map Block Piece f o)
@@ -30,9 +30,13 @@ else_there : (f : Block → Piece) (o : Option (Box Block Global)) → if_there 
 else_there f None = refl
 else_there f (Some b) = refl
 
-pub qualident_out : (q : Qualident) → qualident_piece q ≡ both (used q.head q.member) (if_there (λ m. both token token) q.member)
+pub qualident_out : (q : Qualident) → qualident_piece q ≡ both (used q.member) (if_there (λ m. both token token) q.member)
 unfolding qualident_piece
 qualident_out q = refl
+
+pub variable_out : variable_piece ≡ tells (designator_row true) (used None)
+unfolding variable_piece
+variable_out = refl
 
 pub integer_label : (n : ℕ) → label_piece (labels.Integer n) ≡ token
 unfolding label_piece
@@ -59,8 +63,8 @@ if_shown first rest otherwise = both token (both (branch_piece first.value) (bot
 
 abbrev pub stmt_shown : Stmt-F Case Stmt Block Branch For → Piece
 stmt_shown layers.Empty = nothing
-stmt_shown (layers.Assign d e) = both (designator_piece d) (both token (expr_piece e))
-stmt_shown (layers.Call d) = designator_piece d
+stmt_shown (layers.Assign d e) = both (designator_piece true d) (both token (expr_piece e))
+stmt_shown (layers.Call d) = designator_piece false d
 stmt_shown (layers.If first rest otherwise) = if_shown first (each_after branch_piece rest.items) (if_there (λ b. both token (block_piece b.value)) otherwise)
 stmt_shown (layers.Case e first rest) = both token (both (expr_piece e) (both token (both (case_piece first.value) (both (each_after case_piece rest.items) token))))
 stmt_shown (layers.While first rest) = both token (both (branch_piece first.value) (both (each_after branch_piece rest.items) token))
@@ -102,7 +106,7 @@ unfolding branch_piece block_piece
 branch_out b = fold_out-Branch Piece Piece Piece Piece Piece case_step stmt_step block_step branch_step for_step b
 
 pub for_out : (f : For) → for_piece f ≡
-    both token (both (used (out-For f).variable None) (both token (both (expr_piece (out-For f).from) (both token (both (expr_piece (out-For f).to)
+    both token (both variable_piece (both token (both (expr_piece (out-For f).from) (both token (both (expr_piece (out-For f).to)
     (both (if_there (λ e. both token (expr_piece e)) (out-For f).by) (both token (both (block_piece (out-For f).body) token))))))))
 unfolding for_piece block_piece
 for_out f = fold_out-For Piece Piece Piece Piece Piece case_step stmt_step block_step branch_step for_step f
@@ -125,10 +129,10 @@ stated s x e = stmt_out s ∙ ap (λ y. stmt_shown y) e
 pub empty_made : stmt_piece statements.Empty ≡ nothing
 empty_made = stated _ _ statements.outs-Empty
 
-pub assign_made : (d : Designator) (e : Expr) → stmt_piece (statements.Assign d e) ≡ both (designator_piece d) (both token (expr_piece e))
+pub assign_made : (d : Designator) (e : Expr) → stmt_piece (statements.Assign d e) ≡ both (designator_piece true d) (both token (expr_piece e))
 assign_made d e = stated _ _ (statements.outs-Assign d e)
 
-pub call_made : (d : Designator) → stmt_piece (statements.Call d) ≡ designator_piece d
+pub call_made : (d : Designator) → stmt_piece (statements.Call d) ≡ designator_piece false d
 call_made d = stated _ _ (statements.outs-Call d)
 
 pub if_made : (b : Box Branch Global) (v : Vec Branch Global) (o : Option (Box Block Global)) → stmt_piece (statements.If b v o)
@@ -161,9 +165,9 @@ case_after e b v c s = simp (case_made e b v, after_both, after_token)
 
 pub for_after : (f : For) (c : Context) (s : Stage) → after (for_piece f) c s
     ≡ passed (after (block_piece (out-For f).body) c (passed (after (if_there (λ e. both token (expr_piece e)) (out-For f).by) c
-    (after (expr_piece (out-For f).to) c (passed (after (expr_piece (out-For f).from) c (passed (after (used (out-For f).variable None) c (passed s)))))))))
+    (after (expr_piece (out-For f).to) c (passed (after (expr_piece (out-For f).from) c (passed (after variable_piece c (passed s)))))))))
 for_after f c s = simp (for_out f, after_both, after_token)
 
-pub ruleset labels_made = (steps, qualident_out, integer_label, text_label, name_label, label_range_out)
+pub ruleset labels_made = (steps, qualident_out, variable_out, integer_label, text_label, name_label, label_range_out)
 
 pub ruleset statements_made = (steps, block_out, branch_out, for_after, nothing_made, labelled_made, empty_made, assign_made, call_made, if_after, case_after, while_made, repeat_made, for_stmt_made)

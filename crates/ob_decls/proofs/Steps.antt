@@ -6,7 +6,8 @@ use Rattle.ob_decls.specs.declared.rows.Sort.{Sort}
 use Rattle.ob_decls.specs.declared.rows.Declarer.{Declarer}
 use Rattle.ob_decls.specs.declared.draft.Context.{Context}
 use Rattle.ob_decls.specs.Parts.{Piece, Rows, no_rows, joined, nothing, token, both, tells, within, each, declarer, declaring, declaring_at, one_declarer}
-use Rattle.ob_decls.specs.Drafts.{Stage, after, passed, added, closed}
+use Rattle.ob_decls.specs.declared.draft.Draft.{Draft}
+use Rattle.ob_decls.specs.Drafts.{Stage, stage_of, after, passed, added, closed}
 
 abbrev rows_with : List Declarer → Rows → Rows
 rows_with ds r = record r { declarers = ds }
@@ -70,7 +71,27 @@ set_beyond [] n x h = refl
 set_beyond (y ∷ ys) zero x h = absurd (omega (arith, h))
 set_beyond (y ∷ ys) (suc n) x h = ap (λ (zs : List _). y ∷ zs) (set_beyond ys n x (omega (arith, h)))
 
-pub ruleset steps = (append_assoc, take_at_read, take_all, after_nothing, after_token, after_both, after_tells, after_within, after_each)
+pub number_of : (d : Draft) → (stage_of d).number ≡ d.number
+unfolding stage_of
+number_of d = refl
+
+pub declarers_of : (d : Draft) → (stage_of d).rows.declarers ≡ d.declarers.items
+unfolding stage_of
+declarers_of d = refl
+
+pub selectors_of : (d : Draft) → (stage_of d).rows.selectors ≡ d.selectors.items
+unfolding stage_of
+selectors_of d = refl
+
+pub added_number : (r : Rows) (s : Stage) → (added r s).number ≡ s.number
+unfolding added
+added_number r s = refl
+
+pub added_none : (s : Stage) → added no_rows s ≡ s
+unfolding added
+added_none s = stage _ _ _ _ refl (joined_none s.rows)
+
+pub ruleset steps = (number_of, declarers_of, append_assoc, take_at_read, take_all, after_nothing, after_token, after_both, after_tells, after_within, after_each)
 
 -- a row at the end of one list, and none in the others
 pub ruleset growing = (append-nil, set_beyond)

@@ -1,9 +1,28 @@
 -- The rows behind a whole module.
 use Rattle.std.proofs.Common.{◌≡◌, refl}
 use Rattle.ob_decls.specs.declared.draft.Context.{Context}
-use Rattle.ob_decls.specs.Parts.{Piece, joined, no_rows}
-use Rattle.ob_decls.specs.Drafts.{Stage, after, start}
+use Rattle.ob_decls.specs.declared.draft.Draft.{Draft}
+use Rattle.ob_decls.specs.Parts.{Piece, Rows, joined, no_rows}
+use Rattle.ob_decls.specs.Drafts.{Stage, stage_of, after, start}
 
-pub rows_after : (p : Piece) (c : Context) (s t : Stage) → s ≡ start → t ≡ after p c s → t.rows ≡ p.rows c 0
+abbrev drafted : Draft → Rows
+drafted d = record {
+  declarers = d.declarers.items;
+  declared = d.declared.items;
+  uses = d.uses.items;
+  blocks = d.blocks.items;
+  imports = d.imports.items;
+  parts = d.parts.items;
+  records = d.records.items;
+  designators = d.designators.items;
+  selectors = d.selectors.items;
+  ends = d.ends.items;
+}
+
+rows_behind : (p : Piece) (c : Context) (s t : Stage) → s ≡ start → t ≡ after p c s → t.rows ≡ p.rows c 0
 unfolding after joined no_rows
-rows_after p c s t e f = rw (f, e) refl
+rows_behind p c s t e f = rw (f, e) refl
+
+pub rows_after : (p : Piece) (c : Context) (s : Stage) (d : Draft) → s ≡ start → stage_of d ≡ after p c s → drafted d ≡ p.rows c 0
+unfolding stage_of
+rows_after p c s d e f = rows_behind p c s (stage_of d) e f

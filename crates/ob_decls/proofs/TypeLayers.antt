@@ -1,5 +1,6 @@
 -- What types tell, layer by layer.
-use Rattle.std.proofs.Common.{◌≡◌, ℕ, zero, suc, add-one, ◌+◌, List, [], Option, Some, None, false, refl, ap, ◌∙◌}
+use Rattle.std.proofs.Common.{◌≡◌, ℕ, zero, suc, add-one, ◌+◌, ◌<◌, List, [], ◌∷◌, ◌++◌, length, take, get_or, arith, Option, Some, None, false, refl, ap, ◌∙◌}
+use Rattle.std.proofs.lemmas.Grind.{take_at_read}
 use Rattle.std.specs.declared.boxed.Box.{Box}
 use Rattle.std.specs.declared.alloc.Global.{Global}
 use Rattle.ob_tree.specs.declared.expression.ExprList.{ExprList, out-ExprList}
@@ -18,31 +19,38 @@ use Rattle.ob_decls.specs.declared.rows.Sort.TheVariants as sorts
 use Rattle.ob_decls.specs.declared.rows.Part.TheVariants as parts
 use Rattle.ob_decls.specs.declared.draft.Context.{Context}
 use Rattle.ob_decls.specs.Drafts.{Stage, added, after, passed}
-use Rattle.ob_decls.specs.Parts.{Piece, Rows, nothing, token, both, tells, within, if_there, if_so, each, declaring, opening}
+use Rattle.ob_decls.specs.Parts.{Piece, nothing, token, both, tells, within, if_there, if_so, each, declaring, opening}
 use Rattle.ob_decls.specs.Expressions.{each_after, expr_piece}
 use Rattle.ob_decls.specs.Statements.{qualident_piece}
 use Rattle.ob_decls.specs.Types.{declared_row, part_here, name_part, type_use, targeted, untargeted, in_record, record_row, identdef_piece, parameter_piece, open_arrays, section_inner, section_piece, parameters_piece, type_name_piece, lengths_piece, type_step, fields_step, record_step, var_step, type_piece, fields_piece, record_piece, var_piece}
-use Rattle.ob_decls.proofs.Steps.{each-map, after_token, after_tells, after_within, after_both, after_nothing, after_declaring, steps}
-
-pub added_number : (r : Rows) (s : Stage) → (added r s).number ≡ s.number
-unfolding added
-added_number r s = refl
+use Rattle.ob_decls.proofs.Steps.{added_number, after_each, each-map, after_token, after_tells, after_within, after_both, after_nothing, after_declaring, steps}
 
 fields_there : (f : Fields → Piece) (o : Option (Box Fields Global)) → if_there (λ x. x.value) ((shapes.former-Record-fields).map Fields Piece f o)
     ≡ if_there (λ x. f x.value) o
 fields_there f None = refl
 fields_there f (Some x) = refl
 
-pub identdef_out : (i : Identdef) → identdef_piece i ≡ tells (declared_row i.name i.starred) (both token (if_so i.starred token))
+pub identdef_out : (i : Identdef) → identdef_piece i ≡ tells (declared_row i.starred) (both token (if_so i.starred token))
 unfolding identdef_piece
 identdef_out i = refl
 
-pub parameter_out : (n : ℕ) → parameter_piece n ≡ tells (declared_row n false) token
+pub parameter_out : parameter_piece ≡ tells (declared_row false) token
 unfolding parameter_piece
-parameter_out n = refl
+parameter_out = refl
+
+-- one more name behind a comma
+pub after_name : (i : ℕ) (xs : List ℕ) (c : Context) (s : Stage) → i < length xs →
+    after (each_after (λ n. parameter_piece) (take (i + 1) xs)) c s ≡ after parameter_piece c (passed (after (each_after (λ n. parameter_piece) (take i xs)) c s))
+after_name i xs c s h =
+    let w : take (i + 1) xs ≡ take i xs ++ get_or xs i 0 ∷ [] = grind (arith, take_at_read) in
+    let t : Stage = after (each_after (λ n. parameter_piece) (take i xs)) c s in
+    ap (λ (ys : List ℕ). after (each_after (λ n. parameter_piece) ys) c s) w
+    ∙ after_each (λ (n : ℕ). both token parameter_piece) (take i xs) (get_or xs i 0) c s
+    ∙ after_both token parameter_piece c t
+    ∙ ap (λ (u : Stage). after parameter_piece c u) (after_token c t)
 
 pub section_inner_out : (s : ParameterSection) → section_inner s ≡
-    both (if_so s.variable token) (both (parameter_piece s.names.first) (both (each_after parameter_piece s.names.rest.items) (both token
+    both (if_so s.variable token) (both parameter_piece (both (each_after (λ n. parameter_piece) s.names.rest.items) (both token
     (both (open_arrays s.open_arrays) (tells (name_part s.of) (qualident_piece s.of))))))
 unfolding section_inner
 section_inner_out s = refl
@@ -146,6 +154,6 @@ pointer_made t = formed _ _ (forms.outs-PointerTo t)
 pub procedure_type_made : (p : Option Parameters) → type_piece (forms.ProcOf p) ≡ tells (part_here parts.Procedure) (opening (both token (if_there parameters_piece p)))
 procedure_type_made p = formed _ _ (forms.outs-ProcOf p)
 
-pub ruleset names_made = (steps, after_declaring, added_number, after_arrays, identdef_out, parameter_out, section_inner_out, section_out, parameters_out, type_name_out, lengths_out)
+pub ruleset names_made = (steps, after_declaring, added_number, after_arrays, after_name, identdef_out, parameter_out, section_inner_out, section_out, parameters_out, type_name_out, lengths_out)
 
 pub ruleset types_made = (steps, after_declaring, added_number, fields_out, record_after, var_out, named_made, array_made, record_of_made, pointer_made, procedure_type_made)

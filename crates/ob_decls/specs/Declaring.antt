@@ -1,5 +1,5 @@
 -- What declarations and modules declare and use, a step for each production (Oberon-07 report, sections 5, 7, 10 and 11).
-use Rattle.std.specs.Prelude.{ℕ, List, Option, Some, None, false}
+use Rattle.std.specs.Prelude.{ℕ, ◌+◌, List, Option, Some, None, false}
 use Rattle.ob_tree.specs.declared.name.OneOrMore.{OneOrMore}
 use Rattle.ob_tree.specs.declared.declaration.ConstDecl.{ConstDecl}
 use Rattle.ob_tree.specs.declared.declaration.TypeDecl.{TypeDecl}
@@ -11,7 +11,7 @@ use Rattle.ob_tree.specs.declared.declaration.ProcDecl.{ProcDecl, ProcDecl-F, fo
 use Rattle.ob_decls.specs.declared.rows.Sort.TheVariants as sorts
 use Rattle.ob_decls.specs.declared.draft.Context.{Context}
 use Rattle.ob_decls.specs.declared.table.Table.{Table}
-use Rattle.ob_decls.specs.Parts.{Piece, Rows, one_import, nothing, token, both, tells, if_there, each, declaring, opening}
+use Rattle.ob_decls.specs.Parts.{Piece, Rows, one_end, one_import, token, both, tells, if_there, each, declaring, opening}
 use Rattle.ob_decls.specs.Expressions.{each_after, expr_piece}
 use Rattle.ob_decls.specs.Statements.{block_piece}
 use Rattle.ob_decls.specs.Types.{declared_row, identdef_piece, parameters_piece, type_piece, var_piece}
@@ -32,6 +32,13 @@ variable_piece v = declaring sorts.Variable (var_piece v)
 abbrev pub part : {X : Type 0} → (X → Piece) → List X → Piece
 part f xs = both token (each (λ x. both (f x) token) xs)
 
+-- the names behind END
+abbrev pub procedure_end : Context → ℕ → Rows
+procedure_end c k = one_end (record { number = k; of = Some (c.declarer + 1) })
+
+abbrev pub module_end : Context → ℕ → Rows
+module_end c k = one_end (record { number = k; of = None })
+
 -- Each step below is one layer of a tree, with what its parts tell in their places.
 
 -- DeclarationSequence = [CONST {ConstDeclaration ";"}] [TYPE {TypeDeclaration ";"}] [VAR {VariableDeclaration ";"}]
@@ -48,7 +55,7 @@ abbrev pub procedure_step : ProcDecl-F Piece Piece → Piece
 procedure_step p = declaring sorts.Procedure (opening (
     both token (both (identdef_piece p.name) (both (if_there parameters_piece p.parameters) (both token
     (both p.declarations (both (if_there (λ b. both token (block_piece b.value)) p.body)
-    (both (if_there (λ e. both token (expr_piece e.value)) p.returned) (both token token)))))))))
+    (both (if_there (λ e. both token (expr_piece e.value)) p.returned) (both token (tells procedure_end token))))))))))
 
 unfoldable pub declarations_piece : Declarations → Piece
 declarations_piece = fold-Declarations Piece Piece declarations_step procedure_step
@@ -61,22 +68,19 @@ unfoldable pub procedure_inner : ProcDecl → Piece
 procedure_inner p =
     both token (both (identdef_piece (out-ProcDecl p).name) (both (if_there parameters_piece (out-ProcDecl p).parameters) (both token
     (both (declarations_piece (out-ProcDecl p).declarations) (both (if_there (λ b. both token (block_piece b.value)) (out-ProcDecl p).body)
-    (both (if_there (λ e. both token (expr_piece e.value)) (out-ProcDecl p).returned) (both token token)))))))
+    (both (if_there (λ e. both token (expr_piece e.value)) (out-ProcDecl p).returned) (both token (tells procedure_end token))))))))
 
 -- what an import item names: the identifier behind :=, or else its own
-abbrev pub named_by : ImportItem → ℕ
-named_by i = by i.of
-  where
-    by : Option ℕ → ℕ
-    by None = i.name
-    by (Some m) = m
+abbrev pub named_by : Option ℕ → ℕ → ℕ
+named_by None k = k
+named_by (Some m) k = k + 2
 
 -- import = ident [":=" ident]
 abbrev pub import_row : ImportItem → Context → ℕ → Rows
-import_row i c k = one_import (record { alias = i.name; imported = named_by i })
+import_row i c k = one_import (record { alias = k; imported = named_by i.of k })
 
 unfoldable pub import_inner : ImportItem → Piece
-import_inner i = tells (import_row i) (tells (declared_row i.name false) (both token (if_there (λ m. both token token) i.of)))
+import_inner i = tells (import_row i) (tells (declared_row false) (both token (if_there (λ m. both token token) i.of)))
 
 unfoldable pub import_piece : ImportItem → Piece
 import_piece i = declaring sorts.Import (import_inner i)
@@ -90,7 +94,7 @@ unfoldable pub module_piece : Module → Piece
 module_piece m =
     both token (both token (both token (
     both (if_there imports_piece m.imports) (
-    both (declarations_piece m.declarations) (both (if_there (λ b. both token (block_piece b)) m.body) (both token (both token token)))))))
+    both (declarations_piece m.declarations) (both (if_there (λ b. both token (block_piece b)) m.body) (both token (both (tells module_end token) token)))))))
 
 -- what is around a module's parts: its own block
 abbrev pub outermost : Context
@@ -99,6 +103,10 @@ outermost = record { block = 0; declarer = 0; of_record = 0; is_target = false }
 -- what a module declares and uses
 abbrev pub rows_of : Module → Rows
 rows_of m = (module_piece m).rows outermost 0
+
+-- MODULE stands before the module's own name
+abbrev pub own_name : ℕ
+own_name = 1
 
 -- what a table has
 abbrev pub rows_in : Table → Rows
@@ -110,4 +118,7 @@ rows_in t = record {
   imports = t.imports.items;
   parts = t.parts.items;
   records = t.records.items;
+  designators = t.designators.items;
+  selectors = t.selectors.items;
+  ends = t.ends.items;
 }

@@ -1,7 +1,8 @@
 -- How far a table is made.
-use Rattle.std.specs.Prelude.{ℕ, ◌+◌, ◌-◌, List}
+use Rattle.std.specs.Prelude.{ℕ, ◌+◌, ◌-◌}
 use Rattle.std.specs.Prelude.{set}
 use Rattle.ob_decls.specs.declared.rows.Declarer.{Declarer}
+use Rattle.ob_decls.specs.declared.rows.Selector.{Selector}
 use Rattle.ob_decls.specs.declared.draft.Context.{Context}
 use Rattle.ob_decls.specs.declared.draft.Draft.{Draft}
 use Rattle.ob_decls.specs.Parts.{Rows, Piece, joined, no_rows}
@@ -11,7 +12,8 @@ pub record Stage : Type 0 where
   pub number : ℕ
   pub rows : Rows
 
-abbrev pub stage_of : Draft → Stage
+-- how far a draft is
+unfoldable pub stage_of : Draft → Stage
 stage_of d = record {
   number = d.number;
   rows = record {
@@ -22,6 +24,9 @@ stage_of d = record {
     imports = d.imports.items;
     parts = d.parts.items;
     records = d.records.items;
+    designators = d.designators.items;
+    selectors = d.selectors.items;
+    ends = d.ends.items;
   };
 }
 
@@ -46,4 +51,11 @@ unfoldable pub closed : ℕ → Declarer → Stage → Stage
 closed at row s = record {
   number = s.number;
   rows = record (s.rows) { declarers = set s.rows.declarers at (record row { last = s.number - 1 }) };
+}
+
+-- with this selector in the place of another
+unfoldable pub settled : ℕ → Selector → Stage → Stage
+settled at row s = record {
+  number = s.number;
+  rows = record (s.rows) { selectors = set s.rows.selectors at row };
 }

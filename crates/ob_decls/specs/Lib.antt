@@ -2,5 +2,6 @@ pub mod Declaring
 pub mod Drafts
 pub mod Expressions
 pub mod Parts
+pub mod Settling
 pub mod Statements
 pub mod Types

@@ -1,6 +1,5 @@
 -- What the parts of a tree declare and use: of each part how many tokens it has, and its rows, by where it stands.
-use Rattle.std.specs.Prelude.{ℕ, ◌+◌, ◌-◌, List, [], ◌∷◌, ◌++◌, Bool, true, false, if◌then◌else◌, Option, Some, None}
-use Rattle.ob_tree.specs.declared.name.OneOrMore.{OneOrMore}
+use Rattle.std.specs.Prelude.{ℕ, ◌+◌, ◌-◌, List, [], ◌∷◌, ◌++◌, Bool, false, if◌then◌else◌, Option, Some, None}
 use Rattle.ob_decls.specs.declared.rows.Sort.{Sort}
 use Rattle.ob_decls.specs.declared.rows.Sort.TheVariants as sorts
 use Rattle.ob_decls.specs.declared.rows.Declarer.{Declarer}
@@ -10,6 +9,9 @@ use Rattle.ob_decls.specs.declared.rows.Block.{Block}
 use Rattle.ob_decls.specs.declared.rows.Import.{Import}
 use Rattle.ob_decls.specs.declared.rows.FormPart.{FormPart}
 use Rattle.ob_decls.specs.declared.rows.Record.{Record}
+use Rattle.ob_decls.specs.declared.rows.Designator.{Designator}
+use Rattle.ob_decls.specs.declared.rows.Selector.{Selector}
+use Rattle.ob_decls.specs.declared.rows.End.{End}
 use Rattle.ob_decls.specs.declared.draft.Context.{Context}
 
 -- rows, each list in the order of the tokens
@@ -21,9 +23,12 @@ pub record Rows : Type 0 where
   pub imports : List Import
   pub parts : List FormPart
   pub records : List Record
+  pub designators : List Designator
+  pub selectors : List Selector
+  pub ends : List End
 
 unfoldable pub no_rows : Rows
-no_rows = record { declarers = []; declared = []; uses = []; blocks = []; imports = []; parts = []; records = [] }
+no_rows = record { declarers = []; declared = []; uses = []; blocks = []; imports = []; parts = []; records = []; designators = []; selectors = []; ends = [] }
 
 -- the rows of two parts, one behind the other
 unfoldable pub joined : Rows → Rows → Rows
@@ -35,6 +40,9 @@ joined a b = record {
   imports = a.imports ++ b.imports;
   parts = a.parts ++ b.parts;
   records = a.records ++ b.records;
+  designators = a.designators ++ b.designators;
+  selectors = a.selectors ++ b.selectors;
+  ends = a.ends ++ b.ends;
 }
 
 -- a part of a tree: how many tokens it has, and its rows by what is around it and the number of its first token
@@ -78,25 +86,34 @@ each f (x ∷ xs) = both (f x) (each f xs)
 -- ---- rows of one kind
 
 abbrev pub one_declarer : Declarer → Rows
-one_declarer x = record { declarers = x ∷ []; declared = []; uses = []; blocks = []; imports = []; parts = []; records = [] }
+one_declarer x = record { declarers = x ∷ []; declared = []; uses = []; blocks = []; imports = []; parts = []; records = []; designators = []; selectors = []; ends = [] }
 
 abbrev pub one_declared : Declared → Rows
-one_declared x = record { declarers = []; declared = x ∷ []; uses = []; blocks = []; imports = []; parts = []; records = [] }
+one_declared x = record { declarers = []; declared = x ∷ []; uses = []; blocks = []; imports = []; parts = []; records = []; designators = []; selectors = []; ends = [] }
 
 abbrev pub one_used : Used → Rows
-one_used x = record { declarers = []; declared = []; uses = x ∷ []; blocks = []; imports = []; parts = []; records = [] }
+one_used x = record { declarers = []; declared = []; uses = x ∷ []; blocks = []; imports = []; parts = []; records = []; designators = []; selectors = []; ends = [] }
 
 abbrev pub one_block : Block → Rows
-one_block x = record { declarers = []; declared = []; uses = []; blocks = x ∷ []; imports = []; parts = []; records = [] }
+one_block x = record { declarers = []; declared = []; uses = []; blocks = x ∷ []; imports = []; parts = []; records = []; designators = []; selectors = []; ends = [] }
 
 abbrev pub one_import : Import → Rows
-one_import x = record { declarers = []; declared = []; uses = []; blocks = []; imports = x ∷ []; parts = []; records = [] }
+one_import x = record { declarers = []; declared = []; uses = []; blocks = []; imports = x ∷ []; parts = []; records = []; designators = []; selectors = []; ends = [] }
 
 abbrev pub one_part : FormPart → Rows
-one_part x = record { declarers = []; declared = []; uses = []; blocks = []; imports = []; parts = x ∷ []; records = [] }
+one_part x = record { declarers = []; declared = []; uses = []; blocks = []; imports = []; parts = x ∷ []; records = []; designators = []; selectors = []; ends = [] }
 
 abbrev pub one_record : Record → Rows
-one_record x = record { declarers = []; declared = []; uses = []; blocks = []; imports = []; parts = []; records = x ∷ [] }
+one_record x = record { declarers = []; declared = []; uses = []; blocks = []; imports = []; parts = []; records = x ∷ []; designators = []; selectors = []; ends = [] }
+
+abbrev pub one_designator : Designator → Rows
+one_designator x = record { declarers = []; declared = []; uses = []; blocks = []; imports = []; parts = []; records = []; designators = x ∷ []; selectors = []; ends = [] }
+
+abbrev pub these_selectors : List Selector → Rows
+these_selectors xs = record { declarers = []; declared = []; uses = []; blocks = []; imports = []; parts = []; records = []; designators = []; selectors = xs; ends = [] }
+
+abbrev pub one_end : End → Rows
+one_end x = record { declarers = []; declared = []; uses = []; blocks = []; imports = []; parts = []; records = []; designators = []; selectors = []; ends = x ∷ [] }
 
 -- ---- constructs that declare
 

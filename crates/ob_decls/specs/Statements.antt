@@ -1,5 +1,5 @@
 -- What names and statements use, a step for each production (Oberon-07 report, sections 4 and 9).
-use Rattle.std.specs.Prelude.{ℕ, Option, None}
+use Rattle.std.specs.Prelude.{None, true, false}
 use Rattle.ob_tree.specs.declared.name.Qualident.{Qualident}
 use Rattle.ob_tree.specs.declared.statement.Label.{Label}
 use Rattle.ob_tree.specs.declared.statement.Label.TheVariants as labels
@@ -10,12 +10,12 @@ use Rattle.ob_tree.specs.declared.statement.Stmt.{Stmt, Stmt-F, fold-Stmt}
 use Rattle.ob_tree.specs.declared.statement.Block.{Block, Block-F, fold-Block}
 use Rattle.ob_tree.specs.declared.statement.Branch.{Branch, Branch-F, fold-Branch}
 use Rattle.ob_tree.specs.declared.statement.For.{For, For-F, fold-For}
-use Rattle.ob_decls.specs.Parts.{Piece, nothing, token, both, if_there}
-use Rattle.ob_decls.specs.Expressions.{used, each_after, expr_piece, designator_piece}
+use Rattle.ob_decls.specs.Parts.{Piece, nothing, token, both, tells, if_there}
+use Rattle.ob_decls.specs.Expressions.{used, each_after, expr_piece, designator_piece, designator_row}
 
 -- qualident = ident ["." ident]; a dot and a name behind the first
 unfoldable pub qualident_piece : Qualident → Piece
-qualident_piece q = both (used q.head q.member) (if_there (λ m. both token token) q.member)
+qualident_piece q = both (used q.member) (if_there (λ m. both token token) q.member)
 
 -- label = integer | string | qualident
 unfoldable pub label_piece : Label → Piece
@@ -41,8 +41,8 @@ case_step (layers.Labelled ranges body) = both (label_range_piece ranges.first) 
 -- RepeatStatement = REPEAT StatementSequence UNTIL expression
 abbrev pub stmt_step : Stmt-F Piece Piece Piece Piece Piece → Piece
 stmt_step layers.Empty = nothing
-stmt_step (layers.Assign d e) = both (designator_piece d) (both token (expr_piece e))
-stmt_step (layers.Call d) = designator_piece d
+stmt_step (layers.Assign d e) = both (designator_piece true d) (both token (expr_piece e))
+stmt_step (layers.Call d) = designator_piece false d
 stmt_step (layers.If first rest otherwise) =
     both token (both first.value (both (each_after (λ b. b) rest.items) (both (if_there (λ b. both token b.value) otherwise) token)))
 stmt_step (layers.Case e first rest) =
@@ -59,10 +59,14 @@ block_step b = both b.first (each_after (λ s. s) b.rest.items)
 abbrev pub branch_step : Branch-F Piece Piece Piece Piece Piece → Piece
 branch_step b = both (expr_piece b.condition) (both token b.body)
 
+-- the variable of a FOR
+unfoldable pub variable_piece : Piece
+variable_piece = tells (designator_row true) (used None)
+
 -- ForStatement = FOR ident ":=" expression TO expression [BY expression] DO StatementSequence END
 abbrev pub for_step : For-F Piece Piece Piece Piece Piece → Piece
 for_step f =
-    both token (both (used f.variable None) (both token (both (expr_piece f.from) (both token (both (expr_piece f.to)
+    both token (both variable_piece (both token (both (expr_piece f.from) (both token (both (expr_piece f.to)
     (both (if_there (λ e. both token (expr_piece e)) f.by) (both token (both f.body token))))))))
 
 unfoldable pub case_piece : Case → Piece

@@ -1,5 +1,5 @@
 -- What types declare and use, a step for each production (Oberon-07 report, sections 6 and 10.1).
-use Rattle.std.specs.Prelude.{ℕ, zero, suc, Option, Some, None, true, false, Bool}
+use Rattle.std.specs.Prelude.{ℕ, zero, suc, ◌+◌, Option, Some, None, true, false, Bool}
 use Rattle.ob_tree.specs.declared.name.Identdef.{Identdef}
 use Rattle.ob_tree.specs.declared.name.Qualident.{Qualident}
 use Rattle.ob_tree.specs.declared.declaration.ParameterSection.{ParameterSection}
@@ -13,30 +13,30 @@ use Rattle.ob_tree.specs.declared.expression.ExprList.{ExprList, out-ExprList}
 use Rattle.ob_decls.specs.declared.rows.Sort.TheVariants as sorts
 use Rattle.ob_decls.specs.declared.rows.Part.{Part}
 use Rattle.ob_decls.specs.declared.rows.Part.TheVariants as parts
-use Rattle.ob_decls.specs.declared.rows.Base.{Base}
+use Rattle.ob_decls.specs.declared.rows.TypeName.{TypeName}
 use Rattle.ob_decls.specs.declared.draft.Context.{Context}
 use Rattle.ob_decls.specs.Parts.{Piece, Rows, one_declared, one_part, one_record, one_used, nothing, token, both, tells, within, if_there, if_so, each, declaring, opening}
-use Rattle.ob_decls.specs.Expressions.{each_after, expr_piece}
+use Rattle.ob_decls.specs.Expressions.{behind_dot, each_after, expr_piece}
 use Rattle.ob_decls.specs.Statements.{qualident_piece}
 
 -- an identifier that is declared here
-abbrev pub declared_row : ℕ → Bool → Context → ℕ → Rows
-declared_row n exported c k = one_declared (record { number = n; exported = exported; declared_by = c.declarer })
+abbrev pub declared_row : Bool → Context → ℕ → Rows
+declared_row exported c k = one_declared (record { number = k; exported = exported; declared_by = c.declarer })
 
 -- identdef = ident ["*"]
 unfoldable pub identdef_piece : Identdef → Piece
-identdef_piece i = tells (declared_row i.name i.starred) (both token (if_so i.starred token))
+identdef_piece i = tells (declared_row i.starred) (both token (if_so i.starred token))
 
 -- a parameter's name, which has no star
-unfoldable pub parameter_piece : ℕ → Piece
-parameter_piece n = tells (declared_row n false) token
+unfoldable pub parameter_piece : Piece
+parameter_piece = tells (declared_row false) token
 
--- a part of the form of what is being declared, at this token or by this identifier
+-- a part of the form of what is being declared, at this token
 abbrev pub part_here : Part → Context → ℕ → Rows
 part_here p c k = one_part (record { declared_by = c.declarer; number = k; part = p })
 
 abbrev pub name_part : Qualident → Context → ℕ → Rows
-name_part q c k = one_part (record { declared_by = c.declarer; number = q.head; part = parts.Named q.member })
+name_part q c k = one_part (record { declared_by = c.declarer; number = k; part = parts.Named (behind_dot q.member k) })
 
 -- so many times ARRAY OF
 abbrev pub open_arrays : ℕ → Piece
@@ -46,7 +46,7 @@ open_arrays (suc n) = both (tells (part_here parts.Array) (both token token)) (o
 -- FPSection = [VAR] ident {"," ident} ":" {ARRAY OF} qualident
 unfoldable pub section_inner : ParameterSection → Piece
 section_inner s =
-    both (if_so s.variable token) (both (parameter_piece s.names.first) (both (each_after parameter_piece s.names.rest.items) (both token
+    both (if_so s.variable token) (both parameter_piece (both (each_after (λ n. parameter_piece) s.names.rest.items) (both token
     (both (open_arrays s.open_arrays) (tells (name_part s.of) (qualident_piece s.of))))))
 
 unfoldable pub section_piece : ParameterSection → Piece
@@ -64,7 +64,7 @@ is_lone None is_target = is_target
 is_lone (Some m) is_target = false
 
 abbrev pub type_use : Qualident → Context → ℕ → Rows
-type_use q c k = one_used (record { number = q.head; block = c.block; is_target = is_lone q.member c.is_target; member = q.member })
+type_use q c k = one_used (record { number = k; block = c.block; is_target = is_lone q.member c.is_target; member = behind_dot q.member k })
 
 unfoldable pub type_name_piece : Qualident → Piece
 type_name_piece q = tells (name_part q) (tells (type_use q) (both token (if_there (λ m. both token token) q.member)))
@@ -84,13 +84,13 @@ untargeted c k = record { block = c.block; declarer = c.declarer; of_record = c.
 abbrev pub in_record : Context → ℕ → Context
 in_record c k = record { block = c.block; declarer = c.declarer; of_record = k; is_target = false }
 
--- the base that a record names
-abbrev pub base_of : Option Qualident → Option Base
-base_of None = None
-base_of (Some q) = Some (record { head = q.head; member = q.member })
+-- the base that a record names, behind its RECORD and a parenthesis
+abbrev pub base_of : Option Qualident → ℕ → Option TypeName
+base_of None k = None
+base_of (Some q) k = Some (record { head = k + 2; member = behind_dot q.member (k + 2) })
 
 abbrev pub record_row : Option Qualident → Context → ℕ → Rows
-record_row base c k = one_record (record { number = k; owner = c.declarer; base = base_of base })
+record_row base c k = one_record (record { number = k; owner = c.declarer; base = base_of base k })
 
 -- Each step below is one layer of a tree, with what its parts tell in their places.
 

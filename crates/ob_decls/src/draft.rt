@@ -1,10 +1,12 @@
 //! A table that is being made.
 
-ghost use Rattle.std.specs.Prelude.{◌≡◌, length, IfOk};
-ghost use Rattle.ob_decls.specs.Parts.{declarer, declaring_at, in_block, one_block, one_declarer, one_declared, one_import, one_part, one_record, one_used, record_for};
-ghost use Rattle.ob_decls.specs.Drafts.{added, closed, passed, stage_of, start};
+ghost use Rattle.std.specs.Prelude.{◌≡◌, ◌+◌, ◌∷◌, [], length, IfOk};
+ghost use Rattle.ob_decls.specs.Parts.{declarer, declaring_at, in_block, one_block, one_declarer, one_declared, one_designator, one_end, one_import, one_part, one_record, one_used, record_for, these_selectors};
+ghost use Rattle.ob_decls.specs.Drafts.{added, closed, passed, settled, stage_of, start};
 
-use crate::rows::{Block, Declared, Declarer, FormPart, Import, Part, Record, Sort, Used};
+use crate::rows::{
+    Block, Declared, Declarer, Designator, End, FormPart, Import, Record, Selector, Sort, Used,
+};
 use std::alloc::{AllocError, Global};
 
 /// What is around a part of a tree.
@@ -31,11 +33,14 @@ pub(crate) struct Draft {
     pub(crate) imports: Vec<Import>,
     pub(crate) parts: Vec<FormPart>,
     pub(crate) records: Vec<Record>,
+    pub(crate) designators: Vec<Designator>,
+    pub(crate) selectors: Vec<Selector>,
+    pub(crate) ends: Vec<End>,
 }
 
 impl Draft {
     /// Passes a token. AllocError is answered behind 2^32 - 1 tokens.
-    #[tactic(auto, using(crate::proofs::Steps::growing), unfolding(crate::specs::Drafts::passed, crate::specs::Drafts::added, crate::specs::Drafts::closed, crate::specs::Parts::joined))]
+    #[tactic(auto, using(crate::proofs::Steps::growing), unfolding(crate::specs::Drafts::stage_of, crate::specs::Drafts::passed, crate::specs::Drafts::added, crate::specs::Drafts::closed, crate::specs::Parts::joined))]
     pub(crate) fn pass(&mut self) -> Result<(), AllocError>
         ensures { IfOk result (λ _. stage_of self.new ≡ passed (stage_of self.old)) }
     {
@@ -49,7 +54,7 @@ impl Draft {
     }
 
     /// Adds an identifier that is declared.
-    #[tactic(auto, using(crate::proofs::Steps::growing), unfolding(crate::specs::Drafts::passed, crate::specs::Drafts::added, crate::specs::Drafts::closed, crate::specs::Parts::joined))]
+    #[tactic(auto, using(crate::proofs::Steps::growing), unfolding(crate::specs::Drafts::stage_of, crate::specs::Drafts::passed, crate::specs::Drafts::added, crate::specs::Drafts::closed, crate::specs::Parts::joined))]
     pub(crate) fn add_declared(&mut self, row: Declared) -> Result<(), AllocError>
         ensures { IfOk result (λ _. stage_of self.new ≡ added (one_declared row) (stage_of self.old)) }
     {
@@ -58,7 +63,7 @@ impl Draft {
     }
 
     /// Adds an identifier that is looked up.
-    #[tactic(auto, using(crate::proofs::Steps::growing), unfolding(crate::specs::Drafts::passed, crate::specs::Drafts::added, crate::specs::Drafts::closed, crate::specs::Parts::joined))]
+    #[tactic(auto, using(crate::proofs::Steps::growing), unfolding(crate::specs::Drafts::stage_of, crate::specs::Drafts::passed, crate::specs::Drafts::added, crate::specs::Drafts::closed, crate::specs::Parts::joined))]
     pub(crate) fn add_used(&mut self, row: Used) -> Result<(), AllocError>
         ensures { IfOk result (λ _. stage_of self.new ≡ added (one_used row) (stage_of self.old)) }
     {
@@ -67,7 +72,7 @@ impl Draft {
     }
 
     /// Adds a block that begins with the next token.
-    #[tactic(auto, using(crate::proofs::Steps::growing), unfolding(crate::specs::Drafts::passed, crate::specs::Drafts::added, crate::specs::Drafts::closed, crate::specs::Parts::joined))]
+    #[tactic(auto, using(crate::proofs::Steps::growing), unfolding(crate::specs::Drafts::stage_of, crate::specs::Drafts::passed, crate::specs::Drafts::added, crate::specs::Drafts::closed, crate::specs::Parts::joined))]
     pub(crate) fn add_block(&mut self, row: Block) -> Result<(), AllocError>
         ensures { IfOk result (λ _. stage_of self.new ≡ added (one_block row) (stage_of self.old)) }
     {
@@ -76,7 +81,7 @@ impl Draft {
     }
 
     /// Adds an import item.
-    #[tactic(auto, using(crate::proofs::Steps::growing), unfolding(crate::specs::Drafts::passed, crate::specs::Drafts::added, crate::specs::Drafts::closed, crate::specs::Parts::joined))]
+    #[tactic(auto, using(crate::proofs::Steps::growing), unfolding(crate::specs::Drafts::stage_of, crate::specs::Drafts::passed, crate::specs::Drafts::added, crate::specs::Drafts::closed, crate::specs::Parts::joined))]
     pub(crate) fn add_import(&mut self, row: Import) -> Result<(), AllocError>
         ensures { IfOk result (λ _. stage_of self.new ≡ added (one_import row) (stage_of self.old)) }
     {
@@ -85,7 +90,7 @@ impl Draft {
     }
 
     /// Adds a part of a form.
-    #[tactic(auto, using(crate::proofs::Steps::growing), unfolding(crate::specs::Drafts::passed, crate::specs::Drafts::added, crate::specs::Drafts::closed, crate::specs::Parts::joined))]
+    #[tactic(auto, using(crate::proofs::Steps::growing), unfolding(crate::specs::Drafts::stage_of, crate::specs::Drafts::passed, crate::specs::Drafts::added, crate::specs::Drafts::closed, crate::specs::Parts::joined))]
     pub(crate) fn add_part(&mut self, row: FormPart) -> Result<(), AllocError>
         ensures { IfOk result (λ _. stage_of self.new ≡ added (one_part row) (stage_of self.old)) }
     {
@@ -94,7 +99,7 @@ impl Draft {
     }
 
     /// Adds a record.
-    #[tactic(auto, using(crate::proofs::Steps::growing), unfolding(crate::specs::Drafts::passed, crate::specs::Drafts::added, crate::specs::Drafts::closed, crate::specs::Parts::joined))]
+    #[tactic(auto, using(crate::proofs::Steps::growing), unfolding(crate::specs::Drafts::stage_of, crate::specs::Drafts::passed, crate::specs::Drafts::added, crate::specs::Drafts::closed, crate::specs::Parts::joined))]
     pub(crate) fn add_record(&mut self, row: Record) -> Result<(), AllocError>
         ensures { IfOk result (λ _. stage_of self.new ≡ added (one_record row) (stage_of self.old)) }
     {
@@ -102,8 +107,47 @@ impl Draft {
         Ok(())
     }
 
+    /// Adds a designator.
+    #[tactic(auto, using(crate::proofs::Steps::growing), unfolding(crate::specs::Drafts::stage_of, crate::specs::Drafts::passed, crate::specs::Drafts::added, crate::specs::Drafts::closed, crate::specs::Parts::joined))]
+    pub(crate) fn add_designator(&mut self, row: Designator) -> Result<(), AllocError>
+        ensures { IfOk result (λ _. stage_of self.new ≡ added (one_designator row) (stage_of self.old)) }
+    {
+        self.designators.push(row)?;
+        Ok(())
+    }
+
+    /// Adds a selector.
+    #[tactic(auto, using(crate::proofs::Steps::growing), unfolding(crate::specs::Drafts::stage_of, crate::specs::Drafts::passed, crate::specs::Drafts::added, crate::specs::Drafts::closed, crate::specs::Parts::joined))]
+    pub(crate) fn add_selector(&mut self, row: Selector) -> Result<(), AllocError>
+        ensures { IfOk result (λ _. stage_of self.new ≡ added (these_selectors (row ∷ [])) (stage_of self.old)) }
+    {
+        self.selectors.push(row)?;
+        Ok(())
+    }
+
+    /// Adds a name behind END.
+    #[tactic(auto, using(crate::proofs::Steps::growing), unfolding(crate::specs::Drafts::stage_of, crate::specs::Drafts::passed, crate::specs::Drafts::added, crate::specs::Drafts::closed, crate::specs::Parts::joined))]
+    pub(crate) fn add_end(&mut self, row: End) -> Result<(), AllocError>
+        ensures { IfOk result (λ _. stage_of self.new ≡ added (one_end row) (stage_of self.old)) }
+    {
+        self.ends.push(row)?;
+        Ok(())
+    }
+
+    /// Gives the row in this place, and answers the place behind it.
+    #[tactic(auto, using(crate::proofs::Steps::growing), unfolding(crate::specs::Drafts::stage_of, crate::specs::Drafts::passed, crate::specs::Drafts::added, crate::specs::Drafts::settled, crate::specs::Parts::joined))]
+    pub(crate) fn settle(&mut self, at: usize, row: Selector) -> Result<usize, AllocError>
+        ensures row { IfOk result (λ _. stage_of self.new ≡ settled at row (stage_of self.old)) }
+        ensures place { IfOk result (λ next. next ≡ at + 1) }
+    {
+        if at < self.selectors.len() {
+            self.selectors[at] = row;
+        }
+        at.checked_add(1).ok_or(AllocError)
+    }
+
     /// Begins a construct that declares, whose last token isn't known yet.
-    #[tactic(auto, using(crate::proofs::Steps::growing), unfolding(crate::specs::Drafts::passed, crate::specs::Drafts::added, crate::specs::Drafts::closed, crate::specs::Parts::joined))]
+    #[tactic(auto, using(crate::proofs::Steps::growing), unfolding(crate::specs::Drafts::stage_of, crate::specs::Drafts::passed, crate::specs::Drafts::added, crate::specs::Drafts::closed, crate::specs::Parts::joined))]
     pub(crate) fn open(&mut self, row: Declarer) -> Result<usize, AllocError>
         ensures row { IfOk result (λ _. stage_of self.new ≡ added (one_declarer row) (stage_of self.old)) }
         ensures place { IfOk result (λ at. at ≡ length self.old.declarers.items) }
@@ -114,7 +158,7 @@ impl Draft {
     }
 
     /// Ends the construct of this row, behind its last token.
-    #[tactic(auto, using(crate::proofs::Steps::growing), unfolding(crate::specs::Drafts::passed, crate::specs::Drafts::added, crate::specs::Drafts::closed, crate::specs::Parts::joined))]
+    #[tactic(auto, using(crate::proofs::Steps::growing), unfolding(crate::specs::Drafts::stage_of, crate::specs::Drafts::passed, crate::specs::Drafts::added, crate::specs::Drafts::closed, crate::specs::Parts::joined))]
     pub(crate) fn close(&mut self, at: usize, row: Declarer)
         ensures { stage_of self.new ≡ closed at row (stage_of self.old) }
     {
@@ -167,7 +211,7 @@ pub(crate) fn block_from(inside: Context, first: u32) -> Context
 
 impl Draft {
     /// Before the first token.
-    #[tactic(auto, unfolding(crate::specs::Parts::no_rows))]
+    #[tactic(auto, unfolding(crate::specs::Drafts::stage_of, crate::specs::Parts::no_rows))]
     pub(crate) fn new(alloc: Global) -> Draft
         ensures { stage_of result ≡ start }
     {
@@ -180,6 +224,16 @@ impl Draft {
             imports: Vec::new(alloc),
             parts: Vec::new(alloc),
             records: Vec::new(alloc),
+            designators: Vec::new(alloc),
+            selectors: Vec::new(alloc),
+            ends: Vec::new(alloc),
         }
     }
+}
+
+/// The number of the token that stands so many tokens behind this one. AllocError is answered where no row can hold it.
+pub(crate) fn behind(number: u32, by: u32) -> Result<u32, AllocError>
+    ensures { IfOk result (λ n. n ≡ number + by) }
+{
+    number.checked_add(by).ok_or(AllocError)
 }

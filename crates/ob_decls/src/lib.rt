@@ -8,5 +8,8 @@ mod rows;
 mod table;
 mod walk;
 
-pub use rows::{Base, Block, Declared, Declarer, FormPart, Import, Part, Record, Sort, Used};
+pub use rows::{
+    Block, Declared, Declarer, Designator, End, FormPart, Import, Part, Record, Selector, Sort,
+    Step, TypeName, Used,
+};
 pub use table::{Table, table_of};

@@ -1,5 +1,5 @@
-//! The rows of a table. An identifier is told by its token's number in the tree; first and last tokens of constructs by
-//! the count of tokens before them, from 0, so that in the tree of a file both are places among its tokens.
+//! The rows of a table. A token is told by the count of tokens before it, from 0, so that in the tree of a file it is the
+//! token's place among the file's tokens.
 
 /// What an identifier is declared as (Oberon-07 report, sections 4 to 7, 10 and 11).
 #[derive(Clone, Copy, Debug, Drop)]
@@ -91,9 +91,9 @@ pub struct FormPart {
     pub part: Part,
 }
 
-/// The name of a record's base.
+/// A name that stands for a type, alone or behind a module's name and a dot.
 #[derive(Clone, Copy, Debug, Drop)]
-pub struct Base {
+pub struct TypeName {
     pub head: u32,
     /// The name behind a dot that follows it.
     pub member: Option<u32>,
@@ -107,5 +107,44 @@ pub struct Record {
     /// The first token of the declaration whose type it is, directly or through arrays and pointers; that is its first
     /// identifier.
     pub owner: u32,
-    pub base: Option<Base>,
+    pub base: Option<TypeName>,
+}
+
+/// A designator of an expression or of a statement, or the variable of a FOR, which has no selectors.
+#[derive(Clone, Copy, Debug, Drop)]
+pub struct Designator {
+    pub head: u32,
+    /// The block in which it stands, by that block's first token.
+    pub block: u32,
+    /// Whether it stands on the left side of `:=`. What stands between its `[` and `]` or `(` and `)` is not written.
+    pub is_written: bool,
+}
+
+/// One step of a designator.
+#[derive(Clone, Copy, Debug, Drop)]
+pub enum Step {
+    /// `.` and the name behind it.
+    Field(u32),
+    /// `[` and `]`, with how many expressions stand between them.
+    Elements(u32),
+    /// `^`
+    Target,
+    /// `(` and `)`, with the name between them where it is one designator alone that may be a type's name.
+    Arguments(Option<TypeName>),
+}
+
+/// A selector of a designator.
+#[derive(Clone, Copy, Debug, Drop)]
+pub struct Selector {
+    /// The head of its designator.
+    pub of: u32,
+    pub step: Step,
+}
+
+/// The name behind END.
+#[derive(Clone, Copy, Debug, Drop)]
+pub struct End {
+    pub number: u32,
+    /// The identifier that a procedure declares; nothing at the module's end.
+    pub of: Option<u32>,
 }

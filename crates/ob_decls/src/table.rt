@@ -1,10 +1,12 @@
 //! The table of a module, and its readers.
 
 ghost use Rattle.std.specs.Prelude.{◌≡◌, IfOk};
-ghost use Rattle.ob_decls.specs.Declaring.{rows_in, rows_of};
+ghost use Rattle.ob_decls.specs.Declaring.{own_name, rows_in, rows_of};
 
 use crate::draft::{Context, Draft};
-use crate::rows::{Block, Declared, Declarer, FormPart, Import, Record, Used};
+use crate::rows::{
+    Block, Declared, Declarer, Designator, End, FormPart, Import, Record, Selector, Used,
+};
 use crate::walk::declarations::walk_module;
 use ob_tree::declaration::Module;
 use std::alloc::{AllocError, Global};
@@ -19,6 +21,9 @@ pub struct Table {
     pub(crate) imports: Vec<Import>,
     pub(crate) parts: Vec<FormPart>,
     pub(crate) records: Vec<Record>,
+    pub(crate) designators: Vec<Designator>,
+    pub(crate) selectors: Vec<Selector>,
+    pub(crate) ends: Vec<End>,
 }
 
 impl Table {
@@ -70,6 +75,34 @@ impl Table {
     {
         self.records.as_slice()
     }
+
+    /// The designators of expressions and statements.
+    pub fn designators(&self) -> &[Designator]
+        ensures { result.now ≡ self.now.designators.items }
+    {
+        self.designators.as_slice()
+    }
+
+    /// The selectors of all designators: those of one designator in order, before those of designators inside them.
+    pub fn selectors(&self) -> &[Selector]
+        ensures { result.now ≡ self.now.selectors.items }
+    {
+        self.selectors.as_slice()
+    }
+
+    /// The names behind END.
+    pub fn ends(&self) -> &[End]
+        ensures { result.now ≡ self.now.ends.items }
+    {
+        self.ends.as_slice()
+    }
+
+    /// The token that is the module's own name.
+    pub fn own_name(&self) -> u32
+        ensures { result ≡ own_name }
+    {
+        1
+    }
 }
 
 /// The table of a module. AllocError is answered where a growth of memory is refused, and for a tree of 2^32 tokens or more,
@@ -93,5 +126,8 @@ pub fn table_of(alloc: Global, module: &Module) -> Result<Table, AllocError>
         imports: draft.imports,
         parts: draft.parts,
         records: draft.records,
+        designators: draft.designators,
+        selectors: draft.selectors,
+        ends: draft.ends,
     })
 }

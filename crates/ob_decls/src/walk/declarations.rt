@@ -1,15 +1,15 @@
 //! The rows of declarations and modules.
 
 ghost use Rattle.std.specs.Prelude.{◌≡◌, IfOk};
-ghost use Rattle.ob_decls.specs.Declaring.{const_piece, declarations_piece, import_inner, import_piece, imports_piece, module_piece, named_by, part, procedure_inner, procedure_piece, type_decl_piece, variable_piece};
+ghost use Rattle.ob_decls.specs.Declaring.{const_piece, declarations_piece, import_inner, import_piece, imports_piece, module_end, module_piece, named_by, part, procedure_end, procedure_inner, procedure_piece, type_decl_piece, variable_piece};
 ghost use Rattle.ob_decls.specs.Drafts.{after, stage_of};
 ghost use Rattle.ob_decls.specs.Expressions.{expr_piece};
-ghost use Rattle.ob_decls.specs.Parts.{both, if_there, token};
+ghost use Rattle.ob_decls.specs.Parts.{both, if_there, tells, token};
 ghost use Rattle.ob_decls.specs.Statements.{block_piece};
 ghost use Rattle.ob_decls.specs.Types.{parameters_piece};
 
-use crate::draft::{Context, Draft, block_from, declarer_at, declaring_from};
-use crate::rows::{Block as BlockRow, Declared, Import, Sort};
+use crate::draft::{Context, Draft, behind, block_from, declarer_at, declaring_from};
+use crate::rows::{Block as BlockRow, Declared, End, Import, Sort};
 use crate::walk::expressions::walk_expr;
 use crate::walk::statements::walk_block;
 use crate::walk::types::{walk_identdef, walk_parameters, walk_type, walk_var};
@@ -179,8 +179,21 @@ fn walk_procedure_inner(
     walk_procedure_body(draft, inside, &procedure.body)?;
     walk_answer(draft, inside, &procedure.returned)?;
     draft.pass()?;
-    draft.pass()?;
-    Ok(())
+    walk_procedure_end(draft, inside)
+}
+
+/// The name behind the END of a procedure.
+#[tactic(auto, using(crate::proofs::DeclarationLayers::sections_made))]
+fn walk_procedure_end(draft: &mut Draft, inside: Context) -> Result<(), AllocError>
+    ensures { IfOk result (λ _. stage_of draft.new ≡ after (tells procedure_end token) inside (stage_of draft.old)) }
+{
+    let number = draft.number;
+    let of = behind(inside.declarer, 1)?;
+    draft.add_end(End {
+        number,
+        of: Some(of),
+    })?;
+    draft.pass()
 }
 
 #[cycle(declarations)]
@@ -243,13 +256,13 @@ fn walk_answer(
     Ok(())
 }
 
-/// What an import item names: the identifier behind `:=`, or else its own.
-fn imported_by(import: ImportItem) -> u32
-    ensures { result ≡ named_by import }
+/// What an import item names that begins with this token: the identifier behind `:=`, or else its own.
+fn imported_by(import: ImportItem, number: u32) -> Result<u32, AllocError>
+    ensures { IfOk result (λ n. n ≡ named_by import.of number) }
 {
     match import.of {
-        None => import.name,
-        Some(number) => number,
+        None => Ok(number),
+        Some(_) => behind(number, 2),
     }
 }
 
@@ -262,13 +275,14 @@ fn walk_import_inner(
 ) -> Result<(), AllocError>
     ensures { IfOk result (λ _. stage_of draft.new ≡ after (import_inner import) inside (stage_of draft.old)) }
 {
-    let imported = imported_by(import);
+    let number = draft.number;
+    let imported = imported_by(import, number)?;
     draft.add_import(Import {
-        alias: import.name,
+        alias: number,
         imported,
     })?;
     draft.add_declared(Declared {
-        number: import.name,
+        number,
         exported: false,
         declared_by: inside.declarer,
     })?;
@@ -338,6 +352,16 @@ fn walk_module_body(
     Ok(())
 }
 
+/// The name behind the END of a module.
+#[tactic(auto, using(crate::proofs::DeclarationLayers::sections_made))]
+fn walk_module_end(draft: &mut Draft, inside: Context) -> Result<(), AllocError>
+    ensures { IfOk result (λ _. stage_of draft.new ≡ after (tells module_end token) inside (stage_of draft.old)) }
+{
+    let number = draft.number;
+    draft.add_end(End { number, of: None })?;
+    draft.pass()
+}
+
 #[tactic(auto, using(crate::proofs::DeclarationLayers::module_made))]
 pub(crate) fn walk_module(
     draft: &mut Draft,
@@ -353,7 +377,6 @@ pub(crate) fn walk_module(
     walk_declarations(draft, inside, &module.declarations)?;
     walk_module_body(draft, inside, &module.body)?;
     draft.pass()?;
-    draft.pass()?;
-    draft.pass()?;
-    Ok(())
+    walk_module_end(draft, inside)?;
+    draft.pass()
 }

@@ -1,26 +1,39 @@
 //! The rows of expressions and designators.
 
-ghost use Rattle.std.specs.Prelude.{◌≡◌, IfOk, map};
-ghost use Rattle.ob_decls.specs.Drafts.{after, stage_of};
-ghost use Rattle.ob_decls.specs.Expressions.{designator_piece, element_list_piece, element_piece, expr_list_piece, expr_piece, factor_piece, first_name, selected, sum_piece, term_piece, used};
+ghost use Rattle.std.specs.Prelude.{◌≡◌, ◌+◌, IfOk, length, map};
+ghost use Rattle.ob_decls.specs.Drafts.{added, after, stage_of};
+ghost use Rattle.ob_decls.specs.Expressions.{behind_dot, between, denoted, designator_piece, dotted, element_list_piece, element_piece, expr_list_piece, expr_phrase, expr_piece, factor_phrase, factor_piece, first_name, listed, selected, sum_phrase, sum_piece, term_phrase, term_piece, used};
+ghost use Rattle.ob_decls.specs.Parts.{these_selectors};
+ghost use Rattle.ob_decls.specs.Settling.{blanks, settling};
 
-use crate::draft::{Context, Draft};
-use crate::rows::Used;
+use crate::draft::{Context, Draft, behind};
+use crate::rows::{Designator as DesignatorRow, Selector as SelectorRow, Step, TypeName, Used};
 use ob_tree::expression::{
     Designator, Element, ElementList, Expr, ExprList, Factor, Selector, Sum, Term,
 };
 use std::alloc::AllocError;
+
+/// The name behind a dot that follows this token, if one does.
+pub(crate) fn member_at(member: Option<u32>, head: u32) -> Result<Option<u32>, AllocError>
+    ensures { IfOk result (λ m. m ≡ behind_dot member head) }
+{
+    match member {
+        None => Ok(None),
+        Some(_) => Ok(Some(behind(head, 2)?)),
+    }
+}
 
 /// An identifier that is looked up and is no pointer's target.
 #[tactic(auto, using(crate::proofs::Steps::steps))]
 pub(crate) fn walk_used(
     draft: &mut Draft,
     inside: Context,
-    number: u32,
     member: Option<u32>,
 ) -> Result<(), AllocError>
-    ensures { IfOk result (λ _. stage_of draft.new ≡ after (used number member) inside (stage_of draft.old)) }
+    ensures { IfOk result (λ _. stage_of draft.new ≡ after (used member) inside (stage_of draft.old)) }
 {
+    let number = draft.number;
+    let member = member_at(member, number)?;
     draft.add_used(Used {
         number,
         block: inside.block,
@@ -51,6 +64,143 @@ fn name_of(selectors: &[Selector]) -> Option<u32>
         Some(selector) => name_in(selector),
         None => None,
     }
+}
+
+/// The name that a head and this selector are, if that is a dot and a name.
+fn name_with_member(selector: &Selector, number: u32) -> Result<Option<TypeName>, AllocError>
+    ensures { IfOk result (λ n. n ≡ dotted (selected selector.now).name number) }
+{
+    match name_in(selector) {
+        None => Ok(None),
+        Some(_) => Ok(Some(TypeName {
+            head: number,
+            member: Some(behind(number, 2)?),
+        })),
+    }
+}
+
+/// The name that a designator is, if it is one alone, by the number of its first token.
+#[tactic(auto, using(crate::proofs::LoneNames::lone_names))]
+fn name_of_designator(designator: &Designator, number: u32) -> Result<Option<TypeName>, AllocError>
+    ensures { IfOk result (λ n. n ≡ (denoted designator.now).name number) }
+{
+    match designator.selectors.as_slice() {
+        [] => Ok(Some(TypeName {
+            head: number,
+            member: None,
+        })),
+        [selector] => name_with_member(selector, number),
+        _ => Ok(None),
+    }
+}
+
+#[tactic(auto, using(crate::proofs::ExpressionLayers::names_alone))]
+fn name_of_factor(factor: &Factor, number: u32) -> Result<Option<TypeName>, AllocError>
+    ensures { IfOk result (λ n. n ≡ (factor_phrase factor.now).name number) }
+{
+    match factor {
+        Factor::Name(designator) => name_of_designator(designator, number),
+        Factor::Value(_, _) => Ok(None),
+        Factor::Nil => Ok(None),
+        Factor::True => Ok(None),
+        Factor::False => Ok(None),
+        Factor::Set(_) => Ok(None),
+        Factor::Group(_) => Ok(None),
+        Factor::Not(_) => Ok(None),
+    }
+}
+
+#[tactic(auto, using(crate::proofs::ExpressionLayers::names_alone))]
+fn name_of_term(term: &Term, number: u32) -> Result<Option<TypeName>, AllocError>
+    ensures { IfOk result (λ n. n ≡ (term_phrase term.now).name number) }
+{
+    match term.rest.first() {
+        None => name_of_factor(&term.first, number),
+        Some(_) => Ok(None),
+    }
+}
+
+#[tactic(auto, using(crate::proofs::ExpressionLayers::names_alone))]
+fn name_of_sum(sum: &Sum, number: u32) -> Result<Option<TypeName>, AllocError>
+    ensures { IfOk result (λ n. n ≡ (sum_phrase sum.now).name number) }
+{
+    if sum.sign.is_some() {
+        return Ok(None);
+    }
+    match sum.rest.first() {
+        None => name_of_term(&sum.first, number),
+        Some(_) => Ok(None),
+    }
+}
+
+#[tactic(auto, using(crate::proofs::ExpressionLayers::names_alone))]
+fn name_of_expr(expr: &Expr, number: u32) -> Result<Option<TypeName>, AllocError>
+    ensures { IfOk result (λ n. n ≡ (expr_phrase expr.now).name number) }
+{
+    match &expr.compared {
+        None => name_of_sum(&expr.left, number),
+        Some(_) => Ok(None),
+    }
+}
+
+#[tactic(auto, using(crate::proofs::ExpressionLayers::names_alone))]
+fn name_of_list(list: &ExprList, number: u32) -> Result<Option<TypeName>, AllocError>
+    ensures { IfOk result (λ n. n ≡ (listed list.now).name number) }
+{
+    match list.rest.first() {
+        None => name_of_expr(&list.first, number),
+        Some(_) => Ok(None),
+    }
+}
+
+/// How many expressions a list has.
+#[tactic(auto, using(crate::proofs::ExpressionLayers::selectors_made))]
+fn count_of(list: &ExprList) -> Result<u32, AllocError>
+    ensures { IfOk result (λ n. n ≡ (listed list.now).count) }
+{
+    match u32::try_from(list.rest.len()) {
+        Ok(rest) => behind(rest, 1),
+        Err(_) => Err(AllocError),
+    }
+}
+
+/// The step of a selector that begins with this token.
+#[tactic(auto, using(crate::proofs::ExpressionLayers::selectors_made))]
+fn step_of(selector: &Selector, number: u32) -> Result<Step, AllocError>
+    ensures { IfOk result (λ s. s ≡ (selected selector.now).step number) }
+{
+    match selector {
+        Selector::Field(_) => Ok(Step::Field(behind(number, 1)?)),
+        Selector::Index(list) => Ok(Step::Elements(count_of(list)?)),
+        Selector::Target => Ok(Step::Target),
+        Selector::Arguments(list) => Ok(Step::Arguments(inner_name_of(list, number)?)),
+    }
+}
+
+/// The name that stands alone between parentheses, the first of which is this token.
+fn inner_name_of(list: &Option<Box<ExprList>>, number: u32) -> Result<Option<TypeName>, AllocError>
+    ensures { IfOk result (λ n. n ≡ between list.now number) }
+{
+    match list {
+        None => Ok(None),
+        Some(list) => name_of_list(list, behind(number, 1)?),
+    }
+}
+
+/// Adds a place for each of these selectors, and answers the first place.
+#[tactic(auto, using(crate::proofs::Settled::places_made))]
+fn open_selectors(draft: &mut Draft, head: u32, selectors: &[Selector]) -> Result<usize, AllocError>
+    ensures rows { IfOk result (λ _. stage_of draft.new ≡ added (these_selectors (blanks head selectors.now)) (stage_of draft.old)) }
+    ensures place { IfOk result (λ at. at ≡ length draft.old.selectors.items) }
+{
+    let at = draft.selectors.len();
+    for selector in selectors {
+        draft.add_selector(SelectorRow {
+            of: head,
+            step: Step::Target,
+        })?;
+    }
+    Ok(at)
 }
 
 #[cycle(expressions)]
@@ -117,7 +267,7 @@ fn walk_factor(draft: &mut Draft, inside: Context, factor: &Factor) -> Result<()
             }
             draft.pass()?;
         }
-        Factor::Name(designator) => walk_designator(draft, inside, designator)?,
+        Factor::Name(designator) => walk_designator(draft, inside, designator, false)?,
         Factor::Group(expr) => {
             draft.pass()?;
             walk_expr(draft, inside, expr)?;
@@ -165,17 +315,42 @@ fn walk_element(draft: &mut Draft, inside: Context, element: &Element) -> Result
 }
 
 #[cycle(expressions)]
-#[tactic(auto, using(crate::proofs::ExpressionLayers::expressions_made))]
+#[tactic(auto, using(crate::proofs::Settled::designators_settled))]
 pub(crate) fn walk_designator(
     draft: &mut Draft,
     inside: Context,
     designator: &Designator,
+    is_written: bool,
 ) -> Result<(), AllocError>
-    ensures { IfOk result (λ _. stage_of draft.new ≡ after (designator_piece designator.now) inside (stage_of draft.old)) }
+    ensures { IfOk result (λ _. stage_of draft.new ≡ after (designator_piece is_written designator.now) inside (stage_of draft.old)) }
 {
-    let member = name_of(&designator.selectors);
-    walk_used(draft, inside, designator.head, member)?;
-    for selector in &designator.selectors {
+    let head = draft.number;
+    draft.add_designator(DesignatorRow {
+        head,
+        block: inside.block,
+        is_written,
+    })?;
+    let at = open_selectors(draft, head, &designator.selectors)?;
+    walk_used(draft, inside, name_of(&designator.selectors))?;
+    walk_selectors(draft, inside, head, at, &designator.selectors)
+}
+
+/// Selectors, whose rows have their places already.
+#[cycle(expressions)]
+#[tactic(auto, using(crate::proofs::Settled::selectors_settled))]
+fn walk_selectors(
+    draft: &mut Draft,
+    inside: Context,
+    head: u32,
+    at: usize,
+    selectors: &[Selector],
+) -> Result<(), AllocError>
+    ensures { IfOk result (λ _. stage_of draft.new ≡ settling head at (map selected selectors.now) inside (stage_of draft.old)) }
+{
+    let mut place = at;
+    for selector in selectors {
+        let step = step_of(selector, draft.number)?;
+        place = draft.settle(place, SelectorRow { of: head, step })?;
         walk_selector(draft, inside, selector)?;
     }
     Ok(())

@@ -1,12 +1,13 @@
 //! The rows of names and statements.
 
-ghost use Rattle.std.specs.Prelude.{◌≡◌, IfOk, None};
+ghost use Rattle.std.specs.Prelude.{◌≡◌, IfOk};
 ghost use Rattle.ob_decls.specs.Drafts.{after, stage_of};
 ghost use Rattle.ob_decls.specs.Expressions.{each_after, expr_piece};
 ghost use Rattle.ob_decls.specs.Parts.{both, if_there, token};
-ghost use Rattle.ob_decls.specs.Statements.{block_piece, branch_piece, case_piece, for_piece, label_piece, label_range_piece, qualident_piece, stmt_piece};
+ghost use Rattle.ob_decls.specs.Statements.{block_piece, branch_piece, case_piece, for_piece, label_piece, label_range_piece, qualident_piece, stmt_piece, variable_piece};
 
 use crate::draft::{Context, Draft};
+use crate::rows::Designator;
 use crate::walk::expressions::{walk_designator, walk_expr, walk_used};
 use ob_tree::expression::Expr;
 use ob_tree::name::Qualident;
@@ -21,7 +22,7 @@ pub(crate) fn walk_qualident(
 ) -> Result<(), AllocError>
     ensures { IfOk result (λ _. stage_of draft.new ≡ after (qualident_piece name) inside (stage_of draft.old)) }
 {
-    walk_used(draft, inside, name.head, name.member)?;
+    walk_used(draft, inside, name.member)?;
     match name.member {
         None => {}
         Some(_) => {
@@ -74,6 +75,20 @@ fn walk_step(draft: &mut Draft, inside: Context, by: &Option<Expr>) -> Result<()
     Ok(())
 }
 
+/// The variable of a FOR, which is written.
+#[tactic(auto, using(crate::proofs::StatementLayers::labels_made))]
+fn walk_for_variable(draft: &mut Draft, inside: Context) -> Result<(), AllocError>
+    ensures { IfOk result (λ _. stage_of draft.new ≡ after variable_piece inside (stage_of draft.old)) }
+{
+    let head = draft.number;
+    draft.add_designator(Designator {
+        head,
+        block: inside.block,
+        is_written: true,
+    })?;
+    walk_used(draft, inside, None)
+}
+
 #[cycle(statements)]
 #[tactic(auto, using(crate::proofs::StatementLayers::statements_made))]
 pub(crate) fn walk_block(
@@ -99,11 +114,11 @@ fn walk_stmt(draft: &mut Draft, inside: Context, stmt: &Stmt) -> Result<(), Allo
     match stmt {
         Stmt::Empty => {}
         Stmt::Assign(target, value) => {
-            walk_designator(draft, inside, target)?;
+            walk_designator(draft, inside, target, true)?;
             draft.pass()?;
             walk_expr(draft, inside, value)?;
         }
-        Stmt::Call(callee) => walk_designator(draft, inside, callee)?,
+        Stmt::Call(callee) => walk_designator(draft, inside, callee, false)?,
         Stmt::If(first, rest, otherwise) => {
             draft.pass()?;
             walk_branch(draft, inside, first)?;
@@ -223,7 +238,7 @@ fn walk_for(draft: &mut Draft, inside: Context, for_loop: &For) -> Result<(), Al
     ensures { IfOk result (λ _. stage_of draft.new ≡ after (for_piece for_loop.now) inside (stage_of draft.old)) }
 {
     draft.pass()?;
-    walk_used(draft, inside, for_loop.variable, None)?;
+    walk_for_variable(draft, inside)?;
     draft.pass()?;
     walk_expr(draft, inside, &for_loop.from)?;
     draft.pass()?;

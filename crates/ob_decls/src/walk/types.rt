@@ -7,9 +7,9 @@ ghost use Rattle.ob_decls.specs.Types.{base_of, fields_piece, identdef_piece, le
 ghost use Rattle.ob_decls.specs.Parts.{declaring, opening, both, if_there, token};
 ghost use Rattle.ob_decls.specs.declared.rows.Sort.TheVariants as sorts;
 
-use crate::draft::{Context, Draft, block_from, declarer_at, declaring_from};
-use crate::rows::{Base, Block, Declared, FormPart, Part, Record as RecordRow, Sort, Used};
-use crate::walk::expressions::walk_expr;
+use crate::draft::{Context, Draft, behind, block_from, declarer_at, declaring_from};
+use crate::rows::{Block, Declared, FormPart, Part, Record as RecordRow, Sort, TypeName, Used};
+use crate::walk::expressions::{member_at, walk_expr};
 use crate::walk::statements::walk_qualident;
 use ob_tree::declaration::{Fields, ParameterSection, Parameters, Record, TypeForm, VarDecl};
 use ob_tree::expression::ExprList;
@@ -24,8 +24,9 @@ pub(crate) fn walk_identdef(
 ) -> Result<(), AllocError>
     ensures { IfOk result (λ _. stage_of draft.new ≡ after (identdef_piece name) inside (stage_of draft.old)) }
 {
+    let number = draft.number;
     draft.add_declared(Declared {
-        number: name.name,
+        number,
         exported: name.starred,
         declared_by: inside.declarer,
     })?;
@@ -37,11 +38,12 @@ pub(crate) fn walk_identdef(
 }
 
 #[tactic(auto, using(crate::proofs::TypeLayers::names_made))]
-fn walk_parameter(draft: &mut Draft, inside: Context, name: u32) -> Result<(), AllocError>
-    ensures { IfOk result (λ _. stage_of draft.new ≡ after (parameter_piece name) inside (stage_of draft.old)) }
+fn walk_parameter(draft: &mut Draft, inside: Context) -> Result<(), AllocError>
+    ensures { IfOk result (λ _. stage_of draft.new ≡ after parameter_piece inside (stage_of draft.old)) }
 {
+    let number = draft.number;
     draft.add_declared(Declared {
-        number: name,
+        number,
         exported: false,
         declared_by: inside.declarer,
     })?;
@@ -79,10 +81,12 @@ fn add_here(draft: &mut Draft, inside: Context, part: Part) -> Result<(), AllocE
 fn add_name(draft: &mut Draft, inside: Context, name: Qualident) -> Result<(), AllocError>
     ensures { IfOk result (λ _. stage_of draft.new ≡ added (name_part name inside draft.old.number) (stage_of draft.old)) }
 {
+    let number = draft.number;
+    let member = member_at(name.member, number)?;
     draft.add_part(FormPart {
         declared_by: inside.declarer,
-        number: name.head,
-        part: Part::Named(name.member),
+        number,
+        part: Part::Named(member),
     })
 }
 
@@ -98,10 +102,10 @@ fn walk_section_inner(
     if section.variable {
         draft.pass()?;
     }
-    walk_parameter(draft, inside, section.names.first)?;
+    walk_parameter(draft, inside)?;
     for name in &section.names.rest {
         draft.pass()?;
-        walk_parameter(draft, inside, *name)?;
+        walk_parameter(draft, inside)?;
     }
     draft.pass()?;
     walk_open_arrays(draft, inside, section.open_arrays)?;
@@ -165,11 +169,13 @@ fn walk_type_name(draft: &mut Draft, inside: Context, name: Qualident) -> Result
         None => inside.is_target,
         Some(_) => false,
     };
+    let number = draft.number;
+    let member = member_at(name.member, number)?;
     draft.add_used(Used {
-        number: name.head,
+        number,
         block: inside.block,
         is_target,
-        member: name.member,
+        member,
     })?;
     draft.pass()?;
     match name.member {
@@ -264,16 +270,17 @@ pub(crate) fn walk_type(
     Ok(())
 }
 
-/// The base that a record names.
-fn base_from(base: Option<Qualident>) -> Option<Base>
-    ensures { result ≡ base_of base }
+/// The base that a record names, whose RECORD has this number.
+fn base_from(base: Option<Qualident>, number: u32) -> Result<Option<TypeName>, AllocError>
+    ensures { IfOk result (λ b. b ≡ base_of base number) }
 {
     match base {
-        None => None,
-        Some(name) => Some(Base {
-            head: name.head,
-            member: name.member,
-        }),
+        None => Ok(None),
+        Some(name) => {
+            let head = behind(number, 2)?;
+            let member = member_at(name.member, head)?;
+            Ok(Some(TypeName { head, member }))
+        }
     }
 }
 
@@ -283,10 +290,11 @@ fn add_record(draft: &mut Draft, inside: Context, base: Option<Qualident>) -> Re
     ensures { IfOk result (λ _. stage_of draft.new ≡ added (record_row base inside draft.old.number) (stage_of draft.old)) }
 {
     let number = draft.number;
+    let base = base_from(base, number)?;
     draft.add_record(RecordRow {
         number,
         owner: inside.declarer,
-        base: base_from(base),
+        base,
     })
 }
 

@@ -1,8 +1,7 @@
 use Rattle.std.proofs.Common.{◌≡◌, take}
 use Rattle.ob_decls.specs.Drafts.{after, stage_of}
-use Rattle.ob_decls.specs.Parts.{both, declaring, each, tells, token}
-use Rattle.ob_decls.specs.Expressions.{each_after, expr_piece}
-use Rattle.ob_decls.specs.Declaring.{const_piece, import_piece, procedure_piece, type_decl_piece, variable_piece}
+use Rattle.ob_decls.specs.Parts.{both, each, token}
+use Rattle.ob_decls.specs.Declaring.{type_decl_piece}
 use Rattle.ob_decls.proofs.walk.declarations.walk_types.Given as goal
 
 abbrev pub invariant-loop-declared : goal.invariant-loop-declared

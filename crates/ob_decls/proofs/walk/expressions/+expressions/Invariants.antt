@@ -1,7 +1,8 @@
-use Rattle.std.proofs.Common.{◌≡◌, take}
+use Rattle.std.proofs.Common.{◌≡◌, ◌+◌, map, take}
 use Rattle.ob_decls.specs.Drafts.{after, stage_of}
 use Rattle.ob_decls.specs.Parts.{both, each, token}
 use Rattle.ob_decls.specs.Expressions.{each_after, element_piece, expr_piece, factor_piece, selected, term_piece}
+use Rattle.ob_decls.specs.Settling.{settling}
 use Rattle.ob_decls.proofs.walk.expressions.+expressions.Given as goal
 
 abbrev pub invariant-walk_sum-loop-term : goal.invariant-walk_sum-loop-term
@@ -16,5 +17,8 @@ invariant-walk_element_list-loop-element l = stage_of l.draft ≡ after (each_af
 abbrev pub invariant-walk_expr_list-loop-expr : goal.invariant-walk_expr_list-loop-expr
 invariant-walk_expr_list-loop-expr l = stage_of l.draft ≡ after (each_after expr_piece (take l.expr-index l.expr-items)) l.inside (stage_of l.initial.draft)
 
-abbrev pub invariant-walk_designator-loop-selector : goal.invariant-walk_designator-loop-selector
-invariant-walk_designator-loop-selector l = stage_of l.draft ≡ after (each (λ s. (selected s).piece) (take l.selector-index l.selector-items)) l.inside (stage_of l.initial.draft)
+abbrev pub invariant-walk_selectors-loop-selector : goal.invariant-walk_selectors-loop-selector
+invariant-walk_selectors-loop-selector l = record {
+  settled : stage_of l.draft ≡ settling l.head l.at (map selected (take l.selector-index l.selectors)) l.inside (stage_of l.initial.draft);
+  placed : l.place ≡ l.at + l.selector-index;
+}

@@ -1,7 +1,7 @@
 use Rattle.std.proofs.Common.{◌≡◌, take}
 use Rattle.ob_decls.specs.Drafts.{after, stage_of}
-use Rattle.ob_decls.specs.Parts.{both, declaring, each, tells, token}
-use Rattle.ob_decls.specs.Expressions.{each_after, expr_piece}
+use Rattle.ob_decls.specs.Parts.{declaring}
+use Rattle.ob_decls.specs.Expressions.{each_after}
 use Rattle.ob_decls.specs.declared.rows.Sort.TheVariants as sorts
 use Rattle.ob_decls.specs.Types.{identdef_piece, var_piece}
 use Rattle.ob_decls.proofs.walk.types.+types.Given as goal

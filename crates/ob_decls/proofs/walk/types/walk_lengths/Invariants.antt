@@ -1,7 +1,7 @@
 use Rattle.std.proofs.Common.{◌≡◌, take}
 use Rattle.ob_decls.specs.Drafts.{after, stage_of}
-use Rattle.ob_decls.specs.Parts.{both, declaring, each, tells, token}
-use Rattle.ob_decls.specs.Expressions.{each_after, expr_piece}
+use Rattle.ob_decls.specs.Parts.{both, each, tells, token}
+use Rattle.ob_decls.specs.Expressions.{expr_piece}
 use Rattle.ob_decls.specs.declared.rows.Part.TheVariants as parts
 use Rattle.ob_decls.specs.Types.{part_here}
 use Rattle.ob_decls.proofs.walk.types.walk_lengths.Given as goal

@@ -1,7 +1,5 @@
-use Rattle.std.proofs.Common.{◌≡◌, take}
+use Rattle.std.proofs.Common.{◌≡◌}
 use Rattle.ob_decls.specs.Drafts.{after, stage_of}
-use Rattle.ob_decls.specs.Parts.{both, declaring, each, tells, token}
-use Rattle.ob_decls.specs.Expressions.{each_after, expr_piece}
 use Rattle.ob_decls.specs.Types.{open_arrays}
 use Rattle.ob_decls.proofs.walk.types.walk_open_arrays.Given as goal
 

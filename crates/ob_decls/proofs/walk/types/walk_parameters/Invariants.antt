@@ -1,7 +1,6 @@
 use Rattle.std.proofs.Common.{◌≡◌, take}
 use Rattle.ob_decls.specs.Drafts.{after, stage_of}
-use Rattle.ob_decls.specs.Parts.{both, declaring, each, tells, token}
-use Rattle.ob_decls.specs.Expressions.{each_after, expr_piece}
+use Rattle.ob_decls.specs.Expressions.{each_after}
 use Rattle.ob_decls.specs.Types.{section_piece}
 use Rattle.ob_decls.proofs.walk.types.walk_parameters.Given as goal
 
