@@ -1,6 +1,9 @@
 pub mod DeclarationLayers
 pub mod ExpressionLayers
+pub mod Groups
 pub mod LoneNames
+pub mod Orders
+pub mod Searched
 pub mod Settled
 pub mod StatementLayers
 pub mod Steps

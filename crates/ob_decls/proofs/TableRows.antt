@@ -2,22 +2,8 @@
 use Rattle.std.proofs.Common.{◌≡◌, refl}
 use Rattle.ob_decls.specs.declared.draft.Context.{Context}
 use Rattle.ob_decls.specs.declared.draft.Draft.{Draft}
-use Rattle.ob_decls.specs.Parts.{Piece, Rows, joined, no_rows}
-use Rattle.ob_decls.specs.Drafts.{Stage, stage_of, after, start}
-
-abbrev drafted : Draft → Rows
-drafted d = record {
-  declarers = d.declarers.items;
-  declared = d.declared.items;
-  uses = d.uses.items;
-  blocks = d.blocks.items;
-  imports = d.imports.items;
-  parts = d.parts.items;
-  records = d.records.items;
-  designators = d.designators.items;
-  selectors = d.selectors.items;
-  ends = d.ends.items;
-}
+use Rattle.ob_decls.specs.Parts.{Piece, joined, no_rows}
+use Rattle.ob_decls.specs.Drafts.{Stage, drafted, stage_of, after, start}
 
 rows_behind : (p : Piece) (c : Context) (s t : Stage) → s ≡ start → t ≡ after p c s → t.rows ≡ p.rows c 0
 unfolding after joined no_rows

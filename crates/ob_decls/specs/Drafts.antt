@@ -12,23 +12,24 @@ pub record Stage : Type 0 where
   pub number : ℕ
   pub rows : Rows
 
+-- the rows of a draft
+abbrev pub drafted : Draft → Rows
+drafted d = record {
+  declarers = d.declarers.items;
+  declared = d.declared.items;
+  uses = d.uses.items;
+  blocks = d.blocks.items;
+  imports = d.imports.items;
+  parts = d.parts.items;
+  records = d.records.items;
+  designators = d.designators.items;
+  selectors = d.selectors.items;
+  ends = d.ends.items;
+}
+
 -- how far a draft is
 unfoldable pub stage_of : Draft → Stage
-stage_of d = record {
-  number = d.number;
-  rows = record {
-    declarers = d.declarers.items;
-    declared = d.declared.items;
-    uses = d.uses.items;
-    blocks = d.blocks.items;
-    imports = d.imports.items;
-    parts = d.parts.items;
-    records = d.records.items;
-    designators = d.designators.items;
-    selectors = d.selectors.items;
-    ends = d.ends.items;
-  };
-}
+stage_of d = record { number = d.number; rows = drafted d }
 
 -- before the first token
 abbrev pub start : Stage

@@ -4,12 +4,15 @@
 #![tactic(auto)]
 
 mod draft;
+mod making;
+mod order;
 mod rows;
 mod table;
 mod walk;
 
+pub use making::table_of;
 pub use rows::{
     Block, Declared, Declarer, Designator, End, FormPart, Import, Part, Record, Selector, Sort,
     Step, TypeName, Used,
 };
-pub use table::{Table, table_of};
+pub use table::Table;

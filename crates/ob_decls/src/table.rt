@@ -1,15 +1,18 @@
 //! The table of a module, and its readers.
 
-ghost use Rattle.std.specs.Prelude.{◌≡◌, IfOk};
-ghost use Rattle.ob_decls.specs.Declaring.{own_name, rows_in, rows_of};
+ghost use Rattle.std.specs.Prelude.{◌≡◌, Contains, IfSome, IfNone, nat_eq};
+ghost use Rattle.std.specs.List.{filter};
+ghost use Rattle.ob_decls.specs.Order.{AreInOrder};
+ghost use Rattle.ob_decls.specs.declared.rows.Declared.{Declared};
+ghost use Rattle.ob_decls.specs.declared.rows.Declarer.{Declarer};
+ghost use Rattle.ob_decls.specs.declared.rows.FormPart.{FormPart};
+ghost use Rattle.ob_decls.specs.declared.rows.Record.{Record};
+ghost use Rattle.ob_decls.specs.declared.rows.Selector.{Selector};
 
-use crate::draft::{Context, Draft};
+use crate::order::{group_of, row_of};
 use crate::rows::{
     Block, Declared, Declarer, Designator, End, FormPart, Import, Record, Selector, Used,
 };
-use crate::walk::declarations::walk_module;
-use ob_tree::declaration::Module;
-use std::alloc::{AllocError, Global};
 
 /// What a module declares and uses in all its blocks. Each list of rows is in the order of the tokens.
 #[derive(Drop)]
@@ -24,9 +27,21 @@ pub struct Table {
     pub(crate) designators: Vec<Designator>,
     pub(crate) selectors: Vec<Selector>,
     pub(crate) ends: Vec<End>,
+    ghost in_order: { AreInOrder (record { declarers = declarers.items; declared = declared.items; uses = uses.items; blocks = blocks.items; imports = imports.items; parts = parts.items; records = records.items; designators = designators.items; selectors = selectors.items; ends = ends.items }) },
 }
 
 impl Table {
+    ghost use Rattle.ob_decls.specs.Declaring.{own_name, rows_in};
+
+    /// What every value keeps: the rows of each list ascend by their numbers, those of one declaration's form stand
+    /// together, and so do the selectors of one designator.
+    pub fn keeps(&self)
+        ensures { AreInOrder (rows_in self.now) }
+    {
+        // Using a field makes the facts of the type known here.
+        let _ = &self.ends;
+    }
+
     /// The constructs that declare.
     pub fn declarers(&self) -> &[Declarer]
         ensures { result.now ≡ self.now.declarers.items }
@@ -97,37 +112,51 @@ impl Table {
         self.ends.as_slice()
     }
 
+    /// The identifier of this token, or none where the token declares none.
+    pub fn declaration(&self, token: u32) -> Option<&Declared>
+        ensures found { IfSome result (λ row. Contains self.now.declared.items row.now) }
+        ensures number { IfSome result (λ row. row.now.number ≡ token) }
+        ensures none { IfNone result ((row : Declared) → Contains self.now.declared.items row → row.number ≡ token → ⊥) }
+    {
+        row_of(self.declared.as_slice(), token)
+    }
+
+    /// The construct that declares and begins with this token, or none where none does.
+    pub fn declarer(&self, first: u32) -> Option<&Declarer>
+        ensures found { IfSome result (λ row. Contains self.now.declarers.items row.now) }
+        ensures number { IfSome result (λ row. row.now.first ≡ first) }
+        ensures none { IfNone result ((row : Declarer) → Contains self.now.declarers.items row → row.first ≡ first → ⊥) }
+    {
+        row_of(self.declarers.as_slice(), first)
+    }
+
+    /// The record of this RECORD, or none where the token is none.
+    pub fn record(&self, token: u32) -> Option<&Record>
+        ensures found { IfSome result (λ row. Contains self.now.records.items row.now) }
+        ensures number { IfSome result (λ row. row.now.number ≡ token) }
+        ensures none { IfNone result ((row : Record) → Contains self.now.records.items row → row.number ≡ token → ⊥) }
+    {
+        row_of(self.records.as_slice(), token)
+    }
+
+    /// The parts of the form that the construct gives which begins with this token, in order.
+    pub fn form(&self, first: u32) -> &[FormPart]
+        ensures { result.now ≡ filter (λ (row : FormPart). nat_eq row.declared_by first) self.now.parts.items }
+    {
+        group_of(self.parts.as_slice(), first)
+    }
+
+    /// The selectors of the designator with this head, in order.
+    pub fn selectors_of(&self, head: u32) -> &[Selector]
+        ensures { result.now ≡ filter (λ (row : Selector). nat_eq row.of head) self.now.selectors.items }
+    {
+        group_of(self.selectors.as_slice(), head)
+    }
+
     /// The token that is the module's own name.
     pub fn own_name(&self) -> u32
         ensures { result ≡ own_name }
     {
         1
     }
-}
-
-/// The table of a module. AllocError is answered where a growth of memory is refused, and for a tree of 2^32 tokens or more,
-/// whose numbers no row can hold.
-pub fn table_of(alloc: Global, module: &Module) -> Result<Table, AllocError>
-    ensures exact { IfOk result (λ t. rows_in t ≡ rows_of «module».now) }
-{
-    let mut draft = Draft::new(alloc);
-    let outermost = Context {
-        block: 0,
-        declarer: 0,
-        of_record: 0,
-        is_target: false,
-    };
-    walk_module(&mut draft, outermost, module)?;
-    Ok(Table {
-        declarers: draft.declarers,
-        declared: draft.declared,
-        uses: draft.uses,
-        blocks: draft.blocks,
-        imports: draft.imports,
-        parts: draft.parts,
-        records: draft.records,
-        designators: draft.designators,
-        selectors: draft.selectors,
-        ends: draft.ends,
-    })
 }

@@ -1,0 +1,58 @@
+//! From a tree to its table.
+
+ghost use Rattle.std.specs.Prelude.{◌≡◌, IfOk};
+ghost use Rattle.ob_decls.specs.Declaring.{rows_in, rows_of};
+ghost use Rattle.ob_decls.specs.Drafts.{drafted};
+ghost use Rattle.ob_decls.specs.Order.{AreInOrder};
+
+use crate::draft::{Context, Draft};
+use crate::order::{ascend, rise};
+use crate::table::Table;
+use crate::walk::declarations::walk_module;
+use ob_tree::declaration::Module;
+use std::alloc::{AllocError, Global};
+
+/// Answers AllocError where rows are out of order.
+fn in_order(draft: &Draft) -> Result<(), AllocError>
+    ensures { IfOk result (λ _. AreInOrder (drafted draft.now)) }
+{
+    ascend(draft.declarers.as_slice())?;
+    ascend(draft.declared.as_slice())?;
+    ascend(draft.uses.as_slice())?;
+    ascend(draft.blocks.as_slice())?;
+    ascend(draft.imports.as_slice())?;
+    ascend(draft.parts.as_slice())?;
+    rise(draft.parts.as_slice())?;
+    ascend(draft.records.as_slice())?;
+    ascend(draft.designators.as_slice())?;
+    rise(draft.selectors.as_slice())?;
+    ascend(draft.ends.as_slice())
+}
+
+/// The table of a module. AllocError is answered where a growth of memory is refused, and for a tree of 2^32 tokens or more,
+/// whose numbers no row can hold. The order of the rows is looked at before the table is answered; no tree breaks it.
+pub fn table_of(alloc: Global, module: &Module) -> Result<Table, AllocError>
+    ensures exact { IfOk result (λ t. rows_in t ≡ rows_of «module».now) }
+{
+    let mut draft = Draft::new(alloc);
+    let outermost = Context {
+        block: 0,
+        declarer: 0,
+        of_record: 0,
+        is_target: false,
+    };
+    walk_module(&mut draft, outermost, module)?;
+    in_order(&draft)?;
+    Ok(Table {
+        declarers: draft.declarers,
+        declared: draft.declared,
+        uses: draft.uses,
+        blocks: draft.blocks,
+        imports: draft.imports,
+        parts: draft.parts,
+        records: draft.records,
+        designators: draft.designators,
+        selectors: draft.selectors,
+        ends: draft.ends,
+    })
+}

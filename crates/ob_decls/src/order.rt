@@ -1,0 +1,169 @@
+//! Rows in the order of their numbers.
+
+ghost use Rattle.std.specs.Prelude.{◌≡◌, ℕ, Contains, IfOk, IfSome, IfNone, nat_eq};
+ghost use Rattle.std.specs.List.{filter};
+ghost use Rattle.ob_decls.specs.Order.{AscendBy, HasNoneBy, IsPlaceBy, RiseBy};
+
+use crate::rows::{
+    Block, Declared, Declarer, Designator, End, FormPart, Import, Record, Selector, Used,
+};
+use std::alloc::AllocError;
+
+/// A row with the number by which it stands in its list.
+pub(crate) trait Numbered {
+    ghost number_in: { Self → ℕ };
+
+    fn key(&self) -> u32
+        ensures { result ≡ number_in self.now };
+}
+
+/// A row with the number that the rows beside it share.
+pub(crate) trait Grouped {
+    ghost group_in: { Self → ℕ };
+
+    fn group(&self) -> u32
+        ensures { result ≡ group_in self.now };
+}
+
+impl Numbered for Declarer {
+    ghost number_in = { λ row. row.first };
+
+    fn key(&self) -> u32 {
+        self.first
+    }
+}
+
+impl Numbered for Declared {
+    ghost number_in = { λ row. row.number };
+
+    fn key(&self) -> u32 {
+        self.number
+    }
+}
+
+impl Numbered for Used {
+    ghost number_in = { λ row. row.number };
+
+    fn key(&self) -> u32 {
+        self.number
+    }
+}
+
+impl Numbered for Block {
+    ghost number_in = { λ row. row.first };
+
+    fn key(&self) -> u32 {
+        self.first
+    }
+}
+
+impl Numbered for Import {
+    ghost number_in = { λ row. row.alias };
+
+    fn key(&self) -> u32 {
+        self.alias
+    }
+}
+
+impl Numbered for FormPart {
+    ghost number_in = { λ row. row.number };
+
+    fn key(&self) -> u32 {
+        self.number
+    }
+}
+
+impl Numbered for Record {
+    ghost number_in = { λ row. row.number };
+
+    fn key(&self) -> u32 {
+        self.number
+    }
+}
+
+impl Numbered for Designator {
+    ghost number_in = { λ row. row.head };
+
+    fn key(&self) -> u32 {
+        self.head
+    }
+}
+
+impl Numbered for End {
+    ghost number_in = { λ row. row.number };
+
+    fn key(&self) -> u32 {
+        self.number
+    }
+}
+
+impl Grouped for FormPart {
+    ghost group_in = { λ row. row.declared_by };
+
+    fn group(&self) -> u32 {
+        self.declared_by
+    }
+}
+
+impl Grouped for Selector {
+    ghost group_in = { λ row. row.of };
+
+    fn group(&self) -> u32 {
+        self.of
+    }
+}
+
+/// Answers AllocError where the rows do not ascend strictly.
+pub(crate) fn ascend<T: Numbered>(rows: &[T]) -> Result<(), AllocError>
+    ensures { IfOk result (λ _. AscendBy T.number_in rows.now) }
+{
+    for at in 1..rows.len() {
+        if rows[at].key() <= rows[at - 1].key() {
+            return Err(AllocError);
+        }
+    }
+    Ok(())
+}
+
+/// Answers AllocError where the rows of one number do not stand together.
+pub(crate) fn rise<T: Grouped>(rows: &[T]) -> Result<(), AllocError>
+    ensures { IfOk result (λ _. RiseBy T.group_in rows.now) }
+{
+    for at in 1..rows.len() {
+        if rows[at].group() < rows[at - 1].group() {
+            return Err(AllocError);
+        }
+    }
+    Ok(())
+}
+
+/// The place of the row that has this number.
+fn place_of<T: Numbered>(rows: &[T], number: u32) -> Option<usize>
+    requires { AscendBy T.number_in rows.now }
+    ensures found { IfSome result (IsPlaceBy T.number_in rows.now number) }
+    ensures none { IfNone result (HasNoneBy T.number_in rows.now number) }
+{
+    rows.binary_search_by_key(&number, |row| row.key()).ok()
+}
+
+/// The row that has this number.
+pub(crate) fn row_of<T: Numbered>(rows: &[T], number: u32) -> Option<&T>
+    requires { AscendBy T.number_in rows.now }
+    ensures found { IfSome result (λ row. Contains rows.now row.now) }
+    ensures number { IfSome result (λ row. T.number_in row.now ≡ number) }
+    ensures none { IfNone result ((row : T) → Contains rows.now row → T.number_in row ≡ number → ⊥) }
+{
+    let at = place_of(rows, number)?;
+    Some(&rows[at])
+}
+
+/// The rows of this group, which stand together.
+pub(crate) fn group_of<T: Grouped>(rows: &[T], group: u32) -> &[T]
+    requires { RiseBy T.group_in rows.now }
+    ensures { result.now ≡ filter (λ (row : T). nat_eq (T.group_in row) group) rows.now }
+{
+    let from = rows.partition_point(|row| row.group() < group);
+    let rest = &rows[from..];
+    let many = rest.partition_point(|row| row.group() <= group);
+    &rest[..many]
+}
