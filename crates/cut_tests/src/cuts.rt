@@ -1,19 +1,15 @@
-//! Worked networks, each with its cut, and names that are refused.
-ghost use Rattle.std.specs.Prelude.{◌≡◌, ◌≤◌};
+//! Worked networks, each with its cut by augmenting paths and by a preflow that nobody shares, and names that are refused.
+ghost use Rattle.std.specs.Prelude.{◌≡◌};
 ghost use Rattle.cut_preflow.specs.Flows.{network_between};
 
 use crate::openings::{Trial, run};
-use crate::worked::{
-    A_WAY_BACK, THREE_IMPORTS, TWO_IMPORTS, TWO_WAYS, judged, net_of, told_cut, told_imports,
-};
+use crate::worked::{A_WAY_BACK, THREE_IMPORTS, TWO_IMPORTS, TWO_WAYS, judged, net_of, told_cut};
 use cut_net::{Cut, Net, Priced};
 use cut_preflow::{NetworkLedger, Preflow};
-use cut_solve::{OpenGate, SolveFault, plain, solve};
+use cut_solve::{SolveFault, plain};
 use std::alloc::{AllocError, Global};
 use std::process::Abort;
-use std::sync::Wait;
 use std::test::Fail;
-use std::thread::Threads;
 
 /// Whether the imports lead out of the marked modules.
 fn leave(imports: &[Priced], side: &[bool]) -> bool {
@@ -101,52 +97,9 @@ fn plain_cut(alloc: Global, net: &Net, (from, to): (&str, &str)) -> Result<Box<C
     Ok(Box::new(alloc, plain(alloc, net, from, to)?)?)
 }
 
-/// What so many workers tell of the imports and the weight.
-fn told_by<R: AllocGlobal + Threads + Wait + Sync>(
-    rt: &R,
-    net: &Net,
-    names: (&str, &str),
-    workers: u32,
-) -> Result<String, Fail>
-    requires { (1 ≤ workers) × (workers ≤ 64) }
-{
-    let (from, to) = names;
-    let cut = solve(rt, rt.alloc(), net, from, to, workers, &OpenGate)?;
-    Ok(told_imports(rt.alloc(), &cut)?)
-}
-
-/// Checks that so many workers tell the same imports and weight.
-fn settles<R: Abort + AllocGlobal + Threads + Wait + Sync>(
-    rt: &R,
-    net: &Net,
-    names: (&str, &str),
-    workers: u32,
-    want: &str,
-) -> Result<(), Fail>
-    requires { (1 ≤ workers) × (workers ≤ 64) }
-{
-    let found = told_by(rt, net, names, workers)?;
-    assert_eq!(rt; found.as_str(), want, "by {workers}");
-    Ok(())
-}
-
-/// Checks that many workers tell the imports and the weight of the cut.
-fn settles_by_workers<R: Abort + AllocGlobal + Threads + Wait + Sync>(
-    rt: &R,
-    net: &Net,
-    names: (&str, &str),
-    cut: &Cut,
-) -> Result<(), Fail> {
-    let imports = told_imports(rt.alloc(), cut)?;
-    settles(rt, net, names, 1, imports.as_str())?;
-    settles(rt, net, names, 2, imports.as_str())?;
-    settles(rt, net, names, 8, imports.as_str())?;
-    settles(rt, net, names, 64, imports.as_str())
-}
-
-/// Checks that this is the cut between the two modules, and that many workers tell the same.
-fn cuts<R: Abort + AllocGlobal + Threads + Wait + Sync>(
-    rt: &R,
+/// Checks that this is the cut between the two modules.
+fn cuts(
+    rt: &(impl Abort + AllocGlobal),
     net: &[u8],
     names: (&str, &str),
     want: &str,
@@ -155,8 +108,7 @@ fn cuts<R: Abort + AllocGlobal + Threads + Wait + Sync>(
     let cut = plain_cut(rt.alloc(), &*net, names)?;
     let found = told_cut(rt.alloc(), &*cut)?;
     assert_eq!(rt; found.as_str(), want);
-    settles_alone(rt, &*net, names, &*cut)?;
-    settles_by_workers(rt, &*net, names, &*cut)
+    settles_alone(rt, &*net, names, &*cut)
 }
 
 /// Networks, the names of two modules, and the cut by the numbers of the modules.
@@ -212,27 +164,13 @@ fn worked_networks_have_their_cuts(rt: HostRuntime) -> Result<(), Fail> {
     Ok(())
 }
 
-fn told_answer(alloc: Global, answer: Result<Cut, SolveFault>) -> Result<String, AllocError> {
-    match answer {
+/// What `plain` tells of these names.
+fn told_names(alloc: Global, net: &Net, (from, to): (&str, &str)) -> Result<String, AllocError> {
+    match plain(alloc, net, from, to) {
         Ok(cut) => told_cut(alloc, &cut),
         Err(SolveFault::Memory) => Err(AllocError),
         Err(fault) => format!(in alloc; "{fault}"),
     }
-}
-
-/// Checks that both solvers refuse the names with this fault.
-fn refuses<R: Abort + AllocGlobal + Threads + Wait + Sync>(
-    rt: &R,
-    net: &Net,
-    (from, to): (&str, &str),
-    want: &str,
-) -> Result<(), Fail> {
-    let told = told_answer(rt.alloc(), plain(rt.alloc(), net, from, to))?;
-    assert_eq!(rt; told.as_str(), want);
-    let solved = solve(rt, rt.alloc(), net, from, to, 8, &OpenGate);
-    let told = told_answer(rt.alloc(), solved)?;
-    assert_eq!(rt; told.as_str(), want);
-    Ok(())
 }
 
 const REFUSED: &[((&str, &str), &str)] = &[
@@ -249,7 +187,8 @@ const REFUSED: &[((&str, &str), &str)] = &[
 fn names_are_refused(rt: HostRuntime) -> Result<(), Fail> {
     let net = net_of(rt.alloc(), TWO_IMPORTS)?;
     for (names, want) in REFUSED {
-        refuses(&rt, &*net, *names, want)?;
+        let told = told_names(rt.alloc(), &*net, *names)?;
+        assert_eq!(rt; told.as_str(), *want);
     }
     Ok(())
 }

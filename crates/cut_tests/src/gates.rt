@@ -16,7 +16,6 @@ use std::test::Fail;
 use std::thread;
 use std::thread::Threads;
 use std::time::{Clock, Duration};
-use test_doubles::AllCome;
 
 /// Waits at most this often.
 const MOST_WAITS: u32 = 1000;
@@ -209,16 +208,6 @@ fn the_solver_takes_turns(rt: HostRuntime) -> Result<(), Fail> {
     let gate = Holds::new(&rt);
     let cut = told_by(&rt, rt.alloc(), 2, &gate)?;
     assert!(rt; gate.were_passed());
-    assert_eq!(rt; cut.as_str(), LINE_CUT);
-    Ok(())
-}
-
-#[test]
-fn eight_workers_come_to_their_first_turn(rt: HostRuntime) -> Result<(), Fail> {
-    let gate = AllCome::new(&rt, 8);
-    let cut = told_by(&rt, rt.alloc(), 8, &gate)?;
-    assert_eq!(rt; gate.came.load(Ordering::SeqCst), 8);
-    assert_eq!(rt; gate.let_go.load(Ordering::SeqCst), 8);
     assert_eq!(rt; cut.as_str(), LINE_CUT);
     Ok(())
 }

@@ -1,6 +1,8 @@
-//! Tests of the public calls of `cut_residual`, `cut_net`, `cut_part`, `cut_preflow`, `cut_report`, `cut_check` and `cut_solve`.
-//! Stands on those seven and on `test_doubles`.
-//! It has nothing but tests: worked networks, reports and cuts, each with what is known of it.
+//! Tests of the public calls of `cut_residual`, `cut_net`, `cut_part`, `cut_preflow`, `cut_check` and `cut_solve`, of what no command
+//! shows: sinks, calls that the solver makes, its workers at gates, `plain`, and verdicts on what no report says. What `cut-net` and
+//! `check-net` print stands in `rows/`.
+//! Stands on those six, on `byte_sink` and on `test_doubles`.
+//! It has nothing but tests: worked networks and cuts, each with what is known of it.
 #![tactic(auto)]
 
 #[cfg(test)]
@@ -12,15 +14,11 @@ mod gates;
 #[cfg(test)]
 mod graphs;
 #[cfg(test)]
-mod nets;
-#[cfg(test)]
 mod openings;
 #[cfg(test)]
 mod parts;
 #[cfg(test)]
 mod preflows;
-#[cfg(test)]
-mod reports;
 #[cfg(test)]
 mod sinks;
 #[cfg(test)]

@@ -1,7 +1,6 @@
 //! The part of a network between two modules, weights narrowed, and imports turned round.
 ghost use Rattle.std.specs.Prelude.{◌<◌, IsTrue};
 
-use crate::nets::told_net;
 use crate::worked::{TWO_IMPORTS, TWO_WAYS, net_of};
 use cut_net::{Net, Priced};
 use cut_part::{between, narrowed, turned_imports};
@@ -18,6 +17,30 @@ const WITH_ODDS: &[u8] =
 
 /// A narrow way into a wide one. The modules are A, B, M and N.
 const NARROW_FIRST: &[u8] = b"import A M 2\nimport M N 7\nimport N B 5\n";
+
+fn tell_modules(text: &mut String, net: &Net) -> Result<(), AllocError> {
+    for node in 0..net.nodes() {
+        write!(text, " {}", net.name(node))?;
+    }
+    Ok(())
+}
+
+fn tell_imports(text: &mut String, net: &Net) -> Result<(), AllocError> {
+    net.keeps();
+    for number in 0..net.imports().len() as u32 {
+        let import = net.import(number);
+        write!(text, ", {} {} {}", import.from, import.to, import.amount)?;
+    }
+    Ok(())
+}
+
+/// How many modules, and their names; then the imports by the numbers of their modules.
+fn told_net(alloc: Global, net: &Net) -> Result<String, AllocError> {
+    let mut text = format!(in alloc; "{} modules", net.nodes())?;
+    tell_modules(&mut text, net)?;
+    tell_imports(&mut text, net)?;
+    Ok(text)
+}
 
 fn told_imports(alloc: Global, imports: &[Priced]) -> Result<String, AllocError> {
     let mut text = String::new(alloc);

@@ -75,16 +75,10 @@ fn tell_lines(text: &mut String, word: &str, lines: &[Priced]) -> Result<(), All
     Ok(())
 }
 
-/// The weight, and the imports to be removed.
-pub(crate) fn told_imports(alloc: Global, cut: &Cut) -> Result<String, AllocError> {
-    let mut text = format!(in alloc; "weight {}", cut.weight)?;
-    tell_lines(&mut text, "remove", &cut.imports)?;
-    Ok(text)
-}
-
 /// The weight, the imports to be removed, and the flow.
 pub(crate) fn told_cut(alloc: Global, cut: &Cut) -> Result<String, AllocError> {
-    let mut text = told_imports(alloc, cut)?;
+    let mut text = format!(in alloc; "weight {}", cut.weight)?;
+    tell_lines(&mut text, "remove", &cut.imports)?;
     tell_lines(&mut text, "flow", &cut.flow)?;
     Ok(text)
 }
