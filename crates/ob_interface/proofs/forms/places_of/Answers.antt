@@ -1,0 +1,14 @@
+use Rattle.std.proofs.Common.{ℕ, rules, ltb, leb}
+use Rattle.std.proofs.lemmas.List.Sorted.{IsPartitionPoint-from_clause, IsPartitionedBy-leb, IsPartitionedBy-ltb}
+use Rattle.ob_decls.specs.declared.rows.FormPart.{FormPart}
+use Rattle.ob_interface.proofs.Ranges.{filter_between}
+use Rattle.ob_interface.proofs.forms.places_of.Goals as goal
+
+pub returns : goal.returns
+returns c =
+    let xs = c.args.parts.now in
+    let k = c.args.declared_by in
+    let n : FormPart → ℕ = λ p. p.declared_by in
+    let low = IsPartitionPoint-from_clause (λ (p : FormPart). ltb p.declared_by k) xs _ c.partition_point-first.ensures.partitioned (IsPartitionedBy-ltb n xs k c.requires) (λ a r q h. search rules) in
+    let high = IsPartitionPoint-from_clause (λ (p : FormPart). leb p.declared_by k) xs _ c.partition_point-end.ensures.partitioned (IsPartitionedBy-leb n xs k c.requires) (λ a r q h. search rules) in
+    rw (c.in_ok-first.ensures, c.in_ok-end.ensures) (filter_between xs k _ _ low high)

@@ -1,0 +1,27 @@
+use Rattle.std.proofs.Common.{sym, ◌∙◌, ap, nat_eq}
+use Rattle.std.specs.Option.{option_map}
+use Rattle.indexmap.specs.IndexMap.{get}
+use Rattle.ob_decls.specs.declared.rows.Record.{Record}
+use Rattle.ob_interface.specs.Interfaces.{base, base_by}
+use Rattle.ob_interface.specs.Texts.{base_in}
+use Rattle.ob_interface.proofs.Growing.{more_told, none_told, grown_twice}
+use Rattle.ob_interface.proofs.members.add_bases.Goals as goal
+use Rattle.ob_interface.proofs.members.add_bases.Goals.{in-Some+in_ok-row-in-Some+in_ok-push-in-Some, in-None}
+
+pub loop-i-preserved : goal.loop-i-preserved
+loop-i-preserved c =
+    let bytes = c.args.source.now.bytes.now in
+    let ts = c.args.source.now.tokens.now in
+    let h = λ (r : Record). base_by bytes ts r (get nat_eq c.args.outers.now r.owner) in
+    let found = c.base_of.ensures bytes ts in
+    elim c.match-base_of.branch [
+      | in-Some+in_ok-row-in-Some+in_ok-push-in-Some w ↦ rw (w.text-is, w.rows-is) (record {
+        grown = grown_twice c.loop-i.invariant.grown w.in_ok-row-in-Some.ensures.grown;
+        tell = rw w.in_ok-push-in-Some.ensures.items (more_told base_in h _ _ _ c.args.records.now c.loop-i.i _ _ _ c.loop-i.invariant.tell w.in_ok-row-in-Some.ensures.grown w.in_ok-row-in-Some.ensures.tells c.loop-i-test.true
+            (sym found ∙ ap (option_map (base bytes ts _)) w.in-Some.is));
+      })
+      | in-None w ↦ rw (w.text-is, w.rows-is) (record {
+        grown = c.loop-i.invariant.grown;
+        tell = none_told base_in h _ _ c.args.records.now c.loop-i.i _ c.loop-i.invariant.tell c.loop-i-test.true (sym found ∙ ap (option_map (base bytes ts _)) w.in-None.is);
+      })
+    ]

@@ -1,0 +1,29 @@
+use Rattle.std.proofs.Common.{sym, ◌∙◌, ap, nat_eq}
+use Rattle.std.specs.Option.{option_map}
+use Rattle.indexmap.specs.IndexMap.{get}
+use Rattle.ob_decls.specs.declared.rows.Declared.{Declared}
+use Rattle.ob_interface.specs.Interfaces.{declaration, declaration_by}
+use Rattle.ob_interface.specs.Texts.{declaration_in, form_at}
+use Rattle.ob_interface.proofs.Growing.{more_told, none_told, grown_twice}
+use Rattle.ob_interface.proofs.members.add_declarations.Goals as goal
+use Rattle.ob_interface.proofs.members.add_declarations.Goals.{in-Some+in_ok-row-in-Some+in_ok-push-in-Some, in-None}
+
+pub loop-i-preserved : goal.loop-i-preserved
+loop-i-preserved c =
+    let bytes = c.args.source.now.bytes.now in
+    let ts = c.args.source.now.tokens.now in
+    let ps = c.args.parts.now in
+    let tell = declaration_in (form_at bytes ts ps) in
+    let h = λ (r : Declared). declaration_by bytes ts ps r (get nat_eq c.args.outers.now r.declared_by) in
+    let found = c.declarer_of.ensures bytes ts ps in
+    elim c.match-declarer_of.branch [
+      | in-Some+in_ok-row-in-Some+in_ok-push-in-Some w ↦ rw (w.text-is, w.rows-is) (record {
+        grown = grown_twice c.loop-i.invariant.grown w.in_ok-row-in-Some.ensures.grown;
+        tell = rw w.in_ok-push-in-Some.ensures.items (more_told tell h _ _ _ c.args.declared.now c.loop-i.i _ _ _ c.loop-i.invariant.tell w.in_ok-row-in-Some.ensures.grown w.in_ok-row-in-Some.ensures.tells c.loop-i-test.true
+            (sym found ∙ ap (option_map (declaration bytes ts ps _)) w.in-Some.is));
+      })
+      | in-None w ↦ rw (w.text-is, w.rows-is) (record {
+        grown = c.loop-i.invariant.grown;
+        tell = none_told tell h _ _ c.args.declared.now c.loop-i.i _ c.loop-i.invariant.tell c.loop-i-test.true (sym found ∙ ap (option_map (declaration bytes ts ps _)) w.in-None.is);
+      })
+    ]

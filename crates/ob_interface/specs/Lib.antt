@@ -1,0 +1,3 @@
+pub mod Interfaces
+pub mod Texts
+pub mod Rowed

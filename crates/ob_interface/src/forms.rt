@@ -1,0 +1,77 @@
+//! The parts of the forms that the module's block has.
+ghost use Rattle.std.specs.Prelude.{◌≡◌, ℕ, nat_eq, map, slice_range, IfOk, IsSome};
+ghost use Rattle.std.specs.List.{filter};
+ghost use Rattle.std.specs.List.Sorted.{IsNonDecreasingBy};
+ghost use Rattle.indexmap.specs.IndexMap.{get};
+ghost use Rattle.ob_scan.specs.Spelling.{AreInText};
+ghost use Rattle.ob_interface.specs.Interfaces.{is_part_by, part_of};
+ghost use Rattle.ob_interface.specs.Texts.{part_row_in, AllTell, IsGrown};
+
+use crate::rows::PartRow;
+use crate::texts::{Source, add_part, place};
+use indexmap::IndexMap;
+use ob_decls::{Declarer, FormPart};
+use std::alloc::{AllocError, Global};
+
+/// The parts that these constructs give, in their order.
+fn parts_by(
+    alloc: Global,
+    outers: &IndexMap<u32, Declarer>,
+    parts: &[FormPart],
+) -> Result<Vec<FormPart>, AllocError>
+    ensures { IfOk result (λ own. (k : ℕ) → IsSome (get nat_eq outers.now k) → filter (is_part_by k) own.items ≡ filter (is_part_by k) parts.now) }
+{
+    let mut own = Vec::new(alloc);
+    for i in 0..parts.len() {
+        let part = parts[i];
+        if outers.contains_key(&part.declared_by) {
+            own.push(part)?;
+        }
+    }
+    Ok(own)
+}
+
+/// The parts that these constructs give, those of each together.
+pub(crate) fn parts_of(
+    alloc: Global,
+    outers: &IndexMap<u32, Declarer>,
+    parts: &[FormPart],
+) -> Result<Vec<FormPart>, AllocError>
+    ensures together { IfOk result (λ own. IsNonDecreasingBy (λ p. p.declared_by) own.items) }
+    ensures same { IfOk result (λ own. (k : ℕ) → IsSome (get nat_eq outers.now k) → filter (is_part_by k) own.items ≡ filter (is_part_by k) parts.now) }
+{
+    let mut own = parts_by(alloc, outers, parts)?;
+    own.sort_by_key(|part| part.declared_by)?;
+    Ok(own)
+}
+
+/// Where the parts of one construct begin, and where they end.
+pub(crate) fn places_of(parts: &[FormPart], declared_by: u32) -> Result<(u32, u32), AllocError>
+    requires { IsNonDecreasingBy (λ p. p.declared_by) parts.now }
+    ensures { IfOk result (λ r. slice_range parts.now r.0 r.1 ≡ filter (is_part_by declared_by) parts.now) }
+{
+    let first = parts.partition_point(|part| part.declared_by < declared_by);
+    let end = parts.partition_point(|part| part.declared_by <= declared_by);
+    let first = place(first)?;
+    let end = place(end)?;
+    Ok((first, end))
+}
+
+/// Adds the texts of the parts.
+pub(crate) fn add_parts(
+    alloc: Global,
+    text: &mut Vec<u8>,
+    source: &Source,
+    parts: &[FormPart],
+) -> Result<Vec<PartRow>, AllocError>
+    requires { AreInText source.now.bytes.now source.now.tokens.now }
+    ensures grown { IfOk result (λ _. IsGrown text.old.items text.new.items) }
+    ensures tell { IfOk result (λ rows. AllTell part_row_in text.new.items rows.items (map (part_of source.now.bytes.now source.now.tokens.now) parts.now)) }
+{
+    let mut rows = Vec::new(alloc);
+    for i in 0..parts.len() {
+        let row = add_part(text, source, parts[i])?;
+        rows.push(row)?;
+    }
+    Ok(rows)
+}

@@ -1,0 +1,77 @@
+//! Rows of numbers and spans over one buffer of text.
+
+use ob_decls::Sort;
+
+/// A part of the buffer: from one offset to another, in bytes.
+#[derive(Clone, Copy, Drop)]
+pub(crate) struct Span {
+    pub(crate) start: u32,
+    pub(crate) end: u32,
+}
+
+/// A name of one identifier, or of two with a dot between them.
+#[derive(Clone, Copy, Drop)]
+pub(crate) struct NameRow {
+    pub(crate) head: Span,
+    pub(crate) member: Option<Span>,
+}
+
+/// A part of a form.
+#[derive(Clone, Copy, Drop)]
+pub(crate) enum RowPart {
+    Array,
+    Pointer,
+    /// A record, by its RECORD.
+    Record(u32),
+    Procedure,
+    /// A name, and where it begins in the file, in bytes.
+    Named { start: u32, name: NameRow },
+}
+
+/// A part of the form that a declaration gives, by the first token of that.
+#[derive(Clone, Copy, Drop)]
+pub(crate) struct PartRow {
+    pub(crate) declared_by: u32,
+    pub(crate) part: RowPart,
+}
+
+/// A declaration; its form is the parts from one place up to another.
+#[derive(Clone, Copy, Drop)]
+pub(crate) struct DeclarationRow {
+    pub(crate) name: Span,
+    pub(crate) start: u32,
+    pub(crate) sort: Sort,
+    pub(crate) exported: bool,
+    pub(crate) record: Option<u32>,
+    pub(crate) declared_by: u32,
+    pub(crate) first_part: u32,
+    pub(crate) parts_end: u32,
+}
+
+/// The base of a record.
+#[derive(Clone, Copy, Drop)]
+pub(crate) struct BaseRow {
+    pub(crate) record: u32,
+    pub(crate) start: u32,
+    pub(crate) name: NameRow,
+}
+
+/// An import item.
+#[derive(Clone, Copy, Drop)]
+pub(crate) struct ImportRow {
+    pub(crate) alias: Span,
+    pub(crate) start: u32,
+    pub(crate) imported: Span,
+}
+
+/// All rows of a module, with the buffer of their texts.
+#[derive(Drop)]
+pub(crate) struct Rows {
+    pub(crate) text: Vec<u8>,
+    pub(crate) name: Span,
+    pub(crate) declarations: Vec<DeclarationRow>,
+    /// Those of one declaration stand together, outermost first.
+    pub(crate) parts: Vec<PartRow>,
+    pub(crate) bases: Vec<BaseRow>,
+    pub(crate) imports: Vec<ImportRow>,
+}
