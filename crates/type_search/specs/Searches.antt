@@ -1,0 +1,89 @@
+-- Types followed through their names (Oberon-07 report, sections 6 and 8.1).
+use Rattle.std.specs.Prelude.{◌≡◌, List, [], ◌∷◌, ◌++◌, ◌<◌, ◌^◌, length, Bool, true, false, Option, Some, None}
+use Rattle.std.specs.List.{list_any}
+use Rattle.type_search.specs.declared.shape.Shape.{Shape}
+use Rattle.type_search.specs.declared.shape.Shape.TheVariants as shapes
+use Rattle.type_search.specs.declared.fields.Step.{Step}
+use Rattle.type_search.specs.declared.fields.Step.TheVariants as steps
+
+-- a type is no name
+abbrev pub IsPlain : {N D R : Type 0} → Shape N D R → Type 0
+IsPlain (shapes.Array n) = Unit {0}
+IsPlain (shapes.Pointer n) = Unit {0}
+IsPlain (shapes.Record r) = Unit {0}
+IsPlain shapes.Procedure = Unit {0}
+IsPlain (shapes.Named d n) = ⊥
+IsPlain shapes.Unknown = ⊥
+
+-- the type of an array's elements, and the target of a pointer
+abbrev pub element_of : {N D R : Type 0} → Shape N D R → Option N
+element_of (shapes.Array n) = Some n
+element_of (shapes.Pointer n) = None
+element_of (shapes.Record r) = None
+element_of shapes.Procedure = None
+element_of (shapes.Named d n) = None
+element_of shapes.Unknown = None
+
+abbrev pub target_of : {N D R : Type 0} → Shape N D R → Option N
+target_of (shapes.Array n) = None
+target_of (shapes.Pointer n) = Some n
+target_of (shapes.Record r) = None
+target_of shapes.Procedure = None
+target_of (shapes.Named d n) = None
+target_of shapes.Unknown = None
+
+-- what a search for a field comes to in a record with this field, if any, and this base, if any
+abbrev pub in_record : {N F : Type 0} → Option F → Option N → Step N F
+in_record (Some f) b = steps.Found f
+in_record None (Some n) = steps.Next n
+in_record None None = steps.Nothing
+
+-- the same at a type
+abbrev pub step_of : {N D R F : Type 0} → (R → Option F) → (R → Option N) → Shape N D R → Step N F
+step_of field base (shapes.Array n) = steps.Nothing
+step_of field base (shapes.Pointer n) = steps.Next n
+step_of field base (shapes.Record r) = in_record (field r) (base r)
+step_of field base shapes.Procedure = steps.Nothing
+step_of field base (shapes.Named d n) = steps.Nothing
+step_of field base shapes.Unknown = steps.Nothing
+
+-- a declaration wasn't met before, and is the last that was met
+pub record IsNewlyMet {D : Type 0} (same : D → D → Bool) (d : D) (before after : List D) : Type 0 where
+  pub new : list_any (same d) before ≡ false
+  pub last : after ≡ before ++ d ∷ []
+  pub few : length before < 2 ^ 63
+
+-- a declaration is met for the first time, behind those that were met before, or it was among them
+abbrev pub IsMet : {D : Type 0} → (D → D → Bool) → D → List D → List D → Bool → Type 0
+IsMet same d before after true = IsNewlyMet same d before after
+IsMet same d before after false = list_any (same d) before ≡ true
+
+module _ {N D R : Type 0} (same : D → D → Bool) (shape : N → Shape N D R) where
+  -- from a type names lead through type declarations that weren't met before to a type that is no name; with what was met before and is met after
+  pub data Opens : List D → N → List D → N → Type 0 where
+    plain : {met : List D} {n : N} → IsPlain (shape n) → Opens met n met n
+    through : {met after : List D} {n m last : N} {d : D} → shape n ≡ shapes.Named d m → list_any (same d) met ≡ false → Opens (met ++ d ∷ []) m after last → Opens met n after last
+
+  -- a type opens to another in a search of its own
+  pub record OpensTo (n m : N) : Type 0 where
+    pub met : List D
+    pub opens : Opens [] n met m
+
+  -- the elements of the array that a type opens to have this type
+  pub record HasElement (n m : N) : Type 0 where
+    pub array : N
+    pub opens : OpensTo n array
+    pub is : element_of (shape array) ≡ Some m
+
+  -- the pointer that a type opens to has this target
+  pub record HasTarget (n m : N) : Type 0 where
+    pub pointer : N
+    pub opens : OpensTo n pointer
+    pub is : target_of (shape pointer) ≡ Some m
+
+  module _ {F : Type 0} (field : R → Option F) (base : R → Option N) where
+    -- the field that a name means at a type: of the record that it opens to, through pointers, or else of its base, all in one search
+    pub data Finds : List D → N → F → Type 0 where
+      own : {met after : List D} {n m : N} {r : R} {f : F} → Opens met n after m → shape m ≡ shapes.Record r → field r ≡ Some f → Finds met n f
+      pointed : {met after : List D} {n m next : N} {f : F} → Opens met n after m → shape m ≡ shapes.Pointer next → Finds after next f → Finds met n f
+      inherited : {met after : List D} {n m next : N} {r : R} {f : F} → Opens met n after m → shape m ≡ shapes.Record r → field r ≡ None → base r ≡ Some next → Finds after next f → Finds met n f

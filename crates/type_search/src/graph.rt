@@ -1,0 +1,45 @@
+//! Graphs of types.
+ghost use Rattle.std.specs.Prelude.{◌≡◌, ◌<◌, ◌^◌, ℕ, List, Option, Some};
+ghost use Rattle.type_search.specs.declared.shape.Shape.{Shape};
+ghost use Rattle.type_search.specs.declared.shape.Shape.TheVariants as shapes;
+
+use crate::shape::Shape;
+use std::hash::Hash;
+
+/// The types of a program, as nodes. A node is a place at which a type is written.
+pub trait TypeGraph {
+    type Node: Copy + Drop;
+
+    type Declaration: Copy + Eq + Hash + Drop;
+
+    type Record: Copy + Drop;
+
+    type Field: Copy + Drop;
+
+    ghost shape: { Self → Self.Node → Shape Self.Node Self.Declaration Self.Record };
+
+    ghost field_of: { Self → Self.Record → List ℕ → Option Self.Field };
+
+    ghost base_of: { Self → Self.Record → Option Self.Node };
+
+    /// How deep a type is, to the names in it.
+    ghost depth: { Self → Self.Node → ℕ };
+
+    /// What the type of a node is.
+    fn shape(&self, node: Self::Node) -> Shape<Self::Node, Self::Declaration, Self::Record>
+        ensures { result ≡ shape self.now node };
+
+    /// The field of this name in a record itself.
+    fn field(&self, record: Self::Record, name: &[u8]) -> Option<Self::Field>
+        ensures { result ≡ field_of self.now «record» name.now };
+
+    /// The type that is a record's base.
+    fn base(&self, record: Self::Record) -> Option<Self::Node>
+        ensures { result ≡ base_of self.now «record» };
+
+    ghost deep: { (g : Self) (n : Self.Node) → depth g n < 2 ^ 64 };
+
+    ghost pointed: { (g : Self) (n m : Self.Node) → shape g n ≡ shapes.Pointer m → depth g m < depth g n };
+
+    ghost based: { (g : Self) (n m : Self.Node) (r : Self.Record) → shape g n ≡ shapes.Record r → base_of g r ≡ Some m → depth g m < depth g n };
+}
