@@ -1,8 +1,8 @@
 #!/usr/bin/env python3
 """An index as another producer than this program would make it: bench/foreign.py [write]
 
-Without a word it compares what it makes with the files that are there: examples/foreign.scip, examples/foreign.txt, which is the
-same in the text format of Protocol Buffers, and the bytes in the tests. With `write` it writes them.
+Without a word it compares what it makes with the files that are there: examples/foreign.scip, and examples/foreign.txt, which is
+the same in the text format of Protocol Buffers. With `write` it writes them.
 
 The fields are those of scip.proto (github.com/sourcegraph/scip), put down anew. Columns are in units of UTF-16, which the documents
 declare.
@@ -207,35 +207,10 @@ def index():
     ]
 
 
-def escaped(piece):
-    out = ""
-    for byte in piece:
-        if byte in b"\"\\":
-            out += "\\" + chr(byte)
-        elif 32 <= byte < 127:
-            out += chr(byte)
-        else:
-            out += f"\\x{byte:02x}"
-    return out
-
-
-def rows(content, most=88):
-    """The bytes as rows of a source file, in pieces whose text is not longer than so much."""
-    out, piece = "", b""
-    for k in range(len(content)):
-        if len(escaped(piece + content[k : k + 1])) > most:
-            out, piece = out + f'    b"{escaped(piece)}",\n', b""
-        piece += content[k : k + 1]
-    return out + f'    b"{escaped(piece)}",\n'
-
-
 def files():
-    content = bytes_of(index())
-    head = "//! The bytes of `examples/foreign.scip`, as `bench/foreign.py` writes them.\n\n/// They stand one after the other.\n"
     return {
-        "examples/foreign.scip": content,
+        "examples/foreign.scip": bytes_of(index()),
         "examples/foreign.txt": text_of(index()).encode(),
-        "crates/scip_tests/src/foreign_bytes.rt": f"{head}pub const FOREIGN_BYTES: &[&[u8]] = &[\n{rows(content)}];\n".encode(),
     }
 
 

@@ -1,10 +1,9 @@
-//! Tests of symbols, of the wire format, of indexes and of questions to them, from outside.
+//! Tests of symbols, of the wire format and of indexes, from outside, and of what no command shows of questions to them: what `def` and
+//! `refs` print stands in `rows/`.
 //! Stands on `scip_symbol`, `proto_wire`, `scip_index`, `index_store` and `oscip_query`, on the `Sink` of `byte_sink`, and on `test_doubles` for a sink that fails.
 //! Its contract: none; it has nothing but tests.
 #![tactic(auto)]
 
-#[cfg(test)]
-mod foreign_bytes;
 #[cfg(test)]
 mod index;
 #[cfg(test)]

@@ -1,7 +1,5 @@
 //! Indexes, written and read one document after the other.
-use super::{
-    EMPTY, ENCLOSED, FOREIGN, TWO, show_document, show_fault, show_metadata, show_symbols,
-};
+use super::{EMPTY, ENCLOSED, FOREIGN, TWO, show_fault};
 use crate::told::is_told;
 use byte_sink::Sink;
 use proto_wire::WireFault;
@@ -135,22 +133,28 @@ fn a_refusal_of_a_writer_is_repeated(rt: HostRuntime) -> Result<(), Fail> {
     Ok(())
 }
 
+/// The path and the number of occurrences of the next document.
 fn show_next(alloc: Global, reader: &mut IndexReader<'_>) -> Result<String, AllocError> {
-    match reader.next() {
-        Ok(Some(document)) => show_document(alloc, &document),
+    match &reader.next() {
+        Ok(Some(document)) => {
+            let path = document.relative_path.as_str();
+            let count = document.occurrences.len();
+            format!(in alloc; "{path} {count}")
+        }
         Ok(None) => String::from_str(alloc, "none"),
-        Err(fault) => show_fault(alloc, fault),
+        Err(fault) => show_fault(alloc, *fault),
     }
 }
 
+/// The encoding, where there is metadata, and the number of external symbols.
 fn show_rest(alloc: Global, reader: IndexReader<'_>) -> Result<String, AllocError> {
-    match reader.rest() {
+    match &reader.rest() {
         Ok((metadata, externals)) => {
-            let metadata = show_metadata(alloc, &metadata)?;
-            let externals = show_symbols(alloc, &externals)?;
-            format!(in alloc; "{metadata}{externals}")
+            let encoding = metadata.as_ref().map(|it| it.text_document_encoding);
+            let count = externals.len();
+            format!(in alloc; "{encoding:?} {count}")
         }
-        Err(fault) => show_fault(alloc, fault),
+        Err(fault) => show_fault(alloc, *fault),
     }
 }
 
@@ -166,20 +170,17 @@ fn told(alloc: Global, bytes: &[u8], times: u32) -> Result<String, AllocError> {
     Ok(text)
 }
 
+/// A front of the foreign index of so many bytes, how many documents are asked for, and what is answered.
 const READ: &[(usize, u32, &str)] = &[
-    (
-        31,
-        3,
-        "a in  0 [0, 7, 8] local 0 1 []; none; none; encoding 1 root \"\"",
-    ),
-    (31, 0, "encoding 1 root \"\""),
+    (31, 3, "a 1; none; none; Some(1) 0"),
+    (31, 0, "Some(1) 0"),
     (
         30,
         3,
-        "a in  0 [0, 7, 8] local 0 1 []; the record at 27 is cut off; the record at 27 is cut off; the record at 27 is cut off",
+        "a 1; the record at 27 is cut off; the record at 27 is cut off; the record at 27 is cut off",
     ),
     (30, 0, "the record at 27 is cut off"),
-    (0, 1, "none; no metadata"),
+    (0, 1, "none; None 0"),
     (
         1,
         1,
@@ -189,17 +190,13 @@ const READ: &[(usize, u32, &str)] = &[
 
 /// Bytes, how many documents are asked for, and what is answered.
 const WHOLE: &[(&[u8], u32, &str)] = &[
-    (
-        TWO,
-        3,
-        "a in  0; b in  0; none; encoding 1 root \"r\" x is X y is ",
-    ),
-    (TWO, 1, "a in  0; encoding 1 root \"r\" x is X y is "),
+    (TWO, 3, "a 0; b 0; none; Some(1) 2"),
+    (TWO, 1, "a 0; Some(1) 2"),
     // What stands behind a fault is not given, be the fault inside a symbol or inside a range.
     (
         b"\x12\x03\x0a\x01a\x1a\x03\x32\x01\xff\x12\x03\x0a\x01b",
         2,
-        "a in  0; the text of the record at 7 is no UTF-8; the text of the record at 7 is no UTF-8",
+        "a 0; the text of the record at 7 is no UTF-8; the text of the record at 7 is no UTF-8",
     ),
     (
         b"\x12\x05\x12\x03\x0a\x01\x80",

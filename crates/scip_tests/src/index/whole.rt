@@ -1,5 +1,5 @@
 //! What the bytes of an index mean, and the bytes that are written of one.
-use super::{EMPTY, ENCLOSED, FOREIGN, MODULE, TWO, show, show_fault};
+use super::{EMPTY, ENCLOSED, FOREIGN, MODULE, TWO, show_fault};
 use crate::told::is_told;
 use scip_index::{
     Document, Index, Metadata, Occurrence, SymbolInfo, ToolInfo, from_bytes, to_bytes,
@@ -8,94 +8,7 @@ use std::alloc::{AllocError, Global};
 use std::process::Abort;
 use std::test::Fail;
 
-/// The index of bytes, or why they are none.
-fn told(alloc: Global, bytes: &[u8]) -> Result<String, AllocError> {
-    match from_bytes(alloc, bytes) {
-        Ok(index) => show(alloc, &index),
-        Err(fault) => show_fault(alloc, fault),
-    }
-}
-
-const READ: &[(&[u8], &str)] = &[
-    (b"", "no metadata"),
-    (EMPTY, "encoding 1 root \"\" by oscip 1 with 0"),
-    (
-        FOREIGN,
-        "encoding 1 root \"\"; a in  0 [0, 7, 8] local 0 1 []",
-    ),
-    (
-        ENCLOSED,
-        "encoding 1 root \"\" by oscip 1 with 0; M.Mod in Oberon 1 [0, 7, 8] scip-oberon . . . M/ 1 [0, 0, 16] [0, 14, 15] scip-oberon . . . M/ 0 [] scip-oberon . . . M/ is M",
-    ),
-    (TWO, "encoding 1 root \"r\"; a in  0; b in  0 x is X y is "),
-    // A range that is packed and unpacked, negative numbers, and the last of several texts and numbers.
-    (
-        b"\x12\x1c\x12\x1a\x08\x01\x0a\x01\x02\x08\xff\xff\xff\xff\xff\xff\xff\xff\xff\x01\x12\x01a\x12\x01b\x18\x04\x18\x08",
-        "no metadata;  in  0 [1, 2, -1] b 8 []",
-    ),
-    // Metadata and the tool are merged, and arguments added.
-    (
-        b"\x0a\x06\x12\x04\x0a\x02ab\x0a\x06\x12\x04\x12\x02cd\x0a\x07\x12\x05\x1a\x00\x1a\x01x\x1a\x05\x0a\x01s\x32\x00",
-        "encoding 0 root \"\" by ab cd with 2 s is ",
-    ),
-    // Faults: a record's before those inside it, and those inside it before the next record's.
-    (b"\x00", "the record at 0 has no field number"),
-    (
-        b"\x12\xff\xff\xff\xff\xff\xff\xff\xff\xff\x01",
-        "the record at 0 is cut off",
-    ),
-    (
-        b"\x12\x03\x0a\x01\xff",
-        "the text of the record at 2 is no UTF-8",
-    ),
-    (
-        b"\x12\x03\x0a\x01\xff\x12\x05",
-        "the text of the record at 2 is no UTF-8",
-    ),
-    (
-        b"\x12\x05\x12\x03\x0a\x01\x80",
-        "the record at 4 is cut off",
-    ),
-    (b"\x12\x04\x12\x02\x3a\x01", "the record at 4 is cut off"),
-];
-
-fn reads(rt: &(impl Abort + AllocGlobal), bytes: &[u8], want: &str) -> Result<(), Fail> {
-    let told = told(rt.alloc(), bytes)?;
-    is_told(rt, told.as_str(), want);
-    Ok(())
-}
-
-#[test]
-fn bytes_are_read(rt: HostRuntime) -> Result<(), Fail> {
-    for (bytes, want) in READ {
-        reads(&rt, bytes, want)?;
-    }
-    Ok(())
-}
-
-#[test]
-fn fronts_are_cut_off(rt: HostRuntime) -> Result<(), Fail> {
-    for count in 1..27usize {
-        reads(&rt, &FOREIGN[..count], "the record at 0 is cut off")?;
-    }
-    reads(
-        &rt,
-        &FOREIGN[..27],
-        "no metadata; a in  0 [0, 7, 8] local 0 1 []",
-    )?;
-    for count in 28..31usize {
-        reads(&rt, &FOREIGN[..count], "the record at 27 is cut off")?;
-    }
-    Ok(())
-}
-
-/// The bytes that are written of what these bytes mean.
-fn again(alloc: Global, bytes: &[u8]) -> Result<Vec<u8>, Fail> {
-    let index = from_bytes(alloc, bytes).ok().ok_or("they are an index")?;
-    Ok(to_bytes(alloc, &index)?)
-}
-
-/// Bytes as another producer may write them, and as they are written.
+/// Bytes as another producer may write them, and as what they mean is written.
 const WRITTEN: &[(&[u8], &[u8])] = &[
     (b"", b""),
     (EMPTY, EMPTY),
@@ -120,7 +33,23 @@ const WRITTEN: &[(&[u8], &[u8])] = &[
         b"\x0a\x06\x20\xff\xff\xff\xff\x0f",
         b"\x0a\x0b\x20\xff\xff\xff\xff\xff\xff\xff\xff\xff\x01",
     ),
+    // A range that is packed and unpacked, negative numbers, and the last of several texts and numbers.
+    (
+        b"\x12\x1c\x12\x1a\x08\x01\x0a\x01\x02\x08\xff\xff\xff\xff\xff\xff\xff\xff\xff\x01\x12\x01a\x12\x01b\x18\x04\x18\x08",
+        b"\x12\x15\x12\x13\x0a\x0c\x01\x02\xff\xff\xff\xff\xff\xff\xff\xff\xff\x01\x12\x01b\x18\x08",
+    ),
+    // Metadata and the tool are merged, and arguments added.
+    (
+        b"\x0a\x06\x12\x04\x0a\x02ab\x0a\x06\x12\x04\x12\x02cd\x0a\x07\x12\x05\x1a\x00\x1a\x01x\x1a\x05\x0a\x01s\x32\x00",
+        b"\x0a\x0f\x12\x0d\x0a\x02ab\x12\x02cd\x1a\x00\x1a\x01x\x1a\x03\x0a\x01s",
+    ),
 ];
+
+/// The bytes that are written of what these bytes mean.
+fn again(alloc: Global, bytes: &[u8]) -> Result<Vec<u8>, Fail> {
+    let index = from_bytes(alloc, bytes).ok().ok_or("they are an index")?;
+    Ok(to_bytes(alloc, &index)?)
+}
 
 fn writes(rt: &(impl Abort + AllocGlobal), bytes: &[u8], want: &[u8]) -> Result<(), Fail> {
     let written = again(rt.alloc(), bytes)?;
@@ -132,6 +61,62 @@ fn writes(rt: &(impl Abort + AllocGlobal), bytes: &[u8], want: &[u8]) -> Result<
 fn what_is_read_is_written_in_one_way(rt: HostRuntime) -> Result<(), Fail> {
     for (bytes, want) in WRITTEN {
         writes(&rt, bytes, want)?;
+    }
+    Ok(())
+}
+
+/// Why bytes are no index, or `read`.
+fn told(alloc: Global, bytes: &[u8]) -> Result<String, AllocError> {
+    match &from_bytes(alloc, bytes) {
+        Ok(_) => String::from_str(alloc, "read"),
+        Err(fault) => show_fault(alloc, *fault),
+    }
+}
+
+/// A record's fault comes before those inside it, and those inside it before the next record's.
+const FAULTS: &[(&[u8], &str)] = &[
+    (b"\x00", "the record at 0 has no field number"),
+    (
+        b"\x12\xff\xff\xff\xff\xff\xff\xff\xff\xff\x01",
+        "the record at 0 is cut off",
+    ),
+    (
+        b"\x12\x03\x0a\x01\xff",
+        "the text of the record at 2 is no UTF-8",
+    ),
+    (
+        b"\x12\x03\x0a\x01\xff\x12\x05",
+        "the text of the record at 2 is no UTF-8",
+    ),
+    (
+        b"\x12\x05\x12\x03\x0a\x01\x80",
+        "the record at 4 is cut off",
+    ),
+    (b"\x12\x04\x12\x02\x3a\x01", "the record at 4 is cut off"),
+];
+
+/// What is told of so many bytes of the foreign index.
+fn of_front(count: usize) -> &'static str {
+    match count {
+        1..=26 => "the record at 0 is cut off",
+        28..=30 => "the record at 27 is cut off",
+        _ => "read",
+    }
+}
+
+fn tells(rt: &(impl Abort + AllocGlobal), bytes: &[u8], want: &str) -> Result<(), Fail> {
+    let told = told(rt.alloc(), bytes)?;
+    is_told(rt, told.as_str(), want);
+    Ok(())
+}
+
+#[test]
+fn the_first_fault_is_told(rt: HostRuntime) -> Result<(), Fail> {
+    for (bytes, want) in FAULTS {
+        tells(&rt, bytes, want)?;
+    }
+    for count in 0..FOREIGN.len() {
+        tells(&rt, &FOREIGN[..count], of_front(count))?;
     }
     Ok(())
 }
