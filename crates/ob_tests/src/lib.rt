@@ -1,5 +1,5 @@
 //! Tests of tokens, trees, scopes, interfaces and graphs of imports, from outside.
-//! Stands on `ob_scan`, `ob_tree`, `ob_parse`, `ob_scope` and `ob_imports`.
+//! Stands on `ob_scan`, `ob_tree`, `ob_decls`, `ob_parse`, `ob_scope` and `ob_imports`.
 //! Its contract: none; it has nothing but tests.
 #![tactic(auto)]
 
@@ -7,6 +7,8 @@
 mod corners;
 #[cfg(test)]
 mod cycles;
+#[cfg(test)]
+mod declared;
 #[cfg(test)]
 mod depths;
 #[cfg(test)]
