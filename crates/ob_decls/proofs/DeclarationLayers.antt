@@ -7,7 +7,7 @@ use Rattle.ob_tree.specs.declared.declaration.VarDecl.{VarDecl}
 use Rattle.ob_tree.specs.declared.declaration.ImportItem.{ImportItem}
 use Rattle.ob_tree.specs.declared.declaration.Module.{Module}
 use Rattle.ob_tree.specs.declared.declaration.Declarations.{Declarations, fold_out-Declarations, out-Declarations}
-use Rattle.ob_tree.specs.declared.declaration.ProcDecl.{ProcDecl, fold_out-ProcDecl, out-ProcDecl}
+use Rattle.ob_tree.specs.declared.declaration.ProcDecl.{ProcDecl, ProcDecl-F, fold_out-ProcDecl, out-ProcDecl}
 use Rattle.ob_decls.specs.declared.rows.Sort.TheVariants as sorts
 use Rattle.ob_decls.specs.declared.draft.Context.{Context}
 use Rattle.ob_decls.specs.Drafts.{Stage, after, passed}
@@ -81,3 +81,13 @@ pub ruleset module_made = (module_after, after_nothing)
 pub ruleset sections_made = (steps, after_declaring, added_number, const_out, type_decl_out, variable_out, import_inner_out, import_out, imports_out)
 
 pub ruleset declarations_made = (steps, after_declaring, added_number, declarations_out, procedure_inner_out, procedure_out)
+
+abbrev pub procedure_shown : ProcDecl-F Declarations ProcDecl → Piece
+procedure_shown p = declaring sorts.Procedure (opening (
+    both token (both (identdef_piece p.name) (both (if_there parameters_piece p.parameters) (both token
+    (both (declarations_piece p.declarations) (both (if_there (λ b. both token (block_piece b.value)) p.body)
+    (both (if_there (λ e. both token (expr_piece e.value)) p.returned) (both token (tells procedure_end token))))))))))
+
+pub procedure_told : (p : ProcDecl) → procedure_piece p ≡ procedure_shown (out-ProcDecl p)
+unfolding declarations_piece procedure_piece
+procedure_told p = fold_out-ProcDecl Piece Piece declarations_step procedure_step p

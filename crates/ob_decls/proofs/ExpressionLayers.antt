@@ -255,3 +255,9 @@ pub ruleset selectors_made = (field_made, index_made, target_made, arguments_mad
 pub ruleset names_alone = (selectors_made, expr_name, sum_name, term_name, expr_list_name, designator_name, value_named, nil_named, true_named, false_named, set_named, name_named, group_named, not_named)
 
 pub ruleset expressions_made = (steps, expr_out, sum_out, term_out, element_out, element_list_out, expr_list_out, value_made, nil_made, true_made, false_made, set_made, name_made, group_made, not_made, field_made, index_made, target_made, arguments_made)
+
+pub factor_told : (f : Factor) → factor_piece f ≡ (factor_shown (out-Factor f)).piece
+factor_told f = factor_of f (out-Factor f) refl
+
+pub selector_told : (s : Selector) → (selected s).piece ≡ (selector_shown (out-Selector s)).piece
+selector_told s = ap (λ (x : Selected). x.piece) (selector_out s)

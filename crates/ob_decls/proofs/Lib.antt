@@ -9,3 +9,9 @@ pub mod StatementLayers
 pub mod Steps
 pub mod TypeLayers
 pub mod TableRows
+pub mod Mirrored
+pub mod MirroredExpressions
+pub mod MirroredStatements
+pub mod MirroredTypes
+pub mod MirroredModules
+pub mod Derived

@@ -171,3 +171,9 @@ for_after f c s = simp (for_out f, after_both, after_token)
 pub ruleset labels_made = (steps, qualident_out, variable_out, integer_label, text_label, name_label, label_range_out)
 
 pub ruleset statements_made = (steps, block_out, branch_out, for_after, nothing_made, labelled_made, empty_made, assign_made, call_made, if_after, case_after, while_made, repeat_made, for_stmt_made)
+
+pub case_told : (c : Case) → case_piece c ≡ case_shown (out-Case c)
+case_told = case_out
+
+pub stmt_told : (s : Stmt) → stmt_piece s ≡ stmt_shown (out-Stmt s)
+stmt_told = stmt_out

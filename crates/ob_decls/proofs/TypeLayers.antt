@@ -157,3 +157,6 @@ procedure_type_made p = formed _ _ (forms.outs-ProcOf p)
 pub ruleset names_made = (steps, after_declaring, added_number, after_arrays, after_name, identdef_out, parameter_out, section_inner_out, section_out, parameters_out, type_name_out, lengths_out)
 
 pub ruleset types_made = (steps, after_declaring, added_number, fields_out, record_after, var_out, named_made, array_made, record_of_made, pointer_made, procedure_type_made)
+
+pub type_told : (t : TypeForm) → type_piece t ≡ type_shown (out-TypeForm t)
+type_told = type_out

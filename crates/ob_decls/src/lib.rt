@@ -4,6 +4,7 @@
 #![tactic(auto)]
 
 mod draft;
+pub mod laws;
 mod making;
 mod order;
 mod rows;

@@ -1,0 +1,157 @@
+-- Where a tree derives tokens, the places of its identifiers are their numbers.
+use Rattle.std.proofs.Common.{◌≡◌, ℕ, zero, suc, ◌+◌, ◌⊎◌, inl, inr, List, [], ◌∷◌, map, Some, refl, sym, ap, ap₂, ◌∙◌, subst, arith}
+use Rattle.std.specs.Prelude.{Contains, slice_get}
+use Rattle.ob_scan.specs.declared.kind.Kind.{Kind}
+use Rattle.ob_scan.specs.declared.kind.Kind.TheVariants as kinds
+use Rattle.ob_tree.specs.declared.declaration.Module.{Module}
+use Rattle.ob_tree.specs.declared.token.Leaf.{Leaf}
+use Rattle.ob_tree.specs.declared.token.Leaf.TheVariants as leafs
+use Rattle.ob_tree.specs.Declaring.{module_outline}
+use Rattle.ob_tree.specs.Derives.{Derives, declared_in, used_in, spelling}
+use Rattle.ob_tree.specs.Leaves.{leaf_of, leaves}
+use Rattle.ob_tree.specs.Marks.{Out, Begins, Ends, Identifier, Value, Word, Declares, Uses, Names, Repeats, construct, tokens_of}
+use Rattle.ob_decls.specs.declared.rows.Declared.{Declared}
+use Rattle.ob_decls.specs.declared.rows.Used.{Used}
+use Rattle.ob_decls.specs.Declaring.{own_name, rows_of, outermost}
+use Rattle.ob_decls.proofs.Mirrored.{declares_at, uses_at}
+use Rattle.ob_decls.proofs.MirroredModules.{m-module}
+
+-- one token with the tokens behind it
+record IsStep (k : ℕ) (l : Leaf) (ls : List Leaf) : Type 0 where
+  kind : Kind
+  rest : List Kind
+  head : leaf_of k kind ≡ l
+  tail : leaves (suc k) rest ≡ ls
+
+step : (k : ℕ) (ks : List Kind) (l : Leaf) (ls : List Leaf) → leaves k ks ≡ l ∷ ls → IsStep k l ls
+step k [] l ls e = absurd cc
+step k (x ∷ ks) l ls e =
+    let n : suc k ≡ k + 1 = omega arith in
+    record { kind = x; rest = ks; head = cc; tail = ap (λ (j : ℕ). leaves j ks) n ∙ cc }
+
+-- an identifier has its token's number
+number_of : (k n : ℕ) (x : Kind) → leaf_of k x ≡ leafs.Name n → k ≡ n
+number_of k n kinds.Ident e = cc
+number_of k n x e = absurd cc
+
+declares_derived : (k : ℕ) (ks : List Kind) (o : Out) → leaves k ks ≡ tokens_of o → declares_at k o ≡ declared_in o
+declares_derived k ks [] e = refl
+declares_derived k ks (Begins c m ∷ ms) e = declares_derived k ks ms e
+declares_derived k ks (Ends c ∷ ms) e = declares_derived k ks ms e
+declares_derived k ks (Identifier Declares m ∷ ms) e =
+    let s = step k ks (leafs.Name m) (tokens_of ms) e in
+    ap₂ (λ (n : ℕ) (ns : List ℕ). n ∷ ns) (number_of k m s.kind s.head) (declares_derived (suc k) s.rest ms s.tail)
+declares_derived k ks (Identifier Uses m ∷ ms) e = let s = step k ks (leafs.Name m) (tokens_of ms) e in declares_derived (suc k) s.rest ms s.tail
+declares_derived k ks (Identifier Names m ∷ ms) e = let s = step k ks (leafs.Name m) (tokens_of ms) e in declares_derived (suc k) s.rest ms s.tail
+declares_derived k ks (Identifier (Repeats r) m ∷ ms) e = let s = step k ks (leafs.Name m) (tokens_of ms) e in declares_derived (suc k) s.rest ms s.tail
+declares_derived k ks (Value l m ∷ ms) e = let s = step k ks (leafs.Value l m) (tokens_of ms) e in declares_derived (suc k) s.rest ms s.tail
+declares_derived k ks (Word w ∷ ms) e = let s = step k ks (leafs.Word w) (tokens_of ms) e in declares_derived (suc k) s.rest ms s.tail
+
+uses_derived : (k : ℕ) (ks : List Kind) (o : Out) → leaves k ks ≡ tokens_of o → uses_at k o ≡ used_in o
+uses_derived k ks [] e = refl
+uses_derived k ks (Begins c m ∷ ms) e = uses_derived k ks ms e
+uses_derived k ks (Ends c ∷ ms) e = uses_derived k ks ms e
+uses_derived k ks (Identifier Uses m ∷ ms) e =
+    let s = step k ks (leafs.Name m) (tokens_of ms) e in
+    ap₂ (λ (n : ℕ) (ns : List ℕ). n ∷ ns) (number_of k m s.kind s.head) (uses_derived (suc k) s.rest ms s.tail)
+uses_derived k ks (Identifier Declares m ∷ ms) e = let s = step k ks (leafs.Name m) (tokens_of ms) e in uses_derived (suc k) s.rest ms s.tail
+uses_derived k ks (Identifier Names m ∷ ms) e = let s = step k ks (leafs.Name m) (tokens_of ms) e in uses_derived (suc k) s.rest ms s.tail
+uses_derived k ks (Identifier (Repeats r) m ∷ ms) e = let s = step k ks (leafs.Name m) (tokens_of ms) e in uses_derived (suc k) s.rest ms s.tail
+uses_derived k ks (Value l m ∷ ms) e = let s = step k ks (leafs.Value l m) (tokens_of ms) e in uses_derived (suc k) s.rest ms s.tail
+uses_derived k ks (Word w ∷ ms) e = let s = step k ks (leafs.Word w) (tokens_of ms) e in uses_derived (suc k) s.rest ms s.tail
+
+pub counted_declared : (ks : List Kind) (m : Module) → Derives ks m → map (λ (d : Declared). d.number) (rows_of m).declared ≡ declared_in (module_outline m)
+counted_declared ks m d = (m-module m).declares outermost 0 ∙ declares_derived 0 ks (module_outline m) d
+
+pub counted_used : (ks : List Kind) (m : Module) → Derives ks m → map (λ (u : Used). u.number) (rows_of m).uses ≡ used_in (module_outline m)
+counted_used ks m d = (m-module m).uses outermost 0 ∙ uses_derived 0 ks (module_outline m) d
+
+-- ---- the kinds of identifiers
+
+-- of kinds that are numbered from k on, the one of this number is that of a name
+record IsIdentAt (k : ℕ) (ks : List Kind) (n : ℕ) : Type 0 where
+  place : ℕ
+  is : k + place ≡ n
+  there : slice_get ks place ≡ Some kinds.Ident
+
+ident_of : (k n : ℕ) (x : Kind) → leaf_of k x ≡ leafs.Name n → x ≡ kinds.Ident
+ident_of k n kinds.Ident e = refl
+ident_of k n x e = absurd cc
+
+here : (k : ℕ) (ks : List Kind) (m : ℕ) (ls : List Leaf) (n : ℕ) → leaves k ks ≡ leafs.Name m ∷ ls → k ≡ n → IsIdentAt k ks n
+here k [] m ls n e s = absurd cc
+here k (x ∷ ks) m ls n e s =
+    let head : leaf_of k x ≡ leafs.Name m = cc in
+    record { place = zero; is = omega (arith, s); there = ap Some (ident_of k m x head) }
+
+behind : (k : ℕ) (ks : List Kind) (l : Leaf) (ls : List Leaf) (n : ℕ) → leaves k ks ≡ l ∷ ls → ((rest : List Kind) → leaves (suc k) rest ≡ ls → IsIdentAt (suc k) rest n) → IsIdentAt k ks n
+behind k [] l ls n e f = absurd cc
+behind k (x ∷ ks) l ls n e f =
+    let t : leaves (k + 1) ks ≡ ls = cc in
+    let s : suc k ≡ k + 1 = omega arith in
+    let h : IsIdentAt (suc k) ks n = f ks (ap (λ (j : ℕ). leaves j ks) s ∙ t) in
+    record { place = suc h.place; is = (let e = h.is in omega arith); there = h.there }
+
+first_or_later : (y : ℕ) (xs : List ℕ) (x : ℕ) → Contains (y ∷ xs) x → (y ≡ x) ⊎ Contains xs x
+first_or_later y xs x (zero, l, e) = inl e
+first_or_later y xs x (suc k, l, e) = inr (k, omega arith, e)
+
+found : (k : ℕ) (ks : List Kind) (m : ℕ) (ls : List Leaf) (ns : List ℕ) (n : ℕ) → leaves k ks ≡ leafs.Name m ∷ ls → Contains (k ∷ ns) n →
+    ((rest : List Kind) → leaves (suc k) rest ≡ ls → Contains ns n → IsIdentAt (suc k) rest n) → IsIdentAt k ks n
+found k ks m ls ns n e h f = elim (first_or_later k ns n h) [
+  | inl same ↦ here k ks m ls n e same
+  | inr later ↦ behind k ks (leafs.Name m) ls n e (λ rest t. f rest t later)
+]
+
+declares_idents : (k : ℕ) (ks : List Kind) (o : Out) (n : ℕ) → leaves k ks ≡ tokens_of o → Contains (declares_at k o) n → IsIdentAt k ks n
+declares_idents k ks [] n e (i, l, h) = absurd (omega arith)
+declares_idents k ks (Begins c m ∷ ms) n e h = declares_idents k ks ms n e h
+declares_idents k ks (Ends c ∷ ms) n e h = declares_idents k ks ms n e h
+declares_idents k ks (Identifier Declares m ∷ ms) n e h = found k ks m (tokens_of ms) (declares_at (suc k) ms) n e h (λ rest t g. declares_idents (suc k) rest ms n t g)
+declares_idents k ks (Identifier Uses m ∷ ms) n e h = behind k ks (leafs.Name m) (tokens_of ms) n e (λ rest t. declares_idents (suc k) rest ms n t h)
+declares_idents k ks (Identifier Names m ∷ ms) n e h = behind k ks (leafs.Name m) (tokens_of ms) n e (λ rest t. declares_idents (suc k) rest ms n t h)
+declares_idents k ks (Identifier (Repeats r) m ∷ ms) n e h = behind k ks (leafs.Name m) (tokens_of ms) n e (λ rest t. declares_idents (suc k) rest ms n t h)
+declares_idents k ks (Value l m ∷ ms) n e h = behind k ks (leafs.Value l m) (tokens_of ms) n e (λ rest t. declares_idents (suc k) rest ms n t h)
+declares_idents k ks (Word w ∷ ms) n e h = behind k ks (leafs.Word w) (tokens_of ms) n e (λ rest t. declares_idents (suc k) rest ms n t h)
+
+uses_idents : (k : ℕ) (ks : List Kind) (o : Out) (n : ℕ) → leaves k ks ≡ tokens_of o → Contains (uses_at k o) n → IsIdentAt k ks n
+uses_idents k ks [] n e (i, l, h) = absurd (omega arith)
+uses_idents k ks (Begins c m ∷ ms) n e h = uses_idents k ks ms n e h
+uses_idents k ks (Ends c ∷ ms) n e h = uses_idents k ks ms n e h
+uses_idents k ks (Identifier Uses m ∷ ms) n e h = found k ks m (tokens_of ms) (uses_at (suc k) ms) n e h (λ rest t g. uses_idents (suc k) rest ms n t g)
+uses_idents k ks (Identifier Declares m ∷ ms) n e h = behind k ks (leafs.Name m) (tokens_of ms) n e (λ rest t. uses_idents (suc k) rest ms n t h)
+uses_idents k ks (Identifier Names m ∷ ms) n e h = behind k ks (leafs.Name m) (tokens_of ms) n e (λ rest t. uses_idents (suc k) rest ms n t h)
+uses_idents k ks (Identifier (Repeats r) m ∷ ms) n e h = behind k ks (leafs.Name m) (tokens_of ms) n e (λ rest t. uses_idents (suc k) rest ms n t h)
+uses_idents k ks (Value l m ∷ ms) n e h = behind k ks (leafs.Value l m) (tokens_of ms) n e (λ rest t. uses_idents (suc k) rest ms n t h)
+uses_idents k ks (Word w ∷ ms) n e h = behind k ks (leafs.Word w) (tokens_of ms) n e (λ rest t. uses_idents (suc k) rest ms n t h)
+
+at_front : (ks : List Kind) (n : ℕ) → IsIdentAt 0 ks n → slice_get ks n ≡ Some kinds.Ident
+at_front ks n h = let e : h.place ≡ n = (let i = h.is in omega arith) in subst (λ (j : ℕ). slice_get ks j ≡ Some kinds.Ident) e h.there
+
+mapped : {X : Type 0} (f : X → ℕ) (xs : List X) (x : X) → Contains xs x → Contains (map f xs) (f x)
+mapped f [] x (i, l, h) = absurd (omega arith)
+mapped f (y ∷ ys) x (zero, l, h) = (zero, omega arith, ap f h)
+mapped f (y ∷ ys) x (suc i, l, h) = (let r = mapped f ys x (i, omega arith, h) in (suc r.0, (let g = r.1 in omega arith), r.2))
+
+pub declared_ident : (ks : List Kind) (m : Module) → Derives ks m → (d : Declared) → Contains (rows_of m).declared d → slice_get ks d.number ≡ Some kinds.Ident
+declared_ident ks m e d h =
+    at_front ks d.number (declares_idents 0 ks (module_outline m) d.number e
+    (subst (λ (ns : List ℕ). Contains ns d.number) ((m-module m).declares outermost 0) (mapped (λ (x : Declared). x.number) (rows_of m).declared d h)))
+
+pub used_ident : (ks : List Kind) (m : Module) → Derives ks m → (u : Used) → Contains (rows_of m).uses u → slice_get ks u.number ≡ Some kinds.Ident
+used_ident ks m e u h =
+    at_front ks u.number (uses_idents 0 ks (module_outline m) u.number e
+    (subst (λ (ns : List ℕ). Contains ns u.number) ((m-module m).uses outermost 0) (mapped (λ (x : Used). x.number) (rows_of m).uses u h)))
+
+-- the second token of a module is its name
+name_spelled : (m : Module) → (l : Leaf) × (ls : List Leaf) × (spelling m ≡ l ∷ leafs.Name m.name ∷ ls)
+unfolding module_outline construct
+name_spelled m = (_, _, refl)
+
+second : (ks : List Kind) (l : Leaf) (n : ℕ) (ls : List Leaf) → leaves 0 ks ≡ l ∷ leafs.Name n ∷ ls → (n ≡ own_name) × (slice_get ks own_name ≡ Some kinds.Ident)
+second [] l n ls e = absurd cc
+second (x ∷ []) l n ls e = absurd cc
+second (x ∷ y ∷ ks) l n ls e = let s : leaf_of 1 y ≡ leafs.Name n = cc in (sym (number_of 1 n y s), ap Some (ident_of 1 n y s))
+
+pub own_ident : (ks : List Kind) (m : Module) → Derives ks m → (m.name ≡ own_name) × (slice_get ks own_name ≡ Some kinds.Ident)
+own_ident ks m d = let (l, ls, e) = name_spelled m in second ks l m.name ls (d ∙ e)

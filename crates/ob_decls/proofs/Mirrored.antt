@@ -1,0 +1,221 @@
+-- A piece and an outline of one part of a tree: as many tokens, and the same places of what is declared and looked up.
+use Rattle.std.proofs.Common.{◌≡◌, ℕ, suc, ◌+◌, Bool, true, false, List, [], ◌∷◌, ◌++◌, map, Option, Some, None, refl, sym, ap, ap₂, ◌∙◌, append-nil, append_assoc, subst, arith}
+use Rattle.std.proofs.lemmas.List.{map-append}
+use Rattle.ob_scan.specs.declared.kind.Kind.{Kind}
+use Rattle.ob_tree.specs.declared.construct.Construct.{Construct}
+use Rattle.ob_tree.specs.declared.expression.Literal.{Literal}
+use Rattle.ob_tree.specs.declared.name.OneOrMore.{OneOrMore}
+use Rattle.ob_tree.specs.Marks.{Out, Begins, Ends, Identifier, Value, Word, Declares, Uses, Names, Repeats, construct, word, listed}
+use Rattle.ob_tree.specs.Marks.{if_there as outline_there, if_so as outline_so, each as outline_each}
+use Rattle.ob_decls.specs.declared.rows.Declared.{Declared}
+use Rattle.ob_decls.specs.declared.rows.Used.{Used}
+use Rattle.ob_decls.specs.declared.rows.Sort.{Sort}
+use Rattle.ob_decls.specs.declared.draft.Context.{Context}
+use Rattle.ob_decls.specs.Parts.{Piece, Rows, no_rows, joined, nothing, token, both, tells, within, if_there, if_so, each, declaring, opening}
+use Rattle.ob_decls.specs.Expressions.{each_after, used}
+use Rattle.ob_decls.specs.Types.{declared_row}
+
+-- how many tokens an outline has
+abbrev pub width_of : Out → ℕ
+width_of [] = 0
+width_of (Begins c n ∷ ms) = width_of ms
+width_of (Ends c ∷ ms) = width_of ms
+width_of (Identifier r n ∷ ms) = suc (width_of ms)
+width_of (Value k n ∷ ms) = suc (width_of ms)
+width_of (Word k ∷ ms) = suc (width_of ms)
+
+-- the places of what it declares, and of what it looks up, where its first token has this one
+abbrev pub declares_at : ℕ → Out → List ℕ
+declares_at k [] = []
+declares_at k (Begins c n ∷ ms) = declares_at k ms
+declares_at k (Ends c ∷ ms) = declares_at k ms
+declares_at k (Identifier Declares n ∷ ms) = k ∷ declares_at (suc k) ms
+declares_at k (Identifier Uses n ∷ ms) = declares_at (suc k) ms
+declares_at k (Identifier Names n ∷ ms) = declares_at (suc k) ms
+declares_at k (Identifier (Repeats m) n ∷ ms) = declares_at (suc k) ms
+declares_at k (Value l n ∷ ms) = declares_at (suc k) ms
+declares_at k (Word w ∷ ms) = declares_at (suc k) ms
+
+abbrev pub uses_at : ℕ → Out → List ℕ
+uses_at k [] = []
+uses_at k (Begins c n ∷ ms) = uses_at k ms
+uses_at k (Ends c ∷ ms) = uses_at k ms
+uses_at k (Identifier Uses n ∷ ms) = k ∷ uses_at (suc k) ms
+uses_at k (Identifier Declares n ∷ ms) = uses_at (suc k) ms
+uses_at k (Identifier Names n ∷ ms) = uses_at (suc k) ms
+uses_at k (Identifier (Repeats m) n ∷ ms) = uses_at (suc k) ms
+uses_at k (Value l n ∷ ms) = uses_at (suc k) ms
+uses_at k (Word w ∷ ms) = uses_at (suc k) ms
+
+-- ---- outlines behind each other
+
+width_both : (a b : Out) → width_of (a ++ b) ≡ width_of a + width_of b
+width_both [] b = omega arith
+width_both (Begins c n ∷ ms) b = width_both ms b
+width_both (Ends c ∷ ms) b = width_both ms b
+width_both (Identifier r n ∷ ms) b = let e : width_of (ms ++ b) ≡ width_of ms + width_of b = width_both ms b in omega arith
+width_both (Value k n ∷ ms) b = let e : width_of (ms ++ b) ≡ width_of ms + width_of b = width_both ms b in omega arith
+width_both (Word k ∷ ms) b = let e : width_of (ms ++ b) ≡ width_of ms + width_of b = width_both ms b in omega arith
+
+moved : (f : ℕ → List ℕ) (k w : ℕ) → f (suc k + w) ≡ f (k + suc w)
+moved f k w = ap f (omega arith)
+
+declares_both : (k : ℕ) (a b : Out) → declares_at k (a ++ b) ≡ declares_at k a ++ declares_at (k + width_of a) b
+declares_both k [] b = ap (λ (n : ℕ). declares_at n b) (omega arith)
+declares_both k (Begins c n ∷ ms) b = declares_both k ms b
+declares_both k (Ends c ∷ ms) b = declares_both k ms b
+declares_both k (Identifier Declares n ∷ ms) b = ap (λ (ns : List ℕ). k ∷ ns) (declares_both (suc k) ms b ∙ ap (λ (ns : List ℕ). declares_at (suc k) ms ++ ns) (moved (λ n. declares_at n b) k (width_of ms)))
+declares_both k (Identifier Uses n ∷ ms) b = declares_both (suc k) ms b ∙ ap (λ (ns : List ℕ). declares_at (suc k) ms ++ ns) (moved (λ n. declares_at n b) k (width_of ms))
+declares_both k (Identifier Names n ∷ ms) b = declares_both (suc k) ms b ∙ ap (λ (ns : List ℕ). declares_at (suc k) ms ++ ns) (moved (λ n. declares_at n b) k (width_of ms))
+declares_both k (Identifier (Repeats m) n ∷ ms) b = declares_both (suc k) ms b ∙ ap (λ (ns : List ℕ). declares_at (suc k) ms ++ ns) (moved (λ n. declares_at n b) k (width_of ms))
+declares_both k (Value l n ∷ ms) b = declares_both (suc k) ms b ∙ ap (λ (ns : List ℕ). declares_at (suc k) ms ++ ns) (moved (λ n. declares_at n b) k (width_of ms))
+declares_both k (Word w ∷ ms) b = declares_both (suc k) ms b ∙ ap (λ (ns : List ℕ). declares_at (suc k) ms ++ ns) (moved (λ n. declares_at n b) k (width_of ms))
+
+uses_both : (k : ℕ) (a b : Out) → uses_at k (a ++ b) ≡ uses_at k a ++ uses_at (k + width_of a) b
+uses_both k [] b = ap (λ (n : ℕ). uses_at n b) (omega arith)
+uses_both k (Begins c n ∷ ms) b = uses_both k ms b
+uses_both k (Ends c ∷ ms) b = uses_both k ms b
+uses_both k (Identifier Uses n ∷ ms) b = ap (λ (ns : List ℕ). k ∷ ns) (uses_both (suc k) ms b ∙ ap (λ (ns : List ℕ). uses_at (suc k) ms ++ ns) (moved (λ n. uses_at n b) k (width_of ms)))
+uses_both k (Identifier Declares n ∷ ms) b = uses_both (suc k) ms b ∙ ap (λ (ns : List ℕ). uses_at (suc k) ms ++ ns) (moved (λ n. uses_at n b) k (width_of ms))
+uses_both k (Identifier Names n ∷ ms) b = uses_both (suc k) ms b ∙ ap (λ (ns : List ℕ). uses_at (suc k) ms ++ ns) (moved (λ n. uses_at n b) k (width_of ms))
+uses_both k (Identifier (Repeats m) n ∷ ms) b = uses_both (suc k) ms b ∙ ap (λ (ns : List ℕ). uses_at (suc k) ms ++ ns) (moved (λ n. uses_at n b) k (width_of ms))
+uses_both k (Value l n ∷ ms) b = uses_both (suc k) ms b ∙ ap (λ (ns : List ℕ). uses_at (suc k) ms ++ ns) (moved (λ n. uses_at n b) k (width_of ms))
+uses_both k (Word w ∷ ms) b = uses_both (suc k) ms b ∙ ap (λ (ns : List ℕ). uses_at (suc k) ms ++ ns) (moved (λ n. uses_at n b) k (width_of ms))
+
+-- ---- pieces and outlines
+
+abbrev pub declared_numbers : Rows → List ℕ
+declared_numbers r = map (λ (d : Declared). d.number) r.declared
+
+abbrev pub used_numbers : Rows → List ℕ
+used_numbers r = map (λ (u : Used). u.number) r.uses
+
+pub record Mirrors (p : Piece) (o : Out) : Type 0 where
+  pub width : p.width ≡ width_of o
+  pub declares : (c : Context) (k : ℕ) → declared_numbers (p.rows c k) ≡ declares_at k o
+  pub uses : (c : Context) (k : ℕ) → used_numbers (p.rows c k) ≡ uses_at k o
+
+pub m-nothing : Mirrors nothing []
+unfolding nothing no_rows
+m-nothing = record { width = refl; declares = λ c k. refl; uses = λ c k. refl }
+
+pub m-word : (w : Kind) → Mirrors token (word w)
+unfolding token no_rows
+m-word w = record { width = refl; declares = λ c k. refl; uses = λ c k. refl }
+
+pub m-value : (l : Literal) (n : ℕ) → Mirrors token (Value l n ∷ [])
+unfolding token no_rows
+m-value l n = record { width = refl; declares = λ c k. refl; uses = λ c k. refl }
+
+pub m-name : (n : ℕ) → Mirrors token (Identifier Names n ∷ [])
+unfolding token no_rows
+m-name n = record { width = refl; declares = λ c k. refl; uses = λ c k. refl }
+
+pub m-repeat : (m n : ℕ) → Mirrors token (Identifier (Repeats m) n ∷ [])
+unfolding token no_rows
+m-repeat m n = record { width = refl; declares = λ c k. refl; uses = λ c k. refl }
+
+pub m-both : {p q : Piece} {a b : Out} → Mirrors p a → Mirrors q b → Mirrors (both p q) (a ++ b)
+unfolding both joined
+m-both {p} {q} {a} {b} f g = record {
+  width = let e = width_both a b in let x = f.width in let y = g.width in omega (arith, e, x, y);
+  declares = λ c k.
+      map-append (λ (d : Declared). d.number) (p.rows c k).declared (q.rows c (k + p.width)).declared
+      ∙ ap₂ (λ (xs ys : List ℕ). xs ++ ys) (f.declares c k) (g.declares c (k + p.width) ∙ ap (λ (w : ℕ). declares_at (k + w) b) f.width)
+      ∙ sym (declares_both k a b);
+  uses = λ c k.
+      map-append (λ (u : Used). u.number) (p.rows c k).uses (q.rows c (k + p.width)).uses
+      ∙ ap₂ (λ (xs ys : List ℕ). xs ++ ys) (f.uses c k) (g.uses c (k + p.width) ∙ ap (λ (w : ℕ). uses_at (k + w) b) f.width)
+      ∙ sym (uses_both k a b);
+}
+
+-- where a construct ends no token stands
+pub m-held : (x : Construct) {p : Piece} {o : Out} → Mirrors p o → Mirrors p (construct x o)
+unfolding construct
+m-held x {p} {o} f = record {
+  width = let e = width_both o (Ends x ∷ []) in let w = f.width in omega (arith, e, w);
+  declares = λ c k. f.declares c k ∙ sym (declares_both k o (Ends x ∷ []) ∙ append-nil (declares_at k o));
+  uses = λ c k. f.uses c k ∙ sym (uses_both k o (Ends x ∷ []) ∙ append-nil (uses_at k o));
+}
+
+-- rows of its own that neither declare nor look up
+pub m-tells : (own : Context → ℕ → Rows) {p : Piece} {o : Out} → ((c : Context) (k : ℕ) → declared_numbers (own c k) ≡ []) → ((c : Context) (k : ℕ) → used_numbers (own c k) ≡ []) →
+    Mirrors p o → Mirrors (tells own p) o
+unfolding tells joined
+m-tells own {p} {o} d u f = record {
+  width = f.width;
+  declares = λ c k. map-append (λ (d : Declared). d.number) (own c k).declared (p.rows c k).declared ∙ ap₂ (λ (xs ys : List ℕ). xs ++ ys) (d c k) (f.declares c k);
+  uses = λ c k. map-append (λ (u : Used). u.number) (own c k).uses (p.rows c k).uses ∙ ap₂ (λ (xs ys : List ℕ). xs ++ ys) (u c k) (f.uses c k);
+}
+
+pub m-within : (around : Context → ℕ → Context) {p : Piece} {o : Out} → Mirrors p o → Mirrors (within around p) o
+unfolding within
+m-within around f = record { width = f.width; declares = λ c k. f.declares (around c k) k; uses = λ c k. f.uses (around c k) k }
+
+pub m-declaring : (sort : Sort) {p : Piece} {o : Out} → Mirrors p o → Mirrors (declaring sort p) o
+unfolding declaring joined
+m-declaring sort f = record { width = f.width; declares = λ c k. f.declares _ k; uses = λ c k. f.uses _ k }
+
+pub m-opening : {p : Piece} {o : Out} → Mirrors p o → Mirrors (opening p) o
+m-opening f = m-tells _ (λ c k. refl) (λ c k. refl) (m-within _ f)
+
+pub m-there : {X : Type 0} (f : X → Piece) (g : X → Out) (o : Option X) → ((x : X) → Mirrors (f x) (g x)) → Mirrors (if_there f o) (outline_there g o)
+m-there f g None w = m-nothing
+m-there f g (Some x) w = w x
+
+pub m-so : (b : Bool) {p : Piece} {o : Out} → Mirrors p o → Mirrors (if_so b p) (outline_so b o)
+m-so true w = w
+m-so false w = m-nothing
+
+pub m-each : {X : Type 0} (f : X → Piece) (g : X → Out) (xs : List X) → ((x : X) → Mirrors (f x) (g x)) → Mirrors (each f xs) (outline_each g xs)
+m-each f g [] w = m-nothing
+m-each f g (x ∷ xs) w = m-both (w x) (m-each f g xs w)
+
+pub m-map : {X Y : Type 0} (f : Y → Piece) (g : Y → Out) (h : X → Y) (xs : List X) → ((x : X) → Mirrors (f (h x)) (g (h x))) → Mirrors (each f (map h xs)) (outline_each g (map h xs))
+m-map f g h [] w = m-nothing
+m-map f g h (x ∷ xs) w = m-both (w x) (m-map f g h xs w)
+
+pub m-listed : {X : Type 0} (k : Kind) (f : X → Piece) (g : X → Out) (l : OneOrMore X) → ((x : X) → Mirrors (f x) (g x)) →
+    Mirrors (both (f l.first) (each_after f l.rest.items)) (listed k g l)
+m-listed k f g l w = m-both (w l.first) (m-each (λ x. both token (f x)) (λ x. word k ++ g x) l.rest.items (λ x. m-both (m-word k) (w x)))
+
+pub mirrored : {p q : Piece} {a b : Out} → p ≡ q → a ≡ b → Mirrors q b → Mirrors p a
+mirrored {p} {q} {a} {b} e f m = subst (λ (x : Piece). Mirrors x a) (sym e) (subst (λ (x : Out). Mirrors q x) (sym f) m)
+
+pub m-use : (member : Option ℕ) (n : ℕ) → Mirrors (used member) (Identifier Uses n ∷ [])
+unfolding tells token joined no_rows
+m-use member n = record { width = refl; declares = λ c k. refl; uses = λ c k. refl }
+
+pub m-declared : (starred : Bool) (n : ℕ) → Mirrors (tells (declared_row starred) token) (Identifier Declares n ∷ [])
+unfolding tells token joined no_rows
+m-declared starred n = record { width = refl; declares = λ c k. refl; uses = λ c k. refl }
+
+-- a list of its own within what follows
+pub m-three : {p q r : Piece} {a b c : Out} → Mirrors p a → Mirrors q b → Mirrors r c → Mirrors (both p (both q r)) ((a ++ b) ++ c)
+m-three {p} {q} {r} {a} {b} {c} f g h = mirrored {p = both p (both q r)} refl (append_assoc a b c) (m-both f (m-both g h))
+
+later : (f : ℕ → List ℕ) (k : ℕ) → f (k + 1) ≡ f (suc k)
+later f k = ap f (omega arith)
+
+-- a first token with rows of its own, which declares an identifier, or looks one up
+pub m-first_declares : (own : Context → ℕ → Rows) {p : Piece} {o : Out} (n : ℕ) → ((c : Context) (k : ℕ) → declared_numbers (own c k) ≡ k ∷ []) → ((c : Context) (k : ℕ) → used_numbers (own c k) ≡ []) →
+    Mirrors p o → Mirrors (tells own (both token p)) (Identifier Declares n ∷ o)
+unfolding tells both token joined no_rows
+m-first_declares own {p} {o} n d u f = record {
+  width = let w = f.width in omega (arith, w);
+  declares = λ c k. map-append (λ (d : Declared). d.number) (own c k).declared (p.rows c (k + 1)).declared
+      ∙ ap₂ (λ (xs ys : List ℕ). xs ++ ys) (d c k) (f.declares c (k + 1) ∙ later (λ (n : ℕ). declares_at n o) k);
+  uses = λ c k. map-append (λ (u : Used). u.number) (own c k).uses (p.rows c (k + 1)).uses
+      ∙ ap₂ (λ (xs ys : List ℕ). xs ++ ys) (u c k) (f.uses c (k + 1) ∙ later (λ (n : ℕ). uses_at n o) k);
+}
+
+pub m-first_uses : (own : Context → ℕ → Rows) {p : Piece} {o : Out} (n : ℕ) → ((c : Context) (k : ℕ) → declared_numbers (own c k) ≡ []) → ((c : Context) (k : ℕ) → used_numbers (own c k) ≡ k ∷ []) →
+    Mirrors p o → Mirrors (tells own (both token p)) (Identifier Uses n ∷ o)
+unfolding tells both token joined no_rows
+m-first_uses own {p} {o} n d u f = record {
+  width = let w = f.width in omega (arith, w);
+  declares = λ c k. map-append (λ (d : Declared). d.number) (own c k).declared (p.rows c (k + 1)).declared
+      ∙ ap₂ (λ (xs ys : List ℕ). xs ++ ys) (d c k) (f.declares c (k + 1) ∙ later (λ (n : ℕ). declares_at n o) k);
+  uses = λ c k. map-append (λ (u : Used). u.number) (own c k).uses (p.rows c (k + 1)).uses
+      ∙ ap₂ (λ (xs ys : List ℕ). xs ++ ys) (u c k) (f.uses c (k + 1) ∙ later (λ (n : ℕ). uses_at n o) k);
+}
