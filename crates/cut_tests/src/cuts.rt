@@ -64,7 +64,7 @@ impl Trial for SettlesAlone<'_> {
         ends: (u32, u32),
         preflow: &mut Preflow<L>,
     ) -> Result<String, Fail> {
-        preflow.settle(1_000_000)?;
+        preflow.settle()?;
         let side = preflow.side()?;
         let leave = leave(&self.0.imports, &side);
         let flow = flow_of(alloc, net, ends, preflow)?;

@@ -237,7 +237,7 @@ fn told_alone<L: NetworkLedger>(
     let counted = share.count() == events as u64;
     let whole = events == 0 || events == 4;
     let out = preflow.rejoin(share);
-    preflow.settle(4)?;
+    preflow.settle()?;
     let (quiet, settled) = (preflow.is_quiet(), preflow.history().len());
     Ok(format!(in alloc;
         "marked {marked} counted {counted} whole {whole} out {out} quiet {quiet} after {settled}"

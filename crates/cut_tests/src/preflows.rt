@@ -5,7 +5,7 @@ ghost use Rattle.cut_preflow.specs.Flows.{network_between};
 use crate::openings::{Trial, run_on, tried};
 use crate::worked::{A_WAY_BACK, THREE_IMPORTS, TWO_IMPORTS};
 use cut_net::Net;
-use cut_preflow::{Event, NetworkLedger, Outcome, Preflow, SettleFault, Share, Step};
+use cut_preflow::{Event, NetworkLedger, Outcome, Preflow, Share, Step};
 use std::alloc::{AllocError, Global};
 use std::process::Abort;
 use std::test::Fail;
@@ -192,9 +192,9 @@ fn excess_goes_back_over_an_arc(rt: HostRuntime) -> Result<(), Fail> {
     )
 }
 
-/// Settles with so much fuel, and tells the end and how many steps were applied.
+/// Settles, and tells the end and how many steps were applied.
 #[derive(Drop)]
-struct Settles(u64);
+struct Settles;
 
 impl Trial for Settles {
     fn on<L: NetworkLedger>(
@@ -204,32 +204,50 @@ impl Trial for Settles {
         _ends: (u32, u32),
         preflow: &mut Preflow<L>,
     ) -> Result<String, Fail> {
-        let mut end = preflow.settle(self.0);
-        // Where memory for the history is refused, steps and fuel are left.
-        if end == Err(SettleFault::Memory) {
-            let applied = preflow.history().len() as u64;
-            if preflow.is_quiet() || applied >= self.0 {
-                return Err(Fail::from("a step and fuel"));
+        let mut end = preflow.settle();
+        // Where memory for the history is refused, a step is left.
+        if end.is_err() {
+            if preflow.is_quiet() {
+                return Err(Fail::from("a step"));
             }
-            end = preflow.settle(self.0 - applied);
+            end = preflow.settle();
         }
         Ok(format!(in alloc; "{end:?} after {}", preflow.history().len())?)
     }
 }
 
-const FUELS: &[(u64, &str)] = &[
-    (4, "Ok(()) after 4"),
-    (400, "Ok(()) after 4"),
-    (3, "Err(Unfinished) after 3"),
-    (0, "Err(Unfinished) after 0"),
-];
-
 #[test]
 fn four_steps_settle_a_line_of_three(rt: HostRuntime) -> Result<(), Fail> {
-    for (fuel, want) in FUELS {
-        let found = run_on(rt.alloc(), THREE_IMPORTS, &Settles(*fuel))?;
-        assert_eq!(rt; found.as_str(), *want);
+    let found = run_on(rt.alloc(), THREE_IMPORTS, &Settles)?;
+    assert_eq!(rt; found.as_str(), "Ok(()) after 4");
+    Ok(())
+}
+
+/// Tries all events that there are a thousand times over, and tells whether it is quiet then and how many were applied.
+#[derive(Drop)]
+struct TriesAll;
+
+impl Trial for TriesAll {
+    fn on<L: NetworkLedger>(
+        &self,
+        alloc: Global,
+        _net: &Net,
+        _ends: (u32, u32),
+        preflow: &mut Preflow<L>,
+    ) -> Result<String, Fail> {
+        for turn in 0..10_000u32 {
+            let _ = tried(preflow, step_of(turn % 10, 6));
+        }
+        let (quiet, applied) = (preflow.is_quiet(), preflow.history().len());
+        Ok(format!(in alloc; "quiet {quiet} after {applied}")?)
     }
+}
+
+// The bound for four modules and three imports is 280 steps.
+#[test]
+fn no_history_is_longer_than_the_bound(rt: HostRuntime) -> Result<(), Fail> {
+    let found = run_on(rt.alloc(), THREE_IMPORTS, &TriesAll)?;
+    assert_eq!(rt; found.as_str(), "quiet true after 4");
     Ok(())
 }
 
