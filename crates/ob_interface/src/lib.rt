@@ -1,13 +1,21 @@
 //! What other modules see of a module, as one value with its texts in one buffer.
 //! Stands on `ob_decls`, and on `ob_tree` and `ob_scan` below it, with `indexmap` for its tables.
 //! Its contract: the interface is exactly what the rows of `ob_decls` say of the module's block.
+//! `seen_of` makes a `Seen` of a table, the tokens and the bytes, which asks that the tokens stand in the bytes (`AreInText`) and
+//! nothing of the table; `Interface::new` takes it over and adds the orders by name. Both are seen as the `ModuleInterface`, and
+//! neither holds a borrow. A look-up by name is one binary search.
 #![tactic(auto)]
 
+mod answers;
 mod forms;
+mod interface;
 mod members;
+mod order;
 mod outers;
 mod rows;
 mod seeing;
 mod texts;
 
+pub use answers::{Declaration, Form, Part, TypeName};
+pub use interface::Interface;
 pub use seeing::{Seen, seen_of};

@@ -1,0 +1,35 @@
+-- What answers tell, and what is asked of an interface.
+use Rattle.std.specs.Prelude.{◌≡◌, ℕ, List, Option, Contains}
+use Rattle.ob_interface.specs.declared.answers.TypeName.{TypeName as TypeNameValue}
+use Rattle.ob_interface.specs.declared.answers.TypeName.TheVariants as names
+use Rattle.ob_interface.specs.declared.answers.Part.{Part as PartValue}
+use Rattle.ob_interface.specs.declared.answers.Part.TheVariants as parts
+use Rattle.ob_interface.specs.declared.answers.Declaration.{Declaration as DeclarationValue}
+use Rattle.ob_interface.specs.Interfaces.{TypeName, Alone, Qualified, Part, Array, Pointer, Record, Procedure, Named, Declaration, Imported, ModuleInterface}
+
+abbrev pub name_told : TypeNameValue → TypeName
+name_told (names.Alone a) = Alone a.now
+name_told (names.Qualified a b) = Qualified a.now b.now
+
+abbrev pub part_told : PartValue → Part
+part_told parts.Array = Array
+part_told parts.Pointer = Pointer
+part_told (parts.Record k) = Record k
+part_told parts.Procedure = Procedure
+part_told (parts.Named start n) = Named start (name_told n)
+
+abbrev pub declaration_told : DeclarationValue → Declaration
+declaration_told d = record { name = d.name.now; start = d.start; sort = d.sort; exported = d.exported; of_record = d.«record»; declared_by = d.declared_by; form = d.form }
+
+-- a declaration of this name in this record, or in the block
+pub record HasMember (i : ModuleInterface) (place : Option ℕ) (name : List ℕ) (d : Declaration) : Type 0 where
+  pub among : Contains i.declarations d
+  pub placed : d.of_record ≡ place
+  pub named : d.name ≡ name
+
+-- an import item of this module by this alias
+pub record HasAlias (i : ModuleInterface) (alias module_name : List ℕ) : Type 0 where
+  pub item : Imported
+  pub among : Contains i.imports item
+  pub named : item.alias ≡ alias
+  pub imported : item.module_name ≡ module_name
