@@ -5,11 +5,12 @@ use Rattle.std.proofs.lemmas.List.Sorted.{IsPermutation-sym, Contains-permutatio
 use Rattle.ob_interface.specs.declared.rows.Rows.{Rows}
 use Rattle.ob_interface.specs.declared.rows.DeclarationRow.{DeclarationRow}
 use Rattle.ob_interface.specs.declared.rows.ImportRow.{ImportRow}
-use Rattle.ob_interface.specs.Answered.{HasAlias, HasMember}
-use Rattle.ob_interface.specs.Interfaces.{Declaration, Imported}
+use Rattle.ob_interface.specs.declared.rows.BaseRow.{BaseRow}
+use Rattle.ob_interface.specs.Answered.{HasAlias, HasBase, HasMember}
+use Rattle.ob_interface.specs.Interfaces.{Declaration, Base, Imported}
 use Rattle.ob_interface.specs.Orders.{Key, key_in, alias_in}
 use Rattle.ob_interface.specs.Rowed.{form_in, interface_in}
-use Rattle.ob_interface.specs.Texts.{declaration_in, import_in, text_in}
+use Rattle.ob_interface.specs.Texts.{base_in, declaration_in, import_in, text_in}
 
 into_map : {X Y : Type 0} (f : X → Y) (xs : List X) (x : X) → Contains xs x → Contains (map f xs) (f x)
 into_map f [] x (k, l, e) = absurd (omega (arith, l))
@@ -68,3 +69,18 @@ alias_none rows text aliases alias t p none m has =
     let x : ComesFrom tell rows.imports.items has.item = from_map tell rows.imports.items has.item has.among in
     let key : alias_in rows.text.items x.from ≡ alias = ap (λ (y : Imported). y.alias) x.is ∙ has.named in
     none x.from (Contains-permutation rows.imports.items aliases x.from p x.there) (subst (λ (v : List ℕ). alias_in v x.from ≡ alias) (sym t) key)
+
+pub base_found : (rows : Rows) (text : List ℕ) (bases : List BaseRow) (of : ℕ) (r : BaseRow) (b : Base) → text ≡ rows.text.items → IsPermutation rows.bases.items bases → Contains bases r → r.«record» ≡ of → b ≡ base_in text r → HasBase (interface_in rows) of b
+base_found rows text bases of r b t p c k e =
+    let tell : BaseRow → Base = base_in rows.text.items in
+    let is : b ≡ tell r = e ∙ ap (λ (v : List ℕ). base_in v r) t in
+    record {
+      among = subst (λ (x : Base). Contains (map tell rows.bases.items) x) (sym is) (into_map tell rows.bases.items r (Contains-permutation bases rows.bases.items r (IsPermutation-sym rows.bases.items bases p) c));
+      of = ap (λ (x : Base). x.of_record) is ∙ k;
+    }
+
+pub base_none : (rows : Rows) (bases : List BaseRow) (of : ℕ) → IsPermutation rows.bases.items bases → ((r : BaseRow) → Contains bases r → r.«record» ≡ of → ⊥) → (b : Base) → HasBase (interface_in rows) of b → ⊥
+base_none rows bases of p none b has =
+    let tell : BaseRow → Base = base_in rows.text.items in
+    let x : ComesFrom tell rows.bases.items b = from_map tell rows.bases.items b has.among in
+    none x.from (Contains-permutation rows.bases.items bases x.from p x.there) (ap (λ (y : Base). y.of_record) x.is ∙ has.of)

@@ -5,7 +5,8 @@ use Rattle.ob_interface.specs.declared.answers.TypeName.TheVariants as names
 use Rattle.ob_interface.specs.declared.answers.Part.{Part as PartValue}
 use Rattle.ob_interface.specs.declared.answers.Part.TheVariants as parts
 use Rattle.ob_interface.specs.declared.answers.Declaration.{Declaration as DeclarationValue}
-use Rattle.ob_interface.specs.Interfaces.{TypeName, Alone, Qualified, Part, Array, Pointer, Record, Procedure, Named, Declaration, Imported, ModuleInterface}
+use Rattle.ob_interface.specs.Interfaces.{TypeName, Alone, Qualified, Part, Array, Pointer, Record, Procedure, Named, Declaration, Base, Imported, ModuleInterface}
+use Rattle.ob_interface.specs.declared.answers.Base.{Base as BaseValue}
 
 abbrev pub name_told : TypeNameValue → TypeName
 name_told (names.Alone a) = Alone a.now
@@ -20,6 +21,14 @@ part_told (parts.Named start n) = Named start (name_told n)
 
 abbrev pub declaration_told : DeclarationValue → Declaration
 declaration_told d = record { name = d.name.now; start = d.start; sort = d.sort; exported = d.exported; of_record = d.«record»; declared_by = d.declared_by; form = d.form }
+
+abbrev pub base_told : BaseValue → Base
+base_told b = record { of_record = b.«record»; start = b.start; name = name_told b.name }
+
+-- the base of this record
+pub record HasBase (i : ModuleInterface) (of_record : ℕ) (b : Base) : Type 0 where
+  pub among : Contains i.bases b
+  pub of : b.of_record ≡ of_record
 
 -- a declaration of this name in this record, or in the block
 pub record HasMember (i : ModuleInterface) (place : Option ℕ) (name : List ℕ) (d : Declaration) : Type 0 where

@@ -7,6 +7,7 @@ use Rattle.std.specs.Cmp.Lexicographic.{slice_cmp}
 use Rattle.std.specs.declared.cmp.Ordering.{Ordering}
 use Rattle.ob_interface.specs.declared.rows.DeclarationRow.{DeclarationRow}
 use Rattle.ob_interface.specs.declared.rows.ImportRow.{ImportRow}
+use Rattle.ob_interface.specs.declared.rows.BaseRow.{BaseRow}
 use Rattle.ob_interface.specs.Texts.{text_in}
 
 -- a record, or none for the block, and a name in it
@@ -28,3 +29,7 @@ AreByKey text ds = IsSortedBy (λ a b. is_lt (key_cmp (key_in text a) (key_in te
 
 abbrev pub AreByAlias : List ℕ → List ImportRow → Type 0
 AreByAlias text is = IsSortedBy (λ a b. is_lt (slice_cmp nat_cmp (alias_in text a) (alias_in text b))) is
+
+-- bases by record
+abbrev pub AreByRecord : List BaseRow → Type 0
+AreByRecord bs = IsSortedBy (λ a b. is_lt (nat_cmp a.«record» b.«record»)) bs

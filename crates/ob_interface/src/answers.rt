@@ -1,12 +1,12 @@
 //! What an interface answers, with texts out of its buffer.
 
 ghost use Rattle.std.specs.Prelude.{◌≡◌, None, Some, map, drop, length, IfSome, IfNone, slice_get, slice_range};
-ghost use Rattle.ob_interface.specs.Answered.{declaration_told, name_told, part_told};
+ghost use Rattle.ob_interface.specs.Answered.{base_told, declaration_told, name_told, part_told};
 ghost use Rattle.ob_interface.specs.Rowed.{form_in};
-ghost use Rattle.ob_interface.specs.Texts.{declaration_in, name_in, part_in, part_row_in};
+ghost use Rattle.ob_interface.specs.Texts.{base_in, declaration_in, name_in, part_in, part_row_in};
 
 use crate::order::text_of;
-use crate::rows::{DeclarationRow, NameRow, PartRow, RowPart, Rows};
+use crate::rows::{BaseRow, DeclarationRow, NameRow, PartRow, RowPart, Rows};
 use ob_decls::Sort;
 use std::marker::Model;
 
@@ -66,6 +66,17 @@ pub struct Declaration<'a> {
     pub declared_by: u32,
     /// The form of its type; constants and procedures have no part.
     pub form: Form<'a>,
+}
+
+/// The base of a record.
+#[derive(Clone, Copy, Drop)]
+pub struct Base<'a> {
+    /// The record, by the number of its RECORD's token, from 0.
+    pub record: u32,
+    /// Where the base's name begins in the file, in bytes.
+    pub start: u32,
+    /// The base's name.
+    pub name: TypeName<'a>,
 }
 
 /// A name out of the buffer.
@@ -141,5 +152,16 @@ pub(crate) fn declaration_of<'a>(rows: &'a Rows, row: &DeclarationRow) -> Declar
         record: row.record,
         declared_by: row.declared_by,
         form,
+    }
+}
+
+/// A base out of the buffer.
+pub(crate) fn base_of<'a>(text: &'a [u8], row: &BaseRow) -> Base<'a>
+    ensures { base_told result ≡ base_in text.now row.now }
+{
+    Base {
+        record: row.record,
+        start: row.start,
+        name: name_of(text, row.name),
     }
 }

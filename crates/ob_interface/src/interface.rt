@@ -1,14 +1,14 @@
 //! Interfaces, with an index.
 ghost use Rattle.std.specs.Prelude.{◌≡◌, None, Some, IfOk, IfSome, IfNone, IsPermutation};
-ghost use Rattle.ob_interface.specs.Answered.{declaration_told, HasAlias, HasMember};
-ghost use Rattle.ob_interface.specs.Interfaces.{Declaration as DeclarationSeen};
-ghost use Rattle.ob_interface.specs.Orders.{AreByAlias, AreByKey};
+ghost use Rattle.ob_interface.specs.Answered.{base_told, declaration_told, HasAlias, HasBase, HasMember};
+ghost use Rattle.ob_interface.specs.Interfaces.{Base as BaseSeen, Declaration as DeclarationSeen};
+ghost use Rattle.ob_interface.specs.Orders.{AreByAlias, AreByKey, AreByRecord};
 ghost use Rattle.ob_interface.specs.Rowed.{interface_in};
 ghost use Rattle.std.specs.Prelude.{ℕ, List};
 
-use crate::answers::{Declaration, declaration_of};
-use crate::order::{aliases_of, import_at, members_of, row_at, text_of};
-use crate::rows::{DeclarationRow, ImportRow, Rows};
+use crate::answers::{Base, Declaration, base_of, declaration_of};
+use crate::order::{aliases_of, base_at, bases_of, import_at, members_of, row_at, text_of};
+use crate::rows::{BaseRow, DeclarationRow, ImportRow, Rows};
 use crate::seeing::Seen;
 use std::alloc::{AllocError, Global};
 use std::marker::Model;
@@ -21,6 +21,8 @@ pub struct Interface {
     members: Vec<DeclarationRow>,
     /// The import items by alias.
     aliases: Vec<ImportRow>,
+    /// The bases by record.
+    bases: Vec<BaseRow>,
 }
 
 impl Model for Interface {
@@ -32,7 +34,7 @@ impl Model for Interface {
 
     ghost view = { λ i. interface_in i.rows };
 
-    ghost invariant = { λ i. IsIndexed i.rows i.members.items i.aliases.items };
+    ghost invariant = { λ i. IsIndexed i.rows i.members.items i.aliases.items i.bases.items };
 }
 
 /// A declaration of this name in this record, or in the block.
@@ -63,6 +65,17 @@ fn module_named<'a>(rows: &'a Rows, aliases: &[ImportRow], alias: &[u8]) -> Opti
     Some(text_of(text, row.imported))
 }
 
+/// The base of a record.
+fn base_named<'a>(rows: &'a Rows, bases: &[BaseRow], record: u32) -> Option<Base<'a>>
+    requires by_record { AreByRecord bases.now }
+    requires same { IsPermutation rows.now.bases.items bases.now }
+    ensures found { IfSome result (λ b. HasBase (interface_in rows.now) «record» (base_told b)) }
+    ensures none { IfNone result ((b : BaseSeen) → HasBase (interface_in rows.now) «record» b → ⊥) }
+{
+    let row = base_at(bases, record)?;
+    Some(base_of(rows.text.as_slice(), row))
+}
+
 impl Interface {
     /// The same with an index. AllocError is answered where a growth of memory is refused.
     pub fn new(alloc: Global, seen: Seen) -> Result<Interface, AllocError>
@@ -71,10 +84,12 @@ impl Interface {
         let Seen { rows } = seen;
         let members = members_of(alloc, rows.text.as_slice(), rows.declarations.as_slice())?;
         let aliases = aliases_of(alloc, rows.text.as_slice(), rows.imports.as_slice())?;
+        let bases = bases_of(alloc, rows.bases.as_slice())?;
         Ok(Interface {
             rows,
             members,
             aliases,
+            bases,
         })
     }
 
@@ -107,5 +122,13 @@ impl Interface {
         ensures none { IfNone result ((m : List ℕ) → HasAlias self.now alias.now m → ⊥) }
     {
         module_named(&self.rows, self.aliases.as_slice(), alias)
+    }
+
+    /// The base of a record, which is told by its RECORD.
+    pub fn base(&self, record: u32) -> Option<Base<'_>>
+        ensures found { IfSome result (λ b. HasBase self.now «record» (base_told b)) }
+        ensures none { IfNone result ((b : BaseSeen) → HasBase self.now «record» b → ⊥) }
+    {
+        base_named(&self.rows, self.bases.as_slice(), record)
     }
 }

@@ -16,6 +16,6 @@ mod rows;
 mod seeing;
 mod texts;
 
-pub use answers::{Declaration, Form, Part, TypeName};
+pub use answers::{Base, Declaration, Form, Part, TypeName};
 pub use interface::Interface;
 pub use seeing::{Seen, seen_of};

@@ -2,12 +2,13 @@
 ghost use Rattle.std.specs.Prelude.{◌≡◌, Contains, IfOk, IfSome, IfNone, IsPermutation};
 ghost use Rattle.std.specs.Ordering.{nat_cmp};
 ghost use Rattle.std.specs.Cmp.Lexicographic.{slice_cmp};
-ghost use Rattle.ob_interface.specs.Orders.{alias_in, key_cmp, key_in, AreByAlias, AreByKey};
+ghost use Rattle.ob_interface.specs.Orders.{alias_in, key_cmp, key_in, AreByAlias, AreByKey, AreByRecord};
 ghost use Rattle.ob_interface.specs.Texts.{text_in};
 ghost use Rattle.ob_interface.specs.declared.rows.DeclarationRow.{DeclarationRow as Declared};
 ghost use Rattle.ob_interface.specs.declared.rows.ImportRow.{ImportRow as Imported};
+ghost use Rattle.ob_interface.specs.declared.rows.BaseRow.{BaseRow as BaseOf};
 
-use crate::rows::{DeclarationRow, ImportRow, Span};
+use crate::rows::{BaseRow, DeclarationRow, ImportRow, Span};
 use std::alloc::{AllocError, Global};
 use std::cmp::Ordering;
 
@@ -128,6 +129,30 @@ pub(crate) fn import_at<'a>(
     ensures none { IfNone result ((r : Imported) → Contains rows.now r → alias_in text.now r ≡ alias.now → ⊥) }
 {
     match rows.binary_search_by(|row| compare_alias(text, row, alias)) {
+        Ok(at) => Some(&rows[at]),
+        Err(_) => None,
+    }
+}
+
+/// Bases in the order of their records.
+pub(crate) fn bases_of(alloc: Global, rows: &[BaseRow]) -> Result<Vec<BaseRow>, AllocError>
+    ensures sorted { IfOk result (λ bases. AreByRecord bases.items) }
+    ensures same { IfOk result (λ bases. IsPermutation rows.now bases.items) }
+{
+    let mut bases = Vec::new(alloc);
+    bases.extend_from_slice(rows)?;
+    bases.sort_unstable_by_key(|base| base.record);
+    Ok(bases)
+}
+
+/// The base of a record.
+pub(crate) fn base_at(rows: &[BaseRow], record: u32) -> Option<&BaseRow>
+    requires { AreByRecord rows.now }
+    ensures among { IfSome result (λ r. Contains rows.now r.now) }
+    ensures found { IfSome result (λ r. r.now.«record» ≡ «record») }
+    ensures none { IfNone result ((r : BaseOf) → Contains rows.now r → r.«record» ≡ «record» → ⊥) }
+{
+    match rows.binary_search_by_key(&record, |row| row.record) {
         Ok(at) => Some(&rows[at]),
         Err(_) => None,
     }
