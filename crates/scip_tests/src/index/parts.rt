@@ -28,8 +28,8 @@ fn parts_of(index: &Index) -> Option<(&Metadata, &Document)> {
     Some((metadata, document))
 }
 
-fn index_of(alloc: Global, bytes: &[u8]) -> Result<Index, Fail> {
-    Ok(from_bytes(alloc, bytes)?)
+fn index_of(alloc: Global, bytes: &[u8]) -> Result<Box<Index>, Fail> {
+    Ok(Box::new(alloc, from_bytes(alloc, bytes)?)?)
 }
 
 #[test]
