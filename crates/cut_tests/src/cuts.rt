@@ -51,6 +51,31 @@ fn with_flow(alloc: Global, cut: &Cut, flow: Vec<Priced>) -> Result<Box<Cut>, Al
     Ok(Box::new(alloc, cut)?)
 }
 
+/// Whether the imports lead out of the modules that are near now.
+fn leave_near<L: NetworkLedger>(
+    alloc: Global,
+    imports: &[Priced],
+    preflow: &Preflow<L>,
+) -> Result<bool, AllocError> {
+    let side = preflow.side(alloc)?;
+    Ok(leave(imports, &side))
+}
+
+/// The verdict on the imports and the weight of a cut with the flow that was found.
+fn judged_with<L: NetworkLedger>(
+    alloc: Global,
+    net: &Net,
+    ends: (u32, u32),
+    preflow: &Preflow<L>,
+    cut: &Cut,
+) -> Result<String, Fail>
+    requires { preflow.now.play.net ≡ network_between net.now ends.0 ends.1 }
+{
+    let flow = flow_of(alloc, net, ends, preflow)?;
+    let cut = with_flow(alloc, cut, flow)?;
+    judged(alloc, net, ends, &*cut)
+}
+
 /// Settles the opening with no worker before it. Tells whether the imports of a cut lead out of the modules that are near then, and the
 /// verdict on the cut with the flow that was found.
 #[derive(Drop)]
@@ -65,11 +90,8 @@ impl Trial for SettlesAlone<'_> {
         preflow: &mut Preflow<L>,
     ) -> Result<String, Fail> {
         preflow.settle()?;
-        let side = preflow.side()?;
-        let leave = leave(&self.0.imports, &side);
-        let flow = flow_of(alloc, net, ends, preflow)?;
-        let cut = with_flow(alloc, self.0, flow)?;
-        let verdict = judged(alloc, net, ends, &*cut)?;
+        let leave = leave_near(alloc, &self.0.imports, preflow)?;
+        let verdict = judged_with(alloc, net, ends, preflow, self.0)?;
         Ok(format!(in alloc; "{leave} {verdict}")?)
     }
 }
@@ -183,12 +205,22 @@ const REFUSED: &[((&str, &str), &str)] = &[
     (("M", "M"), "both names are of one module"),
 ];
 
+fn refuses(
+    rt: &(impl Abort + AllocGlobal),
+    net: &Net,
+    names: (&str, &str),
+    want: &str,
+) -> Result<(), Fail> {
+    let told = told_names(rt.alloc(), net, names)?;
+    assert_eq!(rt; told.as_str(), want);
+    Ok(())
+}
+
 #[test]
 fn names_are_refused(rt: HostRuntime) -> Result<(), Fail> {
     let net = net_of(rt.alloc(), TWO_IMPORTS)?;
     for (names, want) in REFUSED {
-        let told = told_names(rt.alloc(), &*net, *names)?;
-        assert_eq!(rt; told.as_str(), *want);
+        refuses(&rt, &*net, *names, want)?;
     }
     Ok(())
 }

@@ -3,6 +3,7 @@ ghost use Rattle.std.specs.Prelude.{◌≡◌, ◌≤◌, ◌<◌, IsTrue};
 
 use cut_residual::{Arc, Found, ResidualArc, ResidualGraph, path_to, search};
 use std::alloc::{AllocError, Global};
+use std::process::Abort;
 use std::test::Fail;
 
 const S: u32 = 0;
@@ -102,15 +103,6 @@ fn told_augmented(
     format!(in alloc; "{steps}sends {sent}")
 }
 
-#[test]
-fn the_steps_from_a_node_are_listed(rt: HostRuntime) -> Result<(), Fail> {
-    let graph = graph_of(rt.alloc(), CROSSED, 4)?;
-    assert_eq!(rt; graph.nodes(), 4);
-    let steps = told_steps(rt.alloc(), graph.residual_arcs(A))?;
-    assert_eq!(rt; steps.as_str(), "back 0 forth 2 forth 3 ");
-    Ok(())
-}
-
 fn forth(arc: usize) -> ResidualArc
     ensures { result.arc ≡ arc }
 {
@@ -130,6 +122,8 @@ fn back(arc: usize) -> ResidualArc
 fn a_step_has_two_ends_and_what_is_left(rt: HostRuntime) -> Result<(), Fail> {
     let graph = graph_of(rt.alloc(), CROSSED, 4)?;
     assert_eq!(rt; graph.arcs().len(), 5);
+    assert_eq!(rt; graph.nodes(), 4);
+    assert_eq!(rt; graph.residual_arcs(A).len(), 3);
     assert_eq!(rt; graph.tail(back(0)), A);
     assert_eq!(rt; graph.head(back(0)), S);
     assert_eq!(rt; graph.residual(back(0)), 1);
@@ -138,26 +132,48 @@ fn a_step_has_two_ends_and_what_is_left(rt: HostRuntime) -> Result<(), Fail> {
     Ok(())
 }
 
-#[test]
-fn a_path_goes_back_over_flow(rt: HostRuntime) -> Result<(), Fail> {
-    let mut graph = graph_of(rt.alloc(), CROSSED, 4)?;
-    let before = told_search(rt.alloc(), &graph)?;
-    assert_eq!(rt; before.as_str(), "[true, true, true, true] [0, 2, 1, 3]");
-    let sent = told_augmented(rt.alloc(), &mut graph, T)?;
-    assert_eq!(rt; sent.as_str(), "forth 1 back 2 forth 3 sends 1");
-    let flows = told_flows(rt.alloc(), &graph)?;
-    assert_eq!(rt; flows.as_str(), "1 of 1, 1 of 1, 0 of 1, 1 of 1, 1 of 1, ");
-    let after = told_search(rt.alloc(), &graph)?;
-    assert!(rt; after.as_str().starts_with("[true, false, false, false] "));
+/// Arcs between so many nodes, and a node.
+type PathRow = (&'static [Row], u32, u32, &'static str);
+
+/// What a search from S finds, what is sent along a path from there to the node, and what each arc carries then.
+const PATHS: &[PathRow] = &[
+    // A path goes back over flow.
+    (
+        CROSSED,
+        4,
+        T,
+        "[true, true, true, true] [0, 2, 1, 3]; forth 1 back 2 forth 3 sends 1; 1 of 1, 1 of 1, 0 of 1, 1 of 1, 1 of 1, ",
+    ),
+    // The least that is left is sent.
+    (
+        &[(S, A, 7, 2), (A, B, 3, 0)],
+        3,
+        B,
+        "[true, true, true] [0, 1, 2]; forth 0 forth 1 sends 3; 5 of 7, 3 of 3, ",
+    ),
+];
+
+fn told_path(alloc: Global, rows: &[Row], nodes: u32, node: u32) -> Result<String, AllocError> {
+    let mut graph = graph_of(alloc, rows, nodes)?;
+    let found = told_search(alloc, &graph)?;
+    let sent = told_augmented(alloc, &mut graph, node)?;
+    let flows = told_flows(alloc, &graph)?;
+    format!(in alloc; "{found}; {sent}; {flows}")
+}
+
+fn is_path(
+    rt: &(impl Abort + AllocGlobal),
+    (rows, nodes, node, want): PathRow,
+) -> Result<(), Fail> {
+    let told = told_path(rt.alloc(), rows, nodes, node)?;
+    assert_eq!(rt; told.as_str(), want);
     Ok(())
 }
 
 #[test]
-fn the_least_that_is_left_is_sent(rt: HostRuntime) -> Result<(), Fail> {
-    let mut graph = graph_of(rt.alloc(), &[(S, A, 7, 2), (A, B, 3, 0)], 3)?;
-    let sent = told_augmented(rt.alloc(), &mut graph, B)?;
-    assert_eq!(rt; sent.as_str(), "forth 0 forth 1 sends 3");
-    let flows = told_flows(rt.alloc(), &graph)?;
-    assert_eq!(rt; flows.as_str(), "5 of 7, 3 of 3, ");
+fn what_is_left_is_sent_along_a_path(rt: HostRuntime) -> Result<(), Fail> {
+    for row in PATHS {
+        is_path(&rt, *row)?;
+    }
     Ok(())
 }

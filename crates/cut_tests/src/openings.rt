@@ -7,6 +7,7 @@ use cut_net::Net;
 use cut_preflow::{Event, NetworkLedger, Outcome, PARTS, Preflow, Step};
 use std::alloc::Global;
 use std::marker::Brand;
+use std::process::Abort;
 use std::sync::ledger::Blank;
 use std::test::Fail;
 
@@ -51,10 +52,22 @@ pub(crate) fn run<T: Trial>(
     in_ledger::<Brand, T>(alloc, Blank::new(PARTS), net, ends, trial)
 }
 
-/// Runs a trial on the network of a text between its first two modules.
-pub(crate) fn run_on<T: Trial>(alloc: Global, net: &[u8], trial: &T) -> Result<String, Fail> {
+/// What a trial tells on the network of a text between its first two modules.
+pub(crate) fn told_on<T: Trial>(alloc: Global, net: &[u8], trial: &T) -> Result<String, Fail> {
     let net = net_of(alloc, net)?;
     run(alloc, &*net, (0, 1), trial)
+}
+
+/// Checks what a trial tells on the network of a text between its first two modules.
+pub(crate) fn tells<T: Trial>(
+    rt: &(impl Abort + AllocGlobal),
+    net: &[u8],
+    trial: &T,
+    want: &str,
+) -> Result<(), Fail> {
+    let found = told_on(rt.alloc(), net, trial)?;
+    assert_eq!(rt; found.as_str(), want);
+    Ok(())
 }
 
 fn tried_once<L: NetworkLedger>(preflow: &mut Preflow<L>, step: Step) -> Outcome

@@ -5,7 +5,7 @@ use crate::worked::{TWO_IMPORTS, TWO_WAYS, net_of};
 use cut_net::{Net, Priced};
 use cut_part::{between, narrowed, turned_imports};
 use std::alloc::{AllocError, Global};
-use std::rt::HostRuntime;
+use std::process::Abort;
 use std::test::Fail;
 
 /// Two ways from A to D. The modules are A, B, C and D.
@@ -85,62 +85,88 @@ fn told_narrowed(
     told_imports(alloc, less.as_slice())
 }
 
-#[test]
-fn all_modules_on_two_ways_are_kept(rt: HostRuntime) -> Result<(), Fail> {
-    let net = net_of(rt.alloc(), TWO_WAYS)?;
-    let found = told_part(rt.alloc(), &net, 0, 1)?;
-    let want =
-        "4 modules A D U V, 0 2 5, 0 3 0, 2 1 1, 3 2 3; [0, 1, 2, 3] [true, true, true, true]";
+/// A network, two of its modules, and the part between them: its modules and imports, and the number in the whole one of each of its
+/// modules.
+type PartRow = (&'static [u8], u32, u32, &'static str);
+
+const PARTS: &[PartRow] = &[
+    // All modules on two ways are kept.
+    (
+        TWO_WAYS,
+        0,
+        1,
+        "4 modules A D U V, 0 2 5, 0 3 0, 2 1 1, 3 2 3; [0, 1, 2, 3] [true, true, true, true]",
+    ),
+    // One import is kept.
+    (
+        DIAMOND,
+        1,
+        3,
+        "2 modules B D, 0 1 3; [1, 3] [false, true, false, true]",
+    ),
+    // Both ends are kept where no chain leads.
+    (
+        DIAMOND,
+        3,
+        0,
+        "2 modules A D; [0, 3] [false, false, false, false]",
+    ),
+    (
+        DIAMOND,
+        1,
+        2,
+        "2 modules B C; [1, 2] [false, false, false, false]",
+    ),
+    // Modules on no chain are left out.
+    (
+        WITH_ODDS,
+        1,
+        3,
+        "3 modules B C D, 0 1 2, 1 2 3; [1, 2, 3] [false, true, true, true, false, false]",
+    ),
+];
+
+fn is_part(rt: &(impl Abort + AllocGlobal), (net, from, to, want): PartRow) -> Result<(), Fail> {
+    let net = net_of(rt.alloc(), net)?;
+    let found = told_part(rt.alloc(), &net, from, to)?;
     assert_eq!(rt; found.as_str(), want);
     Ok(())
 }
 
 #[test]
-fn one_import_is_kept(rt: HostRuntime) -> Result<(), Fail> {
-    let net = net_of(rt.alloc(), DIAMOND)?;
-    let found = told_part(rt.alloc(), &net, 1, 3)?;
-    let want = "2 modules B D, 0 1 3; [1, 3] [false, true, false, true]";
+fn the_part_between_two_modules_is_kept(rt: HostRuntime) -> Result<(), Fail> {
+    for row in PARTS {
+        is_part(&rt, *row)?;
+    }
+    Ok(())
+}
+
+/// A network, an order of the numbers of its imports, and the imports with their weights lowered between its first two modules.
+type NarrowedRow = (&'static [u8], &'static [u32], &'static str);
+
+const NARROWED: &[NarrowedRow] = &[
+    // Weights are lowered both ways.
+    (NARROW_FIRST, &[0, 1, 2], "0 2 2, 2 3 2, 3 1 2, "),
+    (TWO_WAYS, &[0, 1, 3, 2], "0 2 1, 0 3 0, 2 1 1, 3 2 0, "),
+    // Those that fit stay.
+    (TWO_IMPORTS, &[0, 1], "0 2 2, 2 1 2, "),
+];
+
+fn is_narrowed(
+    rt: &(impl Abort + AllocGlobal),
+    (net, order, want): NarrowedRow,
+) -> Result<(), Fail> {
+    let net = net_of(rt.alloc(), net)?;
+    let found = told_narrowed(rt.alloc(), &net, order, (0, 1))?;
     assert_eq!(rt; found.as_str(), want);
     Ok(())
 }
 
 #[test]
-fn both_ends_are_kept_where_no_chain_leads(rt: HostRuntime) -> Result<(), Fail> {
-    let net = net_of(rt.alloc(), DIAMOND)?;
-    let found = told_part(rt.alloc(), &net, 3, 0)?;
-    let want = "2 modules A D; [0, 3] [false, false, false, false]";
-    assert_eq!(rt; found.as_str(), want);
-    let found = told_part(rt.alloc(), &net, 1, 2)?;
-    let want = "2 modules B C; [1, 2] [false, false, false, false]";
-    assert_eq!(rt; found.as_str(), want);
-    Ok(())
-}
-
-#[test]
-fn modules_on_no_chain_are_left_out(rt: HostRuntime) -> Result<(), Fail> {
-    let net = net_of(rt.alloc(), WITH_ODDS)?;
-    let found = told_part(rt.alloc(), &net, 1, 3)?;
-    let want = "3 modules B C D, 0 1 2, 1 2 3; [1, 2, 3] [false, true, true, true, false, false]";
-    assert_eq!(rt; found.as_str(), want);
-    Ok(())
-}
-
-#[test]
-fn weights_are_lowered_both_ways(rt: HostRuntime) -> Result<(), Fail> {
-    let net = net_of(rt.alloc(), NARROW_FIRST)?;
-    let found = told_narrowed(rt.alloc(), &net, &[0, 1, 2], (0, 1))?;
-    assert_eq!(rt; found.as_str(), "0 2 2, 2 3 2, 3 1 2, ");
-    let net = net_of(rt.alloc(), TWO_WAYS)?;
-    let found = told_narrowed(rt.alloc(), &net, &[0, 1, 3, 2], (0, 1))?;
-    assert_eq!(rt; found.as_str(), "0 2 1, 0 3 0, 2 1 1, 3 2 0, ");
-    Ok(())
-}
-
-#[test]
-fn weights_that_fit_stay(rt: HostRuntime) -> Result<(), Fail> {
-    let net = net_of(rt.alloc(), TWO_IMPORTS)?;
-    let found = told_narrowed(rt.alloc(), &net, &[0, 1], (0, 1))?;
-    assert_eq!(rt; found.as_str(), "0 2 2, 2 1 2, ");
+fn weights_are_narrowed(rt: HostRuntime) -> Result<(), Fail> {
+    for row in NARROWED {
+        is_narrowed(&rt, *row)?;
+    }
     Ok(())
 }
 

@@ -2,12 +2,11 @@
 ghost use Rattle.std.specs.Prelude.{◌≡◌};
 ghost use Rattle.cut_preflow.specs.Flows.{network_between};
 
-use crate::openings::{Trial, run_on, tried};
+use crate::openings::{Trial, tells, told_on, tried};
 use crate::worked::{A_WAY_BACK, THREE_IMPORTS, TWO_IMPORTS};
 use cut_net::Net;
 use cut_preflow::{Event, NetworkLedger, Outcome, Preflow, Share, Step};
 use std::alloc::{AllocError, Global};
-use std::process::Abort;
 use std::test::Fail;
 
 /// The label and the excess of each module.
@@ -110,17 +109,6 @@ impl Trial for Plays<'_> {
     }
 }
 
-fn is_played(
-    rt: &(impl Abort + AllocGlobal),
-    net: &[u8],
-    steps: &[Step],
-    want: &str,
-) -> Result<(), Fail> {
-    let found = run_on(rt.alloc(), net, &Plays(steps))?;
-    assert_eq!(rt; found.as_str(), want);
-    Ok(())
-}
-
 const EACH_EVENT: &[Step] = &[
     Step::Push { arc: 2 },
     Step::Relabel { node: 2 },
@@ -132,10 +120,10 @@ const EACH_EVENT: &[Step] = &[
 
 #[test]
 fn each_event_is_answered(rt: HostRuntime) -> Result<(), Fail> {
-    is_played(
+    tells(
         &rt,
         TWO_IMPORTS,
-        EACH_EVENT,
+        &Plays(EACH_EVENT),
         "3:0 0:0 0:2 2 0 Some(2) Some(Relabel { node: 2 }) quiet false after 0 side [true, false, false]; \
         Stale Some(2); Raised { label: 1 } Some(2); Moved { amount: 2 } None; Stale None; Stale None; Stale None; \
         3:0 0:2 1:0 2 2 None None quiet true after 2 side [true, false, false]",
@@ -151,10 +139,10 @@ const STRANGE: &[Step] = &[
 
 #[test]
 fn strange_numbers_are_stale(rt: HostRuntime) -> Result<(), Fail> {
-    is_played(
+    tells(
         &rt,
         TWO_IMPORTS,
-        STRANGE,
+        &Plays(STRANGE),
         "3:0 0:0 0:2 2 0 Some(2) Some(Relabel { node: 2 }) quiet false after 0 side [true, false, false]; \
         Stale Some(2); Stale Some(2); Stale Some(2); Stale Some(2); \
         3:0 0:0 0:2 2 0 Some(2) Some(Relabel { node: 2 }) quiet false after 0 side [true, false, false]",
@@ -178,10 +166,10 @@ const THERE_AND_BACK: &[Step] = &[
 
 #[test]
 fn excess_goes_back_over_an_arc(rt: HostRuntime) -> Result<(), Fail> {
-    is_played(
+    tells(
         &rt,
         A_WAY_BACK,
-        THERE_AND_BACK,
+        &Plays(THERE_AND_BACK),
         "6:0 0:0 0:1 0:1 0:0 0:0 1 1 0 0 0 0 0 Some(3) Some(Relabel { node: 3 }) quiet false after 0 \
         side [true, false, false, false, false, false]; \
         Raised { label: 1 } Some(3); Moved { amount: 1 } Some(4); Raised { label: 1 } Some(4); Moved { amount: 1 } Some(4); \
@@ -218,9 +206,7 @@ impl Trial for Settles {
 
 #[test]
 fn four_steps_settle_a_line_of_three(rt: HostRuntime) -> Result<(), Fail> {
-    let found = run_on(rt.alloc(), THREE_IMPORTS, &Settles)?;
-    assert_eq!(rt; found.as_str(), "Ok(()) after 4");
-    Ok(())
+    tells(&rt, THREE_IMPORTS, &Settles, "Ok(()) after 4")
 }
 
 /// Tries all events that there are a thousand times over, and tells whether it is quiet then and how many were applied.
@@ -246,9 +232,7 @@ impl Trial for TriesAll {
 // The bound for four modules and three imports is 280 steps.
 #[test]
 fn no_history_is_longer_than_the_bound(rt: HostRuntime) -> Result<(), Fail> {
-    let found = run_on(rt.alloc(), THREE_IMPORTS, &TriesAll)?;
-    assert_eq!(rt; found.as_str(), "quiet true after 4");
-    Ok(())
+    tells(&rt, THREE_IMPORTS, &TriesAll, "quiet true after 4")
 }
 
 /// The step of this number: the pushes over all arcs, then the relabels of all nodes.
@@ -287,15 +271,17 @@ impl Trial for Stride {
     }
 }
 
+const STRIDES: &[u32] = &[1, 3, 7, 9, 11, 13, 17, 19];
+
 #[test]
 fn every_order_ends_in_the_same_side(rt: HostRuntime) -> Result<(), Fail> {
-    for stride in [1u32, 3, 7, 9, 11, 13, 17, 19] {
-        let found = run_on(rt.alloc(), A_WAY_BACK, &Stride(stride))?;
-        assert_eq!(rt;
-            found.as_str(),
+    for stride in STRIDES {
+        tells(
+            &rt,
+            A_WAY_BACK,
+            &Stride(*stride),
             "quiet true side [true, false, false, false, false, false]",
-            "by {stride}"
-        );
+        )?;
     }
     Ok(())
 }
@@ -335,16 +321,52 @@ impl Trial for TakesShares {
 
 #[test]
 fn of_65_calls_the_last_has_no_share(rt: HostRuntime) -> Result<(), Fail> {
-    let found = run_on(rt.alloc(), TWO_IMPORTS, &TakesShares)?;
-    assert_eq!(rt; found.as_str(), "64 taken, then none true, 63 out");
-    Ok(())
+    tells(
+        &rt,
+        TWO_IMPORTS,
+        &TakesShares,
+        "64 taken, then none true, 63 out",
+    )
 }
 
 fn tell_share<L: NetworkLedger>(text: &mut String, share: &Share<L>) -> Result<(), AllocError> {
     write!(text, "{} {}; ", share.count(), share.is_marked())
 }
 
-/// Relabels the last module twice in a share, pushes over the last import outside of it, and tells the share after each.
+const RELABEL: Event = Event {
+    worker: 7,
+    step: Step::Relabel { node: 2 },
+};
+
+/// Relabels the last module in a share, and tells the share. Whether it was relabelled.
+fn tell_first<L: NetworkLedger>(
+    text: &mut String,
+    preflow: &mut Preflow<L>,
+    share: &mut Share<L>,
+) -> Result<bool, AllocError> {
+    let early = preflow.note_quiet(share);
+    let raised = preflow.apply_as(RELABEL, share);
+    write!(text, "{early} {raised:?} ")?;
+    tell_share(text, share)?;
+    Ok(raised != Outcome::Refused)
+}
+
+/// Relabels the last module once more in the share, pushes over the last import outside of it, and tells the share after each.
+fn tell_more<L: NetworkLedger>(
+    text: &mut String,
+    preflow: &mut Preflow<L>,
+    share: &mut Share<L>,
+) -> Result<(), AllocError> {
+    let again = preflow.apply_as(RELABEL, share);
+    write!(text, "{again:?} {:?} ", preflow.history())?;
+    tell_share(text, share)?;
+    let moved = tried(preflow, Step::Push { arc: 2 });
+    let quiet = preflow.note_quiet(share);
+    write!(text, "{moved:?} {quiet} ")?;
+    tell_share(text, share)
+}
+
+/// Counts steps in a share and outside of it.
 #[derive(Drop)]
 struct CountsSteps;
 
@@ -360,25 +382,10 @@ impl Trial for CountsSteps {
             return Err(Fail::from("a share"));
         };
         let mut text = String::new(alloc);
-        let relabel = Event {
-            worker: 7,
-            step: Step::Relabel { node: 2 },
-        };
-        let early = preflow.note_quiet(&mut share);
-        let raised = preflow.apply_as(relabel, &mut share);
-        write!(text, "{early} {raised:?} ")?;
-        tell_share(&mut text, &share)?;
-        if raised == Outcome::Refused {
-            return Ok(text);
+        if tell_first(&mut text, preflow, &mut share)? {
+            tell_more(&mut text, preflow, &mut share)?;
+            write!(text, "{} out", preflow.rejoin(share))?;
         }
-        let again = preflow.apply_as(relabel, &mut share);
-        write!(text, "{again:?} {:?} ", preflow.history())?;
-        tell_share(&mut text, &share)?;
-        let moved = tried(preflow, Step::Push { arc: 2 });
-        let quiet = preflow.note_quiet(&mut share);
-        write!(text, "{moved:?} {quiet} ")?;
-        tell_share(&mut text, &share)?;
-        write!(text, "{} out", preflow.rejoin(share))?;
         Ok(text)
     }
 }
@@ -390,7 +397,7 @@ const COUNTED: &str =
 // Where memory for the history is refused, the step isn't counted, and the share is marked.
 #[test]
 fn a_share_counts_its_steps(rt: HostRuntime) -> Result<(), Fail> {
-    let found = run_on(rt.alloc(), TWO_IMPORTS, &CountsSteps)?;
+    let found = told_on(rt.alloc(), TWO_IMPORTS, &CountsSteps)?;
     if found.as_str() != "false Refused 0 true; " {
         assert_eq!(rt; found.as_str(), COUNTED);
     }

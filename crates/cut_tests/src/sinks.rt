@@ -1,4 +1,4 @@
-//! Sinks that take all, some and nothing.
+//! Sinks that take some and nothing.
 
 use byte_sink::{Sink, SinkFault, ToWrite, put_all};
 use std::io;
@@ -24,14 +24,6 @@ impl io::Write for Narrow {
     fn flush(&mut self) -> io::Result<()> {
         Ok(())
     }
-}
-
-#[test]
-fn vec_takes_all(rt: HostRuntime) -> Result<(), Fail> {
-    let mut out = Vec::new(rt.alloc());
-    put_all(&mut out, b"report")?;
-    assert_eq!(rt; out.as_slice(), b"report".as_slice());
-    Ok(())
 }
 
 #[test]
