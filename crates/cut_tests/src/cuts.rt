@@ -57,7 +57,7 @@ fn leave_near<L: NetworkLedger>(
     imports: &[Priced],
     preflow: &Preflow<L>,
 ) -> Result<bool, AllocError> {
-    let side = preflow.side(alloc)?;
+    let side = preflow.side()?;
     Ok(leave(imports, &side))
 }
 

@@ -12,7 +12,7 @@ use Rattle.ob_decls.specs.declared.rows.FormPart.{FormPart}
 use Rattle.ob_decls.specs.declared.rows.Declarer.{Declarer}
 use Rattle.ob_decls.specs.declared.rows.Declared.{Declared}
 use Rattle.ob_decls.specs.declared.rows.Import.{Import}
-use Rattle.ob_decls.specs.declared.rows.Base.{Base as BaseRow}
+use Rattle.ob_decls.specs.declared.rows.TypeName.{TypeName as BaseRow}
 use Rattle.ob_decls.specs.declared.rows.Record.{Record as RecordRow}
 use Rattle.ob_decls.specs.Parts.{Rows}
 

@@ -14,7 +14,7 @@ use crate::forms::places_of;
 use crate::rows::{BaseRow, DeclarationRow, ImportRow};
 use crate::texts::{Source, add_name, add_text};
 use indexmap::IndexMap;
-use ob_decls::{Base, Declared, Declarer, FormPart, Import, Record, Sort};
+use ob_decls::{Declared, Declarer, FormPart, Import, Record, Sort, TypeName};
 use std::alloc::{AllocError, Global};
 
 /// Whether what is declared as this is seen.
@@ -112,7 +112,7 @@ fn add_base(
     text: &mut Vec<u8>,
     source: &Source,
     record: u32,
-    name: Base,
+    name: TypeName,
 ) -> Result<BaseRow, AllocError>
     requires { AreInText source.now.bytes.now source.now.tokens.now }
     ensures grown { IfOk result (λ _. IsGrown text.old.items text.new.items) }
