@@ -40,7 +40,7 @@ fn declarer_of(outers: &IndexMap<u32, Declarer>, declared: Declared) -> Option<D
 }
 
 /// The base of a record in one of these constructs.
-fn base_of(outers: &IndexMap<u32, Declarer>, record: Record) -> Option<Base>
+fn base_of(outers: &IndexMap<u32, Declarer>, record: Record) -> Option<TypeName>
     ensures { (bytes : List ℕ) (ts : List Token) → option_map (base bytes ts «record».number) result ≡ base_by bytes ts «record» (get nat_eq outers.now «record».owner) }
 {
     if outers.contains_key(&record.owner) {
