@@ -6,7 +6,6 @@
 mod ends;
 mod event;
 mod excesses;
-mod hints;
 pub mod laws;
 mod node_arcs;
 mod node_set;

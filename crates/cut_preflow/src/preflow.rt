@@ -11,7 +11,6 @@ ghost use Rattle.cut_preflow.specs.Side.{has};
 
 use crate::ends::Ends;
 use crate::event::SettleFault;
-use crate::hints::Hints;
 use crate::plain::{PlainPreflow, opening};
 use crate::share::MOST_SHARES;
 use crate::{Event, NetworkLedger, Outcome, Share, Step};
@@ -30,7 +29,6 @@ pub struct Preflow<L: NetworkLedger> {
     book: Book<L>,
     own: ledger::Share<L>,
     out: u32,
-    hints: Hints,
 }
 
 impl<L: NetworkLedger> Model for Preflow<L> {
@@ -62,26 +60,12 @@ impl<L: NetworkLedger> Preflow<L> {
         ensures { IfOk result (λ p. p ≡ record { play = record { net = network_between net.now from to; history = [] }; booked = 0; own = 0; out = 0 }) }
     {
         let plain = PlainPreflow::start(alloc, net, from, to)?;
-        Preflow::with(alloc, blank, plain)
-    }
-
-    /// An opening with the ledger of a blank.
-    fn with(alloc: Global, blank: Blank, plain: PlainPreflow) -> Result<Preflow<L>, AllocError>
-        requires opening { plain.history ≡ [] }
-        requires net { plain.net ≡ L.net }
-        requires name { blank.name ≡ L.name }
-        requires parts { (blank.parts ≡ 65) × (L.parts ≡ 65) }
-        ensures { IfOk result (λ p. p ≡ record { play = plain; booked = 0; own = 0; out = 0 }) }
-    {
-        let mut hints = Hints::new(alloc, plain.ends().nodes)?;
-        hints.note_all(&plain);
         let (book, own) = blank.open::<L>();
         Ok(Preflow {
             plain,
             book,
             own,
             out: 0,
-            hints,
         })
     }
 
@@ -107,7 +91,13 @@ impl<L: NetworkLedger> Preflow<L> {
             sink: to,
         };
         let plain = opening(alloc, ends, imports)?;
-        Preflow::with(alloc, blank, plain)
+        let (book, own) = blank.open::<L>();
+        Ok(Preflow {
+            plain,
+            book,
+            own,
+            out: 0,
+        })
     }
 
     /// An empty share, without a mark; none where 64 are out.
@@ -140,10 +130,7 @@ impl<L: NetworkLedger> Preflow<L> {
     {
         let tried = self.plain.apply(event);
         match tried {
-            Outcome::Moved { .. } | Outcome::Raised { .. } => {
-                self.book.add(&mut self.own, 1);
-                self.hints.note_step(&self.plain, event.step);
-            }
+            Outcome::Moved { .. } | Outcome::Raised { .. } => self.book.add(&mut self.own, 1),
             Outcome::Stale | Outcome::Refused => {}
         }
         tried
@@ -168,7 +155,6 @@ impl<L: NetworkLedger> Preflow<L> {
                 self.book.audit(&mut share.part);
                 let _ = self.plain.history();
                 share.count += 1;
-                self.hints.note_step(&self.plain, event.step);
             }
             Outcome::Stale => {}
             Outcome::Refused => share.marked = true,
@@ -285,8 +271,7 @@ impl<L: NetworkLedger> Preflow<L> {
         ensures none { IsNone result ↔ IsQuiet self.now.play.net (state_of self.now.play) }
         ensures few { IsSome result → length self.now.play.history < most_changes self.now.play.net }
     {
-        let best = self.hints.best(self.plain.ends().nodes);
-        self.plain.next_step(best)
+        self.plain.next_step()
     }
 
     /// Applies at most `fuel` steps as worker 0, until the preflow is quiet.

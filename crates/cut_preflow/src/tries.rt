@@ -1,6 +1,6 @@
 //! What a push or a relabel of a preflow would do.
 ghost use Rattle.std.specs.Prelude.{◌≡◌, ◌<◌, ◌≤◌, ◌↔◌, ℕ, Some, None, IfSome, IsNone, IsSome, true, length, if◌then◌else◌};
-ghost use Rattle.cut_preflow.specs.Preflow.{applies, can_push, is_active, moved, raised, smaller};
+ghost use Rattle.cut_preflow.specs.Preflow.{applies, can_push, moved, raised, smaller};
 ghost use Rattle.cut_preflow.specs.Kept.{IsQuiet};
 ghost use Rattle.cut_preflow.specs.Bound.{most_changes};
 ghost use Rattle.cut_preflow.specs.Played.{state_of};
@@ -70,24 +70,13 @@ impl PlainPreflow {
         }
     }
 
-    /// This node where it is active, and else any active node.
-    fn active_first(&self, best: u32) -> Option<u32>
-        ensures some { IfSome result (λ v. is_active self.now.net (state_of self.now) v ≡ true) }
-        ensures none { IsNone result ↔ IsQuiet self.now.net (state_of self.now) }
-    {
-        if self.is_active(best) {
-            return Some(best);
-        }
-        self.active()
-    }
-
-    /// A step that applies, unless the preflow is quiet: a push of an active node, or else its relabel; of this node, where it is active.
-    pub(crate) fn next_step(&self, best: u32) -> Option<Step>
+    /// A step that applies, unless the preflow is quiet: a push of an active node, or else its relabel.
+    pub(crate) fn next_step(&self) -> Option<Step>
         ensures some { IfSome result (λ step. applies self.now.net (state_of self.now) step ≡ true) }
         ensures none { IsNone result ↔ IsQuiet self.now.net (state_of self.now) }
         ensures few { IsSome result → length self.now.history < most_changes self.now.net }
     {
-        let node = self.active_first(best)?;
+        let node = self.active()?;
         self.keeps();
         let _ = self.history();
         for arc in self.arcs_from(node) {
