@@ -7,7 +7,35 @@ ghost use Rattle.cut_solve.specs.Turns.{CanTry, IsTried};
 
 use crate::{Gate, Locked, Look};
 use cut_preflow::{Event, NetworkLedger, Outcome, Preflow, Share};
-use std::sync::Wait;
+use std::sync::{MutexGuard, Wait};
+use std::thread;
+
+/// As many rests as a worker takes at most before it tries the lock again.
+const MOST_RESTS: u32 = 4096;
+
+/// Lets other threads run, this many times.
+fn rest(times: u32) {
+    for _ in 0..times {
+        thread::yield_now();
+    }
+}
+
+/// Takes the lock. A worker that finds it taken steps aside, each time for twice as long, in place of queueing: a queue wakes a thread
+/// for each turn, which takes longer than the turn.
+fn aside<'a, L: NetworkLedger, R: Wait>(
+    rt: &R,
+    locked: &'a Locked<L>,
+) -> MutexGuard<'a, Preflow<L>> {
+    let mut rests = 1u32;
+    for _ in rt.forever() {
+        if let Some(guard) = locked.try_lock() {
+            return guard;
+        }
+        rest(rests);
+        rests = rests.saturating_mul(2).min(MOST_RESTS);
+    }
+    unreachable!()
+}
 
 /// What a worker sees: an event of its own that applies to this preflow, or that no module but the two ends has excess.
 pub fn look<L: NetworkLedger>(preflow: &Preflow<L>, worker: u32) -> Look
@@ -73,14 +101,14 @@ pub fn worker<L: NetworkLedger, R: Wait, G: Gate>(
     // Its steps are added to the share's.
     ensures counted { share.count ≤ result.count }
 {
-    let Some(mut event) = look_or_mark(&*locked.lock(rt), number, &mut share) else {
+    let Some(mut event) = look_or_mark(&*aside(rt, locked), number, &mut share) else {
         return share;
     };
     let mut turn = 0u64;
     for _ in rt.forever() {
         gate.at(number, turn);
         turn = turn.saturating_add(1);
-        let Some(found) = next(&mut *locked.lock(rt), event, number, &mut share) else {
+        let Some(found) = next(&mut *aside(rt, locked), event, number, &mut share) else {
             return share;
         };
         event = found;
