@@ -1,6 +1,6 @@
 #!/usr/bin/env bash
 # Compares def and refs on large indexes in the style of two producers with what they have to print, and times them beside a plain
-# reader in C++ and beside reading the same file with wc. It stands for Google's library, which this script doesn't ask for.
+# reader in C++ and beside reading the same file with wc. Beside Google's library library.sh times them.
 # Build the program first: (cd crates/oscip && rt run -- --help). Then: bench/query.sh [PATH OF THE PROGRAM]
 set -eu
 here=$(cd "$(dirname "$0")" && pwd)
