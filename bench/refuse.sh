@@ -93,6 +93,14 @@ for words in "four A Z" "wrong A D" "twice A D"; do
   trial 1 cut $words
 done
 trial 3 cut absent A D
+trial 0 dot-net six.net six.cut
+trial 0 dot-net editor.net editor.cut
+trial 0 dot four four.cut
+trial 1 dot-net six.net short.cut
+trial 1 dot-net cycle.net six.cut
+trial 1 dot wrong four.cut
+trial 3 dot-net six.net absent.cut
+trial 2 dot-net six.net
 trial 0 def foreign.scip src/view.ts 2 19
 trial 0 refs foreign.scip src/view.ts 6 9
 trial 1 def foreign.scip view.ts 2 19

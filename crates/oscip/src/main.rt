@@ -10,7 +10,7 @@ use byte_sink::ToWrite;
 use cut_solve::OpenGate;
 use oscip_job::{Job, JobFault, job_of};
 use oscip_run::{
-    RunFault, answer, answer_question, answer_tree, fault_line, read_file, sources_of,
+    RunFault, answer, answer_question, answer_tree, fault_line, read_file, sources_of, status_of,
     status_of_run, status_of_words,
 };
 use std::alloc::Global;
@@ -24,7 +24,10 @@ use std::{env, io};
 /// The bytes of the job's report, and none where it has no report.
 fn report_of<R: Files + AllocGlobal>(rt: &R, job: &Job) -> Result<Vec<u8>, RunFault> {
     match job {
-        Job::Check { report, .. } | Job::CheckNet { report, .. } => read_file(rt, report.as_str()),
+        Job::Check { report, .. }
+        | Job::CheckNet { report, .. }
+        | Job::Dot { report, .. }
+        | Job::DotNet { report, .. } => read_file(rt, report.as_str()),
         Job::Cut { .. } | Job::CutNet { .. } | Job::Def(_) | Job::Refs(_) => {
             Ok(Vec::new(rt.alloc()))
         }
@@ -97,33 +100,39 @@ fn run_job<R: Files + AllocGlobal + Print + Threads + Wait + Sync + Clone + Drop
     requires { HasWorkers job.now }
 {
     match job {
-        Job::Cut { folder, .. } | Job::Check { folder, .. } => run_tree(rt, job, folder.as_str()),
-        Job::CutNet { network, .. } | Job::CheckNet { network, .. } => {
-            run_net(rt, job, network.as_str())
+        Job::Cut { folder, .. } | Job::Check { folder, .. } | Job::Dot { folder, .. } => {
+            run_tree(rt, job, folder.as_str())
         }
+        Job::CutNet { network, .. } | Job::CheckNet { network, .. } | Job::DotNet { network, .. } =>
+            { run_net(rt, job, network.as_str()) }
         Job::Def(question) | Job::Refs(question) => {
             run_question(rt, job, question.index.as_str())
         }
     }
 }
 
-/// Tells of the fault in one line on standard error, and gives the fault that was told of: it, or want of memory.
-fn told<R: AllocGlobal + Eprint>(rt: &R, fault: RunFault) -> RunFault {
-    match fault_line(rt.alloc(), &fault) {
+/// Tells of the fault in one line on standard error, or of want of memory where there is none for its line. Whether the line is its own.
+fn is_told<R: AllocGlobal + Eprint>(rt: &R, fault: &RunFault) -> bool {
+    match fault_line(rt.alloc(), fault) {
         Ok(line) => {
             let _ = eprint!(rt; "{line}");
-            fault
+            true
         }
         Err(_) => {
             let _ = eprintln!(rt; "oscip: Memory");
-            RunFault::Memory
+            false
         }
     }
 }
 
-/// Tells of the fault, and gives the status of the end.
-fn end_by<R: AllocGlobal + Eprint>(rt: &R, fault: RunFault) -> ExitCode {
-    ExitCode::from(status_of_run(&Err(told(rt, fault))))
+/// Tells of the fault, if there is one, and gives the status of the end.
+fn end_of<R: AllocGlobal + Eprint>(rt: &R, ended: &Result<bool, RunFault>) -> ExitCode {
+    if let Err(fault) = ended
+        && !is_told(rt, fault)
+    {
+        return ExitCode::from(status_of(&RunFault::Memory));
+    }
+    ExitCode::from(status_of_run(ended))
 }
 
 /// Runs the job, tells of its fault, and gives the status of its end.
@@ -133,10 +142,7 @@ fn end_of_job<R: Files + AllocGlobal + Print + Eprint + Threads + Wait + Sync + 
 ) -> ExitCode
     requires { HasWorkers job.now }
 {
-    match run_job(rt, job) {
-        Ok(agrees) => ExitCode::from(status_of_run(&Ok(agrees))),
-        Err(fault) => end_by(rt, fault),
-    }
+    end_of(rt, &run_job(rt, job))
 }
 
 /// Tells why there is no job, or the help that was asked for, and gives the status of that end.
@@ -147,7 +153,7 @@ fn end_without_job<R: AllocGlobal + Print + Eprint>(rt: &R, fault: &JobFault) ->
         }
         JobFault::Help { text } => {
             if print!(rt; "{text}").is_err() {
-                return end_by(rt, RunFault::Device);
+                return end_of(rt, &Err(RunFault::Device));
             }
         }
         JobFault::Memory => {
@@ -184,7 +190,9 @@ fn words_of<R: Env + AllocGlobal>(rt: &R) -> io::Result<Vec<String>> {
 fn main(rt: HostRuntime) -> ExitCode {
     match words_of(&rt) {
         Ok(words) => run(&rt, words.as_slice()),
-        Err(error) if error.kind() == ErrorKind::OutOfMemory => end_by(&rt, RunFault::Memory),
+        Err(error) if error.kind() == ErrorKind::OutOfMemory => {
+            end_of(&rt, &Err(RunFault::Memory))
+        }
         Err(_) => end_without_job(&rt, &not_words(rt.alloc())),
     }
 }

@@ -6,7 +6,7 @@ use Rattle.clap.specs.Words.{App, Row, Text, first_of, one_of, new_app, new_rule
 use Rattle.clap.specs.Walk.{Rule}
 use Rattle.clap.specs.declared.builder.value_parser.ValueParser.TheVariants as parsers
 use Rattle.oscip_job.specs.declared.job.Job.{Job}
-use Rattle.oscip_job.specs.declared.job.Job.TheVariants.{Cut, Check, CutNet, CheckNet, Def, Refs}
+use Rattle.oscip_job.specs.declared.job.Job.TheVariants.{Cut, Check, CutNet, CheckNet, Dot, DotNet, Def, Refs}
 use Rattle.oscip_job.specs.declared.job.Question.{Question}
 
 -- an argument that has to be given
@@ -46,6 +46,14 @@ cut_net_app = with_workers (with_modules (with_rule (new_app (codes "cut-net")) 
 abbrev pub check_net_app : App
 check_net_app = with_rule (with_rule (new_app (codes "check-net")) (required_rule (codes "FILE"))) (required_rule (codes "REPORT"))
 
+-- dot DIR REPORT
+abbrev pub dot_app : App
+dot_app = with_rule (with_rule (new_app (codes "dot")) (required_rule (codes "DIR"))) (required_rule (codes "REPORT"))
+
+-- dot-net FILE REPORT
+abbrev pub dot_net_app : App
+dot_net_app = with_rule (with_rule (new_app (codes "dot-net")) (required_rule (codes "FILE"))) (required_rule (codes "REPORT"))
+
 -- a number from 0 to 2147483647 that has to be given
 abbrev pub number_rule : Text → Rule
 number_rule id = record (new_rule id) { required = true; parser = Some (parsers.Signed (pos 0) (pos 2147483647)) }
@@ -73,8 +81,8 @@ program_app = record (new_app (codes "oscip")) { top = record (new_app (codes "o
 -- the program and its commands
 abbrev pub oscip : App
 oscip =
-    with_subcommand (with_subcommand (with_subcommand (with_subcommand (with_subcommand (with_subcommand program_app cut_app.top) check_app.top) cut_net_app.top) check_net_app.top)
-    def_app.top) refs_app.top
+    with_subcommand (with_subcommand (with_subcommand (with_subcommand (with_subcommand (with_subcommand (with_subcommand (with_subcommand program_app cut_app.top) check_app.top) cut_net_app.top)
+    check_net_app.top) dot_app.top) dot_net_app.top) def_app.top) refs_app.top
 
 -- the text that was found for an argument
 abbrev pub Finds : List Row → Text → Text → Type 0
@@ -120,6 +128,8 @@ HasValues rows (CutNet network from to workers) =
     Finds rows (codes "FILE") (string_bytes network) × Finds rows (codes "A") (string_bytes from) × Finds rows (codes "B") (string_bytes to)
     × FindsNumber rows (codes "workers") workers
 HasValues rows (CheckNet network report) = Finds rows (codes "FILE") (string_bytes network) × Finds rows (codes "REPORT") (string_bytes report)
+HasValues rows (Dot folder report) = Finds rows (codes "DIR") (string_bytes folder) × Finds rows (codes "REPORT") (string_bytes report)
+HasValues rows (DotNet network report) = Finds rows (codes "FILE") (string_bytes network) × Finds rows (codes "REPORT") (string_bytes report)
 HasValues rows (Def question) = HasQuestion rows question
 HasValues rows (Refs question) = HasQuestion rows question
 
@@ -129,6 +139,8 @@ command_name (Cut folder from to workers) = codes "cut"
 command_name (Check folder report) = codes "check"
 command_name (CutNet network from to workers) = codes "cut-net"
 command_name (CheckNet network report) = codes "check-net"
+command_name (Dot folder report) = codes "dot"
+command_name (DotNet network report) = codes "dot-net"
 command_name (Def question) = codes "def"
 command_name (Refs question) = codes "refs"
 
@@ -143,6 +155,8 @@ is_tree_job (Cut folder from to workers) = true
 is_tree_job (Check folder report) = true
 is_tree_job (CutNet network from to workers) = false
 is_tree_job (CheckNet network report) = false
+is_tree_job (Dot folder report) = true
+is_tree_job (DotNet network report) = false
 is_tree_job (Def question) = false
 is_tree_job (Refs question) = false
 
@@ -152,6 +166,8 @@ is_net_job (Cut folder from to workers) = false
 is_net_job (Check folder report) = false
 is_net_job (CutNet network from to workers) = true
 is_net_job (CheckNet network report) = true
+is_net_job (Dot folder report) = false
+is_net_job (DotNet network report) = true
 is_net_job (Def question) = false
 is_net_job (Refs question) = false
 
@@ -161,6 +177,8 @@ is_query_job (Cut folder from to workers) = false
 is_query_job (Check folder report) = false
 is_query_job (CutNet network from to workers) = false
 is_query_job (CheckNet network report) = false
+is_query_job (Dot folder report) = false
+is_query_job (DotNet network report) = false
 is_query_job (Def question) = true
 is_query_job (Refs question) = true
 
@@ -170,6 +188,8 @@ HasWorkers (Cut folder from to workers) = MayWork workers
 HasWorkers (Check folder report) = Unit {0}
 HasWorkers (CutNet network from to workers) = MayWork workers
 HasWorkers (CheckNet network report) = Unit {0}
+HasWorkers (Dot folder report) = Unit {0}
+HasWorkers (DotNet network report) = Unit {0}
 HasWorkers (Def question) = Unit {0}
 HasWorkers (Refs question) = Unit {0}
 
@@ -183,5 +203,7 @@ HasPosition (Cut folder from to workers) = Unit {0}
 HasPosition (Check folder report) = Unit {0}
 HasPosition (CutNet network from to workers) = Unit {0}
 HasPosition (CheckNet network report) = Unit {0}
+HasPosition (Dot folder report) = Unit {0}
+HasPosition (DotNet network report) = Unit {0}
 HasPosition (Def question) = IsPositionOf question
 HasPosition (Refs question) = IsPositionOf question

@@ -3,7 +3,7 @@ ghost use Rattle.std.specs.Prelude.{◌≡◌, ◌≤◌, IfOk, IfSome, codes, m
 ghost use Rattle.std.specs.String.{string_bytes};
 ghost use Rattle.clap.specs.Words.{app_of, found_of, kind_of, new_app, rows_of, subcommand_of, subcommand_rows_of, with_rule, with_subcommand, App};
 ghost use Rattle.clap.specs.declared.Command.TheViews.{out-Command as fields_of};
-ghost use Rattle.oscip_job.specs.Jobs.{asking_app, check_app, check_net_app, cut_app, cut_net_app, def_app, number_rule, oscip, refs_app, required_rule, with_modules, with_position, with_workers, Finds, FindsNumber, HasPosition, HasQuestion, HasWorkers, Holds, IsPositionOf, MayWork, NamesNumbers, NamesPosition, NamesWithin, NamesWorkers};
+ghost use Rattle.oscip_job.specs.Jobs.{asking_app, check_app, check_net_app, cut_app, cut_net_app, def_app, dot_app, dot_net_app, number_rule, oscip, refs_app, required_rule, with_modules, with_position, with_workers, Finds, FindsNumber, HasPosition, HasQuestion, HasWorkers, Holds, IsPositionOf, MayWork, NamesNumbers, NamesPosition, NamesWithin, NamesWorkers};
 
 use clap::error::ErrorKind;
 use clap::{Arg, ArgMatches, Command, value_parser};
@@ -40,6 +40,15 @@ const CHECK_END: &str = "Example: oscip check examples/editor edit.cut{n}{n}\
 
 const CHECK_NET_END: &str = "Example: oscip check-net examples/six.net examples/six.cut{n}{n}\
     Status: 0 yes, 5 no, 1 the network or the report is refused, 2 the command line is refused,{n}\
+    3 a file can't be read or standard output takes nothing, 4 memory ran out";
+
+/// What stands at the end of the help of a command that draws.
+const DOT_END: &str = "Example: oscip dot examples/editor edit.cut{n}{n}\
+    Status: 0 the graph is printed, 1 a module or the report is refused, 2 the command line is refused,{n}\
+    3 a file can't be read or standard output takes nothing, 4 memory ran out";
+
+const DOT_NET_END: &str = "Example: oscip dot-net examples/six.net examples/six.cut{n}{n}\
+    Status: 0 the graph is printed, 1 the network or the report is refused, 2 the command line is refused,{n}\
     3 a file can't be read or standard output takes nothing, 4 memory ran out";
 
 /// What stands at the end of the help of a question to an index.
@@ -90,6 +99,16 @@ pub enum Job {
     },
     /// Checks a report against a network, both given as paths of files.
     CheckNet {
+        network: String,
+        report: String,
+    },
+    /// Draws what a report says of the modules below a folder, both given as paths.
+    Dot {
+        folder: String,
+        report: String,
+    },
+    /// Draws what a report says of a network, both given as paths of files.
+    DotNet {
         network: String,
         report: String,
     },
@@ -183,7 +202,7 @@ fn cutting<'a>(
     with_workers(alloc, command)
 }
 
-/// The command of this name with a check's words: what was cut, and the report.
+/// The command of this name with the words of a check or a picture: what was cut, and the report.
 fn checking<'a>(
     alloc: Global,
     name: &'a str,
@@ -253,6 +272,36 @@ fn check_net_command<'a>(alloc: Global) -> Result<Command<'a>, AllocError>
         "check-net",
         "Check a report's proof that its cut of a network is cheapest",
         CHECK_NET_END,
+        "FILE",
+        NETWORK_HELP,
+        "The report of a cut between two of its modules",
+    )
+}
+
+fn dot_command<'a>(alloc: Global) -> Result<Command<'a>, AllocError>
+    ensures app { IfOk result (λ c. app_of c ≡ dot_app) }
+    ensures local { IfOk result (λ c. (fields_of c).has_globals ≡ false) }
+{
+    checking(
+        alloc,
+        "dot",
+        "Draw what a report says of Oberon-07 modules, as a graph in the language DOT of Graphviz",
+        DOT_END,
+        "DIR",
+        FOLDER_HELP,
+        "The report of a cut between two of the modules",
+    )
+}
+
+fn dot_net_command<'a>(alloc: Global) -> Result<Command<'a>, AllocError>
+    ensures app { IfOk result (λ c. app_of c ≡ dot_net_app) }
+    ensures local { IfOk result (λ c. (fields_of c).has_globals ≡ false) }
+{
+    checking(
+        alloc,
+        "dot-net",
+        "Draw what a report says of a network, as a graph in the language DOT of Graphviz",
+        DOT_NET_END,
         "FILE",
         NETWORK_HELP,
         "The report of a cut between two of its modules",
@@ -372,6 +421,14 @@ fn with_nets<'a>(alloc: Global, program: Command<'a>) -> Result<Command<'a>, All
     with_sub(program, check_net_command(alloc))
 }
 
+/// The program with the commands that draw.
+fn with_pictures<'a>(alloc: Global, program: Command<'a>) -> Result<Command<'a>, AllocError>
+    ensures { IfOk result (λ c. app_of c ≡ with_subcommand (with_subcommand (app_of program.entry) dot_app.top) dot_net_app.top) }
+{
+    let program = with_sub(program, dot_command(alloc))?;
+    with_sub(program, dot_net_command(alloc))
+}
+
 /// The program with the commands on indexes.
 fn with_indexes<'a>(alloc: Global, program: Command<'a>) -> Result<Command<'a>, AllocError>
     ensures { IfOk result (λ c. app_of c ≡ with_subcommand (with_subcommand (app_of program.entry) def_app.top) refs_app.top) }
@@ -392,6 +449,7 @@ fn command<'a>(alloc: Global) -> Result<Command<'a>, AllocError>
         .subcommand_required(true);
     let program = with_trees(alloc, program)?;
     let program = with_nets(alloc, program)?;
+    let program = with_pictures(alloc, program)?;
     with_indexes(alloc, program)
 }
 
@@ -478,6 +536,26 @@ fn check_net_job(alloc: Global, found: &ArgMatches<'_>) -> Result<Job, JobFault>
     Ok(Job::CheckNet { network, report })
 }
 
+fn dot_job(alloc: Global, found: &ArgMatches<'_>) -> Result<Job, JobFault>
+    ensures values { IfOk result (Holds (Some (codes "dot", rows_of (found_of found.now)))) }
+    ensures workers { IfOk result HasWorkers }
+    ensures position { IfOk result HasPosition }
+{
+    let folder = value_of(alloc, found, "DIR")?;
+    let report = value_of(alloc, found, "REPORT")?;
+    Ok(Job::Dot { folder, report })
+}
+
+fn dot_net_job(alloc: Global, found: &ArgMatches<'_>) -> Result<Job, JobFault>
+    ensures values { IfOk result (Holds (Some (codes "dot-net", rows_of (found_of found.now)))) }
+    ensures workers { IfOk result HasWorkers }
+    ensures position { IfOk result HasPosition }
+{
+    let network = value_of(alloc, found, "FILE")?;
+    let report = value_of(alloc, found, "REPORT")?;
+    Ok(Job::DotNet { network, report })
+}
+
 /// A number of a position, as `clap` found it.
 fn number_of(alloc: Global, found: &ArgMatches<'_>, id: &str) -> Result<u32, JobFault>
     requires { NamesWithin id.now 0 2147483647 (rows_of (found_of found.now)) }
@@ -546,6 +624,12 @@ fn job_from(alloc: Global, matches: &ArgMatches<'_>) -> Result<Job, JobFault>
     }
     if name == "check-net" {
         return check_net_job(alloc, found);
+    }
+    if name == "dot" {
+        return dot_job(alloc, found);
+    }
+    if name == "dot-net" {
+        return dot_net_job(alloc, found);
     }
     if name == "def" {
         return def_job(alloc, found);

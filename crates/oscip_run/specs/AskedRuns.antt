@@ -3,7 +3,7 @@ use Rattle.std.specs.Prelude.{◌≡◌, ℕ, List, Option, Result, Ok, Err}
 use Rattle.std.specs.String.{string_bytes}
 use Rattle.index_store.specs.declared.place.Position.{Position}
 use Rattle.oscip_job.specs.declared.job.Job.{Job}
-use Rattle.oscip_job.specs.declared.job.Job.TheVariants.{Cut, Check, CutNet, CheckNet, Def, Refs}
+use Rattle.oscip_job.specs.declared.job.Job.TheVariants.{Cut, Check, CutNet, CheckNet, Dot, DotNet, Def, Refs}
 use Rattle.oscip_job.specs.declared.job.Question.{Question}
 use Rattle.oscip_query.specs.Asking.{IsQueryRun}
 use Rattle.oscip_query.specs.declared.asking.Which.{Which}
@@ -27,5 +27,7 @@ IsAskedJob index (Cut folder from to workers) old new result = ⊥
 IsAskedJob index (Check folder report) old new result = ⊥
 IsAskedJob index (CutNet network from to workers) old new result = ⊥
 IsAskedJob index (CheckNet network report) old new result = ⊥
+IsAskedJob index (Dot folder report) old new result = ⊥
+IsAskedJob index (DotNet network report) old new result = ⊥
 IsAskedJob index (Def question) old new result = IsAskedRun index question Definitions old new result
 IsAskedJob index (Refs question) old new result = IsAskedRun index question References old new result

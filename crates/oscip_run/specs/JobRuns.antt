@@ -3,10 +3,11 @@ use Rattle.std.specs.Prelude.{◌≡◌, ℕ, Bool, true, List, Option, Result, 
 use Rattle.std.specs.String.{string_bytes}
 use Rattle.cut_net.specs.Network.{Network}
 use Rattle.oscip_run.specs.CutRuns.{IsCutRun}
+use Rattle.oscip_run.specs.DotRuns.{IsDotRun}
 use Rattle.oscip_run.specs.Runs.{IsCheckRun}
 use Rattle.oscip_run.specs.declared.fault.RunFault.{RunFault}
 use Rattle.oscip_job.specs.declared.job.Job.{Job}
-use Rattle.oscip_job.specs.declared.job.Job.TheVariants.{Cut, Check, CutNet, CheckNet, Def, Refs}
+use Rattle.oscip_job.specs.declared.job.Job.TheVariants.{Cut, Check, CutNet, CheckNet, Dot, DotNet, Def, Refs}
 
 -- the run, without its answer
 abbrev pub without_answer : Result Bool RunFault → Result (Unit {0}) RunFault
@@ -18,11 +19,18 @@ abbrev pub IsCutJobRun : (Network → Type 0) → (RunFault → Type 0) → List
 IsCutJobRun IsOf IsRefused first second old new result =
     IsCutRun IsOf IsRefused first second old new (without_answer result) × IfOk result (λ agrees. agrees ≡ true)
 
+-- a run that draws; a picture that is put is no check that says no
+abbrev pub IsDotJobRun : (Network → Type 0) → (RunFault → Type 0) → List ℕ → Option (List ℕ) → Option (List ℕ) → Result Bool RunFault → Type 0
+IsDotJobRun IsOf IsRefused report old new result =
+    IsDotRun IsOf IsRefused report old new (without_answer result) × IfOk result (λ agrees. agrees ≡ true)
+
 -- a run of the job's engine on a network, with the job's own names, or with the report; a question has none
 abbrev pub IsJobRun : (Network → Type 0) → (RunFault → Type 0) → Job → List ℕ → Option (List ℕ) → Option (List ℕ) → Result Bool RunFault → Type 0
 IsJobRun IsOf IsRefused (Cut folder from to workers) report old new result = IsCutJobRun IsOf IsRefused (string_bytes from) (string_bytes to) old new result
 IsJobRun IsOf IsRefused (Check folder other) report old new result = IsCheckRun IsOf IsRefused report old new result
 IsJobRun IsOf IsRefused (CutNet path from to workers) report old new result = IsCutJobRun IsOf IsRefused (string_bytes from) (string_bytes to) old new result
 IsJobRun IsOf IsRefused (CheckNet path other) report old new result = IsCheckRun IsOf IsRefused report old new result
+IsJobRun IsOf IsRefused (Dot folder other) report old new result = IsDotJobRun IsOf IsRefused report old new result
+IsJobRun IsOf IsRefused (DotNet path other) report old new result = IsDotJobRun IsOf IsRefused report old new result
 IsJobRun IsOf IsRefused (Def question) report old new result = ⊥
 IsJobRun IsOf IsRefused (Refs question) report old new result = ⊥

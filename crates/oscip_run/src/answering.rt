@@ -8,7 +8,9 @@ ghost use Rattle.oscip_run.specs.Runs.{IsNetOfText, IsRefusedText, IsRefusedTree
 ghost use Rattle.oscip_tree.specs.Sources.{AreInOrder};
 ghost use Rattle.oscip_tree.specs.Trees.{IsNetOfTree};
 
-use crate::{RunFault, check_net_bytes, check_tree, cut_net_bytes, cut_tree};
+use crate::{
+    RunFault, check_net_bytes, check_tree, cut_net_bytes, cut_tree, dot_net_bytes, dot_tree,
+};
 use byte_sink::Sink;
 use cut_solve::Gate;
 use oscip_job::Job;
@@ -47,7 +49,13 @@ pub fn answer<R: Threads + Wait + Sync, G: Gate + Sync, S: Sink>(
             Ok(true)
         }
         Job::CheckNet { .. } => check_net_bytes(alloc, network, report, sink),
-        Job::Cut { .. } | Job::Check { .. } | Job::Def(_) | Job::Refs(_) => unreachable!(),
+        Job::DotNet { .. } => {
+            dot_net_bytes(alloc, network, report, sink)?;
+            Ok(true)
+        }
+        Job::Cut { .. } | Job::Check { .. } | Job::Dot { .. } | Job::Def(_) | Job::Refs(_) => {
+            unreachable!()
+        }
     }
 }
 
@@ -82,6 +90,14 @@ pub fn answer_tree<R: Threads + Wait + Sync, G: Gate + Sync, S: Sink>(
             Ok(true)
         }
         Job::Check { .. } => check_tree(alloc, sources, report, sink),
-        Job::CutNet { .. } | Job::CheckNet { .. } | Job::Def(_) | Job::Refs(_) => unreachable!(),
+        Job::Dot { .. } => {
+            dot_tree(alloc, sources, report, sink)?;
+            Ok(true)
+        }
+        Job::CutNet { .. }
+        | Job::CheckNet { .. }
+        | Job::DotNet { .. }
+        | Job::Def(_)
+        | Job::Refs(_) => unreachable!(),
     }
 }

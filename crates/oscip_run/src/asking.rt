@@ -49,8 +49,11 @@ pub fn answer_question<S: Sink>(
     match job {
         Job::Def(question) => ask(alloc, question, Which::Definitions, index, sink),
         Job::Refs(question) => ask(alloc, question, Which::References, index, sink),
-        Job::Cut { .. } | Job::Check { .. } | Job::CutNet { .. } | Job::CheckNet { .. } => {
-            unreachable!()
-        }
+        Job::Cut { .. }
+        | Job::Check { .. }
+        | Job::CutNet { .. }
+        | Job::CheckNet { .. }
+        | Job::Dot { .. }
+        | Job::DotNet { .. } => unreachable!(),
     }
 }

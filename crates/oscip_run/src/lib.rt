@@ -1,10 +1,11 @@
-//! Runs: the files and folders that a job names, the engines that cut, check and answer questions over any sink, and how a run ends.
+//! Runs: the files and folders that a job names, the engines that cut, check, draw and answer questions over any sink, and how a run ends.
 //! Stands on `oscip_job`, `oscip_tree`, `oscip_query` and the `cut_` crates, with `thiserror` for its faults.
 //! Its contract: what an engine puts is what the definitions say of its inputs, and nothing else.
 #![tactic(auto)]
 
 mod answering;
 mod asking;
+mod drawing;
 mod ending;
 mod engine;
 mod fault;
@@ -14,6 +15,7 @@ mod reading;
 
 pub use answering::{answer, answer_tree};
 pub use asking::answer_question;
+pub use drawing::{dot_net_bytes, dot_tree};
 pub use ending::{status_of_run, status_of_words};
 pub use engine::{check_net_bytes, check_tree, cut_net_bytes, cut_tree};
 pub use fault::{RunFault, fault_line, status_of};

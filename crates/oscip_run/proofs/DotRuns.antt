@@ -1,0 +1,61 @@
+-- From what the lower crates promise to what a run that draws is.
+use Rattle.std.proofs.Common.{◌≡◌, ◌≢◌, ℕ, List, Option, Some, Result, Ok, Err, refl, inl, inr, sym, subst}
+use Rattle.std.specs.Prelude.{IfSome}
+use Rattle.byte_sink.specs.declared.sink.SinkFault.{SinkFault}
+use Rattle.byte_sink.specs.declared.sink.SinkFault.TheVariants as sink
+use Rattle.cut_net.specs.Network.{Network}
+use Rattle.cut_report.specs.declared.report.Report.{Report as ReportRead}
+use Rattle.cut_report.specs.declared.fault.ReportFault.{ReportFault}
+use Rattle.cut_report.specs.declared.fault.ReportFault.TheVariants as report
+use Rattle.cut_report.specs.ReportLines.{IsReportOutcome}
+use Rattle.cut_report.specs.ReportLines as reports
+use Rattle.cut_report.specs.Reading.{outcome_of as report_outcome_of, entry_of}
+use Rattle.cut_dot.specs.Drawing.{IsDrawing}
+use Rattle.oscip_run.specs.Faults.{of_report, of_sink}
+use Rattle.oscip_run.specs.DotRuns.{IsDotRun, IsDrawn, PutsDrawnFront}
+use Rattle.oscip_run.specs.Runs.{IsNeverRefused, IsThis}
+use Rattle.oscip_run.specs.declared.fault.RunFault.{RunFault}
+use Rattle.oscip_run.specs.declared.fault.RunFault.TheVariants as run
+use Rattle.oscip_run.proofs.CheckRuns.{Keeps-same}
+
+-- a refused report
+pub refused : (n : Network) (text : List ℕ) (known : Option (List ℕ)) (fault : ReportFault) → (fault ≢ report.Device) → IfSome (report_outcome_of (Err fault)) (IsReportOutcome n text)
+    → IsDotRun (IsThis n) IsNeverRefused text known known (Err (of_report fault))
+refused n text known (report.BadLine line) not_device h = ((reports.BadLine line, refl, (n, refl, h)), Keeps-same known)
+refused n text known (report.UnknownName line) not_device h = ((reports.UnknownName line, refl, (n, refl, h)), Keeps-same known)
+refused n text known (report.Order line) not_device h = ((reports.Order line, refl, (n, refl, h)), Keeps-same known)
+refused n text known report.NoEnd not_device h = ((reports.NoEnd, refl, (n, refl, h)), Keeps-same known)
+refused n text known report.Device not_device h = absurd (not_device refl)
+refused n text known report.Memory not_device h = inl (Keeps-same known)
+
+-- what came of a drawing
+pub drawn : (n : Network) (bytes : List ℕ) (r : ReportRead) (old new : Option (List ℕ)) (fault : SinkFault) → IsReportOutcome n bytes (reports.Reads (entry_of r))
+    → IsDrawing n r.from r.to r.cut.imports.items r.cut.flow.items old new (Err fault) → IsDotRun (IsThis n) IsNeverRefused bytes old new (Err (of_sink fault))
+drawn n bytes r old new sink.Device says h = (h.0, record { net = n; reads = refl; entry = entry_of r; says = says; picture = h.1 }, h.2)
+drawn n bytes r old new sink.Memory says (inl h) = inl h
+drawn n bytes r old new sink.Memory says (inr h) = inr (h.0, record { net = n; reads = refl; entry = entry_of r; says = says; picture = h.1 }, h.2)
+
+-- a picture on a network is one on the input that has it
+drawn_of : (IsOf : Network → Type 0) (n : Network) → IsOf n → (bytes text : List ℕ) → IsDrawn (IsThis n) bytes text → IsDrawn IsOf bytes text
+drawn_of IsOf n is bytes text d = record { net = d.net; reads = subst IsOf (sym d.reads) is; entry = d.entry; says = d.says; picture = d.picture }
+
+front_of : (IsOf : Network → Type 0) (n : Network) → IsOf n → (bytes : List ℕ) (old new : Option (List ℕ)) → PutsDrawnFront (IsThis n) bytes old new → PutsDrawnFront IsOf bytes old new
+front_of IsOf n is bytes old new h = (h.0, drawn_of IsOf n is bytes h.0 h.1, h.2)
+
+-- and so is a run
+pub run_of : (IsOf : Network → Type 0) (IsRefused : RunFault → Type 0) (n : Network) → IsOf n → (bytes : List ℕ) (old new : Option (List ℕ)) (result : Result (Unit {0}) RunFault)
+    → IsDotRun (IsThis n) IsNeverRefused bytes old new result → IsDotRun IsOf IsRefused bytes old new result
+run_of IsOf IsRefused n is bytes old new (Ok done) h = (h.0, drawn_of IsOf n is bytes h.0 h.1, h.2)
+run_of IsOf IsRefused n is bytes old new (Err (run.CannotRead path)) h = absurd h
+run_of IsOf IsRefused n is bytes old new (Err (run.CannotWrite path)) h = absurd h
+run_of IsOf IsRefused n is bytes old new (Err (run.Tree fault)) h = absurd h.0
+run_of IsOf IsRefused n is bytes old new (Err (run.Net fault)) h = absurd h.0
+run_of IsOf IsRefused n is bytes old new (Err (run.Report fault)) h =
+    let at = h.0 in
+    let of = at.2 in
+    ((at.0, at.1, (of.0, subst IsOf (sym of.1) is, of.2)), h.1)
+run_of IsOf IsRefused n is bytes old new (Err (run.Solve fault)) h = absurd h
+run_of IsOf IsRefused n is bytes old new (Err (run.Query fault)) h = absurd h
+run_of IsOf IsRefused n is bytes old new (Err run.Device) h = front_of IsOf n is bytes old new h
+run_of IsOf IsRefused n is bytes old new (Err run.Memory) (inl h) = inl h
+run_of IsOf IsRefused n is bytes old new (Err run.Memory) (inr h) = inr (front_of IsOf n is bytes old new h)

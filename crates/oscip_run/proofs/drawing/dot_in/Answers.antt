@@ -1,0 +1,32 @@
+use Rattle.std.proofs.Common.{refl}
+use Rattle.std.proofs.lemmas.Result.{err_from_is_err_and}
+use Rattle.cut_report.specs.Reading.{entry_of}
+use Rattle.oscip_run.proofs.DotRuns.{drawn, refused}
+use Rattle.oscip_run.proofs.drawing.dot_in.Goals as goal
+
+pub draw-requires-clause-from : goal.draw-requires-clause-from
+draw-requires-clause-from g c = c.in_ok-report.ensures.exact.report.from
+
+pub draw-requires-clause-to : goal.draw-requires-clause-to
+draw-requires-clause-to g c = c.in_ok-report.ensures.exact.report.to
+
+pub draw-requires-clause-removed : goal.draw-requires-clause-removed
+draw-requires-clause-removed g c = c.in_ok-report.ensures.exact.report.says.printed_in_order
+
+pub draw-requires-clause-flow : goal.draw-requires-clause-flow
+draw-requires-clause-flow g c = c.in_ok-report.ensures.exact.report.says.flow_in_order
+
+pub returns-in_err-report-clause-run : goal.returns-in_err-report-clause-run
+returns-in_err-report-clause-run g c =
+    let p = err_from_is_err_and c.from_residual.result c.from_residual.ensures.1 in
+    rw (p.1, p.2) (refused c.args.net.now _ _ _ c.in_err-report.ensures.of_text c.in_err-report.ensures.exact)
+
+pub returns-in_err-draw-clause-run : goal.returns-in_err-draw-clause-run
+returns-in_err-draw-clause-run g c =
+    let p = err_from_is_err_and c.from_residual-in_err-draw.result c.from_residual-in_err-draw.ensures.1 in
+    rw (p.1, p.2) (drawn c.args.net.now _ c.in_ok-report.report _ _ _ c.in_ok-report.ensures.exact c.in_err-draw.ensures.run)
+
+pub returns-clause-run : goal.returns-clause-run
+returns-clause-run g c =
+    let put = c.in_ok-draw.ensures.run in
+    (put.0, record { net = c.args.net.now; reads = refl; entry = entry_of c.in_ok-report.report; says = c.in_ok-report.ensures.exact; picture = put.1 }, put.2)

@@ -1,0 +1,48 @@
+-- What a run that draws what a report says reads and puts.
+use Rattle.std.specs.Prelude.{◌≡◌, ◌⊎◌, ℕ, List, Option, Some, Result, Ok, Err}
+use Rattle.std.specs.Io.KnownBytes.{Appends, Keeps}
+use Rattle.byte_sink.specs.Sinks.{AppendsFront}
+use Rattle.cut_net.specs.Network.{Network}
+use Rattle.cut_net.specs.Said.{Said, CutOf}
+use Rattle.cut_report.specs.Entry.{Entry}
+use Rattle.cut_report.specs.ReportLines.{IsReportOutcome}
+use Rattle.cut_report.specs.ReportLines as reports
+use Rattle.cut_report.specs.Reading.{outcome_of as report_outcome_of}
+use Rattle.cut_dot.specs.Pictures.{IsPicture}
+use Rattle.oscip_run.specs.declared.fault.RunFault.{RunFault}
+use Rattle.oscip_run.specs.declared.fault.RunFault.TheVariants.{CannotRead, CannotWrite, Tree, Net, Report, Solve, Query, Device, Memory}
+use Rattle.oscip_run.specs.Runs.{IsRefusedReport}
+
+-- the text is the picture of what is said of two modules
+abbrev pub IsPictureOf : Network → ℕ → ℕ → Said → List ℕ → Type 0
+IsPictureOf net a b (CutOf total printed flow) text = IsPicture net a b printed flow text
+
+-- the report is one on the input's network, and the text is the picture of what it says, right or wrong
+pub record IsDrawn (IsOf : Network → Type 0) (report text : List ℕ) : Type 0 where
+  pub net : Network
+  pub reads : IsOf net
+  pub entry : Entry
+  pub says : IsReportOutcome net report (reports.Reads entry)
+  pub picture : IsPictureOf net entry.from entry.to entry.said text
+
+-- the sink has the whole picture
+abbrev pub PutsDrawn : (Network → Type 0) → List ℕ → Option (List ℕ) → Option (List ℕ) → Type 0
+PutsDrawn IsOf report old new = (text : List ℕ) × IsDrawn IsOf report text × Appends old new text
+
+-- the sink has a front of the picture
+abbrev pub PutsDrawnFront : (Network → Type 0) → List ℕ → Option (List ℕ) → Option (List ℕ) → Type 0
+PutsDrawnFront IsOf report old new = (text : List ℕ) × IsDrawn IsOf report text × AppendsFront old new text
+
+-- a run of the engine: refused input leaves the sink as it was, with the fault that the input has
+abbrev pub IsDotRun : (Network → Type 0) → (RunFault → Type 0) → List ℕ → Option (List ℕ) → Option (List ℕ) → Result (Unit {0}) RunFault → Type 0
+IsDotRun IsOf IsRefused report old new (Ok _) = PutsDrawn IsOf report old new
+IsDotRun IsOf IsRefused report old new (Err (CannotRead path)) = ⊥
+IsDotRun IsOf IsRefused report old new (Err (CannotWrite path)) = ⊥
+IsDotRun IsOf IsRefused report old new (Err (Tree fault)) = IsRefused (Tree fault) × Keeps old new
+IsDotRun IsOf IsRefused report old new (Err (Net fault)) = IsRefused (Net fault) × Keeps old new
+IsDotRun IsOf IsRefused report old new (Err (Report fault)) =
+    ((outcome : reports.ReportOutcome) × (report_outcome_of (Err fault) ≡ Some outcome) × IsRefusedReport IsOf report outcome) × Keeps old new
+IsDotRun IsOf IsRefused report old new (Err (Solve fault)) = ⊥
+IsDotRun IsOf IsRefused report old new (Err (Query fault)) = ⊥
+IsDotRun IsOf IsRefused report old new (Err Device) = PutsDrawnFront IsOf report old new
+IsDotRun IsOf IsRefused report old new (Err Memory) = Keeps old new ⊎ PutsDrawnFront IsOf report old new
