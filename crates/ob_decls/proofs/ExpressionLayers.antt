@@ -159,7 +159,7 @@ factor_seen (layers.Name d) = refl
 factor_seen (layers.Group e) = refl
 factor_seen (layers.Not f) = refl
 
-factor_out : (f : Factor) → factor_phrase f ≡ factor_shown (out-Factor f)
+pub factor_out : (f : Factor) → factor_phrase f ≡ factor_shown (out-Factor f)
 unfolding factor_phrase selected denoted element_piece element_list_piece expr_phrase listed sum_phrase term_phrase
 factor_out f = fold_out-Factor Phrase Selected Denoted Piece Piece Phrase Listed Phrase Phrase factor_step selector_step designator_step element_step element_list_step expr_step expr_list_step sum_step term_step f ∙ factor_seen (out-Factor f)
 
@@ -172,7 +172,7 @@ selector_seen layers.Target = refl
 selector_seen (layers.Arguments None) = refl
 selector_seen (layers.Arguments (Some list)) = refl
 
-selector_out : (s : Selector) → selected s ≡ selector_shown (out-Selector s)
+pub selector_out : (s : Selector) → selected s ≡ selector_shown (out-Selector s)
 unfolding factor_phrase selected denoted element_piece element_list_piece expr_phrase listed sum_phrase term_phrase
 selector_out s = fold_out-Selector Phrase Selected Denoted Piece Piece Phrase Listed Phrase Phrase factor_step selector_step designator_step element_step element_list_step expr_step expr_list_step sum_step term_step s ∙ selector_seen (out-Selector s)
 

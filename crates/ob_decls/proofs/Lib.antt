@@ -15,3 +15,6 @@ pub mod MirroredStatements
 pub mod MirroredTypes
 pub mod MirroredModules
 pub mod Derived
+pub mod Reading
+pub mod ReadingLists
+pub mod ReadingExpressions

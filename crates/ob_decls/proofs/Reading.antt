@@ -1,0 +1,175 @@
+-- What is told of a part of a tree is known from its outline, whatever stands behind it.
+use Rattle.std.proofs.Common.{◌≡◌, ℕ, Bool, true, false, List, [], ◌∷◌, ◌++◌, map, Option, Some, None, refl, sym, ap, ap₂, ◌∙◌, append_assoc, subst}
+use Rattle.ob_scan.specs.declared.kind.Kind.{Kind}
+use Rattle.ob_tree.specs.declared.construct.Construct.{Construct}
+use Rattle.ob_tree.specs.Leaves.{same_kind}
+use Rattle.ob_tree.specs.Marks.{Out, Mark, Begins, Ends, Identifier, Value, Word, Declares, Uses, Names, Repeats, construct, word, declared, used, named, repeated, if_there, if_so, each}
+
+-- ---- whether an outline goes on with a part that may stand there
+
+abbrev pub never : Out → Bool
+never o = false
+
+abbrev pub on_word : Kind → Out → Bool
+on_word k [] = false
+on_word k (Begins c n ∷ ms) = false
+on_word k (Ends c ∷ ms) = false
+on_word k (Identifier r n ∷ ms) = false
+on_word k (Value l n ∷ ms) = false
+on_word k (Word w ∷ ms) = same_kind w k
+
+abbrev pub on_any_word : Out → Bool
+on_any_word [] = false
+on_any_word (Begins c n ∷ ms) = false
+on_any_word (Ends c ∷ ms) = false
+on_any_word (Identifier r n ∷ ms) = false
+on_any_word (Value l n ∷ ms) = false
+on_any_word (Word w ∷ ms) = true
+
+abbrev pub on_construct : Out → Bool
+on_construct [] = false
+on_construct (Begins c n ∷ ms) = true
+on_construct (Ends c ∷ ms) = false
+on_construct (Identifier r n ∷ ms) = false
+on_construct (Value l n ∷ ms) = false
+on_construct (Word w ∷ ms) = false
+
+-- a construct, or this word before another one
+abbrev pub on_list : Kind → Out → Bool
+on_list k [] = false
+on_list k (Begins c n ∷ ms) = true
+on_list k (Ends c ∷ ms) = false
+on_list k (Identifier r n ∷ ms) = false
+on_list k (Value l n ∷ ms) = false
+on_list k (Word w ∷ ms) = same_kind w k
+
+pub no_word : (k : Kind) (s : Out) → on_list k s ≡ false → on_word k s ≡ false
+no_word k [] i = refl
+no_word k (Begins c n ∷ ms) i = refl
+no_word k (Ends c ∷ ms) i = refl
+no_word k (Identifier r n ∷ ms) i = refl
+no_word k (Value l n ∷ ms) i = refl
+no_word k (Word w ∷ ms) i = i
+
+-- This outline tells this: where it stands before r, and the outline of some z before s, and the two are one, z tells the
+-- same. Neither r nor s goes on with more of the part.
+pub record Reads {Z A : Type 0} (tell : Z → A) (show : Z → Out) (more : Out → Bool) (a : A) (o : Out) : Type 0 where
+  pub same : (z : Z) (r s : Out) → more r ≡ false → more s ≡ false → o ++ r ≡ show z ++ s → (a ≡ tell z) × (r ≡ s)
+
+-- ---- one token
+
+tail_is : (x y : Mark) (r s : Out) → x ∷ r ≡ y ∷ s → r ≡ s
+tail_is x y r s e = cc
+
+pub r-word : {Z : Type 0} (k : Kind) → Reads {Z = Z} {A = Kind} (λ z. k) (λ z. word k) never k (word k)
+r-word k = record { same = λ z r s i j e. (refl, tail_is _ _ r s e) }
+
+used_is : (m n : ℕ) (r s : Out) → Identifier Uses m ∷ r ≡ Identifier Uses n ∷ s → m ≡ n
+used_is m n r s e = cc
+
+named_is : (m n : ℕ) (r s : Out) → Identifier Names m ∷ r ≡ Identifier Names n ∷ s → m ≡ n
+named_is m n r s e = cc
+
+declared_is : (m n : ℕ) (r s : Out) → Identifier Declares m ∷ r ≡ Identifier Declares n ∷ s → m ≡ n
+declared_is m n r s e = cc
+
+pub r-use : {Z : Type 0} (h : Z → ℕ) (n : ℕ) → Reads h (λ z. used (h z)) never n (used n)
+r-use h n = record { same = λ z r s i j e. (used_is _ _ r s e, tail_is _ _ r s e) }
+
+pub r-name : {Z : Type 0} (h : Z → ℕ) (n : ℕ) → Reads h (λ z. named (h z)) never n (named n)
+r-name h n = record { same = λ z r s i j e. (named_is _ _ r s e, tail_is _ _ r s e) }
+
+pub r-declared : {Z : Type 0} (h : Z → ℕ) (n : ℕ) → Reads h (λ z. declared (h z)) never n (declared n)
+r-declared h n = record { same = λ z r s i j e. (declared_is _ _ r s e, tail_is _ _ r s e) }
+
+-- ---- one part behind the other
+
+pub r-until : {Z A B : Type 0} {t : Z → A} {u : Z → B} {f g : Z → Out} {part more : Out → Bool} {a : A} {b : B} {o p : Out} →
+    Reads t f part a o → ((s : Out) → more s ≡ false → part (p ++ s) ≡ false) → ((z : Z) (s : Out) → more s ≡ false → part (g z ++ s) ≡ false) →
+    Reads u g more b p → Reads {Z = Z} {A = A × B} (λ z. (t z, u z)) (λ z. f z ++ g z) more (a, b) (o ++ p)
+r-until {Z} {A} {B} {t} {u} {f} {g} {part} {more} {a} {b} {o} {p} x here there y = record {
+  same = λ z r s i j e.
+      let first = x.same z (p ++ r) (g z ++ s) (here r i) (there z s j) (sym (append_assoc o p r) ∙ e ∙ append_assoc (f z) (g z) s) in
+      let second = y.same z r s i j first.1 in
+      (ap₂ (λ (c : A) (d : B). (c, d)) first.0 second.0, second.1);
+}
+
+pub r-both : {Z A B : Type 0} {t : Z → A} {u : Z → B} {f g : Z → Out} {more : Out → Bool} {a : A} {b : B} {o p : Out} →
+    Reads t f never a o → Reads u g more b p → Reads {Z = Z} {A = A × B} (λ z. (t z, u z)) (λ z. f z ++ g z) more (a, b) (o ++ p)
+r-both x y = r-until x (λ s i. refl) (λ z s i. refl) y
+
+-- a word before a part, and behind one
+pub r-past : {Z A : Type 0} {t : Z → A} {f : Z → Out} {more : Out → Bool} {a : A} {o : Out} (k : Kind) →
+    Reads t f more a o → Reads t (λ z. word k ++ f z) more a (word k ++ o)
+r-past k x = record { same = λ z r s i j e. x.same z r s i j (tail_is _ _ _ _ e) }
+
+pub r-then : {Z A : Type 0} {t : Z → A} {f : Z → Out} {part : Out → Bool} {a : A} {o : Out} (k : Kind) →
+    Reads t f part a o → ((s : Out) → part (Word k ∷ s) ≡ false) → Reads t (λ z. f z ++ word k) never a (o ++ word k)
+r-then {Z} {A} {t} {f} {part} {a} {o} k x stops = record {
+  same = λ z r s i j e.
+      let first = x.same z (Word k ∷ r) (Word k ∷ s) (stops r) (stops s) (sym (append_assoc o (word k) r) ∙ e ∙ append_assoc (f z) (word k) s) in
+      (first.0, tail_is _ _ r s first.1);
+}
+
+pub r-held : {Z A : Type 0} {t : Z → A} {f : Z → Out} {part : Out → Bool} {a : A} {o : Out} (c : Construct) →
+    Reads t f part a o → ((s : Out) → part (Ends c ∷ s) ≡ false) → Reads t (λ z. construct c (f z)) never a (construct c o)
+unfolding construct
+r-held {Z} {A} {t} {f} {part} {a} {o} c x stops = record {
+  same = λ z r s i j e.
+      let inner : (o ++ Ends c ∷ []) ++ r ≡ (f z ++ Ends c ∷ []) ++ s = tail_is _ _ _ _ e in
+      let first = x.same z (Ends c ∷ r) (Ends c ∷ s) (stops r) (stops s) (sym (append_assoc o (Ends c ∷ []) r) ∙ inner ∙ append_assoc (f z) (Ends c ∷ []) s) in
+      (first.0, tail_is _ _ r s first.1);
+}
+
+-- a part of what is told, by where it stands
+pub r-at : {Y Z A : Type 0} {t : Y → A} {f : Y → Out} {more : Out → Bool} {a : A} {o : Out} (h : Z → Y) →
+    Reads t f more a o → Reads (λ z. t (h z)) (λ z. f (h z)) more a o
+r-at h x = record { same = λ z r s i j e. x.same (h z) r s i j e }
+
+-- the same, told otherwise
+pub r-made : {Y Z A B : Type 0} {t : Y → A} {f : Y → Out} {more : Out → Bool} {a : A} {o : Out} {tell : Z → B} {show : Z → Out} {b : B} {p : Out} (told : A → B) (h : Z → Y) →
+    ((z : Z) → tell z ≡ told (t (h z))) → ((z : Z) → show z ≡ f (h z)) → b ≡ told a → p ≡ o → Reads t f more a o → Reads tell show more b p
+r-made {Y} {Z} {A} {B} {t} {f} {more} {a} {o} {tell} {show} {b} {p} told h tells shows is_told is_shown x = record {
+  same = λ z r s i j e.
+      let first = x.same (h z) r s i j (ap (λ (q : Out). q ++ r) (sym is_shown) ∙ e ∙ ap (λ (q : Out). q ++ s) (shows z)) in
+      (is_told ∙ ap told first.0 ∙ sym (tells z), first.1);
+}
+
+-- ---- what may be absent
+
+abbrev pub maybe : {X A : Type 0} → (X → A) → Option X → Option A
+maybe f None = None
+maybe f (Some x) = Some (f x)
+
+pub clash : (x y : Bool) → x ≡ true → x ≡ false → ⊥
+clash x y e f = cc
+
+module _ {Y A : Type 0} (f : Y → A) (g : Y → Out) (more : Out → Bool) (front : (y : Y) (s : Out) → more (g y ++ s) ≡ true) where
+  none_same : (o : Option Y) (r s : Out) → more r ≡ false → r ≡ if_there g o ++ s → (None ≡ maybe f o) × (r ≡ s)
+  none_same None r s i e = (refl, e)
+  none_same (Some y) r s i e = absurd (clash (more r) true (ap more e ∙ front y s) i)
+
+  pub r-none : {Z : Type 0} (at : Z → Option Y) → Reads (λ z. maybe f (at z)) (λ z. if_there g (at z)) more None []
+  r-none at = record { same = λ z r s i j e. none_same (at z) r s i e }
+
+module _ {Y A : Type 0} {f : Y → A} {g : Y → Out} {part more : Out → Bool} {a : A} {o : Out} (x : Reads f g part a o)
+    (ends : (s : Out) → more s ≡ false → part s ≡ false) (here : (s : Out) → more (o ++ s) ≡ true) where
+  some_same : (q : Option Y) (r s : Out) → more r ≡ false → more s ≡ false → o ++ r ≡ if_there g q ++ s → (Some a ≡ maybe f q) × (r ≡ s)
+  some_same None r s i j e = absurd (clash (more s) true (ap more (sym e) ∙ here r) j)
+  some_same (Some y) r s i j e = let first = x.same y r s (ends r i) (ends s j) e in (ap (λ (b : A). Some b) first.0, first.1)
+
+  pub r-some : {Z : Type 0} (at : Z → Option Y) → Reads (λ z. maybe f (at z)) (λ z. if_there g (at z)) more (Some a) o
+  r-some at = record { same = λ z r s i j e. some_same (at z) r s i j e }
+
+-- a word of any kind, alone or before a part
+pub r-any : {Z : Type 0} (h : Z → Kind) (k : Kind) → Reads {Z = Z} {A = Bool} (λ z. true) (λ z. word (h z)) never true (word k)
+r-any h k = record { same = λ z r s i j e. (refl, tail_is _ _ r s e) }
+
+pub r-past_any : {Z A : Type 0} {t : Z → A} {f : Z → Out} {more : Out → Bool} {a : A} {o : Out} (h : Z → Kind) (k : Kind) →
+    Reads t f more a o → Reads t (λ z. word (h z) ++ f z) more a (word k ++ o)
+r-past_any h k x = record { same = λ z r s i j e. x.same z r s i j (tail_is _ _ _ _ e) }
+
+-- a tree that is made of one layer
+pub r-layer : {T F A B : Type 0} {tell : T → B} {show : T → Out} {more : Out → Bool} (out : T → F) (t : F → A) (f : F → Out) (told : A → B) →
+    ((x : T) → tell x ≡ told (t (out x))) → ((x : T) → show x ≡ f (out x)) → (x : T) (y : F) → out x ≡ y → Reads t f more (t y) (f y) → Reads tell show more (tell x) (show x)
+r-layer out t f told tells shows x y is h = r-made told out tells shows (tells x ∙ ap (λ z. told (t z)) is) (shows x ∙ ap f is) h
