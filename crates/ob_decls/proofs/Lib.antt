@@ -18,3 +18,5 @@ pub mod Derived
 pub mod Reading
 pub mod ReadingLists
 pub mod ReadingExpressions
+pub mod ReadingNames
+pub mod ReadingStatementForms
