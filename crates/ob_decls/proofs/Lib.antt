@@ -17,6 +17,10 @@ pub mod MirroredModules
 pub mod Derived
 pub mod Reading
 pub mod ReadingLists
+pub mod ReadingExpressionParts
+pub mod ReadingSums
+pub mod ReadingDesignators
+pub mod ReadingFactors
 pub mod ReadingExpressions
 pub mod ReadingNames
 pub mod ReadingStatementForms

@@ -58,7 +58,7 @@ pub record Reads {Z A : Type 0} (tell : Z → A) (show : Z → Out) (more : Out 
 
 -- ---- one token
 
-tail_is : (x y : Mark) (r s : Out) → x ∷ r ≡ y ∷ s → r ≡ s
+pub tail_is : (x y : Mark) (r s : Out) → x ∷ r ≡ y ∷ s → r ≡ s
 tail_is x y r s e = cc
 
 pub r-word : {Z : Type 0} (k : Kind) → Reads {Z = Z} {A = Kind} (λ z. k) (λ z. word k) never k (word k)

@@ -12,7 +12,7 @@ use Rattle.ob_tree.specs.Marks.{Out, Mark, Begins, Ends, Identifier, Value, Word
 use Rattle.ob_tree.specs.Names.{qualident_outline}
 use Rattle.ob_tree.specs.Statements.{label_outline, label_range_outline}
 use Rattle.ob_decls.specs.Statements.{qualident_piece, label_range_piece}
-use Rattle.ob_decls.proofs.Reading.{Reads, never, maybe, clash, on_word, r-use, r-name, r-until, r-both, r-past, r-at, r-made}
+use Rattle.ob_decls.proofs.Reading.{Reads, never, maybe, clash, on_word, r-use, r-name, r-until, r-both, r-past, r-at, r-made, tail_is}
 use Rattle.ob_decls.proofs.ReadingLists.{r-there}
 
 -- ---- one of these words
@@ -98,19 +98,16 @@ value_is m n r s e = cc
 text_is : (m n : ℕ) (r s : Out) → Value literals.Text m ∷ r ≡ Value literals.Text n ∷ s → m ≡ n
 text_is m n r s e = cc
 
-rest_is : (x y : Mark) (r s : Out) → x ∷ r ≡ y ∷ s → r ≡ s
-rest_is x y r s e = cc
-
 integer_same : (m : ℕ) (z : Label) (r s : Out) → Value literals.Integer m ∷ r ≡ label_outline z ++ s → (labels.Integer m ≡ z) × (r ≡ s)
 unfolding label_outline qualident_outline
-integer_same m (labels.Integer n) r s e = (ap (λ (k : ℕ). labels.Integer k) (value_is m n r s e), rest_is _ _ r s e)
+integer_same m (labels.Integer n) r s e = (ap (λ (k : ℕ). labels.Integer k) (value_is m n r s e), tail_is _ _ r s e)
 integer_same m (labels.Text n) r s e = absurd cc
 integer_same m (labels.Name q) r s e = absurd cc
 
 text_same : (m : ℕ) (z : Label) (r s : Out) → Value literals.Text m ∷ r ≡ label_outline z ++ s → (labels.Text m ≡ z) × (r ≡ s)
 unfolding label_outline qualident_outline
 text_same m (labels.Integer n) r s e = absurd cc
-text_same m (labels.Text n) r s e = (ap (λ (k : ℕ). labels.Text k) (text_is m n r s e), rest_is _ _ r s e)
+text_same m (labels.Text n) r s e = (ap (λ (k : ℕ). labels.Text k) (text_is m n r s e), tail_is _ _ r s e)
 text_same m (labels.Name q) r s e = absurd cc
 
 name_unlike : (p : Qualident) (x : Mark) (r s : Out) → on_value (x ∷ s) ≡ true → qualident_outline p ++ r ≡ x ∷ s → ⊥

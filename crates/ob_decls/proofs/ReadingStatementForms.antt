@@ -19,15 +19,15 @@ use Rattle.ob_tree.specs.Leaves.{same_kind}
 use Rattle.ob_tree.specs.Marks.{Out, Mark, Ends, Word, construct, word, if_there, each, each_after}
 use Rattle.ob_tree.specs.Expressions.{expr_outline, designator_outline}
 use Rattle.ob_tree.specs.Statements.{case_outline, block_outline, branch_outline, for_outline}
-use Rattle.ob_tree.proofs.ExpressionLayers.{designator_out}
 use Rattle.ob_tree.proofs.StatementLayers.{if_shown, stmt_shown, for_out}
 use Rattle.ob_decls.specs.Parts.{Piece, token, both}
 use Rattle.ob_decls.specs.Parts.{if_there as there, each as pieces}
 use Rattle.ob_decls.specs.Expressions.{Phrase, Denoted, denoted, expr_phrase, expr_piece, designator_piece}
 use Rattle.ob_decls.specs.Statements.{case_piece, block_piece, branch_piece, for_piece}
 use Rattle.ob_decls.proofs.StatementLayers as told
-use Rattle.ob_decls.proofs.Reading.{Reads, never, on_word, on_construct, clash, maybe, r-both, r-past, r-at, r-held}
+use Rattle.ob_decls.proofs.Reading.{tail_is, Reads, never, on_word, on_construct, clash, maybe, r-both, r-past, r-at, r-held}
 use Rattle.ob_decls.proofs.ReadingLists.{there_told, each_told}
+use Rattle.ob_decls.proofs.ReadingFactors.{no_name_here}
 use Rattle.ob_decls.proofs.ReadingExpressions.{r-expr, r-designator}
 
 abbrev pub Layer : Type 0
@@ -124,23 +124,14 @@ repeat_seen z = refl
 
 -- ---- what tells the forms apart
 
-pub tail_is : (x y : Mark) (r s : Out) → x ∷ r ≡ y ∷ s → r ≡ s
-tail_is x y r s e = cc
-
 -- what stands in the constructs, and behind it
 pub inside : (c : Construct) (o p r s : Out) → construct c o ++ r ≡ construct c p ++ s → o ++ Ends c ∷ r ≡ p ++ Ends c ∷ s
 unfolding construct
 inside c o p r s e = sym (append_assoc o (Ends c ∷ []) r) ∙ tail_is _ _ _ _ e ∙ append_assoc p (Ends c ∷ []) s
 
-designator_begins : (d : Designator) (s : Out) → on_construct (designator_outline d ++ s) ≡ true
-unfolding construct
-designator_begins d s = ap (λ (o : Out). on_construct (o ++ s)) (designator_out d)
-
-no_call : (d : Designator) (r s : Out) → on_construct r ≡ false → r ≡ designator_outline d ++ s → ⊥
-no_call d r s i e = clash (on_construct r) true (ap on_construct e ∙ designator_begins d s) i
 
 no_assign : (d : Designator) (o r s : Out) → on_construct r ≡ false → r ≡ (designator_outline d ++ o) ++ s → ⊥
-no_assign d o r s i e = no_call d r (o ++ s) i (e ∙ append_assoc (designator_outline d) o s)
+no_assign d o r s i e = no_name_here d r (o ++ s) i (e ∙ append_assoc (designator_outline d) o s)
 
 for_begins : (f : For) (s : Out) → on_word kinds.For (for_outline f ++ s) ≡ true
 for_begins f s = ap (λ (o : Out). on_word kinds.For (o ++ s)) (for_out f)
@@ -184,7 +175,7 @@ empty_same (layers.For f) r s e = absurd (empty_unlike [] _ r s e)
 pub if_same : (f : Box Branch Global) (v : Vec Branch Global) (o : Option (Box Block Global)) → Reads if_parts if_outline never (if_parts (f, (v, o))) (if_outline (f, (v, o))) → (z : Layer) (r s : Out) → construct constructs.Statement (if_outline (f, (v, o))) ++ r ≡ stmt_shown z ++ s → Sames (layers.If f v o) z r s
 if_same f v o x layers.Empty r s e = absurd (empty_unlike [] _ s r (sym e))
 if_same f v o x (layers.Assign d u) r s e = absurd (no_assign d _ _ _ refl (inside constructs.Statement _ _ r s e))
-if_same f v o x (layers.Call d) r s e = absurd (no_call d _ _ refl (inside constructs.Statement _ _ r s e))
+if_same f v o x (layers.Call d) r s e = absurd (no_name_here d _ _ refl (inside constructs.Statement _ _ r s e))
 if_same f v o x (layers.If g w q) r s e = let h = (r-held constructs.Statement x (λ p. refl)).same (g, (w, q)) r s refl refl e in (if_seen (f, (v, o)) ∙ ap if_told h.0 ∙ sym (if_seen (g, (w, q))), h.1)
 if_same f v o x (layers.Case u k w) r s e = absurd (other kinds.If kinds.Case _ _ refl refl (inside constructs.Statement _ _ r s e))
 if_same f v o x (layers.While g w) r s e = absurd (other kinds.If kinds.While _ _ refl refl (inside constructs.Statement _ _ r s e))
@@ -194,7 +185,7 @@ if_same f v o x (layers.For g) r s e = absurd (no_for g _ _ refl (inside constru
 pub case_same : (a : Expr) (c : Box Case Global) (v : Vec Case Global) → Reads case_parts cases_outline never (case_parts (a, (c, v))) (cases_outline (a, (c, v))) → (z : Layer) (r s : Out) → construct constructs.Statement (cases_outline (a, (c, v))) ++ r ≡ stmt_shown z ++ s → Sames (layers.Case a c v) z r s
 case_same a c v x layers.Empty r s e = absurd (empty_unlike [] _ s r (sym e))
 case_same a c v x (layers.Assign d u) r s e = absurd (no_assign d _ _ _ refl (inside constructs.Statement _ _ r s e))
-case_same a c v x (layers.Call d) r s e = absurd (no_call d _ _ refl (inside constructs.Statement _ _ r s e))
+case_same a c v x (layers.Call d) r s e = absurd (no_name_here d _ _ refl (inside constructs.Statement _ _ r s e))
 case_same a c v x (layers.If g w q) r s e = absurd (other kinds.Case kinds.If _ _ refl refl (inside constructs.Statement _ _ r s e))
 case_same a c v x (layers.Case u k w) r s e = let h = (r-held constructs.Statement x (λ p. refl)).same (u, (k, w)) r s refl refl e in (case_seen (a, (c, v)) ∙ ap case_told h.0 ∙ sym (case_seen (u, (k, w))), h.1)
 case_same a c v x (layers.While g w) r s e = absurd (other kinds.Case kinds.While _ _ refl refl (inside constructs.Statement _ _ r s e))
@@ -204,7 +195,7 @@ case_same a c v x (layers.For g) r s e = absurd (no_for g _ _ refl (inside const
 pub while_same : (f : Box Branch Global) (v : Vec Branch Global) → Reads while_parts while_outline never (while_parts (f, v)) (while_outline (f, v)) → (z : Layer) (r s : Out) → construct constructs.Statement (while_outline (f, v)) ++ r ≡ stmt_shown z ++ s → Sames (layers.While f v) z r s
 while_same f v x layers.Empty r s e = absurd (empty_unlike [] _ s r (sym e))
 while_same f v x (layers.Assign d u) r s e = absurd (no_assign d _ _ _ refl (inside constructs.Statement _ _ r s e))
-while_same f v x (layers.Call d) r s e = absurd (no_call d _ _ refl (inside constructs.Statement _ _ r s e))
+while_same f v x (layers.Call d) r s e = absurd (no_name_here d _ _ refl (inside constructs.Statement _ _ r s e))
 while_same f v x (layers.If g w q) r s e = absurd (other kinds.While kinds.If _ _ refl refl (inside constructs.Statement _ _ r s e))
 while_same f v x (layers.Case u k w) r s e = absurd (other kinds.While kinds.Case _ _ refl refl (inside constructs.Statement _ _ r s e))
 while_same f v x (layers.While g w) r s e = let h = (r-held constructs.Statement x (λ p. refl)).same (g, w) r s refl refl e in (while_seen (f, v) ∙ ap while_told h.0 ∙ sym (while_seen (g, w)), h.1)
@@ -214,7 +205,7 @@ while_same f v x (layers.For g) r s e = absurd (no_for g _ _ refl (inside constr
 pub repeat_same : (m : Box Block Global) (a : Expr) → Reads repeat_parts repeat_outline never (repeat_parts (m, a)) (repeat_outline (m, a)) → (z : Layer) (r s : Out) → construct constructs.Statement (repeat_outline (m, a)) ++ r ≡ stmt_shown z ++ s → Sames (layers.Repeat m a) z r s
 repeat_same m a x layers.Empty r s e = absurd (empty_unlike [] _ s r (sym e))
 repeat_same m a x (layers.Assign d u) r s e = absurd (no_assign d _ _ _ refl (inside constructs.Statement _ _ r s e))
-repeat_same m a x (layers.Call d) r s e = absurd (no_call d _ _ refl (inside constructs.Statement _ _ r s e))
+repeat_same m a x (layers.Call d) r s e = absurd (no_name_here d _ _ refl (inside constructs.Statement _ _ r s e))
 repeat_same m a x (layers.If g w q) r s e = absurd (other kinds.Repeat kinds.If _ _ refl refl (inside constructs.Statement _ _ r s e))
 repeat_same m a x (layers.Case u k w) r s e = absurd (other kinds.Repeat kinds.Case _ _ refl refl (inside constructs.Statement _ _ r s e))
 repeat_same m a x (layers.While g w) r s e = absurd (other kinds.Repeat kinds.While _ _ refl refl (inside constructs.Statement _ _ r s e))
@@ -224,7 +215,7 @@ repeat_same m a x (layers.For g) r s e = absurd (no_for g _ _ refl (inside const
 pub for_same : (b : Box For Global) → Reads for_piece for_outline never (for_piece b.value) (for_outline b.value) → (z : Layer) (r s : Out) → construct constructs.Statement (for_outline b.value) ++ r ≡ stmt_shown z ++ s → Sames (layers.For b) z r s
 for_same b x layers.Empty r s e = absurd (empty_unlike [] _ s r (sym e))
 for_same b x (layers.Assign d a) r s e = absurd (no_assign d _ _ _ (for_plain b.value _) (inside constructs.Statement _ _ r s e))
-for_same b x (layers.Call d) r s e = absurd (no_call d _ _ (for_plain b.value _) (inside constructs.Statement _ _ r s e))
+for_same b x (layers.Call d) r s e = absurd (no_name_here d _ _ (for_plain b.value _) (inside constructs.Statement _ _ r s e))
 for_same b x (layers.If f v o) r s e = absurd (no_for b _ _ refl (sym (inside constructs.Statement _ _ r s e)))
 for_same b x (layers.Case a c v) r s e = absurd (no_for b _ _ refl (sym (inside constructs.Statement _ _ r s e)))
 for_same b x (layers.While f v) r s e = absurd (no_for b _ _ refl (sym (inside constructs.Statement _ _ r s e)))
@@ -248,8 +239,8 @@ pub call_same : (b : Designator) (z : Layer) (r s : Out) → construct construct
 call_same b layers.Empty r s e = absurd (empty_unlike [] _ s r (sym e))
 call_same b (layers.Assign d a) r s e = absurd (apart d b _ _ _ (sym (inside constructs.Statement _ _ r s e)))
 call_same b (layers.Call d) r s e = let h = (r-held constructs.Statement (r-designator b) (λ q. refl)).same d r s refl refl e in (call_seen b ∙ ap call_told h.0 ∙ sym (call_seen d), h.1)
-call_same b (layers.If f v o) r s e = absurd (no_call b _ _ refl (sym (inside constructs.Statement _ _ r s e)))
-call_same b (layers.Case a c v) r s e = absurd (no_call b _ _ refl (sym (inside constructs.Statement _ _ r s e)))
-call_same b (layers.While f v) r s e = absurd (no_call b _ _ refl (sym (inside constructs.Statement _ _ r s e)))
-call_same b (layers.Repeat m a) r s e = absurd (no_call b _ _ refl (sym (inside constructs.Statement _ _ r s e)))
-call_same b (layers.For f) r s e = absurd (no_call b _ _ (for_plain f.value _) (sym (inside constructs.Statement _ _ r s e)))
+call_same b (layers.If f v o) r s e = absurd (no_name_here b _ _ refl (sym (inside constructs.Statement _ _ r s e)))
+call_same b (layers.Case a c v) r s e = absurd (no_name_here b _ _ refl (sym (inside constructs.Statement _ _ r s e)))
+call_same b (layers.While f v) r s e = absurd (no_name_here b _ _ refl (sym (inside constructs.Statement _ _ r s e)))
+call_same b (layers.Repeat m a) r s e = absurd (no_name_here b _ _ refl (sym (inside constructs.Statement _ _ r s e)))
+call_same b (layers.For f) r s e = absurd (no_name_here b _ _ (for_plain f.value _) (sym (inside constructs.Statement _ _ r s e)))

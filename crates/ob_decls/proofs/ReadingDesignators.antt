@@ -1,0 +1,203 @@
+-- What an element, a list, a designator and a selector tell is known from their outlines, if what their parts tell is.
+use Rattle.std.proofs.Common.{◌≡◌, ℕ, suc, ◌+◌, true, List, [], ◌∷◌, ◌++◌, length, map, Option, Some, None, refl, sym, ap, ◌∙◌}
+use Rattle.std.specs.declared.boxed.Box.{Box}
+use Rattle.std.specs.declared.alloc.Global.{Global}
+use Rattle.ob_scan.specs.declared.kind.Kind.TheVariants as kinds
+use Rattle.ob_tree.specs.declared.expression.Factor.TheShapes as shapes
+use Rattle.ob_tree.specs.declared.expression.Factor.TheOpen as layers
+use Rattle.ob_tree.specs.declared.expression.Factor.{Factor}
+use Rattle.ob_tree.specs.declared.expression.Selector.{Selector, Selector-F, roll-Selector, out-Selector, out-roll-Selector}
+use Rattle.ob_tree.specs.declared.expression.Designator.{Designator, Designator-F, fold_out-Designator, roll-Designator, out-Designator, out-roll-Designator}
+use Rattle.ob_tree.specs.declared.expression.Element.{Element, Element-F, fold_out-Element, roll-Element, out-Element, out-roll-Element}
+use Rattle.ob_tree.specs.declared.expression.ElementList.{ElementList, ElementList-F, fold_out-ElementList, roll-ElementList, out-ElementList, out-roll-ElementList}
+use Rattle.ob_tree.specs.declared.expression.Expr.{Expr}
+use Rattle.ob_tree.specs.declared.expression.ExprList.{ExprList, ExprList-F, fold_out-ExprList, roll-ExprList, out-ExprList, out-roll-ExprList}
+use Rattle.ob_tree.specs.declared.expression.Sum.{Sum}
+use Rattle.ob_tree.specs.declared.expression.Term.{Term}
+use Rattle.ob_tree.specs.declared.construct.Construct.TheVariants as constructs
+use Rattle.ob_tree.specs.Marks.{Out, Mark, construct, word, used, named, if_there, each}
+use Rattle.ob_tree.specs.Expressions.{selector_outline, element_outline, expr_outline, expr_list_outline}
+use Rattle.ob_tree.proofs.ExpressionLayers.{selector_shown, element_shown, element_list_shown, expr_list_shown, selector_out, designator_out, element_out, element_list_out, expr_out, expr_list_out}
+use Rattle.ob_tree.proofs.Closed.{With}
+use Rattle.ob_decls.specs.declared.rows.Step.TheVariants as steps_of
+use Rattle.ob_decls.specs.declared.rows.TypeName.{TypeName}
+use Rattle.ob_decls.specs.Parts.{Piece, token, both, tells}
+use Rattle.ob_decls.specs.Parts.{if_there as there, each as pieces}
+use Rattle.ob_decls.specs.Expressions.{Phrase, Listed, Selected, Denoted, each_after, if_alone, first_name, name_with, designator_row, its_selectors}
+use Rattle.ob_decls.specs.Expressions.{used as uses}
+use Rattle.ob_decls.specs.Expressions.{selected, denoted, element_piece, element_list_piece, expr_list_piece, expr_phrase, listed, factor_step, selector_step, designator_step, element_step, element_list_step, expr_step, expr_list_step, sum_step, term_step}
+use Rattle.ob_decls.proofs.ExpressionLayers as told
+use Rattle.ob_decls.proofs.Reading.{tail_is, Reads, never, on_word, on_any_word, on_construct, on_list, no_word, maybe, r-use, r-both, r-past, r-then, r-held, r-at, r-none, r-some, r-layer}
+use Rattle.ob_decls.proofs.ReadingLists.{r-map}
+use Rattle.ob_decls.proofs.ReadingExpressionParts.{HeldSelector, HeldDesignator, HeldElement, HeldElementList, HeldExpr, HeldExprList, WithSelector, selector_of, WithDesignator, designator_of, WithElement, element_of, WithElementList, element_list_of, WithExprList, expr_list_of}
+
+-- ---- elements and lists
+
+abbrev element_parts : Element-F Factor Selector Designator Element ElementList Expr ExprList Sum Term → Phrase × Option Phrase
+element_parts z = (expr_phrase z.low, maybe expr_phrase z.high)
+
+abbrev element_told : Phrase × Option Phrase → Piece
+element_told p = both p.0.piece (there (λ h. both token h.piece) p.1)
+
+high_seen : (o : Option Expr) → there (λ h. both token h.piece) ((shapes.former-Element-high).map Expr Phrase expr_phrase o) ≡ there (λ h. both token h.piece) (maybe expr_phrase o)
+high_seen None = refl
+high_seen (Some h) = refl
+
+element_tells : (e : Element) → element_piece e ≡ element_told (element_parts (out-Element e))
+unfolding element_piece expr_phrase
+element_tells e = fold_out-Element Phrase Selected Denoted Piece Piece Phrase Listed Phrase Phrase factor_step selector_step designator_step element_step element_list_step expr_step expr_list_step sum_step term_step e ∙ ap (λ (o : Piece). both (expr_phrase (out-Element e).low).piece o) (high_seen (out-Element e).high)
+
+abbrev high_shown : Option Expr → Out
+high_shown o = if_there (λ h. word kinds.DotDot ++ expr_outline h) o
+
+abbrev high_of : Option (With HeldExpr) → Option Expr
+high_of = (shapes.former-Element-high).map (With HeldExpr) Expr (λ e. e.0)
+
+high_held : (o : Option (With HeldExpr)) → Reads {Z = Element-F Factor Selector Designator Element ElementList Expr ExprList Sum Term} (λ z. maybe expr_phrase z.high) (λ z. high_shown z.high) on_any_word (maybe expr_phrase (high_of o)) (high_shown (high_of o))
+high_held None = r-none expr_phrase (λ h. word kinds.DotDot ++ expr_outline h) on_any_word (λ c s. refl) (λ z. z.high)
+high_held (Some e) = r-some (r-past kinds.DotDot e.1) (λ s i. refl) (λ s. refl) (λ z. z.high)
+
+element_held : (y : WithElement) → Reads element_parts (λ z. construct constructs.Element (element_shown z)) never (element_parts (element_of y)) (construct constructs.Element (element_shown (element_of y)))
+element_held y = r-held constructs.Element (r-both (r-at (λ z. z.low) y.low.1) (high_held y.high)) (λ s. refl)
+
+pub element_layer : (x : Element-F Factor Selector Designator Element ElementList Expr ExprList Sum Term) (y : WithElement) → element_of y ≡ x → HeldElement (roll-Element x)
+element_layer x y is = r-layer out-Element element_parts (λ z. construct constructs.Element (element_shown z)) element_told element_tells element_out (roll-Element x) (element_of y) (out-roll-Element x ∙ sym is) (element_held y)
+
+abbrev element_list_parts : ElementList-F Factor Selector Designator Element ElementList Expr ExprList Sum Term → Piece × List Piece
+element_list_parts z = (element_piece z.first, map element_piece z.rest.items)
+
+abbrev element_list_told : Piece × List Piece → Piece
+element_list_told p = both p.0 (each_after (λ e. e) p.1)
+
+element_list_tells : (l : ElementList) → element_list_piece l ≡ element_list_told (element_list_parts (out-ElementList l))
+unfolding element_list_piece element_piece
+element_list_tells l = fold_out-ElementList Phrase Selected Denoted Piece Piece Phrase Listed Phrase Phrase factor_step selector_step designator_step element_step element_list_step expr_step expr_list_step sum_step term_step l
+
+element_list_held : (y : WithElementList) → Reads element_list_parts element_list_shown (on_word kinds.Comma) (element_list_parts (element_list_of y)) (element_list_shown (element_list_of y))
+element_list_held y = r-both (r-at (λ z. z.first) y.first.1) (r-at (λ z. z.rest.items) (r-map element_piece (λ e. word kinds.Comma ++ element_outline e) never (on_word kinds.Comma) (λ p s. refl) (λ s i. refl) (λ p s. refl) _ y.rest.items (λ e. r-past kinds.Comma e.1)))
+
+pub element_list_layer : (x : ElementList-F Factor Selector Designator Element ElementList Expr ExprList Sum Term) (y : WithElementList) → element_list_of y ≡ x → HeldElementList (roll-ElementList x)
+element_list_layer x y is = r-layer out-ElementList element_list_parts element_list_shown element_list_told element_list_tells element_list_out (roll-ElementList x) (element_list_of y) (out-roll-ElementList x ∙ sym is) (element_list_held y)
+
+abbrev expr_list_parts : ExprList-F Factor Selector Designator Element ElementList Expr ExprList Sum Term → Phrase × List Phrase
+expr_list_parts z = (expr_phrase z.first, map expr_phrase z.rest.items)
+
+abbrev expr_list_told : Phrase × List Phrase → Listed
+expr_list_told p = record { piece = both p.0.piece (each_after (λ e. e.piece) p.1); count = suc (length p.1); name = if_alone p.1 p.0.name }
+
+expr_list_tells : (l : ExprList) → listed l ≡ expr_list_told (expr_list_parts (out-ExprList l))
+unfolding listed expr_phrase
+expr_list_tells l = fold_out-ExprList Phrase Selected Denoted Piece Piece Phrase Listed Phrase Phrase factor_step selector_step designator_step element_step element_list_step expr_step expr_list_step sum_step term_step l
+
+expr_list_held : (y : WithExprList) → Reads expr_list_parts expr_list_shown (on_word kinds.Comma) (expr_list_parts (expr_list_of y)) (expr_list_shown (expr_list_of y))
+expr_list_held y = r-both (r-at (λ z. z.first) y.first.1) (r-at (λ z. z.rest.items) (r-map expr_phrase (λ e. word kinds.Comma ++ expr_outline e) never (on_word kinds.Comma) (λ p s. refl) (λ s i. refl) (λ p s. refl) _ y.rest.items (λ e. r-past kinds.Comma e.1)))
+
+pub expr_list_layer : (x : ExprList-F Factor Selector Designator Element ElementList Expr ExprList Sum Term) (y : WithExprList) → expr_list_of y ≡ x → HeldExprList (roll-ExprList x)
+expr_list_layer x y is = r-layer out-ExprList expr_list_parts expr_list_shown expr_list_told expr_list_tells expr_list_out (roll-ExprList x) (expr_list_of y) (out-roll-ExprList x ∙ sym is) (expr_list_held y)
+
+-- ---- designators
+
+abbrev designator_parts : Designator-F Factor Selector Designator Element ElementList Expr ExprList Sum Term → ℕ × List Selected
+designator_parts z = (z.head, map selected z.selectors.items)
+
+abbrev designator_told : ℕ × List Selected → Denoted
+designator_told p = record {
+  piece = λ is_written. tells (designator_row is_written) (tells (its_selectors p.1) (both (uses (first_name p.1)) (pieces (λ s. s.piece) p.1)));
+  name = name_with p.1;
+}
+
+abbrev designator_shown : Designator-F Factor Selector Designator Element ElementList Expr ExprList Sum Term → Out
+designator_shown d = used d.head ++ each selector_outline d.selectors.items
+
+designator_tells : (d : Designator) → denoted d ≡ designator_told (designator_parts (out-Designator d))
+unfolding denoted selected
+designator_tells d = fold_out-Designator Phrase Selected Denoted Piece Piece Phrase Listed Phrase Phrase factor_step selector_step designator_step element_step element_list_step expr_step expr_list_step sum_step term_step d
+
+selector_begins : (x : Selector) (s : Out) → on_construct (selector_outline x ++ s) ≡ true
+unfolding construct
+selector_begins x s = ap (λ (o : Out). on_construct (o ++ s)) (selector_out x)
+
+designator_held : (y : WithDesignator) → Reads designator_parts (λ z. construct constructs.Designator (designator_shown z)) never (designator_parts (designator_of y)) (construct constructs.Designator (designator_shown (designator_of y)))
+designator_held y = r-held constructs.Designator (r-both (r-use (λ z. z.head) y.head) (r-at (λ z. z.selectors.items) (r-map selected selector_outline never on_construct selector_begins (λ s i. refl) (λ p s. refl) _ y.selectors.items (λ s. s.1)))) (λ s. refl)
+
+pub designator_layer : (x : Designator-F Factor Selector Designator Element ElementList Expr ExprList Sum Term) (y : WithDesignator) → designator_of y ≡ x → HeldDesignator (roll-Designator x)
+designator_layer x y is = r-layer out-Designator designator_parts (λ z. construct constructs.Designator (designator_shown z)) designator_told designator_tells designator_out (roll-Designator x) (designator_of y) (out-roll-Designator x ∙ sym is) (designator_held y)
+
+-- ---- selectors
+
+-- a list in parentheses, which may be empty
+
+abbrev list_shown : Option (Box ExprList Global) → Out
+list_shown o = if_there (λ l. expr_list_outline l.value) o
+
+abbrev list_parts : Option (Box ExprList Global) → Option Listed
+list_parts o = maybe (λ l. listed l.value) o
+
+abbrev inner_of : Option Listed → ℕ → Option TypeName
+inner_of None k = None
+inner_of (Some l) k = l.name (k + 1)
+
+abbrev arguments_told : Option Listed → Selected
+arguments_told o = record { name = None; step = λ k. steps_of.Arguments (inner_of o k); piece = both token (both (there (λ l. l.piece) o) token) }
+
+abbrev index_told : Listed → Selected
+index_told l = record { name = None; step = λ k. steps_of.Elements l.count; piece = both token (both l.piece token) }
+
+arguments_seen : (o : Option (Box ExprList Global)) → arguments_told (list_parts o) ≡ told.selector_shown (layers.Arguments o)
+unfolding expr_list_piece
+arguments_seen None = refl
+arguments_seen (Some l) = refl
+
+expr_list_begins : (l : ExprList) (s : Out) → on_list kinds.Comma (expr_list_outline l ++ s) ≡ true
+unfolding construct
+expr_list_begins l s =
+    ap (λ (o : Out). on_list kinds.Comma (o ++ s)) (expr_list_out l) ∙
+    ap (λ (o : Out). on_list kinds.Comma ((o ++ each (λ e. word kinds.Comma ++ expr_outline e) (out-ExprList l).rest.items) ++ s)) (expr_out (out-ExprList l).first)
+
+field_is : (m n : ℕ) (r s : Out) → (word kinds.Dot ++ named m) ++ r ≡ (word kinds.Dot ++ named n) ++ s → m ≡ n
+field_is m n r s e = cc
+
+field_tail : (m n : ℕ) (r s : Out) → (word kinds.Dot ++ named m) ++ r ≡ (word kinds.Dot ++ named n) ++ s → r ≡ s
+field_tail m n r s e = cc
+
+field_same : (m : ℕ) (z : Selector-F Factor Selector Designator Element ElementList Expr ExprList Sum Term) (r s : Out) → (word kinds.Dot ++ named m) ++ r ≡ selector_shown z ++ s → (told.selector_shown (layers.Field m) ≡ told.selector_shown z) × (r ≡ s)
+unfolding expr_list_piece
+field_same m (layers.Field n) r s e = (ap (λ (k : ℕ). told.selector_shown (layers.Field k)) (field_is m n r s e), field_tail m n r s e)
+field_same m (layers.Index l) r s e = absurd cc
+field_same m layers.Target r s e = absurd cc
+field_same m (layers.Arguments l) r s e = absurd cc
+
+index_same : (a : Listed) (o : Out) → Reads listed expr_list_outline (on_word kinds.Comma) a o → (z : Selector-F Factor Selector Designator Element ElementList Expr ExprList Sum Term) (r s : Out) → (word kinds.LeftBracket ++ (o ++ word kinds.RightBracket)) ++ r ≡ selector_shown z ++ s → (index_told a ≡ told.selector_shown z) × (r ≡ s)
+unfolding expr_list_piece
+index_same a o x (layers.Field n) r s e = absurd cc
+index_same a o x (layers.Index l) r s e = (let h = (r-past kinds.LeftBracket (r-then kinds.RightBracket (r-at (λ (b : Box ExprList Global). b.value) x) (λ s. refl))).same l r s refl refl e in (ap index_told h.0, h.1))
+index_same a o x layers.Target r s e = absurd cc
+index_same a o x (layers.Arguments l) r s e = absurd cc
+
+target_same : (z : Selector-F Factor Selector Designator Element ElementList Expr ExprList Sum Term) (r s : Out) → word kinds.Caret ++ r ≡ selector_shown z ++ s → (told.selector_shown layers.Target ≡ told.selector_shown z) × (r ≡ s)
+unfolding expr_list_piece
+target_same (layers.Field n) r s e = absurd cc
+target_same (layers.Index l) r s e = absurd cc
+target_same layers.Target r s e = (refl, tail_is _ _ r s e)
+target_same (layers.Arguments l) r s e = absurd cc
+
+arguments_same : (a : Option Listed) (o : Out) → Reads list_parts list_shown (on_list kinds.Comma) a o → (z : Selector-F Factor Selector Designator Element ElementList Expr ExprList Sum Term) (r s : Out) → (word kinds.LeftParen ++ (o ++ word kinds.RightParen)) ++ r ≡ selector_shown z ++ s → (arguments_told a ≡ told.selector_shown z) × (r ≡ s)
+unfolding expr_list_piece
+arguments_same a o x (layers.Field n) r s e = absurd cc
+arguments_same a o x (layers.Index l) r s e = absurd cc
+arguments_same a o x layers.Target r s e = absurd cc
+arguments_same a o x (layers.Arguments l) r s e = (let h = (r-past kinds.LeftParen (r-then kinds.RightParen x (λ s. refl))).same l r s refl refl e in (ap arguments_told h.0 ∙ arguments_seen l, h.1))
+
+selector_held : (y : WithSelector) → Reads told.selector_shown selector_shown never (told.selector_shown (selector_of y)) (selector_shown (selector_of y))
+unfolding expr_list_piece
+selector_held (layers.Field n) = record { same = λ z r s i j e. field_same n z r s e }
+selector_held (layers.Index l) = record { same = λ z r s i j e. index_same _ _ l.value.1 z r s e }
+selector_held layers.Target = record { same = λ z r s i j e. target_same z r s e }
+selector_held (layers.Arguments None) = record { same = λ z r s i j e. arguments_same None [] (r-none (λ l. listed l.value) (λ l. expr_list_outline l.value) (on_list kinds.Comma) (λ l s. expr_list_begins l.value s) (λ z. z)) z r s e }
+selector_held (layers.Arguments (Some l)) = record { same = λ z r s i j e. arguments_same _ _ (r-some (r-at (λ b. b.value) l.value.1) (λ s i. no_word kinds.Comma s i) (λ s. expr_list_begins l.value.0 s) (λ z. z)) z r s e }
+
+selector_tells : (x : Selector) → selected x ≡ told.selector_shown (out-Selector x)
+selector_tells x = told.selector_out x
+
+pub selector_layer : (x : Selector-F Factor Selector Designator Element ElementList Expr ExprList Sum Term) (y : WithSelector) → selector_of y ≡ x → HeldSelector (roll-Selector x)
+selector_layer x y is = r-layer out-Selector told.selector_shown (λ z. construct constructs.Selector (selector_shown z)) (λ a. a) selector_tells selector_out (roll-Selector x) (selector_of y) (out-roll-Selector x ∙ sym is) (r-held constructs.Selector (selector_held y) (λ s. refl))
