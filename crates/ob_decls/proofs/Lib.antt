@@ -24,3 +24,4 @@ pub mod ReadingFactors
 pub mod ReadingExpressions
 pub mod ReadingNames
 pub mod ReadingStatementForms
+pub mod ReadingStatements

@@ -1,0 +1,287 @@
+-- What a statement tells is known from its outline.
+use Rattle.std.proofs.Common.{◌≡◌, ℕ, Bool, true, false, List, [], ◌∷◌, ◌++◌, map, Option, Some, None, refl, sym, ap, ap₂, ◌∙◌, append_assoc}
+use Rattle.std.specs.Prelude.{Vec}
+use Rattle.std.specs.declared.boxed.Box.{Box}
+use Rattle.std.specs.declared.alloc.Global.{Global}
+use Rattle.ob_scan.specs.declared.kind.Kind.{Kind}
+use Rattle.ob_scan.specs.declared.kind.Kind.TheVariants as kinds
+use Rattle.ob_tree.specs.declared.name.OneOrMore.{OneOrMore}
+use Rattle.ob_tree.specs.declared.statement.LabelRange.{LabelRange}
+use Rattle.ob_tree.specs.declared.statement.Label.{Label}
+use Rattle.ob_tree.specs.declared.statement.Label.TheVariants as labels
+use Rattle.ob_tree.specs.declared.statement.Case.TheOpen as layers
+use Rattle.ob_tree.specs.declared.statement.Case.TheShapes as shapes
+use Rattle.ob_tree.specs.declared.statement.Case.{Case, Case-F, roll-Case, out-Case, out-roll-Case, map-Case}
+use Rattle.ob_tree.specs.declared.statement.Stmt.{Stmt, Stmt-F, roll-Stmt, out-Stmt, out-roll-Stmt, map-Stmt}
+use Rattle.ob_tree.specs.declared.statement.Block.{Block, Block-F, roll-Block, out-Block, out-roll-Block, ind-Block, map-Block}
+use Rattle.ob_tree.specs.declared.statement.Branch.{Branch, Branch-F, roll-Branch, out-Branch, out-roll-Branch, map-Branch}
+use Rattle.ob_tree.specs.declared.statement.For.{For, For-F, roll-For, out-For, out-roll-For, map-For}
+use Rattle.ob_tree.specs.declared.construct.Construct.TheVariants as constructs
+use Rattle.ob_tree.specs.Marks.{Out, Mark, Ends, Word, construct, word, used, if_there, each, each_after, listed}
+use Rattle.ob_tree.specs.Expressions.{expr_outline}
+use Rattle.ob_tree.specs.Statements.{label_outline, label_range_outline, case_outline, stmt_outline, block_outline, branch_outline, for_outline}
+use Rattle.ob_tree.specs.Names.{qualident_outline}
+use Rattle.ob_tree.proofs.StatementLayers.{case_shown, stmt_shown, block_shown, branch_shown, for_shown, case_out, stmt_out, block_out, branch_out, for_out}
+use Rattle.ob_tree.proofs.Closed.{With}
+use Rattle.ob_decls.specs.Parts.{Piece, token, both}
+use Rattle.ob_decls.specs.Parts.{if_there as there, each as pieces}
+use Rattle.ob_decls.specs.Expressions.{Phrase, expr_phrase, expr_piece}
+use Rattle.ob_decls.specs.Statements.{variable_piece, label_range_piece, case_piece, stmt_piece, block_piece, branch_piece, for_piece}
+use Rattle.ob_decls.proofs.StatementLayers as told
+use Rattle.ob_decls.proofs.Reading.{tail_is, Reads, never, on_word, maybe, clash, r-use, r-until, r-both, r-past, r-then, r-held, r-at, r-none, r-some, r-layer}
+use Rattle.ob_decls.proofs.ReadingLists.{r-there, r-map, r-each, there_told, each_told}
+use Rattle.ob_decls.proofs.ReadingNames.{on_words, dots, not_the_first, none_behind, r-range}
+use Rattle.ob_decls.proofs.ReadingExpressions.{r-expr}
+use Rattle.ob_decls.proofs.ReadingStatementForms.{inside, empty_same, assign_same, call_same, if_same, case_same, while_same, repeat_same, for_same}
+
+-- each part can be read
+
+abbrev HeldCase : Case → Type 0
+HeldCase t = Reads case_piece case_outline never (case_piece t) (case_outline t)
+
+abbrev HeldStmt : Stmt → Type 0
+HeldStmt t = Reads stmt_piece stmt_outline never (stmt_piece t) (stmt_outline t)
+
+abbrev HeldBlock : Block → Type 0
+HeldBlock t = Reads block_piece block_outline (on_word kinds.Semicolon) (block_piece t) (block_outline t)
+
+-- a branch with any word in it
+abbrev HeldBranch : Branch → Type 0
+HeldBranch t = (k : Kind) → Reads branch_piece (λ z. branch_outline z k) (on_word kinds.Semicolon) (branch_piece t) (branch_outline t k)
+
+abbrev HeldFor : For → Type 0
+HeldFor t = Reads for_piece for_outline never (for_piece t) (for_outline t)
+
+-- a layer whose parts can be read, and the layer itself
+
+abbrev WithCase : Type 0
+WithCase = Case-F (With HeldCase) (With HeldStmt) (With HeldBlock) (With HeldBranch) (With HeldFor)
+
+abbrev case_of : WithCase → Case-F Case Stmt Block Branch For
+case_of = map-Case (With HeldCase) (With HeldStmt) (With HeldBlock) (With HeldBranch) (With HeldFor) Case Stmt Block Branch For (λ e. e.0) (λ e. e.0) (λ e. e.0) (λ e. e.0) (λ e. e.0)
+
+abbrev WithStmt : Type 0
+WithStmt = Stmt-F (With HeldCase) (With HeldStmt) (With HeldBlock) (With HeldBranch) (With HeldFor)
+
+abbrev stmt_of : WithStmt → Stmt-F Case Stmt Block Branch For
+stmt_of = map-Stmt (With HeldCase) (With HeldStmt) (With HeldBlock) (With HeldBranch) (With HeldFor) Case Stmt Block Branch For (λ e. e.0) (λ e. e.0) (λ e. e.0) (λ e. e.0) (λ e. e.0)
+
+abbrev WithBlock : Type 0
+WithBlock = Block-F (With HeldCase) (With HeldStmt) (With HeldBlock) (With HeldBranch) (With HeldFor)
+
+abbrev block_of : WithBlock → Block-F Case Stmt Block Branch For
+block_of = map-Block (With HeldCase) (With HeldStmt) (With HeldBlock) (With HeldBranch) (With HeldFor) Case Stmt Block Branch For (λ e. e.0) (λ e. e.0) (λ e. e.0) (λ e. e.0) (λ e. e.0)
+
+abbrev WithBranch : Type 0
+WithBranch = Branch-F (With HeldCase) (With HeldStmt) (With HeldBlock) (With HeldBranch) (With HeldFor)
+
+abbrev branch_of : WithBranch → Branch-F Case Stmt Block Branch For
+branch_of = map-Branch (With HeldCase) (With HeldStmt) (With HeldBlock) (With HeldBranch) (With HeldFor) Case Stmt Block Branch For (λ e. e.0) (λ e. e.0) (λ e. e.0) (λ e. e.0) (λ e. e.0)
+
+abbrev WithFor : Type 0
+WithFor = For-F (With HeldCase) (With HeldStmt) (With HeldBlock) (With HeldBranch) (With HeldFor)
+
+abbrev for_of : WithFor → For-F Case Stmt Block Branch For
+for_of = map-For (With HeldCase) (With HeldStmt) (With HeldBlock) (With HeldBranch) (With HeldFor) Case Stmt Block Branch For (λ e. e.0) (λ e. e.0) (λ e. e.0) (λ e. e.0) (λ e. e.0)
+
+-- the parts behind boxes and in lists
+
+abbrev block_in : Box (With HeldBlock) Global → Box Block Global
+block_in = (shapes.former-Case-Labelled-1).map (With HeldBlock) Block (λ e. e.0)
+
+abbrev branch_in : Box (With HeldBranch) Global → Box Branch Global
+branch_in = (shapes.former-Stmt-If-0).map (With HeldBranch) Branch (λ e. e.0)
+
+abbrev branches_in : Vec (With HeldBranch) Global → Vec Branch Global
+branches_in = (shapes.former-Stmt-If-1).map (With HeldBranch) Branch (λ e. e.0)
+
+abbrev case_in : Box (With HeldCase) Global → Box Case Global
+case_in = (shapes.former-Stmt-Case-1).map (With HeldCase) Case (λ e. e.0)
+
+abbrev cases_in : Vec (With HeldCase) Global → Vec Case Global
+cases_in = (shapes.former-Stmt-Case-2).map (With HeldCase) Case (λ e. e.0)
+
+abbrev for_in : Box (With HeldFor) Global → Box For Global
+for_in = (shapes.former-Stmt-For-0).map (With HeldFor) For (λ e. e.0)
+
+-- ---- cases
+
+abbrev Labelled : Type 0
+Labelled = OneOrMore LabelRange × Box Block Global
+
+abbrev labelled_parts : Labelled → (Piece × List Piece) × Piece
+labelled_parts z = ((label_range_piece z.0.first, map label_range_piece z.0.rest.items), block_piece z.1.value)
+
+abbrev labelled_outline : Labelled → Out
+labelled_outline z = listed kinds.Comma label_range_outline z.0 ++ (word kinds.Colon ++ block_outline z.1.value)
+
+abbrev labelled_told : (Piece × List Piece) × Piece → Piece
+labelled_told p = both p.0.0 (both (pieces (λ r. both token r) p.0.1) (both token p.1))
+
+labelled_seen : (z : Labelled) → told.case_shown (layers.Labelled z.0 z.1) ≡ labelled_told (labelled_parts z)
+labelled_seen z = ap (λ (o : Piece). both (label_range_piece z.0.first) (both o (both token (block_piece z.1.value)))) (each_told label_range_piece (λ r. both token r) z.0.rest.items)
+
+range_ends : (rs : List LabelRange) (s : Out) → on_words (kinds.Comma ∷ dots) s ≡ false → on_words dots (each_after kinds.Comma label_range_outline rs ++ s) ≡ false
+range_ends [] s i = none_behind kinds.Comma dots s i
+range_ends (r ∷ rs) s i = refl
+
+abbrev ranges_parts : OneOrMore LabelRange → Piece × List Piece
+ranges_parts l = (label_range_piece l.first, map label_range_piece l.rest.items)
+
+abbrev ranges_outline : OneOrMore LabelRange → Out
+ranges_outline l = listed kinds.Comma label_range_outline l
+
+ranges_held : (l : OneOrMore LabelRange) → Reads ranges_parts ranges_outline (on_words (kinds.Comma ∷ dots)) (ranges_parts l) (ranges_outline l)
+ranges_held l = r-until (r-at (λ z. z.first) (r-range l.first)) (λ s i. range_ends l.rest.items s i) (λ z s i. range_ends z.rest.items s i)
+    (r-at (λ z. z.rest.items) (r-each label_range_piece (λ r. word kinds.Comma ++ label_range_outline r) (on_words dots) (on_words (kinds.Comma ∷ dots)) (λ r s. refl) (λ s i. none_behind kinds.Comma dots s i) (λ r s. refl) l.rest.items (λ r. r-past kinds.Comma (r-range r))))
+
+-- a label is no end
+label_there : (l : Label) (o p s : Out) → (label_outline l ++ o) ++ p ≡ Ends constructs.Case ∷ s → ⊥
+unfolding label_outline qualident_outline
+label_there (labels.Integer n) o p s e = cc
+label_there (labels.Text n) o p s e = cc
+label_there (labels.Name q) o p s e = cc
+
+range_there : (r : LabelRange) (o p s : Out) → (label_range_outline r ++ o) ++ p ≡ Ends constructs.Case ∷ s → ⊥
+unfolding label_range_outline
+range_there r o p s e = label_there r.low _ (o ++ p) s (sym (append_assoc (label_outline r.low ++ if_there (λ l. word kinds.DotDot ++ label_outline l) r.high) o p) ∙ e)
+
+labelled_there : (z : Labelled) (r s : Out) → labelled_outline z ++ r ≡ Ends constructs.Case ∷ s → ⊥
+labelled_there z r s e = range_there z.0.first _ _ s (sym (append_assoc (listed kinds.Comma label_range_outline z.0) (word kinds.Colon ++ block_outline z.1.value) r) ∙ e)
+
+none_same : (z : Case-F Case Stmt Block Branch For) (r s : Out) → Ends constructs.Case ∷ r ≡ case_shown z ++ Ends constructs.Case ∷ s → (told.case_shown layers.Nothing ≡ told.case_shown z) × (r ≡ s)
+none_same layers.Nothing r s e = (refl, tail_is _ _ r s e)
+none_same (layers.Labelled l b) r s e = absurd (labelled_there (l, b) _ r (sym e))
+
+labelled_same : (m : OneOrMore LabelRange) (b : Box Block Global) → Reads labelled_parts labelled_outline (on_word kinds.Semicolon) (labelled_parts (m, b)) (labelled_outline (m, b)) →
+    (z : Case-F Case Stmt Block Branch For) (r s : Out) → labelled_outline (m, b) ++ Ends constructs.Case ∷ r ≡ case_shown z ++ Ends constructs.Case ∷ s → (told.case_shown (layers.Labelled m b) ≡ told.case_shown z) × (r ≡ s)
+labelled_same m b x layers.Nothing r s e = absurd (labelled_there (m, b) _ s e)
+labelled_same m b x (layers.Labelled l c) r s e = let h = x.same (l, c) (Ends constructs.Case ∷ r) (Ends constructs.Case ∷ s) refl refl e in (labelled_seen (m, b) ∙ ap labelled_told h.0 ∙ sym (labelled_seen (l, c)), tail_is _ _ r s h.1)
+
+case_inside : (y : WithCase) (z : Case-F Case Stmt Block Branch For) (r s : Out) → case_shown (case_of y) ++ Ends constructs.Case ∷ r ≡ case_shown z ++ Ends constructs.Case ∷ s → (told.case_shown (case_of y) ≡ told.case_shown z) × (r ≡ s)
+case_inside layers.Nothing z r s e = none_same z r s e
+case_inside (layers.Labelled l b) z r s e = labelled_same l (block_in b) (r-until (r-at (λ q. q.0) (ranges_held l)) (λ p i. refl) (λ q p i. refl) (r-past kinds.Colon (r-at (λ q. q.1.value) b.value.1))) z r s e
+
+case_held : (y : WithCase) → Reads told.case_shown (λ z. construct constructs.Case (case_shown z)) never (told.case_shown (case_of y)) (construct constructs.Case (case_shown (case_of y)))
+case_held y = record { same = λ z r s i j e. case_inside y z r s (inside constructs.Case _ _ r s e) }
+
+case_layer : (x : Case-F Case Stmt Block Branch For) (y : WithCase) → case_of y ≡ x → HeldCase (roll-Case x)
+case_layer x y is = r-layer out-Case told.case_shown (λ z. construct constructs.Case (case_shown z)) (λ a. a) told.case_told case_out (roll-Case x) (case_of y) (out-roll-Case x ∙ sym is) (case_held y)
+
+-- ---- statements
+
+-- what stands behind a block or a branch: no semicolon
+abbrev ends_if : List Kind
+ends_if = kinds.Elsif ∷ kinds.Semicolon ∷ []
+
+abbrev ends_else : List Kind
+ends_else = kinds.Else ∷ kinds.Semicolon ∷ []
+
+no_semicolon : (k : Kind) (s : Out) → on_words (k ∷ kinds.Semicolon ∷ []) s ≡ false → on_word kinds.Semicolon s ≡ false
+no_semicolon k s i = not_the_first kinds.Semicolon [] s (none_behind k (kinds.Semicolon ∷ []) s i)
+
+abbrev else_outline : Option (Box Block Global) → Out
+else_outline o = if_there (λ b. word kinds.Else ++ block_outline b.value) o
+
+abbrev else_of : Option (Box (With HeldBlock) Global) → Option (Box Block Global)
+else_of = (shapes.former-Stmt-If-2).map (With HeldBlock) Block (λ e. e.0)
+
+else_held : (o : Option (Box (With HeldBlock) Global)) →
+    Reads {Z = Option (Box Block Global)} (λ z. maybe (λ b. block_piece b.value) z) else_outline (on_words ends_else) (maybe (λ b. block_piece b.value) (else_of o)) (else_outline (else_of o))
+else_held None = r-none (λ b. block_piece b.value) (λ b. word kinds.Else ++ block_outline b.value) (on_words ends_else) (λ b s. refl) (λ z. z)
+else_held (Some b) = r-some (r-past kinds.Else (r-at (λ c. c.value) b.value.1)) (λ s i. no_semicolon kinds.Else s i) (λ s. refl) (λ z. z)
+
+abbrev branches_outline : Kind → List Branch → Out
+branches_outline k bs = each (λ b. word kinds.Elsif ++ branch_outline b k) bs
+
+branches_held : {X : Type 0} (k : Kind) (h : X → Branch) (xs : List X) → ((x : X) → HeldBranch (h x)) →
+    Reads (map branch_piece) (branches_outline k) (on_words ends_if) (map branch_piece (map h xs)) (branches_outline k (map h xs))
+branches_held k h xs w = r-map branch_piece (λ b. word kinds.Elsif ++ branch_outline b k) (on_word kinds.Semicolon) (on_words ends_if) (λ b s. refl) (λ s i. no_semicolon kinds.Elsif s i) (λ b s. refl) h xs (λ x. r-past kinds.Elsif (w x k))
+
+behind_branches : (o : Option (Box Block Global)) (s : Out) → on_words ends_if ((else_outline o ++ word kinds.End) ++ s) ≡ false
+behind_branches None s = refl
+behind_branches (Some b) s = refl
+
+behind_branch : (k : Kind) (bs : List Branch) (o : Option (Box Block Global)) (s : Out) → on_word kinds.Semicolon ((branches_outline k bs ++ (else_outline o ++ word kinds.End)) ++ s) ≡ false
+behind_branch k [] None s = refl
+behind_branch k [] (Some b) s = refl
+behind_branch k (b ∷ bs) o s = refl
+
+behind_while : (k : Kind) (bs : List Branch) (s : Out) → on_word kinds.Semicolon ((branches_outline k bs ++ word kinds.End) ++ s) ≡ false
+behind_while k [] s = refl
+behind_while k (b ∷ bs) s = refl
+
+stmt_held : (y : WithStmt) → Reads told.stmt_shown stmt_shown never (told.stmt_shown (stmt_of y)) (stmt_shown (stmt_of y))
+stmt_held layers.Empty = record { same = λ z r s i j e. empty_same z r s e }
+stmt_held (layers.Assign d a) = record { same = λ z r s i j e. assign_same (d, a) z r s e }
+stmt_held (layers.Call d) = record { same = λ z r s i j e. call_same d z r s e }
+stmt_held (layers.If f v o) = record { same = λ z r s i j e. if_same (branch_in f) (branches_in v) (else_of o) (r-past kinds.If (r-until (r-at (λ q. q.0.value) (f.value.1 kinds.Then)) (λ s i. behind_branch kinds.Then (branches_in v).items (else_of o) s) (λ q s i. behind_branch kinds.Then q.1.0.items q.1.1 s)
+    (r-until (r-at (λ q. q.1.0.items) (branches_held kinds.Then _ v.items (λ b. b.1))) (λ s i. behind_branches (else_of o) s) (λ q s i. behind_branches q.1.1 s)
+    (r-then kinds.End (r-at (λ q. q.1.1) (else_held o)) (λ s. refl))))) z r s e }
+stmt_held (layers.Case a c v) = record { same = λ z r s i j e. case_same a (case_in c) (cases_in v) (r-past kinds.Case (r-both (r-at (λ q. q.0) (r-expr a)) (r-past kinds.Of (r-both (r-at (λ q. q.1.0.value) c.value.1)
+    (r-then kinds.End (r-at (λ q. q.1.1.items) (r-map case_piece (λ c. word kinds.Bar ++ case_outline c) never (on_word kinds.Bar) (λ c s. refl) (λ s i. refl) (λ c s. refl) _ v.items (λ c. r-past kinds.Bar c.1))) (λ s. refl)))))) z r s e }
+stmt_held (layers.While f v) = record { same = λ z r s i j e. while_same (branch_in f) (branches_in v) (r-past kinds.While (r-until (r-at (λ q. q.0.value) (f.value.1 kinds.Do)) (λ s i. behind_while kinds.Do (branches_in v).items s) (λ q s i. behind_while kinds.Do q.1.items s)
+    (r-then kinds.End (r-at (λ q. q.1.items) (branches_held kinds.Do _ v.items (λ b. b.1))) (λ s. refl)))) z r s e }
+stmt_held (layers.Repeat b a) = record { same = λ z r s i j e. repeat_same (block_in b) a (r-past kinds.Repeat (r-until (r-at (λ q. q.0.value) b.value.1) (λ s i. refl) (λ q s i. refl) (r-past kinds.Until (r-at (λ q. q.1) (r-expr a))))) z r s e }
+stmt_held (layers.For f) = record { same = λ z r s i j e. for_same (for_in f) f.value.1 z r s e }
+
+stmt_layer : (x : Stmt-F Case Stmt Block Branch For) (y : WithStmt) → stmt_of y ≡ x → HeldStmt (roll-Stmt x)
+stmt_layer x y is = r-layer out-Stmt told.stmt_shown stmt_shown (λ a. a) told.stmt_told stmt_out (roll-Stmt x) (stmt_of y) (out-roll-Stmt x ∙ sym is) (stmt_held y)
+
+-- ---- blocks, branches and FOR
+
+abbrev block_parts : Block-F Case Stmt Block Branch For → Piece × List Piece
+block_parts z = (stmt_piece z.first, map stmt_piece z.rest.items)
+
+abbrev block_told : Piece × List Piece → Piece
+block_told p = both p.0 (pieces (λ s. both token s) p.1)
+
+block_tells : (b : Block) → block_piece b ≡ block_told (block_parts (out-Block b))
+block_tells b = told.block_out b ∙ ap (λ (o : Piece). both (stmt_piece (out-Block b).first) o) (each_told stmt_piece (λ s. both token s) (out-Block b).rest.items)
+
+block_held : (y : WithBlock) → Reads block_parts block_shown (on_word kinds.Semicolon) (block_parts (block_of y)) (block_shown (block_of y))
+block_held y = r-both (r-at (λ z. z.first) y.first.1) (r-at (λ z. z.rest.items) (r-map stmt_piece (λ s. word kinds.Semicolon ++ stmt_outline s) never (on_word kinds.Semicolon) (λ p s. refl) (λ s i. refl) (λ p s. refl) _ y.rest.items (λ s. r-past kinds.Semicolon s.1)))
+
+block_layer : (x : Block-F Case Stmt Block Branch For) (y : WithBlock) → block_of y ≡ x → HeldBlock (roll-Block x)
+block_layer x y is = r-layer out-Block block_parts block_shown block_told block_tells block_out (roll-Block x) (block_of y) (out-roll-Block x ∙ sym is) (block_held y)
+
+abbrev branch_parts : Branch-F Case Stmt Block Branch For → Phrase × Piece
+branch_parts z = (expr_phrase z.condition, block_piece z.body)
+
+abbrev branch_told : Phrase × Piece → Piece
+branch_told p = both p.0.piece (both token p.1)
+
+branch_tells : (b : Branch) → branch_piece b ≡ branch_told (branch_parts (out-Branch b))
+unfolding expr_piece
+branch_tells b = told.branch_out b
+
+branch_held : (y : WithBranch) (k : Kind) → Reads branch_parts (λ z. branch_shown z k) (on_word kinds.Semicolon) (branch_parts (branch_of y)) (branch_shown (branch_of y) k)
+branch_held y k = r-both (r-at (λ z. z.condition) (r-expr y.condition)) (r-past k (r-at (λ z. z.body) y.body.1))
+
+branch_layer : (x : Branch-F Case Stmt Block Branch For) (y : WithBranch) → branch_of y ≡ x → HeldBranch (roll-Branch x)
+branch_layer x y is k = r-layer out-Branch branch_parts (λ z. branch_shown z k) branch_told branch_tells (λ b. branch_out b k) (roll-Branch x) (branch_of y) (out-roll-Branch x ∙ sym is) (branch_held y k)
+
+abbrev for_parts : For-F Case Stmt Block Branch For → ℕ × (Phrase × (Phrase × (Option Phrase × Piece)))
+for_parts z = (z.variable, (expr_phrase z.from, (expr_phrase z.to, (maybe expr_phrase z.by, block_piece z.body))))
+
+abbrev for_told : ℕ × (Phrase × (Phrase × (Option Phrase × Piece))) → Piece
+for_told p = both token (both variable_piece (both token (both p.1.0.piece (both token (both p.1.1.0.piece
+    (both (there (λ e. both token e.piece) p.1.1.1.0) (both token (both p.1.1.1.1 token))))))))
+
+for_tells : (f : For) → for_piece f ≡ for_told (for_parts (out-For f))
+unfolding expr_piece
+for_tells f = told.for_out f ∙ ap (λ (o : Piece). both token (both variable_piece (both token (both (expr_phrase (out-For f).from).piece (both token (both (expr_phrase (out-For f).to).piece
+    (both o (both token (both (block_piece (out-For f).body) token))))))))) (there_told expr_phrase (λ e. both token e.piece) (out-For f).by)
+
+for_held : (y : WithFor) → Reads for_parts for_shown never (for_parts (for_of y)) (for_shown (for_of y))
+for_held y = r-past kinds.For (r-both (r-use (λ z. z.variable) y.variable) (r-past kinds.Assign (r-both (r-at (λ z. z.from) (r-expr y.from)) (r-past kinds.To (r-both (r-at (λ z. z.to) (r-expr y.to))
+    (r-until (r-there {f = expr_phrase} {g = λ e. word kinds.By ++ expr_outline e} {part = never} (on_word kinds.By) (λ z. z.by) y.by (λ e. r-past kinds.By (r-expr e)) (λ s i. refl) (λ e s. refl)) (λ s i. refl) (λ z s i. refl)
+    (r-past kinds.Do (r-then kinds.End (r-at (λ z. z.body) y.body.1) (λ s. refl)))))))))
+
+for_layer : (x : For-F Case Stmt Block Branch For) (y : WithFor) → for_of y ≡ x → HeldFor (roll-For x)
+for_layer x y is = r-layer out-For for_parts for_shown for_told for_tells for_out (roll-For x) (for_of y) (out-roll-For x ∙ sym is) (for_held y)
+
+-- ---- every tree can be read
+
+pub r-block : (b : Block) → Reads block_piece block_outline (on_word kinds.Semicolon) (block_piece b) (block_outline b)
+r-block = ind-Block HeldCase HeldStmt HeldBlock HeldBranch HeldFor case_layer stmt_layer block_layer branch_layer for_layer
