@@ -25,3 +25,8 @@ pub mod ReadingExpressions
 pub mod ReadingNames
 pub mod ReadingStatementForms
 pub mod ReadingStatements
+pub mod ReadingParameters
+pub mod ReadingTypes
+pub mod ReadingSections
+pub mod ReadingDeclarations
+pub mod ReadingModules

@@ -24,3 +24,8 @@ pub fn identifiers()
     ensures own { (ks : List Kind) (m : Module) → Derives ks m → slice_get ks own_name ≡ Some kinds.Ident }
     ensures name { (ks : List Kind) (m : Module) → Derives ks m → m.name ≡ own_name }
 {}
+
+/// Trees with one outline have one table.
+pub fn one_table()
+    ensures { (m n : Module) → module_outline m ≡ module_outline n → rows_of m ≡ rows_of n }
+{}

@@ -1,0 +1,171 @@
+-- What declarations tell is known from their outlines.
+use Rattle.std.proofs.Common.{◌≡◌, ℕ, Bool, true, false, List, [], ◌∷◌, ◌++◌, map, Option, Some, None, refl, sym, ap, ap₂, ◌∙◌}
+use Rattle.std.specs.declared.boxed.Box.{Box}
+use Rattle.std.specs.declared.alloc.Global.{Global}
+use Rattle.ob_scan.specs.declared.kind.Kind.{Kind}
+use Rattle.ob_scan.specs.declared.kind.Kind.TheVariants as kinds
+use Rattle.ob_tree.specs.declared.name.Identdef.{Identdef}
+use Rattle.ob_tree.specs.declared.expression.Expr.{Expr}
+use Rattle.ob_tree.specs.declared.statement.Block.{Block}
+use Rattle.ob_tree.specs.declared.declaration.Parameters.{Parameters}
+use Rattle.ob_tree.specs.declared.declaration.Declarations.{Declarations, Declarations-F, roll-Declarations, out-Declarations, out-roll-Declarations, ind-Declarations, map-Declarations}
+use Rattle.ob_tree.specs.declared.declaration.ProcDecl.{ProcDecl, ProcDecl-F, roll-ProcDecl, out-ProcDecl, out-roll-ProcDecl, map-ProcDecl}
+use Rattle.ob_tree.specs.declared.construct.Construct.TheVariants as constructs
+use Rattle.ob_tree.specs.Marks.{Out, Mark, construct, word, repeated, if_there}
+use Rattle.ob_tree.specs.Expressions.{expr_outline}
+use Rattle.ob_tree.specs.Statements.{block_outline}
+use Rattle.ob_tree.specs.Types.{parameters_outline}
+use Rattle.ob_tree.specs.Declaring.{const_outline, type_decl_outline, variable_outline, declarations_outline, procedure_outline}
+use Rattle.ob_tree.proofs.DeclarationLayers.{declarations_shown, procedure_shown, declarations_out, procedure_out}
+use Rattle.ob_tree.proofs.Closed.{With}
+use Rattle.ob_decls.specs.declared.rows.Sort.TheVariants as sorts
+use Rattle.ob_decls.specs.Parts.{Piece, token, both, tells, declaring, opening}
+use Rattle.ob_decls.specs.Parts.{if_there as there, each as pieces}
+use Rattle.ob_decls.specs.Expressions.{Phrase, expr_piece, expr_phrase}
+use Rattle.ob_decls.specs.Statements.{block_piece}
+use Rattle.ob_decls.specs.Types.{identdef_piece, parameters_piece}
+use Rattle.ob_decls.specs.Declaring.{procedure_end, const_piece, type_decl_piece, variable_piece, declarations_piece, procedure_piece}
+use Rattle.ob_decls.proofs.DeclarationLayers as told
+use Rattle.ob_decls.proofs.Reading.{Reads, never, on_word, maybe, r-until, r-past, r-then, r-held, r-at, r-layer}
+use Rattle.ob_decls.proofs.ReadingLists.{r-there, r-map, each_told, there_told}
+use Rattle.ob_decls.proofs.ReadingNames.{on_words, not_the_first, none_behind}
+use Rattle.ob_decls.proofs.ReadingExpressions.{r-expr}
+use Rattle.ob_decls.proofs.ReadingStatements.{r-block}
+use Rattle.ob_decls.proofs.ReadingParameters.{r-identdef, r-heading}
+use Rattle.ob_decls.proofs.ReadingSections.{r-const, r-type_decl, r-variable, on_section, list_ends, no_construct, no_const, no_type, no_var, procedures_shown, variables_shown, types_shown, before_procedures, before_variables, before_types, r-list, const_begins, type_decl_begins, variable_begins, section_told, section_seen, on_declarations}
+
+-- ---- declarations
+
+abbrev HeldDeclarations : Declarations → Type 0
+HeldDeclarations x = Reads declarations_piece declarations_outline on_declarations (declarations_piece x) (declarations_outline x)
+
+abbrev HeldProcDecl : ProcDecl → Type 0
+HeldProcDecl x = Reads procedure_piece procedure_outline never (procedure_piece x) (procedure_outline x)
+
+abbrev WithDeclarations : Type 0
+WithDeclarations = Declarations-F (With HeldDeclarations) (With HeldProcDecl)
+
+abbrev declarations_of : WithDeclarations → Declarations-F Declarations ProcDecl
+declarations_of = map-Declarations (With HeldDeclarations) (With HeldProcDecl) Declarations ProcDecl (λ e. e.0) (λ e. e.0)
+
+abbrev WithProcDecl : Type 0
+WithProcDecl = ProcDecl-F (With HeldDeclarations) (With HeldProcDecl)
+
+abbrev procedure_of : WithProcDecl → ProcDecl-F Declarations ProcDecl
+procedure_of = map-ProcDecl (With HeldDeclarations) (With HeldProcDecl) Declarations ProcDecl (λ e. e.0) (λ e. e.0)
+
+abbrev Sections : Type 0
+Sections = Option (List Piece) × (Option (List Piece) × (Option (List Piece) × List Piece))
+
+abbrev declarations_parts : Declarations-F Declarations ProcDecl → Sections
+declarations_parts z = (maybe (λ v. map const_piece v.items) z.constants, (maybe (λ v. map type_decl_piece v.items) z.types, (maybe (λ v. map variable_piece v.items) z.variables, map procedure_piece z.procedures.items)))
+
+abbrev declarations_told : Sections → Piece
+declarations_told p = both (there section_told p.0) (both (there section_told p.1.0) (both (there section_told p.1.1.0) (pieces (λ x. both x token) p.1.1.1)))
+
+declarations_tells : (d : Declarations) → declarations_piece d ≡ declarations_told (declarations_parts (out-Declarations d))
+declarations_tells d = told.declarations_out d ∙
+    ap₂ (λ (a : Piece) (b : Piece). both a b) (section_seen const_piece (out-Declarations d).constants)
+    (ap₂ (λ (a : Piece) (b : Piece). both a b) (section_seen type_decl_piece (out-Declarations d).types)
+    (ap₂ (λ (a : Piece) (b : Piece). both a b) (section_seen variable_piece (out-Declarations d).variables)
+    (each_told procedure_piece (λ x. both x token) (out-Declarations d).procedures.items)))
+
+procedure_begins : (p : ProcDecl) (s : Out) → on_declarations ((procedure_outline p ++ word kinds.Semicolon) ++ s) ≡ true
+unfolding construct
+procedure_begins p s = ap (λ (o : Out). on_declarations ((o ++ word kinds.Semicolon) ++ s)) (procedure_out p)
+
+consts_end : (z : Declarations-F Declarations ProcDecl) (s : Out) → on_declarations s ≡ false → on_section kinds.Const ((types_shown z.types ++ (variables_shown z.variables ++ procedures_shown z.procedures.items)) ++ s) ≡ false
+consts_end z s i = before_types kinds.Const z.types z.variables z.procedures.items s refl refl (no_const s i) (no_construct s i)
+
+types_end : (z : Declarations-F Declarations ProcDecl) (s : Out) → on_declarations s ≡ false → on_section kinds.Type ((variables_shown z.variables ++ procedures_shown z.procedures.items) ++ s) ≡ false
+types_end z s i = before_variables kinds.Type z.variables z.procedures.items s refl (no_type s i) (no_construct s i)
+
+variables_end : (z : Declarations-F Declarations ProcDecl) (s : Out) → on_declarations s ≡ false → on_section kinds.Var (procedures_shown z.procedures.items ++ s) ≡ false
+variables_end z s i = before_procedures kinds.Var z.procedures.items s (no_var s i) (no_construct s i)
+
+declarations_held : (y : WithDeclarations) → Reads declarations_parts declarations_shown on_declarations (declarations_parts (declarations_of y)) (declarations_shown (declarations_of y))
+declarations_held y =
+    r-until (r-there (on_section kinds.Const) (λ z. z.constants) y.constants (r-list const_piece const_outline kinds.Const r-const const_begins) (list_ends kinds.Const) (λ v s. refl)) (λ s i. consts_end (declarations_of y) s i) (λ z s i. consts_end z s i)
+    (r-until (r-there (on_section kinds.Type) (λ z. z.types) y.types (r-list type_decl_piece type_decl_outline kinds.Type r-type_decl type_decl_begins) (list_ends kinds.Type) (λ v s. refl)) (λ s i. types_end (declarations_of y) s i) (λ z s i. types_end z s i)
+    (r-until (r-there (on_section kinds.Var) (λ z. z.variables) y.variables (r-list variable_piece variable_outline kinds.Var r-variable variable_begins) (list_ends kinds.Var) (λ v s. refl)) (λ s i. variables_end (declarations_of y) s i) (λ z s i. variables_end z s i)
+    (r-at (λ z. z.procedures.items) (r-map procedure_piece (λ p. procedure_outline p ++ word kinds.Semicolon) never on_declarations procedure_begins (λ s i. refl) (λ p s. refl) _ y.procedures.items (λ p. r-then kinds.Semicolon p.1 (λ s. refl))))))
+
+declarations_layer : (x : Declarations-F Declarations ProcDecl) (y : WithDeclarations) → declarations_of y ≡ x → HeldDeclarations (roll-Declarations x)
+declarations_layer x y is = r-layer out-Declarations declarations_parts declarations_shown declarations_told declarations_tells declarations_out (roll-Declarations x) (declarations_of y) (out-roll-Declarations x ∙ sym is) (declarations_held y)
+
+-- ---- procedures
+
+abbrev Heading : Type 0
+Heading = Identdef × (Option Piece × (Piece × (Option Piece × (Option Phrase × Bool))))
+
+abbrev procedure_parts : ProcDecl-F Declarations ProcDecl → Heading
+procedure_parts z = (z.name, (maybe parameters_piece z.parameters, (declarations_piece z.declarations, (maybe (λ b. block_piece b.value) z.body, (maybe (λ e. expr_phrase e.value) z.returned, true)))))
+
+abbrev procedure_with : Identdef → Piece → Piece → Piece → Piece → Piece
+procedure_with i d a b c = declaring sorts.Procedure (opening (
+    both token (both (identdef_piece i) (both a (both token (both d (both b (both c (both token (tells procedure_end token))))))))))
+
+abbrev procedure_told : Heading → Piece
+procedure_told p = procedure_with p.0 p.1.1.0 (there (λ x. x) p.1.0) (there (λ b. both token b) p.1.1.1.0) (there (λ e. both token e.piece) p.1.1.1.1.0)
+
+procedure_tells : (p : ProcDecl) → procedure_piece p ≡ procedure_told (procedure_parts (out-ProcDecl p))
+unfolding expr_piece
+procedure_tells p = told.procedure_told p ∙
+    ap₂ (λ (a : Piece) (q : Piece × Piece). procedure_with (out-ProcDecl p).name (declarations_piece (out-ProcDecl p).declarations) a q.0 q.1)
+    (there_told parameters_piece (λ x. x) (out-ProcDecl p).parameters)
+    (ap₂ (λ (b : Piece) (c : Piece). (b, c)) (there_told (λ (b : Box Block Global). block_piece b.value) (λ b. both token b) (out-ProcDecl p).body)
+    (there_told (λ (e : Box Expr Global). expr_phrase e.value) (λ e. both token e.piece) (out-ProcDecl p).returned))
+
+rest_is : (x y : Mark) (r s : Out) → x ∷ r ≡ y ∷ s → r ≡ s
+rest_is x y r s e = cc
+
+pub r-repeated : {Z : Type 0} (h g : Z → ℕ) (m n : ℕ) → Reads {Z = Z} {A = Bool} (λ z. true) (λ z. repeated (h z) (g z)) never true (repeated m n)
+r-repeated h g m n = record { same = λ z r s i j e. (refl, rest_is _ _ r s e) }
+
+no_star : (o : Option Parameters) (r s : Out) → on_word kinds.Star ((if_there parameters_outline o ++ (word kinds.Semicolon ++ r)) ++ s) ≡ false
+unfolding parameters_outline
+no_star None r s = refl
+no_star (Some p) r s = refl
+
+abbrev body_shown : Option (Box Block Global) → Out
+body_shown o = if_there (λ b. word kinds.Begin ++ block_outline b.value) o
+
+abbrev returned_shown : Option (Box Expr Global) → Out
+returned_shown o = if_there (λ e. word kinds.Return ++ expr_outline e.value) o
+
+no_declarations : (b : Option (Box Block Global)) (e : Option (Box Expr Global)) (r s : Out) → on_declarations ((body_shown b ++ (returned_shown e ++ (word kinds.End ++ r))) ++ s) ≡ false
+no_declarations None None r s = refl
+no_declarations None (Some e) r s = refl
+no_declarations (Some b) e r s = refl
+
+abbrev pub in_body : List Kind
+in_body = kinds.Begin ∷ kinds.Semicolon ∷ []
+
+no_body : (e : Option (Box Expr Global)) (r s : Out) → on_words in_body ((returned_shown e ++ (word kinds.End ++ r)) ++ s) ≡ false
+no_body None r s = refl
+no_body (Some e) r s = refl
+
+pub body_ends : (s : Out) → on_words in_body s ≡ false → on_word kinds.Semicolon s ≡ false
+body_ends s i = not_the_first kinds.Semicolon [] s (none_behind kinds.Begin (kinds.Semicolon ∷ []) s i)
+
+r-body : (b : Box Block Global) → Reads {Z = Box Block Global} (λ z. block_piece z.value) (λ z. word kinds.Begin ++ block_outline z.value) (on_word kinds.Semicolon) (block_piece b.value) (word kinds.Begin ++ block_outline b.value)
+r-body b = r-past kinds.Begin (r-at (λ z. z.value) (r-block b.value))
+
+r-returned : (e : Box Expr Global) → Reads {Z = Box Expr Global} (λ z. expr_phrase z.value) (λ z. word kinds.Return ++ expr_outline z.value) never (expr_phrase e.value) (word kinds.Return ++ expr_outline e.value)
+r-returned e = r-past kinds.Return (r-at (λ z. z.value) (r-expr e.value))
+
+procedure_held : (y : WithProcDecl) → Reads procedure_parts procedure_shown never (procedure_parts (procedure_of y)) (procedure_shown (procedure_of y))
+procedure_held y =
+    r-past kinds.Procedure (r-until (r-at (λ z. z.name) (r-identdef y.name)) (λ s i. no_star y.parameters _ s) (λ z s i. no_star z.parameters _ s)
+    (r-until (r-heading (λ z. z.parameters) y.parameters) (λ s i. refl) (λ z s i. refl)
+    (r-past kinds.Semicolon
+    (r-until (r-at (λ z. z.declarations) y.declarations.1) (λ s i. no_declarations y.body y.returned _ s) (λ z s i. no_declarations z.body z.returned _ s)
+    (r-until (r-there (on_words in_body) (λ z. z.body) y.body r-body body_ends (λ b s. refl)) (λ s i. no_body y.returned _ s) (λ z s i. no_body z.returned _ s)
+    (r-until (r-there (on_word kinds.Return) (λ z. z.returned) y.returned r-returned (λ s i. refl) (λ e s. refl)) (λ s i. refl) (λ z s i. refl)
+    (r-past kinds.End (r-repeated (λ z. z.name.name) (λ z. z.end_name) y.name.name y.end_name))))))))
+
+procedure_layer : (x : ProcDecl-F Declarations ProcDecl) (y : WithProcDecl) → procedure_of y ≡ x → HeldProcDecl (roll-ProcDecl x)
+procedure_layer x y is = r-layer out-ProcDecl procedure_parts (λ z. construct constructs.ProcedureDeclaration (procedure_shown z)) procedure_told procedure_tells procedure_out (roll-ProcDecl x) (procedure_of y) (out-roll-ProcDecl x ∙ sym is) (r-held constructs.ProcedureDeclaration (procedure_held y) (λ s. refl))
+
+pub r-declarations : (x : Declarations) → Reads declarations_piece declarations_outline on_declarations (declarations_piece x) (declarations_outline x)
+r-declarations = ind-Declarations HeldDeclarations HeldProcDecl declarations_layer procedure_layer
