@@ -1,5 +1,5 @@
 -- What an element, a list, a designator and a selector tell is known from their outlines, if what their parts tell is.
-use Rattle.std.proofs.Common.{◌≡◌, ℕ, suc, ◌+◌, true, List, [], ◌∷◌, ◌++◌, length, map, Option, Some, None, refl, sym, ap, ◌∙◌}
+use Rattle.std.proofs.Common.{◌≡◌, ℕ, suc, ◌+◌, true, List, [], ◌++◌, length, map, Option, Some, None, refl, sym, ap, ◌∙◌}
 use Rattle.std.specs.declared.boxed.Box.{Box}
 use Rattle.std.specs.declared.alloc.Global.{Global}
 use Rattle.ob_scan.specs.declared.kind.Kind.TheVariants as kinds
@@ -15,7 +15,7 @@ use Rattle.ob_tree.specs.declared.expression.ExprList.{ExprList, ExprList-F, fol
 use Rattle.ob_tree.specs.declared.expression.Sum.{Sum}
 use Rattle.ob_tree.specs.declared.expression.Term.{Term}
 use Rattle.ob_tree.specs.declared.construct.Construct.TheVariants as constructs
-use Rattle.ob_tree.specs.Marks.{Out, Mark, construct, word, used, named, if_there, each}
+use Rattle.ob_tree.specs.Marks.{Out, construct, word, used, named, if_there, each}
 use Rattle.ob_tree.specs.Expressions.{selector_outline, element_outline, expr_outline, expr_list_outline}
 use Rattle.ob_tree.proofs.ExpressionLayers.{selector_shown, element_shown, element_list_shown, expr_list_shown, selector_out, designator_out, element_out, element_list_out, expr_out, expr_list_out}
 use Rattle.ob_tree.proofs.Closed.{With}

@@ -1,10 +1,10 @@
 -- What is told of what may stand there, and of lists, is known from the outline.
-use Rattle.std.proofs.Common.{◌≡◌, ℕ, zero, suc, Bool, true, false, List, [], ◌∷◌, ◌++◌, map, Option, Some, None, refl, sym, ap, ap₂, ◌∙◌, append_assoc}
+use Rattle.std.proofs.Common.{◌≡◌, Bool, true, false, List, [], ◌∷◌, ◌++◌, map, Option, Some, None, refl, sym, ap, ap₂, ◌∙◌, append_assoc}
 use Rattle.ob_scan.specs.declared.kind.Kind.{Kind}
-use Rattle.ob_tree.specs.Marks.{Out, if_there, if_so, each, word, times}
+use Rattle.ob_tree.specs.Marks.{Out, if_there, if_so, each, word}
 use Rattle.ob_decls.specs.Parts.{Piece, both}
-use Rattle.ob_decls.specs.Parts.{if_there as there, each as pieces, if_so as so}
-use Rattle.ob_decls.proofs.Reading.{Reads, never, maybe, clash, r-none, r-some}
+use Rattle.ob_decls.specs.Parts.{if_there as there, each as pieces}
+use Rattle.ob_decls.proofs.Reading.{Reads, maybe, clash, r-none, r-some}
 
 -- what may stand there, and has no part of a tree that is still to be read
 pub r-there : {Y A : Type 0} {f : Y → A} {g : Y → Out} {part : Out → Bool} {Z : Type 0} (more : Out → Bool) (at : Z → Option Y) (q : Option Y) →

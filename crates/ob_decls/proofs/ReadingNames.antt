@@ -1,5 +1,5 @@
 -- A name with its module, a label and a range of labels are known from their outlines.
-use Rattle.std.proofs.Common.{◌≡◌, ℕ, Bool, true, false, if◌then◌else◌, List, [], ◌∷◌, ◌++◌, Option, Some, None, refl, sym, ap, ◌∙◌}
+use Rattle.std.proofs.Common.{◌≡◌, ℕ, Bool, true, false, if◌then◌else◌, List, [], ◌∷◌, ◌++◌, Option, Some, None, refl, sym, ap}
 use Rattle.ob_scan.specs.declared.kind.Kind.{Kind}
 use Rattle.ob_scan.specs.declared.kind.Kind.TheVariants as kinds
 use Rattle.ob_tree.specs.declared.expression.Literal.TheVariants as literals
@@ -8,7 +8,7 @@ use Rattle.ob_tree.specs.declared.statement.Label.{Label}
 use Rattle.ob_tree.specs.declared.statement.Label.TheVariants as labels
 use Rattle.ob_tree.specs.declared.statement.LabelRange.{LabelRange}
 use Rattle.ob_tree.specs.Leaves.{same_kind}
-use Rattle.ob_tree.specs.Marks.{Out, Mark, Begins, Ends, Identifier, Value, Word, word, used, named, if_there}
+use Rattle.ob_tree.specs.Marks.{Out, Mark, Begins, Ends, Identifier, Value, Word, word, named, if_there}
 use Rattle.ob_tree.specs.Names.{qualident_outline}
 use Rattle.ob_tree.specs.Statements.{label_outline, label_range_outline}
 use Rattle.ob_decls.specs.Statements.{qualident_piece, label_range_piece}

@@ -1,5 +1,5 @@
 -- What a statement of each form tells is known from its outline, if what its parts tell is.
-use Rattle.std.proofs.Common.{◌≡◌, ℕ, Bool, true, false, List, [], ◌∷◌, ◌++◌, map, Option, Some, None, refl, sym, ap, ap₂, ◌∙◌, append_assoc}
+use Rattle.std.proofs.Common.{◌≡◌, true, false, List, [], ◌∷◌, ◌++◌, map, Option, refl, sym, ap, ap₂, ◌∙◌, append_assoc}
 use Rattle.std.specs.Prelude.{Vec}
 use Rattle.std.specs.declared.boxed.Box.{Box}
 use Rattle.std.specs.declared.alloc.Global.{Global}
@@ -16,7 +16,7 @@ use Rattle.ob_tree.specs.declared.statement.For.{For}
 use Rattle.ob_tree.specs.declared.construct.Construct.{Construct}
 use Rattle.ob_tree.specs.declared.construct.Construct.TheVariants as constructs
 use Rattle.ob_tree.specs.Leaves.{same_kind}
-use Rattle.ob_tree.specs.Marks.{Out, Mark, Ends, Word, construct, word, if_there, each, each_after}
+use Rattle.ob_tree.specs.Marks.{Out, Ends, Word, construct, word, if_there, each_after}
 use Rattle.ob_tree.specs.Expressions.{expr_outline, designator_outline}
 use Rattle.ob_tree.specs.Statements.{case_outline, block_outline, branch_outline, for_outline}
 use Rattle.ob_tree.proofs.StatementLayers.{if_shown, stmt_shown, for_out}
@@ -35,49 +35,49 @@ Layer = Stmt-F Case Stmt Block Branch For
 
 -- ---- what the parts of each form tell, and their outlines
 
-abbrev pub Assigned : Type 0
-Assigned = Designator × Expr
+abbrev pub AssignForm : Type 0
+AssignForm = Designator × Expr
 
-abbrev pub assign_parts : Assigned → Denoted × Phrase
+abbrev pub assign_parts : AssignForm → Denoted × Phrase
 assign_parts z = (denoted z.0, expr_phrase z.1)
 
-abbrev pub assign_outline : Assigned → Out
+abbrev pub assign_outline : AssignForm → Out
 assign_outline z = designator_outline z.0 ++ (word kinds.Assign ++ expr_outline z.1)
 
-abbrev pub Iffed : Type 0
-Iffed = Box Branch Global × (Vec Branch Global × Option (Box Block Global))
+abbrev pub IfForm : Type 0
+IfForm = Box Branch Global × (Vec Branch Global × Option (Box Block Global))
 
-abbrev pub if_parts : Iffed → Piece × (List Piece × Option Piece)
+abbrev pub if_parts : IfForm → Piece × (List Piece × Option Piece)
 if_parts z = (branch_piece z.0.value, (map branch_piece z.1.0.items, maybe (λ b. block_piece b.value) z.1.1))
 
-abbrev pub if_outline : Iffed → Out
+abbrev pub if_outline : IfForm → Out
 if_outline z = if_shown z.0 (each_after kinds.Elsif (λ b. branch_outline b kinds.Then) z.1.0.items) (if_there (λ b. word kinds.Else ++ block_outline b.value) z.1.1)
 
-abbrev pub Cased : Type 0
-Cased = Expr × (Box Case Global × Vec Case Global)
+abbrev pub CaseForm : Type 0
+CaseForm = Expr × (Box Case Global × Vec Case Global)
 
-abbrev pub case_parts : Cased → Phrase × (Piece × List Piece)
+abbrev pub case_parts : CaseForm → Phrase × (Piece × List Piece)
 case_parts z = (expr_phrase z.0, (case_piece z.1.0.value, map case_piece z.1.1.items))
 
-abbrev pub cases_outline : Cased → Out
+abbrev pub cases_outline : CaseForm → Out
 cases_outline z = word kinds.Case ++ (expr_outline z.0 ++ (word kinds.Of ++ (case_outline z.1.0.value ++ (each_after kinds.Bar case_outline z.1.1.items ++ word kinds.End))))
 
-abbrev pub Whiled : Type 0
-Whiled = Box Branch Global × Vec Branch Global
+abbrev pub WhileForm : Type 0
+WhileForm = Box Branch Global × Vec Branch Global
 
-abbrev pub while_parts : Whiled → Piece × List Piece
+abbrev pub while_parts : WhileForm → Piece × List Piece
 while_parts z = (branch_piece z.0.value, map branch_piece z.1.items)
 
-abbrev pub while_outline : Whiled → Out
+abbrev pub while_outline : WhileForm → Out
 while_outline z = word kinds.While ++ (branch_outline z.0.value kinds.Do ++ (each_after kinds.Elsif (λ b. branch_outline b kinds.Do) z.1.items ++ word kinds.End))
 
-abbrev pub Repeated : Type 0
-Repeated = Box Block Global × Expr
+abbrev pub RepeatForm : Type 0
+RepeatForm = Box Block Global × Expr
 
-abbrev pub repeat_parts : Repeated → Piece × Phrase
+abbrev pub repeat_parts : RepeatForm → Piece × Phrase
 repeat_parts z = (block_piece z.0.value, expr_phrase z.1)
 
-abbrev pub repeat_outline : Repeated → Out
+abbrev pub repeat_outline : RepeatForm → Out
 repeat_outline z = word kinds.Repeat ++ (block_outline z.0.value ++ (word kinds.Until ++ expr_outline z.1))
 
 -- ---- the pieces made of what the parts tell
@@ -85,7 +85,7 @@ repeat_outline z = word kinds.Repeat ++ (block_outline z.0.value ++ (word kinds.
 abbrev assign_told : Denoted × Phrase → Piece
 assign_told p = both (p.0.piece true) (both token p.1.piece)
 
-assign_seen : (z : Assigned) → told.stmt_shown (layers.Assign z.0 z.1) ≡ assign_told (assign_parts z)
+assign_seen : (z : AssignForm) → told.stmt_shown (layers.Assign z.0 z.1) ≡ assign_told (assign_parts z)
 unfolding designator_piece expr_piece
 assign_seen z = refl
 
@@ -99,26 +99,26 @@ call_seen d = refl
 abbrev if_told : Piece × (List Piece × Option Piece) → Piece
 if_told p = both token (both p.0 (both (pieces (λ b. both token b) p.1.0) (both (there (λ b. both token b) p.1.1) token)))
 
-if_seen : (z : Iffed) → told.stmt_shown (layers.If z.0 z.1.0 z.1.1) ≡ if_told (if_parts z)
+if_seen : (z : IfForm) → told.stmt_shown (layers.If z.0 z.1.0 z.1.1) ≡ if_told (if_parts z)
 if_seen z = ap₂ (λ (o p : Piece). told.if_shown z.0 o p) (each_told branch_piece (λ b. both token b) z.1.0.items) (there_told (λ (b : Box Block Global). block_piece b.value) (λ b. both token b) z.1.1)
 
 abbrev case_told : Phrase × (Piece × List Piece) → Piece
 case_told p = both token (both p.0.piece (both token (both p.1.0 (both (pieces (λ c. both token c) p.1.1) token))))
 
-case_seen : (z : Cased) → told.stmt_shown (layers.Case z.0 z.1.0 z.1.1) ≡ case_told (case_parts z)
+case_seen : (z : CaseForm) → told.stmt_shown (layers.Case z.0 z.1.0 z.1.1) ≡ case_told (case_parts z)
 unfolding expr_piece
 case_seen z = ap (λ (o : Piece). both token (both (expr_phrase z.0).piece (both token (both (case_piece z.1.0.value) (both o token))))) (each_told case_piece (λ c. both token c) z.1.1.items)
 
 abbrev while_told : Piece × List Piece → Piece
 while_told p = both token (both p.0 (both (pieces (λ b. both token b) p.1) token))
 
-while_seen : (z : Whiled) → told.stmt_shown (layers.While z.0 z.1) ≡ while_told (while_parts z)
+while_seen : (z : WhileForm) → told.stmt_shown (layers.While z.0 z.1) ≡ while_told (while_parts z)
 while_seen z = ap (λ (o : Piece). both token (both (branch_piece z.0.value) (both o token))) (each_told branch_piece (λ b. both token b) z.1.items)
 
 abbrev repeat_told : Piece × Phrase → Piece
 repeat_told p = both token (both p.0 (both token p.1.piece))
 
-repeat_seen : (z : Repeated) → told.stmt_shown (layers.Repeat z.0 z.1) ≡ repeat_told (repeat_parts z)
+repeat_seen : (z : RepeatForm) → told.stmt_shown (layers.Repeat z.0 z.1) ≡ repeat_told (repeat_parts z)
 unfolding expr_piece
 repeat_seen z = refl
 
@@ -128,7 +128,6 @@ repeat_seen z = refl
 pub inside : (c : Construct) (o p r s : Out) → construct c o ++ r ≡ construct c p ++ s → o ++ Ends c ∷ r ≡ p ++ Ends c ∷ s
 unfolding construct
 inside c o p r s e = sym (append_assoc o (Ends c ∷ []) r) ∙ tail_is _ _ _ _ e ∙ append_assoc p (Ends c ∷ []) s
-
 
 no_assign : (d : Designator) (o r s : Out) → on_construct r ≡ false → r ≡ (designator_outline d ++ o) ++ s → ⊥
 no_assign d o r s i e = no_name_here d r (o ++ s) i (e ∙ append_assoc (designator_outline d) o s)
@@ -155,14 +154,14 @@ apart d q o r s e = let h = (r-designator d).same q ((word kinds.Assign ++ o) ++
 
 -- ---- form by form
 
-abbrev pub Sames : Layer → Layer → Out → Out → Type 0
-Sames x z r s = (told.stmt_shown x ≡ told.stmt_shown z) × (r ≡ s)
+abbrev pub Agrees : Layer → Layer → Out → Out → Type 0
+Agrees x z r s = (told.stmt_shown x ≡ told.stmt_shown z) × (r ≡ s)
 
 empty_unlike : (o p r s : Out) → construct constructs.EmptyStatement o ++ r ≡ construct constructs.Statement p ++ s → ⊥
 unfolding construct
 empty_unlike o p r s e = cc
 
-pub empty_same : (z : Layer) (r s : Out) → construct constructs.EmptyStatement [] ++ r ≡ stmt_shown z ++ s → Sames layers.Empty z r s
+pub empty_same : (z : Layer) (r s : Out) → construct constructs.EmptyStatement [] ++ r ≡ stmt_shown z ++ s → Agrees layers.Empty z r s
 empty_same layers.Empty r s e = (refl, tail_is _ _ _ _ (inside constructs.EmptyStatement [] [] r s e))
 empty_same (layers.Assign d a) r s e = absurd (empty_unlike [] _ r s e)
 empty_same (layers.Call d) r s e = absurd (empty_unlike [] _ r s e)
@@ -172,7 +171,7 @@ empty_same (layers.While f v) r s e = absurd (empty_unlike [] _ r s e)
 empty_same (layers.Repeat m a) r s e = absurd (empty_unlike [] _ r s e)
 empty_same (layers.For f) r s e = absurd (empty_unlike [] _ r s e)
 
-pub if_same : (f : Box Branch Global) (v : Vec Branch Global) (o : Option (Box Block Global)) → Reads if_parts if_outline never (if_parts (f, (v, o))) (if_outline (f, (v, o))) → (z : Layer) (r s : Out) → construct constructs.Statement (if_outline (f, (v, o))) ++ r ≡ stmt_shown z ++ s → Sames (layers.If f v o) z r s
+pub if_same : (f : Box Branch Global) (v : Vec Branch Global) (o : Option (Box Block Global)) → Reads if_parts if_outline never (if_parts (f, (v, o))) (if_outline (f, (v, o))) → (z : Layer) (r s : Out) → construct constructs.Statement (if_outline (f, (v, o))) ++ r ≡ stmt_shown z ++ s → Agrees (layers.If f v o) z r s
 if_same f v o x layers.Empty r s e = absurd (empty_unlike [] _ s r (sym e))
 if_same f v o x (layers.Assign d u) r s e = absurd (no_assign d _ _ _ refl (inside constructs.Statement _ _ r s e))
 if_same f v o x (layers.Call d) r s e = absurd (no_name_here d _ _ refl (inside constructs.Statement _ _ r s e))
@@ -182,7 +181,7 @@ if_same f v o x (layers.While g w) r s e = absurd (other kinds.If kinds.While _ 
 if_same f v o x (layers.Repeat n u) r s e = absurd (other kinds.If kinds.Repeat _ _ refl refl (inside constructs.Statement _ _ r s e))
 if_same f v o x (layers.For g) r s e = absurd (no_for g _ _ refl (inside constructs.Statement _ _ r s e))
 
-pub case_same : (a : Expr) (c : Box Case Global) (v : Vec Case Global) → Reads case_parts cases_outline never (case_parts (a, (c, v))) (cases_outline (a, (c, v))) → (z : Layer) (r s : Out) → construct constructs.Statement (cases_outline (a, (c, v))) ++ r ≡ stmt_shown z ++ s → Sames (layers.Case a c v) z r s
+pub case_same : (a : Expr) (c : Box Case Global) (v : Vec Case Global) → Reads case_parts cases_outline never (case_parts (a, (c, v))) (cases_outline (a, (c, v))) → (z : Layer) (r s : Out) → construct constructs.Statement (cases_outline (a, (c, v))) ++ r ≡ stmt_shown z ++ s → Agrees (layers.Case a c v) z r s
 case_same a c v x layers.Empty r s e = absurd (empty_unlike [] _ s r (sym e))
 case_same a c v x (layers.Assign d u) r s e = absurd (no_assign d _ _ _ refl (inside constructs.Statement _ _ r s e))
 case_same a c v x (layers.Call d) r s e = absurd (no_name_here d _ _ refl (inside constructs.Statement _ _ r s e))
@@ -192,7 +191,7 @@ case_same a c v x (layers.While g w) r s e = absurd (other kinds.Case kinds.Whil
 case_same a c v x (layers.Repeat n u) r s e = absurd (other kinds.Case kinds.Repeat _ _ refl refl (inside constructs.Statement _ _ r s e))
 case_same a c v x (layers.For g) r s e = absurd (no_for g _ _ refl (inside constructs.Statement _ _ r s e))
 
-pub while_same : (f : Box Branch Global) (v : Vec Branch Global) → Reads while_parts while_outline never (while_parts (f, v)) (while_outline (f, v)) → (z : Layer) (r s : Out) → construct constructs.Statement (while_outline (f, v)) ++ r ≡ stmt_shown z ++ s → Sames (layers.While f v) z r s
+pub while_same : (f : Box Branch Global) (v : Vec Branch Global) → Reads while_parts while_outline never (while_parts (f, v)) (while_outline (f, v)) → (z : Layer) (r s : Out) → construct constructs.Statement (while_outline (f, v)) ++ r ≡ stmt_shown z ++ s → Agrees (layers.While f v) z r s
 while_same f v x layers.Empty r s e = absurd (empty_unlike [] _ s r (sym e))
 while_same f v x (layers.Assign d u) r s e = absurd (no_assign d _ _ _ refl (inside constructs.Statement _ _ r s e))
 while_same f v x (layers.Call d) r s e = absurd (no_name_here d _ _ refl (inside constructs.Statement _ _ r s e))
@@ -202,7 +201,7 @@ while_same f v x (layers.While g w) r s e = let h = (r-held constructs.Statement
 while_same f v x (layers.Repeat n u) r s e = absurd (other kinds.While kinds.Repeat _ _ refl refl (inside constructs.Statement _ _ r s e))
 while_same f v x (layers.For g) r s e = absurd (no_for g _ _ refl (inside constructs.Statement _ _ r s e))
 
-pub repeat_same : (m : Box Block Global) (a : Expr) → Reads repeat_parts repeat_outline never (repeat_parts (m, a)) (repeat_outline (m, a)) → (z : Layer) (r s : Out) → construct constructs.Statement (repeat_outline (m, a)) ++ r ≡ stmt_shown z ++ s → Sames (layers.Repeat m a) z r s
+pub repeat_same : (m : Box Block Global) (a : Expr) → Reads repeat_parts repeat_outline never (repeat_parts (m, a)) (repeat_outline (m, a)) → (z : Layer) (r s : Out) → construct constructs.Statement (repeat_outline (m, a)) ++ r ≡ stmt_shown z ++ s → Agrees (layers.Repeat m a) z r s
 repeat_same m a x layers.Empty r s e = absurd (empty_unlike [] _ s r (sym e))
 repeat_same m a x (layers.Assign d u) r s e = absurd (no_assign d _ _ _ refl (inside constructs.Statement _ _ r s e))
 repeat_same m a x (layers.Call d) r s e = absurd (no_name_here d _ _ refl (inside constructs.Statement _ _ r s e))
@@ -212,7 +211,7 @@ repeat_same m a x (layers.While g w) r s e = absurd (other kinds.Repeat kinds.Wh
 repeat_same m a x (layers.Repeat n u) r s e = let h = (r-held constructs.Statement x (λ p. refl)).same (n, u) r s refl refl e in (repeat_seen (m, a) ∙ ap repeat_told h.0 ∙ sym (repeat_seen (n, u)), h.1)
 repeat_same m a x (layers.For g) r s e = absurd (no_for g _ _ refl (inside constructs.Statement _ _ r s e))
 
-pub for_same : (b : Box For Global) → Reads for_piece for_outline never (for_piece b.value) (for_outline b.value) → (z : Layer) (r s : Out) → construct constructs.Statement (for_outline b.value) ++ r ≡ stmt_shown z ++ s → Sames (layers.For b) z r s
+pub for_same : (b : Box For Global) → Reads for_piece for_outline never (for_piece b.value) (for_outline b.value) → (z : Layer) (r s : Out) → construct constructs.Statement (for_outline b.value) ++ r ≡ stmt_shown z ++ s → Agrees (layers.For b) z r s
 for_same b x layers.Empty r s e = absurd (empty_unlike [] _ s r (sym e))
 for_same b x (layers.Assign d a) r s e = absurd (no_assign d _ _ _ (for_plain b.value _) (inside constructs.Statement _ _ r s e))
 for_same b x (layers.Call d) r s e = absurd (no_name_here d _ _ (for_plain b.value _) (inside constructs.Statement _ _ r s e))
@@ -222,10 +221,10 @@ for_same b x (layers.While f v) r s e = absurd (no_for b _ _ refl (sym (inside c
 for_same b x (layers.Repeat m a) r s e = absurd (no_for b _ _ refl (sym (inside constructs.Statement _ _ r s e)))
 for_same b x (layers.For f) r s e = (r-held constructs.Statement x (λ q. refl)).same f.value r s refl refl e
 
-assign_held : (b : Assigned) → Reads assign_parts assign_outline never (assign_parts b) (assign_outline b)
+assign_held : (b : AssignForm) → Reads assign_parts assign_outline never (assign_parts b) (assign_outline b)
 assign_held b = r-both (r-at (λ z. z.0) (r-designator b.0)) (r-past kinds.Assign (r-at (λ z. z.1) (r-expr b.1)))
 
-pub assign_same : (b : Assigned) (z : Layer) (r s : Out) → construct constructs.Statement (assign_outline b) ++ r ≡ stmt_shown z ++ s → Sames (layers.Assign b.0 b.1) z r s
+pub assign_same : (b : AssignForm) (z : Layer) (r s : Out) → construct constructs.Statement (assign_outline b) ++ r ≡ stmt_shown z ++ s → Agrees (layers.Assign b.0 b.1) z r s
 assign_same b layers.Empty r s e = absurd (empty_unlike [] _ s r (sym e))
 assign_same b (layers.Assign d a) r s e = let h = (r-held constructs.Statement (assign_held b) (λ q. refl)).same (d, a) r s refl refl e in (assign_seen b ∙ ap assign_told h.0 ∙ sym (assign_seen (d, a)), h.1)
 assign_same b (layers.Call d) r s e = absurd (apart b.0 d _ _ _ (inside constructs.Statement _ _ r s e))
@@ -235,7 +234,7 @@ assign_same b (layers.While f v) r s e = absurd (no_assign b.0 _ _ _ refl (sym (
 assign_same b (layers.Repeat m a) r s e = absurd (no_assign b.0 _ _ _ refl (sym (inside constructs.Statement _ _ r s e)))
 assign_same b (layers.For f) r s e = absurd (no_assign b.0 _ _ _ (for_plain f.value _) (sym (inside constructs.Statement _ _ r s e)))
 
-pub call_same : (b : Designator) (z : Layer) (r s : Out) → construct constructs.Statement (designator_outline b) ++ r ≡ stmt_shown z ++ s → Sames (layers.Call b) z r s
+pub call_same : (b : Designator) (z : Layer) (r s : Out) → construct constructs.Statement (designator_outline b) ++ r ≡ stmt_shown z ++ s → Agrees (layers.Call b) z r s
 call_same b layers.Empty r s e = absurd (empty_unlike [] _ s r (sym e))
 call_same b (layers.Assign d a) r s e = absurd (apart d b _ _ _ (sym (inside constructs.Statement _ _ r s e)))
 call_same b (layers.Call d) r s e = let h = (r-held constructs.Statement (r-designator b) (λ q. refl)).same d r s refl refl e in (call_seen b ∙ ap call_told h.0 ∙ sym (call_seen d), h.1)

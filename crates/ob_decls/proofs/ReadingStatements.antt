@@ -1,5 +1,5 @@
 -- What a statement tells is known from its outline.
-use Rattle.std.proofs.Common.{◌≡◌, ℕ, Bool, true, false, List, [], ◌∷◌, ◌++◌, map, Option, Some, None, refl, sym, ap, ap₂, ◌∙◌, append_assoc}
+use Rattle.std.proofs.Common.{◌≡◌, ℕ, false, List, [], ◌∷◌, ◌++◌, map, Option, Some, None, refl, sym, ap, ◌∙◌, append_assoc}
 use Rattle.std.specs.Prelude.{Vec}
 use Rattle.std.specs.declared.boxed.Box.{Box}
 use Rattle.std.specs.declared.alloc.Global.{Global}
@@ -17,7 +17,7 @@ use Rattle.ob_tree.specs.declared.statement.Block.{Block, Block-F, roll-Block, o
 use Rattle.ob_tree.specs.declared.statement.Branch.{Branch, Branch-F, roll-Branch, out-Branch, out-roll-Branch, map-Branch}
 use Rattle.ob_tree.specs.declared.statement.For.{For, For-F, roll-For, out-For, out-roll-For, map-For}
 use Rattle.ob_tree.specs.declared.construct.Construct.TheVariants as constructs
-use Rattle.ob_tree.specs.Marks.{Out, Mark, Ends, Word, construct, word, used, if_there, each, each_after, listed}
+use Rattle.ob_tree.specs.Marks.{Out, Ends, construct, word, if_there, each, each_after, listed}
 use Rattle.ob_tree.specs.Expressions.{expr_outline}
 use Rattle.ob_tree.specs.Statements.{label_outline, label_range_outline, case_outline, stmt_outline, block_outline, branch_outline, for_outline}
 use Rattle.ob_tree.specs.Names.{qualident_outline}
@@ -28,7 +28,7 @@ use Rattle.ob_decls.specs.Parts.{if_there as there, each as pieces}
 use Rattle.ob_decls.specs.Expressions.{Phrase, expr_phrase, expr_piece}
 use Rattle.ob_decls.specs.Statements.{variable_piece, label_range_piece, case_piece, stmt_piece, block_piece, branch_piece, for_piece}
 use Rattle.ob_decls.proofs.StatementLayers as told
-use Rattle.ob_decls.proofs.Reading.{tail_is, Reads, never, on_word, maybe, clash, r-use, r-until, r-both, r-past, r-then, r-held, r-at, r-none, r-some, r-layer}
+use Rattle.ob_decls.proofs.Reading.{tail_is, Reads, never, on_word, maybe, r-use, r-until, r-both, r-past, r-then, r-at, r-none, r-some, r-layer}
 use Rattle.ob_decls.proofs.ReadingLists.{r-there, r-map, r-each, there_told, each_told}
 use Rattle.ob_decls.proofs.ReadingNames.{on_words, dots, not_the_first, none_behind, r-range}
 use Rattle.ob_decls.proofs.ReadingExpressions.{r-expr}
@@ -215,13 +215,19 @@ stmt_held : (y : WithStmt) → Reads told.stmt_shown stmt_shown never (told.stmt
 stmt_held layers.Empty = record { same = λ z r s i j e. empty_same z r s e }
 stmt_held (layers.Assign d a) = record { same = λ z r s i j e. assign_same (d, a) z r s e }
 stmt_held (layers.Call d) = record { same = λ z r s i j e. call_same d z r s e }
-stmt_held (layers.If f v o) = record { same = λ z r s i j e. if_same (branch_in f) (branches_in v) (else_of o) (r-past kinds.If (r-until (r-at (λ q. q.0.value) (f.value.1 kinds.Then)) (λ s i. behind_branch kinds.Then (branches_in v).items (else_of o) s) (λ q s i. behind_branch kinds.Then q.1.0.items q.1.1 s)
-    (r-until (r-at (λ q. q.1.0.items) (branches_held kinds.Then _ v.items (λ b. b.1))) (λ s i. behind_branches (else_of o) s) (λ q s i. behind_branches q.1.1 s)
-    (r-then kinds.End (r-at (λ q. q.1.1) (else_held o)) (λ s. refl))))) z r s e }
-stmt_held (layers.Case a c v) = record { same = λ z r s i j e. case_same a (case_in c) (cases_in v) (r-past kinds.Case (r-both (r-at (λ q. q.0) (r-expr a)) (r-past kinds.Of (r-both (r-at (λ q. q.1.0.value) c.value.1)
-    (r-then kinds.End (r-at (λ q. q.1.1.items) (r-map case_piece (λ c. word kinds.Bar ++ case_outline c) never (on_word kinds.Bar) (λ c s. refl) (λ s i. refl) (λ c s. refl) _ v.items (λ c. r-past kinds.Bar c.1))) (λ s. refl)))))) z r s e }
-stmt_held (layers.While f v) = record { same = λ z r s i j e. while_same (branch_in f) (branches_in v) (r-past kinds.While (r-until (r-at (λ q. q.0.value) (f.value.1 kinds.Do)) (λ s i. behind_while kinds.Do (branches_in v).items s) (λ q s i. behind_while kinds.Do q.1.items s)
-    (r-then kinds.End (r-at (λ q. q.1.items) (branches_held kinds.Do _ v.items (λ b. b.1))) (λ s. refl)))) z r s e }
+stmt_held (layers.If f v o) = record {
+  same = λ z r s i j e. if_same (branch_in f) (branches_in v) (else_of o) (r-past kinds.If (r-until (r-at (λ q. q.0.value) (f.value.1 kinds.Then)) (λ s i. behind_branch kinds.Then (branches_in v).items (else_of o) s) (λ q s i. behind_branch kinds.Then q.1.0.items q.1.1 s)
+      (r-until (r-at (λ q. q.1.0.items) (branches_held kinds.Then _ v.items (λ b. b.1))) (λ s i. behind_branches (else_of o) s) (λ q s i. behind_branches q.1.1 s)
+      (r-then kinds.End (r-at (λ q. q.1.1) (else_held o)) (λ s. refl))))) z r s e;
+}
+stmt_held (layers.Case a c v) = record {
+  same = λ z r s i j e. case_same a (case_in c) (cases_in v) (r-past kinds.Case (r-both (r-at (λ q. q.0) (r-expr a)) (r-past kinds.Of (r-both (r-at (λ q. q.1.0.value) c.value.1)
+      (r-then kinds.End (r-at (λ q. q.1.1.items) (r-map case_piece (λ c. word kinds.Bar ++ case_outline c) never (on_word kinds.Bar) (λ c s. refl) (λ s i. refl) (λ c s. refl) _ v.items (λ c. r-past kinds.Bar c.1))) (λ s. refl)))))) z r s e;
+}
+stmt_held (layers.While f v) = record {
+  same = λ z r s i j e. while_same (branch_in f) (branches_in v) (r-past kinds.While (r-until (r-at (λ q. q.0.value) (f.value.1 kinds.Do)) (λ s i. behind_while kinds.Do (branches_in v).items s) (λ q s i. behind_while kinds.Do q.1.items s)
+      (r-then kinds.End (r-at (λ q. q.1.items) (branches_held kinds.Do _ v.items (λ b. b.1))) (λ s. refl)))) z r s e;
+}
 stmt_held (layers.Repeat b a) = record { same = λ z r s i j e. repeat_same (block_in b) a (r-past kinds.Repeat (r-until (r-at (λ q. q.0.value) b.value.1) (λ s i. refl) (λ q s i. refl) (r-past kinds.Until (r-at (λ q. q.1) (r-expr a))))) z r s e }
 stmt_held (layers.For f) = record { same = λ z r s i j e. for_same (for_in f) f.value.1 z r s e }
 
