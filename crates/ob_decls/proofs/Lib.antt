@@ -26,6 +26,7 @@ pub mod ReadingNames
 pub mod ReadingStatementForms
 pub mod ReadingStatements
 pub mod ReadingParameters
+pub mod ReadingTypeForms
 pub mod ReadingTypes
 pub mod ReadingSections
 pub mod ReadingDeclarations

@@ -11,7 +11,7 @@ use Rattle.ob_tree.specs.declared.declaration.Parameters.{Parameters}
 use Rattle.ob_tree.specs.declared.declaration.Declarations.{Declarations, Declarations-F, roll-Declarations, out-Declarations, out-roll-Declarations, ind-Declarations, map-Declarations}
 use Rattle.ob_tree.specs.declared.declaration.ProcDecl.{ProcDecl, ProcDecl-F, roll-ProcDecl, out-ProcDecl, out-roll-ProcDecl, map-ProcDecl}
 use Rattle.ob_tree.specs.declared.construct.Construct.TheVariants as constructs
-use Rattle.ob_tree.specs.Marks.{Out, Mark, construct, word, repeated, if_there}
+use Rattle.ob_tree.specs.Marks.{Out, construct, word, repeated, if_there}
 use Rattle.ob_tree.specs.Expressions.{expr_outline}
 use Rattle.ob_tree.specs.Statements.{block_outline}
 use Rattle.ob_tree.specs.Types.{parameters_outline}
@@ -26,7 +26,7 @@ use Rattle.ob_decls.specs.Statements.{block_piece}
 use Rattle.ob_decls.specs.Types.{identdef_piece, parameters_piece}
 use Rattle.ob_decls.specs.Declaring.{procedure_end, const_piece, type_decl_piece, variable_piece, declarations_piece, procedure_piece}
 use Rattle.ob_decls.proofs.DeclarationLayers as told
-use Rattle.ob_decls.proofs.Reading.{Reads, never, on_word, maybe, r-until, r-past, r-then, r-held, r-at, r-layer}
+use Rattle.ob_decls.proofs.Reading.{Reads, never, on_word, maybe, tail_is, r-until, r-past, r-then, r-held, r-at, r-layer}
 use Rattle.ob_decls.proofs.ReadingLists.{r-there, r-map, each_told, there_told}
 use Rattle.ob_decls.proofs.ReadingNames.{on_words, not_the_first, none_behind}
 use Rattle.ob_decls.proofs.ReadingExpressions.{r-expr}
@@ -116,11 +116,8 @@ procedure_tells p = told.procedure_told p ∙
     (ap₂ (λ (b : Piece) (c : Piece). (b, c)) (there_told (λ (b : Box Block Global). block_piece b.value) (λ b. both token b) (out-ProcDecl p).body)
     (there_told (λ (e : Box Expr Global). expr_phrase e.value) (λ e. both token e.piece) (out-ProcDecl p).returned))
 
-rest_is : (x y : Mark) (r s : Out) → x ∷ r ≡ y ∷ s → r ≡ s
-rest_is x y r s e = cc
-
 pub r-repeated : {Z : Type 0} (h g : Z → ℕ) (m n : ℕ) → Reads {Z = Z} {A = Bool} (λ z. true) (λ z. repeated (h z) (g z)) never true (repeated m n)
-r-repeated h g m n = record { same = λ z r s i j e. (refl, rest_is _ _ r s e) }
+r-repeated h g m n = record { same = λ z r s i j e. (refl, tail_is _ _ r s e) }
 
 no_star : (o : Option Parameters) (r s : Out) → on_word kinds.Star ((if_there parameters_outline o ++ (word kinds.Semicolon ++ r)) ++ s) ≡ false
 unfolding parameters_outline

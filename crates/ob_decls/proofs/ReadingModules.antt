@@ -27,9 +27,9 @@ use Rattle.ob_decls.specs.Declaring.{module_end, named_by, import_piece, imports
 use Rattle.ob_decls.proofs.DeclarationLayers as told
 use Rattle.ob_decls.proofs.Reading.{Reads, never, on_word, maybe, r-name, r-declared, r-until, r-both, r-past, r-then, r-held, r-at, r-made}
 use Rattle.ob_decls.proofs.ReadingLists.{r-there, each_told, there_told}
-use Rattle.ob_decls.proofs.ReadingNames.{on_words}
+use Rattle.ob_decls.proofs.ReadingNames.{itself, on_words}
 use Rattle.ob_decls.proofs.ReadingStatements.{r-block}
-use Rattle.ob_decls.proofs.ReadingParameters.{the_same, r-listed}
+use Rattle.ob_decls.proofs.ReadingParameters.{r-listed}
 use Rattle.ob_decls.proofs.ReadingSections.{on_declarations, procedures_shown, variables_shown, types_shown}
 use Rattle.ob_decls.proofs.ReadingDeclarations.{in_body, body_ends, r-repeated, r-declarations}
 
@@ -48,7 +48,7 @@ import_tells : (i : ImportItem) → import_piece i ≡ import_told (import_parts
 import_tells i =
     told.import_out i ∙
     ap (λ (p : Piece). declaring sorts.Import p) (told.import_inner_out i) ∙
-    ap (λ (o : Option ℕ). declaring sorts.Import (import_inner_told o)) (sym (the_same i.of))
+    ap (λ (o : Option ℕ). declaring sorts.Import (import_inner_told o)) (sym (itself i.of))
 
 abbrev import_shown : ImportItem → Out
 import_shown i = declared i.name ++ if_there (λ m. word kinds.Assign ++ named m) i.of

@@ -67,7 +67,7 @@ r-so_made told x = r-made told (λ z. z) (λ z. refl) (λ z. refl) refl refl x
 
 -- ---- names
 
-itself : {X : Type 0} (o : Option X) → maybe (λ x. x) o ≡ o
+pub itself : {X : Type 0} (o : Option X) → maybe (λ x. x) o ≡ o
 itself None = refl
 itself (Some x) = refl
 

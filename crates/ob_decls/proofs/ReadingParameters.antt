@@ -23,10 +23,6 @@ use Rattle.ob_decls.proofs.Reading.{Reads, never, on_word, on_list, no_word, cla
 use Rattle.ob_decls.proofs.ReadingLists.{r-there, r-each, r-so, apart_from, each_told, there_told}
 use Rattle.ob_decls.proofs.ReadingNames.{on_words, not_the_first, none_behind, r-qualident}
 
-pub the_same : {X : Type 0} (o : Option X) → maybe (λ x. x) o ≡ o
-the_same None = refl
-the_same (Some x) = refl
-
 -- one or more with a token between each two
 pub r-listed : {X A : Type 0} {f : X → A} {g : X → Out} {part : Out → Bool} (k : Kind) (more : Out → Bool) →
     ((x : X) → Reads f g part (f x) (g x)) → ((s : Out) → more (Word k ∷ s) ≡ true) → ((s : Out) → part (Word k ∷ s) ≡ false) → ((s : Out) → more s ≡ false → part s ≡ false) → (l : OneOrMore X) →
