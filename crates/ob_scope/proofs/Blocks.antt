@@ -1,73 +1,56 @@
--- Blocks by their rows.
-use Rattle.std.proofs.Common.{◌≡◌, ℕ, zero, suc, ◌<◌, ◌≤◌, inl, List, [], ◌∷◌, length, refl, sym, ap, ◌∙◌, arith, ⊎_elim}
-use Rattle.std.proofs.lemmas.Bool.{cases_lt}
-use Rattle.ob_scope.specs.declared.rows.Block.{Block as BlockRow}
-use Rattle.ob_scope.specs.declared.rows.Place.{Place as PlaceRow}
-use Rattle.ob_scope.specs.declared.rows.Place.TheVariants as places
-use Rattle.ob_scope.specs.Scope.{Around, Block, Record}
-use Rattle.ob_scope.specs.Rows.{AreBlocks, IsPlaced, block_at, block_row, blocks_from, place_of}
+-- Blocks around blocks.
+use Rattle.std.proofs.Common.{◌≡◌, ℕ, ◌<◌, ◌≤◌, ◌⊎◌, inl, inr, List, get_or, sym, ap, ◌∙◌, subst, arith}
+use Rattle.std.proofs.lemmas.Option.{get_or_from_slice_get}
+use Rattle.ob_decls.specs.declared.rows.Block.{Block}
+use Rattle.ob_decls.specs.Order.{AscendBy, HasNoneBy, IsPlaceBy}
+use Rattle.ob_scope.specs.Scope.{IsAround, IsDirectlyIn, itself, further}
+use Rattle.ob_scope.proofs.Elements.{ascend_one, contains_slice, slice_contains}
 
-pub around-self : (b : List ℕ) → Around b b
-around-self [] = refl
-around-self (s ∷ b) = inl refl
+module _ (blocks : List Block) where
+  -- a block around another begins no later
+  pub around-le : (o b : ℕ) → IsAround blocks o b → o ≤ b
+  around-le o b (itself e) = omega (arith, e)
+  around-le o b (further c d a) = let h : o ≤ c = around-le o c a in let l : c < b = d.behind in omega arith
 
-module _ (rows : List BlockRow) where
-  -- with more steps than it needs, a chain stays as it is
-  blocks_from-more : AreBlocks rows → (k j b : ℕ) → b ≤ k → b ≤ j → b < length rows → blocks_from rows k b ≡ blocks_from rows j b
-  blocks_from-more o zero zero b p q l = refl
-  blocks_from-more o zero (suc j) zero p q l = refl
-  blocks_from-more o zero (suc j) (suc b) p q l = absurd (omega arith)
-  blocks_from-more o (suc k) zero zero p q l = refl
-  blocks_from-more o (suc k) zero (suc b) p q l = absurd (omega arith)
-  blocks_from-more o (suc k) (suc j) zero p q l = refl
-  blocks_from-more o (suc k) (suc j) (suc b) p q l =
-      let h : (block_row rows (suc b)).outer < suc b = o.outer_first (suc b) (omega arith) l in
-      ap (λ x. (block_row rows (suc b)).token ∷ x) (blocks_from-more o k j (block_row rows (suc b)).outer (omega arith) (omega arith) (omega arith))
+  -- blocks around each other are one
+  pub around-both : (o b : ℕ) → IsAround blocks o b → IsAround blocks b o → o ≡ b
+  around-both o b a c = let h : o ≤ b = around-le o b a in let k : b ≤ o = around-le b o c in omega arith
 
-  -- the module's block has no others around it
-  pub block_at-module : block_at rows 0 ≡ []
-  unfolding block_at
-  block_at-module = refl
+  -- a block stands directly in one
+  pub one_outer : AscendBy (λ (b : Block). b.first) blocks → (b c d : ℕ) → IsDirectlyIn blocks b c → IsDirectlyIn blocks b d → c ≡ d
+  one_outer up b c d p q =
+      sym p.outer ∙ ap (λ (r : Block). r.outer) (ascend_one (λ (r : Block). r.first) blocks p.row q.row up p.is_row q.is_row (p.first ∙ sym q.first)) ∙ q.outer
 
-  -- any other block is inside the one that its row names
-  pub block_at-inside : AreBlocks rows → (b : ℕ) → 0 < b → b < length rows → block_at rows b ≡ (block_row rows b).token ∷ block_at rows (block_row rows b).outer
-  unfolding block_at
-  block_at-inside o zero p l = absurd (omega arith)
-  block_at-inside o (suc b) p l =
-      let h : (block_row rows (suc b)).outer < suc b = o.outer_first (suc b) (omega arith) l in
-      ap (λ x. (block_row rows (suc b)).token ∷ x) (blocks_from-more o b (block_row rows (suc b)).outer (block_row rows (suc b)).outer (omega arith) (omega arith) (omega arith))
+  -- what is around a block is the block itself, or around the one in which it stands
+  pub around-step : AscendBy (λ (b : Block). b.first) blocks → (o b c : ℕ) → IsDirectlyIn blocks b c → IsAround blocks o b → (o ≡ b) ⊎ IsAround blocks o c
+  around-step up o b c p (itself e) = inl e
+  around-step up o b c p (further d q a) = inr (subst (λ (x : ℕ). IsAround blocks o x) (one_outer up b d c q p) a)
 
-  heads : (a b : ℕ) (x y : List ℕ) → a ∷ x ≡ b ∷ y → a ≡ b
-  heads a b x y e = cc
+  -- nothing but itself is around the outermost
+  pub around-outermost : (o b : ℕ) → ((c : ℕ) → IsDirectlyIn blocks b c → ⊥) → IsAround blocks o b → o ≡ b
+  around-outermost o b none (itself e) = e
+  around-outermost o b none (further c d a) = absurd (none c d)
 
-  -- a row stands for one block
-  pub block_at-one : AreBlocks rows → (b c : ℕ) → b < length rows → c < length rows → block_at rows b ≡ block_at rows c → b ≡ c
-  block_at-one o zero zero l m e = refl
-  block_at-one o zero (suc c) l m e = let f : [] ≡ (block_row rows (suc c)).token ∷ block_at rows (block_row rows (suc c)).outer = sym block_at-module ∙ e ∙ block_at-inside o (suc c) (omega arith) m in cc
-  block_at-one o (suc b) zero l m e = let f : (block_row rows (suc b)).token ∷ block_at rows (block_row rows (suc b)).outer ≡ [] = sym (block_at-inside o (suc b) (omega arith) l) ∙ e ∙ block_at-module in cc
-  block_at-one o (suc b) (suc c) l m e =
-      let f : (block_row rows (suc b)).token ∷ block_at rows (block_row rows (suc b)).outer ≡ (block_row rows (suc c)).token ∷ block_at rows (block_row rows (suc c)).outer =
-      sym (block_at-inside o (suc b) (omega arith) l) ∙ e ∙ block_at-inside o (suc c) (omega arith) m in
-      let same = heads _ _ _ _ f in
-      ⊎_elim
-      (λ (below : b < c). absurd (omega (arith, same, o.ascend (suc b) (suc c) (omega arith) (omega arith) m)))
-      (λ (above : c ≤ b).
-      ⊎_elim
-      (λ (below : c < b). absurd (omega (arith, same, o.ascend (suc c) (suc b) (omega arith) (omega arith) l)))
-      (λ (other : b ≤ c). (let h : suc b ≡ suc c = omega arith in h))
-      (cases_lt c b))
-      (cases_lt b c)
+  -- ---- a block by the place of its row
 
-  one_block : (a b : List ℕ) → Block a ≡ Block b → a ≡ b
-  one_block a b e = cc
+  row_there : (at b : ℕ) (d : Block) (f : IsPlaceBy (λ (x : Block). x.first) blocks b at) → f.element ≡ get_or blocks at d
+  row_there at b d f = sym (get_or_from_slice_get blocks at f.element d f.there)
 
-  -- what is in a block has the block's row
-  pub in_block : AreBlocks rows → (p : PlaceRow) (b : ℕ) → IsPlaced rows p → b < length rows → place_of rows p ≡ Block (block_at rows b) → p ≡ places.Block b
-  in_block o (places.Block c) b l m e = ap (λ (n : ℕ). places.Block n) (block_at-one o c b l m (one_block _ _ e))
-  in_block o (places.Record c) b l m e = absurd (let f : Record c ≡ Block (block_at rows b) = e in cc)
+  pub directly_in : (at b : ℕ) (d : Block) → IsPlaceBy (λ (x : Block). x.first) blocks b at → (get_or blocks at d).outer < b → IsDirectlyIn blocks b (get_or blocks at d).outer
+  directly_in at b d f behind = record {
+    row = f.element;
+    is_row = contains_slice blocks at f.element f.there;
+    first = f.has;
+    outer = ap (λ (x : Block). x.outer) (row_there at b d f);
+    behind = behind;
+  }
 
-  -- places that are one have one row
-  pub place_of-one : AreBlocks rows → (p q : PlaceRow) → IsPlaced rows p → IsPlaced rows q → place_of rows p ≡ place_of rows q → p ≡ q
-  place_of-one o p (places.Block c) l m e = in_block o p c l m e
-  place_of-one o (places.Block b) (places.Record c) l m e = absurd (let f : Block (block_at rows b) ≡ Record c = e in cc)
-  place_of-one o (places.Record b) (places.Record c) l m e = ap (λ (n : ℕ). places.Record n) (let f : Record b ≡ Record c = e in cc)
+  -- a block without a row, and one whose row names none that begins before it
+  pub in_none : (b : ℕ) → HasNoneBy (λ (x : Block). x.first) blocks b → (c : ℕ) → IsDirectlyIn blocks b c → ⊥
+  in_none b none c p = let at = slice_contains blocks p.row p.is_row in none at.0 p.row at.1 p.first
+
+  pub in_none_before : AscendBy (λ (x : Block). x.first) blocks → (at b : ℕ) (d : Block) → IsPlaceBy (λ (x : Block). x.first) blocks b at → b ≤ (get_or blocks at d).outer → (c : ℕ) → IsDirectlyIn blocks b c → ⊥
+  in_none_before up at b d f behind c p =
+      let same : p.row ≡ f.element = ascend_one (λ (x : Block). x.first) blocks p.row f.element up p.is_row (contains_slice blocks at f.element f.there) (p.first ∙ sym f.has) in
+      let outer : c ≡ (get_or blocks at d).outer = sym p.outer ∙ ap (λ (x : Block). x.outer) (same ∙ row_there at b d f) in
+      omega (arith, outer, behind, p.behind)

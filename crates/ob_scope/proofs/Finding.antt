@@ -2,20 +2,21 @@
 use Rattle.std.proofs.Common.{◌≡◌, ℕ, zero, suc, ◌+◌, ◌<◌, ◌≤◌, inl, inr, ◌⊎◌, Bool, true, false, List, [], ◌∷◌, ◌++◌, length, take, Some, None, refl, sym, ap, ◌∙◌, subst, arith, ⊎_elim}
 use Rattle.std.specs.Prelude.{slice_get, slice_index, slice_set, ◌&&◌, if◌then◌else◌}
 use Rattle.std.proofs.lemmas.Bool.{cases_lt, cases_eq, false≢true}
+use Rattle.std.specs.Option.{is_some}
 use Rattle.std.proofs.lemmas.List.{get_or-set_same, get_or-set_other, length-set, take_more}
 use Rattle.std.proofs.lemmas.Option.{slice_get_within, get_or_from_slice_get}
 use Rattle.ob_scope.specs.declared.meaning.MeaningRow.{MeaningRow}
-use Rattle.ob_scope.specs.declared.rows.Member.{Member}
-use Rattle.ob_scope.specs.declared.rows.Use.{Use}
-use Rattle.ob_scope.specs.declared.rows.Rows.{Rows}
-use Rattle.ob_scope.specs.declared.sort.Sort.{Sort}
-use Rattle.ob_scope.specs.declared.sort.Sort.TheVariants as sorts
-use Rattle.ob_scope.specs.Scope.{Declared, Used, Means, NoneTwice}
-use Rattle.ob_scope.specs.Rows.{declared_by, used_by}
+use Rattle.ob_decls.specs.declared.rows.Block.{Block}
+use Rattle.ob_decls.specs.declared.rows.Used.{Used}
+use Rattle.ob_decls.specs.declared.rows.Sort.{Sort}
+use Rattle.ob_decls.specs.declared.rows.Sort.TheVariants as sorts
+use Rattle.ob_scope.specs.declared.members.Member.{Member}
+use Rattle.ob_scope.specs.Scope.{Means, NoneTwice}
 use Rattle.ob_scope.specs.Counted.{Counts, IsQualifiedBy, none, one_more, other}
-use Rattle.ob_scope.specs.Looked.{listing_by, AreWhole, MeansNothing}
+use Rattle.ob_decls.specs.Order.{AscendBy}
+use Rattle.ob_scope.specs.Looked.{MeansNothing}
 use Rattle.ob_scope.specs.Found.{counted_for, is_import, AreCounted, AreMeant, MeansBefore}
-use Rattle.ob_scope.proofs.Elements.{slice_of, some_one}
+use Rattle.ob_scope.proofs.Elements.{some_one}
 use Rattle.ob_scope.proofs.Meanings.{means_once}
 use Rattle.ob_scope.proofs.Named.{one_of_number}
 
@@ -50,7 +51,7 @@ module _ {X : Type 0} where
 abbrev counted : Bool → Sort → ℕ
 counted q s = if q && is_import s then 1 else 0
 
--- a use counts 1 for an import that it has a dot behind, and else 0
+-- a use counts 1 for an import that it has a name behind a dot of, and else 0
 abbrev CountsOne : Bool → Sort → Type 0
 CountsOne q s = ((q ≡ true) × (s ≡ sorts.Import) × (counted q s ≡ 1)) ⊎ (((q ≡ true) → s ≡ sorts.Import → ⊥) × (counted q s ≡ 0))
 
@@ -64,11 +65,8 @@ counts_one true sorts.Procedure = inr ((λ e f. absurd (let g : sorts.Procedure 
 counts_one true sorts.Parameter = inr ((λ e f. absurd (let g : sorts.Parameter ≡ sorts.Import = f in cc)), refl)
 counts_one true sorts.Field = inr ((λ e f. absurd (let g : sorts.Field ≡ sorts.Import = f in cc)), refl)
 
-module _ (name : ℕ → List ℕ) (r : Rows) where
-  abbrev members : List Declared
-  members = (listing_by r).members
-
-  weaker : (k used declared : ℕ) → MeansBefore name r k used declared → MeansBefore name r (k + 1) used declared
+module _ (name : ℕ → List ℕ) (blocks : List Block) (members : List Member) (uses : List Used) where
+  weaker : (k used declared : ℕ) → MeansBefore name blocks members uses k used declared → MeansBefore name blocks members uses (k + 1) used declared
   weaker k used declared m = record {
     place = m.place;
     below = (let l : m.place < k = m.below in omega arith);
@@ -81,25 +79,25 @@ module _ (name : ℕ → List ℕ) (r : Rows) where
   }
 
   -- one of the uses before, or this one
-  before_or_last : (k used declared : ℕ) (u : Use) → slice_get r.uses.items k ≡ Some u → (m : MeansBefore name r (k + 1) used declared) →
-      MeansBefore name r k used declared ⊎ ((u.number ≡ used) × ((d : Declared) × Means name members (used_by r.blocks.items u) d × (d.number ≡ declared)))
+  before_or_last : (k used declared : ℕ) (u : Used) → slice_get uses k ≡ Some u → (m : MeansBefore name blocks members uses (k + 1) used declared) →
+      MeansBefore name blocks members uses k used declared ⊎ ((u.number ≡ used) × ((d : Member) × Means name blocks members u d × (d.number ≡ declared)))
   before_or_last k used declared u at m = ⊎_elim
       (λ (old : m.place < k). inl (record { place = m.place; below = old; use_there = m.use_there; there = m.there; of_use = m.of_use; declared_there = m.declared_there; means = m.means; of_declared = m.of_declared }))
       (λ (now : k ≤ m.place).
       let l : m.place < k + 1 = m.below in
       let e : m.place ≡ k = omega arith in
-      let same : m.use_there ≡ u = some_one m.use_there u (sym m.there ∙ ap (slice_get r.uses.items) e ∙ at) in
-      inr (sym (ap (λ (x : Use). x.number) same) ∙ m.of_use, (m.declared_there, subst (λ (x : Use). Means name members (used_by r.blocks.items x) m.declared_there) same m.means, m.of_declared)))
+      let same : m.use_there ≡ u = some_one m.use_there u (sym m.there ∙ ap (slice_get uses) e ∙ at) in
+      inr (sym (ap (λ (x : Used). x.number) same) ∙ m.of_use, (m.declared_there, subst (λ (x : Used). Means name blocks members x m.declared_there) same m.means, m.of_declared)))
       (cases_lt m.place k)
 
-  pub meant_none : AreMeant name r 0 []
+  pub meant_none : AreMeant name blocks members uses 0 []
   meant_none = record {
     sound = λ i row e. absurd (let f : None ≡ Some row = e in cc);
     all = λ used declared m. absurd (let l : m.place < 0 = m.below in omega arith);
     ordered = λ i j x y l e. absurd (let f : None ≡ Some x = e in cc);
   }
 
-  pub meant_other : (k : ℕ) (rows : List MeaningRow) (u : Use) → AreMeant name r k rows → slice_get r.uses.items k ≡ Some u → MeansNothing name r u → AreMeant name r (k + 1) rows
+  pub meant_other : (k : ℕ) (rows : List MeaningRow) (u : Used) → AreMeant name blocks members uses k rows → slice_get uses k ≡ Some u → MeansNothing name blocks members u → AreMeant name blocks members uses (k + 1) rows
   meant_other k rows u a at nothing = record {
     sound = λ i row e. weaker k row.used row.declared (a.sound i row e);
     all = λ used declared m. elim (before_or_last k used declared u at m) [
@@ -110,25 +108,25 @@ module _ (name : ℕ → List ℕ) (r : Rows) where
   }
 
   -- a use before the last has a smaller number
-  before_last : (k used declared : ℕ) (u : Use) → AreWhole r → slice_get r.uses.items k ≡ Some u → MeansBefore name r k used declared → used < u.number
-  before_last k used declared u w at m =
-      subst (λ (n : ℕ). n < u.number) m.of_use (w.uses_ascend m.place k m.use_there u m.below m.there at)
+  before_last : (k used declared : ℕ) (u : Used) → AscendBy (λ (x : Used). x.number) uses → slice_get uses k ≡ Some u → MeansBefore name blocks members uses k used declared → used < u.number
+  before_last k used declared u up at m =
+      subst (λ (n : ℕ). n < u.number) m.of_use (up m.place k m.use_there u m.below m.there at)
 
-  pub meant_more : (k i : ℕ) (rows : List MeaningRow) (u : Use) (m : Member) → AreWhole r → NoneTwice name members → AreMeant name r k rows → slice_get r.uses.items k ≡ Some u
-      → Means name members (used_by r.blocks.items u) (declared_by r.blocks.items m) → AreMeant name r (k + 1) (rows ++ record { used = u.number; declared = m.number } ∷ [])
-  meant_more k i rows u m w once a at means =
+  pub meant_more : (k : ℕ) (rows : List MeaningRow) (u : Used) (m : Member) → AscendBy (λ (x : Used). x.number) uses → NoneTwice name members → AreMeant name blocks members uses k rows → slice_get uses k ≡ Some u
+      → Means name blocks members u m → AreMeant name blocks members uses (k + 1) (rows ++ record { used = u.number; declared = m.number } ∷ [])
+  meant_more k rows u m up once a at means =
       let new : MeaningRow = record { used = u.number; declared = m.number } in
       record {
         sound = λ j row e. elim (get_push rows new row j e) [
           | inl h ↦ weaker k row.used row.declared (a.sound j row h)
-          | inr h ↦ subst (λ (x : MeaningRow). MeansBefore name r (k + 1) x.used x.declared) h.1
-              (record { place = k; below = omega arith; use_there = u; there = at; of_use = refl; declared_there = declared_by r.blocks.items m; means = means; of_declared = refl })
+          | inr h ↦ subst (λ (x : MeaningRow). MeansBefore name blocks members uses (k + 1) x.used x.declared) h.1
+              (record { place = k; below = omega arith; use_there = u; there = at; of_use = refl; declared_there = m; means = means; of_declared = refl })
         ];
         all = λ used declared h. elim (before_or_last k used declared u at h) [
           | inl old ↦ (let p = a.all used declared old in (p.0, get_left rows (new ∷ []) p.0 (record { used = used; declared = declared }) p.1))
           | inr now ↦ (
-              let same : declared_by r.blocks.items m ≡ now.1.0 = means_once name members (used_by r.blocks.items u) (declared_by r.blocks.items m) now.1.0 once means now.1.1 in
-              let e : new ≡ record { used = used; declared = declared } = row_is u.number used m.number declared now.0 (ap (λ (x : Declared). x.number) same ∙ now.1.2) in
+              let same : m ≡ now.1.0 = means_once name blocks members u m now.1.0 once means now.1.1 in
+              let e : new ≡ record { used = used; declared = declared } = row_is u.number used m.number declared now.0 (ap (λ (x : Member). x.number) same ∙ now.1.2) in
               (length rows, get_last rows new ∙ ap Some e))
         ];
         ordered = λ x y p q l e f. elim (get_push rows new q y f) [
@@ -137,7 +135,7 @@ module _ (name : ℕ → List ℕ) (r : Rows) where
             | inr last ↦ absurd (let s : y < length rows = slice_get_within rows y q old in omega (arith, last.0))
           ]
           | inr last ↦ elim (get_push rows new p x e) [
-            | inl older ↦ subst (λ (v : MeaningRow). p.used < v.used) last.1 (before_last k p.used p.declared u w at (a.sound x p older))
+            | inl older ↦ subst (λ (v : MeaningRow). p.used < v.used) last.1 (before_last k p.used p.declared u up at (a.sound x p older))
             | inr also ↦ absurd (omega (arith, last.0, also.0))
           ]
         ];
@@ -148,60 +146,58 @@ module _ (name : ℕ → List ℕ) (r : Rows) where
 
   -- ---- how many
 
-  uses_more : (k : ℕ) (u : Use) → slice_get r.uses.items k ≡ Some u → take (k + 1) (listing_by r).uses ≡ take k (listing_by r).uses ++ used_by r.blocks.items u ∷ []
+  uses_more : (k : ℕ) (u : Used) → slice_get uses k ≡ Some u → take (k + 1) uses ≡ take k uses ++ u ∷ []
   uses_more k u at =
-      let uses = (listing_by r).uses in
-      let there : slice_get uses k ≡ Some (used_by r.blocks.items u) = slice_of (used_by r.blocks.items) r.uses.items k u at in
-      take_more uses k (used_by r.blocks.items u) (slice_get_within uses k _ there) ∙ ap (λ (x : Used). take k uses ++ x ∷ []) (get_or_from_slice_get uses k (used_by r.blocks.items u) (used_by r.blocks.items u) there)
+      take_more uses k u (slice_get_within uses k _ at) ∙ ap (λ (x : Used). take k uses ++ x ∷ []) (get_or_from_slice_get uses k u u at)
 
   -- what qualifies a use is what it means, and an import with a dot behind the use
-  qualified_row : (i j : ℕ) (m n : Member) (u : Use) → AreWhole r → NoneTwice name members → slice_get r.members.items i ≡ Some m → slice_get r.members.items j ≡ Some n
-      → Means name members (used_by r.blocks.items u) (declared_by r.blocks.items m) → IsQualifiedBy name (listing_by r) n.number (used_by r.blocks.items u) → (j ≡ i) × (m.sort ≡ sorts.Import)
-  qualified_row i j m n u w once p q means by =
-      let same : declared_by r.blocks.items m ≡ by.declared = means_once name members (used_by r.blocks.items u) (declared_by r.blocks.items m) by.declared once means by.means in
-      let number : m.number ≡ n.number = ap (λ (x : Declared). x.number) same ∙ by.is_alias in
-      (one_of_number name r.members.items j i n m w.are_members.ascend q p (sym number), ap (λ (x : Declared). x.sort) same ∙ by.of_import)
+  qualified_row : (i j : ℕ) (m n : Member) (u : Used) → AscendBy (λ (x : Member). x.number) members → NoneTwice name members → slice_get members i ≡ Some m → slice_get members j ≡ Some n
+      → Means name blocks members u m → IsQualifiedBy name blocks members n.number u → (j ≡ i) × (m.sort ≡ sorts.Import)
+  qualified_row i j m n u up once p q means by =
+      let same : m ≡ by.declared = means_once name blocks members u m by.declared once means by.means in
+      let number : m.number ≡ n.number = ap (λ (x : Member). x.number) same ∙ by.is_alias in
+      (one_of_number name members j i n m up q p (sym number), ap (λ (x : Member). x.sort) same ∙ by.of_import)
 
-  pub counted_none : (counts : List ℕ) → length counts ≡ length r.members.items → ((i : ℕ) → slice_index counts i ≡ 0) → AreCounted name r 0 counts
+  pub counted_none : (counts : List ℕ) → length counts ≡ length members → ((i : ℕ) → slice_index counts i ≡ 0) → AreCounted name blocks members uses 0 counts
   counted_none counts l z = record { as_many = l; small = λ i. rw (z i) (omega arith); each = λ i m e. rw (z i) none }
 
-  pub counted_other : (k : ℕ) (counts : List ℕ) (u : Use) → AreCounted name r k counts → slice_get r.uses.items k ≡ Some u → MeansNothing name r u → AreCounted name r (k + 1) counts
+  pub counted_other : (k : ℕ) (counts : List ℕ) (u : Used) → AreCounted name blocks members uses k counts → slice_get uses k ≡ Some u → MeansNothing name blocks members u → AreCounted name blocks members uses (k + 1) counts
   counted_other k counts u c at nothing = record {
     as_many = c.as_many;
     small = λ i. (let s : slice_index counts i ≤ k = c.small i in omega arith);
-    each = λ i m e. rw (uses_more k u at) (counts_same _ (take k (listing_by r).uses) (used_by r.blocks.items u) _ (λ q. nothing q.declared q.means) (c.each i m e));
+    each = λ i m e. rw (uses_more k u at) (counts_same _ (take k uses) u _ (λ q. nothing q.declared q.means) (c.each i m e));
   }
 
-  -- how often the row that a use means is counted
-  this_row : (k i : ℕ) (counts : List ℕ) (u : Use) (m n : Member) → AreWhole r → NoneTwice name members → n ≡ m → AreCounted name r k counts → slice_get r.members.items i ≡ Some m
-      → Means name members (used_by r.blocks.items u) (declared_by r.blocks.items m) → CountsOne u.is_qualified m.sort
-      → Counts (IsQualifiedBy name (listing_by r) n.number) (take k (listing_by r).uses ++ used_by r.blocks.items u ∷ []) (slice_index counts i + counted_for m u)
-  this_row k i counts u m n w once is c there means (inl h) =
-      let here : slice_get r.members.items i ≡ Some n = there ∙ ap Some (sym is) in
+  -- how often the member that a use means is counted
+  this_row : (k i : ℕ) (counts : List ℕ) (u : Used) (m n : Member) → AscendBy (λ (x : Member). x.number) members → NoneTwice name members → n ≡ m → AreCounted name blocks members uses k counts → slice_get members i ≡ Some m
+      → Means name blocks members u m → CountsOne (is_some u.member) m.sort
+      → Counts (IsQualifiedBy name blocks members n.number) (take k uses ++ u ∷ []) (slice_index counts i + counted_for m u)
+  this_row k i counts u m n up once is c there means (inl h) =
+      let here : slice_get members i ≡ Some n = there ∙ ap Some (sym is) in
       let e : suc (slice_index counts i) ≡ slice_index counts i + counted_for m u = omega (arith, h.2) in
-      subst (λ (x : ℕ). Counts (IsQualifiedBy name (listing_by r) n.number) (take k (listing_by r).uses ++ used_by r.blocks.items u ∷ []) x) e
-      (counts_more _ (take k (listing_by r).uses) (used_by r.blocks.items u) _
-      (record { qualified = h.0; declared = declared_by r.blocks.items m; means = means; is_alias = ap (λ (x : Member). x.number) (sym is); of_import = h.1 })
+      subst (λ (x : ℕ). Counts (IsQualifiedBy name blocks members n.number) (take k uses ++ u ∷ []) x) e
+      (counts_more _ (take k uses) u _
+      (record { qualified = h.0; declared = m; means = means; is_alias = ap (λ (x : Member). x.number) (sym is); of_import = h.1 })
       (c.each i n here))
-  this_row k i counts u m n w once is c there means (inr h) =
-      let here : slice_get r.members.items i ≡ Some n = there ∙ ap Some (sym is) in
+  this_row k i counts u m n up once is c there means (inr h) =
+      let here : slice_get members i ≡ Some n = there ∙ ap Some (sym is) in
       let e : slice_index counts i ≡ slice_index counts i + counted_for m u = omega (arith, h.1) in
-      subst (λ (x : ℕ). Counts (IsQualifiedBy name (listing_by r) n.number) (take k (listing_by r).uses ++ used_by r.blocks.items u ∷ []) x) e
-      (counts_same _ (take k (listing_by r).uses) (used_by r.blocks.items u) _
-      (λ q. h.0 q.qualified (qualified_row i i m n u w once there here means q).1)
+      subst (λ (x : ℕ). Counts (IsQualifiedBy name blocks members n.number) (take k uses ++ u ∷ []) x) e
+      (counts_same _ (take k uses) u _
+      (λ q. h.0 q.qualified (qualified_row i i m n u up once there here means q).1)
       (c.each i n here))
 
-  pub counted_more : (k i : ℕ) (counts : List ℕ) (u : Use) (m : Member) → AreWhole r → NoneTwice name members → AreCounted name r k counts → slice_get r.uses.items k ≡ Some u
-      → slice_get r.members.items i ≡ Some m → Means name members (used_by r.blocks.items u) (declared_by r.blocks.items m)
-      → AreCounted name r (k + 1) (slice_set counts i (slice_index counts i + counted_for m u))
-  counted_more k i counts u m w once c at there means =
+  pub counted_more : (k i : ℕ) (counts : List ℕ) (u : Used) (m : Member) → AscendBy (λ (x : Member). x.number) members → NoneTwice name members → AreCounted name blocks members uses k counts → slice_get uses k ≡ Some u
+      → slice_get members i ≡ Some m → Means name blocks members u m
+      → AreCounted name blocks members uses (k + 1) (slice_set counts i (slice_index counts i + counted_for m u))
+  counted_more k i counts u m up once c at there means =
       let more = counted_for m u in
       let new = slice_set counts i (slice_index counts i + more) in
-      let within : i < length r.members.items = slice_get_within r.members.items i m there in
-      let inside : i < length counts = (let l : length counts ≡ length r.members.items = c.as_many in omega arith) in
+      let within : i < length members = slice_get_within members i m there in
+      let inside : i < length counts = (let l : length counts ≡ length members = c.as_many in omega arith) in
       let same : slice_index new i ≡ slice_index counts i + more = get_or-set_same counts i (slice_index counts i + more) 0 inside in
       let apart : (j : ℕ) → (j ≡ i → ⊥) → slice_index new j ≡ slice_index counts j = λ j ne. get_or-set_other counts i j (slice_index counts i + more) 0 ne in
-      let one = counts_one u.is_qualified m.sort in
+      let one = counts_one (is_some u.member) m.sort in
       let small_more : more ≤ 1 = elim one [ inl h ↦ omega (arith, h.2) | inr h ↦ omega (arith, h.1) ] in
       record {
         as_many = length-set counts i (slice_index counts i + more) ∙ c.as_many;
@@ -211,10 +207,10 @@ module _ (name : ℕ → List ℕ) (r : Rows) where
             (cases_eq j i);
         each = λ j n e. ⊎_elim
             (λ (q : j ≡ i).
-            let is : n ≡ m = some_one n m (sym e ∙ ap (slice_get r.members.items) q ∙ there) in
-            rw (uses_more k u at) (rw q (rw same (this_row k i counts u m n w once is c there means one))))
+            let is : n ≡ m = some_one n m (sym e ∙ ap (slice_get members) q ∙ there) in
+            rw (uses_more k u at) (rw q (rw same (this_row k i counts u m n up once is c there means one))))
             (λ (ne : j ≡ i → ⊥).
             rw (uses_more k u at) (rw (apart j ne)
-            (counts_same _ (take k (listing_by r).uses) (used_by r.blocks.items u) _ (λ q. ne (qualified_row i j m n u w once there e means q).0) (c.each j n e))))
+            (counts_same _ (take k uses) u _ (λ q. ne (qualified_row i j m n u up once there e means q).0) (c.each j n e))))
             (cases_eq j i);
       }

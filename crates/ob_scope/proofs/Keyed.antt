@@ -1,6 +1,7 @@
 -- Keys that are one say one place and one name; a table with one row more.
-use Rattle.std.proofs.Common.{◌≡◌, ℕ, ◌+◌, ◌<◌, ◌≤◌, Bool, true, false, List, [], ◌∷◌, ◌++◌, length, get_or, map, take, Some, refl, sym, ap, ◌∙◌, subst, arith, ⊎_elim}
-use Rattle.std.specs.Prelude.{◌&&◌, slice_get, position}
+use Rattle.std.proofs.Common.{◌≡◌, ℕ, ◌+◌, ◌<◌, ◌≤◌, Bool, true, false, List, [], ◌∷◌, ◌++◌, length, get_or, map, take, Option, None, Some, refl, sym, ap, ◌∙◌, subst, arith, ⊎_elim}
+use Rattle.std.specs.Prelude.{◌&&◌, slice_get, position, IfNone, IfSome}
+use Rattle.std.specs.Option.{is_some}
 use Rattle.std.specs.List.{list_any}
 use Rattle.std.specs.Str.{bytes_eq}
 use Rattle.std.proofs.lemmas.Bool.{eqb-true, cases_lt, false≢true}
@@ -11,12 +12,13 @@ use Rattle.std.proofs.lemmas.Option.{slice_get_within, slice_get-get_or, get_or_
 use Rattle.std.proofs.lemmas.Slice.Eq.{bytes_eq-Decides}
 use Rattle.std.proofs.lemmas.Grind.{common_steps}
 use Rattle.ob_scope.specs.contracts.places.KeyPartialEq as keyed
-use Rattle.ob_scope.specs.contracts.rows.PlacePartialEq as placed
+use Rattle.ob_scope.specs.contracts.members.PlacePartialEq as placed
 use Rattle.ob_scope.specs.declared.places.Key.{Key}
-use Rattle.ob_scope.specs.declared.rows.Member.{Member}
-use Rattle.ob_scope.specs.declared.rows.Place.{Place}
-use Rattle.ob_scope.specs.declared.rows.Place.TheVariants as places
-use Rattle.ob_scope.specs.Places.{Entry, entry_of, entry_said, HasNoEntry, IsEntryAt, IsTable, IsTwiceAt}
+use Rattle.ob_scope.specs.declared.members.Member.{Member}
+use Rattle.ob_scope.specs.declared.members.Place.{Place}
+use Rattle.ob_scope.specs.declared.members.Place.TheVariants as places
+use Rattle.ob_scope.specs.Scope.{AreTwice}
+use Rattle.ob_scope.specs.Places.{Entry, entry_of, entry_said, AreFirstTwice, HasNoEntry, IsEntryAt, IsIndex}
 use Rattle.ob_scope.proofs.Elements.{of_slice, slice_of, some_one}
 
 abbrev pub place_eq : Place → Place → Bool
@@ -103,10 +105,17 @@ module _ (name : ℕ → List ℕ) (members : List Member) where
   pub row_of_key : (keys : List Key) (front : List Member) (i : ℕ) (x : Key) → map entry_said keys ≡ map (entry_of name) front → slice_get keys i ≡ Some x → (m : Member) × (slice_get front i ≡ Some m) × (entry_of name m ≡ entry_said x)
   row_of_key keys front i x e there = of_slice (entry_of name) front i (entry_said x) (ap (λ (es : List Entry). slice_get es i) (sym e) ∙ slice_of entry_said keys i x there)
 
-  -- the table with one row more
-  pub table_more : (keys : List Key) (i : ℕ) (k : Key) (m : Member) → IsTable name (take i members) keys → slice_get members i ≡ Some m → entry_said k ≡ entry_of name m
-      → list_any (key_eq k) keys ≡ false → IsTable name (take (i + 1) members) (keys ++ k ∷ [])
-  table_more keys i k m t at says new =
+  -- members of one entry are declared twice, and the other way round
+  pub twice_of : (m n : Member) → entry_of name m ≡ entry_of name n → AreTwice name m n
+  twice_of m n e = (ap (λ (x : Entry). x.place) e, ap (λ (x : Entry). x.name) e)
+
+  pub entries_of : (m n : Member) → AreTwice name m n → entry_of name m ≡ entry_of name n
+  entries_of m n t = entry_is m.place n.place (name m.number) (name n.number) t.0 t.1
+
+  -- the index with one member more
+  pub index_more : (keys : List Key) (i : ℕ) (k : Key) (m : Member) → IsIndex name (take i members) keys → slice_get members i ≡ Some m → entry_said k ≡ entry_of name m
+      → list_any (key_eq k) keys ≡ false → IsIndex name (take (i + 1) members) (keys ++ k ∷ [])
+  index_more keys i k m t at says new =
       let l : i < length members = slice_get_within members i m at in
       let here : get_or members i m ≡ m = get_or_from_slice_get members i m m at in
       record {
@@ -115,32 +124,47 @@ module _ (name : ℕ → List ℕ) (members : List Member) where
             ∙ ap (λ (es : List Entry). es ++ entry_said k ∷ []) t.entries
             ∙ ap (λ (x : Entry). map (entry_of name) (take i members) ++ x ∷ []) (says ∙ ap (entry_of name) (sym here))
             ∙ sym (map_more (entry_of name) members i m l);
-        apart = λ a b x y below p q same.
+        once = λ a b x y below p q same.
             (let u = front_get (i + 1) a x p in
             let v = front_get (i + 1) b y q in
             let b_below : b < i + 1 = v.0 in
             ⊎_elim
-            (λ (old : b < i). t.apart a b x y below (get_front i a x (omega arith) u.1) (get_front i b y old v.1) same)
+            (λ (old : b < i). t.once a b x y below (get_front i a x (omega arith) u.1) (get_front i b y old v.1) same)
             (λ (now : i ≤ b).
             let e : b ≡ i = omega arith in
             let last : y ≡ m = some_one y m (sym v.1 ∙ ap (slice_get members) e ∙ at) in
             let w = key_of_row keys (take i members) a x t.entries (get_front i a x (omega arith) u.1) in
-            no_entry keys k new a w.0 w.1 (w.2 ∙ same ∙ ap (entry_of name) last ∙ sym says))
+            no_entry keys k new a w.0 w.1 (w.2 ∙ entries_of x y same ∙ ap (entry_of name) last ∙ sym says))
             (cases_lt b i));
       }
 
-  -- a row that says what an earlier one says
-  pub twice_at : (keys : List Key) (i f : ℕ) (k x : Key) (m : Member) → IsTable name (take i members) keys → slice_get members i ≡ Some m → entry_said k ≡ entry_of name m
-      → slice_get keys f ≡ Some x → key_eq k x ≡ true → IsTwiceAt name members f i
+  -- a member that says what an earlier one says
+  pub twice_at : (keys : List Key) (i f : ℕ) (k x : Key) (m : Member) → IsIndex name (take i members) keys → slice_get members i ≡ Some m → entry_said k ≡ entry_of name m
+      → slice_get keys f ≡ Some x → key_eq k x ≡ true → AreFirstTwice name members f i
   twice_at keys i f k x m t at says there equal =
       let r = row_of_key keys (take i members) f x t.entries there in
       let u = front_get i f r.0 r.1 in
       record {
-        order = u.0;
         first = r.0;
         second = m;
         at_first = u.1;
         at_second = at;
-        same = r.2 ∙ sym (key_one k x equal) ∙ says;
-        none_before = λ a b y z below last p q same. t.apart a b y z below (get_front i a y (omega arith) p) (get_front i b z last q) same;
+        twice = record {
+          first = f;
+          second = i;
+          order = u.0;
+          at_first = u.1;
+          at_second = at;
+          twice = twice_of r.0 m (r.2 ∙ sym (key_one k x equal) ∙ says);
+          none_before = λ a b y z below last p q same. t.once a b y z below (get_front i a y (omega arith) p) (get_front i b z last q) same;
+        };
       }
+
+-- what a search of a key answers
+pub entry_found : (keys : List Key) (k : Key) (r : Option ℕ) → r ≡ position (key_eq k) keys → IfSome r (IsEntryAt keys k.place k.name.now)
+entry_found keys k None e = tt
+entry_found keys k (Some i) e = entry_at keys k i (sym e)
+
+pub entry_none : (keys : List Key) (k : Key) (r : Option ℕ) → is_some r ≡ list_any (key_eq k) keys → IfNone r (HasNoEntry keys k.place k.name.now)
+entry_none keys k None e = no_entry keys k (sym e)
+entry_none keys k (Some i) e = tt

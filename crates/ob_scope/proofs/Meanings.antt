@@ -1,8 +1,13 @@
 -- A use means one declaration, and one pair of declarations is the first that is declared twice.
-use Rattle.std.proofs.Common.{◌≡◌, ℕ, ◌<◌, ◌≤◌, ◌⊎◌, inl, inr, List, [], ◌∷◌, length, sym, ap, ◌∙◌, arith, Some, slice_get, Contains, subst}
+use Rattle.std.proofs.Common.{◌≡◌, ℕ, ◌<◌, ◌⊎◌, inl, inr, List, sym, ap, ◌∙◌, arith, Some, slice_get, Contains, subst}
 use Rattle.std.proofs.lemmas.Bool.{cases_lt}
 use Rattle.std.proofs.lemmas.Option.{slice_get-get_or}
-use Rattle.ob_scope.specs.Scope.{Block, Declared, Used, Around, Means, by_scope, as_target, AreTwice, IsFirstTwice, NoneTwice}
+use Rattle.ob_decls.specs.declared.rows.Block.{Block as BlockRow}
+use Rattle.ob_decls.specs.declared.rows.Used.{Used}
+use Rattle.ob_scope.specs.declared.members.Member.{Member}
+use Rattle.ob_scope.specs.declared.members.Place.TheVariants.{Block}
+use Rattle.ob_scope.specs.Scope.{Means, by_scope, as_target, AreTwice, IsFirstTwice, NoneTwice}
+use Rattle.ob_scope.proofs.Blocks.{around-both}
 
 -- a member has a place in its list
 pub record IsAt {X : Type 0} (xs : List X) (x : X) : Type 0 where
@@ -28,11 +33,11 @@ same_at xs i j x y e p q =
     let s : Some x ≡ Some y = sym p ∙ r in
     cc
 
-twice_back : (name : ℕ → List ℕ) (d e : Declared) → AreTwice name d e → AreTwice name e d
+twice_back : (name : ℕ → List ℕ) (d e : Member) → AreTwice name d e → AreTwice name e d
 twice_back name d e t = (sym t.0, sym t.1)
 
 -- where nothing is declared twice, members of one name and place are one
-pub member_once : (name : ℕ → List ℕ) (ds : List Declared) (d e : Declared) → NoneTwice name ds → Contains ds d → Contains ds e → AreTwice name d e → d ≡ e
+pub member_once : (name : ℕ → List ℕ) (ds : List Member) (d e : Member) → NoneTwice name ds → Contains ds d → Contains ds e → AreTwice name d e → d ≡ e
 member_once name ds d e none c k t = go (at_from_contains ds d c) (at_from_contains ds e k)
   where
     go : IsAt ds d → IsAt ds e → d ≡ e
@@ -42,45 +47,33 @@ member_once name ds d e none c k t = go (at_from_contains ds d c) (at_from_conta
       | inr (inr h) ↦ absurd (none q.place p.place e d h q.there p.there (twice_back name d e t))
     ]
 
--- a block around another is not longer
-pub around-length : (c b : List ℕ) → Around c b → length c ≤ length b
-around-length c [] h = rw h (omega arith)
-around-length c (s ∷ b) (inl e) = rw e (omega arith)
-around-length c (s ∷ b) (inr h) = let k : length c ≤ length b = around-length c b h in omega arith
-
--- of the blocks around one there is one of each length
-around-one : (b c u : List ℕ) → Around b u → Around c u → length b ≡ length c → b ≡ c
-around-one b c [] x y e = x ∙ sym y
-around-one b c (s ∷ u) (inl x) (inl y) e = x ∙ sym y
-around-one b c (s ∷ u) (inl x) (inr y) e = absurd (let p : length b ≡ length (s ∷ u) = ap length x in let q : length c ≤ length u = around-length c u y in omega arith)
-around-one b c (s ∷ u) (inr x) (inl y) e = absurd (let p : length c ≡ length (s ∷ u) = ap length y in let q : length b ≤ length u = around-length b u x in omega arith)
-around-one b c (s ∷ u) (inr x) (inr y) e = around-one b c u x y e
-
-pub means-member : (name : ℕ → List ℕ) (ds : List Declared) (u : Used) (d : Declared) → Means name ds u d → Contains ds d
-means-member name ds u d (by_scope r) = r.seen.declared
-means-member name ds u d (as_target t n l) = l.declared
+pub means-member : (name : ℕ → List ℕ) (blocks : List BlockRow) (ds : List Member) (u : Used) (d : Member) → Means name blocks ds u d → Contains ds d
+means-member name blocks ds u d (by_scope r) = r.seen.declared
+means-member name blocks ds u d (as_target t n l) = l.declared
 
 -- a use means one name in one place
-means-twice : (name : ℕ → List ℕ) (ds : List Declared) (u : Used) (d e : Declared) → Means name ds u d → Means name ds u e → AreTwice name d e
-means-twice name ds u d e (by_scope r) (by_scope q) =
-    let p : length r.block ≤ length q.block = q.innermost r.block d r.seen in
-    let p' : length q.block ≤ length r.block = r.innermost q.block e q.seen in
-    let same : r.block ≡ q.block = around-one r.block q.block u.block r.seen.around q.seen.around (omega arith) in
-    (r.seen.placed ∙ ap Block same ∙ sym q.seen.placed, r.seen.named ∙ sym q.seen.named)
-means-twice name ds u d e (by_scope r) (as_target t n l) = absurd (n r.block d r.seen)
-means-twice name ds u d e (as_target t n l) (by_scope q) = absurd (n q.block e q.seen)
-means-twice name ds u d e (as_target t n l) (as_target s m k) = (l.placed ∙ sym k.placed, l.named ∙ sym k.named)
+means-twice : (name : ℕ → List ℕ) (blocks : List BlockRow) (ds : List Member) (u : Used) (d e : Member) → Means name blocks ds u d → Means name blocks ds u e → AreTwice name d e
+means-twice name blocks ds u d e (by_scope r) (by_scope q) =
+    let same : r.block ≡ q.block = around-both blocks r.block q.block (q.innermost r.block d r.seen) (r.innermost q.block e q.seen) in
+    (r.seen.placed ∙ ap (λ (b : ℕ). Block b) same ∙ sym q.seen.placed, r.seen.named ∙ sym q.seen.named)
+means-twice name blocks ds u d e (by_scope r) (as_target t n l) = absurd (n r.block d r.seen)
+means-twice name blocks ds u d e (as_target t n l) (by_scope q) = absurd (n q.block e q.seen)
+means-twice name blocks ds u d e (as_target t n l) (as_target s m k) = (l.placed ∙ sym k.placed, l.named ∙ sym k.named)
 
-pub means_once : (name : ℕ → List ℕ) (ds : List Declared) (u : Used) (d e : Declared) → NoneTwice name ds → Means name ds u d → Means name ds u e → d ≡ e
-means_once name ds u d e none m n =
-    member_once name ds d e none (means-member name ds u d m) (means-member name ds u e n) (means-twice name ds u d e m n)
+pub means_once : (name : ℕ → List ℕ) (blocks : List BlockRow) (ds : List Member) (u : Used) (d e : Member) → NoneTwice name ds → Means name blocks ds u d → Means name blocks ds u e → d ≡ e
+means_once name blocks ds u d e none m n =
+    member_once name ds d e none (means-member name blocks ds u d m) (means-member name blocks ds u e n) (means-twice name blocks ds u d e m n)
+
+-- what is one with what a use means
+pub means_as : (name : ℕ → List ℕ) (blocks : List BlockRow) (ds : List Member) (u : Used) (d e : Member) → d ≡ e → Means name blocks ds u d → Means name blocks ds u e
+means_as name blocks ds u d e same m = subst (λ (x : Member). Means name blocks ds u x) same m
 
 -- where nothing is declared twice, there is no first such pair
-pub no_first : (name : ℕ → List ℕ) (ds : List Declared) (d e : Declared) → NoneTwice name ds → IsFirstTwice name ds d e → ⊥
+pub no_first : (name : ℕ → List ℕ) (ds : List Member) (d e : Member) → NoneTwice name ds → IsFirstTwice name ds d e → ⊥
 no_first name ds d e none f = none f.first f.second d e f.order f.at_first f.at_second f.twice
 
 -- two first pairs are one
-pub first_once : (name : ℕ → List ℕ) (ds : List Declared) (d e f g : Declared) → IsFirstTwice name ds d e → IsFirstTwice name ds f g → (d ≡ f) × (e ≡ g)
+pub first_once : (name : ℕ → List ℕ) (ds : List Member) (d e f g : Member) → IsFirstTwice name ds d e → IsFirstTwice name ds f g → (d ≡ f) × (e ≡ g)
 first_once name ds d e f g p q = elim (order p.second q.second) [
   | inl h ↦ absurd (q.none_before p.first p.second d e p.order h p.at_first p.at_second p.twice)
   | inr (inl h) ↦ (first h, last h)
@@ -93,7 +86,7 @@ first_once name ds d e f g p q = elim (order p.second q.second) [
     -- both first ones have the name and the place of the second
     both : p.second ≡ q.second → AreTwice name d f
     both h =
-        (p.twice.0 ∙ ap (λ (x : Declared). x.place) (last h) ∙ sym q.twice.0, p.twice.1 ∙ ap (λ (x : Declared). name x.number) (last h) ∙ sym q.twice.1)
+        (p.twice.0 ∙ ap (λ (x : Member). x.place) (last h) ∙ sym q.twice.0, p.twice.1 ∙ ap (λ (x : Member). name x.number) (last h) ∙ sym q.twice.1)
 
     first : p.second ≡ q.second → d ≡ f
     first h = elim (order p.first q.first) [

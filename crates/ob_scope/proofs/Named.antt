@@ -1,24 +1,25 @@
--- The rows of a table, by the block and the name that they declare.
+-- The places of members, by the block and the name that they declare.
 use Rattle.std.proofs.Common.{◌≡◌, ℕ, ◌<◌, ◌≤◌, List, Some, None, Option, sym, ap, ◌∙◌, subst, arith, ⊎_elim}
 use Rattle.std.specs.Prelude.{slice_get, slice_index_or, IfSome, IfNone}
 use Rattle.std.proofs.lemmas.Bool.{cases_lt}
 use Rattle.std.proofs.lemmas.Option.{get_or_from_slice_get}
 use Rattle.ob_scope.specs.declared.places.Key.{Key}
-use Rattle.ob_scope.specs.declared.rows.Member.{Member}
-use Rattle.ob_scope.specs.declared.rows.Place.TheVariants as places
+use Rattle.ob_scope.specs.declared.members.Member.{Member}
+use Rattle.ob_scope.specs.declared.members.Place.TheVariants as places
 use Rattle.ob_scope.specs.Looked.{IsNamedIn}
-use Rattle.ob_scope.specs.Places.{Entry, entry_of, AreApart, HasNoEntry, IsEntryAt, IsTable}
-use Rattle.ob_scope.proofs.Keyed.{entry_is, key_of_row, row_of_key}
+use Rattle.ob_scope.specs.Places.{Entry, entry_of, HasNoEntry, IsEntryAt, IsIndex}
+use Rattle.ob_scope.specs.Scope.{NoneTwice}
+use Rattle.ob_scope.proofs.Keyed.{entry_is, key_of_row, row_of_key, twice_of}
 
 module _ (name : ℕ → List ℕ) (members : List Member) where
   -- the rows of one entry are one
-  pub apart_one : (i j : ℕ) (m n : Member) → AreApart name members → slice_get members i ≡ Some m → slice_get members j ≡ Some n → entry_of name m ≡ entry_of name n → i ≡ j
+  pub apart_one : (i j : ℕ) (m n : Member) → NoneTwice name members → slice_get members i ≡ Some m → slice_get members j ≡ Some n → entry_of name m ≡ entry_of name n → i ≡ j
   apart_one i j m n a p q e =
       ⊎_elim
-      (λ (below : i < j). absurd (a i j m n below p q e))
+      (λ (below : i < j). absurd (a i j m n below p q (twice_of name members m n e)))
       (λ (above : j ≤ i).
       ⊎_elim
-      (λ (below : j < i). absurd (a j i n m below q p (sym e)))
+      (λ (below : j < i). absurd (a j i n m below q p (twice_of name members n m (sym e))))
       (λ (other : i ≤ j). (let h : i ≡ j = omega arith in h))
       (cases_lt j i))
       (cases_lt i j)
@@ -36,7 +37,7 @@ module _ (name : ℕ → List ℕ) (members : List Member) where
       (cases_lt j i))
       (cases_lt i j)
 
-  module _ (keys : List Key) (t : IsTable name members keys) (block number : ℕ) where
+  module _ (keys : List Key) (t : IsIndex name members keys) (block number : ℕ) where
     named_entry : (m : Member) → m.place ≡ places.Block block → name m.number ≡ name number → entry_of name m ≡ record { place = places.Block block; name = name number }
     named_entry m p n = entry_is m.place (places.Block block) (name m.number) (name number) p n
 
@@ -54,7 +55,7 @@ module _ (name : ℕ → List ℕ) (members : List Member) where
         subst (λ (x : Member). IsNamedIn name members block number (i, x)) same r.1
 
     pub named_one : (i j : ℕ) (m n : Member) → IsNamedIn name members block number (i, m) → IsNamedIn name members block number (j, n) → j ≡ i
-    named_one i j m n a b = apart_one j i n m t.apart b.there a.there (named_entry n b.placed b.named ∙ sym (named_entry m a.placed a.named))
+    named_one i j m n a b = apart_one j i n m t.once b.there a.there (named_entry n b.placed b.named ∙ sym (named_entry m a.placed a.named))
 
     pub named_none : HasNoEntry keys (places.Block block) (name number) → (i : ℕ) (m : Member) → IsNamedIn name members block number (i, m) → ⊥
     named_none none i m a =

@@ -8,7 +8,7 @@ use Rattle.std.proofs.lemmas.Bool.{cases_lt, cases_eq}
 use Rattle.std.proofs.lemmas.Bool.Decides.{nat_tests}
 use Rattle.std.proofs.lemmas.Cmp.{ranked}
 use Rattle.std.proofs.lemmas.Option.{slice_get_within, slice_get-get_or, get_or_from_slice_get}
-use Rattle.ob_scope.specs.Kept.{AscendBy, IsPlaceBy, HasNoneBy}
+use Rattle.ob_decls.specs.Order.{AscendBy, IsPlaceBy, HasNoneBy}
 
 module _ {X : Type 0} (n : X → ℕ) where
   -- the numbers ascend, by place

@@ -1,11 +1,26 @@
 -- The identifiers of a module are names.
 use Rattle.std.specs.Prelude.{◌≡◌, ℕ, List, true, Contains}
+use Rattle.ob_scan.specs.declared.kind.Kind.TheVariants as kinds
+use Rattle.ob_scan.specs.declared.token.Token.{Token}
 use Rattle.ob_scan.specs.Tokens.{is_name}
-use Rattle.ob_scope.specs.Listed.{ImportItem, Listing}
-use Rattle.ob_scope.specs.Scope.{Declared}
+use Rattle.ob_decls.specs.declared.rows.Import.{Import}
+use Rattle.ob_decls.specs.Parts.{Rows}
+use Rattle.ob_scope.specs.declared.members.Member.{Member}
+use Rattle.ob_scope.specs.Members.{members_of}
+use Rattle.ob_scope.specs.Texts.{token_at}
 
 -- the module's name is one, each declared identifier is, and each that names an imported module
-pub record AreNames (name : ℕ → List ℕ) (l : Listing) : Type 0 where
+pub record AreNames (name : ℕ → List ℕ) (rows : Rows) : Type 0 where
   pub own : is_name (name 1) ≡ true
-  pub members : (d : Declared) → Contains l.members d → is_name (name d.number) ≡ true
-  pub imports : (i : ImportItem) → Contains l.imports i → is_name (name i.imported) ≡ true
+  pub members : (d : Member) → Contains (members_of rows) d → is_name (name d.number) ≡ true
+  pub imports : (i : Import) → Contains rows.imports i → is_name (name i.imported) ≡ true
+
+-- a token is an identifier
+abbrev pub IsIdentifier : List Token → ℕ → Type 0
+IsIdentifier ts k = (token_at ts k).kind ≡ kinds.Ident
+
+-- the same of the tokens
+pub record AreIdentifiers (ts : List Token) (ds : List Member) (items : List Import) : Type 0 where
+  pub own : IsIdentifier ts 1
+  pub members : (d : Member) → Contains ds d → IsIdentifier ts d.number
+  pub imports : (i : Import) → Contains items i → IsIdentifier ts i.imported

@@ -1,10 +1,11 @@
--- A table of what is declared, by place and name.
-use Rattle.std.specs.Prelude.{◌≡◌, ℕ, ◌<◌, List, map, slice_get, Some}
-use Rattle.ob_scope.specs.declared.rows.Place.{Place}
-use Rattle.ob_scope.specs.declared.rows.Member.{Member}
+-- An index of what is declared, by place and name.
+use Rattle.std.specs.Prelude.{◌≡◌, ℕ, List, map, slice_get, Some}
+use Rattle.ob_scope.specs.declared.members.Place.{Place}
+use Rattle.ob_scope.specs.declared.members.Member.{Member}
 use Rattle.ob_scope.specs.declared.places.Key.{Key}
-use Rattle.ob_scope.specs.declared.places.TableFault.{TableFault}
-use Rattle.ob_scope.specs.declared.places.TableFault.TheVariants as faults
+use Rattle.ob_scope.specs.declared.places.IndexFault.{IndexFault}
+use Rattle.ob_scope.specs.declared.places.IndexFault.TheVariants as faults
+use Rattle.ob_scope.specs.Scope.{IsFirstTwice, NoneTwice}
 
 -- a place and a name in it
 pub record Entry : Type 0 where
@@ -19,31 +20,25 @@ entry_of name m = record { place = m.place; name = name m.number }
 abbrev pub entry_said : Key → Entry
 entry_said k = record { place = k.place; name = k.name.now }
 
--- no two members declare one name in one place
-abbrev pub AreApart : (ℕ → List ℕ) → List Member → Type 0
-AreApart name members = (i j : ℕ) (m n : Member) → i < j → slice_get members i ≡ Some m → slice_get members j ≡ Some n → entry_of name m ≡ entry_of name n → ⊥
-
--- the keys say what the members declare, row by row, and no two say one thing
-pub record IsTable (name : ℕ → List ℕ) (members : List Member) (keys : List Key) : Type 0 where
+-- the keys say what the members declare, one by one, and nothing is declared twice
+pub record IsIndex (name : ℕ → List ℕ) (members : List Member) (keys : List Key) : Type 0 where
   pub entries : map entry_said keys ≡ map (entry_of name) members
-  pub apart : AreApart name members
+  pub once : NoneTwice name members
 
--- these two rows declare one name in one place, and the second is the first row that declares again
-pub record IsTwiceAt (name : ℕ → List ℕ) (members : List Member) (f s : ℕ) : Type 0 where
-  pub order : f < s
+-- these two members are the first that are declared twice
+pub record AreFirstTwice (name : ℕ → List ℕ) (members : List Member) (f s : ℕ) : Type 0 where
   pub first : Member
   pub second : Member
   pub at_first : slice_get members f ≡ Some first
   pub at_second : slice_get members s ≡ Some second
-  pub same : entry_of name first ≡ entry_of name second
-  pub none_before : (i j : ℕ) (m n : Member) → i < j → j < s → slice_get members i ≡ Some m → slice_get members j ≡ Some n → entry_of name m ≡ entry_of name n → ⊥
+  pub twice : IsFirstTwice name members first second
 
--- what the fault of a table says
-abbrev pub TellsTwice : (ℕ → List ℕ) → List Member → TableFault → Type 0
-TellsTwice name members (faults.Twice f s) = IsTwiceAt name members f s
+-- what the fault of an index says
+abbrev pub TellsTwice : (ℕ → List ℕ) → List Member → IndexFault → Type 0
+TellsTwice name members (faults.Twice f s) = AreFirstTwice name members f s
 TellsTwice name members faults.Memory = Unit {0}
 
--- the key of this row says this place and name
+-- the key at this place says this
 pub record IsEntryAt (keys : List Key) (place : Place) (name : List ℕ) (i : ℕ) : Type 0 where
   pub key : Key
   pub there : slice_get keys i ≡ Some key

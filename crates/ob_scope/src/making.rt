@@ -1,41 +1,63 @@
-//! Scopes from rows.
-ghost use Rattle.std.specs.Prelude.{◌≡◌, ◌<◌, ◌≤◌, ℕ, [], length, slice_get, Some, IfOk, IfErr};
-ghost use Rattle.ob_scan.specs.Spelling.{AreInText};
-ghost use Rattle.ob_scope.specs.Found.{AreAliasRows, AreCounted, AreMeant, AreTexts};
-ghost use Rattle.ob_scope.specs.Interfaces.{interface_said};
-ghost use Rattle.ob_scope.specs.Looked.{listing_by, AreWhole};
-ghost use Rattle.ob_scope.specs.Places.{IsTable, TellsTwice};
+//! Scopes from a table.
+ghost use Rattle.std.specs.Prelude.{◌≡◌, ◌≤◌, length, IfOk, IfErr};
+ghost use Rattle.ob_scan.specs.Spelling.{AreInText, Spells};
+ghost use Rattle.ob_decls.specs.Declaring.{rows_in};
+ghost use Rattle.ob_decls.specs.Parts.{Rows};
+ghost use Rattle.ob_scope.specs.Found.{AreAliasesOf, AreCounted, AreMeant, IsCountOf};
+ghost use Rattle.ob_scope.specs.Identified.{AreNames};
+ghost use Rattle.ob_decls.specs.Order.{AreInOrder, AscendBy};
+ghost use Rattle.ob_scope.specs.Members.{members_of};
+ghost use Rattle.ob_scope.specs.Places.{TellsTwice};
 ghost use Rattle.ob_scope.specs.Scope.{NoneTwice};
 ghost use Rattle.ob_scope.specs.Scoped.{AreScopes, IsScopeFault};
-ghost use Rattle.ob_scope.specs.Standings.{text_at};
+ghost use Rattle.ob_scope.specs.Texts.{text_at};
+ghost use Rattle.ob_scope.specs.declared.members.Member.{Member};
 
-use crate::places::{TableFault, table_of};
-use crate::rows::{Place, Rows};
+use crate::identified::are_identifiers;
+use crate::members::{Member, Place, members_by, place_of_member};
+use crate::places::{IndexFault, index_of};
 use crate::text::Text;
 use crate::uses::{Found, found_by};
-use crate::{Alias, Interface, ScopeFault, Scopes};
+use crate::{Alias, ScopeFault, Scopes};
+use ob_decls::{Import, Table};
 use ob_scan::Token;
 use std::alloc::{AllocError, Global};
 
-/// The aliases of the imports, in order.
+/// No text has more uses.
+const MOST_USES: usize = 16_777_216;
+
+/// How many uses the alias of this token qualifies, by how many each member does.
+fn uses_of(members: &[Member], counts: &[u64], alias: u32) -> u64
+    requires ascend { AscendBy (λ (m : Member). m.number) members.now }
+    requires as_many { length counts.now ≡ length members.now }
+    ensures { IsCountOf members.now counts.now alias result }
+{
+    match place_of_member(members, alias) {
+        Some(at) => counts[at],
+        None => 0,
+    }
+}
+
+/// The aliases of the import items, in order.
 fn aliases_of(
     alloc: Global,
     text: &Text,
-    rows: &Rows,
+    members: &[Member],
     counts: &[u64],
+    imports: &[Import],
 ) -> Result<Vec<Alias>, AllocError>
     requires in_text { AreInText text.now.bytes.now text.now.tokens.now }
-    requires whole { AreWhole rows.now }
-    requires as_many { length counts.now ≡ length rows.now.members.items }
-    ensures { IfOk result (λ v. AreAliasRows (text_at text.now.bytes.now text.now.tokens.now) rows.now counts.now (length rows.now.imports.items) v.items) }
+    requires ascend { AscendBy (λ (m : Member). m.number) members.now }
+    requires as_many { length counts.now ≡ length members.now }
+    ensures { IfOk result (λ v. AreAliasesOf (text_at text.now.bytes.now text.now.tokens.now) members.now counts.now imports.now (length imports.now) v.items) }
 {
     let mut aliases = Vec::new(alloc);
-    for i in 0..rows.imports.len() {
-        let row = rows.imports[i];
+    for i in 0..imports.len() {
+        let item = imports[i];
         aliases.push(Alias {
-            decl: rows.members[row.member as usize].number,
-            module: text.string(alloc, row.imported)?,
-            uses: counts[row.member as usize],
+            decl: item.alias,
+            module: text.string(alloc, item.imported)?,
+            uses: uses_of(members, counts, item.alias),
         })?;
     }
     Ok(aliases)
@@ -45,20 +67,19 @@ fn aliases_of(
 fn fault_of(
     alloc: Global,
     text: &Text,
-    rows: &Rows,
-    fault: TableFault,
+    members: &[Member],
+    fault: IndexFault,
 ) -> Result<ScopeFault, AllocError>
     requires in_text { AreInText text.now.bytes.now text.now.tokens.now }
-    requires whole { AreWhole rows.now }
-    requires texts { AreTexts (text_at text.now.bytes.now text.now.tokens.now) (listing_by rows.now) }
-    requires twice { TellsTwice (text_at text.now.bytes.now text.now.tokens.now) rows.now.members.items fault }
-    ensures { IfOk result (IsScopeFault text.now.bytes.now text.now.tokens.now (listing_by rows.now)) }
+    requires twice { TellsTwice (text_at text.now.bytes.now text.now.tokens.now) members.now fault }
+    ensures { IfOk result (λ fault. (rows : Rows) → members.now ≡ members_of rows → AreNames (text_at text.now.bytes.now text.now.tokens.now) rows
+        → IsScopeFault text.now.bytes.now text.now.tokens.now rows fault) }
 {
-    let TableFault::Twice(first, second) = fault else {
+    let IndexFault::Twice(first, second) = fault else {
         return Ok(ScopeFault::Memory);
     };
-    let first = rows.members[first as usize];
-    let second = rows.members[second as usize];
+    let first = members[first];
+    let second = members[second];
     let name = text.string(alloc, first.number)?;
     let first = text.start(first.number);
     let fault = match second.place {
@@ -80,50 +101,61 @@ fn fault_of(
 fn scopes_of(
     alloc: Global,
     text: &Text,
-    rows: &Rows,
+    table: &Table,
+    members: &[Member],
     found: Found,
-    interface: Interface,
 ) -> Result<Scopes, AllocError>
     requires in_text { AreInText text.now.bytes.now text.now.tokens.now }
-    requires whole { AreWhole rows.now }
-    requires texts { AreTexts (text_at text.now.bytes.now text.now.tokens.now) (listing_by rows.now) }
-    requires once { NoneTwice (text_at text.now.bytes.now text.now.tokens.now) (listing_by rows.now).members }
-    requires meant { AreMeant (text_at text.now.bytes.now text.now.tokens.now) rows.now (length rows.now.uses.items) found.meanings.items }
-    requires counted { AreCounted (text_at text.now.bytes.now text.now.tokens.now) rows.now (length rows.now.uses.items) found.counts.items }
-    ensures scoped { IfOk result (AreScopes text.now.bytes.now text.now.tokens.now (listing_by rows.now)) }
-    ensures seen { IfOk result (λ s. s.interface ≡ interface_said interface) }
+    requires ordered { AreInOrder (rows_in table.now) }
+    requires few { length (rows_in table.now).uses ≤ 16777216 }
+    requires members { members.now ≡ members_of (rows_in table.now) }
+    requires named { AreNames (text_at text.now.bytes.now text.now.tokens.now) (rows_in table.now) }
+    requires once { NoneTwice (text_at text.now.bytes.now text.now.tokens.now) members.now }
+    requires meant { AreMeant (text_at text.now.bytes.now text.now.tokens.now) (rows_in table.now).blocks members.now (rows_in table.now).uses (length (rows_in table.now).uses) found.meanings.items }
+    requires counted { AreCounted (text_at text.now.bytes.now text.now.tokens.now) (rows_in table.now).blocks members.now (rows_in table.now).uses (length (rows_in table.now).uses) found.counts.items }
+    ensures { IfOk result (AreScopes text.now.bytes.now text.now.tokens.now (rows_in table.now)) }
 {
-    let aliases = aliases_of(alloc, text, rows, found.counts.as_slice())?;
+    let aliases = aliases_of(
+        alloc,
+        text,
+        members,
+        found.counts.as_slice(),
+        table.imports(),
+    )?;
     let name = text.string(alloc, 1)?;
     Ok(Scopes {
         name,
         meanings: found.meanings,
         aliases,
-        interface,
     })
 }
 
-/// The scopes of a module of these rows, or two identifiers of one name that it declares in one place.
+/// The scopes of a module with this table, or two identifiers of one name that it declares in one place. Whether what it
+/// names are identifiers, and that it has no more uses than a text has bytes, is looked at before; no tree of tokens breaks
+/// that.
 pub(crate) fn scopes_from(
     alloc: Global,
-    rows: &Rows,
-    interface: Interface,
+    table: &Table,
     tokens: &[Token],
     bytes: &[u8],
 ) -> Result<Scopes, ScopeFault>
     requires in_text { AreInText bytes.now tokens.now }
-    requires whole { AreWhole rows.now }
-    requires texts { AreTexts (text_at bytes.now tokens.now) (listing_by rows.now) }
-    ensures scoped { IfOk result (AreScopes bytes.now tokens.now (listing_by rows.now)) }
-    ensures seen { IfOk result (λ s. s.interface ≡ interface_said interface) }
-    ensures fault { IfErr result (IsScopeFault bytes.now tokens.now (listing_by rows.now)) }
+    requires spelled { Spells bytes.now tokens.now }
+    ensures scoped { IfOk result (AreScopes bytes.now tokens.now (rows_in table.now)) }
+    ensures fault { IfErr result (IsScopeFault bytes.now tokens.now (rows_in table.now)) }
 {
+    table.keeps();
     let text = Text { bytes, tokens };
-    match table_of(alloc, &text, rows.members.as_slice()) {
-        Ok(table) => {
-            let found = found_by(alloc, &text, &table, rows)?;
-            Ok(scopes_of(alloc, &text, rows, found, interface)?)
+    let members = members_by(alloc, table.declarers(), table.declared())?;
+    let members = members.as_slice();
+    if table.uses().len() > MOST_USES || !are_identifiers(tokens, members, table.imports()) {
+        return Err(ScopeFault::Memory);
+    }
+    match index_of(alloc, &text, members) {
+        Ok(index) => {
+            let found = found_by(alloc, &text, &index, table.blocks(), members, table.uses())?;
+            Ok(scopes_of(alloc, &text, table, members, found)?)
         }
-        Err(fault) => Err(fault_of(alloc, &text, rows, fault)?),
+        Err(fault) => Err(fault_of(alloc, &text, members, fault)?),
     }
 }

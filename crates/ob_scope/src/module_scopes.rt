@@ -1,14 +1,12 @@
 //! The scopes of a module, and their readers.
 ghost use Rattle.std.specs.Prelude.{◌≡◌, ℕ, Some, IfOk, IfSome, IfNone, Contains, map};
-ghost use Rattle.ob_scope.specs.Interfaces.{interface_said};
-ghost use Rattle.ob_scope.specs.Kept.{alias_of, AreKept, AscendBy, HasNoneBy, IsPlaceBy};
+ghost use Rattle.ob_decls.specs.Order.{AscendBy, HasNoneBy, IsPlaceBy};
+ghost use Rattle.ob_scope.specs.Kept.{alias_of, AreKept};
 ghost use Rattle.ob_scope.specs.declared.meaning.MeaningRow.{MeaningRow};
 ghost use Rattle.ob_scope.specs.declared.module_scopes.Alias.{Alias};
 ghost use Rattle.ob_scope.specs.Scoped.{AliasUses, Meaning};
 
-use crate::interfaces::Interface;
 use crate::meaning::MeaningRow;
-use std::alloc::AllocError;
 use std::marker::Model;
 
 /// An import: the identifier that stands for a module, and the module's own name.
@@ -28,21 +26,19 @@ pub struct Scopes {
     pub(crate) name: String,
     pub(crate) meanings: Vec<MeaningRow>,
     pub(crate) aliases: Vec<Alias>,
-    pub(crate) interface: Interface,
 }
 
 impl Model for Scopes {
     ghost use Rattle.std.specs.Prelude.{map};
     ghost use Rattle.std.specs.String.{string_bytes};
-    ghost use Rattle.ob_scope.specs.Interfaces.{interface_said};
     ghost use Rattle.ob_scope.specs.Kept.{alias_of, meaning_of, AreKept};
     ghost use Rattle.ob_scope.specs.Scoped.{ModuleScopes};
 
     ghost Value = { ModuleScopes };
 
-    ghost view = { λ s. record { name = string_bytes s.name; meanings = map meaning_of s.meanings.items; aliases = map alias_of s.aliases.items; interface = interface_said s.interface } };
+    ghost view = { λ s. record { name = string_bytes s.name; meanings = map meaning_of s.meanings.items; aliases = map alias_of s.aliases.items } };
 
-    ghost invariant = { λ s. AreKept (record { name = string_bytes s.name; meanings = map meaning_of s.meanings.items; aliases = map alias_of s.aliases.items; interface = interface_said s.interface }) };
+    ghost invariant = { λ s. AreKept (record { name = string_bytes s.name; meanings = map meaning_of s.meanings.items; aliases = map alias_of s.aliases.items }) };
 }
 
 /// The place of the row of a use.
@@ -107,11 +103,4 @@ impl Scopes {
             None => 0,
         }
     }
-}
-
-/// What other modules see of the module, as a value of its own. AllocError is answered where a growth of memory is refused.
-pub fn interface(scopes: &Scopes) -> Result<Interface, AllocError>
-    ensures { IfOk result (λ i. interface_said i ≡ scopes.now.interface) }
-{
-    scopes.interface.clone()
 }

@@ -1,10 +1,10 @@
-//! A table of what is declared, by place and name.
-ghost use Rattle.std.specs.Prelude.{◌≡◌, ◌<◌, ◌≤◌, ◌^◌, length, IfOk, IfErr, IfSome, IfNone};
+//! An index of what is declared, by place and name.
+ghost use Rattle.std.specs.Prelude.{◌≡◌, IfOk, IfErr, IfSome, IfNone};
 ghost use Rattle.ob_scan.specs.Spelling.{AreInText};
-ghost use Rattle.ob_scope.specs.Standings.{text_at};
-ghost use Rattle.ob_scope.specs.Places.{entry_of, entry_said, HasNoEntry, IsEntryAt, IsTable, TellsTwice};
+ghost use Rattle.ob_scope.specs.Texts.{text_at};
+ghost use Rattle.ob_scope.specs.Places.{entry_of, entry_said, HasNoEntry, IsEntryAt, IsIndex, TellsTwice};
 
-use crate::rows::{Member, Place};
+use crate::members::{Member, Place};
 use crate::text::Text;
 use indexmap::IndexSet;
 use std::alloc::Global;
@@ -16,10 +16,10 @@ pub(crate) struct Key<'a> {
     pub(crate) name: &'a [u8],
 }
 
-/// Why there is no table: two rows say one thing, or memory ran out.
+/// Why there is no index: the members at these two places are declared twice, or memory ran out.
 #[derive(Clone, Copy)]
-pub(crate) enum TableFault {
-    Twice(u32, u32),
+pub(crate) enum IndexFault {
+    Twice(usize, usize),
     Memory,
 }
 
@@ -34,35 +34,32 @@ fn key_of<'a>(text: &Text<'a>, member: &Member) -> Key<'a>
     }
 }
 
-/// The table of the members, by their rows, where no two say one thing.
-pub(crate) fn table_of<'a>(
+/// The index of the members, by their places in the list, where nothing is declared twice.
+pub(crate) fn index_of<'a>(
     alloc: Global,
     text: &Text<'a>,
     members: &[Member],
-) -> Result<IndexSet<Key<'a>>, TableFault>
-    requires in_text { AreInText text.now.bytes.now text.now.tokens.now }
-    requires few { length members.now < 2 ^ 32 }
-    ensures table { IfOk result (λ table. IsTable (text_at text.now.bytes.now text.now.tokens.now) members.now table.keys) }
+) -> Result<IndexSet<Key<'a>>, IndexFault>
+    requires { AreInText text.now.bytes.now text.now.tokens.now }
+    ensures index { IfOk result (λ index. IsIndex (text_at text.now.bytes.now text.now.tokens.now) members.now index.keys) }
     ensures fault { IfErr result (TellsTwice (text_at text.now.bytes.now text.now.tokens.now) members.now) }
 {
-    let mut table = IndexSet::new(alloc);
+    let mut index = IndexSet::new(alloc);
     for i in 0..members.len() {
         let key = key_of(text, &members[i]);
-        match table.insert_full(key) {
+        match index.insert_full(key) {
             Ok((_, true)) => {}
-            Ok((first, false)) => return Err(TableFault::Twice(first as u32, i as u32)),
-            Err(_) => return Err(TableFault::Memory),
+            Ok((first, false)) => return Err(IndexFault::Twice(first, i)),
+            Err(_) => return Err(IndexFault::Memory),
         }
     }
-    Ok(table)
+    Ok(index)
 }
 
-/// The row of the member of this name in this place.
-pub(crate) fn member_in(table: &IndexSet<Key>, place: Place, name: &[u8]) -> Option<u32>
-    requires { length table.now.keys < 2 ^ 32 }
-    ensures found { IfSome result (IsEntryAt table.now.keys place name.now) }
-    ensures none { IfNone result (HasNoEntry table.now.keys place name.now) }
+/// The place of the member of this name that is declared here.
+pub(crate) fn member_in(index: &IndexSet<Key>, place: Place, name: &[u8]) -> Option<usize>
+    ensures found { IfSome result (IsEntryAt index.now.keys place name.now) }
+    ensures none { IfNone result (HasNoEntry index.now.keys place name.now) }
 {
-    let index = table.get_index_of(&Key { place, name })?;
-    Some(index as u32)
+    index.get_index_of(&Key { place, name })
 }

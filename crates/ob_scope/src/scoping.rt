@@ -2,22 +2,20 @@
 ghost use Rattle.std.specs.Prelude.{◌≡◌, map, IfErr, IfOk};
 ghost use Rattle.ob_scan.specs.Spelling.{IsOutcome, Reads};
 ghost use Rattle.ob_tree.specs.Derives.{Derives};
-ghost use Rattle.ob_scope.specs.Interfaces.{interface_of};
-ghost use Rattle.ob_scope.specs.Scoped.{AreScopes, IsScopeFault, listing_of};
+ghost use Rattle.ob_decls.specs.Declaring.{rows_of};
+ghost use Rattle.ob_scope.specs.Scoped.{AreScopes, IsScopeFault};
 
-use crate::interfacing::interface_in;
-use crate::listing::rows_of;
 use crate::making::scopes_from;
 use crate::{ScopeFault, Scopes};
+use ob_decls::table_of;
 use ob_scan::Tokens;
 use ob_tree::declaration::Module;
-use ob_tree::walkers::items;
 use std::alloc::Global;
 
 /// The scopes of a module, whose tree derives the tokens of these bytes: what each used name means by the scope rule, and
-/// how many uses each of its aliases qualifies (Oberon-07 report, sections 4 and 11); and what other modules see of it. Of
-/// two identifiers of one name in one block or record the pair whose second one stands first is told: Twice in a block,
-/// TwiceField in a record. Memory is answered where a growth of memory is refused.
+/// how many uses each of its aliases qualifies (Oberon-07 report, sections 4 and 11). Of two identifiers of one name in one
+/// block or record the pair whose second one stands first is told: Twice in a block, TwiceField in a record. Memory is
+/// answered where a growth of memory is refused.
 pub fn scopes(
     alloc: Global,
     module: &Module,
@@ -29,15 +27,10 @@ pub fn scopes(
     // The tree derives them.
     requires derived { Derives (map (λ t. t.kind) tokens.now) «module».now }
     // The scopes are the module's, which declares nothing twice.
-    ensures scoped { IfOk result (AreScopes bytes.now tokens.now (listing_of tokens.now «module».now)) }
-    // What other modules see is the module's.
-    ensures seen { IfOk result (λ s. s.interface ≡ interface_of bytes.now tokens.now «module».now) }
+    ensures scoped { IfOk result (AreScopes bytes.now tokens.now (rows_of «module».now)) }
     // The fault is so.
-    ensures fault { IfErr result (IsScopeFault bytes.now tokens.now (listing_of tokens.now «module».now)) }
+    ensures fault { IfErr result (IsScopeFault bytes.now tokens.now (rows_of «module».now)) }
 {
-    let tokens = tokens.as_slice();
-    let items = items(alloc, module)?;
-    let rows = rows_of(alloc, items.as_slice(), tokens)?;
-    let interface = interface_in(alloc, items.as_slice(), tokens, bytes)?;
-    scopes_from(alloc, &rows, interface, tokens, bytes)
+    let table = table_of(alloc, module)?;
+    scopes_from(alloc, &table, tokens.as_slice(), bytes)
 }

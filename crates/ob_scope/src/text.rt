@@ -3,7 +3,7 @@ ghost use Rattle.std.specs.Prelude.{◌≡◌, IfOk, length, ◌<◌};
 ghost use Rattle.std.specs.String.{string_bytes};
 ghost use Rattle.std.specs.Str.{IsUtf8};
 ghost use Rattle.ob_scan.specs.Spelling.{AreInText};
-ghost use Rattle.ob_scope.specs.Standings.{text_at, token_at};
+ghost use Rattle.ob_scope.specs.Texts.{text_at, token_at};
 
 use ob_scan::Token;
 use std::alloc::{AllocError, Global};

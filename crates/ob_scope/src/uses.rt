@@ -1,21 +1,24 @@
 //! What all uses mean, and how many uses each import qualifies.
 ghost use Rattle.std.specs.Prelude.{◌≡◌, ◌<◌, ◌≤◌, ℕ, [], length, slice_index, IfOk, OnOk};
 ghost use Rattle.ob_scan.specs.Spelling.{AreInText};
+ghost use Rattle.ob_decls.specs.declared.rows.Block.{Block};
+ghost use Rattle.ob_decls.specs.declared.rows.Used.{Used};
 ghost use Rattle.ob_scope.specs.Found.{counted_for, is_import, AreCounted, AreMeant};
-ghost use Rattle.ob_scope.specs.Looked.{AreWhole};
-ghost use Rattle.ob_scope.specs.Places.{IsTable};
-ghost use Rattle.ob_scope.specs.Standings.{text_at};
+ghost use Rattle.ob_decls.specs.Order.{AscendBy};
+ghost use Rattle.ob_scope.specs.Places.{IsIndex};
+ghost use Rattle.ob_scope.specs.Texts.{text_at};
+ghost use Rattle.ob_scope.specs.declared.members.Member.{Member};
 
-use crate::Sort;
 use crate::looking::meaning;
 use crate::meaning::MeaningRow;
+use crate::members::Member;
 use crate::places::Key;
-use crate::rows::{Member, Rows, Use};
 use crate::text::Text;
 use indexmap::IndexSet;
+use ob_decls::{Block, Sort, Used};
 use std::alloc::{AllocError, Global};
 
-/// What the uses of a module mean, and per row of a member how many uses it qualifies as an import.
+/// What the uses of a module mean, and per member how many uses it qualifies as an import.
 #[derive(Drop)]
 pub(crate) struct Found {
     pub(crate) meanings: Vec<MeaningRow>,
@@ -37,11 +40,11 @@ fn is_import(sort: Sort) -> bool
 }
 
 /// 1 where the member is an import that qualifies the use.
-fn counted_for(member: Member, used: Use) -> u64
+fn counted_for(member: Member, used: Used) -> u64
     ensures value { result ≡ counted_for member used }
     ensures one { result ≤ 1 }
 {
-    if used.is_qualified && is_import(member.sort) {
+    if used.member.is_some() && is_import(member.sort) {
         1
     } else {
         0
@@ -51,29 +54,33 @@ fn counted_for(member: Member, used: Use) -> u64
 /// Looks up each use.
 fn find_each(
     text: &Text,
-    table: &IndexSet<Key>,
-    rows: &Rows,
+    index: &IndexSet<Key>,
+    blocks: &[Block],
+    members: &[Member],
+    uses: &[Used],
     meanings: &mut Vec<MeaningRow>,
     counts: &mut [u64],
 ) -> Result<(), AllocError>
     requires in_text { AreInText text.now.bytes.now text.now.tokens.now }
-    requires whole { AreWhole rows.now }
-    requires table { IsTable (text_at text.now.bytes.now text.now.tokens.now) rows.now.members.items table.now.keys }
+    requires blocks { AscendBy (λ (b : Block). b.first) blocks.now }
+    requires uses { AscendBy (λ (u : Used). u.number) uses.now }
+    requires members { AscendBy (λ (m : Member). m.number) members.now }
+    requires index { IsIndex (text_at text.now.bytes.now text.now.tokens.now) members.now index.now.keys }
     requires empty { meanings.old.items ≡ [] }
-    requires as_many { length counts.old ≡ length rows.now.members.items }
+    requires as_many { length counts.old ≡ length members.now }
     requires zero { (i : ℕ) → slice_index counts.old i ≡ 0 }
-    ensures meant { OnOk result (AreMeant (text_at text.now.bytes.now text.now.tokens.now) rows.now (length rows.now.uses.items) meanings.new.items) }
-    ensures counted { OnOk result (AreCounted (text_at text.now.bytes.now text.now.tokens.now) rows.now (length rows.now.uses.items) counts.new) }
+    ensures meant { OnOk result (AreMeant (text_at text.now.bytes.now text.now.tokens.now) blocks.now members.now uses.now (length uses.now) meanings.new.items) }
+    ensures counted { OnOk result (AreCounted (text_at text.now.bytes.now text.now.tokens.now) blocks.now members.now uses.now (length uses.now) counts.new) }
 {
-    for k in 0..rows.uses.len() {
-        let used = rows.uses[k];
-        if let Some(row) = meaning(text, table, rows, used) {
-            let member = rows.members[row as usize];
+    for k in 0..uses.len() {
+        let used = uses[k];
+        if let Some(at) = meaning(text, index, blocks, members, used) {
+            let member = members[at];
             meanings.push(MeaningRow {
                 used: used.number,
                 declared: member.number,
             })?;
-            counts[row as usize] += counted_for(member, used);
+            counts[at] += counted_for(member, used);
         }
     }
     Ok(())
@@ -83,17 +90,29 @@ fn find_each(
 pub(crate) fn found_by(
     alloc: Global,
     text: &Text,
-    table: &IndexSet<Key>,
-    rows: &Rows,
+    index: &IndexSet<Key>,
+    blocks: &[Block],
+    members: &[Member],
+    uses: &[Used],
 ) -> Result<Found, AllocError>
     requires in_text { AreInText text.now.bytes.now text.now.tokens.now }
-    requires whole { AreWhole rows.now }
-    requires table { IsTable (text_at text.now.bytes.now text.now.tokens.now) rows.now.members.items table.now.keys }
-    ensures meant { IfOk result (λ f. AreMeant (text_at text.now.bytes.now text.now.tokens.now) rows.now (length rows.now.uses.items) f.meanings.items) }
-    ensures counted { IfOk result (λ f. AreCounted (text_at text.now.bytes.now text.now.tokens.now) rows.now (length rows.now.uses.items) f.counts.items) }
+    requires blocks { AscendBy (λ (b : Block). b.first) blocks.now }
+    requires uses { AscendBy (λ (u : Used). u.number) uses.now }
+    requires members { AscendBy (λ (m : Member). m.number) members.now }
+    requires index { IsIndex (text_at text.now.bytes.now text.now.tokens.now) members.now index.now.keys }
+    ensures meant { IfOk result (λ f. AreMeant (text_at text.now.bytes.now text.now.tokens.now) blocks.now members.now uses.now (length uses.now) f.meanings.items) }
+    ensures counted { IfOk result (λ f. AreCounted (text_at text.now.bytes.now text.now.tokens.now) blocks.now members.now uses.now (length uses.now) f.counts.items) }
 {
     let mut meanings = Vec::new(alloc);
-    let mut counts = vec![in alloc; 0u64; rows.members.len()]?;
-    find_each(text, table, rows, &mut meanings, counts.as_mut_slice())?;
+    let mut counts = vec![in alloc; 0u64; members.len()]?;
+    find_each(
+        text,
+        index,
+        blocks,
+        members,
+        uses,
+        &mut meanings,
+        counts.as_mut_slice(),
+    )?;
     Ok(Found { meanings, counts })
 }

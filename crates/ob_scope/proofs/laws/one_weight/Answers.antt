@@ -3,4 +3,4 @@ use Rattle.ob_scope.proofs.Counting.{counts-once}
 use Rattle.ob_scope.proofs.laws.one_weight.Goals as goal
 
 pub returns : goal.returns
-returns c = λ name l imported n m. counts-once (Crosses name l imported) l.uses n m
+returns c = λ name rows imported n m. counts-once (Crosses name rows imported) rows.uses n m

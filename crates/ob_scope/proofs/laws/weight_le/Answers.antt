@@ -1,4 +1,3 @@
-use Rattle.ob_scope.proofs.Holding.{uses_few}
 use Rattle.ob_scope.proofs.Weighing.{across_within, weight_le}
 use Rattle.ob_scope.proofs.laws.weight_le.Goals as goal
 
@@ -7,6 +6,3 @@ returns-clause-all c = weight_le
 
 pub returns-clause-one : goal.returns-clause-one
 returns-clause-one c = across_within
-
-pub returns-clause-few : goal.returns-clause-few
-returns-clause-few c = uses_few

@@ -1,31 +1,31 @@
--- The row is the one of the key.
+-- The member at the place of the key.
 use Rattle.std.proofs.lemmas.Option.{slice_get_within}
-use Rattle.ob_scope.specs.Standings.{text_at}
+use Rattle.ob_scope.specs.Texts.{text_at}
 use Rattle.ob_scope.proofs.Named.{named_found, named_none, named_one, named_read}
 use Rattle.ob_scope.proofs.looking.named_in.Goals as goal
 
-pub returns-in_err-row-clause-none : goal.returns-in_err-row-clause-none
-returns-in_err-row-clause-none c =
+pub returns-in_err-at-clause-none : goal.returns-in_err-at-clause-none
+returns-in_err-at-clause-none c =
     let name = text_at c.args.text.now.bytes.now c.args.text.now.tokens.now in
-    let none = rw c.of.ensures at c.in_err-row.ensures.none in
-    rw c.from_residual.ensures (named_none name c.args.members.now c.args.table.now.keys c.requires.table c.args.block c.args.number none)
+    let none = rw c.of.ensures at c.in_err-at.ensures.none in
+    rw c.from_residual.ensures (named_none name c.args.members.now c.args.index.now.keys c.requires.index c.args.block c.args.number none)
 
-pub bounds-members-row : goal.bounds-members-row
-bounds-members-row c =
+pub bounds-members-at : goal.bounds-members-at
+bounds-members-at c =
     let name = text_at c.args.text.now.bytes.now c.args.text.now.tokens.now in
-    let found = rw c.of.ensures at c.in_ok-row.ensures.found in
-    let r = named_found name c.args.members.now c.args.table.now.keys c.requires.table c.args.block c.args.number c.in_ok-row.row found in
-    slice_get_within c.args.members.now c.in_ok-row.row r.0 r.1.there
+    let found = rw c.of.ensures at c.in_ok-at.ensures.found in
+    let r = named_found name c.args.members.now c.args.index.now.keys c.requires.index c.args.block c.args.number c.in_ok-at.at found in
+    slice_get_within c.args.members.now c.in_ok-at.at r.0 r.1.there
 
 pub returns-clause-found : goal.returns-clause-found
 returns-clause-found c =
     let name = text_at c.args.text.now.bytes.now c.args.text.now.tokens.now in
-    let found = rw c.of.ensures at c.in_ok-row.ensures.found in
-    named_read name c.args.members.now c.args.table.now.keys c.requires.table c.args.block c.args.number c.in_ok-row.row _ found
+    let found = rw c.of.ensures at c.in_ok-at.ensures.found in
+    named_read name c.args.members.now c.args.index.now.keys c.requires.index c.args.block c.args.number c.in_ok-at.at _ found
 
 pub returns-clause-only : goal.returns-clause-only
 returns-clause-only c = λ i m n.
     let name = text_at c.args.text.now.bytes.now c.args.text.now.tokens.now in
-    let found = rw c.of.ensures at c.in_ok-row.ensures.found in
-    let r = named_found name c.args.members.now c.args.table.now.keys c.requires.table c.args.block c.args.number c.in_ok-row.row found in
-    named_one name c.args.members.now c.args.table.now.keys c.requires.table c.args.block c.args.number c.in_ok-row.row i r.0 m r.1 n
+    let found = rw c.of.ensures at c.in_ok-at.ensures.found in
+    let r = named_found name c.args.members.now c.args.index.now.keys c.requires.index c.args.block c.args.number c.in_ok-at.at found in
+    named_one name c.args.members.now c.args.index.now.keys c.requires.index c.args.block c.args.number c.in_ok-at.at i r.0 m r.1 n

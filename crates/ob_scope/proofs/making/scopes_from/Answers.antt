@@ -1,9 +1,22 @@
--- A table has nothing twice.
-use Rattle.ob_scope.specs.Standings.{text_at}
-use Rattle.ob_scope.proofs.Seeing.{none_twice}
+-- The members are those of the rows, and what they name are names.
+use Rattle.std.proofs.Common.{◌∙◌}
+use Rattle.ob_decls.specs.Declaring.{rows_in}
+use Rattle.ob_scope.proofs.Names.{named_by}
+use Rattle.ob_scope.proofs.Placing.{members_ascend}
 use Rattle.ob_scope.proofs.making.scopes_from.Goals as goal
 
-pub scopes_of-requires-clause-once : goal.scopes_of-requires-clause-once
-scopes_of-requires-clause-once c =
-    let table = rw c.as_slice.ensures.value at c.in-Ok.ensures.table in
-    none_twice (text_at c.args.bytes.now c.args.tokens.now) c.args.rows.now.blocks.items c.args.rows.now.members.items c.requires.whole.are_blocks c.requires.whole.are_members table.apart
+pub found_by-requires-clause-members : goal.found_by-requires-clause-members
+found_by-requires-clause-members c =
+    rw (c.as_slice-members.ensures.value, c.in_ok-members.ensures, c.declarers.ensures, c.declared.ensures)
+    (members_ascend (rows_in c.args.table.now).declarers (rows_in c.args.table.now).declared c.keeps.ensures.declared)
+
+pub scopes_of-requires-clause-named : goal.scopes_of-requires-clause-named
+scopes_of-requires-clause-named c =
+    let members = rw (c.declarers.ensures, c.declared.ensures) at (c.as_slice-members.ensures.value ∙ c.in_ok-members.ensures) in
+    named_by c.args.bytes.now c.args.tokens.now (rows_in c.args.table.now) _ _ c.requires.spelled members c.imports.ensures (c.are_identifiers.ensures c.if-not-are_identifiers.false)
+
+pub returns-clause-fault : goal.returns-clause-fault
+returns-clause-fault c =
+    let members = rw (c.declarers.ensures, c.declared.ensures) at (c.as_slice-members.ensures.value ∙ c.in_ok-members.ensures) in
+    c.in_ok-fault_of-in-Err.ensures (rows_in c.args.table.now) members
+    (named_by c.args.bytes.now c.args.tokens.now (rows_in c.args.table.now) _ _ c.requires.spelled members c.imports.ensures (c.are_identifiers.ensures c.if-not-are_identifiers.false))

@@ -1,0 +1,59 @@
+-- Identifiers are names, and names are texts.
+use Rattle.std.proofs.Common.{◌≡◌, ℕ, ◌-◌, inl, inr, true, List, [], ◌∷◌, length, take, drop, refl, sym, ap, ◌∙◌, subst}
+use Rattle.std.specs.List.{All}
+use Rattle.std.specs.Str.{IsUtf8}
+use Rattle.std.proofs.lemmas.Bool.{cases_lt}
+use Rattle.std.proofs.lemmas.List.{get_or_past}
+use Rattle.std.proofs.lemmas.List.Elements.{All-get_or}
+use Rattle.texts.specs.Fields as fields
+use Rattle.texts.proofs.FieldNames as names
+use Rattle.ob_scan.specs.declared.kind.Kind.TheVariants as kinds
+use Rattle.ob_scan.specs.declared.token.Token.{Token}
+use Rattle.ob_scan.specs.Spelling.{Spells}
+use Rattle.ob_scan.specs.Tokens.{is_name}
+use Rattle.ob_scan.proofs.NameTokens.{spelled_names}
+use Rattle.ob_decls.specs.declared.rows.Import.{Import}
+use Rattle.ob_decls.specs.Parts.{Rows}
+use Rattle.ob_scope.specs.declared.members.Member.{Member}
+use Rattle.ob_scope.specs.Found.{AreTexts}
+use Rattle.ob_scope.specs.Identified.{AreIdentifiers, AreNames}
+use Rattle.ob_scope.specs.Members.{members_of}
+use Rattle.ob_scope.specs.Texts.{no_token, text_at, token_at}
+
+-- the scanner's names are names of texts
+pub same_test : (bytes : List ℕ) → is_name bytes ≡ fields.is_name bytes
+same_test [] = refl
+same_test (b ∷ bytes) = refl
+
+name_is_text : (bytes : List ℕ) → is_name bytes ≡ true → IsUtf8 bytes
+name_is_text bytes e = names.name_is_text bytes (sym (same_test bytes) ∙ e)
+
+pub are_texts : (name : ℕ → List ℕ) (r : Rows) → AreNames name r → AreTexts name (members_of r) r.imports
+are_texts name r h = record {
+  first = name_is_text (name 1) h.own;
+  declared = λ d c. name_is_text (name d.number) (h.members d c);
+  imported = λ m c. name_is_text (name m.imported) (h.imports m c);
+}
+
+-- the texts of all identifiers are names
+abbrev AreNamed : List ℕ → List Token → Type 0
+AreNamed bytes ts = All (λ t. t.kind ≡ kinds.Ident → is_name (take (t.end - t.start) (drop t.start bytes)) ≡ true) ts
+
+ident_named : (bytes : List ℕ) (ts : List Token) (k : ℕ) → AreNamed bytes ts → (token_at ts k).kind ≡ kinds.Ident → is_name (text_at bytes ts k) ≡ true
+ident_named bytes ts k named e = elim (cases_lt k (length ts)) [
+  | inl within ↦ All-get_or (λ (t : Token). t.kind ≡ kinds.Ident → is_name (take (t.end - t.start) (drop t.start bytes)) ≡ true) ts k no_token within named e
+  | inr past ↦ let none : kinds.Dot ≡ kinds.Ident = sym (ap (λ (t : Token). t.kind) (get_or_past ts k no_token past)) ∙ e in absurd cc
+]
+
+are_names : (bytes : List ℕ) (ts : List Token) (r : Rows) → AreNamed bytes ts → AreIdentifiers ts (members_of r) r.imports → AreNames (text_at bytes ts) r
+are_names bytes ts r named all = record {
+  own = ident_named bytes ts 1 named all.own;
+  members = λ d h. ident_named bytes ts d.number named (all.members d h);
+  imports = λ i h. ident_named bytes ts i.imported named (all.imports i h);
+}
+
+-- what the test of the tokens says of the rows
+pub named_by : (bytes : List ℕ) (ts : List Token) (r : Rows) (ms : List Member) (items : List Import) → Spells bytes ts → ms ≡ members_of r → items ≡ r.imports →
+    AreIdentifiers ts ms items → AreNames (text_at bytes ts) r
+named_by bytes ts r ms items spells e f are =
+    are_names bytes ts r (spelled_names bytes ts spells) (subst (λ (xs : List Member). AreIdentifiers ts xs r.imports) e (subst (λ (ys : List Import). AreIdentifiers ts ms ys) f are))

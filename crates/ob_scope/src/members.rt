@@ -1,0 +1,98 @@
+//! What a module declares, each identifier with its place.
+ghost use Rattle.std.specs.Prelude.{◌≡◌, IfNone, IfOk, IfSome};
+ghost use Rattle.ob_decls.specs.declared.rows.Declarer.{Declarer};
+ghost use Rattle.ob_scope.specs.declared.members.Member.{Member};
+ghost use Rattle.ob_decls.specs.Order.{AscendBy, HasNoneBy, IsPlaceBy};
+ghost use Rattle.ob_scope.specs.Members.{declarer_at, member_by, members_by, place_of};
+
+use ob_decls::{Declared, Declarer, Sort};
+use std::alloc::{AllocError, Global};
+
+/// Where an identifier is declared.
+#[derive(Clone, Copy, PartialEq, Eq, Hash)]
+pub enum Place {
+    /// In the block with this first token.
+    Block(u32),
+    /// In the record of this RECORD.
+    Record(u32),
+}
+
+/// A declared identifier, by the number of its token.
+#[derive(Clone, Copy)]
+pub struct Member {
+    pub place: Place,
+    pub number: u32,
+    pub sort: Sort,
+}
+
+/// Where a construct declares its identifiers.
+fn place_of(by: Declarer) -> Place
+    ensures { result ≡ place_of by }
+{
+    match by.of_record {
+        None => Place::Block(by.block),
+        Some(record) => Place::Record(record),
+    }
+}
+
+/// The place of the construct that declares and begins with this token.
+fn place_of_declarer(declarers: &[Declarer], first: u32) -> Option<usize>
+    requires { AscendBy (λ (d : Declarer). d.first) declarers.now }
+    ensures found { IfSome result (IsPlaceBy (λ (d : Declarer). d.first) declarers.now first) }
+    ensures none { IfNone result (HasNoneBy (λ (d : Declarer). d.first) declarers.now first) }
+{
+    declarers.binary_search_by_key(&first, |by| by.first).ok()
+}
+
+/// The place of the member of this token.
+pub(crate) fn place_of_member(members: &[Member], number: u32) -> Option<usize>
+    requires { AscendBy (λ (m : Member). m.number) members.now }
+    ensures found { IfSome result (IsPlaceBy (λ (m : Member). m.number) members.now number) }
+    ensures none { IfNone result (HasNoneBy (λ (m : Member). m.number) members.now number) }
+{
+    members
+        .binary_search_by_key(&number, |member| member.number)
+        .ok()
+}
+
+/// The construct that declares and begins with this token.
+fn declarer_at(declarers: &[Declarer], first: u32) -> Option<Declarer>
+    requires { AscendBy (λ (d : Declarer). d.first) declarers.now }
+    ensures { result ≡ declarer_at declarers.now first }
+{
+    let at = place_of_declarer(declarers, first)?;
+    Some(declarers[at])
+}
+
+/// An identifier, as what and where its construct declares it.
+fn member_by(declarers: &[Declarer], declared: Declared) -> Option<Member>
+    requires { AscendBy (λ (d : Declarer). d.first) declarers.now }
+    ensures { result ≡ member_by declared (declarer_at declarers.now declared.declared_by) }
+{
+    match declarer_at(declarers, declared.declared_by) {
+        Some(by) => Some(Member {
+            place: place_of(by),
+            number: declared.number,
+            sort: by.sort,
+        }),
+        None => None,
+    }
+}
+
+/// What these constructs declare, in the order of the identifiers.
+pub(crate) fn members_by(
+    alloc: Global,
+    declarers: &[Declarer],
+    declared: &[Declared],
+) -> Result<Vec<Member>, AllocError>
+    requires { AscendBy (λ (d : Declarer). d.first) declarers.now }
+    ensures { IfOk result (λ v. v.items ≡ members_by declarers.now declared.now) }
+{
+    let mut members = Vec::new(alloc);
+    for row in declared {
+        if let Some(member) = member_by(declarers, *row) {
+            members.push(member)?;
+        }
+    }
+    Ok(members)
+}
