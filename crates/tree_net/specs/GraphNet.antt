@@ -14,7 +14,7 @@ use Rattle.cut_net.specs.NetText.{NetLine, Module, Import}
 
 -- the scopes of a module that has none
 abbrev pub no_scopes : ModuleScopes
-no_scopes = record { name = []; meanings = []; aliases = []; interface = record { name = []; declarations = []; parts = []; bases = []; imports = [] } }
+no_scopes = record { name = []; meanings = []; aliases = [] }
 
 -- those of the module of this number
 abbrev pub scopes_at : List ModuleScopes → ℕ → ModuleScopes
