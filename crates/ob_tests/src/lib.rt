@@ -1,4 +1,4 @@
-//! Tests of tokens, trees, scopes, interfaces and graphs of imports, from outside.
+//! Tests of tokens, trees, scopes and graphs of imports, from outside.
 //! Stands on `ob_scan`, `ob_tree`, `ob_decls`, `ob_parse`, `ob_scope` and `ob_imports`.
 //! Its contract: none; it has nothing but tests.
 #![tactic(auto)]
@@ -15,8 +15,6 @@ mod depths;
 mod faults;
 #[cfg(test)]
 mod graphs;
-#[cfg(test)]
-mod interfaces;
 #[cfg(test)]
 mod readings;
 #[cfg(test)]
