@@ -19,19 +19,21 @@ use Rattle.ob_parse.specs.declared.fault.ParseFault.{ParseFault}
 use Rattle.ob_parse.specs.declared.fault.ParseFault.TheVariants as parses
 use Rattle.ob_parse.specs.Parsed.{IsFaultOf, IsTheTree}
 use Rattle.ob_parse.proofs.OneTree.{no_fault}
+use Rattle.ob_decls.specs.Declaring.{rows_of}
+use Rattle.ob_decls.specs.Parts.{Rows}
 use Rattle.ob_scope.specs.declared.fault.ScopeFault.{ScopeFault}
 use Rattle.ob_scope.specs.declared.fault.ScopeFault.TheVariants as scopes
-use Rattle.ob_scope.specs.Listed.{Listing}
+use Rattle.ob_scope.specs.Members.{members_of}
 use Rattle.ob_scope.specs.Scope.{NoneTwice}
-use Rattle.ob_scope.specs.Scoped.{IsScopeFault, listing_of}
-use Rattle.ob_scope.specs.Standings.{text_at}
+use Rattle.ob_scope.specs.Scoped.{IsScopeFault}
+use Rattle.ob_scope.specs.Texts.{text_at}
 use Rattle.ob_scope.proofs.Meanings.{no_first}
 use Rattle.oscip_tree.specs.TreeFaults.{wants_memory}
-use Rattle.oscip_tree.specs.Trees.{files_of, listing, names, AreAccepted, HasParseFault, HasScanFault, HasScopeFault, IsAccepted, IsFileFault, IsFirstFault, IsGraphFault, IsTree, IsTreeFault, ModuleFile}
+use Rattle.oscip_tree.specs.Trees.{files_of, rows, names, AreAccepted, HasParseFault, HasScanFault, HasScopeFault, IsAccepted, IsFileFault, IsFirstFault, IsGraphFault, IsTree, IsTreeFault, ModuleFile}
 use Rattle.oscip_tree.specs.declared.source.Source.{Source}
 use Rattle.oscip_tree.specs.declared.tree.TreeFault.{TreeFault}
 use Rattle.oscip_tree.specs.declared.tree.TreeFault.TheVariants as faults
-use Rattle.oscip_tree.proofs.SameFiles.{one_listing, same_files}
+use Rattle.oscip_tree.proofs.SameFiles.{one_rows, same_files}
 use Rattle.oscip_tree.proofs.TreeFiles.{there}
 
 -- ---- one file
@@ -54,17 +56,17 @@ no_parse_fault bytes ts m fault h tree (us, reads, f) =
     no_fault bytes ts m fault tree (subst (λ (vs : List Token). IsFaultOf bytes vs fault) (spelled_once bytes us ts reads.1 h.1) f)
 
 -- names that are declared once are not declared twice
-no_twice : (bytes : List ℕ) (ts : List Token) (l : Listing) (fault : ScopeFault) → NoneTwice (text_at bytes ts) l.members → IsScopeFault bytes ts l fault → fault ≡ scopes.Memory
-no_twice bytes ts l (scopes.Twice name first second) once (d, e, block, placed, h) = absurd (no_first (text_at bytes ts) l.members d e once h.is_first)
-no_twice bytes ts l (scopes.TwiceField name first second) once (d, e, token, placed, h) = absurd (no_first (text_at bytes ts) l.members d e once h.is_first)
-no_twice bytes ts l scopes.Memory once h = refl
+no_twice : (bytes : List ℕ) (ts : List Token) (r : Rows) (fault : ScopeFault) → NoneTwice (text_at bytes ts) (members_of r) → IsScopeFault bytes ts r fault → fault ≡ scopes.Memory
+no_twice bytes ts r (scopes.Twice name first second) once (d, e, block, placed, h) = absurd (no_first (text_at bytes ts) (members_of r) d e once h.is_first)
+no_twice bytes ts r (scopes.TwiceField name first second) once (d, e, token, placed, h) = absurd (no_first (text_at bytes ts) (members_of r) d e once h.is_first)
+no_twice bytes ts r scopes.Memory once h = refl
 
 -- a fault of names is one of the tokens and the tree that there are
-pub scope_fault_of : (bytes : List ℕ) (ts : List Token) (m : Module) (fault : ScopeFault) → IsOutcome bytes (Reads ts) → IsTheTree bytes ts m → HasScopeFault fault bytes → IsScopeFault bytes ts (listing_of ts m) fault
+pub scope_fault_of : (bytes : List ℕ) (ts : List Token) (m : Module) (fault : ScopeFault) → IsOutcome bytes (Reads ts) → IsTheTree bytes ts m → HasScopeFault fault bytes → IsScopeFault bytes ts (rows_of m) fault
 scope_fault_of bytes ts m fault h tree (us, n, reads, other, f) =
     let tokens : us ≡ ts = spelled_once bytes us ts reads.1 h.1 in
-    let listed : listing_of us n ≡ listing_of ts m = one_listing bytes us ts n m reads.1 h.1 other.tree.derived tree.tree.derived in
-    subst (λ (l : Listing). IsScopeFault bytes ts l fault) listed (subst (λ (vs : List Token). IsScopeFault bytes vs (listing_of us n) fault) tokens f)
+    let listed : rows_of n ≡ rows_of m = one_rows bytes us ts n m reads.1 h.1 other.tree.derived tree.tree.derived in
+    subst (λ (r : Rows). IsScopeFault bytes ts r fault) listed (subst (λ (vs : List Token). IsScopeFault bytes vs (rows_of n) fault) tokens f)
 
 pub no_file_fault : (s : Source) (file : ModuleFile) (fault : TreeFault) → IsAccepted s file → IsFileFault s fault → wants_memory fault ≡ true
 no_file_fault s file fault ok h = go fault h
@@ -75,14 +77,14 @@ no_file_fault s file fault ok h = go fault h
     tree : IsTheTree s.bytes.items file.tokens file.tree
     tree = subst (λ (bs : List ℕ). IsTheTree bs file.tokens file.tree) ok.bytes_are ok.is_tree
 
-    once : NoneTwice (text_at s.bytes.items file.tokens) (listing file).members
-    once = subst (λ (bs : List ℕ). NoneTwice (text_at bs file.tokens) (listing file).members) ok.bytes_are ok.once
+    once : NoneTwice (text_at s.bytes.items file.tokens) (members_of (rows file))
+    once = subst (λ (bs : List ℕ). NoneTwice (text_at bs file.tokens) (members_of (rows file))) ok.bytes_are ok.once
 
     go : (fault : TreeFault) → IsFileFault s fault → wants_memory fault ≡ true
     go (faults.Scan path at fault) (known, h) = absurd (known (no_scan_fault s.bytes.items file.tokens fault reads h.has_fault))
     go (faults.Parse path at fault) (known, h) = absurd (known (no_parse_fault s.bytes.items file.tokens file.tree fault reads tree h.has_fault))
     go (faults.Scope path at fault) (known, h) =
-        absurd (known (no_twice s.bytes.items file.tokens (listing file) fault once (scope_fault_of s.bytes.items file.tokens file.tree fault reads tree h.has_fault)))
+        absurd (known (no_twice s.bytes.items file.tokens (rows file) fault once (scope_fault_of s.bytes.items file.tokens file.tree fault reads tree h.has_fault)))
     go (faults.Graph fault) h = absurd h
     go faults.Memory h = refl
 

@@ -25,10 +25,15 @@ use Rattle.ob_parse.specs.declared.fault.ParseFault.TheVariants as parses
 use Rattle.ob_parse.specs.Parsed.{bytes_of, IsEndFault, IsFaultOf, IsRightEnd, IsWrongEnd, Pair}
 use Rattle.ob_scope.specs.declared.fault.ScopeFault.{ScopeFault}
 use Rattle.ob_scope.specs.declared.fault.ScopeFault.TheVariants as scopes
-use Rattle.ob_scope.specs.Listed.{Listing}
-use Rattle.ob_scope.specs.Scope.{Block, Declared, IsFirstTwice, Place, Record}
-use Rattle.ob_scope.specs.Scoped.{IsScopeFault, listing_of}
-use Rattle.ob_scope.specs.Standings.{text_at, token_at}
+use Rattle.ob_decls.specs.Declaring.{rows_of}
+use Rattle.ob_decls.specs.Parts.{Rows}
+use Rattle.ob_scope.specs.declared.members.Member.{Member}
+use Rattle.ob_scope.specs.declared.members.Place.{Place}
+use Rattle.ob_scope.specs.declared.members.Place.TheVariants.{Block, Record}
+use Rattle.ob_scope.specs.Members.{members_of}
+use Rattle.ob_scope.specs.Scope.{IsFirstTwice}
+use Rattle.ob_scope.specs.Scoped.{IsScopeFault}
+use Rattle.ob_scope.specs.Texts.{text_at, token_at}
 use Rattle.ob_scope.proofs.Meanings.{first_once}
 use Rattle.oscip_tree.specs.TreeFaults.{after_space, graph_fault_text, parse_fault_text, placed_text, says_no_tree, scan_fault_text, scope_fault_text, tree_fault_text, wants_memory, AreOneFault}
 use Rattle.oscip_tree.specs.Trees.{files_of, parse_offset, scan_offset, scope_offset, HasParseFault, HasScanFault, HasScopeFault, IsAccepted, IsFault, IsFileFault, IsFirstFault, IsGraphFault, IsTreeFault, ModuleFile}
@@ -195,40 +200,40 @@ told_of (Block block) name = codes "Twice " ++ name
 told_of (Record token) name = codes "TwiceField " ++ name
 
 -- the first pair, and that the fault tells it
-record ToldPair (bytes : List ℕ) (ts : List Token) (l : Listing) (fault : ScopeFault) : Type 0 where
-  d : Declared
-  e : Declared
-  is_first : IsFirstTwice (text_at bytes ts) l.members d e
+record ToldPair (bytes : List ℕ) (ts : List Token) (r : Rows) (fault : ScopeFault) : Type 0 where
+  d : Member
+  e : Member
+  is_first : IsFirstTwice (text_at bytes ts) (members_of r) d e
   offset : scope_offset fault ≡ (token_at ts e.number).start
   text : scope_fault_text fault ≡ told_of e.place (text_at bytes ts d.number)
 
-told_pair : (bytes : List ℕ) (ts : List Token) (l : Listing) (fault : ScopeFault) → (fault ≢ scopes.Memory) → IsScopeFault bytes ts l fault → ToldPair bytes ts l fault
-told_pair bytes ts l (scopes.Twice name first second) known (d, e, block, placed, h) = record {
+told_pair : (bytes : List ℕ) (ts : List Token) (r : Rows) (fault : ScopeFault) → (fault ≢ scopes.Memory) → IsScopeFault bytes ts r fault → ToldPair bytes ts r fault
+told_pair bytes ts r (scopes.Twice name first second) known (d, e, block, placed, h) = record {
   d = d;
   e = e;
   is_first = h.is_first;
   offset = h.second_at;
   text = ap (λ (n : List ℕ). codes "Twice " ++ n) h.named ∙ ap (λ (p : Place). told_of p (text_at bytes ts d.number)) (sym placed);
 }
-told_pair bytes ts l (scopes.TwiceField name first second) known (d, e, token, placed, h) = record {
+told_pair bytes ts r (scopes.TwiceField name first second) known (d, e, token, placed, h) = record {
   d = d;
   e = e;
   is_first = h.is_first;
   offset = h.second_at;
   text = ap (λ (n : List ℕ). codes "TwiceField " ++ n) h.named ∙ ap (λ (p : Place). told_of p (text_at bytes ts d.number)) (sym placed);
 }
-told_pair bytes ts l scopes.Memory known h = absurd (known refl)
+told_pair bytes ts r scopes.Memory known h = absurd (known refl)
 
-one_pair : (bytes : List ℕ) (ts : List Token) (l : Listing) (f g : ScopeFault) → ToldPair bytes ts l f → ToldPair bytes ts l g → (scope_offset f ≡ scope_offset g) × (scope_fault_text f ≡ scope_fault_text g)
-one_pair bytes ts l f g p q =
-    let (same_d, same_e) = first_once (text_at bytes ts) l.members p.d p.e q.d q.e p.is_first q.is_first in (
-      p.offset ∙ ap (λ (x : Declared). (token_at ts x.number).start) same_e ∙ sym q.offset,
-      p.text ∙ ap₂ (λ (x y : Declared). told_of y.place (text_at bytes ts x.number)) same_d same_e ∙ sym q.text,
+one_pair : (bytes : List ℕ) (ts : List Token) (r : Rows) (f g : ScopeFault) → ToldPair bytes ts r f → ToldPair bytes ts r g → (scope_offset f ≡ scope_offset g) × (scope_fault_text f ≡ scope_fault_text g)
+one_pair bytes ts r f g p q =
+    let (same_d, same_e) = first_once (text_at bytes ts) (members_of r) p.d p.e q.d q.e p.is_first q.is_first in (
+      p.offset ∙ ap (λ (x : Member). (token_at ts x.number).start) same_e ∙ sym q.offset,
+      p.text ∙ ap₂ (λ (x y : Member). told_of y.place (text_at bytes ts x.number)) same_d same_e ∙ sym q.text,
     )
 
 one_scope_fault : (bytes : List ℕ) (f g : ScopeFault) → (f ≢ scopes.Memory) → (g ≢ scopes.Memory) → HasScopeFault f bytes → HasScopeFault g bytes → (scope_offset f ≡ scope_offset g) × (scope_fault_text f ≡ scope_fault_text g)
 one_scope_fault bytes f g some other (ts, m, reads, tree, h) k =
-    one_pair bytes ts (listing_of ts m) f g (told_pair bytes ts (listing_of ts m) f some h) (told_pair bytes ts (listing_of ts m) g other (scope_fault_of bytes ts m g reads tree k))
+    one_pair bytes ts (rows_of m) f g (told_pair bytes ts (rows_of m) f some h) (told_pair bytes ts (rows_of m) g other (scope_fault_of bytes ts m g reads tree k))
 
 -- ---- one file
 

@@ -8,32 +8,33 @@ use Rattle.ob_scan.specs.Spelling.{Spells}
 use Rattle.ob_scan.proofs.Outcomes.{spelled_once}
 use Rattle.ob_tree.specs.declared.declaration.Module.{Module}
 use Rattle.ob_tree.specs.Declaring.{module_outline}
-use Rattle.ob_tree.specs.Derives.{Derives, items_of}
+use Rattle.ob_tree.specs.Derives.{Derives}
 use Rattle.ob_tree.specs.Marks.{Out}
 use Rattle.ob_parse.specs.Parsed.{kinds_of}
 use Rattle.ob_parse.proofs.OneTree.{trees_same}
 use Rattle.ob_scope.specs.Counted.{HasWeight}
-use Rattle.ob_scope.specs.Listed.{ImportItem, Listing}
-use Rattle.ob_scope.specs.Listed as listed
-use Rattle.ob_scope.specs.Scoped.{listing_of}
-use Rattle.ob_scope.specs.Standings.{text_at}
-use Rattle.oscip_tree.specs.Trees.{file_of, files_of, listing, names, AreAccepted, HasImport, IsAccepted, ModuleFile}
+use Rattle.ob_decls.proofs.ReadingModules.{tables_same}
+use Rattle.ob_decls.specs.Declaring.{rows_of}
+use Rattle.ob_decls.specs.Parts.{Rows}
+use Rattle.ob_decls.specs.declared.rows.Import.{Import}
+use Rattle.ob_scope.specs.Texts.{text_at}
+use Rattle.oscip_tree.specs.Trees.{file_of, files_of, rows, names, AreAccepted, HasImport, IsAccepted, ModuleFile}
 use Rattle.oscip_tree.specs.declared.source.Source.{Source}
 use Rattle.oscip_tree.proofs.TreeFiles.{same_maps, there}
 use Rattle.oscip_tree.proofs.TreeNet.{member_at, place_of}
 
 -- what two trees of one text's tokens declare and look up
-pub one_listing : (bytes : List ℕ) (ts us : List Token) (m n : Module) → Spells bytes ts → Spells bytes us → Derives (kinds_of ts) m → Derives (kinds_of us) n → listing_of ts m ≡ listing_of us n
-one_listing bytes ts us m n a b of_m of_n =
+pub one_rows : (bytes : List ℕ) (ts us : List Token) (m n : Module) → Spells bytes ts → Spells bytes us → Derives (kinds_of ts) m → Derives (kinds_of us) n → rows_of m ≡ rows_of n
+one_rows bytes ts us m n a b of_m of_n =
     let tokens : ts ≡ us = spelled_once bytes ts us a b in
     let outline : module_outline m ≡ module_outline n = trees_same (kinds_of us) m n (subst (λ (vs : List Token). Derives (kinds_of vs) m) tokens of_m) of_n in
-    ap₂ (λ (vs : List Token) (o : Out). listed.listing vs (items_of o)) tokens outline
+    tables_same m n outline
 
 -- two readings of one file
 pub record AreAlike (a b : ModuleFile) : Type 0 where
   pub path : a.path ≡ b.path
   pub names_are : names a ≡ names b
-  pub listing_is : listing a ≡ listing b
+  pub rows_are : rows a ≡ rows b
 
 alike : (s : Source) (a b : ModuleFile) → IsAccepted s a → IsAccepted s b → AreAlike a b
 alike s a b h k =
@@ -42,7 +43,7 @@ alike s a b h k =
     record {
       path = h.path_is ∙ sym k.path_is;
       names_are = ap₂ text_at bytes (spelled_once a.bytes a.tokens b.tokens h.reads.1 spells);
-      listing_is = one_listing a.bytes a.tokens b.tokens a.tree b.tree h.reads.1 spells h.is_tree.tree.derived k.is_tree.tree.derived;
+      rows_are = one_rows a.bytes a.tokens b.tokens a.tree b.tree h.reads.1 spells h.is_tree.tree.derived k.is_tree.tree.derived;
     }
 
 same_file : (a b : ModuleFile) → AreAlike a b → file_of a ≡ file_of b
@@ -51,8 +52,8 @@ same_file a b h = λ k. record { path = h.path k; name = same_name k; imports = 
     same_name : names a 1 ≡ names b 1
     same_name = ap (λ (n : ℕ → List ℕ). n 1) h.names_are
 
-    same_imports : map (λ (i : ImportItem). names a i.imported) (listing a).imports ≡ map (λ (i : ImportItem). names b i.imported) (listing b).imports
-    same_imports = ap₂ (λ (n : ℕ → List ℕ) (l : Listing). map (λ (i : ImportItem). n i.imported) l.imports) h.names_are h.listing_is
+    same_imports : map (λ (i : Import). names a i.imported) (rows a).imports ≡ map (λ (i : Import). names b i.imported) (rows b).imports
+    same_imports = ap₂ (λ (n : ℕ → List ℕ) (r : Rows). map (λ (i : Import). n i.imported) r.imports) h.names_are h.rows_are
 
 module _ (sources : List Source) (files others : List ModuleFile) (a : AreAccepted sources files) (b : AreAccepted sources others) where
   alike_at : (i : ℕ) (file other : ModuleFile) → slice_get files i ≡ Some file → slice_get others i ≡ Some other → AreAlike file other
@@ -81,5 +82,5 @@ module _ (sources : List Source) (files others : List ModuleFile) (a : AreAccept
         is_of_tree = member_at others i other at_other;
         named = subst (λ (name : ℕ → List ℕ). name 1 ≡ m) both.names_are h.named;
         imports = subst (λ (f : File). Contains f.imports n) (same_file h.importer other both) h.imports;
-        weight = subst (λ (l : Listing). HasWeight (names other) l n w) both.listing_is (subst (λ (name : ℕ → List ℕ). HasWeight name (listing h.importer) n w) both.names_are h.weight);
+        weight = subst (λ (r : Rows). HasWeight (names other) r n w) both.rows_are (subst (λ (name : ℕ → List ℕ). HasWeight name (rows h.importer) n w) both.names_are h.weight);
       }

@@ -10,9 +10,9 @@ use Rattle.ob_imports.specs.Files.{File, file_of as parsed_file, files_of as par
 use Rattle.ob_imports.specs.Names.{texts}
 use Rattle.ob_scope.specs.declared.module_scopes.Alias.{Alias}
 use Rattle.ob_scope.specs.Kept.{alias_of}
-use Rattle.ob_scope.specs.Listed.{ImportItem}
+use Rattle.ob_decls.specs.declared.rows.Import.{Import}
 use Rattle.ob_scope.specs.Scoped.{AliasUses, ModuleScopes}
-use Rattle.oscip_tree.specs.Trees.{file_of, files_of, listing, names, AreAccepted, IsAccepted, IsFileFault, IsTreeFault, ModuleFile}
+use Rattle.oscip_tree.specs.Trees.{file_of, files_of, rows, names, AreAccepted, IsAccepted, IsFileFault, IsTreeFault, ModuleFile}
 use Rattle.oscip_tree.specs.TreeReading.{AreRead, AreScopesOf}
 use Rattle.oscip_tree.specs.declared.source.Source.{Source}
 use Rattle.oscip_tree.specs.declared.tree.TreeFault.{TreeFault}
@@ -124,8 +124,8 @@ same_file source file s p path name imports accepted scoped = λ k. record { pat
     same_name : string_bytes p.name ≡ names file 1
     same_name = name ∙ scoped.name
 
-    same_imports : texts p.imports.items ≡ map (λ (i : ImportItem). names file i.imported) (listing file).imports
-    same_imports = imports ∙ same_maps (λ (a : AliasUses). a.imported) (λ (i : ImportItem). names file i.imported) s.aliases (listing file).imports scoped.aliased.as_many
+    same_imports : texts p.imports.items ≡ map (λ (i : Import). names file i.imported) (rows file).imports
+    same_imports = imports ∙ same_maps (λ (a : AliasUses). a.imported) (λ (i : Import). names file i.imported) s.aliases (rows file).imports scoped.aliased.as_many
         (λ i a item p q. (scoped.aliased.each i item a q p).imported)
 
 -- one more alias

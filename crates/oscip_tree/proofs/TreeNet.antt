@@ -24,34 +24,30 @@ use Rattle.digraph.proofs.Members.{from_map, in_map}
 use Rattle.ob_imports.proofs.Nodes.{nodes_known}
 use Rattle.ob_scan.specs.declared.token.Token.{Token}
 use Rattle.ob_scan.specs.Spelling.{Spells}
-use Rattle.ob_tree.specs.declared.item.Item.{Item}
-use Rattle.ob_tree.specs.Declaring.{module_outline}
-use Rattle.ob_tree.specs.Derives.{Derives, items_of}
+use Rattle.ob_tree.specs.Derives.{Derives}
 use Rattle.ob_tree.specs.declared.declaration.Module.{Module as SyntaxTree}
 use Rattle.ob_scope.specs.Counted.{HasWeight}
-use Rattle.ob_scope.specs.Listed.{ImportItem, Listing}
-use Rattle.ob_scope.specs.Listed as listed
+use Rattle.ob_decls.specs.Declaring.{rows_of}
+use Rattle.ob_decls.specs.Parts.{Rows}
+use Rattle.ob_decls.specs.declared.rows.Import.{Import as Item}
 use Rattle.ob_scope.specs.Identified.{AreNames}
-use Rattle.ob_scope.specs.Scoped.{AreScopes, ModuleScopes, listing_of}
-use Rattle.ob_scope.specs.Standings.{text_at}
+use Rattle.ob_scope.specs.Scoped.{AreScopes, ModuleScopes}
+use Rattle.ob_scope.specs.Texts.{text_at}
 use Rattle.ob_scope.specs.Weights.{uses_across}
-use Rattle.ob_scope.proofs.Whole.{same_test}
-use Rattle.oscip_tree.specs.Trees.{file_of, files_of, listing, names, AreAccepted, HasImport, IsAccepted, IsNetOfTree, ModuleFile}
+use Rattle.ob_scope.proofs.Names.{same_test}
+use Rattle.oscip_tree.specs.Trees.{file_of, files_of, rows, names, AreAccepted, HasImport, IsAccepted, IsNetOfTree, ModuleFile}
 use Rattle.oscip_tree.specs.TreeReading.{AreRead}
 use Rattle.oscip_tree.specs.declared.source.Source.{Source}
 use Rattle.oscip_tree.proofs.TreeFiles.{there}
 
 -- ---- laws of the lower crates
 
-abbrev pub NamesAreNames : Type 0
-NamesAreNames = (bytes : List ℕ) (ts : List Token) (m : SyntaxTree) → Spells bytes ts → Derives (map (λ (t : Token). t.kind) ts) m → AreNames (text_at bytes ts) (listing_of ts m)
-
 abbrev pub WeightOfAliases : Type 0
-WeightOfAliases = (bytes : List ℕ) (ts : List Token) (is : List Item) (s : ModuleScopes) (imported : List ℕ) →
-    AreScopes bytes ts (listed.listing ts is) s → HasWeight (text_at bytes ts) (listed.listing ts is) imported (uses_across s.aliases imported)
+WeightOfAliases = (bytes : List ℕ) (ts : List Token) (r : Rows) (s : ModuleScopes) (imported : List ℕ) →
+    AreScopes bytes ts r s → HasWeight (text_at bytes ts) r imported (uses_across s.aliases imported)
 
 abbrev pub OneWeight : Type 0
-OneWeight = (name : ℕ → List ℕ) (l : Listing) (imported : List ℕ) (n m : ℕ) → HasWeight name l imported n → HasWeight name l imported m → n ≡ m
+OneWeight = (name : ℕ → List ℕ) (r : Rows) (imported : List ℕ) (n m : ℕ) → HasWeight name r imported n → HasWeight name r imported m → n ≡ m
 
 -- ---- members by their places
 
@@ -94,14 +90,6 @@ one_file fs f h differ (i, li, is_f) (j, lj, is_h) e = elim (cases_lt i j) [
         false≢true (sym (apart_from_distinct bytes_eq (names_of fs) i j [] differ less (omega arith))
         ∙ (bytes_eq-Decides (get_or (names_of fs) i []) (get_or (names_of fs) j [])).1 (at_f ∙ e ∙ sym at_h))
 
-accepted_file : (sources : List Source) (files : List ModuleFile) (file : ModuleFile) → AreAccepted sources files → Contains files file → (source : Source) × IsAccepted source file
-accepted_file sources files file accepted has =
-    let (i, at) = place_of files file has in
-    let within = slice_get_within files i file at in
-    let many = accepted.as_many in
-    let (source, at_source) = there sources i (omega arith) in
-    (source, accepted.each i source file at_source at)
-
 module _ (sources : List Source) (files : List ModuleFile) (g : ImportGraph) (kept : AreKept (files_of files) g) where
   -- ---- nodes
 
@@ -119,11 +107,14 @@ module _ (sources : List Source) (files : List ModuleFile) (g : ImportGraph) (ke
       (at_left (names_of (files_of files)) kept.is_graph.nodes.others v (names file 1) (at_map (λ (f : File). f.name) (files_of files) v (file_of file) (at_map file_of files v file at)))
 
   -- all names are names
-  module _ (accepted : AreAccepted sources files) (law : NamesAreNames) where
-    named_file : (file : ModuleFile) → Contains files file → (is_name (names file 1) ≡ true) × ((i : ImportItem) → Contains (listing file).imports i → is_name (names file i.imported) ≡ true)
+  module _ (ss : List ModuleScopes) (read : AreRead sources files ss) where
+    named_file : (file : ModuleFile) → Contains files file → (is_name (names file 1) ≡ true) × ((i : Item) → Contains (rows file).imports i → is_name (names file i.imported) ≡ true)
     named_file file has =
-        let (source, ok) = accepted_file sources files file accepted has in
-        let all = law file.bytes file.tokens file.tree ok.reads.1 ok.is_tree.tree.derived in (
+        let (v, at) = place_of files file has in
+        let within = slice_get_within files v file at in
+        let many = read.as_many in
+        let (s, at_s) = there ss v (omega arith) in
+        let all = (read.each v file s at at_s).named in (
           sym (same_test (names file 1)) ∙ all.own,
           λ i there. sym (same_test (names file i.imported)) ∙ all.imports i there,
         )
@@ -137,7 +128,7 @@ module _ (sources : List Source) (files : List ModuleFile) (g : ImportGraph) (ke
     named_node n (inr (m, (f, has, named, imports))) =
         let (file, has_file, is) = from_map file_of files f has in
         let own : Contains (file_of file).imports n = subst (λ (h : File). Contains h.imports n) (sym is) imports in
-        let (i, has_item, name) = from_map (λ (i : ImportItem). names file i.imported) (listing file).imports n own in
+        let (i, has_item, name) = from_map (λ (i : Item). names file i.imported) (rows file).imports n own in
         subst (λ (x : List ℕ). is_name x ≡ true) name ((named_file file has_file).1 i has_item)
 
     pub names_named : All (λ n. is_name n ≡ true) g.names
@@ -145,14 +136,14 @@ module _ (sources : List Source) (files : List ModuleFile) (g : ImportGraph) (ke
 
   module _ (ss : List ModuleScopes) (read : AreRead sources files ss) (weigh : WeightOfAliases) where
     -- the weight of an import of the graph is that of the importing file
-    weight_there : (v : ℕ) (file : ModuleFile) (n : List ℕ) → slice_get files v ≡ Some file → HasWeight (names file) (listing file) n (uses_across (scopes_at ss v).aliases n)
+    weight_there : (v : ℕ) (file : ModuleFile) (n : List ℕ) → slice_get files v ≡ Some file → HasWeight (names file) (rows file) n (uses_across (scopes_at ss v).aliases n)
     weight_there v file n at =
         let within = slice_get_within files v file at in
         let many = read.as_many in
         let (s, at_s) = there ss v (omega arith) in
         let is : scopes_at ss v ≡ s = get_or_from_slice_get ss v s no_scopes at_s in
-        subst (λ (t : ModuleScopes). HasWeight (names file) (listing file) n (uses_across t.aliases n)) (sym is)
-        (weigh file.bytes file.tokens (items_of (module_outline file.tree)) s n (read.each v file s at at_s))
+        subst (λ (t : ModuleScopes). HasWeight (names file) (rows file) n (uses_across t.aliases n)) (sym is)
+        (weigh file.bytes file.tokens (rows file) s n (read.each v file s at at_s))
 
     module _ (graph : IsGraph g) where
       -- an import of the graph is one of the files
@@ -196,7 +187,7 @@ module _ (sources : List Source) (files : List ModuleFile) (g : ImportGraph) (ke
           let has : Contains g.pairs (record { from = v; to = u }) = (kept.is_graph.leads v u).1 (m, n, here, at_n, imports) in
           let from : graphs.name_of g v ≡ m = get_or_from_slice_get g.names v m [] here in
           let to : graphs.name_of g u ≡ n = get_or_from_slice_get g.names u n [] at_n in
-          let weight : uses_across (scopes_at ss v).aliases n ≡ w = once (names file) (listing file) n _ _ (weight_there v file n at) h.weight in
+          let weight : uses_across (scopes_at ss v).aliases n ≡ w = once (names file) (rows file) n _ _ (weight_there v file n at) h.weight in
           let amount : graph_weight g ss (record { from = v; to = u }) ≡ w = ap (uses_across (scopes_at ss v).aliases) to ∙ weight in
           let line : graph_import g ss (record { from = v; to = u }) ≡ Import m n w = λ k. Import (from k) (to k) (amount k) in
           subst (Contains (graph_lines g ss)) line (Contains-append_right (map Module g.names) (map (graph_import g ss) g.pairs) (graph_import g ss (record { from = v; to = u })) (in_map (graph_import g ss) g.pairs (record { from = v; to = u }) has))

@@ -15,7 +15,7 @@ use Rattle.ob_parse.proofs.OneFault.{syntax_place}
 use Rattle.ob_parse.proofs.OneTree.{place_in_text}
 use Rattle.ob_parse.specs.declared.fault.ParseFault.{ParseFault}
 use Rattle.ob_parse.specs.declared.fault.ParseFault.TheVariants as parses
-use Rattle.ob_scope.specs.Standings.{no_token, token_at}
+use Rattle.ob_scope.specs.Texts.{no_token, token_at}
 use Rattle.ob_scope.specs.declared.fault.ScopeFault.{ScopeFault}
 use Rattle.ob_scope.specs.declared.fault.ScopeFault.TheVariants as scopes
 use Rattle.oscip_tree.specs.Trees.{parse_offset, scan_offset, scope_offset, HasParseFault, HasScanFault, HasScopeFault}

@@ -6,7 +6,7 @@ use Rattle.digraph.specs.Chains.{IsAcyclic}
 use Rattle.ob_imports.specs.Files.{Imports}
 use Rattle.ob_imports.specs.Outcomes.{AreKept}
 use Rattle.ob_scope.specs.Scoped.{AreScopes, ModuleScopes}
-use Rattle.oscip_tree.specs.Trees.{AreAccepted, IsAccepted, ModuleFile, files_of, listing}
+use Rattle.oscip_tree.specs.Trees.{AreAccepted, IsAccepted, ModuleFile, files_of, rows}
 use Rattle.oscip_tree.specs.declared.source.Source.{Source}
 use Rattle.oscip_tree.specs.declared.tree.TreeFault.{TreeFault}
 use Rattle.oscip_tree.specs.declared.tree.TreeFault.TheVariants.{Graph, Memory}
@@ -21,7 +21,7 @@ of_graph graphs.Memory = Memory
 
 -- these are the scopes of the file's module
 abbrev pub AreScopesOf : ModuleFile → ModuleScopes → Type 0
-AreScopesOf file s = AreScopes file.bytes file.tokens (listing file) s
+AreScopesOf file s = AreScopes file.bytes file.tokens (rows file) s
 
 -- the file is accepted, and these are the scopes of its module
 abbrev pub HasScopes : Source → ModuleScopes → Type 0

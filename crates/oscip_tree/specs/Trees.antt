@@ -11,13 +11,15 @@ use Rattle.ob_tree.specs.declared.declaration.Module.{Module}
 use Rattle.ob_parse.specs.declared.fault.ParseFault.{ParseFault}
 use Rattle.ob_parse.specs.declared.fault.ParseFault.TheVariants as parses
 use Rattle.ob_parse.specs.Parsed.{IsTheTree, IsFaultOf}
+use Rattle.ob_decls.specs.Declaring.{rows_of}
+use Rattle.ob_decls.specs.Parts.{Rows}
 use Rattle.ob_scope.specs.declared.fault.ScopeFault.{ScopeFault}
 use Rattle.ob_scope.specs.declared.fault.ScopeFault.TheVariants as scopes
 use Rattle.ob_scope.specs.Counted.{HasWeight}
-use Rattle.ob_scope.specs.Listed.{Listing}
+use Rattle.ob_scope.specs.Members.{members_of}
 use Rattle.ob_scope.specs.Scope.{NoneTwice}
-use Rattle.ob_scope.specs.Scoped.{IsScopeFault, listing_of}
-use Rattle.ob_scope.specs.Standings.{text_at}
+use Rattle.ob_scope.specs.Scoped.{IsScopeFault}
+use Rattle.ob_scope.specs.Texts.{text_at}
 use Rattle.ob_imports.specs.declared.fault.GraphFault.{GraphFault}
 use Rattle.digraph.specs.Chains.{IsAcyclic}
 use Rattle.ob_imports.specs.Files.{File, Imports, IsNode}
@@ -43,12 +45,12 @@ abbrev pub names : ModuleFile → ℕ → List ℕ
 names file = text_at file.bytes file.tokens
 
 -- what the module declares and looks up
-abbrev pub listing : ModuleFile → Listing
-listing file = listing_of file.tokens file.tree
+abbrev pub rows : ModuleFile → Rows
+rows file = rows_of file.tree
 
 -- the module's name stands behind MODULE; its imports are those of its import items
 abbrev pub file_of : ModuleFile → File
-file_of file = record { path = file.path; name = names file 1; imports = map (λ i. names file i.imported) (listing file).imports }
+file_of file = record { path = file.path; name = names file 1; imports = map (λ i. names file i.imported) (rows file).imports }
 
 abbrev pub files_of : List ModuleFile → List File
 files_of files = map file_of files
@@ -59,7 +61,7 @@ pub record IsAccepted (s : Source) (file : ModuleFile) : Type 0 where
   pub bytes_are : file.bytes ≡ s.bytes.items
   pub reads : IsOutcome file.bytes (Reads file.tokens)
   pub is_tree : IsTheTree file.bytes file.tokens file.tree
-  pub once : NoneTwice (names file) (listing file).members
+  pub once : NoneTwice (names file) (members_of (rows file))
 
 -- so for each of the files
 pub record AreAccepted (sources : List Source) (files : List ModuleFile) : Type 0 where
@@ -79,7 +81,7 @@ pub record HasImport (files : List ModuleFile) (m n : List ℕ) (w : ℕ) : Type
   pub is_of_tree : Contains files importer
   pub named : names importer 1 ≡ m
   pub imports : Contains (file_of importer).imports n
-  pub weight : HasWeight (names importer) (listing importer) n w
+  pub weight : HasWeight (names importer) (rows importer) n w
 
 -- the network of an accepted tree: the names of its modules and of those that they import, in order, and the imports with their weights, in order
 pub record IsNetOfTree (sources : List Source) (net : Network) : Type 0 where
@@ -123,7 +125,7 @@ HasParseFault fault bytes = (ts : List Token) × IsOutcome bytes (Reads ts) × I
 
 -- they have tokens and a tree, and this a name that is declared twice
 abbrev pub HasScopeFault : ScopeFault → List ℕ → Type 0
-HasScopeFault fault bytes = (ts : List Token) × (m : Module) × IsOutcome bytes (Reads ts) × IsTheTree bytes ts m × IsScopeFault bytes ts (listing_of ts m) fault
+HasScopeFault fault bytes = (ts : List Token) × (m : Module) × IsOutcome bytes (Reads ts) × IsTheTree bytes ts m × IsScopeFault bytes ts (rows_of m) fault
 
 -- the file has this path, and its bytes have the fault, at this line and column
 pub record IsFault (s : Source) (path : List ℕ) (at : Position) (offset : ℕ) (HasFault : List ℕ → Type 0) : Type 0 where

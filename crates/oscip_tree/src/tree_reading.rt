@@ -10,7 +10,7 @@ use crate::{Source, TreeFault};
 use cut_net::Net;
 use ob_imports::{Graph, Parsed, graph};
 use ob_scope::Scopes;
-use ob_scope::laws::{identifiers_are_names, one_weight, weight_of_aliases};
+use ob_scope::laws::{one_weight, weight_of_aliases};
 use std::alloc::{AllocError, Global};
 use tree_net::net_of_graph;
 
@@ -91,7 +91,6 @@ pub fn net_of(alloc: Global, sources: &[Source]) -> Result<Net, TreeFault>
 {
     let tree = read_tree(alloc, sources)?;
     tree.graph.keeps();
-    identifiers_are_names();
     weight_of_aliases();
     one_weight();
     Ok(net_of_graph(alloc, &tree.graph, tree.scopes.as_slice())?)

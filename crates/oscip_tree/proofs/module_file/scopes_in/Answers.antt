@@ -1,6 +1,7 @@
 use Rattle.std.proofs.Common.{ℕ, List, refl, subst}
 use Rattle.std.specs.String.{string_bytes}
-use Rattle.ob_scope.specs.Scoped.{listing_of, AreScopes, IsScopeFault}
+use Rattle.ob_decls.specs.Declaring.{rows_of}
+use Rattle.ob_scope.specs.Scoped.{AreScopes, IsScopeFault}
 use Rattle.oscip_tree.proofs.module_file.scopes_in.Goals as goal
 
 pub scopes-requires-clause-spelled : goal.scopes-requires-clause-spelled
@@ -11,7 +12,7 @@ returns-in-Ok-clause-scoped c =
     let source = c.args.source.now in
     let ts = c.args.tokens.now in
     let m = c.args.«module».now in
-    let scoped = subst (λ (bytes : List ℕ). AreScopes bytes ts (listing_of ts m) c.in-Ok.scopes) c.as_slice.ensures.value c.in-Ok.ensures.scoped in (
+    let scoped = subst (λ (bytes : List ℕ). AreScopes bytes ts (rows_of m) c.in-Ok.scopes) c.as_slice.ensures.value c.in-Ok.ensures.scoped in (
       record { path = string_bytes source.path; bytes = source.bytes.items; tokens = ts; tree = m },
       record { path_is = refl; bytes_are = refl; reads = c.requires.spelled; is_tree = c.requires.parsed; once = scoped.once },
       scoped,
@@ -25,5 +26,5 @@ scope_fault-requires c =
       m,
       c.requires.spelled,
       c.requires.parsed,
-      subst (λ (bytes : List ℕ). IsScopeFault bytes ts (listing_of ts m) c.in-Err.fault) c.as_slice.ensures.value c.in-Err.ensures.fault,
+      subst (λ (bytes : List ℕ). IsScopeFault bytes ts (rows_of m) c.in-Err.fault) c.as_slice.ensures.value c.in-Err.ensures.fault,
     )

@@ -19,7 +19,7 @@ net_of_graph-requires-clause-as_many c =
 pub net_of_graph-requires-clause-named : goal.net_of_graph-requires-clause-named
 net_of_graph-requires-clause-named c =
     let of = c.in_ok-tree.ensures.tree in
-    names_named c.args.sources.now of.files c.in_ok-tree.tree.graph of.kept of.read.accepted c.identifiers_are_names.ensures
+    names_named c.args.sources.now of.files c.in_ok-tree.tree.graph of.kept c.in_ok-tree.tree.scopes.items of.read
 
 pub returns-clause-net : goal.returns-clause-net
 returns-clause-net c =
