@@ -37,7 +37,7 @@ fn has_chain(
 }
 
 /// What is wrong with a cut between two modules of a network, or that nothing is.
-/// Takes time in proportion to modules, imports and lines, and fails where memory is refused.
+/// Fails where memory is refused.
 pub fn check(alloc: Global, net: &Net, from: u32, to: u32, cut: &Cut) -> Result<Verdict, AllocError>
     requires from { from < length net.now.names }
     requires to { to < length net.now.names }

@@ -98,7 +98,7 @@ pub fn worker<L: NetworkLedger, R: Wait, G: Gate>(
 ) -> Share<L>
     requires unmarked { share.marked ≡ false }
     ensures marked { result.marked ≡ true }
-    // Its steps are added to the share's.
+    // What the share counts doesn't fall.
     ensures counted { share.count ≤ result.count }
 {
     let Some(mut event) = look_or_mark(&*aside(rt, locked), number, &mut share) else {
