@@ -7,6 +7,10 @@ pub const SIX: &[u8] = b"import A M 2\nimport M B 2\n";
 
 pub const SIX_CUT: &[u8] = b"cut A B\nweight 2\nremove A M 2\nflow A M 2\nflow M B 2\nend\n";
 
+/// The picture of that report.
+pub const SIX_DOT: &[u8] =
+    b"digraph cut {\n  rankdir=LR;\n  \"A\" [peripheries=2] [style=filled];\n  \"B\" [peripheries=2];\n  \"M\";\n  \"A\" -> \"M\" [label=\"2/2\"] [style=dashed, color=red];\n  \"M\" -> \"B\" [label=\"2/2\"];\n}\n";
+
 /// B uses D more often than A uses B, and C less often.
 const FOUR: &[(&str, &str)] = &[
     ("A.Mod", "MODULE A; IMPORT B, C; BEGIN B.p; C.q; C.q END A."),

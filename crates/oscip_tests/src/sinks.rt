@@ -1,7 +1,7 @@
 //! Sinks that fail at a put: each has what was put before it, and the run ends so.
-use crate::runs::{FOUR_CUT, SIX, SIX_CUT, answer_told, end_told, four};
+use crate::runs::{FOUR_CUT, SIX, SIX_CUT, SIX_DOT, answer_told, end_told, four};
 use cut_solve::OpenGate;
-use oscip_run::{check_net_bytes, cut_net_bytes, cut_tree};
+use oscip_run::{check_net_bytes, cut_net_bytes, cut_tree, dot_net_bytes};
 use oscip_tree::{Source, in_order};
 use std::alloc::{AllocError, Global};
 use std::process::Abort;
@@ -39,6 +39,12 @@ fn net_check(alloc: Global, sink: &mut ByOne) -> Result<String, AllocError> {
     answer_told(alloc, &end)
 }
 
+/// The end of a picture of the network.
+fn net_picture(alloc: Global, sink: &mut ByOne) -> Result<String, AllocError> {
+    let end = dot_net_bytes(alloc, SIX, SIX_CUT, sink);
+    end_told(alloc, &end)
+}
+
 /// Checks that a run ended by its sink, which has so many bytes of the text and failed once.
 fn has_front(rt: &impl Abort, end: &str, sink: &ByOne, text: &[u8], puts: usize) {
     assert_eq!(rt; end, DEVICE);
@@ -73,6 +79,16 @@ fn a_check_has_put_the_front(rt: HostRuntime) -> Result<(), Fail> {
         let mut sink = ByOne::new(rt.alloc(), puts as u64);
         let end = net_check(rt.alloc(), &mut sink)?;
         has_front(&rt, end.as_str(), &sink, b"yes\n", puts);
+    }
+    Ok(())
+}
+
+#[test]
+fn a_picture_has_put_the_front(rt: HostRuntime) -> Result<(), Fail> {
+    for puts in 0..SIX_DOT.len() {
+        let mut sink = ByOne::new(rt.alloc(), puts as u64);
+        let end = net_picture(rt.alloc(), &mut sink)?;
+        has_front(&rt, end.as_str(), &sink, SIX_DOT, puts);
     }
     Ok(())
 }
