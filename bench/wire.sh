@@ -1,7 +1,7 @@
 #!/usr/bin/env bash
 # Times what writes and reads an index of 3 million occurrences, beside a copy of the same bytes.
 # It builds its own program in a repository of its own, from copies of the crates: bench/wire.sh [DOCUMENTS OCCURRENCES]
-# OCCURRENCES are those of each document. WIRE names a program that is built.
+# OCCURRENCES are those of each document. WIRE names a program that is built; bench/wire.sh build PATH builds it there and does no more.
 set -eu
 here=$(cd "$(dirname "$0")" && pwd)
 documents=${1:-300}
@@ -26,6 +26,7 @@ build() {
 
 wire=${WIRE:-$work/crates/wire/out/wire}
 [ -n "${WIRE:-}" ] || build
+[ "$documents" != build ] || { cp "$wire" "$occurrences"; exit 0; }
 "$wire" "$documents" "$occurrences" 7 > "$work/told"
 python3 - "$work/told" <<'END'
 import sys
