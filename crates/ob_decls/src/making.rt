@@ -29,8 +29,9 @@ fn in_order(draft: &Draft) -> Result<(), AllocError>
     ascend(draft.ends.as_slice())
 }
 
-/// The table of a module. AllocError is answered where a growth of memory is refused, and for a tree of 2^32 tokens or more,
-/// whose numbers no row can hold. The order of the rows is looked at before the table is answered; no tree breaks it.
+/// The table of a module. The walk recurses a few calls for each level of nesting, so a tree of `parse` needs a stack of 2 MiB;
+/// lists are loops. AllocError is answered where a growth of memory is refused, and for a tree of 2^32 tokens or more, whose
+/// numbers no row can hold. The order of the rows is looked at before the table is answered; no tree breaks it.
 pub fn table_of(alloc: Global, module: &Module) -> Result<Table, AllocError>
     ensures exact { IfOk result (λ t. rows_in t ≡ rows_of «module».now) }
 {
