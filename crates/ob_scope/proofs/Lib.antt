@@ -13,3 +13,4 @@ pub mod Finding
 pub mod Weighing
 pub mod Assembling
 pub mod Names
+pub mod Crossed

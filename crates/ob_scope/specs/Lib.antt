@@ -9,3 +9,4 @@ pub mod Kept
 pub mod Places
 pub mod Looked
 pub mod Found
+pub mod Crossings

@@ -5,8 +5,10 @@ ghost use Rattle.ob_decls.specs.declared.rows.Block.{Block};
 ghost use Rattle.ob_decls.specs.declared.rows.Declared.{Declared};
 ghost use Rattle.ob_decls.specs.declared.rows.Used.{Used};
 ghost use Rattle.ob_decls.specs.Parts.{Rows};
+ghost use Rattle.ob_scope.specs.declared.across.Crossing.{Crossing};
 ghost use Rattle.ob_scope.specs.declared.members.Member.{Member};
 ghost use Rattle.ob_scope.specs.Counted.{HasWeight};
+ghost use Rattle.ob_scope.specs.Crossings.{AreCrossings};
 ghost use Rattle.ob_decls.specs.Order.{AscendBy};
 ghost use Rattle.ob_scope.specs.Members.{members_of};
 ghost use Rattle.ob_scope.specs.Scope.{IsFirstTwice, Means, NoneTwice};
@@ -50,4 +52,15 @@ pub fn one_weight()
 pub fn weight_le()
     ensures all { (bytes : List ℕ) (ts : List Token) (rows : Rows) (s : ModuleScopes) → AreScopes bytes ts rows s → uses_of_all s.aliases ≤ length rows.uses }
     ensures one { (aliases : List AliasUses) (imported : List ℕ) → uses_across aliases imported ≤ uses_of_all aliases }
+{}
+
+/// The uses that cross to a module are as many as its import weighs.
+pub fn weight_of_crossings()
+    ensures { (name : ℕ → List ℕ) (rows : Rows) (imported : List ℕ) (cs : List Crossing) → AreCrossings name rows imported rows.uses cs → HasWeight name rows imported (length cs) }
+{}
+
+/// The uses that cross to a module are told in one way.
+pub fn one_crossings()
+    ensures { (name : ℕ → List ℕ) (rows : Rows) (imported : List ℕ) (cs ds : List Crossing) →
+        AreCrossings name rows imported rows.uses cs → AreCrossings name rows imported rows.uses ds → cs ≡ ds }
 {}

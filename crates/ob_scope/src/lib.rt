@@ -3,6 +3,7 @@
 //! Its contract: each use means what the scope rule gives it, or two identifiers of one name stand in one place.
 #![tactic(auto)]
 
+mod across;
 mod fault;
 mod identified;
 pub mod laws;
@@ -16,6 +17,7 @@ mod scoping;
 mod text;
 mod uses;
 
+pub use across::{Crossing, crossings};
 pub use fault::ScopeFault;
 pub use members::{Member, Place};
 pub use module_scopes::{Alias, Scopes};

@@ -1,6 +1,7 @@
 //! The scopes of a module, and their readers.
-ghost use Rattle.std.specs.Prelude.{◌≡◌, ℕ, Some, IfOk, IfSome, IfNone, Contains, map};
+ghost use Rattle.std.specs.Prelude.{◌≡◌, ℕ, true, Some, IfOk, IfSome, IfNone, Contains, map};
 ghost use Rattle.ob_decls.specs.Order.{AscendBy, HasNoneBy, IsPlaceBy};
+ghost use Rattle.ob_scope.specs.Crossings.{IsAliasFor};
 ghost use Rattle.ob_scope.specs.Kept.{alias_of, AreKept};
 ghost use Rattle.ob_scope.specs.declared.meaning.MeaningRow.{MeaningRow};
 ghost use Rattle.ob_scope.specs.declared.module_scopes.Alias.{Alias};
@@ -101,6 +102,17 @@ impl Scopes {
         match place_of_alias(self.aliases.as_slice(), alias) {
             Some(at) => self.aliases[at].uses,
             None => 0,
+        }
+    }
+
+    /// Whether the token of this number declares an alias of the module of this name.
+    pub fn is_alias_of(&self, alias: u32, imported: &str) -> bool
+        ensures yes { result ≡ true → IsAliasFor self.now alias imported.now }
+        ensures no { IsAliasFor self.now alias imported.now → result ≡ true }
+    {
+        match place_of_alias(self.aliases.as_slice(), alias) {
+            Some(at) => self.aliases[at].module.as_str() == imported,
+            None => false,
         }
     }
 }

@@ -25,7 +25,7 @@ pub(crate) struct Found {
     pub(crate) counts: Vec<u64>,
 }
 
-fn is_import(sort: Sort) -> bool
+pub(crate) fn is_import(sort: Sort) -> bool
     ensures { result ≡ is_import sort }
 {
     match sort {

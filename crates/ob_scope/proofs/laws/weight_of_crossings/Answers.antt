@@ -1,0 +1,5 @@
+use Rattle.ob_scope.proofs.Crossed.{crossings_weigh}
+use Rattle.ob_scope.proofs.laws.weight_of_crossings.Goals as goal
+
+pub returns : goal.returns
+returns c = crossings_weigh
