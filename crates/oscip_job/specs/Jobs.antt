@@ -6,7 +6,7 @@ use Rattle.clap.specs.Words.{App, Row, Text, first_of, one_of, new_app, new_rule
 use Rattle.clap.specs.Walk.{Rule}
 use Rattle.clap.specs.declared.builder.value_parser.ValueParser.TheVariants as parsers
 use Rattle.oscip_job.specs.declared.job.Job.{Job}
-use Rattle.oscip_job.specs.declared.job.Job.TheVariants.{Cut, Check, CutNet, CheckNet, Dot, DotNet, Def, Refs}
+use Rattle.oscip_job.specs.declared.job.Job.TheVariants.{Cut, Check, Crossings, CutNet, CheckNet, Dot, DotNet, Def, Refs}
 use Rattle.oscip_job.specs.declared.job.Question.{Question}
 
 -- an argument that has to be given
@@ -37,6 +37,10 @@ cut_app = with_workers (with_modules (with_rule (new_app (codes "cut")) (require
 -- check DIR REPORT
 abbrev pub check_app : App
 check_app = with_rule (with_rule (new_app (codes "check")) (required_rule (codes "DIR"))) (required_rule (codes "REPORT"))
+
+-- crossings DIR M N
+abbrev pub crossings_app : App
+crossings_app = with_rule (with_rule (with_rule (new_app (codes "crossings")) (required_rule (codes "DIR"))) (required_rule (codes "M"))) (required_rule (codes "N"))
 
 -- cut-net [--workers N] FILE A B
 abbrev pub cut_net_app : App
@@ -81,7 +85,7 @@ program_app = record (new_app (codes "oscip")) { top = record (new_app (codes "o
 -- the program and its commands
 abbrev pub oscip : App
 oscip =
-    with_subcommand (with_subcommand (with_subcommand (with_subcommand (with_subcommand (with_subcommand (with_subcommand (with_subcommand program_app cut_app.top) check_app.top) cut_net_app.top)
+    with_subcommand (with_subcommand (with_subcommand (with_subcommand (with_subcommand (with_subcommand (with_subcommand (with_subcommand (with_subcommand program_app cut_app.top) check_app.top) crossings_app.top) cut_net_app.top)
     check_net_app.top) dot_app.top) dot_net_app.top) def_app.top) refs_app.top
 
 -- the text that was found for an argument
@@ -124,6 +128,8 @@ HasValues rows (Cut folder from to workers) =
     Finds rows (codes "DIR") (string_bytes folder) × Finds rows (codes "A") (string_bytes from) × Finds rows (codes "B") (string_bytes to)
     × FindsNumber rows (codes "workers") workers
 HasValues rows (Check folder report) = Finds rows (codes "DIR") (string_bytes folder) × Finds rows (codes "REPORT") (string_bytes report)
+HasValues rows (Crossings folder from to) =
+    Finds rows (codes "DIR") (string_bytes folder) × Finds rows (codes "M") (string_bytes from) × Finds rows (codes "N") (string_bytes to)
 HasValues rows (CutNet network from to workers) =
     Finds rows (codes "FILE") (string_bytes network) × Finds rows (codes "A") (string_bytes from) × Finds rows (codes "B") (string_bytes to)
     × FindsNumber rows (codes "workers") workers
@@ -137,6 +143,7 @@ HasValues rows (Refs question) = HasQuestion rows question
 abbrev pub command_name : Job → Text
 command_name (Cut folder from to workers) = codes "cut"
 command_name (Check folder report) = codes "check"
+command_name (Crossings folder from to) = codes "crossings"
 command_name (CutNet network from to workers) = codes "cut-net"
 command_name (CheckNet network report) = codes "check-net"
 command_name (Dot folder report) = codes "dot"
@@ -153,6 +160,7 @@ Holds (Some found) job = (found.0 ≡ command_name job) × HasValues found.1 job
 abbrev pub is_tree_job : Job → Bool
 is_tree_job (Cut folder from to workers) = true
 is_tree_job (Check folder report) = true
+is_tree_job (Crossings folder from to) = false
 is_tree_job (CutNet network from to workers) = false
 is_tree_job (CheckNet network report) = false
 is_tree_job (Dot folder report) = true
@@ -164,6 +172,7 @@ is_tree_job (Refs question) = false
 abbrev pub is_net_job : Job → Bool
 is_net_job (Cut folder from to workers) = false
 is_net_job (Check folder report) = false
+is_net_job (Crossings folder from to) = false
 is_net_job (CutNet network from to workers) = true
 is_net_job (CheckNet network report) = true
 is_net_job (Dot folder report) = false
@@ -175,6 +184,7 @@ is_net_job (Refs question) = false
 abbrev pub is_query_job : Job → Bool
 is_query_job (Cut folder from to workers) = false
 is_query_job (Check folder report) = false
+is_query_job (Crossings folder from to) = false
 is_query_job (CutNet network from to workers) = false
 is_query_job (CheckNet network report) = false
 is_query_job (Dot folder report) = false
@@ -182,10 +192,23 @@ is_query_job (DotNet network report) = false
 is_query_job (Def question) = true
 is_query_job (Refs question) = true
 
+-- the job asks for the places where one module uses another
+abbrev pub is_crossings_job : Job → Bool
+is_crossings_job (Cut folder from to workers) = false
+is_crossings_job (Check folder report) = false
+is_crossings_job (Crossings folder from to) = true
+is_crossings_job (CutNet network from to workers) = false
+is_crossings_job (CheckNet network report) = false
+is_crossings_job (Dot folder report) = false
+is_crossings_job (DotNet network report) = false
+is_crossings_job (Def question) = false
+is_crossings_job (Refs question) = false
+
 -- the job's workers, where it has them, are 1 to 64
 abbrev pub HasWorkers : Job → Type 0
 HasWorkers (Cut folder from to workers) = MayWork workers
 HasWorkers (Check folder report) = Unit {0}
+HasWorkers (Crossings folder from to) = Unit {0}
 HasWorkers (CutNet network from to workers) = MayWork workers
 HasWorkers (CheckNet network report) = Unit {0}
 HasWorkers (Dot folder report) = Unit {0}
@@ -201,6 +224,7 @@ IsPositionOf q = (q.line ≤ 2147483647) × (q.column ≤ 2147483647)
 abbrev pub HasPosition : Job → Type 0
 HasPosition (Cut folder from to workers) = Unit {0}
 HasPosition (Check folder report) = Unit {0}
+HasPosition (Crossings folder from to) = Unit {0}
 HasPosition (CutNet network from to workers) = Unit {0}
 HasPosition (CheckNet network report) = Unit {0}
 HasPosition (Dot folder report) = Unit {0}

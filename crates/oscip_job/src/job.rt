@@ -3,7 +3,7 @@ ghost use Rattle.std.specs.Prelude.{◌≡◌, ◌≤◌, IfOk, IfSome, codes, m
 ghost use Rattle.std.specs.String.{string_bytes};
 ghost use Rattle.clap.specs.Words.{app_of, found_of, kind_of, new_app, rows_of, subcommand_of, subcommand_rows_of, with_rule, with_subcommand, App};
 ghost use Rattle.clap.specs.declared.Command.TheViews.{out-Command as fields_of};
-ghost use Rattle.oscip_job.specs.Jobs.{asking_app, check_app, check_net_app, cut_app, cut_net_app, def_app, dot_app, dot_net_app, number_rule, oscip, refs_app, required_rule, with_modules, with_position, with_workers, Finds, FindsNumber, HasPosition, HasQuestion, HasWorkers, Holds, IsPositionOf, MayWork, NamesNumbers, NamesPosition, NamesWithin, NamesWorkers};
+ghost use Rattle.oscip_job.specs.Jobs.{asking_app, check_app, check_net_app, crossings_app, cut_app, cut_net_app, def_app, dot_app, dot_net_app, number_rule, oscip, refs_app, required_rule, with_modules, with_position, with_workers, Finds, FindsNumber, HasPosition, HasQuestion, HasWorkers, Holds, IsPositionOf, MayWork, NamesNumbers, NamesPosition, NamesWithin, NamesWorkers};
 
 use clap::error::ErrorKind;
 use clap::{Arg, ArgMatches, Command, value_parser};
@@ -36,6 +36,11 @@ const CUT_NET_END: &str = "Example: oscip cut-net examples/six.net A B{n}{n}\
 /// What stands at the end of the help of a command that checks.
 const CHECK_END: &str = "Example: oscip check examples/editor edit.cut{n}{n}\
     Status: 0 yes, 5 no, 1 a module or the report is refused, 2 the command line is refused,{n}\
+    3 a file can't be read or standard output takes nothing, 4 memory ran out";
+
+/// What stands at the end of the help of the command that tells where a module uses another.
+const CROSSINGS_END: &str = "Example: oscip crossings examples/editor Edit Sync{n}{n}\
+    Status: 0 the places are printed, 1 a module or a name is refused, 2 the command line is refused,{n}\
     3 a file can't be read or standard output takes nothing, 4 memory ran out";
 
 const CHECK_NET_END: &str = "Example: oscip check-net examples/six.net examples/six.cut{n}{n}\
@@ -88,6 +93,12 @@ pub enum Job {
     Check {
         folder: String,
         report: String,
+    },
+    /// Tells where the module of the first name uses that of the second, of the modules below a folder, given by its path.
+    Crossings {
+        folder: String,
+        from: String,
+        to: String,
     },
     /// Finds a cheapest cut of a network, given as the path of a file, between the modules of two names, with 1 to 64
     /// workers.
@@ -249,6 +260,31 @@ fn check_command<'a>(alloc: Global) -> Result<Command<'a>, AllocError>
     )
 }
 
+/// The command with the names of two modules, M and N.
+fn with_users<'a>(alloc: Global, command: Command<'a>) -> Result<Command<'a>, AllocError>
+    ensures app { IfOk result (λ c. app_of c ≡ with_rule (with_rule (app_of command.entry) (required_rule (codes "M"))) (required_rule (codes "N"))) }
+    ensures local { IfOk result (λ c. (fields_of command.entry).has_globals ≡ false → (fields_of c).has_globals ≡ false) }
+{
+    let command = with_required(alloc, command, "M", "The name of the module that uses N")?;
+    with_required(
+        alloc,
+        command,
+        "N",
+        "The name of the module that M uses, which may be one that has no file",
+    )
+}
+
+fn crossings_command<'a>(alloc: Global) -> Result<Command<'a>, AllocError>
+    ensures app { IfOk result (λ c. app_of c ≡ crossings_app) }
+    ensures local { IfOk result (λ c. (fields_of c).has_globals ≡ false) }
+{
+    let command = Command::new(alloc, "crossings")
+        .about("Tell where an Oberon-07 module uses another: what to rewrite to remove that import")
+        .after_help(CROSSINGS_END);
+    let command = with_required(alloc, command, "DIR", FOLDER_HELP)?;
+    with_users(alloc, command)
+}
+
 fn cut_net_command<'a>(alloc: Global) -> Result<Command<'a>, AllocError>
     ensures app { IfOk result (λ c. app_of c ≡ cut_net_app) }
     ensures local { IfOk result (λ c. (fields_of c).has_globals ≡ false) }
@@ -407,10 +443,11 @@ fn with_sub<'a>(
 
 /// The program with the commands on folders of modules.
 fn with_trees<'a>(alloc: Global, program: Command<'a>) -> Result<Command<'a>, AllocError>
-    ensures { IfOk result (λ c. app_of c ≡ with_subcommand (with_subcommand (app_of program.entry) cut_app.top) check_app.top) }
+    ensures { IfOk result (λ c. app_of c ≡ with_subcommand (with_subcommand (with_subcommand (app_of program.entry) cut_app.top) check_app.top) crossings_app.top) }
 {
     let program = with_sub(program, cut_command(alloc))?;
-    with_sub(program, check_command(alloc))
+    let program = with_sub(program, check_command(alloc))?;
+    with_sub(program, crossings_command(alloc))
 }
 
 /// The program with the commands on networks.
@@ -526,6 +563,17 @@ fn check_job(alloc: Global, found: &ArgMatches<'_>) -> Result<Job, JobFault>
     Ok(Job::Check { folder, report })
 }
 
+fn crossings_job(alloc: Global, found: &ArgMatches<'_>) -> Result<Job, JobFault>
+    ensures values { IfOk result (Holds (Some (codes "crossings", rows_of (found_of found.now)))) }
+    ensures workers { IfOk result HasWorkers }
+    ensures position { IfOk result HasPosition }
+{
+    let folder = value_of(alloc, found, "DIR")?;
+    let from = value_of(alloc, found, "M")?;
+    let to = value_of(alloc, found, "N")?;
+    Ok(Job::Crossings { folder, from, to })
+}
+
 fn check_net_job(alloc: Global, found: &ArgMatches<'_>) -> Result<Job, JobFault>
     ensures values { IfOk result (Holds (Some (codes "check-net", rows_of (found_of found.now)))) }
     ensures workers { IfOk result HasWorkers }
@@ -618,6 +666,9 @@ fn job_from(alloc: Global, matches: &ArgMatches<'_>) -> Result<Job, JobFault>
     }
     if name == "check" {
         return check_job(alloc, found);
+    }
+    if name == "crossings" {
+        return crossings_job(alloc, found);
     }
     if name == "cut-net" {
         return cut_net_job(alloc, found);
