@@ -6,3 +6,4 @@ pub mod SameFiles
 pub mod OneTreeNet
 pub mod NoTreeFault
 pub mod OneTreeFault
+pub mod CrossedTrees

@@ -2,3 +2,4 @@ pub mod Sources
 pub mod Trees
 pub mod TreeReading
 pub mod TreeFaults
+pub mod Crossings

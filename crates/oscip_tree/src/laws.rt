@@ -1,9 +1,12 @@
 //! Laws of trees of files: no tree is accepted and refused, an accepted tree has one network, and a refused tree one fault.
 //! Each function is a law: its body is empty, and its contract is proved.
-ghost use Rattle.std.specs.Prelude.{◌≡◌, false, true, List};
-ghost use Rattle.cut_net.specs.Network.{Network};
+ghost use Rattle.std.specs.Prelude.{◌≡◌, ℕ, Contains, false, length, true, List};
+ghost use Rattle.cut_net.specs.declared.priced.Priced.{Priced};
+ghost use Rattle.cut_net.specs.Network.{Network, name_of};
+ghost use Rattle.oscip_tree.specs.Crossings.{AreUses};
 ghost use Rattle.oscip_tree.specs.TreeFaults.{wants_memory, AreOneFault};
 ghost use Rattle.oscip_tree.specs.Trees.{IsNetOfTree, IsTree, IsTreeFault, ModuleFile};
+ghost use Rattle.oscip_tree.specs.declared.crossing.Span.{Span};
 ghost use Rattle.oscip_tree.specs.declared.source.Source.{Source};
 ghost use Rattle.oscip_tree.specs.declared.tree.TreeFault.{TreeFault};
 
@@ -23,4 +26,10 @@ pub fn one_network()
 pub fn one_fault()
     ensures { (sources : List Source) (fault other : TreeFault) → IsTreeFault sources fault → IsTreeFault sources other →
         wants_memory fault ≡ false → wants_memory other ≡ false → AreOneFault fault other }
+{}
+
+/// The places where one module uses another are as many as the import between them weighs in the tree's network.
+pub fn weight_of_uses()
+    ensures { (sources : List Source) (net : Network) (path : List ℕ) (spans : List Span) (i : Priced) →
+        IsNetOfTree sources net → Contains net.imports i → AreUses sources (name_of net i.from) (name_of net i.to) path spans → i.amount ≡ length spans }
 {}

@@ -3,6 +3,7 @@
 //! Its contract: the network is the tree's, or the fault is that of the first file that has one, or else of the imports.
 #![tactic(auto)]
 
+mod crossing;
 pub mod laws;
 mod module_file;
 mod source;
@@ -10,6 +11,7 @@ mod tree;
 mod tree_fault;
 mod tree_reading;
 
+pub use crossing::{Crossed, Span, uses_across};
 pub use source::{Source, in_order};
 pub use tree::TreeFault;
 pub use tree_fault::{after_spaces, tree_fault_text, wants_memory};

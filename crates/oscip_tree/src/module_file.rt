@@ -46,7 +46,7 @@ fn scope_offset(fault: &ScopeFault) -> u32
 }
 
 /// A fault of the scanner, with the place where it stands in the file.
-fn scan_fault(alloc: Global, source: &Source, fault: ScanFault) -> TreeFault
+pub(crate) fn scan_fault(alloc: Global, source: &Source, fault: ScanFault) -> TreeFault
     requires { HasScanFault fault source.now.bytes.items }
     ensures { IsFileFault source.now result }
 {
@@ -61,7 +61,7 @@ fn scan_fault(alloc: Global, source: &Source, fault: ScanFault) -> TreeFault
 }
 
 /// A fault of the parser, with the place where it stands in the file.
-fn parse_fault(alloc: Global, source: &Source, fault: ParseFault) -> TreeFault
+pub(crate) fn parse_fault(alloc: Global, source: &Source, fault: ParseFault) -> TreeFault
     requires { HasParseFault fault source.now.bytes.items }
     ensures { IsFileFault source.now result }
 {

@@ -1,0 +1,191 @@
+//! Where a module of a tree uses another.
+ghost use Rattle.std.specs.Prelude.{◌≡◌, ℕ, List, Some, Contains, IfErr, IfNone, IfOk, IfSome, slice_get};
+ghost use Rattle.ob_decls.specs.Declaring.{rows_in, rows_of};
+ghost use Rattle.ob_imports.specs.Files.{names_of};
+ghost use Rattle.ob_imports.specs.Outcomes.{AreKept};
+ghost use Rattle.ob_parse.specs.Parsed.{IsTheTree};
+ghost use Rattle.ob_scan.specs.Position.{line_starts};
+ghost use Rattle.ob_scan.specs.Spelling.{AreInText, IsOutcome, Reads};
+ghost use Rattle.ob_scope.specs.Texts.{token_at};
+ghost use Rattle.ob_tree.specs.declared.declaration.Module.{Module};
+ghost use Rattle.oscip_tree.specs.Crossings.{AreSpans, ArePlaces, IsCrossed, IsCrossedIn, IsSpan};
+ghost use Rattle.oscip_tree.specs.TreeReading.{AreScopesOf};
+ghost use Rattle.oscip_tree.specs.Trees.{files_of, names, IsAccepted, IsFileFault, IsTreeFault, ModuleFile};
+
+use crate::module_file::{parse_fault, scan_fault};
+use crate::tree_reading::read_tree;
+use crate::{Source, TreeFault};
+use ob_decls::{Table, table_of};
+use ob_imports::Graph;
+use ob_parse::parse;
+use ob_scan::laws::tokens_in_text;
+use ob_scan::{Lines, Position, Token, Tokens, lines, scan};
+use ob_scope::{Crossing, Scopes, crossings};
+use std::alloc::{AllocError, Global};
+
+/// A place in a file: from its first byte to behind its last one.
+#[derive(Clone, Copy, PartialEq, Eq, Debug)]
+pub struct Span {
+    pub start: Position,
+    pub end: Position,
+}
+
+/// Where one module uses another, both given by their names.
+#[derive(Drop)]
+pub enum Crossed {
+    /// The path of the first module's file, and the places in it.
+    Places { path: String, spans: Vec<Span> },
+    /// No module of the tree has the first name.
+    NoImporter,
+    /// No module has the second name.
+    NoImported,
+}
+
+/// Where a token begins; 0 beyond the last.
+fn start_of(tokens: &[Token], number: u32) -> u32
+    ensures { result ≡ (token_at tokens.now number).start }
+{
+    match tokens.get(number as usize) {
+        Some(token) => token.start,
+        None => 0,
+    }
+}
+
+/// Where a token ends; 0 beyond the last.
+fn end_of(tokens: &[Token], number: u32) -> u32
+    ensures { result ≡ (token_at tokens.now number).end }
+{
+    match tokens.get(number as usize) {
+        Some(token) => token.end,
+        None => 0,
+    }
+}
+
+/// The place of a crossing.
+fn span_of(lines: &Lines, tokens: &[Token], crossing: Crossing) -> Span
+    ensures { (bytes : List ℕ) → lines.now ≡ line_starts bytes → AreInText bytes tokens.now → IsSpan bytes tokens.now crossing result }
+{
+    Span {
+        start: lines.position(start_of(tokens, crossing.first)),
+        end: lines.position(end_of(tokens, crossing.last)),
+    }
+}
+
+/// The places of crossings, in their order.
+fn spans_of(
+    alloc: Global,
+    bytes: &[u8],
+    tokens: &[Token],
+    crossings: &[Crossing],
+) -> Result<Vec<Span>, AllocError>
+    requires { AreInText bytes.now tokens.now }
+    ensures { IfOk result (λ v. AreSpans bytes.now tokens.now crossings.now v.items) }
+{
+    let lines = lines(alloc, bytes)?;
+    let mut spans = Vec::new(alloc);
+    for crossing in crossings {
+        spans.push(span_of(&lines, tokens, *crossing))?;
+    }
+    Ok(spans)
+}
+
+/// The table of a file's module with these tokens.
+fn table_after(alloc: Global, source: &Source, tokens: &Tokens) -> Result<Table, TreeFault>
+    requires { IsOutcome source.now.bytes.items (Reads tokens.now) }
+    ensures table { IfOk result (λ t. (m : Module) × IsTheTree source.now.bytes.items tokens.now m × (rows_in t ≡ rows_of m)) }
+    ensures fault { IfErr result (IsFileFault source.now) }
+{
+    match parse(alloc, source.bytes.as_slice(), tokens) {
+        Ok(module) => Ok(table_of(alloc, &module)?),
+        Err(fault) => Err(parse_fault(alloc, source, fault)),
+    }
+}
+
+/// The places in a file, which has these tokens, where its module uses that of this name.
+fn places_after(
+    alloc: Global,
+    source: &Source,
+    tokens: &Tokens,
+    scopes: &Scopes,
+    imported: &str,
+) -> Result<Vec<Span>, TreeFault>
+    requires { IsOutcome source.now.bytes.items (Reads tokens.now) }
+    ensures places { IfOk result (λ v. (file : ModuleFile) → IsAccepted source.now file → AreScopesOf file scopes.now → ArePlaces file imported.now v.items) }
+    ensures fault { IfErr result (IsFileFault source.now) }
+{
+    tokens_in_text();
+    let table = table_after(alloc, source, tokens)?;
+    let found = crossings(alloc, &table, scopes, imported)?;
+    let (bytes, tokens) = (source.bytes.as_slice(), tokens.as_slice());
+    Ok(spans_of(alloc, bytes, tokens, found.as_slice())?)
+}
+
+/// The places in a file where its module uses that of this name.
+fn places_in(
+    alloc: Global,
+    source: &Source,
+    scopes: &Scopes,
+    imported: &str,
+) -> Result<Vec<Span>, TreeFault>
+    ensures places { IfOk result (λ v. (file : ModuleFile) → IsAccepted source.now file → AreScopesOf file scopes.now → ArePlaces file imported.now v.items) }
+    ensures fault { IfErr result (IsFileFault source.now) }
+{
+    match scan(alloc, source.bytes.as_slice()) {
+        Ok(tokens) => places_after(alloc, source, &tokens, scopes, imported),
+        Err(fault) => Err(scan_fault(alloc, source, fault)),
+    }
+}
+
+/// The path of a file, and the places in it where its module uses that of this name.
+fn crossed_in(
+    alloc: Global,
+    source: &Source,
+    scopes: &Scopes,
+    imported: &str,
+) -> Result<Crossed, TreeFault>
+    ensures places { IfOk result (IsCrossedIn source.now scopes.now imported.now) }
+    ensures fault { IfErr result (IsFileFault source.now) }
+{
+    let spans = places_in(alloc, source, scopes, imported)?;
+    let path = String::from_str(alloc, source.path.as_str())?;
+    Ok(Crossed::Places { path, spans })
+}
+
+/// The number of the tree's module of this name, or none where the tree has none.
+fn importer_of(graph: &Graph, name: &str) -> Option<u32>
+    ensures found { IfSome result (λ v. (files : List ModuleFile) → AreKept (files_of files) graph.now → (file : ModuleFile) × (slice_get files v ≡ Some file) × (names file 1 ≡ name.now)) }
+    ensures none { IfNone result ((files : List ModuleFile) → AreKept (files_of files) graph.now → Contains (names_of (files_of files)) name.now → ⊥) }
+{
+    let node = graph.node_of(name)?;
+    if node < graph.modules() {
+        Some(node)
+    } else {
+        None
+    }
+}
+
+/// Where the module of the first name uses that of the second: the places of the qualified uses whose alias stands for it, in
+/// order, from the alias's first byte to behind the name that follows the dot; there are as many as the import weighs. The
+/// first name has to be that of a module of the tree, and the second that of one of the tree or of an imported one; what
+/// doesn't import the second has no places.
+pub fn uses_across(
+    alloc: Global,
+    sources: &[Source],
+    from: &str,
+    to: &str,
+) -> Result<Crossed, TreeFault>
+    // Exactly these places, or the first name that no module has.
+    ensures crossed { IfOk result (IsCrossed sources.now from.now to.now) }
+    // The fault is the tree's.
+    ensures fault { IfErr result (IsTreeFault sources.now) }
+{
+    let tree = read_tree(alloc, sources)?;
+    let Some(importer) = importer_of(&tree.graph, from) else {
+        return Ok(Crossed::NoImporter);
+    };
+    if tree.graph.node_of(to).is_none() {
+        return Ok(Crossed::NoImported);
+    }
+    let importer = importer as usize;
+    crossed_in(alloc, &sources[importer], &tree.scopes[importer], to)
+}
