@@ -4,13 +4,13 @@
 #![tactic(auto)]
 
 ghost use Rattle.std.specs.Prelude.{◌≡◌, true};
-ghost use Rattle.oscip_job.specs.Jobs.{is_net_job, is_query_job, is_tree_job, HasWorkers};
+ghost use Rattle.oscip_job.specs.Jobs.{is_crossings_job, is_net_job, is_query_job, is_tree_job, HasWorkers};
 
 use byte_sink::ToWrite;
 use cut_solve::OpenGate;
 use oscip_job::{Job, JobFault, job_of};
 use oscip_run::{
-    RunFault, answer, answer_question, answer_tree, fault_line, read_file, sources_of, status_of,
+    RunFault, answer, answer_crossings, answer_question, answer_tree, fault_line, read_file, sources_of, status_of,
     status_of_run, status_of_words,
 };
 use std::alloc::Global;
@@ -28,9 +28,11 @@ fn report_of<R: Files + AllocGlobal>(rt: &R, job: &Job) -> Result<Vec<u8>, RunFa
         | Job::CheckNet { report, .. }
         | Job::Dot { report, .. }
         | Job::DotNet { report, .. } => read_file(rt, report.as_str()),
-        Job::Cut { .. } | Job::CutNet { .. } | Job::Def(_) | Job::Refs(_) => {
-            Ok(Vec::new(rt.alloc()))
-        }
+        Job::Cut { .. }
+        | Job::Crossings { .. }
+        | Job::CutNet { .. }
+        | Job::Def(_)
+        | Job::Refs(_) => Ok(Vec::new(rt.alloc())),
     }
 }
 
@@ -78,6 +80,20 @@ fn run_tree<R: Files + AllocGlobal + Print + Threads + Wait + Sync + Clone + Dro
     )
 }
 
+/// Tells where a module uses another. Nothing of it is a check that says no.
+fn run_crossings<R: Files + AllocGlobal + Print + Clone + Drop>(
+    rt: &R,
+    job: &Job,
+    folder: &str,
+) -> Result<bool, RunFault>
+    requires { is_crossings_job job.now ≡ true }
+{
+    let sources = sources_of(rt, folder)?;
+    let mut sink = ToWrite::new(io::writer(rt));
+    answer_crossings(rt.alloc(), job, sources.as_slice(), &mut sink)?;
+    Ok(true)
+}
+
 /// Answers a question. Nothing of it is a check that says no.
 fn run_question<R: Files + AllocGlobal + Print>(
     rt: &R,
@@ -103,6 +119,7 @@ fn run_job<R: Files + AllocGlobal + Print + Threads + Wait + Sync + Clone + Drop
         Job::Cut { folder, .. } | Job::Check { folder, .. } | Job::Dot { folder, .. } => {
             run_tree(rt, job, folder.as_str())
         }
+        Job::Crossings { folder, .. } => run_crossings(rt, job, folder.as_str()),
         Job::CutNet { network, .. } | Job::CheckNet { network, .. } | Job::DotNet { network, .. } =>
             { run_net(rt, job, network.as_str()) }
         Job::Def(question) | Job::Refs(question) => {

@@ -9,3 +9,4 @@ mod lines;
 
 pub use asking::{Which, query};
 pub use fault::{QueryFault, query_fault_text, query_status};
+pub use lines::put_lines;

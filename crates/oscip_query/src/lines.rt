@@ -42,7 +42,7 @@ fn put_enough<S: Sink>(text: &mut String, sink: &mut S) -> Result<(), SinkFault>
 }
 
 /// Puts a line for each place, in their order. At a refusal a front of the lines is taken.
-pub(crate) fn put_lines<S: Sink>(
+pub fn put_lines<S: Sink>(
     alloc: Global,
     places: &[Place<'_>],
     sink: &mut S,

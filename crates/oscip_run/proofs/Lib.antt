@@ -4,3 +4,4 @@ pub mod CutRuns
 pub mod DotRuns
 pub mod JobRuns
 pub mod NoRefusal
+pub mod CrossingRuns

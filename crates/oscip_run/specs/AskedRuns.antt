@@ -3,7 +3,7 @@ use Rattle.std.specs.Prelude.{◌≡◌, ℕ, List, Option, Result, Ok, Err}
 use Rattle.std.specs.String.{string_bytes}
 use Rattle.index_store.specs.declared.place.Position.{Position}
 use Rattle.oscip_job.specs.declared.job.Job.{Job}
-use Rattle.oscip_job.specs.declared.job.Job.TheVariants.{Cut, Check, CutNet, CheckNet, Dot, DotNet, Def, Refs}
+use Rattle.oscip_job.specs.declared.job.Job.TheVariants.{Cut, Check, Crossings, CutNet, CheckNet, Dot, DotNet, Def, Refs}
 use Rattle.oscip_job.specs.declared.job.Question.{Question}
 use Rattle.oscip_query.specs.Asking.{IsQueryRun}
 use Rattle.oscip_query.specs.declared.asking.Which.{Which}
@@ -25,6 +25,7 @@ IsAskedRun index q which old new (Err fault) = (lower : QueryFault) × (fault �
 abbrev pub IsAskedJob : List ℕ → Job → Option (List ℕ) → Option (List ℕ) → Result (Unit {0}) RunFault → Type 0
 IsAskedJob index (Cut folder from to workers) old new result = ⊥
 IsAskedJob index (Check folder report) old new result = ⊥
+IsAskedJob index (Crossings folder from to) old new result = ⊥
 IsAskedJob index (CutNet network from to workers) old new result = ⊥
 IsAskedJob index (CheckNet network report) old new result = ⊥
 IsAskedJob index (Dot folder report) old new result = ⊥

@@ -7,7 +7,7 @@ use Rattle.oscip_run.specs.DotRuns.{IsDotRun}
 use Rattle.oscip_run.specs.Runs.{IsCheckRun}
 use Rattle.oscip_run.specs.declared.fault.RunFault.{RunFault}
 use Rattle.oscip_job.specs.declared.job.Job.{Job}
-use Rattle.oscip_job.specs.declared.job.Job.TheVariants.{Cut, Check, CutNet, CheckNet, Dot, DotNet, Def, Refs}
+use Rattle.oscip_job.specs.declared.job.Job.TheVariants.{Cut, Check, Crossings, CutNet, CheckNet, Dot, DotNet, Def, Refs}
 
 -- the run, without its answer
 abbrev pub without_answer : Result Bool RunFault → Result (Unit {0}) RunFault
@@ -24,10 +24,11 @@ abbrev pub IsDotJobRun : (Network → Type 0) → (RunFault → Type 0) → List
 IsDotJobRun IsOf IsRefused report old new result =
     IsDotRun IsOf IsRefused report old new (without_answer result) × IfOk result (λ agrees. agrees ≡ true)
 
--- a run of the job's engine on a network, with the job's own names, or with the report; a question has none
+-- a run of the job's engine on a network, with the job's own names, or with the report; a question and a search for uses have none
 abbrev pub IsJobRun : (Network → Type 0) → (RunFault → Type 0) → Job → List ℕ → Option (List ℕ) → Option (List ℕ) → Result Bool RunFault → Type 0
 IsJobRun IsOf IsRefused (Cut folder from to workers) report old new result = IsCutJobRun IsOf IsRefused (string_bytes from) (string_bytes to) old new result
 IsJobRun IsOf IsRefused (Check folder other) report old new result = IsCheckRun IsOf IsRefused report old new result
+IsJobRun IsOf IsRefused (Crossings folder from to) report old new result = ⊥
 IsJobRun IsOf IsRefused (CutNet path from to workers) report old new result = IsCutJobRun IsOf IsRefused (string_bytes from) (string_bytes to) old new result
 IsJobRun IsOf IsRefused (CheckNet path other) report old new result = IsCheckRun IsOf IsRefused report old new result
 IsJobRun IsOf IsRefused (Dot folder other) report old new result = IsDotJobRun IsOf IsRefused report old new result

@@ -6,3 +6,4 @@ pub mod JobRuns
 pub mod Endings
 pub mod Files
 pub mod AskedRuns
+pub mod CrossingRuns

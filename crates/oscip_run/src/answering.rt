@@ -53,9 +53,12 @@ pub fn answer<R: Threads + Wait + Sync, G: Gate + Sync, S: Sink>(
             dot_net_bytes(alloc, network, report, sink)?;
             Ok(true)
         }
-        Job::Cut { .. } | Job::Check { .. } | Job::Dot { .. } | Job::Def(_) | Job::Refs(_) => {
-            unreachable!()
-        }
+        Job::Cut { .. }
+        | Job::Check { .. }
+        | Job::Crossings { .. }
+        | Job::Dot { .. }
+        | Job::Def(_)
+        | Job::Refs(_) => unreachable!(),
     }
 }
 
@@ -94,7 +97,8 @@ pub fn answer_tree<R: Threads + Wait + Sync, G: Gate + Sync, S: Sink>(
             dot_tree(alloc, sources, report, sink)?;
             Ok(true)
         }
-        Job::CutNet { .. }
+        Job::Crossings { .. }
+        | Job::CutNet { .. }
         | Job::CheckNet { .. }
         | Job::DotNet { .. }
         | Job::Def(_)

@@ -51,6 +51,7 @@ pub fn answer_question<S: Sink>(
         Job::Refs(question) => ask(alloc, question, Which::References, index, sink),
         Job::Cut { .. }
         | Job::Check { .. }
+        | Job::Crossings { .. }
         | Job::CutNet { .. }
         | Job::CheckNet { .. }
         | Job::Dot { .. }

@@ -5,6 +5,7 @@
 
 mod answering;
 mod asking;
+mod crossing;
 mod drawing;
 mod ending;
 mod engine;
@@ -15,6 +16,7 @@ mod reading;
 
 pub use answering::{answer, answer_tree};
 pub use asking::answer_question;
+pub use crossing::{answer_crossings, crossings_tree};
 pub use drawing::{dot_net_bytes, dot_tree};
 pub use ending::{status_of_run, status_of_words};
 pub use engine::{check_net_bytes, check_tree, cut_net_bytes, cut_tree};

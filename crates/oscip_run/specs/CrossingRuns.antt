@@ -1,0 +1,90 @@
+-- What a run that tells where a module uses another reads and puts.
+use Rattle.std.specs.Prelude.{◌≡◌, ◌⊎◌, ℕ, List, map, Option, Result, Ok, Err}
+use Rattle.std.specs.Io.KnownBytes.{Appends, Keeps}
+use Rattle.std.specs.String.{string_bytes}
+use Rattle.byte_sink.specs.Sinks.{AppendsFront}
+use Rattle.cut_solve.specs.declared.fault.SolveFault.{SolveFault}
+use Rattle.cut_solve.specs.declared.fault.SolveFault.TheVariants as solve
+use Rattle.index_store.specs.Queries.{PlainPlace}
+use Rattle.oscip_job.specs.declared.job.Job.{Job}
+use Rattle.oscip_job.specs.declared.job.Job.TheVariants.{Cut, Check, Crossings, CutNet, CheckNet, Dot, DotNet, Def, Refs}
+use Rattle.oscip_query.specs.Lines.{place_lines}
+use Rattle.oscip_run.specs.Runs.{IsRefusedTree}
+use Rattle.oscip_run.specs.declared.fault.RunFault.{RunFault}
+use Rattle.oscip_run.specs.declared.fault.RunFault.TheVariants.{CannotRead, CannotWrite, Tree, Net, Report, Solve, Query, Device, Memory}
+use Rattle.oscip_tree.specs.Crossings.{AreUses, IsNoModule, IsNoNode}
+use Rattle.oscip_tree.specs.declared.crossing.Span.{Span}
+use Rattle.oscip_tree.specs.declared.source.Source.{Source}
+
+-- a place in the file of this path
+abbrev pub place_at : List ℕ → Span → PlainPlace
+place_at path span = record {
+  path = path;
+  span = record { start = record { line = span.start.line; column = span.start.column }; end = record { line = span.end.line; column = span.end.column } };
+}
+
+-- the text has exactly the lines of the places where the one module uses the other
+pub record IsUsesText (sources : List Source) (m n text : List ℕ) : Type 0 where
+  pub path : List ℕ
+  pub spans : List Span
+  pub uses : AreUses sources m n path spans
+  pub lines : text ≡ place_lines (map (place_at path) spans)
+
+-- the sink has the whole text
+abbrev pub PutsUses : List Source → List ℕ → List ℕ → Option (List ℕ) → Option (List ℕ) → Type 0
+PutsUses sources m n old new = (text : List ℕ) × IsUsesText sources m n text × Appends old new text
+
+-- the sink has a front of it
+abbrev pub PutsUsesFront : List Source → List ℕ → List ℕ → Option (List ℕ) → Option (List ℕ) → Type 0
+PutsUsesFront sources m n old new = (text : List ℕ) × IsUsesText sources m n text × AppendsFront old new text
+
+-- of the two names this is the first that is none of a module, where the first has to be one of the tree
+abbrev pub IsFirstUnknown : List Source → List ℕ → List ℕ → List ℕ → Type 0
+IsFirstUnknown sources m n name = ((name ≡ m) × IsNoModule sources m) ⊎ ((name ≡ n) × IsNoNode sources m n)
+
+-- so says the fault of the names
+abbrev pub IsUnknown : List Source → List ℕ → List ℕ → SolveFault → Type 0
+IsUnknown sources m n solve.SameModule = ⊥
+IsUnknown sources m n (solve.NoSuchModule name) = IsFirstUnknown sources m n (string_bytes name)
+IsUnknown sources m n solve.Memory = ⊥
+
+-- a run of the engine: refused input leaves the sink as it was, with the fault that the input has
+abbrev pub IsCrossingsRun : List Source → List ℕ → List ℕ → Option (List ℕ) → Option (List ℕ) → Result (Unit {0}) RunFault → Type 0
+IsCrossingsRun sources m n old new (Ok _) = PutsUses sources m n old new
+IsCrossingsRun sources m n old new (Err (CannotRead path)) = ⊥
+IsCrossingsRun sources m n old new (Err (CannotWrite path)) = ⊥
+IsCrossingsRun sources m n old new (Err (Tree fault)) = IsRefusedTree sources (Tree fault) × Keeps old new
+IsCrossingsRun sources m n old new (Err (Net fault)) = ⊥
+IsCrossingsRun sources m n old new (Err (Report fault)) = ⊥
+IsCrossingsRun sources m n old new (Err (Solve fault)) = IsUnknown sources m n fault × Keeps old new
+IsCrossingsRun sources m n old new (Err (Query fault)) = ⊥
+IsCrossingsRun sources m n old new (Err Device) = PutsUsesFront sources m n old new
+IsCrossingsRun sources m n old new (Err Memory) = Keeps old new ⊎ PutsUsesFront sources m n old new
+
+-- a run of a job that asks where a module uses another, with the job's own names
+abbrev pub IsCrossingsJob : List Source → Job → Option (List ℕ) → Option (List ℕ) → Result (Unit {0}) RunFault → Type 0
+IsCrossingsJob sources (Cut folder from to workers) old new result = ⊥
+IsCrossingsJob sources (Check folder report) old new result = ⊥
+IsCrossingsJob sources (Crossings folder from to) old new result = IsCrossingsRun sources (string_bytes from) (string_bytes to) old new result
+IsCrossingsJob sources (CutNet network from to workers) old new result = ⊥
+IsCrossingsJob sources (CheckNet network report) old new result = ⊥
+IsCrossingsJob sources (Dot folder report) old new result = ⊥
+IsCrossingsJob sources (DotNet network report) old new result = ⊥
+IsCrossingsJob sources (Def question) old new result = ⊥
+IsCrossingsJob sources (Refs question) old new result = ⊥
+
+-- ---- what is made on the way
+
+-- the fault says that this name is none of a module, or memory ran out
+abbrev pub IsNoName : List ℕ → RunFault → Type 0
+IsNoName name (CannotRead path) = ⊥
+IsNoName name (CannotWrite path) = ⊥
+IsNoName name (Tree fault) = ⊥
+IsNoName name (Net fault) = ⊥
+IsNoName name (Report fault) = ⊥
+IsNoName name (Solve solve.SameModule) = ⊥
+IsNoName name (Solve (solve.NoSuchModule own)) = string_bytes own ≡ name
+IsNoName name (Solve solve.Memory) = ⊥
+IsNoName name (Query fault) = ⊥
+IsNoName name Device = ⊥
+IsNoName name Memory = Unit {0}

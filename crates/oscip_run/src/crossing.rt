@@ -1,0 +1,131 @@
+//! What the command that tells where a module uses another does with the files of a tree, over any sink.
+ghost use Rattle.std.specs.Prelude.{◌≡◌, ℕ, IfOk, List, map, true};
+ghost use Rattle.byte_sink.specs.Sinks.{failures_by};
+ghost use Rattle.index_store.specs.Queries.{plain_place};
+ghost use Rattle.oscip_job.specs.Jobs.{is_crossings_job};
+ghost use Rattle.oscip_run.specs.CrossingRuns.{place_at, IsCrossingsJob, IsCrossingsRun, IsNoName};
+ghost use Rattle.oscip_run.specs.Faults.{is_device};
+ghost use Rattle.oscip_tree.specs.Crossings.{AreUses};
+ghost use Rattle.oscip_tree.specs.Sources.{AreInOrder};
+ghost use Rattle.oscip_tree.specs.declared.source.Source.{Source};
+
+use crate::RunFault;
+use byte_sink::Sink;
+use cut_solve::SolveFault;
+use index_store::{Place, Position};
+use oscip_job::Job;
+use oscip_query::put_lines;
+use oscip_tree::{Crossed, Source, Span, uses_across};
+use std::alloc::{AllocError, Global};
+
+/// A place in the file of this path.
+fn place_at<'a>(path: &'a str, span: &Span) -> Place<'a>
+    ensures { plain_place result ≡ place_at path.now span.now }
+{
+    Place {
+        path,
+        start: Position {
+            line: span.start.line,
+            column: span.start.column,
+        },
+        end: Position {
+            line: span.end.line,
+            column: span.end.column,
+        },
+    }
+}
+
+/// The places in the file of this path, in their order.
+fn places_at<'a>(
+    alloc: Global,
+    path: &'a str,
+    spans: &[Span],
+) -> Result<Vec<Place<'a>>, AllocError>
+    ensures { IfOk result (λ places. map plain_place places.items ≡ map (place_at path.now) spans.now) }
+{
+    let mut places = Vec::new(alloc);
+    for span in spans {
+        places.push(place_at(path, span))?;
+    }
+    Ok(places)
+}
+
+/// Puts the lines of the places in the file of this path.
+fn put_places<S: Sink>(
+    alloc: Global,
+    path: &str,
+    spans: &[Span],
+    sink: &mut S,
+) -> Result<(), RunFault>
+    ensures run { (sources : List Source) (m n : List ℕ) → AreUses sources m n path.now spans.now → IsCrossingsRun sources m n (S.taken sink.old) (S.taken sink.new) result }
+    ensures failures { S.failures sink.new ≡ failures_by is_device result (S.failures sink.old) }
+{
+    let places = places_at(alloc, path, spans)?;
+    put_lines(alloc, places.as_slice(), sink)?;
+    Ok(())
+}
+
+/// The fault that no module has this name, or `Memory`.
+fn no_such_module(alloc: Global, name: &str) -> RunFault
+    ensures { IsNoName name.now result }
+{
+    match String::from_str(alloc, name) {
+        Ok(name) => RunFault::Solve(SolveFault::NoSuchModule { name }),
+        Err(_) => RunFault::Memory,
+    }
+}
+
+/// Reads the files of a tree and puts a line for each place where the module of the first name uses that of the second, as
+/// `PATH:LINE:COL-LINE:COL`: from the first byte of the alias to behind the name that follows the dot, lines and columns from
+/// 0, columns in bytes, in the order of the file. There are as many as the import weighs, and none where there is no import.
+/// Refuses with `Tree` where the tree is refused, then with `Solve` for the first name that no module has, where the first has
+/// to be that of a module of the tree, and with `Device` or `Memory`.
+pub fn crossings_tree<S: Sink>(
+    alloc: Global,
+    sources: &[Source],
+    from: &str,
+    to: &str,
+    sink: &mut S,
+) -> Result<(), RunFault>
+    // The files stand in the order of their paths.
+    requires { AreInOrder sources.now }
+    // What was read, and the lines that the sink took; after a refusal of the input it took nothing.
+    ensures run { IsCrossingsRun sources.now from.now to.now (S.taken sink.old) (S.taken sink.new) result }
+    // Device is answered where the sink counted a failure, and nowhere else.
+    ensures failures { S.failures sink.new ≡ failures_by is_device result (S.failures sink.old) }
+{
+    match uses_across(alloc, sources, from, to)? {
+        Crossed::Places { path, spans } => put_places(alloc, path.as_str(), spans.as_slice(), sink),
+        Crossed::NoImporter => Err(no_such_module(alloc, from)),
+        Crossed::NoImported => Err(no_such_module(alloc, to)),
+    }
+}
+
+/// Runs `crossings_tree` with the names of a job. Refuses as it does.
+pub fn answer_crossings<S: Sink>(
+    alloc: Global,
+    job: &Job,
+    sources: &[Source],
+    sink: &mut S,
+) -> Result<(), RunFault>
+    requires crossings { is_crossings_job job.now ≡ true }
+    requires in_order { AreInOrder sources.now }
+    // What was read, and the lines that the sink took; after a refusal of the input it took nothing.
+    ensures run { IsCrossingsJob sources.now job.now (S.taken sink.old) (S.taken sink.new) result }
+    // Device is answered where the sink counted a failure, and nowhere else.
+    ensures failures { S.failures sink.new ≡ failures_by is_device result (S.failures sink.old) }
+{
+    match job {
+        Job::Crossings { from, to, .. } => {
+            crossings_tree(alloc, sources, from.as_str(), to.as_str(), sink)
+        }
+        Job::Cut { .. }
+        | Job::Check { .. }
+        | Job::CutNet { .. }
+        | Job::CheckNet { .. }
+        | Job::Dot { .. }
+        | Job::DotNet { .. }
+        | Job::Def(_)
+        | Job::Refs(_) => unreachable!(),
+    }
+}
