@@ -84,14 +84,14 @@ entry_at keys k i e =
 
 module _ (name : ℕ → List ℕ) (members : List Member) where
   -- a front of the members
-  front_get : (i k : ℕ) (m : Member) → slice_get (take i members) k ≡ Some m → (k < i) × (slice_get members k ≡ Some m)
+  pub front_get : (i k : ℕ) (m : Member) → slice_get (take i members) k ≡ Some m → (k < i) × (slice_get members k ≡ Some m)
   front_get i k m e =
       let l : k < length (take i members) = slice_get_within (take i members) k m e in
       let both : (k < i) × (k < length members) = (grind (arith, common_steps), grind (arith, common_steps)) in
       let same : get_or (take i members) k m ≡ get_or members k m = grind (arith, common_steps) in
       (both.0, slice_get-get_or members k m both.1 ∙ ap Some (sym same ∙ get_or_from_slice_get (take i members) k m m e))
 
-  get_front : (i k : ℕ) (m : Member) → k < i → slice_get members k ≡ Some m → slice_get (take i members) k ≡ Some m
+  pub get_front : (i k : ℕ) (m : Member) → k < i → slice_get members k ≡ Some m → slice_get (take i members) k ≡ Some m
   get_front i k m l e =
       let w : k < length members = slice_get_within members k m e in
       let inside : k < length (take i members) = grind (arith, common_steps) in

@@ -14,3 +14,7 @@ pub mod Weighing
 pub mod Assembling
 pub mod Names
 pub mod Crossed
+pub mod Opening
+pub mod Sighting
+pub mod Numberings
+pub mod SightSteps

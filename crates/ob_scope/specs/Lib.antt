@@ -10,3 +10,5 @@ pub mod Places
 pub mod Looked
 pub mod Found
 pub mod Crossings
+pub mod Sights
+pub mod Sighted

@@ -12,8 +12,11 @@ mod making;
 mod meaning;
 mod members;
 mod module_scopes;
+mod numbering;
+mod opened;
 mod places;
 mod scoping;
+mod sight;
 mod text;
 mod uses;
 

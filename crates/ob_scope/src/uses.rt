@@ -6,13 +6,17 @@ ghost use Rattle.ob_decls.specs.declared.rows.Used.{Used};
 ghost use Rattle.ob_scope.specs.Found.{counted_for, is_import, AreCounted, AreMeant};
 ghost use Rattle.ob_decls.specs.Order.{AscendBy};
 ghost use Rattle.ob_scope.specs.Places.{IsIndex};
+ghost use Rattle.ob_scope.specs.Sighted.{IsSight};
+ghost use Rattle.ob_scope.specs.Sights.{AreNumbered};
 ghost use Rattle.ob_scope.specs.Texts.{text_at};
 ghost use Rattle.ob_scope.specs.declared.members.Member.{Member};
 
 use crate::looking::meaning;
 use crate::meaning::MeaningRow;
 use crate::members::Member;
+use crate::numbering::{Numbered, number_names};
 use crate::places::Key;
+use crate::sight::{Sight, no_sight};
 use crate::text::Text;
 use indexmap::IndexSet;
 use ob_decls::{Block, Sort, Used};
@@ -57,6 +61,8 @@ fn find_each(
     index: &IndexSet<Key>,
     blocks: &[Block],
     members: &[Member],
+    named: &Numbered,
+    sight: &mut Sight,
     uses: &[Used],
     meanings: &mut Vec<MeaningRow>,
     counts: &mut [u64],
@@ -66,6 +72,9 @@ fn find_each(
     requires uses { AscendBy (λ (u : Used). u.number) uses.now }
     requires members { AscendBy (λ (m : Member). m.number) members.now }
     requires index { IsIndex (text_at text.now.bytes.now text.now.tokens.now) members.now index.now.keys }
+    requires numbered { AreNumbered (text_at text.now.bytes.now text.now.tokens.now) members.now named.now.names.keys named.now.numbers.items }
+    requires sight { IsSight blocks.now members.now named.now.numbers.items (length named.now.names.keys) sight.old }
+    requires none_yet { sight.old.next ≡ 0 }
     requires empty { meanings.old.items ≡ [] }
     requires as_many { length counts.old ≡ length members.now }
     requires zero { (i : ℕ) → slice_index counts.old i ≡ 0 }
@@ -74,7 +83,7 @@ fn find_each(
 {
     for k in 0..uses.len() {
         let used = uses[k];
-        if let Some(at) = meaning(text, index, blocks, members, used) {
+        if let Some(at) = meaning(text, index, blocks, members, named, sight, used)? {
             let member = members[at];
             meanings.push(MeaningRow {
                 used: used.number,
@@ -103,6 +112,8 @@ pub(crate) fn found_by(
     ensures meant { IfOk result (λ f. AreMeant (text_at text.now.bytes.now text.now.tokens.now) blocks.now members.now uses.now (length uses.now) f.meanings.items) }
     ensures counted { IfOk result (λ f. AreCounted (text_at text.now.bytes.now text.now.tokens.now) blocks.now members.now uses.now (length uses.now) f.counts.items) }
 {
+    let named = number_names(alloc, text, members)?;
+    let mut sight = no_sight(alloc, named.names.len(), members.len())?;
     let mut meanings = Vec::new(alloc);
     let mut counts = vec![in alloc; 0u64; members.len()]?;
     find_each(
@@ -110,6 +121,8 @@ pub(crate) fn found_by(
         index,
         blocks,
         members,
+        &named,
+        &mut sight,
         uses,
         &mut meanings,
         counts.as_mut_slice(),

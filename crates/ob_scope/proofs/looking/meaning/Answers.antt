@@ -15,7 +15,7 @@ use Rattle.ob_scope.proofs.looking.meaning.Goals as goal
 pub returns-in-Some-clause-found : goal.returns-in-Some-clause-found
 returns-in-Some-clause-found c =
     let name = text_at c.args.text.now.bytes.now c.args.text.now.tokens.now in
-    let h = c.in-Some.ensures.found in
+    let h = rw c.in-Some.is at c.in_ok-at.ensures.found in
     record { member = h.member; there = h.there; means = by_scope (resolves-as name c.args.blocks.now c.args.members.now c.args.used (use_in c.args.used.block c.args.used.number) h.member refl refl h.resolves) }
 
 -- what a use means that resolves to nothing and is no target
@@ -35,14 +35,14 @@ pub returns-then-not-used-clause-none : goal.returns-then-not-used-clause-none
 returns-then-not-used-clause-none c =
     let name = text_at c.args.text.now.bytes.now c.args.text.now.tokens.now in
     let u = c.args.used in
-    let nothing = nothing-as name c.args.blocks.now c.args.members.now u (use_in u.block u.number) refl refl c.in_default.ensures.none in
+    let nothing = nothing-as name c.args.blocks.now c.args.members.now u (use_in u.block u.number) refl refl (rw c.in_default.is at c.in_ok-at.ensures.none) in
     λ d. means_none name c.args.blocks.now c.args.members.now u d (not_true _ c.if-not-used.true) nothing
 
 pub returns-clause-found : goal.returns-clause-found
 returns-clause-found c =
     let name = text_at c.args.text.now.bytes.now c.args.text.now.tokens.now in
     let u = c.args.used in
-    let nothing = nothing-as name c.args.blocks.now c.args.members.now u (use_in u.block u.number) refl refl c.in_default.ensures.none in
+    let nothing = nothing-as name c.args.blocks.now c.args.members.now u (use_in u.block u.number) refl refl (rw c.in_default.is at c.in_ok-at.ensures.none) in
     let target : u.is_target ≡ true = not_false _ c.if-not-used.false in
     some_then c.type_after.result _ _
     (λ i h. record { member = h.member; there = h.here.there; means = as_target target nothing (later_from_place name c.args.blocks.now c.args.members.now u i h) })
@@ -57,7 +57,7 @@ pub returns-clause-none : goal.returns-clause-none
 returns-clause-none c =
     let name = text_at c.args.text.now.bytes.now c.args.text.now.tokens.now in
     let u = c.args.used in
-    let nothing = nothing-as name c.args.blocks.now c.args.members.now u (use_in u.block u.number) refl refl c.in_default.ensures.none in
+    let nothing = nothing-as name c.args.blocks.now c.args.members.now u (use_in u.block u.number) refl refl (rw c.in_default.is at c.in_ok-at.ensures.none) in
     none_then c.type_after.result c.type_after.ensures.none (λ none d m.
     let p = place_from_later name c.args.blocks.now c.args.members.now u d (means_later name c.args.blocks.now c.args.members.now u d nothing m) in
     none p.0 p.1)

@@ -1,5 +1,5 @@
 -- Use after use.
-use Rattle.std.proofs.Common.{◌<◌, length, sym, ◌∙◌}
+use Rattle.std.proofs.Common.{◌<◌, length, sym, ◌∙◌, arith}
 use Rattle.std.proofs.lemmas.Option.{slice_get_within, slice_get-get_or}
 use Rattle.ob_scope.specs.Scope.{NoneTwice}
 use Rattle.ob_scope.specs.Texts.{text_at}
@@ -14,8 +14,26 @@ loop-k-init c =
     let name = text_at c.args.text.now.bytes.now c.args.text.now.tokens.now in
     record {
       meant = rw c.requires.empty (meant_none name c.args.blocks.now c.args.members.now c.args.uses.now);
+      sight = c.requires.sight;
+      before = λ i p u m le at below there. (let e = c.requires.none_yet in absurd (omega arith));
       counted = counted_none name c.args.blocks.now c.args.members.now c.args.uses.now c.args.counts.now c.requires.as_many c.requires.zero;
     }
+
+pub meaning-requires-clause-before : goal.meaning-requires-clause-before
+meaning-requires-clause-before c = λ p m below there.
+    c.loop-k.invariant.before c.loop-k.k p _ m (omega arith) (slice_get-get_or c.args.uses.now c.loop-k.k _ c.loop-k-test.true) below there
+
+pub bounds-members-at : goal.bounds-members-at
+bounds-members-at c =
+    let h = rw c.in-Some.is at c.in_ok-at.ensures.found in
+    slice_get_within c.args.members.now c.in-Some.at h.member h.there
+
+pub bounds-counts-at : goal.bounds-counts-at
+bounds-counts-at c =
+    let h = rw c.in-Some.is at c.in_ok-at.ensures.found in
+    let within = slice_get_within c.args.members.now c.in-Some.at h.member h.there in
+    let long = c.loop-k.invariant.counted.as_many in
+    omega arith
 
 pub loop-k-preserved : goal.loop-k-preserved
 loop-k-preserved c =
@@ -26,9 +44,9 @@ loop-k-preserved c =
     let k = c.loop-k.k in
     let at = slice_get-get_or uses k _ c.loop-k-test.true in
     let once : NoneTwice name members = c.requires.index.once in
-    elim c.match-meaning.branch [
+    elim c.match-branch-2.branch [
       | in-Some+in_ok-push w ↦ (
-          let h = w.in-Some.ensures.found in
+          let h = rw w.in-Some.is at c.in_ok-at.ensures.found in
           let i = w.in-Some.at in
           let within : i < length members = slice_get_within members i h.member h.there in
           let there = slice_get-get_or members i _ within in
@@ -36,12 +54,17 @@ loop-k-preserved c =
           rw (w.meanings-is, w.counts-is, w.in_ok-push.ensures.items, w.counted_for.ensures.value)
           (record {
             meant = meant_more name blocks members uses k c.loop-k.meanings.items _ _ c.requires.uses once c.loop-k.invariant.meant at means;
+            sight = c.in_ok-at.ensures.sight;
+            before = λ j p u m le at_use below there. (let l = c.in_ok-at.ensures.front.before p m below there in let next = c.requires.uses k j _ u (omega arith) at at_use in omega arith);
             counted = counted_more name blocks members uses k i c.loop-k.counts _ _ c.requires.members once c.loop-k.invariant.counted at there means;
           }))
       | in_default w ↦ (
+          let nothing = rw w.in_default.is at c.in_ok-at.ensures.none in
           rw (w.meanings-is, w.counts-is)
           (record {
-            meant = meant_other name blocks members uses k c.loop-k.meanings.items _ c.loop-k.invariant.meant at w.in_default.ensures.none;
-            counted = counted_other name blocks members uses k c.loop-k.counts _ c.loop-k.invariant.counted at w.in_default.ensures.none;
+            meant = meant_other name blocks members uses k c.loop-k.meanings.items _ c.loop-k.invariant.meant at nothing;
+            sight = c.in_ok-at.ensures.sight;
+            before = λ j p u m le at_use below there. (let l = c.in_ok-at.ensures.front.before p m below there in let next = c.requires.uses k j _ u (omega arith) at at_use in omega arith);
+            counted = counted_other name blocks members uses k c.loop-k.counts _ c.loop-k.invariant.counted at nothing;
           }))
     ]

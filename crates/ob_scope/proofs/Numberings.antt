@@ -1,0 +1,138 @@
+-- Names that are numbered one after another.
+use Rattle.std.proofs.Common.{◌≡◌, ℕ, ◌+◌, ◌<◌, ◌≤◌, inl, inr, Bool, true, false, List, [], ◌∷◌, ◌++◌, length, take, get_or, Some, None, Bor, refl, sym, ap, ◌∙◌, subst, length-append, arith, ⊎_elim}
+use Rattle.std.specs.Prelude.{slice_get, slice_index, if◌then◌else◌, ◌||◌}
+use Rattle.std.specs.List.{list_any, position_or_len}
+use Rattle.std.specs.Str.{bytes_eq}
+use Rattle.std.proofs.lemmas.Bool.{cases_Bool, cases_lt, false≢true}
+use Rattle.std.proofs.lemmas.List.{get_or_append_left, length-take-le, take_all}
+use Rattle.std.proofs.lemmas.Option.{slice_get_within}
+use Rattle.std.proofs.lemmas.Slice.Eq.{bytes_eq-Decides}
+use Rattle.std.proofs.Math.Seq.{get_or-append_seam}
+use Rattle.ob_scope.specs.declared.members.Member.{Member}
+use Rattle.ob_scope.specs.Sights.{number_of, AreNumbered}
+use Rattle.ob_scope.proofs.Elements.{some_one}
+use Rattle.ob_scope.proofs.Keyed.{front_get, get_front}
+
+module _ {X : Type 0} (p : X → Bool) where
+  found_within : (xs : List X) → list_any p xs ≡ true → position_or_len p xs < length xs
+  found_within [] e = absurd (false≢true e)
+  found_within (x ∷ xs) e = elim (cases_Bool (p x)) [
+    | inl t ↦ rw t (omega arith)
+    | inr f ↦ (
+        let rest : list_any p xs ≡ true = subst (λ (b : Bool). b || list_any p xs ≡ true) f e in
+        let h = found_within xs rest in
+        rw f (omega arith))
+  ]
+
+  found_stays : (xs : List X) (y : X) → position_or_len p xs < length xs → position_or_len p (xs ++ y ∷ []) ≡ position_or_len p xs
+  found_stays [] y l = absurd (omega arith)
+  found_stays (x ∷ xs) y l = elim (cases_Bool (p x)) [
+    | inl t ↦ rw t refl
+    | inr f ↦ (
+        let shorter : position_or_len p xs < length xs = (let m = rw f at l in omega arith) in
+        let h = found_stays xs y shorter in
+        rw f (omega arith))
+  ]
+
+  found_last : (xs : List X) (y : X) → list_any p xs ≡ false → p y ≡ true → position_or_len p (xs ++ y ∷ []) ≡ length xs
+  found_last [] y e t = rw t refl
+  found_last (x ∷ xs) y e t = elim (cases_Bool (p x)) [
+    | inl h ↦ absurd (false≢true (sym e ∙ ap (λ (b : Bool). b || list_any p xs) h))
+    | inr f ↦ (
+        let rest : list_any p xs ≡ false = subst (λ (b : Bool). b || list_any p xs ≡ false) f e in
+        let h = found_last xs y rest t in
+        rw f (omega arith))
+  ]
+
+  not_found : (xs : List X) → list_any p xs ≡ false → position_or_len p xs ≡ length xs
+  not_found [] e = refl
+  not_found (x ∷ xs) e = elim (cases_Bool (p x)) [
+    | inl h ↦ absurd (false≢true (sym e ∙ ap (λ (b : Bool). b || list_any p xs) h))
+    | inr f ↦ (
+        let rest : list_any p xs ≡ false = subst (λ (b : Bool). b || list_any p xs ≡ false) f e in
+        let h = not_found xs rest in
+        rw f (omega arith))
+  ]
+
+-- the test of a text
+abbrev pub is_text : List ℕ → Bor (List ℕ) → Bool
+is_text text y = bytes_eq text y.now
+
+module _ (name : ℕ → List ℕ) (members : List Member) where
+  -- the names stay, where those that are numbered keep their numbers
+  more : (i n : ℕ) (m : Member) (names later : List (Bor (List ℕ))) (numbers : List ℕ) → AreNumbered name (take i members) names numbers → slice_get members i ≡ Some m → length (take i members) ≡ i → length names ≤ length later
+      → ((text : List ℕ) → number_of names text < length names → number_of later text ≡ number_of names text) → n ≡ number_of later (name m.number) → n < length later
+      → AreNumbered name (take (i + 1) members) later (numbers ++ n ∷ [])
+  more i n m names later numbers a at long grown kept is within = record {
+    as_many = (
+        let old : length numbers ≡ length (take i members) = a.as_many in
+        let new = length-append numbers (n ∷ []) in
+        let here = slice_get_within members i m at in
+        let all = length-take-le (i + 1) members (omega arith) in
+        omega arith);
+    each = λ k x e. ⊎_elim
+        (λ (less : k < i). (
+        let front = front_there k x less e in
+        let old = a.each k x front in
+        let bound = a.within k x front in
+        rw (get_or_append_left numbers (n ∷ []) 0 k (inside k less)) (old ∙ sym (kept (name x.number) (rw (← old) bound)))))
+        (λ (past : i ≤ k). (
+        let last = last_there k x past e in
+        rw (last.0, seam) (is ∙ ap (λ (y : Member). number_of later (name y.number)) last.1)))
+        (cases_lt k i);
+    within = λ k x e. ⊎_elim
+        (λ (less : k < i). (
+        let bound : slice_index numbers k < length names = a.within k x (front_there k x less e) in
+        rw (get_or_append_left numbers (n ∷ []) 0 k (inside k less)) (omega arith)))
+        (λ (past : i ≤ k). (let last = last_there k x past e in rw (last.0, seam) within))
+        (cases_lt k i);
+  }
+    where
+      count : length numbers ≡ i
+      count = a.as_many ∙ long
+
+      inside : (k : ℕ) → k < i → k < length numbers
+      inside k less = let e = count in omega arith
+
+      seam : slice_index (numbers ++ n ∷ []) i ≡ n
+      seam = subst (λ (x : ℕ). get_or (numbers ++ n ∷ []) x 0 ≡ n) count (get_or-append_seam numbers n [] 0)
+
+      front_there : (k : ℕ) (x : Member) → k < i → slice_get (take (i + 1) members) k ≡ Some x → slice_get (take i members) k ≡ Some x
+      front_there k x less e = get_front name members i k x less (front_get name members (i + 1) k x e).1
+
+      last_there : (k : ℕ) (x : Member) → i ≤ k → slice_get (take (i + 1) members) k ≡ Some x → (k ≡ i) × (m ≡ x)
+      last_there k x past e =
+          let u = front_get name members (i + 1) k x e in
+          let l : k < i + 1 = u.0 in
+          let same : k ≡ i = omega arith in
+          (same, some_one m x (sym at ∙ ap (slice_get members) (sym same) ∙ u.1))
+
+  pub numbered_more : (i n : ℕ) (m : Member) (k : Bor (List ℕ)) (names later : List (Bor (List ℕ))) (numbers : List ℕ) → AreNumbered name (take i members) names numbers → slice_get members i ≡ Some m → k.now ≡ name m.number
+      → n ≡ number_of names k.now → later ≡ (if list_any (is_text k.now) names then names else names ++ k ∷ []) → AreNumbered name (take (i + 1) members) later (numbers ++ n ∷ [])
+  numbered_more i n m k names later numbers a at text is keys = elim (cases_Bool (list_any (is_text k.now) names)) [
+    | inl old ↦ (
+        let same : later ≡ names = keys ∙ ap (λ (b : Bool). if b then names else names ++ k ∷ []) old in
+        let within : number_of names k.now < length names = found_within (is_text k.now) names old in
+        rw same (more i n m names names numbers a at long (omega arith) (λ t l. refl) (is ∙ ap (number_of names) text) (rw is within)))
+    | inr new ↦ (
+        let grown : later ≡ names ++ k ∷ [] = keys ∙ ap (λ (b : Bool). if b then names else names ++ k ∷ []) new in
+        let longer = length-append names (k ∷ []) in
+        let own : is_text k.now k ≡ true = (bytes_eq-Decides k.now k.now).1 refl in
+        let last : number_of (names ++ k ∷ []) k.now ≡ length names = found_last (is_text k.now) names k new own in
+        let none : number_of names k.now ≡ length names = not_found (is_text k.now) names new in
+        rw grown (more i n m names (names ++ k ∷ []) numbers a at long (omega arith) (λ t l. found_stays (is_text t) names k l)
+        (is ∙ none ∙ sym last ∙ ap (number_of (names ++ k ∷ [])) text) (let e = is in omega arith)))
+  ]
+    where
+      long : length (take i members) ≡ i
+      long = let here = slice_get_within members i m at in length-take-le i members (omega arith)
+
+pub numbered_none : (name : ℕ → List ℕ) → AreNumbered name [] [] []
+numbered_none name = record {
+  as_many = refl;
+  each = λ k m e. absurd (let f : None ≡ Some m = e in cc);
+  within = λ k m e. absurd (let f : None ≡ Some m = e in cc);
+}
+
+pub numbered_all : (name : ℕ → List ℕ) (members : List Member) (i : ℕ) (names : List (Bor (List ℕ))) (numbers : List ℕ) → length members ≤ i → AreNumbered name (take i members) names numbers → AreNumbered name members names numbers
+numbered_all name members i names numbers past a = subst (λ (ms : List Member). AreNumbered name ms names numbers) (take_all i members past) a

@@ -1,0 +1,19 @@
+use Rattle.std.proofs.Common.{ℕ, zero, suc, ◌<◌, List, Option, Some, None, length}
+use Rattle.std.specs.Prelude.{IfSome}
+use Rattle.ob_decls.specs.declared.rows.Block.{Block}
+use Rattle.ob_scope.specs.Sights.{AreSeen, IsStart}
+use Rattle.ob_scope.proofs.sight.last_open.Given as goal
+
+abbrev pub height : Option ℕ → ℕ
+height None = zero
+height (Some i) = suc i
+
+abbrev pub invariant-loop-at : goal.invariant-loop-at
+invariant-loop-at l = record {
+  within : IfSome l.at (λ i. i < length l.members);
+  start : (blocks : List Block) (numbers : List ℕ) (fresh j n : ℕ) (latest : List (Option ℕ)) → AreSeen blocks l.members numbers l.stack fresh j latest l.earlier
+      → IsStart l.members numbers l.stack j n l.fn.from → IsStart l.members numbers l.stack j n l.at;
+}
+
+abbrev pub decreases-loop-at : goal.decreases-loop-at
+decreases-loop-at l = height l.at

@@ -1,0 +1,47 @@
+//! The names of members, numbered.
+ghost use Rattle.std.specs.Prelude.{◌≡◌, ◌≤◌, ◌<◌, length, IfOk, IfSome, IfNone};
+ghost use Rattle.ob_scan.specs.Spelling.{AreInText};
+ghost use Rattle.ob_scope.specs.Sights.{number_of, AreNumbered};
+ghost use Rattle.ob_scope.specs.Texts.{text_at};
+
+use crate::members::Member;
+use crate::text::Text;
+use indexmap::IndexSet;
+use std::alloc::{AllocError, Global};
+
+/// The names of members, and for each member the number of its name.
+#[derive(Drop)]
+pub(crate) struct Numbered<'a> {
+    pub(crate) names: IndexSet<&'a [u8]>,
+    pub(crate) numbers: Vec<usize>,
+}
+
+/// Numbers the names of members, in the order in which each stands first.
+pub(crate) fn number_names<'a>(
+    alloc: Global,
+    text: &Text<'a>,
+    members: &[Member],
+) -> Result<Numbered<'a>, AllocError>
+    requires { AreInText text.now.bytes.now text.now.tokens.now }
+    ensures { IfOk result (λ r. AreNumbered (text_at text.now.bytes.now text.now.tokens.now) members.now r.names.keys r.numbers.items) }
+{
+    let mut names = IndexSet::new(alloc);
+    let mut numbers = Vec::new(alloc);
+    for i in 0..members.len() {
+        let name = text.of(members[i].number);
+        match names.insert_full(name) {
+            Ok((number, _)) => numbers.push(number)?,
+            Err(_) => return Err(AllocError),
+        }
+    }
+    Ok(Numbered { names, numbers })
+}
+
+/// The number of a name, or none where no member has it.
+pub(crate) fn number_of(names: &IndexSet<&[u8]>, name: &[u8]) -> Option<usize>
+    ensures found { IfSome result (λ n. n ≡ number_of names.now.keys name.now) }
+    ensures within { IfSome result (λ n. n < length names.now.keys) }
+    ensures none { IfNone result (length names.now.keys ≤ number_of names.now.keys name.now) }
+{
+    names.get_index_of(name)
+}

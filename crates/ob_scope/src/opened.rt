@@ -1,0 +1,89 @@
+//! The blocks that are open at a token.
+ghost use Rattle.std.specs.Prelude.{◌≡◌, ◌++◌, ◌∷◌, ◌+◌, ◌≤◌, ℕ, List, [], OnOk, IfSome, IfNone, true};
+ghost use Rattle.ob_decls.specs.declared.rows.Block.{Block};
+ghost use Rattle.ob_decls.specs.Order.{AscendBy, HasNoneBy, IsPlaceBy};
+ghost use Rattle.ob_scope.specs.Sights.{Enters, IsInnermost, IsOpen, IsOpenPlace};
+
+use crate::looking::outer_of;
+use crate::members::Place;
+use ob_decls::Block;
+use std::alloc::AllocError;
+
+/// The open blocks by their first tokens, the outermost first.
+#[derive(Drop)]
+pub(crate) struct Open {
+    pub(crate) stack: Vec<u32>,
+    /// No block was opened that begins with this token or behind it.
+    pub(crate) fresh: u64,
+}
+
+/// Closes the blocks that begin behind this one.
+fn close_behind(stack: &mut Vec<u32>, block: u32)
+    ensures { (rest : List ℕ) × (stack.old.items ≡ stack.new.items ++ rest) }
+{
+    let left = stack.as_slice().partition_point(|first| *first <= block);
+    stack.truncate(left);
+}
+
+/// Whether this block is the innermost.
+fn is_innermost(stack: &[u32], block: u32) -> bool
+    ensures { result ≡ true → IsInnermost stack.now block }
+{
+    match stack.last() {
+        Some(last) => *last == block,
+        None => false,
+    }
+}
+
+/// Opens a block. AllocError is answered also for one that was open before; no tree has such.
+fn begin(opened: &mut Open, block: u32) -> Result<(), AllocError>
+    ensures fresh { OnOk result (opened.old.fresh ≤ block) }
+    ensures stack { OnOk result (opened.new.stack.items ≡ opened.old.stack.items ++ block ∷ []) }
+    ensures later { OnOk result (opened.new.fresh ≡ block + 1) }
+{
+    let first = u64::from(block);
+    if first < opened.fresh {
+        return Err(AllocError);
+    }
+    opened.stack.push(block)?;
+    opened.fresh = first + 1;
+    Ok(())
+}
+
+/// Makes this block the innermost one that is open.
+pub(crate) fn enter(opened: &mut Open, blocks: &[Block], block: u32) -> Result<(), AllocError>
+    requires ascend { AscendBy (λ (b : Block). b.first) blocks.now }
+    requires chain { IsOpen blocks.now opened.old.stack.items opened.old.fresh }
+    ensures { OnOk result (Enters blocks.now block opened.old.stack.items opened.old.fresh opened.new.stack.items opened.new.fresh) }
+{
+    close_behind(&mut opened.stack, block);
+    if is_innermost(opened.stack.as_slice(), block) {
+        return Ok(());
+    }
+    match outer_of(blocks, block) {
+        Some(outer) => enter(opened, blocks, outer)?,
+        None => opened.stack.clear(),
+    }
+    begin(opened, block)
+}
+
+/// The place of a block among those that are open.
+fn place_of_open(stack: &[u32], block: u32) -> Option<usize>
+    requires { AscendBy (λ (b : ℕ). b) stack.now }
+    ensures found { IfSome result (IsPlaceBy (λ (b : ℕ). b) stack.now block) }
+    ensures none { IfNone result (HasNoneBy (λ (b : ℕ). b) stack.now block) }
+{
+    stack.binary_search_by_key(&block, |block| *block).ok()
+}
+
+/// Whether a place is an open block.
+pub(crate) fn is_open(stack: &[u32], place: Place) -> bool
+    requires { AscendBy (λ (b : ℕ). b) stack.now }
+    ensures yes { result ≡ true → IsOpenPlace stack.now place }
+    ensures no { IsOpenPlace stack.now place → result ≡ true }
+{
+    match place {
+        Place::Block(block) => place_of_open(stack, block).is_some(),
+        Place::Record(_) => false,
+    }
+}
