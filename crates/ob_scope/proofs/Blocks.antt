@@ -1,5 +1,5 @@
 -- Blocks around blocks.
-use Rattle.std.proofs.Common.{◌≡◌, ℕ, ◌<◌, ◌≤◌, ◌⊎◌, inl, inr, List, get_or, sym, ap, ◌∙◌, subst, arith}
+use Rattle.std.proofs.Common.{◌≡◌, ℕ, ◌<◌, ◌≤◌, List, get_or, sym, ap, ◌∙◌, arith}
 use Rattle.std.proofs.lemmas.Option.{get_or_from_slice_get}
 use Rattle.ob_decls.specs.declared.rows.Block.{Block}
 use Rattle.ob_decls.specs.Order.{AscendBy, HasNoneBy, IsPlaceBy}
@@ -20,16 +20,6 @@ module _ (blocks : List Block) where
   pub one_outer : AscendBy (λ (b : Block). b.first) blocks → (b c d : ℕ) → IsDirectlyIn blocks b c → IsDirectlyIn blocks b d → c ≡ d
   one_outer up b c d p q =
       sym p.outer ∙ ap (λ (r : Block). r.outer) (ascend_one (λ (r : Block). r.first) blocks p.row q.row up p.is_row q.is_row (p.first ∙ sym q.first)) ∙ q.outer
-
-  -- what is around a block is the block itself, or around the one in which it stands
-  pub around-step : AscendBy (λ (b : Block). b.first) blocks → (o b c : ℕ) → IsDirectlyIn blocks b c → IsAround blocks o b → (o ≡ b) ⊎ IsAround blocks o c
-  around-step up o b c p (itself e) = inl e
-  around-step up o b c p (further d q a) = inr (subst (λ (x : ℕ). IsAround blocks o x) (one_outer up b d c q p) a)
-
-  -- nothing but itself is around the outermost
-  pub around-outermost : (o b : ℕ) → ((c : ℕ) → IsDirectlyIn blocks b c → ⊥) → IsAround blocks o b → o ≡ b
-  around-outermost o b none (itself e) = e
-  around-outermost o b none (further c d a) = absurd (none c d)
 
   -- ---- a block by the place of its row
 

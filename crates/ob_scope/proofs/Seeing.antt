@@ -1,29 +1,13 @@
--- What the places of members say of what a use sees.
+-- The type that stands behind a use, by its place.
 use Rattle.std.proofs.Common.{ℕ, List}
 use Rattle.ob_decls.specs.declared.rows.Block.{Block}
 use Rattle.ob_decls.specs.declared.rows.Used.{Used}
 use Rattle.ob_scope.specs.declared.members.Member.{Member}
-use Rattle.ob_scope.specs.Scope.{IsAround, IsSeen, IsLaterType}
-use Rattle.ob_scope.specs.Looked.{IsNamedBefore, IsTypeAfter}
+use Rattle.ob_scope.specs.Scope.{IsLaterType}
+use Rattle.ob_scope.specs.Looked.{IsTypeAfter}
 use Rattle.ob_scope.proofs.Elements.{contains_slice, slice_contains}
 
 module _ (name : ℕ → List ℕ) (blocks : List Block) (members : List Member) where
-  -- a member that stands before a use is a declaration that the use sees
-  pub seen_from_place : (u : Used) (b i : ℕ) (h : IsNamedBefore name members b u.number i) → IsAround blocks b u.block → IsSeen name blocks members u b h.member
-  seen_from_place u b i h around = record {
-    declared = contains_slice members i h.member h.here.there;
-    placed = h.here.placed;
-    named = h.here.named;
-    before = h.before;
-    around = around;
-  }
-
-  -- where there is none, the use sees nothing in the block
-  pub unseen : (u : Used) (b : ℕ) → ((i : ℕ) → IsNamedBefore name members b u.number i → ⊥) → (e : Member) → IsSeen name blocks members u b e → ⊥
-  unseen u b none e s =
-      let p = slice_contains members e s.declared in
-      none p.0 (record { member = e; here = record { there = p.1; placed = s.placed; named = s.named }; before = s.before })
-
   -- a type that stands behind a use
   pub later_from_place : (u : Used) (i : ℕ) (h : IsTypeAfter name members u.block u.number i) → IsLaterType name members u h.member
   later_from_place u i h = record {

@@ -15,12 +15,6 @@ pub record IsNamedIn (name : ℕ → List ℕ) (members : List Member) (block nu
   pub placed : r.1.place ≡ Block block
   pub named : name r.1.number ≡ name number
 
--- such a place, whose member stands before the token
-pub record IsNamedBefore (name : ℕ → List ℕ) (members : List Member) (block number i : ℕ) : Type 0 where
-  pub member : Member
-  pub here : IsNamedIn name members block number (i, member)
-  pub before : member.number < number
-
 -- such a place, whose member is a type that stands behind the token
 pub record IsTypeAfter (name : ℕ → List ℕ) (members : List Member) (block number i : ℕ) : Type 0 where
   pub member : Member
