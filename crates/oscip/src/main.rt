@@ -10,8 +10,8 @@ use byte_sink::ToWrite;
 use cut_solve::OpenGate;
 use oscip_job::{Job, JobFault, job_of};
 use oscip_run::{
-    RunFault, answer, answer_crossings, answer_question, answer_tree, fault_line, read_file, sources_of, status_of,
-    status_of_run, status_of_words,
+    RunFault, answer, answer_crossings, answer_question, answer_tree, fault_line, read_file,
+    sources_of, status_of, status_of_run, status_of_words,
 };
 use std::alloc::Global;
 use std::io::ErrorKind;
@@ -28,11 +28,8 @@ fn report_of<R: Files + AllocGlobal>(rt: &R, job: &Job) -> Result<Vec<u8>, RunFa
         | Job::CheckNet { report, .. }
         | Job::Dot { report, .. }
         | Job::DotNet { report, .. } => read_file(rt, report.as_str()),
-        Job::Cut { .. }
-        | Job::Crossings { .. }
-        | Job::CutNet { .. }
-        | Job::Def(_)
-        | Job::Refs(_) => Ok(Vec::new(rt.alloc())),
+        Job::Cut { .. } | Job::Crossings { .. } | Job::CutNet { .. } | Job::Def(_) | Job::Refs(_) =>
+            Ok(Vec::new(rt.alloc())),
     }
 }
 

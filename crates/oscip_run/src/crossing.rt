@@ -36,11 +36,7 @@ fn place_at<'a>(path: &'a str, span: &Span) -> Place<'a>
 }
 
 /// The places in the file of this path, in their order.
-fn places_at<'a>(
-    alloc: Global,
-    path: &'a str,
-    spans: &[Span],
-) -> Result<Vec<Place<'a>>, AllocError>
+fn places_at<'a>(alloc: Global, path: &'a str, spans: &[Span]) -> Result<Vec<Place<'a>>, AllocError>
     ensures { IfOk result (λ places. map plain_place places.items ≡ map (place_at path.now) spans.now) }
 {
     let mut places = Vec::new(alloc);

@@ -11,5 +11,5 @@ pub returns-in_err-put_lines-clause-run : goal.returns-in_err-put_lines-clause-r
 returns-in_err-put_lines-clause-run g c = λ sources m n uses.
     let p = err_from_is_err_and c.from_residual-in_err-put_lines.result c.from_residual-in_err-put_lines.ensures.1 in
     let front = subst (λ (places : List PlainPlace). AppendsFront (g.S.Sink.taken c.args.sink.now) (g.S.Sink.taken c.put_lines.new.sink) (place_lines places))
-        (ap (map plain_place) c.as_slice.ensures.value ∙ c.in_ok-places.ensures) c.in_err-put_lines.ensures.puts in
+    (ap (map plain_place) c.as_slice.ensures.value ∙ c.in_ok-places.ensures) c.in_err-put_lines.ensures.puts in
     rw (p.1, p.2) (broken sources m n (place_lines (map (place_at c.args.path.now) c.args.spans.now)) _ _ _ (uses_text sources m n c.args.path.now c.args.spans.now uses) front)
