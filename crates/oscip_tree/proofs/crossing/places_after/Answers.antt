@@ -13,6 +13,6 @@ returns-clause-places c =
     let (m, tree, is) = c.in_ok-table.ensures.table in
     let spans = c.in_ok-spans_of.field-0.items in
     let all = subst (λ (bytes : List ℕ). AreSpans bytes c.args.tokens.now c.in_ok-found.found.items spans) c.as_slice-bytes.ensures.value
-        (subst (λ (ts : List Token). AreSpans c.as_slice-bytes.result.now ts c.in_ok-found.found.items spans) c.as_slice-tokens.ensures
-        (subst (λ (cs : List Crossing). AreSpans c.as_slice-bytes.result.now c.as_slice-tokens.result.now cs spans) c.as_slice.ensures.value c.in_ok-spans_of.ensures)) in
+    (subst (λ (ts : List Token). AreSpans c.as_slice-bytes.result.now ts c.in_ok-found.found.items spans) c.as_slice-tokens.ensures
+    (subst (λ (cs : List Crossing). AreSpans c.as_slice-bytes.result.now c.as_slice-tokens.result.now cs spans) c.as_slice.ensures.value c.in_ok-spans_of.ensures)) in
     places_by c.args.source.now c.args.tokens.now m c.requires tree c.args.scopes.now c.args.imported.now (rows_in c.in_ok-table.table) c.in_ok-found.found.items spans is c.in_ok-found.ensures all
