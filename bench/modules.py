@@ -5,6 +5,7 @@
 #   large    one module of 16 MB
 #   comment  a small module with one comment of 16 MB
 #   nested   one module of 16 MB with procedures, statements and expressions nested to 200 levels
+#   deep     one module of 16 MB with procedures nested to 198 levels, the innermost of which uses a variable of the module
 #   c        C like the module of large, of its size
 import os, random, sys
 
@@ -492,13 +493,22 @@ def nested(chance):
     yield "Nested", "\n".join(nest.lines) + "\n"
 
 
+def deep(chance):
+    names = ["P%d" % k for k in range(1, DEEPEST - 1)]
+    lines = ["MODULE Deep;", "VAR count: INTEGER;"] + ["PROCEDURE %s;" % name for name in names] + ["BEGIN"]
+    ends = ["END %s;" % name for name in reversed(names)] + ["END Deep."]
+    step = "count := count + 1;"
+    left = LIMIT - 100 - sum(len(line) + 1 for line in lines + ends)
+    yield "Deep", "\n".join(lines + [step] * (left // (len(step) + 1)) + ends) + "\n"
+
+
 def c(chance):
     maker = Maker(chance, True)
     maker.fill(LIMIT - 100, constants=60, types=12, variables=40)
     yield "large", maker.text()
 
 
-SHAPES = {shape.__name__: shape for shape in (files, graph, large, comment, nested, c)}
+SHAPES = {shape.__name__: shape for shape in (files, graph, large, comment, nested, deep, c)}
 
 
 def main():

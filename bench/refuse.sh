@@ -96,6 +96,9 @@ trial 3 cut absent A D
 trial 0 dot-net six.net six.cut
 trial 0 dot-net editor.net editor.cut
 trial 0 dot four four.cut
+trial 0 crossings four B D
+trial 0 crossings editor Printer Spooler
+trial 1 crossings four A Absent
 trial 1 dot-net six.net short.cut
 trial 1 dot-net cycle.net six.cut
 trial 1 dot wrong four.cut
