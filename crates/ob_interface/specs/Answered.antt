@@ -1,11 +1,10 @@
--- What answers tell, and what is asked of an interface.
-use Rattle.std.specs.Prelude.{◌≡◌, ℕ, List, Option, Contains}
+-- What answers tell.
 use Rattle.ob_interface.specs.declared.answers.TypeName.{TypeName as TypeNameValue}
 use Rattle.ob_interface.specs.declared.answers.TypeName.TheVariants as names
 use Rattle.ob_interface.specs.declared.answers.Part.{Part as PartValue}
 use Rattle.ob_interface.specs.declared.answers.Part.TheVariants as parts
 use Rattle.ob_interface.specs.declared.answers.Declaration.{Declaration as DeclarationValue}
-use Rattle.ob_interface.specs.Interfaces.{TypeName, Alone, Qualified, Part, Array, Pointer, Record, Procedure, Named, Declaration, Base, Imported, ModuleInterface}
+use Rattle.ob_interface.specs.Interfaces.{TypeName, Alone, Qualified, Part, Array, Pointer, Record, Procedure, Named, Declaration, Base}
 use Rattle.ob_interface.specs.declared.answers.Base.{Base as BaseValue}
 
 abbrev pub name_told : TypeNameValue → TypeName
@@ -24,21 +23,3 @@ declaration_told d = record { name = d.name.now; start = d.start; sort = d.sort;
 
 abbrev pub base_told : BaseValue → Base
 base_told b = record { of_record = b.«record»; start = b.start; name = name_told b.name }
-
--- the base of this record
-pub record HasBase (i : ModuleInterface) (of_record : ℕ) (b : Base) : Type 0 where
-  pub among : Contains i.bases b
-  pub of : b.of_record ≡ of_record
-
--- a declaration of this name in this record, or in the block
-pub record HasMember (i : ModuleInterface) (place : Option ℕ) (name : List ℕ) (d : Declaration) : Type 0 where
-  pub among : Contains i.declarations d
-  pub placed : d.of_record ≡ place
-  pub named : d.name ≡ name
-
--- an import item of this module by this alias
-pub record HasAlias (i : ModuleInterface) (alias module_name : List ℕ) : Type 0 where
-  pub item : Imported
-  pub among : Contains i.imports item
-  pub named : item.alias ≡ alias
-  pub imported : item.module_name ≡ module_name

@@ -90,7 +90,7 @@ fn name_of<'a>(text: &'a [u8], name: NameRow) -> TypeName<'a>
 }
 
 /// A part out of the buffer.
-fn part_of<'a>(text: &'a [u8], part: RowPart) -> Part<'a>
+pub(crate) fn part_of<'a>(text: &'a [u8], part: RowPart) -> Part<'a>
     ensures { part_told result ≡ part_in text.now part }
 {
     match part {
@@ -127,7 +127,7 @@ impl<'a> Form<'a> {
 }
 
 /// The parts from one place to another; what stands beyond the last is left out.
-fn parts_between(parts: &[PartRow], first: u32, end: u32) -> &[PartRow]
+pub(crate) fn parts_between(parts: &[PartRow], first: u32, end: u32) -> &[PartRow]
     ensures { result.now ≡ slice_range parts.now first end }
 {
     let rest = &parts[(first as usize).min(parts.len())..];

@@ -1,28 +1,37 @@
-//! Interfaces, with an index.
-ghost use Rattle.std.specs.Prelude.{◌≡◌, None, Some, IfOk, IfSome, IfNone, IsPermutation};
-ghost use Rattle.ob_interface.specs.Answered.{base_told, declaration_told, HasAlias, HasBase, HasMember};
-ghost use Rattle.ob_interface.specs.Interfaces.{Base as BaseSeen, Declaration as DeclarationSeen};
-ghost use Rattle.ob_interface.specs.Orders.{AreByAlias, AreByKey, AreByRecord};
+//! Interfaces, with their indexes.
+ghost use Rattle.std.specs.Prelude.{◌≡◌, ◌+◌, ◌<◌, ◌^◌, None, Some, IfOk, OnSome, position, slice_get};
+ghost use Rattle.std.specs.Option.{option_and_then, option_map};
+ghost use Rattle.ob_interface.specs.Answered.{base_told, declaration_told, part_told};
+ghost use Rattle.ob_interface.specs.Orders.{fits_alias, fits_base, fits_name, name_key, place_by_name, place_by_record, record_key, AreByName, AreByRecord};
+ghost use Rattle.ob_interface.specs.Placed.{base_named, declaration_at, form_part, holds, module_named, owner_place, place_of};
+ghost use Rattle.ob_interface.specs.Places.{Indexes};
 ghost use Rattle.ob_interface.specs.Rowed.{interface_in};
-ghost use Rattle.std.specs.Prelude.{ℕ, List};
+ghost use Rattle.ob_interface.specs.Texts.{base_in, text_in};
+ghost use Rattle.ob_interface.specs.declared.rows.ImportRow.{ImportRow as ImportItem};
 
-use crate::answers::{Base, Declaration, base_of, declaration_of};
-use crate::order::{aliases_of, base_at, bases_of, import_at, members_of, row_at, text_of};
-use crate::rows::{BaseRow, DeclarationRow, ImportRow, Rows};
+use crate::answers::{Base, Declaration, Part, base_of, declaration_of, part_of, parts_between};
+use crate::entries::{aliases_of, bases_of, members_of, owners_of};
+use crate::order::{first_by_name, first_by_record, text_of};
+use crate::rows::{NamePlace, RecordPlace, Rows};
 use crate::seeing::Seen;
 use std::alloc::{AllocError, Global};
 use std::marker::Model;
 
-/// What other modules see of a module, with an index by name. A contract sees it as the `ModuleInterface`. It holds no borrow.
+/// What other modules see of a module, with indexes. A contract sees it as the `ModuleInterface`. It holds no borrow.
+///
+/// A declaration is told by its place among the declarations, in the order of the file, from 0; a record by the number of its RECORD's
+/// token, from 0. Of several that would do, the first in the file is answered.
 #[derive(Drop)]
 pub struct Interface {
     rows: Rows,
     /// The declarations by record and name, those of the block first.
-    members: Vec<DeclarationRow>,
+    members: Vec<NamePlace>,
     /// The import items by alias.
-    aliases: Vec<ImportRow>,
+    aliases: Vec<NamePlace>,
     /// The bases by record.
-    bases: Vec<BaseRow>,
+    bases: Vec<RecordPlace>,
+    /// The declarations by the record in which their form ends.
+    owners: Vec<RecordPlace>,
 }
 
 impl Model for Interface {
@@ -34,62 +43,119 @@ impl Model for Interface {
 
     ghost view = { λ i. interface_in i.rows };
 
-    ghost invariant = { λ i. IsIndexed i.rows i.members.items i.aliases.items i.bases.items };
+    ghost invariant = { λ i. IsIndexed i.rows i.members.items i.aliases.items i.bases.items i.owners.items };
 }
 
-/// A declaration of this name in this record, or in the block.
-fn member_of<'a>(
-    rows: &'a Rows,
-    members: &[DeclarationRow],
-    place: Option<u32>,
-    name: &[u8],
-) -> Option<Declaration<'a>>
-    requires by_key { AreByKey rows.now.text.items members.now }
-    requires same { IsPermutation rows.now.declarations.items members.now }
-    ensures found { IfSome result (λ d. HasMember (interface_in rows.now) place name.now (declaration_told d)) }
-    ensures none { IfNone result ((d : DeclarationSeen) → HasMember (interface_in rows.now) place name.now d → ⊥) }
+/// The place of the declaration of a name in a record, or in the block.
+fn member_in(rows: &Rows, members: &[NamePlace], record: Option<u32>, name: &[u8]) -> Option<u32>
+    requires by_name { AreByName rows.now.text.items members.now }
+    requires indexes { Indexes (name_key rows.now.text.items) place_by_name fits_name (interface_in rows.now).declarations members.now }
+    ensures { result ≡ place_of (interface_in rows.now) «record» name.now }
 {
-    let row = row_at(rows.text.as_slice(), members, place, name)?;
+    first_by_name(rows.text.as_slice(), members, record, name)
+}
+
+/// The place of the import item of an alias.
+fn import_in(rows: &Rows, aliases: &[NamePlace], alias: &[u8]) -> Option<u32>
+    requires by_name { AreByName rows.now.text.items aliases.now }
+    requires indexes { Indexes (name_key rows.now.text.items) place_by_name fits_alias (interface_in rows.now).imports aliases.now }
+    ensures { result ≡ position (fits_alias (None, alias.now)) (interface_in rows.now).imports }
+{
+    first_by_name(rows.text.as_slice(), aliases, None, alias)
+}
+
+/// The place of the base of a record.
+fn base_place(rows: &Rows, bases: &[RecordPlace], record: u32) -> Option<u32>
+    requires by_record { AreByRecord bases.now }
+    requires indexes { Indexes record_key place_by_record fits_base (interface_in rows.now).bases bases.now }
+    ensures { result ≡ position (fits_base «record») (interface_in rows.now).bases }
+{
+    let _ = &rows.bases;
+    first_by_record(bases, record)
+}
+
+/// The place of the declaration that owns a record.
+fn owner_in(rows: &Rows, owners: &[RecordPlace], record: u32) -> Option<u32>
+    requires by_record { AreByRecord owners.now }
+    requires indexes { Indexes record_key place_by_record holds (interface_in rows.now).declarations owners.now }
+    ensures { result ≡ owner_place (interface_in rows.now) «record» }
+{
+    let _ = &rows.declarations;
+    first_by_record(owners, record)
+}
+
+/// The declaration at a place.
+fn declaration_in(rows: &Rows, place: u32) -> Option<Declaration<'_>>
+    ensures { option_map declaration_told result ≡ declaration_at (interface_in rows.now) place }
+{
+    let row = rows.declarations.as_slice().get(place as usize)?;
     Some(declaration_of(rows, row))
 }
 
-/// The own name of the module that an alias stands for.
-fn module_named<'a>(rows: &'a Rows, aliases: &[ImportRow], alias: &[u8]) -> Option<&'a [u8]>
-    requires by_alias { AreByAlias rows.now.text.items aliases.now }
-    requires same { IsPermutation rows.now.imports.items aliases.now }
-    ensures found { IfSome result (λ m. HasAlias (interface_in rows.now) alias.now m.now) }
-    ensures none { IfNone result ((m : List ℕ) → HasAlias (interface_in rows.now) alias.now m → ⊥) }
+/// The part at a place of the form of the declaration at a place.
+fn part_in(rows: &Rows, place: u32, at: u32) -> Option<Part<'_>>
+    ensures part { option_map part_told result ≡ form_part (interface_in rows.now) place at }
+    ensures few { OnSome result (at + 1 < 2 ^ 32) }
 {
-    let text = rows.text.as_slice();
-    let row = import_at(text, aliases, alias)?;
-    Some(text_of(text, row.imported))
+    let row = rows.declarations.as_slice().get(place as usize)?;
+    let form = parts_between(rows.parts.as_slice(), row.first_part, row.parts_end);
+    let part = form.get(at as usize)?;
+    Some(part_of(rows.text.as_slice(), part.part))
 }
 
-/// The base of a record.
-fn base_named<'a>(rows: &'a Rows, bases: &[BaseRow], record: u32) -> Option<Base<'a>>
-    requires by_record { AreByRecord bases.now }
-    requires same { IsPermutation rows.now.bases.items bases.now }
-    ensures found { IfSome result (λ b. HasBase (interface_in rows.now) «record» (base_told b)) }
-    ensures none { IfNone result ((b : BaseSeen) → HasBase (interface_in rows.now) «record» b → ⊥) }
+/// The own name of the module that the import item at a place names.
+fn imported_at(rows: &Rows, place: u32) -> Option<&[u8]>
+    ensures { option_map (λ m. m.now) result ≡ option_map (λ (r : ImportItem). text_in rows.now.text.items r.imported) (slice_get rows.now.imports.items place) }
 {
-    let row = base_at(bases, record)?;
+    let row = rows.imports.as_slice().get(place as usize)?;
+    Some(text_of(rows.text.as_slice(), row.imported))
+}
+
+/// The base at a place.
+fn base_at(rows: &Rows, place: u32) -> Option<Base<'_>>
+    ensures { option_map base_told result ≡ option_map (base_in rows.now.text.items) (slice_get rows.now.bases.items place) }
+{
+    let row = rows.bases.as_slice().get(place as usize)?;
     Some(base_of(rows.text.as_slice(), row))
 }
 
+/// The own name of the module that an alias stands for.
+fn module_in<'a>(rows: &'a Rows, aliases: &[NamePlace], alias: &[u8]) -> Option<&'a [u8]>
+    requires by_name { AreByName rows.now.text.items aliases.now }
+    requires indexes { Indexes (name_key rows.now.text.items) place_by_name fits_alias (interface_in rows.now).imports aliases.now }
+    ensures { option_map (λ m. m.now) result ≡ module_named (interface_in rows.now) alias.now }
+{
+    let place = import_in(rows, aliases, alias)?;
+    imported_at(rows, place)
+}
+
+/// The base of a record.
+fn based_in<'a>(rows: &'a Rows, bases: &[RecordPlace], record: u32) -> Option<Base<'a>>
+    requires by_record { AreByRecord bases.now }
+    requires indexes { Indexes record_key place_by_record fits_base (interface_in rows.now).bases bases.now }
+    ensures { option_map base_told result ≡ base_named (interface_in rows.now) «record» }
+{
+    let place = base_place(rows, bases, record)?;
+    base_at(rows, place)
+}
+
 impl Interface {
-    /// The same with an index. AllocError is answered where a growth of memory is refused.
+    /// The same with its indexes. AllocError is answered where a growth of memory is refused, and from 2^32 rows on.
     pub fn new(alloc: Global, seen: Seen) -> Result<Interface, AllocError>
         ensures { IfOk result (λ i. i ≡ seen) }
     {
         let Seen { rows } = seen;
-        let members = members_of(alloc, rows.text.as_slice(), rows.declarations.as_slice())?;
+        let declarations = rows.declarations.as_slice();
+        let members = members_of(alloc, rows.text.as_slice(), declarations)?;
         let aliases = aliases_of(alloc, rows.text.as_slice(), rows.imports.as_slice())?;
         let bases = bases_of(alloc, rows.bases.as_slice())?;
+        let owners = owners_of(alloc, rows.parts.as_slice(), declarations)?;
         Ok(Interface {
             rows,
             members,
             aliases,
             bases,
+            owners,
         })
     }
 
@@ -100,35 +166,63 @@ impl Interface {
         text_of(self.rows.text.as_slice(), self.rows.name)
     }
 
-    /// What the block declares by this name.
-    pub fn declaration(&self, name: &[u8]) -> Option<Declaration<'_>>
-        ensures found { IfSome result (λ d. HasMember self.now None name.now (declaration_told d)) }
-        ensures none { IfNone result ((d : DeclarationSeen) → HasMember self.now None name.now d → ⊥) }
+    /// The place of the declaration of a name in a record, or in the block where no record is given.
+    pub fn place_of(&self, record: Option<u32>, name: &[u8]) -> Option<u32>
+        ensures { result ≡ place_of self.now «record» name.now }
     {
-        member_of(&self.rows, self.members.as_slice(), None, name)
+        member_in(&self.rows, self.members.as_slice(), record, name)
     }
 
-    /// The field of this name in a record, which is told by its RECORD.
-    pub fn field(&self, record: u32, name: &[u8]) -> Option<Declaration<'_>>
-        ensures found { IfSome result (λ d. HasMember self.now (Some «record») name.now (declaration_told d)) }
-        ensures none { IfNone result ((d : DeclarationSeen) → HasMember self.now (Some «record») name.now d → ⊥) }
+    /// The declaration at a place.
+    pub fn declaration_at(&self, place: u32) -> Option<Declaration<'_>>
+        ensures { option_map declaration_told result ≡ declaration_at self.now place }
     {
-        member_of(&self.rows, self.members.as_slice(), Some(record), name)
+        declaration_in(&self.rows, place)
+    }
+
+    /// The part at a place, from 0, of the form of the declaration at a place.
+    pub fn part(&self, place: u32, at: u32) -> Option<Part<'_>>
+        ensures part { option_map part_told result ≡ form_part self.now place at }
+        ensures few { OnSome result (at + 1 < 2 ^ 32) }
+    {
+        part_in(&self.rows, place, at)
+    }
+
+    /// What the block declares by this name.
+    pub fn declaration(&self, name: &[u8]) -> Option<Declaration<'_>>
+        ensures { option_map declaration_told result ≡ option_and_then (declaration_at self.now) (place_of self.now None name.now) }
+    {
+        let place = self.place_of(None, name)?;
+        self.declaration_at(place)
+    }
+
+    /// The field of this name in a record.
+    pub fn field(&self, record: u32, name: &[u8]) -> Option<Declaration<'_>>
+        ensures { option_map declaration_told result ≡ option_and_then (declaration_at self.now) (place_of self.now (Some «record») name.now) }
+    {
+        let place = self.place_of(Some(record), name)?;
+        self.declaration_at(place)
     }
 
     /// The own name of the module that an alias stands for.
     pub fn module_of(&self, alias: &[u8]) -> Option<&[u8]>
-        ensures found { IfSome result (λ m. HasAlias self.now alias.now m.now) }
-        ensures none { IfNone result ((m : List ℕ) → HasAlias self.now alias.now m → ⊥) }
+        ensures { option_map (λ m. m.now) result ≡ module_named self.now alias.now }
     {
-        module_named(&self.rows, self.aliases.as_slice(), alias)
+        module_in(&self.rows, self.aliases.as_slice(), alias)
     }
 
-    /// The base of a record, which is told by its RECORD.
+    /// The base of a record.
     pub fn base(&self, record: u32) -> Option<Base<'_>>
-        ensures found { IfSome result (λ b. HasBase self.now «record» (base_told b)) }
-        ensures none { IfNone result ((b : BaseSeen) → HasBase self.now «record» b → ⊥) }
+        ensures { option_map base_told result ≡ base_named self.now «record» }
     {
-        base_named(&self.rows, self.bases.as_slice(), record)
+        based_in(&self.rows, self.bases.as_slice(), record)
+    }
+
+    /// The place of the declaration whose type holds a record, directly or through arrays and pointers. Of a list of identifiers it
+    /// is the first.
+    pub fn owner(&self, record: u32) -> Option<u32>
+        ensures { result ≡ owner_place self.now «record» }
+    {
+        owner_in(&self.rows, self.owners.as_slice(), record)
     }
 }

@@ -1,15 +1,13 @@
-//! Rows in the order of their places and names, and looked up in it.
-ghost use Rattle.std.specs.Prelude.{◌≡◌, Contains, IfOk, IfSome, IfNone, IsPermutation};
+//! Entries of the indexes, in the order of their keys and places, and looked up in it.
+ghost use Rattle.std.specs.Prelude.{◌≡◌, Contains, IfSome, IfNone, IsPermutation};
 ghost use Rattle.std.specs.Ordering.{nat_cmp};
-ghost use Rattle.std.specs.Cmp.Lexicographic.{slice_cmp};
-ghost use Rattle.ob_interface.specs.Orders.{alias_in, key_cmp, key_in, AreByAlias, AreByKey, AreByRecord};
+ghost use Rattle.ob_interface.specs.Orders.{key_cmp, name_key, place_by_name, record_key, place_by_record, AreByName, AreByRecord};
+ghost use Rattle.ob_interface.specs.Places.{rank_cmp, IsLeastPlace};
 ghost use Rattle.ob_interface.specs.Texts.{text_in};
-ghost use Rattle.ob_interface.specs.declared.rows.DeclarationRow.{DeclarationRow as Declared};
-ghost use Rattle.ob_interface.specs.declared.rows.ImportRow.{ImportRow as Imported};
-ghost use Rattle.ob_interface.specs.declared.rows.BaseRow.{BaseRow as BaseOf};
+ghost use Rattle.ob_interface.specs.declared.rows.NamePlace.{NamePlace as NameEntry};
+ghost use Rattle.ob_interface.specs.declared.rows.RecordPlace.{RecordPlace as RecordEntry};
 
-use crate::rows::{BaseRow, DeclarationRow, ImportRow, Span};
-use std::alloc::{AllocError, Global};
+use crate::rows::{NamePlace, RecordPlace, Span};
 use std::cmp::Ordering;
 
 /// The text of a span; what stands beyond the buffer is left out.
@@ -21,139 +19,92 @@ pub(crate) fn text_of(text: &[u8], span: Span) -> &[u8]
     &rest[..length.min(rest.len())]
 }
 
-/// How a declaration stands to a place and a name.
-fn compare(text: &[u8], row: &DeclarationRow, place: Option<u32>, name: &[u8]) -> Ordering
-    ensures { result ≡ key_cmp (key_in text.now row.now) (place, name.now) }
+/// How an entry stands to a record, or the block, and a name.
+fn compare(text: &[u8], entry: &NamePlace, record: Option<u32>, name: &[u8]) -> Ordering
+    ensures { result ≡ key_cmp (name_key text.now entry.now) («record», name.now) }
 {
-    match row.record.cmp(&place) {
-        Ordering::Equal => text_of(text, row.name).cmp(&name),
+    match entry.record.cmp(&record) {
+        Ordering::Equal => text_of(text, entry.name).cmp(&name),
         Ordering::Less => Ordering::Less,
         Ordering::Greater => Ordering::Greater,
     }
 }
 
-/// How two declarations stand to each other.
-fn compare_keys(text: &[u8], a: &DeclarationRow, b: &DeclarationRow) -> Ordering
-    ensures { result ≡ key_cmp (key_in text.now a.now) (key_in text.now b.now) }
+/// How two entries stand to each other.
+fn compare_names(text: &[u8], a: &NamePlace, b: &NamePlace) -> Ordering
+    ensures { result ≡ rank_cmp key_cmp (name_key text.now) place_by_name a.now b.now }
 {
-    compare(text, a, b.record, text_of(text, b.name))
+    match compare(text, a, b.record, text_of(text, b.name)) {
+        Ordering::Equal => a.place.cmp(&b.place),
+        Ordering::Less => Ordering::Less,
+        Ordering::Greater => Ordering::Greater,
+    }
 }
 
-/// How an import item stands to an alias.
-fn compare_alias(text: &[u8], row: &ImportRow, alias: &[u8]) -> Ordering
-    ensures { result ≡ slice_cmp nat_cmp (alias_in text.now row.now) alias.now }
+/// How two entries stand to each other.
+fn compare_records(a: &RecordPlace, b: &RecordPlace) -> Ordering
+    ensures { result ≡ rank_cmp nat_cmp record_key place_by_record a.now b.now }
 {
-    text_of(text, row.alias).cmp(&alias)
+    match a.record.cmp(&b.record) {
+        Ordering::Equal => a.place.cmp(&b.place),
+        Ordering::Less => Ordering::Less,
+        Ordering::Greater => Ordering::Greater,
+    }
 }
 
-/// How two import items stand to each other.
-fn compare_aliases(text: &[u8], a: &ImportRow, b: &ImportRow) -> Ordering
-    ensures { result ≡ slice_cmp nat_cmp (alias_in text.now a.now) (alias_in text.now b.now) }
+/// Puts entries in the order of their records, names and places.
+pub(crate) fn put_by_name(text: &[u8], entries: &mut Vec<NamePlace>)
+    ensures sorted { AreByName text.now entries.new.items }
+    ensures same { IsPermutation entries.old.items entries.new.items }
 {
-    compare_alias(text, a, text_of(text, b.alias))
+    entries.sort_unstable_by(|a, b| compare_names(text, a, b));
 }
 
-/// Puts declarations in the order of their places and names.
-pub(crate) fn put_by_key(text: &[u8], rows: &mut Vec<DeclarationRow>)
-    ensures sorted { AreByKey text.now rows.new.items }
-    ensures same { IsPermutation rows.old.items rows.new.items }
+/// Puts entries in the order of their records and places.
+pub(crate) fn put_by_record(entries: &mut Vec<RecordPlace>)
+    ensures sorted { AreByRecord entries.new.items }
+    ensures same { IsPermutation entries.old.items entries.new.items }
 {
-    rows.sort_unstable_by(|a, b| compare_keys(text, a, b));
+    entries.sort_unstable_by(|a, b| compare_records(a, b));
 }
 
-/// Declarations in the order of their places and names.
-pub(crate) fn members_of(
-    alloc: Global,
+/// The least place of this name in this record, or in the block.
+pub(crate) fn first_by_name(
     text: &[u8],
-    rows: &[DeclarationRow],
-) -> Result<Vec<DeclarationRow>, AllocError>
-    ensures sorted { IfOk result (λ members. AreByKey text.now members.items) }
-    ensures same { IfOk result (λ members. IsPermutation rows.now members.items) }
-{
-    let mut members = Vec::new(alloc);
-    members.extend_from_slice(rows)?;
-    put_by_key(text, &mut members);
-    Ok(members)
-}
-
-/// A declaration of this name in this place.
-pub(crate) fn row_at<'a>(
-    text: &[u8],
-    rows: &'a [DeclarationRow],
-    place: Option<u32>,
+    entries: &[NamePlace],
+    record: Option<u32>,
     name: &[u8],
-) -> Option<&'a DeclarationRow>
-    requires { AreByKey text.now rows.now }
-    ensures among { IfSome result (λ r. Contains rows.now r.now) }
-    ensures found { IfSome result (λ r. key_in text.now r.now ≡ (place, name.now)) }
-    ensures none { IfNone result ((r : Declared) → Contains rows.now r → key_in text.now r ≡ (place, name.now) → ⊥) }
+) -> Option<u32>
+    requires { AreByName text.now entries.now }
+    ensures found { IfSome result (IsLeastPlace (name_key text.now) place_by_name entries.now («record», name.now)) }
+    ensures none { IfNone result ((e : NameEntry) → Contains entries.now e → name_key text.now e ≡ («record», name.now) → ⊥) }
 {
-    match rows.binary_search_by(|row| compare(text, row, place, name)) {
-        Ok(at) => Some(&rows[at]),
-        Err(_) => None,
+    let at = entries.partition_point(|entry| compare(text, entry, record, name).is_lt());
+    if at >= entries.len() {
+        return None;
+    }
+    let entry = entries[at];
+    if compare(text, &entry, record, name).is_eq() {
+        Some(entry.place)
+    } else {
+        None
     }
 }
 
-/// Puts import items in the order of their aliases.
-pub(crate) fn put_by_alias(text: &[u8], rows: &mut Vec<ImportRow>)
-    ensures sorted { AreByAlias text.now rows.new.items }
-    ensures same { IsPermutation rows.old.items rows.new.items }
+/// The least place of this record.
+pub(crate) fn first_by_record(entries: &[RecordPlace], record: u32) -> Option<u32>
+    requires { AreByRecord entries.now }
+    ensures found { IfSome result (IsLeastPlace record_key place_by_record entries.now «record») }
+    ensures none { IfNone result ((e : RecordEntry) → Contains entries.now e → record_key e ≡ «record» → ⊥) }
 {
-    rows.sort_unstable_by(|a, b| compare_aliases(text, a, b));
-}
-
-/// Import items in the order of their aliases.
-pub(crate) fn aliases_of(
-    alloc: Global,
-    text: &[u8],
-    rows: &[ImportRow],
-) -> Result<Vec<ImportRow>, AllocError>
-    ensures sorted { IfOk result (λ aliases. AreByAlias text.now aliases.items) }
-    ensures same { IfOk result (λ aliases. IsPermutation rows.now aliases.items) }
-{
-    let mut aliases = Vec::new(alloc);
-    aliases.extend_from_slice(rows)?;
-    put_by_alias(text, &mut aliases);
-    Ok(aliases)
-}
-
-/// An import item with this alias.
-pub(crate) fn import_at<'a>(
-    text: &[u8],
-    rows: &'a [ImportRow],
-    alias: &[u8],
-) -> Option<&'a ImportRow>
-    requires { AreByAlias text.now rows.now }
-    ensures among { IfSome result (λ r. Contains rows.now r.now) }
-    ensures found { IfSome result (λ r. alias_in text.now r.now ≡ alias.now) }
-    ensures none { IfNone result ((r : Imported) → Contains rows.now r → alias_in text.now r ≡ alias.now → ⊥) }
-{
-    match rows.binary_search_by(|row| compare_alias(text, row, alias)) {
-        Ok(at) => Some(&rows[at]),
-        Err(_) => None,
+    let at = entries.partition_point(|entry| entry.record.cmp(&record).is_lt());
+    if at >= entries.len() {
+        return None;
     }
-}
-
-/// Bases in the order of their records.
-pub(crate) fn bases_of(alloc: Global, rows: &[BaseRow]) -> Result<Vec<BaseRow>, AllocError>
-    ensures sorted { IfOk result (λ bases. AreByRecord bases.items) }
-    ensures same { IfOk result (λ bases. IsPermutation rows.now bases.items) }
-{
-    let mut bases = Vec::new(alloc);
-    bases.extend_from_slice(rows)?;
-    bases.sort_unstable_by_key(|base| base.record);
-    Ok(bases)
-}
-
-/// The base of a record.
-pub(crate) fn base_at(rows: &[BaseRow], record: u32) -> Option<&BaseRow>
-    requires { AreByRecord rows.now }
-    ensures among { IfSome result (λ r. Contains rows.now r.now) }
-    ensures found { IfSome result (λ r. r.now.«record» ≡ «record») }
-    ensures none { IfNone result ((r : BaseOf) → Contains rows.now r → r.«record» ≡ «record» → ⊥) }
-{
-    match rows.binary_search_by_key(&record, |row| row.record) {
-        Ok(at) => Some(&rows[at]),
-        Err(_) => None,
+    let entry = entries[at];
+    if entry.record.cmp(&record).is_eq() {
+        Some(entry.place)
+    } else {
+        None
     }
 }

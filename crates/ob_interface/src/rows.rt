@@ -64,6 +64,21 @@ pub(crate) struct ImportRow {
     pub(crate) imported: Span,
 }
 
+/// The place of a declaration or of an import item, with the record in which it stands, if any, and its name.
+#[derive(Clone, Copy, Drop)]
+pub(crate) struct NamePlace {
+    pub(crate) record: Option<u32>,
+    pub(crate) name: Span,
+    pub(crate) place: u32,
+}
+
+/// The place of the base of a record, or of a declaration that owns one, with the record.
+#[derive(Clone, Copy, Drop)]
+pub(crate) struct RecordPlace {
+    pub(crate) record: u32,
+    pub(crate) place: u32,
+}
+
 /// All rows of a module, with the buffer of their texts.
 #[derive(Drop)]
 pub(crate) struct Rows {

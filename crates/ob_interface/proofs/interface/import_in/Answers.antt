@@ -1,0 +1,7 @@
+use Rattle.std.proofs.Common.{None}
+use Rattle.ob_interface.specs.Orders.{fits_alias}
+use Rattle.ob_interface.proofs.LookedUp.{named_fit}
+use Rattle.ob_interface.proofs.interface.import_in.Goals as goal
+
+pub returns : goal.returns
+returns c = named_fit fits_alias _ c.args.aliases.now _ _ (None, c.args.alias.now) _ c.as_slice.ensures.value c.requires.indexes c.first_by_name.ensures.found c.first_by_name.ensures.none
