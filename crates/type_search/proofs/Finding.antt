@@ -1,11 +1,26 @@
 -- A search for a field on its way.
 use Rattle.std.proofs.Common.{◌≡◌, ℕ, ◌+◌, ◌-◌, ◌*◌, ◌^◌, ◌<◌, List, length, Bool, Option, Some, None, refl, sym, ap, ◌∙◌, subst, arith, ◌⊎◌, inl, inr}
 use Rattle.std.specs.Prelude.{IfNone, IfSome}
+use Rattle.std.proofs.Math.Nat.{mul_comm}
+use Rattle.std.proofs.lemmas.Nat.{mul-add-lt}
 use Rattle.type_search.specs.declared.shape.Shape.{Shape}
 use Rattle.type_search.specs.declared.shape.Shape.TheVariants as shapes
 use Rattle.type_search.specs.declared.fields.Step.TheVariants as steps
 use Rattle.type_search.specs.Searches.{in_record, step_of, Opens, Finds, own, pointed, inherited}
 use Rattle.type_search.proofs.Opening.{opens_once, opens_far, AreSame}
+
+-- fewer declarations are left, whatever the depth
+fewer : (k j h x y : ℕ) → k < j → x < h → k * h + x < j * h + y
+fewer k j h x y l m =
+    let s : k * h + x < h * j = mul-add-lt k h x j l m in
+    let t : h * j ≡ j * h = mul_comm h j in
+    omega (arith, s, t)
+
+-- as many are left, at less depth
+stayed : (a b h x y z : ℕ) → a ≡ b → y ≡ z → x < y → (2 ^ 63 - a) * h + x < (2 ^ 63 - b) * h + z
+stayed a b h x y z e f l =
+    let s : (2 ^ 63 - a) * h ≡ (2 ^ 63 - b) * h = ap (λ (n : ℕ). (2 ^ 63 - n) * h) e in
+    omega (arith, s, f, l)
 
 module _ {N D R : Type 0} (same : D → D → Bool) (shape : N → Shape N D R) {F : Type 0} (field : R → Option F) (base : R → Option N) where
   -- the first type that is no name on the way to a field, and what the search comes to there
@@ -65,6 +80,28 @@ module _ {N D R : Type 0} (same : D → D → Bool) (shape : N → Shape N D R) 
       subst (λ (a : List D). (step_of field base (shape m) ≡ steps.Found f) ⊎ ((next : N) × (step_of field base (shape m) ≡ steps.Next next) × Finds same shape field base a next f)) s.met
       (subst (λ (x : N). (step_of field base (shape x) ≡ steps.Found f) ⊎ ((next : N) × (step_of field base (shape x) ≡ steps.Next next) × Finds same shape field base c.after next f)) s.node c.turn)
 
+  -- a name means one field
+  finds_only : (after : List D) (m : N) (s : Shape N D R) (f k : F) → shape m ≡ s → step_of field base s ≡ steps.Found f
+      → (step_of field base (shape m) ≡ steps.Found k) ⊎ ((next : N) × (step_of field base (shape m) ≡ steps.Next next) × Finds same shape field base after next k) → f ≡ k
+  finds_only after m s f k e h (inl p) = let q : steps.Found f ≡ steps.Found k = sym h ∙ ap (step_of field base) (sym e) ∙ p in cc
+  finds_only after m s f k e h (inr (y, p, rest)) = let q : steps.Found f ≡ steps.Next y = sym h ∙ ap (step_of field base) (sym e) ∙ p in cc
+
+  finds_behind : (after : List D) (m next : N) (s : Shape N D R) (k : F) → shape m ≡ s → step_of field base s ≡ steps.Next next
+      → (step_of field base (shape m) ≡ steps.Found k) ⊎ ((y : N) × (step_of field base (shape m) ≡ steps.Next y) × Finds same shape field base after y k) → Finds same shape field base after next k
+  finds_behind after m next s k e h (inl p) = let q : steps.Next next ≡ steps.Found k = sym h ∙ ap (step_of field base) (sym e) ∙ p in cc
+  finds_behind after m next s k e h (inr (y, p, rest)) =
+      let q : steps.Next next ≡ steps.Next y = sym h ∙ ap (step_of field base) (sym e) ∙ p in
+      let same_next : y ≡ next = cc in
+      subst (λ (v : N). Finds same shape field base after v k) same_next rest
+
+  pub finds_once : (met : List D) (n : N) (f k : F) → Finds same shape field base met n f → Finds same shape field base met n k → f ≡ k
+  finds_once met n f k (own {after = a} {m = x} {r = r} o is has) q =
+      finds_only a x (shapes.Record r) f k is (ap (λ (v : Option F). in_record v (base r)) has) (here met a n x k o q)
+  finds_once met n f k (pointed {after = a} {m = x} {next = y} o is rest) q = finds_once a y f k rest (finds_behind a x y (shapes.Pointer y) k is refl (here met a n x k o q))
+  finds_once met n f k (inherited {after = a} {m = x} {next = y} {r = r} o is has up rest) q =
+      let step : in_record (field r) (base r) ≡ steps.Next y = ap (λ (v : Option F). in_record v (base r)) has ∙ ap (λ (v : Option N). in_record {F = F} None v) up in
+      finds_once a y f k rest (finds_behind a x y (shapes.Record r) k is step (here met a n x k o q))
+
   -- a search from the first type has come to the second
   pub record Seeks (met : List D) (n : N) (after : List D) (m : N) : Type 0 where
     pub opens : (f : F) → Finds same shape field base after m f → Finds same shape field base met n f
@@ -112,16 +149,16 @@ module _ {N D R : Type 0} (same : D → D → Bool) (shape : N → Shape N D R) 
     deeper x next shapes.Unknown e h = cc
 
     -- so each step leaves less to do
-    pub seeks_less : (before after : List D) (m x next : N) → ((y : N) → depth y < 2 ^ 64) → length after < 2 ^ 63 → Opens same shape before m after x → step_of field base (shape x) ≡ steps.Next next
-        → (2 ^ 63 - length after) * 2 ^ 64 + depth next < (2 ^ 63 - length before) * 2 ^ 64 + depth m
-    seeks_less before after m x next few small o e = by (opens_far same shape before after m x o)
+    pub seeks_less : (before after : List D) (m x next : N) (height : ℕ) → ((y : N) → depth y < height) → length after < 2 ^ 63 → Opens same shape before m after x → step_of field base (shape x) ≡ steps.Next next
+        → (2 ^ 63 - length after) * height + depth next < (2 ^ 63 - length before) * height + depth m
+    seeks_less before after m x next height few small o e = by (opens_far same shape before after m x o)
       where
         less : depth next < depth x
         less = deeper x next (shape x) refl e
 
-        by : (length before < length after) ⊎ AreSame same shape after before x m → (2 ^ 63 - length after) * 2 ^ 64 + depth next < (2 ^ 63 - length before) * 2 ^ 64 + depth m
-        by (inl l) = let f : depth next < 2 ^ 64 = few next in omega arith
-        by (inr s) = let l : length after ≡ length before = ap length s.met in let d : depth x ≡ depth m = ap depth s.node in let k : depth next < depth x = less in omega arith
+        by : (length before < length after) ⊎ AreSame same shape after before x m → (2 ^ 63 - length after) * height + depth next < (2 ^ 63 - length before) * height + depth m
+        by (inl l) = fewer (2 ^ 63 - length after) (2 ^ 63 - length before) height (depth next) (depth m) (omega (arith, l, small)) (few next)
+        by (inr s) = stayed (length after) (length before) height (depth next) (depth x) (depth m) (ap length s.met) (ap depth s.node) less
 
 pub told_some : {X : Type 0} (P : X → Type 0) (o : Option X) (x : X) → o ≡ Some x → IfSome o P → P x
 told_some {X} P o x e h = subst (λ (v : Option X). IfSome v P) e h

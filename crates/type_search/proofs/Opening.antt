@@ -53,6 +53,22 @@ module _ {N D R : Type 0} (same : D → D → Bool) (shape : N → Shape N D R) 
       let q : u ≡ v = cc in
       opens_once (met ++ c ∷ []) a b u x y rest (subst (λ (w : N). Opens same shape (met ++ c ∷ []) w b y) (sym q) (subst (λ (w : D). Opens same shape (met ++ w ∷ []) v b y) (sym p) more))
 
+  pub opens_to_once : (n x y : N) → OpensTo same shape n x → OpensTo same shape n y → x ≡ y
+  opens_to_once n x y p q = (opens_once [] p.met q.met n x y p.opens q.opens).node
+
+  -- so what it comes to has one part of each kind
+  one_part : (part : Shape N D R → Option N) (n a b x y : N) → OpensTo same shape n a → OpensTo same shape n b → part (shape a) ≡ Some x → part (shape b) ≡ Some y → x ≡ y
+  one_part part n a b x y p q e f =
+      let g : part (shape a) ≡ part (shape b) = ap (λ (v : N). part (shape v)) (opens_to_once n a b p q) in
+      let h : Some x ≡ Some y = sym e ∙ g ∙ f in
+      cc
+
+  pub element_once : (n x y : N) → HasElement same shape n x → HasElement same shape n y → x ≡ y
+  element_once n x y p q = one_part element_of n p.array q.array x y p.opens q.opens p.is q.is
+
+  pub target_once : (n x y : N) → HasTarget same shape n x → HasTarget same shape n y → x ≡ y
+  target_once n x y p q = one_part target_of n p.pointer q.pointer x y p.opens q.opens p.is q.is
+
   -- a search meets more, or stays where it is
   pub opens_far : (met after : List D) (n m : N) → Opens same shape met n after m → (length met < length after) ⊎ AreSame after met m n
   opens_far met after n m (plain p) = inr (record { met = refl; node = refl })

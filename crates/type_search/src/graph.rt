@@ -1,5 +1,5 @@
 //! Graphs of types.
-ghost use Rattle.std.specs.Prelude.{◌≡◌, ◌<◌, ◌^◌, ℕ, List, Option, Some};
+ghost use Rattle.std.specs.Prelude.{◌≡◌, ◌<◌, ℕ, List, Option, Some};
 ghost use Rattle.type_search.specs.declared.shape.Shape.{Shape};
 ghost use Rattle.type_search.specs.declared.shape.Shape.TheVariants as shapes;
 
@@ -25,6 +25,9 @@ pub trait TypeGraph {
     /// How deep a type is, to the names in it.
     ghost depth: { Self → Self.Node → ℕ };
 
+    /// More than any type is deep.
+    ghost height: { Self → ℕ };
+
     /// What the type of a node is.
     fn shape(&self, node: Self::Node) -> Shape<Self::Node, Self::Declaration, Self::Record>
         ensures { result ≡ shape self.now node };
@@ -37,7 +40,7 @@ pub trait TypeGraph {
     fn base(&self, record: Self::Record) -> Option<Self::Node>
         ensures { result ≡ base_of self.now «record» };
 
-    ghost deep: { (g : Self) (n : Self.Node) → depth g n < 2 ^ 64 };
+    ghost deep: { (g : Self) (n : Self.Node) → depth g n < height g };
 
     ghost pointed: { (g : Self) (n m : Self.Node) → shape g n ≡ shapes.Pointer m → depth g m < depth g n };
 

@@ -6,6 +6,7 @@
 
 mod fields;
 mod graph;
+pub mod laws;
 mod search;
 mod shape;
 

@@ -28,7 +28,7 @@ types-smaller g c =
     let base = g.G.TypeGraph.base_of c.args.graph.now in
     let opens = told_some (Opens same shape c.types.met.keys c.types.at c.go_on.new.met.keys) c.in_ok-opened.opened c.in-Some.node c.in-Some.is c.in_ok-opened.ensures.found in
     let few : length c.go_on.new.met.keys < 2 ^ 63 = rw (sym c.len-count.ensures.len) c.len-count.ensures.small in
-    seeks_less same shape field base (g.G.TypeGraph.depth c.args.graph.now) (g.met.G.TypeGraph.pointed c.args.graph.now) (λ x y r. g.met.G.TypeGraph.based c.args.graph.now x y r) _ _ _ _ _ (g.met.G.TypeGraph.deep c.args.graph.now) few opens (sym c.step_at.ensures ∙ c.in-Next.is)
+    seeks_less same shape field base (g.G.TypeGraph.depth c.args.graph.now) (g.met.G.TypeGraph.pointed c.args.graph.now) (λ x y r. g.met.G.TypeGraph.based c.args.graph.now x y r) _ _ _ _ _ _ (g.met.G.TypeGraph.deep c.args.graph.now) few opens (sym c.step_at.ensures ∙ c.in-Next.is)
 
 pub types-preserved : goal.types-preserved
 types-preserved g c =

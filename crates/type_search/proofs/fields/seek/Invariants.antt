@@ -6,4 +6,4 @@ abbrev pub invariant-types : goal.invariant-types
 invariant-types g l = Seeks g.G.Declaration.PartialEq.eq (g.G.TypeGraph.shape l.graph) (λ r. g.G.TypeGraph.field_of l.graph r l.name) (g.G.TypeGraph.base_of l.graph) l.fn.met.keys l.fn.from l.met.keys l.at
 
 abbrev pub decreases-types : goal.decreases-types
-decreases-types g l = (2 ^ 63 - length l.met.keys) * 2 ^ 64 + g.G.TypeGraph.depth l.graph l.at
+decreases-types g l = (2 ^ 63 - length l.met.keys) * g.G.TypeGraph.height l.graph + g.G.TypeGraph.depth l.graph l.at
