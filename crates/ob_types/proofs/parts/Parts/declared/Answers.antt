@@ -1,0 +1,9 @@
+use Rattle.std.proofs.Common.{◌∙◌}
+use Rattle.ob_decls.specs.declared.rows.Declared.{Declared}
+use Rattle.ob_types.specs.World.{declared_at}
+use Rattle.ob_types.proofs.Firsts.{told}
+use Rattle.ob_types.proofs.parts.Parts.declared.Goals as goal
+
+pub returns : goal.returns
+unfolding declared_at
+returns c = c.copied.ensures ∙ told (λ (d : Declared). d.number) _ c.args.number _ c.keeps.ensures.declared c.declaration.ensures.found c.declaration.ensures.number c.declaration.ensures.none

@@ -1,0 +1,6 @@
+pub mod World
+pub mod Shapes
+pub mod Same
+pub mod Parted
+pub mod Depths
+pub mod DepthLaws

@@ -1,0 +1,132 @@
+//! What a module is known by, and what its own rows say.
+#![tactic(auto, unfolding(crate::specs::World::text, crate::specs::World::meaning, crate::specs::World::declared_at, crate::specs::World::declarer_from, crate::specs::World::declarer_of, crate::specs::World::sort_of, crate::specs::World::form_from, crate::specs::World::form_at, crate::specs::World::item_of, crate::specs::World::record_at, crate::specs::World::owner_at))]
+
+ghost use Rattle.std.specs.Prelude.{◌≡◌, slice_get};
+ghost use Rattle.ob_scan.specs.Spelling.{AreInText};
+ghost use Rattle.ob_types.specs.Parted.{world_of, IsFew};
+ghost use Rattle.ob_types.specs.World.{declared_at, declarer_from, declarer_of, form_at, form_from, item_of, meaning, owner_at, record_at, sort_of, text};
+
+use crate::places::{place_of_alias, place_of_form};
+use ob_decls::{Declared, Declarer, FormPart, Import, Record, Sort, Table};
+use ob_interface::Interface;
+use ob_scan::Token;
+use ob_scope::Scopes;
+use std::sync::Arc;
+
+/// A module's bytes, tokens, table and scopes, and the interfaces of the modules that it reaches.
+#[derive(Drop)]
+pub(crate) struct Parts<'a> {
+    pub(crate) bytes: &'a [u8],
+    pub(crate) tokens: &'a [Token],
+    pub(crate) table: &'a Table,
+    pub(crate) scopes: &'a Scopes,
+    pub(crate) reached: &'a [Arc<Interface>],
+}
+
+impl<'a> Parts<'a> {
+    /// The bytes of a token; there are none beyond the last.
+    pub(crate) fn text(&self, number: u32) -> &'a [u8]
+        requires { AreInText self.now.bytes.now self.now.tokens.now }
+        ensures { result.now ≡ text (world_of self.now) number }
+    {
+        match self.tokens.get(number as usize) {
+            Some(token) => &self.bytes[token.start as usize..token.end as usize],
+            None => &self.bytes[..0],
+        }
+    }
+
+    /// The token that declares what a use means.
+    pub(crate) fn meaning(&self, used: u32) -> Option<u32>
+        ensures { result ≡ meaning (world_of self.now) used }
+    {
+        self.scopes.keeps();
+        self.scopes.resolve(used)
+    }
+
+    /// The row of a declared identifier.
+    pub(crate) fn declared(&self, number: u32) -> Option<Declared>
+        ensures { result ≡ declared_at (world_of self.now) number }
+    {
+        self.table.keeps();
+        self.table.declaration(number).copied()
+    }
+
+    /// The construct that declares and begins with this token.
+    pub(crate) fn declarer(&self, first: u32) -> Option<Declarer>
+        ensures { result ≡ declarer_from (world_of self.now) first }
+    {
+        self.table.keeps();
+        self.table.declarer(first).copied()
+    }
+
+    /// The construct that declares this token.
+    fn declarer_of(&self, number: u32) -> Option<Declarer>
+        ensures { result ≡ declarer_of (world_of self.now) number }
+    {
+        let row = self.declared(number)?;
+        self.declarer(row.declared_by)
+    }
+
+    /// What a token is declared as.
+    pub(crate) fn sort(&self, number: u32) -> Option<Sort>
+        ensures { result ≡ sort_of (world_of self.now) number }
+    {
+        Some(self.declarer_of(number)?.sort)
+    }
+
+    /// The place of the first part of the form that a construct gives.
+    fn form_from(&self, first: u32) -> Option<u32>
+        requires { IsFew self.now }
+        ensures { result ≡ form_from (world_of self.now) first }
+    {
+        self.table.keeps();
+        place_of_form(self.table.parts(), first)
+    }
+
+    /// The place of the first part of the form of the type of what a token declares.
+    pub(crate) fn form_at(&self, number: u32) -> Option<u32>
+        requires { IsFew self.now }
+        ensures { result ≡ form_at (world_of self.now) number }
+    {
+        let row = self.declared(number)?;
+        self.form_from(row.declared_by)
+    }
+
+    /// The place of the import item whose alias a token declares.
+    pub(crate) fn item(&self, declared: u32) -> Option<u32>
+        requires { IsFew self.now }
+        ensures { result ≡ item_of (world_of self.now) declared }
+    {
+        self.table.keeps();
+        place_of_alias(self.table.imports(), declared)
+    }
+
+    /// The record of this RECORD.
+    pub(crate) fn record(&self, number: u32) -> Option<Record>
+        ensures { result ≡ record_at (world_of self.now) number }
+    {
+        self.table.keeps();
+        self.table.record(number).copied()
+    }
+
+    /// The first identifier of the declaration whose type holds this RECORD.
+    pub(crate) fn owner(&self, number: u32) -> Option<u32>
+        ensures { result ≡ owner_at (world_of self.now) number }
+    {
+        Some(self.record(number)?.owner)
+    }
+
+    /// The part at a place.
+    pub(crate) fn part(&self, place: u32) -> Option<FormPart>
+        ensures { result ≡ slice_get (world_of self.now).rows.parts place }
+    {
+        self.table.parts().get(place as usize).copied()
+    }
+
+    /// The import item at a place.
+    pub(crate) fn import(&self, place: u32) -> Option<Import>
+        ensures { result ≡ slice_get (world_of self.now).rows.imports place }
+    {
+        self.table.imports().get(place as usize).copied()
+    }
+}
