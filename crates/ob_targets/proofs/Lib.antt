@@ -1,0 +1,3 @@
+pub mod Followed
+pub mod Referred
+pub mod Unresolved

@@ -1,0 +1,5 @@
+pub mod Predeclared
+pub mod Standing
+pub mod Targets
+pub mod Steps
+pub mod Refers

@@ -1,0 +1,66 @@
+-- What each identifier stands for, and its role, one line for each place in which it can stand.
+use Rattle.std.specs.Prelude.{◌≡◌, ℕ, List, slice_get, Option, Some, None, Bool, true, false, if◌then◌else◌, map}
+use Rattle.std.specs.List.{All, Contains, filter, filter_map, enumerate_from}
+use Rattle.ob_scan.specs.declared.kind.Kind.{Kind}
+use Rattle.ob_scan.specs.declared.kind.Kind.TheVariants as kinds
+use Rattle.ob_scan.specs.declared.token.Token.{Token}
+use Rattle.ob_decls.specs.declared.rows.End.{End}
+use Rattle.ob_decls.specs.declared.rows.Used.{Used}
+use Rattle.ob_types.specs.World.{World}
+use Rattle.ob_targets.specs.declared.known.Known.{Known}
+use Rattle.ob_targets.specs.declared.standing.Standing.TheVariants as standings
+use Rattle.ob_targets.specs.declared.target.Target.{Target}
+use Rattle.ob_targets.specs.declared.target.Target.TheVariants as targets
+use Rattle.ob_targets.specs.declared.target.Reference.{Reference}
+use Rattle.ob_targets.specs.Standing.{standing}
+use Rattle.ob_targets.specs.Targets.{end_target, is_written, second_target, use_role, used_target}
+use Rattle.ob_targets.specs.Steps.{Knows, Selects}
+
+module _ (w : World) where
+  -- the identifier of this token stands for this, in this role
+  pub data Refers (k : ℕ) : Target → ℕ → Type 0 where
+    own_name : standing w.rows k ≡ standings.OwnName → Refers k targets.Own 1
+    item : {at : ℕ} → standing w.rows k ≡ standings.Item at → Refers k (targets.«Module» at) 2
+    declaration : {at : ℕ} → standing w.rows k ≡ standings.Declaration at → Refers k (targets.Declared k) 1
+    end : {at : ℕ} {e : End} → standing w.rows k ≡ standings.End at → slice_get w.rows.ends at ≡ Some e → Refers k (end_target e.of) 0
+    used : {at : ℕ} → standing w.rows k ≡ standings.Use at → Refers k (used_target w k) (use_role w (used_target w k) (is_written w.rows k))
+    selected : {at : ℕ} {o : Known} {t : Target} → standing w.rows k ≡ standings.Selected at → Knows w at o → Selects w o k t →
+        Refers k t (use_role w t (is_written w.rows k))
+    second : {at : ℕ} {u : Used} → standing w.rows k ≡ standings.Second at → slice_get w.rows.uses at ≡ Some u →
+        Refers k (second_target w k (used_target w u.number)) (use_role w (second_target w k (used_target w u.number)) false)
+    nowhere : standing w.rows k ≡ standings.Nowhere → Refers k targets.Unresolved 0
+
+-- the numbers of the tokens that are identifiers, in order
+abbrev pub is_identifier : Kind → Bool
+is_identifier kinds.Ident = true
+is_identifier _ = false
+
+abbrev pub number_of : ℕ × Token → Option ℕ
+number_of (k, t) = if is_identifier t.kind then Some k else None
+
+abbrev pub identifiers : List Token → List ℕ
+identifiers ts = filter_map number_of (enumerate_from 0 ts)
+
+-- all identifiers of a module, in order, each with what it stands for and its role
+pub record AreReferences (w : World) (rs : List Reference) : Type 0 where
+  pub numbers : map (λ (r : Reference). r.number) rs ≡ identifiers w.tokens
+  pub each : All (λ (r : Reference). Refers w r.number r.target r.role) rs
+
+-- the numbers of those that stand for nothing
+abbrev pub is_unresolved : Target → Bool
+is_unresolved (targets.Declared k) = false
+is_unresolved (targets.Imported i d) = false
+is_unresolved (targets.External at n) = false
+is_unresolved targets.Own = false
+is_unresolved (targets.«Module» at) = false
+is_unresolved targets.Predeclared = false
+is_unresolved targets.Unresolved = true
+
+abbrev pub unresolved : List Reference → List ℕ
+unresolved rs = map (λ (r : Reference). r.number) (filter (λ (r : Reference). is_unresolved r.target) rs)
+
+-- the identifier of this token stands for nothing
+pub record StandsForNothing (w : World) (k : ℕ) : Type 0 where
+  pub is : Contains (identifiers w.tokens) k
+  pub role : ℕ
+  pub refers : Refers w k targets.Unresolved role

@@ -1,0 +1,73 @@
+-- What is known of a designator, followed from left to right (Oberon-07 report, section 8.1).
+use Rattle.std.specs.Prelude.{◌≡◌, ℕ, zero, suc, ◌==◌, List, [], slice_get, Option, Some, None, Bool, true, false, not}
+use Rattle.ob_decls.specs.declared.rows.Selector.{Selector}
+use Rattle.ob_decls.specs.declared.rows.Step.{Step}
+use Rattle.ob_decls.specs.declared.rows.Step.TheVariants as steps
+use Rattle.ob_decls.specs.declared.rows.TypeName.{TypeName}
+use Rattle.type_search.specs.declared.shape.Shape.TheVariants as shapes
+use Rattle.type_search.specs.Searches.{Finds, HasElement, HasTarget}
+use Rattle.ob_types.specs.declared.nodes.Node.{Node}
+use Rattle.ob_types.specs.declared.nodes.Node.TheVariants as nodes
+use Rattle.ob_types.specs.declared.nodes.Field.{Field}
+use Rattle.ob_types.specs.World.{World, text}
+use Rattle.ob_types.specs.Same.{same}
+use Rattle.ob_types.specs.Shapes.{shape, field_of, base_of, named_here}
+use Rattle.ob_targets.specs.declared.target.Target.{Target}
+use Rattle.ob_targets.specs.declared.target.Target.TheVariants as targets
+use Rattle.ob_targets.specs.declared.known.Known.{Known}
+use Rattle.ob_targets.specs.declared.known.Known.TheVariants as knowns
+use Rattle.ob_targets.specs.Targets.{exported_target, field_target, known_of, used_target}
+
+-- where a relation leads from the type that is known; nothing is known where it leads nowhere
+pub data Follows (Leads : Node → Node → Type 0) : Known → Known → Type 0 where
+  there : {n m : Node} → Leads n m → Follows Leads (knowns.Typed n) (knowns.Typed m)
+  nowhere : {n : Node} → ((m : Node) → Leads n m → ⊥) → Follows Leads (knowns.Typed n) knowns.Nothing
+  of_module : {at : ℕ} → Follows Leads (knowns.«Module» at) knowns.Nothing
+  of_nothing : Follows Leads knowns.Nothing knowns.Nothing
+
+-- the type whose name stands alone between parentheses
+abbrev pub guard_of : World → Option TypeName → Known
+guard_of w None = knowns.Nothing
+guard_of w (Some t) = elim (named_here w t.head t.member) [
+  | shapes.Array n ↦ knowns.Nothing
+  | shapes.Pointer n ↦ knowns.Nothing
+  | shapes.Record r ↦ knowns.Nothing
+  | shapes.Procedure ↦ knowns.Nothing
+  | shapes.Named d n ↦ knowns.Typed (nodes.Name t.head t.member)
+  | shapes.Unknown ↦ knowns.Nothing
+]
+
+-- whether the selector at this place is the first one of its designator; those of one designator stand together
+abbrev pub begins : List Selector → ℕ → Selector → Bool
+begins selectors zero s = true
+begins selectors (suc i) s = elim (slice_get selectors i) [ None ↦ true | Some before ↦ not (before.of == s.of) ]
+
+module _ (w : World) where
+  -- the field that a name means at a type
+  abbrev pub FindsField : Node → List ℕ → Field → Type 0
+  FindsField n name f = Finds same (shape w) (λ r. field_of w r name) (base_of w) [] n f
+
+  -- what a name behind a dot stands for, by what is known of what stands before the dot
+  pub data Selects : Known → ℕ → Target → Type 0 where
+    exported : {at k : ℕ} → Selects (knowns.«Module» at) k (exported_target w at k)
+    field : {n : Node} {k : ℕ} {f : Field} → FindsField n (text w k) f → Selects (knowns.Typed n) k (field_target f)
+    no_field : {n : Node} {k : ℕ} → ((f : Field) → FindsField n (text w k) f → ⊥) → Selects (knowns.Typed n) k targets.Unresolved
+    unknown : {k : ℕ} → Selects knowns.Nothing k targets.Unresolved
+
+  -- each expression between brackets takes one level of an array
+  pub data Levels : ℕ → Known → Known → Type 0 where
+    none : {o : Known} → Levels 0 o o
+    one : {c : ℕ} {o next last : Known} → Levels c o next → Follows (HasElement same (shape w)) next last → Levels (suc c) o last
+
+  -- what is known behind a selector, by what is known before it
+  pub data Leads (o : Known) : Step → Known → Type 0 where
+    to_field : {k : ℕ} {t : Target} → Selects o k t → Leads o (steps.Field k) (known_of w t)
+    to_elements : {c : ℕ} {next : Known} → Levels c o next → Leads o (steps.Elements c) next
+    to_target : {next : Known} → Follows (HasTarget same (shape w)) o next → Leads o steps.Target next
+    by_guard : {t : Option TypeName} → Leads o (steps.Arguments t) (guard_of w t)
+
+  -- what is known before the selector at this place
+  pub data Knows : ℕ → Known → Type 0 where
+    at_head : {i : ℕ} {s : Selector} → slice_get w.rows.selectors i ≡ Some s → begins w.rows.selectors i s ≡ true → Knows i (known_of w (used_target w s.of))
+    behind : {i : ℕ} {s t : Selector} {o next : Known} → slice_get w.rows.selectors i ≡ Some s → slice_get w.rows.selectors (suc i) ≡ Some t →
+        begins w.rows.selectors (suc i) t ≡ false → Knows i o → Leads o s.step next → Knows (suc i) next

@@ -1,0 +1,113 @@
+-- What names stand for, and in which roles (Oberon-07 report, sections 4, 6.1, 8.1, 9.1 and 11).
+use Rattle.std.specs.Prelude.{ℕ, ◌==◌, List, Option, Some, None, Bool, true, false, ◌&&◌, if◌then◌else◌, nat_eq}
+use Rattle.std.specs.List.{filter, fold, list_any}
+use Rattle.std.specs.Option.{unwrap_or}
+use Rattle.ob_decls.specs.declared.rows.Designator.{Designator}
+use Rattle.ob_decls.specs.declared.rows.Selector.{Selector}
+use Rattle.ob_decls.specs.declared.rows.Sort.{Sort}
+use Rattle.ob_decls.specs.declared.rows.Sort.TheVariants as sorts
+use Rattle.ob_decls.specs.Parts.{Rows}
+use Rattle.ob_types.specs.declared.nodes.Node.{Node}
+use Rattle.ob_types.specs.declared.nodes.Node.TheVariants as nodes
+use Rattle.ob_types.specs.declared.nodes.Field.{Field}
+use Rattle.ob_types.specs.declared.nodes.Field.TheVariants as fields
+use Rattle.ob_types.specs.World.{World, text, meaning, sort_of, item_of, form_of, home_of, exported, sort_there}
+use Rattle.ob_targets.specs.Predeclared.{is_predeclared}
+use Rattle.ob_targets.specs.Standing.{name_of}
+use Rattle.ob_targets.specs.declared.target.Target.{Target}
+use Rattle.ob_targets.specs.declared.target.Target.TheVariants as targets
+use Rattle.ob_targets.specs.declared.known.Known.{Known}
+use Rattle.ob_targets.specs.declared.known.Known.TheVariants as knowns
+
+-- ---- targets
+
+-- what a declaration is to the uses that mean it: an alias stands for its module
+abbrev pub declared_target : World → ℕ → Target
+declared_target w d = elim (item_of w d) [ None ↦ targets.Declared d | Some at ↦ targets.«Module» at ]
+
+-- what a use stands for: what the scope rule gives it, or else a predeclared name
+abbrev pub used_target : World → ℕ → Target
+used_target w k = elim (meaning w k) [ Some d ↦ declared_target w d | None ↦ if is_predeclared (text w k) then targets.Predeclared else targets.Unresolved ]
+
+-- what a name behind a dot stands for, if a module stands before the dot: what that module exports under this name; the name itself,
+-- if the module isn't in the tree
+abbrev pub exported_target : World → ℕ → ℕ → Target
+exported_target w at k = elim (home_of w at) [ None ↦ targets.External at k | Some i ↦ elim (exported w i (text w k)) [ None ↦ targets.Unresolved | Some d ↦ targets.Imported i d ] ]
+
+-- what the second identifier of a qualident stands for
+abbrev pub second_target : World → ℕ → Target → Target
+second_target w k (targets.«Module» at) = exported_target w at k
+second_target w k (targets.Declared d) = targets.Unresolved
+second_target w k (targets.Imported i d) = targets.Unresolved
+second_target w k (targets.External at n) = targets.Unresolved
+second_target w k targets.Own = targets.Unresolved
+second_target w k targets.Predeclared = targets.Unresolved
+second_target w k targets.Unresolved = targets.Unresolved
+
+-- what the name behind END stands for: its procedure or the module
+abbrev pub end_target : Option ℕ → Target
+end_target None = targets.Own
+end_target (Some k) = targets.Declared k
+
+abbrev pub field_target : Field → Target
+field_target (fields.Own k) = targets.Declared k
+field_target (fields.Other i d) = targets.Imported i d
+
+-- ---- what is known of a target
+
+-- variables, parameters and fields hold values
+abbrev pub holds_value : Sort → Bool
+holds_value sorts.Import = false
+holds_value sorts.Constant = false
+holds_value sorts.Type = false
+holds_value sorts.Variable = true
+holds_value sorts.Procedure = false
+holds_value sorts.Parameter = true
+holds_value sorts.Field = true
+
+-- of what holds a value its declared type
+abbrev pub typed : Option Sort → Option Node → Known
+typed None form = knowns.Nothing
+typed (Some s) None = knowns.Nothing
+typed (Some s) (Some n) = if holds_value s then knowns.Typed n else knowns.Nothing
+
+abbrev pub known_of : World → Target → Known
+known_of w (targets.Declared k) = typed (sort_of w k) (form_of w k)
+known_of w (targets.Imported i d) = typed (sort_there w i d) (Some (nodes.Other i d 0))
+known_of w (targets.External at n) = knowns.Nothing
+known_of w targets.Own = knowns.Nothing
+known_of w (targets.«Module» at) = knowns.«Module» at
+known_of w targets.Predeclared = knowns.Nothing
+known_of w targets.Unresolved = knowns.Nothing
+
+-- ---- roles
+
+-- the selectors of a designator, in order
+abbrev pub selectors_of : Rows → ℕ → List Selector
+selectors_of rows head = filter (λ (s : Selector). nat_eq s.of head) rows.selectors
+
+-- the last name of a designator that no brackets enclose: of its selectors the last name behind a dot, or else its head
+abbrev pub last_name : ℕ → List Selector → ℕ
+last_name head selectors = fold (λ last (s : Selector). unwrap_or (name_of s.step) last) head selectors
+
+-- whether a designator stands on the left side of an assignment or is the variable of a FOR, and this is its last name
+abbrev pub writes : Rows → ℕ → Designator → Bool
+writes rows k d = d.is_written && (last_name d.head (selectors_of rows d.head) == k)
+
+abbrev pub is_written : Rows → ℕ → Bool
+is_written rows k = list_any (writes rows k) rows.designators
+
+-- what holds a value is written (4) or else read (8)
+abbrev pub value_role : Option Sort → Bool → ℕ
+value_role None written = 0
+value_role (Some s) written = if holds_value s then (if written then 4 else 8) else 0
+
+-- the role of a use of what holds a value; 0 of all other uses
+abbrev pub use_role : World → Target → Bool → ℕ
+use_role w (targets.Declared k) written = value_role (sort_of w k) written
+use_role w (targets.Imported i d) written = value_role (sort_there w i d) written
+use_role w (targets.External at n) written = 0
+use_role w targets.Own written = 0
+use_role w (targets.«Module» at) written = 0
+use_role w targets.Predeclared written = 0
+use_role w targets.Unresolved written = 0
