@@ -1,0 +1,163 @@
+-- What identifiers stand for, one by one, and all of them in order.
+use Rattle.std.proofs.Common.{◌≡◌, ℕ, ◌+◌, ◌<◌, ◌≤◌, List, [], ◌∷◌, ◌++◌, length, get_or, drop, map, Bool, true, false, cond, Option, Some, None, refl, sym, ap, ◌∙◌, subst}
+use Rattle.std.specs.Prelude.{slice_get}
+use Rattle.std.specs.List.{All, cons_option, filter_map, enumerate_from}
+use Rattle.std.proofs.lemmas.List.{append-nil, drop_more}
+use Rattle.std.proofs.lemmas.List.Elements.{All-nil, All-push}
+use Rattle.std.proofs.lemmas.Option.{slice_get-get_or, slice_get_within, get_or_from_slice_get}
+use Rattle.ob_decls.specs.declared.rows.End.{End}
+use Rattle.ob_decls.specs.declared.rows.Step.{Step}
+use Rattle.ob_decls.specs.declared.rows.Step.TheVariants as steps
+use Rattle.ob_decls.specs.declared.rows.Used.{Used}
+use Rattle.ob_scan.specs.declared.kind.Kind.{Kind}
+use Rattle.ob_scan.specs.declared.kind.Kind.TheVariants as kinds
+use Rattle.ob_scan.specs.declared.token.Token.{Token}
+use Rattle.ob_types.specs.World.{World}
+use Rattle.ob_targets.specs.declared.known.Known.{Known}
+use Rattle.ob_targets.specs.declared.standing.Standing.{Standing}
+use Rattle.ob_targets.specs.declared.standing.Standing.TheVariants as standings
+use Rattle.ob_targets.specs.declared.target.Target.{Target}
+use Rattle.ob_targets.specs.declared.target.Target.TheVariants as targets
+use Rattle.ob_targets.specs.declared.target.Reference.{Reference}
+use Rattle.ob_targets.specs.Standing.{standing}
+use Rattle.ob_targets.specs.Targets.{end_target, is_written, second_target, use_role, used_target}
+use Rattle.ob_targets.specs.Steps.{Knows, Selects}
+use Rattle.ob_targets.specs.Refers.{identifiers, is_identifier, number_of, AreReferences, Refers, own_name, item, declaration, end, used, selected, second, nowhere}
+use Rattle.ob_resolve.specs.declared.found.Found.{Found}
+use Rattle.ob_resolve.specs.Found.{IsFound, IsReference}
+use Rattle.ob_resolve.specs.Selected.{IsNamed, Names}
+use Rattle.ob_resolve.proofs.WrittenNames.{drop_past}
+use Rattle.ob_resolve.proofs.Placed.{placed, IsPlaced, SelectsAt}
+
+-- a row, by reading it
+pub read_row : {X : Type 0} (xs ys : List X) (i : ℕ) (d : X) → xs ≡ ys → i < length ys → slice_get ys i ≡ Some (get_or xs i d)
+read_row xs ys i d are l = rw are (slice_get-get_or ys i d l)
+
+module _ (w : World) where
+  -- there is a row where an identifier stands
+  pub stands_placed : (k : ℕ) (s : Standing) → standing w.rows k ≡ s → IsPlaced w.rows k s
+  stands_placed k s is = subst (IsPlaced w.rows k) is (placed w.rows k)
+
+  pub stands_as : (f : Found) (k : ℕ) (s t d : Standing) → IsFound w f → k < length w.tokens → s ≡ get_or f.standings.items k d → s ≡ t → standing w.rows k ≡ t
+  stands_as f k s t d found l read is = sym (get_or_from_slice_get f.standings.items k (standing w.rows k) d (found.standings k l)) ∙ sym read ∙ is
+
+  pub own_refers : (k : ℕ) → standing w.rows k ≡ standings.OwnName → IsReference w k (record { number = k; target = targets.Own; role = 1 })
+  own_refers k is = record { number = refl; refers = own_name is }
+
+  pub item_refers : (k at : ℕ) (t : Target) → standing w.rows k ≡ standings.Item at → t ≡ targets.«Module» at → IsReference w k (record { number = k; target = t; role = 2 })
+  item_refers k at t is made = rw made (record { number = refl; refers = item is })
+
+  pub declaration_refers : (k at : ℕ) → standing w.rows k ≡ standings.Declaration at → IsReference w k (record { number = k; target = targets.Declared k; role = 1 })
+  declaration_refers k at is = record { number = refl; refers = declaration is }
+
+  pub nowhere_refers : (k : ℕ) → standing w.rows k ≡ standings.Nowhere → IsReference w k (record { number = k; target = targets.Unresolved; role = 0 })
+  nowhere_refers k is = record { number = refl; refers = nowhere is }
+
+  pub end_refers : (k at : ℕ) (e : End) (t : Target) → standing w.rows k ≡ standings.End at → slice_get w.rows.ends at ≡ Some e → t ≡ end_target e.of →
+      IsReference w k (record { number = k; target = t; role = 0 })
+  end_refers k at e t is there made = rw made (record { number = refl; refers = end is there })
+
+  pub use_refers : (k at : ℕ) (t : Target) (b : Bool) (r : ℕ) → b ≡ is_written w.rows k → t ≡ used_target w k → r ≡ use_role w t b → standing w.rows k ≡ standings.Use at →
+      IsReference w k (record { number = k; target = t; role = r })
+  use_refers k at t b r written made role is = rw (role, made, written) (record { number = refl; refers = used is })
+
+  pub second_refers : (k at : ℕ) (u : Used) (t : Target) (r : ℕ) → standing w.rows k ≡ standings.Second at → slice_get w.rows.uses at ≡ Some u →
+      t ≡ second_target w k (used_target w u.number) → r ≡ use_role w t false → IsReference w k (record { number = k; target = t; role = r })
+  second_refers k at u t r is there made role = rw (role, made) (record { number = refl; refers = second is there })
+
+  -- what the name of a selector stands for
+  record NamedAt (k at : ℕ) (t : Target) : Type 0 where
+    before : Known
+    knows : Knows w at before
+    selects : Selects w before k t
+
+  named_at : (k at : ℕ) (s : Step) (t : Target) → s ≡ steps.Field k → IsNamed w at s t → NamedAt k at t
+  named_at k at s t is n = record { before = n.before; knows = n.knows; selects = subst (λ (v : Step). Names w n.before v t) is n.names }
+
+  selected_named : (f : Found) (k at : ℕ) (d : Target) → IsFound w f → SelectsAt w.rows k at → NamedAt k at (get_or f.selected.items at d)
+  selected_named f k at d found s =
+      let within : at < length w.rows.selectors = slice_get_within w.rows.selectors at s.selector s.there in
+      let room : at < length f.selected.items = subst (λ (n : ℕ). at < n) (sym found.selected.as_many) within in
+      named_at k at s.selector.step (get_or f.selected.items at d) s.name
+      (found.selected.each at s.selector (get_or f.selected.items at d) s.there (slice_get-get_or f.selected.items at d room))
+
+  pub selected_within : (f : Found) (k at : ℕ) → IsFound w f → standing w.rows k ≡ standings.Selected at → at < length f.selected.items
+  selected_within f k at found is =
+      let s : SelectsAt w.rows k at = stands_placed k (standings.Selected at) is in
+      subst (λ (n : ℕ). at < n) (sym found.selected.as_many) (slice_get_within w.rows.selectors at s.selector s.there)
+
+  pub selected_refers : (f : Found) (k at : ℕ) (t d : Target) (b : Bool) (r : ℕ) → IsFound w f → b ≡ is_written w.rows k → standing w.rows k ≡ standings.Selected at →
+      t ≡ get_or f.selected.items at d → r ≡ use_role w t b → IsReference w k (record { number = k; target = t; role = r })
+  selected_refers f k at t d b r found written is read role =
+      let n : NamedAt k at (get_or f.selected.items at d) = selected_named f k at d found (stands_placed k (standings.Selected at) is) in
+      rw (role, read, written) (record { number = refl; refers = selected is n.knows n.selects })
+
+-- ---- all of them
+
+pub not_identifier : (k : Kind) → (k ≡ kinds.Ident → ⊥) → false ≡ is_identifier k
+not_identifier kinds.Ident other = absurd (other refl)
+not_identifier _ other = refl
+
+-- the numbers of the identifiers from this place on
+abbrev pub numbers_from : ℕ → List Token → List ℕ
+numbers_from i ts = filter_map number_of (enumerate_from i (drop i ts))
+
+module _ (w : World) where
+  -- the identifiers before this place are gone through
+  pub record AreGone (i : ℕ) (rs : List Reference) : Type 0 where
+    pub numbers : map (λ (r : Reference). r.number) rs ++ numbers_from i w.tokens ≡ identifiers w.tokens
+    pub each : All (λ (r : Reference). Refers w r.number r.target r.role) rs
+
+  pub none_gone : (rs : List Reference) → rs ≡ [] → AreGone 0 rs
+  none_gone rs is = rw is (record { numbers = refl; each = All-nil (λ (r : Reference). Refers w r.number r.target r.role) })
+
+  numbers_step : (i : ℕ) (d : Token) → i < length w.tokens → numbers_from i w.tokens ≡ cons_option (number_of (i, get_or w.tokens i d)) (numbers_from (i + 1) w.tokens)
+  numbers_step i d l = ap (λ (ts : List Token). filter_map number_of (enumerate_from i ts)) (drop_more w.tokens i d l)
+
+  told : (i : ℕ) (t : Token) (b : Bool) → b ≡ is_identifier t.kind → number_of (i, t) ≡ cond b (Some i) None
+  told i t b is = ap (λ (v : Bool). cond v (Some i) None) (sym is)
+
+  identifier_gone : (i : ℕ) (d : Token) (b : Bool) (rs : List Reference) (r : Reference) → i < length w.tokens → b ≡ is_identifier (get_or w.tokens i d).kind → b ≡ true →
+      IsReference w i r → AreGone i rs → AreGone (i + 1) (rs ++ r ∷ [])
+  identifier_gone i d b rs r l test is made g =
+      let here : numbers_from i w.tokens ≡ i ∷ numbers_from (i + 1) w.tokens =
+      numbers_step i d l ∙ ap (λ (o : Option ℕ). cons_option o (numbers_from (i + 1) w.tokens)) (told i (get_or w.tokens i d) b test ∙ ap (λ (v : Bool). cond v (Some i) None) is) in
+      record {
+        numbers = numbers_pushed rs r i (numbers_from (i + 1) w.tokens) made.number ∙ ap (λ (ns : List ℕ). map (λ (x : Reference). x.number) rs ++ ns) (sym here) ∙ g.numbers;
+        each = All-push (λ (x : Reference). Refers w x.number x.target x.role) rs r g.each (subst (λ (n : ℕ). Refers w n r.target r.role) (sym made.number) made.refers);
+      }
+    where
+      numbers_pushed : (rs : List Reference) (r : Reference) (n : ℕ) (rest : List ℕ) → r.number ≡ n →
+          map (λ (x : Reference). x.number) (rs ++ r ∷ []) ++ rest ≡ map (λ (x : Reference). x.number) rs ++ n ∷ rest
+      numbers_pushed [] r n rest is = ap (λ (v : ℕ). v ∷ rest) is
+      numbers_pushed (x ∷ xs) r n rest is = ap (λ (ns : List ℕ). x.number ∷ ns) (numbers_pushed xs r n rest is)
+
+  other_gone : (i : ℕ) (d : Token) (b : Bool) (rs : List Reference) → i < length w.tokens → b ≡ is_identifier (get_or w.tokens i d).kind → b ≡ false → AreGone i rs → AreGone (i + 1) rs
+  other_gone i d b rs l test is g =
+      let here : numbers_from i w.tokens ≡ numbers_from (i + 1) w.tokens =
+      numbers_step i d l ∙ ap (λ (o : Option ℕ). cons_option o (numbers_from (i + 1) w.tokens)) (told i (get_or w.tokens i d) b test ∙ ap (λ (v : Bool). cond v (Some i) None) is) in
+      record { numbers = ap (λ (ns : List ℕ). map (λ (x : Reference). x.number) rs ++ ns) (sym here) ∙ g.numbers; each = g.each }
+
+  -- the same, as a loop over the tokens has it
+  pub identifier_step : (ts : List Token) (i n : ℕ) (d : Token) (b : Bool) (rs out : List Reference) (r : Reference) → ts ≡ w.tokens → i < length ts → n ≡ i →
+      b ≡ is_identifier (get_or ts i d).kind → b ≡ true → IsReference w n r → out ≡ rs ++ r ∷ [] → AreGone i rs → AreGone (i + 1) out
+  identifier_step ts i n d b rs out r are l same_place test is made pushed g =
+      let within : i < length w.tokens = subst (λ (us : List Token). i < length us) are l in
+      let tested : b ≡ is_identifier (get_or w.tokens i d).kind = subst (λ (us : List Token). b ≡ is_identifier (get_or us i d).kind) are test in
+      let here : IsReference w i r = subst (λ (m : ℕ). IsReference w m r) same_place made in
+      rw pushed (identifier_gone i d b rs r within tested is here g)
+
+  pub other_step : (ts : List Token) (i : ℕ) (d : Token) (b : Bool) (rs out : List Reference) → ts ≡ w.tokens → i < length ts →
+      b ≡ is_identifier (get_or ts i d).kind → b ≡ false → out ≡ rs → AreGone i rs → AreGone (i + 1) out
+  other_step ts i d b rs out are l test is left g =
+      let within : i < length w.tokens = subst (λ (us : List Token). i < length us) are l in
+      let tested : b ≡ is_identifier (get_or w.tokens i d).kind = subst (λ (us : List Token). b ≡ is_identifier (get_or us i d).kind) are test in
+      rw left (other_gone i d b rs within tested is g)
+
+  pub all_gone : (i : ℕ) (rs : List Reference) → length w.tokens ≤ i → AreGone i rs → AreReferences w rs
+  all_gone i rs l g =
+      let rest : numbers_from i w.tokens ≡ [] = ap (λ (ts : List Token). filter_map number_of (enumerate_from i ts)) (drop_past w.tokens i l) in
+      record {
+        numbers = sym (append-nil (map (λ (x : Reference). x.number) rs)) ∙ ap (λ (ns : List ℕ). map (λ (x : Reference). x.number) rs ++ ns) (sym rest) ∙ g.numbers;
+        each = g.each;
+      }

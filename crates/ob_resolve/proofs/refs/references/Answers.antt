@@ -1,0 +1,26 @@
+use Rattle.std.proofs.Common.{sym, ap, ◌∙◌, subst, List, Vec, Global}
+use Rattle.ob_decls.specs.Order.{AscendBy}
+use Rattle.ob_scan.specs.declared.token.Token.{Token}
+use Rattle.ob_targets.specs.declared.target.Reference.{Reference}
+use Rattle.ob_resolve.proofs.Referring.{identifier_step, other_step}
+use Rattle.ob_resolve.proofs.Within.{tokens_ascend}
+use Rattle.ob_resolve.proofs.refs.references.Goals as goal
+use Rattle.ob_resolve.proofs.refs.references.Goals.{then-is_identifier+in_ok-push, else-is_identifier}
+
+pub token_number-requires-clause-ascend : goal.token_number-requires-clause-ascend
+token_number-requires-clause-ascend c =
+    subst (λ (ts : List Token). AscendBy (λ (t : Token). t.start) ts) (sym c.tokens-tokens.ensures) (tokens_ascend c.args.types.now.bytes c.args.types.now.tokens c.keeps.ensures)
+
+pub loop-place-preserved : goal.loop-place-preserved
+loop-place-preserved c =
+    let w = c.args.types.now in
+    let ts = c.tokens-tokens.result.now in
+    let i = c.loop-place.place in
+    let rs = c.loop-place.rows.items in
+    elim c.if-is_identifier.branch [
+      | then-is_identifier+in_ok-push t ↦ identifier_step w ts i t.token_number.result _ c.is_identifier.result rs c.if-is_identifier.rows.items t.referred.result c.tokens-tokens.ensures
+          c.loop-place-test.true t.token_number.ensures c.is_identifier.ensures t.if-is_identifier.true t.referred.ensures (ap (λ (v : Vec Reference Global). v.items) t.rows-is ∙ t.in_ok-push.ensures.items)
+          c.loop-place.invariant
+      | else-is_identifier t ↦ other_step w ts i _ c.is_identifier.result rs c.if-is_identifier.rows.items c.tokens-tokens.ensures c.loop-place-test.true c.is_identifier.ensures
+          t.if-is_identifier.false (ap (λ (v : Vec Reference Global). v.items) t.rows-is) c.loop-place.invariant
+    ]

@@ -1,0 +1,20 @@
+-- What is found of a module before its identifiers are gone through, and of each of them.
+use Rattle.std.specs.Prelude.{◌≡◌, ◌<◌, ℕ, Some, length, slice_get}
+use Rattle.ob_types.specs.World.{World}
+use Rattle.ob_targets.specs.Refers.{Refers}
+use Rattle.ob_targets.specs.Standing.{standing}
+use Rattle.ob_targets.specs.Targets.{is_written}
+use Rattle.ob_targets.specs.declared.target.Reference.{Reference}
+use Rattle.ob_resolve.specs.declared.found.Found.{Found}
+use Rattle.ob_resolve.specs.Selected.{AreNamed}
+
+-- where each token stands, whether it is written, and what the name of each selector stands for
+pub record IsFound (w : World) (f : Found) : Type 0 where
+  pub standings : (k : ℕ) → k < length w.tokens → slice_get f.standings.items k ≡ Some (standing w.rows k)
+  pub written : (k : ℕ) → k < length w.tokens → slice_get f.written.items k ≡ Some (is_written w.rows k)
+  pub selected : AreNamed w (length w.rows.selectors) f.selected.items
+
+-- what the identifier of this token stands for, and its role
+pub record IsReference (w : World) (k : ℕ) (r : Reference) : Type 0 where
+  pub number : r.number ≡ k
+  pub refers : Refers w k r.target r.role

@@ -1,0 +1,13 @@
+-- Marks on tokens.
+use Rattle.std.specs.Prelude.{◌≡◌, ℕ, List, Bool, true, Option, Some, None, slice_get, slice_set}
+use Rattle.ob_targets.specs.declared.standing.Standing.{Standing}
+use Rattle.ob_targets.specs.Standing.{first}
+
+-- each token that stands in one of these rows is marked with the first one's place, and all else is as it was
+abbrev pub IsMarked : {X : Type 0} → (ℕ → X → Bool) → (ℕ → Standing) → List X → List Standing → List Standing → Type 0
+IsMarked has at rows old new = (k : ℕ) (s : Standing) → slice_get old k ≡ Some s → slice_get new k ≡ Some (first (has k) at rows s)
+
+-- this token, if there is one, is marked
+abbrev pub marked : Option ℕ → List Bool → List Bool
+marked None marks = marks
+marked (Some n) marks = slice_set marks n true

@@ -1,0 +1,36 @@
+//! What is found of a module before its identifiers are gone through.
+ghost use Rattle.std.specs.Prelude.{IfOk};
+ghost use Rattle.ob_resolve.specs.Found.{IsFound};
+
+use crate::selectors::selected_targets;
+use crate::standings::standings;
+use crate::written::written_names;
+use ob_targets::{Standing, Target};
+use ob_types::Types;
+use std::alloc::{AllocError, Global};
+
+/// What is found of a module before its identifiers are gone through.
+#[derive(Drop)]
+pub(crate) struct Found {
+    /// Where each token stands as an identifier.
+    pub(crate) standings: Vec<Standing>,
+    /// Whether each token is a name that is written.
+    pub(crate) written: Vec<bool>,
+    /// What the name of each selector stands for.
+    pub(crate) selected: Vec<Target>,
+}
+
+/// Finds it.
+pub(crate) fn find_all(alloc: Global, types: &Types<'_>) -> Result<Found, AllocError>
+    ensures { IfOk result (IsFound types.now) }
+{
+    let count = types.tokens().len();
+    let standings = standings(alloc, types.table(), count)?;
+    let written = written_names(alloc, types.table(), count)?;
+    let selected = selected_targets(alloc, types)?;
+    Ok(Found {
+        standings,
+        written,
+        selected,
+    })
+}

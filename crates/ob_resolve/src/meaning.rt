@@ -1,0 +1,200 @@
+//! What names stand for, what is known of that, and their roles.
+ghost use Rattle.std.specs.Prelude.{◌≡◌};
+ghost use Rattle.ob_targets.specs.Targets.{declared_target, used_target, exported_target, second_target, end_target, field_target, known_of, typed, holds_value, use_role, value_role};
+ghost use Rattle.ob_targets.specs.Steps.{guard_of};
+
+use ob_decls::{Sort, TypeName};
+use ob_targets::{Known, Target, is_predeclared};
+use ob_types::{Field, Node, Types};
+use type_search::Shape;
+
+/// What a declaration is to the uses that mean it.
+fn declared_target(types: &Types<'_>, declared: u32) -> Target
+    ensures { result ≡ declared_target types.now declared }
+{
+    match types.item(declared) {
+        None => Target::Declared(declared),
+        Some(item) => Target::Module(item),
+    }
+}
+
+/// What a use stands for.
+pub(crate) fn used_target(types: &Types<'_>, used: u32) -> Target
+    ensures { result ≡ used_target types.now used }
+{
+    match types.meaning(used) {
+        Some(declared) => declared_target(types, declared),
+        None => {
+            if is_predeclared(types.text(used)) {
+                Target::Predeclared
+            } else {
+                Target::Unresolved
+            }
+        }
+    }
+}
+
+/// What a name behind the dot stands for that a module's alias stands before.
+pub(crate) fn exported_target(types: &Types<'_>, item: u32, name: u32) -> Target
+    ensures { result ≡ exported_target types.now item name }
+{
+    match types.home(item) {
+        None => Target::External { item, name },
+        Some(reached) => match types.exported(reached, types.text(name)) {
+            None => Target::Unresolved,
+            Some(declaration) => Target::Imported {
+                reached,
+                declaration,
+            },
+        },
+    }
+}
+
+/// What the second identifier of a qualident stands for, by what the first does.
+pub(crate) fn second_target(types: &Types<'_>, name: u32, first: Target) -> Target
+    ensures { result ≡ second_target types.now name first }
+{
+    match first {
+        Target::Module(item) => exported_target(types, item, name),
+        Target::Declared(_) => Target::Unresolved,
+        Target::Imported { .. } => Target::Unresolved,
+        Target::External { .. } => Target::Unresolved,
+        Target::Own => Target::Unresolved,
+        Target::Predeclared => Target::Unresolved,
+        Target::Unresolved => Target::Unresolved,
+    }
+}
+
+/// What the name behind END stands for.
+pub(crate) fn end_target(of: Option<u32>) -> Target
+    ensures { result ≡ end_target of }
+{
+    match of {
+        None => Target::Own,
+        Some(procedure) => Target::Declared(procedure),
+    }
+}
+
+/// What a field's name stands for.
+pub(crate) fn field_target(field: Field) -> Target
+    ensures { result ≡ field_target field }
+{
+    match field {
+        Field::Own(number) => Target::Declared(number),
+        Field::Other {
+            reached,
+            declaration,
+        } => Target::Imported {
+            reached,
+            declaration,
+        },
+    }
+}
+
+/// Whether what is declared as this holds a value.
+fn holds_value(sort: Sort) -> bool
+    ensures { result ≡ holds_value sort }
+{
+    match sort {
+        Sort::Variable | Sort::Parameter | Sort::Field => true,
+        Sort::Import | Sort::Constant | Sort::Type | Sort::Procedure => false,
+    }
+}
+
+/// What is known of what is declared as this, with this type.
+fn typed(sort: Option<Sort>, node: Option<Node>) -> Known
+    ensures { result ≡ typed sort node }
+{
+    match sort {
+        None => Known::Nothing,
+        Some(sort) => match node {
+            None => Known::Nothing,
+            Some(node) => {
+                if holds_value(sort) {
+                    Known::Typed(node)
+                } else {
+                    Known::Nothing
+                }
+            }
+        },
+    }
+}
+
+/// What is known of a target.
+pub(crate) fn known_of(types: &Types<'_>, target: Target) -> Known
+    ensures { result ≡ known_of types.now target }
+{
+    match target {
+        Target::Declared(declared) => typed(types.sort(declared), types.form(declared)),
+        Target::Imported {
+            reached,
+            declaration,
+        } => typed(
+            types.sort_there(reached, declaration),
+            Some(Node::Other {
+                reached,
+                declaration,
+                part: 0,
+            }),
+        ),
+        Target::Module(item) => Known::Module(item),
+        Target::External { .. } => Known::Nothing,
+        Target::Own => Known::Nothing,
+        Target::Predeclared => Known::Nothing,
+        Target::Unresolved => Known::Nothing,
+    }
+}
+
+/// The type whose name stands alone between parentheses, if it is one.
+pub(crate) fn guard_of(types: &Types<'_>, guard: Option<TypeName>) -> Known
+    ensures { result ≡ guard_of types.now guard }
+{
+    match guard {
+        None => Known::Nothing,
+        Some(name) => match types.named(name.head, name.member) {
+            Shape::Named(_, _) => Known::Typed(Node::Name {
+                head: name.head,
+                member: name.member,
+            }),
+            Shape::Array(_) => Known::Nothing,
+            Shape::Pointer(_) => Known::Nothing,
+            Shape::Record(_) => Known::Nothing,
+            Shape::Procedure => Known::Nothing,
+            Shape::Unknown => Known::Nothing,
+        },
+    }
+}
+
+/// The role of a use of what is declared as this.
+fn value_role(sort: Option<Sort>, written: bool) -> u8
+    ensures { result ≡ value_role sort written }
+{
+    match sort {
+        None => 0,
+        Some(sort) => {
+            if holds_value(sort) {
+                if written { 4 } else { 8 }
+            } else {
+                0
+            }
+        }
+    }
+}
+
+/// The role of a use of a target.
+pub(crate) fn use_role(types: &Types<'_>, target: Target, written: bool) -> u8
+    ensures { result ≡ use_role types.now target written }
+{
+    match target {
+        Target::Declared(declared) => value_role(types.sort(declared), written),
+        Target::Imported {
+            reached,
+            declaration,
+        } => value_role(types.sort_there(reached, declaration), written),
+        Target::Module(_) => 0,
+        Target::External { .. } => 0,
+        Target::Own => 0,
+        Target::Predeclared => 0,
+        Target::Unresolved => 0,
+    }
+}

@@ -1,0 +1,95 @@
+//! What the names behind the dots of designators stand for.
+ghost use Rattle.std.specs.Prelude.{◌≡◌, ◌<◌, IfOk, Some, slice_get, length};
+ghost use Rattle.ob_decls.specs.declared.rows.Step.TheVariants as steps;
+ghost use Rattle.ob_targets.specs.Steps.{begins, Knows};
+ghost use Rattle.ob_resolve.specs.Selected.{AreNamed, IsBehind, IsLed};
+
+use crate::meaning::{guard_of, known_of, used_target};
+use crate::steps::{elements_of, selected, target_of};
+use ob_decls::{Selector, Step};
+use ob_targets::{Known, Target};
+use ob_types::Types;
+use std::alloc::{AllocError, Global};
+
+/// What a selector leads to: what its name stands for, if it is a dot and a name, and what is known behind it.
+#[derive(Clone, Copy, Drop)]
+pub(crate) struct Led {
+    pub(crate) target: Target,
+    pub(crate) known: Known,
+}
+
+/// Whether the selector at this place is the first one of its designator.
+fn begins(selectors: &[Selector], place: usize, selector: Selector) -> bool
+    ensures { result ≡ begins selectors.now place selector }
+{
+    match place.checked_sub(1) {
+        None => true,
+        Some(earlier) => match selectors.get(earlier) {
+            None => true,
+            Some(before) => before.of != selector.of,
+        },
+    }
+}
+
+/// What a dot and a name lead to.
+fn led_by_name(
+    alloc: Global,
+    types: &Types<'_>,
+    before: Known,
+    name: u32,
+) -> Result<Led, AllocError>
+    ensures { IfOk result (IsLed types.now before (steps.Field name)) }
+{
+    let target = selected(alloc, types, before, name)?;
+    Ok(Led {
+        target,
+        known: known_of(types, target),
+    })
+}
+
+/// What a selector leads to.
+fn taken(alloc: Global, types: &Types<'_>, before: Known, step: Step) -> Result<Led, AllocError>
+    ensures { IfOk result (IsLed types.now before step) }
+{
+    let known = match step {
+        Step::Field(name) => return led_by_name(alloc, types, before, name),
+        Step::Elements(count) => elements_of(alloc, types, before, count)?,
+        Step::Target => target_of(alloc, types, before)?,
+        Step::Arguments(guard) => guard_of(types, guard),
+    };
+    Ok(Led {
+        target: Target::Unresolved,
+        known,
+    })
+}
+
+/// What is known before the selector at this place, by what is known behind the one before it.
+fn known_before(types: &Types<'_>, selectors: &[Selector], place: usize, behind: Known) -> Known
+    requires same { selectors.now ≡ types.now.rows.selectors }
+    requires within { place < length selectors.now }
+    requires behind { IsBehind types.now place behind }
+    ensures { Knows types.now place result }
+{
+    let selector = selectors[place];
+    if begins(selectors, place, selector) {
+        known_of(types, used_target(types, selector.of))
+    } else {
+        behind
+    }
+}
+
+/// What the names behind the dots of all designators stand for, by the places of their selectors.
+pub(crate) fn selected_targets(alloc: Global, types: &Types<'_>) -> Result<Vec<Target>, AllocError>
+    ensures { IfOk result (λ v. AreNamed types.now (length types.now.rows.selectors) v.items) }
+{
+    let selectors = types.table().selectors();
+    let mut targets = Vec::new(alloc);
+    let mut behind = Known::Nothing;
+    for place in 0..selectors.len() {
+        let before = known_before(types, selectors, place, behind);
+        let led = taken(alloc, types, before, selectors[place].step)?;
+        targets.push(led.target)?;
+        behind = led.known;
+    }
+    Ok(targets)
+}

@@ -1,0 +1,140 @@
+//! What one identifier stands for, by where it stands.
+ghost use Rattle.std.specs.Prelude.{◌≡◌, ◌<◌, ℕ, length};
+ghost use Rattle.ob_decls.specs.Order.{AscendBy};
+ghost use Rattle.ob_decls.specs.declared.rows.Import.{Import as ImportRow};
+ghost use Rattle.ob_targets.specs.Standing.{standing};
+ghost use Rattle.ob_targets.specs.Targets.{is_written};
+ghost use Rattle.ob_targets.specs.declared.standing.Standing.TheVariants as standings;
+ghost use Rattle.ob_targets.specs.declared.target.Target.TheVariants as targets;
+ghost use Rattle.ob_resolve.specs.Found.{IsFound, IsReference};
+
+use crate::found::Found;
+use crate::meaning::{end_target, second_target, use_role, used_target};
+use ob_decls::Import;
+use ob_targets::{Reference, Standing, Target};
+use ob_types::Types;
+
+/// The place of an import item as a number of 32 bits: no place is beyond its alias's token.
+fn item_number(imports: &[Import], place: usize) -> u32
+    requires within { place < length imports.now }
+    requires ascend { AscendBy (λ (i : ImportRow). i.alias) imports.now }
+    ensures { result ≡ place }
+{
+    let _alias = imports[place].alias;
+    place as u32
+}
+
+/// The module that the import item at this place names.
+fn module_at(types: &Types<'_>, place: usize) -> Target
+    requires { place < length types.now.rows.imports }
+    ensures { result ≡ targets.«Module» place }
+{
+    let table = types.table();
+    table.keeps();
+    Target::Module(item_number(table.imports(), place))
+}
+
+/// The identifier of an import item.
+fn imported(types: &Types<'_>, number: u32, item: usize) -> Reference
+    requires { standing types.now.rows number ≡ standings.Item item }
+    ensures { IsReference types.now number result }
+{
+    Reference {
+        number,
+        target: module_at(types, item),
+        role: 2,
+    }
+}
+
+/// The name behind END.
+fn ending(types: &Types<'_>, number: u32, end: usize) -> Reference
+    requires { standing types.now.rows number ≡ standings.End end }
+    ensures { IsReference types.now number result }
+{
+    let ends = types.table().ends();
+    Reference {
+        number,
+        target: end_target(ends[end].of),
+        role: 0,
+    }
+}
+
+/// An identifier that is looked up.
+fn used(types: &Types<'_>, number: u32, written: bool) -> Reference
+    requires written { written ≡ is_written types.now.rows number }
+    ensures { (at : ℕ) → standing types.now.rows number ≡ standings.Use at → IsReference types.now number result }
+{
+    let target = used_target(types, number);
+    Reference {
+        number,
+        target,
+        role: use_role(types, target, written),
+    }
+}
+
+/// A name behind a dot in a designator, by its selector.
+fn selected(
+    types: &Types<'_>,
+    found: &Found,
+    number: u32,
+    selector: usize,
+    written: bool,
+) -> Reference
+    requires found { IsFound types.now found.now }
+    requires written { written ≡ is_written types.now.rows number }
+    requires stands { standing types.now.rows number ≡ standings.Selected selector }
+    ensures { IsReference types.now number result }
+{
+    let target = found.selected[selector];
+    Reference {
+        number,
+        target,
+        role: use_role(types, target, written),
+    }
+}
+
+/// A name behind a dot in a qualident, by the use before the dot.
+fn second(types: &Types<'_>, number: u32, first: usize) -> Reference
+    requires { standing types.now.rows number ≡ standings.Second first }
+    ensures { IsReference types.now number result }
+{
+    let uses = types.table().uses();
+    let target = second_target(types, number, used_target(types, uses[first].number));
+    Reference {
+        number,
+        target,
+        role: use_role(types, target, false),
+    }
+}
+
+/// What the identifier of this token stands for, and its role.
+pub(crate) fn referred(types: &Types<'_>, found: &Found, number: u32) -> Reference
+    requires found { IsFound types.now found.now }
+    requires within { number < length types.now.tokens }
+    ensures { IsReference types.now number result }
+{
+    let written = found.written[number as usize];
+    let standing = found.standings[number as usize];
+    match standing {
+        Standing::OwnName => Reference {
+            number,
+            target: Target::Own,
+            role: 1,
+        },
+        Standing::Item(item) => imported(types, number, item),
+        Standing::Declaration(_) => Reference {
+            number,
+            target: Target::Declared(number),
+            role: 1,
+        },
+        Standing::End(end) => ending(types, number, end),
+        Standing::Use(_) => used(types, number, written),
+        Standing::Selected(selector) => selected(types, found, number, selector, written),
+        Standing::Second(first) => second(types, number, first),
+        Standing::Nowhere => Reference {
+            number,
+            target: Target::Unresolved,
+            role: 0,
+        },
+    }
+}

@@ -1,0 +1,211 @@
+//! Where each identifier stands, by its token.
+ghost use Rattle.std.specs.Prelude.{◌≡◌, ◌<◌, ℕ, List, Bool, IfOk, Some, length, slice_get, nat_eq};
+ghost use Rattle.ob_decls.specs.Declaring.{rows_in};
+ghost use Rattle.ob_decls.specs.declared.rows.Declared.{Declared as DeclaredRow};
+ghost use Rattle.ob_targets.specs.Standing.{is_token, is_alias, is_imported, is_declared, is_end, is_use, is_selected, is_second, name_of, standing, standing_or};
+ghost use Rattle.ob_targets.specs.declared.standing.Standing.{Standing as StandingSeen};
+ghost use Rattle.ob_targets.specs.declared.standing.Standing.TheVariants as standings;
+ghost use Rattle.ob_resolve.specs.Marked.{IsMarked};
+
+use ob_decls::{Declared, End, Import, Selector, Step, Table, Used};
+use ob_targets::Standing;
+use std::alloc::{AllocError, Global};
+
+/// Rows of one kind, in each of which an identifier stands.
+trait Places {
+    type Row: Copy + Drop;
+
+    ghost has: { ℕ → Self.Row → Bool };
+
+    ghost at: { ℕ → StandingSeen };
+
+    /// The identifier, if the row has one.
+    fn number(row: Self::Row) -> Option<u32>
+        ensures { (k : ℕ) → has k row ≡ is_token k result };
+
+    /// Where it stands, by the row's place.
+    fn standing(place: usize) -> Standing
+        ensures { result ≡ at place };
+}
+
+struct Aliases;
+
+impl Places for Aliases {
+    type Row = Import;
+
+    ghost has = { is_alias };
+
+    ghost at = { standings.Item };
+
+    fn number(row: Import) -> Option<u32> {
+        Some(row.alias)
+    }
+
+    fn standing(place: usize) -> Standing {
+        Standing::Item(place)
+    }
+}
+
+struct ModuleNames;
+
+impl Places for ModuleNames {
+    type Row = Import;
+
+    ghost has = { is_imported };
+
+    ghost at = { standings.Item };
+
+    fn number(row: Import) -> Option<u32> {
+        Some(row.imported)
+    }
+
+    fn standing(place: usize) -> Standing {
+        Standing::Item(place)
+    }
+}
+
+struct Declarations;
+
+impl Places for Declarations {
+    type Row = Declared;
+
+    ghost has = { is_declared };
+
+    ghost at = { standings.Declaration };
+
+    fn number(row: Declared) -> Option<u32> {
+        Some(row.number)
+    }
+
+    fn standing(place: usize) -> Standing {
+        Standing::Declaration(place)
+    }
+}
+
+struct Ends;
+
+impl Places for Ends {
+    type Row = End;
+
+    ghost has = { is_end };
+
+    ghost at = { standings.End };
+
+    fn number(row: End) -> Option<u32> {
+        Some(row.number)
+    }
+
+    fn standing(place: usize) -> Standing {
+        Standing::End(place)
+    }
+}
+
+struct Uses;
+
+impl Places for Uses {
+    type Row = Used;
+
+    ghost has = { is_use };
+
+    ghost at = { standings.Use };
+
+    fn number(row: Used) -> Option<u32> {
+        Some(row.number)
+    }
+
+    fn standing(place: usize) -> Standing {
+        Standing::Use(place)
+    }
+}
+
+struct Selections;
+
+impl Places for Selections {
+    type Row = Selector;
+
+    ghost has = { is_selected };
+
+    ghost at = { standings.Selected };
+
+    fn number(row: Selector) -> Option<u32> {
+        name_of(row.step)
+    }
+
+    fn standing(place: usize) -> Standing {
+        Standing::Selected(place)
+    }
+}
+
+struct SecondNames;
+
+impl Places for SecondNames {
+    type Row = Used;
+
+    ghost has = { is_second };
+
+    ghost at = { standings.Second };
+
+    fn number(row: Used) -> Option<u32> {
+        row.member
+    }
+
+    fn standing(place: usize) -> Standing {
+        Standing::Second(place)
+    }
+}
+
+/// The name that a selector selects, if it is a dot and a name.
+pub(crate) fn name_of(step: Step) -> Option<u32>
+    ensures { result ≡ name_of step }
+{
+    match step {
+        Step::Field(name) => Some(name),
+        Step::Elements(_) => None,
+        Step::Target => None,
+        Step::Arguments(_) => None,
+    }
+}
+
+/// Marks each identifier that stands in one of these rows with the first one's place.
+fn mark<P: Places>(marks: &mut [Standing], rows: &[P::Row])
+    ensures { IsMarked P.has P.at rows.now marks.old marks.new }
+{
+    let mut place = rows.len();
+    'rows: while place > 0 {
+        place -= 1;
+        if let Some(number) = P::number(rows[place]) {
+            if (number as usize) < marks.len() {
+                marks[number as usize] = P::standing(place);
+            }
+        }
+    }
+}
+
+/// Marks where identifiers stand: each kind of rows goes before those that were marked earlier.
+fn mark_all(marks: &mut [Standing], table: &Table)
+    ensures { (k : ℕ) (s : StandingSeen) → slice_get marks.old k ≡ Some s → slice_get marks.new k ≡ Some (standing_or (rows_in table.now) k s) }
+{
+    mark::<SecondNames>(marks, table.uses());
+    mark::<Selections>(marks, table.selectors());
+    mark::<Uses>(marks, table.uses());
+    mark::<Ends>(marks, table.ends());
+    mark::<Declarations>(marks, table.declared());
+    mark::<ModuleNames>(marks, table.imports());
+    mark::<Aliases>(marks, table.imports());
+    if marks.len() > 1 {
+        marks[1] = Standing::OwnName;
+    }
+}
+
+/// Where each token stands as an identifier, for so many tokens.
+pub(crate) fn standings(
+    alloc: Global,
+    table: &Table,
+    count: usize,
+) -> Result<Vec<Standing>, AllocError>
+    ensures { IfOk result (λ v. (k : ℕ) → k < count → slice_get v.items k ≡ Some (standing (rows_in table.now) k)) }
+{
+    let mut marks = vec![in alloc; Standing::Nowhere; count]?;
+    mark_all(marks.as_mut_slice(), table);
+    Ok(marks)
+}

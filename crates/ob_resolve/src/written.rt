@@ -1,0 +1,70 @@
+//! The names that are written.
+ghost use Rattle.std.specs.Prelude.{◌≡◌, ◌<◌, ℕ, IfOk, Some, false, length, replicate, slice_get};
+ghost use Rattle.ob_decls.specs.Declaring.{rows_in};
+ghost use Rattle.ob_resolve.specs.Marked.{marked};
+ghost use Rattle.ob_targets.specs.Standing.{is_token};
+ghost use Rattle.ob_targets.specs.Targets.{is_written, last_name, writes};
+
+use crate::standings::name_of;
+use ob_decls::{Designator, Selector, Table};
+use std::alloc::{AllocError, Global};
+
+/// The last name of a designator with this head and these selectors.
+fn last_name(head: u32, selectors: &[Selector]) -> u32
+    ensures { result ≡ last_name head selectors.now }
+{
+    let mut last = head;
+    for selector in selectors {
+        if let Some(name) = name_of(selector.step) {
+            last = name;
+        }
+    }
+    last
+}
+
+/// The name that a designator writes, if it is written.
+fn written_by(table: &Table, designator: Designator) -> Option<u32>
+    ensures { (k : ℕ) → writes (rows_in table.now) k designator ≡ is_token k result }
+{
+    if designator.is_written {
+        Some(last_name(designator.head, table.selectors_of(designator.head)))
+    } else {
+        None
+    }
+}
+
+/// Marks a name, if there is one among these tokens.
+fn mark_name(written: &mut [bool], name: Option<u32>)
+    ensures { written.new ≡ marked name written.old }
+{
+    if let Some(name) = name {
+        if (name as usize) < written.len() {
+            written[name as usize] = true;
+        }
+    }
+}
+
+/// Marks the names that are written.
+fn mark_written(written: &mut [bool], table: &Table)
+    requires { written.old ≡ replicate (length written.old) false }
+    ensures { (k : ℕ) → k < length written.old → slice_get written.new k ≡ Some (is_written (rows_in table.now) k) }
+{
+    let designators = table.designators();
+    for designator in designators {
+        let name = written_by(table, *designator);
+        mark_name(written, name);
+    }
+}
+
+/// Whether each of the first tokens, so many, is a name that is written.
+pub(crate) fn written_names(
+    alloc: Global,
+    table: &Table,
+    count: usize,
+) -> Result<Vec<bool>, AllocError>
+    ensures { IfOk result (λ v. (k : ℕ) → k < count → slice_get v.items k ≡ Some (is_written (rows_in table.now) k)) }
+{
+    let mut written = vec![in alloc; false; count]?;
+    mark_written(written.as_mut_slice(), table);
+    Ok(written)
+}
