@@ -21,4 +21,4 @@ pub use fault::SymbolFault;
 pub use kind::DescriptorKind;
 pub use reader::read;
 pub use symbol::Symbol;
-pub use writer::write;
+pub use writer::{push_step, write, write_parts};

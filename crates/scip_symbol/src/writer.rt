@@ -1,5 +1,5 @@
 //! Writing a symbol.
-ghost use Rattle.std.specs.Prelude.{◌≡◌, ◌<◌, ◌++◌, IfOk, IfSome, List, OnOk, Result, ℕ};
+ghost use Rattle.std.specs.Prelude.{◌≡◌, ◌<◌, ◌++◌, [], IfOk, IfSome, List, OnOk, Result, ℕ};
 ghost use Rattle.std.specs.List.{flat_map};
 ghost use Rattle.std.specs.String.{string_bytes};
 ghost use Rattle.scip_symbol.specs.declared.fault.SymbolFault.{SymbolFault};
@@ -117,15 +117,45 @@ fn push_optional_part(out: &mut String, part: &str) -> Result<(), AllocError>
     }
 }
 
+/// The four parts as a text has them, whatever they are: what stands before the descriptors of a symbol (scip.proto, the grammar
+/// of `Symbol`). AllocError is answered where a growth of memory is refused.
+pub fn write_parts(
+    alloc: Global,
+    scheme: &str,
+    manager: &str,
+    package_name: &str,
+    version: &str,
+) -> Result<String, AllocError>
+    ensures { IfOk result (λ text. string_bytes text ≡ parts_text scheme.now manager.now package_name.now version.now) }
+{
+    let mut out = String::new(alloc);
+    push_part(&mut out, scheme)?;
+    push_optional_part(&mut out, manager)?;
+    push_optional_part(&mut out, package_name)?;
+    push_optional_part(&mut out, version)?;
+    Ok(out)
+}
+
+/// Puts a descriptor without a disambiguator, as `write` has it (scip.proto, the grammar of `Symbol`), so that the text of a symbol
+/// becomes that of one whose path is a step longer. AllocError is answered where a growth of memory is refused.
+pub fn push_step(out: &mut String, kind: DescriptorKind, name: &str) -> Result<(), AllocError>
+    ensures { OnOk result (string_bytes out.new ≡ string_bytes out.old ++ plain_descriptor_text (record { kind = kind; name = name.now; disambiguator = [] })) }
+{
+    out.push_str(opening_of(kind))?;
+    push_name(out, name)?;
+    push_closing(out, kind, "")
+}
+
 /// The text of a symbol, whatever it is.
 fn text_of(alloc: Global, symbol: &Symbol) -> Result<String, AllocError>
     ensures { IfOk result (λ text. string_bytes text ≡ plain_text (plain_symbol symbol.now)) }
 {
-    let mut out = String::new(alloc);
     match symbol {
         Symbol::Local(id) => {
+            let mut out = String::new(alloc);
             out.push_str("local ")?;
             out.push_str(id.as_str())?;
+            Ok(out)
         }
         Symbol::Global {
             scheme,
@@ -134,14 +164,17 @@ fn text_of(alloc: Global, symbol: &Symbol) -> Result<String, AllocError>
             version,
             descriptors,
         } => {
-            push_part(&mut out, scheme.as_str())?;
-            push_optional_part(&mut out, manager.as_str())?;
-            push_optional_part(&mut out, package.as_str())?;
-            push_optional_part(&mut out, version.as_str())?;
+            let mut out = write_parts(
+                alloc,
+                scheme.as_str(),
+                manager.as_str(),
+                package.as_str(),
+                version.as_str(),
+            )?;
             push_descriptors(&mut out, descriptors.as_slice())?;
+            Ok(out)
         }
     }
-    Ok(out)
 }
 
 /// The text of a symbol, or its first refusal.
