@@ -1,0 +1,13 @@
+pub mod Declarers
+pub mod ExternalOrder
+pub mod ExternalTexts
+pub mod NamesGiven
+pub mod Naming
+pub mod Numbered
+pub mod OneMember
+pub mod OnePath
+pub mod OneSymbol
+pub mod Paths
+pub mod Positions
+pub mod Rows
+pub mod Texting

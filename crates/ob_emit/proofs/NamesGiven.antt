@@ -1,0 +1,205 @@
+-- What has names, by scopes and by what a text spells.
+use Rattle.std.proofs.Common.{◌≡◌, ℕ, zero, suc, ◌+◌, ◌-◌, List, [], ◌∷◌, map, take, drop, Option, Some, None, Bool, true, false, refl, sym, ap, ◌∙◌, subst, inl, inr, arith}
+use Rattle.std.specs.Prelude.{Contains, slice_get, ◌==◌, find}
+use Rattle.std.specs.List.{cons_option, enumerate_from, filter_map}
+use Rattle.std.proofs.lemmas.Bool.{and_parts, cases_Bool}
+use Rattle.std.proofs.lemmas.List.Elements.{All-contains}
+use Rattle.std.proofs.lemmas.Option.{get_or_from_slice_get}
+use Rattle.ob_scan.specs.declared.kind.Kind.{Kind}
+use Rattle.ob_scan.specs.declared.kind.Kind.TheVariants as kinds
+use Rattle.ob_scan.specs.declared.token.Token.{Token}
+use Rattle.ob_scan.specs.Spelling.{Spells}
+use Rattle.ob_scan.specs.Tokens.{is_name}
+use Rattle.ob_scan.proofs.NameTokens.{spelled_names}
+use Rattle.ob_decls.specs.declared.rows.Declared.{Declared}
+use Rattle.ob_decls.specs.declared.rows.Declarer.{Declarer}
+use Rattle.ob_decls.specs.Parts.{Rows}
+use Rattle.ob_interface.specs.Interfaces.{declaration, declaration_by, declaration_of, interface_of, is_outer, is_seen, outer_by, Declaration}
+use Rattle.ob_scope.specs.Identified.{AreNames}
+use Rattle.ob_scope.specs.Members.{declarer_at, member_by, members_of}
+use Rattle.ob_scope.specs.Texts.{no_token, text_at, token_at}
+use Rattle.ob_scope.proofs.Elements.{contains_of, contains_slice, slice_contains, some_one}
+use Rattle.ob_targets.specs.declared.target.Reference.{Reference}
+use Rattle.ob_targets.specs.declared.target.Target.{Target}
+use Rattle.ob_targets.specs.declared.target.Target.TheVariants as targets
+use Rattle.ob_targets.specs.Refers.{identifiers, is_identifier, number_of, AreReferences, Refers, own_name, item, declaration as declares, end, used, selected, second, nowhere}
+use Rattle.ob_targets.specs.declared.known.Known.{Known}
+use Rattle.ob_targets.specs.Predeclared.{is_predeclared}
+use Rattle.ob_types.specs.declared.nodes.Field.{Field}
+use Rattle.ob_types.specs.declared.nodes.Field.TheVariants as fields
+use Rattle.ob_targets.specs.Steps.{Selects, exported, field, no_field, unknown}
+use Rattle.ob_targets.specs.Targets.{declared_target, end_target, exported_target, field_target, second_target, used_target}
+use Rattle.ob_types.specs.World.{World, exported as exported_place, home_of, item_of, meaning, text}
+use Rattle.ob_emit.specs.Named.{AreOfNames, IsName, IsNamed}
+use Rattle.ob_emit.proofs.Naming.{found_there, same_declarer, told_there}
+
+-- ---- what rows stand for
+
+-- the row that stands for this
+pub record RowOf {X Y : Type 0} (f : X → Option Y) (xs : List X) (y : Y) : Type 0 where
+  pub place : ℕ
+  pub row : X
+  pub at : slice_get xs place ≡ Some row
+  pub tells : f row ≡ Some y
+
+row_later : {X Y : Type 0} (f : X → Option Y) (x : X) (xs : List X) (y : Y) → RowOf f xs y → RowOf f (x ∷ xs) y
+row_later f x xs y r = record { place = suc r.place; row = r.row; at = r.at; tells = r.tells }
+
+row_step : {X Y : Type 0} (f : X → Option Y) (x : X) (xs : List X) (y : Y) (k : ℕ) (o : Option Y) → f x ≡ o → ((j : ℕ) → slice_get (filter_map f xs) j ≡ Some y → RowOf f xs y)
+    → slice_get (cons_option o (filter_map f xs)) k ≡ Some y → RowOf f (x ∷ xs) y
+row_step f x xs y k None e rest h = row_later f x xs y (rest k h)
+row_step f x xs y zero (Some z) e rest h = record { place = 0; row = x; at = refl; tells = e ∙ h }
+row_step f x xs y (suc k) (Some z) e rest h = row_later f x xs y (rest k h)
+
+pub row_of : {X Y : Type 0} (f : X → Option Y) (xs : List X) (y : Y) (k : ℕ) → slice_get (filter_map f xs) k ≡ Some y → RowOf f xs y
+row_of f [] y k h = absurd (let none : None ≡ Some y = h in cc)
+row_of f (x ∷ xs) y k h = row_step f x xs y k (f x) refl (λ j g. row_of f xs y j g) h
+
+-- ---- what others see of a module
+
+find_there : {X : Type 0} (test : X → Bool) (xs : List X) (i : ℕ) (x : X) → slice_get xs i ≡ Some x → test x ≡ true → (y : X) × (find test xs ≡ Some y)
+find_there test [] i x e t = absurd (let none : None ≡ Some x = e in cc)
+find_there test (z ∷ zs) zero x e t = let a : test z ≡ true = ap test (some_one z x e) ∙ t in (z, rw a refl)
+find_there test (z ∷ zs) (suc i) x e t = elim (cases_Bool (test z)) [
+  | inl a ↦ (z, rw a refl)
+  | inr b ↦ (let r = find_there test zs i x e t in (r.0, rw b r.1))
+]
+
+module _ (bytes : List ℕ) (ts : List Token) (rows : Rows) (names : AreNames (text_at bytes ts) rows) where
+  -- an identifier whose construct stands in the module's block has a name
+  outer_name : (r : Declared) (i : ℕ) (by : Declarer) → slice_get rows.declared i ≡ Some r → outer_by rows.declarers r.declared_by ≡ Some by → IsName (text_at bytes ts r.number)
+  outer_name r i by at e =
+      let f = found_there (is_outer r.declared_by) rows.declarers by e in
+      let parts = and_parts (by.block == 0) (by.first == r.declared_by) f.2 in
+      let g = find_there (λ (x : Declarer). x.first == r.declared_by) rows.declarers f.0 by f.1 parts.1 in
+      let h : declarer_at rows.declarers r.declared_by ≡ Some g.0 = same_declarer rows.declarers r.declared_by ∙ g.1 in
+      let told : member_by r (declarer_at rows.declarers r.declared_by) ≡ member_by r (Some g.0) = ap (member_by r) h in
+      let m = told_there (λ (x : Declared). member_by x (declarer_at rows.declarers x.declared_by)) rows.declared i r _ at told in
+      names.members _ (contains_slice (members_of rows) m.0 _ m.1)
+
+  seen_by : (r : Declared) (i : ℕ) (d : Declaration) (o : Option Declarer) → slice_get rows.declared i ≡ Some r → outer_by rows.declarers r.declared_by ≡ o → declaration_by bytes ts rows.parts r o ≡ Some d → IsName d.name
+  seen_by r i d None at e f = absurd (let none : None ≡ Some d = f in cc)
+  seen_by r i d (Some by) at e f = elim (cases_Bool (is_seen by.sort)) [
+    | inl a ↦ (
+        let same : declaration bytes ts rows.parts r by ≡ d = some_one (declaration bytes ts rows.parts r by) d (rw a at f) in
+        subst IsName (ap (λ (x : Declaration). x.name) same) (outer_name r i by at e))
+    | inr b ↦ absurd (let none : None ≡ Some d = rw b at f in cc)
+  ]
+
+  pub seen_named : IsNamed (interface_of bytes ts rows)
+  seen_named = record {
+    own = names.own;
+    declarations = λ d h.
+        let at = slice_contains (interface_of bytes ts rows).declarations d h in
+        let r = row_of (declaration_of bytes ts rows) rows.declared d at.0 at.1 in
+        seen_by r.row r.place d (outer_by rows.declarers r.row.declared_by) r.at refl r.tells;
+  }
+
+-- ---- references
+
+is_ident : (k : Kind) → is_identifier k ≡ true → k ≡ kinds.Ident
+is_ident kinds.Ident e = refl
+is_ident _ e = absurd (let f : false ≡ true = e in cc)
+
+numbered : (ts : List Token) (b i : ℕ) (p : ℕ × Token) → slice_get (enumerate_from b ts) i ≡ Some p → (p.0 ≡ b + i) × (slice_get ts i ≡ Some p.1)
+numbered [] b i p e = absurd (let none : None ≡ Some p = e in cc)
+numbered (t ∷ ts) b zero p e =
+    let same : (b, t) ≡ p = some_one (b, t) p e in
+    let first : b ≡ p.0 = ap (λ (q : ℕ × Token). q.0) same in
+    (omega arith, ap (λ (q : ℕ × Token). Some q.1) same)
+numbered (t ∷ ts) b (suc i) p e =
+    let r = numbered ts (b + 1) i p e in
+    let n : p.0 ≡ b + 1 + i = r.0 in
+    (omega arith, r.1)
+
+told_number : (p : ℕ × Token) (k : ℕ) → number_of p ≡ Some k → (p.0 ≡ k) × (p.1.kind ≡ kinds.Ident)
+told_number (n, t) k e = elim (cases_Bool (is_identifier t.kind)) [
+  | inl a ↦ (some_one n k (rw a at e), is_ident t.kind a)
+  | inr b ↦ absurd (let none : None ≡ Some k = rw b at e in cc)
+]
+
+module _ (bytes : List ℕ) (ts : List Token) (spells : Spells bytes ts) where
+  token_name : (k : ℕ) (t : Token) → slice_get ts k ≡ Some t → t.kind ≡ kinds.Ident → IsName (text_at bytes ts k)
+  token_name k t at is =
+      let there : token_at ts k ≡ t = get_or_from_slice_get ts k t no_token at in
+      let n : IsName (take (t.end - t.start) (drop t.start bytes)) = All-contains (λ (u : Token). u.kind ≡ kinds.Ident → is_name (take (u.end - u.start) (drop u.start bytes)) ≡ true) ts t (spelled_names bytes ts spells) (contains_slice ts k t at) is in
+      subst (λ (u : Token). IsName (take (u.end - u.start) (drop u.start bytes))) (sym there) n
+
+  identifier_name : (k : ℕ) → Contains (identifiers ts) k → IsName (text_at bytes ts k)
+  identifier_name k h =
+      let at = slice_contains (identifiers ts) k h in
+      let r = row_of number_of (enumerate_from 0 ts) k at.0 at.1 in
+      let n = numbered ts 0 r.place r.row r.at in
+      let t = told_number r.row k r.tells in
+      let same : r.place ≡ k = (let a : r.row.0 ≡ 0 + r.place = n.0 in let b : r.row.0 ≡ k = t.0 in omega arith) in
+      token_name k r.row.1 (subst (λ (j : ℕ). slice_get ts j ≡ Some r.row.1) same n.1) t.1
+
+-- what stands for a name of an external module is that name
+module _ (w : World) (v n : ℕ) where
+  export_named : (at k : ℕ) (o : Option ℕ) → home_of w at ≡ o → exported_target w at k ≡ targets.External v n → k ≡ n
+  export_named at k None e f = (let g : targets.External at k ≡ targets.External v n = rw (e, exported_target) at f in cc)
+  export_named at k (Some i) e f = by_place (exported_place w i (text w k)) refl (rw (e, exported_target) at f)
+    where
+      by_place : (o : Option ℕ) → exported_place w i (text w k) ≡ o → (elim (exported_place w i (text w k)) [ None ↦ targets.Unresolved | Some d ↦ targets.Imported i d ]) ≡ targets.External v n → k ≡ n
+      by_place None a b = absurd (let c : targets.Unresolved ≡ targets.External v n = rw a at b in cc)
+      by_place (Some d) a b = absurd (let c : targets.Imported i d ≡ targets.External v n = rw a at b in cc)
+
+  declared_not : (d : ℕ) (o : Option ℕ) → item_of w d ≡ o → declared_target w d ≡ targets.External v n → ⊥
+  declared_not d None e f = absurd (let c : targets.Declared d ≡ targets.External v n = rw (e, declared_target) at f in cc)
+  declared_not d (Some at) e f = absurd (let c : targets.«Module» at ≡ targets.External v n = rw (e, declared_target) at f in cc)
+
+  used_not : (k : ℕ) (o : Option ℕ) → meaning w k ≡ o → used_target w k ≡ targets.External v n → ⊥
+  used_not k (Some d) e f = declared_not d (item_of w d) refl (rw (e, used_target) at f)
+  used_not k None e f = elim (cases_Bool (is_predeclared (text w k))) [
+    | inl a ↦ absurd (let c : targets.Predeclared ≡ targets.External v n = rw (e, used_target, a) at f in cc)
+    | inr b ↦ absurd (let c : targets.Unresolved ≡ targets.External v n = rw (e, used_target, b) at f in cc)
+  ]
+
+  second_named : (k : ℕ) (t : Target) → second_target w k t ≡ targets.External v n → k ≡ n
+  second_named k (targets.«Module» at) e = export_named at k (home_of w at) refl e
+  second_named k (targets.Declared d) e = absurd (let c : targets.Unresolved ≡ targets.External v n = e in cc)
+  second_named k (targets.Imported i d) e = absurd (let c : targets.Unresolved ≡ targets.External v n = e in cc)
+  second_named k (targets.External at m) e = absurd (let c : targets.Unresolved ≡ targets.External v n = e in cc)
+  second_named k targets.Own e = absurd (let c : targets.Unresolved ≡ targets.External v n = e in cc)
+  second_named k targets.Predeclared e = absurd (let c : targets.Unresolved ≡ targets.External v n = e in cc)
+  second_named k targets.Unresolved e = absurd (let c : targets.Unresolved ≡ targets.External v n = e in cc)
+
+  end_not : (o : Option ℕ) → end_target o ≡ targets.External v n → ⊥
+  end_not None e = absurd (let c : targets.Own ≡ targets.External v n = e in cc)
+  end_not (Some k) e = absurd (let c : targets.Declared k ≡ targets.External v n = e in cc)
+
+  field_not : (f : Field) → field_target f ≡ targets.External v n → ⊥
+  field_not (fields.Own k) e = absurd (let c : targets.Declared k ≡ targets.External v n = e in cc)
+  field_not (fields.Other i d) e = absurd (let c : targets.Imported i d ≡ targets.External v n = e in cc)
+
+  selected_named : (k : ℕ) {o : Known} {t : Target} → Selects w o k t → t ≡ targets.External v n → k ≡ n
+  selected_named k (exported {at}) e = export_named at k (home_of w at) refl e
+  selected_named k (field {f = f} finds) e = absurd (field_not f e)
+  selected_named k (no_field none) e = absurd (let c : targets.Unresolved ≡ targets.External v n = e in cc)
+  selected_named k unknown e = absurd (let c : targets.Unresolved ≡ targets.External v n = e in cc)
+
+  external_named : (k : ℕ) {t : Target} {role : ℕ} → Refers w k t role → t ≡ targets.External v n → k ≡ n
+  external_named k (own_name s) e = absurd (let c : targets.Own ≡ targets.External v n = e in cc)
+  external_named k (item {at} s) e = absurd (let c : targets.«Module» at ≡ targets.External v n = e in cc)
+  external_named k (declares s) e = absurd (let c : targets.Declared k ≡ targets.External v n = e in cc)
+  external_named k (end {e = x} s there) e = absurd (end_not x.of e)
+  external_named k (used s) e = absurd (used_not k (meaning w k) refl e)
+  external_named k (selected s knows selects) e = selected_named k selects e
+  external_named k (second {u = u} s there) e = second_named k (used_target w u.number) e
+  external_named k (nowhere s) e = absurd (let c : targets.Unresolved ≡ targets.External v n = e in cc)
+
+module _ (w : World) (refs : List Reference) (spells : Spells w.bytes w.tokens) (are : AreReferences w refs) where
+  reference_name : (r : Reference) → Contains refs r → IsName (text w r.number)
+  unfolding text
+  reference_name r h =
+      let at = slice_contains refs r h in
+      let there : Contains (map (λ (x : Reference). x.number) refs) r.number = contains_of (λ (x : Reference). x.number) refs at.0 r at.1 in
+      identifier_name w.bytes w.tokens spells r.number (subst (λ (ns : List ℕ). Contains ns r.number) are.numbers there)
+
+  pub references_named : AreOfNames w refs
+  references_named = record {
+    own = reference_name;
+    external = λ r h i n e.
+        let refers : Refers w r.number r.target r.role = All-contains (λ (x : Reference). Refers w x.number x.target x.role) refs r are.each h in
+        subst (λ (k : ℕ). IsName (text w k)) (external_named w i n r.number refers e) (reference_name r h);
+  }

@@ -1,0 +1,135 @@
+-- What is declared has a name, here and in the modules that are reached.
+use Rattle.std.proofs.Common.{◌≡◌, ℕ, zero, suc, List, [], ◌∷◌, Option, Some, None, Bool, true, refl, sym, ap, ◌∙◌, subst, inl, inr}
+use Rattle.std.specs.Prelude.{slice_get, ◌==◌, find, nat_lt}
+use Rattle.std.specs.Option.{option_and_then, option_map}
+use Rattle.std.specs.List.{cons_option, filter_map}
+use Rattle.std.specs.Str.{IsUtf8}
+use Rattle.std.proofs.lemmas.Bool.{cases_Bool, eqb-true}
+use Rattle.texts.proofs.FieldNames as names
+use Rattle.ob_decls.specs.declared.rows.Declared.{Declared}
+use Rattle.ob_decls.specs.declared.rows.Declarer.{Declarer}
+use Rattle.ob_decls.specs.declared.rows.Import.{Import}
+use Rattle.ob_decls.specs.Declaring.{own_name}
+use Rattle.ob_scope.specs.Texts.{text_at}
+use Rattle.ob_scope.specs.Members.{declarer_at, member_by, members_of}
+use Rattle.ob_scope.proofs.Elements.{contains_slice, some_one}
+use Rattle.ob_scope.proofs.Names.{same_test}
+use Rattle.ob_types.specs.World.{World, declared_at, declarer_from, declarer_of, text}
+use Rattle.ob_types.specs.World.{owner_at}
+use Rattle.ob_interface.specs.Interfaces.{Declaration, ModuleInterface}
+use Rattle.ob_interface.specs.Placed.{declaration_at, owner_place}
+use Rattle.ob_decls.specs.declared.rows.Sort.{Sort}
+use Rattle.scip_symbol.specs.declared.kind.DescriptorKind.{DescriptorKind}
+use Rattle.scip_symbol.specs.declared.kind.DescriptorKind.TheVariants.{Term}
+use Rattle.ob_emit.specs.Made.{AreStepNames}
+use Rattle.ob_emit.specs.Named.{AreNamed, IsName, IsNamed}
+use Rattle.ob_emit.specs.Symbols.{Step, descriptor, in_block, in_record, kind_of, own_step, own_step_by, own_steps, step_by, step_there, steps_there}
+
+-- names are texts
+pub name_is_text : (bytes : List ℕ) → IsName bytes → IsUtf8 bytes
+name_is_text bytes e = names.name_is_text bytes (sym (same_test bytes) ∙ e)
+
+-- what was found stands there, and fits
+pub found_there : {X : Type 0} (test : X → Bool) (xs : List X) (x : X) → find test xs ≡ Some x → (i : ℕ) × (slice_get xs i ≡ Some x) × (test x ≡ true)
+found_there test [] x e = absurd (cc)
+found_there test (y ∷ ys) x e = elim (cases_Bool (test y)) [
+  | inl t ↦ (let same : y ≡ x = some_one y x (rw t at e) in (0, ap Some same, subst (λ z. test z ≡ true) same t))
+  | inr f ↦ (let r = found_there test ys x (rw f at e) in (suc r.0, r.1, r.2))
+]
+
+pub same_declarer : (bys : List Declarer) (k : ℕ) → declarer_at bys k ≡ find (λ (by : Declarer). by.first == k) bys
+same_declarer [] k = refl
+same_declarer (by ∷ rest) k = elim (cases_Bool (by.first == k)) [
+  | inl t ↦ rw t refl
+  | inr f ↦ rw f (same_declarer rest k)
+]
+
+-- what a row stands for, where it stands for something
+at_front : {Y : Type 0} (o : Option Y) (ys : List Y) (j : ℕ) (y : Y) → slice_get ys j ≡ Some y → (k : ℕ) × (slice_get (cons_option o ys) k ≡ Some y)
+at_front None ys j y e = (j, e)
+at_front (Some z) ys j y e = (suc j, e)
+
+pub told_there : {X Y : Type 0} (f : X → Option Y) (xs : List X) (i : ℕ) (x : X) (y : Y) → slice_get xs i ≡ Some x → f x ≡ Some y → (k : ℕ) × (slice_get (filter_map f xs) k ≡ Some y)
+told_there f [] i x y e g = absurd (let none : None ≡ Some x = e in cc)
+told_there f (z ∷ zs) zero x y e g = let h : f z ≡ Some y = ap f (some_one z x e) ∙ g in (0, rw h refl)
+told_there f (z ∷ zs) (suc i) x y e g = let r = told_there f zs i x y e g in at_front (f z) (filter_map f zs) r.0 y r.1
+
+-- the row of an identifier, by the number that was looked up
+row_there : (w : World) (k : ℕ) (d : Declared) → declared_at w k ≡ Some d → (i : ℕ) × (slice_get w.rows.declared i ≡ Some d) × (d.number ≡ k)
+unfolding declared_at
+row_there w k d e = let r = found_there (λ (x : Declared). x.number == k) w.rows.declared d e in (r.0, r.1, eqb-true d.number k r.2)
+
+module _ (w : World) (named : AreNamed w) where
+  declared_name : (k : ℕ) (d : Declared) (by : Declarer) → declared_at w k ≡ Some d → declarer_from w d.declared_by ≡ Some by → IsName (text w k)
+  unfolding text declarer_from
+  declared_name k d by e f =
+      let row = row_there w k d e in
+      let g : declarer_at w.rows.declarers d.declared_by ≡ Some by = same_declarer w.rows.declarers d.declared_by ∙ f in
+      let told : member_by d (declarer_at w.rows.declarers d.declared_by) ≡ member_by d (Some by) = ap (member_by d) g in
+      let m = told_there (λ (x : Declared). member_by x (declarer_at w.rows.declarers x.declared_by)) w.rows.declared row.0 d _ row.1 told in
+      let n = named.here.members _ (contains_slice (members_of w.rows) m.0 _ m.1) in
+      subst (λ (j : ℕ). IsName (text_at w.bytes w.tokens j)) row.2 n
+
+  by_row : (k : ℕ) (o : Option Declared) (by : Declarer) → declared_at w k ≡ o → option_and_then (λ (d : Declared). declarer_from w d.declared_by) o ≡ Some by → IsName (text w k)
+  by_row k None by e f = absurd (let none : None ≡ Some by = f in cc)
+  by_row k (Some d) by e f = declared_name k d by e f
+
+  -- what is declared has a name
+  pub declarer_name : (k : ℕ) (by : Declarer) → declarer_of w k ≡ Some by → IsName (text w k)
+  unfolding declarer_of
+  declarer_name k by e = by_row k (declared_at w k) by refl e
+
+  pub own_named : IsName (text w own_name)
+  unfolding text
+  own_named = named.here.own
+
+  pub import_named : (i : Import) (at : ℕ) → slice_get w.rows.imports at ≡ Some i → IsName (text w i.imported)
+  unfolding text
+  import_named i at e = named.here.imports i (contains_slice w.rows.imports at i e)
+
+-- ---- the names of steps
+
+in_kind_name : (name : List ℕ) (kind : Option DescriptorKind) (s : Step) → option_map (λ (k : DescriptorKind). record { own = descriptor k name; owner = None }) kind ≡ Some s → s.own.name ≡ name
+in_kind_name name None s e = absurd (let none : None ≡ Some s = e in cc)
+in_kind_name name (Some k) s e = ap (λ (x : Step). x.own.name) (sym (some_one (record { own = descriptor k name; owner = None }) s e))
+
+in_block_name : (sort : Sort) (name : List ℕ) (s : Step) → in_block sort name ≡ Some s → s.own.name ≡ name
+in_block_name sort name s e = in_kind_name name (kind_of sort) s e
+
+in_record_name : (k : ℕ) (name : List ℕ) (o : Option ℕ) (s : Step) → in_record k name o ≡ Some s → s.own.name ≡ name
+in_record_name k name None s e = absurd (let none : None ≡ Some s = e in cc)
+in_record_name k name (Some o) s e = elim (cases_Bool (nat_lt o k)) [
+  | inl t ↦ ap (λ (x : Step). x.own.name) (sym (some_one (record { own = descriptor Term name; owner = Some o }) s (rw t at e)))
+  | inr f ↦ absurd (let none : None ≡ Some s = rw f at e in cc)
+]
+
+own_step_by_name : (w : World) (k : ℕ) (sort : Sort) (of_record : Option ℕ) (s : Step) → own_step_by w k sort of_record ≡ Some s → s.own.name ≡ text w k
+own_step_by_name w k sort None s e = in_block_name sort (text w k) s e
+own_step_by_name w k sort (Some r) s e = in_record_name k (text w k) (owner_at w r) s e
+
+own_step_name : (w : World) (k : ℕ) (by : Declarer) (s : Step) → own_step w k by ≡ Some s → s.own.name ≡ text w k
+own_step_name w k by s e = elim (cases_Bool (by.block == 0)) [
+  | inl t ↦ own_step_by_name w k by.sort by.of_record s (rw t at e)
+  | inr f ↦ absurd (let none : None ≡ Some s = rw f at e in cc)
+]
+
+own_steps_by : (w : World) → AreNamed w → (k : ℕ) (o : Option Declarer) (s : Step) → declarer_of w k ≡ o → option_and_then (own_step w k) o ≡ Some s → IsName s.own.name
+own_steps_by w named k None s e f = absurd (let none : None ≡ Some s = f in cc)
+own_steps_by w named k (Some by) s e f = subst IsName (sym (own_step_name w k by s f)) (declarer_name w named k by e)
+
+pub own_step_names : (w : World) → AreNamed w → AreStepNames (own_steps w)
+own_step_names w named k s e = own_steps_by w named k (declarer_of w k) s refl e
+
+step_by_name : (m : ModuleInterface) (d : ℕ) (it : Declaration) (of_record : Option ℕ) (s : Step) → step_by m d it of_record ≡ Some s → s.own.name ≡ it.name
+step_by_name m d it None s e = in_block_name it.sort it.name s e
+step_by_name m d it (Some r) s e = in_record_name d it.name (owner_place m r) s e
+
+steps_by : (m : ModuleInterface) → IsNamed m → (d : ℕ) (o : Option Declaration) (s : Step) → declaration_at m d ≡ o → option_and_then (step_there m d) o ≡ Some s → IsName s.own.name
+steps_by m named d None s e f = absurd (let none : None ≡ Some s = f in cc)
+steps_by m named d (Some it) s e f = subst IsName (sym (step_by_name m d it it.of_record s f)) (named.declarations it (contains_slice m.declarations d it e))
+
+pub step_names : (m : ModuleInterface) → IsNamed m → AreStepNames (steps_there m)
+step_names m named d s e = steps_by m named d (declaration_at m d) s refl e
+
+pub reached_named : (w : World) → AreNamed w → (i : ℕ) (m : ModuleInterface) → slice_get w.reached i ≡ Some m → IsNamed m
+reached_named w named i m e = named.reached m (contains_slice w.reached i m e)

@@ -1,0 +1,25 @@
+-- What stands for a name of an external module is a name, and a row more is the next reference's.
+use Rattle.ob_targets.specs.declared.target.Reference.{Reference}
+use Rattle.scip_index.specs.Plain.{plain_symbol}
+use Rattle.ob_emit.specs.Externals.{external_row}
+use Rattle.ob_emit.proofs.Rows.{external_named, no_row, row_more}
+use Rattle.ob_emit.proofs.outside.external_rows.Goals as goal
+use Rattle.ob_emit.proofs.outside.external_rows.Goals.{in-Some+in_ok-push, in_default}
+
+pub external_row-requires-clause-external : goal.external_row-requires-clause-external
+external_row-requires-clause-external c = external_named c.args.types.now c.args.refs.now c.requires.of_names c.loop-reference.reference-index _ c.loop-reference-test.true
+
+pub loop-reference-preserved : goal.loop-reference-preserved
+loop-reference-preserved c =
+    let w = c.args.types.now in
+    let i = c.loop-reference.reference-index in
+    elim c.match-branch-3.branch [
+      | in-Some+in_ok-push w' ↦
+          rw (w'.found-is, w'.in_ok-push.ensures.items)
+          (row_more plain_symbol (λ (r : Reference). external_row w r.target) c.args.refs.now i _ c.loop-reference.found.items c.loop-reference-test.true c.loop-reference.invariant w'.in-Some.row c.in_ok-row.field-0
+          c.in_ok-row.ensures w'.in-Some.is)
+      | in_default w' ↦
+          rw w'.found-is
+          (no_row plain_symbol (λ (r : Reference). external_row w r.target) c.args.refs.now i _ c.loop-reference.found.items c.loop-reference-test.true c.loop-reference.invariant c.in_ok-row.field-0
+          c.in_ok-row.ensures w'.in_default.is)
+    ]

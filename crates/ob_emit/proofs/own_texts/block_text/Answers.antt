@@ -1,0 +1,12 @@
+-- The module's name, and those of what it declares.
+use Rattle.std.proofs.Common.{sym, ap, ◌∙◌, subst}
+use Rattle.ob_types.specs.World.{text}
+use Rattle.ob_emit.specs.Named.{IsName}
+use Rattle.ob_emit.proofs.Naming.{own_named, own_step_names}
+use Rattle.ob_emit.proofs.own_texts.block_text.Goals as goal
+
+pub path_text-requires-clause-module_named : goal.path_text-requires-clause-module_named
+path_text-requires-clause-module_named c = subst IsName (sym (c.text.ensures ∙ ap (text c.args.types.now) c.own_name.ensures)) (own_named c.args.types.now c.requires)
+
+pub path_text-requires-clause-named : goal.path_text-requires-clause-named
+path_text-requires-clause-named c = own_step_names c.args.types.now c.requires

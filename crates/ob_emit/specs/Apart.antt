@@ -1,0 +1,19 @@
+-- When declarations have symbols of their own.
+use Rattle.std.specs.Prelude.{◌≡◌, ◌<◌, ◌^◌, length, Contains}
+use Rattle.ob_decls.specs.declared.rows.Record.{Record as RecordRow}
+use Rattle.ob_scope.specs.Members.{members_of}
+use Rattle.ob_scope.specs.Scope.{NoneTwice}
+use Rattle.ob_scope.specs.Texts.{text_at}
+use Rattle.ob_types.specs.World.{World}
+use Rattle.scip_symbol.specs.SymbolTexts.{PlainSymbol, Local, Global}
+
+-- nothing is declared twice in one place, and no declaration's type holds two records, directly or through arrays and pointers
+pub record DeclaresOnce (w : World) : Type 0 where
+  pub once : NoneTwice (text_at w.bytes w.tokens) (members_of w.rows)
+  pub owners : (r s : RecordRow) → Contains w.rows.records r → Contains w.rows.records s → r.owner ≡ s.owner → r.number ≡ s.number
+  pub few : length w.rows.declared < 2 ^ 64
+
+-- a symbol that means something within its document alone
+abbrev pub IsLocal : PlainSymbol → Type 0
+IsLocal (Local id) = Unit {0}
+IsLocal (Global scheme manager package_name version descriptors) = ⊥

@@ -1,0 +1,58 @@
+-- The document of a module (scip.proto, `Document`).
+use Rattle.std.specs.Prelude.{ℕ, zero, suc, ◌+◌, ◌==◌, ℤ, pos, List, [], ◌∷◌, codes, Option, None, count_by, if◌then◌else◌}
+use Rattle.std.specs.Option.{option_map}
+use Rattle.std.specs.List.{filter_map, range_with_len}
+use Rattle.ob_scan.specs.declared.token.Token.{Token}
+use Rattle.ob_scan.specs.Position.{ends_line}
+use Rattle.ob_scope.specs.Texts.{token_at}
+use Rattle.ob_types.specs.World.{World, text}
+use Rattle.ob_targets.specs.declared.target.Reference.{Reference}
+use Rattle.scip_symbol.specs.SymbolTexts.{PlainSymbol, plain_text}
+use Rattle.scip_index.specs.Plain.{PlainDocument, PlainOccurrence, PlainSymbol as SymbolRow}
+use Rattle.ob_emit.specs.Symbols.{symbol_of}
+
+-- ---- places
+
+-- how many lines end before an offset
+unfoldable pub line_of : List ℕ → ℕ → ℕ
+line_of bytes offset = count_by (ends_line bytes) (range_with_len 0 offset)
+
+-- how far an offset stands behind the last line end before it
+unfoldable pub column_of : List ℕ → ℕ → ℕ
+column_of bytes zero = 0
+column_of bytes (suc offset) = if ends_line bytes offset then 0 else column_of bytes offset + 1
+
+-- a range on one line has three numbers, one over more lines four: line and column of the start, line, column of the end
+abbrev pub range_by : ℕ → ℕ → ℕ → ℕ → List ℤ
+range_by line column last end = if line == last then pos line ∷ pos column ∷ pos end ∷ [] else pos line ∷ pos column ∷ pos last ∷ pos end ∷ []
+
+abbrev pub token_range : List ℕ → Token → List ℤ
+token_range bytes t = range_by (line_of bytes t.start) (column_of bytes t.start) (line_of bytes t.end) (column_of bytes t.end)
+
+-- where the token of this number stands
+abbrev pub range_of : World → ℕ → List ℤ
+range_of w k = token_range w.bytes (token_at w.tokens k)
+
+-- ---- the document
+
+-- where an identifier stands, with the symbol of what it stands for and its role; a predeclared or unresolved one is left out
+abbrev pub occurrence : World → List ℕ → Reference → Option PlainOccurrence
+occurrence w package_name r =
+    option_map (λ (s : PlainSymbol). record { range = range_of w r.number; symbol = plain_text s; symbol_roles = pos r.role; enclosing_range = [] }) (symbol_of w package_name r.target)
+
+-- the symbol of what an identifier declares, with the identifier as its name
+abbrev pub symbol_row : World → List ℕ → Reference → Option SymbolRow
+symbol_row w package_name r =
+    if r.role == 1 then option_map (λ (s : PlainSymbol). record { symbol = plain_text s; display_name = text w r.number }) (symbol_of w package_name r.target)
+    else None
+
+-- the document of a module at this path: the occurrences of its identifiers and what they declare, each in the order of the identifiers;
+-- positions count bytes of UTF-8
+abbrev pub document_of : World → List ℕ → List ℕ → List Reference → PlainDocument
+document_of w path package_name refs = record {
+  relative_path = path;
+  occurrences = filter_map (occurrence w package_name) refs;
+  symbols = filter_map (symbol_row w package_name) refs;
+  language = codes "Oberon";
+  position_encoding = pos 1;
+}

@@ -1,0 +1,56 @@
+-- The symbols that are declared outside of a tree (scip.proto, `Index.external_symbols`).
+use Rattle.std.specs.Prelude.{◌↔◌, ℕ, List, [], ◌∷◌, ◌++◌, map, Option, None, Contains, slice_get, if◌then◌else◌}
+use Rattle.std.specs.Option.{option_map, option_and_then, is_none}
+use Rattle.std.specs.List.{filter_map}
+use Rattle.std.specs.List.Sorted.{IsStrictlySortedBy}
+use Rattle.std.specs.Ordering.{nat_cmp}
+use Rattle.std.specs.Cmp.Lexicographic.{slice_cmp}
+use Rattle.ob_decls.specs.declared.rows.Import.{Import}
+use Rattle.ob_types.specs.World.{World, text, home_of}
+use Rattle.ob_targets.specs.declared.target.Reference.{Reference}
+use Rattle.ob_targets.specs.declared.target.Target.{Target}
+use Rattle.ob_targets.specs.declared.target.Target.TheVariants as targets
+use Rattle.scip_symbol.specs.SymbolTexts.{PlainSymbol, plain_text}
+use Rattle.scip_index.specs.Plain.{PlainSymbol as SymbolRow}
+use Rattle.scip_symbol.specs.declared.kind.DescriptorKind.TheVariants.{Term}
+use Rattle.ob_emit.specs.Named.{IsName}
+use Rattle.ob_emit.specs.Symbols.{descriptor, external_symbol, global, module_path, module_symbol}
+
+-- a symbol with a name to show
+abbrev pub shown : List ℕ → PlainSymbol → SymbolRow
+shown name s = record { symbol = plain_text s; display_name = name }
+
+-- a module that isn't in the tree, by the import item that names it
+abbrev pub external_module : World → ℕ → Option SymbolRow
+external_module w item =
+    if is_none (home_of w item) then option_and_then (λ (i : Import). option_map (shown (text w i.imported)) (module_symbol w [] item)) (slice_get w.rows.imports item)
+    else None
+
+-- what stands for something outside: a module that isn't in the tree, with its name, or a name of such a module, with the name itself
+abbrev pub external_row : World → Target → Option SymbolRow
+external_row w (targets.Declared k) = None
+external_row w (targets.Imported i d) = None
+external_row w (targets.External item name) = option_map (shown (text w name)) (external_symbol w item name)
+external_row w targets.Own = None
+external_row w (targets.«Module» item) = external_module w item
+external_row w targets.Predeclared = None
+external_row w targets.Unresolved = None
+
+-- those of a module
+abbrev pub externals_in : World → List Reference → List SymbolRow
+externals_in w refs = filter_map (λ (r : Reference). external_row w r.target) refs
+
+-- of some rows those of each symbol once, by the texts of their symbols
+pub record AreExternals (of rows : List SymbolRow) : Type 0 where
+  pub ordered : IsStrictlySortedBy (slice_cmp nat_cmp) (map (λ (x : SymbolRow). x.symbol) rows)
+  pub each : (x : SymbolRow) → Contains rows x ↔ Contains of x
+
+-- ---- what rows of external symbols are, whatever modules they come from
+
+-- a module with its name, or a name of such a module with itself
+pub data IsExternalRow : SymbolRow → Type 0 where
+  of_module : (n : List ℕ) → IsName n → IsExternalRow (shown n (global [] (module_path n)))
+  of_name : (n name : List ℕ) → IsName n → IsName name → IsExternalRow (shown name (global [] (module_path n ++ descriptor Term name ∷ [])))
+
+abbrev pub AreExternalRows : List SymbolRow → Type 0
+AreExternalRows rows = (x : SymbolRow) → Contains rows x → IsExternalRow x

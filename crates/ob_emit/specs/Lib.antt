@@ -1,0 +1,6 @@
+pub mod Apart
+pub mod Documents
+pub mod Externals
+pub mod Made
+pub mod Named
+pub mod Symbols

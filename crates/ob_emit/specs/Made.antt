@@ -1,0 +1,48 @@
+-- What the texts of symbols are made from.
+use Rattle.std.specs.Prelude.{◌≡◌, ◌<◌, ℕ, List, [], ◌++◌, length, map, Option, Some, None, Bool, true, false, slice_get}
+use Rattle.std.specs.List.{flat_map}
+use Rattle.std.specs.Option.{option_map}
+use Rattle.std.specs.String.{string_bytes}
+use Rattle.ob_decls.specs.declared.rows.Declared.{Declared}
+use Rattle.ob_types.specs.World.{World}
+use Rattle.scip_symbol.specs.SymbolTexts.{PlainDescriptor, parts_text, plain_descriptor_text, plain_text}
+use Rattle.ob_emit.specs.declared.steps.StepRow.{StepRow}
+use Rattle.ob_emit.specs.declared.own_texts.Texts.{Texts}
+use Rattle.ob_emit.specs.Symbols.{Step, descriptor, scheme, symbol_at}
+use Rattle.ob_emit.specs.Named.{IsName}
+
+-- a step as clauses see it
+abbrev pub step_told : StepRow → Step
+step_told r = record { own = descriptor r.kind r.name.now; owner = r.owner }
+
+-- the names of all steps are names
+abbrev pub AreStepNames : (ℕ → Option Step) → Type 0
+AreStepNames steps = (k : ℕ) (s : Step) → steps k ≡ Some s → IsName (s.own).name
+
+-- owners stand before what they own
+abbrev pub AreBefore : (ℕ → Option Step) → Type 0
+AreBefore steps = (k o : ℕ) (s : Step) → steps k ≡ Some s → s.owner ≡ Some o → o < k
+
+-- the text of a path
+abbrev pub path_text : List PlainDescriptor → List ℕ
+path_text ds = flat_map plain_descriptor_text ds
+
+-- the text has gained that of the path, if there is one
+abbrev pub IsPushed : List ℕ → List ℕ → Option (List PlainDescriptor) → Bool → Type 0
+IsPushed old new ds false = ds ≡ None
+IsPushed old new ds true = option_map (λ (path : List PlainDescriptor). old ++ path_text path) ds ≡ Some new
+
+-- the texts of the first declarations of a module
+pub record AreMade (w : World) (package_name : List ℕ) (count : ℕ) (made : List (Option (List ℕ))) : Type 0 where
+  pub as_many : length made ≡ count
+  pub each : (i : ℕ) (d : Declared) → i < count → slice_get w.rows.declared i ≡ Some d → slice_get made i ≡ Some (option_map plain_text (symbol_at w package_name i d))
+
+-- what stands before the descriptors of a symbol
+abbrev pub front_text : List ℕ → List ℕ
+front_text package_name = parts_text scheme [] package_name []
+
+-- the texts of a module's symbols in this package
+pub record AreTexts (w : World) (package_name : List ℕ) (t : Texts) : Type 0 where
+  pub front : string_bytes t.front ≡ front_text package_name
+  pub outside : string_bytes t.outside ≡ front_text []
+  pub declared : AreMade w package_name (length w.rows.declared) (map (option_map string_bytes) (t.declared).items)

@@ -1,0 +1,27 @@
+-- The identifiers of a module, and those that others see, are names.
+use Rattle.std.specs.Prelude.{◌≡◌, ℕ, List, true, Contains}
+use Rattle.ob_scan.specs.Tokens.{is_name}
+use Rattle.ob_interface.specs.Interfaces.{Declaration, ModuleInterface}
+use Rattle.ob_scope.specs.Identified.{AreNames}
+use Rattle.ob_scope.specs.Texts.{text_at}
+use Rattle.ob_types.specs.World.{World, text}
+use Rattle.ob_targets.specs.declared.target.Reference.{Reference}
+use Rattle.ob_targets.specs.declared.target.Target.TheVariants as targets
+
+abbrev pub IsName : List ℕ → Type 0
+IsName bytes = is_name bytes ≡ true
+
+-- what others see of a module has names
+pub record IsNamed (m : ModuleInterface) : Type 0 where
+  pub own : IsName m.name
+  pub declarations : (d : Declaration) → Contains m.declarations d → IsName d.name
+
+-- a module's own name, what it declares and what its import items name are names, and so are those of the modules that it reaches
+pub record AreNamed (w : World) : Type 0 where
+  pub here : AreNames (text_at w.bytes w.tokens) w.rows
+  pub reached : (m : ModuleInterface) → Contains w.reached m → IsNamed m
+
+-- references are those of names, and so is what stands for a name of an external module
+pub record AreOfNames (w : World) (refs : List Reference) : Type 0 where
+  pub own : (r : Reference) → Contains refs r → IsName (text w r.number)
+  pub external : (r : Reference) → Contains refs r → (item name : ℕ) → r.target ≡ targets.External item name → IsName (text w name)

@@ -1,0 +1,143 @@
+-- The symbols of what identifiers stand for: this project's names, written in the grammar of SCIP symbols (scip.proto, `Symbol`).
+use Rattle.std.specs.Prelude.{ℕ, zero, suc, ◌==◌, List, [], ◌∷◌, ◌++◌, codes, Bool, false, not, nat_lt, Option, Some, None, slice_get, take, count_by, position, if◌then◌else◌}
+use Rattle.std.specs.Option.{option_map, option_map_or, option_and_then}
+use Rattle.std.specs.Fmt.{decimal}
+use Rattle.ob_decls.specs.declared.rows.Declared.{Declared}
+use Rattle.ob_decls.specs.declared.rows.Declarer.{Declarer}
+use Rattle.ob_decls.specs.declared.rows.Import.{Import}
+use Rattle.ob_decls.specs.declared.rows.Sort.{Sort}
+use Rattle.ob_decls.specs.declared.rows.Sort.TheVariants as sorts
+use Rattle.ob_decls.specs.Declaring.{own_name}
+use Rattle.ob_interface.specs.Interfaces.{Declaration, ModuleInterface}
+use Rattle.ob_interface.specs.Placed.{declaration_at, owner_place}
+use Rattle.ob_types.specs.World.{World, text, declarer_from, declarer_of, owner_at, home_of}
+use Rattle.ob_targets.specs.declared.target.Target.{Target}
+use Rattle.ob_targets.specs.declared.target.Target.TheVariants as targets
+use Rattle.scip_symbol.specs.declared.kind.DescriptorKind.{DescriptorKind}
+use Rattle.scip_symbol.specs.declared.kind.DescriptorKind.TheVariants.{Namespace, TypeName, Term, Method}
+use Rattle.scip_symbol.specs.SymbolTexts.{PlainDescriptor, PlainSymbol, Local, Global}
+
+-- the scheme of all symbols here
+abbrev pub scheme : List ℕ
+scheme = codes "scip-oberon"
+
+-- a global symbol of this package
+abbrev pub global : List ℕ → List PlainDescriptor → PlainSymbol
+global package_name path = Global scheme [] package_name [] path
+
+abbrev pub descriptor : DescriptorKind → List ℕ → PlainDescriptor
+descriptor kind name = record { kind = kind; name = name; disambiguator = [] }
+
+-- a module is `M/`
+abbrev pub module_path : List ℕ → List PlainDescriptor
+module_path name = descriptor Namespace name ∷ []
+
+-- a type is `T#`, a procedure `p().`, and all else `x.`; an import item has no symbol of its own
+abbrev pub kind_of : Sort → Option DescriptorKind
+kind_of sorts.Import = None
+kind_of sorts.Constant = Some Term
+kind_of sorts.Type = Some TypeName
+kind_of sorts.Variable = Some Term
+kind_of sorts.Procedure = Some Method
+kind_of sorts.Parameter = Some Term
+kind_of sorts.Field = Some Term
+
+-- ---- paths
+
+-- what stands in a module's block or in a record there: its own descriptor, and of a field the owner, which is the declaration whose
+-- type holds the record
+pub record Step : Type 0 where
+  pub own : PlainDescriptor
+  pub owner : Option ℕ
+
+-- what stands in the block itself
+abbrev pub in_block : Sort → List ℕ → Option Step
+in_block sort name = option_map (λ kind. record { own = descriptor kind name; owner = None }) (kind_of sort)
+
+-- a field, by its number and its owner's, which stands before it
+abbrev pub in_record : ℕ → List ℕ → Option ℕ → Option Step
+in_record k name None = None
+in_record k name (Some o) = if nat_lt o k then Some (record { own = descriptor Term name; owner = Some o }) else None
+
+-- the descriptors of a declaration behind those of its owner, or else of the module, at most so many steps up
+unfoldable pub path_within : List ℕ → (ℕ → Option Step) → ℕ → ℕ → Option (List PlainDescriptor)
+path_within m steps zero k = None
+path_within m steps (suc n) k =
+    option_and_then (λ (s : Step). option_map (λ (ds : List PlainDescriptor). ds ++ s.own ∷ []) (option_map_or (path_within m steps n) s.owner (Some (module_path m)))) (steps k)
+
+-- the descriptors of a declaration; owners stand before what they own, so that its number and one more are steps enough
+abbrev pub path : List ℕ → (ℕ → Option Step) → ℕ → Option (List PlainDescriptor)
+path m steps k = path_within m steps (suc k) k
+
+-- ---- the module's own declarations, by their tokens
+
+abbrev pub own_step_by : World → ℕ → Sort → Option ℕ → Option Step
+own_step_by w k sort None = in_block sort (text w k)
+own_step_by w k sort (Some r) = in_record k (text w k) (owner_at w r)
+
+abbrev pub own_step : World → ℕ → Declarer → Option Step
+own_step w k by = if by.block == 0 then own_step_by w k by.sort by.of_record else None
+
+abbrev pub own_steps : World → ℕ → Option Step
+own_steps w k = option_and_then (own_step w k) (declarer_of w k)
+
+abbrev pub own_path : World → ℕ → Option (List PlainDescriptor)
+own_path w k = path (text w own_name) (own_steps w) k
+
+-- whether an identifier is declared in another block than the module's, fields there included
+abbrev pub is_local : World → Declared → Bool
+is_local w d = option_map_or (λ (by : Declarer). not (by.block == 0)) (declarer_from w d.declared_by) false
+
+-- the symbol of the declaration at a place among all, if it has one: those of other blocks are numbered from 0
+abbrev pub symbol_at : World → List ℕ → ℕ → Declared → Option PlainSymbol
+symbol_at w package_name i d =
+    if is_local w d then Some (Local (decimal (count_by (is_local w) (take i w.rows.declared))))
+    else option_map (global package_name) (own_path w d.number)
+
+abbrev pub declared_symbol : World → List ℕ → ℕ → Option PlainSymbol
+declared_symbol w package_name k =
+    option_and_then (λ (i : ℕ). option_and_then (symbol_at w package_name i) (slice_get w.rows.declared i)) (position (λ (d : Declared). d.number == k) w.rows.declared)
+
+-- ---- declarations of another module, by their places
+
+abbrev pub step_by : ModuleInterface → ℕ → Declaration → Option ℕ → Option Step
+step_by m d it None = in_block it.sort it.name
+step_by m d it (Some r) = in_record d it.name (owner_place m r)
+
+abbrev pub step_there : ModuleInterface → ℕ → Declaration → Option Step
+step_there m d it = step_by m d it it.of_record
+
+abbrev pub steps_there : ModuleInterface → ℕ → Option Step
+steps_there m d = option_and_then (step_there m d) (declaration_at m d)
+
+abbrev pub path_there : ModuleInterface → ℕ → Option (List PlainDescriptor)
+path_there m d = path m.name (steps_there m) d
+
+abbrev pub imported_symbol : World → List ℕ → ℕ → ℕ → Option PlainSymbol
+imported_symbol w package_name i d = option_and_then (λ (m : ModuleInterface). option_map (global package_name) (path_there m d)) (slice_get w.reached i)
+
+-- ---- modules
+
+-- the package of the module that an import item names: none if the module isn't in the tree
+abbrev pub package_of : World → List ℕ → ℕ → List ℕ
+package_of w package_name item = option_map_or (λ (home : ℕ). package_name) (home_of w item) []
+
+abbrev pub module_symbol : World → List ℕ → ℕ → Option PlainSymbol
+module_symbol w package_name item = option_map (λ (i : Import). global (package_of w package_name item) (module_path (text w i.imported))) (slice_get w.rows.imports item)
+
+-- a name of a module that isn't in the tree is `N/x.`, without a package
+abbrev pub external_symbol : World → ℕ → ℕ → Option PlainSymbol
+external_symbol w item name =
+    option_map (λ (i : Import). global [] (module_path (text w i.imported) ++ descriptor Term (text w name) ∷ [])) (slice_get w.rows.imports item)
+
+-- ---- targets
+
+-- the symbol of what an identifier stands for; predeclared names have none
+abbrev pub symbol_of : World → List ℕ → Target → Option PlainSymbol
+symbol_of w package_name (targets.Declared k) = declared_symbol w package_name k
+symbol_of w package_name (targets.Imported i d) = imported_symbol w package_name i d
+symbol_of w package_name (targets.External item name) = external_symbol w item name
+symbol_of w package_name targets.Own = Some (global package_name (module_path (text w own_name)))
+symbol_of w package_name (targets.«Module» item) = module_symbol w package_name item
+symbol_of w package_name targets.Predeclared = None
+symbol_of w package_name targets.Unresolved = None

@@ -1,0 +1,176 @@
+//! The document of a module.
+ghost use Rattle.std.specs.Prelude.{◌≡◌, ◌<◌, ◌^◌, ◌↔◌, ℕ, List, IfOk, Err, Contains, length, map, true};
+ghost use Rattle.std.specs.List.{filter_map};
+ghost use Rattle.std.specs.Option.{option_map};
+ghost use Rattle.ob_scan.specs.Position.{line_starts};
+ghost use Rattle.ob_scan.specs.Spelling.{AreInText};
+ghost use Rattle.ob_targets.specs.declared.target.Target.TheVariants.{External};
+ghost use Rattle.ob_types.specs.World.{text};
+ghost use Rattle.scip_index.specs.Plain.{plain_document, plain_occurrence, plain_symbol};
+ghost use Rattle.scip_symbol.specs.Outcomes.{is_wrong_part};
+ghost use Rattle.ob_emit.specs.declared.fault.EmitFault.TheVariants.{BadPackage};
+ghost use Rattle.ob_emit.specs.Documents.{document_of, occurrence, symbol_row};
+ghost use Rattle.ob_emit.specs.Made.{AreTexts};
+ghost use Rattle.ob_emit.specs.Named.{AreNamed, AreOfNames, IsName};
+
+use crate::EmitFault;
+use crate::own_texts::Texts;
+use crate::path::name_of;
+use crate::ranges::range_of;
+use ob_scan::{Lines, lines};
+use ob_targets::Reference;
+use ob_types::Types;
+use scip_index::{Document, Occurrence, SymbolInfo};
+use std::alloc::{AllocError, Global};
+
+/// Whether no symbol's text can hold this package.
+fn is_bad(package_name: &str) -> bool
+    ensures { result ≡ is_wrong_part package_name.now }
+{
+    package_name == "." || package_name.starts_with(' ')
+}
+
+/// Where an identifier stands, with the symbol of what it stands for, if that has one.
+fn occurrence_of(
+    alloc: Global,
+    types: &Types<'_>,
+    texts: &Texts,
+    lines: &Lines,
+    reference: &Reference,
+) -> Result<Option<Occurrence>, AllocError>
+    requires in_text { AreInText types.now.bytes types.now.tokens }
+    requires short { length types.now.bytes < 2 ^ 31 }
+    requires lined { lines.now ≡ line_starts types.now.bytes }
+    requires named { AreNamed types.now }
+    requires external { (item name : ℕ) → reference.now.target ≡ External item name → IsName (text types.now name) }
+    ensures { (package_name : List ℕ) → AreTexts types.now package_name texts.now → IfOk result (λ o. option_map plain_occurrence o ≡ occurrence types.now package_name reference.now) }
+{
+    let Some(symbol) = texts.symbol(alloc, types, reference.target)? else {
+        return Ok(None);
+    };
+    Ok(Some(Occurrence {
+        range: range_of(alloc, types, lines, reference.number)?,
+        symbol,
+        symbol_roles: i32::from(reference.role),
+        enclosing_range: Vec::new(alloc),
+    }))
+}
+
+/// The occurrences of identifiers, in their order.
+fn occurrences(
+    alloc: Global,
+    types: &Types<'_>,
+    texts: &Texts,
+    refs: &[Reference],
+) -> Result<Vec<Occurrence>, AllocError>
+    requires in_text { AreInText types.now.bytes types.now.tokens }
+    requires short { length types.now.bytes < 2 ^ 31 }
+    requires named { AreNamed types.now }
+    requires of_names { AreOfNames types.now refs.now }
+    ensures { (package_name : List ℕ) → AreTexts types.now package_name texts.now → IfOk result (λ v. map plain_occurrence v.items ≡ filter_map (occurrence types.now package_name) refs.now) }
+{
+    let lines = lines(alloc, types.bytes())?;
+    let mut found = Vec::with_capacity(alloc, refs.len())?;
+    for reference in refs {
+        if let Some(occurrence) = occurrence_of(alloc, types, texts, &lines, reference)? {
+            found.push(occurrence)?;
+        }
+    }
+    Ok(found)
+}
+
+/// The symbol of what an identifier declares, if it declares something that has one.
+fn symbol_row(
+    alloc: Global,
+    types: &Types<'_>,
+    texts: &Texts,
+    reference: &Reference,
+) -> Result<Option<SymbolInfo>, AllocError>
+    requires named { AreNamed types.now }
+    requires own { IsName (text types.now reference.now.number) }
+    requires external { (item name : ℕ) → reference.now.target ≡ External item name → IsName (text types.now name) }
+    ensures { (package_name : List ℕ) → AreTexts types.now package_name texts.now → IfOk result (λ s. option_map plain_symbol s ≡ symbol_row types.now package_name reference.now) }
+{
+    if reference.role != 1 {
+        return Ok(None);
+    }
+    let Some(symbol) = texts.symbol(alloc, types, reference.target)? else {
+        return Ok(None);
+    };
+    let display_name = String::from_str(alloc, name_of(types.text(reference.number)))?;
+    Ok(Some(SymbolInfo {
+        symbol,
+        display_name,
+    }))
+}
+
+/// The symbols of what identifiers declare, in their order.
+fn symbols(
+    alloc: Global,
+    types: &Types<'_>,
+    texts: &Texts,
+    refs: &[Reference],
+) -> Result<Vec<SymbolInfo>, AllocError>
+    requires named { AreNamed types.now }
+    requires of_names { AreOfNames types.now refs.now }
+    ensures { (package_name : List ℕ) → AreTexts types.now package_name texts.now → IfOk result (λ v. map plain_symbol v.items ≡ filter_map (symbol_row types.now package_name) refs.now) }
+{
+    let mut found = Vec::new(alloc);
+    for reference in refs {
+        if let Some(row) = symbol_row(alloc, types, texts, reference)? {
+            found.push(row)?;
+        }
+    }
+    Ok(found)
+}
+
+/// The document of a module at this path, in a package that no symbol's text refuses.
+fn document_in(
+    alloc: Global,
+    path: &str,
+    types: &Types<'_>,
+    refs: &[Reference],
+    package_name: &str,
+) -> Result<Document, AllocError>
+    requires in_text { AreInText types.now.bytes types.now.tokens }
+    requires short { length types.now.bytes < 2 ^ 31 }
+    requires named { AreNamed types.now }
+    requires of_names { AreOfNames types.now refs.now }
+    ensures { IfOk result (λ d. plain_document d ≡ document_of types.now path.now package_name.now refs.now) }
+{
+    let texts = Texts::new(alloc, types, package_name)?;
+    Ok(Document {
+        relative_path: String::from_str(alloc, path)?,
+        occurrences: occurrences(alloc, types, &texts, refs)?,
+        symbols: symbols(alloc, types, &texts, refs)?,
+        language: String::from_str(alloc, "Oberon")?,
+        position_encoding: 1,
+    })
+}
+
+/// The document of a module at this path (scip.proto, `Document`): where its identifiers stand, with the symbols of what they stand for
+/// and their roles, and the symbols that the module declares. Lines and columns count from 0, columns in bytes. BadPackage is answered
+/// where the package is `.` or begins with a space, Memory where a growth of memory is refused.
+pub fn document(
+    alloc: Global,
+    path: &str,
+    types: &Types<'_>,
+    refs: &[Reference],
+    package_name: &str,
+) -> Result<Document, EmitFault>
+    // The tokens stand in the bytes, of which there are less than 2 GiB.
+    requires in_text { AreInText types.now.bytes types.now.tokens }
+    requires short { length types.now.bytes < 2 ^ 31 }
+    // What is declared, imported and reached has names, and so have the references.
+    requires named { AreNamed types.now }
+    requires of_names { AreOfNames types.now refs.now }
+    // It is the module's document.
+    ensures exact { IfOk result (λ d. plain_document d ≡ document_of types.now path.now package_name.now refs.now) }
+    // BadPackage is answered exactly where the package is `.` or begins with a space.
+    ensures bad_package { (result ≡ Err BadPackage) ↔ (is_wrong_part package_name.now ≡ true) }
+{
+    if is_bad(package_name) {
+        return Err(EmitFault::BadPackage);
+    }
+    Ok(document_in(alloc, path, types, refs, package_name)?)
+}

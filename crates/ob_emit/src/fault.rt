@@ -1,0 +1,26 @@
+//! Why a module has no document.
+
+use std::alloc::AllocError;
+use thiserror::Error;
+
+/// Why a document can't be made.
+#[derive(Clone, Copy, Debug, PartialEq, Eq, Error)]
+pub enum EmitFault {
+    /// The package is `.` or begins with a space, which no symbol's text can hold.
+    #[error("the package is '.' or begins with a space")]
+    BadPackage,
+    /// A growth of memory was refused.
+    #[error("memory ran out")]
+    Memory,
+}
+
+impl From<AllocError> for EmitFault {
+    ghost use Rattle.std.specs.Prelude.{◌≡◌};
+    ghost use Rattle.ob_emit.specs.declared.fault.EmitFault.TheVariants.{Memory};
+
+    ghost from_gives = { λ _ fault. fault ≡ Memory };
+
+    fn from(_error: AllocError) -> EmitFault {
+        EmitFault::Memory
+    }
+}

@@ -1,0 +1,40 @@
+//! Laws of what callers of documents know. Each function is a law: its body is empty, and its contract is proved.
+ghost use Rattle.std.specs.Prelude.{◌≡◌, ◌<◌, ◌^◌, ℕ, Contains, List, Some, length};
+ghost use Rattle.ob_scan.specs.declared.token.Token.{Token};
+ghost use Rattle.ob_scan.specs.Spelling.{Spells};
+ghost use Rattle.ob_tree.specs.declared.declaration.Module.{Module};
+ghost use Rattle.ob_decls.specs.Declaring.{own_name, rows_of};
+ghost use Rattle.ob_decls.specs.Parts.{Rows};
+ghost use Rattle.ob_interface.specs.Interfaces.{interface_of, ModuleInterface};
+ghost use Rattle.ob_scope.specs.Scoped.{AreScopes, ModuleScopes};
+ghost use Rattle.ob_targets.specs.declared.target.Reference.{Reference};
+ghost use Rattle.ob_targets.specs.Refers.{AreReferences};
+ghost use Rattle.ob_types.specs.World.{text, World};
+ghost use Rattle.scip_symbol.specs.SymbolTexts.{PlainSymbol};
+ghost use Rattle.ob_emit.specs.Apart.{DeclaresOnce, IsLocal};
+ghost use Rattle.ob_emit.specs.Named.{AreNamed, AreOfNames, IsNamed};
+ghost use Rattle.ob_emit.specs.Symbols.{declared_symbol};
+
+/// The scopes of a module say that it has names, and those of the modules that it reaches that these have.
+pub fn names_of_scopes()
+    ensures here { (w : World) (s : ModuleScopes) → AreScopes w.bytes w.tokens w.rows s → ((m : ModuleInterface) → Contains w.reached m → IsNamed m) → AreNamed w }
+    ensures there { (bytes : List ℕ) (ts : List Token) (rows : Rows) (s : ModuleScopes) → AreScopes bytes ts rows s → IsNamed (interface_of bytes ts rows) }
+{}
+
+/// The references of a module whose text spells its tokens are those of names.
+pub fn names_of_references()
+    ensures { (w : World) (refs : List Reference) → Spells w.bytes w.tokens → AreReferences w refs → AreOfNames w refs }
+{}
+
+/// What a tree's rows and its scopes say: its module declares nothing twice, and no declaration's type holds two records.
+pub fn trees_declare_once()
+    ensures { (w : World) (m : Module) (s : ModuleScopes) → w.rows ≡ rows_of m → AreScopes w.bytes w.tokens w.rows s → length w.rows.declared < 2 ^ 64 → DeclaresOnce w }
+{}
+
+/// Two declarations, fields too, have one symbol only where they are in modules of different names and both are local: so in a
+/// tree, whose modules have names of their own, each global symbol is that of one declaration, and each local one that of one in its
+/// document. Import items have no symbol of their own.
+pub fn one_declaration()
+    ensures here { (w : World) (package_name : List ℕ) (k j : ℕ) (s : PlainSymbol) → DeclaresOnce w → declared_symbol w package_name k ≡ Some s → declared_symbol w package_name j ≡ Some s → k ≡ j }
+    ensures elsewhere { (w v : World) (package_name : List ℕ) (k j : ℕ) (s : PlainSymbol) → (text w own_name ≡ text v own_name → ⊥) → declared_symbol w package_name k ≡ Some s → declared_symbol v package_name j ≡ Some s → IsLocal s }
+{}

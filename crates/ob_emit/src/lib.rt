@@ -1,0 +1,20 @@
+//! The document of a module in a SCIP index, and the symbols that are declared outside of its tree.
+//! Stands on `ob_targets` and `ob_types` for what identifiers stand for, on `scip_symbol` and `scip_index`, with `thiserror` for its fault.
+//! Its contract: a document is exactly what this project's names and the targets of the module's identifiers say, or the package is no package.
+#![tactic(auto)]
+
+mod documents;
+mod fault;
+pub mod laws;
+mod outside;
+mod own;
+mod own_texts;
+mod path;
+mod ranges;
+mod steps;
+mod symbol_texts;
+mod there;
+
+pub use documents::document;
+pub use fault::EmitFault;
+pub use outside::{all_externals, externals};

@@ -1,0 +1,100 @@
+//! The module's own declarations, by their tokens.
+ghost use Rattle.std.specs.Prelude.{◌≡◌, ◌==◌, find, position, slice_get};
+ghost use Rattle.std.specs.Option.{option_map};
+ghost use Rattle.ob_decls.specs.declared.rows.Declared.{Declared};
+ghost use Rattle.ob_decls.specs.declared.rows.Declarer.{Declarer};
+ghost use Rattle.ob_decls.specs.Declaring.{rows_in};
+ghost use Rattle.ob_decls.specs.Order.{AscendBy, HasNoneBy, IsPlaceBy};
+ghost use Rattle.std.specs.Prelude.{IfSome, IfNone};
+ghost use Rattle.ob_types.specs.World.{declarer_of, owner_at};
+ghost use Rattle.ob_emit.specs.Made.{step_told};
+ghost use Rattle.ob_emit.specs.Symbols.{is_local, own_step, own_step_by, own_steps};
+
+use crate::steps::{Nested, StepRow, in_block, in_record};
+use ob_decls::{Declared, Declarer, Import, Table};
+use ob_types::Types;
+
+/// The construct that declares and begins with this token.
+fn declarer_from(table: &Table, first: u32) -> Option<Declarer>
+    ensures { result ≡ find (λ (by : Declarer). by.first == first) (rows_in table.now).declarers }
+{
+    table.keeps();
+    table.declarer(first).copied()
+}
+
+/// The row of the identifier that this token declares.
+fn declared_at(table: &Table, number: u32) -> Option<Declared>
+    ensures { result ≡ find (λ (d : Declared). d.number == number) (rows_in table.now).declared }
+{
+    table.keeps();
+    table.declaration(number).copied()
+}
+
+/// The place among all of the identifier that this token declares, if there is a row of that number.
+fn place_by_number(declared: &[Declared], number: u32) -> Option<usize>
+    requires { AscendBy (λ (d : Declared). d.number) declared.now }
+    ensures found { IfSome result (IsPlaceBy (λ (d : Declared). d.number) declared.now number) }
+    ensures none { IfNone result (HasNoneBy (λ (d : Declared). d.number) declared.now number) }
+{
+    declared
+        .binary_search_by_key(&number, |row| row.number)
+        .ok()
+}
+
+/// The place of the identifier that this token declares.
+pub(crate) fn place_of(table: &Table, number: u32) -> Option<usize>
+    ensures { result ≡ position (λ (d : Declared). d.number == number) (rows_in table.now).declared }
+{
+    table.keeps();
+    place_by_number(table.declared(), number)
+}
+
+/// The import item at a place.
+pub(crate) fn import_at<'a>(types: &Types<'a>, item: u32) -> Option<&'a Import>
+    ensures { option_map (λ i. i.now) result ≡ slice_get types.now.rows.imports item }
+{
+    types.table().imports().get(item as usize)
+}
+
+/// Whether an identifier is declared in another block than the module's.
+pub(crate) fn is_local(types: &Types<'_>, declared: &Declared) -> bool
+    ensures { result ≡ is_local types.now declared.now }
+{
+    match declarer_from(types.table(), declared.declared_by) {
+        Some(by) => by.block != 0,
+        None => false,
+    }
+}
+
+/// The construct that declares this token.
+fn declarer_of(types: &Types<'_>, number: u32) -> Option<Declarer>
+    ensures { result ≡ declarer_of types.now number }
+{
+    let declared = declared_at(types.table(), number)?;
+    declarer_from(types.table(), declared.declared_by)
+}
+
+/// What a construct of the module's block declares with this token.
+fn own_step<'a>(types: &Types<'a>, number: u32, by: Declarer) -> Option<StepRow<'a>>
+    ensures { option_map step_told result ≡ own_step types.now number by }
+{
+    if by.block != 0 {
+        return None;
+    }
+    let name = types.text(number);
+    match by.of_record {
+        None => in_block(by.sort, name),
+        Some(record) => in_record(number, name, types.owner(record)),
+    }
+}
+
+impl Nested for Types<'_> {
+    ghost use Rattle.ob_emit.specs.Symbols.{own_steps};
+
+    ghost steps_in = { λ w. own_steps w };
+
+    fn step(&self, number: u32) -> Option<StepRow<'_>> {
+        let by = declarer_of(self, number)?;
+        own_step(self, number, by)
+    }
+}

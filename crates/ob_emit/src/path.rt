@@ -1,0 +1,84 @@
+//! The texts of paths.
+ghost use Rattle.std.specs.Prelude.{◌≡◌, ◌++◌, IfOk};
+ghost use Rattle.std.specs.Option.{option_map};
+ghost use Rattle.std.specs.String.{string_bytes};
+ghost use Rattle.scip_symbol.specs.SymbolTexts.{PlainDescriptor};
+ghost use Rattle.ob_emit.specs.Made.{path_text, AreBefore, AreStepNames, IsPushed};
+ghost use Rattle.ob_emit.specs.Named.{IsName};
+ghost use Rattle.ob_emit.specs.Symbols.{path};
+ghost use Rattle.std.specs.Prelude.{List};
+
+use crate::steps::Nested;
+use scip_symbol::{DescriptorKind, push_step};
+use std::alloc::{AllocError, Global};
+
+/// A name as text.
+pub(crate) fn name_of(bytes: &[u8]) -> &str
+    requires { IsName bytes.now }
+    ensures { result.now ≡ bytes.now }
+{
+    match str::from_utf8(bytes) {
+        Ok(name) => name,
+        Err(_) => "",
+    }
+}
+
+/// Room for a symbol's text with this front and a name of the module, so that it mostly needn't grow.
+pub(crate) fn room_for(front: &str, module_name: &[u8]) -> usize {
+    const NAME: usize = 24;
+    front
+        .len()
+        .saturating_add(module_name.len())
+        .saturating_add(NAME)
+}
+
+/// Puts the descriptors of what this number declares: those of its owner or of the module, and its own. Tells whether there are any;
+/// where there are none nothing is put.
+pub(crate) fn push_path<S: Nested>(
+    out: &mut String,
+    module_name: &[u8],
+    source: &S,
+    number: u32,
+) -> Result<bool, AllocError>
+    requires module_named { IsName module_name.now }
+    requires named { AreStepNames (S.steps_in source.now) }
+    requires before { AreBefore (S.steps_in source.now) }
+    ensures { IfOk result (IsPushed (string_bytes out.old) (string_bytes out.new) (path module_name.now (S.steps_in source.now) number)) }
+{
+    let Some(step) = source.step(number) else {
+        return Ok(false);
+    };
+    let found = match step.owner {
+        None => {
+            push_step(out, DescriptorKind::Namespace, name_of(module_name))?;
+            true
+        }
+        Some(owner) => push_path(out, module_name, source, owner)?,
+    };
+    if found {
+        push_step(out, step.kind, name_of(step.name))?;
+    }
+    Ok(found)
+}
+
+/// The text of a symbol with this front and the path of what this number declares, if that has one.
+pub(crate) fn path_text<S: Nested>(
+    alloc: Global,
+    front: &str,
+    module_name: &[u8],
+    source: &S,
+    number: u32,
+) -> Result<Option<String>, AllocError>
+    requires module_named { IsName module_name.now }
+    requires named { AreStepNames (S.steps_in source.now) }
+    requires before { AreBefore (S.steps_in source.now) }
+    ensures { IfOk result (λ text. option_map string_bytes text ≡ option_map (λ (ds : List PlainDescriptor). front.now ++ path_text ds) (path module_name.now (S.steps_in source.now) number)) }
+{
+    let mut out = String::with_capacity(alloc, room_for(front, module_name))?;
+    out.push_str(front)?;
+    if push_path(&mut out, module_name, source, number)? {
+        Ok(Some(out))
+    } else {
+        Ok(None)
+    }
+}

@@ -1,0 +1,69 @@
+//! Where identifiers stand, by lines and columns.
+ghost use Rattle.std.specs.Prelude.{◌≡◌, ◌≤◌, ◌<◌, ◌^◌, IfOk, length};
+ghost use Rattle.ob_scan.specs.Position.{line_starts};
+ghost use Rattle.ob_scan.specs.Spelling.{AreInText};
+ghost use Rattle.ob_scope.specs.Texts.{token_at};
+ghost use Rattle.ob_emit.specs.Documents.{column_of, line_of, range_by, range_of};
+ghost use Rattle.std.specs.Prelude.{List, ℕ};
+
+use ob_scan::{Lines, Position};
+use ob_types::Types;
+use std::alloc::{AllocError, Global};
+
+/// The line and the column of an offset.
+fn place_at(lines: &Lines, offset: u32) -> Position
+    ensures line { (bytes : List ℕ) → lines.now ≡ line_starts bytes → offset ≤ length bytes → result.line ≡ line_of bytes offset }
+    ensures column { (bytes : List ℕ) → lines.now ≡ line_starts bytes → offset ≤ length bytes → result.column ≡ column_of bytes offset }
+{
+    lines.position(offset)
+}
+
+/// A range as the numbers of an index.
+fn range_by(
+    alloc: Global,
+    line: u32,
+    column: u32,
+    last: u32,
+    end: u32,
+) -> Result<Vec<i32>, AllocError>
+    requires line { line < 2 ^ 31 }
+    requires column { column < 2 ^ 31 }
+    requires last { last < 2 ^ 31 }
+    requires end { end < 2 ^ 31 }
+    ensures { IfOk result (λ v. v.items ≡ range_by line column last end) }
+{
+    if line == last {
+        Ok(vec![in alloc; line as i32, column as i32, end as i32]?)
+    } else {
+        Ok(vec![in alloc; line as i32, column as i32, last as i32, end as i32]?)
+    }
+}
+
+/// Where a token begins and where it ends; both are 0 beyond the last.
+fn ends_of(types: &Types<'_>, number: u32) -> (u32, u32)
+    ensures start { result.0 ≡ (token_at types.now.tokens number).start }
+    ensures end { result.1 ≡ (token_at types.now.tokens number).end }
+{
+    match types.tokens().get(number as usize) {
+        Some(token) => (token.start, token.end),
+        None => (0, 0),
+    }
+}
+
+/// The range of a token.
+pub(crate) fn range_of(
+    alloc: Global,
+    types: &Types<'_>,
+    lines: &Lines,
+    number: u32,
+) -> Result<Vec<i32>, AllocError>
+    requires in_text { AreInText types.now.bytes types.now.tokens }
+    requires short { length types.now.bytes < 2 ^ 31 }
+    requires lined { lines.now ≡ line_starts types.now.bytes }
+    ensures { IfOk result (λ v. v.items ≡ range_of types.now number) }
+{
+    let (start, end) = ends_of(types, number);
+    let first = place_at(lines, start);
+    let last = place_at(lines, end);
+    range_by(alloc, first.line, first.column, last.line, last.column)
+}

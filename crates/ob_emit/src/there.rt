@@ -1,0 +1,31 @@
+//! The declarations of a module that is reached, by their places in its interface.
+ghost use Rattle.std.specs.Prelude.{◌≡◌};
+ghost use Rattle.std.specs.Option.{option_map};
+ghost use Rattle.ob_interface.specs.Interfaces.{Declaration as DeclarationSeen};
+ghost use Rattle.ob_interface.specs.Answered.{declaration_told};
+ghost use Rattle.ob_emit.specs.Made.{step_told};
+ghost use Rattle.ob_emit.specs.Symbols.{step_by, step_there, steps_there};
+
+use crate::steps::{Nested, StepRow, in_block, in_record};
+use ob_interface::{Declaration, Interface};
+
+/// What a declaration is to paths.
+fn step_there<'a>(interface: &'a Interface, place: u32, it: &Declaration<'a>) -> Option<StepRow<'a>>
+    ensures { option_map step_told result ≡ step_there interface.now place (declaration_told it.now) }
+{
+    match it.record {
+        None => in_block(it.sort, it.name),
+        Some(record) => in_record(place, it.name, interface.owner(record)),
+    }
+}
+
+impl Nested for Interface {
+    ghost use Rattle.ob_emit.specs.Symbols.{steps_there};
+
+    ghost steps_in = { λ m. steps_there m };
+
+    fn step(&self, number: u32) -> Option<StepRow<'_>> {
+        let it = self.declaration_at(number)?;
+        step_there(self, number, &it)
+    }
+}
