@@ -1,0 +1,130 @@
+-- What the states of a board say of its core.
+use Rattle.std.proofs.Common.{◌≡◌, ◌<◌, ℕ, Bool, true, false, List, length, map, set, refl, sym, ap, ◌∙◌, arith, inl, inr}
+use Rattle.std.specs.Prelude.{Option, slice_index}
+use Rattle.std.proofs.lemmas.Bool.{cases_lt}
+use Rattle.std.proofs.Math.ListN.{get_or-map}
+use Rattle.std.proofs.lemmas.List.{get_or_past, map-set}
+use Rattle.work_board.specs.declared.state.State.{State}
+use Rattle.work_board.specs.declared.state.State.TheVariants.{Waiting, Free, Claimed, Delivered}
+use Rattle.work_board.specs.declared.claim.Claim.{Claim}
+use Rattle.work_board.specs.declared.claim.Claim.TheVariants.{Finished, Module, Later}
+use Rattle.work_board.specs.Graphs.{row_at, Modules}
+use Rattle.work_board.specs.Cores.{has_entry, is_claimed, Core, IsClaim, IsOver, IsReady}
+use Rattle.work_board.specs.Keeping.{open_of, state_at, taken, IsKept, IsLook, IsTold}
+use Rattle.work_board.proofs.Counting.{open_zero, open_none}
+
+abbrev pub core_of : {E : Type 0} → List (Option E) → List State → Bool → Core E
+core_of entries states abandoned = record { entries = entries; claimed = map taken states; abandoned = abandoned }
+
+pub told_free : (s : State) (k : ℕ) (there : Bool) → IsTold s k there → taken s ≡ false → k ≡ 0 → s ≡ Free
+told_free Waiting k there told is_not zero = absurd (omega arith)
+told_free Free k there told is_not zero = refl
+told_free Claimed k there told is_not zero = cc
+told_free Delivered k there told is_not zero = cc
+
+pub told_delivered : (s : State) (k : ℕ) (there : Bool) → IsTold s k there → there ≡ true → s ≡ Delivered
+told_delivered Waiting k there told is_so = cc
+told_delivered Free k there told is_so = cc
+told_delivered Claimed k there told is_so = cc
+told_delivered Delivered k there told is_so = refl
+
+pub told_there : (s : State) (k : ℕ) (there : Bool) → IsTold s k there → s ≡ Delivered → there ≡ true
+told_there Waiting k there told is_so = cc
+told_there Free k there told is_so = cc
+told_there Claimed k there told is_so = cc
+told_there Delivered k there told is_so = told.1
+
+pub told_none : (s : State) (k : ℕ) (there : Bool) → IsTold s k there → (s ≡ Delivered → ⊥) → there ≡ false
+told_none Waiting k there told is_not = told.1
+told_none Free k there told is_not = told.1
+told_none Claimed k there told is_not = told.1
+told_none Delivered k there told is_not = absurd (is_not refl)
+
+pub told_zero : (s : State) (k : ℕ) (there : Bool) → IsTold s k there → (s ≡ Waiting → ⊥) → k ≡ 0
+told_zero Waiting k there told is_not = absurd (is_not refl)
+told_zero Free k there told is_not = told.0
+told_zero Claimed k there told is_not = told.0
+told_zero Delivered k there told is_not = told.0
+
+pub told_claimed : (s : State) (k : ℕ) (there : Bool) → IsTold s k there → taken s ≡ true → there ≡ false → s ≡ Claimed
+told_claimed Waiting k there told is_so is_not = cc
+told_claimed Free k there told is_so is_not = cc
+told_claimed Claimed k there told is_so is_not = refl
+told_claimed Delivered k there told is_so is_not = cc
+
+pub stated_within : (states : List State) (n : ℕ) → (state_at states n ≡ Waiting → ⊥) → n < length states
+stated_within states n is_not = elim (cases_lt n (length states)) [ inl lt ↦ lt | inr le ↦ absurd (is_not (get_or_past states n Waiting le)) ]
+
+module _ {E : Type 0} (is_of : List ℕ → E → Type 0) (g : Modules) (waiting : List ℕ) (states : List State) (reached : List (List Bool)) (spare : List Bool) (entries : List (Option E)) (kept : IsKept is_of g waiting states reached spare entries) where
+  pub claimed_is : (abandoned : Bool) (n : ℕ) → is_claimed (core_of entries states abandoned) n ≡ taken (state_at states n)
+  claimed_is abandoned n = get_or-map taken states n Waiting
+
+  -- a claimed module that isn't delivered
+  pub claimed_state : (abandoned : Bool) (n : ℕ) → is_claimed (core_of entries states abandoned) n ≡ true → has_entry entries n ≡ false → (n < length states) × (state_at states n ≡ Claimed)
+  claimed_state abandoned n claimed none =
+      let is_taken : taken (state_at states n) ≡ true = sym (claimed_is abandoned n) ∙ claimed in
+      let within : n < length states = stated_within states n (λ (e : state_at states n ≡ Waiting). let f : taken (state_at states n) ≡ false = ap taken e in cc) in
+      let size = kept.states_size in
+      (within, told_claimed (state_at states n) (slice_index waiting n) (has_entry entries n) (kept.told n (omega arith)) is_taken none)
+
+  pub claimed_core : (abandoned : Bool) (n : ℕ) → state_at states n ≡ Claimed → (is_claimed (core_of entries states abandoned) n ≡ true) × (has_entry entries n ≡ false)
+  claimed_core abandoned n at_n =
+      let within : n < length states = stated_within states n (λ (e : state_at states n ≡ Waiting). cc) in
+      let size = kept.states_size in
+      (claimed_is abandoned n ∙ ap taken at_n, told_none (state_at states n) (slice_index waiting n) (has_entry entries n) (kept.told n (omega arith)) (λ (e : state_at states n ≡ Delivered). cc))
+
+  pub free_ready : (abandoned : Bool) (n : ℕ) → n < length states → state_at states n ≡ Free → IsReady g.imports (core_of entries states abandoned) n
+  free_ready abandoned n lt free =
+      let size = kept.states_size in
+      let below : n < length g.names = omega arith in
+      let zero : slice_index waiting n ≡ 0 = told_zero (state_at states n) (slice_index waiting n) (has_entry entries n) (kept.told n below) (λ (e : state_at states n ≡ Waiting). cc) in
+      let none : open_of entries (row_at g.imports n) ≡ 0 = sym (kept.count_open n below) ∙ zero in
+      let other = kept.entries_size in
+      record {
+        within = omega arith;
+        unclaimed = claimed_is abandoned n ∙ ap taken free;
+        imported = λ w h. open_zero entries (row_at g.imports n) none w h;
+      }
+
+  pub ready_free : (abandoned : Bool) (n : ℕ) → IsReady g.imports (core_of entries states abandoned) n → (n < length states) × (state_at states n ≡ Free)
+  ready_free abandoned n ready =
+      let size = kept.states_size in
+      let other = kept.entries_size in
+      let within = ready.within in
+      let below : n < length g.names = omega arith in
+      let none : open_of entries (row_at g.imports n) ≡ 0 = open_none entries (row_at g.imports n) ready.imported in
+      (omega arith, told_free (state_at states n) (slice_index waiting n) (has_entry entries n) (kept.told n below) (sym (claimed_is abandoned n) ∙ ready.unclaimed) (kept.count_open n below ∙ none))
+
+  pub not_over : (abandoned : Bool) → abandoned ≡ false → (n : ℕ) → n < length states → (state_at states n ≡ Delivered → ⊥) → IsOver (core_of entries states abandoned) → ⊥
+  not_over abandoned going n lt is_not over =
+      let size = kept.states_size in
+      let other = kept.entries_size in
+      let below : n < length g.names = omega arith in
+      elim over [
+        | inl is_so ↦ cc
+        | inr all ↦ is_not (told_delivered (state_at states n) (slice_index waiting n) (has_entry entries n) (kept.told n below) (all n (omega arith)))
+      ]
+
+  pub claims_other : (abandoned : Bool) → abandoned ≡ false → (claim : Claim) → IsLook states claim → ((n : ℕ) → claim ≡ Module n → ⊥)
+      → IsClaim g.imports (core_of entries states abandoned) claim (core_of entries states abandoned)
+  claims_other abandoned going Finished look other =
+      let size = kept.states_size in
+      let same = kept.entries_size in (
+        inr (λ n lt. told_there (state_at states n) (slice_index waiting n) (has_entry entries n) (kept.told n (omega arith)) (look n (omega arith))),
+        refl,
+      )
+  claims_other abandoned going Later look other = (
+    not_over abandoned going look.1.0 look.1.1 look.1.2,
+    (λ m ready. let f = ready_free abandoned m ready in look.0 m f.0 f.1),
+    refl,
+  )
+  claims_other abandoned going (Module n) look other = absurd (other n refl)
+
+  pub claims_module : (abandoned : Bool) → abandoned ≡ false → (n : ℕ) → IsLook states (Module n)
+      → IsClaim g.imports (core_of entries states abandoned) (Module n) (core_of entries (set states n Claimed) abandoned)
+  claims_module abandoned going n look = (
+    not_over abandoned going n look.0 (λ (e : state_at states n ≡ Delivered). let f : state_at states n ≡ Free = look.1 in cc),
+    free_ready abandoned n look.0 look.1,
+    (λ m ready. let f = ready_free abandoned m ready in elim (cases_lt m n) [ inl lt ↦ absurd (look.2 m lt f.1) | inr le ↦ le ]),
+    ap (λ (cs : List Bool). record (core_of entries states abandoned) { claimed = cs }) (map-set taken states n Claimed),
+  )

@@ -1,0 +1,11 @@
+pub mod Members
+pub mod Counting
+pub mod Releasing
+pub mod Claiming
+pub mod Marking
+pub mod Delivering
+pub mod Reaching
+pub mod Opening
+pub mod Turning
+pub mod Descending
+pub mod Resting

@@ -1,0 +1,86 @@
+-- A new board.
+use Rattle.std.proofs.Common.{◌≡◌, ◌<◌, ◌+◌, ℕ, zero, suc, Bool, true, false, List, [], ◌∷◌, ◌++◌, length, take, map, refl, sym, ap, ◌∙◌, arith, inl, inr, get_or}
+use Rattle.std.specs.Prelude.{Option, None, Some, is_some, slice_index, replicate}
+use Rattle.std.proofs.lemmas.Bool.{cases_lt}
+use Rattle.std.proofs.lemmas.List.{length-take, take_more, get_or-replicate, get_or_past, length-replicate, length-map, get_or-map}
+use Rattle.work_board.specs.declared.state.State.TheVariants.{Waiting}
+use Rattle.work_board.specs.Graphs.{row_at, Modules}
+use Rattle.work_board.specs.Cores.{entry_at, has_entry, shares_of, Core}
+use Rattle.work_board.specs.Marks.{marked}
+use Rattle.work_board.specs.Keeping.{freed, open_of, state_at, taken, IsKept, IsTold}
+
+pub constant : {X : Type 0} (count i : ℕ) (x : X) → get_or (replicate count x) i x ≡ x
+constant count i x =
+    elim (cases_lt i count) [
+      | inl lt ↦ get_or-replicate count i x x lt
+      | inr le ↦ get_or_past (replicate count x) i x (let l = length-replicate count x in omega arith)
+    ]
+
+pub nothing : (E : Type 0) (count i : ℕ) → entry_at {E = E} (replicate count None) i ≡ None
+nothing E count i = constant {X = Option E} count i None
+
+pub none_yet : (E : Type 0) (count i : ℕ) → has_entry {E = E} (replicate count None) i ≡ false
+none_yet E count i = ap is_some (nothing E count i)
+
+pub all_open : (E : Type 0) (count : ℕ) (row : List ℕ) → open_of {E = E} (replicate count None) row ≡ length row
+all_open E count [] = refl
+all_open E count (w ∷ row) = let rest = all_open E count row in let e = none_yet E count w in rw e (omega arith)
+
+pub first_told : (k : ℕ) → IsTold (freed Waiting k) k false
+first_told zero = (refl, refl)
+first_told (suc k) = (omega arith, refl)
+
+pub first_taken : (k : ℕ) → taken (freed Waiting k) ≡ false
+first_taken zero = refl
+first_taken (suc k) = refl
+
+pub first_claimed : (counts : List ℕ) → map taken (map (freed Waiting) counts) ≡ replicate (length counts) false
+first_claimed [] = refl
+first_claimed (k ∷ counts) = ap (λ b. b ∷ map taken (map (freed Waiting) counts)) (first_taken k) ∙ ap (λ r. false ∷ r) (first_claimed counts)
+
+pub core_same : {E : Type 0} (es fs : List (Option E)) (cs ds : List Bool) (a : Bool) → es ≡ fs → cs ≡ ds
+    → let c : Core E = record { entries = es; claimed = cs; abandoned = a } in c ≡ record { entries = fs; claimed = ds; abandoned = a }
+core_same {E = E} es fs cs ds a p q =
+    ap (λ (x : List (Option E)). record { entries = x; claimed = cs; abandoned = a }) p ∙ ap (λ (x : List Bool). record { entries = fs; claimed = x; abandoned = a }) q
+
+pub shares_append : {E X : Type 0} (f : E → X) (ms ns : List Bool) (es fs : List (Option E)) → length ms ≡ length es
+    → shares_of f (ms ++ ns) (es ++ fs) ≡ shares_of f ms es ++ shares_of f ns fs
+shares_append f [] ns [] fs e = refl
+shares_append f [] ns (x ∷ es) fs e = absurd (omega arith)
+shares_append f (m ∷ ms) ns [] fs e = absurd (omega arith)
+shares_append f (true ∷ ms) ns (Some x ∷ es) fs e = ap (λ r. f x ∷ r) (shares_append f ms ns es fs (omega arith))
+shares_append f (true ∷ ms) ns (None ∷ es) fs e = shares_append f ms ns es fs (omega arith)
+shares_append f (false ∷ ms) ns (x ∷ es) fs e = shares_append f ms ns es fs (omega arith)
+
+pub shares_more : {E X : Type 0} (f : E → X) (ms : List Bool) (es : List (Option E)) (i : ℕ) → length ms ≡ length es → i < length es → (b m' : Bool) → get_or ms i m' ≡ b
+    → (x d : Option E) → get_or es i d ≡ x
+    → shares_of f (take (i + 1) ms) (take (i + 1) es) ≡ shares_of f (take i ms) (take i es) ++ shares_of f (b ∷ []) (x ∷ [])
+shares_more f ms es i size lt b m' at_b x d at_x =
+    let m : take (i + 1) ms ≡ take i ms ++ b ∷ [] = take_more ms i m' (omega arith) ∙ ap (λ y. take i ms ++ y ∷ []) at_b in
+    let e : take (i + 1) es ≡ take i es ++ x ∷ [] = take_more es i d lt ∙ ap (λ y. take i es ++ y ∷ []) at_x in
+    let same : length (take i ms) ≡ length (take i es) = omega (arith, length-take i ms, length-take i es) in
+    rw (m, e) (shares_append f (take i ms) (b ∷ []) (take i es) (x ∷ []) same)
+
+pub opened : {E : Type 0} (is_of : List ℕ → E → Type 0) (g : Modules) (counts : List ℕ) → length counts ≡ length g.names
+    → ((m : ℕ) → m < length g.names → slice_index counts m ≡ length (row_at g.imports m)) → length g.imports ≡ length g.names
+    → IsKept is_of g counts (map (freed Waiting) counts) (replicate (length g.names) (replicate (length g.names) false)) (replicate (length g.names) false) (replicate (length g.names) None)
+opened {E = E} is_of g counts size counted rows =
+    let n = length g.names in
+    let at : (m : ℕ) → m < n → state_at (map (freed Waiting) counts) m ≡ freed Waiting (slice_index counts m) = λ m lt. get_or-map (freed Waiting) counts m 0 Waiting (omega arith) in
+    let row : (m : ℕ) → m < n → row_at (replicate n (replicate n false)) m ≡ replicate n false = λ m lt. get_or-replicate n m (replicate n false) [] lt in
+    record {
+      entries_size = length-replicate n None;
+      waiting_size = size;
+      states_size = length-map counts (freed Waiting) ∙ size;
+      reached_size = length-replicate n (replicate n false);
+      spare_size = length-replicate n false;
+      width = λ m lt. ap length (row m lt) ∙ length-replicate n false;
+      spare_clear = λ v. constant n v false;
+      count_open = λ m lt. counted m lt ∙ sym (all_open E n (row_at g.imports m));
+      told = λ m lt. rw (at m lt, none_yet E n m) (first_told (slice_index counts m));
+      own = λ m e is. let nothing_m = nothing E n m in cc;
+      marks = λ m v lt lv.
+          let none : marked (row_at (replicate n (replicate n false)) m) v ≡ false = ap (λ r. marked r v) (row m lt) ∙ constant n v false in
+          let no_entry = none_yet E n m in
+          ((λ e. cc), (λ both. let e = both.0 in cc));
+    }

@@ -1,0 +1,53 @@
+-- What a claimed module reaches.
+use Rattle.std.proofs.Common.{◌≡◌, ◌<◌, ℕ, Bool, true, false, List, [], ◌∷◌, length, refl, sym, ap, ◌∙◌, subst, arith, inl, inr}
+use Rattle.std.specs.Prelude.{◌↔◌, Option, slice_index}
+use Rattle.work_board.specs.declared.state.State.{State}
+use Rattle.work_board.specs.declared.state.State.TheVariants.{Waiting}
+use Rattle.work_board.specs.Graphs.{row_at, IsChain, IsGraph, Leads, Modules, Reaches}
+use Rattle.work_board.specs.Cores.{has_entry, is_claimed}
+use Rattle.work_board.specs.Marks.{IsMet}
+use Rattle.work_board.specs.Keeping.{state_at, taken, IsKept}
+use Rattle.work_board.proofs.Claiming.{claimed_is, core_of, stated_within, told_delivered, told_zero}
+use Rattle.work_board.proofs.Counting.{open_zero}
+use Rattle.work_board.proofs.Delivering.{member_below}
+
+module _ {E : Type 0} (is_of : List ℕ → E → Type 0) (g : Modules) (waiting : List ℕ) (states : List State) (reached : List (List Bool)) (spare : List Bool) (entries : List (Option E)) (kept : IsKept is_of g waiting states reached spare entries) where
+  pub taken_zero : (n : ℕ) → taken (state_at states n) ≡ true → (n < length g.names) × (slice_index waiting n ≡ 0)
+  taken_zero n is_taken =
+      let waits : (state_at states n ≡ Waiting) → ⊥ = λ (e : state_at states n ≡ Waiting). let f : taken (state_at states n) ≡ false = ap taken e in cc in
+      let within : n < length states = stated_within states n waits in
+      let size = kept.states_size in
+      (omega arith, told_zero (state_at states n) (slice_index waiting n) (has_entry entries n) (kept.told n (omega arith)) waits)
+
+  imports_of : (n : ℕ) → n < length g.names → slice_index waiting n ≡ 0 → (w : ℕ) → Leads g.imports n w → has_entry entries w ≡ true
+  imports_of n below zero w h = open_zero entries (row_at g.imports n) (sym (kept.count_open n below) ∙ zero) w h
+
+  entry_taken : IsGraph g → (m w : ℕ) → Leads g.imports m w → has_entry entries w ≡ true → taken (state_at states w) ≡ true
+  entry_taken graph m w leads there =
+      ap taken (told_delivered (state_at states w) (slice_index waiting w) (has_entry entries w) (kept.told w (member_below g graph m w leads)) there)
+
+  chain_there : IsGraph g → (n v : ℕ) (more : List ℕ) → taken (state_at states n) ≡ true → IsChain g.imports n more v → has_entry entries v ≡ true
+  chain_there graph n v [] is_taken leads = let z = taken_zero n is_taken in imports_of n z.0 z.1 v leads
+  chain_there graph n v (w ∷ more) is_taken chain =
+      let z = taken_zero n is_taken in
+      chain_there graph w v more (entry_taken graph n w chain.0 (imports_of n z.0 z.1 w chain.0)) chain.1
+
+  pub reaches_there : IsGraph g → (abandoned : Bool) (n v : ℕ) → is_claimed (core_of entries states abandoned) n ≡ true → Reaches g.imports n v → has_entry entries v ≡ true
+  reaches_there graph abandoned n v claimed r =
+      chain_there graph n v r.0 (sym (claimed_is is_of g waiting states reached spare entries kept abandoned n) ∙ claimed) r.1
+
+  from_chain : IsGraph g → (n : ℕ) → n < length g.names → slice_index waiting n ≡ 0 → (v : ℕ) → v < length g.names → (more : List ℕ) → IsChain g.imports n more v → IsMet reached (row_at g.imports n) v
+  from_chain graph n below zero v lt [] leads = (v, leads, inl refl)
+  from_chain graph n below zero v lt (w ∷ more) chain = (w, chain.0, inr ((kept.marks w v (member_below g graph n w chain.0) lt).1 (imports_of n below zero w chain.0, (more, chain.1))))
+
+  pub meets : IsGraph g → (n : ℕ) → taken (state_at states n) ≡ true → (v : ℕ) → v < length g.names → IsMet reached (row_at g.imports n) v ↔ Reaches g.imports n v
+  meets graph n is_taken v lt =
+      let z = taken_zero n is_taken in (
+        (λ met. elim met.2 [
+          | inl same ↦ let P : ℕ → Type 0 = Leads g.imports n in ([], subst P same met.1)
+          | inr mark ↦
+              let r = (kept.marks met.0 v (member_below g graph n met.0 met.1) lt).0 mark in
+              (met.0 ∷ r.1.0, (met.1, r.1.1))
+        ]),
+        (λ r. from_chain graph n z.0 z.1 v lt r.0 r.1),
+      )

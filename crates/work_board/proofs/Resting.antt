@@ -1,0 +1,57 @@
+-- A board whose workers are gone.
+use Rattle.std.proofs.Common.{◌≡◌, ℕ, Bool, false, List, length, map, sym, ap, ◌∙◌, arith}
+use Rattle.std.specs.Prelude.{Option, None, is_some, slice_index}
+use Rattle.std.proofs.lemmas.List.{ext_get_or, length-map}
+use Rattle.std.proofs.Math.ListN.{get_or-map}
+use Rattle.work_board.specs.declared.state.State.{State}
+use Rattle.work_board.specs.declared.state.State.TheVariants.{Waiting, Free, Claimed, Delivered}
+use Rattle.work_board.specs.Graphs.{Modules}
+use Rattle.work_board.specs.Cores.{has_entry, taken_back, Core, IsIdle}
+use Rattle.work_board.specs.Keeping.{let_go, state_at, taken, IsKept, IsTold}
+
+pub told_let_go : (s : State) (k : ℕ) (there : Bool) → IsTold s k there → IsTold (let_go s) k there
+told_let_go Waiting k there told = told
+told_let_go Free k there told = told
+told_let_go Claimed k there told = told
+told_let_go Delivered k there told = told
+
+taken_let_go : (s : State) (k : ℕ) (there : Bool) → IsTold s k there → taken (let_go s) ≡ there
+taken_let_go Waiting k there told = sym told.1
+taken_let_go Free k there told = sym told.1
+taken_let_go Claimed k there told = sym told.1
+taken_let_go Delivered k there told = sym told.1
+
+pub state_let_go : (states : List State) (n : ℕ) → state_at (map let_go states) n ≡ let_go (state_at states n)
+state_let_go states n = get_or-map let_go states n Waiting
+
+-- what is claimed in a core that was taken back is delivered
+pub back_idle : {E : Type 0} (c : Core E) → IsIdle (taken_back c)
+back_idle c n claimed = sym (get_or-map is_some c.entries n None) ∙ claimed
+
+module _ {E : Type 0} (is_of : List ℕ → E → Type 0) (g : Modules) (waiting : List ℕ) (states : List State) (reached : List (List Bool)) (spare : List Bool) (entries : List (Option E)) (kept : IsKept is_of g waiting states reached spare entries) where
+  pub back_kept : IsKept is_of g waiting (map let_go states) reached spare entries
+  back_kept = record {
+    entries_size = kept.entries_size;
+    waiting_size = kept.waiting_size;
+    states_size = length-map states let_go ∙ kept.states_size;
+    reached_size = kept.reached_size;
+    spare_size = kept.spare_size;
+    width = kept.width;
+    spare_clear = kept.spare_clear;
+    count_open = kept.count_open;
+    told = λ m lt. rw (state_let_go states m) (told_let_go (state_at states m) (slice_index waiting m) (has_entry entries m) (kept.told m lt));
+    own = kept.own;
+    marks = kept.marks;
+  }
+
+  pub back_claimed : map taken (map let_go states) ≡ map is_some entries
+  back_claimed =
+      let sizes : length states ≡ length entries = kept.states_size ∙ sym kept.entries_size in
+      let l = length-map states let_go in
+      let t = length-map (map let_go states) taken in
+      let e = length-map entries is_some in
+      ext_get_or false (map taken (map let_go states)) (map is_some entries) (omega arith) (λ m lt.
+      let size = kept.states_size in
+      get_or-map taken (map let_go states) m Waiting ∙ ap taken (state_let_go states m)
+      ∙ taken_let_go (state_at states m) (slice_index waiting m) (has_entry entries m) (kept.told m (omega arith))
+      ∙ sym (get_or-map is_some entries m None))

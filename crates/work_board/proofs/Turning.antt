@@ -1,0 +1,61 @@
+-- Rows of what imports a module.
+use Rattle.std.proofs.Common.{◌≡◌, ◌<◌, ◌+◌, ℕ, Bool, List, [], ◌∷◌, ◌++◌, length, set, refl, sym, ap, ◌∙◌, subst, arith, inl, inr, get_or}
+use Rattle.std.specs.Prelude.{◌==◌, cond, All}
+use Rattle.std.proofs.lemmas.Bool.{cases_eq, cases_lt, eq-eqb}
+use Rattle.std.proofs.lemmas.List.{get_or-set_same, get_or-set_other, get_or_append_left, length-append}
+use Rattle.std.proofs.Math.Seq.{get_or-append_seam}
+use Rattle.std.proofs.lemmas.List.Sums.{sum_by-append}
+use Rattle.work_board.specs.Graphs.{row_at, times}
+use Rattle.work_board.proofs.Counting.{differ}
+
+pub snoc_same : (m : ℕ) (r : List ℕ) → times m (r ++ m ∷ []) ≡ times m r + 1
+snoc_same m r =
+    let e = sum_by-append (λ x. cond (x == m) 1 0) r (m ∷ []) in
+    let one : Bool → ℕ = λ b. cond b 1 0 in
+    let t : one (m == m) ≡ 1 = ap one (eq-eqb m m refl) in
+    omega (arith, e, t)
+
+pub snoc_other : (m x : ℕ) (r : List ℕ) → (m ≡ x → ⊥) → times x (r ++ m ∷ []) ≡ times x r
+snoc_other m x r other =
+    let e = sum_by-append (λ y. cond (y == x) 1 0) r (m ∷ []) in
+    let one : Bool → ℕ = λ b. cond b 1 0 in
+    let t : one (m == x) ≡ 0 = ap one (differ m x other) in
+    omega (arith, e, t)
+
+pub snoc_within : (k m : ℕ) (r : List ℕ) → m < k → All (λ w. w < k) r → All (λ w. w < k) (r ++ m ∷ [])
+snoc_within k m r lt all i d below =
+    let l = length-append r (m ∷ []) in
+    elim (cases_lt i (length r)) [
+      | inl before ↦ let e : get_or (r ++ m ∷ []) i d ≡ get_or r i d = get_or_append_left r (m ∷ []) d i before in rw e (all i d before)
+      | inr after ↦
+          let at : i ≡ length r = omega arith in
+          let e : get_or (r ++ m ∷ []) (length r) d ≡ m = get_or-append_seam r m [] d in
+          rw (at, e) lt
+    ]
+
+module _ (rows new : List (List ℕ)) (at m : ℕ) (lt : at < length rows) (is : new ≡ set rows at (row_at rows at ++ m ∷ [])) where
+  here : row_at new at ≡ row_at rows at ++ m ∷ []
+  here = ap (λ rs. row_at rs at) is ∙ get_or-set_same rows at (row_at rows at ++ m ∷ []) [] lt
+
+  there : (n : ℕ) → (n ≡ at → ⊥) → row_at new n ≡ row_at rows n
+  there n other = ap (λ rs. row_at rs n) is ∙ get_or-set_other rows at n (row_at rows at ++ m ∷ []) [] other
+
+  pub pushed_same : times m (row_at new at) ≡ times m (row_at rows at) + 1
+  pushed_same = ap (times m) here ∙ snoc_same m (row_at rows at)
+
+  pub pushed_away : (n x : ℕ) → (n ≡ at → ⊥) → times x (row_at new n) ≡ times x (row_at rows n)
+  pushed_away n x other = ap (times x) (there n other)
+
+  pub pushed_other : (n x : ℕ) → (x ≡ m → ⊥) → times x (row_at new n) ≡ times x (row_at rows n)
+  pushed_other n x other =
+      elim (cases_eq n at) [
+        | inl same ↦ ap (λ k. times x (row_at new k)) same ∙ ap (times x) here ∙ snoc_other m x (row_at rows at) (λ e. other (sym e)) ∙ sym (ap (λ k. times x (row_at rows k)) same)
+        | inr away ↦ pushed_away n x away
+      ]
+
+  pub pushed_within : (k : ℕ) → m < k → ((n : ℕ) → All (λ w. w < k) (row_at rows n)) → (n : ℕ) → All (λ w. w < k) (row_at new n)
+  pushed_within k below all n =
+      elim (cases_eq n at) [
+        | inl same ↦ subst (λ (r : List ℕ). All (λ w. w < k) r) (sym (ap (row_at new) same ∙ here)) (snoc_within k m (row_at rows at) below (all at))
+        | inr away ↦ subst (λ (r : List ℕ). All (λ w. w < k) r) (sym (there n away)) (all n)
+      ]

@@ -1,0 +1,18 @@
+use Rattle.std.proofs.Common.{subst}
+use Rattle.work_board.specs.Graphs.{lists}
+use Rattle.work_board.specs.Keeping.{IsLook}
+use Rattle.work_board.specs.declared.claim.Claim.TheVariants.{Module}
+use Rattle.work_board.proofs.Claiming.{claims_module, claims_other}
+use Rattle.work_board.proofs.board.Board.claim.Goals as goal
+
+pub returns-in-Module : goal.returns-in-Module
+returns-in-Module g c =
+    let b = c.self.inside in
+    let look = subst (λ ss. IsLook ss (Module c.in-Module.number)) c.as_slice.ensures.value c.in-Module.ensures in
+    rw (← c.self.view_is) (claims_module g.E.WorkEntry.is_of g.T.NamedTree.graph b.waiting.items b.states.items (lists b.reached.items) b.spare.items b.entries.items c.self.invariant.1 b.abandoned c.if-self.false c.in-Module.number look)
+
+pub returns-in_default : goal.returns-in_default
+returns-in_default g c =
+    let b = c.self.inside in
+    let look = subst (λ ss. IsLook ss c.look-claim.result) c.as_slice.ensures.value c.look-claim.ensures in
+    rw (← c.self.view_is) (claims_other g.E.WorkEntry.is_of g.T.NamedTree.graph b.waiting.items b.states.items (lists b.reached.items) b.spare.items b.entries.items c.self.invariant.1 b.abandoned c.if-self.false c.look-claim.result look c.in_default.not-Module)

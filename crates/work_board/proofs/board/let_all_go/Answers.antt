@@ -1,0 +1,16 @@
+use Rattle.std.proofs.Common.{map, sym, ◌∙◌, arith}
+use Rattle.std.proofs.lemmas.List.{ext_get_or, length-map}
+use Rattle.work_board.specs.declared.state.State.TheVariants.{Waiting}
+use Rattle.work_board.specs.Keeping.{let_go}
+use Rattle.work_board.proofs.Resting.{state_let_go}
+use Rattle.work_board.proofs.board.let_all_go.Goals as goal
+
+pub returns : goal.returns
+returns c =
+    let old = c.args.states.now in
+    let now = c.loop-place.states in
+    let l = length-map old let_go in
+    let same = c.loop-place.auto.states in
+    let end = c.loop-place-test.false in
+    ext_get_or Waiting now (map let_go old) (omega arith) (λ k lt.
+    c.loop-place.invariant.done k (omega arith) ∙ sym (state_let_go old k))

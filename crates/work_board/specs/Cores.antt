@@ -1,0 +1,93 @@
+-- The core of a board: the entries by number, the claimed modules, and a mark that one was abandoned; and its cases.
+use Rattle.std.specs.Prelude.{◌≡◌, ℕ, ◌<◌, ◌≤◌, ◌⊎◌, ◌||◌, ◌&&◌, not, List, [], ◌∷◌, ◌↔◌, replicate, length, map, slice_index_or, slice_set, Bool, true, false, Option, None, Some, is_none, is_some, count_by, Result, Ok, Err}
+use Rattle.work_board.specs.declared.claim.Claim.{Claim}
+use Rattle.work_board.specs.declared.claim.Claim.TheVariants.{Finished, Module, Later}
+use Rattle.work_board.specs.declared.claim.BoardFault.{BoardFault}
+use Rattle.work_board.specs.declared.claim.BoardFault.TheVariants.{NotClaimed, Twice, WrongModule, Memory}
+use Rattle.work_board.specs.Graphs.{row_at, Leads, Reaches}
+
+pub record Core (E : Type 0) : Type 0 where
+  pub entries : List (Option E)
+  pub claimed : List Bool
+  pub abandoned : Bool
+
+module _ {E : Type 0} where
+  abbrev pub entry_at : List (Option E) → ℕ → Option E
+  entry_at entries n = slice_index_or entries n None
+
+  -- the module is delivered
+  abbrev pub has_entry : List (Option E) → ℕ → Bool
+  has_entry entries n = is_some (entry_at entries n)
+
+  abbrev pub is_claimed : Core E → ℕ → Bool
+  is_claimed c n = slice_index_or c.claimed n false
+
+  -- all is delivered, or a module was abandoned
+  abbrev pub IsOver : Core E → Type 0
+  IsOver c = (c.abandoned ≡ true) ⊎ ((n : ℕ) → n < length c.entries → has_entry c.entries n ≡ true)
+
+  -- no worker holds a module: each that is claimed is delivered
+  abbrev pub IsIdle : Core E → Type 0
+  IsIdle c = (n : ℕ) → is_claimed c n ≡ true → has_entry c.entries n ≡ true
+
+  -- nobody claimed the module, and its imports are delivered
+  pub record IsReady (imports : List (List ℕ)) (c : Core E) (n : ℕ) : Type 0 where
+    pub within : n < length c.entries
+    pub unclaimed : is_claimed c n ≡ false
+    pub imported : (w : ℕ) → Leads imports n w → has_entry c.entries w ≡ true
+
+  -- the cases of a claim
+  abbrev pub IsClaim : List (List ℕ) → Core E → Claim → Core E → Type 0
+  IsClaim imports c Finished d = IsOver c × (d ≡ c)
+  IsClaim imports c (Module n) d =
+      (IsOver c → ⊥) × IsReady imports c n × ((m : ℕ) → IsReady imports c m → n ≤ m) × (d ≡ record c { claimed = slice_set c.claimed n true })
+  IsClaim imports c Later d = (IsOver c → ⊥) × ((m : ℕ) → IsReady imports c m → ⊥) × (d ≡ c)
+
+  -- why a delivery is refused, in the order of testing, or that it isn't
+  abbrev pub IsRefusal : List (List ℕ) → List ℕ → Core E → ℕ → Option BoardFault → Type 0
+  IsRefusal names name c n None = (is_claimed c n ≡ true) × (has_entry c.entries n ≡ false) × (name ≡ row_at names n)
+  IsRefusal names name c n (Some NotClaimed) = is_claimed c n ≡ false
+  IsRefusal names name c n (Some Twice) = (is_claimed c n ≡ true) × (has_entry c.entries n ≡ true)
+  IsRefusal names name c n (Some WrongModule) = (is_claimed c n ≡ true) × (has_entry c.entries n ≡ false) × (name ≡ row_at names n → ⊥)
+  IsRefusal names name c n (Some Memory) = ⊥
+
+  -- the cases of a delivery: the entry is put in, or handed back
+  abbrev pub IsDelivery : List (List ℕ) → List ℕ → E → ℕ → Core E → Result (Unit {0}) (BoardFault × E) → Core E → Type 0
+  IsDelivery names name e n c (Ok _) d = IsRefusal names name c n None × (d ≡ record c { entries = slice_set c.entries n (Some e) })
+  IsDelivery names name e n c (Err r) d = IsRefusal names name c n (Some r.0) × (r.1 ≡ e) × (d ≡ c)
+
+  -- an abandoned module is claimed and not delivered
+  abbrev pub abandoned_after : Core E → ℕ → Bool
+  abandoned_after c n = c.abandoned || (is_claimed c n && not (has_entry c.entries n))
+
+  -- claimed is what is delivered
+  abbrev pub taken_back : Core E → Core E
+  taken_back c = record c { claimed = map is_some c.entries }
+
+  -- how many modules aren't delivered
+  abbrev pub missing : Core E → ℕ
+  missing c = count_by is_none c.entries
+
+  -- each entry is the entry of its module, by its name
+  abbrev pub AreOf : (List ℕ → E → Type 0) → List (List ℕ) → List (Option E) → Type 0
+  AreOf is_of names entries = (n : ℕ) (e : E) → entry_at entries n ≡ Some e → is_of (row_at names n) e
+
+-- the shared parts of the entries with a mark, in order
+abbrev pub shares_of : {E X : Type 0} → (E → X) → List Bool → List (Option E) → List X
+shares_of f [] entries = []
+shares_of f (mark ∷ marks) [] = []
+shares_of f (true ∷ marks) (Some e ∷ entries) = f e ∷ shares_of f marks entries
+shares_of f (true ∷ marks) (None ∷ entries) = shares_of f marks entries
+shares_of f (false ∷ marks) (entry ∷ entries) = shares_of f marks entries
+
+-- the parts are those of all that n reaches, ascending by number, and all of these are delivered
+pub record AreShares {E X : Type 0} (f : E → X) (imports : List (List ℕ)) (c : Core E) (n : ℕ) (parts : List X) : Type 0 where
+  pub marks : List Bool
+  pub size : length marks ≡ length c.entries
+  pub reached : (v : ℕ) → v < length c.entries → (slice_index_or marks v false ≡ true) ↔ Reaches imports n v
+  pub there : (v : ℕ) → Reaches imports n v → has_entry c.entries v ≡ true
+  pub parts_are : parts ≡ shares_of f marks c.entries
+
+-- a new board of so many modules
+abbrev pub new_core : {E : Type 0} → ℕ → Core E
+new_core count = record { entries = replicate count None; claimed = replicate count false; abandoned = false }

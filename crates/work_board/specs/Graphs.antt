@@ -1,0 +1,51 @@
+-- Graphs of modules: what each imports, by numbers, and chains of imports.
+use Rattle.std.specs.Prelude.{◌≡◌, ℕ, ◌<◌, ◌≤◌, ◌==◌, List, [], ◌∷◌, length, map, slice_index_or, count_by, All, Contains, Vec}
+use Rattle.std.specs.declared.alloc.Global.{Global}
+
+-- the names of the modules by number, and what each imports
+pub record Modules : Type 0 where
+  pub names : List (List ℕ)
+  pub imports : List (List ℕ)
+
+-- the lists of a vector of vectors
+abbrev pub lists : {X : Type 0} → List (Vec X Global) → List (List X)
+lists rows = map (λ r. r.items) rows
+
+abbrev pub row_at : {X : Type 0} → List (List X) → ℕ → List X
+row_at rows n = slice_index_or rows n []
+
+-- how often n stands in the row
+abbrev pub times : ℕ → List ℕ → ℕ
+times n row = count_by (λ x. x == n) row
+
+-- as many rows as names, at most 4,096, each of at most 65,536 imports, and each import is a module
+pub record IsGraph (g : Modules) : Type 0 where
+  pub size : length g.imports ≡ length g.names
+  pub few : length g.names ≤ 4096
+  pub short : (m : ℕ) → length (row_at g.imports m) ≤ 65536
+  pub within : (m : ℕ) → All (λ w. w < length g.names) (row_at g.imports m)
+
+-- each row is of at most 65,536 numbers below the count
+abbrev pub AreRows : List (List ℕ) → ℕ → Type 0
+AreRows rows count = (m : ℕ) → (length (row_at rows m) ≤ 65536) × All (λ w. w < count) (row_at rows m)
+
+-- the row of n has m as often as the row of m has n
+abbrev pub AreTurned : List (List ℕ) → List (List ℕ) → Type 0
+AreTurned imports importers = (m n : ℕ) → times m (row_at importers n) ≡ times n (row_at imports m)
+
+-- m imports n
+abbrev pub Leads : List (List ℕ) → ℕ → ℕ → Type 0
+Leads imports m n = Contains (row_at imports m) n
+
+-- each imports the next: the first, those of the list, and then the end
+abbrev pub IsChain : List (List ℕ) → ℕ → List ℕ → ℕ → Type 0
+IsChain imports m [] b = Leads imports m b
+IsChain imports m (n ∷ more) b = Leads imports m n × IsChain imports n more b
+
+-- m reaches b by one or more imports
+abbrev pub Reaches : List (List ℕ) → ℕ → ℕ → Type 0
+Reaches imports m b = (more : List ℕ) × IsChain imports m more b
+
+-- no module reaches itself
+abbrev pub IsAcyclic : List (List ℕ) → Type 0
+IsAcyclic imports = (m : ℕ) → Reaches imports m m → ⊥

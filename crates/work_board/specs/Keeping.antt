@@ -1,0 +1,73 @@
+-- What every board keeps.
+use Rattle.std.specs.Prelude.{◌≡◌, ℕ, ◌<◌, ◌↔◌, zero, suc, List, [], length, slice_index, slice_index_or, cond, ◌+◌, ◌∷◌, Bool, true, false, Option}
+use Rattle.work_board.specs.declared.state.State.{State}
+use Rattle.work_board.specs.declared.state.State.TheVariants.{Waiting, Free, Claimed, Delivered}
+use Rattle.work_board.specs.declared.claim.Claim.{Claim}
+use Rattle.work_board.specs.declared.claim.Claim.TheVariants.{Finished, Module, Later}
+use Rattle.work_board.specs.Graphs.{row_at, Modules, Reaches}
+use Rattle.work_board.specs.Cores.{has_entry, AreOf}
+use Rattle.work_board.specs.Marks.{marked}
+
+abbrev pub state_at : List State → ℕ → State
+state_at states n = slice_index_or states n Waiting
+
+-- claimed, perhaps delivered too
+abbrev pub taken : State → Bool
+taken Waiting = false
+taken Free = false
+taken Claimed = true
+taken Delivered = true
+
+-- the state once its worker is gone
+abbrev pub let_go : State → State
+let_go Waiting = Waiting
+let_go Free = Free
+let_go Claimed = Free
+let_go Delivered = Delivered
+
+-- what a state says of the count of open imports and of the entry
+abbrev pub IsTold : State → ℕ → Bool → Type 0
+IsTold Waiting count there = (0 < count) × (there ≡ false)
+IsTold Free count there = (count ≡ 0) × (there ≡ false)
+IsTold Claimed count there = (count ≡ 0) × (there ≡ false)
+IsTold Delivered count there = (count ≡ 0) × (there ≡ true)
+
+-- how many imports of a row aren't delivered
+abbrev pub open_of : {E : Type 0} → List (Option E) → List ℕ → ℕ
+open_of entries [] = 0
+open_of entries (w ∷ row) = cond (has_entry entries w) 0 1 + open_of entries row
+
+-- the least free module; or none, and all are delivered or not
+abbrev pub IsLook : List State → Claim → Type 0
+IsLook states Finished = (k : ℕ) → k < length states → state_at states k ≡ Delivered
+IsLook states (Module n) = (n < length states) × (state_at states n ≡ Free) × ((k : ℕ) → k < n → state_at states k ≡ Free → ⊥)
+IsLook states Later = ((k : ℕ) → k < length states → state_at states k ≡ Free → ⊥) × ((k : ℕ) × (k < length states) × (state_at states k ≡ Delivered → ⊥))
+
+module _ {E : Type 0} (is_of : List ℕ → E → Type 0) (g : Modules) where
+  pub record IsKept (waiting : List ℕ) (states : List State) (reached : List (List Bool)) (spare : List Bool) (entries : List (Option E)) : Type 0 where
+    pub entries_size : length entries ≡ length g.names
+    pub waiting_size : length waiting ≡ length g.names
+    pub states_size : length states ≡ length g.names
+    pub reached_size : length reached ≡ length g.names
+    pub spare_size : length spare ≡ length g.names
+    pub width : (n : ℕ) → n < length g.names → length (row_at reached n) ≡ length g.names
+    pub spare_clear : (v : ℕ) → marked spare v ≡ false
+    pub count_open : (m : ℕ) → m < length g.names → slice_index waiting m ≡ open_of entries (row_at g.imports m)
+    pub told : (m : ℕ) → m < length g.names → IsTold (state_at states m) (slice_index waiting m) (has_entry entries m)
+    pub own : AreOf is_of g.names entries
+    pub marks : (m v : ℕ) → m < length g.names → v < length g.names → (marked (row_at reached m) v ≡ true) ↔ ((has_entry entries m ≡ true) × Reaches g.imports m v)
+
+-- what a release leaves of a state, by the count that is left
+abbrev pub freed : State → ℕ → State
+freed Waiting zero = Free
+freed Waiting (suc n) = Waiting
+freed Free n = Free
+freed Claimed n = Claimed
+freed Delivered n = Delivered
+
+-- the count of a module with open imports, and of one without
+abbrev pub IsFit : State → ℕ → Type 0
+IsFit Waiting count = 0 < count
+IsFit Free count = count ≡ 0
+IsFit Claimed count = count ≡ 0
+IsFit Delivered count = count ≡ 0

@@ -1,0 +1,10 @@
+-- Rows of marks for what each module reaches.
+use Rattle.std.specs.Prelude.{◌≡◌, ℕ, ◌⊎◌, List, slice_index_or, Bool, true, false, Contains}
+use Rattle.work_board.specs.Graphs.{row_at}
+
+abbrev pub marked : List Bool → ℕ → Bool
+marked marks v = slice_index_or marks v false
+
+-- the row has v, or one whose row of marks has it
+abbrev pub IsMet : List (List Bool) → List ℕ → ℕ → Type 0
+IsMet reached row v = (w : ℕ) × Contains row w × ((w ≡ v) ⊎ (marked (row_at reached w) v ≡ true))

@@ -1,0 +1,372 @@
+//! The board: what is claimed, what is delivered, and what each delivered module reaches.
+ghost use Rattle.std.specs.Prelude.{◌≡◌, ◌<◌, ◌≤◌, ◌+◌, ◌⊎◌, ◌↔◌, ℕ, true, false, length, map, replicate, All, IfOk, IfErr, IfSome, OnOk, [], ◌∷◌, ◌++◌, slice_index, slice_set, None, Some};
+ghost use Rattle.std.specs.Arc.{arc_value};
+ghost use Rattle.work_board.specs.Graphs.{row_at, times, IsAcyclic, Reaches};
+ghost use Rattle.work_board.specs.Cores.{abandoned_after, entry_at, has_entry, is_claimed, new_core, shares_of, taken_back, AreOf, AreShares, IsClaim, IsDelivery, IsIdle, IsOver, IsReady, IsRefusal};
+ghost use Rattle.work_board.specs.Keeping.{freed, let_go, state_at, taken, IsFit, IsLook};
+
+use crate::marks::{clear_row, clear_rows, fill_row, marks_of};
+use crate::state::State;
+use crate::{BoardFault, Claim, Graph, NamedTree, WorkEntry};
+use std::alloc::{AllocError, Global};
+use std::marker::{Model, PhantomData};
+use std::sync::Arc;
+
+/// The work on the modules of a graph, for a lock: workers claim modules by number, make their entries and deliver them. A
+/// module is ready once all that it imports is delivered. Memory is taken by `new` and `interfaces` alone. The type names
+/// the graph.
+#[derive(Drop)]
+pub struct Board<'g, T: NamedTree, E: WorkEntry> {
+    graph: &'g Graph,
+    /// Per module its entry.
+    entries: Vec<Option<E>>,
+    states: Vec<State>,
+    /// Per module how many of its imports aren't delivered.
+    waiting: Vec<u32>,
+    /// Per delivered module what it reaches; the other rows are clear.
+    reached: Vec<Vec<bool>>,
+    /// A clear row.
+    spare: Vec<bool>,
+    abandoned: bool,
+    of: PhantomData<T>,
+}
+
+impl<'g, T: NamedTree, E: WorkEntry> Model for Board<'g, T, E> {
+    ghost use Rattle.std.specs.Prelude.{◌≡◌, map};
+    ghost use Rattle.work_board.specs.Graphs.{lists};
+    ghost use Rattle.work_board.specs.Cores.{Core};
+    ghost use Rattle.work_board.specs.Keeping.{taken, IsKept};
+
+    ghost Value = { Core E };
+
+    ghost view = { λ b. record { entries = b.entries.items; claimed = map taken b.states.items; abandoned = b.abandoned } };
+
+    ghost invariant = { λ b. (b.graph.now ≡ T.graph) × IsKept E.is_of T.graph b.waiting.items b.states.items (lists b.reached.items) b.spare.items b.entries.items };
+}
+
+/// The least free module; with none, whether all are delivered.
+fn look(states: &[State]) -> Claim
+    requires { length states.now ≤ 4096 }
+    ensures { IsLook states.now result }
+{
+    let mut finished = true;
+    for place in 0..states.len() {
+        match states[place] {
+            State::Free => {
+                return Claim::Module {
+                    number: place as u32,
+                };
+            }
+            State::Delivered => {}
+            State::Waiting | State::Claimed => finished = false,
+        }
+    }
+    if finished {
+        Claim::Finished
+    } else {
+        Claim::Later
+    }
+}
+
+/// The state of a module; waiting past the end.
+fn state_of(states: &[State], place: usize) -> State
+    ensures value { result ≡ state_at states.now place }
+    ensures within { (result ≡ State.Waiting → ⊥) → place < length states.now }
+{
+    if place < states.len() {
+        states[place]
+    } else {
+        State::Waiting
+    }
+}
+
+/// One import less is open for each of these modules. Those with none left are free.
+fn release(waiting: &mut [u32], states: &mut [State], importers: &[u32])
+    requires size { length states.old ≡ length waiting.old }
+    requires within { All (λ m. m < length waiting.old) importers.now }
+    requires counted { (m : ℕ) → m < length waiting.old → times m importers.now ≤ slice_index waiting.old m }
+    requires told { (m : ℕ) → m < length waiting.old → IsFit (state_at states.old m) (slice_index waiting.old m) }
+    ensures waiting { (m : ℕ) → m < length waiting.old → slice_index waiting.new m + times m importers.now ≡ slice_index waiting.old m }
+    ensures states { (m : ℕ) → m < length waiting.old → state_at states.new m ≡ freed (state_at states.old m) (slice_index waiting.new m) }
+{
+    for module in importers {
+        let place = *module as usize;
+        waiting[place] -= 1;
+        if waiting[place] == 0 {
+            states[place] = State::Free;
+        }
+    }
+}
+
+fn no_entries<E: WorkEntry>(alloc: Global, count: usize) -> Result<Vec<Option<E>>, AllocError>
+    ensures { IfOk result (λ entries. entries.items ≡ replicate count None) }
+{
+    let mut entries = Vec::with_capacity(alloc, count)?;
+    for _ in 0..count {
+        entries.push(None)?;
+    }
+    Ok(entries)
+}
+
+/// Per module how many imports it has.
+fn counts_of(alloc: Global, graph: &Graph) -> Result<Vec<u32>, AllocError>
+    ensures size { IfOk result (λ counts. length counts.items ≡ length graph.now.names) }
+    ensures counts { IfOk result (λ counts. (m : ℕ) → m < length graph.now.names → slice_index counts.items m ≡ length (row_at graph.now.imports m)) }
+{
+    graph.keeps();
+    let count = graph.modules();
+    let mut counts = Vec::with_capacity(alloc, count as usize)?;
+    for module in 0..count {
+        counts.push(graph.imports_of(module).len() as u32)?;
+    }
+    Ok(counts)
+}
+
+/// A module without imports is free.
+fn states_of(alloc: Global, counts: &[u32]) -> Result<Vec<State>, AllocError>
+    ensures { IfOk result (λ states. states.items ≡ map (freed State.Waiting) counts.now) }
+{
+    let mut states = Vec::with_capacity(alloc, counts.len())?;
+    for count in counts {
+        states.push(if *count == 0 {
+            State::Free
+        } else {
+            State::Waiting
+        })?;
+    }
+    Ok(states)
+}
+
+/// Lets each module go that is claimed and not delivered.
+fn let_all_go(states: &mut [State])
+    ensures { states.new ≡ map let_go states.old }
+{
+    for place in 0..states.len() {
+        if let State::Claimed = states[place] {
+            states[place] = State::Free;
+        }
+    }
+}
+
+/// Adds the shared part of an entry that is there.
+fn add_share<E: WorkEntry>(
+    parts: &mut Vec<Arc<E::Shared>>,
+    entry: &Option<E>,
+) -> Result<(), AllocError>
+    ensures { OnOk result (map arc_value parts.new.items ≡ map arc_value parts.old.items ++ shares_of E.shared_of (true ∷ []) (entry.now ∷ [])) }
+{
+    match entry {
+        Some(entry) => {
+            parts.push(Arc::try_clone(entry.shared())?)?;
+            Ok(())
+        }
+        None => Ok(()),
+    }
+}
+
+/// The shared parts of the entries with a mark.
+fn shares<E: WorkEntry>(
+    alloc: Global,
+    marks: &[bool],
+    entries: &[Option<E>],
+) -> Result<Vec<Arc<E::Shared>>, AllocError>
+    requires { length marks.now ≡ length entries.now }
+    ensures { IfOk result (λ parts. map arc_value parts.items ≡ shares_of E.shared_of marks.now entries.now) }
+{
+    let mut parts = Vec::new(alloc);
+    for place in 0..entries.len() {
+        if marks[place] {
+            add_share(&mut parts, &entries[place])?;
+        }
+    }
+    Ok(parts)
+}
+
+/// Whether a module is claimed, perhaps delivered too.
+fn is_taken(states: &[State], place: usize) -> bool
+    ensures { result ≡ taken (state_at states.now place) }
+{
+    match state_of(states, place) {
+        State::Waiting => false,
+        State::Free => false,
+        State::Claimed => true,
+        State::Delivered => true,
+    }
+}
+
+impl<'g, T: NamedTree, E: WorkEntry> Board<'g, T, E> {
+    /// A board of a graph, with room for all that it will hold.
+    pub fn new(alloc: Global, graph: &'g Graph) -> Result<Board<'g, T, E>, AllocError>
+        requires { graph.now ≡ T.graph }
+        ensures { IfOk result (λ board. board ≡ new_core (length T.graph.names)) }
+    {
+        graph.keeps();
+        let count = graph.modules() as usize;
+        let waiting = counts_of(alloc, graph)?;
+        let states = states_of(alloc, waiting.as_slice())?;
+        let reached = clear_rows(alloc, count)?;
+        let spare = clear_row(alloc, count)?;
+        let entries = no_entries(alloc, count)?;
+        Ok(Board {
+            graph,
+            entries,
+            states,
+            waiting,
+            reached,
+            spare,
+            abandoned: false,
+            of: PhantomData,
+        })
+    }
+
+    /// What every board keeps: each entry is the entry of its module, what is delivered was claimed, and all that a claimed
+    /// module reaches is delivered. Where no chain of imports comes back work goes on: if no worker holds a module and none
+    /// is ready, it is over.
+    pub fn keeps(&self)
+        ensures size { length self.now.entries ≡ length T.graph.names }
+        ensures own { AreOf E.is_of T.graph.names self.now.entries }
+        ensures claimed { (n : ℕ) → has_entry self.now.entries n ≡ true → is_claimed self.now n ≡ true }
+        ensures reached { (n v : ℕ) → is_claimed self.now n ≡ true → Reaches T.graph.imports n v → has_entry self.now.entries v ≡ true }
+        ensures goes_on { IsAcyclic T.graph.imports → IsIdle self.now → ((n : ℕ) → IsReady T.graph.imports self.now n → ⊥) → IsOver self.now }
+    {
+        self.graph.keeps();
+    }
+
+    /// Whether memory was refused to a claimed module.
+    pub fn is_abandoned(&self) -> bool
+        ensures { result ≡ self.now.abandoned }
+    {
+        self.abandoned
+    }
+
+    /// The shared parts of all that a claimed module reaches, ascending by number. Refuses with `NotClaimed` a module that
+    /// nobody claimed, and with `Memory`.
+    pub fn interfaces(&self, alloc: Global, number: u32) -> Result<Vec<Arc<E::Shared>>, BoardFault>
+        ensures shares { IfOk result (λ parts. AreShares E.shared_of T.graph.imports self.now number (map arc_value parts.items)) }
+        ensures claimed { IfOk result (λ parts. is_claimed self.now number ≡ true) }
+        ensures refused { IfErr result (λ fault. ((fault ≡ BoardFault.NotClaimed) × (is_claimed self.now number ≡ false)) ⊎ (fault ≡ BoardFault.Memory)) }
+    {
+        if !is_taken(self.states.as_slice(), number as usize) {
+            return Err(BoardFault::NotClaimed);
+        }
+        self.graph.keeps();
+        let marks = marks_of(
+            alloc,
+            self.reached.as_slice(),
+            self.graph.imports_of(number),
+        )?;
+        Ok(shares(alloc, marks.as_slice(), self.entries.as_slice())?)
+    }
+
+    /// What a worker is to do next. The least ready module is claimed, unless all are delivered or one was abandoned.
+    pub fn claim(&mut self) -> Claim
+        ensures { IsClaim T.graph.imports self.old result self.new }
+    {
+        if self.abandoned {
+            return Claim::Finished;
+        }
+        self.graph.keeps();
+        let claim = look(self.states.as_slice());
+        if let Claim::Module { number } = claim {
+            self.states[number as usize] = State::Claimed;
+        }
+        claim
+    }
+
+    /// Why this delivery is refused.
+    fn refusal(&self, number: u32, entry: &E) -> Option<BoardFault>
+        ensures told { IsRefusal T.graph.names (E.name_of entry.now) self.now number result }
+        ensures kept { E.is_of (E.name_of entry.now) entry.now }
+        ensures within { result ≡ None → number < length T.graph.names }
+    {
+        let name = entry.name();
+        match state_of(self.states.as_slice(), number as usize) {
+            State::Waiting => Some(BoardFault::NotClaimed),
+            State::Free => Some(BoardFault::NotClaimed),
+            State::Delivered => Some(BoardFault::Twice),
+            State::Claimed => {
+                if name == self.graph.name(number) {
+                    None
+                } else {
+                    Some(BoardFault::WrongModule)
+                }
+            }
+        }
+    }
+
+    /// Puts in the entry of a claimed module.
+    fn put(&mut self, number: u32, entry: E)
+        requires within { number < length T.graph.names }
+        requires claimed { is_claimed self.old number ≡ true }
+        requires none { has_entry self.old.entries number ≡ false }
+        requires own { E.is_of (row_at T.graph.names number) entry }
+        ensures { self.new ≡ record self.old { entries = slice_set self.old.entries number (Some entry) } }
+    {
+        self.graph.keeps();
+        let place = number as usize;
+        fill_row(
+            &mut self.reached,
+            &mut self.spare,
+            place,
+            self.graph.imports_of(number),
+        );
+        self.entries[place] = Some(entry);
+        self.states[place] = State::Delivered;
+        release(
+            self.waiting.as_mut_slice(),
+            self.states.as_mut_slice(),
+            self.graph.importers_of(number),
+        );
+    }
+
+    /// Takes the entry of a claimed module, or hands it back and changes nothing. Refuses with `NotClaimed`, then with
+    /// `Twice` a module that is delivered, then with `WrongModule` the entry of a module of another name.
+    pub fn deliver(&mut self, number: u32, entry: E) -> Result<(), (BoardFault, E)>
+        ensures { IsDelivery T.graph.names (E.name_of entry) entry number self.old result self.new }
+    {
+        match self.refusal(number, &entry) {
+            Some(fault) => Err((fault, entry)),
+            None => {
+                self.put(number, entry);
+                Ok(())
+            }
+        }
+    }
+
+    /// Says that memory was refused to a claimed module, which stays claimed. For one that nobody claimed, or that is
+    /// delivered, it changes nothing.
+    pub fn abandon(&mut self, number: u32)
+        ensures { self.new ≡ record self.old { abandoned = abandoned_after self.old number } }
+    {
+        if let Some(State::Claimed) = self.states.get(number as usize) {
+            self.abandoned = true;
+        }
+    }
+
+    /// Lets each module go that is claimed and not delivered: whoever claimed it is gone.
+    pub fn take_back(&mut self)
+        ensures idle { IsIdle self.new }
+        ensures back { self.new ≡ taken_back self.old }
+    {
+        let_all_go(self.states.as_mut_slice());
+    }
+
+    /// The entries by number; none where a module isn't delivered.
+    pub fn gather(self) -> Vec<Option<E>>
+        ensures entries { result.items ≡ self.entry.entries }
+        ensures size { length result.items ≡ length T.graph.names }
+        ensures own { AreOf E.is_of T.graph.names result.items }
+    {
+        let Board {
+            graph: _,
+            entries,
+            states: _,
+            waiting: _,
+            reached: _,
+            spare: _,
+            abandoned: _,
+            of: _,
+        } = self;
+        entries
+    }
+}

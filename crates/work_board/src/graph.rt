@@ -1,0 +1,181 @@
+//! A graph of modules by rows of imports, with the rows of those that import a module.
+ghost use Rattle.std.specs.Prelude.{◌≡◌, ◌↔◌, ◌<◌, ◌≤◌, ◌+◌, ◌==◌, ℕ, cond, IsTrue, length, map, take, All, IfOk, OnOk, OnErr, slice_set, vec_len, [], ◌∷◌, ◌++◌, Vec};
+ghost use Rattle.std.specs.String.{string_bytes};
+ghost use Rattle.work_board.specs.Graphs.{lists, row_at, times, AreRows, AreTurned, IsGraph};
+
+use std::alloc::{AllocError, Global};
+use std::marker::Model;
+
+/// The most modules of a graph.
+const MOST_MODULES: usize = 4096;
+
+/// The most imports of a module, repeats counted.
+const MOST_IMPORTS: usize = 65536;
+
+/// The modules of a tree by number, with their names, what each imports, and what imports each: at most 4,096 modules, and
+/// at most 65,536 imports of each. Imports may repeat.
+#[derive(Drop)]
+pub struct Graph {
+    names: Vec<String>,
+    imports: Vec<Vec<u32>>,
+    importers: Vec<Vec<u32>>,
+}
+
+impl Model for Graph {
+    ghost use Rattle.std.specs.Prelude.{◌≡◌, ◌<◌, ℕ, length, map, All};
+    ghost use Rattle.std.specs.String.{string_bytes};
+    ghost use Rattle.work_board.specs.Graphs.{lists, row_at, AreTurned, IsGraph, Modules};
+
+    ghost Value = { Modules };
+
+    ghost view = { λ g. record { names = map string_bytes g.names.items; imports = lists g.imports.items } };
+
+    ghost invariant = { λ g. IsGraph (record { names = map string_bytes g.names.items; imports = lists g.imports.items })
+        × (length (lists g.importers.items) ≡ length (lists g.imports.items))
+        × AreTurned (lists g.imports.items) (lists g.importers.items)
+        × ((n : ℕ) → All (λ m. m < length (lists g.imports.items)) (row_at (lists g.importers.items) n)) };
+}
+
+fn empty_rows(alloc: Global, count: usize) -> Result<Vec<Vec<u32>>, AllocError>
+    ensures size { IfOk result (λ rows. length (lists rows.items) ≡ count) }
+    ensures none { IfOk result (λ rows. (n : ℕ) → row_at (lists rows.items) n ≡ []) }
+{
+    let mut rows = Vec::with_capacity(alloc, count)?;
+    for _ in 0..count {
+        let none: Vec<u32> = Vec::new(alloc);
+        rows.push(none)?;
+    }
+    Ok(rows)
+}
+
+/// Adds a number to the row at this place.
+fn push_at(rows: &mut Vec<Vec<u32>>, place: usize, by: u32) -> Result<(), AllocError>
+    requires { place < vec_len rows.old }
+    ensures size { OnOk result (length (lists rows.new.items) ≡ length (lists rows.old.items)) }
+    ensures rows { OnOk result (lists rows.new.items ≡ slice_set (lists rows.old.items) place (row_at (lists rows.old.items) place ++ by ∷ [])) }
+{
+    rows[place].push(by)?;
+    Ok(())
+}
+
+/// Adds a module to the rows of those that it imports.
+fn add_importer(rows: &mut Vec<Vec<u32>>, row: &[u32], by: u32) -> Result<(), AllocError>
+    requires { All (λ w. w < length (lists rows.old.items)) row.now }
+    ensures size { OnOk result (length (lists rows.new.items) ≡ length (lists rows.old.items)) }
+    ensures more { OnOk result ((n : ℕ) → times by (row_at (lists rows.new.items) n) ≡ times by (row_at (lists rows.old.items) n) + times n row.now) }
+    ensures others { OnOk result ((n x : ℕ) → (x ≡ by → ⊥) → times x (row_at (lists rows.new.items) n) ≡ times x (row_at (lists rows.old.items) n)) }
+    ensures within { OnOk result ((k : ℕ) → by < k → ((n : ℕ) → All (λ w. w < k) (row_at (lists rows.old.items) n)) → (n : ℕ) → All (λ w. w < k) (row_at (lists rows.new.items) n)) }
+{
+    for imported in row {
+        push_at(rows, *imported as usize, by)?;
+    }
+    Ok(())
+}
+
+/// Per module those that import it.
+fn turned(alloc: Global, imports: &[Vec<u32>]) -> Result<Vec<Vec<u32>>, AllocError>
+    requires few { length imports.now ≤ 4096 }
+    requires within { (m : ℕ) → All (λ w. w < length imports.now) (row_at (lists imports.now) m) }
+    ensures size { IfOk result (λ rows. length (lists rows.items) ≡ length (lists imports.now)) }
+    ensures turned { IfOk result (λ rows. AreTurned (lists imports.now) (lists rows.items)) }
+    ensures within { IfOk result (λ rows. (n : ℕ) → All (λ m. m < length (lists imports.now)) (row_at (lists rows.items) n)) }
+{
+    let mut rows = empty_rows(alloc, imports.len())?;
+    for place in 0..imports.len() {
+        add_importer(&mut rows, row(imports, place), place as u32)?;
+    }
+    Ok(rows)
+}
+
+/// The row at this place.
+fn row(rows: &[Vec<u32>], place: usize) -> &[u32]
+    requires { place < length rows.now }
+    ensures { result.now ≡ row_at (lists rows.now) place }
+{
+    rows[place].as_slice()
+}
+
+/// Whether each number of the row is below the count.
+fn all_below(row: &[u32], count: usize) -> bool
+    ensures { IsTrue result ↔ All (λ w. w < count) row.now }
+{
+    row.iter().all(|number| (*number as usize) < count)
+}
+
+/// Whether the rows are no longer than those of a graph of this many modules, and lead to its modules.
+fn are_rows(rows: &[Vec<u32>], count: usize) -> bool
+    ensures { IsTrue result ↔ AreRows (lists rows.now) count }
+{
+    for row in rows {
+        if row.len() > MOST_IMPORTS || !all_below(row.as_slice(), count) {
+            return false;
+        }
+    }
+    true
+}
+
+impl Graph {
+    /// Whether a graph has these names, and imports by the numbers of the names: the test of what `new` asks for.
+    pub fn is_graph(names: &[String], imports: &[Vec<u32>]) -> bool
+        ensures { IsTrue result ↔ IsGraph (record { names = map string_bytes names.now; imports = lists imports.now }) }
+    {
+        let count = names.len();
+        count <= MOST_MODULES && imports.len() == count && are_rows(imports, count)
+    }
+
+    /// The graph of these names and imports.
+    pub fn new(
+        alloc: Global,
+        names: Vec<String>,
+        imports: Vec<Vec<u32>>,
+    ) -> Result<Graph, AllocError>
+        requires { IsGraph (record { names = map string_bytes names.items; imports = lists imports.items }) }
+        ensures { IfOk result (λ graph. graph ≡ record { names = map string_bytes names.items; imports = lists imports.items }) }
+    {
+        let importers = turned(alloc, imports.as_slice())?;
+        Ok(Graph {
+            names,
+            imports,
+            importers,
+        })
+    }
+
+    /// What every graph keeps.
+    pub fn keeps(&self)
+        ensures { IsGraph self.now }
+    {
+        let _ = &self.names;
+    }
+
+    /// How many modules there are.
+    pub fn modules(&self) -> u32
+        ensures { result ≡ length self.now.names }
+    {
+        self.names.len() as u32
+    }
+
+    /// The name of a module.
+    pub fn name(&self, number: u32) -> &str
+        requires { number < length self.now.names }
+        ensures { result.now ≡ row_at self.now.names number }
+    {
+        self.names[number as usize].as_str()
+    }
+
+    /// The modules that this one imports.
+    pub fn imports_of(&self, number: u32) -> &[u32]
+        requires { number < length self.now.names }
+        ensures { result.now ≡ row_at self.now.imports number }
+    {
+        self.imports[number as usize].as_slice()
+    }
+
+    /// The modules that import this one.
+    pub fn importers_of(&self, number: u32) -> &[u32]
+        requires { number < length self.now.names }
+        ensures turned { (m : ℕ) → times m result.now ≡ times number (row_at self.now.imports m) }
+        ensures within { All (λ m. m < length self.now.names) result.now }
+    {
+        row(self.importers.as_slice(), number as usize)
+    }
+}
