@@ -1,0 +1,29 @@
+-- The parts that a worker is given, and what all workers together leave.
+use Rattle.std.specs.Prelude.{◌≡◌, ◌<◌, ℕ, List, length, slice_index_or, slice_set, true, false}
+use Rattle.work_board.specs.Graphs.{row_at, Modules}
+use Rattle.work_board.specs.Cores.{has_entry, is_claimed, AreOf, AreShares, Core}
+
+-- the shared parts of right entries of all that the module reaches, ascending by number
+abbrev pub ArePartsOf : {E X : Type 0} → (List ℕ → E → Type 0) → (E → X) → Modules → ℕ → List X → Type 0
+ArePartsOf {E = E} is_of shared_of g n parts =
+    (c : Core E) × (length c.entries ≡ length g.names) × AreOf is_of g.names c.entries × AreShares shared_of g.imports c n parts
+
+-- an entry for each module, by number, that is the entry of the module of this name
+pub record AreEntries {E : Type 0} (is_of : List ℕ → E → Type 0) (g : Modules) (entries : List E) : Type 0 where
+  pub size : length entries ≡ length g.names
+  pub own : (n : ℕ) (d : E) → n < length entries → is_of (row_at g.names n) (slice_index_or entries n d)
+
+-- what a worker is given: a module, and the parts for it
+abbrev pub IsJob : {E X : Type 0} → (List ℕ → E → Type 0) → (E → X) → Modules → ℕ → List X → Type 0
+IsJob is_of shared_of g n parts = (n < length g.names) × ArePartsOf is_of shared_of g n parts
+
+-- each module has its entry
+abbrev pub AreAllThere : {E : Type 0} → Core E → Type 0
+AreAllThere c = (n : ℕ) → n < length c.entries → has_entry c.entries n ≡ true
+
+-- a module that isn't delivered is claimed now
+pub record IsHeld {E : Type 0} (c : Core E) (n : ℕ) (d : Core E) : Type 0 where
+  pub within : n < length c.entries
+  pub missing : has_entry c.entries n ≡ false
+  pub held : is_claimed d n ≡ true
+  pub claimed : d ≡ record c { claimed = slice_set c.claimed n true }

@@ -1,0 +1,160 @@
+//! One worker alone, at a board that nobody else works at.
+ghost use Rattle.std.specs.Prelude.{◌≡◌, ◌<◌, ◌≤◌, ℕ, true, false, length, map, slice_set, IfNone, IfOk, IfSome, OnOk, Some};
+ghost use Rattle.std.specs.Arc.{arc_value};
+ghost use Rattle.work_board.specs.Graphs.{row_at, IsAcyclic};
+ghost use Rattle.work_board.specs.Cores.{has_entry, is_claimed, missing, AreOf, IsIdle};
+ghost use Rattle.board_workers.specs.Parts.{AreAllThere, AreEntries, IsHeld, IsJob};
+
+use crate::Work;
+use std::alloc::{AllocError, Global};
+use std::marker::Brand;
+use std::sync::Arc;
+use work_board::{Board, Claim, Graph, NamedTree, WorkEntry};
+
+/// Claims the next module, and takes the parts for it; none where all are delivered.
+fn claimed<T: NamedTree, E: WorkEntry>(
+    alloc: Global,
+    board: &mut Board<'_, T, E>,
+) -> Result<Option<(u32, Vec<Arc<E::Shared>>)>, AllocError>
+    requires acyclic { IsAcyclic T.graph.imports }
+    requires going { board.old.abandoned ≡ false }
+    requires idle { IsIdle board.old }
+    ensures job { IfOk result (λ job. IfSome job (λ j. IsJob E.is_of E.shared_of T.graph j.0 (map arc_value j.1.items))) }
+    ensures claimed { IfOk result (λ job. IfSome job (λ j. IsHeld board.old j.0 board.new)) }
+    ensures none { IfOk result (λ job. IfNone job ((board.new ≡ board.old) × AreAllThere board.new)) }
+{
+    board.keeps();
+    match board.claim() {
+        Claim::Finished => Ok(None),
+        Claim::Later => unreachable!(),
+        Claim::Module { number } => {
+            board.keeps();
+            match board.interfaces(alloc, number) {
+                Ok(parts) => Ok(Some((number, parts))),
+                Err(_) => Err(AllocError),
+            }
+        }
+    }
+}
+
+/// Puts the entry of a claimed module on the board.
+fn put<T: NamedTree, E: WorkEntry>(board: &mut Board<'_, T, E>, number: u32, entry: E)
+    requires claimed { is_claimed board.old number ≡ true }
+    requires none { has_entry board.old.entries number ≡ false }
+    requires name { E.name_of entry ≡ row_at T.graph.names number }
+    ensures { board.new ≡ record board.old { entries = slice_set board.old.entries number (Some entry) } }
+{
+    match board.deliver(number, entry) {
+        Ok(()) => {}
+        Err(_) => unreachable!(),
+    }
+}
+
+/// Makes and delivers the entry of the next module; false where all are there.
+fn step<T: NamedTree, W: Work>(
+    alloc: Global,
+    board: &mut Board<'_, T, W::Entry>,
+    work: &W,
+) -> Result<bool, AllocError>
+    requires acyclic { IsAcyclic T.graph.imports }
+    requires work { W.graph work.now ≡ T.graph }
+    requires going { board.old.abandoned ≡ false }
+    requires idle { IsIdle board.old }
+    ensures going { OnOk result (board.new.abandoned ≡ false) }
+    ensures idle { OnOk result (IsIdle board.new) }
+    ensures more { IfOk result (λ more. more ≡ true → missing board.new < missing board.old) }
+    ensures end { IfOk result (λ more. more ≡ false → AreAllThere board.new) }
+{
+    match claimed(alloc, board)? {
+        Some((number, parts)) => {
+            let entry = work.make(number, parts.as_slice())?;
+            put(board, number, entry);
+            Ok(true)
+        }
+        None => Ok(false),
+    }
+}
+
+/// Makes and delivers the entries that aren't there.
+fn deliver_rest<T: NamedTree, W: Work>(
+    alloc: Global,
+    board: &mut Board<'_, T, W::Entry>,
+    work: &W,
+) -> Result<(), AllocError>
+    requires acyclic { IsAcyclic T.graph.imports }
+    requires work { W.graph work.now ≡ T.graph }
+    requires going { board.old.abandoned ≡ false }
+    requires idle { IsIdle board.old }
+    ensures { OnOk result (AreAllThere board.new) }
+{
+    'steps: loop {
+        if !step(alloc, board, work)? {
+            return Ok(());
+        }
+    }
+}
+
+/// The entries of a board at which each module has one.
+fn whole<E: Drop>(alloc: Global, gathered: Vec<Option<E>>) -> Result<Vec<E>, AllocError>
+    requires { (n : ℕ) → n < length gathered.items → has_entry gathered.items n ≡ true }
+    ensures { IfOk result (λ entries. map Some entries.items ≡ gathered.items) }
+{
+    let mut entries = Vec::with_capacity(alloc, gathered.len())?;
+    for entry in gathered {
+        match entry {
+            Some(entry) => entries.push(entry)?,
+            None => unreachable!(),
+        }
+    }
+    Ok(entries)
+}
+
+/// The entries by number, of a board that its workers have left: one worker alone makes those that are missing, claimed
+/// ones too. So an entry is missing only where memory is refused, here or to a worker that abandoned its module.
+pub fn finish<T: NamedTree, W: Work>(
+    alloc: Global,
+    mut board: Board<'_, T, W::Entry>,
+    work: &W,
+) -> Result<Vec<W::Entry>, AllocError>
+    requires acyclic { IsAcyclic T.graph.imports }
+    requires work { W.graph work.now ≡ T.graph }
+    ensures entries { IfOk result (λ entries. AreEntries W.Entry.is_of T.graph entries.items) }
+    ensures going { OnOk result (board.entry.abandoned ≡ false) }
+{
+    if board.is_abandoned() {
+        return Err(AllocError);
+    }
+    board.take_back();
+    deliver_rest(alloc, &mut board, work)?;
+    whole(alloc, board.gather())
+}
+
+/// The entries of a graph's modules by number, in a tree that the type names.
+fn alone_in<T: NamedTree, W: Work>(
+    alloc: Global,
+    graph: &Graph,
+    work: &W,
+) -> Result<Vec<W::Entry>, AllocError>
+    requires tree { graph.now ≡ T.graph }
+    requires acyclic { IsAcyclic T.graph.imports }
+    requires work { W.graph work.now ≡ T.graph }
+    ensures { IfOk result (λ entries. AreEntries W.Entry.is_of T.graph entries.items) }
+{
+    let board = Board::new(alloc, graph)?;
+    finish::<T, W>(alloc, board, work)
+}
+
+/// The entries of a graph's modules by number, made by the calling thread alone. AllocError is answered where memory is
+/// refused.
+pub fn entries_alone<W: Work>(
+    alloc: Global,
+    graph: &Graph,
+    work: &W,
+) -> Result<Vec<W::Entry>, AllocError>
+    // No chain of imports comes back.
+    requires acyclic { IsAcyclic graph.now.imports }
+    requires work { W.graph work.now ≡ graph.now }
+    ensures { IfOk result (λ entries. AreEntries W.Entry.is_of graph.now entries.items) }
+{
+    alone_in::<Brand, W>(alloc, graph, work)
+}

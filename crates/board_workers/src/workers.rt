@@ -1,0 +1,184 @@
+//! Workers in threads of their own, at a board behind a lock.
+ghost use Rattle.std.specs.Prelude.{◌≡◌, map, IfOk, IfSome};
+ghost use Rattle.std.specs.Arc.{arc_value};
+ghost use Rattle.work_board.specs.Graphs.{IsAcyclic};
+ghost use Rattle.board_workers.specs.Parts.{AreEntries, IsJob};
+
+use crate::{BoardGate, Work, finish};
+use std::alloc::{AllocError, Global};
+use std::marker::Brand;
+use std::sync::{Arc, Condvar, Mutex, Wait};
+use std::thread;
+use std::thread::Threads;
+use work_board::{Board, Claim, Graph, NamedTree, WorkEntry};
+
+/// A board behind a lock.
+type Locked<'g, T, E> = Mutex<Board<'g, T, E>>;
+
+/// No module is ready.
+struct Later;
+
+/// Claims a module and takes the parts for it. Where memory is refused, the module is abandoned, and none is left.
+fn take<T: NamedTree, E: WorkEntry>(
+    alloc: Global,
+    board: &mut Board<'_, T, E>,
+) -> Result<Option<(u32, Vec<Arc<E::Shared>>)>, Later>
+    ensures { IfOk result (λ job. IfSome job (λ j. IsJob E.is_of E.shared_of T.graph j.0 (map arc_value j.1.items))) }
+{
+    match board.claim() {
+        Claim::Finished => Ok(None),
+        Claim::Later => Err(Later),
+        Claim::Module { number } => {
+            board.keeps();
+            match board.interfaces(alloc, number) {
+                Ok(parts) => Ok(Some((number, parts))),
+                Err(_) => {
+                    board.abandon(number);
+                    Ok(None)
+                }
+            }
+        }
+    }
+}
+
+/// Waits until there is a module to make an entry of, or none is left. Claim and wait are in one holding of the lock.
+fn next<T: NamedTree, E: WorkEntry, R: Wait>(
+    rt: &R,
+    alloc: Global,
+    locked: &Locked<'_, T, E>,
+    changed: &Condvar,
+) -> Option<(u32, Vec<Arc<E::Shared>>)>
+    ensures { IfSome result (λ j. IsJob E.is_of E.shared_of T.graph j.0 (map arc_value j.1.items)) }
+{
+    let mut board = locked.lock(rt);
+    for _ in rt.forever() {
+        match take(alloc, &mut *board) {
+            Ok(job) => return job,
+            Err(Later) => board = changed.wait(rt, board),
+        }
+    }
+    unreachable!()
+}
+
+/// Delivers an entry. Where memory was refused the module is abandoned; an entry that is refused is given up.
+fn hand_in<T: NamedTree, E: WorkEntry>(
+    board: &mut Board<'_, T, E>,
+    number: u32,
+    made: Result<E, AllocError>,
+) {
+    match made {
+        Ok(entry) => {
+            let _ = board.deliver(number, entry);
+        }
+        Err(_) => board.abandon(number),
+    }
+}
+
+/// Goes on as the worker of this number until all is delivered or a module was abandoned.
+fn worker<T: NamedTree, W: Work, G: BoardGate, R: Wait>(
+    rt: &R,
+    alloc: Global,
+    locked: &Locked<'_, T, W::Entry>,
+    changed: &Condvar,
+    number: u32,
+    work: &W,
+    gate: &G,
+)
+    requires { W.graph work.now ≡ T.graph }
+{
+    let mut turn = 0u64;
+    for _ in rt.forever() {
+        let Some((module, parts)) = next(rt, alloc, locked, changed) else {
+            changed.notify_all();
+            return;
+        };
+        gate.at(number, turn);
+        turn = turn.saturating_add(1);
+        let made = work.make(module, parts.as_slice());
+        hand_in(&mut *locked.lock(rt), module, made);
+        changed.notify_all();
+    }
+    unreachable!()
+}
+
+/// Starts the other workers, each in a thread, and goes on as worker 0. A thread that can't be started is left out.
+fn in_threads<
+    T: NamedTree + Send + Sync,
+    W: Work + Sync,
+    G: BoardGate + Sync,
+    R: Threads + Wait + Sync,
+>(rt: &R, alloc: Global, locked: &Locked<'_, T, W::Entry>, workers: u32, work: &W, gate: &G)
+where
+    W::Entry: Send + Sync,
+    <W::Entry as WorkEntry>::Shared: Send + Sync,
+    requires { W.graph work.now ≡ T.graph }
+{
+    let changed = Condvar::new();
+    let waked = &changed;
+    thread::scope(
+        thread::scope_env(),
+        rt,
+        |scope|
+            requires { W.graph work.now ≡ T.graph }
+        {
+            for number in 1..workers {
+                let _ = scope.spawn(
+                    move ||
+                        requires { W.graph work.now ≡ T.graph }
+                    { worker(rt, alloc, locked, waked, number, work, gate) },
+                );
+            }
+            worker(rt, alloc, locked, waked, 0, work, gate);
+        },
+    );
+}
+
+/// The entries of a graph's modules by number, in a tree that the type names.
+fn in_tree<
+    T: NamedTree + Send + Sync,
+    W: Work + Sync,
+    G: BoardGate + Sync,
+    R: Threads + Wait + Sync,
+>(
+    rt: &R,
+    alloc: Global,
+    graph: &Graph,
+    workers: u32,
+    work: &W,
+    gate: &G,
+) -> Result<Vec<W::Entry>, AllocError>
+where
+    W::Entry: Send + Sync,
+    <W::Entry as WorkEntry>::Shared: Send + Sync,
+    requires tree { graph.now ≡ T.graph }
+    requires acyclic { IsAcyclic T.graph.imports }
+    requires work { W.graph work.now ≡ T.graph }
+    ensures { IfOk result (λ entries. AreEntries W.Entry.is_of T.graph entries.items) }
+{
+    let locked: Locked<'_, T, W::Entry> = Mutex::new(Board::new(alloc, graph)?);
+    in_threads(rt, alloc, &locked, workers, work, gate);
+    finish(alloc, locked.into_inner(), work)
+}
+
+/// The entries of a graph's modules by number, made by the calling thread and at most `workers - 1` others, that call the gate
+/// between a claim and its delivery. Whatever turns they take, each is the entry of its module, and one that they leave out
+/// is made at the end. A thread that can't be started is left out; with one worker none is started. AllocError is answered
+/// where memory is refused. It may wait for the lock and for its threads.
+pub fn entries<W: Work + Sync, G: BoardGate + Sync, R: Threads + Wait + Sync>(
+    rt: &R,
+    alloc: Global,
+    graph: &Graph,
+    workers: u32,
+    work: &W,
+    gate: &G,
+) -> Result<Vec<W::Entry>, AllocError>
+where
+    W::Entry: Send + Sync,
+    <W::Entry as WorkEntry>::Shared: Send + Sync,
+    // No chain of imports comes back.
+    requires acyclic { IsAcyclic graph.now.imports }
+    requires work { W.graph work.now ≡ graph.now }
+    ensures { IfOk result (λ entries. AreEntries W.Entry.is_of graph.now entries.items) }
+{
+    in_tree::<Brand, W, G, R>(rt, alloc, graph, workers, work, gate)
+}
