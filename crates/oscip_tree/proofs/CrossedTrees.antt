@@ -1,7 +1,6 @@
 -- Where a module of a tree uses another, and how often.
-use Rattle.std.proofs.Common.{◌≡◌, ℕ, zero, suc, ◌+◌, ◌<◌, ◌≤◌, false, true, List, [], ◌∷◌, ◌++◌, length, get_or, map, take, drop, Some, None, refl, sym, ap, ap₂, ◌∙◌, subst, inl, inr, arith}
+use Rattle.std.proofs.Common.{◌≡◌, ℕ, zero, suc, ◌+◌, ◌<◌, ◌≤◌, List, [], ◌∷◌, ◌++◌, length, get_or, take, Some, None, refl, sym, ap, ◌∙◌, subst, inl, inr, arith}
 use Rattle.std.specs.Prelude.{Contains, slice_get}
-use Rattle.std.specs.String.{string_bytes}
 use Rattle.std.specs.Str.{bytes_eq}
 use Rattle.std.proofs.lemmas.Bool.{cases_lt, false≢true}
 use Rattle.std.proofs.lemmas.List.{get_or_past, length-map, take_more}
@@ -23,7 +22,6 @@ use Rattle.ob_imports.proofs.Places.{place_found, place_is}
 use Rattle.ob_parse.specs.Parsed.{IsTheTree}
 use Rattle.ob_scan.proofs.Outcomes.{spelled_once}
 use Rattle.ob_scan.specs.declared.token.Token.{Token}
-use Rattle.ob_scan.specs.Position.{line_starts}
 use Rattle.ob_scan.specs.Spelling.{AreInText, IsOutcome, Reads}
 use Rattle.ob_scope.specs.declared.across.Crossing.{Crossing}
 use Rattle.ob_scope.specs.Counted.{Crosses, HasWeight}
@@ -34,8 +32,8 @@ use Rattle.ob_scope.proofs.Counting.{counts-once}
 use Rattle.ob_scope.proofs.Crossed.{crossings_weigh}
 use Rattle.ob_tree.specs.declared.declaration.Module.{Module}
 use Rattle.oscip_tree.specs.Crossings.{AreSpans, ArePlaces, AreUses, IsCrossed, IsCrossedIn, IsNoModule, IsNoNode, IsSpan}
-use Rattle.oscip_tree.specs.TreeReading.{AreRead, AreScopesOf, IsTreeOf}
-use Rattle.oscip_tree.specs.Trees.{file_of, files_of, names, rows, AreAccepted, HasImport, IsAccepted, IsFileFault, IsNetOfTree, IsTree, IsTreeFault, ModuleFile}
+use Rattle.oscip_tree.specs.TreeReading.{AreScopesOf, IsTreeOf}
+use Rattle.oscip_tree.specs.Trees.{file_of, files_of, names, rows, IsAccepted, IsFileFault, IsNetOfTree, IsTree, IsTreeFault, ModuleFile}
 use Rattle.oscip_tree.specs.declared.crossing.Crossed.{Crossed}
 use Rattle.oscip_tree.specs.declared.crossing.Crossed.TheVariants.{Places, NoImporter, NoImported}
 use Rattle.oscip_tree.specs.declared.crossing.Span.{Span}

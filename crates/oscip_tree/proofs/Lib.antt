@@ -7,3 +7,4 @@ pub mod OneTreeNet
 pub mod NoTreeFault
 pub mod OneTreeFault
 pub mod CrossedTrees
+pub mod PartsOfFiles

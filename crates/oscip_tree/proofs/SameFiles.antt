@@ -9,7 +9,6 @@ use Rattle.ob_scan.proofs.Outcomes.{spelled_once}
 use Rattle.ob_tree.specs.declared.declaration.Module.{Module}
 use Rattle.ob_tree.specs.Declaring.{module_outline}
 use Rattle.ob_tree.specs.Derives.{Derives}
-use Rattle.ob_tree.specs.Marks.{Out}
 use Rattle.ob_parse.specs.Parsed.{kinds_of}
 use Rattle.ob_parse.proofs.OneTree.{trees_same}
 use Rattle.ob_scope.specs.Counted.{HasWeight}

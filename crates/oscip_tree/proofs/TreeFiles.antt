@@ -21,7 +21,7 @@ use Rattle.oscip_tree.specs.declared.tree.TreeFault.TheVariants as faults
 -- ---- two lists of one length
 
 -- what holds of the elements at each place
-abbrev Each : {X Y : Type 0} → (X → Y → Type 0) → List X → List Y → Type 0
+abbrev pub Each : {X Y : Type 0} → (X → Y → Type 0) → List X → List Y → Type 0
 Each {X} {Y} P xs ys = (i : ℕ) (x : X) (y : Y) → slice_get xs i ≡ Some x → slice_get ys i ≡ Some y → P x y
 
 -- an element of a list with one more is one of the list, or the last
@@ -34,7 +34,7 @@ at_end (z ∷ xs) x y (suc i) e = elim (at_end xs x y i e) [
   | inr h ↦ inr ((let same = h.0 in omega arith), h.1)
 ]
 
-each_more : {X Y : Type 0} (P : X → Y → Type 0) (xs : List X) (ys : List Y) (x : X) (y : Y) → length ys ≡ length xs → Each P xs ys → P x y → Each P (xs ++ x ∷ []) (ys ++ y ∷ [])
+pub each_more : {X Y : Type 0} (P : X → Y → Type 0) (xs : List X) (ys : List Y) (x : X) (y : Y) → length ys ≡ length xs → Each P xs ys → P x y → Each P (xs ++ x ∷ []) (ys ++ y ∷ [])
 each_more {X} {Y} P xs ys x y long each last i u v at_u at_v = go (at_end xs x u i at_u) (at_end ys y v i at_v)
   where
     go : (slice_get xs i ≡ Some u) ⊎ ((i ≡ length xs) × (x ≡ u)) → (slice_get ys i ≡ Some v) ⊎ ((i ≡ length ys) × (y ≡ v)) → P u v
@@ -56,12 +56,12 @@ there [] i l = absurd (omega arith)
 there (x ∷ xs) zero l = (x, refl)
 there (x ∷ xs) (suc i) l = there xs i (omega arith)
 
-take_at : {X : Type 0} (xs : List X) (i : ℕ) (x : X) → slice_get xs i ≡ Some x → take (i + 1) xs ≡ take i xs ++ x ∷ []
+pub take_at : {X : Type 0} (xs : List X) (i : ℕ) (x : X) → slice_get xs i ≡ Some x → take (i + 1) xs ≡ take i xs ++ x ∷ []
 take_at {X} xs i x e =
     ap (λ (n : ℕ). take n xs) (add-one i) ∙ take-suc xs i x (slice_get_within xs i x e)
     ∙ ap (λ (y : X). take i xs ++ y ∷ []) (get_or_from_slice_get xs i x x e)
 
-at_item : {X : Type 0} (xs : List X) (i : ℕ) (x : X) → i < length xs → x ≡ get_or xs i x → slice_get xs i ≡ Some x
+pub at_item : {X : Type 0} (xs : List X) (i : ℕ) (x : X) → i < length xs → x ≡ get_or xs i x → slice_get xs i ≡ Some x
 at_item xs i x l e = slice_get-get_or xs i x l ∙ ap Some (sym e)
 
 -- ---- files and their scopes
@@ -73,7 +73,7 @@ read_none = record {
   each = λ i file s p q. absurd cc;
 }
 
-longer : {X Y : Type 0} (xs : List X) (ys : List Y) (x : X) (y : Y) → length xs ≡ length ys → length (xs ++ x ∷ []) ≡ length (ys ++ y ∷ [])
+pub longer : {X Y : Type 0} (xs : List X) (ys : List Y) (x : X) (y : Y) → length xs ≡ length ys → length (xs ++ x ∷ []) ≡ length (ys ++ y ∷ [])
 longer xs ys x y e = let long_x = length-append xs (x ∷ []) in let long_y = length-append ys (y ∷ []) in omega arith
 
 read_more : (sources : List Source) (files : List ModuleFile) (ss : List ModuleScopes) (source : Source) (file : ModuleFile) (s : ModuleScopes) →

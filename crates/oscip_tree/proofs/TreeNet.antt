@@ -23,19 +23,14 @@ use Rattle.ob_imports.specs.Outcomes.{AreKept}
 use Rattle.digraph.proofs.Members.{from_map, in_map}
 use Rattle.ob_imports.proofs.Nodes.{nodes_known}
 use Rattle.ob_scan.specs.declared.token.Token.{Token}
-use Rattle.ob_scan.specs.Spelling.{Spells}
-use Rattle.ob_tree.specs.Derives.{Derives}
-use Rattle.ob_tree.specs.declared.declaration.Module.{Module as SyntaxTree}
 use Rattle.ob_scope.specs.Counted.{HasWeight}
-use Rattle.ob_decls.specs.Declaring.{rows_of}
 use Rattle.ob_decls.specs.Parts.{Rows}
 use Rattle.ob_decls.specs.declared.rows.Import.{Import as Item}
-use Rattle.ob_scope.specs.Identified.{AreNames}
 use Rattle.ob_scope.specs.Scoped.{AreScopes, ModuleScopes}
 use Rattle.ob_scope.specs.Texts.{text_at}
 use Rattle.ob_scope.specs.Weights.{uses_across}
 use Rattle.ob_scope.proofs.Names.{same_test}
-use Rattle.oscip_tree.specs.Trees.{file_of, files_of, rows, names, AreAccepted, HasImport, IsAccepted, IsNetOfTree, ModuleFile}
+use Rattle.oscip_tree.specs.Trees.{file_of, files_of, rows, names, HasImport, IsNetOfTree, ModuleFile}
 use Rattle.oscip_tree.specs.TreeReading.{AreRead}
 use Rattle.oscip_tree.specs.declared.source.Source.{Source}
 use Rattle.oscip_tree.proofs.TreeFiles.{there}

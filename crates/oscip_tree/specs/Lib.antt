@@ -3,3 +3,4 @@ pub mod Trees
 pub mod TreeReading
 pub mod TreeFaults
 pub mod Crossings
+pub mod Parts

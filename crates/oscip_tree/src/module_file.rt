@@ -77,7 +77,7 @@ pub(crate) fn parse_fault(alloc: Global, source: &Source, fault: ParseFault) -> 
 }
 
 /// A name that is declared twice, with the place where that is so for the second time.
-fn scope_fault(alloc: Global, source: &Source, fault: ScopeFault) -> TreeFault
+pub(crate) fn scope_fault(alloc: Global, source: &Source, fault: ScopeFault) -> TreeFault
     requires { HasScopeFault fault source.now.bytes.items }
     ensures { IsFileFault source.now result }
 {

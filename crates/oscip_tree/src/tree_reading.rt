@@ -45,7 +45,11 @@ fn imports_of(alloc: Global, scopes: &Scopes) -> Result<Vec<String>, AllocError>
 }
 
 /// What the graph of imports is told of a file.
-fn parsed_of(alloc: Global, source: &Source, scopes: &Scopes) -> Result<Parsed, AllocError>
+pub(crate) fn parsed_of(
+    alloc: Global,
+    source: &Source,
+    scopes: &Scopes,
+) -> Result<Parsed, AllocError>
     ensures { IfOk result (λ p. (file : ModuleFile) → IsAccepted source.now file → AreScopesOf file scopes.now → parsed_file p ≡ file_of file) }
 {
     let path = String::from_str(alloc, source.path.as_str())?;

@@ -1,10 +1,9 @@
 -- What one reading of the file finds holds of each.
-use Rattle.std.proofs.Common.{ℕ, List, ap₂, subst}
+use Rattle.std.proofs.Common.{ℕ, List, subst}
 use Rattle.ob_decls.specs.Declaring.{rows_in}
 use Rattle.ob_scan.specs.declared.token.Token.{Token}
 use Rattle.ob_scope.specs.declared.across.Crossing.{Crossing}
 use Rattle.oscip_tree.specs.Crossings.{AreSpans}
-use Rattle.oscip_tree.specs.declared.crossing.Span.{Span}
 use Rattle.oscip_tree.proofs.CrossedTrees.{places_by}
 use Rattle.oscip_tree.proofs.crossing.places_after.Goals as goal
 
