@@ -1,0 +1,3 @@
+pub mod Boards
+pub mod Reached
+pub mod Seen
