@@ -1,0 +1,192 @@
+-- What is at hand for the entry of a module, and the entries of all.
+use Rattle.std.proofs.Common.{◌≡◌, ℕ, zero, suc, ◌<◌, Bool, true, false, List, [], ◌∷◌, ◌++◌, length, get_or, map, None, Some, refl, sym, ap, ◌∙◌, subst, arith, ◌⊎◌, inl, inr}
+use Rattle.std.specs.Prelude.{Contains, slice_get, Box}
+use Rattle.std.specs.Arc.{arc_value}
+use Rattle.std.specs.List.{flat_map}
+use Rattle.std.specs.declared.alloc.Global.{Global}
+use Rattle.std.proofs.lemmas.List.{get_or-take, length-take-le}
+use Rattle.std.proofs.lemmas.List.Elements.{Contains-append_cases}
+use Rattle.std.proofs.lemmas.Option.{get_or_from_slice_get, slice_get-get_or, slice_get_within}
+use Rattle.ob_emit.specs.Externals.{AreExternalRows}
+use Rattle.ob_emit.specs.Named.{AreNamed, IsNamed}
+use Rattle.ob_decls.specs.Parts.{Rows}
+use Rattle.ob_scan.specs.declared.token.Token.{Token}
+use Rattle.ob_scope.specs.Scoped.{AreScopes, ModuleScopes}
+use Rattle.ob_types.specs.World.{World}
+use Rattle.ob_emit.proofs.NamesGiven.{seen_named}
+use Rattle.ob_decls.specs.Declaring.{rows_in}
+use Rattle.ob_imports.specs.Graphs.{ImportGraph}
+use Rattle.ob_interface.specs.Interfaces.{ModuleInterface}
+use Rattle.oscip_tree.specs.declared.parts.ModuleParts.{ModuleParts}
+use Rattle.oscip_tree.specs.declared.source.Source.{Source}
+use Rattle.oscip_tree.specs.declared.parts.TreeParts.{TreeParts}
+use Rattle.oscip_tree.specs.Parts.{ArePartsOfTree}
+use Rattle.oscip_tree.specs.Trees.{ModuleFile}
+use Rattle.scip_index.specs.Plain.{PlainDocument, PlainIndex, PlainSymbol}
+use Rattle.ob_board.specs.declared.entry.Entry.{Entry}
+use Rattle.work_board.specs.Graphs.{row_at}
+use Rattle.board_workers.specs.Parts.{AreEntries as AreAtBoard, IsJob}
+use Rattle.tree_board.specs.Boards.{modules_of}
+use Rattle.tree_board.specs.Reached.{interface_in, marked_interfaces, names, seen_of, AreReached, SeenFile}
+use Rattle.tree_board.specs.Seen.{all_seen, seen_in, AreSeen, IsSeen}
+use Rattle.tree_board.proofs.Chained.{as_many, modules_within, name_of_file}
+use Rattle.tree_board.proofs.SeenFiles.{seen_are}
+use Rattle.tree_board.proofs.Shared.{parts_reached, same_file}
+use Rattle.ob_board.specs.Entries.{AreAllNamed, AreEntriesOf, IsEntry, IsEntryOf, IsWritten, plain_entry, PlainEntry}
+use Rattle.ob_board.specs.Found.{IsAtHand}
+use Rattle.ob_board.specs.Indexes.{AreEntries, IsIndex, IsMadeOf}
+
+member : {X : Type 0} (xs : List X) (k : ℕ) (x : X) → slice_get xs k ≡ Some x → Contains xs x
+member xs k x at = (k, slice_get_within xs k x at, get_or_from_slice_get xs k x x at)
+
+some_one : {X : Type 0} (x y : X) → Some x ≡ Some y → x ≡ y
+some_one x y e = cc
+
+none_some : {X : Type 0} (y : X) → None ≡ Some y → ⊥
+none_some y e = cc
+
+head_or_tail : {X : Type 0} (y : X) (xs : List X) (x : X) → Contains (y ∷ xs) x → (y ≡ x) ⊎ Contains xs x
+head_or_tail y xs x (zero, l, e) = inl e
+head_or_tail y xs x (suc k, l, e) = inr (k, omega arith, e)
+
+at_seen : (sources : List Source) (modules : List (Box ModuleParts Global)) (k : ℕ) (s : Source) (m : Box ModuleParts Global) → slice_get sources k ≡ Some s → slice_get modules k ≡ Some m
+    → slice_get (all_seen sources modules) k ≡ Some (seen_in s m.value)
+at_seen [] modules k s m p q = absurd (none_some s p)
+at_seen (a ∷ sources) [] k s m p q = absurd (none_some m q)
+at_seen (a ∷ sources) (b ∷ modules) zero s m p q =
+    ap (λ (x : Source). Some (seen_in x b.value)) (some_one a s p) ∙ ap (λ (x : Box ModuleParts Global). Some (seen_in s x.value)) (some_one b m q)
+at_seen (a ∷ sources) (b ∷ modules) (suc k) s m p q = at_seen sources modules k s m p q
+
+-- what is said of the parts of all sources is said of their files
+seen_all : (P : SeenFile → Type 0) (sources : List Source) (modules : List (Box ModuleParts Global)) →
+    ((k : ℕ) (s : Source) (m : Box ModuleParts Global) → slice_get sources k ≡ Some s → slice_get modules k ≡ Some m → P (seen_in s m.value)) →
+    (file : SeenFile) → Contains (all_seen sources modules) file → P file
+seen_all P [] modules each file (k, l, e) = absurd (omega arith)
+seen_all P (s ∷ sources) [] each file (k, l, e) = absurd (omega arith)
+seen_all P (s ∷ sources) (m ∷ modules) each file has = elim (head_or_tail (seen_in s m.value) (all_seen sources modules) file has) [
+  | inl same ↦ subst P same (each zero s m refl refl)
+  | inr later ↦ seen_all P sources modules (λ k a b p q. each (suc k) a b p q) file later
+]
+
+all_marked : (marks : List Bool) (files : List SeenFile) → ((file : SeenFile) → Contains files file → IsNamed (interface_in file)) → AreAllNamed (marked_interfaces marks files)
+all_marked [] files each x (k, l, e) = absurd (omega arith)
+all_marked (mark ∷ marks) [] each x (k, l, e) = absurd (omega arith)
+all_marked (true ∷ marks) (file ∷ files) each x has = elim (head_or_tail (interface_in file) (marked_interfaces marks files) x has) [
+  | inl same ↦ subst IsNamed same (each file (zero, omega arith, refl))
+  | inr later ↦ all_marked marks files (λ f h. each f (suc h.0, omega (arith, h.1), h.2)) x later
+]
+all_marked (false ∷ marks) (file ∷ files) each x has = all_marked marks files (λ f h. each f (suc h.0, omega (arith, h.1), h.2)) x has
+
+module _ (sources : List Source) (modules : List (Box ModuleParts Global)) (g : ImportGraph) (seen : AreSeen sources modules g) (package_name : List ℕ) where
+  abbrev files : List SeenFile
+  files = all_seen sources modules
+
+  file_named : (file : SeenFile) → Contains files file → IsNamed (interface_in file)
+  file_named = seen_all (λ (file : SeenFile). IsNamed (interface_in file)) sources modules
+      (λ k s m p q. let h : IsSeen s m.value = seen.each k s m p q in seen_named s.bytes.items m.value.tokens (rows_in m.value.table) h.scopes.named)
+
+  pub entry_at_hand : (n : ℕ) (s : Source) (m : Box ModuleParts Global) (parts : List ModuleInterface) → slice_get sources n ≡ Some s → slice_get modules n ≡ Some m
+      → IsJob (λ (x : List ℕ) (e : PlainEntry). IsEntryOf files package_name x e) (λ (e : PlainEntry). e.interface) (modules_of g) n parts → IsAtHand files s m.value parts
+  entry_at_hand n s m parts p q job =
+      let at = at_seen sources modules n s m p q in
+      record {
+        is_of_tree = member files n (seen_in s m.value) at;
+        is_seen = seen.each n s m p q;
+        are_reached = parts_reached (λ (x : List ℕ) (e : PlainEntry). IsEntryOf files package_name x e) (λ (e : PlainEntry). e.interface) files g seen.kept
+            (λ x e is. (is.file, is.is_of_tree, is.named, is.entry.interface_is)) n parts (seen_in s m.value) at job;
+      }
+
+  pub reached_named : (m : List ℕ) (parts : List ModuleInterface) → AreReached files m parts → AreAllNamed parts
+  reached_named m parts are = subst AreAllNamed (sym are.reached_are) (all_marked are.marks files file_named)
+
+  name_at : (n : ℕ) (file : SeenFile) → slice_get files n ≡ Some file → row_at (modules_of g).names n ≡ names file 1
+  name_at n file at =
+      let many = as_many files g seen.kept in
+      let within = slice_get_within files n file at in
+      get_or-take g.modules g.names n [] (omega arith) ∙ get_or_from_slice_get g.names n (names file 1) [] (name_of_file files g seen.kept n file at)
+
+  -- the entries of all modules
+  pub entries_all : (all : List PlainEntry) → AreAtBoard (λ (x : List ℕ) (e : PlainEntry). IsEntryOf files package_name x e) (modules_of g) all → AreEntriesOf files package_name all
+  entries_all all are =
+      let many = as_many files g seen.kept in
+      let front = length-take-le g.modules g.names (modules_within files g seen.kept) in
+      let size = are.size in
+      record {
+        as_many = omega arith;
+        each = λ k file e at at_e.
+            let lt : k < length all = slice_get_within all k e at_e in
+            let found = are.own k e lt in
+            let here : get_or all k e ≡ e = get_or_from_slice_get all k e e at_e in
+            let same : found.file ≡ file = same_file files g seen.kept k file found.file at found.is_of_tree (found.named ∙ name_at k file at) in
+            subst (λ (x : SeenFile). IsEntry files package_name x e) same (subst (IsEntry files package_name found.file) here found.entry);
+      }
+
+-- the entry of a module, of what is written of it
+pub made_entry : (files : List SeenFile) (package_name : List ℕ) (s : Source) (parts : ModuleParts) (reached : List ModuleInterface) (e : PlainEntry) → IsAtHand files s parts reached →
+    IsWritten s parts reached package_name e.document e.externals → e.name ≡ names (seen_in s parts) 1 → e.interface ≡ arc_value parts.interface → IsEntryOf files package_name e.name e
+made_entry files package_name s parts reached e hand w named shared = record {
+  file = seen_in s parts;
+  is_of_tree = hand.is_of_tree;
+  named = sym named;
+  entry = record {
+    name_is = named;
+    interface_is = shared ∙ hand.is_seen.interface;
+    refs = w.refs;
+    resolved = record { scopes = parts.scopes; are_scopes = hand.is_seen.scopes; reached = reached; are_reached = hand.are_reached; are_references = w.references };
+    are = w.are;
+  };
+}
+
+-- entries of the parts of a tree are the tree's
+pub entries_told : (sources : List Source) (package_name : List ℕ) (files : List ModuleFile) (tree : TreeParts) (entries : List PlainEntry) → ArePartsOfTree sources files tree →
+    AreEntriesOf (all_seen sources tree.modules.items) package_name entries → AreEntries sources package_name entries
+entries_told sources package_name files tree entries are of = record {
+  files = files;
+  is_tree = record { accepted = are.all.accepted; graph = tree.graph; kept = are.kept; acyclic = are.acyclic };
+  are_entries = subst (λ (fs : List SeenFile). AreEntriesOf fs package_name entries) (seen_are sources files tree.modules.items are.all) of;
+}
+
+-- the external symbols of all entries are such
+external_rows : (entries : List PlainEntry) → ((k : ℕ) (e : PlainEntry) → slice_get entries k ≡ Some e → AreExternalRows e.externals) → AreExternalRows (flat_map (λ (e : PlainEntry). e.externals) entries)
+external_rows [] each x (k, l, e) = absurd (omega arith)
+external_rows (y ∷ ys) each x has = elim (Contains-append_cases y.externals (flat_map (λ (e : PlainEntry). e.externals) ys) x has) [
+  | inl here ↦ each zero y refl x here
+  | inr later ↦ external_rows ys (λ k e at. each (suc k) e at) x later
+]
+
+pub externals_of_tree : (sources : List Source) (package_name : List ℕ) (entries : List PlainEntry) → AreEntries sources package_name entries → AreExternalRows (flat_map (λ (e : PlainEntry). e.externals) entries)
+externals_of_tree sources package_name entries are =
+    external_rows entries (λ k e at.
+    let lt : k < length entries = slice_get_within entries k e at in
+    let many : length entries ≡ length (map seen_of are.files) = are.are_entries.as_many in
+    let room : k < length (map seen_of are.files) = omega arith in
+    let file = get_or (map seen_of are.files) k none_seen in
+    let at_file : slice_get (map seen_of are.files) k ≡ Some file = slice_get-get_or (map seen_of are.files) k none_seen room in
+    (are.are_entries.each k file e at_file at).are.rows)
+  where
+    none_seen : SeenFile
+    none_seen = record { path = []; bytes = []; tokens = []; rows = record { declarers = []; declared = []; uses = []; blocks = []; imports = []; parts = []; records = []; designators = []; selectors = []; ends = [] } }
+
+-- what a module's value is made of has names
+pub named_here : (w : World) (bytes text : List ℕ) (ts tokens : List Token) (rows : Rows) (s : ModuleScopes) (reached : List ModuleInterface) →
+    ((v : World) (t : ModuleScopes) → AreScopes v.bytes v.tokens v.rows t → AreAllNamed v.reached → AreNamed v) →
+    w ≡ record { bytes = text; tokens = tokens; rows = rows; scopes = s; reached = reached } → text ≡ bytes → tokens ≡ ts → AreScopes bytes ts rows s → AreAllNamed reached → AreNamed w
+named_here w bytes text ts tokens rows s reached law is same_text same_tokens scoped named =
+    let v : World = record { bytes = text; tokens = tokens; rows = rows; scopes = s; reached = reached } in
+    let here : AreScopes text tokens rows s =
+    subst (λ (x : List ℕ). AreScopes x tokens rows s) (sym same_text) (subst (λ (x : List Token). AreScopes bytes x rows s) (sym same_tokens) scoped) in
+    subst AreNamed (sym is) (law v s here named)
+
+-- what entries have, by either way of seeing them
+pub same_externals : (es : List Entry) → flat_map (λ (e : Entry). (plain_entry e).externals) es ≡ flat_map (λ (e : PlainEntry). e.externals) (map plain_entry es)
+same_externals [] = refl
+same_externals (e ∷ es) = ap (λ (rows : List PlainSymbol). (plain_entry e).externals ++ rows) (same_externals es)
+
+pub same_documents : (es : List Entry) → map (λ (e : Entry). (plain_entry e).document) es ≡ map (λ (e : PlainEntry). e.document) (map plain_entry es)
+same_documents [] = refl
+same_documents (e ∷ es) = ap (λ (ds : List PlainDocument). (plain_entry e).document ∷ ds) (same_documents es)
+
+-- an index of the entries of a tree is the tree's
+pub index_told : (sources : List Source) (package_name root : List ℕ) (entries : List PlainEntry) (index : PlainIndex) → AreEntries sources package_name entries → IsMadeOf entries root index →
+    IsIndex sources package_name root index
+index_told sources package_name root entries index are made = record { files = are.files; is_tree = are.is_tree; is_index = record { entries = entries; are_entries = are.are_entries; made = made } }

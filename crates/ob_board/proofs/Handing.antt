@@ -1,0 +1,102 @@
+-- What is at hand for a module, and what is found of all.
+use Rattle.std.proofs.Common.{◌≡◌, ℕ, zero, suc, ◌<◌, List, [], ◌∷◌, ◌++◌, length, get_or, map, None, Some, refl, sym, ap, ◌∙◌, subst, arith}
+use Rattle.std.specs.Prelude.{Contains, slice_get, option_map, Box}
+use Rattle.std.specs.List.{flat_map}
+use Rattle.std.specs.declared.alloc.Global.{Global}
+use Rattle.std.proofs.lemmas.List.{get_or-take, length-map, length-take-le}
+use Rattle.std.proofs.lemmas.Option.{get_or_from_slice_get, slice_get-get_or, slice_get-map, slice_get_within}
+use Rattle.ob_imports.specs.Graphs.{ImportGraph}
+use Rattle.ob_interface.specs.Interfaces.{ModuleInterface}
+use Rattle.oscip_tree.specs.declared.parts.ModuleParts.{ModuleParts}
+use Rattle.oscip_tree.specs.declared.source.Source.{Source}
+use Rattle.work_board.specs.Graphs.{row_at}
+use Rattle.board_workers.specs.Parts.{AreEntries, IsJob}
+use Rattle.tree_board.specs.Boards.{modules_of}
+use Rattle.tree_board.specs.Reached.{names, SeenFile}
+use Rattle.tree_board.specs.Seen.{all_seen, seen_in, AreSeen}
+use Rattle.tree_board.proofs.Chained.{as_many, modules_within, name_of_file}
+use Rattle.tree_board.proofs.Shared.{parts_reached, same_file}
+use Rattle.ob_board.specs.Found.{IsAtHand, IsFoundOf, PlainFound}
+use Rattle.ob_board.specs.Unresolved.{IsUnresolvedIn, IsUnresolvedOf, PlainUnresolved}
+
+pub member : {X : Type 0} (xs : List X) (k : ℕ) (x : X) → slice_get xs k ≡ Some x → Contains xs x
+member xs k x at = (k, slice_get_within xs k x at, get_or_from_slice_get xs k x x at)
+
+seen_long : (sources : List Source) (modules : List (Box ModuleParts Global)) → length modules ≡ length sources → length (all_seen sources modules) ≡ length sources
+seen_long [] modules e = refl
+seen_long (s ∷ sources) [] e = absurd (omega arith)
+seen_long (s ∷ sources) (m ∷ modules) e = let rest = seen_long sources modules (omega arith) in omega arith
+
+some_one : {X : Type 0} (x y : X) → Some x ≡ Some y → x ≡ y
+some_one x y e = cc
+
+none_some : {X : Type 0} (y : X) → None ≡ Some y → ⊥
+none_some y e = cc
+
+pub at_seen : (sources : List Source) (modules : List (Box ModuleParts Global)) (k : ℕ) (s : Source) (m : Box ModuleParts Global) → slice_get sources k ≡ Some s → slice_get modules k ≡ Some m
+    → slice_get (all_seen sources modules) k ≡ Some (seen_in s m.value)
+at_seen [] modules k s m p q = absurd (none_some s p)
+at_seen (a ∷ sources) [] k s m p q = absurd (none_some m q)
+at_seen (a ∷ sources) (b ∷ modules) zero s m p q =
+    ap (λ (x : Source). Some (seen_in x b.value)) (some_one a s p) ∙ ap (λ (x : Box ModuleParts Global). Some (seen_in s x.value)) (some_one b m q)
+at_seen (a ∷ sources) (b ∷ modules) (suc k) s m p q = at_seen sources modules k s m p q
+
+module _ (sources : List Source) (modules : List (Box ModuleParts Global)) (g : ImportGraph) (seen : AreSeen sources modules g) where
+  abbrev files : List SeenFile
+  files = all_seen sources modules
+
+  -- a module's number is that of a source and of its parts
+  pub below : (n : ℕ) → n < length (modules_of g).names → (n < length sources) × (n < length modules)
+  below n lt =
+      let many = as_many files g seen.kept in
+      let long = seen_long sources modules seen.as_many in
+      let front = length-take-le g.modules g.names (modules_within files g seen.kept) in
+      let same = seen.as_many in
+      (omega arith, omega arith)
+
+  pub name_at : (n : ℕ) (file : SeenFile) → slice_get files n ≡ Some file → row_at (modules_of g).names n ≡ names file 1
+  name_at n file at =
+      let many = as_many files g seen.kept in
+      let within = slice_get_within files n file at in
+      get_or-take g.modules g.names n [] (omega arith) ∙ get_or_from_slice_get g.names n (names file 1) [] (name_of_file files g seen.kept n file at)
+
+  pub name_here : (n : ℕ) (s : Source) (m : Box ModuleParts Global) → slice_get sources n ≡ Some s → slice_get modules n ≡ Some m → row_at (modules_of g).names n ≡ names (seen_in s m.value) 1
+  name_here n s m p q = name_at n (seen_in s m.value) (at_seen sources modules n s m p q)
+
+  pub at_hand : (n : ℕ) (s : Source) (m : Box ModuleParts Global) (parts : List ModuleInterface) → slice_get sources n ≡ Some s → slice_get modules n ≡ Some m
+      → IsJob (λ (x : List ℕ) (f : PlainFound). IsFoundOf files x f) (λ (f : PlainFound). f.interface) (modules_of g) n parts → IsAtHand files s m.value parts
+  at_hand n s m parts p q job =
+      let at = at_seen sources modules n s m p q in
+      record {
+        is_of_tree = member files n (seen_in s m.value) at;
+        is_seen = seen.each n s m p q;
+        are_reached = parts_reached (λ (x : List ℕ) (f : PlainFound). IsFoundOf files x f) (λ (f : PlainFound). f.interface) files g seen.kept (λ x f is. (is.file, is.is_of_tree, is.named, is.interface_is)) n parts (seen_in s m.value) at job;
+      }
+
+  flat : (all : List PlainFound) → flat_map (λ (f : PlainFound). f.rows) all ≡ flat_map (λ (part : List PlainUnresolved). part) (map (λ (f : PlainFound). f.rows) all)
+  flat [] = refl
+  flat (f ∷ all) = ap (λ (rows : List PlainUnresolved). f.rows ++ rows) (flat all)
+
+  -- what is found of all modules
+  pub found_all : (all : List PlainFound) → AreEntries (λ (x : List ℕ) (f : PlainFound). IsFoundOf files x f) (modules_of g) all → IsUnresolvedOf files (flat_map (λ (f : PlainFound). f.rows) all)
+  found_all all are =
+      let many = as_many files g seen.kept in
+      let front = length-take-le g.modules g.names (modules_within files g seen.kept) in
+      let size = are.size in
+      let l = length-map all (λ (f : PlainFound). f.rows) in
+      record {
+        parts = map (λ (f : PlainFound). f.rows) all;
+        as_many = omega arith;
+        each = λ k file part at at_part.
+            let within = slice_get_within files k file at in
+            let lt : k < length all = omega arith in
+            let d : PlainFound = record { name = []; interface = record { name = []; declarations = []; bases = []; imports = [] }; rows = [] } in
+            let f = get_or all k d in
+            let here : slice_get all k ≡ Some f = slice_get-get_or all k d lt in
+            let found = are.own k d lt in
+            let same : found.file ≡ file = same_file files g seen.kept k file found.file at found.is_of_tree (found.named ∙ name_at k file at) in
+            let is_part : Some f.rows ≡ Some part = sym (slice_get-map (λ (x : PlainFound). x.rows) all k ∙ ap (option_map (λ (x : PlainFound). x.rows)) here) ∙ at_part in
+            let rows : f.rows ≡ part = cc in
+            subst (λ (x : SeenFile). IsUnresolvedIn files x part) same (subst (IsUnresolvedIn files found.file) rows found.are_rows);
+        whole = flat all;
+      }

@@ -1,0 +1,5 @@
+pub mod Identifiers
+pub mod Rowing
+pub mod Handing
+pub mod EntryHanding
+pub mod AtHand

@@ -1,0 +1,20 @@
+use Rattle.std.proofs.Common.{List, map, subst}
+use Rattle.tree_board.specs.Reached.{SeenFile}
+use Rattle.tree_board.proofs.SeenFiles.{parts_seen, seen_are}
+use Rattle.ob_board.specs.Unresolved.{plain_unresolved, IsUnresolvedOf}
+use Rattle.ob_board.proofs.listing.unresolved_in_tree.Goals as goal
+
+pub listed-requires-clause-seen : goal.listed-requires-clause-seen
+listed-requires-clause-seen c =
+    let (files, of) = c.in_ok-tree.ensures.parts in
+    parts_seen c.args.sources.now files c.in_ok-tree.tree.modules.items of.all c.in_ok-tree.tree.graph of.kept
+
+pub returns-clause-exact : goal.returns-clause-exact
+returns-clause-exact c =
+    let (files, of) = c.in_ok-tree.ensures.parts in
+    let tree = c.in_ok-tree.tree in
+    record {
+      files = files;
+      is_tree = record { accepted = of.all.accepted; graph = tree.graph; kept = of.kept; acyclic = of.acyclic };
+      are_rows = subst (λ (fs : List SeenFile). IsUnresolvedOf fs (map plain_unresolved c.in_ok-rows.rows.items)) (seen_are c.args.sources.now files tree.modules.items of.all) c.in_ok-rows.ensures;
+    }

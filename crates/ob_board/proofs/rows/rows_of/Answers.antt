@@ -1,0 +1,22 @@
+use Rattle.std.proofs.Common.{◌≡◌, ◌+◌, ◌++◌, ◌∷◌, [], List, ℕ, map, take, sym, ap, ◌∙◌, subst}
+use Rattle.std.specs.Prelude.{slice_index}
+use Rattle.std.proofs.lemmas.List.{map-append, take_more}
+use Rattle.ob_board.specs.Unresolved.{plain_unresolved, AreRows, PlainUnresolved}
+use Rattle.ob_board.proofs.Rowing.{rows_more}
+use Rattle.ob_board.proofs.rows.rows_of.Goals as goal
+
+pub loop-number-preserved : goal.loop-number-preserved
+loop-number-preserved c =
+    let path = c.args.path.now in
+    let bytes = c.args.bytes.now in
+    let ts = c.args.tokens.now in
+    let ks = c.args.numbers.now in
+    let i = c.loop-number.number-index in
+    let row = plain_unresolved c.in_ok-row_of.field-0 in
+    let before = map plain_unresolved c.loop-number.rows.items in
+    let more : take (i + 1) ks ≡ take i ks ++ slice_index ks i ∷ [] = take_more ks i 0 c.loop-number-test.true in
+    let pushed : map plain_unresolved c.push.new.self.items ≡ before ++ row ∷ [] =
+    ap (map plain_unresolved) c.in_ok-push.ensures.items ∙ map-append plain_unresolved c.loop-number.rows.items (c.in_ok-row_of.field-0 ∷ []) in
+    subst (λ (rows : List PlainUnresolved). AreRows path bytes ts (take (i + 1) ks) rows) (sym pushed)
+    (subst (λ (xs : List ℕ). AreRows path bytes ts xs (before ++ row ∷ [])) (sym more)
+    (rows_more path bytes ts (take i ks) before (slice_index ks i) row c.loop-number.invariant c.in_ok-row_of.ensures))

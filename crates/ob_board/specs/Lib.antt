@@ -1,0 +1,5 @@
+pub mod Resolved
+pub mod Unresolved
+pub mod Found
+pub mod Entries
+pub mod Indexes

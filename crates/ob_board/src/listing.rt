@@ -1,0 +1,57 @@
+//! The identifiers of a tree that stand for nothing.
+ghost use Rattle.std.specs.Prelude.{◌≡◌, map, IfErr, IfOk};
+ghost use Rattle.std.specs.List.{flat_map};
+ghost use Rattle.oscip_tree.specs.Trees.{IsTreeFault};
+ghost use Rattle.tree_board.specs.Seen.{all_seen, AreSeen};
+ghost use Rattle.ob_board.specs.Unresolved.{plain_unresolved, AreUnresolved, IsUnresolvedOf};
+
+use crate::Unresolved;
+use crate::files::NamedFiles;
+use crate::found::{Finding, Found};
+use board_workers::entries_alone;
+use oscip_tree::{Source, TreeFault, TreeParts, tree_parts};
+use std::alloc::{AllocError, Global};
+use std::marker::Brand;
+use tree_board::board_graph;
+
+/// The rows of all modules, one behind the other.
+fn joined<F: NamedFiles>(alloc: Global, all: Vec<Found<F>>) -> Result<Vec<Unresolved>, AllocError>
+    ensures { IfOk result (λ rows. map plain_unresolved rows.items ≡ flat_map (λ f. f.rows) all.items) }
+{
+    let mut rows = Vec::new(alloc);
+    for found in all {
+        let mut more = found.into_rows();
+        rows.append(&mut more)?;
+    }
+    Ok(rows)
+}
+
+/// The rows of a tree of which these are the parts, in the order of the files.
+fn listed<F: NamedFiles>(
+    alloc: Global,
+    sources: &[Source],
+    tree: &TreeParts,
+) -> Result<Vec<Unresolved>, AllocError>
+    requires files { F.files ≡ all_seen sources.now tree.now.modules.items }
+    requires seen { AreSeen sources.now tree.now.modules.items tree.now.graph }
+    ensures { IfOk result (λ rows. IsUnresolvedOf F.files (map plain_unresolved rows.items)) }
+{
+    let graph = board_graph(alloc, &tree.graph)?;
+    let work = Finding::<F>::new(alloc, sources, tree.modules.as_slice(), &tree.graph);
+    let all = entries_alone(alloc, &graph, &work)?;
+    let rows = joined(alloc, all)?;
+    Ok(rows)
+}
+
+/// The identifiers of a tree that stand for nothing and aren't predeclared, in the order of the files, and in each by start;
+/// modules are gone through by the calling thread alone. The fault is the tree's.
+pub fn unresolved_in_tree(alloc: Global, sources: &[Source]) -> Result<Vec<Unresolved>, TreeFault>
+    // They are exactly these.
+    ensures exact { IfOk result (λ rows. AreUnresolved sources.now (map plain_unresolved rows.items)) }
+    // The fault is the tree's.
+    ensures fault { IfErr result (IsTreeFault sources.now) }
+{
+    let tree = tree_parts(alloc, sources)?;
+    let rows = listed::<Brand>(alloc, sources, &tree)?;
+    Ok(rows)
+}

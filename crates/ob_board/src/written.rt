@@ -1,0 +1,67 @@
+//! The document and the external symbols of a module.
+ghost use Rattle.std.specs.Prelude.{◌≡◌, false, map, IfOk};
+ghost use Rattle.std.specs.Arc.{arc_value};
+ghost use Rattle.ob_decls.specs.Declaring.{rows_in};
+ghost use Rattle.ob_scan.specs.Spelling.{IsOutcome, Reads};
+ghost use Rattle.ob_scope.specs.Scoped.{AreScopes};
+ghost use Rattle.scip_index.specs.Plain.{plain_document, plain_symbol};
+ghost use Rattle.scip_symbol.specs.Outcomes.{is_wrong_part};
+ghost use Rattle.ob_board.specs.Entries.{AreAllNamed, IsWritten};
+
+use ob_emit::laws::{names_of_references, names_of_scopes};
+use ob_emit::{EmitFault, document, externals};
+use ob_interface::Interface;
+use ob_resolve::references;
+use ob_scan::laws::tokens_in_text;
+use ob_types::Types;
+use oscip_tree::{ModuleParts, Source};
+use scip_index::{Document, SymbolInfo};
+use std::alloc::{AllocError, Global};
+use std::sync::Arc;
+
+/// A module's document, and the symbols that it names of modules outside of the tree.
+#[derive(Drop)]
+pub(crate) struct Written {
+    pub(crate) document: Document,
+    pub(crate) externals: Vec<SymbolInfo>,
+}
+
+/// What is written of a module, by its parts and the interfaces of what it reaches.
+pub(crate) fn write_module(
+    alloc: Global,
+    source: &Source,
+    parts: &ModuleParts,
+    reached: &[Arc<Interface>],
+    package_name: &str,
+) -> Result<Written, AllocError>
+    requires spelled { IsOutcome source.now.bytes.items (Reads parts.now.tokens) }
+    requires scoped { AreScopes source.now.bytes.items parts.now.tokens (rows_in parts.now.table) parts.now.scopes }
+    requires named { AreAllNamed (map arc_value reached.now) }
+    requires package { is_wrong_part package_name.now ≡ false }
+    ensures { IfOk result (λ w. IsWritten source.now parts.now (map arc_value reached.now) package_name.now (plain_document w.document) (map plain_symbol w.externals.items)) }
+{
+    tokens_in_text();
+    names_of_scopes();
+    names_of_references();
+    let types = Types::new(
+        alloc,
+        source.bytes.as_slice(),
+        parts.tokens.as_slice(),
+        &parts.table,
+        &parts.scopes,
+        reached,
+    )?;
+    let refs = references(alloc, &types)?;
+    let path = source.path.as_str();
+    match document(alloc, path, &types, refs.as_slice(), package_name) {
+        Ok(document) => {
+            let externals = externals(alloc, &types, refs.as_slice())?;
+            Ok(Written {
+                document,
+                externals,
+            })
+        }
+        Err(EmitFault::Memory) => Err(AllocError),
+        Err(EmitFault::BadPackage) => unreachable!(),
+    }
+}
