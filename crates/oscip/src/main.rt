@@ -4,22 +4,25 @@
 #![tactic(auto)]
 
 ghost use Rattle.std.specs.Prelude.{◌≡◌, true};
-ghost use Rattle.oscip_job.specs.Jobs.{is_crossings_job, is_net_job, is_query_job, is_tree_job, HasWorkers};
+ghost use Rattle.std.specs.String.{string_bytes};
+ghost use Rattle.oscip_tree.specs.Sources.{AreInOrder};
+ghost use Rattle.oscip_job.specs.Jobs.{is_crossings_job, is_net_job, is_query_job, is_tree_job, HasPackage, HasWorkers, IsPackage, MayWork};
 
 use byte_sink::ToWrite;
 use cut_solve::OpenGate;
-use oscip_job::{Job, JobFault, job_of};
+use oscip_job::{Indexing, Job, JobFault, Output, job_of};
 use oscip_run::{
-    RunFault, answer, answer_crossings, answer_question, answer_tree, fault_line, read_file,
-    sources_of, status_of, status_of_run, status_of_words,
+    OpenBoard, RunFault, answer, answer_crossings, answer_index, answer_question, answer_tree,
+    fault_line, read_file, sources_of, status_of, status_of_run, status_of_words, unresolved_to,
 };
+use oscip_tree::Source;
 use std::alloc::Global;
 use std::io::ErrorKind;
 use std::process::ExitCode;
 use std::rt::{Env, Files};
 use std::sync::Wait;
 use std::thread::Threads;
-use std::{env, io};
+use std::{env, fs, io};
 
 /// The bytes of the job's report, and none where it has no report.
 fn report_of<R: Files + AllocGlobal>(rt: &R, job: &Job) -> Result<Vec<u8>, RunFault> {
@@ -28,8 +31,13 @@ fn report_of<R: Files + AllocGlobal>(rt: &R, job: &Job) -> Result<Vec<u8>, RunFa
         | Job::CheckNet { report, .. }
         | Job::Dot { report, .. }
         | Job::DotNet { report, .. } => read_file(rt, report.as_str()),
-        Job::Cut { .. } | Job::Crossings { .. } | Job::CutNet { .. } | Job::Def(_) | Job::Refs(_) =>
-            Ok(Vec::new(rt.alloc())),
+        Job::Cut { .. }
+        | Job::Crossings { .. }
+        | Job::CutNet { .. }
+        | Job::Def(_)
+        | Job::Refs(_)
+        | Job::Index(_)
+        | Job::Unresolved { .. } => Ok(Vec::new(rt.alloc())),
     }
 }
 
@@ -105,12 +113,73 @@ fn run_question<R: Files + AllocGlobal + Print>(
     Ok(true)
 }
 
+/// Why an index stands nowhere: a file of this path that can't be written, or `Memory`.
+fn cannot_write(alloc: Global, path: &str) -> RunFault {
+    match String::from_str(alloc, path) {
+        Ok(path) => RunFault::CannotWrite { path },
+        Err(_) => RunFault::Memory,
+    }
+}
+
+/// Writes an index to the file of this path, which is made or emptied first.
+fn index_to_file<R: Files + AllocGlobal + Threads + Wait + Sync>(
+    rt: &R,
+    indexing: &Indexing,
+    sources: &[Source],
+    path: &str,
+) -> Result<(), RunFault>
+    requires in_order { AreInOrder sources.now }
+    requires package { IsPackage (string_bytes indexing.now.package) }
+    requires workers { MayWork indexing.now.workers }
+{
+    let Ok(file) = fs::create(rt, path) else {
+        return Err(cannot_write(rt.alloc(), path));
+    };
+    let mut sink = ToWrite::new(file);
+    match answer_index(rt, rt.alloc(), indexing, sources, &OpenBoard, &mut sink) {
+        Err(RunFault::Device) => Err(cannot_write(rt.alloc(), path)),
+        ended => ended,
+    }
+}
+
+/// Makes an index, once all files of its folder are read. Nothing of it is a check that says no.
+fn run_index<R: Files + AllocGlobal + Print + Threads + Wait + Sync + Clone + Drop>(
+    rt: &R,
+    indexing: &Indexing,
+) -> Result<bool, RunFault>
+    requires package { IsPackage (string_bytes indexing.now.package) }
+    requires workers { MayWork indexing.now.workers }
+{
+    let sources = sources_of(rt, indexing.folder.as_str())?;
+    match &indexing.output {
+        Output::File(path) => index_to_file(rt, indexing, sources.as_slice(), path.as_str())?,
+        Output::Hex => {
+            let mut sink = ToWrite::new(io::writer(rt));
+            let sources = sources.as_slice();
+            answer_index(rt, rt.alloc(), indexing, sources, &OpenBoard, &mut sink)?
+        }
+    }
+    Ok(true)
+}
+
+/// Tells which identifiers of a folder's modules mean nothing. Nothing of it is a check that says no.
+fn run_unresolved<R: Files + AllocGlobal + Print + Clone + Drop>(
+    rt: &R,
+    folder: &str,
+) -> Result<bool, RunFault> {
+    let sources = sources_of(rt, folder)?;
+    let mut sink = ToWrite::new(io::writer(rt));
+    unresolved_to(rt.alloc(), sources.as_slice(), &mut sink)?;
+    Ok(true)
+}
+
 /// Runs the job on the real standard output. Its files are read in the order of the words.
 fn run_job<R: Files + AllocGlobal + Print + Threads + Wait + Sync + Clone + Drop>(
     rt: &R,
     job: &Job,
 ) -> Result<bool, RunFault>
-    requires { HasWorkers job.now }
+    requires workers { HasWorkers job.now }
+    requires package { HasPackage job.now }
 {
     match job {
         Job::Cut { folder, .. } | Job::Check { folder, .. } | Job::Dot { folder, .. } => {
@@ -122,6 +191,8 @@ fn run_job<R: Files + AllocGlobal + Print + Threads + Wait + Sync + Clone + Drop
         Job::Def(question) | Job::Refs(question) => {
             run_question(rt, job, question.index.as_str())
         }
+        Job::Index(indexing) => run_index(rt, indexing),
+        Job::Unresolved { folder } => run_unresolved(rt, folder.as_str()),
     }
 }
 
@@ -154,7 +225,8 @@ fn end_of_job<R: Files + AllocGlobal + Print + Eprint + Threads + Wait + Sync + 
     rt: &R,
     job: &Job,
 ) -> ExitCode
-    requires { HasWorkers job.now }
+    requires workers { HasWorkers job.now }
+    requires package { HasPackage job.now }
 {
     end_of(rt, &run_job(rt, job))
 }

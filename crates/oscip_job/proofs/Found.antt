@@ -24,6 +24,10 @@ both (Some p) name rows e f =
 pub met : (m : ArgMatches) (name : Text) (f : Found) → Some name ≡ subcommand_name_of m → Some (rows_of f) ≡ option_map (λ p. p.1) (subcommand_rows_of m) → subcommand_rows_of m ≡ Some (name, rows_of f)
 met m name f e g = both (subcommand_rows_of m) name (rows_of f) (names_are m ∙ sym e) (sym g)
 
+-- what was found first for an argument
+pub first_found : (f : Found) (id : Text) (o : Option Text) → o ≡ first_value f id → first_of id (rows_of f) ≡ o
+first_found f id o e = sym (first_value-rows f id) ∙ sym e
+
 -- a value that was found, as the text that it was copied to
 pub value : (f : Found) (id text copy : Text) → Some text ≡ first_value f id → copy ≡ text → first_of id (rows_of f) ≡ Some copy
 value f id text copy e same = sym (first_value-rows f id) ∙ sym e ∙ ap Some (sym same)

@@ -1,4 +1,4 @@
-pub mod Commands
+pub mod Subcommands
 pub mod Found
 pub mod Numbers
 pub mod Ranged

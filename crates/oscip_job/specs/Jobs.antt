@@ -1,12 +1,16 @@
 -- The command line as clap reads it, and the job that its words give.
-use Rattle.std.specs.Prelude.{◌≡◌, ◌<◌, ◌≤◌, ◌^◌, ℕ, List, [], ◌∷◌, Option, Some, None, codes, pos, Bool, true, false}
+use Rattle.std.specs.Prelude.{◌≡◌, ◌≢◌, ◌<◌, ◌≤◌, ◌^◌, ℕ, List, [], ◌∷◌, Option, Some, None, codes, pos, slice_get, Bool, true, false}
 use Rattle.std.specs.Str.Parse.{digits_value, without_leading_plus, IsNumeral}
 use Rattle.std.specs.String.{string_bytes}
 use Rattle.clap.specs.Words.{App, Row, Text, first_of, one_of, new_app, new_rule, with_rule, with_subcommand}
 use Rattle.clap.specs.Walk.{Rule}
+use Rattle.clap.specs.declared.builder.action.ArgAction.TheVariants as actions
 use Rattle.clap.specs.declared.builder.value_parser.ValueParser.TheVariants as parsers
 use Rattle.oscip_job.specs.declared.job.Job.{Job}
-use Rattle.oscip_job.specs.declared.job.Job.TheVariants.{Cut, Check, Crossings, CutNet, CheckNet, Dot, DotNet, Def, Refs}
+use Rattle.oscip_job.specs.declared.job.Job.TheVariants.{Cut, Check, Crossings, CutNet, CheckNet, Dot, DotNet, Def, Refs, Index, Unresolved}
+use Rattle.oscip_job.specs.declared.job.Indexing.{Indexing}
+use Rattle.oscip_job.specs.declared.job.Output.{Output}
+use Rattle.oscip_job.specs.declared.job.Output.TheVariants as outputs
 use Rattle.oscip_job.specs.declared.job.Question.{Question}
 
 -- an argument that has to be given
@@ -78,6 +82,27 @@ def_app = asking_app (codes "def")
 abbrev pub refs_app : App
 refs_app = asking_app (codes "refs")
 
+-- --hex
+abbrev pub hex_rule : Rule
+hex_rule = record (new_rule (codes "hex")) { long = Some (codes "hex"); action = Some actions.SetTrue }
+
+-- [OUT] [--hex]
+abbrev pub with_output : App → App
+with_output app = with_rule (with_rule app (new_rule (codes "OUT"))) hex_rule
+
+-- an option with a text, which is empty where it isn't given
+abbrev pub text_rule : Text → Rule
+text_rule id = record (new_rule id) { long = Some id; value_names = 1; defaults = [] ∷ [] }
+
+-- index [--hex] [--package TEXT] [--root TEXT] [--workers N] DIR [OUT]
+abbrev pub index_app : App
+index_app =
+    with_workers (with_rule (with_rule (with_output (with_rule (new_app (codes "index")) (required_rule (codes "DIR")))) (text_rule (codes "package"))) (text_rule (codes "root")))
+
+-- unresolved DIR
+abbrev pub unresolved_app : App
+unresolved_app = with_rule (new_app (codes "unresolved")) (required_rule (codes "DIR"))
+
 -- the program, which tells its version, and one of whose commands has to be given
 abbrev pub program_app : App
 program_app = record (new_app (codes "oscip")) { top = record (new_app (codes "oscip")).top { subcommand_required = true; has_version = true } }
@@ -85,8 +110,8 @@ program_app = record (new_app (codes "oscip")) { top = record (new_app (codes "o
 -- the program and its commands
 abbrev pub oscip : App
 oscip =
-    with_subcommand (with_subcommand (with_subcommand (with_subcommand (with_subcommand (with_subcommand (with_subcommand (with_subcommand (with_subcommand program_app cut_app.top) check_app.top) crossings_app.top) cut_net_app.top)
-    check_net_app.top) dot_app.top) dot_net_app.top) def_app.top) refs_app.top
+    with_subcommand (with_subcommand (with_subcommand (with_subcommand (with_subcommand (with_subcommand (with_subcommand (with_subcommand (with_subcommand (with_subcommand (with_subcommand program_app cut_app.top) check_app.top)
+    crossings_app.top) cut_net_app.top) check_net_app.top) dot_app.top) dot_net_app.top) def_app.top) refs_app.top) index_app.top) unresolved_app.top
 
 -- the text that was found for an argument
 abbrev pub Finds : List Row → Text → Text → Type 0
@@ -122,6 +147,21 @@ HasQuestion rows q =
     Finds rows (codes "INDEX") (string_bytes q.index) × Finds rows (codes "PATH") (string_bytes q.path)
     × FindsNumber rows (codes "LINE") q.line × FindsNumber rows (codes "COL") q.column
 
+-- --hex was given
+abbrev pub AsksForHex : List Row → Type 0
+AsksForHex rows = Finds rows (codes "hex") (codes "true")
+
+-- the one place that the words name: standard output, by --hex, or a file, by OUT
+abbrev pub HasOutput : List Row → Output → Type 0
+HasOutput rows outputs.Hex = AsksForHex rows × (first_of (codes "OUT") rows ≡ None)
+HasOutput rows (outputs.File path) = (AsksForHex rows → ⊥) × Finds rows (codes "OUT") (string_bytes path)
+
+-- the index holds the values that were found for its arguments
+abbrev pub HasIndexing : List Row → Indexing → Type 0
+HasIndexing rows it =
+    Finds rows (codes "DIR") (string_bytes it.folder) × HasOutput rows it.output × Finds rows (codes "package") (string_bytes it.package)
+    × Finds rows (codes "root") (string_bytes it.root) × FindsNumber rows (codes "workers") it.workers
+
 -- the job holds the values that were found for its arguments
 abbrev pub HasValues : List Row → Job → Type 0
 HasValues rows (Cut folder from to workers) =
@@ -138,6 +178,8 @@ HasValues rows (Dot folder report) = Finds rows (codes "DIR") (string_bytes fold
 HasValues rows (DotNet network report) = Finds rows (codes "FILE") (string_bytes network) × Finds rows (codes "REPORT") (string_bytes report)
 HasValues rows (Def question) = HasQuestion rows question
 HasValues rows (Refs question) = HasQuestion rows question
+HasValues rows (Index indexing) = HasIndexing rows indexing
+HasValues rows (Unresolved folder) = Finds rows (codes "DIR") (string_bytes folder)
 
 -- the word that names the command
 abbrev pub command_name : Job → Text
@@ -150,6 +192,8 @@ command_name (Dot folder report) = codes "dot"
 command_name (DotNet network report) = codes "dot-net"
 command_name (Def question) = codes "def"
 command_name (Refs question) = codes "refs"
+command_name (Index indexing) = codes "index"
+command_name (Unresolved folder) = codes "unresolved"
 
 -- the command that clap found is the job's, with its values
 abbrev pub Holds : Option (Text × List Row) → Job → Type 0
@@ -167,6 +211,8 @@ is_tree_job (Dot folder report) = true
 is_tree_job (DotNet network report) = false
 is_tree_job (Def question) = false
 is_tree_job (Refs question) = false
+is_tree_job (Index indexing) = false
+is_tree_job (Unresolved folder) = false
 
 -- the job reads the lines of a network
 abbrev pub is_net_job : Job → Bool
@@ -179,6 +225,8 @@ is_net_job (Dot folder report) = false
 is_net_job (DotNet network report) = true
 is_net_job (Def question) = false
 is_net_job (Refs question) = false
+is_net_job (Index indexing) = false
+is_net_job (Unresolved folder) = false
 
 -- the job asks an index
 abbrev pub is_query_job : Job → Bool
@@ -191,6 +239,36 @@ is_query_job (Dot folder report) = false
 is_query_job (DotNet network report) = false
 is_query_job (Def question) = true
 is_query_job (Refs question) = true
+is_query_job (Index indexing) = false
+is_query_job (Unresolved folder) = false
+
+-- the job makes an index
+abbrev pub is_index_job : Job → Bool
+is_index_job (Cut folder from to workers) = false
+is_index_job (Check folder report) = false
+is_index_job (Crossings folder from to) = false
+is_index_job (CutNet network from to workers) = false
+is_index_job (CheckNet network report) = false
+is_index_job (Dot folder report) = false
+is_index_job (DotNet network report) = false
+is_index_job (Def question) = false
+is_index_job (Refs question) = false
+is_index_job (Index indexing) = true
+is_index_job (Unresolved folder) = false
+
+-- the job asks for the identifiers that mean nothing
+abbrev pub is_unresolved_job : Job → Bool
+is_unresolved_job (Cut folder from to workers) = false
+is_unresolved_job (Check folder report) = false
+is_unresolved_job (Crossings folder from to) = false
+is_unresolved_job (CutNet network from to workers) = false
+is_unresolved_job (CheckNet network report) = false
+is_unresolved_job (Dot folder report) = false
+is_unresolved_job (DotNet network report) = false
+is_unresolved_job (Def question) = false
+is_unresolved_job (Refs question) = false
+is_unresolved_job (Index indexing) = false
+is_unresolved_job (Unresolved folder) = true
 
 -- the job asks for the places where one module uses another
 abbrev pub is_crossings_job : Job → Bool
@@ -203,6 +281,8 @@ is_crossings_job (Dot folder report) = false
 is_crossings_job (DotNet network report) = false
 is_crossings_job (Def question) = false
 is_crossings_job (Refs question) = false
+is_crossings_job (Index indexing) = false
+is_crossings_job (Unresolved folder) = false
 
 -- the job's workers, where it has them, are 1 to 64
 abbrev pub HasWorkers : Job → Type 0
@@ -215,6 +295,8 @@ HasWorkers (Dot folder report) = Unit {0}
 HasWorkers (DotNet network report) = Unit {0}
 HasWorkers (Def question) = Unit {0}
 HasWorkers (Refs question) = Unit {0}
+HasWorkers (Index indexing) = MayWork indexing.workers
+HasWorkers (Unresolved folder) = Unit {0}
 
 -- the position's line and column are at most 2147483647
 abbrev pub IsPositionOf : Question → Type 0
@@ -231,3 +313,23 @@ HasPosition (Dot folder report) = Unit {0}
 HasPosition (DotNet network report) = Unit {0}
 HasPosition (Def question) = IsPositionOf question
 HasPosition (Refs question) = IsPositionOf question
+HasPosition (Index indexing) = Unit {0}
+HasPosition (Unresolved folder) = Unit {0}
+
+-- a package that can stand in a symbol: it isn't a full stop, and no space stands in front
+abbrev pub IsPackage : Text → Type 0
+IsPackage text = (text ≢ codes ".") × (slice_get text 0 ≢ Some 32)
+
+-- so that of the job, where it has one
+abbrev pub HasPackage : Job → Type 0
+HasPackage (Cut folder from to workers) = Unit {0}
+HasPackage (Check folder report) = Unit {0}
+HasPackage (Crossings folder from to) = Unit {0}
+HasPackage (CutNet network from to workers) = Unit {0}
+HasPackage (CheckNet network report) = Unit {0}
+HasPackage (Dot folder report) = Unit {0}
+HasPackage (DotNet network report) = Unit {0}
+HasPackage (Def question) = Unit {0}
+HasPackage (Refs question) = Unit {0}
+HasPackage (Index indexing) = IsPackage (string_bytes indexing.package)
+HasPackage (Unresolved folder) = Unit {0}

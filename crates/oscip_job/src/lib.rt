@@ -1,8 +1,11 @@
 //! The command line: the words that the program is called with, and the job that they ask for.
 //! Stands on `clap`, with `thiserror` for its faults.
-//! Its contract: a job holds exactly what `clap` finds for the words, its workers are 1 to 64, and its line and column at most 2,147,483,647.
+//! Its contract: a job holds exactly what `clap` finds for the words; its numbers and its package are as they may be, and an index goes to one place.
 #![tactic(auto)]
 
+mod commands;
+mod finding;
 mod job;
 
-pub use job::{Job, JobFault, Question, job_of};
+pub use finding::job_of;
+pub use job::{Indexing, Job, JobFault, Output, Question};

@@ -5,3 +5,5 @@ pub mod DotRuns
 pub mod JobRuns
 pub mod NoRefusal
 pub mod CrossingRuns
+pub mod IndexRuns
+pub mod Packages

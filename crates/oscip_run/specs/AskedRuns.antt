@@ -3,7 +3,7 @@ use Rattle.std.specs.Prelude.{◌≡◌, ℕ, List, Option, Result, Ok, Err}
 use Rattle.std.specs.String.{string_bytes}
 use Rattle.index_store.specs.declared.place.Position.{Position}
 use Rattle.oscip_job.specs.declared.job.Job.{Job}
-use Rattle.oscip_job.specs.declared.job.Job.TheVariants.{Cut, Check, Crossings, CutNet, CheckNet, Dot, DotNet, Def, Refs}
+use Rattle.oscip_job.specs.declared.job.Job.TheVariants.{Cut, Check, Crossings, CutNet, CheckNet, Dot, DotNet, Def, Refs, Index, Unresolved}
 use Rattle.oscip_job.specs.declared.job.Question.{Question}
 use Rattle.oscip_query.specs.Asking.{IsQueryRun}
 use Rattle.oscip_query.specs.declared.asking.Which.{Which}
@@ -32,3 +32,5 @@ IsAskedJob index (Dot folder report) old new result = ⊥
 IsAskedJob index (DotNet network report) old new result = ⊥
 IsAskedJob index (Def question) old new result = IsAskedRun index question Definitions old new result
 IsAskedJob index (Refs question) old new result = IsAskedRun index question References old new result
+IsAskedJob index (Index indexing) old new result = ⊥
+IsAskedJob index (Unresolved folder) old new result = ⊥

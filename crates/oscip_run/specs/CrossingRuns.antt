@@ -7,7 +7,7 @@ use Rattle.cut_solve.specs.declared.fault.SolveFault.{SolveFault}
 use Rattle.cut_solve.specs.declared.fault.SolveFault.TheVariants as solve
 use Rattle.index_store.specs.Queries.{PlainPlace}
 use Rattle.oscip_job.specs.declared.job.Job.{Job}
-use Rattle.oscip_job.specs.declared.job.Job.TheVariants.{Cut, Check, Crossings, CutNet, CheckNet, Dot, DotNet, Def, Refs}
+use Rattle.oscip_job.specs.declared.job.Job.TheVariants.{Cut, Check, Crossings, CutNet, CheckNet, Dot, DotNet, Def, Refs, Index, Unresolved}
 use Rattle.oscip_query.specs.Lines.{place_lines}
 use Rattle.oscip_run.specs.Runs.{IsRefusedTree}
 use Rattle.oscip_run.specs.declared.fault.RunFault.{RunFault}
@@ -72,6 +72,8 @@ IsCrossingsJob sources (Dot folder report) old new result = ⊥
 IsCrossingsJob sources (DotNet network report) old new result = ⊥
 IsCrossingsJob sources (Def question) old new result = ⊥
 IsCrossingsJob sources (Refs question) old new result = ⊥
+IsCrossingsJob sources (Index indexing) old new result = ⊥
+IsCrossingsJob sources (Unresolved folder) old new result = ⊥
 
 -- ---- what is made on the way
 

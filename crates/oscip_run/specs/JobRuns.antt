@@ -7,7 +7,7 @@ use Rattle.oscip_run.specs.DotRuns.{IsDotRun}
 use Rattle.oscip_run.specs.Runs.{IsCheckRun}
 use Rattle.oscip_run.specs.declared.fault.RunFault.{RunFault}
 use Rattle.oscip_job.specs.declared.job.Job.{Job}
-use Rattle.oscip_job.specs.declared.job.Job.TheVariants.{Cut, Check, Crossings, CutNet, CheckNet, Dot, DotNet, Def, Refs}
+use Rattle.oscip_job.specs.declared.job.Job.TheVariants.{Cut, Check, Crossings, CutNet, CheckNet, Dot, DotNet, Def, Refs, Index, Unresolved}
 
 -- the run, without its answer
 abbrev pub without_answer : Result Bool RunFault → Result (Unit {0}) RunFault
@@ -35,3 +35,5 @@ IsJobRun IsOf IsRefused (Dot folder other) report old new result = IsDotJobRun I
 IsJobRun IsOf IsRefused (DotNet path other) report old new result = IsDotJobRun IsOf IsRefused report old new result
 IsJobRun IsOf IsRefused (Def question) report old new result = ⊥
 IsJobRun IsOf IsRefused (Refs question) report old new result = ⊥
+IsJobRun IsOf IsRefused (Index indexing) report old new result = ⊥
+IsJobRun IsOf IsRefused (Unresolved folder) report old new result = ⊥

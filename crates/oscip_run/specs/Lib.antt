@@ -7,3 +7,4 @@ pub mod Endings
 pub mod Files
 pub mod AskedRuns
 pub mod CrossingRuns
+pub mod IndexRuns

@@ -58,7 +58,9 @@ pub fn answer<R: Threads + Wait + Sync, G: Gate + Sync, S: Sink>(
         | Job::Crossings { .. }
         | Job::Dot { .. }
         | Job::Def(_)
-        | Job::Refs(_) => unreachable!(),
+        | Job::Refs(_)
+        | Job::Index(_)
+        | Job::Unresolved { .. } => unreachable!(),
     }
 }
 
@@ -102,6 +104,8 @@ pub fn answer_tree<R: Threads + Wait + Sync, G: Gate + Sync, S: Sink>(
         | Job::CheckNet { .. }
         | Job::DotNet { .. }
         | Job::Def(_)
-        | Job::Refs(_) => unreachable!(),
+        | Job::Refs(_)
+        | Job::Index(_)
+        | Job::Unresolved { .. } => unreachable!(),
     }
 }

@@ -55,6 +55,8 @@ pub fn answer_question<S: Sink>(
         | Job::CutNet { .. }
         | Job::CheckNet { .. }
         | Job::Dot { .. }
-        | Job::DotNet { .. } => unreachable!(),
+        | Job::DotNet { .. }
+        | Job::Index(_)
+        | Job::Unresolved { .. } => unreachable!(),
     }
 }

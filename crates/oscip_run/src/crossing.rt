@@ -122,6 +122,8 @@ pub fn answer_crossings<S: Sink>(
         | Job::Dot { .. }
         | Job::DotNet { .. }
         | Job::Def(_)
-        | Job::Refs(_) => unreachable!(),
+        | Job::Refs(_)
+        | Job::Index(_)
+        | Job::Unresolved { .. } => unreachable!(),
     }
 }

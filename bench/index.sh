@@ -1,0 +1,33 @@
+#!/usr/bin/env bash
+# Compares index and unresolved with a plain indexer on small random trees and on the editor, decodes the editor's index, and times
+# index on large trees beside an indexer in C++ that looks at no field.
+# Build the program first: (cd crates/oscip && rt run -- --help).
+# Then: bench/index.sh [PATH OF THE PROGRAM [SEED [CASES]]]
+set -eu
+here=$(cd "$(dirname "$0")" && pwd)
+oscip=$(realpath "${1:-$here/../crates/oscip/out/oscip}")
+work=$(mktemp -d)
+trap 'rm -rf "$work"' EXIT
+cp -r "$here/../examples/editor" "$work/editor"
+python3 "$here/index.py" "$oscip" "${2:-1}" "${3:-500}" "$work/editor"
+"$oscip" index "$work/editor" "$work/editor.out"
+if command -v protoc >/dev/null; then
+  protoc --proto_path="$here" --decode=wire.Index "$here/index.proto" <"$work/editor.out" >"$work/editor.txt"
+  echo "protoc reads the editor's index: $(grep -c '^documents' "$work/editor.txt") documents, $(grep -c 'occurrences {' "$work/editor.txt") occurrences"
+fi
+g++ -O2 -std=c++17 -o "$work/indexer" "$here/indexer.cpp"
+for shape in files graph large; do
+  mkdir "$work/$shape"
+  python3 "$here/modules.py" "$shape" "$work/$shape"
+  bytes=$(cat "$work/$shape"/* | wc -c)
+  for run in 1 2 3; do
+    for workers in 1 4; do
+      /usr/bin/time -f "$shape oscip-$workers %e %M $bytes" "$oscip" index --workers $workers "$work/$shape" "$work/out" 2>>"$work/times"
+    done
+    /usr/bin/time -f "$shape c++ %e %M $bytes" "$work/indexer" "$work/$shape" "$work/other" 2>>"$work/times"
+  done
+done
+sort "$work/times" | awk '
+  { key = $1 " " $2; if (!(key in least) || $3 < least[key]) { least[key] = $3; memory[key] = $4 * 1024 / $5 } shapes[$1] }
+  END { for (s in shapes) printf "%s: one worker over C++ %.1f, four workers over one %.2f, %.0f bytes of memory a byte of source (C++ %.0f), %.2f s\n", s,
+    least[s " oscip-1"] / least[s " c++"], least[s " oscip-4"] / least[s " oscip-1"], memory[s " oscip-1"], memory[s " c++"], least[s " oscip-1"] }'

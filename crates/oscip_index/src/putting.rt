@@ -1,0 +1,78 @@
+//! An index, put into a sink document by document.
+ghost use Rattle.std.specs.Prelude.{◌≡◌, IsSome, None, OnOk, map};
+ghost use Rattle.proto_wire.specs.Writers.{is_failure, PutsRecord};
+ghost use Rattle.byte_sink.specs.Sinks.{failures_after, failures_by, is_device, Puts};
+ghost use Rattle.scip_index.specs.declared.writer.Stage.TheVariants.{Open};
+ghost use Rattle.scip_index.specs.Plain.{plain_document, plain_index};
+ghost use Rattle.scip_index.specs.Written.{documents_part, written};
+
+use byte_sink::{Sink, SinkFault};
+use proto_wire::WireFault;
+use scip_index::laws::in_parts;
+use scip_index::{Document, Index, IndexWriter};
+use std::alloc::Global;
+
+/// Puts the documents one after the other, each given up once it is put. At a refusal a front of them is taken.
+fn put_documents<S: Sink>(
+    writer: &mut IndexWriter,
+    documents: Vec<Document>,
+    sink: &mut S,
+) -> Result<(), WireFault>
+    requires stage { writer.old.stage ≡ Open }
+    requires well { writer.old.refusal ≡ None }
+    ensures puts { PutsRecord (S.taken sink.old) (S.taken sink.new) result (documents_part (map plain_document documents.items)) }
+    ensures failures { S.failures sink.new ≡ failures_by is_failure result (S.failures sink.old) }
+    ensures stage { OnOk result (writer.new.stage ≡ Open) }
+    ensures well { OnOk result (writer.new.refusal ≡ None) }
+{
+    for document in documents {
+        writer.document(&document, sink)?;
+    }
+    Ok(())
+}
+
+/// Puts the parts of an index that says something of itself. At a refusal a front of them is taken.
+fn put_parts<S: Sink>(alloc: Global, index: Index, sink: &mut S) -> Result<(), WireFault>
+    requires { IsSome index.metadata }
+    ensures puts { PutsRecord (S.taken sink.old) (S.taken sink.new) result (written (plain_index index)) }
+    ensures failures { S.failures sink.new ≡ failures_by is_failure result (S.failures sink.old) }
+{
+    in_parts();
+    let mut writer = IndexWriter::new(alloc);
+    match &index.metadata {
+        None => unreachable!(),
+        Some(metadata) => writer.metadata(metadata, sink)?,
+    }
+    put_documents(&mut writer, index.documents, sink)?;
+    writer.end(index.external_symbols.as_slice(), sink)
+}
+
+/// Why a writer stopped: its sink failed, or memory ran out.
+fn stopped_by(fault: &WireFault) -> SinkFault
+    ensures { is_device result ≡ is_failure fault.now }
+{
+    match fault {
+        WireFault::Device => SinkFault::Device,
+        WireFault::Truncated { .. }
+        | WireFault::LongVarint { .. }
+        | WireFault::Group { .. }
+        | WireFault::ZeroField { .. }
+        | WireFault::BadText { .. }
+        | WireFault::Memory => SinkFault::Memory,
+    }
+}
+
+/// Puts an index that says something of itself: its written form (scip.proto), document by document, each given up once it is
+/// put. At a refusal a front of it is taken.
+pub fn put_index<S: Sink>(alloc: Global, index: Index, sink: &mut S) -> Result<(), SinkFault>
+    requires { IsSome index.metadata }
+    // The whole written form at Ok, and a front of it at a refusal.
+    ensures puts { Puts (S.taken sink.old) (S.taken sink.new) result (written (plain_index index)) }
+    // Device is answered where the sink counted a failure, and nowhere else.
+    ensures failures { S.failures sink.new ≡ failures_after result (S.failures sink.old) }
+{
+    match put_parts(alloc, index, sink) {
+        Ok(()) => Ok(()),
+        Err(fault) => Err(stopped_by(&fault)),
+    }
+}

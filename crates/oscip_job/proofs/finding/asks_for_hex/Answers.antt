@@ -1,0 +1,14 @@
+use Rattle.std.proofs.Common.{◌≡◌, ◌∙◌, Option, Some, None, codes, sym, rules}
+use Rattle.clap.specs.Words.{first_of, found_of, rows_of, Text}
+use Rattle.oscip_job.proofs.Found.{first_found}
+use Rattle.oscip_job.proofs.finding.asks_for_hex.Goals as goal
+
+pub returns-in-None : goal.returns-in-None
+returns-in-None c =
+    let none : first_of (codes "hex") (rows_of (found_of c.args.found.now)) ≡ None = first_found (found_of c.args.found.now) (codes "hex") None c.in-None.ensures in
+    ((λ e. absurd cc), (λ h. let bad : None ≡ Some (codes "true") = sym none ∙ h in absurd cc))
+
+pub returns-in-Some : goal.returns-in-Some
+returns-in-Some c =
+    let some : first_of (codes "hex") (rows_of (found_of c.args.found.now)) ≡ Some c.in-Some.text.now = first_found (found_of c.args.found.now) (codes "hex") (Some c.in-Some.text.now) c.in-Some.ensures in
+    search rules

@@ -1,8 +1,0 @@
-use Rattle.std.proofs.Common.{◌≡◌, ◌∙◌, ap₂, false, ◌||◌, Bool, rules}
-use Rattle.std.proofs.lemmas.Result.{IfOk-weaker}
-use Rattle.oscip_job.proofs.job.with_workers.Goals as goal
-
-pub returns-clause-local : goal.returns-clause-local
-returns-clause-local c =
-    let local : c.help-workers.result.global ≡ false = search rules in
-    IfOk-weaker c.arg.result _ _ (λ r h e. h.globals ∙ ap₂ (λ (x : Bool) (y : Bool). x || y) e local) c.arg.ensures

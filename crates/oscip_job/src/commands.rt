@@ -1,0 +1,502 @@
+//! The commands of the program and their words, as `clap` takes them.
+ghost use Rattle.std.specs.Prelude.{◌≡◌, IfOk, codes, false};
+ghost use Rattle.clap.specs.Words.{app_of, new_app, with_rule, with_subcommand, App};
+ghost use Rattle.clap.specs.declared.Command.TheViews.{out-Command as fields_of};
+ghost use Rattle.oscip_job.specs.Jobs.{asking_app, check_app, check_net_app, crossings_app, cut_app, cut_net_app, def_app, dot_app, dot_net_app, index_app, number_rule, oscip, refs_app, required_rule, text_rule, unresolved_app, with_modules, with_output, with_position, with_workers};
+
+use clap::{Arg, ArgAction, Command, value_parser};
+use std::alloc::{AllocError, Global};
+
+/// What help says of a folder of modules.
+const FOLDER_HELP: &str =
+    "The folder of the modules: its files, and those of its folders, that end in `.Mod` or `.mod`";
+
+/// What help says of a network.
+const NETWORK_HELP: &str = "The network: lines `module M` and `import M N w`";
+
+/// What `--version` tells behind the program's name.
+const VERSION: &str = "0.1.0";
+
+/// What stands at the end of the program's help.
+const PROGRAM_END: &str = "Example: oscip cut examples/editor Edit Net{n}{n}\
+    `oscip COMMAND --help` has an example of each command and the statuses that it ends with.";
+
+/// What stands at the end of the help of a command that cuts.
+const CUT_END: &str = "Example: oscip cut examples/editor Edit Net{n}{n}\
+    Status: 0 the report is printed, 1 a module or a name is refused, 2 the command line is refused,{n}\
+    3 a file can't be read or standard output takes nothing, 4 memory ran out";
+
+const CUT_NET_END: &str = "Example: oscip cut-net examples/six.net A B{n}{n}\
+    Status: 0 the report is printed, 1 the network or a name is refused, 2 the command line is refused,{n}\
+    3 a file can't be read or standard output takes nothing, 4 memory ran out";
+
+/// What stands at the end of the help of a command that checks.
+const CHECK_END: &str = "Example: oscip check examples/editor edit.cut{n}{n}\
+    Status: 0 yes, 5 no, 1 a module or the report is refused, 2 the command line is refused,{n}\
+    3 a file can't be read or standard output takes nothing, 4 memory ran out";
+
+/// What stands at the end of the help of the command that tells where a module uses another.
+const CROSSINGS_END: &str = "Example: oscip crossings examples/editor Edit Sync{n}{n}\
+    Status: 0 the places are printed, 1 a module or a name is refused, 2 the command line is refused,{n}\
+    3 a file can't be read or standard output takes nothing, 4 memory ran out";
+
+const CHECK_NET_END: &str = "Example: oscip check-net examples/six.net examples/six.cut{n}{n}\
+    Status: 0 yes, 5 no, 1 the network or the report is refused, 2 the command line is refused,{n}\
+    3 a file can't be read or standard output takes nothing, 4 memory ran out";
+
+/// What stands at the end of the help of a command that draws.
+const DOT_END: &str = "Example: oscip dot examples/editor edit.cut{n}{n}\
+    Status: 0 the graph is printed, 1 a module or the report is refused, 2 the command line is refused,{n}\
+    3 a file can't be read or standard output takes nothing, 4 memory ran out";
+
+const DOT_NET_END: &str = "Example: oscip dot-net examples/six.net examples/six.cut{n}{n}\
+    Status: 0 the graph is printed, 1 the network or the report is refused, 2 the command line is refused,{n}\
+    3 a file can't be read or standard output takes nothing, 4 memory ran out";
+
+/// What stands at the end of the help of the command that makes an index.
+const INDEX_END: &str = "Example: oscip index examples/editor editor.scip{n}{n}\
+    Status: 0 the index is written, 1 a module is refused, 2 the command line is refused,{n}\
+    3 a file can't be read or written or standard output takes nothing, 4 memory ran out";
+
+/// What stands at the end of the help of the command that tells what means nothing.
+const UNRESOLVED_END: &str = "Example: oscip unresolved examples/editor{n}{n}\
+    Status: 0 the identifiers are printed, 1 a module is refused, 2 the command line is refused,{n}\
+    3 a file can't be read or standard output takes nothing, 4 memory ran out";
+
+/// What stands at the end of the help of a question to an index.
+const DEF_END: &str = "Example: oscip def examples/foreign.scip src/view.ts 2 19{n}{n}\
+    Status: 0 the places are printed, 1 the index or the path is refused, 2 the command line is refused,{n}\
+    3 a file can't be read or standard output takes nothing, 4 memory ran out";
+
+const REFS_END: &str = "Example: oscip refs examples/foreign.scip src/view.ts 2 19{n}{n}\
+    Status: 0 the places are printed, 1 the index or the path is refused, 2 the command line is refused,{n}\
+    3 a file can't be read or standard output takes nothing, 4 memory ran out";
+
+/// The command with one more argument that has to be given.
+fn with_required<'a>(
+    alloc: Global,
+    command: Command<'a>,
+    id: &'a str,
+    help: &'a str,
+) -> Result<Command<'a>, AllocError>
+    ensures app { IfOk result (λ c. app_of c ≡ with_rule (app_of command.entry) (required_rule id.entry.now)) }
+    ensures local { IfOk result (λ c. (fields_of command.entry).has_globals ≡ false → (fields_of c).has_globals ≡ false) }
+{
+    command.arg(Arg::new(alloc, id).required(true).help(help))
+}
+
+/// The command with the names of two modules, A and B.
+fn with_modules<'a>(alloc: Global, command: Command<'a>) -> Result<Command<'a>, AllocError>
+    ensures app { IfOk result (λ c. app_of c ≡ with_modules (app_of command.entry)) }
+    ensures local { IfOk result (λ c. (fields_of command.entry).has_globals ≡ false → (fields_of c).has_globals ≡ false) }
+{
+    let command = with_required(
+        alloc,
+        command,
+        "A",
+        "The name of the module that is to reach B no longer",
+    )?;
+    with_required(
+        alloc,
+        command,
+        "B",
+        "The name of the module that A is to reach no longer",
+    )
+}
+
+/// The command with the option of how many workers search, 1 to 64.
+fn with_workers<'a>(alloc: Global, command: Command<'a>) -> Result<Command<'a>, AllocError>
+    ensures app { IfOk result (λ c. app_of c ≡ with_workers (app_of command.entry)) }
+    ensures local { IfOk result (λ c. (fields_of command.entry).has_globals ≡ false → (fields_of c).has_globals ≡ false) }
+{
+    let workers = Arg::new(alloc, "workers")
+        .long("workers")
+        .value_name("N")
+        .value_parser(value_parser!(u32).range(1..=64))
+        .default_value("4")
+        .help("How many threads search for the cut, from 1 to 64");
+    command.arg(workers)
+}
+
+/// The command of this name with a cut's words: what is cut, the names of two modules, and how many workers search.
+fn cutting<'a>(
+    alloc: Global,
+    name: &'a str,
+    about: &'a str,
+    end: &'a str,
+    id: &'a str,
+    help: &'a str,
+) -> Result<Command<'a>, AllocError>
+    ensures app { IfOk result (λ c. app_of c ≡ with_workers (with_modules (with_rule (new_app name.entry.now) (required_rule id.entry.now)))) }
+    ensures local { IfOk result (λ c. (fields_of c).has_globals ≡ false) }
+{
+    let command = Command::new(alloc, name).about(about).after_help(end);
+    let command = with_required(alloc, command, id, help)?;
+    let command = with_modules(alloc, command)?;
+    with_workers(alloc, command)
+}
+
+/// The command of this name with the words of a check or a picture: what was cut, and the report.
+fn checking<'a>(
+    alloc: Global,
+    name: &'a str,
+    about: &'a str,
+    end: &'a str,
+    id: &'a str,
+    help: &'a str,
+    report_help: &'a str,
+) -> Result<Command<'a>, AllocError>
+    ensures app { IfOk result (λ c. app_of c ≡ with_rule (with_rule (new_app name.entry.now) (required_rule id.entry.now)) (required_rule (codes "REPORT"))) }
+    ensures local { IfOk result (λ c. (fields_of c).has_globals ≡ false) }
+{
+    let command = Command::new(alloc, name).about(about).after_help(end);
+    let command = with_required(alloc, command, id, help)?;
+    with_required(alloc, command, "REPORT", report_help)
+}
+
+fn cut_command<'a>(alloc: Global) -> Result<Command<'a>, AllocError>
+    ensures app { IfOk result (λ c. app_of c ≡ cut_app) }
+    ensures local { IfOk result (λ c. (fields_of c).has_globals ≡ false) }
+{
+    cutting(
+        alloc,
+        "cut",
+        "Find a cheapest set of imports of Oberon-07 modules to remove so that A no longer reaches B, with a flow that proves it",
+        CUT_END,
+        "DIR",
+        FOLDER_HELP,
+    )
+}
+
+fn check_command<'a>(alloc: Global) -> Result<Command<'a>, AllocError>
+    ensures app { IfOk result (λ c. app_of c ≡ check_app) }
+    ensures local { IfOk result (λ c. (fields_of c).has_globals ≡ false) }
+{
+    checking(
+        alloc,
+        "check",
+        "Check a report's proof that its cut of Oberon-07 modules is cheapest",
+        CHECK_END,
+        "DIR",
+        FOLDER_HELP,
+        "The report of a cut between two of the modules",
+    )
+}
+
+/// The command with the names of two modules, M and N.
+fn with_users<'a>(alloc: Global, command: Command<'a>) -> Result<Command<'a>, AllocError>
+    ensures app { IfOk result (λ c. app_of c ≡ with_rule (with_rule (app_of command.entry) (required_rule (codes "M"))) (required_rule (codes "N"))) }
+    ensures local { IfOk result (λ c. (fields_of command.entry).has_globals ≡ false → (fields_of c).has_globals ≡ false) }
+{
+    let command = with_required(alloc, command, "M", "The name of the module that uses N")?;
+    with_required(
+        alloc,
+        command,
+        "N",
+        "The name of the module that M uses, which may be one that has no file",
+    )
+}
+
+fn crossings_command<'a>(alloc: Global) -> Result<Command<'a>, AllocError>
+    ensures app { IfOk result (λ c. app_of c ≡ crossings_app) }
+    ensures local { IfOk result (λ c. (fields_of c).has_globals ≡ false) }
+{
+    let command = Command::new(alloc, "crossings")
+        .about("Tell where an Oberon-07 module uses another: what to rewrite to remove that import")
+        .after_help(CROSSINGS_END);
+    let command = with_required(alloc, command, "DIR", FOLDER_HELP)?;
+    with_users(alloc, command)
+}
+
+fn cut_net_command<'a>(alloc: Global) -> Result<Command<'a>, AllocError>
+    ensures app { IfOk result (λ c. app_of c ≡ cut_net_app) }
+    ensures local { IfOk result (λ c. (fields_of c).has_globals ≡ false) }
+{
+    cutting(
+        alloc,
+        "cut-net",
+        "Find a cheapest set of imports to remove so that A no longer reaches B, with a flow that proves it",
+        CUT_NET_END,
+        "FILE",
+        NETWORK_HELP,
+    )
+}
+
+fn check_net_command<'a>(alloc: Global) -> Result<Command<'a>, AllocError>
+    ensures app { IfOk result (λ c. app_of c ≡ check_net_app) }
+    ensures local { IfOk result (λ c. (fields_of c).has_globals ≡ false) }
+{
+    checking(
+        alloc,
+        "check-net",
+        "Check a report's proof that its cut of a network is cheapest",
+        CHECK_NET_END,
+        "FILE",
+        NETWORK_HELP,
+        "The report of a cut between two of its modules",
+    )
+}
+
+fn dot_command<'a>(alloc: Global) -> Result<Command<'a>, AllocError>
+    ensures app { IfOk result (λ c. app_of c ≡ dot_app) }
+    ensures local { IfOk result (λ c. (fields_of c).has_globals ≡ false) }
+{
+    checking(
+        alloc,
+        "dot",
+        "Draw what a report says of Oberon-07 modules, as a graph in the language DOT of Graphviz",
+        DOT_END,
+        "DIR",
+        FOLDER_HELP,
+        "The report of a cut between two of the modules",
+    )
+}
+
+fn dot_net_command<'a>(alloc: Global) -> Result<Command<'a>, AllocError>
+    ensures app { IfOk result (λ c. app_of c ≡ dot_net_app) }
+    ensures local { IfOk result (λ c. (fields_of c).has_globals ≡ false) }
+{
+    checking(
+        alloc,
+        "dot-net",
+        "Draw what a report says of a network, as a graph in the language DOT of Graphviz",
+        DOT_NET_END,
+        "FILE",
+        NETWORK_HELP,
+        "The report of a cut between two of its modules",
+    )
+}
+
+/// The command with one more number that has to be given, from 0 to 2,147,483,647.
+fn with_number<'a>(
+    alloc: Global,
+    command: Command<'a>,
+    id: &'a str,
+    help: &'a str,
+) -> Result<Command<'a>, AllocError>
+    ensures app { IfOk result (λ c. app_of c ≡ with_rule (app_of command.entry) (number_rule id.entry.now)) }
+    ensures local { IfOk result (λ c. (fields_of command.entry).has_globals ≡ false → (fields_of c).has_globals ≡ false) }
+{
+    let number = Arg::new(alloc, id)
+        .required(true)
+        .value_parser(value_parser!(u32).range(0..=2147483647))
+        .help(help);
+    command.arg(number)
+}
+
+/// The command with the line and the column of a position.
+fn with_position<'a>(alloc: Global, command: Command<'a>) -> Result<Command<'a>, AllocError>
+    ensures app { IfOk result (λ c. app_of c ≡ with_position (app_of command.entry)) }
+    ensures local { IfOk result (λ c. (fields_of command.entry).has_globals ≡ false → (fields_of c).has_globals ≡ false) }
+{
+    let command = with_number(
+        alloc,
+        command,
+        "LINE",
+        "A line of the document, counted from 0",
+    )?;
+    with_number(
+        alloc,
+        command,
+        "COL",
+        "A column of that line, counted from 0 in the units of the index",
+    )
+}
+
+/// The command of this name with a question's words: the index, a document of it, and a position in that.
+fn asking<'a>(
+    alloc: Global,
+    name: &'a str,
+    about: &'a str,
+    end: &'a str,
+) -> Result<Command<'a>, AllocError>
+    ensures app { IfOk result (λ c. app_of c ≡ asking_app name.entry.now) }
+    ensures local { IfOk result (λ c. (fields_of c).has_globals ≡ false) }
+{
+    let command = Command::new(alloc, name).about(about).after_help(end);
+    let command = with_required(
+        alloc,
+        command,
+        "INDEX",
+        "The file of an index in the SCIP format",
+    )?;
+    let command = with_required(
+        alloc,
+        command,
+        "PATH",
+        "The path of a document, as the index has it",
+    )?;
+    with_position(alloc, command)
+}
+
+fn def_command<'a>(alloc: Global) -> Result<Command<'a>, AllocError>
+    ensures app { IfOk result (λ c. app_of c ≡ def_app) }
+    ensures local { IfOk result (λ c. (fields_of c).has_globals ≡ false) }
+{
+    asking(
+        alloc,
+        "def",
+        "Tell where the symbol at a position is defined, by an index in the SCIP format",
+        DEF_END,
+    )
+}
+
+fn refs_command<'a>(alloc: Global) -> Result<Command<'a>, AllocError>
+    ensures app { IfOk result (λ c. app_of c ≡ refs_app) }
+    ensures local { IfOk result (λ c. (fields_of c).has_globals ≡ false) }
+{
+    asking(
+        alloc,
+        "refs",
+        "Tell where the symbol at a position is used and not defined, by an index in the SCIP format",
+        REFS_END,
+    )
+}
+
+/// The command with the words that say where an index goes: the path of a file, or `--hex`.
+fn with_output<'a>(alloc: Global, command: Command<'a>) -> Result<Command<'a>, AllocError>
+    ensures app { IfOk result (λ c. app_of c ≡ with_output (app_of command.entry)) }
+    ensures local { IfOk result (λ c. (fields_of command.entry).has_globals ≡ false → (fields_of c).has_globals ≡ false) }
+{
+    let out = Arg::new(alloc, "OUT").help(
+        "The file that the index is written to, in the SCIP format",
+    );
+    let command = command.arg(out)?;
+    let hex = Arg::new(alloc, "hex")
+        .long("hex")
+        .action(ArgAction::SetTrue)
+        .help("Print the index as a line of hexadecimal digits, in place of writing it to a file");
+    command.arg(hex)
+}
+
+/// The command with one more option that takes a text, which is empty where it isn't given.
+fn with_text<'a>(
+    alloc: Global,
+    command: Command<'a>,
+    id: &'a str,
+    help: &'a str,
+) -> Result<Command<'a>, AllocError>
+    ensures app { IfOk result (λ c. app_of c ≡ with_rule (app_of command.entry) (text_rule id.entry.now)) }
+    ensures local { IfOk result (λ c. (fields_of command.entry).has_globals ≡ false → (fields_of c).has_globals ≡ false) }
+{
+    let text = Arg::new(alloc, id)
+        .long(id)
+        .value_name("TEXT")
+        .default_value("")
+        .help(help);
+    command.arg(text)
+}
+
+/// The command with the options of an index.
+fn with_options<'a>(alloc: Global, command: Command<'a>) -> Result<Command<'a>, AllocError>
+    ensures app { IfOk result (λ c. app_of c ≡ with_workers (with_rule (with_rule (app_of command.entry) (text_rule (codes "package"))) (text_rule (codes "root")))) }
+    ensures local { IfOk result (λ c. (fields_of command.entry).has_globals ≡ false → (fields_of c).has_globals ≡ false) }
+{
+    let command = with_text(
+        alloc,
+        command,
+        "package",
+        "The package that the symbols of the modules name: not `.`, and no space in front",
+    )?;
+    let command = with_text(
+        alloc,
+        command,
+        "root",
+        "The root of the project that the index names, as a URI",
+    )?;
+    with_workers(alloc, command)
+}
+
+fn index_command<'a>(alloc: Global) -> Result<Command<'a>, AllocError>
+    ensures app { IfOk result (λ c. app_of c ≡ index_app) }
+    ensures local { IfOk result (λ c. (fields_of c).has_globals ≡ false) }
+{
+    let command = Command::new(alloc, "index")
+        .about(
+            "Write an index of Oberon-07 modules in the SCIP format, for go to definition and find references",
+        )
+        .after_help(INDEX_END);
+    let command = with_required(alloc, command, "DIR", FOLDER_HELP)?;
+    let command = with_output(alloc, command)?;
+    with_options(alloc, command)
+}
+
+fn unresolved_command<'a>(alloc: Global) -> Result<Command<'a>, AllocError>
+    ensures app { IfOk result (λ c. app_of c ≡ unresolved_app) }
+    ensures local { IfOk result (λ c. (fields_of c).has_globals ≡ false) }
+{
+    let command = Command::new(alloc, "unresolved")
+        .about("Tell which identifiers of Oberon-07 modules mean nothing that the modules declare")
+        .after_help(UNRESOLVED_END);
+    with_required(alloc, command, "DIR", FOLDER_HELP)
+}
+
+/// The program with one more command, if there is memory for that.
+fn with_sub<'a>(
+    program: Command<'a>,
+    command: Result<Command<'a>, AllocError>,
+) -> Result<Command<'a>, AllocError>
+    ensures { (app : App) → IfOk command.entry (λ c. app_of c ≡ app) → IfOk command.entry (λ c. (fields_of c).has_globals ≡ false) →
+        IfOk result (λ c. app_of c ≡ with_subcommand (app_of program.entry) app.top) }
+{
+    program.subcommand(command?)
+}
+
+/// The program with the commands on folders of modules.
+fn with_trees<'a>(alloc: Global, program: Command<'a>) -> Result<Command<'a>, AllocError>
+    ensures { IfOk result (λ c. app_of c ≡ with_subcommand (with_subcommand (with_subcommand (app_of program.entry) cut_app.top) check_app.top) crossings_app.top) }
+{
+    let program = with_sub(program, cut_command(alloc))?;
+    let program = with_sub(program, check_command(alloc))?;
+    with_sub(program, crossings_command(alloc))
+}
+
+/// The program with the commands on networks.
+fn with_nets<'a>(alloc: Global, program: Command<'a>) -> Result<Command<'a>, AllocError>
+    ensures { IfOk result (λ c. app_of c ≡ with_subcommand (with_subcommand (app_of program.entry) cut_net_app.top) check_net_app.top) }
+{
+    let program = with_sub(program, cut_net_command(alloc))?;
+    with_sub(program, check_net_command(alloc))
+}
+
+/// The program with the commands that draw.
+fn with_pictures<'a>(alloc: Global, program: Command<'a>) -> Result<Command<'a>, AllocError>
+    ensures { IfOk result (λ c. app_of c ≡ with_subcommand (with_subcommand (app_of program.entry) dot_app.top) dot_net_app.top) }
+{
+    let program = with_sub(program, dot_command(alloc))?;
+    with_sub(program, dot_net_command(alloc))
+}
+
+/// The program with the commands on indexes.
+fn with_indexes<'a>(alloc: Global, program: Command<'a>) -> Result<Command<'a>, AllocError>
+    ensures { IfOk result (λ c. app_of c ≡ with_subcommand (with_subcommand (app_of program.entry) def_app.top) refs_app.top) }
+{
+    let program = with_sub(program, def_command(alloc))?;
+    with_sub(program, refs_command(alloc))
+}
+
+/// The program with the commands that index modules.
+fn with_indexers<'a>(alloc: Global, program: Command<'a>) -> Result<Command<'a>, AllocError>
+    ensures { IfOk result (λ c. app_of c ≡ with_subcommand (with_subcommand (app_of program.entry) index_app.top) unresolved_app.top) }
+{
+    let program = with_sub(program, index_command(alloc))?;
+    with_sub(program, unresolved_command(alloc))
+}
+
+/// The program with all its commands.
+pub(crate) fn command<'a>(alloc: Global) -> Result<Command<'a>, AllocError>
+    ensures { IfOk result (λ c. app_of c ≡ oscip) }
+{
+    let program = Command::new(alloc, "oscip")
+        .about(
+            "Finds and checks cheapest decoupling cuts of Oberon-07 modules, indexes them in the SCIP format, and answers questions to such indexes",
+        )
+        .version(VERSION)
+        .after_help(PROGRAM_END)
+        .subcommand_required(true);
+    let program = with_trees(alloc, program)?;
+    let program = with_nets(alloc, program)?;
+    let program = with_pictures(alloc, program)?;
+    let program = with_indexes(alloc, program)?;
+    with_indexers(alloc, program)
+}

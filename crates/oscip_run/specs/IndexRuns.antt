@@ -1,0 +1,87 @@
+-- What a run that indexes a tree reads and puts.
+use Rattle.std.specs.Prelude.{◌≡◌, ◌⊎◌, ℕ, List, ◌++◌, Option, Result, Ok, Err, codes}
+use Rattle.std.specs.Fmt.{decimal}
+use Rattle.std.specs.Io.KnownBytes.{Appends, Keeps}
+use Rattle.std.specs.List.{flat_map}
+use Rattle.std.specs.String.{string_bytes}
+use Rattle.byte_sink.specs.Sinks.{AppendsFront}
+use Rattle.hex.specs.Hex.{encode_lower}
+use Rattle.ob_board.specs.Indexes.{IsIndex}
+use Rattle.ob_board.specs.Unresolved.{AreUnresolved, PlainUnresolved}
+use Rattle.oscip_job.specs.declared.job.Indexing.{Indexing}
+use Rattle.oscip_job.specs.declared.job.Output.{Output}
+use Rattle.oscip_job.specs.declared.job.Output.TheVariants as outputs
+use Rattle.oscip_run.specs.Runs.{IsRefusedTree}
+use Rattle.oscip_run.specs.declared.fault.RunFault.{RunFault}
+use Rattle.oscip_run.specs.declared.fault.RunFault.TheVariants.{CannotRead, CannotWrite, Tree, Net, Report, Solve, Query, Device, Memory}
+use Rattle.oscip_tree.specs.declared.source.Source.{Source}
+use Rattle.scip_index.specs.Plain.{PlainIndex}
+use Rattle.scip_index.specs.Written.{written}
+
+-- the bytes are the written form of the index of the tree
+pub record IsIndexText (sources : List Source) (package_name root text : List ℕ) : Type 0 where
+  pub index : PlainIndex
+  pub is_index : IsIndex sources package_name root index
+  pub text_is : text ≡ written index
+
+-- the text is a line with the digits of these bytes
+pub record IsHexText (sources : List Source) (package_name root text : List ℕ) : Type 0 where
+  pub bytes : List ℕ
+  pub is_index : IsIndexText sources package_name root bytes
+  pub text_is : text ≡ encode_lower bytes ++ codes "\n"
+
+-- PATH:LINE:COL NAME and the end of the line: an identifier that stands for nothing, and where it begins
+abbrev pub unresolved_line : PlainUnresolved → List ℕ
+unresolved_line row = row.path ++ codes ":" ++ decimal row.line ++ codes ":" ++ decimal row.column ++ codes " " ++ row.name ++ codes "\n"
+
+-- a line for each of them, in their order
+abbrev pub unresolved_lines : List PlainUnresolved → List ℕ
+unresolved_lines rows = flat_map unresolved_line rows
+
+-- the text has exactly the lines of the identifiers of the tree that stand for nothing
+pub record IsUnresolvedText (sources : List Source) (text : List ℕ) : Type 0 where
+  pub rows : List PlainUnresolved
+  pub are_rows : AreUnresolved sources rows
+  pub text_is : text ≡ unresolved_lines rows
+
+-- the sink has the whole text
+abbrev pub PutsText : (List ℕ → Type 0) → Option (List ℕ) → Option (List ℕ) → Type 0
+PutsText IsText old new = (text : List ℕ) × IsText text × Appends old new text
+
+-- the sink has a front of it
+abbrev pub PutsTextFront : (List ℕ → Type 0) → Option (List ℕ) → Option (List ℕ) → Type 0
+PutsTextFront IsText old new = (text : List ℕ) × IsText text × AppendsFront old new text
+
+-- a run of an engine that puts this text of a tree: a refused tree leaves the sink as it was, with the fault that the tree has
+abbrev pub IsTextRun : List Source → (List ℕ → Type 0) → Option (List ℕ) → Option (List ℕ) → Result (Unit {0}) RunFault → Type 0
+IsTextRun sources IsText old new (Ok _) = PutsText IsText old new
+IsTextRun sources IsText old new (Err (CannotRead path)) = ⊥
+IsTextRun sources IsText old new (Err (CannotWrite path)) = ⊥
+IsTextRun sources IsText old new (Err (Tree fault)) = IsRefusedTree sources (Tree fault) × Keeps old new
+IsTextRun sources IsText old new (Err (Net fault)) = ⊥
+IsTextRun sources IsText old new (Err (Report fault)) = ⊥
+IsTextRun sources IsText old new (Err (Solve fault)) = ⊥
+IsTextRun sources IsText old new (Err (Query fault)) = ⊥
+IsTextRun sources IsText old new (Err Device) = PutsTextFront IsText old new
+IsTextRun sources IsText old new (Err Memory) = Keeps old new ⊎ PutsTextFront IsText old new
+
+-- a run that puts the index of a tree
+abbrev pub IsIndexRun : List Source → List ℕ → List ℕ → Option (List ℕ) → Option (List ℕ) → Result (Unit {0}) RunFault → Type 0
+IsIndexRun sources package_name root = IsTextRun sources (IsIndexText sources package_name root)
+
+-- one that puts it as a line of digits
+abbrev pub IsHexRun : List Source → List ℕ → List ℕ → Option (List ℕ) → Option (List ℕ) → Result (Unit {0}) RunFault → Type 0
+IsHexRun sources package_name root = IsTextRun sources (IsHexText sources package_name root)
+
+-- one that tells what stands for nothing
+abbrev pub IsUnresolvedRun : List Source → Option (List ℕ) → Option (List ℕ) → Result (Unit {0}) RunFault → Type 0
+IsUnresolvedRun sources = IsTextRun sources (IsUnresolvedText sources)
+
+-- a run with a package and a root, to where the index goes: into a file as it is, or to standard output as a line of digits
+abbrev pub IsRunTo : Output → List Source → List ℕ → List ℕ → Option (List ℕ) → Option (List ℕ) → Result (Unit {0}) RunFault → Type 0
+IsRunTo (outputs.File path) = IsIndexRun
+IsRunTo outputs.Hex = IsHexRun
+
+-- a run of a job that makes an index
+abbrev pub IsIndexingRun : List Source → Indexing → Option (List ℕ) → Option (List ℕ) → Result (Unit {0}) RunFault → Type 0
+IsIndexingRun sources it old new result = IsRunTo it.output sources (string_bytes it.package) (string_bytes it.root) old new result

@@ -1,0 +1,158 @@
+//! What the commands that index a tree put, over any sink.
+ghost use Rattle.std.specs.Prelude.{◌≡◌, ◌++◌, IfOk, List, false, map};
+ghost use Rattle.std.specs.String.{string_bytes};
+ghost use Rattle.byte_sink.specs.Sinks.{failures_by};
+ghost use Rattle.ob_board.specs.Unresolved.{plain_unresolved};
+ghost use Rattle.oscip_job.specs.Jobs.{IsPackage, MayWork};
+ghost use Rattle.oscip_run.specs.Faults.{is_device};
+ghost use Rattle.oscip_run.specs.IndexRuns.{unresolved_line, unresolved_lines, IsHexRun, IsIndexingRun, IsIndexRun, IsUnresolvedRun};
+ghost use Rattle.oscip_tree.specs.Sources.{AreInOrder};
+ghost use Rattle.scip_symbol.specs.Outcomes.{is_wrong_part};
+
+use crate::RunFault;
+use byte_sink::{Sink, put_all};
+use ob_board::{BoardGate, IndexOptions, Unresolved, index_tree, unresolved_in_tree};
+use oscip_index::{hex_line, put_index};
+use oscip_job::{Indexing, Output};
+use oscip_tree::Source;
+use std::alloc::{AllocError, Global};
+use std::sync::Wait;
+use std::thread::Threads;
+
+/// The gate of a board that lets every worker through at once.
+#[derive(Drop)]
+pub struct OpenBoard;
+
+impl BoardGate for OpenBoard {
+    fn at(&self, _worker: u32, _turn: u64) {}
+}
+
+/// Makes the index of a tree, with so many workers that call the gate between a claim and its delivery, and puts it: its
+/// written form (scip.proto). A tree, a package and a root have one index, so its bytes don't depend on workers and gate.
+/// Refuses with `Tree`, `Device` or `Memory`. It may wait for a lock and for its threads.
+pub fn index_to<R: Threads + Wait + Sync, G: BoardGate + Sync, S: Sink>(
+    rt: &R,
+    alloc: Global,
+    sources: &[Source],
+    options: &IndexOptions,
+    workers: u32,
+    gate: &G,
+    sink: &mut S,
+) -> Result<(), RunFault>
+    // The files stand in the order of their paths.
+    requires in_order { AreInOrder sources.now }
+    // The package isn't `.` and doesn't begin with a space.
+    requires package { is_wrong_part (string_bytes options.now.package) ≡ false }
+    requires workers { MayWork workers }
+    // What was read, and what the sink took; after a refusal of the input it took nothing.
+    ensures run { IsIndexRun sources.now (string_bytes options.now.package) (string_bytes options.now.root) (S.taken sink.old) (S.taken sink.new) result }
+    // Device is answered where the sink counted a failure, and nowhere else.
+    ensures failures { S.failures sink.new ≡ failures_by is_device result (S.failures sink.old) }
+{
+    let index = index_tree(rt, alloc, sources, options, workers, gate)?;
+    put_index(alloc, index, sink)?;
+    Ok(())
+}
+
+/// Makes the same index and puts its bytes as a line of hexadecimal digits, in lower case. Refuses as `index_to` does.
+pub fn index_hex_to<R: Threads + Wait + Sync, G: BoardGate + Sync, S: Sink>(
+    rt: &R,
+    alloc: Global,
+    sources: &[Source],
+    options: &IndexOptions,
+    workers: u32,
+    gate: &G,
+    sink: &mut S,
+) -> Result<(), RunFault>
+    // The files stand in the order of their paths.
+    requires in_order { AreInOrder sources.now }
+    // The package isn't `.` and doesn't begin with a space.
+    requires package { is_wrong_part (string_bytes options.now.package) ≡ false }
+    requires workers { MayWork workers }
+    // What was read, and what the sink took; after a refusal of the input it took nothing.
+    ensures run { IsHexRun sources.now (string_bytes options.now.package) (string_bytes options.now.root) (S.taken sink.old) (S.taken sink.new) result }
+    // Device is answered where the sink counted a failure, and nowhere else.
+    ensures failures { S.failures sink.new ≡ failures_by is_device result (S.failures sink.old) }
+{
+    let mut bytes = Vec::new(alloc);
+    index_to(rt, alloc, sources, options, workers, gate, &mut bytes)?;
+    hex_line(alloc, bytes.as_slice(), sink)?;
+    Ok(())
+}
+
+/// The package and the root of a job.
+#[tactic(auto, using(crate::proofs::Packages::not_wrong))]
+fn options_of(alloc: Global, indexing: &Indexing) -> Result<IndexOptions, AllocError>
+    requires { IsPackage (string_bytes indexing.now.package) }
+    ensures package { IfOk result (λ options. string_bytes options.package ≡ string_bytes indexing.now.package) }
+    ensures root { IfOk result (λ options. string_bytes options.root ≡ string_bytes indexing.now.root) }
+    ensures right { IfOk result (λ options. is_wrong_part (string_bytes options.package) ≡ false) }
+{
+    let package = String::from_str(alloc, indexing.package.as_str())?;
+    let root = String::from_str(alloc, indexing.root.as_str())?;
+    Ok(IndexOptions { package, root })
+}
+
+/// Makes the index that a job asks for, with the job's number of workers, and puts it as it goes where the job says: as it is
+/// for a file, and else as a line of hexadecimal digits. Refuses as `index_to` does.
+pub fn answer_index<R: Threads + Wait + Sync, G: BoardGate + Sync, S: Sink>(
+    rt: &R,
+    alloc: Global,
+    indexing: &Indexing,
+    sources: &[Source],
+    gate: &G,
+    sink: &mut S,
+) -> Result<(), RunFault>
+    requires in_order { AreInOrder sources.now }
+    requires package { IsPackage (string_bytes indexing.now.package) }
+    requires workers { MayWork indexing.now.workers }
+    // What was read, and what the sink took; after a refusal of the input it took nothing.
+    ensures run { IsIndexingRun sources.now indexing.now (S.taken sink.old) (S.taken sink.new) result }
+    // Device is answered where the sink counted a failure, and nowhere else.
+    ensures failures { S.failures sink.new ≡ failures_by is_device result (S.failures sink.old) }
+{
+    let options = options_of(alloc, indexing)?;
+    match &indexing.output {
+        Output::File(_) => index_to(rt, alloc, sources, &options, indexing.workers, gate, sink),
+        Output::Hex => index_hex_to(rt, alloc, sources, &options, indexing.workers, gate, sink),
+    }
+}
+
+/// Adds the line of an identifier that stands for nothing to the text.
+fn push_line(text: &mut String, row: &Unresolved) -> Result<(), AllocError>
+    ensures { IfOk result (λ _. string_bytes text.new ≡ string_bytes text.old ++ unresolved_line (plain_unresolved row.now)) }
+{
+    let (path, at, name) = (&row.path, row.at, &row.name);
+    writeln!(text, "{path}:{}:{} {name}", at.line, at.column)
+}
+
+/// The lines of identifiers that stand for nothing, in their order.
+fn lines_of(alloc: Global, rows: &[Unresolved]) -> Result<String, AllocError>
+    ensures { IfOk result (λ text. string_bytes text ≡ unresolved_lines (map plain_unresolved rows.now)) }
+{
+    let mut text = String::new(alloc);
+    for row in rows {
+        push_line(&mut text, row)?;
+    }
+    Ok(text)
+}
+
+/// Puts a line for each identifier of a tree that stands for nothing and isn't predeclared, as `PATH:LINE:COL NAME`: where it
+/// begins, from 0, columns in bytes, in the order of the files and in each by start. Refuses with `Tree`, `Device` or `Memory`.
+pub fn unresolved_to<S: Sink>(
+    alloc: Global,
+    sources: &[Source],
+    sink: &mut S,
+) -> Result<(), RunFault>
+    // The files stand in the order of their paths.
+    requires { AreInOrder sources.now }
+    // What was read, and the lines that the sink took; after a refusal of the input it took nothing.
+    ensures run { IsUnresolvedRun sources.now (S.taken sink.old) (S.taken sink.new) result }
+    // Device is answered where the sink counted a failure, and nowhere else.
+    ensures failures { S.failures sink.new ≡ failures_by is_device result (S.failures sink.old) }
+{
+    let rows = unresolved_in_tree(alloc, sources)?;
+    let text = lines_of(alloc, rows.as_slice())?;
+    put_all(sink, text.as_bytes())?;
+    Ok(())
+}
