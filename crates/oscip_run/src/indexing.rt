@@ -28,7 +28,7 @@ impl BoardGate for OpenBoard {
 }
 
 /// Makes the index of a tree, with so many workers that call the gate between a claim and its delivery, and puts it: its
-/// written form (scip.proto). A tree, a package and a root have one index, so its bytes don't depend on workers and gate.
+/// written form (scip.proto). Workers and gate stand in no clause on the index.
 /// Refuses with `Tree`, `Device` or `Memory`. It may wait for a lock and for its threads.
 pub fn index_to<R: Threads + Wait + Sync, G: BoardGate + Sync, S: Sink>(
     rt: &R,
