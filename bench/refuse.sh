@@ -104,6 +104,14 @@ trial 1 dot-net cycle.net six.cut
 trial 1 dot wrong four.cut
 trial 3 dot-net six.net absent.cut
 trial 2 dot-net six.net
+trial 0 index four --hex
+trial 0 index --workers 1 editor --hex
+trial 0 unresolved four
+trial 0 unresolved editor
+trial 1 index twice --hex
+trial 1 unresolved wrong
+trial 3 index absent --hex
+trial 2 index four
 trial 0 def foreign.scip src/view.ts 2 19
 trial 0 refs foreign.scip src/view.ts 6 9
 trial 1 def foreign.scip view.ts 2 19

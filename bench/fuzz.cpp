@@ -1,0 +1,345 @@
+// Runs the program on seeded changes of the examples: fuzz PROGRAM EXAMPLES SEED RUNS
+// or, with the seed 0, on every front of the examples and on each of them with one byte changed at each place.
+// Each run has to end within two seconds, by itself, with a status and a line that docs/FORMATS.md names; a cut that was put
+// has to pass the check, and an index to be the same by one worker and by four. It stops at the first run that does otherwise,
+// and keeps its folder. Works in a new folder below TMPDIR.
+#include <algorithm>
+#include <cerrno>
+#include <csignal>
+#include <cstdint>
+#include <cstdio>
+#include <cstdlib>
+#include <cstring>
+#include <fcntl.h>
+#include <filesystem>
+#include <fstream>
+#include <iostream>
+#include <iterator>
+#include <map>
+#include <random>
+#include <regex>
+#include <spawn.h>
+#include <string>
+#include <sys/resource.h>
+#include <sys/time.h>
+#include <sys/wait.h>
+#include <unistd.h>
+#include <vector>
+
+extern char **environ;
+
+namespace {
+
+using Text = std::string;
+using Words = std::vector<Text>;
+
+constexpr int SECONDS = 2;
+
+std::mt19937_64 random_bits;
+Text program;
+Text folder;
+volatile sig_atomic_t is_late;
+pid_t child;
+
+size_t below(size_t bound) { return bound ? random_bits() % bound : 0; }
+
+bool one_in(size_t times) { return below(times) == 0; }
+
+template <typename List> const auto &one_of(const List &list) { return *std::next(std::begin(list), below(std::size(list))); }
+
+Text read_file(const Text &path) {
+    std::ifstream file(path, std::ios::binary);
+    return {std::istreambuf_iterator<char>(file), {}};
+}
+
+void write_file(const Text &path, const Text &text) {
+    std::ofstream file(path, std::ios::binary | std::ios::trunc);
+    file.write(text.data(), static_cast<std::streamsize>(text.size()));
+}
+
+const Words TOKENS = {
+    "ARRAY", "BEGIN", "BY", "CASE", "CONST", "DIV", "DO", "ELSE", "ELSIF", "END", "FALSE", "FOR", "IF", "IMPORT", "IN", "IS", "MOD", "MODULE", "NIL", "OF",
+    "OR", "POINTER", "PROCEDURE", "RECORD", "REPEAT", "RETURN", "THEN", "TO", "TRUE", "TYPE", "UNTIL", "VAR", "WHILE", "(*", "*)", "(", ")", "[", "]", "{",
+    "}", ":=", "^", "=", "#", "<=", ">=", "..", ":", ";", ",", ".", "|", "~", "&", "*", "\"", "1E5", "0FFH", "22X", "1.5E-3", "A", "B", "x",
+    "SET", "import ", "module ", "cut ", "weight ", "remove ", "flow ", "end\n", "\n", "\r\n", "\r", " ", "0", "1", "18446744073709551615",
+    "18446744073709551616", "00", Text(1, '\0'), "\x80", "\xff", "\xef\xbb\xbf", "local ", "\x12\x7f", "\x08\xff\xff\xff\xff\xff\xff\xff\xff\x7f"};
+
+// Changes a text at one to four places; other texts lend parts.
+Text changed(Text text, const Words &others) {
+    for (size_t left = 1 + below(4); left > 0; --left) {
+        size_t at = below(text.size() + 1), length = std::min(text.size() - at, below(one_in(4) ? 200 : 12));
+        switch (below(9)) {
+        case 0:
+            if (at < text.size()) text[at] = static_cast<char>(text[at] ^ (1 << below(8)));
+            break;
+        case 1:
+            if (at < text.size()) text[at] = static_cast<char>(below(256));
+            break;
+        case 2:
+            text.erase(at, length);
+            break;
+        case 3:
+            text.insert(at, text.substr(below(text.size() + 1), length));
+            break;
+        case 4:
+            text.insert(at, one_of(TOKENS));
+            break;
+        case 5:
+            text.replace(at, length, one_of(TOKENS));
+            break;
+        case 6:
+            if (one_in(4)) text.resize(at);
+            break;
+        case 7: {
+            const Text &other = one_of(others);
+            text.insert(at, other.substr(below(other.size() + 1), below(60)));
+            break;
+        }
+        default: {
+            Text token = one_of(TOKENS);
+            for (size_t times = below(one_in(8) ? 300 : 4); times > 0; --times) text.insert(at, token);
+        }
+        }
+    }
+    return text;
+}
+
+struct Ended {
+    int status;
+    Text put, told;
+};
+
+void kill_late(int) {
+    is_late = 1;
+    kill(child, SIGKILL);
+}
+
+[[noreturn]] void stop(const Words &words, const Ended &ended, const Text &why) {
+    std::cout << why << ", status " << ended.status << ", in " << folder << ": oscip";
+    for (const Text &word : words) std::cout << " '" << word << "'";
+    std::cout << "\nput: " << ended.put.substr(0, 300) << "\ntold: " << ended.told.substr(0, 300) << std::endl;
+    exit(1);
+}
+
+Ended run(const Words &words) {
+    std::vector<char *> list = {const_cast<char *>("oscip")};
+    for (const Text &word : words) list.push_back(const_cast<char *>(word.c_str()));
+    list.push_back(nullptr);
+    posix_spawn_file_actions_t files;
+    posix_spawn_file_actions_init(&files);
+    posix_spawn_file_actions_addopen(&files, 0, "/dev/null", O_RDONLY, 0);
+    posix_spawn_file_actions_addopen(&files, 1, "put", O_WRONLY | O_CREAT | O_TRUNC, 0600);
+    posix_spawn_file_actions_addopen(&files, 2, "told", O_WRONLY | O_CREAT | O_TRUNC, 0600);
+    is_late = 0;
+    if (posix_spawn(&child, program.c_str(), &files, nullptr, list.data(), environ)) {
+        std::cout << "can't start " << program << std::endl;
+        exit(2);
+    }
+    posix_spawn_file_actions_destroy(&files);
+    itimerval limit = {{0, 0}, {SECONDS, 0}}, none = {};
+    setitimer(ITIMER_REAL, &limit, nullptr);
+    int state = 0;
+    while (waitpid(child, &state, 0) < 0 && errno == EINTR) {}
+    setitimer(ITIMER_REAL, &none, nullptr);
+    Ended ended = {WIFEXITED(state) ? WEXITSTATUS(state) : 128 + WTERMSIG(state), read_file("put"), read_file("told")};
+    if (is_late) stop(words, ended, "late");
+    return ended;
+}
+
+const char *const FAULT = "oscip: ("
+    "[^\n]+:\\d+:\\d+: (BadByte|BadNumber|OpenString|OpenComment|TooLong|Syntax|EndName|TooDeep|Twice \\w+|TwiceField \\w+)"
+    "|\\d+: (BadLine|TwiceImport|TooMany|UnknownName|Order)"
+    "|TwoModules \\w+ \\S+ \\S+|TooMany|Cycle( \\w+)+|WeightOverflow|NoEnd|NoDocument|SameModule|NoSuchModule [^]*"
+    "|(Truncated|LongVarint|Group|ZeroField|BadText) \\d+)\n";
+const char *const REPORT = "cut \\w+ \\w+\nweight \\d+\n(remove \\w+ \\w+ \\d+\n)*(flow \\w+ \\w+ [1-9]\\d*\n)*end\n";
+const char *const PLACES = "([^]*:\\d+:\\d+-\\d+:\\d+\n)*";
+
+// What standard output has to be after status 0.
+const std::map<Text, const char *> ANSWERS = {
+    {"cut", REPORT}, {"cut-net", REPORT}, {"check", "yes\n"}, {"check-net", "yes\n"}, {"dot", "digraph [^]*\\}\n"}, {"dot-net", "digraph [^]*\\}\n"},
+    {"def", PLACES}, {"refs", PLACES}, {"crossings", PLACES}, {"unresolved", "([^]*:\\d+:\\d+ \\w+\n)*"}, {"index", "([0-9a-f]*\n)?"}};
+
+bool is_like(const Text &text, const char *pattern) {
+    static std::map<const char *, std::regex> made;
+    auto found = made.find(pattern);
+    if (found == made.end()) found = made.emplace(pattern, std::regex(pattern, std::regex::ECMAScript | std::regex::optimize)).first;
+    // a long text would take the matcher too deep
+    return text.size() > 4000 || std::regex_match(text, found->second);
+}
+
+bool is_documented(const Words &words, const Ended &ended) {
+    const Text &put = ended.put, &told = ended.told;
+    switch (ended.status) {
+    case 0: {
+        auto answer = ANSWERS.find(words.empty() ? "" : words[0]);
+        return told.empty() && (answer == ANSWERS.end() || is_like(put, answer->second) || put.find("Usage") != Text::npos);
+    }
+    case 1: return put.empty() && is_like(told, FAULT);
+    case 2: return put.empty() && told.rfind("error: ", 0) == 0;
+    case 3: return is_like(told, "oscip: cannot (read|write)( [^]*)?\n");
+    case 5: return told.empty() && is_like(put, "no (StillChain|WrongWeight|WrongValue|(OverWeight|NoSuchImport) \\w+ \\w+|NotKept \\w+)\n");
+    default: return false;
+    }
+}
+
+Ended tried(const Words &words) {
+    Ended ended = run(words);
+    if (!is_documented(words, ended)) stop(words, ended, "not documented");
+    return ended;
+}
+
+// Runs a command that puts a cut, and gives what it put to the check.
+void tried_cut(const Words &words) {
+    Ended ended = tried(words);
+    if (ended.status != 0 || ended.put.rfind("cut ", 0) != 0) return;
+    write_file("report", ended.put);
+    Words asked = {words[0] == "cut" ? "check" : "check-net", words[1], "report"};
+    Ended checked = tried(asked);
+    if (checked.status != 0) stop(asked, checked, "a cut doesn't pass the check");
+}
+
+struct Examples {
+    Words nets, reports, modules, indexes;
+    std::map<Text, Text> tree;
+};
+
+Examples examples_of(const Text &at) {
+    Examples found;
+    for (const char *name : {"six.net", "editor.net"}) found.nets.push_back(read_file(at + "/" + name));
+    for (const char *name : {"six.cut", "editor.cut"}) found.reports.push_back(read_file(at + "/" + name));
+    found.nets.push_back("import A U 5\nimport U D 1\nimport A V 0\nimport V U 3\n");
+    found.nets.push_back("import A B 9223372036854775808\nimport B C 9223372036854775807\n");
+    for (const auto &it : std::filesystem::recursive_directory_iterator(at + "/editor"))
+        if (it.is_regular_file()) found.modules.push_back(read_file(it.path()));
+    found.indexes.push_back(read_file(at + "/foreign.scip"));
+    found.tree = {{"A.Mod", "MODULE A; IMPORT B, C; BEGIN B.p; C.q; C.q END A."},
+                  {"B.Mod", "MODULE B; IMPORT D; TYPE S* = RECORD g*: INTEGER END; PROCEDURE p*; BEGIN D.x; D.x; D.x END p; END B."},
+                  {"C.Mod", "MODULE C; IMPORT D, B; TYPE T = POINTER TO R; R = RECORD (B.S) f*: ARRAY 3 OF T END; VAR p: T; PROCEDURE q*; BEGIN p.f[1] := p.f[p.g] END q; END C."},
+                  {"D.Mod", "MODULE D; IMPORT SYSTEM; VAR y*: ARRAY 4, 5 OF SET; PROCEDURE x*; BEGIN FOR y := 1 TO 2 DO SYSTEM.PUT(y) END END x; END D."}};
+    return found;
+}
+
+const Words NAMES = {"A", "B", "C", "D", "M", "U", "V", "Edit", "Net", "Sync", "Printer", "SYSTEM", "", "x y", "-", "\xff"};
+
+Text some_name() { return NAMES[below(one_in(6) ? NAMES.size() : 10)]; }
+
+Text some_workers() { return "--workers=" + std::to_string(below(one_in(20) ? 70 : 5)); }
+
+void try_net(const Examples &examples) {
+    const Text &net = one_of(examples.nets);
+    write_file("net", one_in(8) ? net : changed(net, examples.reports));
+    write_file("report", changed(one_of(examples.reports), examples.nets));
+    switch (below(4)) {
+    case 0: tried({"check-net", "net", "report"}); break;
+    case 1: tried({"dot-net", "net", "report"}); break;
+    default: tried_cut({"cut-net", "net", some_name(), some_name(), some_workers()});
+    }
+}
+
+void try_index(const Examples &examples) {
+    write_file("index", changed(one_of(examples.indexes), examples.nets));
+    Words words = {one_in(2) ? "def" : "refs", "index", one_in(4) ? "src/model.ts" : "src/view.ts", std::to_string(below(20)), std::to_string(below(40))};
+    tried(words);
+}
+
+void try_tree(const Examples &examples) {
+    std::filesystem::remove_all("tree");
+    std::filesystem::create_directory("tree");
+    size_t worse = below(examples.tree.size() + 1), number = 0;
+    for (const auto &[name, text] : examples.tree) write_file("tree/" + name, number++ == worse ? changed(text, examples.modules) : text);
+    if (one_in(3)) {
+        const Text &module = one_of(examples.modules);
+        write_file("tree/More.Mod", one_in(4) ? module : changed(module, examples.modules));
+    }
+    write_file("report", changed(one_of(examples.reports), examples.nets));
+    switch (below(8)) {
+    case 0: tried({"check", "tree", "report"}); break;
+    case 1: tried({"dot", "tree", "report"}); break;
+    case 2: tried({"crossings", "tree", some_name(), some_name()}); break;
+    case 3: tried({"unresolved", "tree"}); break;
+    case 4: tried_cut({"cut", "tree", some_name(), some_name(), some_workers()}); break;
+    case 5: tried({"index", "tree", "out", some_workers()}); break;
+    default: {
+        Ended one = tried({"index", "tree", "--hex", "--workers=1"});
+        Words words = {"index", "tree", "--hex", "--workers=4"};
+        Ended four = tried(words);
+        if (one.status != four.status || one.put != four.put || one.told != four.told) stop(words, four, "not what one worker puts");
+    }
+    }
+}
+
+const Words SAID = {"cut", "cut-net", "check", "check-net", "dot", "dot-net", "def", "refs", "crossings", "index", "unresolved", "help", "--help", "-h", "-V", "--version",
+    "--workers", "--workers=2", "--workers=99", "--hex", "--package", "--package=p", "--package= p", "--root=r", "--", "-", "net", "report", "tree", "index", "gone", "A", "B", "0", "3",
+    "-1", "2147483648", "", "\xff"};
+
+// Each front of a text, and the text with one byte changed at each place, in the file of that name; then the commands.
+void try_each(const Text &text, const Text &name, const std::vector<Words> &commands) {
+    for (size_t at = 0; at <= text.size(); ++at) {
+        write_file(name, text.substr(0, at));
+        for (const Words &words : commands) tried(words);
+        if (at == text.size()) break;
+        Text other = text;
+        other[at] = static_cast<char>(one_in(2) ? text[at] ^ (1 << below(8)) : below(256));
+        write_file(name, other);
+        for (const Words &words : commands) tried(words);
+    }
+}
+
+void try_all(const Examples &examples) {
+    write_file("net", examples.nets[1]);
+    write_file("report", examples.reports[1]);
+    try_each(examples.nets[1], "net", {{"cut-net", "net", "Edit", "Net", "--workers=2"}, {"check-net", "net", "report"}});
+    write_file("net", examples.nets[1]);
+    try_each(examples.reports[1], "report", {{"check-net", "net", "report"}, {"dot-net", "net", "report"}});
+    try_each(examples.indexes[0], "index", {{"def", "index", "src/view.ts", "2", "19"}, {"refs", "index", "src/view.ts", "6", "9"}});
+    std::filesystem::create_directory("tree");
+    for (const auto &[name, text] : examples.tree) write_file("tree/" + name, text);
+    tried({"index", "tree", "index"});
+    try_each(read_file("index"), "index", {{"def", "index", "A.Mod", "0", "7"}, {"refs", "index", "C.Mod", "0", "93"}});
+    std::filesystem::create_directory("one");
+    for (const auto &[name, text] : examples.tree) {
+        std::vector<Words> commands = {{"cut", "tree", "A", "D"}, {"unresolved", "tree"}, {"index", "tree", "--hex"}};
+        try_each(text, "tree/" + name, commands);
+        write_file("tree/" + name, text);
+    }
+    for (const Text &text : examples.modules) try_each(text, "one/M.Mod", {{"index", "one", "--hex", "--workers=1"}});
+}
+
+void try_words() {
+    Words words;
+    for (size_t left = below(7); left > 0; --left) words.push_back(one_of(SAID));
+    tried(words);
+}
+
+}  // namespace
+
+int main(int count, char **words) {
+    if (count != 5) return 2;
+    program = std::filesystem::canonical(words[1]);
+    Examples examples = examples_of(std::filesystem::canonical(words[2]));
+    uint64_t seed = strtoull(words[3], nullptr, 10), runs = strtoull(words[4], nullptr, 10);
+    folder = (std::filesystem::temp_directory_path() / ("fuzz-" + std::to_string(seed))).string();
+    std::filesystem::remove_all(folder);
+    std::filesystem::create_directories(folder);
+    std::filesystem::current_path(folder);
+    struct sigaction late = {};
+    late.sa_handler = kill_late;
+    sigaction(SIGALRM, &late, nullptr);
+    rlimit memory = {4ull << 30, 4ull << 30};
+    setrlimit(RLIMIT_AS, &memory);
+    if (seed == 0) try_all(examples);
+    for (uint64_t at = 0; at < runs; ++at) {
+        // each run has bits of its own, so that one can be tried again
+        random_bits.seed(seed * 1000003 + at);
+        switch (below(10)) {
+        case 0: try_words(); break;
+        case 1: case 2: try_index(examples); break;
+        case 3: case 4: case 5: try_net(examples); break;
+        default: try_tree(examples);
+        }
+    }
+    std::filesystem::current_path("/");
+    std::filesystem::remove_all(folder);
+    std::cout << "seed " << seed << ": " << runs << " runs" << std::endl;
+    return 0;
+}
