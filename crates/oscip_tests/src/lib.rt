@@ -7,8 +7,6 @@
 #[cfg(test)]
 mod faults;
 #[cfg(test)]
-mod indexes;
-#[cfg(test)]
 mod jobs;
 #[cfg(test)]
 mod orders;
