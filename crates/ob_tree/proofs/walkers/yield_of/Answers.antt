@@ -12,7 +12,8 @@ overflow_cast-place c =
     rw c.len-place.ensures (omega (arith, e, c.requires, c.loop-item.invariant.1, c.loop-item-test.true))
 
 pub loop-item-preserved : goal.loop-item-preserved
-loop-item-preserved c =
-    (rw (c.in_ok-push.ensures.items, c.number_of.ensures, c.len-place.ensures, c.loop-item.invariant.0, c.loop-item.invariant.1)
-    (sym (numbers-more c.deref-item-items.result.now c.loop-item.item-index _ c.loop-item-test.true)),
-    rw (c.in_ok-push.ensures.len, c.loop-item.invariant.1) (omega arith))
+loop-item-preserved c = (
+  rw (c.in_ok-push.ensures.items, c.number_of.ensures, c.len-place.ensures, c.loop-item.invariant.0, c.loop-item.invariant.1)
+      (sym (numbers-more c.deref-item-items.result.now c.loop-item.item-index _ c.loop-item-test.true)),
+  rw (c.in_ok-push.ensures.len, c.loop-item.invariant.1) (omega arith),
+)
