@@ -1,6 +1,6 @@
 # Runs the program of bench/timing on folders of generated modules, beside other programs, and prints rates and ratios.
 # Each time is the least of seven rounds, or of as many as begin within 20 seconds; what is compared takes turns.
-# Usage: parse.py PROGRAM scan|lines|parse|walk FOLDER SHAPE..
+# Usage: parse.py PROGRAM scan|lines|parse|scopes|walk FOLDER SHAPE..
 import os, subprocess, sys, time
 
 program, step, folder = sys.argv[1:4]
@@ -21,6 +21,11 @@ def own_times(step, files):
     if told.pop("refused"):
         sys.exit("%s of %d files were refused" % (said[5], len(files)))
     return told
+
+
+def timed(step, files):
+    """The same of the steps that are done."""
+    return {name: number for name, number in own_times(step, files).items() if number}
 
 
 def whole(name, *command):
@@ -60,6 +65,16 @@ if step == "lines":
         best = least(lambda: own_times(step, files))
         ratios = ["%.2f" % (best[name] / best["scan"]) for name in ("lines", "places")]
         print("| %s | %d | %s | %s |" % (shape, best["tokens"], *ratios), flush=True)
+    sys.exit()
+
+if step == "scopes":
+    print("| Shape | Tokens | `table_of`, `scan` | `scopes`, `scan` | `parse`, `scan` | Bytes of a table, a token |\n|---|---|---|---|---|---|")
+    for shape in shapes:
+        files = files_of(shape)
+        best = least(lambda: timed("table", files), lambda: timed("scopes", files))
+        ratios = ["%.2f" % (best[name] / best["scan"]) for name in ("table", "scopes", "parse")]
+        size = (memory("table", files) - memory("parse", files)) / best["tokens"]
+        print("| %s | %d | %s | %.0f |" % (shape, best["tokens"], " | ".join(ratios), size), flush=True)
     sys.exit()
 
 source = files_of("c")

@@ -1,8 +1,9 @@
 #!/usr/bin/env bash
-# Times the scanner, the lines, the parser and the walkers of Oberon-07 apart on generated modules, beside wc and ctags on
-# the same files, and beside a C compiler's pass over C of the same style and size.
+# Times the scanner, the lines, the parser, tables, scopes and the walkers of Oberon-07 apart on generated modules, beside wc and
+# ctags on the same files, and beside a C compiler's pass over C of the same style and size.
 # It builds its own program in a repository of its own, from copies of the crates: bench/parse.sh [STEP [SHAPE..]]
-# STEP is the last of the steps: scan, parse or walk. With the STEP lines it times what places of tokens cost, and nothing else.
+# STEP is the last of the steps: scan, parse or walk. With the STEP lines it times what places of tokens cost, and nothing else;
+# with the STEP scopes what tables and scopes do.
 # TIMING names a program that is built, and KEEP a folder for the files.
 set -eu
 here=$(cd "$(dirname "$0")" && pwd)
@@ -17,15 +18,15 @@ mkdir -p "$data"
 # The program: the crates that it stands on, with what earlier checks kept, and itself.
 build() {
   mkdir "$work/crates"
-  for crate in ob_scan ob_tree ob_parse; do cp -r "$here/../crates/$crate" "$work/crates"; done
+  for crate in texts ob_scan ob_tree ob_decls ob_parse ob_scope; do cp -r "$here/../crates/$crate" "$work/crates"; done
   # `rt ci` refuses sources outside the crates, so these have another ending here.
   (cd "$here" && find timing -name '*.in') | while read -r name; do
     mkdir -p "$work/crates/$(dirname "$name")"
     cp "$here/$name" "$work/crates/${name%.in}"
   done
   cp "$here/../HANDLES" "$work"
-  grep -E '^ob_(scan|tree|parse):' "$here/../crates.txt" > "$work/crates.txt"
-  echo "timing: ob_scan ob_tree ob_parse" >> "$work/crates.txt"
+  grep -E '^(texts|ob_scan|ob_tree|ob_decls|ob_parse|ob_scope):' "$here/../crates.txt" > "$work/crates.txt"
+  echo "timing: ob_scan ob_tree ob_decls ob_parse ob_scope" >> "$work/crates.txt"
   (cd "$work/crates/timing" && rt run -- > "$work/log" 2>&1) || { tail -n 20 "$work/log"; exit 1; }
 }
 

@@ -15,7 +15,7 @@ use Rattle.ob_tree.specs.declared.expression.Expr.{Expr, Expr-F, roll-Expr, out-
 use Rattle.ob_tree.specs.declared.expression.ExprList.{ExprList, ExprList-F, roll-ExprList, out-roll-ExprList, ind-ExprList, map-ExprList}
 use Rattle.ob_tree.specs.declared.expression.Sum.{Sum, Sum-F, roll-Sum, out-roll-Sum, map-Sum}
 use Rattle.ob_tree.specs.declared.expression.Term.{Term, Term-F, roll-Term, out-roll-Term, map-Term}
-use Rattle.ob_tree.specs.declared.construct.Construct.TheVariants as constructs
+use Rattle.ob_tree.specs.Constructs as constructs
 use Rattle.ob_tree.specs.Marks.{Out, construct, word, used, if_there, each}
 use Rattle.ob_tree.specs.Expressions.{relation_kind, sign_kind, add_kind, mul_kind, factor_outline, selector_outline, designator_outline, element_outline, element_list_outline, expr_outline, expr_list_outline, sum_outline, term_outline}
 use Rattle.ob_tree.proofs.ExpressionLayers.{factor_shown, selector_shown, element_shown, element_list_shown, expr_list_shown, expr_shown, sum_shown, factor_out, selector_out, designator_out, term_out, expr_made, sum_made, element_made, element_list_made, expr_list_made}

@@ -1,7 +1,7 @@
 -- What is told of a part of a tree is known from its outline, whatever stands behind it.
 use Rattle.std.proofs.Common.{◌≡◌, ℕ, Bool, true, false, [], ◌∷◌, ◌++◌, Option, Some, None, refl, sym, ap, ap₂, ◌∙◌, append_assoc}
 use Rattle.ob_scan.specs.declared.kind.Kind.{Kind}
-use Rattle.ob_tree.specs.declared.construct.Construct.{Construct}
+use Rattle.ob_tree.specs.Constructs.{Construct}
 use Rattle.ob_tree.specs.Leaves.{same_kind}
 use Rattle.ob_tree.specs.Marks.{Out, Mark, Begins, Ends, Identifier, Value, Word, Declares, Uses, Names, construct, word, declared, used, named, if_there}
 

@@ -14,7 +14,7 @@ use Rattle.ob_tree.specs.declared.expression.Expr.{Expr}
 use Rattle.ob_tree.specs.declared.expression.ExprList.{ExprList, ExprList-F, fold_out-ExprList, roll-ExprList, out-ExprList, out-roll-ExprList}
 use Rattle.ob_tree.specs.declared.expression.Sum.{Sum}
 use Rattle.ob_tree.specs.declared.expression.Term.{Term}
-use Rattle.ob_tree.specs.declared.construct.Construct.TheVariants as constructs
+use Rattle.ob_tree.specs.Constructs as constructs
 use Rattle.ob_tree.specs.Marks.{Out, construct, word, used, named, if_there, each}
 use Rattle.ob_tree.specs.Expressions.{selector_outline, element_outline, expr_outline, expr_list_outline}
 use Rattle.ob_tree.proofs.ExpressionLayers.{selector_shown, element_shown, element_list_shown, expr_list_shown, selector_out, designator_out, element_out, element_list_out, expr_out, expr_list_out}

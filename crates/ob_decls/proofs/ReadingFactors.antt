@@ -14,7 +14,7 @@ use Rattle.ob_tree.specs.declared.expression.Expr.{Expr}
 use Rattle.ob_tree.specs.declared.expression.ExprList.{ExprList}
 use Rattle.ob_tree.specs.declared.expression.Sum.{Sum}
 use Rattle.ob_tree.specs.declared.expression.Term.{Term}
-use Rattle.ob_tree.specs.declared.construct.Construct.TheVariants as constructs
+use Rattle.ob_tree.specs.Constructs as constructs
 use Rattle.ob_tree.specs.Marks.{Out, Value, construct, word, if_there, each}
 use Rattle.ob_tree.specs.Expressions.{factor_outline, designator_outline, element_outline, element_list_outline, expr_outline}
 use Rattle.ob_tree.proofs.ExpressionLayers.{factor_shown, factor_out, designator_out, element_out, element_list_out}

@@ -12,7 +12,7 @@ use Rattle.ob_tree.specs.declared.declaration.ProcDecl.{ProcDecl}
 use Rattle.ob_tree.specs.declared.declaration.Declarations.{Declarations, out-Declarations}
 use Rattle.ob_tree.specs.declared.declaration.ImportItem.{ImportItem}
 use Rattle.ob_tree.specs.declared.declaration.Module.{Module}
-use Rattle.ob_tree.specs.declared.construct.Construct.TheVariants as constructs
+use Rattle.ob_tree.specs.Constructs as constructs
 use Rattle.ob_tree.specs.Marks.{Out, construct, word, declared, named, repeated, if_there, listed}
 use Rattle.ob_tree.specs.Statements.{block_outline}
 use Rattle.ob_tree.specs.Declaring.{const_outline, part, declarations_outline, procedure_outline, import_outline, module_outline}

@@ -13,8 +13,8 @@ use Rattle.ob_tree.specs.declared.statement.Stmt.{Stmt, Stmt-F}
 use Rattle.ob_tree.specs.declared.statement.Block.{Block}
 use Rattle.ob_tree.specs.declared.statement.Branch.{Branch}
 use Rattle.ob_tree.specs.declared.statement.For.{For}
-use Rattle.ob_tree.specs.declared.construct.Construct.{Construct}
-use Rattle.ob_tree.specs.declared.construct.Construct.TheVariants as constructs
+use Rattle.ob_tree.specs.Constructs.{Construct}
+use Rattle.ob_tree.specs.Constructs as constructs
 use Rattle.ob_tree.specs.Leaves.{same_kind}
 use Rattle.ob_tree.specs.Marks.{Out, Ends, Word, construct, word, if_there, each_after}
 use Rattle.ob_tree.specs.Expressions.{expr_outline, designator_outline}

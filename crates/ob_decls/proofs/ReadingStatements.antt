@@ -16,7 +16,7 @@ use Rattle.ob_tree.specs.declared.statement.Stmt.{Stmt, Stmt-F, roll-Stmt, out-S
 use Rattle.ob_tree.specs.declared.statement.Block.{Block, Block-F, roll-Block, out-Block, out-roll-Block, ind-Block, map-Block}
 use Rattle.ob_tree.specs.declared.statement.Branch.{Branch, Branch-F, roll-Branch, out-Branch, out-roll-Branch, map-Branch}
 use Rattle.ob_tree.specs.declared.statement.For.{For, For-F, roll-For, out-For, out-roll-For, map-For}
-use Rattle.ob_tree.specs.declared.construct.Construct.TheVariants as constructs
+use Rattle.ob_tree.specs.Constructs as constructs
 use Rattle.ob_tree.specs.Marks.{Out, Ends, construct, word, if_there, each, each_after, listed}
 use Rattle.ob_tree.specs.Expressions.{expr_outline}
 use Rattle.ob_tree.specs.Statements.{label_outline, label_range_outline, case_outline, stmt_outline, block_outline, branch_outline, for_outline}

@@ -16,7 +16,7 @@ use Rattle.ob_tree.specs.declared.expression.Expr.{Expr, Expr-F, fold_out-Expr, 
 use Rattle.ob_tree.specs.declared.expression.ExprList.{ExprList}
 use Rattle.ob_tree.specs.declared.expression.Sum.{Sum, Sum-F, fold_out-Sum, roll-Sum, out-Sum, out-roll-Sum}
 use Rattle.ob_tree.specs.declared.expression.Term.{Term, Term-F, fold_out-Term, roll-Term, out-Term, out-roll-Term}
-use Rattle.ob_tree.specs.declared.construct.Construct.TheVariants as constructs
+use Rattle.ob_tree.specs.Constructs as constructs
 use Rattle.ob_tree.specs.Marks.{Out, construct, word, if_there, each}
 use Rattle.ob_tree.specs.Expressions.{relation_kind, sign_kind, add_kind, mul_kind, factor_outline, sum_outline, term_outline}
 use Rattle.ob_tree.proofs.ExpressionLayers.{expr_shown, sum_shown, expr_out, sum_out, term_out}

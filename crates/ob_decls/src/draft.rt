@@ -177,7 +177,12 @@ pub(crate) fn declarer_at(sort: Sort, inside: Context, first: u32) -> Declarer
 {
     let of_record = match sort {
         Sort::Field => Some(inside.of_record),
-        _ => None,
+        Sort::Import
+        | Sort::Constant
+        | Sort::Type
+        | Sort::Variable
+        | Sort::Procedure
+        | Sort::Parameter => None,
     };
     Declarer {
         sort,

@@ -3,8 +3,7 @@ use Rattle.std.proofs.Common.{◌≡◌, ℕ, zero, suc, Bool, true, false, ◌�
 use Rattle.ob_scan.specs.declared.kind.Kind.{Kind}
 use Rattle.ob_tree.specs.declared.token.Leaf.{Leaf}
 use Rattle.ob_tree.specs.declared.token.Leaf.TheVariants as leafs
-use Rattle.ob_tree.specs.declared.construct.Construct.{Construct}
-use Rattle.ob_tree.specs.Constructs.{is_level}
+use Rattle.ob_tree.specs.Constructs.{Construct, is_level}
 use Rattle.ob_tree.specs.Leaves.{same_kind}
 use Rattle.ob_tree.specs.Marks.{Out, construct, word, if_there, if_so, each, each_after, tokens_of, height}
 use Rattle.ob_parse.specs.Forms.{Reader, Start, expect_at, accept_at, name_at, unless, nothing, seq, prefixed, node, optional, many, several}

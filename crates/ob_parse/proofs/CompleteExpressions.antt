@@ -23,7 +23,7 @@ use Rattle.ob_tree.specs.declared.expression.Expr.{Expr, out-Expr}
 use Rattle.ob_tree.specs.declared.expression.ExprList.{ExprList, out-ExprList}
 use Rattle.ob_tree.specs.declared.expression.Sum.{Sum, out-Sum}
 use Rattle.ob_tree.specs.declared.expression.Term.{Term}
-use Rattle.ob_tree.specs.declared.construct.Construct.TheVariants as constructs
+use Rattle.ob_tree.specs.Constructs as constructs
 use Rattle.ob_tree.specs.Marks.{Out, construct, word, used, named, if_there, each, each_after, tokens_of, height}
 use Rattle.ob_tree.specs.Expressions.{relation_kind, sign_kind, add_kind, mul_kind, factor_outline, selector_outline, designator_outline, element_outline, element_list_outline, expr_outline, expr_list_outline, sum_outline, term_outline}
 use Rattle.ob_tree.proofs.ExpressionLayers.{factor_shown, selector_shown, element_shown, expr_shown, sum_shown, expr_out, sum_out, term_out, element_out, element_list_out, expr_list_out, designator_out, factor_out, selector_out}

@@ -19,7 +19,7 @@ use Rattle.ob_tree.specs.declared.statement.Stmt.{Stmt, Stmt-F, out-Stmt}
 use Rattle.ob_tree.specs.declared.statement.Block.{Block, out-Block}
 use Rattle.ob_tree.specs.declared.statement.Branch.{Branch, out-Branch}
 use Rattle.ob_tree.specs.declared.statement.For.{For, For-F, out-For}
-use Rattle.ob_tree.specs.declared.construct.Construct.TheVariants as constructs
+use Rattle.ob_tree.specs.Constructs as constructs
 use Rattle.ob_tree.specs.Marks.{Out, construct, word, used, if_there, each, each_after, tokens_of, height}
 use Rattle.ob_tree.specs.Names.{qualident_outline}
 use Rattle.ob_tree.specs.Expressions.{expr_outline, designator_outline, selector_outline}

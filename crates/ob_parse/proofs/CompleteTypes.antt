@@ -15,7 +15,7 @@ use Rattle.ob_tree.specs.declared.declaration.TypeForm.TheOpen as layers
 use Rattle.ob_tree.specs.declared.declaration.Fields.{Fields, out-Fields}
 use Rattle.ob_tree.specs.declared.declaration.Record.{Record, Record-F, out-Record}
 use Rattle.ob_tree.specs.declared.declaration.VarDecl.{VarDecl, out-VarDecl}
-use Rattle.ob_tree.specs.declared.construct.Construct.TheVariants as constructs
+use Rattle.ob_tree.specs.Constructs as constructs
 use Rattle.ob_tree.specs.Marks.{Out, construct, word, declared, if_there, if_so, each_after, listed, times, tokens_of}
 use Rattle.ob_tree.specs.Names.{qualident_outline, identdef_outline}
 use Rattle.ob_tree.specs.Expressions.{expr_list_outline}

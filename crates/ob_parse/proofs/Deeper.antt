@@ -4,7 +4,7 @@ use Rattle.ob_scan.specs.declared.kind.Kind.{Kind}
 use Rattle.ob_scan.specs.declared.kind.Kind.TheVariants as kinds
 use Rattle.ob_tree.specs.declared.token.Leaf.{Leaf}
 use Rattle.ob_tree.specs.declared.token.Leaf.TheVariants as leafs
-use Rattle.ob_tree.specs.declared.construct.Construct.{Construct}
+use Rattle.ob_tree.specs.Constructs.{Construct}
 use Rattle.ob_tree.specs.Marks.{Out, construct, word, used}
 use Rattle.ob_parse.specs.Front.{uncons, front, is_word}
 use Rattle.ob_parse.specs.Forms.{Refusal, Wrong, Deep, ◌>>=◌, Read, Reader, Front, Start, expect_at, accept_at, identifier_at, begins, unless, nothing, seq, prefixed, node, if_found, optional, so_often, many, several, limit_at}

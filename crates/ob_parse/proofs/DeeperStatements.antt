@@ -4,7 +4,7 @@ use Rattle.ob_scan.specs.declared.kind.Kind.{Kind}
 use Rattle.ob_scan.specs.declared.kind.Kind.TheVariants as kinds
 use Rattle.ob_tree.specs.declared.token.Leaf.{Leaf}
 use Rattle.ob_tree.specs.declared.token.Leaf.TheVariants as leafs
-use Rattle.ob_tree.specs.declared.construct.Construct.TheVariants as constructs
+use Rattle.ob_tree.specs.Constructs as constructs
 use Rattle.ob_tree.specs.Marks.{construct, word, used}
 use Rattle.ob_parse.specs.Front.{uncons, front}
 use Rattle.ob_parse.specs.Forms.{Deep, Read, Reader, expect_at, accept_at, name_at, begins, several}

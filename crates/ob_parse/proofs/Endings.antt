@@ -17,8 +17,8 @@ use Rattle.ob_tree.specs.declared.expression.MulOperator.{MulOperator}
 use Rattle.ob_tree.specs.declared.expression.MulOperator.TheVariants as products
 use Rattle.ob_tree.specs.declared.token.Leaf.{Leaf}
 use Rattle.ob_tree.specs.declared.token.Leaf.TheVariants as leafs
-use Rattle.ob_tree.specs.declared.construct.Construct.TheVariants as constructs
-use Rattle.ob_tree.specs.declared.construct.Construct.{Construct}
+use Rattle.ob_tree.specs.Constructs as constructs
+use Rattle.ob_tree.specs.Constructs.{Construct}
 use Rattle.ob_tree.specs.Leaves.{same_kind, leaf_of, leaves}
 use Rattle.ob_tree.specs.Marks.{Value, Out, construct, word, declared, used, named, repeated}
 use Rattle.ob_tree.specs.Expressions.{relation_kind, sign_kind, add_kind, mul_kind}

@@ -6,7 +6,7 @@ use Rattle.ob_scan.specs.declared.kind.Kind.TheVariants as kinds
 use Rattle.ob_tree.specs.declared.token.Leaf.{Leaf}
 use Rattle.ob_tree.specs.declared.token.Leaf.TheVariants as leafs
 use Rattle.ob_tree.specs.Leaves.{same_kind}
-use Rattle.ob_tree.specs.declared.construct.Construct.{Construct}
+use Rattle.ob_tree.specs.Constructs.{Construct}
 use Rattle.ob_tree.specs.Marks.{Out, tokens_of, construct, word, declared, each, each_after}
 use Rattle.ob_tree.specs.Expressions.{mul_kind, add_kind}
 use Rattle.ob_parse.specs.Front.{uncons, front}

@@ -3,8 +3,7 @@ use Rattle.std.proofs.Common.{◌≡◌, ℕ, suc, Bool, true, false, ◌≤◌,
 use Rattle.ob_scan.specs.declared.kind.Kind.{Kind}
 use Rattle.ob_tree.specs.declared.token.Leaf.{Leaf}
 use Rattle.ob_tree.specs.declared.token.Leaf.TheVariants as leafs
-use Rattle.ob_tree.specs.declared.construct.Construct.{Construct}
-use Rattle.ob_tree.specs.Constructs.{is_level}
+use Rattle.ob_tree.specs.Constructs.{Construct, is_level}
 use Rattle.ob_tree.specs.Marks.{Out, Ends, construct, word, if_there, each, each_after, tokens_of, height}
 use Rattle.ob_tree.proofs.Same.{is_same}
 use Rattle.ob_parse.specs.Front.{is_word}

@@ -8,8 +8,7 @@ use Rattle.ob_tree.specs.declared.expression.Literal.{Literal}
 use Rattle.ob_tree.specs.declared.token.Leaf.{Leaf}
 use Rattle.ob_tree.specs.declared.token.Leaf.TheVariants as leafs
 use Rattle.ob_tree.specs.Leaves.{same_kind}
-use Rattle.ob_tree.specs.declared.construct.Construct.{Construct}
-use Rattle.ob_tree.specs.Constructs.{is_level}
+use Rattle.ob_tree.specs.Constructs.{Construct, is_level}
 use Rattle.ob_tree.specs.Marks.{Role, Begins, Ends, Identifier, Value, Word, Out, tokens_of, height, construct, word}
 use Rattle.ob_tree.proofs.Same.{same_is}
 use Rattle.ob_parse.specs.Front.{uncons, front, is_word}

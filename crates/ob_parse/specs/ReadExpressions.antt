@@ -12,7 +12,7 @@ use Rattle.ob_tree.specs.declared.expression.AddOperator.{AddOperator}
 use Rattle.ob_tree.specs.declared.expression.AddOperator.TheVariants as sums
 use Rattle.ob_tree.specs.declared.expression.MulOperator.{MulOperator}
 use Rattle.ob_tree.specs.declared.expression.MulOperator.TheVariants as products
-use Rattle.ob_tree.specs.declared.construct.Construct.TheVariants as constructs
+use Rattle.ob_tree.specs.Constructs as constructs
 use Rattle.ob_tree.specs.Marks.{Out, Value, word, used, named}
 use Rattle.ob_tree.specs.Expressions.{relation_kind, sign_kind, add_kind, mul_kind}
 use Rattle.ob_parse.specs.Front.{uncons}

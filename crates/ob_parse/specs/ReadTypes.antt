@@ -3,7 +3,7 @@ use Rattle.std.specs.Prelude.{ℕ, zero, suc, List, Option, Some, None, Err, Boo
 use Rattle.ob_scan.specs.declared.kind.Kind.TheVariants as kinds
 use Rattle.ob_tree.specs.declared.token.Leaf.{Leaf}
 use Rattle.ob_tree.specs.declared.token.Leaf.TheVariants as leafs
-use Rattle.ob_tree.specs.declared.construct.Construct.TheVariants as constructs
+use Rattle.ob_tree.specs.Constructs as constructs
 use Rattle.ob_tree.specs.Marks.{Out, word, declared}
 use Rattle.ob_parse.specs.Front.{uncons, is_word}
 use Rattle.ob_parse.specs.Forms.{Wrong, Read, Reader, Front, Start, expect_at, accept_at, name_at, begins, unless, nothing, seq, prefixed, node, optional, many, several, limit_at}

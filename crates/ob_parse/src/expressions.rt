@@ -2,7 +2,7 @@
 
 ghost use Rattle.std.specs.Prelude.{◌≡◌, ◌++◌};
 ghost use Rattle.ob_scan.specs.declared.kind.Kind.TheVariants as kinds;
-ghost use Rattle.ob_tree.specs.declared.construct.Construct.TheVariants as constructs;
+ghost use Rattle.ob_tree.specs.Constructs as constructs;
 ghost use Rattle.ob_tree.specs.Marks as marks;
 ghost use Rattle.ob_tree.specs.Marks.{construct, word, if_there, each, each_after};
 ghost use Rattle.ob_tree.specs.Expressions.{relation_kind, mul_kind, add_kind, expr_outline, expr_list_outline, sum_outline, term_outline, factor_outline, element_outline, element_list_outline, designator_outline, selector_outline};

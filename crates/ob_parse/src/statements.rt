@@ -7,7 +7,7 @@ ghost use Rattle.ob_parse.specs.Gives.{Gives, ahead};
 ghost use Rattle.ob_parse.specs.ReadExpressions.{expr_at};
 ghost use Rattle.ob_parse.specs.ReadStatements.{assign_with, block_at, branch_with, case_with, cases_with, for_with, if_with, repeat_with, statement_at, statement_first, statement_with, while_with};
 ghost use Rattle.ob_scan.specs.declared.kind.Kind.TheVariants as kinds;
-ghost use Rattle.ob_tree.specs.declared.construct.Construct.TheVariants as constructs;
+ghost use Rattle.ob_tree.specs.Constructs as constructs;
 ghost use Rattle.ob_tree.specs.Expressions.{expr_outline};
 ghost use Rattle.ob_tree.specs.Marks.{each_after, if_there, word};
 ghost use Rattle.ob_tree.specs.Statements.{block_outline, branch_outline, case_outline, stmt_outline};

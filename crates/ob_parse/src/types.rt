@@ -2,7 +2,7 @@
 
 ghost use Rattle.std.specs.Prelude.{◌≡◌, ◌++◌};
 ghost use Rattle.ob_scan.specs.declared.kind.Kind.TheVariants as kinds;
-ghost use Rattle.ob_tree.specs.declared.construct.Construct.TheVariants as constructs;
+ghost use Rattle.ob_tree.specs.Constructs as constructs;
 ghost use Rattle.ob_tree.specs.Marks.{construct, word, if_there, if_so, each_after, listed};
 ghost use Rattle.ob_tree.specs.Names.{qualident_outline, identdef_outline};
 ghost use Rattle.ob_tree.specs.Types.{type_outline, fields_outline, record_outline, var_outline};

@@ -2,7 +2,6 @@
 use crate::readings::{is_told, tree_of};
 use ob_decls::{Table, table_of};
 use std::alloc::Global;
-use std::process::Abort;
 use std::test::Fail;
 
 const TEXT: &[u8] = b"MODULE M; IMPORT A, T := Texts; \
@@ -13,15 +12,20 @@ const TEXT: &[u8] = b"MODULE M; IMPORT A, T := Texts; \
 const STEPS: &[u8] =
     b"MODULE M; PROCEDURE P; BEGIN a.b[x.y, 2](T.U).c(z)^ := q(w[i], 1); END P; END M.";
 
-fn told_declared(alloc: Global, table: &Table) -> Result<String, Fail> {
+fn table_in(alloc: Global, text: &[u8]) -> Result<Box<Table>, Fail> {
+    let tree = tree_of(alloc, text)?;
+    Ok(Box::new(alloc, table_of(alloc, &tree)?)?)
+}
+
+fn told_declared(alloc: Global, text: &[u8]) -> Result<String, Fail> {
+    let table = table_in(alloc, text)?;
     let (declarers, declared, uses) = (table.declarers(), table.declared(), table.uses());
     Ok(format!(in alloc; "{declarers:?} {declared:?} {uses:?}")?)
 }
 
 #[test]
 fn what_is_declared_and_used(rt: HostRuntime) -> Result<(), Fail> {
-    let tree = tree_of(rt.alloc(), TEXT)?;
-    let told = told_declared(rt.alloc(), &table_of(rt.alloc(), &tree)?)?;
+    let told = told_declared(rt.alloc(), TEXT)?;
     is_told(
         &rt,
         told.as_str(),
@@ -55,7 +59,14 @@ fn what_is_declared_and_used(rt: HostRuntime) -> Result<(), Fail> {
     Ok(())
 }
 
-fn told_forms(alloc: Global, table: &Table) -> Result<String, Fail> {
+/// Forms of lists of names, of further lengths, of open arrays, of records in records, and of a name that a pointer of its own list
+/// means.
+const FORMS: &[u8] =
+    b"MODULE M; TYPE A = ARRAY a, b OF SET; VAR a, T: POINTER TO T; r: RECORD x, y: RECORD (B.C) z: A END END; \
+    PROCEDURE p(s, t: ARRAY OF ARRAY OF A; VAR u: B.C); END p; END M.";
+
+fn told_forms(alloc: Global, text: &[u8]) -> Result<String, Fail> {
+    let table = table_in(alloc, text)?;
     let (parts, blocks, imports, records) = (
         table.parts(),
         table.blocks(),
@@ -66,13 +77,10 @@ fn told_forms(alloc: Global, table: &Table) -> Result<String, Fail> {
     Ok(format!(in alloc; "{parts:?} {blocks:?} {imports:?} {records:?} {ends:?} {name}")?)
 }
 
-#[test]
-fn forms_blocks_imports_records_and_ends(rt: HostRuntime) -> Result<(), Fail> {
-    let tree = tree_of(rt.alloc(), TEXT)?;
-    let told = told_forms(rt.alloc(), &table_of(rt.alloc(), &tree)?)?;
-    is_told(
-        &rt,
-        told.as_str(),
+/// Modules, each with its forms, blocks, import items, records and names behind END.
+const FORMED: &[(&[u8], &str)] = &[
+    (
+        TEXT,
         "[FormPart { declared_by: 11, number: 14, part: Record }, FormPart { declared_by: 20, number: 25, part: Array }, \
          FormPart { declared_by: 20, number: 27, part: Array }, FormPart { declared_by: 20, number: 30, part: Pointer }, \
          FormPart { declared_by: 20, number: 32, part: Named(None) }, \
@@ -81,11 +89,31 @@ fn forms_blocks_imports_records_and_ends(rt: HostRuntime) -> Result<(), Fail> {
          FormPart { declared_by: 59, number: 61, part: Procedure }, FormPart { declared_by: 63, number: 65, part: Named(None) }] \
          [Block { first: 40, outer: 0 }, Block { first: 61, outer: 40 }] [Import { alias: 4, imported: 4 }, Import { alias: 6, imported: 8 }] [Record { number: 14, owner: 11, base: Some(TypeName { head: 16, member: Some(18) }) }] \
          [End { number: 88, of: Some(41) }, End { number: 91, of: None }] 1",
-    );
+    ),
+    (
+        FORMS,
+        "[FormPart { declared_by: 4, number: 6, part: Array }, FormPart { declared_by: 4, number: 8, part: Array }, \
+         FormPart { declared_by: 4, number: 11, part: Named(None) }, FormPart { declared_by: 14, number: 18, part: Pointer }, \
+         FormPart { declared_by: 14, number: 20, part: Named(None) }, FormPart { declared_by: 22, number: 24, part: Record }, \
+         FormPart { declared_by: 25, number: 29, part: Record }, FormPart { declared_by: 35, number: 37, part: Named(None) }, \
+         FormPart { declared_by: 44, number: 48, part: Array }, FormPart { declared_by: 44, number: 50, part: Array }, \
+         FormPart { declared_by: 44, number: 52, part: Named(None) }, FormPart { declared_by: 54, number: 57, part: Named(Some(59)) }] \
+         [Block { first: 41, outer: 0 }] [] \
+         [Record { number: 24, owner: 22, base: None }, Record { number: 29, owner: 25, base: Some(TypeName { head: 31, member: Some(33) }) }] \
+         [End { number: 63, of: Some(42) }, End { number: 66, of: None }] 1",
+    ),
+];
+
+#[test]
+fn forms_blocks_imports_records_and_ends(rt: HostRuntime) -> Result<(), Fail> {
+    for (text, want) in FORMED {
+        is_told(&rt, told_forms(rt.alloc(), text)?.as_str(), want);
+    }
     Ok(())
 }
 
-fn told_steps(alloc: Global, table: &Table) -> Result<String, Fail> {
+fn told_steps(alloc: Global, text: &[u8]) -> Result<String, Fail> {
+    let table = table_in(alloc, text)?;
     let (designators, selectors) = (table.designators(), table.selectors());
     let (declaration, declarer) = (table.declaration(6), table.declarer(3).is_some());
     let (record, form, used) = (
@@ -100,8 +128,7 @@ fn told_steps(alloc: Global, table: &Table) -> Result<String, Fail> {
 
 #[test]
 fn designators_and_rows_by_their_tokens(rt: HostRuntime) -> Result<(), Fail> {
-    let tree = tree_of(rt.alloc(), STEPS)?;
-    let told = told_steps(rt.alloc(), &table_of(rt.alloc(), &tree)?)?;
+    let told = told_steps(rt.alloc(), STEPS)?;
     is_told(
         &rt,
         told.as_str(),

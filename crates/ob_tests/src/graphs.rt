@@ -2,7 +2,6 @@
 use crate::readings::is_told;
 use ob_imports::{Graph, GraphFault, Parsed, graph};
 use std::alloc::{AllocError, Global};
-use std::process::Abort;
 use std::test::Fail;
 
 /// A file: its path, its module's name, and what it imports.
@@ -37,19 +36,6 @@ fn made(alloc: Global, files: &[File]) -> Result<Box<Graph>, GraphFault> {
     Ok(Box::new(alloc, graph(alloc, files.as_slice())?)?)
 }
 
-fn show_fault(alloc: Global, fault: &GraphFault) -> Result<String, AllocError> {
-    match fault {
-        GraphFault::TwoModules {
-            name,
-            first_path,
-            second_path,
-        } => format!(in alloc; "two modules {name}: {first_path}, {second_path}"),
-        GraphFault::Cycle { names } => format!(in alloc; "cycle {names:?}"),
-        GraphFault::TooMany => String::from_str(alloc, "too many"),
-        GraphFault::Memory => String::from_str(alloc, "no memory"),
-    }
-}
-
 /// A module of a graph: its name, what it imports, and what imports it.
 fn show_node(alloc: Global, graph: &Graph, node: u32) -> Result<String, AllocError> {
     if node >= graph.nodes() {
@@ -75,7 +61,7 @@ fn show_graph(alloc: Global, graph: &Graph) -> Result<String, AllocError> {
 fn told(alloc: Global, files: &[File]) -> Result<String, AllocError> {
     match made(alloc, files) {
         Ok(graph) => show_graph(alloc, &graph),
-        Err(fault) => show_fault(alloc, &fault),
+        Err(fault) => format!(in alloc; "{fault:?}"),
     }
 }
 
@@ -102,7 +88,7 @@ const GRAPHS: &[(&[File], &str)] = &[
             ("b/A.Mod", "A", &[]),
             ("A.Mod", "A", &[]),
         ],
-        "two modules A: A.Mod, b/A.Mod",
+        "TwoModules { name: \"A\", first_path: \"A.Mod\", second_path: \"b/A.Mod\" }",
     ),
     // The cycle goes by names.
     (
@@ -112,21 +98,15 @@ const GRAPHS: &[(&[File], &str)] = &[
             ("3.Mod", "B", &["C"]),
             ("4.Mod", "A", &["B"]),
         ],
-        "cycle [\"A\", \"B\", \"C\"]",
+        "Cycle { names: [\"A\", \"B\", \"C\"] }",
     ),
-    (&[("M.Mod", "M", &["M"])], "cycle [\"M\"]"),
+    (&[("M.Mod", "M", &["M"])], "Cycle { names: [\"M\"] }"),
 ];
-
-fn has_graph(rt: &(impl Abort + AllocGlobal), files: &[File], want: &str) -> Result<(), Fail> {
-    let told = told(rt.alloc(), files)?;
-    is_told(rt, told.as_str(), want);
-    Ok(())
-}
 
 #[test]
 fn files_have_graphs_or_faults(rt: HostRuntime) -> Result<(), Fail> {
     for (files, want) in GRAPHS {
-        has_graph(&rt, files, want)?;
+        is_told(&rt, told(rt.alloc(), files)?.as_str(), want);
     }
     Ok(())
 }
@@ -165,21 +145,10 @@ fn told_ready(alloc: Global, files: &[File], done: &[bool]) -> Result<String, Fa
     Ok(format!(in alloc; "{ready:?}")?)
 }
 
-fn are_ready(
-    rt: &(impl Abort + AllocGlobal),
-    files: &[File],
-    done: &[bool],
-    want: &str,
-) -> Result<(), Fail> {
-    let told = told_ready(rt.alloc(), files, done)?;
-    is_told(rt, told.as_str(), want);
-    Ok(())
-}
-
 #[test]
 fn modules_whose_imports_are_done_are_ready(rt: HostRuntime) -> Result<(), Fail> {
     for (files, done, want) in READY {
-        are_ready(&rt, files, done, want)?;
+        is_told(&rt, told_ready(rt.alloc(), files, done)?.as_str(), want);
     }
     Ok(())
 }

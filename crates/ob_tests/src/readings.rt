@@ -8,7 +8,7 @@ use ob_parse::{ParseFault, parse};
 use ob_scan::{Tokens, scan};
 use ob_scope::{ScopeFault, Scopes, scopes};
 use ob_tree::declaration::Module;
-use std::alloc::{AllocError, Global};
+use std::alloc::Global;
 use std::process::Abort;
 use std::test::Fail;
 
@@ -47,13 +47,6 @@ pub(crate) fn told_parse(alloc: Global, text: &[u8]) -> Result<String, Fail> {
     }
 }
 
-/// Checks that this is told of a text.
-pub(crate) fn parses(rt: &(impl Abort + AllocGlobal), text: &[u8], want: &str) -> Result<(), Fail> {
-    let told = told_parse(rt.alloc(), text)?;
-    is_told(rt, told.as_str(), want);
-    Ok(())
-}
-
 /// The scopes of a text that has a tree.
 fn scoped(alloc: Global, text: &[u8]) -> Result<Result<Box<Scopes>, ScopeFault>, Fail> {
     let tokens = scan(alloc, text)?;
@@ -69,38 +62,10 @@ pub(crate) fn scopes_of(alloc: Global, text: &[u8]) -> Result<Box<Scopes>, Fail>
     Ok(scoped(alloc, text)??)
 }
 
-fn show_fault(alloc: Global, fault: &ScopeFault) -> Result<String, AllocError> {
-    match fault {
-        ScopeFault::Twice {
-            name,
-            first,
-            second,
-        } => format!(in alloc; "{name} twice, at {first} and {second}"),
-        ScopeFault::TwiceField {
-            name,
-            first,
-            second,
-        } => format!(in alloc; "field {name} twice, at {first} and {second}"),
-        ScopeFault::Memory => String::from_str(alloc, "no memory"),
-    }
-}
-
 /// Whether a text has scopes: "scopes", or why not.
 pub(crate) fn told_scopes(alloc: Global, text: &[u8]) -> Result<String, Fail> {
     match scoped(alloc, text)? {
         Ok(_) => Ok(String::from_str(alloc, "scopes")?),
-        Err(fault) => Ok(show_fault(alloc, &fault)?),
+        Err(fault) => Ok(format!(in alloc; "{fault:?}")?),
     }
-}
-
-/// Numbers with spaces between them.
-pub(crate) fn show_numbers(alloc: Global, numbers: &[u32]) -> Result<String, AllocError> {
-    let mut text = String::new(alloc);
-    for number in numbers {
-        if !text.is_empty() {
-            text.push_str(" ")?;
-        }
-        text.push_str(format!(in alloc; "{number}")?.as_str())?;
-    }
-    Ok(text)
 }

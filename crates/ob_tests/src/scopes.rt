@@ -1,34 +1,29 @@
 //! The scopes of modules, from their texts.
-use crate::readings::{is_told, scopes_of, told_scopes};
-use ob_scope::Scopes;
-use std::alloc::{AllocError, Global};
+use crate::readings::{is_told, scopes_of, told_scopes, tree_of};
+use ob_decls::table_of;
+use ob_scope::crossings;
+use std::alloc::Global;
 use std::process::Abort;
 use std::test::Fail;
-
-fn tells(rt: &(impl Abort + AllocGlobal), text: &[u8], want: &str) -> Result<(), Fail> {
-    let told = told_scopes(rt.alloc(), text)?;
-    is_told(rt, told.as_str(), want);
-    Ok(())
-}
 
 const TWICE: &[(&[u8], &str)] = &[
     (
         b"MODULE M; VAR x, x: INTEGER; END M.",
-        "x twice, at 14 and 17",
+        "Twice { name: \"x\", first: 14, second: 17 }",
     ),
     (
         b"MODULE M; VAR r: RECORD a, a: SET END; END M.",
-        "field a twice, at 24 and 27",
+        "TwiceField { name: \"a\", first: 24, second: 27 }",
     ),
     // The first pair is told.
     (
         b"MODULE M; VAR x, y, y, x: INTEGER; END M.",
-        "y twice, at 17 and 20",
+        "Twice { name: \"y\", first: 17, second: 20 }",
     ),
     // A parameter stands in the block of its procedure, with the variables there.
     (
         b"MODULE M; PROCEDURE p(x: SET); VAR x: SET; END p; END M.",
-        "x twice, at 22 and 35",
+        "Twice { name: \"x\", first: 22, second: 35 }",
     ),
     (
         b"MODULE M; VAR x: SET; PROCEDURE p(x: SET); END p; END M.",
@@ -37,7 +32,7 @@ const TWICE: &[(&[u8], &str)] = &[
     // The parameters of a procedure type stand in a block of their own.
     (
         b"MODULE M; PROCEDURE p; VAR y: PROCEDURE (z: SET; z: SET); END p; END M.",
-        "z twice, at 41 and 49",
+        "Twice { name: \"z\", first: 41, second: 49 }",
     ),
     (
         b"MODULE M; PROCEDURE p; VAR y: PROCEDURE (y: SET); END p; END M.",
@@ -51,7 +46,7 @@ const TWICE: &[(&[u8], &str)] = &[
     // A procedure stands in the block around it, and a procedure in it stands in its own.
     (
         b"MODULE M; VAR p: SET; PROCEDURE p; END p; END M.",
-        "p twice, at 14 and 32",
+        "Twice { name: \"p\", first: 14, second: 32 }",
     ),
     (
         b"MODULE M; PROCEDURE p; PROCEDURE p; END p; END p; END M.",
@@ -60,7 +55,7 @@ const TWICE: &[(&[u8], &str)] = &[
     // An alias is declared, and the imported module's own name and the module's name are not.
     (
         b"MODULE M; IMPORT T := U; VAR T: SET; END M.",
-        "T twice, at 17 and 29",
+        "Twice { name: \"T\", first: 17, second: 29 }",
     ),
     (b"MODULE M; IMPORT T := U; VAR U, M: SET; END M.", "scopes"),
 ];
@@ -68,13 +63,14 @@ const TWICE: &[(&[u8], &str)] = &[
 #[test]
 fn tells_two_of_one_name(rt: HostRuntime) -> Result<(), Fail> {
     for (text, want) in TWICE {
-        tells(&rt, text, want)?;
+        is_told(&rt, told_scopes(rt.alloc(), text)?.as_str(), want);
     }
     Ok(())
 }
 
 /// The module's name, and its aliases: the token of each, its module, and how many uses it qualifies.
-fn show_aliases(alloc: Global, scopes: &Scopes) -> Result<String, AllocError> {
+fn told_aliases(alloc: Global, text: &[u8]) -> Result<String, Fail> {
+    let scopes = scopes_of(alloc, text)?;
     let mut text = String::from_str(alloc, scopes.name())?;
     for alias in scopes.aliases() {
         let number = alias.decl;
@@ -83,13 +79,6 @@ fn show_aliases(alloc: Global, scopes: &Scopes) -> Result<String, AllocError> {
         text.push_str(format!(in alloc; ", {number} {name} {uses}")?.as_str())?;
     }
     Ok(text)
-}
-
-fn has_aliases(rt: &(impl Abort + AllocGlobal), text: &[u8], want: &str) -> Result<(), Fail> {
-    let scopes = scopes_of(rt.alloc(), text)?;
-    let told = show_aliases(rt.alloc(), &scopes)?;
-    is_told(rt, told.as_str(), want);
-    Ok(())
 }
 
 /// Two aliases of one module: tokens 4 and 8.
@@ -114,7 +103,7 @@ const ALIASES: &[(&[u8], &str)] = &[
 #[test]
 fn counts_the_uses_of_each_alias(rt: HostRuntime) -> Result<(), Fail> {
     for (text, want) in ALIASES {
-        has_aliases(&rt, text, want)?;
+        is_told(&rt, told_aliases(rt.alloc(), text)?.as_str(), want);
     }
     Ok(())
 }
@@ -177,6 +166,36 @@ fn means(
 fn finds_what_each_use_means(rt: HostRuntime) -> Result<(), Fail> {
     for (text, used, declared) in MEANINGS {
         means(&rt, text, *used, *declared)?;
+    }
+    Ok(())
+}
+
+/// The uses of a module that cross to another, by their tokens.
+fn told_crossings(alloc: Global, text: &[u8], imported: &str) -> Result<String, Fail> {
+    let scopes = scopes_of(alloc, text)?;
+    let table = table_of(alloc, &*tree_of(alloc, text)?)?;
+    let found = crossings(alloc, &table, &scopes, imported)?;
+    Ok(format!(in alloc; "{found:?}")?)
+}
+
+/// Modules, each with another and the uses that cross to it.
+const CROSSINGS: &[(&[u8], &str, &str)] = &[
+    (
+        TWO_ALIASES,
+        "Texts",
+        "[Crossing { first: 15, last: 17 }, Crossing { first: 21, last: 23 }]",
+    ),
+    (HIDDEN, "B", "[]"),
+];
+
+#[test]
+fn uses_cross_to_other_modules(rt: HostRuntime) -> Result<(), Fail> {
+    for (text, imported, want) in CROSSINGS {
+        is_told(
+            &rt,
+            told_crossings(rt.alloc(), text, imported)?.as_str(),
+            want,
+        );
     }
     Ok(())
 }

@@ -22,12 +22,6 @@ fn told(alloc: Global, text: &[u8]) -> Result<String, AllocError> {
     Ok(all)
 }
 
-fn reads(rt: &(impl Abort + AllocGlobal), text: &[u8], want: &str) -> Result<(), Fail> {
-    let told = told(rt.alloc(), text)?;
-    is_told(rt, told.as_str(), want);
-    Ok(())
-}
-
 const TOKENS: &[(&[u8], &str)] = &[
     // Numbers.
     (
@@ -79,7 +73,7 @@ const TOKENS: &[(&[u8], &str)] = &[
 #[test]
 fn texts_have_tokens_or_faults(rt: HostRuntime) -> Result<(), Fail> {
     for (text, want) in TOKENS {
-        reads(&rt, text, want)?;
+        is_told(&rt, told(rt.alloc(), text)?.as_str(), want);
     }
     Ok(())
 }
@@ -93,12 +87,6 @@ fn told_kinds(alloc: Global, text: &[u8]) -> Result<String, Fail> {
         all.push_str(format!(in alloc; "{kind:?} ")?.as_str())?;
     }
     Ok(all)
-}
-
-fn has_kinds(rt: &(impl Abort + AllocGlobal), text: &[u8], want: &str) -> Result<(), Fail> {
-    let told = told_kinds(rt.alloc(), text)?;
-    is_told(rt, told.as_str(), want);
-    Ok(())
 }
 
 const KINDS: &[(&[u8], &str)] = &[
@@ -126,7 +114,7 @@ const KINDS: &[(&[u8], &str)] = &[
 #[test]
 fn each_word_and_delimiter_has_its_kind(rt: HostRuntime) -> Result<(), Fail> {
     for (text, want) in KINDS {
-        has_kinds(&rt, text, want)?;
+        is_told(&rt, told_kinds(rt.alloc(), text)?.as_str(), want);
     }
     Ok(())
 }
@@ -135,8 +123,13 @@ fn each_word_and_delimiter_has_its_kind(rt: HostRuntime) -> Result<(), Fail> {
 fn a_text_has_at_most_16_777_216_bytes(rt: HostRuntime) -> Result<(), Fail> {
     let blanks = Vec::from_elem(rt.alloc(), b' ', 16_777_217)?;
     let (most, _) = blanks.as_slice().split_at(16_777_216);
-    reads(&rt, most, "none")?;
-    reads(&rt, blanks.as_slice(), "the text is too long")
+    is_told(&rt, told(rt.alloc(), most)?.as_str(), "none");
+    is_told(
+        &rt,
+        told(rt.alloc(), blanks.as_slice())?.as_str(),
+        "the text is too long",
+    );
+    Ok(())
 }
 
 /// Offsets in a text, with their lines and columns.
@@ -164,16 +157,10 @@ fn told_place(alloc: Global, offset: u32) -> Result<String, AllocError> {
     format!(in alloc; "{line} {column}")
 }
 
-fn stands(rt: &(impl Abort + AllocGlobal), offset: u32, want: &str) -> Result<(), Fail> {
-    let told = told_place(rt.alloc(), offset)?;
-    is_told(rt, told.as_str(), want);
-    Ok(())
-}
-
 #[test]
 fn lines_end_at_each_of_three_ends(rt: HostRuntime) -> Result<(), Fail> {
     for (offset, want) in POSITIONS {
-        stands(&rt, *offset, want)?;
+        is_told(&rt, told_place(rt.alloc(), *offset)?.as_str(), want);
     }
     Ok(())
 }
@@ -200,21 +187,14 @@ fn told_by_lines(alloc: Global, text: &[u8], offset: u32) -> Result<String, Allo
     format!(in alloc; "{line} {column}")
 }
 
-fn stands_by_lines(
-    rt: &(impl Abort + AllocGlobal),
-    text: &[u8],
-    offset: u32,
-    want: &str,
-) -> Result<(), Fail> {
-    let told = told_by_lines(rt.alloc(), text, offset)?;
-    is_told(rt, told.as_str(), want);
-    Ok(())
-}
-
 #[test]
 fn lines_tell_places(rt: HostRuntime) -> Result<(), Fail> {
     for (text, offset, want) in PLACES {
-        stands_by_lines(&rt, text, *offset, want)?;
+        is_told(
+            &rt,
+            told_by_lines(rt.alloc(), text, *offset)?.as_str(),
+            want,
+        );
     }
     Ok(())
 }

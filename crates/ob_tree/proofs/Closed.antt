@@ -1,7 +1,7 @@
 -- What holds of an outline, if it holds of its marks and of what is made of them.
 use Rattle.std.proofs.Common.{ℕ, zero, suc, Bool, true, false, List, [], ◌∷◌, ◌++◌, map, Option, Some, None}
 use Rattle.ob_scan.specs.declared.kind.Kind.{Kind}
-use Rattle.ob_tree.specs.declared.construct.Construct.{Construct}
+use Rattle.ob_tree.specs.Constructs.{Construct}
 use Rattle.ob_tree.specs.declared.expression.Literal.{Literal}
 use Rattle.ob_tree.specs.declared.name.OneOrMore.{OneOrMore}
 use Rattle.ob_tree.specs.Marks.{Out, Value, construct, word, used, named, if_there, if_so, each, listed, times}

@@ -16,7 +16,7 @@ use Rattle.ob_tree.specs.declared.statement.Stmt.{Stmt, Stmt-F, roll-Stmt, out-r
 use Rattle.ob_tree.specs.declared.statement.Block.{Block, Block-F, roll-Block, out-roll-Block, ind-Block, map-Block}
 use Rattle.ob_tree.specs.declared.statement.Branch.{Branch, Branch-F, roll-Branch, out-roll-Branch, map-Branch}
 use Rattle.ob_tree.specs.declared.statement.For.{For, For-F, roll-For, out-roll-For, map-For}
-use Rattle.ob_tree.specs.declared.construct.Construct.TheVariants as constructs
+use Rattle.ob_tree.specs.Constructs as constructs
 use Rattle.ob_tree.specs.Marks.{Out, construct, word, named, if_there}
 use Rattle.ob_tree.specs.Names.{qualident_outline}
 use Rattle.ob_tree.specs.Expressions.{expr_outline}

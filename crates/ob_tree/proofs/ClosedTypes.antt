@@ -11,7 +11,7 @@ use Rattle.ob_tree.specs.declared.declaration.TypeForm.{TypeForm, TypeForm-F, ro
 use Rattle.ob_tree.specs.declared.declaration.Fields.{Fields, Fields-F, roll-Fields, out-roll-Fields, map-Fields}
 use Rattle.ob_tree.specs.declared.declaration.Record.{Record, Record-F, roll-Record, out-roll-Record, map-Record}
 use Rattle.ob_tree.specs.declared.declaration.VarDecl.{VarDecl, VarDecl-F, roll-VarDecl, out-roll-VarDecl, ind-VarDecl, map-VarDecl}
-use Rattle.ob_tree.specs.declared.construct.Construct.TheVariants as constructs
+use Rattle.ob_tree.specs.Constructs as constructs
 use Rattle.ob_tree.specs.declared.name.Identdef.{Identdef}
 use Rattle.ob_tree.specs.Marks.{Out, construct, word, declared, if_there, if_so, listed, times}
 use Rattle.ob_tree.specs.Names.{qualident_outline, identdef_outline}

@@ -2,7 +2,7 @@
 use Rattle.std.proofs.Common.{◌≡◌, [], ◌∷◌, ◌++◌, append_assoc}
 use Rattle.ob_scan.specs.declared.kind.Kind.TheVariants as kinds
 use Rattle.ob_tree.specs.declared.item.Item.TheVariants as items
-use Rattle.ob_tree.specs.declared.construct.Construct.TheVariants as constructs
+use Rattle.ob_tree.specs.Constructs as constructs
 use Rattle.ob_tree.specs.declared.declaration.ConstDecl.{ConstDecl}
 use Rattle.ob_tree.specs.declared.declaration.TypeDecl.{TypeDecl}
 use Rattle.ob_tree.specs.declared.declaration.VarDecl.{VarDecl}
@@ -11,7 +11,7 @@ use Rattle.ob_tree.specs.declared.declaration.Module.{Module}
 use Rattle.ob_tree.specs.declared.declaration.Declarations.{Declarations, out-Declarations}
 use Rattle.ob_tree.specs.declared.declaration.ProcDecl.{ProcDecl, out-ProcDecl}
 use Rattle.ob_tree.specs.Marks.{word, named, if_there, each, listed}
-use Rattle.ob_tree.specs.Derives.{items_of}
+use Rattle.ob_tree.specs.Items.{items_of}
 use Rattle.ob_tree.specs.Names.{identdef_outline}
 use Rattle.ob_tree.specs.Expressions.{expr_outline}
 use Rattle.ob_tree.specs.Statements.{block_outline}
@@ -21,26 +21,25 @@ use Rattle.ob_tree.proofs.DeclarationLayers.{const_out, type_decl_out, variable_
 use Rattle.ob_tree.proofs.Walks.{items-append, items-construct, walks}
 
 pub const_items : (c : ConstDecl) → items_of (const_outline c) ≡
-    items.Begins constructs.ConstDeclaration ∷ (items_of (identdef_outline c.name) ++ (items.Word ∷ (items_of (expr_outline c.value) ++ items.Ends constructs.ConstDeclaration ∷ [])))
-const_items c = simp (const_out c, items-construct, items-append, append_assoc)
+    items_of (identdef_outline c.name) ++ (items.Word ∷ items_of (expr_outline c.value))
+const_items c = simp (const_out c, items-construct, items-append)
 
 pub type_decl_items : (t : TypeDecl) → items_of (type_decl_outline t) ≡
-    items.Begins constructs.TypeDeclaration ∷ (items_of (identdef_outline t.name) ++ (items.Word ∷ (items_of (type_outline t.form) ++ items.Ends constructs.TypeDeclaration ∷ [])))
-type_decl_items t = simp (type_decl_out t, items-construct, items-append, append_assoc)
+    items_of (identdef_outline t.name) ++ (items.Word ∷ items_of (type_outline t.form))
+type_decl_items t = simp (type_decl_out t, items-construct, items-append)
 
-pub variable_items : (v : VarDecl) → items_of (variable_outline v) ≡
-    items.Begins constructs.VariableDeclaration ∷ (items_of (var_outline v) ++ items.Ends constructs.VariableDeclaration ∷ [])
+pub variable_items : (v : VarDecl) → items_of (variable_outline v) ≡ items_of (var_outline v)
 variable_items v = simp (variable_out v, items-construct)
 
 pub import_items : (i : ImportItem) → items_of (import_outline i) ≡
-    items.Begins constructs.Import ∷ (items.Declared i.name ∷ (items_of (if_there (λ m. word kinds.Assign ++ named m) i.of) ++ items.Ends constructs.Import ∷ []))
+    items.Declared i.name ∷ items_of (if_there (λ m. word kinds.Assign ++ named m) i.of)
 import_items i = simp (import_out i, items-construct)
 
 pub module_items : (m : Module) → items_of (module_outline m) ≡
-    items.Word ∷ (items.Named m.name ∷ (items.Word ∷
+    items.Word ∷ (items.Other m.name ∷ (items.Word ∷
     (items_of (if_there (λ l. word kinds.Import ++ (listed kinds.Comma import_outline l ++ word kinds.Semicolon)) m.imports) ++
     (items_of (declarations_outline m.declarations) ++ (items_of (if_there (λ b. word kinds.Begin ++ block_outline b) m.body) ++
-    (items.Word ∷ (items.Repeated m.name m.end_name ∷ (items.Word ∷ []))))))))
+    (items.Word ∷ (items.Other m.end_name ∷ (items.Word ∷ []))))))))
 module_items m = simp (module_out m, items-construct, items-append)
 
 pub declarations_items : (d : Declarations) → items_of (declarations_outline d) ≡
@@ -51,10 +50,10 @@ pub declarations_items : (d : Declarations) → items_of (declarations_outline d
 declarations_items d = simp (declarations_out d, items-append)
 
 pub procedure_items : (p : ProcDecl) → items_of (procedure_outline p) ≡
-    items.Begins constructs.ProcedureDeclaration ∷ (items.Word ∷ (items_of (identdef_outline (out-ProcDecl p).name) ++ (items_of (if_there parameters_outline (out-ProcDecl p).parameters) ++ (items.Word ∷
+    items.Word ∷ (items_of (identdef_outline (out-ProcDecl p).name) ++ (items_of (if_there parameters_outline (out-ProcDecl p).parameters) ++ (items.Word ∷
     (items_of (declarations_outline (out-ProcDecl p).declarations) ++ (items_of (if_there (λ b. word kinds.Begin ++ block_outline b.value) (out-ProcDecl p).body) ++
     (items_of (if_there (λ e. word kinds.Return ++ expr_outline e.value) (out-ProcDecl p).returned) ++
-    (items.Word ∷ (items.Repeated (out-ProcDecl p).name.name (out-ProcDecl p).end_name ∷ (items.Ends constructs.ProcedureDeclaration ∷ []))))))))))
+    (items.Word ∷ (items.Other (out-ProcDecl p).end_name ∷ []))))))))
 procedure_items p = simp (procedure_out p, items-construct, items-append, append_assoc)
 
 pub ruleset section_walks = (walks, items-append, const_items, type_decl_items, variable_items)

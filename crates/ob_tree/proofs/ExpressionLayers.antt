@@ -20,7 +20,7 @@ use Rattle.ob_tree.specs.declared.expression.Expr.{Expr, Expr-F, fold_out-Expr, 
 use Rattle.ob_tree.specs.declared.expression.ExprList.{ExprList, ExprList-F, fold_out-ExprList, roll-ExprList, out-ExprList, out-roll-ExprList}
 use Rattle.ob_tree.specs.declared.expression.Sum.{Sum, Sum-F, fold_out-Sum, roll-Sum, out-Sum, out-roll-Sum}
 use Rattle.ob_tree.specs.declared.expression.Term.{Term, fold_out-Term}
-use Rattle.ob_tree.specs.declared.construct.Construct.TheVariants as constructs
+use Rattle.ob_tree.specs.Constructs as constructs
 use Rattle.ob_tree.specs.Marks.{Out, Value, construct, word, used, named, if_there, each, each_after}
 use Rattle.ob_tree.specs.Expressions.{relation_kind, sign_kind, add_kind, mul_kind, factor_outline, selector_outline, designator_outline, element_outline, element_list_outline, expr_outline, expr_list_outline, sum_outline, term_outline, factor_step, selector_step, designator_step, element_step, element_list_step, expr_step, expr_list_step, sum_step, term_step}
 use Rattle.ob_tree.proofs.Eaches.{each-map}

@@ -4,7 +4,7 @@ use Rattle.std.specs.declared.boxed.Box.{Box}
 use Rattle.std.specs.declared.alloc.Global.{Global}
 use Rattle.ob_scan.specs.declared.kind.Kind.TheVariants as kinds
 use Rattle.ob_tree.specs.declared.item.Item.TheVariants as items
-use Rattle.ob_tree.specs.declared.construct.Construct.TheVariants as constructs
+use Rattle.ob_tree.specs.Constructs as constructs
 use Rattle.ob_tree.specs.declared.expression.Literal.{Literal}
 use Rattle.ob_tree.specs.declared.expression.Factor.{Factor}
 use Rattle.ob_tree.specs.declared.expression.Factor.TheVariants as factors
@@ -17,15 +17,14 @@ use Rattle.ob_tree.specs.declared.expression.ExprList.{ExprList, out-ExprList}
 use Rattle.ob_tree.specs.declared.expression.Sum.{Sum, out-Sum}
 use Rattle.ob_tree.specs.declared.expression.Term.{Term}
 use Rattle.ob_tree.specs.Marks.{word, if_there, each, each_after}
-use Rattle.ob_tree.specs.Derives.{items_of}
+use Rattle.ob_tree.specs.Items.{items_of}
 use Rattle.ob_tree.specs.Expressions.{relation_kind, sign_kind, add_kind, mul_kind, factor_outline, selector_outline, designator_outline, element_outline, element_list_outline, expr_outline, expr_list_outline, sum_outline, term_outline}
 use Rattle.ob_tree.proofs.ExpressionLayers.{expr_out, sum_out, term_out, element_out, element_list_out, expr_list_out, designator_out, value_made, nil_made, true_made, false_made, set_made, name_made, group_made, not_made, field_made, index_made, target_made, arguments_made}
 use Rattle.ob_tree.proofs.Walks.{items-append, items-construct, walks}
 
 pub expr_items : (e : Expr) → items_of (expr_outline e) ≡
-    items.Begins constructs.Expression ∷ (items_of (sum_outline (out-Expr e).left) ++
-    (items_of (if_there (λ c. word (relation_kind c.0) ++ sum_outline c.1.value) (out-Expr e).compared) ++ items.Ends constructs.Expression ∷ []))
-expr_items e = simp (expr_out e, items-construct, items-append, append_assoc)
+    items_of (sum_outline (out-Expr e).left) ++ items_of (if_there (λ c. word (relation_kind c.0) ++ sum_outline c.1.value) (out-Expr e).compared)
+expr_items e = simp (expr_out e, items-construct, items-append)
 
 pub sum_items : (s : Sum) → items_of (sum_outline s) ≡
     items_of (if_there (λ x. word (sign_kind x)) (out-Sum s).sign) ++ (items_of (term_outline (out-Sum s).first) ++ items_of (each (λ p. word (add_kind p.0) ++ term_outline p.1) (out-Sum s).rest.items))
@@ -50,7 +49,7 @@ expr_list_items l = rw (expr_list_out l, items-append) refl
 pub designator_items : (d : Designator) → items_of (designator_outline d) ≡ items.Used d.head ∷ items_of (each selector_outline d.selectors.items)
 designator_items d = rw (designator_out d, items-construct) refl
 
-pub value_items : (k : Literal) (n : ℕ) → items_of (factor_outline (factors.Value k n)) ≡ items.Value n ∷ []
+pub value_items : (k : Literal) (n : ℕ) → items_of (factor_outline (factors.Value k n)) ≡ items.Other n ∷ []
 value_items k n = rw (value_made k n, items-construct) refl
 
 pub nil_items : items_of (factor_outline factors.Nil) ≡ items.Word ∷ []
@@ -76,7 +75,7 @@ group_items b = simp (group_made b, items-construct, items-append)
 pub not_items : (b : Box Factor Global) → items_of (factor_outline (factors.Not b)) ≡ items.Word ∷ items_of (factor_outline b.value)
 not_items b = simp (not_made b, items-construct)
 
-pub field_items : (n : ℕ) → items_of (selector_outline (selectors.Field n)) ≡ items.Word ∷ items.Named n ∷ []
+pub field_items : (n : ℕ) → items_of (selector_outline (selectors.Field n)) ≡ items.Word ∷ items.Other n ∷ []
 field_items n = rw (field_made n, items-construct) refl
 
 pub index_items : (b : Box ExprList Global) →

@@ -6,7 +6,7 @@ use Rattle.ob_tree.specs.declared.name.Qualident.{Qualident}
 use Rattle.ob_tree.specs.declared.name.Identdef.{Identdef}
 use Rattle.ob_tree.specs.Marks.{word, named, if_there, if_so}
 use Rattle.std.proofs.Common.{◌++◌}
-use Rattle.ob_tree.specs.Derives.{items_of}
+use Rattle.ob_tree.specs.Items.{items_of}
 use Rattle.ob_tree.specs.Names.{qualident_outline, identdef_outline}
 use Rattle.ob_tree.proofs.NameLayers.{qualident_out, identdef_out}
 use Rattle.ob_tree.proofs.Walks.{walks}

@@ -21,7 +21,7 @@ use Rattle.ob_tree.specs.declared.statement.Stmt.TheVariants as statements
 use Rattle.ob_tree.specs.declared.statement.Block.{Block, Block-F, fold_out-Block, roll-Block, out-Block, out-roll-Block}
 use Rattle.ob_tree.specs.declared.statement.Branch.{Branch, Branch-F, fold_out-Branch, roll-Branch, out-Branch, out-roll-Branch}
 use Rattle.ob_tree.specs.declared.statement.For.{For, For-F, fold_out-For, roll-For, out-For, out-roll-For}
-use Rattle.ob_tree.specs.declared.construct.Construct.TheVariants as constructs
+use Rattle.ob_tree.specs.Constructs as constructs
 use Rattle.ob_tree.specs.Marks.{Out, Value, construct, word, used, if_there, each_after, listed}
 use Rattle.ob_tree.specs.Names.{qualident_outline}
 use Rattle.ob_tree.specs.Expressions.{expr_outline, designator_outline}

@@ -19,17 +19,17 @@ use Rattle.ob_tree.specs.declared.statement.Block.{Block, out-Block}
 use Rattle.ob_tree.specs.declared.statement.Branch.{Branch, out-Branch}
 use Rattle.ob_tree.specs.declared.statement.For.{For, out-For}
 use Rattle.ob_tree.specs.Marks.{word, if_there, each_after}
-use Rattle.ob_tree.specs.Derives.{items_of}
+use Rattle.ob_tree.specs.Items.{items_of}
 use Rattle.ob_tree.specs.Names.{qualident_outline}
 use Rattle.ob_tree.specs.Expressions.{expr_outline, designator_outline}
 use Rattle.ob_tree.specs.Statements.{label_outline, label_range_outline, case_outline, stmt_outline, block_outline, branch_outline, for_outline}
 use Rattle.ob_tree.proofs.StatementLayers.{integer_label, text_label, name_label, label_range_out, block_out, branch_out, for_out, nothing_made, labelled_made, empty_made, assign_made, call_made, if_made, case_made, while_made, repeat_made, for_stmt_made}
 use Rattle.ob_tree.proofs.Walks.{items-append, items-construct, walks}
 
-pub integer_items : (n : ℕ) → items_of (label_outline (labels.Integer n)) ≡ items.Value n ∷ []
+pub integer_items : (n : ℕ) → items_of (label_outline (labels.Integer n)) ≡ items.Other n ∷ []
 integer_items n = rw (integer_label n) refl
 
-pub text_items : (n : ℕ) → items_of (label_outline (labels.Text n)) ≡ items.Value n ∷ []
+pub text_items : (n : ℕ) → items_of (label_outline (labels.Text n)) ≡ items.Other n ∷ []
 text_items n = rw (text_label n) refl
 
 pub name_label_items : (q : Qualident) → items_of (label_outline (labels.Name q)) ≡ items_of (qualident_outline q)

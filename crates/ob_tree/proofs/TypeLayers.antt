@@ -17,7 +17,7 @@ use Rattle.ob_tree.specs.declared.declaration.TypeForm.TheVariants as forms
 use Rattle.ob_tree.specs.declared.declaration.Fields.{Fields, Fields-F, fold_out-Fields, roll-Fields, out-Fields, out-roll-Fields}
 use Rattle.ob_tree.specs.declared.declaration.Record.{Record, Record-F, fold_out-Record, roll-Record, out-Record, out-roll-Record}
 use Rattle.ob_tree.specs.declared.declaration.VarDecl.{VarDecl, VarDecl-F, fold_out-VarDecl, roll-VarDecl, out-VarDecl, out-roll-VarDecl}
-use Rattle.ob_tree.specs.declared.construct.Construct.TheVariants as constructs
+use Rattle.ob_tree.specs.Constructs as constructs
 use Rattle.ob_tree.specs.Marks.{Out, construct, word, declared, if_there, if_so, each_after, listed, times}
 use Rattle.ob_tree.specs.Names.{qualident_outline, identdef_outline}
 use Rattle.ob_tree.specs.Expressions.{expr_list_outline}

@@ -13,9 +13,9 @@ use Rattle.ob_tree.specs.declared.declaration.TypeForm.TheVariants as forms
 use Rattle.ob_tree.specs.declared.declaration.Fields.{Fields, out-Fields}
 use Rattle.ob_tree.specs.declared.declaration.Record.{Record, out-Record}
 use Rattle.ob_tree.specs.declared.declaration.VarDecl.{VarDecl, out-VarDecl}
-use Rattle.ob_tree.specs.declared.construct.Construct.TheVariants as constructs
+use Rattle.ob_tree.specs.Constructs as constructs
 use Rattle.ob_tree.specs.Marks.{Out, construct, word, declared, if_there, if_so, each_after, listed, times}
-use Rattle.ob_tree.specs.Derives.{items_of}
+use Rattle.ob_tree.specs.Items.{items_of}
 use Rattle.ob_tree.specs.Names.{qualident_outline, identdef_outline}
 use Rattle.ob_tree.specs.Expressions.{expr_list_outline}
 use Rattle.ob_tree.specs.Types.{section_outline, parameters_outline, type_outline, fields_outline, record_outline, var_outline}
@@ -23,8 +23,8 @@ use Rattle.ob_tree.proofs.TypeLayers.{section_out, parameters_out, fields_out, r
 use Rattle.ob_tree.proofs.Walks.{items-append, items-construct, items-times, walks}
 
 pub section_items : (s : ParameterSection) → items_of (section_outline s) ≡
-    items.Begins constructs.FPSection ∷ (items_of (if_so s.variable (word kinds.Var)) ++ (items.Declared s.names.first ∷ (items_of (each_after kinds.Comma declared s.names.rest.items) ++
-    (items.Word ∷ (items_of (times s.open_arrays (word kinds.Array ++ word kinds.Of)) ++ (items_of (qualident_outline s.of) ++ items.Ends constructs.FPSection ∷ []))))))
+    items_of (if_so s.variable (word kinds.Var)) ++ (items.Declared s.names.first ∷ (items_of (each_after kinds.Comma declared s.names.rest.items) ++
+    (items.Word ∷ (items_of (times s.open_arrays (word kinds.Array ++ word kinds.Of)) ++ items_of (qualident_outline s.of)))))
 section_items s = simp (section_out s, items-construct, items-append, append_assoc)
 
 pub parameters_items : (p : Parameters) → items_of (parameters_outline p) ≡
@@ -36,7 +36,7 @@ pub fields_items : (f : Fields) → items_of (fields_outline f) ≡
     items_of (if_so (out-Fields f).closing_semicolon (word kinds.Semicolon)))
 fields_items f = simp (fields_out f, items-append)
 
-pub field_items : (o : Out) → items_of (construct constructs.FieldList o) ≡ items.Begins constructs.FieldList ∷ (items_of o ++ items.Ends constructs.FieldList ∷ [])
+pub field_items : (o : Out) → items_of (construct constructs.FieldList o) ≡ items_of o
 field_items o = items-construct constructs.FieldList o
 
 pub record_items : (r : Record) → items_of (record_outline r) ≡
@@ -49,24 +49,22 @@ pub var_items : (v : VarDecl) → items_of (var_outline v) ≡
     (items.Word ∷ items_of (type_outline (out-VarDecl v).form)))
 var_items v = simp (var_out v, items-append, append_assoc)
 
-pub named_items : (q : Qualident) → items_of (type_outline (forms.Named q)) ≡
-    items.Begins constructs.TypeForm ∷ (items_of (qualident_outline q) ++ items.Ends constructs.TypeForm ∷ [])
+pub named_items : (q : Qualident) → items_of (type_outline (forms.Named q)) ≡ items_of (qualident_outline q)
 named_items q = simp (named_made q, items-construct)
 
 pub array_items : (l : Box ExprList Global) (t : Box TypeForm Global) → items_of (type_outline (forms.ArrayOf l t)) ≡
-    items.Begins constructs.TypeForm ∷ (items.Word ∷ (items_of (expr_list_outline l.value) ++ (items.Word ∷ (items_of (type_outline t.value) ++ items.Ends constructs.TypeForm ∷ []))))
-array_items l t = simp (array_made l t, items-construct, items-append, append_assoc)
+    items.Word ∷ (items_of (expr_list_outline l.value) ++ (items.Word ∷ items_of (type_outline t.value)))
+array_items l t = simp (array_made l t, items-construct, items-append)
 
-pub record_of_items : (r : Record) → items_of (type_outline (forms.RecordOf r)) ≡
-    items.Begins constructs.TypeForm ∷ (items_of (record_outline r) ++ items.Ends constructs.TypeForm ∷ [])
+pub record_of_items : (r : Record) → items_of (type_outline (forms.RecordOf r)) ≡ items_of (record_outline r)
 record_of_items r = simp (record_of_made r, items-construct)
 
 pub pointer_items : (t : Box TypeForm Global) → items_of (type_outline (forms.PointerTo t)) ≡
-    items.Begins constructs.TypeForm ∷ (items.Word ∷ (items.Word ∷ (items_of (type_outline t.value) ++ items.Ends constructs.TypeForm ∷ [])))
+    items.Word ∷ (items.Word ∷ items_of (type_outline t.value))
 pointer_items t = simp (pointer_made t, items-construct)
 
 pub procedure_type_items : (p : Option Parameters) → items_of (type_outline (forms.ProcOf p)) ≡
-    items.Begins constructs.TypeForm ∷ (items.Word ∷ (items_of (if_there parameters_outline p) ++ items.Ends constructs.TypeForm ∷ []))
+    items.Word ∷ items_of (if_there parameters_outline p)
 procedure_type_items p = simp (procedure_type_made p, items-construct)
 
 pub ruleset section_walks = (walks, items-append, items-times, section_items, parameters_items)

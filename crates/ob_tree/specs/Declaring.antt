@@ -9,7 +9,7 @@ use Rattle.ob_tree.specs.declared.declaration.ImportItem.{ImportItem}
 use Rattle.ob_tree.specs.declared.declaration.Module.{Module}
 use Rattle.ob_tree.specs.declared.declaration.Declarations.{Declarations, Declarations-F, fold-Declarations}
 use Rattle.ob_tree.specs.declared.declaration.ProcDecl.{ProcDecl, ProcDecl-F, fold-ProcDecl}
-use Rattle.ob_tree.specs.declared.construct.Construct.TheVariants as constructs
+use Rattle.ob_tree.specs.Constructs as constructs
 use Rattle.ob_tree.specs.Marks.{Out, construct, word, declared, named, repeated, if_there, each, listed}
 use Rattle.ob_tree.specs.Names.{identdef_outline}
 use Rattle.ob_tree.specs.Expressions.{expr_outline}

@@ -1,11 +1,8 @@
 -- What the tree of a list of tokens is, and what stands in it (Oberon-07 report, appendix).
-use Rattle.std.specs.Prelude.{◌≡◌, ◌+◌, ℕ, if◌then◌else◌, List, [], ◌∷◌}
+use Rattle.std.specs.Prelude.{◌≡◌, ◌+◌, ℕ, List, [], ◌∷◌}
 use Rattle.ob_scan.specs.declared.kind.Kind.{Kind}
 use Rattle.ob_tree.specs.declared.declaration.Module.{Module}
 use Rattle.ob_tree.specs.declared.token.Leaf.{Leaf}
-use Rattle.ob_tree.specs.declared.item.Item.{Item}
-use Rattle.ob_tree.specs.declared.item.Item.TheVariants as items
-use Rattle.ob_tree.specs.Constructs.{is_told}
 use Rattle.ob_tree.specs.Declaring.{module_outline}
 use Rattle.ob_tree.specs.Leaves.{leaves}
 use Rattle.ob_tree.specs.Marks.{Out, Begins, Ends, Identifier, Value, Word, Declares, Uses, Names, Repeats, tokens_of, height}
@@ -22,33 +19,18 @@ Derives kinds m = leaves 0 kinds ≡ spelling m
 abbrev pub depth : Module → ℕ
 depth m = height (module_outline m)
 
--- the tokens of an outline, with what each does, and where the constructs that are told begin and end
-abbrev pub items_of : Out → List Item
-items_of [] = []
-items_of (Begins c n ∷ ms) = if is_told c then items.Begins c ∷ items_of ms else items_of ms
-items_of (Ends c ∷ ms) = if is_told c then items.Ends c ∷ items_of ms else items_of ms
-items_of (Identifier Declares n ∷ ms) = items.Declared n ∷ items_of ms
-items_of (Identifier Uses n ∷ ms) = items.Used n ∷ items_of ms
-items_of (Identifier Names n ∷ ms) = items.Named n ∷ items_of ms
-items_of (Identifier (Repeats name) n ∷ ms) = items.Repeated name n ∷ items_of ms
-items_of (Value k n ∷ ms) = items.Value n ∷ items_of ms
-items_of (Word k ∷ ms) = items.Word ∷ items_of ms
-
--- the numbers of the tokens among these items, the first of which is this one: a word's number is that of its place
-abbrev pub numbers_from : ℕ → List Item → List ℕ
+-- the numbers of an outline's tokens, the first of which stands in this place: a word's number is that of its place
+abbrev pub numbers_from : ℕ → Out → List ℕ
 numbers_from at [] = []
-numbers_from at (items.Begins c ∷ is) = numbers_from at is
-numbers_from at (items.Ends c ∷ is) = numbers_from at is
-numbers_from at (items.Declared n ∷ is) = n ∷ numbers_from (at + 1) is
-numbers_from at (items.Used n ∷ is) = n ∷ numbers_from (at + 1) is
-numbers_from at (items.Named n ∷ is) = n ∷ numbers_from (at + 1) is
-numbers_from at (items.Repeated name n ∷ is) = n ∷ numbers_from (at + 1) is
-numbers_from at (items.Value n ∷ is) = n ∷ numbers_from (at + 1) is
-numbers_from at (items.Word ∷ is) = at ∷ numbers_from (at + 1) is
+numbers_from at (Begins c n ∷ ms) = numbers_from at ms
+numbers_from at (Ends c ∷ ms) = numbers_from at ms
+numbers_from at (Identifier r n ∷ ms) = n ∷ numbers_from (at + 1) ms
+numbers_from at (Value k n ∷ ms) = n ∷ numbers_from (at + 1) ms
+numbers_from at (Word k ∷ ms) = at ∷ numbers_from (at + 1) ms
 
 -- the numbers of the tokens of a tree, in order
 abbrev pub yields : Module → List ℕ
-yields m = numbers_from 0 (items_of (module_outline m))
+yields m = numbers_from 0 (module_outline m)
 
 -- the numbers of the identifiers that an outline declares, in order
 abbrev pub declared_in : Out → List ℕ

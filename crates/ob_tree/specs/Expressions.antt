@@ -20,7 +20,7 @@ use Rattle.ob_tree.specs.declared.expression.Expr.{Expr, Expr-F, fold-Expr}
 use Rattle.ob_tree.specs.declared.expression.ExprList.{ExprList, ExprList-F, fold-ExprList}
 use Rattle.ob_tree.specs.declared.expression.Sum.{Sum, Sum-F, fold-Sum}
 use Rattle.ob_tree.specs.declared.expression.Term.{Term, Term-F, fold-Term}
-use Rattle.ob_tree.specs.declared.construct.Construct.TheVariants as constructs
+use Rattle.ob_tree.specs.Constructs as constructs
 use Rattle.ob_tree.specs.Marks.{Out, Value, construct, word, used, named, if_there, each, each_after}
 
 -- relation = "=" | "#" | "<" | "<=" | ">" | ">=" | IN | IS

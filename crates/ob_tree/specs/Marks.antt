@@ -5,8 +5,7 @@ use Rattle.ob_tree.specs.declared.expression.Literal.{Literal}
 use Rattle.ob_tree.specs.declared.name.OneOrMore.{OneOrMore}
 use Rattle.ob_tree.specs.declared.token.Leaf.{Leaf}
 use Rattle.ob_tree.specs.declared.token.Leaf.TheVariants as leafs
-use Rattle.ob_tree.specs.declared.construct.Construct.{Construct}
-use Rattle.ob_tree.specs.Constructs.{is_level}
+use Rattle.ob_tree.specs.Constructs.{Construct, is_level}
 
 -- what an identifier does where it stands
 pub data Role : Type 0 where

@@ -12,7 +12,7 @@ use Rattle.ob_tree.specs.declared.statement.Stmt.{Stmt, Stmt-F, fold-Stmt}
 use Rattle.ob_tree.specs.declared.statement.Block.{Block, Block-F, fold-Block}
 use Rattle.ob_tree.specs.declared.statement.Branch.{Branch, Branch-F, fold-Branch}
 use Rattle.ob_tree.specs.declared.statement.For.{For, For-F, fold-For}
-use Rattle.ob_tree.specs.declared.construct.Construct.TheVariants as constructs
+use Rattle.ob_tree.specs.Constructs as constructs
 use Rattle.ob_tree.specs.Marks.{Out, Value, construct, word, used, if_there, each_after, listed}
 use Rattle.ob_tree.specs.Names.{qualident_outline}
 use Rattle.ob_tree.specs.Expressions.{expr_outline, designator_outline}

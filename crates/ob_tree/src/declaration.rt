@@ -15,7 +15,7 @@ pub struct Module {
 }
 
 /// An import. `name` is declared by it; `of` is the imported module's own name, where another stands before `:=`.
-#[derive(Clone, Copy, PartialEq, Eq, Debug, Drop)]
+#[derive(Clone, Copy, Drop)]
 pub struct ImportItem {
     pub name: u32,
     pub of: Option<u32>,

@@ -1,7 +1,7 @@
 //! Expressions and designators (Oberon-07 report, section 8). Numbers are those of tokens, from 0.
 
 /// The relations.
-#[derive(Clone, Copy, PartialEq, Eq, Debug)]
+#[derive(Clone, Copy)]
 pub enum Relation {
     Equal,
     Unequal,
@@ -14,14 +14,14 @@ pub enum Relation {
 }
 
 /// A sign in front of a sum.
-#[derive(Clone, Copy, PartialEq, Eq, Debug)]
+#[derive(Clone, Copy)]
 pub enum Sign {
     Plus,
     Minus,
 }
 
 /// The operators between terms.
-#[derive(Clone, Copy, PartialEq, Eq, Debug)]
+#[derive(Clone, Copy, Debug)]
 pub enum AddOperator {
     Plus,
     Minus,
@@ -29,7 +29,7 @@ pub enum AddOperator {
 }
 
 /// The operators between factors.
-#[derive(Clone, Copy, PartialEq, Eq, Debug)]
+#[derive(Clone, Copy, Debug)]
 pub enum MulOperator {
     Times,
     Divide,
@@ -39,7 +39,7 @@ pub enum MulOperator {
 }
 
 /// The kind of a literal.
-#[derive(Clone, Copy, PartialEq, Eq, Debug)]
+#[derive(Clone, Copy, Debug)]
 pub enum Literal {
     Integer,
     Real,

@@ -3,10 +3,9 @@
 //! Its contract: a tree's tokens in order, by its outline, and what each of them does.
 #![tactic(auto)]
 
-pub mod construct;
 pub mod declaration;
 pub mod expression;
-pub mod item;
+mod item;
 pub mod laws;
 pub mod name;
 pub mod statement;

@@ -8,14 +8,14 @@ pub struct OneOrMore<T: Drop> {
 }
 
 /// A name, or a name in an imported module, by the numbers of their tokens.
-#[derive(Clone, Copy, PartialEq, Eq, Debug)]
+#[derive(Clone, Copy)]
 pub struct Qualident {
     pub head: u32,
     pub member: Option<u32>,
 }
 
 /// A declaring identifier, with a star where it is exported.
-#[derive(Clone, Copy, PartialEq, Eq, Debug)]
+#[derive(Clone, Copy)]
 pub struct Identdef {
     pub name: u32,
     pub starred: bool,

@@ -64,14 +64,14 @@ pub struct For {
 }
 
 /// One label, or a range of them.
-#[derive(Clone, Copy, PartialEq, Eq, Debug, Drop)]
+#[derive(Clone, Copy, Drop)]
 pub struct LabelRange {
     pub low: Label,
     pub high: Option<Label>,
 }
 
 /// A label; an integer and a string by the numbers of their tokens.
-#[derive(Clone, Copy, PartialEq, Eq, Debug, Drop)]
+#[derive(Clone, Copy, Drop)]
 pub enum Label {
     Integer(u32),
     Text(u32),

@@ -7,7 +7,7 @@ use crate::expression::Literal;
 use ob_scan::Kind;
 
 /// A token as a tree keeps it: an identifier or a literal by its number, any other by its kind.
-#[derive(Clone, Copy, PartialEq, Eq, Debug)]
+#[derive(Clone, Copy)]
 pub enum Leaf {
     /// An identifier.
     Name(u32),

@@ -1,11 +1,12 @@
 //! What stands in a module's tree, by the numbers of its tokens. The walkers recurse a few calls for each level of
 //! nesting; lists are loops. Each call answers AllocError where a growth of memory is refused.
 
-ghost use Rattle.std.specs.Prelude.{◌≡◌, ◌<◌, ◌^◌, [], ◌∷◌, ◌++◌, List, length, IfOk};
+ghost use Rattle.std.specs.Prelude.{◌≡◌, ◌<◌, ◌^◌, List, length, IfOk};
 ghost use Rattle.std.specs.List.{range_with_len};
 ghost use Rattle.ob_scan.specs.declared.kind.Kind.{Kind};
 ghost use Rattle.ob_tree.specs.Declaring.{module_outline};
-ghost use Rattle.ob_tree.specs.Derives.{Derives, declared_in, endings_in, items_of, numbers_from, spelling, used_in, yields};
+ghost use Rattle.ob_tree.specs.Derives.{Derives, declared_in, endings_in, spelling, used_in, yields};
+ghost use Rattle.ob_tree.specs.Items.{items_of, number_at};
 
 use crate::declaration::Module;
 use crate::item::Item;
@@ -13,10 +14,8 @@ use crate::walk::declarations::walk_module;
 use crate::walk::ends::module_ends;
 use std::alloc::{AllocError, Global};
 
-/// The tokens of a module's tree in order, each with what it does there, and where each construct begins and ends that
-/// is told: imports, declarations of constants, types, variables and procedures, types, field lists, sections of
-/// parameters (FPSection), and expressions.
-pub fn items(alloc: Global, module: &Module) -> Result<Vec<Item>, AllocError>
+/// The tokens of a module's tree in order, each with what it does.
+fn items(alloc: Global, module: &Module) -> Result<Vec<Item>, AllocError>
     ensures { IfOk result (λ v. v.items ≡ items_of (module_outline «module».now)) }
 {
     let mut out = Vec::new(alloc);
@@ -24,23 +23,14 @@ pub fn items(alloc: Global, module: &Module) -> Result<Vec<Item>, AllocError>
     Ok(out)
 }
 
-/// Adds the number of an item's token, if it is one: the number that it carries, or for a word its place, which is how
-/// many numbers stand before it.
-fn push_number(numbers: &mut Vec<u32>, item: Item) -> Result<(), AllocError>
-    requires { length numbers.old.items < 2 ^ 32 }
-    ensures { IfOk result (λ _. numbers.new.items ≡ numbers.old.items ++ numbers_from (length numbers.old.items) (item ∷ [])) }
+/// The number of a token, which stands in this place.
+fn number_of(item: Item, place: u32) -> u32
+    ensures { result ≡ number_at place item }
 {
-    let place = numbers.len() as u32;
     match item {
-        Item::Begins(_) | Item::Ends(_) => {}
-        Item::Declared(number)
-        | Item::Used(number)
-        | Item::Named(number)
-        | Item::Repeated(_, number)
-        | Item::Value(number) => numbers.push(number)?,
-        Item::Word => numbers.push(place)?,
+        Item::Declared(number) | Item::Used(number) | Item::Other(number) => number,
+        Item::Word => place,
     }
-    Ok(())
 }
 
 /// The number of each token of a module's tree, in order: of an identifier or a literal the number that the tree
@@ -54,7 +44,8 @@ pub fn yield_of(alloc: Global, module: &Module) -> Result<Vec<u32>, AllocError>
     let items = items(alloc, module)?;
     let mut numbers = Vec::new(alloc);
     for item in &items {
-        push_number(&mut numbers, *item)?;
+        let place = numbers.len() as u32;
+        numbers.push(number_of(*item, place))?;
     }
     Ok(numbers)
 }
@@ -70,7 +61,7 @@ pub fn declarations(alloc: Global, module: &Module) -> Result<Vec<u32>, AllocErr
     for item in &items {
         match *item {
             Item::Declared(number) => numbers.push(number)?,
-            _ => {}
+            Item::Used(_) | Item::Other(_) | Item::Word => {}
         }
     }
     Ok(numbers)
@@ -87,7 +78,7 @@ pub fn uses(alloc: Global, module: &Module) -> Result<Vec<u32>, AllocError>
     for item in &items {
         match *item {
             Item::Used(number) => numbers.push(number)?,
-            _ => {}
+            Item::Declared(_) | Item::Other(_) | Item::Word => {}
         }
     }
     Ok(numbers)

@@ -3,14 +3,13 @@
 ghost use Rattle.std.specs.Prelude.{◌≡◌, ◌++◌, IfOk};
 ghost use Rattle.ob_scan.specs.declared.kind.Kind.TheVariants as kinds;
 ghost use Rattle.ob_tree.specs.Declaring.{part, const_outline, type_decl_outline, variable_outline, declarations_outline, procedure_outline, import_outline, module_outline};
-ghost use Rattle.ob_tree.specs.Derives.{items_of};
+ghost use Rattle.ob_tree.specs.Items.{items_of};
 ghost use Rattle.ob_tree.specs.Expressions.{expr_outline};
 ghost use Rattle.ob_tree.specs.Marks.{word, if_there, listed};
 ghost use Rattle.ob_tree.specs.Names.{identdef_outline};
 ghost use Rattle.ob_tree.specs.Statements.{block_outline};
 ghost use Rattle.ob_tree.specs.Types.{parameters_outline};
 
-use crate::construct::Construct;
 use crate::declaration::{
     ConstDecl, Declarations, ImportItem, Module, Parameters, ProcDecl, TypeDecl, VarDecl,
 };
@@ -31,22 +30,11 @@ fn walk_constants(out: &mut Vec<Item>, constants: &[ConstDecl]) -> Result<(), Al
 {
     out.push(Item::Word)?;
     for constant in constants {
-        walk_constant(out, constant)?;
+        walk_identdef(out, constant.name)?;
+        out.push(Item::Word)?;
+        walk_expr(out, &constant.value)?;
         out.push(Item::Word)?;
     }
-    Ok(())
-}
-
-/// The declaration of a constant.
-#[tactic(auto, using(crate::proofs::DeclarationWalks::section_walks))]
-fn walk_constant(out: &mut Vec<Item>, constant: &ConstDecl) -> Result<(), AllocError>
-    ensures { IfOk result (λ _. out.new.items ≡ out.old.items ++ items_of (const_outline constant.now)) }
-{
-    out.push(Item::Begins(Construct::ConstDeclaration))?;
-    walk_identdef(out, constant.name)?;
-    out.push(Item::Word)?;
-    walk_expr(out, &constant.value)?;
-    out.push(Item::Ends(Construct::ConstDeclaration))?;
     Ok(())
 }
 
@@ -57,22 +45,11 @@ fn walk_types(out: &mut Vec<Item>, types: &[TypeDecl]) -> Result<(), AllocError>
 {
     out.push(Item::Word)?;
     for declared in types {
-        walk_type_declaration(out, declared)?;
+        walk_identdef(out, declared.name)?;
+        out.push(Item::Word)?;
+        walk_type(out, &declared.form)?;
         out.push(Item::Word)?;
     }
-    Ok(())
-}
-
-/// The declaration of a type.
-#[tactic(auto, using(crate::proofs::DeclarationWalks::section_walks))]
-fn walk_type_declaration(out: &mut Vec<Item>, declared: &TypeDecl) -> Result<(), AllocError>
-    ensures { IfOk result (λ _. out.new.items ≡ out.old.items ++ items_of (type_decl_outline declared.now)) }
-{
-    out.push(Item::Begins(Construct::TypeDeclaration))?;
-    walk_identdef(out, declared.name)?;
-    out.push(Item::Word)?;
-    walk_type(out, &declared.form)?;
-    out.push(Item::Ends(Construct::TypeDeclaration))?;
     Ok(())
 }
 
@@ -83,20 +60,9 @@ fn walk_variables(out: &mut Vec<Item>, variables: &[VarDecl]) -> Result<(), Allo
 {
     out.push(Item::Word)?;
     for declared in variables {
-        walk_variable(out, declared)?;
+        walk_var(out, declared)?;
         out.push(Item::Word)?;
     }
-    Ok(())
-}
-
-/// The declaration of variables of one type.
-#[tactic(auto, using(crate::proofs::DeclarationWalks::section_walks))]
-fn walk_variable(out: &mut Vec<Item>, declared: &VarDecl) -> Result<(), AllocError>
-    ensures { IfOk result (λ _. out.new.items ≡ out.old.items ++ items_of (variable_outline declared.now)) }
-{
-    out.push(Item::Begins(Construct::VariableDeclaration))?;
-    walk_var(out, declared)?;
-    out.push(Item::Ends(Construct::VariableDeclaration))?;
     Ok(())
 }
 
@@ -129,14 +95,12 @@ fn walk_declarations(out: &mut Vec<Item>, declarations: &Declarations) -> Result
 fn walk_procedure(out: &mut Vec<Item>, procedure: &ProcDecl) -> Result<(), AllocError>
     ensures { IfOk result (λ _. out.new.items ≡ out.old.items ++ items_of (procedure_outline procedure.now)) }
 {
-    out.push(Item::Begins(Construct::ProcedureDeclaration))?;
     walk_heading(out, procedure.name, &procedure.parameters)?;
     walk_declarations(out, &procedure.declarations)?;
     walk_procedure_body(out, &procedure.body)?;
     walk_answer(out, &procedure.returned)?;
     out.push(Item::Word)?;
-    out.push(Item::Repeated(procedure.name.name, procedure.end_name))?;
-    out.push(Item::Ends(Construct::ProcedureDeclaration))?;
+    out.push(Item::Other(procedure.end_name))?;
     Ok(())
 }
 
@@ -193,16 +157,14 @@ fn walk_answer(out: &mut Vec<Item>, answer: &Option<Box<Expr>>) -> Result<(), Al
 fn walk_import(out: &mut Vec<Item>, import: ImportItem) -> Result<(), AllocError>
     ensures { IfOk result (λ _. out.new.items ≡ out.old.items ++ items_of (import_outline import)) }
 {
-    out.push(Item::Begins(Construct::Import))?;
     out.push(Item::Declared(import.name))?;
     match import.of {
         None => {}
         Some(number) => {
             out.push(Item::Word)?;
-            out.push(Item::Named(number))?;
+            out.push(Item::Other(number))?;
         }
     }
-    out.push(Item::Ends(Construct::Import))?;
     Ok(())
 }
 
@@ -249,13 +211,13 @@ pub(crate) fn walk_module(out: &mut Vec<Item>, module: &Module) -> Result<(), Al
     ensures { IfOk result (λ _. out.new.items ≡ out.old.items ++ items_of (module_outline «module».now)) }
 {
     out.push(Item::Word)?;
-    out.push(Item::Named(module.name))?;
+    out.push(Item::Other(module.name))?;
     out.push(Item::Word)?;
     walk_imports(out, &module.imports)?;
     walk_declarations(out, &module.declarations)?;
     walk_module_body(out, &module.body)?;
     out.push(Item::Word)?;
-    out.push(Item::Repeated(module.name, module.end_name))?;
+    out.push(Item::Other(module.end_name))?;
     out.push(Item::Word)?;
     Ok(())
 }

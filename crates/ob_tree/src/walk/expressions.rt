@@ -1,10 +1,9 @@
 //! The items of expressions and designators.
 
 ghost use Rattle.std.specs.Prelude.{◌≡◌, ◌++◌, IfOk};
-ghost use Rattle.ob_tree.specs.Derives.{items_of};
+ghost use Rattle.ob_tree.specs.Items.{items_of};
 ghost use Rattle.ob_tree.specs.Expressions.{factor_outline, selector_outline, designator_outline, element_outline, element_list_outline, expr_outline, expr_list_outline, sum_outline, term_outline};
 
-use crate::construct::Construct;
 use crate::expression::{
     Designator, Element, ElementList, Expr, ExprList, Factor, Selector, Sum, Term,
 };
@@ -16,7 +15,6 @@ use std::alloc::AllocError;
 pub(crate) fn walk_expr(out: &mut Vec<Item>, expr: &Expr) -> Result<(), AllocError>
     ensures { IfOk result (λ _. out.new.items ≡ out.old.items ++ items_of (expr_outline expr.now)) }
 {
-    out.push(Item::Begins(Construct::Expression))?;
     walk_sum(out, &expr.left)?;
     match &expr.compared {
         None => {}
@@ -25,7 +23,6 @@ pub(crate) fn walk_expr(out: &mut Vec<Item>, expr: &Expr) -> Result<(), AllocErr
             walk_sum(out, right)?;
         }
     }
-    out.push(Item::Ends(Construct::Expression))?;
     Ok(())
 }
 
@@ -65,7 +62,7 @@ fn walk_factor(out: &mut Vec<Item>, factor: &Factor) -> Result<(), AllocError>
     ensures { IfOk result (λ _. out.new.items ≡ out.old.items ++ items_of (factor_outline factor.now)) }
 {
     match factor {
-        Factor::Value(_, number) => out.push(Item::Value(*number))?,
+        Factor::Value(_, number) => out.push(Item::Other(*number))?,
         Factor::Nil => out.push(Item::Word)?,
         Factor::True => out.push(Item::Word)?,
         Factor::False => out.push(Item::Word)?,
@@ -143,7 +140,7 @@ fn walk_selector(out: &mut Vec<Item>, selector: &Selector) -> Result<(), AllocEr
     match selector {
         Selector::Field(number) => {
             out.push(Item::Word)?;
-            out.push(Item::Named(*number))?;
+            out.push(Item::Other(*number))?;
         }
         Selector::Index(list) => {
             out.push(Item::Word)?;

@@ -1,7 +1,7 @@
 //! The items of names.
 
 ghost use Rattle.std.specs.Prelude.{◌≡◌, ◌++◌, IfOk};
-ghost use Rattle.ob_tree.specs.Derives.{items_of};
+ghost use Rattle.ob_tree.specs.Items.{items_of};
 ghost use Rattle.ob_tree.specs.Names.{qualident_outline, identdef_outline};
 
 use crate::item::Item;
@@ -17,7 +17,7 @@ pub(crate) fn walk_qualident(out: &mut Vec<Item>, name: Qualident) -> Result<(),
         None => {}
         Some(number) => {
             out.push(Item::Word)?;
-            out.push(Item::Named(number))?;
+            out.push(Item::Other(number))?;
         }
     }
     Ok(())

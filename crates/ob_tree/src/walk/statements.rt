@@ -2,7 +2,7 @@
 
 ghost use Rattle.std.specs.Prelude.{◌≡◌, ◌++◌, IfOk};
 ghost use Rattle.ob_scan.specs.declared.kind.Kind.TheVariants as kinds;
-ghost use Rattle.ob_tree.specs.Derives.{items_of};
+ghost use Rattle.ob_tree.specs.Items.{items_of};
 ghost use Rattle.ob_tree.specs.Marks.{word, if_there, each_after};
 ghost use Rattle.ob_tree.specs.Statements.{label_outline, label_range_outline, case_outline, stmt_outline, block_outline, branch_outline, for_outline};
 
@@ -17,8 +17,8 @@ fn walk_label(out: &mut Vec<Item>, label: Label) -> Result<(), AllocError>
     ensures { IfOk result (λ _. out.new.items ≡ out.old.items ++ items_of (label_outline label)) }
 {
     match label {
-        Label::Integer(number) => out.push(Item::Value(number))?,
-        Label::Text(number) => out.push(Item::Value(number))?,
+        Label::Integer(number) => out.push(Item::Other(number))?,
+        Label::Text(number) => out.push(Item::Other(number))?,
         Label::Name(name) => walk_qualident(out, name)?,
     }
     Ok(())

@@ -2,12 +2,10 @@
 
 ghost use Rattle.std.specs.Prelude.{◌≡◌, ◌++◌, IfOk};
 ghost use Rattle.ob_scan.specs.declared.kind.Kind.TheVariants as kinds;
-ghost use Rattle.ob_tree.specs.Derives.{items_of};
-ghost use Rattle.ob_tree.specs.Marks.{construct, declared, if_so, listed, word, times};
-ghost use Rattle.ob_tree.specs.declared.construct.Construct.TheVariants as constructs;
+ghost use Rattle.ob_tree.specs.Items.{items_of};
+ghost use Rattle.ob_tree.specs.Marks.{declared, if_so, listed, word, times};
 ghost use Rattle.ob_tree.specs.Types.{section_outline, parameters_outline, type_outline, fields_outline, record_outline, var_outline};
 
-use crate::construct::Construct;
 use crate::declaration::{Fields, ParameterSection, Parameters, Record, TypeForm, VarDecl};
 use crate::item::Item;
 use crate::walk::expressions::walk_expr_list;
@@ -46,12 +44,10 @@ fn walk_section_names(out: &mut Vec<Item>, section: &ParameterSection) -> Result
 fn walk_section(out: &mut Vec<Item>, section: &ParameterSection) -> Result<(), AllocError>
     ensures { IfOk result (λ _. out.new.items ≡ out.old.items ++ items_of (section_outline section.now)) }
 {
-    out.push(Item::Begins(Construct::FPSection))?;
     walk_section_names(out, section)?;
     out.push(Item::Word)?;
     walk_open_arrays(out, section.open_arrays)?;
     walk_qualident(out, section.of)?;
-    out.push(Item::Ends(Construct::FPSection))?;
     Ok(())
 }
 
@@ -89,7 +85,6 @@ pub(crate) fn walk_parameters(
 pub(crate) fn walk_type(out: &mut Vec<Item>, form: &TypeForm) -> Result<(), AllocError>
     ensures { IfOk result (λ _. out.new.items ≡ out.old.items ++ items_of (type_outline form.now)) }
 {
-    out.push(Item::Begins(Construct::TypeForm))?;
     match form {
         TypeForm::Named(name) => walk_qualident(out, *name)?,
         TypeForm::ArrayOf(lengths, of) => {
@@ -112,7 +107,6 @@ pub(crate) fn walk_type(out: &mut Vec<Item>, form: &TypeForm) -> Result<(), Allo
             }
         }
     }
-    out.push(Item::Ends(Construct::TypeForm))?;
     Ok(())
 }
 
@@ -143,26 +137,14 @@ fn walk_record(out: &mut Vec<Item>, form: &Record) -> Result<(), AllocError>
 fn walk_fields(out: &mut Vec<Item>, fields: &Fields) -> Result<(), AllocError>
     ensures { IfOk result (λ _. out.new.items ≡ out.old.items ++ items_of (fields_outline fields.now)) }
 {
-    walk_field(out, &fields.first)?;
+    walk_var(out, &fields.first)?;
     for field in &fields.rest {
         out.push(Item::Word)?;
-        walk_field(out, field)?;
+        walk_var(out, field)?;
     }
     if fields.closing_semicolon {
         out.push(Item::Word)?;
     }
-    Ok(())
-}
-
-/// A field list of a record.
-#[cycle(types)]
-#[tactic(auto, using(crate::proofs::TypeWalks::type_walks))]
-fn walk_field(out: &mut Vec<Item>, field: &VarDecl) -> Result<(), AllocError>
-    ensures { IfOk result (λ _. out.new.items ≡ out.old.items ++ items_of (construct constructs.FieldList (var_outline field.now))) }
-{
-    out.push(Item::Begins(Construct::FieldList))?;
-    walk_var(out, field)?;
-    out.push(Item::Ends(Construct::FieldList))?;
     Ok(())
 }
 

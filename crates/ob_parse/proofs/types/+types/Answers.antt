@@ -2,7 +2,7 @@ use Rattle.std.proofs.Common.{ℕ, refl, sym, ap, ◌∙◌}
 use Rattle.std.proofs.lemmas.Result.{err_from_is_err_and}
 use Rattle.ob_scan.specs.declared.kind.Kind.TheVariants as kinds
 use Rattle.ob_tree.specs.declared.declaration.VarDecl.{VarDecl}
-use Rattle.ob_tree.specs.declared.construct.Construct.TheVariants as constructs
+use Rattle.ob_tree.specs.Constructs as constructs
 use Rattle.ob_tree.specs.Marks.{Out, construct, each_after}
 use Rattle.ob_tree.specs.Types.{var_outline}
 use Rattle.ob_parse.specs.Forms.{Reader, many, node}

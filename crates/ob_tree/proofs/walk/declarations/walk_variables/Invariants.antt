@@ -1,6 +1,6 @@
 use Rattle.std.proofs.Common.{◌≡◌, ◌++◌, take}
 use Rattle.ob_scan.specs.declared.kind.Kind.TheVariants as kinds
-use Rattle.ob_tree.specs.Derives.{items_of}
+use Rattle.ob_tree.specs.Items.{items_of}
 use Rattle.ob_tree.specs.Marks.{word, each}
 use Rattle.ob_tree.specs.Declaring.{variable_outline}
 use Rattle.ob_tree.proofs.walk.declarations.walk_variables.Given as goal

@@ -1,6 +1,6 @@
 use Rattle.std.proofs.Common.{◌≡◌, ◌++◌, take}
 use Rattle.ob_scan.specs.declared.kind.Kind.TheVariants as kinds
-use Rattle.ob_tree.specs.Derives.{items_of}
+use Rattle.ob_tree.specs.Items.{items_of}
 use Rattle.ob_tree.specs.Marks.{word, each, each_after}
 use Rattle.ob_tree.specs.Expressions.{add_kind, mul_kind, factor_outline, term_outline, element_outline, expr_outline, selector_outline}
 use Rattle.ob_tree.proofs.walk.expressions.+expressions.Given as goal

@@ -1,0 +1,35 @@
+-- The tokens of an outline, each with what it does where it stands.
+use Rattle.std.specs.Prelude.{ℕ, ◌+◌, List, [], ◌∷◌, Option, Some, None}
+use Rattle.ob_tree.specs.declared.item.Item.{Item}
+use Rattle.ob_tree.specs.declared.item.Item.TheVariants as items
+use Rattle.ob_tree.specs.Marks.{Out, Begins, Ends, Identifier, Value, Word, Declares, Uses, Names, Repeats}
+
+abbrev pub items_of : Out → List Item
+items_of [] = []
+items_of (Begins c n ∷ ms) = items_of ms
+items_of (Ends c ∷ ms) = items_of ms
+items_of (Identifier Declares n ∷ ms) = items.Declared n ∷ items_of ms
+items_of (Identifier Uses n ∷ ms) = items.Used n ∷ items_of ms
+items_of (Identifier Names n ∷ ms) = items.Other n ∷ items_of ms
+items_of (Identifier (Repeats name) n ∷ ms) = items.Other n ∷ items_of ms
+items_of (Value k n ∷ ms) = items.Other n ∷ items_of ms
+items_of (Word k ∷ ms) = items.Word ∷ items_of ms
+
+-- the number of a token: a word's is that of its place
+abbrev pub number_at : ℕ → Item → ℕ
+number_at at (items.Declared n) = n
+number_at at (items.Used n) = n
+number_at at (items.Other n) = n
+number_at at items.Word = at
+
+abbrev pub declared_by : Item → Option ℕ
+declared_by (items.Declared n) = Some n
+declared_by (items.Used n) = None
+declared_by (items.Other n) = None
+declared_by items.Word = None
+
+abbrev pub used_by : Item → Option ℕ
+used_by (items.Declared n) = None
+used_by (items.Used n) = Some n
+used_by (items.Other n) = None
+used_by items.Word = None
