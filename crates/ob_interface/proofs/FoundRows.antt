@@ -1,6 +1,6 @@
 -- What is found by a name in an interface, and the rows that declare it.
 use Rattle.std.proofs.Common.{◌≡◌, ℕ, zero, suc, ◌<◌, ◌≤◌, List, [], ◌∷◌, Bool, true, false, cond, Option, Some, None, refl, sym, ap, ◌∙◌, subst, arith, ◌⊎◌, inl, inr}
-use Rattle.std.specs.Prelude.{◌↔◌, Contains, find, nat_eq, slice_get, ◌==◌, ◌&&◌}
+use Rattle.std.specs.Prelude.{◌↔◌, Contains, find, nat_eq, slice_get, ◌==◌}
 use Rattle.std.specs.List.{cons_option, filter_map}
 use Rattle.std.specs.Option.{option_and_then, option_eq, option_map_or}
 use Rattle.std.specs.Str.{bytes_eq}
@@ -86,8 +86,8 @@ module _ {X : Type 0} (n : X → ℕ) (p : X → Bool) where
         | inr not_below ↦ elim (cases_lt j i) [
           | inl above ↦ (let less = up j i y x above at_y at_x in absurd (omega arith))
           | inr not_above ↦ (let same : i ≡ j = omega arith in
-                             let e : Some x ≡ Some y = sym at_x ∙ ap (slice_get xs) same ∙ at_y in
-                             cc)
+              let e : Some x ≡ Some y = sym at_x ∙ ap (slice_get xs) same ∙ at_y in
+              cc)
         ]
       ]
 
