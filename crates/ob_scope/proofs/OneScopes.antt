@@ -1,12 +1,12 @@
 -- The scopes of a module are one.
-use Rattle.std.proofs.Common.{◌≡◌, ℕ, zero, suc, ◌<◌, ◌⊎◌, inl, inr, List, [], ◌∷◌, length, slice_get, Some, Contains, refl, sym, ap, ap₂, ◌∙◌, subst, arith}
+use Rattle.std.proofs.Common.{◌≡◌, ℕ, zero, suc, ◌<◌, ◌⊎◌, inl, inr, List, [], ◌∷◌, length, slice_get, Some, Contains, refl, sym, ap, ap₂, ◌∙◌, arith}
 use Rattle.std.proofs.lemmas.Option.{slice_get_within}
 use Rattle.ob_scan.specs.declared.token.Token.{Token}
 use Rattle.ob_decls.specs.Order.{AscendBy}
 use Rattle.ob_decls.specs.Parts.{Rows}
 use Rattle.ob_scope.specs.Counted.{IsQualifiedBy}
 use Rattle.ob_scope.specs.Members.{members_of}
-use Rattle.ob_scope.specs.Scoped.{AliasUses, AreScopes, IsAlias, Meaning, ModuleScopes}
+use Rattle.ob_scope.specs.Scoped.{AliasUses, AreScopes, Meaning, ModuleScopes}
 use Rattle.ob_scope.specs.Texts.{text_at}
 use Rattle.ob_scope.proofs.Counting.{counts-once}
 use Rattle.ob_scope.proofs.Elements.{contains_slice, slice_contains, slice_there}
@@ -47,9 +47,9 @@ module _ {X : Type 0} (n : X → ℕ) where
   behind : (x y z : X) (xs ys : List X) → AscendBy n (x ∷ xs) → AscendBy n (y ∷ ys) → x ≡ y → Contains xs z → Contains (y ∷ ys) z → Contains ys z
   behind x y z xs ys a b same here there = elim (first_or_later y z ys b there) [
     | inl e ↦ (let at = slice_contains xs z here in
-               let above : n x < n z = a zero (suc at.0) x z (omega arith) refl at.1 in
-               let level : n x ≡ n z = ap n (same ∙ e) in
-               absurd (omega arith))
+        let above : n x < n z = a zero (suc at.0) x z (omega arith) refl at.1 in
+        let level : n x ≡ n z = ap n (same ∙ e) in
+        absurd (omega arith))
     | inr h ↦ h.1
   ]
 

@@ -1,10 +1,9 @@
 -- The references of a module are one list.
-use Rattle.std.proofs.Common.{◌≡◌, ℕ, List, [], ◌∷◌, length, map, refl, sym, ap, ap₂, ◌∙◌, subst, arith}
+use Rattle.std.proofs.Common.{◌≡◌, ℕ, List, [], ◌∷◌, length, map, refl, sym, ap, ap₂, ◌∙◌, subst}
 use Rattle.std.specs.List.{All}
 use Rattle.std.proofs.lemmas.List.Elements.{All-head, All-tail}
 use Rattle.ob_types.specs.World.{World}
 use Rattle.ob_targets.specs.declared.target.Reference.{Reference}
-use Rattle.ob_targets.specs.declared.target.Target.{Target}
 use Rattle.ob_targets.specs.Refers.{AreReferences, Refers}
 use Rattle.ob_targets.proofs.Referred.{role_once, target_once}
 
