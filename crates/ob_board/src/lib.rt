@@ -7,6 +7,7 @@ mod entry;
 mod files;
 mod found;
 mod indexing;
+pub mod laws;
 mod listing;
 mod made;
 mod named_index;

@@ -5,3 +5,4 @@ pub mod Ranks
 pub mod Ordered
 pub mod LookedUp
 pub mod Made
+pub mod FoundRows

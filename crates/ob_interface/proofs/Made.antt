@@ -25,25 +25,25 @@ length_map : {X Y : Type 0} (f : X → Y) (xs : List X) → length (map f xs) �
 length_map f [] = refl
 length_map f (x ∷ xs) = ap (λ (n : ℕ). suc n) (length_map f xs)
 
-same_option : (o : Option ℕ) → option_eq nat_eq o o ≡ true
+pub same_option : (o : Option ℕ) → option_eq nat_eq o o ≡ true
 same_option None = refl
 same_option (Some x) = eq-eqb x x refl
 
-option_is : (a b : Option ℕ) → option_eq nat_eq a b ≡ true → a ≡ b
+pub option_is : (a b : Option ℕ) → option_eq nat_eq a b ≡ true → a ≡ b
 option_is None None e = refl
 option_is None (Some y) e = cc
 option_is (Some x) None e = cc
 option_is (Some x) (Some y) e = ap (λ (v : ℕ). Some v) (eqb-true x y e)
 
-left : (a b : Bool) → (a && b) ≡ true → a ≡ true
+pub left : (a b : Bool) → (a && b) ≡ true → a ≡ true
 left true b e = refl
 left false b e = cc
 
-right : (a b : Bool) → (a && b) ≡ true → b ≡ true
+pub right : (a b : Bool) → (a && b) ≡ true → b ≡ true
 right true b e = e
 right false b e = cc
 
-both_true : (a b : Bool) → a ≡ true → b ≡ true → (a && b) ≡ true
+pub both_true : (a b : Bool) → a ≡ true → b ≡ true → (a && b) ≡ true
 both_true true b e f = f
 both_true false b e f = cc
 

@@ -6,3 +6,4 @@ pub mod Orders
 pub mod Answered
 pub mod Indexed
 pub mod Placed
+pub mod OwnTable

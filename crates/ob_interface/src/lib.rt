@@ -10,6 +10,7 @@ mod answers;
 mod entries;
 mod forms;
 mod interface;
+pub mod laws;
 mod members;
 mod order;
 mod outers;

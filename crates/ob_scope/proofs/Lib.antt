@@ -18,3 +18,4 @@ pub mod Opening
 pub mod Sighting
 pub mod Numberings
 pub mod SightSteps
+pub mod OneScopes

@@ -64,3 +64,8 @@ pub fn one_crossings()
     ensures { (name : ℕ → List ℕ) (rows : Rows) (imported : List ℕ) (cs ds : List Crossing) →
         AreCrossings name rows imported rows.uses cs → AreCrossings name rows imported rows.uses ds → cs ≡ ds }
 {}
+
+/// The bytes, tokens and rows of a module have one value of scopes.
+pub fn one_scopes()
+    ensures { (bytes : List ℕ) (ts : List Token) (rows : Rows) (s t : ModuleScopes) → AreScopes bytes ts rows s → AreScopes bytes ts rows t → s ≡ t }
+{}

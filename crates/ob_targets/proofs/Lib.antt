@@ -1,3 +1,4 @@
 pub mod Followed
 pub mod Referred
 pub mod Unresolved
+pub mod OneReferences

@@ -16,3 +16,8 @@ pub fn one_target()
 pub fn unresolved_identifiers()
     ensures { (w : World) (rs : List Reference) (k : ℕ) → AreReferences w rs → Contains (unresolved rs) k ↔ StandsForNothing w k }
 {}
+
+/// A module has one list of references.
+pub fn one_references()
+    ensures { (w : World) (rs ss : List Reference) → AreReferences w rs → AreReferences w ss → rs ≡ ss }
+{}

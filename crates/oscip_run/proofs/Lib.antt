@@ -7,3 +7,4 @@ pub mod NoRefusal
 pub mod CrossingRuns
 pub mod IndexRuns
 pub mod Packages
+pub mod SameBytes

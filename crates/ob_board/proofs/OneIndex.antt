@@ -1,0 +1,124 @@
+-- A tree has one list of entries, one index, and one list of identifiers that stand for nothing.
+use Rattle.std.proofs.Common.{◌≡◌, ℕ, List, [], ◌∷◌, length, map, refl, sym, ap, ap₂, ◌∙◌, subst, arith, Some}
+use Rattle.std.specs.Prelude.{AllPairs, Contains, slice_get}
+use Rattle.std.specs.Cmp.Lexicographic.{slice_cmp}
+use Rattle.std.specs.List.{flat_map}
+use Rattle.std.specs.Ordering.{nat_cmp}
+use Rattle.std.specs.declared.cmp.Ordering.TheVariants.{Less}
+use Rattle.std.proofs.lemmas.Option.{slice_get_within}
+use Rattle.ob_emit.proofs.Positions.{position_column}
+use Rattle.ob_emit.specs.Documents.{document_of}
+use Rattle.ob_emit.specs.Externals.{externals_in, AreExternals}
+use Rattle.ob_scan.specs.declared.token.Token.{Token}
+use Rattle.ob_scope.proofs.OneScopes.{each_same, one_scopes}
+use Rattle.ob_scope.specs.Texts.{token_at}
+use Rattle.ob_targets.proofs.OneReferences.{one_references}
+use Rattle.ob_targets.specs.declared.target.Reference.{Reference}
+use Rattle.ob_targets.specs.Refers.{unresolved, AreReferences}
+use Rattle.ob_types.specs.World.{world, World}
+use Rattle.oscip_tree.proofs.TreeFiles.{there}
+use Rattle.oscip_tree.specs.declared.source.Source.{Source}
+use Rattle.scip_index.specs.Plain.{PlainDocument, PlainIndex, PlainSymbol}
+use Rattle.tree_board.specs.Reached.{names, seen_of, SeenFile}
+use Rattle.ob_board.specs.Entries.{AreEntriesOf, IsEntry, PlainEntry}
+use Rattle.ob_board.specs.Indexes.{AreEntries, IsIndex, IsIndexOf, IsMadeOf}
+use Rattle.ob_board.specs.Resolved.{AreResolved}
+use Rattle.ob_board.specs.Unresolved.{AreRows, AreUnresolved, IsRow, IsUnresolvedIn, IsUnresolvedOf, PlainUnresolved}
+use Rattle.ob_board.proofs.OneExternals.{one_externals}
+use Rattle.ob_board.proofs.OneTree.{one_reached, one_tree}
+
+-- ---- of one file of the tree
+
+module _ (files : List SeenFile) (file : SeenFile) where
+  abbrev world_of : (refs : List Reference) → AreResolved files file refs → World
+  world_of refs r = world file.bytes file.tokens file.rows r.scopes r.reached
+
+  same_world : (refs others : List Reference) (a : AreResolved files file refs) (b : AreResolved files file others) → world_of refs a ≡ world_of others b
+  same_world refs others a b =
+      ap₂ (world file.bytes file.tokens file.rows)
+      (one_scopes file.bytes file.tokens file.rows a.scopes b.scopes a.are_scopes b.are_scopes)
+      (one_reached files (names file 1) a.reached b.reached a.are_reached b.are_reached)
+
+  same_references : (refs others : List Reference) → AreResolved files file refs → AreResolved files file others → refs ≡ others
+  same_references refs others a b =
+      let here : AreReferences (world_of refs a) others = subst (λ (w : World). AreReferences w others) (sym (same_world refs others a b)) b.are_references in
+      one_references (world_of refs a) refs others a.are_references here
+
+  one_entry : (package_name : List ℕ) (e f : PlainEntry) → IsEntry files package_name file e → IsEntry files package_name file f → e ≡ f
+  one_entry package_name e f a b =
+      let w : world_of a.refs a.resolved ≡ world_of b.refs b.resolved = same_world a.refs b.refs a.resolved b.resolved in
+      let refs : a.refs ≡ b.refs = same_references a.refs b.refs a.resolved b.resolved in
+      let documents : e.document ≡ f.document =
+        a.are.document_is ∙ ap₂ (λ (v : World) (rs : List Reference). document_of v file.path package_name rs) w refs ∙ sym b.are.document_is in
+      let of : AreExternals (externals_in (world_of a.refs a.resolved) a.refs) f.externals =
+        subst (λ (xs : List PlainSymbol). AreExternals xs f.externals) (sym (ap₂ externals_in w refs)) b.are.externals_are in
+      let externals : e.externals ≡ f.externals = one_externals (externals_in (world_of a.refs a.resolved) a.refs) e.externals f.externals a.are.externals_are of in
+      λ i. record { name = (a.name_is ∙ sym b.name_is) i; document = documents i; interface = (a.interface_is ∙ sym b.interface_is) i; externals = externals i }
+
+-- ---- entries and the index
+
+one_entries_of : (files : List SeenFile) (package_name : List ℕ) (entries others : List PlainEntry) → AreEntriesOf files package_name entries → AreEntriesOf files package_name others → entries ≡ others
+one_entries_of files package_name entries others a b =
+    each_same entries others (a.as_many ∙ sym b.as_many) (λ k e f at_e at_f.
+    let within = slice_get_within entries k e at_e in
+    let many = a.as_many in
+    let (file, at) = there files k (omega arith) in
+    one_entry files file package_name e f (a.each k file e at at_e) (b.each k file f at at_f))
+
+one_index_of : (files : List SeenFile) (package_name root : List ℕ) (index other : PlainIndex) → IsIndexOf files package_name root index → IsIndexOf files package_name root other → index ≡ other
+one_index_of files package_name root index other a b =
+    let entries : a.entries ≡ b.entries = one_entries_of files package_name a.entries b.entries a.are_entries b.are_entries in
+    let made : IsMadeOf a.entries root other = subst (λ (es : List PlainEntry). IsMadeOf es root other) (sym entries) b.made in
+    let externals : index.external_symbols ≡ other.external_symbols =
+      one_externals (flat_map (λ (e : PlainEntry). e.externals) a.entries) index.external_symbols other.external_symbols a.made.externals made.externals in
+    λ i. record { metadata = (a.made.metadata ∙ sym made.metadata) i; documents = (a.made.documents ∙ sym made.documents) i; external_symbols = externals i }
+
+module _ (sources : List Source) where
+  pub one_entries : (package_name : List ℕ) (entries others : List PlainEntry) → AreEntries sources package_name entries → AreEntries sources package_name others → entries ≡ others
+  one_entries package_name entries others a b =
+      let files = one_tree sources a.files b.files a.is_tree.accepted b.is_tree.accepted in
+      one_entries_of (map seen_of a.files) package_name entries others a.are_entries (subst (λ (fs : List SeenFile). AreEntriesOf fs package_name others) (sym files) b.are_entries)
+
+  pub one_index : (package_name root : List ℕ) (index other : PlainIndex) → IsIndex sources package_name root index → IsIndex sources package_name root other → index ≡ other
+  one_index package_name root index other a b =
+      let files = one_tree sources a.files b.files a.is_tree.accepted b.is_tree.accepted in
+      one_index_of (map seen_of a.files) package_name root index other a.is_index (subst (λ (fs : List SeenFile). IsIndexOf fs package_name root other) (sym files) b.is_index)
+
+-- ---- identifiers that stand for nothing
+
+one_row : (path bytes : List ℕ) (tokens : List Token) (k : ℕ) (row other : PlainUnresolved) → IsRow path bytes tokens k row → IsRow path bytes tokens k other → row ≡ other
+one_row path bytes tokens k row other a b =
+    let at = (token_at tokens k).start in
+    let lines : row.line ≡ other.line = a.position.line_is ∙ sym b.position.line_is in
+    let columns : row.column ≡ other.column = position_column bytes at row.line row.column a.position ∙ sym (position_column bytes at other.line other.column b.position) in
+    λ i. record { path = (a.path_is ∙ sym b.path_is) i; line = lines i; column = columns i; name = (a.name_is ∙ sym b.name_is) i }
+
+one_rows : (path bytes : List ℕ) (tokens : List Token) (ks : List ℕ) (rows others : List PlainUnresolved) → AreRows path bytes tokens ks rows → AreRows path bytes tokens ks others → rows ≡ others
+one_rows path bytes tokens [] [] [] a b = refl
+one_rows path bytes tokens [] [] (other ∷ others) a b = absurd b
+one_rows path bytes tokens [] (row ∷ rows) others a b = absurd a
+one_rows path bytes tokens (k ∷ ks) [] others a b = absurd a
+one_rows path bytes tokens (k ∷ ks) (row ∷ rows) [] a b = absurd b
+one_rows path bytes tokens (k ∷ ks) (row ∷ rows) (other ∷ others) a b =
+    ap₂ (λ (r : PlainUnresolved) (rs : List PlainUnresolved). r ∷ rs) (one_row path bytes tokens k row other a.0 b.0) (one_rows path bytes tokens ks rows others a.1 b.1)
+
+one_part : (files : List SeenFile) (file : SeenFile) (rows others : List PlainUnresolved) → IsUnresolvedIn files file rows → IsUnresolvedIn files file others → rows ≡ others
+one_part files file rows others a b =
+    let refs : a.refs ≡ b.refs = same_references files file a.refs b.refs a.resolved b.resolved in
+    let here : AreRows file.path file.bytes file.tokens (unresolved a.refs) others = subst (λ (rs : List Reference). AreRows file.path file.bytes file.tokens (unresolved rs) others) (sym refs) b.are_rows in
+    one_rows file.path file.bytes file.tokens (unresolved a.refs) rows others a.are_rows here
+
+one_unresolved_of : (files : List SeenFile) (rows others : List PlainUnresolved) → IsUnresolvedOf files rows → IsUnresolvedOf files others → rows ≡ others
+one_unresolved_of files rows others a b =
+    let parts : a.parts ≡ b.parts =
+      each_same a.parts b.parts (a.as_many ∙ sym b.as_many) (λ k part other at_part at_other.
+      let within = slice_get_within a.parts k part at_part in
+      let many = a.as_many in
+      let (file, at) = there files k (omega arith) in
+      one_part files file part other (a.each k file part at at_part) (b.each k file other at at_other)) in
+    a.whole ∙ ap (flat_map (λ (part : List PlainUnresolved). part)) parts ∙ sym b.whole
+
+pub one_unresolved : (sources : List Source) (rows others : List PlainUnresolved) → AreUnresolved sources rows → AreUnresolved sources others → rows ≡ others
+one_unresolved sources rows others a b =
+    let files = one_tree sources a.files b.files a.is_tree.accepted b.is_tree.accepted in
+    one_unresolved_of (map seen_of a.files) rows others a.are_rows (subst (λ (fs : List SeenFile). IsUnresolvedOf fs others) (sym files) b.are_rows)

@@ -1,0 +1,24 @@
+//! Laws of what is made of a tree: it is one, whoever makes it. Each function is a law: its body is empty, and its contract is proved.
+ghost use Rattle.std.specs.Prelude.{◌≡◌, ℕ, List};
+ghost use Rattle.oscip_tree.specs.declared.source.Source.{Source};
+ghost use Rattle.scip_index.specs.Plain.{PlainIndex};
+ghost use Rattle.ob_board.specs.Entries.{PlainEntry};
+ghost use Rattle.ob_board.specs.Indexes.{AreEntries, IsIndex};
+ghost use Rattle.ob_board.specs.Unresolved.{AreUnresolved, PlainUnresolved};
+
+/// A tree, a package and a root have one index.
+pub fn one_index()
+    ensures { (sources : List Source) (package_name root : List ℕ) (index other : PlainIndex) →
+        IsIndex sources package_name root index → IsIndex sources package_name root other → index ≡ other }
+{}
+
+/// A tree and a package have one list of entries.
+pub fn one_entries()
+    ensures { (sources : List Source) (package_name : List ℕ) (entries others : List PlainEntry) →
+        AreEntries sources package_name entries → AreEntries sources package_name others → entries ≡ others }
+{}
+
+/// A tree has one list of identifiers that stand for nothing.
+pub fn one_unresolved()
+    ensures { (sources : List Source) (rows others : List PlainUnresolved) → AreUnresolved sources rows → AreUnresolved sources others → rows ≡ others }
+{}

@@ -1,0 +1,25 @@
+-- What runs put of a tree is one text.
+use Rattle.std.proofs.Common.{◌≡◌, ℕ, List, ◌++◌, Option, Some, None, sym, ap, ◌∙◌}
+use Rattle.std.specs.Prelude.{codes}
+use Rattle.hex.specs.Hex.{encode_lower}
+use Rattle.ob_board.proofs.OneIndex.{one_index, one_unresolved}
+use Rattle.oscip_run.specs.IndexRuns.{unresolved_lines, IsHexText, IsIndexText, IsUnresolvedText, PutsText}
+use Rattle.oscip_tree.specs.declared.source.Source.{Source}
+use Rattle.scip_index.specs.Written.{written}
+
+pub puts_same : (IsText : List ℕ → Type 0) → ((text other : List ℕ) → IsText text → IsText other → text ≡ other) → (before : List ℕ) (new other : Option (List ℕ))
+    → PutsText IsText (Some before) new → PutsText IsText (Some before) other → new ≡ other
+puts_same IsText one before None other (t, is, bad) b = absurd bad
+puts_same IsText one before (Some xs) None a (u, is, bad) = absurd bad
+puts_same IsText one before (Some xs) (Some ys) (t, is_t, e) (u, is_u, f) = ap Some (e ∙ ap (λ (z : List ℕ). before ++ z) (one t u is_t is_u) ∙ sym f)
+
+module _ (sources : List Source) where
+  pub index_once : (package_name root text other : List ℕ) → IsIndexText sources package_name root text → IsIndexText sources package_name root other → text ≡ other
+  index_once package_name root text other a b = a.text_is ∙ ap written (one_index sources package_name root a.index b.index a.is_index b.is_index) ∙ sym b.text_is
+
+  pub hex_once : (package_name root text other : List ℕ) → IsHexText sources package_name root text → IsHexText sources package_name root other → text ≡ other
+  hex_once package_name root text other a b =
+      a.text_is ∙ ap (λ (bytes : List ℕ). encode_lower bytes ++ codes "\n") (index_once package_name root a.bytes b.bytes a.is_index b.is_index) ∙ sym b.text_is
+
+  pub unresolved_once : (text other : List ℕ) → IsUnresolvedText sources text → IsUnresolvedText sources other → text ≡ other
+  unresolved_once text other a b = a.text_is ∙ ap unresolved_lines (one_unresolved sources a.rows b.rows a.are_rows b.are_rows) ∙ sym b.text_is
