@@ -4,7 +4,7 @@ use Rattle.std.specs.Option.{option_map}
 use Rattle.ob_interface.specs.declared.interface.Interface.{Interface}
 use Rattle.std.specs.Borrow.{Bor}
 use Rattle.ob_emit.proofs.Naming.{reached_named, step_names}
-use Rattle.ob_emit.proofs.own_texts.Texts.imported.Goals as goal
+use Rattle.ob_emit.proofs.imported_texts.imported_text.Goals as goal
 
 pub path_text-requires-clause-named : goal.path_text-requires-clause-named
 path_text-requires-clause-named c =
