@@ -28,12 +28,14 @@ class Block:
 
 
 class Decl:
-    """What an identifier is declared as. Fields stand in a record, all else in a block."""
+    """What an identifier is declared as. Fields stand in a record, all else in a block. `whole` are the first token and the last of its
+    declaration."""
 
     def __init__(self, token, sort, block, star=False, record=None):
         self.token, self.sort, self.block, self.star, self.record = token, sort, block, star, record
         self.form = None
         self.module = None
+        self.whole = None
 
 
 class Record:
@@ -107,6 +109,10 @@ class Module:
         (record.fields if record else block.declared).append(decl)
         return decl
 
+    def end(self, first, found):
+        for it in found:
+            it.whole = (first, self.at - 1)
+
     def identdef(self, sort, block, record=None):
         token = self.take("name")
         return self.declare(token, sort, block, self.has("*"), record)
@@ -155,15 +161,17 @@ class Module:
     def declarations(self, block):
         if self.has("CONST"):
             while self.peek() == "name":
-                self.identdef("constant", block)
+                decl = self.identdef("constant", block)
                 self.take("=")
                 self.expression(block)
+                self.end(decl.token, [decl])
                 self.take(";")
         if self.has("TYPE"):
             while self.peek() == "name":
                 decl = self.identdef("type", block)
                 self.take("=")
                 decl.form = self.form(block, decl)
+                self.end(decl.token, [decl])
                 self.take(";")
         if self.has("VAR"):
             while self.peek() == "name":
@@ -179,8 +187,10 @@ class Module:
         form = self.form(block, found[0])
         for it in found:
             it.form = form
+        self.end(found[0].token, found)
 
     def procedure(self, outer):
+        first = self.at
         self.take("PROCEDURE")
         decl = self.identdef("procedure", outer)
         block = Block(outer)
@@ -194,11 +204,13 @@ class Module:
             self.expression(block)
         self.take("END")
         self.ends[self.take("name")] = decl
+        self.end(first, [decl])
 
     def parameters(self, block):
         self.take("(")
         if self.peek() != ")":
             while True:
+                first = self.at
                 self.has("VAR")
                 found = [self.declare(self.take("name"), "parameter", block)]
                 while self.has(","):
@@ -213,6 +225,7 @@ class Module:
                     form = ("array", form)
                 for it in found:
                     it.form = form
+                self.end(first, found)
                 if not self.has(";"):
                     break
         self.take(")")
@@ -576,10 +589,12 @@ class Tree:
 
     # ---- the index
 
-    def span(self, m, token):
-        it = m.tokens[token]
-        (line, column), (last, end) = m.place(it.start), m.place(it.end)
-        return [line, column, end] if line == last else [line, column, last, end]
+    def span(self, m, first, behind):
+        (line, column), (last, end) = m.place(m.tokens[first].start), m.place(m.tokens[behind].end)
+        return b"".join(map(varint, [line, column, end] if line == last else [line, column, last, end]))
+
+    def whole(self, m, target):
+        return target[1].whole if target[0] == "decl" else (0, len(m.tokens) - 1)
 
     def document(self, m, package):
         found, symbols = b"", b""
@@ -589,7 +604,8 @@ class Tree:
                 continue
             key = target if target[0] != "decl" else target[1]
             text = texts.get(key) or texts.setdefault(key, self.symbol(target, package))
-            found += part(2, part(1, b"".join(map(varint, self.span(m, token)))) + part(2, text.encode()) + number(3, role))
+            enclosing = part(7, self.span(m, *self.whole(m, target))) if role == 1 else b""
+            found += part(2, part(1, self.span(m, token, token)) + part(2, text.encode()) + number(3, role) + enclosing)
             if role == 1:
                 symbols += part(3, part(1, text.encode()) + part(6, m.word(token).encode()))
         return part(1, m.path.encode()) + found + symbols + part(4, b"Oberon") + number(6, 1)

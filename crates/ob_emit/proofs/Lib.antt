@@ -1,3 +1,4 @@
+pub mod ImportedTexts
 pub mod Declarers
 pub mod ExternalOrder
 pub mod ExternalTexts

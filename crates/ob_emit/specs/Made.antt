@@ -1,14 +1,16 @@
 -- What the texts of symbols are made from.
-use Rattle.std.specs.Prelude.{◌≡◌, ◌<◌, ℕ, List, [], ◌++◌, length, map, Option, Some, None, Bool, true, false, slice_get}
+use Rattle.std.specs.Prelude.{◌≡◌, ◌<◌, ℕ, List, [], ◌++◌, length, map, Option, Some, None, Bool, true, false, slice_get, nat_eq, ◌&&◌, String}
 use Rattle.std.specs.List.{flat_map}
 use Rattle.std.specs.Option.{option_map}
 use Rattle.std.specs.String.{string_bytes}
+use Rattle.std.specs.declared.alloc.Global.{Global}
+use Rattle.indexmap.specs.IndexMap.{get, IndexMap}
 use Rattle.ob_decls.specs.declared.rows.Declared.{Declared}
 use Rattle.ob_types.specs.World.{World}
 use Rattle.scip_symbol.specs.SymbolTexts.{PlainDescriptor, parts_text, plain_descriptor_text, plain_text}
 use Rattle.ob_emit.specs.declared.steps.StepRow.{StepRow}
 use Rattle.ob_emit.specs.declared.own_texts.Texts.{Texts}
-use Rattle.ob_emit.specs.Symbols.{Step, descriptor, scheme, symbol_at}
+use Rattle.ob_emit.specs.Symbols.{Step, descriptor, imported_symbol, scheme, symbol_at}
 use Rattle.ob_emit.specs.Named.{IsName}
 
 -- a step as clauses see it
@@ -41,8 +43,18 @@ pub record AreMade (w : World) (package_name : List ℕ) (count : ℕ) (made : L
 abbrev pub front_text : List ℕ → List ℕ
 front_text package_name = parts_text scheme [] package_name []
 
+-- places of modules, with places of declarations in them, that are one
+abbrev pub same_place : ℕ × ℕ → ℕ × ℕ → Bool
+same_place a b = nat_eq a.0 b.0 && nat_eq a.1 b.1
+
+-- texts of what other modules declare, by the places of the module and of the declaration
+abbrev pub AreImported : {S : Type 0} → World → List ℕ → IndexMap (ℕ × ℕ) (Option (String Global)) S → Type 0
+AreImported w package_name texts =
+    (key : ℕ × ℕ) (text : Option (String Global)) → get same_place texts key ≡ Some text → option_map string_bytes text ≡ option_map plain_text (imported_symbol w package_name key.0 key.1)
+
 -- the texts of a module's symbols in this package
 pub record AreTexts (w : World) (package_name : List ℕ) (t : Texts) : Type 0 where
   pub front : string_bytes t.front ≡ front_text package_name
   pub outside : string_bytes t.outside ≡ front_text []
   pub declared : AreMade w package_name (length w.rows.declared) (map (option_map string_bytes) (t.declared).items)
+  pub imported : AreImported w package_name t.imported

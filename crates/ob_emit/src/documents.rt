@@ -16,7 +16,7 @@ ghost use Rattle.ob_emit.specs.Named.{AreNamed, AreOfNames, IsName};
 use crate::EmitFault;
 use crate::own_texts::Texts;
 use crate::path::name_of;
-use crate::ranges::range_of;
+use crate::ranges::{enclosing_range, range_of};
 use ob_scan::{Lines, lines};
 use ob_targets::Reference;
 use ob_types::Types;
@@ -30,7 +30,7 @@ fn is_bad(package_name: &str) -> bool
     package_name == "." || package_name.starts_with(' ')
 }
 
-/// Where an identifier stands, with the symbol of what it stands for, if that has one.
+/// Where an identifier stands, with the symbol of what it stands for, if that has one, and where what it declares stands.
 fn occurrence_of(
     alloc: Global,
     types: &Types<'_>,
@@ -52,7 +52,7 @@ fn occurrence_of(
         range: range_of(alloc, types, lines, reference.number)?,
         symbol,
         symbol_roles: i32::from(reference.role),
-        enclosing_range: Vec::new(alloc),
+        enclosing_range: enclosing_range(alloc, types, lines, reference)?,
     }))
 }
 
@@ -138,7 +138,7 @@ fn document_in(
     requires of_names { AreOfNames types.now refs.now }
     ensures { IfOk result (λ d. plain_document d ≡ document_of types.now path.now package_name.now refs.now) }
 {
-    let texts = Texts::new(alloc, types, package_name)?;
+    let texts = Texts::new(alloc, types, refs, package_name)?;
     Ok(Document {
         relative_path: String::from_str(alloc, path)?,
         occurrences: occurrences(alloc, types, &texts, refs)?,
@@ -149,7 +149,7 @@ fn document_in(
 }
 
 /// The document of a module at this path (scip.proto, `Document`): where its identifiers stand, with the symbols of what they stand for
-/// and their roles, and the symbols that the module declares. Lines and columns count from 0, columns in bytes. BadPackage is answered
+/// and their roles, the whole declarations of those that are declared, and the symbols that the module declares. Lines and columns count from 0, columns in bytes. BadPackage is answered
 /// where the package is `.` or begins with a space, Memory where a growth of memory is refused.
 pub fn document(
     alloc: Global,

@@ -1,10 +1,12 @@
 //! The document of a module in a SCIP index, and the symbols that are declared outside of its tree.
-//! Stands on `ob_targets` and `ob_types` for what identifiers stand for, on `scip_symbol` and `scip_index`, with `thiserror` for its fault.
+//! Stands on `ob_targets` and `ob_types` for what identifiers stand for, on `scip_symbol` and `scip_index`, on `indexmap` for texts by
+//! their targets, with `thiserror` for its fault.
 //! Its contract: a document is exactly what this project's names and the targets of the module's identifiers say, or the package is no package.
 #![tactic(auto)]
 
 mod documents;
 mod fault;
+mod imported_texts;
 pub mod laws;
 mod outside;
 mod own;

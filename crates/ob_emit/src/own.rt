@@ -67,7 +67,7 @@ pub(crate) fn is_local(types: &Types<'_>, declared: &Declared) -> bool
 }
 
 /// The construct that declares this token.
-fn declarer_of(types: &Types<'_>, number: u32) -> Option<Declarer>
+pub(crate) fn declarer_of(types: &Types<'_>, number: u32) -> Option<Declarer>
     ensures { result ≡ declarer_of types.now number }
 {
     let declared = declared_at(types.table(), number)?;

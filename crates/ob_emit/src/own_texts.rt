@@ -1,4 +1,4 @@
-//! The texts of a module's own symbols, each made once.
+//! The texts of a module's symbols, each made once.
 ghost use Rattle.std.specs.Prelude.{◌≡◌, ◌++◌, IfOk, Some, slice_get, take, length, map, count_by, codes};
 ghost use Rattle.std.specs.Fmt.{decimal};
 ghost use Rattle.std.specs.Option.{option_map};
@@ -9,9 +9,12 @@ ghost use Rattle.ob_emit.specs.Made.{front_text, path_text, AreMade, AreTexts};
 ghost use Rattle.ob_emit.specs.Named.{AreNamed};
 ghost use Rattle.ob_emit.specs.Symbols.{is_local, own_path, symbol_at};
 
+use crate::imported_texts::imported_texts;
 use crate::own::is_local;
 use crate::path::path_text;
+use indexmap::IndexMap;
 use ob_decls::Declared;
+use ob_targets::Reference;
 use ob_types::Types;
 use scip_symbol::write_parts;
 use std::alloc::{AllocError, Global};
@@ -28,6 +31,8 @@ pub(crate) struct Texts {
     pub(crate) outside: String,
     /// The texts of what the module declares, by place; an import item has none.
     pub(crate) declared: Vec<Option<String>>,
+    /// The texts of what other modules declare and this one refers to, by the places of the module and of the declaration.
+    pub(crate) imported: IndexMap<(u32, u32), Option<String>>,
 }
 
 /// What stands before the descriptors of a package's symbols.
@@ -105,10 +110,11 @@ fn declared_texts(
 }
 
 impl Texts {
-    /// The texts of a module's symbols in a package.
+    /// The texts of the symbols in a package that a module with these references needs.
     pub(crate) fn new(
         alloc: Global,
         types: &Types<'_>,
+        refs: &[Reference],
         package_name: &str,
     ) -> Result<Texts, AllocError>
         requires { AreNamed types.now }
@@ -117,10 +123,12 @@ impl Texts {
         let front = front_text(alloc, package_name)?;
         let outside = front_text(alloc, "")?;
         let declared = declared_texts(alloc, types, front.as_str())?;
+        let imported = imported_texts(alloc, types, front.as_str(), refs)?;
         Ok(Texts {
             front,
             outside,
             declared,
+            imported,
         })
     }
 }

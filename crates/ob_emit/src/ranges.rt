@@ -3,10 +3,12 @@ ghost use Rattle.std.specs.Prelude.{◌≡◌, ◌≤◌, ◌<◌, ◌^◌, IfOk
 ghost use Rattle.ob_scan.specs.Position.{line_starts};
 ghost use Rattle.ob_scan.specs.Spelling.{AreInText};
 ghost use Rattle.ob_scope.specs.Texts.{token_at};
-ghost use Rattle.ob_emit.specs.Documents.{column_of, line_of, range_by, range_of};
+ghost use Rattle.ob_emit.specs.Documents.{column_of, construct_range, enclosing_range, line_of, range_by, range_of, span_of};
 ghost use Rattle.std.specs.Prelude.{List, ℕ};
 
+use crate::own::declarer_of;
 use ob_scan::{Lines, Position};
+use ob_targets::{Reference, Target};
 use ob_types::Types;
 use std::alloc::{AllocError, Global};
 
@@ -40,14 +42,81 @@ fn range_by(
 }
 
 /// Where a token begins and where it ends; both are 0 beyond the last.
-fn ends_of(types: &Types<'_>, number: u32) -> (u32, u32)
+fn ends_of(types: &Types<'_>, number: usize) -> (u32, u32)
     ensures start { result.0 ≡ (token_at types.now.tokens number).start }
     ensures end { result.1 ≡ (token_at types.now.tokens number).end }
 {
-    match types.tokens().get(number as usize) {
+    match types.tokens().get(number) {
         Some(token) => (token.start, token.end),
         None => (0, 0),
     }
+}
+
+/// The range from the start of a token to the end of another.
+pub(crate) fn span_of(
+    alloc: Global,
+    types: &Types<'_>,
+    lines: &Lines,
+    first: usize,
+    last: usize,
+) -> Result<Vec<i32>, AllocError>
+    requires in_text { AreInText types.now.bytes types.now.tokens }
+    requires short { length types.now.bytes < 2 ^ 31 }
+    requires lined { lines.now ≡ line_starts types.now.bytes }
+    ensures { IfOk result (λ v. v.items ≡ span_of types.now first last) }
+{
+    let (start, _) = ends_of(types, first);
+    let (_, end) = ends_of(types, last);
+    let from = place_at(lines, start);
+    let to = place_at(lines, end);
+    range_by(alloc, from.line, from.column, to.line, to.column)
+}
+
+/// The range of the construct that declares a target.
+fn construct_range(
+    alloc: Global,
+    types: &Types<'_>,
+    lines: &Lines,
+    target: Target,
+) -> Result<Vec<i32>, AllocError>
+    requires in_text { AreInText types.now.bytes types.now.tokens }
+    requires short { length types.now.bytes < 2 ^ 31 }
+    requires lined { lines.now ≡ line_starts types.now.bytes }
+    ensures { IfOk result (λ v. v.items ≡ construct_range types.now target) }
+{
+    match target {
+        Target::Declared(number) => match declarer_of(types, number) {
+            Some(by) => span_of(alloc, types, lines, by.first as usize, by.last as usize),
+            None => Ok(Vec::new(alloc)),
+        },
+        Target::Own => {
+            let last = types.tokens().len().saturating_sub(1);
+            span_of(alloc, types, lines, 0, last)
+        }
+        Target::Imported { .. } => Ok(Vec::new(alloc)),
+        Target::External { .. } => Ok(Vec::new(alloc)),
+        Target::Module(_) => Ok(Vec::new(alloc)),
+        Target::Predeclared => Ok(Vec::new(alloc)),
+        Target::Unresolved => Ok(Vec::new(alloc)),
+    }
+}
+
+/// The range of the whole declaration, if an identifier is declared here.
+pub(crate) fn enclosing_range(
+    alloc: Global,
+    types: &Types<'_>,
+    lines: &Lines,
+    reference: &Reference,
+) -> Result<Vec<i32>, AllocError>
+    requires in_text { AreInText types.now.bytes types.now.tokens }
+    requires short { length types.now.bytes < 2 ^ 31 }
+    requires lined { lines.now ≡ line_starts types.now.bytes }
+    ensures { IfOk result (λ v. v.items ≡ enclosing_range types.now reference.now) }
+{
+    if reference.role != 1 {
+        return Ok(Vec::new(alloc));
+    }
+    construct_range(alloc, types, lines, reference.target)
 }
 
 /// The range of a token.
@@ -62,8 +131,5 @@ pub(crate) fn range_of(
     requires lined { lines.now ≡ line_starts types.now.bytes }
     ensures { IfOk result (λ v. v.items ≡ range_of types.now number) }
 {
-    let (start, end) = ends_of(types, number);
-    let first = place_at(lines, start);
-    let last = place_at(lines, end);
-    range_by(alloc, first.line, first.column, last.line, last.column)
+    span_of(alloc, types, lines, number as usize, number as usize)
 }

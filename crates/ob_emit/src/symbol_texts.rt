@@ -9,9 +9,10 @@ ghost use Rattle.ob_emit.specs.Named.{AreNamed, IsName};
 ghost use Rattle.ob_emit.specs.Symbols.{declared_symbol, external_symbol, imported_symbol, module_path, module_symbol, package_of, symbol_of};
 ghost use Rattle.ob_types.specs.World.{text};
 
+use crate::imported_texts::imported_text;
 use crate::own::{import_at, place_of};
 use crate::own_texts::Texts;
-use crate::path::{name_of, path_text, room_for};
+use crate::path::{name_of, room_for};
 use ob_targets::Target;
 use ob_types::Types;
 use scip_symbol::{DescriptorKind, push_step};
@@ -47,6 +48,16 @@ pub(crate) fn external_text(
     let mut out = module_text(alloc, outside, types.text(import.imported))?;
     push_step(&mut out, DescriptorKind::Term, name_of(types.text(name)))?;
     Ok(Some(out))
+}
+
+/// A text, if there is one, once more.
+fn copied(text: &Option<String>) -> Result<Option<String>, AllocError>
+    ensures { IfOk result (λ more. option_map string_bytes more ≡ option_map string_bytes text.now) }
+{
+    match text {
+        Some(text) => Ok(Some(text.clone()?)),
+        None => Ok(None),
+    }
 }
 
 impl Texts {
@@ -88,16 +99,10 @@ impl Texts {
         ensures { (package_name : List ℕ) → AreTexts types.now package_name self.now →
             IfOk result (λ text. option_map string_bytes text ≡ option_map plain_text (imported_symbol types.now package_name reached declaration)) }
     {
-        let Some(interface) = types.interface(reached) else {
-            return Ok(None);
-        };
-        path_text(
-            alloc,
-            self.front.as_str(),
-            interface.name(),
-            interface,
-            declaration,
-        )
+        match self.imported.get(&(reached, declaration)) {
+            Some(text) => copied(text),
+            None => imported_text(alloc, types, self.front.as_str(), reached, declaration),
+        }
     }
 
     /// What stands before the descriptors of the module that an import item names.

@@ -1,3 +1,4 @@
 pub mod Same
 pub mod Firsts
+pub mod Ascending
 pub mod Backwards

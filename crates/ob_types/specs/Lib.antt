@@ -1,6 +1,7 @@
 pub mod World
 pub mod Shapes
 pub mod Same
+pub mod Homes
 pub mod Parted
 pub mod Depths
 pub mod DepthLaws

@@ -1,31 +1,32 @@
 -- What a module is known by, as a world, and its indexes.
-use Rattle.std.specs.Prelude.{◌≡◌, ℕ, ◌+◌, ◌<◌, ◌^◌, nat_eq, List, map, length, Bool, ◌&&◌}
+use Rattle.std.specs.Prelude.{◌≡◌, ℕ, ◌+◌, ◌<◌, ◌^◌, nat_eq, List, Option, map, length, Bool, ◌&&◌}
 use Rattle.std.specs.Arc.{arc_value}
 use Rattle.std.specs.Borrow.{Bor}
 use Rattle.std.specs.Str.{bytes_eq}
 use Rattle.indexmap.specs.IndexMap.{get, IndexMap}
+use Rattle.ob_decls.specs.declared.rows.Import.{Import}
 use Rattle.ob_decls.specs.Declaring.{rows_in}
+use Rattle.ob_interface.specs.Interfaces.{ModuleInterface}
 use Rattle.ob_types.specs.declared.parts.Parts.{Parts}
-use Rattle.ob_types.specs.World.{World, field_at, home}
+use Rattle.ob_types.specs.Homes.{home_in}
+use Rattle.ob_types.specs.World.{World, field_at, text}
 
 -- the world that is known by these parts
 abbrev pub world_of : Parts → World
 world_of p = record { bytes = p.bytes.now; tokens = p.tokens.now; rows = rows_in p.table.now; scopes = p.scopes.now; reached = map arc_value p.reached.now }
 
--- names of modules, and names in records, that are one
-abbrev pub same_name : Bor (List ℕ) → Bor (List ℕ) → Bool
-same_name a b = bytes_eq a.now b.now
+-- the place among some modules of the one that an import item names
+abbrev pub home_by : World → List ModuleInterface → Import → Option ℕ
+home_by w modules i = home_in modules (text w i.imported)
 
+-- a record and a name in it
 abbrev pub FieldKey : Type 0
 FieldKey = ℕ × Bor (List ℕ)
 
 abbrev pub same_field : FieldKey → FieldKey → Bool
 same_field a b = nat_eq a.0 b.0 && bytes_eq a.1.now b.1.now
 
--- the places of the modules by their names, and the fields by their records and names
-abbrev pub AreHomes : {S : Type 0} → World → IndexMap (Bor (List ℕ)) ℕ S → Type 0
-AreHomes w homes = (name : Bor (List ℕ)) → get same_name homes name ≡ home w name.now
-
+-- the fields by their records and names
 abbrev pub AreFields : {S : Type 0} → World → IndexMap FieldKey ℕ S → Type 0
 AreFields w fields = (key : FieldKey) → get same_field fields key ≡ field_at w key.0 key.1.now
 

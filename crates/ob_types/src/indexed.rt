@@ -1,17 +1,18 @@
 //! A module's parts with their indexes.
 #![tactic(auto, unfolding(crate::specs::World::home, crate::specs::World::home_of, crate::specs::World::form_of, crate::specs::Shapes::type_there, crate::specs::Shapes::exported_type, crate::specs::Shapes::own_type, crate::specs::Shapes::home_meant, crate::specs::Shapes::named_here))]
 
-ghost use Rattle.std.specs.Prelude.{◌≡◌, Some, None, IfOk, OnOk, if◌then◌else◌};
+ghost use Rattle.std.specs.Prelude.{◌≡◌, Some, None, IfOk, OnOk, if◌then◌else◌, map, slice_get};
 ghost use Rattle.std.specs.Option.{option_and_then};
 ghost use Rattle.ob_scan.specs.Spelling.{AreInText};
 ghost use Rattle.ob_types.specs.declared.nodes.Node.TheVariants as nodes;
 ghost use Rattle.ob_types.specs.declared.nodes.Named.TheVariants as named;
 ghost use Rattle.type_search.specs.declared.shape.Shape.TheVariants as shapes;
-ghost use Rattle.ob_types.specs.Parted.{world_of, AreFields, AreHomes, IsFew};
+ghost use Rattle.ob_types.specs.Parted.{home_by, world_of, AreFields, IsFew};
 ghost use Rattle.ob_types.specs.Shapes.{exported_type, home_meant, is_type, known, named_here, own_type, type_as, type_there, TypeShape};
 ghost use Rattle.ob_types.specs.World.{field_at, form_of, home, home_of, meaning, text};
 
-use crate::names::{fields_of, homes_of};
+use crate::homes::Homes;
+use crate::names::{fields_of, item_homes};
 use crate::nodes::{Named, Node, Record};
 use crate::parts::Parts;
 use indexmap::IndexMap;
@@ -19,15 +20,17 @@ use ob_decls::Sort;
 use std::alloc::{AllocError, Global};
 use type_search::Shape;
 
-/// What a module is known by, with the places of modules by their names, and the fields by their records and names.
+/// What a module is known by, with the places of modules by their names and by import items, and the fields by their records and names.
 #[derive(Drop)]
 pub(crate) struct Indexed<'a> {
     pub(crate) parts: Parts<'a>,
-    pub(crate) homes: IndexMap<&'a [u8], u32>,
+    pub(crate) homes: Homes<'a>,
+    pub(crate) item_homes: Vec<Option<u32>>,
     pub(crate) fields: IndexMap<(u32, &'a [u8]), u32>,
     ghost in_text: { AreInText parts.bytes.now parts.tokens.now },
     ghost few: { IsFew parts },
-    ghost homes_are: { AreHomes (world_of parts) homes },
+    ghost homes_are: { homes ≡ (world_of parts).reached },
+    ghost item_homes_are: { item_homes.items ≡ map (home_by (world_of parts) homes) (world_of parts).rows.imports },
     ghost fields_are: { AreFields (world_of parts) fields },
 }
 
@@ -98,11 +101,13 @@ impl<'a> Indexed<'a> {
         ensures { IfOk result (λ i. i.parts ≡ parts.entry) }
     {
         count(&parts)?;
-        let homes = homes_of(alloc, parts.reached)?;
+        let homes = Homes::new(alloc, parts.reached)?;
+        let item_homes = item_homes(alloc, &parts, &homes)?;
         let fields = fields_of(alloc, &parts)?;
         Ok(Indexed {
             parts,
             homes,
+            item_homes,
             fields,
         })
     }
@@ -118,15 +123,21 @@ impl<'a> Indexed<'a> {
     pub(crate) fn home(&self, name: &[u8]) -> Option<u32>
         ensures { result ≡ home (world_of self.now.parts) name.now }
     {
-        self.homes.get(name).copied()
+        self.homes.place(name)
+    }
+
+    /// What is known of the module that the import item at this place names, if there is such an item.
+    fn item_home(&self, item: u32) -> Option<Option<u32>>
+        ensures { result ≡ slice_get (map (home_by (world_of self.now.parts) (world_of self.now.parts).reached) (world_of self.now.parts).rows.imports) item }
+    {
+        self.item_homes.as_slice().get(item as usize).copied()
     }
 
     /// The place of the module that the import item at this place names.
     pub(crate) fn home_of(&self, item: u32) -> Option<u32>
         ensures { result ≡ home_of (world_of self.now.parts) item }
     {
-        let row = self.parts.import(item)?;
-        self.home(self.text(row.imported))
+        self.item_home(item)?
     }
 
     /// The field of this name in a record of the module's own.

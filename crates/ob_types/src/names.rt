@@ -1,49 +1,33 @@
-//! Modules by their names, and fields by their records and names.
-ghost use Rattle.std.specs.Prelude.{◌≡◌, ℕ, ◌&&◌, List, Some, IfOk, OnOk, if◌then◌else◌, map, position};
-ghost use Rattle.std.specs.Arc.{arc_value};
-ghost use Rattle.std.specs.Borrow.{Bor};
+//! The modules of import items by their places, and fields by their records and names.
+ghost use Rattle.std.specs.Prelude.{◌≡◌, ◌&&◌, Some, IfOk, OnOk, if◌then◌else◌, map};
 ghost use Rattle.std.specs.Option.{option_and_then};
 ghost use Rattle.std.specs.Str.{bytes_eq};
 ghost use Rattle.indexmap.specs.IndexMap.{get};
 ghost use Rattle.ob_decls.specs.declared.rows.Declarer.{Declarer as Construct};
-ghost use Rattle.ob_interface.specs.Interfaces.{ModuleInterface};
 ghost use Rattle.ob_scan.specs.Spelling.{AreInText};
-ghost use Rattle.ob_types.specs.Parted.{same_field, same_name, world_of, AreFields, FieldKey};
+ghost use Rattle.ob_types.specs.Parted.{home_by, same_field, world_of, AreFields, FieldKey};
 ghost use Rattle.ob_types.specs.World.{declarer_from, is_in, text};
 
+use crate::homes::Homes;
 use crate::parts::Parts;
 use indexmap::IndexMap;
 use ob_decls::Declared;
-use ob_interface::Interface;
 use std::alloc::{AllocError, Global};
-use std::sync::Arc;
 
-/// A place as a number of 32 bits.
-fn place(at: usize) -> Result<u32, AllocError>
-    ensures { IfOk result (λ n. n ≡ at) }
-{
-    match u32::try_from(at) {
-        Ok(place) => Ok(place),
-        Err(_) => Err(AllocError),
-    }
-}
-
-/// The places of modules by their names; of several modules of one name the first. AllocError is also answered where a place has more
-/// than 32 bits.
-pub(crate) fn homes_of<'a>(
+/// The places of the modules that import items name, item by item.
+pub(crate) fn item_homes(
     alloc: Global,
-    reached: &'a [Arc<Interface>],
-) -> Result<IndexMap<&'a [u8], u32>, AllocError>
-    ensures { IfOk result (λ homes. (name : Bor (List ℕ)) → get same_name homes name ≡ position (λ (m : ModuleInterface). bytes_eq m.name name.now) (map arc_value reached.now)) }
+    parts: &Parts<'_>,
+    homes: &Homes<'_>,
+) -> Result<Vec<Option<u32>>, AllocError>
+    requires { AreInText parts.now.bytes.now parts.now.tokens.now }
+    ensures { IfOk result (λ places. places.items ≡ map (home_by (world_of parts.now) homes.now) (world_of parts.now).rows.imports) }
 {
-    let mut homes = IndexMap::with_capacity(alloc, reached.len())?;
-    let mut at = reached.len();
-    'modules: while at > 0 {
-        at -= 1;
-        let place = place(at)?;
-        homes.insert(reached[at].name(), place)?;
+    let mut places = Vec::new(alloc);
+    for item in parts.table.imports() {
+        places.push(homes.place(parts.text(item.imported)))?;
     }
-    Ok(homes)
+    Ok(places)
 }
 
 /// The record in which a construct's identifiers are fields.

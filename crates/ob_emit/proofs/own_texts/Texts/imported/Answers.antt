@@ -1,12 +1,14 @@
--- The names of what the module declares.
-use Rattle.std.proofs.Common.{sym, ap, ◌∙◌}
+-- The text that was kept, or one that is made.
+use Rattle.std.proofs.Common.{◌≡◌, ℕ, List, Option, String, Global, sym, ◌∙◌, subst}
+use Rattle.std.specs.Prelude.{IfOk}
 use Rattle.std.specs.Option.{option_map}
-use Rattle.ob_interface.specs.declared.interface.Interface.{Interface}
-use Rattle.std.specs.Borrow.{Bor}
-use Rattle.ob_emit.proofs.Naming.{reached_named, step_names}
+use Rattle.std.specs.String.{string_bytes}
 use Rattle.ob_emit.proofs.own_texts.Texts.imported.Goals as goal
 
-pub path_text-requires-clause-named : goal.path_text-requires-clause-named
-path_text-requires-clause-named c =
-    step_names c.in-Some.interface.now
-    (reached_named c.args.types.now c.requires c.args.reached c.in-Some.interface.now (sym c.interface.ensures ∙ ap (option_map (λ (m : Bor Interface). m.now)) c.in-Some.is))
+pub returns-in-Some : goal.returns-in-Some
+returns-in-Some c = λ p made.
+    subst (λ (t : Option (List ℕ)). IfOk c.copied.result (λ (more : Option (String Global)). option_map string_bytes more ≡ t))
+    (made.imported (c.args.reached, c.args.declaration) c.in-Some.text.now (sym c.in-Some.ensures.value)) c.copied.ensures
+
+pub returns-in-None : goal.returns-in-None
+returns-in-None c = λ p made. c.imported_text.ensures p (c.as_str.ensures.value ∙ made.front)

@@ -7,4 +7,5 @@ returns c = record {
   front = c.in_ok-front.ensures;
   outside = c.in_ok-outside.ensures;
   declared = c.in_ok-declared.ensures c.args.package_name.now (c.as_str.ensures.value ∙ c.in_ok-front.ensures);
+  imported = c.in_ok-imported.ensures c.args.package_name.now (c.as_str-2.ensures.value ∙ c.in_ok-front.ensures);
 }

@@ -5,7 +5,7 @@ use Rattle.std.proofs.lemmas.Iterator.Adapters.{position_from-zero}
 use Rattle.std.proofs.lemmas.List.{get_or-map, length-map}
 use Rattle.ob_interface.specs.Interfaces.{ModuleInterface}
 use Rattle.ob_types.proofs.Backwards.{home_before}
-use Rattle.ob_types.proofs.names.homes_of.Goals as goal
+use Rattle.ob_types.proofs.homes.table_of.Goals as goal
 
 pub modules-preserved : goal.modules-preserved
 modules-preserved c =

@@ -4,8 +4,8 @@ use Rattle.std.specs.List.{position_from}
 use Rattle.std.specs.Str.{bytes_eq}
 use Rattle.indexmap.specs.IndexMap.{get}
 use Rattle.ob_interface.specs.Interfaces.{ModuleInterface}
-use Rattle.ob_types.specs.Parted.{same_name}
-use Rattle.ob_types.proofs.names.homes_of.Given as goal
+use Rattle.ob_types.specs.Homes.{same_name}
+use Rattle.ob_types.proofs.homes.table_of.Given as goal
 
 abbrev pub invariant-modules : goal.invariant-modules
 invariant-modules l = record {

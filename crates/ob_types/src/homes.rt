@@ -1,0 +1,126 @@
+//! The places of modules by their names.
+ghost use Rattle.std.specs.Prelude.{◌≡◌, ℕ, List, IfOk, map};
+ghost use Rattle.std.specs.Bool.{OnTrue};
+ghost use Rattle.std.specs.Cmp.Lexicographic.{slice_cmp};
+ghost use Rattle.std.specs.Ordering.{nat_cmp};
+ghost use Rattle.std.specs.declared.cmp.Ordering.TheVariants.{Less};
+ghost use Rattle.std.specs.Arc.{arc_value};
+ghost use Rattle.std.specs.Borrow.{Bor};
+ghost use Rattle.indexmap.specs.IndexMap.{get};
+ghost use Rattle.ob_types.specs.Homes.{home_in, same_name, AreByName};
+
+use indexmap::IndexMap;
+use ob_interface::Interface;
+use std::alloc::{AllocError, Global};
+use std::marker::Model;
+use std::sync::Arc;
+
+/// The places of modules by their names; of several modules of one name the first. Where the names ascend they are sought by halving,
+/// and so need no table. A contract sees the modules.
+#[derive(Drop)]
+pub(crate) struct Homes<'a> {
+    reached: &'a [Arc<Interface>],
+    /// The places by name, where the names don't ascend.
+    table: Option<IndexMap<&'a [u8], u32>>,
+}
+
+impl<'a> Model for Homes<'a> {
+    ghost use Rattle.std.specs.Prelude.{List, map};
+    ghost use Rattle.std.specs.Arc.{arc_value};
+    ghost use Rattle.ob_interface.specs.Interfaces.{ModuleInterface};
+    ghost use Rattle.ob_types.specs.Homes.{AreHomes};
+
+    ghost Value = { List ModuleInterface };
+
+    ghost view = { λ h. map arc_value h.reached.now };
+
+    ghost invariant = { λ h. AreHomes (map arc_value h.reached.now) h.table };
+}
+
+/// A place as a number of 32 bits.
+fn place(at: usize) -> Result<u32, AllocError>
+    ensures { IfOk result (λ n. n ≡ at) }
+{
+    match u32::try_from(at) {
+        Ok(place) => Ok(place),
+        Err(_) => Err(AllocError),
+    }
+}
+
+/// The places of modules by their names, as a table. AllocError is also answered where a place has more than 32 bits.
+fn table_of<'a>(
+    alloc: Global,
+    reached: &'a [Arc<Interface>],
+) -> Result<IndexMap<&'a [u8], u32>, AllocError>
+    ensures { IfOk result (λ homes. (name : Bor (List ℕ)) → get same_name homes name ≡ home_in (map arc_value reached.now) name.now) }
+{
+    let mut homes = IndexMap::with_capacity(alloc, reached.len())?;
+    let mut at = reached.len();
+    'modules: while at > 0 {
+        at -= 1;
+        let place = place(at)?;
+        homes.insert(reached[at].name(), place)?;
+    }
+    Ok(homes)
+}
+
+/// Whether the name of a module stands before that of another.
+fn is_before(module: &Interface, other: &Interface) -> bool
+    ensures { OnTrue result (slice_cmp nat_cmp module.now.name other.now.name ≡ Less) }
+{
+    module.name().cmp(&other.name()).is_lt()
+}
+
+/// Whether the names of modules ascend.
+fn ascend(reached: &[Arc<Interface>]) -> bool
+    ensures { OnTrue result (AreByName (map arc_value reached.now)) }
+{
+    for at in 1..reached.len() {
+        if !is_before(&reached[at - 1], &reached[at]) {
+            return false;
+        }
+    }
+    true
+}
+
+/// The place of the module of this name, among modules whose names ascend.
+fn place_in_order(reached: &[Arc<Interface>], name: &[u8]) -> Option<usize>
+    requires { AreByName (map arc_value reached.now) }
+    ensures { result ≡ home_in (map arc_value reached.now) name.now }
+{
+    reached
+        .binary_search_by(|module| module.name().cmp(&name))
+        .ok()
+}
+
+impl<'a> Homes<'a> {
+    /// The places of these modules. AllocError is also answered where a place has more than 32 bits.
+    pub(crate) fn new(alloc: Global, reached: &'a [Arc<Interface>]) -> Result<Homes<'a>, AllocError>
+        ensures { IfOk result (λ h. h ≡ map arc_value reached.now) }
+    {
+        if reached.len() <= u32::MAX as usize && ascend(reached) {
+            return Ok(Homes {
+                reached,
+                table: None,
+            });
+        }
+        let table = table_of(alloc, reached)?;
+        Ok(Homes {
+            reached,
+            table: Some(table),
+        })
+    }
+
+    /// The place of the module of this name.
+    pub(crate) fn place(&self, name: &[u8]) -> Option<u32>
+        ensures { result ≡ home_in self.now name.now }
+    {
+        match &self.table {
+            Some(table) => table.get(name).copied(),
+            None => match place_in_order(self.reached, name) {
+                Some(place) => Some(place as u32),
+                None => None,
+            },
+        }
+    }
+}
