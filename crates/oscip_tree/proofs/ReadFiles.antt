@@ -1,10 +1,10 @@
 -- Files that are read one after another, and in pieces.
 use Rattle.std.proofs.Common.{◌≡◌, ℕ, zero, suc, ◌+◌, ◌*◌, ◌<◌, ◌≤◌, List, [], ◌∷◌, ◌++◌, length, get_or, take, drop, Some, refl, sym, ap, ◌∙◌, subst, append_assoc, length-append, arith}
-use Rattle.std.specs.Prelude.{slice_get, Result, Ok, Err, Vec, IfOk, IfErr}
+use Rattle.std.specs.Prelude.{slice_get, Result, Ok, Err, Vec}
 use Rattle.std.specs.Fork.{slice_chunk}
 use Rattle.std.specs.declared.alloc.Global.{Global}
 use Rattle.std.proofs.Math.Nat.{suc-mul, zero-mul}
-use Rattle.std.proofs.Math.Seq.{drop-cons}
+use Rattle.std.proofs.Math.Seq.{drop-cons, drop-nil}
 use Rattle.std.proofs.lemmas.List.{append-nil, length-drop, take-append-drop}
 use Rattle.oscip_tree.specs.Files.{AreAllOf, AreOfPieces, HasKept, IsFaultOfFiles, IsReading}
 use Rattle.oscip_tree.specs.Trees.{AreAccepted, IsAccepted, IsFileFault, IsFirstFault, IsTreeFault, ModuleFile}
@@ -12,6 +12,10 @@ use Rattle.oscip_tree.specs.declared.source.Source.{Source}
 use Rattle.oscip_tree.specs.declared.tree.TreeFault.{TreeFault}
 use Rattle.oscip_tree.specs.declared.tree.TreeFault.TheVariants as faults
 use Rattle.oscip_tree.proofs.TreeFiles.{at_item, each_joined, longer, take_at, Each}
+
+pub nothing_left : {X : Type 0} (xs : List X) → length xs ≡ 0 → xs ≡ []
+nothing_left [] e = refl
+nothing_left (x ∷ xs) e = absurd (omega arith)
 
 -- ---- accepted files
 
@@ -108,23 +112,17 @@ module _ {K : Type 0} (is_of : ModuleFile → K → Type 0) where
 
   -- ---- pieces
 
-  -- what one call says of a piece
-  pub reading : (sources : List Source) (answer : Result (Vec K Global) TreeFault) → IfOk answer (λ (all : Vec K Global). (files : List ModuleFile) × AreAllOf is_of sources files all.items) →
-      IfErr answer (IsFaultOfFiles sources) → IsReading is_of sources answer
-  reading sources (Ok all) ok err = ok
-  reading sources (Err fault) ok err = err
-
   drop_twice : (a b : ℕ) (xs : List Source) → drop b (drop a xs) ≡ drop (a + b) xs
-  drop_twice a b xs = grind arith
-
-  no_files : (xs : List Source) → length xs ≤ 0 → xs ≡ []
-  no_files [] l = refl
-  no_files (x ∷ xs) l = absurd (omega arith)
+  drop_twice zero b xs = ap (λ (n : ℕ). drop n xs) (omega arith)
+  drop_twice (suc a) b [] = drop-nil b ∙ sym (drop-nil (suc a + b))
+  drop_twice (suc a) b (x ∷ xs) =
+      let more : suc (a + b) ≡ suc a + b = omega arith in
+      drop_twice a b xs ∙ ap (λ (n : ℕ). drop n (x ∷ xs)) more
 
   -- chunks of one size are pieces
   pub chunks_are_pieces : (size : ℕ) (answers : List (Result (Vec K Global) TreeFault)) (sources : List Source) → length sources ≤ length answers * size →
       ((n : ℕ) (d : Result (Vec K Global) TreeFault) → n < length answers → IsReading is_of (slice_chunk sources size n) (get_or answers n d)) → AreOfPieces is_of sources answers
-  chunks_are_pieces size [] sources l each = no_files sources (let none = zero-mul size in omega arith)
+  chunks_are_pieces size [] sources l each = nothing_left sources (let none = zero-mul size in omega arith)
   chunks_are_pieces size (answer ∷ answers) sources l each =
       let first : slice_chunk sources size 0 ≡ take size sources = ap (λ (n : ℕ). take size (drop n sources)) (zero-mul size) in
       let more = suc-mul (length answers) size in

@@ -26,9 +26,9 @@ Each {X} {Y} P xs ys = (i : ℕ) (x : X) (y : Y) → slice_get xs i ≡ Some x �
 
 -- and so of two such pairs of lists, one behind the other
 pub each_joined : {X Y : Type 0} (P : X → Y → Type 0) (xs us : List X) (ys vs : List Y) → length ys ≡ length xs → Each P xs ys → Each P us vs → Each P (xs ++ us) (ys ++ vs)
-each_joined P [] us [] vs e p q = q
-each_joined P [] us (y ∷ ys) vs e p q = absurd (omega arith)
-each_joined P (x ∷ xs) us [] vs e p q = absurd (omega arith)
+each_joined P [] us [] vs e p q i a b at_a at_b = q i a b at_a at_b
+each_joined P [] us (y ∷ ys) vs e p q i a b at_a at_b = absurd (omega arith)
+each_joined P (x ∷ xs) us [] vs e p q i a b at_a at_b = absurd (omega arith)
 each_joined P (x ∷ xs) us (y ∷ ys) vs e p q zero a b at_a at_b = p zero a b at_a at_b
 each_joined P (x ∷ xs) us (y ∷ ys) vs e p q (suc i) a b at_a at_b = each_joined P xs us ys vs (omega arith) (λ j c d r s. p (suc j) c d r s) q i a b at_a at_b
 

@@ -1,6 +1,6 @@
 //! The files of a tree, each read apart from the others, in chunks by many workers.
 ghost use Rattle.std.specs.Prelude.{◌<◌, IfErr, IfOk, List};
-ghost use Rattle.oscip_tree.specs.Files.{AreAllOf, AreOfPieces, IsFaultOfFiles};
+ghost use Rattle.oscip_tree.specs.Files.{AreAllOf, AreOfPieces, IsReading};
 ghost use Rattle.oscip_tree.specs.Trees.{IsTreeFault, ModuleFile};
 
 use crate::{Source, TreeFault};
@@ -25,8 +25,7 @@ pub(crate) trait OfFile: Drop {
 
 /// What is kept of each file, read one after another, or the fault of the first file that has one.
 fn in_turn<K: OfFile>(alloc: Global, sources: &[Source]) -> Result<Vec<K>, TreeFault>
-    ensures kept { IfOk result (λ v. (files : List ModuleFile) × AreAllOf K.is_of sources.now files v.items) }
-    ensures fault { IfErr result (IsFaultOfFiles sources.now) }
+    ensures { IsReading K.is_of sources.now result }
 {
     let mut all = Vec::new(alloc);
     for source in sources {
@@ -50,7 +49,9 @@ fn by_chunks<K: OfFile + Send, R: Threads + Sync>(
         alloc,
         sources,
         size,
-        &|_, chunk: &[Source]| in_turn::<K>(alloc, chunk),
+        &|_: usize, chunk: &[Source]| -> Result<Vec<K>, TreeFault>
+            ensures { IsReading K.is_of chunk.entry.now result }
+        { in_turn(alloc, chunk) },
     )?;
     Ok(answers)
 }
@@ -73,12 +74,7 @@ pub(crate) fn read_files<K: OfFile + Send, R: Threads + Sync>(
     ensures kept { IfOk result (λ v. (files : List ModuleFile) × AreAllOf K.is_of sources.now files v.items) }
     ensures fault { IfErr result (IsTreeFault sources.now) }
 {
-    let answers = by_chunks::<K, R>(
-        rt,
-        alloc,
-        sources,
-        size_of_chunks(sources.len(), workers),
-    )?;
+    let answers = by_chunks::<K, R>(rt, alloc, sources, size_of_chunks(sources.len(), workers))?;
     let mut all = Vec::new(alloc);
     for answer in answers {
         let mut more = answer?;

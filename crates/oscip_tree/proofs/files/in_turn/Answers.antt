@@ -12,8 +12,8 @@ loop-source-preserved g c =
     rw c.in_ok-push.ensures.items
     (all_next g.K.OfFile.is_of c.args.sources.now c.loop-source.source-index c.source-item.result c.loop-source.all.items c.in_ok-of_file.field-0 within c.source-item.is c.loop-source.invariant c.in_ok-of_file.ensures.kept)
 
-pub returns-in_err-of_file-clause-fault : goal.returns-in_err-of_file-clause-fault
-returns-in_err-of_file-clause-fault g c =
+pub returns-in_err-of_file : goal.returns-in_err-of_file
+returns-in_err-of_file g c =
     let within : c.loop-source.source-index < length c.args.sources.now = search rules in
     let p = err_from_is_err_and c.from_residual.result c.from_residual.ensures.1 in
     rw (p.1, p.2)

@@ -6,7 +6,7 @@ use Rattle.ob_scope.specs.Scoped.{AreScopes, IsScopeFault}
 use Rattle.oscip_tree.proofs.parts.parts_in.Goals as goal
 
 pub scopes_from-requires-clause-in_text : goal.scopes_from-requires-clause-in_text
-scopes_from-requires-clause-in_text c = rw (c.as_slice.ensures, c.as_slice-2.ensures.value) (c.tokens_in_text.ensures _ _ c.requires.spelled)
+scopes_from-requires-clause-in_text c = rw (c.as_slice.ensures, c.as_slice-2.ensures.value) (c.tokens_in_text.ensures _ _ c.requires.spelled.1)
 
 pub scopes_from-requires-clause-spelled : goal.scopes_from-requires-clause-spelled
 scopes_from-requires-clause-spelled c = rw (c.as_slice.ensures, c.as_slice-2.ensures.value) c.requires.spelled.1
@@ -25,6 +25,6 @@ scope_fault-requires c =
       c.requires.spelled,
       is_tree,
       subst (λ (rows : Rows). IsScopeFault c.args.source.now.bytes.items c.args.tokens rows c.in-Err.fault) same
-      (subst (λ (bytes : List ℕ). IsScopeFault bytes c.args.tokens (rows_in c.args.table) c.in-Err.fault) c.as_slice-2.ensures.value
-      (subst (λ (ts : List Token). IsScopeFault c.as_slice-2.result.now ts (rows_in c.args.table) c.in-Err.fault) c.as_slice.ensures c.in-Err.ensures.fault)),
+          (subst (λ (bytes : List ℕ). IsScopeFault bytes c.args.tokens (rows_in c.args.table) c.in-Err.fault) c.as_slice-2.ensures.value
+          (subst (λ (ts : List Token). IsScopeFault c.as_slice-2.result.now ts (rows_in c.args.table) c.in-Err.fault) c.as_slice.ensures c.in-Err.ensures.fault)),
     )

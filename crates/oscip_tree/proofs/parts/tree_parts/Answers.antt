@@ -7,7 +7,7 @@ use Rattle.oscip_tree.specs.Parts.{AreAllParts}
 use Rattle.oscip_tree.proofs.parts.tree_parts.Goals as goal
 
 pub returns-clause-parts : goal.returns-clause-parts
-returns-clause-parts c =
+returns-clause-parts g c =
     let (files, are) = c.in_ok-modules.ensures.kept in
     let told = c.in_ok-told.ensures files (subst (AreAllParts c.args.sources.now files) (sym c.as_slice.ensures.value) are) in
     let whole : parsed_files c.as_slice-2.result.now ≡ files_of files = ap parsed_files c.as_slice-2.ensures.value ∙ told in
