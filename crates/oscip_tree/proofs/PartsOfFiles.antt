@@ -9,7 +9,7 @@ use Rattle.oscip_tree.specs.TreeReading.{AreRead, AreScopesOf}
 use Rattle.oscip_tree.specs.Parts.{AreAllParts, ArePartsOf, HasParts}
 use Rattle.oscip_tree.specs.declared.parts.ModuleParts.{ModuleParts}
 use Rattle.oscip_tree.specs.declared.source.Source.{Source}
-use Rattle.oscip_tree.proofs.TreeFiles.{at_item, each_more, longer, take_at, there}
+use Rattle.oscip_tree.proofs.TreeFiles.{there}
 
 -- the scopes of the files are among their parts
 pub parts_read : (sources : List Source) (files : List ModuleFile) (all : List (Box ModuleParts Global)) → AreAllParts sources files all → AreRead sources files (map (λ (b : Box ModuleParts Global). b.value.scopes) all)
