@@ -101,9 +101,18 @@ fn to_the_end<T: NamedTree, R: Abort + AllocGlobal>(rt: &R, graph: &Graph) -> Re
     assert_eq!(rt; refusal(alloc, &mut board, 3, "D")?, None);
     assert_eq!(rt; board.claim(), Claim::Module { number: 1 });
     assert_eq!(rt; board.claim(), Claim::Module { number: 2 });
-    assert_eq!(rt; refusal(alloc, &mut board, 1, "C")?, Some(BoardFault::WrongModule));
-    assert_eq!(rt; refusal(alloc, &mut board, 0, "A")?, Some(BoardFault::NotClaimed));
-    assert_eq!(rt; refusal(alloc, &mut board, 3, "D")?, Some(BoardFault::Twice));
+    assert_eq!(rt;
+        refusal(alloc, &mut board, 1, "C")?,
+        Some(BoardFault::WrongModule)
+    );
+    assert_eq!(rt;
+        refusal(alloc, &mut board, 0, "A")?,
+        Some(BoardFault::NotClaimed)
+    );
+    assert_eq!(rt;
+        refusal(alloc, &mut board, 3, "D")?,
+        Some(BoardFault::Twice)
+    );
     assert_eq!(rt; refusal(alloc, &mut board, 1, "B")?, None);
     assert_eq!(rt; refusal(alloc, &mut board, 2, "C")?, None);
     assert_eq!(rt; board.claim(), Claim::Module { number: 0 });
