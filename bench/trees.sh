@@ -57,15 +57,15 @@ is_sum() {
   awk '$1 == "weight" { weight = $2 } $1 == "remove" { sum += $4; lines++ } END { exit !(lines && sum == weight) }' report
 }
 
-# A row of the table, and its line for the README in the file lines. Words: the times of cut, check, reading and ctags.
+# A row of the table, and its line for the README in the file lines. Words: the times of cut, cut by one worker, check, reading and ctags.
 row() {
   python3 - "$shape" "$modules" "$imports" "$size" "$(grep -c '^remove ' report)" "$memory" "$@" <<'PY'
 import sys
 shape, modules, imports, size, removed, memory = sys.argv[1], *map(int, sys.argv[2:7])
-cut, check, reading, ctags = map(float, sys.argv[7:])
-ratios = cut / reading, cut / ctags, check / cut, memory * 1024 / size
-print("%-6s %7d %7d %9d %7d | %8.1f %8.1f %8.1f %8.1f | %7.1f %5.1f %5.1f | %6.1f" % (
-    shape, modules, imports, size, removed, cut, check, reading, ctags, *ratios), flush=True)
+cut, alone, check, reading, ctags = map(float, sys.argv[7:])
+ratios = cut / reading, cut / ctags, alone / cut, check / cut, memory * 1024 / size
+print("%-6s %7d %7d %9d %7d | %8.1f %8.1f %8.1f %8.1f %8.1f | %7.1f %5.1f %5.1f %5.1f | %6.1f" % (
+    shape, modules, imports, size, removed, cut, alone, check, reading, ctags, *ratios), flush=True)
 cells = [shape] + [format(number, ",") for number in (modules, imports, size)] + ["%.1f" % ratio for ratio in ratios]
 with open("lines", "a") as file:
     print("|", " | ".join(cells), "|", file=file)
@@ -80,8 +80,8 @@ for shape in "$@"; do
   read -r from to modules imports below above < "$data/$shape.ends"
   echo "$shape: cut from $from, which reaches $below modules, to $to, which $above reach"
 done
-printf '%-6s %7s %7s %9s %7s | %8s %8s %8s %8s | %7s %5s %5s | %6s\n' shape modules imports bytes removed \
-  cut_ms check_ms read_ms ctags_ms reading ctags check memory
+printf '%-6s %7s %7s %9s %7s | %8s %8s %8s %8s %8s | %7s %5s %5s %5s | %6s\n' shape modules imports bytes removed \
+  cut_ms one_ms check_ms read_ms ctags_ms reading ctags one check memory
 : > lines
 for shape in "$@"; do
   tree=$data/$shape
@@ -95,10 +95,11 @@ for shape in "$@"; do
   size=$(cat "$tree"/*.Mod | wc -c)
   cat "$data/c/large.c" "$data/c/large.c" | head -c "$size" > same.c
   [ "$(wc -c < same.c)" = "$size" ] || stop "no C of $size bytes"
-  times=$(python3 "$here/measure.py" -- "$oscip" cut "$tree" "$from" "$to" -- "$oscip" check "$tree" report \
+  times=$(python3 "$here/measure.py" -- "$oscip" cut "$tree" "$from" "$to" -- "$oscip" cut --workers 1 "$tree" "$from" "$to" \
+    -- "$oscip" check "$tree" report \
     -- sh -c 'cat "$0"/*.Mod | wc' "$tree" -- ctags -f - same.c)
   memory=$(env time -f %M "$oscip" cut "$tree" "$from" "$to" 2>&1 > said)
   row $times
 done
-echo "reading, ctags: the time of cut over theirs; check: its time over that of cut; memory: the greatest resident size over the bytes of the tree"
+echo "reading, ctags: the time of cut over theirs; one: that of cut by one worker over it; check: its time over that of cut; memory: the greatest resident size over the bytes of the tree"
 cat lines

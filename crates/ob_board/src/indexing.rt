@@ -71,9 +71,9 @@ fn entries_in<F: NamedIndex + Send + Sync, G: BoardGate + Sync, R: Threads + Wai
     Ok(entries)
 }
 
-/// The entries of the modules of a tree, in the order of the files, made by the calling thread and at most `workers - 1`
-/// others, that call the gate between a claim and its delivery. The fault is the tree's. It may wait for a lock and for its
-/// threads.
+/// The entries of the modules of a tree, in the order of the files, which are read by at most `workers` threads. They are made
+/// by the calling thread and at most `workers - 1` others, that call the gate between a claim and its delivery. The fault is
+/// the tree's. It may wait for a lock and for its threads.
 pub fn entries<G: BoardGate + Sync, R: Threads + Wait + Sync>(
     rt: &R,
     alloc: Global,
@@ -88,7 +88,7 @@ pub fn entries<G: BoardGate + Sync, R: Threads + Wait + Sync>(
     // The fault is the tree's.
     ensures fault { IfErr result (IsTreeFault sources.now) }
 {
-    let tree = tree_parts(alloc, sources)?;
+    let tree = tree_parts(rt, alloc, sources, workers)?;
     let entries = entries_in::<Brand, G, R>(rt, alloc, sources, &tree, options, workers, gate)?;
     Ok(entries)
 }

@@ -12,6 +12,7 @@ use board_workers::entries_alone;
 use oscip_tree::{Source, TreeFault, TreeParts, tree_parts};
 use std::alloc::{AllocError, Global};
 use std::marker::Brand;
+use std::thread::Threads;
 use tree_board::board_graph;
 
 /// The rows of all modules, one behind the other.
@@ -44,14 +45,20 @@ fn listed<F: NamedFiles>(
 }
 
 /// The identifiers of a tree that stand for nothing and aren't predeclared, in the order of the files, and in each by start;
-/// modules are gone through by the calling thread alone. The fault is the tree's.
-pub fn unresolved_in_tree(alloc: Global, sources: &[Source]) -> Result<Vec<Unresolved>, TreeFault>
+/// modules are gone through by the calling thread alone, once the files are read by at most `workers` threads. The fault is
+/// the tree's.
+pub fn unresolved_in_tree<R: Threads + Sync>(
+    rt: &R,
+    alloc: Global,
+    sources: &[Source],
+    workers: u32,
+) -> Result<Vec<Unresolved>, TreeFault>
     // They are exactly these.
     ensures exact { IfOk result (λ rows. AreUnresolved sources.now (map plain_unresolved rows.items)) }
     // The fault is the tree's.
     ensures fault { IfErr result (IsTreeFault sources.now) }
 {
-    let tree = tree_parts(alloc, sources)?;
+    let tree = tree_parts(rt, alloc, sources, workers)?;
     let rows = listed::<Brand>(alloc, sources, &tree)?;
     Ok(rows)
 }

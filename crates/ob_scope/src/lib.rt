@@ -22,6 +22,7 @@ mod uses;
 
 pub use across::{Crossing, crossings};
 pub use fault::ScopeFault;
+pub use making::scopes_from;
 pub use members::{Member, Place};
 pub use module_scopes::{Alias, Scopes};
 pub use scoping::scopes;

@@ -130,18 +130,22 @@ fn scopes_of(
     })
 }
 
-/// The scopes of a module with this table, or two identifiers of one name that it declares in one place. Whether what it
-/// names are identifiers, and that it has no more uses than a text has bytes, is looked at before; no tree of tokens breaks
-/// that.
-pub(crate) fn scopes_from(
+/// The scopes of a module with this table, of these tokens: what `scopes` answers of the tree that the table is of, for a
+/// caller that keeps the table. Memory is also answered where what the table names are no identifiers, or where it has more
+/// uses than a text has bytes; the table of a tree of tokens is never so.
+pub fn scopes_from(
     alloc: Global,
     table: &Table,
     tokens: &[Token],
     bytes: &[u8],
 ) -> Result<Scopes, ScopeFault>
+    // The tokens lie in the bytes.
     requires in_text { AreInText bytes.now tokens.now }
+    // The bytes spell them.
     requires spelled { Spells bytes.now tokens.now }
+    // The scopes are the table's, in which no name is declared twice.
     ensures scoped { IfOk result (AreScopes bytes.now tokens.now (rows_in table.now)) }
+    // The fault is so.
     ensures fault { IfErr result (IsScopeFault bytes.now tokens.now (rows_in table.now)) }
 {
     table.keeps();

@@ -86,7 +86,7 @@ fn run_tree<R: Files + AllocGlobal + Print + Threads + Wait + Sync + Clone + Dro
 }
 
 /// Tells where a module uses another. Nothing of it is a check that says no.
-fn run_crossings<R: Files + AllocGlobal + Print + Clone + Drop>(
+fn run_crossings<R: Files + AllocGlobal + Print + Threads + Sync + Clone + Drop>(
     rt: &R,
     job: &Job,
     folder: &str,
@@ -95,7 +95,7 @@ fn run_crossings<R: Files + AllocGlobal + Print + Clone + Drop>(
 {
     let sources = sources_of(rt, folder)?;
     let mut sink = ToWrite::new(io::writer(rt));
-    answer_crossings(rt.alloc(), job, sources.as_slice(), &mut sink)?;
+    answer_crossings(rt, rt.alloc(), job, sources.as_slice(), &mut sink)?;
     Ok(true)
 }
 
@@ -163,13 +163,13 @@ fn run_index<R: Files + AllocGlobal + Print + Threads + Wait + Sync + Clone + Dr
 }
 
 /// Tells which identifiers of a folder's modules mean nothing. Nothing of it is a check that says no.
-fn run_unresolved<R: Files + AllocGlobal + Print + Clone + Drop>(
+fn run_unresolved<R: Files + AllocGlobal + Print + Threads + Sync + Clone + Drop>(
     rt: &R,
     folder: &str,
 ) -> Result<bool, RunFault> {
     let sources = sources_of(rt, folder)?;
     let mut sink = ToWrite::new(io::writer(rt));
-    unresolved_to(rt.alloc(), sources.as_slice(), &mut sink)?;
+    unresolved_to(rt, rt.alloc(), sources.as_slice(), &mut sink)?;
     Ok(true)
 }
 

@@ -94,9 +94,9 @@ pub fn answer_tree<R: Threads + Wait + Sync, G: Gate + Sync, S: Sink>(
             cut_tree(rt, alloc, sources, from, to, *workers, gate, sink)?;
             Ok(true)
         }
-        Job::Check { .. } => check_tree(alloc, sources, report, sink),
+        Job::Check { .. } => check_tree(rt, alloc, sources, report, sink),
         Job::Dot { .. } => {
-            dot_tree(alloc, sources, report, sink)?;
+            dot_tree(rt, alloc, sources, report, sink)?;
             Ok(true)
         }
         Job::Crossings { .. }

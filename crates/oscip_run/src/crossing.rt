@@ -10,6 +10,7 @@ ghost use Rattle.oscip_tree.specs.Sources.{AreInOrder};
 ghost use Rattle.oscip_tree.specs.declared.source.Source.{Source};
 
 use crate::RunFault;
+use crate::engine::READERS;
 use byte_sink::Sink;
 use cut_solve::SolveFault;
 use index_store::{Place, Position};
@@ -17,6 +18,7 @@ use oscip_job::Job;
 use oscip_query::put_lines;
 use oscip_tree::{Crossed, Source, Span, uses_across};
 use std::alloc::{AllocError, Global};
+use std::thread::Threads;
 
 /// A place in the file of this path.
 fn place_at<'a>(path: &'a str, span: &Span) -> Place<'a>
@@ -76,7 +78,8 @@ fn no_such_module(alloc: Global, name: &str) -> RunFault
 /// 0, columns in bytes, in the order of the file. There are as many as the import weighs, and none where there is no import.
 /// Refuses with `Tree` where the tree is refused, then with `Solve` for the first name that no module has, where the first has
 /// to be that of a module of the tree, and with `Device` or `Memory`.
-pub fn crossings_tree<S: Sink>(
+pub fn crossings_tree<R: Threads + Sync, S: Sink>(
+    rt: &R,
     alloc: Global,
     sources: &[Source],
     from: &str,
@@ -90,7 +93,7 @@ pub fn crossings_tree<S: Sink>(
     // Device is answered where the sink counted a failure, and nowhere else.
     ensures failures { S.failures sink.new ≡ failures_by is_device result (S.failures sink.old) }
 {
-    match uses_across(alloc, sources, from, to)? {
+    match uses_across(rt, alloc, sources, from, to, READERS)? {
         Crossed::Places { path, spans } => put_places(alloc, path.as_str(), spans.as_slice(), sink),
         Crossed::NoImporter => Err(no_such_module(alloc, from)),
         Crossed::NoImported => Err(no_such_module(alloc, to)),
@@ -98,7 +101,8 @@ pub fn crossings_tree<S: Sink>(
 }
 
 /// Runs `crossings_tree` with the names of a job. Refuses as it does.
-pub fn answer_crossings<S: Sink>(
+pub fn answer_crossings<R: Threads + Sync, S: Sink>(
+    rt: &R,
     alloc: Global,
     job: &Job,
     sources: &[Source],
@@ -113,7 +117,7 @@ pub fn answer_crossings<S: Sink>(
 {
     match job {
         Job::Crossings { from, to, .. } => {
-            crossings_tree(alloc, sources, from.as_str(), to.as_str(), sink)
+            crossings_tree(rt, alloc, sources, from.as_str(), to.as_str(), sink)
         }
         Job::Cut { .. }
         | Job::Check { .. }

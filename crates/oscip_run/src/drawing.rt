@@ -8,11 +8,13 @@ ghost use Rattle.oscip_tree.specs.Sources.{AreInOrder};
 ghost use Rattle.oscip_tree.specs.Trees.{IsNetOfTree};
 
 use crate::RunFault;
+use crate::engine::READERS;
 use byte_sink::Sink;
 use cut_dot::draw;
 use cut_net::Net;
 use oscip_tree::{Source, net_of};
 use std::alloc::Global;
+use std::thread::Threads;
 
 /// Reads a report on a network, and puts the picture of what it says.
 fn dot_in<S: Sink>(alloc: Global, net: &Net, report: &[u8], sink: &mut S) -> Result<(), RunFault>
@@ -44,7 +46,8 @@ pub fn dot_net_bytes<S: Sink>(
 
 /// Reads the files of a tree and then a report on it, and puts the picture of what the report says, as `dot_net_bytes` does.
 /// Refuses with `Tree`, `Report`, `Device` or `Memory`.
-pub fn dot_tree<S: Sink>(
+pub fn dot_tree<R: Threads + Sync, S: Sink>(
+    rt: &R,
     alloc: Global,
     sources: &[Source],
     report: &[u8],
@@ -57,6 +60,6 @@ pub fn dot_tree<S: Sink>(
     // Device is answered where the sink counted a failure, and nowhere else.
     ensures failures { S.failures sink.new ≡ failures_by is_device result (S.failures sink.old) }
 {
-    let net = net_of(alloc, sources)?;
+    let net = net_of(rt, alloc, sources, READERS)?;
     dot_in(alloc, &net, report, sink)
 }

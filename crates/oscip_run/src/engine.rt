@@ -21,6 +21,9 @@ use std::alloc::{AllocError, Global};
 use std::sync::Wait;
 use std::thread::Threads;
 
+/// How many threads at most read the files of a tree for a command that asks for no number of workers.
+pub(crate) const READERS: u32 = 4;
+
 /// The name of a module, and no text where the network has no such module.
 fn name_or_none(net: &Net, node: u32) -> &str
     ensures { result.now ≡ name_of net.now node }
@@ -101,7 +104,8 @@ pub fn check_net_bytes<S: Sink>(
 /// Reads the files of a tree and then a report on it, puts the line of the verdict, and answers whether it is yes.
 /// At yes no set of imports that cuts the report's two modules apart weighs less than the report's.
 /// Refuses with `Tree`, `Report`, `Device` or `Memory`.
-pub fn check_tree<S: Sink>(
+pub fn check_tree<R: Threads + Sync, S: Sink>(
+    rt: &R,
     alloc: Global,
     sources: &[Source],
     report: &[u8],
@@ -114,7 +118,7 @@ pub fn check_tree<S: Sink>(
     // Device is answered where the sink counted a failure, and nowhere else.
     ensures failures { S.failures sink.new ≡ failures_by is_device result (S.failures sink.old) }
 {
-    let net = net_of(alloc, sources)?;
+    let net = net_of(rt, alloc, sources, READERS)?;
     check_in(alloc, &net, report, sink)
 }
 
@@ -214,6 +218,6 @@ pub fn cut_tree<R: Threads + Wait + Sync, G: Gate + Sync, S: Sink>(
     // Device is answered where the sink counted a failure, and nowhere else.
     ensures failures { S.failures sink.new ≡ failures_by is_device result (S.failures sink.old) }
 {
-    let network = net_of(alloc, sources)?;
+    let network = net_of(rt, alloc, sources, workers)?;
     cut_in(rt, alloc, &network, a, b, workers, gate, sink)
 }

@@ -10,6 +10,7 @@ ghost use Rattle.oscip_tree.specs.Sources.{AreInOrder};
 ghost use Rattle.scip_symbol.specs.Outcomes.{is_wrong_part};
 
 use crate::RunFault;
+use crate::engine::READERS;
 use byte_sink::{Sink, put_all};
 use ob_board::{BoardGate, IndexOptions, Unresolved, index_tree, unresolved_in_tree};
 use oscip_index::{hex_line, put_index};
@@ -139,7 +140,8 @@ fn lines_of(alloc: Global, rows: &[Unresolved]) -> Result<String, AllocError>
 
 /// Puts a line for each identifier of a tree that stands for nothing and isn't predeclared, as `PATH:LINE:COL NAME`: where it
 /// begins, from 0, columns in bytes, in the order of the files and in each by start. Refuses with `Tree`, `Device` or `Memory`.
-pub fn unresolved_to<S: Sink>(
+pub fn unresolved_to<R: Threads + Sync, S: Sink>(
+    rt: &R,
     alloc: Global,
     sources: &[Source],
     sink: &mut S,
@@ -151,7 +153,7 @@ pub fn unresolved_to<S: Sink>(
     // Device is answered where the sink counted a failure, and nowhere else.
     ensures failures { S.failures sink.new ≡ failures_by is_device result (S.failures sink.old) }
 {
-    let rows = unresolved_in_tree(alloc, sources)?;
+    let rows = unresolved_in_tree(rt, alloc, sources, READERS)?;
     let text = lines_of(alloc, rows.as_slice())?;
     put_all(sink, text.as_bytes())?;
     Ok(())

@@ -41,7 +41,8 @@ use Rattle.oscip_tree.specs.declared.source.Source.{Source}
 use Rattle.oscip_tree.specs.declared.tree.TreeFault.{TreeFault}
 use Rattle.oscip_tree.specs.declared.tree_reading.Tree.{Tree}
 use Rattle.oscip_tree.proofs.SameFiles.{import_over, one_rows}
-use Rattle.oscip_tree.proofs.TreeFiles.{first_fault, there}
+use Rattle.oscip_tree.proofs.ReadFiles.{first_fault, of_tree}
+use Rattle.oscip_tree.proofs.TreeFiles.{there}
 use Rattle.oscip_tree.proofs.TreeNet.{at_left, member_at, place_of, same_at}
 
 -- ---- places of crossings
@@ -224,12 +225,12 @@ module _ (sources : List Source) (tree : Tree) (of : IsTreeOf sources tree) (m n
   take_lengths (suc i) (x ∷ xs) (y ∷ ys) e = ap suc (take_lengths i xs ys (omega arith))
 
   pub fault_at : (v : ℕ) (source : Source) (fault : TreeFault) → v < length sources → source ≡ get_or sources v source → IsFileFault source fault → IsTreeFault sources fault
-  fault_at v source fault within is h = first_fault sources v source (take v of.files) fault within is
+  fault_at v source fault within is h = of_tree sources fault (first_fault sources v source (take v of.files) fault within is
       (record {
         as_many = take_lengths v of.files sources of.read.accepted.as_many;
         each = λ i x file at_source at. of.read.accepted.each i x file (take_there v i sources x at_source) (take_there v i of.files file at);
       })
-      h
+      h)
 
 -- ---- how often
 

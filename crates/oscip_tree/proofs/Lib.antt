@@ -1,6 +1,7 @@
 pub mod InOrder
 pub mod TreeOffsets
 pub mod TreeFiles
+pub mod ReadFiles
 pub mod TreeNet
 pub mod SameFiles
 pub mod OneTreeNet

@@ -24,24 +24,16 @@ use Rattle.oscip_tree.specs.declared.tree.TreeFault.TheVariants as faults
 abbrev pub Each : {X Y : Type 0} → (X → Y → Type 0) → List X → List Y → Type 0
 Each {X} {Y} P xs ys = (i : ℕ) (x : X) (y : Y) → slice_get xs i ≡ Some x → slice_get ys i ≡ Some y → P x y
 
--- an element of a list with one more is one of the list, or the last
-at_end : {X : Type 0} (xs : List X) (x y : X) (i : ℕ) → slice_get (xs ++ x ∷ []) i ≡ Some y → (slice_get xs i ≡ Some y) ⊎ ((i ≡ length xs) × (x ≡ y))
-at_end [] x y zero e = inr (refl, cc)
-at_end [] x y (suc i) e = absurd cc
-at_end (z ∷ xs) x y zero e = inl e
-at_end (z ∷ xs) x y (suc i) e = elim (at_end xs x y i e) [
-  | inl h ↦ inl h
-  | inr h ↦ inr ((let same = h.0 in omega arith), h.1)
-]
+-- and so of two such pairs of lists, one behind the other
+pub each_joined : {X Y : Type 0} (P : X → Y → Type 0) (xs us : List X) (ys vs : List Y) → length ys ≡ length xs → Each P xs ys → Each P us vs → Each P (xs ++ us) (ys ++ vs)
+each_joined P [] us [] vs e p q i a b at_a at_b = q i a b at_a at_b
+each_joined P [] us (y ∷ ys) vs e p q i a b at_a at_b = absurd (omega arith)
+each_joined P (x ∷ xs) us [] vs e p q i a b at_a at_b = absurd (omega arith)
+each_joined P (x ∷ xs) us (y ∷ ys) vs e p q zero a b at_a at_b = p zero a b at_a at_b
+each_joined P (x ∷ xs) us (y ∷ ys) vs e p q (suc i) a b at_a at_b = each_joined P xs us ys vs (omega arith) (λ j c d r s. p (suc j) c d r s) q i a b at_a at_b
 
-pub each_more : {X Y : Type 0} (P : X → Y → Type 0) (xs : List X) (ys : List Y) (x : X) (y : Y) → length ys ≡ length xs → Each P xs ys → P x y → Each P (xs ++ x ∷ []) (ys ++ y ∷ [])
-each_more {X} {Y} P xs ys x y long each last i u v at_u at_v = go (at_end xs x u i at_u) (at_end ys y v i at_v)
-  where
-    go : (slice_get xs i ≡ Some u) ⊎ ((i ≡ length xs) × (x ≡ u)) → (slice_get ys i ≡ Some v) ⊎ ((i ≡ length ys) × (y ≡ v)) → P u v
-    go (inl p) (inl q) = each i u v p q
-    go (inl p) (inr q) = let within = slice_get_within xs i u p in let same = q.0 in absurd (omega arith)
-    go (inr p) (inl q) = let within = slice_get_within ys i v q in let same = p.0 in absurd (omega arith)
-    go (inr p) (inr q) = subst (λ (w : X). P w v) p.1 (subst (λ (w : Y). P x w) q.1 last)
+pub longer : {X Y : Type 0} (xs us : List X) (ys vs : List Y) → length xs ≡ length ys → length us ≡ length vs → length (xs ++ us) ≡ length (ys ++ vs)
+longer xs us ys vs e f = length-append xs us ∙ ap (λ (n : ℕ). n + length us) e ∙ ap (λ (n : ℕ). length ys + n) f ∙ sym (length-append ys vs)
 
 pub same_maps : {X Y Z : Type 0} (f : X → Z) (g : Y → Z) (xs : List X) (ys : List Y) → length xs ≡ length ys → Each (λ x y. f x ≡ g y) xs ys → map f xs ≡ map g ys
 same_maps f g [] [] e h = refl
@@ -63,53 +55,6 @@ take_at {X} xs i x e =
 
 pub at_item : {X : Type 0} (xs : List X) (i : ℕ) (x : X) → i < length xs → x ≡ get_or xs i x → slice_get xs i ≡ Some x
 at_item xs i x l e = slice_get-get_or xs i x l ∙ ap Some (sym e)
-
--- ---- files and their scopes
-
-pub read_none : AreRead [] [] []
-read_none = record {
-  accepted = record { as_many = refl; each = λ i s file p q. absurd cc };
-  as_many = refl;
-  each = λ i file s p q. absurd cc;
-}
-
-pub longer : {X Y : Type 0} (xs : List X) (ys : List Y) (x : X) (y : Y) → length xs ≡ length ys → length (xs ++ x ∷ []) ≡ length (ys ++ y ∷ [])
-longer xs ys x y e = let long_x = length-append xs (x ∷ []) in let long_y = length-append ys (y ∷ []) in omega arith
-
-read_more : (sources : List Source) (files : List ModuleFile) (ss : List ModuleScopes) (source : Source) (file : ModuleFile) (s : ModuleScopes) →
-    AreRead sources files ss → IsAccepted source file → AreScopesOf file s → AreRead (sources ++ source ∷ []) (files ++ file ∷ []) (ss ++ s ∷ [])
-read_more sources files ss source file s read accepted scoped = record {
-  accepted = record {
-    as_many = longer files sources file source read.accepted.as_many;
-    each = each_more IsAccepted sources files source file read.accepted.as_many read.accepted.each accepted;
-  };
-  as_many = longer ss files s file read.as_many;
-  each = each_more AreScopesOf files ss file s read.as_many read.each scoped;
-}
-
--- one more of a list of files
-pub read_next : (sources : List Source) (i : ℕ) (source : Source) (ss : List ModuleScopes) (s : ModuleScopes) → i < length sources → source ≡ get_or sources i source →
-    (files : List ModuleFile) × AreRead (take i sources) files ss → (file : ModuleFile) × IsAccepted source file × AreScopesOf file s → (files : List ModuleFile) × AreRead (take (i + 1) sources) files (ss ++ s ∷ [])
-read_next sources i source ss s l is (files, read) (file, accepted, scoped) = (
-  files ++ file ∷ [],
-  subst (λ (front : List Source). AreRead front (files ++ file ∷ []) (ss ++ s ∷ [])) (sym (take_at sources i source (at_item sources i source l is))) (read_more (take i sources) files ss source file s read accepted scoped),
-)
-
--- the first file with a fault
-pub first_fault : (sources : List Source) (i : ℕ) (source : Source) (files : List ModuleFile) (fault : TreeFault) → i < length sources → source ≡ get_or sources i source →
-    AreAccepted (take i sources) files → IsFileFault source fault → IsTreeFault sources fault
-first_fault sources i source files fault l is accepted = go fault
-  where
-    split : sources ≡ take i sources ++ source ∷ drop (suc i) sources
-    split = sym (take-append-drop i sources) ∙ ap (λ (t : List Source). take i sources ++ t) (drop-cons sources i source l)
-        ∙ ap (λ (s : Source). take i sources ++ s ∷ drop (suc i) sources) (sym is)
-
-    go : (fault : TreeFault) → IsFileFault source fault → IsTreeFault sources fault
-    go (faults.Scan path at fault) h = record { before = take i sources; source = source; after = drop (suc i) sources; split = split; files_before = files; accepted_before = accepted; has_fault = h }
-    go (faults.Parse path at fault) h = record { before = take i sources; source = source; after = drop (suc i) sources; split = split; files_before = files; accepted_before = accepted; has_fault = h }
-    go (faults.Scope path at fault) h = record { before = take i sources; source = source; after = drop (suc i) sources; split = split; files_before = files; accepted_before = accepted; has_fault = h }
-    go (faults.Graph fault) h = absurd h
-    go faults.Memory h = tt
 
 -- ---- what the graph is made of
 

@@ -1,5 +1,6 @@
 pub mod Sources
 pub mod Trees
+pub mod Files
 pub mod TreeReading
 pub mod TreeFaults
 pub mod Crossings

@@ -1,5 +1,5 @@
 -- What is known of each module of a tree.
-use Rattle.std.specs.Prelude.{◌≡◌, ℕ, List, length, slice_get, Some, Box}
+use Rattle.std.specs.Prelude.{◌≡◌, ℕ, List, Box}
 use Rattle.std.specs.declared.alloc.Global.{Global}
 use Rattle.std.specs.Arc.{arc_value}
 use Rattle.digraph.specs.Chains.{IsAcyclic}
@@ -7,7 +7,8 @@ use Rattle.ob_decls.specs.Declaring.{rows_in}
 use Rattle.ob_imports.specs.Files.{Imports}
 use Rattle.ob_imports.specs.Outcomes.{AreKept}
 use Rattle.ob_interface.specs.Interfaces.{interface_of}
-use Rattle.oscip_tree.specs.Trees.{AreAccepted, IsAccepted, ModuleFile, files_of, rows}
+use Rattle.oscip_tree.specs.Files.{AreAllOf, HasKept}
+use Rattle.oscip_tree.specs.Trees.{ModuleFile, files_of, rows}
 use Rattle.oscip_tree.specs.TreeReading.{AreScopesOf}
 use Rattle.oscip_tree.specs.declared.parts.ModuleParts.{ModuleParts}
 use Rattle.oscip_tree.specs.declared.parts.TreeParts.{TreeParts}
@@ -20,15 +21,17 @@ pub record ArePartsOf (file : ModuleFile) (parts : ModuleParts) : Type 0 where
   pub scopes_are : AreScopesOf file parts.scopes
   pub interface_is : arc_value parts.interface ≡ interface_of file.bytes file.tokens (rows file)
 
+-- these are the same, kept in a place of their own
+abbrev pub ArePartsIn : ModuleFile → Box ModuleParts Global → Type 0
+ArePartsIn file parts = ArePartsOf file parts.value
+
 -- the file is accepted, and these are the parts of its module
 abbrev pub HasParts : Source → Box ModuleParts Global → Type 0
-HasParts source parts = (file : ModuleFile) × IsAccepted source file × ArePartsOf file parts.value
+HasParts source parts = HasKept ArePartsIn source parts
 
 -- the files are accepted, and there are the parts of each
-pub record AreAllParts (sources : List Source) (files : List ModuleFile) (all : List (Box ModuleParts Global)) : Type 0 where
-  pub accepted : AreAccepted sources files
-  pub as_many : length all ≡ length files
-  pub each : (k : ℕ) (file : ModuleFile) (parts : Box ModuleParts Global) → slice_get files k ≡ Some file → slice_get all k ≡ Some parts → ArePartsOf file parts.value
+abbrev pub AreAllParts : List Source → List ModuleFile → List (Box ModuleParts Global) → Type 0
+AreAllParts sources files all = AreAllOf ArePartsIn sources files all
 
 -- the graph is that of the files, and there are the parts of each
 pub record ArePartsOfTree (sources : List Source) (files : List ModuleFile) (tree : TreeParts) : Type 0 where

@@ -1,12 +1,13 @@
 -- What is read of a tree on the way to its network.
-use Rattle.std.specs.Prelude.{◌≡◌, ℕ, List, length, slice_get, Some}
+use Rattle.std.specs.Prelude.{List}
 use Rattle.ob_imports.specs.declared.fault.GraphFault.{GraphFault}
 use Rattle.ob_imports.specs.declared.fault.GraphFault.TheVariants as graphs
 use Rattle.digraph.specs.Chains.{IsAcyclic}
 use Rattle.ob_imports.specs.Files.{Imports}
 use Rattle.ob_imports.specs.Outcomes.{AreKept}
 use Rattle.ob_scope.specs.Scoped.{AreScopes, ModuleScopes}
-use Rattle.oscip_tree.specs.Trees.{AreAccepted, IsAccepted, ModuleFile, files_of, rows}
+use Rattle.oscip_tree.specs.Files.{AreAllOf, HasKept}
+use Rattle.oscip_tree.specs.Trees.{ModuleFile, files_of, rows}
 use Rattle.oscip_tree.specs.declared.source.Source.{Source}
 use Rattle.oscip_tree.specs.declared.tree.TreeFault.{TreeFault}
 use Rattle.oscip_tree.specs.declared.tree.TreeFault.TheVariants.{Graph, Memory}
@@ -25,13 +26,11 @@ AreScopesOf file s = AreScopes file.bytes file.tokens (rows file) s
 
 -- the file is accepted, and these are the scopes of its module
 abbrev pub HasScopes : Source → ModuleScopes → Type 0
-HasScopes source s = (file : ModuleFile) × IsAccepted source file × AreScopesOf file s
+HasScopes source s = HasKept AreScopesOf source s
 
 -- the files are accepted, and there are the scopes of each
-pub record AreRead (sources : List Source) (files : List ModuleFile) (ss : List ModuleScopes) : Type 0 where
-  pub accepted : AreAccepted sources files
-  pub as_many : length ss ≡ length files
-  pub each : (i : ℕ) (file : ModuleFile) (s : ModuleScopes) → slice_get files i ≡ Some file → slice_get ss i ≡ Some s → AreScopesOf file s
+abbrev pub AreRead : List Source → List ModuleFile → List ModuleScopes → Type 0
+AreRead sources files ss = AreAllOf AreScopesOf sources files ss
 
 -- the graph is that of the files, and there are the scopes of each
 pub record IsTreeOf (sources : List Source) (tree : Tree) : Type 0 where

@@ -12,16 +12,15 @@ ghost use Rattle.oscip_tree.specs.Crossings.{AreSpans, ArePlaces, IsCrossed, IsC
 ghost use Rattle.oscip_tree.specs.TreeReading.{AreScopesOf};
 ghost use Rattle.oscip_tree.specs.Trees.{files_of, names, IsAccepted, IsFileFault, IsTreeFault, ModuleFile};
 
-use crate::module_file::{parse_fault, scan_fault};
+use crate::module_file::{scan_fault, table_after};
 use crate::tree_reading::read_tree;
 use crate::{Source, TreeFault};
-use ob_decls::{Table, table_of};
 use ob_imports::Graph;
-use ob_parse::parse;
 use ob_scan::laws::tokens_in_text;
 use ob_scan::{Lines, Position, Token, Tokens, lines, scan};
 use ob_scope::{Crossing, Scopes, crossings};
 use std::alloc::{AllocError, Global};
+use std::thread::Threads;
 
 /// A place in a file: from its first byte to behind its last one.
 #[derive(Clone, Copy, PartialEq, Eq, Debug)]
@@ -87,18 +86,6 @@ fn spans_of(
         spans.push(span_of(&lines, tokens, *crossing))?;
     }
     Ok(spans)
-}
-
-/// The table of a file's module with these tokens.
-fn table_after(alloc: Global, source: &Source, tokens: &Tokens) -> Result<Table, TreeFault>
-    requires { IsOutcome source.now.bytes.items (Reads tokens.now) }
-    ensures table { IfOk result (λ t. (m : Module) × IsTheTree source.now.bytes.items tokens.now m × (rows_in t ≡ rows_of m)) }
-    ensures fault { IfErr result (IsFileFault source.now) }
-{
-    match parse(alloc, source.bytes.as_slice(), tokens) {
-        Ok(module) => Ok(table_of(alloc, &module)?),
-        Err(fault) => Err(parse_fault(alloc, source, fault)),
-    }
 }
 
 /// The places in a file, which has these tokens, where its module uses that of this name.
@@ -167,19 +154,21 @@ fn importer_of(graph: &Graph, name: &str) -> Option<u32>
 /// Where the module of the first name uses that of the second: the places of the qualified uses whose alias stands for it, in
 /// order, from the alias's first byte to behind the name that follows the dot; there are as many as the import weighs. The
 /// first name has to be that of a module of the tree, and the second that of one of the tree or of an imported one; what
-/// doesn't import the second has no places.
-pub fn uses_across(
+/// doesn't import the second has no places. The files are read as by `net_of`.
+pub fn uses_across<R: Threads + Sync>(
+    rt: &R,
     alloc: Global,
     sources: &[Source],
     from: &str,
     to: &str,
+    workers: u32,
 ) -> Result<Crossed, TreeFault>
     // Exactly these places, or the first name that no module has.
     ensures crossed { IfOk result (IsCrossed sources.now from.now to.now) }
     // The fault is the tree's.
     ensures fault { IfErr result (IsTreeFault sources.now) }
 {
-    let tree = read_tree(alloc, sources)?;
+    let tree = read_tree(rt, alloc, sources, workers)?;
     let Some(importer) = importer_of(&tree.graph, from) else {
         return Ok(Crossed::NoImporter);
     };

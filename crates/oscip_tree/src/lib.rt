@@ -4,6 +4,7 @@
 #![tactic(auto)]
 
 mod crossing;
+mod files;
 pub mod laws;
 mod module_file;
 mod parts;
@@ -13,7 +14,7 @@ mod tree_fault;
 mod tree_reading;
 
 pub use crossing::{Crossed, Span, uses_across};
-pub use parts::{ModuleParts, TreeParts, parts_of, tree_parts};
+pub use parts::{ModuleParts, TreeParts, tree_parts};
 pub use source::{Source, in_order};
 pub use tree::TreeFault;
 pub use tree_fault::{after_spaces, tree_fault_text, wants_memory};

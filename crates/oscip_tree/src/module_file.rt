@@ -1,11 +1,15 @@
 //! The scopes of one file of a tree, or its fault.
 ghost use Rattle.std.specs.Prelude.{◌≡◌, IfErr, IfOk};
+ghost use Rattle.ob_decls.specs.Declaring.{rows_in, rows_of};
 ghost use Rattle.ob_parse.specs.Parsed.{IsTheTree};
 ghost use Rattle.ob_scan.specs.Spelling.{IsOutcome, Reads};
+ghost use Rattle.ob_tree.specs.declared.declaration.Module.{Module};
 ghost use Rattle.oscip_tree.specs.Trees.{parse_offset, scan_offset, scope_offset, HasParseFault, HasScanFault, HasScopeFault, IsFileFault};
 ghost use Rattle.oscip_tree.specs.TreeReading.{HasScopes};
 
+use crate::files::OfFile;
 use crate::{Source, TreeFault};
+use ob_decls::{Table, table_of};
 use ob_parse::{ParseFault, parse};
 use ob_scan::laws::tokens_in_text;
 use ob_scan::{ScanFault, Tokens, position, scan};
@@ -92,6 +96,22 @@ pub(crate) fn scope_fault(alloc: Global, source: &Source, fault: ScopeFault) -> 
     }
 }
 
+/// The table of a file's module with these tokens.
+pub(crate) fn table_after(
+    alloc: Global,
+    source: &Source,
+    tokens: &Tokens,
+) -> Result<Table, TreeFault>
+    requires { IsOutcome source.now.bytes.items (Reads tokens.now) }
+    ensures table { IfOk result (λ t. (m : Module) × IsTheTree source.now.bytes.items tokens.now m × (rows_in t ≡ rows_of m)) }
+    ensures fault { IfErr result (IsFileFault source.now) }
+{
+    match parse(alloc, source.bytes.as_slice(), tokens) {
+        Ok(module) => Ok(table_of(alloc, &module)?),
+        Err(fault) => Err(parse_fault(alloc, source, fault)),
+    }
+}
+
 /// The scopes of a file's module with this syntax tree, or the fault of its names.
 fn scopes_in(
     alloc: Global,
@@ -122,13 +142,15 @@ fn scopes_after(alloc: Global, source: &Source, tokens: &Tokens) -> Result<Scope
     }
 }
 
-/// The scopes of a file's module, or the file's fault: that of its tokens, of its syntax tree or of its names.
-pub(crate) fn scopes_of(alloc: Global, source: &Source) -> Result<Scopes, TreeFault>
-    ensures scoped { IfOk result (HasScopes source.now) }
-    ensures fault { IfErr result (IsFileFault source.now) }
-{
-    match scan(alloc, source.bytes.as_slice()) {
-        Ok(tokens) => scopes_after(alloc, source, &tokens),
-        Err(fault) => Err(scan_fault(alloc, source, fault)),
+impl OfFile for Scopes {
+    ghost use Rattle.oscip_tree.specs.TreeReading.{AreScopesOf};
+
+    ghost is_of = { AreScopesOf };
+
+    fn of_file(alloc: Global, source: &Source) -> Result<Scopes, TreeFault> {
+        match scan(alloc, source.bytes.as_slice()) {
+            Ok(tokens) => scopes_after(alloc, source, &tokens),
+            Err(fault) => Err(scan_fault(alloc, source, fault)),
+        }
     }
 }

@@ -7,22 +7,23 @@ ghost use Rattle.ob_interface.specs.Interfaces.{interface_of};
 ghost use Rattle.ob_parse.specs.Parsed.{IsTheTree};
 ghost use Rattle.ob_scan.specs.Spelling.{AreInText, IsOutcome, Reads};
 ghost use Rattle.ob_scope.specs.Scoped.{AreScopes};
+ghost use Rattle.ob_tree.specs.declared.declaration.Module.{Module};
 ghost use Rattle.oscip_tree.specs.Parts.{AreAllParts, ArePartsOfTree, HasParts};
 ghost use Rattle.oscip_tree.specs.Trees.{files_of, IsFileFault, IsTreeFault, ModuleFile};
 
-use crate::module_file::{parse_fault, scan_fault, scope_fault};
+use crate::files::{OfFile, read_files};
+use crate::module_file::{scan_fault, scope_fault, table_after};
 use crate::tree_reading::parsed_of;
 use crate::{Source, TreeFault};
-use ob_decls::{Table, table_of};
+use ob_decls::Table;
 use ob_imports::{Graph, Parsed, graph};
 use ob_interface::{Interface, seen_of};
-use ob_parse::parse;
 use ob_scan::laws::tokens_in_text;
 use ob_scan::{Token, Tokens, scan};
-use ob_scope::{Scopes, scopes};
-use ob_tree::declaration::Module;
+use ob_scope::{Scopes, scopes_from};
 use std::alloc::{AllocError, Global};
 use std::sync::Arc;
+use std::thread::Threads;
 
 /// What is known of a file's module: its tokens, what it declares and uses, what each used name means, and what other modules
 /// see of it, to be shared.
@@ -56,21 +57,19 @@ fn shared_interface(
     Ok(Arc::new(alloc, interface)?)
 }
 
-/// The parts of a file's module with these tokens, this syntax tree and these scopes.
+/// The parts of a file's module with these tokens, this table and these scopes.
 fn parts_with(
     alloc: Global,
     source: &Source,
     tokens: Tokens,
-    module: &Module,
+    table: Table,
     scopes: Scopes,
 ) -> Result<Box<ModuleParts>, AllocError>
     requires spelled { IsOutcome source.now.bytes.items (Reads tokens) }
-    requires parsed { IsTheTree source.now.bytes.items tokens «module».now }
-    requires scoped { AreScopes source.now.bytes.items tokens (rows_of «module».now) scopes }
-    ensures { IfOk result (HasParts source.now) }
+    requires scoped { AreScopes source.now.bytes.items tokens (rows_in table) scopes }
+    ensures { IfOk result (λ parts. (tree : Module) → IsTheTree source.now.bytes.items tokens tree → rows_in table ≡ rows_of tree → HasParts source.now parts) }
 {
     tokens_in_text();
-    let table = table_of(alloc, module)?;
     let interface = shared_interface(alloc, &table, tokens.as_slice(), source.bytes.as_slice())?;
     let parts = Box::new(
         alloc,
@@ -84,20 +83,21 @@ fn parts_with(
     Ok(parts)
 }
 
-/// The parts of a file's module with these tokens and this syntax tree, or the fault of its names.
+/// The parts of a file's module with these tokens and this table of its syntax tree, or the fault of its names.
 fn parts_in(
     alloc: Global,
     source: &Source,
     tokens: Tokens,
-    module: &Module,
+    table: Table,
 ) -> Result<Box<ModuleParts>, TreeFault>
     requires spelled { IsOutcome source.now.bytes.items (Reads tokens) }
-    requires parsed { IsTheTree source.now.bytes.items tokens «module».now }
+    requires parsed { (tree : Module) × IsTheTree source.now.bytes.items tokens tree × (rows_in table ≡ rows_of tree) }
     ensures parts { IfOk result (HasParts source.now) }
     ensures fault { IfErr result (IsFileFault source.now) }
 {
-    match scopes(alloc, module, &tokens, source.bytes.as_slice()) {
-        Ok(scopes) => Ok(parts_with(alloc, source, tokens, module, scopes)?),
+    tokens_in_text();
+    match scopes_from(alloc, &table, tokens.as_slice(), source.bytes.as_slice()) {
+        Ok(scopes) => Ok(parts_with(alloc, source, tokens, table, scopes)?),
         Err(fault) => Err(scope_fault(alloc, source, fault)),
     }
 }
@@ -112,33 +112,21 @@ fn parts_after(
     ensures parts { IfOk result (HasParts source.now) }
     ensures fault { IfErr result (IsFileFault source.now) }
 {
-    match parse(alloc, source.bytes.as_slice(), &tokens) {
-        Ok(module) => parts_in(alloc, source, tokens, &module),
-        Err(fault) => Err(parse_fault(alloc, source, fault)),
-    }
+    let table = table_after(alloc, source, &tokens)?;
+    parts_in(alloc, source, tokens, table)
 }
 
-/// The parts of a file's module, or the file's fault: that of its tokens, of its syntax tree or of its names.
-pub fn parts_of(alloc: Global, source: &Source) -> Result<Box<ModuleParts>, TreeFault>
-    ensures parts { IfOk result (HasParts source.now) }
-    ensures fault { IfErr result (IsFileFault source.now) }
-{
-    match scan(alloc, source.bytes.as_slice()) {
-        Ok(tokens) => parts_after(alloc, source, tokens),
-        Err(fault) => Err(scan_fault(alloc, source, fault)),
-    }
-}
+impl OfFile for Box<ModuleParts> {
+    ghost use Rattle.oscip_tree.specs.Parts.{ArePartsIn};
 
-/// The parts of each file's module, or the fault of the first file that has one.
-fn all_parts(alloc: Global, sources: &[Source]) -> Result<Vec<Box<ModuleParts>>, TreeFault>
-    ensures parts { IfOk result (λ v. (files : List ModuleFile) × AreAllParts sources.now files v.items) }
-    ensures fault { IfErr result (IsTreeFault sources.now) }
-{
-    let mut all = Vec::new(alloc);
-    for source in sources {
-        all.push(parts_of(alloc, source)?)?;
+    ghost is_of = { ArePartsIn };
+
+    fn of_file(alloc: Global, source: &Source) -> Result<Box<ModuleParts>, TreeFault> {
+        match scan(alloc, source.bytes.as_slice()) {
+            Ok(tokens) => parts_after(alloc, source, tokens),
+            Err(fault) => Err(scan_fault(alloc, source, fault)),
+        }
     }
-    Ok(all)
 }
 
 /// What the graph of imports is told of the files.
@@ -158,11 +146,17 @@ fn all_told(
 }
 
 /// The tree of the files with the parts of each: of the first file that has a fault its fault, or else that of the imports.
-pub fn tree_parts(alloc: Global, sources: &[Source]) -> Result<TreeParts, TreeFault>
+/// The files are read in at most as many chunks as there are workers, each by a thread of its own where one can be made.
+pub fn tree_parts<R: Threads + Sync>(
+    rt: &R,
+    alloc: Global,
+    sources: &[Source],
+    workers: u32,
+) -> Result<TreeParts, TreeFault>
     ensures parts { IfOk result (λ tree. (files : List ModuleFile) × ArePartsOfTree sources.now files tree) }
     ensures fault { IfErr result (IsTreeFault sources.now) }
 {
-    let modules = all_parts(alloc, sources)?;
+    let modules: Vec<Box<ModuleParts>> = read_files(rt, alloc, sources, workers)?;
     let told = all_told(alloc, sources, modules.as_slice())?;
     let graph = graph(alloc, told.as_slice())?;
     Ok(TreeParts { graph, modules })

@@ -5,13 +5,14 @@ ghost use Rattle.ob_imports.specs.Files.{file_of as parsed_file, files_of as par
 ghost use Rattle.oscip_tree.specs.Trees.{IsAccepted, IsNetOfTree, IsTreeFault, ModuleFile, file_of, files_of};
 ghost use Rattle.oscip_tree.specs.TreeReading.{AreRead, AreScopesOf, IsTreeOf};
 
-use crate::module_file::scopes_of;
+use crate::files::read_files;
 use crate::{Source, TreeFault};
 use cut_net::Net;
 use ob_imports::{Graph, Parsed, graph};
 use ob_scope::Scopes;
 use ob_scope::laws::{one_weight, weight_of_aliases};
 use std::alloc::{AllocError, Global};
+use std::thread::Threads;
 use tree_net::net_of_graph;
 
 /// The graph of the imports of a tree, and the scopes of its modules by their numbers there.
@@ -19,18 +20,6 @@ use tree_net::net_of_graph;
 pub(crate) struct Tree {
     pub(crate) graph: Graph,
     pub(crate) scopes: Vec<Scopes>,
-}
-
-/// The scopes of each file, or the fault of the first file that has one.
-fn all_scopes(alloc: Global, sources: &[Source]) -> Result<Vec<Scopes>, TreeFault>
-    ensures read { IfOk result (λ v. (files : List ModuleFile) × AreRead sources.now files v.items) }
-    ensures fault { IfErr result (IsTreeFault sources.now) }
-{
-    let mut all = Vec::new(alloc);
-    for source in sources {
-        all.push(scopes_of(alloc, source)?)?;
-    }
-    Ok(all)
 }
 
 /// The names of the modules that a module imports, in the order of its import items.
@@ -78,22 +67,33 @@ fn all_parsed(
 }
 
 /// The tree of the files: of the first file that has a fault its fault, or else that of the imports.
-pub(crate) fn read_tree(alloc: Global, sources: &[Source]) -> Result<Tree, TreeFault>
+pub(crate) fn read_tree<R: Threads + Sync>(
+    rt: &R,
+    alloc: Global,
+    sources: &[Source],
+    workers: u32,
+) -> Result<Tree, TreeFault>
     ensures tree { IfOk result (IsTreeOf sources.now) }
     ensures fault { IfErr result (IsTreeFault sources.now) }
 {
-    let scopes = all_scopes(alloc, sources)?;
+    let scopes: Vec<Scopes> = read_files(rt, alloc, sources, workers)?;
     let parsed = all_parsed(alloc, sources, scopes.as_slice())?;
     let graph = graph(alloc, parsed.as_slice())?;
     Ok(Tree { graph, scopes })
 }
 
-/// The network of the imports of a tree, each with how many qualified names cross it.
-pub fn net_of(alloc: Global, sources: &[Source]) -> Result<Net, TreeFault>
+/// The network of the imports of a tree, each with how many qualified names cross it. The files are read in at most as many
+/// chunks as there are workers, each by a thread of its own where one can be made.
+pub fn net_of<R: Threads + Sync>(
+    rt: &R,
+    alloc: Global,
+    sources: &[Source],
+    workers: u32,
+) -> Result<Net, TreeFault>
     ensures net { IfOk result (IsNetOfTree sources.now) }
     ensures fault { IfErr result (IsTreeFault sources.now) }
 {
-    let tree = read_tree(alloc, sources)?;
+    let tree = read_tree(rt, alloc, sources, workers)?;
     tree.graph.keeps();
     weight_of_aliases();
     one_weight();

@@ -5,12 +5,12 @@ use Rattle.ob_board.specs.Unresolved.{plain_unresolved, IsUnresolvedOf}
 use Rattle.ob_board.proofs.listing.unresolved_in_tree.Goals as goal
 
 pub listed-requires-clause-seen : goal.listed-requires-clause-seen
-listed-requires-clause-seen c =
+listed-requires-clause-seen g c =
     let (files, of) = c.in_ok-tree.ensures.parts in
     parts_seen c.args.sources.now files c.in_ok-tree.tree.modules.items of.all c.in_ok-tree.tree.graph of.kept
 
 pub returns-clause-exact : goal.returns-clause-exact
-returns-clause-exact c =
+returns-clause-exact g c =
     let (files, of) = c.in_ok-tree.ensures.parts in
     let tree = c.in_ok-tree.tree in
     record {

@@ -16,20 +16,20 @@ is_node None e = absurd (let f : false ≡ true = e in cc)
 is_node (Some x) e = (x, refl)
 
 pub returns-then-is_none-clause-crossed : goal.returns-then-is_none-clause-crossed
-returns-then-is_none-clause-crossed c =
+returns-then-is_none-clause-crossed g c =
     let none = is_none c.node_of.result (c.is_none.ensures ∙ ap not c.if-is_none.true) in
     crossed_no_imported c.args.sources.now c.in_ok-tree.tree c.in_ok-tree.ensures.tree c.args.from.now c.args.to.now c.in-Some.importer c.in-Some.ensures.found (none ∙ c.node_of.ensures)
 
 pub bounds-sources-importer : goal.bounds-sources-importer
-bounds-sources-importer c = within_sources c.args.sources.now c.in_ok-tree.tree c.in_ok-tree.ensures.tree c.args.from.now c.args.to.now c.in-Some.importer c.in-Some.ensures.found
+bounds-sources-importer g c = within_sources c.args.sources.now c.in_ok-tree.tree c.in_ok-tree.ensures.tree c.args.from.now c.args.to.now c.in-Some.importer c.in-Some.ensures.found
 
 pub index-requires : goal.index-requires
-index-requires c =
+index-requires g c =
     let within = within_scopes c.args.sources.now c.in_ok-tree.tree c.in_ok-tree.ensures.tree c.args.from.now c.args.to.now c.in-Some.importer c.in-Some.ensures.found in
     omega arith
 
 pub returns-clause-crossed : goal.returns-clause-crossed
-returns-clause-crossed c =
+returns-clause-crossed g c =
     let of = c.in_ok-tree.ensures.tree in
     let v = c.in-Some.importer in
     let found = c.in-Some.ensures.found in
@@ -44,7 +44,7 @@ returns-clause-crossed c =
     c.crossed_in.ensures.places
 
 pub returns-clause-fault : goal.returns-clause-fault
-returns-clause-fault c =
+returns-clause-fault g c =
     let of = c.in_ok-tree.ensures.tree in
     let v = c.in-Some.importer in
     let in_sources = within_sources c.args.sources.now c.in_ok-tree.tree of c.args.from.now c.args.to.now v c.in-Some.ensures.found in

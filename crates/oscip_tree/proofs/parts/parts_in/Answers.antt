@@ -1,15 +1,30 @@
-use Rattle.std.proofs.Common.{ℕ, List, subst}
-use Rattle.ob_decls.specs.Declaring.{rows_of}
-use Rattle.ob_scope.specs.Scoped.{IsScopeFault}
+use Rattle.std.proofs.Common.{ℕ, List, sym, subst}
+use Rattle.ob_decls.specs.Declaring.{rows_in}
+use Rattle.ob_decls.specs.Parts.{Rows}
+use Rattle.ob_scan.specs.declared.token.Token.{Token}
+use Rattle.ob_scope.specs.Scoped.{AreScopes, IsScopeFault}
 use Rattle.oscip_tree.proofs.parts.parts_in.Goals as goal
+
+pub scopes_from-requires-clause-in_text : goal.scopes_from-requires-clause-in_text
+scopes_from-requires-clause-in_text c = rw (c.as_slice.ensures, c.as_slice-2.ensures.value) (c.tokens_in_text.ensures _ _ c.requires.spelled.1)
+
+pub scopes_from-requires-clause-spelled : goal.scopes_from-requires-clause-spelled
+scopes_from-requires-clause-spelled c = rw (c.as_slice.ensures, c.as_slice-2.ensures.value) c.requires.spelled.1
+
+pub parts_with-requires-clause-scoped : goal.parts_with-requires-clause-scoped
+parts_with-requires-clause-scoped c =
+    let rows = rows_in c.args.table in
+    subst (λ (bytes : List ℕ). AreScopes bytes c.args.tokens rows c.in-Ok.scopes) c.as_slice-2.ensures.value
+    (subst (λ (ts : List Token). AreScopes c.as_slice-2.result.now ts rows c.in-Ok.scopes) c.as_slice.ensures c.in-Ok.ensures.scoped)
 
 pub scope_fault-requires : goal.scope_fault-requires
 scope_fault-requires c =
-    let ts = c.args.tokens in
-    let m = c.args.«module».now in (
-      ts,
-      m,
+    let (tree, is_tree, same) = c.requires.parsed in (
+      c.args.tokens,
+      tree,
       c.requires.spelled,
-      c.requires.parsed,
-      subst (λ (bytes : List ℕ). IsScopeFault bytes ts (rows_of m) c.in-Err.fault) c.as_slice.ensures.value c.in-Err.ensures.fault,
+      is_tree,
+      subst (λ (rows : Rows). IsScopeFault c.args.source.now.bytes.items c.args.tokens rows c.in-Err.fault) same
+          (subst (λ (bytes : List ℕ). IsScopeFault bytes c.args.tokens (rows_in c.args.table) c.in-Err.fault) c.as_slice-2.ensures.value
+          (subst (λ (ts : List Token). IsScopeFault c.as_slice-2.result.now ts (rows_in c.args.table) c.in-Err.fault) c.as_slice.ensures c.in-Err.ensures.fault)),
     )

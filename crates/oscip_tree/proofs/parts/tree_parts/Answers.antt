@@ -7,8 +7,8 @@ use Rattle.oscip_tree.specs.Parts.{AreAllParts}
 use Rattle.oscip_tree.proofs.parts.tree_parts.Goals as goal
 
 pub returns-clause-parts : goal.returns-clause-parts
-returns-clause-parts c =
-    let (files, are) = c.in_ok-modules.ensures.parts in
+returns-clause-parts g c =
+    let (files, are) = c.in_ok-modules.ensures.kept in
     let told = c.in_ok-told.ensures files (subst (AreAllParts c.args.sources.now files) (sym c.as_slice.ensures.value) are) in
     let whole : parsed_files c.as_slice-2.result.now ≡ files_of files = ap parsed_files c.as_slice-2.ensures.value ∙ told in
     let (kept, acyclic) = c.in_ok-graph.ensures.exact in (

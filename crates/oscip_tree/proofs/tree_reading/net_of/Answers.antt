@@ -9,7 +9,7 @@ use Rattle.oscip_tree.proofs.TreeNet.{names_named, net_of_tree}
 use Rattle.oscip_tree.proofs.tree_reading.net_of.Goals as goal
 
 pub net_of_graph-requires-clause-as_many : goal.net_of_graph-requires-clause-as_many
-net_of_graph-requires-clause-as_many c =
+net_of_graph-requires-clause-as_many g c =
     let of = c.in_ok-tree.ensures.tree in
     let many = of.read.as_many in
     let long = length-map of.files file_of in
@@ -17,12 +17,12 @@ net_of_graph-requires-clause-as_many c =
     rw c.as_slice.ensures.value (omega arith)
 
 pub net_of_graph-requires-clause-named : goal.net_of_graph-requires-clause-named
-net_of_graph-requires-clause-named c =
+net_of_graph-requires-clause-named g c =
     let of = c.in_ok-tree.ensures.tree in
     names_named c.args.sources.now of.files c.in_ok-tree.tree.graph of.kept c.in_ok-tree.tree.scopes.items of.read
 
 pub returns-clause-net : goal.returns-clause-net
-returns-clause-net c =
+returns-clause-net g c =
     let of = c.in_ok-tree.ensures.tree in
     let g = c.in_ok-tree.tree.graph in
     let is = subst (λ (ss : List ModuleScopes). IsNetOf (graph_lines g ss) c.in_ok-net_of_graph.field-0) c.as_slice.ensures.value c.in_ok-net_of_graph.ensures in

@@ -7,8 +7,8 @@ use Rattle.oscip_tree.specs.TreeReading.{AreRead}
 use Rattle.oscip_tree.proofs.tree_reading.read_tree.Goals as goal
 
 pub returns-clause-tree : goal.returns-clause-tree
-returns-clause-tree c =
-    let (files, read) = c.in_ok-scopes.ensures.read in
+returns-clause-tree g c =
+    let (files, read) = c.in_ok-scopes.ensures.kept in
     let told = c.in_ok-parsed.ensures files (subst (AreRead c.args.sources.now files) (sym c.as_slice.ensures.value) read) in
     let whole : parsed_files c.as_slice-2.result.now ≡ files_of files = ap parsed_files c.as_slice-2.ensures.value ∙ told in
     let (kept, acyclic) = c.in_ok-graph.ensures.exact in

@@ -1,6 +1,6 @@
 use Rattle.std.proofs.Common.{ℕ, List, subst}
 use Rattle.ob_parse.specs.Parsed.{IsTheTree}
-use Rattle.oscip_tree.proofs.crossing.table_after.Goals as goal
+use Rattle.oscip_tree.proofs.module_file.table_after.Goals as goal
 
 pub returns-in_ok-table_of-in-Ok-clause-table : goal.returns-in_ok-table_of-in-Ok-clause-table
 returns-in_ok-table_of-in-Ok-clause-table c =
