@@ -1,8 +1,7 @@
-//! Levels for the first paths: numbers for the nodes of a graph such that each arc leads to a higher one, where its arcs have no
-//! cycle. Nothing is proved of them but how many there are.
+//! An order of the nodes of a graph along its arcs, where these have no cycle. Nothing is proved of it but which numbers it has.
 ghost use Rattle.std.specs.Prelude.{◌≡◌, ◌<◌, All, IfOk, OnOk, length, vec_len};
 
-use cut_residual::{Arc, ResidualGraph};
+use crate::{Arc, ResidualGraph};
 use std::alloc::{AllocError, Global};
 
 /// How many arcs lead to each node.
@@ -58,21 +57,35 @@ fn release(
     Ok(())
 }
 
-/// A number for each node: a node's comes after those of all nodes that have arcs to it.
-pub(crate) fn order_of(alloc: Global, graph: &ResidualGraph) -> Result<Vec<u32>, AllocError>
-    ensures { IfOk result (λ order. vec_len order ≡ graph.now.nodes) }
+/// The nodes in an order in which each arc leads onwards, where the arcs have no cycle. Fails where memory is refused.
+pub fn order_of(alloc: Global, graph: &ResidualGraph) -> Result<Vec<u32>, AllocError>
+    ensures { IfOk result (λ order. All (λ n. n < graph.now.nodes) order.items) }
 {
     graph.keeps();
     let nodes = graph.nodes();
     let mut counts = entering_of(alloc, graph.arcs(), nodes)?;
     let mut free = free_of(alloc, &counts, nodes)?;
-    let mut order = vec![in alloc; 0u32; nodes as usize]?;
-    for number in 0..nodes {
+    let mut order = Vec::new(alloc);
+    for _ in 0..nodes {
         let Some(node) = free.pop() else {
             return Ok(order);
         };
-        order[node as usize] = number;
+        order.push(node)?;
         release(graph, node, &mut counts, &mut free)?;
     }
     Ok(order)
+}
+
+/// For each node the place where it stands in the order; 0 for one that doesn't.
+pub fn places_of(alloc: Global, order: &[u32], nodes: u32) -> Result<Vec<u32>, AllocError>
+    requires within { All (λ n. n < nodes) order.now }
+    ensures { IfOk result (λ places. vec_len places ≡ nodes) }
+{
+    let mut places = vec![in alloc; 0u32; nodes as usize]?;
+    let mut place = 0u32;
+    for node in order {
+        places[*node as usize] = place;
+        place = place.saturating_add(1);
+    }
+    Ok(places)
 }

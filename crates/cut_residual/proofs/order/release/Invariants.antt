@@ -1,6 +1,6 @@
 use Rattle.std.proofs.Common.{◌≡◌, ◌<◌, vec_len}
 use Rattle.std.specs.Prelude.{All}
-use Rattle.cut_solve.proofs.order.release.Given as goal
+use Rattle.cut_residual.proofs.order.release.Given as goal
 
 abbrev pub invariant-loop-step : goal.invariant-loop-step
 invariant-loop-step l = record {

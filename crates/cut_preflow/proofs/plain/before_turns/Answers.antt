@@ -5,7 +5,7 @@ use Rattle.cut_preflow.specs.Indexed.{IsIndexed}
 use Rattle.cut_preflow.specs.Preflow.{into, opening, opening_flows}
 use Rattle.cut_preflow.specs.Played.{flow_network}
 use Rattle.cut_preflow.proofs.Saturating.{opening_indexed}
-use Rattle.cut_preflow.proofs.plain.opening.Goals as goal
+use Rattle.cut_preflow.proofs.plain.before_turns.Goals as goal
 
 pub invariant_of-result : goal.invariant_of-result
 invariant_of-result c =

@@ -1,6 +1,6 @@
 use Rattle.std.proofs.Common.{arith}
 use Rattle.cut_residual.specs.Graphs.{no_arc}
-use Rattle.cut_solve.proofs.order.entering_of.Goals as goal
+use Rattle.cut_residual.proofs.order.entering_of.Goals as goal
 
 pub index-count-requires : goal.index-count-requires
 index-count-requires c =
