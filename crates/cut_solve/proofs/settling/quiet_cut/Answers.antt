@@ -12,8 +12,8 @@ use Rattle.cut_residual.specs.Graphs.{Graph, AreClosed, AreReached}
 use Rattle.cut_solve.specs.GreatestFlow.{IsGreatest}
 use Rattle.cut_solve.specs.Lines.{has_flow, flow_line}
 use Rattle.cut_solve.specs.Settling.{carrying}
-use Rattle.cut_solve.proofs.Settled.{carrying_between, carrying_within, settled_flow, settled_greatest}
-use Rattle.cut_solve.proofs.Started.{start_lowered, start_size}
+use Rattle.cut_solve.proofs.Settled.{below_flow, carrying_between, carrying_within, settled_end, settled_flow, settled_greatest}
+use Rattle.cut_solve.proofs.Started.{below_size}
 use Rattle.cut_solve.proofs.settling.quiet_cut.Goals as goal
 
 -- what the preflow started on, as a network of the modules
@@ -24,7 +24,7 @@ module _ (net : Network) (a b : ℕ) (p : FlowNetwork) (nodes : p.nodes ≡ leng
 pub carrying-requires-clause-imports : goal.carrying-requires-clause-imports
 carrying-requires-clause-imports g c =
     let p = c.args.preflow.now.play.net in
-    start_size c.args.net.now c.args.from c.args.to c.keeps.ensures c.requires.ends p.imports p.source p.sink c.requires.start ∙ ap length (sym c.imports.ensures)
+    below_size c.args.net.now c.args.from c.args.to c.keeps.ensures c.requires.ends p.imports p.source p.sink c.requires.start ∙ ap length (sym c.imports.ensures)
 
 pub new-requires-clause-within : goal.new-requires-clause-within
 new-requires-clause-within g c =
@@ -32,10 +32,10 @@ new-requires-clause-within g c =
     let p = c.args.preflow.now.play.net in
     let s = state_of c.args.preflow.now.play in
     let kept = c.keeps-2.ensures.sound.kept in
-    let size = start_size net c.args.from c.args.to c.keeps.ensures c.requires.ends p.imports p.source p.sink c.requires.start in
+    let size = below_size net c.args.from c.args.to c.keeps.ensures c.requires.ends p.imports p.source p.sink c.requires.start in
     let arcs : c.in_ok-arcs.arcs.items ≡ carrying net.imports s.flow = c.in_ok-arcs.ensures ∙ ap (λ v. carrying v s.flow) c.imports.ensures in
     subst (All (λ (r : Arc). r.flow ≤ r.capacity)) (sym arcs) (carrying_within net.imports s.flow (kept.flows ∙ size) (λ k h.
-    let low = start_lowered net c.args.from c.args.to c.keeps.ensures c.requires.ends p.imports p.source p.sink c.requires.start k h in
+    let low = c.requires.start.lowered k in
     let fits = kept.fits k (omega arith) in
     omega arith))
 
@@ -45,7 +45,7 @@ new-requires-clause-between g c =
     let p = c.args.preflow.now.play.net in
     let s = state_of c.args.preflow.now.play in
     let kept = c.keeps-2.ensures.sound.kept in
-    let size = start_size net c.args.from c.args.to c.keeps.ensures c.requires.ends p.imports p.source p.sink c.requires.start in
+    let size = below_size net c.args.from c.args.to c.keeps.ensures c.requires.ends p.imports p.source p.sink c.requires.start in
     let arcs : c.in_ok-arcs.arcs.items ≡ carrying net.imports s.flow = c.in_ok-arcs.ensures ∙ ap (λ v. carrying v s.flow) c.imports.ensures in
     subst (λ n. All (λ (r : Arc). (r.from < n) × (r.to < n)) c.in_ok-arcs.arcs.items) (sym c.nodes.ensures)
     (subst (All (λ (r : Arc). (r.from < length net.names) × (r.to < length net.names))) (sym arcs)
@@ -60,16 +60,15 @@ cut_by-requires-clause-greatest g c =
     let s = state_of c.args.preflow.now.play in
     let near = c.in_ok-near.near.seen.items in
     let whole = started net a b p c.requires.nodes in
-    let size = start_size net a b c.keeps.ensures c.requires.ends p.imports p.source p.sink c.requires.start in
+    let size = below_size net a b c.keeps.ensures c.requires.ends p.imports p.source p.sink c.requires.start in
     let arcs : c.in_ok-arcs.arcs.items ≡ carrying net.imports s.flow = c.in_ok-arcs.ensures ∙ ap (λ v. carrying v s.flow) c.imports.ensures in
     let graph : c.in_ok-graph.graph ≡ record { nodes = length net.names; arcs = carrying net.imports s.flow } =
     c.in_ok-graph.ensures ∙ (λ i. record { nodes = c.nodes.ensures i; arcs = arcs i }) in
-    let flow = settled_flow net a b c.keeps.ensures c.requires.ends p.imports p.source p.sink c.requires.start s
-    (subst (λ (f : FlowNetwork). HasFlow f s) whole (c.keeps-2.ensures.flow c.requires.quiet))
-    (subst (λ (f : FlowNetwork). IsShutOff f s) whole (c.keeps-2.ensures.shut c.requires.quiet)) in
-    let greatest = settled_greatest net a b s.flow flow.0 near c.keeps.ensures.imports_ascend c.requires.ends.from_in (c.keeps-2.ensures.sound.kept.flows ∙ size) flow.1
+    let flow = below_flow net a b c.keeps.ensures c.requires.ends p.imports p.source p.sink c.requires.start s
+    (subst (λ (f : FlowNetwork). HasFlow f s) whole (c.keeps-2.ensures.flow c.requires.quiet)) in
+    let greatest = settled_greatest net a b s.flow near c.keeps.ensures.imports_ascend c.requires.ends.from_in (c.keeps-2.ensures.sound.kept.flows ∙ size)
     (subst (λ (v : Graph). AreReached v a near) graph c.in_ok-near.ensures.reached)
-    (subst (λ (v : Graph). AreClosed v.arcs near) graph c.in_ok-near.ensures.closed) in
+    (subst (λ (v : Graph). AreClosed v.arcs near) graph c.in_ok-near.ensures.closed) flow.0 flow.1 ? in
     let lines : c.in_ok-flow.flow.items ≡ filter has_flow (map flow_line (carrying net.imports s.flow)) =
     c.in_ok-flow.ensures ∙ ap (λ v. filter has_flow (map flow_line v)) (c.arcs.ensures ∙ ap (λ (v : Graph). v.arcs) graph) in
     subst (λ v. IsGreatest net a b v c.in_ok-flow.flow.items) (sym c.deref.ensures.value)
