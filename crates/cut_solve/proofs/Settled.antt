@@ -198,27 +198,28 @@ module _ (net : Network) (a b : ℕ) (is : IsNetwork net) (ends : AreEnds net a 
   -- the flow of what the preflow started on is a flow of the network
   pub below_flow : HasFlow (network_on (length net.names) imports source sink) s → (value : ℕ) × IsFlow net a b on_net value
   below_flow has =
-      let flow = has (with_imports net imports) refl in
+      let there = with_imports net imports in
+      let on = flow_by (flow_lines imports s.flow) in
+      let value = value_of (network_on (length net.names) imports source sink) s in
+      let flow : IsFlow there source sink on value = has there refl in
       elim below.way [
-        | inl w ↦ (_, forth w.0 _ (subst (λ m. IsFlow (with_imports net imports) m b _ _) w.1 (subst (λ k. IsFlow (with_imports net imports) source k _ _) w.2 flow)))
-        | inr w ↦ (_, back w.0 _ (subst (λ m. IsFlow (with_imports net imports) m a _ _) w.1 (subst (λ k. IsFlow (with_imports net imports) source k _ _) w.2 flow)))
+        | inl w ↦ (value, forth w.0 value (subst (λ (m : ℕ). IsFlow there m b on value) w.1 (subst (λ (k : ℕ). IsFlow there source k on value) w.2 flow)))
+        | inr w ↦ (value, back w.0 value (subst (λ (m : ℕ). IsFlow there m a on value) w.1 (subst (λ (k : ℕ). IsFlow there source k on value) w.2 flow)))
       ]
 
 -- the flow of the arcs is that flow
 module _ (net : Network) (a b : ℕ) (flow : List ℕ) (near : List Bool) (up : IsAscending net.imports) (a_in : a < length net.names) (same : length flow ≡ length net.imports)
     (are : AreReached (record { nodes = length net.names; arcs = carrying net.imports flow }) a near) (shut : AreClosed (carrying net.imports flow) near) where
-  arcs : List Arc
+  abbrev arcs : List Arc
   arcs = carrying net.imports flow
 
-  on : Priced → ℕ
+  abbrev on : Priced → ℕ
   on = flow_by (flow_lines net.imports flow)
 
   imports_are : imports_of arcs ≡ net.imports
-  unfolding arcs
   imports_are = carrying_imports net.imports flow same
 
   agree : (i : Priced) → Contains net.imports i → on i ≡ flow_on arcs i
-  unfolding arcs, on
   agree = at_numbers net.imports (λ i. on i ≡ flow_on arcs i) (λ k h.
       let size : length arcs ≡ length net.imports = sym (length-map arcs import_on) ∙ ap length imports_are in
       let here : import_on (get_or arcs k no_arc) ≡ import_in net.imports k =
@@ -228,11 +229,9 @@ module _ (net : Network) (a b : ℕ) (flow : List ℕ) (near : List Bool) (up : 
 
   pub settled_greatest : (value : ℕ) → IsFlow net a b (flow_by (flow_lines net.imports flow)) value → is_seen near b ≡ false →
       IsGreatest net a b near (filter has_flow (map flow_line (carrying net.imports flow)))
-  unfolding arcs, on
   settled_greatest value is end = greatest_by net arcs a b value imports_are up a_in (same_flow net a b on (flow_on arcs) agree value is) near are shut end
 
   pub settled_end : IsBarred net (flow_by (flow_lines net.imports flow)) a b → is_seen near b ≡ false
-  unfolding arcs, on
   settled_end barred = end_unmarked net arcs a b imports_are up a_in (
     barred.0,
     record {

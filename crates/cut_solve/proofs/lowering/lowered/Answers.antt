@@ -7,7 +7,7 @@ use Rattle.cut_residual.specs.Graphs.{Graph}
 use Rattle.cut_solve.specs.Lines.{empty_of, flow_line}
 use Rattle.cut_solve.specs.Starts.{IsLowered}
 use Rattle.cut_solve.proofs.Flowing.{empty_between, empty_within, same_imports}
-use Rattle.cut_solve.proofs.Lowering.{flows_lower}
+use Rattle.cut_solve.proofs.Lower.{flows_lower}
 use Rattle.cut_solve.proofs.lowering.lowered.Goals as goal
 
 pub new-requires-clause-within : goal.new-requires-clause-within

@@ -1,5 +1,7 @@
-use Rattle.std.proofs.Common.{◌≡◌, ◌<◌, ◌≤◌, ◌∙◌, ℕ, List, length, get_or, ap, sym, subst, arith}
+use Rattle.std.proofs.Common.{◌≡◌, ◌<◌, ◌≤◌, ◌∙◌, ℕ, true, false, List, length, get_or, ap, sym, subst, arith}
 use Rattle.std.specs.Prelude.{All, filter, map}
+use Rattle.std.proofs.lemmas.Bool.{both_ways}
+use Rattle.std.proofs.lemmas.List.{get_or_default}
 use Rattle.std.proofs.lemmas.List.Elements.{Contains-get_or}
 use Rattle.cut_net.specs.declared.priced.Priced.{Priced}
 use Rattle.cut_net.specs.Network.{Network, none_there}
@@ -8,7 +10,7 @@ use Rattle.cut_preflow.specs.Preflow.{count, FlowNetwork}
 use Rattle.cut_preflow.specs.Flows.{HasFlow, IsShutOff, network_on}
 use Rattle.cut_preflow.specs.Played.{state_of}
 use Rattle.cut_residual.specs.declared.arc.Arc.{Arc}
-use Rattle.cut_residual.specs.Graphs.{Graph, AreClosed, AreReached}
+use Rattle.cut_residual.specs.Graphs.{is_seen, Graph, AreClosed, AreReached}
 use Rattle.cut_solve.specs.GreatestFlow.{IsGreatest}
 use Rattle.cut_solve.specs.Lines.{has_flow, flow_line}
 use Rattle.cut_solve.specs.Settling.{carrying}
@@ -64,12 +66,36 @@ cut_by-requires-clause-greatest g c =
     let arcs : c.in_ok-arcs.arcs.items ≡ carrying net.imports s.flow = c.in_ok-arcs.ensures ∙ ap (λ v. carrying v s.flow) c.imports.ensures in
     let graph : c.in_ok-graph.graph ≡ record { nodes = length net.names; arcs = carrying net.imports s.flow } =
     c.in_ok-graph.ensures ∙ (λ i. record { nodes = c.nodes.ensures i; arcs = arcs i }) in
+    let reached : AreReached (record { nodes = length net.names; arcs = carrying net.imports s.flow }) a near = subst (λ (v : Graph). AreReached v a near) graph c.in_ok-near.ensures.reached in
+    let there : b < length near = omega (arith, reached.size, c.requires.ends.to_in) in
+    let unmarked : is_seen near b ≡ false = sym (get_or_default near b c.index.result.now false there) ∙ sym c.index.ensures ∙ c.if-index.false in
     let flow = below_flow net a b c.keeps.ensures c.requires.ends p.imports p.source p.sink c.requires.start s
     (subst (λ (f : FlowNetwork). HasFlow f s) whole (c.keeps-2.ensures.flow c.requires.quiet)) in
     let greatest = settled_greatest net a b s.flow near c.keeps.ensures.imports_ascend c.requires.ends.from_in (c.keeps-2.ensures.sound.kept.flows ∙ size)
-    (subst (λ (v : Graph). AreReached v a near) graph c.in_ok-near.ensures.reached)
-    (subst (λ (v : Graph). AreClosed v.arcs near) graph c.in_ok-near.ensures.closed) flow.0 flow.1 ? in
+    reached (subst (λ (v : Graph). AreClosed v.arcs near) graph c.in_ok-near.ensures.closed) flow.0 flow.1 unmarked in
     let lines : c.in_ok-flow.flow.items ≡ filter has_flow (map flow_line (carrying net.imports s.flow)) =
     c.in_ok-flow.ensures ∙ ap (λ v. filter has_flow (map flow_line v)) (c.arcs.ensures ∙ ap (λ (v : Graph). v.arcs) graph) in
     subst (λ v. IsGreatest net a b v c.in_ok-flow.flow.items) (sym c.deref.ensures.value)
     (subst (IsGreatest net a b near) (sym lines) greatest)
+
+pub returns-then-index-clause-found : goal.returns-then-index-clause-found
+returns-then-index-clause-found g c = λ start.
+    let net = c.args.net.now in
+    let a = c.args.from in
+    let b = c.args.to in
+    let p = c.args.preflow.now.play.net in
+    let s = state_of c.args.preflow.now.play in
+    let near = c.in_ok-near.near.seen.items in
+    let whole = started net a b p c.requires.nodes in
+    let size = below_size net a b c.keeps.ensures c.requires.ends p.imports p.source p.sink c.requires.start in
+    let arcs : c.in_ok-arcs.arcs.items ≡ carrying net.imports s.flow = c.in_ok-arcs.ensures ∙ ap (λ v. carrying v s.flow) c.imports.ensures in
+    let graph : c.in_ok-graph.graph ≡ record { nodes = length net.names; arcs = carrying net.imports s.flow } =
+    c.in_ok-graph.ensures ∙ (λ i. record { nodes = c.nodes.ensures i; arcs = arcs i }) in
+    let reached : AreReached (record { nodes = length net.names; arcs = carrying net.imports s.flow }) a near = subst (λ (v : Graph). AreReached v a near) graph c.in_ok-near.ensures.reached in
+    let there : b < length near = omega (arith, reached.size, c.requires.ends.to_in) in
+    let marked : is_seen near b ≡ true = sym (get_or_default near b c.index.result.now false there) ∙ sym c.index.ensures ∙ c.if-index.true in
+    let flow = settled_flow net a b c.keeps.ensures c.requires.ends p.imports p.source p.sink start s
+    (subst (λ (f : FlowNetwork). HasFlow f s) whole (c.keeps-2.ensures.flow c.requires.quiet))
+    (subst (λ (f : FlowNetwork). IsShutOff f s) whole (c.keeps-2.ensures.shut c.requires.quiet)) in
+    absurd (both_ways (is_seen near b) (settled_end net a b s.flow near c.keeps.ensures.imports_ascend c.requires.ends.from_in (c.keeps-2.ensures.sound.kept.flows ∙ size)
+    reached (subst (λ (v : Graph). AreClosed v.arcs near) graph c.in_ok-near.ensures.closed) flow.1.barred) marked)
