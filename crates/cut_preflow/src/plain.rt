@@ -12,6 +12,7 @@ use crate::excesses::{carry, saturate};
 use crate::node_arcs::arcs_of;
 use crate::node_set::NodeSet;
 use crate::sums::{excess, head, residual, tail};
+use crate::tour::Tour;
 use crate::{Event, Outcome, Step};
 use cut_net::{Net, Priced};
 use std::alloc::{AllocError, Global};
@@ -20,7 +21,7 @@ use std::marker::Model;
 /// A preflow on a network between two of its modules (Goldberg and Tarjan 1988, section 3): a flow for each import and a label for each
 /// module, with the events that were applied. Contracts see the network and the events: flows and labels are what these lead to.
 /// So that a step goes over the arcs of one node alone, it also has the arcs of each node, the excess of each node but the source,
-/// and the nodes that are active.
+/// and the nodes that are active; and an order in which these take their turns.
 #[derive(Drop)]
 pub(crate) struct PlainPreflow {
     ends: Ends,
@@ -31,6 +32,7 @@ pub(crate) struct PlainPreflow {
     arcs: Vec<Vec<u32>>,
     excesses: Vec<u64>,
     active: NodeSet,
+    tour: Tour,
 }
 
 impl Model for PlainPreflow {
@@ -65,8 +67,8 @@ fn opening_labels(alloc: Global, ends: Ends) -> Result<Vec<u32>, AllocError>
     Ok(labels)
 }
 
-/// The opening on a network of nodes, whose imports stand in any order.
-pub(crate) fn opening(
+/// The opening, before it is any node's turn.
+fn before_turns(
     alloc: Global,
     ends: Ends,
     imports: Vec<Priced>,
@@ -78,6 +80,7 @@ pub(crate) fn opening(
     let flows = opening_flows(alloc, ends.source, imports.as_slice())?;
     let labels = opening_labels(alloc, ends)?;
     let arcs = arcs_of(alloc, imports.as_slice(), ends.nodes)?;
+    let tour = Tour::along(alloc, imports.as_slice(), ends.nodes)?;
     let mut excesses = vec![in alloc; 0u64; ends.nodes as usize]?;
     let mut active = NodeSet::new(alloc, ends.nodes)?;
     saturate(ends, imports.as_slice(), &mut excesses, &mut active);
@@ -90,7 +93,23 @@ pub(crate) fn opening(
         arcs,
         excesses,
         active,
+        tour,
     })
+}
+
+/// The opening on a network of nodes, whose imports stand in any order.
+pub(crate) fn opening(
+    alloc: Global,
+    ends: Ends,
+    imports: Vec<Priced>,
+) -> Result<PlainPreflow, AllocError>
+    requires network { IsFlowNetwork (flow_network ends imports.items) }
+    requires limits { IsWithinLimits (flow_network ends imports.items) }
+    ensures { IfOk result (λ p. p ≡ record { net = flow_network ends imports.items; history = [] }) }
+{
+    let mut preflow = before_turns(alloc, ends, imports)?;
+    preflow.go_on();
+    Ok(preflow)
 }
 
 impl PlainPreflow {
@@ -123,9 +142,57 @@ impl PlainPreflow {
         ensures history { self.new ≡ record self.old { history = history_after self.old.history event result } }
         ensures state { result ≢ Outcome.Refused → state_of self.new ≡ after self.old.net (state_of self.old) event.step }
     {
+        let outcome = self.take(event);
+        self.go_on();
+        outcome
+    }
+
+    /// The same, with the turn left as it is.
+    fn take(&mut self, event: Event) -> Outcome
+        ensures stale { (result ≡ Outcome.Stale) ↔ (applies self.old.net (state_of self.old) event.step ≡ false) }
+        ensures outcome { result ≢ Outcome.Refused → result ≡ outcome_of self.old.net (state_of self.old) event.step }
+        ensures history { self.new ≡ record self.old { history = history_after self.old.history event result } }
+        ensures state { result ≢ Outcome.Refused → state_of self.new ≡ after self.old.net (state_of self.old) event.step }
+    {
         match event.step {
             Step::Push { arc } => self.push(event, arc),
             Step::Relabel { node } => self.relabel(event, node),
+        }
+    }
+
+    /// Goes on to an active node's turn, if there is one.
+    fn go_on(&mut self)
+        ensures { self.new ≡ self.old }
+    {
+        for _ in 0..self.tour.len() {
+            if self.turn().is_some() {
+                return;
+            }
+            self.tour.go_on();
+        }
+    }
+
+    /// The node whose turn it is, where it is active.
+    fn turn(&self) -> Option<u32>
+        ensures { IfSome result (λ v. is_active self.now.net (state_of self.now) v ≡ true) }
+    {
+        let node = self.tour.node()?;
+        if self.is_active(node) {
+            Some(node)
+        } else {
+            None
+        }
+    }
+
+    /// An active node: the one whose turn it is, if it is one's.
+    pub(crate) fn next_node(&self) -> Option<u32>
+        ensures some { IfSome result (λ v. is_active self.now.net (state_of self.now) v ≡ true) }
+        ensures none { IsNone result ↔ IsQuiet self.now.net (state_of self.now) }
+    {
+        let other = self.active()?;
+        match self.turn() {
+            Some(node) => Some(node),
+            None => Some(other),
         }
     }
 }

@@ -76,7 +76,7 @@ impl PlainPreflow {
         ensures none { IsNone result ↔ IsQuiet self.now.net (state_of self.now) }
         ensures few { IsSome result → length self.now.history < most_changes self.now.net }
     {
-        let node = self.active()?;
+        let node = self.next_node()?;
         self.keeps();
         let _ = self.history();
         for arc in self.arcs_from(node) {

@@ -96,7 +96,7 @@ carries_more : (arcs : List Arc) (k : ℕ) → k < length arcs → (amount : ℕ
 carries_more arcs k in_k amount true a b value u c e h = carries_forth arcs k in_k amount a b value (subst (λ v. Carries arcs a b value v amount) (sym e) c) h
 carries_more arcs k in_k amount false a b value u c e h = carries_back arcs k in_k amount a b value (subst (λ v. Carries arcs a b value v amount) (sym e) c) h
 
-pushed_within : (arc : Arc) (forward : Bool) (amount : ℕ) → arc.flow ≤ arc.capacity → amount ≤ room arc forward → (pushed arc forward amount).flow ≤ (pushed arc forward amount).capacity
+pub pushed_within : (arc : Arc) (forward : Bool) (amount : ℕ) → arc.flow ≤ arc.capacity → amount ≤ room arc forward → (pushed arc forward amount).flow ≤ (pushed arc forward amount).capacity
 pushed_within arc true amount h r = omega arith
 pushed_within arc false amount h r = omega arith
 

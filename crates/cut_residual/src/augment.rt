@@ -5,7 +5,8 @@ ghost use Rattle.cut_residual.specs.Graphs.{HasArc, Leads, residual, room};
 
 use crate::{Arc, ResidualArc};
 
-fn push(arc: Arc, forward: bool, amount: u64) -> Arc
+/// The arc with this amount more, or less where it is taken backwards.
+pub(crate) fn push(arc: Arc, forward: bool, amount: u64) -> Arc
     requires left { amount ≤ room arc forward }
     requires within { arc.flow ≤ arc.capacity }
     ensures { result ≡ pushed arc forward amount }

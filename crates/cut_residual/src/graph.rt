@@ -1,10 +1,10 @@
 //! The graph as a type.
-ghost use Rattle.std.specs.Prelude.{ℕ, ◌≡◌, ◌≢◌, ◌<◌, ◌≤◌, ◌^◌, ◌↔◌, All, AllPairs, Contains, IfOk};
+ghost use Rattle.std.specs.Prelude.{ℕ, ◌≡◌, ◌≢◌, ◌<◌, ◌≤◌, ◌^◌, ◌↔◌, All, AllPairs, Contains, IfOk, slice_set};
 ghost use Rattle.cut_residual.specs.declared.arc.ResidualArc.{ResidualArc};
-ghost use Rattle.cut_residual.specs.Flows.{AreSameArcs, RaisesBy};
-ghost use Rattle.cut_residual.specs.Graphs.{head, residual, tail, HasArc, IsGraph, Leads};
+ghost use Rattle.cut_residual.specs.Flows.{pushed, AreSameArcs, RaisesBy};
+ghost use Rattle.cut_residual.specs.Graphs.{arc_of, head, residual, tail, HasArc, IsGraph, Leads};
 
-use crate::augment::{least_residual, residual_of, send};
+use crate::augment::{least_residual, push, residual_of, send};
 use crate::groups::groups_of;
 use crate::{Arc, ResidualArc};
 use std::alloc::{AllocError, Global};
@@ -101,6 +101,17 @@ impl ResidualGraph {
         ensures { result ≡ residual self.now.arcs step }
     {
         residual_of(&self.arcs, step)
+    }
+
+    /// Sends an amount over a residual arc that has as much left: an arc carries so much more, or so much less where it is taken backwards.
+    pub fn send(&mut self, step: ResidualArc, amount: u64)
+        requires known { HasArc self.old.arcs step }
+        requires left { amount ≤ residual self.old.arcs step }
+        ensures nodes { self.new.nodes ≡ self.old.nodes }
+        ensures arcs { self.new.arcs ≡ slice_set self.old.arcs step.arc (pushed (arc_of self.old.arcs step) step.forward amount) }
+        ensures same { AreSameArcs self.old.arcs self.new.arcs }
+    {
+        self.arcs[step.arc] = push(self.arcs[step.arc], step.forward, amount);
     }
 
     /// Sends along the path the most that each of its steps has left, and answers how much that is: 2^64 - 1 where it has no

@@ -8,11 +8,13 @@ mod augment;
 mod found;
 mod graph;
 mod groups;
+mod order;
 mod paths;
 mod searches;
 
 pub use arc::{Arc, ResidualArc};
 pub use found::Found;
 pub use graph::ResidualGraph;
+pub use order::{order_of, places_of};
 pub use paths::path_to;
 pub use searches::search;

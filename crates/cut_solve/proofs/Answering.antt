@@ -12,7 +12,7 @@ use Rattle.cut_net.specs.WellFormed.{AreBetween}
 use Rattle.cut_net.proofs.Chains.{widened}
 use Rattle.cut_net.proofs.Members.{from_filter, from_map, in_map}
 use Rattle.cut_net.proofs.NearSide.{is_near, is_cheapest, weighs}
-use Rattle.cut_part.specs.Narrowing.{IsGreatestFlow}
+use Rattle.cut_part.specs.Narrowing.{IsBarred}
 use Rattle.cut_part.proofs.Greatest.{end_unreached}
 use Rattle.cut_residual.specs.declared.arc.Arc.{Arc}
 use Rattle.cut_residual.specs.Flows.{IsBalanced}
@@ -139,14 +139,19 @@ greatest_for net arcs a b value same up a_in within balanced near are shut ends 
     subst (λ v. IsGreatest (record { names = net.names; imports = v }) a b near (filter has_flow (map flow_line arcs))) same
     (greatest_on net.names arcs a b value here a_in (is_flow net.names arcs here a b value within balanced) near are shut ends)
 
--- and of a flow whose residual imports don't lead to the end
+-- and of a flow over the imports
 pub greatest_by : (net : Network) (arcs : List Arc) (a b value : ℕ) → imports_of arcs ≡ net.imports → IsAscending net.imports → a < length net.names →
-    IsGreatestFlow net a b (flow_on arcs) value → (near : List Bool) → AreReached (record { nodes = length net.names; arcs = arcs }) a near → AreClosed arcs near →
-    IsGreatest net a b near (filter has_flow (map flow_line arcs))
-greatest_by net arcs a b value same up a_in greatest near are shut =
+    IsFlow net a b (flow_on arcs) value → (near : List Bool) → AreReached (record { nodes = length net.names; arcs = arcs }) a near → AreClosed arcs near →
+    is_seen near b ≡ false → IsGreatest net a b near (filter has_flow (map flow_line arcs))
+greatest_by net arcs a b value same up a_in is near are shut ends =
     let here = subst IsAscending (sym same) up in
-    let those : AreThose (is_seen near) (Reached net (flow_on arcs) a) =
-    subst (λ v. AreThose (is_seen near) (Reached (record { names = net.names; imports = v }) (flow_on arcs) a)) same (reached net.names arcs here a near a_in are shut) in
     subst (λ v. IsGreatest (record { names = net.names; imports = v }) a b near (filter has_flow (map flow_line arcs))) same
-    (greatest_on net.names arcs a b value here a_in (subst (λ v. IsFlow (record { names = net.names; imports = v }) a b (flow_on arcs) value) (sym same) greatest.is_flow) near are shut
-    (end_unreached net a b (flow_on arcs) (is_seen near) greatest.barred those))
+    (greatest_on net.names arcs a b value here a_in (subst (λ v. IsFlow (record { names = net.names; imports = v }) a b (flow_on arcs) value) (sym same) is) near are shut ends)
+
+-- where the residual imports of the flow don't lead to the end, it isn't marked
+pub end_unmarked : (net : Network) (arcs : List Arc) (a b : ℕ) → imports_of arcs ≡ net.imports → IsAscending net.imports → a < length net.names →
+    IsBarred net (flow_on arcs) a b → (near : List Bool) → AreReached (record { nodes = length net.names; arcs = arcs }) a near → AreClosed arcs near → is_seen near b ≡ false
+end_unmarked net arcs a b same up a_in barred near are shut =
+    let here = subst IsAscending (sym same) up in
+    end_unreached net a b (flow_on arcs) (is_seen near) barred
+    (subst (λ v. AreThose (is_seen near) (Reached (record { names = net.names; imports = v }) (flow_on arcs) a)) same (reached net.names arcs here a near a_in are shut))

@@ -6,5 +6,6 @@ pub mod Far
 pub mod Flowing
 pub mod Answering
 pub mod Started
+pub mod Lower
 pub mod Settled
 pub mod Refusals

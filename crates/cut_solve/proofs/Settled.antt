@@ -1,5 +1,5 @@
 -- The flow of a settled preflow is a greatest flow of the network that a cut is asked of.
-use Rattle.std.proofs.Common.{◌≡◌, ℕ, zero, suc, ◌+◌, ◌≤◌, ◌<◌, ◌==◌, if◌then◌else◌, Bool, true, List, [], ◌∷◌, ◌++◌, length, get_or, map, take, refl, sym, ap, ◌∙◌, subst, arith}
+use Rattle.std.proofs.Common.{◌≡◌, ℕ, zero, suc, ◌+◌, ◌≤◌, ◌<◌, ◌==◌, if◌then◌else◌, Bool, true, false, inl, inr, List, [], ◌∷◌, ◌++◌, length, get_or, map, take, refl, sym, ap, ◌∙◌, subst, arith}
 use Rattle.std.specs.Prelude.{All, Contains, filter}
 use Rattle.std.proofs.lemmas.List.{get_or-map, length-map, take_all}
 use Rattle.std.proofs.Math.Seq.{take-suc}
@@ -11,22 +11,23 @@ use Rattle.cut_net.specs.Lines.{flow_by, IsAscending}
 use Rattle.cut_net.specs.WellFormed.{AreBetween, IsNetwork}
 use Rattle.cut_net.proofs.ListSums.{sum_by-same}
 use Rattle.cut_part.specs.Apart.{flow_lines}
-use Rattle.cut_part.specs.Narrowing.{ends_of, import_in, IsBarred, IsGreatestFlow}
+use Rattle.cut_part.specs.Narrowing.{ends_of, import_in, IsBarred, IsByEnds, IsGreatestFlow}
 use Rattle.cut_part.specs.Turning.{flow_turned, turned, turned_round}
 use Rattle.cut_part.proofs.Apart.{ascending_apart, flow_by_number}
-use Rattle.cut_part.proofs.Narrowing.{at_numbers, by_lines, greatest_back}
-use Rattle.cut_part.proofs.Turning.{greatest_round_back, lines_turned}
+use Rattle.cut_part.proofs.Narrowing.{at_numbers, by_lines, greatest_back, numbered, same_pair}
+use Rattle.cut_part.proofs.Sums.{same_entering, same_leaving}
+use Rattle.cut_part.proofs.Turning.{flow_round_back, greatest_round_back, lines_turned}
 use Rattle.cut_preflow.specs.Preflow.{State}
 use Rattle.cut_preflow.specs.Flows.{AreEnds, HasFlow, IsShutOff, network_on, value_of}
 use Rattle.cut_residual.specs.declared.arc.Arc.{Arc}
-use Rattle.cut_residual.specs.Graphs.{no_arc, AreClosed, AreReached}
+use Rattle.cut_residual.specs.Graphs.{is_seen, no_arc, AreClosed, AreReached}
 use Rattle.cut_solve.specs.GreatestFlow.{IsGreatest}
 use Rattle.cut_solve.specs.Lines.{has_flow, flow_line, import_on}
 use Rattle.cut_solve.specs.Settling.{carrying}
-use Rattle.cut_solve.specs.Starts.{with_imports, IsStart}
-use Rattle.cut_solve.proofs.Answering.{greatest_by}
+use Rattle.cut_solve.specs.Starts.{with_imports, IsBelow, IsStart}
+use Rattle.cut_solve.proofs.Answering.{end_unmarked, greatest_by}
 use Rattle.cut_solve.proofs.Flowing.{flow_is, flow_on, imports_of}
-use Rattle.cut_solve.proofs.Started.{either_way, narrow_between, start_lowered}
+use Rattle.cut_solve.proofs.Started.{below_size, either_way, narrow_between, turned_amount}
 
 -- a flow by another function that is the same on each import
 module _ (net : Network) (a b : ℕ) (f g : Priced → ℕ) (same : (i : Priced) → Contains net.imports i → f i ≡ g i) where
@@ -144,7 +145,7 @@ module _ (net : Network) (a b : ℕ) (is : IsNetwork net) (ends : AreEnds net a 
   turned_greatest value greatest =
       let flows : flow_by (flow_lines (map turned narrow) s.flow) ≡ flow_turned on_narrow =
       (λ i v. ap (λ lines. flow_by lines v) (turned_lines narrow s.flow) i) ∙ (λ i v. lines_turned (flow_lines narrow s.flow) v i) in
-      narrow_greatest value (greatest_round_back (with_imports net narrow) a b on_narrow value (narrow_between net a b is ends imports source sink start) ends.to_in ends.apart
+      narrow_greatest value (greatest_round_back (with_imports net narrow) a b on_narrow value (narrow_between net a b is imports source sink start) ends.to_in ends.apart
       (subst (λ g. IsGreatestFlow (turned_round (with_imports net narrow)) b a g value) flows greatest))
 
   -- a flow of what the preflow started on, whose residual imports don't lead to the sink
@@ -157,36 +158,85 @@ module _ (net : Network) (a b : ℕ) (is : IsNetwork net) (ends : AreEnds net a 
       (λ has shut. (_, narrow_greatest _ (record { is_flow = has (with_imports net narrow) refl; barred = shut (with_imports net narrow) refl })))
       (λ has shut. (_, turned_greatest _ (record { is_flow = has (turned_round (with_imports net narrow)) refl; barred = shut (turned_round (with_imports net narrow)) refl })))
 
+-- a flow of a network with lower weights is one of the network
+module _ (old new : Network) (a b : ℕ) (ends : ends_of new.imports ≡ ends_of old.imports) (lowered : (k : ℕ) → (import_in new.imports k).amount ≤ (import_in old.imports k).amount) where
+  flow_lowered : (flow : Priced → ℕ) (value : ℕ) → IsByEnds flow → IsFlow new a b flow value → IsFlow old a b flow value
+  flow_lowered flow value by_ends is_flow =
+      let into = λ (m : ℕ). same_entering flow by_ends new.imports old.imports m ends in
+      let out = λ (m : ℕ). same_leaving flow by_ends new.imports old.imports m ends in
+      let size : length new.imports ≡ length old.imports = sym (length-map new.imports _) ∙ ap length ends ∙ length-map old.imports _ in
+      record {
+        within = at_numbers old.imports (λ i. flow i ≤ i.amount) (λ k h.
+            let pair = same_pair new.imports old.imports k ends in
+            let same = by_ends (import_in new.imports k) (import_in old.imports k) (ap (λ (p : Edge). p.from) pair) (ap (λ (p : Edge). p.to) pair) in
+            let le = is_flow.within (import_in new.imports k) (numbered new.imports k (omega (arith, size))) in
+            let low = lowered k in
+            omega arith);
+        kept = λ m not_a not_b. sym (into m) ∙ is_flow.kept m not_a not_b ∙ out m;
+        at_start = let i = into a in let o = out a in let s = is_flow.at_start in omega arith;
+      }
+
+module _ (net : Network) (a b : ℕ) (is : IsNetwork net) (ends : AreEnds net a b) (imports : List Priced) (source sink : ℕ) (below : IsBelow net a b imports source sink) (s : State) where
+  abbrev on_net : Priced → ℕ
+  on_net = flow_by (flow_lines net.imports s.flow)
+
+  forth : ends_of imports ≡ ends_of net.imports → (value : ℕ) → IsFlow (with_imports net imports) a b (flow_by (flow_lines imports s.flow)) value → IsFlow net a b on_net value
+  forth same value flow =
+      subst (λ lines. IsFlow net a b (flow_by lines) value) (lines_by_ends imports net.imports s.flow same (below_size net a b is ends imports source sink below))
+      (flow_lowered net (with_imports net imports) a b same below.lowered (flow_by (flow_lines imports s.flow)) value (by_lines (flow_lines imports s.flow)) flow)
+
+  back : ends_of imports ≡ ends_of (map turned net.imports) → (value : ℕ) → IsFlow (with_imports net imports) b a (flow_by (flow_lines imports s.flow)) value → IsFlow net a b on_net value
+  back same value flow =
+      let size : length imports ≡ length (map turned net.imports) = below_size net a b is ends imports source sink below ∙ sym (length-map net.imports turned) in
+      let low : (k : ℕ) → (import_in imports k).amount ≤ (import_in (map turned net.imports) k).amount =
+      λ k. subst (λ n. (import_in imports k).amount ≤ n) (sym (turned_amount net.imports k)) (below.lowered k) in
+      let there = flow_lowered (turned_round net) (with_imports net imports) b a same low (flow_by (flow_lines imports s.flow)) value (by_lines (flow_lines imports s.flow)) flow in
+      let flows : flow_by (flow_lines imports s.flow) ≡ flow_turned on_net =
+      (λ i v. ap (λ lines. flow_by lines v) (lines_by_ends imports (map turned net.imports) s.flow same size ∙ turned_lines net.imports s.flow) i) ∙ (λ i v. lines_turned (flow_lines net.imports s.flow) v i) in
+      flow_round_back net a b on_net value is.between ends.to_in ends.apart (subst (λ g. IsFlow (turned_round net) b a g value) flows there)
+
+  -- the flow of what the preflow started on is a flow of the network
+  pub below_flow : HasFlow (network_on (length net.names) imports source sink) s → (value : ℕ) × IsFlow net a b on_net value
+  below_flow has =
+      let there = with_imports net imports in
+      let on = flow_by (flow_lines imports s.flow) in
+      let value = value_of (network_on (length net.names) imports source sink) s in
+      let flow : IsFlow there source sink on value = has there refl in
+      elim below.way [
+        | inl w ↦ (value, forth w.0 value (subst (λ (m : ℕ). IsFlow there m b on value) w.1 (subst (λ (k : ℕ). IsFlow there source k on value) w.2 flow)))
+        | inr w ↦ (value, back w.0 value (subst (λ (m : ℕ). IsFlow there m a on value) w.1 (subst (λ (k : ℕ). IsFlow there source k on value) w.2 flow)))
+      ]
+
 -- the flow of the arcs is that flow
-pub settled_greatest : (net : Network) (a b : ℕ) (flow : List ℕ) (value : ℕ) (near : List Bool) → IsAscending net.imports → a < length net.names → length flow ≡ length net.imports →
-    IsGreatestFlow net a b (flow_by (flow_lines net.imports flow)) value → AreReached (record { nodes = length net.names; arcs = carrying net.imports flow }) a near →
-    AreClosed (carrying net.imports flow) near → IsGreatest net a b near (filter has_flow (map flow_line (carrying net.imports flow)))
-settled_greatest net a b flow value near up a_in same greatest are shut =
-    greatest_by net arcs a b value imports up a_in (record {
-      is_flow = same_flow net a b on (flow_on arcs) agree value greatest.is_flow;
-      barred = (
-        greatest.barred.0,
-        record {
-          start = greatest.barred.1.start;
-          end = greatest.barred.1.end;
-          closed = same_closed net a b on (flow_on arcs) agree greatest.barred.0 greatest.barred.1.closed;
-        },
-      );
-    }) near are shut
-  where
-    arcs : List Arc
-    arcs = carrying net.imports flow
+module _ (net : Network) (a b : ℕ) (flow : List ℕ) (near : List Bool) (up : IsAscending net.imports) (a_in : a < length net.names) (same : length flow ≡ length net.imports)
+    (are : AreReached (record { nodes = length net.names; arcs = carrying net.imports flow }) a near) (shut : AreClosed (carrying net.imports flow) near) where
+  abbrev arcs : List Arc
+  arcs = carrying net.imports flow
 
-    imports : imports_of arcs ≡ net.imports
-    imports = carrying_imports net.imports flow same
+  abbrev on : Priced → ℕ
+  on = flow_by (flow_lines net.imports flow)
 
-    on : Priced → ℕ
-    on = flow_by (flow_lines net.imports flow)
+  imports_are : imports_of arcs ≡ net.imports
+  imports_are = carrying_imports net.imports flow same
 
-    agree : (i : Priced) → Contains net.imports i → on i ≡ flow_on arcs i
-    agree = at_numbers net.imports (λ i. on i ≡ flow_on arcs i) (λ k h.
-        let size : length arcs ≡ length net.imports = sym (length-map arcs import_on) ∙ ap length imports in
-        let here : import_on (get_or arcs k no_arc) ≡ import_in net.imports k =
-        sym (get_or-map import_on arcs k no_arc none_there (omega arith)) ∙ ap (λ (v : List Priced). get_or v k none_there) imports in
-        flow_by_number net.imports flow (ascending_apart net.imports up) same k h ∙ sym (carrying_at net.imports flow same k h)
-        ∙ sym (flow_is arcs (subst IsAscending (sym imports) up) k (omega arith)) ∙ ap (flow_on arcs) here)
+  agree : (i : Priced) → Contains net.imports i → on i ≡ flow_on arcs i
+  agree = at_numbers net.imports (λ i. on i ≡ flow_on arcs i) (λ k h.
+      let size : length arcs ≡ length net.imports = sym (length-map arcs import_on) ∙ ap length imports_are in
+      let here : import_on (get_or arcs k no_arc) ≡ import_in net.imports k =
+      sym (get_or-map import_on arcs k no_arc none_there (omega arith)) ∙ ap (λ (v : List Priced). get_or v k none_there) imports_are in
+      flow_by_number net.imports flow (ascending_apart net.imports up) same k h ∙ sym (carrying_at net.imports flow same k h)
+      ∙ sym (flow_is arcs (subst IsAscending (sym imports_are) up) k (omega arith)) ∙ ap (flow_on arcs) here)
+
+  pub settled_greatest : (value : ℕ) → IsFlow net a b (flow_by (flow_lines net.imports flow)) value → is_seen near b ≡ false →
+      IsGreatest net a b near (filter has_flow (map flow_line (carrying net.imports flow)))
+  settled_greatest value is end = greatest_by net arcs a b value imports_are up a_in (same_flow net a b on (flow_on arcs) agree value is) near are shut end
+
+  pub settled_end : IsBarred net (flow_by (flow_lines net.imports flow)) a b → is_seen near b ≡ false
+  settled_end barred = end_unmarked net arcs a b imports_are up a_in (
+    barred.0,
+    record {
+      start = barred.1.start;
+      end = barred.1.end;
+      closed = same_closed net a b on (flow_on arcs) agree barred.0 barred.1.closed;
+    },
+  ) near are shut

@@ -1,8 +1,9 @@
 -- The network that a preflow starts on is one that the core takes.
-use Rattle.std.proofs.Common.{◌≡◌, ◌≢◌, ℕ, ◌+◌, ◌≤◌, ◌<◌, true, false, List, length, get_or, map, refl, sym, ap, ◌∙◌, subst, arith, inl, inr}
+use Rattle.std.proofs.Common.{◌≡◌, ◌≢◌, ℕ, ◌+◌, ◌≤◌, ◌<◌, true, false, List, [], ◌∷◌, length, get_or, map, refl, sym, ap, ◌∙◌, subst, arith, inl, inr}
 use Rattle.std.specs.Prelude.{Contains, ◌^◌}
 use Rattle.std.proofs.lemmas.Bool.{both_ways, false_from_ne_true}
-use Rattle.std.proofs.lemmas.List.{get_or_default, get_or-map, length-map}
+use Rattle.std.proofs.lemmas.List.{get_or_default, length-map}
+use Rattle.std.proofs.Math.ListN.{get_or-map as get_or-map_all}
 use Rattle.std.proofs.lemmas.List.Elements.{Contains-get_or}
 use Rattle.digraph.specs.declared.edge.Edge.{Edge}
 use Rattle.cut_net.specs.declared.priced.Priced.{Priced}
@@ -23,7 +24,7 @@ use Rattle.cut_preflow.specs.Played.{IsWithinLimits}
 use Rattle.cut_preflow.specs.Flows.{AreEnds, network_on}
 use Rattle.cut_preflow.proofs.Networks.{between_limits}
 use Rattle.cut_preflow.proofs.Totals.{total-le, total-same}
-use Rattle.cut_solve.specs.Starts.{with_imports, IsStart}
+use Rattle.cut_solve.specs.Starts.{IsBelow, IsLowered, IsStart}
 
 -- what holds both ways holds of the start
 pub either_way : (net : Network) (a b : ℕ) (imports : List Priced) (source sink : ℕ) (start : IsStart net a b imports source sink) (P : List Priced → ℕ → ℕ → Type 0) →
@@ -63,38 +64,70 @@ flow_network n imports a b between are a_in b_in apart = record {
   apart_ends = are;
 }
 
-module _ (net : Network) (a b : ℕ) (is : IsNetwork net) (ends : AreEnds net a b) (imports : List Priced) (source sink : ℕ) (start : IsStart net a b imports source sink) where
-  abbrev narrow : List Priced
-  narrow = start.narrow
+pub narrow_between : (net : Network) (a b : ℕ) → IsNetwork net → (imports : List Priced) (source sink : ℕ) (start : IsStart net a b imports source sink) → AreBetween start.narrow (length net.names)
+narrow_between net a b is imports source sink start = still_between start.narrow net.imports (length net.names) start.narrowed.ends is.between
 
-  pub narrow_between : AreBetween narrow (length net.names)
-  narrow_between = still_between narrow net.imports (length net.names) start.narrowed.ends is.between
+-- the ends of imports that were turned round
+swapped : Edge → Edge
+swapped e = record { from = e.to; to = e.from }
 
-  narrow_apart : AreApart narrow
-  narrow_apart = apart_by_ends narrow net.imports start.narrowed.ends (ascending_apart net.imports is.imports_ascend)
+ends_turned : (xs : List Priced) → ends_of (map turned xs) ≡ map swapped (ends_of xs)
+unfolding swapped
+ends_turned [] = refl
+ends_turned (x ∷ xs) = ap (λ (es : List Edge). record { from = x.to; to = x.from } ∷ es) (ends_turned xs)
 
-  pub start_is : IsFlowNetwork (network_on (length net.names) imports source sink)
-  start_is = either_way net a b imports source sink start (λ v m k. IsFlowNetwork (network_on (length net.names) v m k))
-      (flow_network (length net.names) narrow a b narrow_between narrow_apart ends.from_in ends.to_in ends.apart)
-      (flow_network (length net.names) (map turned narrow) b a (between_turned narrow (length net.names) narrow_between) (turned_apart narrow narrow_apart) ends.to_in ends.from_in (λ e. ends.apart (sym e)))
+turned_ends : (xs ys : List Priced) → ends_of xs ≡ ends_of ys → ends_of (map turned xs) ≡ ends_of (map turned ys)
+turned_ends xs ys e = ends_turned xs ∙ ap (map swapped) e ∙ sym (ends_turned ys)
 
-  narrow_size : length narrow ≡ length net.imports
-  narrow_size = same_length narrow net.imports start.narrowed.ends
+pub turned_amount : (xs : List Priced) (k : ℕ) → (import_in (map turned xs) k).amount ≡ (import_in xs k).amount
+turned_amount xs k = ap (λ (i : Priced). i.amount) (get_or-map_all turned xs k none_there)
 
-  pub start_size : length imports ≡ length net.imports
-  start_size = either_way net a b imports source sink start (λ v m k. length v ≡ length net.imports) narrow_size (length-map narrow turned ∙ narrow_size)
+-- what a preflow starts on has no weight higher
+pub start_below : (net : Network) (a b : ℕ) (imports : List Priced) (source sink : ℕ) → IsStart net a b imports source sink → IsBelow net a b imports source sink
+start_below net a b imports source sink start = elim start.way [
+  | inl w ↦ record {
+      lowered = λ k. subst (λ v. (import_in v k).amount ≤ (import_in net.imports k).amount) (sym w.0) (start.narrowed.lowered k);
+      way = inl (ap ends_of w.0 ∙ start.narrowed.ends, w.1, w.2);
+    }
+  | inr w ↦ record {
+      lowered = λ k. subst (λ v. (import_in v k).amount ≤ (import_in net.imports k).amount) (sym w.0)
+          (subst (λ n. n ≤ (import_in net.imports k).amount) (sym (turned_amount start.narrow k)) (start.narrowed.lowered k));
+      way = inr (ap ends_of w.0 ∙ turned_ends start.narrow net.imports start.narrowed.ends, w.1, w.2);
+    }
+]
 
-  -- no weight is higher than in the network
-  pub start_lowered : (k : ℕ) → k < length net.imports → (import_in imports k).amount ≤ (import_in net.imports k).amount
-  start_lowered k h = either_way net a b imports source sink start (λ v m n. (import_in v k).amount ≤ (import_in net.imports k).amount)
-      (start.narrowed.lowered k)
-      (let size = narrow_size in subst (λ (i : Priced). i.amount ≤ (import_in net.imports k).amount) (sym (get_or-map turned narrow k none_there none_there (omega arith))) (start.narrowed.lowered k))
+-- and stays so where weights are lowered
+pub lowered_below : (net : Network) (a b : ℕ) (old new : List Priced) (source sink : ℕ) → IsBelow net a b old source sink → IsLowered old new → IsBelow net a b new source sink
+lowered_below net a b old new source sink below low = record {
+  lowered = λ k. let one = low.lowered k in let two = below.lowered k in omega arith;
+  way = elim below.way [ inl w ↦ inl (low.ends ∙ w.0, w.1, w.2) | inr w ↦ inr (low.ends ∙ w.0, w.1, w.2) ];
+}
 
-  pub start_limits : IsWithinLimits (network_on (length net.names) imports source sink)
-  start_limits =
+module _ (net : Network) (a b : ℕ) (is : IsNetwork net) (ends : AreEnds net a b) (imports : List Priced) (source sink : ℕ) (below : IsBelow net a b imports source sink) where
+  pub below_is : IsFlowNetwork (network_on (length net.names) imports source sink)
+  below_is =
+      let n = length net.names in
+      let turned_imports = map turned net.imports in
+      let up = ascending_apart net.imports is.imports_ascend in
+      elim below.way [
+        | inl w ↦ subst (λ m. IsFlowNetwork (network_on n imports m sink)) (sym w.1) (subst (λ k. IsFlowNetwork (network_on n imports a k)) (sym w.2)
+            (flow_network n imports a b (still_between imports net.imports n w.0 is.between) (apart_by_ends imports net.imports w.0 up) ends.from_in ends.to_in ends.apart))
+        | inr w ↦ subst (λ m. IsFlowNetwork (network_on n imports m sink)) (sym w.1) (subst (λ k. IsFlowNetwork (network_on n imports b k)) (sym w.2)
+            (flow_network n imports b a (still_between imports turned_imports n w.0 (between_turned net.imports n is.between)) (apart_by_ends imports turned_imports w.0 (turned_apart net.imports up))
+            ends.to_in ends.from_in (λ e. ends.apart (sym e))))
+      ]
+
+  pub below_size : length imports ≡ length net.imports
+  below_size = elim below.way [
+    | inl w ↦ same_length imports net.imports w.0
+    | inr w ↦ same_length imports (map turned net.imports) w.0 ∙ length-map net.imports turned
+  ]
+
+  pub below_limits : IsWithinLimits (network_on (length net.names) imports source sink)
+  below_limits =
       let limits = between_limits net a b is in
-      let size = start_size in
-      let fewer = total-le (length net.imports) (λ k. (import_in imports k).amount) (λ k. (import_in net.imports k).amount) start_lowered in
+      let size = below_size in
+      let fewer = total-le (length net.imports) (λ k. (import_in imports k).amount) (λ k. (import_in net.imports k).amount) (λ k h. below.lowered k) in
       let here : total (length imports) (λ k. (import_in imports k).amount) ≡ total (length net.imports) (λ k. (import_in imports k).amount) =
       ap (λ n. total n (λ k. (import_in imports k).amount)) size in
       let most = limits.weights in

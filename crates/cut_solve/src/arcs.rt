@@ -31,6 +31,21 @@ pub(crate) fn graph_of(alloc: Global, net: &Net) -> Result<ResidualGraph, AllocE
     ResidualGraph::new(alloc, arcs, net.nodes())
 }
 
+/// For each arc an import with its flow for a weight.
+pub(crate) fn flows_of(alloc: Global, arcs: &[Arc]) -> Result<Vec<Priced>, AllocError>
+    ensures { IfOk result (λ imports. imports.items ≡ map flow_line arcs.now) }
+{
+    let mut imports = Vec::new(alloc);
+    for arc in arcs {
+        imports.push(Priced {
+            from: arc.from,
+            to: arc.to,
+            amount: arc.flow,
+        })?;
+    }
+    Ok(imports)
+}
+
 /// The arcs that carry flow, each with its flow.
 pub(crate) fn flow_of(alloc: Global, arcs: &[Arc]) -> Result<Vec<Priced>, AllocError>
     ensures { IfOk result (λ flow. flow.items ≡ filter has_flow (map flow_line arcs.now)) }

@@ -7,8 +7,7 @@ ghost use Rattle.cut_residual.specs.Searches.{IsSearchOf};
 ghost use Rattle.cut_solve.specs.Descents.{Raises};
 
 use crate::blocking::blocking_flow;
-use crate::order::order_of;
-use cut_residual::{Found, ResidualGraph, path_to, search};
+use cut_residual::{Found, ResidualGraph, order_of, path_to, places_of, search};
 use std::alloc::{AllocError, Global};
 
 /// Raises the flow, where the search has come to the end.
@@ -53,7 +52,8 @@ pub(crate) fn greatest_flow(
     ensures end { IfOk result (λ found. is_seen found.seen.items to ≡ false) }
 {
     let order = order_of(alloc, graph)?;
-    blocking_flow(alloc, graph, &order, from, to)?;
+    let places = places_of(alloc, &order, graph.nodes())?;
+    blocking_flow(alloc, graph, &places, from, to)?;
     let mut found = search(alloc, graph, from)?;
     while found.seen[to as usize] {
         raise(alloc, graph, &found, from, to)?;

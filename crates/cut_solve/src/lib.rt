@@ -1,5 +1,5 @@
 //! Cheapest cuts: the imports to be removed, and a flow that proves that none is cheaper, by one thread or by many.
-//! Stands on `cut_net`, `cut_part`, `cut_preflow` and `cut_residual`, with `thiserror` for its faults.
+//! Stands on `cut_net`, `cut_part`, `cut_preflow`, `cut_residual` and `cut_trial`, with `thiserror` for its faults.
 //! Its contract: an answer is the printed imports by their definition, their weight and a flow of that value, so no cut weighs less, whatever turns the workers took.
 #![tactic(auto)]
 
@@ -9,9 +9,9 @@ mod cutting;
 mod fault;
 mod greatest;
 pub mod laws;
+mod lowering;
 mod names;
 mod open_gate;
-mod order;
 mod printing;
 mod settling;
 mod solver;

@@ -1,5 +1,5 @@
 //! The last pass: a preflow is settled by one worker, and told as a cut.
-ghost use Rattle.std.specs.Prelude.{◌≡◌, ◌≤◌, IfOk, length};
+ghost use Rattle.std.specs.Prelude.{◌≡◌, ◌≤◌, IfOk, IfSome, IsSome, length};
 ghost use Rattle.cut_net.specs.Lines.{IsAnswer, IsCheapestSaid};
 ghost use Rattle.cut_preflow.specs.Flows.{AreEnds};
 ghost use Rattle.cut_preflow.specs.Kept.{IsQuiet};
@@ -7,7 +7,7 @@ ghost use Rattle.cut_preflow.specs.Played.{state_of};
 ghost use Rattle.cut_preflow.specs.Preflow.{count};
 ghost use Rattle.cut_solve.specs.Settling.{carrying};
 ghost use Rattle.cut_solve.specs.Solving.{said_by};
-ghost use Rattle.cut_solve.specs.Starts.{IsStart};
+ghost use Rattle.cut_solve.specs.Starts.{IsBelow, IsStart};
 
 use crate::arcs::flow_of;
 use crate::cutting::cut_by;
@@ -40,21 +40,23 @@ fn carrying<L: NetworkLedger>(
     Ok(arcs)
 }
 
-/// The cheapest cut between two modules that the flow of a quiet preflow shows: its flow is a greatest one of the network too, whose near
-/// modules are told by a search there.
+/// The cheapest cut between two modules that the flow of a quiet preflow shows: where a search in the network from the first doesn't come to the
+/// second, the flow is a greatest one of the network too, and the search tells its near modules. It doesn't where no flow was lost by the weights
+/// that the preflow started on.
 fn quiet_cut<L: NetworkLedger>(
     alloc: Global,
     net: &Net,
     preflow: &Preflow<L>,
     from: u32,
     to: u32,
-) -> Result<Cut, AllocError>
+) -> Result<Option<Cut>, AllocError>
     requires ends { AreEnds net.now from to }
     requires nodes { preflow.now.play.net.nodes ≡ length net.now.names }
-    requires start { IsStart net.now from to preflow.now.play.net.imports preflow.now.play.net.source preflow.now.play.net.sink }
+    requires start { IsBelow net.now from to preflow.now.play.net.imports preflow.now.play.net.source preflow.now.play.net.sink }
     requires quiet { IsQuiet preflow.now.play.net (state_of preflow.now.play) }
-    ensures answer { IfOk result (λ cut. IsAnswer net.now from to (said_by cut)) }
-    ensures cheapest { IfOk result (λ cut. IsCheapestSaid net.now from to (said_by cut)) }
+    ensures answer { IfOk result (λ found. IfSome found (λ cut. IsAnswer net.now from to (said_by cut))) }
+    ensures cheapest { IfOk result (λ found. IfSome found (λ cut. IsCheapestSaid net.now from to (said_by cut))) }
+    ensures found { IsStart net.now from to preflow.now.play.net.imports preflow.now.play.net.source preflow.now.play.net.sink → IfOk result (λ found. IsSome found) }
 {
     net.keeps();
     preflow.keeps();
@@ -62,24 +64,29 @@ fn quiet_cut<L: NetworkLedger>(
     let graph = ResidualGraph::new(alloc, arcs, net.nodes())?;
     graph.keeps();
     let near = search(alloc, &graph, from)?;
+    if near.seen[to as usize] {
+        return Ok(None);
+    }
     let flow = flow_of(alloc, graph.arcs())?;
-    cut_by(alloc, net, &near.seen, flow, from, to)
+    let cut = cut_by(alloc, net, &near.seen, flow, from, to)?;
+    Ok(Some(cut))
 }
 
 /// The cheapest cut between two modules that a preflow comes to, with a flow that proves it: what is left to do is done first, by pushes
-/// and relabels of one worker (Goldberg and Tarjan, 1988).
+/// and relabels of one worker (Goldberg and Tarjan, 1988). None where the weights that it started on lost flow.
 pub(crate) fn last_pass<L: NetworkLedger>(
     alloc: Global,
     net: &Net,
     preflow: &mut Preflow<L>,
     from: u32,
     to: u32,
-) -> Result<Cut, AllocError>
+) -> Result<Option<Cut>, AllocError>
     requires ends { AreEnds net.now from to }
     requires nodes { preflow.old.play.net.nodes ≡ length net.now.names }
-    requires start { IsStart net.now from to preflow.old.play.net.imports preflow.old.play.net.source preflow.old.play.net.sink }
-    ensures answer { IfOk result (λ cut. IsAnswer net.now from to (said_by cut)) }
-    ensures cheapest { IfOk result (λ cut. IsCheapestSaid net.now from to (said_by cut)) }
+    requires start { IsBelow net.now from to preflow.old.play.net.imports preflow.old.play.net.source preflow.old.play.net.sink }
+    ensures answer { IfOk result (λ found. IfSome found (λ cut. IsAnswer net.now from to (said_by cut))) }
+    ensures cheapest { IfOk result (λ found. IfSome found (λ cut. IsCheapestSaid net.now from to (said_by cut))) }
+    ensures found { IsStart net.now from to preflow.old.play.net.imports preflow.old.play.net.source preflow.old.play.net.sink → IfOk result (λ found. IsSome found) }
 {
     preflow.settle()?;
     quiet_cut(alloc, net, preflow, from, to)

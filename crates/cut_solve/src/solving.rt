@@ -1,10 +1,11 @@
 //! The solver by many workers: pushes and relabels on one locked preflow, and a last pass for what they left.
-ghost use Rattle.std.specs.Prelude.{◌≡◌, ◌≢◌, ◌≤◌, IfOk, IfSome, length};
+ghost use Rattle.std.specs.Prelude.{◌≡◌, ◌≢◌, ◌≤◌, IfOk, IfSome, IsSome, length};
 ghost use Rattle.cut_net.specs.Lines.{IsAnswer, IsCheapestSaid};
 ghost use Rattle.cut_preflow.specs.Flows.{AreEnds, network_on};
 ghost use Rattle.cut_solve.specs.Solving.{outcome_of, said_by, IsModuleOr, IsRefusal, IsSolveOutcome, SolveOutcome};
-ghost use Rattle.cut_solve.specs.Starts.{IsStart};
+ghost use Rattle.cut_solve.specs.Starts.{IsBelow, IsStart};
 
+use crate::lowering::lowered;
 use crate::names::module_of;
 use crate::settling::last_pass;
 use crate::start::{Start, start_between};
@@ -68,7 +69,8 @@ fn in_threads<L: NetworkLedger + Send + Sync, R: Threads + Wait + Sync, G: Gate 
     })
 }
 
-/// A cheapest cut between two modules, with a flow that proves it, by this many workers on one preflow in the ledger of the blank.
+/// A cheapest cut between two modules, with a flow that proves it, by this many workers on one preflow in the ledger of the blank. None where the
+/// weights that it started on lost flow.
 fn in_ledger<L: NetworkLedger + Send + Sync, R: Threads + Wait + Sync, G: Gate + Sync>(
     rt: &R,
     alloc: Global,
@@ -78,14 +80,15 @@ fn in_ledger<L: NetworkLedger + Send + Sync, R: Threads + Wait + Sync, G: Gate +
     ends: (u32, u32),
     workers: u32,
     gate: &G,
-) -> Result<Cut, AllocError>
+) -> Result<Option<Cut>, AllocError>
     requires ends { AreEnds net.now ends.0 ends.1 }
-    requires start { IsStart net.now ends.0 ends.1 start.imports.items start.source start.sink }
+    requires start { IsBelow net.now ends.0 ends.1 start.imports.items start.source start.sink }
     requires net { network_on (length net.now.names) start.imports.items start.source start.sink ≡ L.net }
     requires name { blank.name ≡ L.name }
     requires parts { (blank.parts ≡ 65) × (L.parts ≡ 65) }
-    ensures answer { IfOk result (λ cut. IsAnswer net.now ends.0 ends.1 (said_by cut)) }
-    ensures cheapest { IfOk result (λ cut. IsCheapestSaid net.now ends.0 ends.1 (said_by cut)) }
+    ensures answer { IfOk result (λ found. IfSome found (λ cut. IsAnswer net.now ends.0 ends.1 (said_by cut))) }
+    ensures cheapest { IfOk result (λ found. IfSome found (λ cut. IsCheapestSaid net.now ends.0 ends.1 (said_by cut))) }
+    ensures found { IsStart net.now ends.0 ends.1 start.imports.items start.source start.sink → IfOk result (λ found. IsSome found) }
 {
     net.keeps();
     let (from, to) = ends;
@@ -108,8 +111,36 @@ fn in_ledger<L: NetworkLedger + Send + Sync, R: Threads + Wait + Sync, G: Gate +
     last_pass(alloc, net, &mut preflow, from, to)
 }
 
-/// A cheapest cut between two modules, in a ledger of its own.
+/// The same in a ledger of its own.
 fn in_own_ledger<R: Threads + Wait + Sync, G: Gate + Sync>(
+    rt: &R,
+    alloc: Global,
+    start: Start,
+    net: &Net,
+    ends: (u32, u32),
+    workers: u32,
+    gate: &G,
+) -> Result<Option<Cut>, AllocError>
+    requires ends { AreEnds net.now ends.0 ends.1 }
+    requires start { IsBelow net.now ends.0 ends.1 start.imports.items start.source start.sink }
+    ensures answer { IfOk result (λ found. IfSome found (λ cut. IsAnswer net.now ends.0 ends.1 (said_by cut))) }
+    ensures cheapest { IfOk result (λ found. IfSome found (λ cut. IsCheapestSaid net.now ends.0 ends.1 (said_by cut))) }
+    ensures found { IsStart net.now ends.0 ends.1 start.imports.items start.source start.sink → IfOk result (λ found. IsSome found) }
+{
+    in_ledger::<Brand, R, G>(
+        rt,
+        alloc,
+        Blank::new(PARTS),
+        start,
+        net,
+        ends,
+        workers,
+        gate,
+    )
+}
+
+/// A cheapest cut between two modules: on weights that are lowered to a trial's flow, and where these lost flow on those that lost none.
+fn on_lowered<R: Threads + Wait + Sync, G: Gate + Sync>(
     rt: &R,
     alloc: Global,
     net: &Net,
@@ -121,17 +152,16 @@ fn in_own_ledger<R: Threads + Wait + Sync, G: Gate + Sync>(
     ensures answer { IfOk result (λ cut. IsAnswer net.now ends.0 ends.1 (said_by cut)) }
     ensures cheapest { IfOk result (λ cut. IsCheapestSaid net.now ends.0 ends.1 (said_by cut)) }
 {
+    net.keeps();
     let start = start_between(alloc, net, ends.0, ends.1)?;
-    in_ledger::<Brand, R, G>(
-        rt,
-        alloc,
-        Blank::new(PARTS),
-        start,
-        net,
-        ends,
-        workers,
-        gate,
-    )
+    let lower = lowered(alloc, net.nodes(), &start)?;
+    if let Some(cut) = in_own_ledger(rt, alloc, lower, net, ends, workers, gate)? {
+        return Ok(cut);
+    }
+    match in_own_ledger(rt, alloc, start, net, ends, workers, gate)? {
+        Some(cut) => Ok(cut),
+        None => unreachable!(),
+    }
 }
 
 /// A cheapest cut between two modules, found in the part of the network that lies between them.
@@ -150,7 +180,7 @@ fn in_part<R: Threads + Wait + Sync, G: Gate + Sync>(
     let (from, to) = ends;
     let part = between(alloc, net, from, to)?;
     let here = (part.places[from as usize], part.places[to as usize]);
-    let cut = in_own_ledger(rt, alloc, &part.net, here, workers, gate)?;
+    let cut = on_lowered(rt, alloc, &part.net, here, workers, gate)?;
     let whole = whole_cut(alloc, &cut, &part.numbers)?;
     Ok(whole)
 }

@@ -6,9 +6,9 @@ ghost use Rattle.cut_preflow.specs.Flows.{AreEnds};
 ghost use Rattle.cut_solve.specs.Starts.{with_imports, IsStart};
 
 use crate::arcs::graph_of;
-use crate::order::order_of;
 use cut_net::{Net, Priced};
 use cut_part::{narrowed, turned_imports};
+use cut_residual::{order_of, places_of};
 use std::alloc::{AllocError, Global};
 
 /// Imports in the order of a network's, and the two modules that a preflow on them is between.
@@ -61,7 +61,8 @@ fn narrow(alloc: Global, net: &Net, from: u32, to: u32) -> Result<Vec<Priced>, A
 {
     net.keeps();
     let graph = graph_of(alloc, net)?;
-    let places = order_of(alloc, &graph)?;
+    let order = order_of(alloc, &graph)?;
+    let places = places_of(alloc, &order, graph.nodes())?;
     let order = by_importer(alloc, net.imports(), &places)?;
     narrowed(alloc, net.imports(), net.nodes(), &order, from, to)
 }

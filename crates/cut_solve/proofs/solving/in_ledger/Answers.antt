@@ -1,18 +1,18 @@
-use Rattle.std.proofs.Common.{◌≡◌, ◌∙◌, length, ap, sym, subst}
+use Rattle.std.proofs.Common.{◌≡◌, length, sym, subst}
 use Rattle.cut_preflow.specs.Kept.{IsFlowNetwork}
 use Rattle.cut_preflow.specs.Played.{IsWithinLimits}
 use Rattle.cut_preflow.specs.Flows.{network_on}
-use Rattle.cut_solve.proofs.Started.{start_is, start_limits}
+use Rattle.cut_solve.proofs.Started.{below_is, below_limits}
 use Rattle.cut_solve.proofs.solving.in_ledger.Goals as goal
 
 pub start_on-requires-clause-network : goal.start_on-requires-clause-network
 start_on-requires-clause-network g c =
     let s = c.args.start in
     subst (λ n. IsFlowNetwork (network_on n s.imports.items s.source s.sink)) (sym c.nodes.ensures)
-    (start_is c.args.net.now c.args.ends.0 c.args.ends.1 c.keeps.ensures c.requires.ends s.imports.items s.source s.sink c.requires.start)
+    (below_is c.args.net.now c.args.ends.0 c.args.ends.1 c.keeps.ensures c.requires.ends s.imports.items s.source s.sink c.requires.start)
 
 pub start_on-requires-clause-limits : goal.start_on-requires-clause-limits
 start_on-requires-clause-limits g c =
     let s = c.args.start in
     subst (λ n. IsWithinLimits (network_on n s.imports.items s.source s.sink)) (sym c.nodes.ensures)
-    (start_limits c.args.net.now c.args.ends.0 c.args.ends.1 c.keeps.ensures c.requires.ends s.imports.items s.source s.sink c.requires.start)
+    (below_limits c.args.net.now c.args.ends.0 c.args.ends.1 c.keeps.ensures c.requires.ends s.imports.items s.source s.sink c.requires.start)

@@ -10,8 +10,8 @@ use Rattle.cut_solve.specs.Solving.{said_by}
 use Rattle.cut_solve.proofs.Parted.{answer_whole, cheapest_whole, ends_there, lines_between, place_in}
 use Rattle.cut_solve.proofs.solving.in_part.Goals as goal
 
-pub in_own_ledger-requires-after_bounds : goal.in_own_ledger-requires-after_bounds
-in_own_ledger-requires-after_bounds g c κs within =
+pub on_lowered-requires-after_bounds : goal.on_lowered-requires-after_bounds
+on_lowered-requires-after_bounds g c κs within =
     let net = c.args.net.now in
     let a = c.args.ends.0 in
     let b = c.args.ends.1 in

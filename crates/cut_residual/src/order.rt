@@ -1,0 +1,91 @@
+//! An order of the nodes of a graph along its arcs, where these have no cycle. Nothing is proved of it but which numbers it has.
+ghost use Rattle.std.specs.Prelude.{◌≡◌, ◌<◌, All, IfOk, OnOk, length, vec_len};
+
+use crate::{Arc, ResidualGraph};
+use std::alloc::{AllocError, Global};
+
+/// How many arcs lead to each node.
+fn entering_of(alloc: Global, arcs: &[Arc], nodes: u32) -> Result<Vec<u32>, AllocError>
+    requires { All (λ r. (r.from < nodes) × (r.to < nodes)) arcs.now }
+    ensures { IfOk result (λ counts. vec_len counts ≡ nodes) }
+{
+    let mut counts = vec![in alloc; 0u32; nodes as usize]?;
+    for arc in arcs {
+        let count = counts[arc.to as usize];
+        counts[arc.to as usize] = count.saturating_add(1);
+    }
+    Ok(counts)
+}
+
+/// The nodes that no arc leads to.
+fn free_of(alloc: Global, counts: &[u32], nodes: u32) -> Result<Vec<u32>, AllocError>
+    requires { length counts.now ≡ nodes }
+    ensures { IfOk result (λ free. All (λ n. n < nodes) free.items) }
+{
+    let mut free = Vec::new(alloc);
+    for node in 0..nodes {
+        if counts[node as usize] == 0 {
+            free.push(node)?;
+        }
+    }
+    Ok(free)
+}
+
+/// Takes the arcs away that leave from the node, and adds the nodes that none leads to any more.
+fn release(
+    graph: &ResidualGraph,
+    node: u32,
+    counts: &mut Vec<u32>,
+    free: &mut Vec<u32>,
+) -> Result<(), AllocError>
+    requires node { node < graph.now.nodes }
+    requires counts { vec_len counts.old ≡ graph.now.nodes }
+    requires free { All (λ n. n < graph.now.nodes) free.old.items }
+    ensures counts { OnOk result (vec_len counts.new ≡ graph.now.nodes) }
+    ensures free { OnOk result (All (λ n. n < graph.now.nodes) free.new.items) }
+{
+    for step in graph.residual_arcs(node) {
+        if step.forward {
+            let head = graph.head(*step);
+            let left = counts[head as usize].saturating_sub(1);
+            counts[head as usize] = left;
+            if left == 0 {
+                free.push(head)?;
+            }
+        }
+    }
+    Ok(())
+}
+
+/// The nodes in an order in which each arc leads onwards, where the arcs have no cycle. Fails where memory is refused.
+pub fn order_of(alloc: Global, graph: &ResidualGraph) -> Result<Vec<u32>, AllocError>
+    ensures { IfOk result (λ order. All (λ n. n < graph.now.nodes) order.items) }
+{
+    graph.keeps();
+    let nodes = graph.nodes();
+    let mut counts = entering_of(alloc, graph.arcs(), nodes)?;
+    let mut free = free_of(alloc, &counts, nodes)?;
+    let mut order = Vec::new(alloc);
+    for _ in 0..nodes {
+        let Some(node) = free.pop() else {
+            return Ok(order);
+        };
+        order.push(node)?;
+        release(graph, node, &mut counts, &mut free)?;
+    }
+    Ok(order)
+}
+
+/// For each node the place where it stands in the order; 0 for one that doesn't.
+pub fn places_of(alloc: Global, order: &[u32], nodes: u32) -> Result<Vec<u32>, AllocError>
+    requires within { All (λ n. n < nodes) order.now }
+    ensures { IfOk result (λ places. vec_len places ≡ nodes) }
+{
+    let mut places = vec![in alloc; 0u32; nodes as usize]?;
+    let mut place = 0u32;
+    for node in order {
+        places[*node as usize] = place;
+        place = place.saturating_add(1);
+    }
+    Ok(places)
+}

@@ -1,0 +1,32 @@
+//! A network whose weights are lowered to a flow that is tried first.
+ghost use Rattle.std.specs.Prelude.{◌≡◌, ◌<◌, IfOk};
+ghost use Rattle.cut_net.specs.WellFormed.{AreBetween};
+ghost use Rattle.cut_solve.specs.Starts.{IsLowered};
+
+use crate::arcs::{arcs_of, flows_of};
+use crate::start::Start;
+use cut_residual::ResidualGraph;
+use cut_trial::trial_flow;
+use std::alloc::{AllocError, Global};
+
+/// The same start on lower weights: what got through in a trial. A preflow on them has nothing to send back, where the trial found a greatest flow;
+/// it isn't proved that it did, so what comes of such a preflow is tested.
+pub(crate) fn lowered(alloc: Global, nodes: u32, start: &Start) -> Result<Start, AllocError>
+    requires between { AreBetween start.now.imports.items nodes }
+    requires source { start.now.source < nodes }
+    requires sink { start.now.sink < nodes }
+    ensures imports { IfOk result (λ s. IsLowered start.now.imports.items s.imports.items) }
+    ensures source { IfOk result (λ s. s.source ≡ start.now.source) }
+    ensures sink { IfOk result (λ s. s.sink ≡ start.now.sink) }
+{
+    let arcs = arcs_of(alloc, &start.imports)?;
+    let graph = ResidualGraph::new(alloc, arcs, nodes)?;
+    let tried = trial_flow(alloc, graph, start.source, start.sink)?;
+    tried.keeps();
+    let imports = flows_of(alloc, tried.arcs())?;
+    Ok(Start {
+        imports,
+        source: start.source,
+        sink: start.sink,
+    })
+}

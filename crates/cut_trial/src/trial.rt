@@ -1,0 +1,253 @@
+//! A preflow that is run for its flow alone (Goldberg and Tarjan 1988): as long as a node with excess has a label below the number of nodes, which
+//! counts how far it is from the end at least; then what is stuck is taken back. In rounds the labels are made anew as distances, so nodes from
+//! which nothing gets to the end are told at once.
+ghost use Rattle.std.specs.Prelude.{◌≡◌, ◌<◌, All, IfOk, IfSome, OnOk, length};
+ghost use Rattle.cut_residual.specs.Graphs.{HasArc};
+ghost use Rattle.cut_trial.specs.Trials.{HasOtherFlow};
+
+use crate::distances::distances_to;
+use cut_residual::{ResidualArc, ResidualGraph, order_of};
+use std::alloc::{AllocError, Global};
+use std::marker::Model;
+
+/// A graph with its flow, and for each node its excess and its label; those that wait have excess.
+#[derive(Drop)]
+struct Trial {
+    graph: ResidualGraph,
+    excesses: Vec<u64>,
+    labels: Vec<u32>,
+    waiting: Vec<u32>,
+}
+
+impl Model for Trial {
+    ghost use Rattle.cut_residual.specs.Graphs.{Graph};
+    ghost use Rattle.cut_trial.specs.Trials.{IsTrial};
+
+    ghost Value = { Graph };
+
+    ghost view = { λ t. t.graph };
+
+    ghost invariant = { λ t. IsTrial t.graph.nodes t.excesses.items t.labels.items t.waiting.items };
+}
+
+/// The nodes with excess, the last first, without the end.
+fn with_excess(
+    alloc: Global,
+    nodes: &[u32],
+    excesses: &[u64],
+    end: u32,
+) -> Result<Vec<u32>, AllocError>
+    requires { All (λ n. n < length excesses.now) nodes.now }
+    ensures { IfOk result (λ found. All (λ n. n < length excesses.now) found.items) }
+{
+    let mut found = Vec::new(alloc);
+    for back in 0..nodes.len() {
+        let node = nodes[nodes.len() - 1 - back];
+        if node != end && excesses[node as usize] > 0 {
+            found.push(node)?;
+        }
+    }
+    Ok(found)
+}
+
+impl Trial {
+    /// The residual arc at this place of those that leave from a node, if there is one.
+    fn step_at(&self, node: u32, place: usize) -> Option<ResidualArc>
+        requires { node < self.now.nodes }
+        ensures { IfSome result (HasArc self.now.arcs) }
+    {
+        let steps = self.graph.residual_arcs(node);
+        if place < steps.len() {
+            Some(steps[place])
+        } else {
+            None
+        }
+    }
+
+    /// Sends over a step what is left of it, and at most this amount. A node that had no excess waits then.
+    fn send(&mut self, step: ResidualArc, most: u64) -> Result<(), AllocError>
+        requires { HasArc self.old.arcs step }
+        ensures { OnOk result (HasOtherFlow self.old self.new) }
+    {
+        let (tail, head) = (self.graph.tail(step), self.graph.head(step));
+        let amount = self.graph.residual(step).min(most);
+        self.graph.send(step, amount);
+        let left = self.excesses[tail as usize].saturating_sub(amount);
+        self.excesses[tail as usize] = left;
+        let before = self.excesses[head as usize];
+        self.excesses[head as usize] = before.saturating_add(amount);
+        if before == 0 {
+            self.waiting.push(head)?;
+        }
+        Ok(())
+    }
+
+    /// Sends the excess of its tail over a step that leads one label down. Answers the label that it leads to, and 2^32 - 1 where nothing
+    /// is left of it.
+    fn push(&mut self, step: ResidualArc) -> Result<u32, AllocError>
+        requires { HasArc self.old.arcs step }
+        ensures { OnOk result (HasOtherFlow self.old self.new) }
+    {
+        let (tail, head) = (self.graph.tail(step), self.graph.head(step));
+        let label = self.labels[head as usize];
+        let excess = self.excesses[tail as usize];
+        if self.graph.residual(step) == 0 {
+            return Ok(u32::MAX);
+        }
+        if excess > 0 && label.saturating_add(1) == self.labels[tail as usize] {
+            self.send(step, excess)?;
+            if self.graph.residual(step) == 0 {
+                return Ok(u32::MAX);
+            }
+        }
+        Ok(label)
+    }
+
+    /// Sends on what a node has too much, one label down, and answers the least label that something could still go to.
+    fn push_all(&mut self, node: u32) -> Result<u32, AllocError>
+        requires { node < self.old.nodes }
+        ensures { OnOk result (HasOtherFlow self.old self.new) }
+    {
+        let mut least = u32::MAX;
+        for place in 0..self.graph.residual_arcs(node).len() {
+            let Some(step) = self.step_at(node, place) else {
+                return Ok(least);
+            };
+            let label = self.push(step)?;
+            least = least.min(label);
+        }
+        Ok(least)
+    }
+
+    /// Sends on what a node has too much. Where something is left, its label is raised, and it waits again where that stays below the
+    /// number of nodes. Answers whether it was raised.
+    fn discharge(&mut self, node: u32) -> Result<bool, AllocError>
+        requires { node < self.old.nodes }
+        ensures { OnOk result (HasOtherFlow self.old self.new) }
+    {
+        let label = self.push_all(node)?.saturating_add(1);
+        if self.excesses[node as usize] == 0 {
+            return Ok(false);
+        }
+        self.labels[node as usize] = label;
+        if label < self.graph.nodes() {
+            self.waiting.push(node)?;
+        }
+        Ok(true)
+    }
+
+    /// Discharges those that wait, in turn, until none do or as many were raised as there are nodes.
+    fn discharge_all(&mut self, end: u32) -> Result<(), AllocError>
+        ensures { OnOk result (HasOtherFlow self.old self.new) }
+    {
+        let mut raised = 0u32;
+        for place in 0..usize::MAX {
+            if place >= self.waiting.len() || raised >= self.graph.nodes() {
+                return Ok(());
+            }
+            let node = self.waiting[place];
+            if node != end && self.discharge(node)? {
+                raised = raised.saturating_add(1);
+            }
+        }
+        Ok(())
+    }
+
+    /// Labels all nodes by their distances to the end, lets those wait from which something may still get there, and answers whether there is one.
+    fn label_all(&mut self, alloc: Global, end: u32) -> Result<bool, AllocError>
+        requires { end < self.old.nodes }
+        ensures { OnOk result (self.new ≡ self.old) }
+    {
+        let distances = distances_to(alloc, &self.graph, end)?;
+        self.waiting = with_excess(alloc, &distances.reached, &self.excesses, end)?;
+        self.labels = distances.labels;
+        Ok(!self.waiting.is_empty())
+    }
+
+    /// Sends everything over the arcs that leave from the start.
+    fn open(&mut self, start: u32) -> Result<(), AllocError>
+        requires { start < self.old.nodes }
+        ensures { OnOk result (HasOtherFlow self.old self.new) }
+    {
+        for place in 0..self.graph.residual_arcs(start).len() {
+            let Some(step) = self.step_at(start, place) else {
+                return Ok(());
+            };
+            if step.forward {
+                self.send(step, u64::MAX)?;
+            }
+        }
+        Ok(())
+    }
+
+    /// Sends what a node has too much back over the arcs that lead to it.
+    fn take_back(&mut self, node: u32) -> Result<(), AllocError>
+        requires { node < self.old.nodes }
+        ensures { OnOk result (HasOtherFlow self.old self.new) }
+    {
+        for place in 0..self.graph.residual_arcs(node).len() {
+            let Some(step) = self.step_at(node, place) else {
+                return Ok(());
+            };
+            let excess = self.excesses[node as usize];
+            if !step.forward && excess > 0 {
+                self.send(step, excess)?;
+            }
+        }
+        Ok(())
+    }
+
+    /// Takes back what is stuck, from the last node of the order to the first.
+    fn take_all_back(&mut self, order: &[u32], end: u32) -> Result<(), AllocError>
+        requires { All (λ n. n < self.old.nodes) order.now }
+        ensures { OnOk result (HasOtherFlow self.old self.new) }
+    {
+        for back in 0..order.len() {
+            let node = order[order.len() - 1 - back];
+            if node != end {
+                self.take_back(node)?;
+            }
+        }
+        Ok(())
+    }
+
+    /// Rounds until nothing more gets to the end.
+    fn run(&mut self, alloc: Global, end: u32) -> Result<(), AllocError>
+        requires { end < self.old.nodes }
+        ensures { OnOk result (HasOtherFlow self.old self.new) }
+    {
+        for _ in 0..u64::MAX {
+            if !self.label_all(alloc, end)? {
+                return Ok(());
+            }
+            self.discharge_all(end)?;
+        }
+        Ok(())
+    }
+}
+
+/// A flow from the start to the end over the arcs of a graph that carries none, as great as a preflow finds it. That is so where
+/// the arcs have no cycle; in any case no flow is above its arc's capacity. Fails where memory is refused.
+pub fn trial_flow(
+    alloc: Global,
+    graph: ResidualGraph,
+    start: u32,
+    end: u32,
+) -> Result<ResidualGraph, AllocError>
+    requires start { start < graph.nodes }
+    requires end { end < graph.nodes }
+    ensures { IfOk result (HasOtherFlow graph) }
+{
+    let nodes = graph.nodes();
+    let order = order_of(alloc, &graph)?;
+    let mut trial = Trial {
+        graph,
+        excesses: vec![in alloc; 0u64; nodes as usize]?,
+        labels: vec![in alloc; nodes; nodes as usize]?,
+        waiting: Vec::new(alloc),
+    };
+    trial.open(start)?;
+    trial.run(alloc, end)?;
+    trial.take_all_back(&order, end)?;
+    Ok(trial.graph)
+}
