@@ -86,14 +86,14 @@ turned_amount xs k = ap (λ (i : Priced). i.amount) (get_or-map_all turned xs k 
 pub start_below : (net : Network) (a b : ℕ) (imports : List Priced) (source sink : ℕ) → IsStart net a b imports source sink → IsBelow net a b imports source sink
 start_below net a b imports source sink start = elim start.way [
   | inl w ↦ record {
-      lowered = λ k. subst (λ v. (import_in v k).amount ≤ (import_in net.imports k).amount) (sym w.0) (start.narrowed.lowered k);
-      way = inl (ap ends_of w.0 ∙ start.narrowed.ends, w.1, w.2);
-    }
+    lowered = λ k. subst (λ v. (import_in v k).amount ≤ (import_in net.imports k).amount) (sym w.0) (start.narrowed.lowered k);
+    way = inl (ap ends_of w.0 ∙ start.narrowed.ends, w.1, w.2);
+  }
   | inr w ↦ record {
-      lowered = λ k. subst (λ v. (import_in v k).amount ≤ (import_in net.imports k).amount) (sym w.0)
-          (subst (λ n. n ≤ (import_in net.imports k).amount) (sym (turned_amount start.narrow k)) (start.narrowed.lowered k));
-      way = inr (ap ends_of w.0 ∙ turned_ends start.narrow net.imports start.narrowed.ends, w.1, w.2);
-    }
+    lowered = λ k. subst (λ v. (import_in v k).amount ≤ (import_in net.imports k).amount) (sym w.0)
+        (subst (λ n. n ≤ (import_in net.imports k).amount) (sym (turned_amount start.narrow k)) (start.narrowed.lowered k));
+    way = inr (ap ends_of w.0 ∙ turned_ends start.narrow net.imports start.narrowed.ends, w.1, w.2);
+  }
 ]
 
 -- and stays so where weights are lowered
