@@ -1,10 +1,6 @@
 -- A tree has one list of entries, one index, and one list of identifiers that stand for nothing.
-use Rattle.std.proofs.Common.{◌≡◌, ℕ, List, [], ◌∷◌, length, map, refl, sym, ap, ap₂, ◌∙◌, subst, arith, Some}
-use Rattle.std.specs.Prelude.{AllPairs, Contains, slice_get}
-use Rattle.std.specs.Cmp.Lexicographic.{slice_cmp}
+use Rattle.std.proofs.Common.{◌≡◌, ℕ, List, [], ◌∷◌, map, refl, sym, ap, ap₂, ◌∙◌, subst, arith}
 use Rattle.std.specs.List.{flat_map}
-use Rattle.std.specs.Ordering.{nat_cmp}
-use Rattle.std.specs.declared.cmp.Ordering.TheVariants.{Less}
 use Rattle.std.proofs.lemmas.Option.{slice_get_within}
 use Rattle.ob_emit.proofs.Positions.{position_column}
 use Rattle.ob_emit.specs.Documents.{document_of}
@@ -18,7 +14,7 @@ use Rattle.ob_targets.specs.Refers.{unresolved, AreReferences}
 use Rattle.ob_types.specs.World.{world, World}
 use Rattle.oscip_tree.proofs.TreeFiles.{there}
 use Rattle.oscip_tree.specs.declared.source.Source.{Source}
-use Rattle.scip_index.specs.Plain.{PlainDocument, PlainIndex, PlainSymbol}
+use Rattle.scip_index.specs.Plain.{PlainIndex, PlainSymbol}
 use Rattle.tree_board.specs.Reached.{names, seen_of, SeenFile}
 use Rattle.ob_board.specs.Entries.{AreEntriesOf, IsEntry, PlainEntry}
 use Rattle.ob_board.specs.Indexes.{AreEntries, IsIndex, IsIndexOf, IsMadeOf}
@@ -49,9 +45,9 @@ module _ (files : List SeenFile) (file : SeenFile) where
       let w : world_of a.refs a.resolved ≡ world_of b.refs b.resolved = same_world a.refs b.refs a.resolved b.resolved in
       let refs : a.refs ≡ b.refs = same_references a.refs b.refs a.resolved b.resolved in
       let documents : e.document ≡ f.document =
-        a.are.document_is ∙ ap₂ (λ (v : World) (rs : List Reference). document_of v file.path package_name rs) w refs ∙ sym b.are.document_is in
+      a.are.document_is ∙ ap₂ (λ (v : World) (rs : List Reference). document_of v file.path package_name rs) w refs ∙ sym b.are.document_is in
       let of : AreExternals (externals_in (world_of a.refs a.resolved) a.refs) f.externals =
-        subst (λ (xs : List PlainSymbol). AreExternals xs f.externals) (sym (ap₂ externals_in w refs)) b.are.externals_are in
+      subst (λ (xs : List PlainSymbol). AreExternals xs f.externals) (sym (ap₂ externals_in w refs)) b.are.externals_are in
       let externals : e.externals ≡ f.externals = one_externals (externals_in (world_of a.refs a.resolved) a.refs) e.externals f.externals a.are.externals_are of in
       λ i. record { name = (a.name_is ∙ sym b.name_is) i; document = documents i; interface = (a.interface_is ∙ sym b.interface_is) i; externals = externals i }
 
@@ -70,7 +66,7 @@ one_index_of files package_name root index other a b =
     let entries : a.entries ≡ b.entries = one_entries_of files package_name a.entries b.entries a.are_entries b.are_entries in
     let made : IsMadeOf a.entries root other = subst (λ (es : List PlainEntry). IsMadeOf es root other) (sym entries) b.made in
     let externals : index.external_symbols ≡ other.external_symbols =
-      one_externals (flat_map (λ (e : PlainEntry). e.externals) a.entries) index.external_symbols other.external_symbols a.made.externals made.externals in
+    one_externals (flat_map (λ (e : PlainEntry). e.externals) a.entries) index.external_symbols other.external_symbols a.made.externals made.externals in
     λ i. record { metadata = (a.made.metadata ∙ sym made.metadata) i; documents = (a.made.documents ∙ sym made.documents) i; external_symbols = externals i }
 
 module _ (sources : List Source) where
@@ -111,11 +107,11 @@ one_part files file rows others a b =
 one_unresolved_of : (files : List SeenFile) (rows others : List PlainUnresolved) → IsUnresolvedOf files rows → IsUnresolvedOf files others → rows ≡ others
 one_unresolved_of files rows others a b =
     let parts : a.parts ≡ b.parts =
-      each_same a.parts b.parts (a.as_many ∙ sym b.as_many) (λ k part other at_part at_other.
-      let within = slice_get_within a.parts k part at_part in
-      let many = a.as_many in
-      let (file, at) = there files k (omega arith) in
-      one_part files file part other (a.each k file part at at_part) (b.each k file other at at_other)) in
+    each_same a.parts b.parts (a.as_many ∙ sym b.as_many) (λ k part other at_part at_other.
+    let within = slice_get_within a.parts k part at_part in
+    let many = a.as_many in
+    let (file, at) = there files k (omega arith) in
+    one_part files file part other (a.each k file part at at_part) (b.each k file other at at_other)) in
     a.whole ∙ ap (flat_map (λ (part : List PlainUnresolved). part)) parts ∙ sym b.whole
 
 pub one_unresolved : (sources : List Source) (rows others : List PlainUnresolved) → AreUnresolved sources rows → AreUnresolved sources others → rows ≡ others
