@@ -1,10 +1,6 @@
 -- A tree has one list of entries, one index, and one list of identifiers that stand for nothing.
-use Rattle.std.proofs.Common.{◌≡◌, ℕ, List, [], ◌∷◌, length, map, refl, sym, ap, ap₂, ◌∙◌, subst, arith, Some}
-use Rattle.std.specs.Prelude.{AllPairs, Contains, slice_get}
-use Rattle.std.specs.Cmp.Lexicographic.{slice_cmp}
+use Rattle.std.proofs.Common.{◌≡◌, ℕ, List, [], ◌∷◌, map, refl, sym, ap, ap₂, ◌∙◌, subst, arith}
 use Rattle.std.specs.List.{flat_map}
-use Rattle.std.specs.Ordering.{nat_cmp}
-use Rattle.std.specs.declared.cmp.Ordering.TheVariants.{Less}
 use Rattle.std.proofs.lemmas.Option.{slice_get_within}
 use Rattle.ob_emit.proofs.Positions.{position_column}
 use Rattle.ob_emit.specs.Documents.{document_of}
@@ -18,7 +14,7 @@ use Rattle.ob_targets.specs.Refers.{unresolved, AreReferences}
 use Rattle.ob_types.specs.World.{world, World}
 use Rattle.oscip_tree.proofs.TreeFiles.{there}
 use Rattle.oscip_tree.specs.declared.source.Source.{Source}
-use Rattle.scip_index.specs.Plain.{PlainDocument, PlainIndex, PlainSymbol}
+use Rattle.scip_index.specs.Plain.{PlainIndex, PlainSymbol}
 use Rattle.tree_board.specs.Reached.{names, seen_of, SeenFile}
 use Rattle.ob_board.specs.Entries.{AreEntriesOf, IsEntry, PlainEntry}
 use Rattle.ob_board.specs.Indexes.{AreEntries, IsIndex, IsIndexOf, IsMadeOf}
