@@ -11,4 +11,5 @@ pub mod OneSymbol
 pub mod Paths
 pub mod Positions
 pub mod Rows
+pub mod SeenSymbols
 pub mod Texting

@@ -1,6 +1,10 @@
 -- When declarations have symbols of their own.
-use Rattle.std.specs.Prelude.{◌≡◌, ◌<◌, ◌^◌, length, Contains}
+use Rattle.std.specs.Prelude.{◌≡◌, ◌<◌, ◌^◌, ℕ, List, length, Contains}
+use Rattle.std.specs.List.{filter_map}
+use Rattle.std.specs.Option.{option_map}
+use Rattle.ob_decls.specs.declared.rows.Declared.{Declared}
 use Rattle.ob_decls.specs.declared.rows.Record.{Record as RecordRow}
+use Rattle.ob_interface.specs.Interfaces.{declaration_of, Declaration}
 use Rattle.ob_scope.specs.Members.{members_of}
 use Rattle.ob_scope.specs.Scope.{NoneTwice}
 use Rattle.ob_scope.specs.Texts.{text_at}
@@ -17,3 +21,7 @@ pub record DeclaresOnce (w : World) : Type 0 where
 abbrev pub IsLocal : PlainSymbol → Type 0
 IsLocal (Local id) = Unit {0}
 IsLocal (Global scheme manager package_name version descriptors) = ⊥
+
+-- the tokens of what other modules see of a module, in its order
+abbrev pub seen_tokens : World → List ℕ
+seen_tokens v = filter_map (λ (r : Declared). option_map (λ (it : Declaration). r.number) (declaration_of v.bytes v.tokens v.rows r)) v.rows.declared

@@ -1,19 +1,20 @@
 //! Laws of what callers of documents know. Each function is a law: its body is empty, and its contract is proved.
-ghost use Rattle.std.specs.Prelude.{◌≡◌, ◌<◌, ◌^◌, ℕ, Contains, List, Some, length};
+ghost use Rattle.std.specs.Prelude.{◌≡◌, ◌<◌, ◌^◌, ℕ, Contains, List, Some, None, length, slice_get};
 ghost use Rattle.ob_scan.specs.declared.token.Token.{Token};
 ghost use Rattle.ob_scan.specs.Spelling.{Spells};
 ghost use Rattle.ob_tree.specs.declared.declaration.Module.{Module};
 ghost use Rattle.ob_decls.specs.Declaring.{own_name, rows_of};
+ghost use Rattle.ob_decls.specs.Order.{AreInOrder};
 ghost use Rattle.ob_decls.specs.Parts.{Rows};
-ghost use Rattle.ob_interface.specs.Interfaces.{interface_of, ModuleInterface};
+ghost use Rattle.ob_interface.specs.Interfaces.{interface_of, Declaration, ModuleInterface};
 ghost use Rattle.ob_scope.specs.Scoped.{AreScopes, ModuleScopes};
 ghost use Rattle.ob_targets.specs.declared.target.Reference.{Reference};
 ghost use Rattle.ob_targets.specs.Refers.{AreReferences};
-ghost use Rattle.ob_types.specs.World.{text, World};
+ghost use Rattle.ob_types.specs.World.{declaration_there, text, World};
 ghost use Rattle.scip_symbol.specs.SymbolTexts.{PlainSymbol};
-ghost use Rattle.ob_emit.specs.Apart.{DeclaresOnce, IsLocal};
+ghost use Rattle.ob_emit.specs.Apart.{seen_tokens, DeclaresOnce, IsLocal};
 ghost use Rattle.ob_emit.specs.Named.{AreNamed, AreOfNames, IsNamed};
-ghost use Rattle.ob_emit.specs.Symbols.{declared_symbol};
+ghost use Rattle.ob_emit.specs.Symbols.{declared_symbol, imported_symbol};
 
 /// The scopes of a module say that it has names, and those of the modules that it reaches that these have.
 pub fn names_of_scopes()
@@ -37,4 +38,11 @@ pub fn trees_declare_once()
 pub fn one_declaration()
     ensures here { (w : World) (package_name : List ℕ) (k j : ℕ) (s : PlainSymbol) → DeclaresOnce w → declared_symbol w package_name k ≡ Some s → declared_symbol w package_name j ≡ Some s → k ≡ j }
     ensures elsewhere { (w v : World) (package_name : List ℕ) (k j : ℕ) (s : PlainSymbol) → (text w own_name ≡ text v own_name → ⊥) → declared_symbol w package_name k ≡ Some s → declared_symbol v package_name j ≡ Some s → IsLocal s }
+{}
+
+/// What other modules see of a module's block has there the symbol that it has in its own module: so what one file defines is found from any
+/// other. The table of a module has its rows in order.
+pub fn one_symbol()
+    ensures { (w v : World) (package_name : List ℕ) (i d k : ℕ) (it : Declaration) → AreInOrder v.rows → slice_get w.reached i ≡ Some (interface_of v.bytes v.tokens v.rows) → slice_get (seen_tokens v) d ≡ Some k
+        → declaration_there w i d ≡ Some it → it.of_record ≡ None → imported_symbol w package_name i d ≡ declared_symbol v package_name k }
 {}
