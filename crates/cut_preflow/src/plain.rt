@@ -68,11 +68,7 @@ fn opening_labels(alloc: Global, ends: Ends) -> Result<Vec<u32>, AllocError>
 }
 
 /// The opening, before it is any node's turn.
-fn before_turns(
-    alloc: Global,
-    ends: Ends,
-    imports: Vec<Priced>,
-) -> Result<PlainPreflow, AllocError>
+fn before_turns(alloc: Global, ends: Ends, imports: Vec<Priced>) -> Result<PlainPreflow, AllocError>
     requires network { IsFlowNetwork (flow_network ends imports.items) }
     requires limits { IsWithinLimits (flow_network ends imports.items) }
     ensures { IfOk result (λ p. p ≡ record { net = flow_network ends imports.items; history = [] }) }
