@@ -12,7 +12,7 @@ lowered-requires-clause-between g c =
     (below_between net c.args.ends.0 c.args.ends.1 c.keeps.ensures s.imports.items s.source s.sink (start_below net c.args.ends.0 c.args.ends.1 s.imports.items s.source s.sink c.in_ok-start.ensures))
 
 pub in_own_ledger-requires-clause-start : goal.in_own_ledger-requires-clause-start
-in_own_ledger-requires-clause-start g c =
+in_own_ledger-requires-clause-start g c κs within =
     let net = c.args.net.now in
     let a = c.args.ends.0 in
     let b = c.args.ends.1 in
@@ -23,6 +23,6 @@ in_own_ledger-requires-clause-start g c =
     (subst (λ (m : ℕ). IsBelow net a b low.imports.items s.source m) (sym c.in_ok-lower.ensures.sink) below)
 
 pub in_own_ledger-requires-2-clause-start : goal.in_own_ledger-requires-2-clause-start
-in_own_ledger-requires-2-clause-start g c =
+in_own_ledger-requires-2-clause-start g c κs within =
     let s = c.in_ok-start.start in
     start_below c.args.net.now c.args.ends.0 c.args.ends.1 s.imports.items s.source s.sink c.in_ok-start.ensures
