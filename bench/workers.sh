@@ -13,7 +13,7 @@ g++ -O2 -o "$work/generate" "$here/generate.cpp"
 # The program: the crates that it stands on, with what earlier checks kept, and itself.
 build() {
   mkdir "$work/crates"
-  for crate in texts digraph cut_residual cut_net cut_part cut_preflow cut_solve; do
+  for crate in texts digraph cut_residual cut_net cut_part cut_trial cut_preflow cut_solve; do
     cp -r "$here/../crates/$crate" "$work/crates"
     grep "^$crate[ :]" "$here/../crates.txt" >> "$work/crates.txt"
   done

@@ -103,17 +103,24 @@ lowered_below net a b old new source sink below low = record {
   way = elim below.way [ inl w ↦ inl (low.ends ∙ w.0, w.1, w.2) | inr w ↦ inr (low.ends ∙ w.0, w.1, w.2) ];
 }
 
+pub below_between : (net : Network) (a b : ℕ) → IsNetwork net → (imports : List Priced) (source sink : ℕ) → IsBelow net a b imports source sink → AreBetween imports (length net.names)
+below_between net a b is imports source sink below = elim below.way [
+  | inl w ↦ still_between imports net.imports (length net.names) w.0 is.between
+  | inr w ↦ still_between imports (map turned net.imports) (length net.names) w.0 (between_turned net.imports (length net.names) is.between)
+]
+
 module _ (net : Network) (a b : ℕ) (is : IsNetwork net) (ends : AreEnds net a b) (imports : List Priced) (source sink : ℕ) (below : IsBelow net a b imports source sink) where
   pub below_is : IsFlowNetwork (network_on (length net.names) imports source sink)
   below_is =
       let n = length net.names in
       let turned_imports = map turned net.imports in
       let up = ascending_apart net.imports is.imports_ascend in
+      let between = below_between net a b is imports source sink below in
       elim below.way [
         | inl w ↦ subst (λ m. IsFlowNetwork (network_on n imports m sink)) (sym w.1) (subst (λ k. IsFlowNetwork (network_on n imports a k)) (sym w.2)
-            (flow_network n imports a b (still_between imports net.imports n w.0 is.between) (apart_by_ends imports net.imports w.0 up) ends.from_in ends.to_in ends.apart))
+            (flow_network n imports a b between (apart_by_ends imports net.imports w.0 up) ends.from_in ends.to_in ends.apart))
         | inr w ↦ subst (λ m. IsFlowNetwork (network_on n imports m sink)) (sym w.1) (subst (λ k. IsFlowNetwork (network_on n imports b k)) (sym w.2)
-            (flow_network n imports b a (still_between imports turned_imports n w.0 (between_turned net.imports n is.between)) (apart_by_ends imports turned_imports w.0 (turned_apart net.imports up))
+            (flow_network n imports b a between (apart_by_ends imports turned_imports w.0 (turned_apart net.imports up))
             ends.to_in ends.from_in (λ e. ends.apart (sym e))))
       ]
 
