@@ -1,4 +1,0 @@
-use Rattle.board_tests.proofs.boards.an_abandoned_board_hands_nothing_out.Given as goal
-
-abbrev pub ghosts-given_up : goal.ghosts-given_up
-ghosts-given_up a = record { graph = a.graph.now }
