@@ -3,19 +3,19 @@
 //! Its contract: the graph is that of the files, or it is their first refusal; a cycle is named exactly where a chain comes back.
 #![tactic(auto)]
 
-mod alike;
+mod build;
+mod duplicates;
+mod edges;
 mod fault;
 mod graphs;
 pub mod laws;
-mod making;
+mod names;
 mod order;
-mod pairing;
 mod parsed;
 mod ready;
-mod tables;
 
+pub use build::graph;
 pub use digraph::{Edge as Pair, cycle};
 pub use fault::GraphFault;
 pub use graphs::Graph;
-pub use making::graph;
 pub use parsed::Parsed;

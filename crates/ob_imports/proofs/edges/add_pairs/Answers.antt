@@ -1,0 +1,14 @@
+-- The name of each import is known.
+use Rattle.std.proofs.Common.{List, [], inr, refl, sym, subst}
+use Rattle.std.specs.Prelude.{Contains}
+use Rattle.std.specs.String.{string_bytes}
+use Rattle.ob_imports.specs.Files.{file_of}
+use Rattle.digraph.proofs.Members.{first_member, in_map}
+use Rattle.ob_imports.proofs.edges.add_pairs.Goals as goal
+
+pub number_of-to-requires-clause-known : goal.number_of-to-requires-clause-known
+number_of-to-requires-clause-known c =
+    let file = file_of c.args.file.now in
+    let item = c.import-item.result in
+    let among : Contains c.args.file.now.imports.items item = subst (λ (xs : List _). Contains xs item) c.deref-import-items.ensures.value (c.loop-import.import-index, c.loop-import-test.true, sym c.import-item.is) in
+    rw c.as_str-in-loop-import.ensures.value (c.requires.known (string_bytes item) (inr (file.name, (file, first_member file [] file refl, refl, in_map string_bytes c.args.file.now.imports.items item among))))

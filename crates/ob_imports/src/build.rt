@@ -1,0 +1,99 @@
+//! The graph of the files of a tree.
+ghost use Rattle.std.specs.Prelude.{◌≡◌, ◌≤◌, ◌<◌, [], All, IfNone, IfOk, IfSome, List, length, map};
+ghost use Rattle.std.specs.List.{slice_index_or, IsDistinct};
+ghost use Rattle.std.specs.Str.{bytes_eq};
+ghost use Rattle.digraph.specs.Chains.{IsAcyclic};
+ghost use Rattle.digraph.specs.Edges.{AreBetween, Leads};
+ghost use Rattle.ob_imports.specs.Files.{files_of, File};
+ghost use Rattle.ob_imports.specs.Names.{names_by, texts, IsByName};
+ghost use Rattle.ob_imports.specs.Numbering.{AreLed};
+ghost use Rattle.ob_imports.specs.Outcomes.{outcome_of, GraphOutcome, IsCycleOf, IsGraphOutcome};
+
+use crate::duplicates::no_two_alike;
+use crate::edges::pairs_of;
+use crate::names::nodes_of;
+use crate::order::order_of;
+use crate::{Graph, GraphFault, Pair, Parsed};
+use digraph::{cycle, ranks_of, renumbered};
+use std::alloc::{AllocError, Global};
+
+const MOST_MODULES: usize = 4096;
+
+const MOST_NODES: usize = 8192;
+
+const MOST_PAIRS: usize = 65536;
+
+/// The names of modules, by their places in an order of the names.
+fn names_at(
+    alloc: Global,
+    names: &[String],
+    order: &[u32],
+    places: &[u32],
+) -> Result<Vec<String>, AllocError>
+    requires order { All (λ v. v < length names.now) order.now }
+    requires places { All (λ r. r < length order.now) places.now }
+    ensures { IfOk result (λ named. texts named.items ≡ map (λ r. slice_index_or (names_by (texts names.now) order.now) r []) places.now) }
+{
+    let mut named = Vec::new(alloc);
+    for place in places {
+        let node = order[*place as usize];
+        named.push(String::from_str(alloc, names[node as usize].as_str())?)?;
+    }
+    Ok(named)
+}
+
+/// The names of the cycle that is named by the order of the names, or none where no chain of imports comes back.
+fn cycle_in(
+    alloc: Global,
+    pairs: &[Pair],
+    names: &[String],
+    order: &[u32],
+) -> Result<Option<Vec<String>>, AllocError>
+    requires between { AreBetween pairs.now (length names.now) }
+    requires once { IsDistinct bytes_eq (texts names.now) }
+    requires order { IsByName (texts names.now) order.now }
+    requires few { length names.now ≤ 8192 }
+    ensures named { IfOk result (λ answer. IfSome answer (λ cycle. (files : List File) → AreLed files (texts names.now) pairs.now → IsCycleOf files (texts names.now) (texts cycle.items))) }
+    ensures none { IfOk result (λ answer. IfNone answer (IsAcyclic (Leads pairs.now))) }
+{
+    let ranks = ranks_of(alloc, order)?;
+    let others = renumbered(alloc, pairs, ranks.as_slice())?;
+    match cycle(alloc, others.as_slice(), order.len())? {
+        None => Ok(None),
+        Some(cycle) => Ok(Some(names_at(alloc, names, order, cycle.as_slice())?)),
+    }
+}
+
+/// What the files make: a graph, or the first refusal.
+fn made(alloc: Global, parsed: &[Parsed]) -> Result<Graph, GraphFault>
+    ensures { IfSome (outcome_of result) (IsGraphOutcome (files_of parsed.now)) }
+{
+    if parsed.len() > MOST_MODULES {
+        return Err(GraphFault::TooMany);
+    }
+    no_two_alike(alloc, parsed)?;
+    let names = nodes_of(alloc, parsed)?;
+    if names.len() > MOST_NODES {
+        return Err(GraphFault::TooMany);
+    }
+    let pairs = pairs_of(alloc, parsed, &names)?;
+    if pairs.len() > MOST_PAIRS {
+        return Err(GraphFault::TooMany);
+    }
+    let order = order_of(alloc, names.as_slice())?;
+    match cycle_in(alloc, pairs.as_slice(), names.as_slice(), order.as_slice())? {
+        None => Ok(Graph::of(alloc, names, parsed.len() as u32, pairs, order)?),
+        Some(names) => Err(GraphFault::Cycle { names }),
+    }
+}
+
+/// The graph of the files' imports, or the first refusal: too many files, then two modules of one name, then too many
+/// modules or imports, then a cycle.
+pub fn graph(alloc: Global, parsed: &[Parsed]) -> Result<Graph, GraphFault>
+    // What is answered is so: the graph, or the first refusal. Want of memory says nothing.
+    ensures exact { IfSome (outcome_of result) (IsGraphOutcome (files_of parsed.now)) }
+    // What is so is answered, unless memory runs out.
+    ensures only { (o : GraphOutcome) → IsGraphOutcome (files_of parsed.now) o → IfSome (outcome_of result) (λ p. p ≡ o) }
+{
+    made(alloc, parsed)
+}

@@ -1,0 +1,65 @@
+//! Files whose modules have one name.
+ghost use Rattle.std.specs.Prelude.{◌≡◌, ◌≤◌, ◌<◌, ◌+◌, IfErr, IfNone, IfOk, IfSome, IsPermutation, length, OnOk, ℕ};
+ghost use Rattle.ob_imports.specs.Files.{files_of, names_of, paths_of, DifferInName};
+ghost use Rattle.ob_imports.specs.Names.{texts, AreAlike, AreInOrder, IsFirstAlike};
+ghost use Rattle.ob_imports.specs.Outcomes.{fault_said, IsGraphOutcome};
+
+use crate::names::module_names;
+use crate::{GraphFault, Parsed};
+use std::alloc::{AllocError, Global};
+
+fn put_in_order(names: &mut Vec<String>)
+    ensures same { IsPermutation (texts names.old.items) (texts names.new.items) }
+    ensures in_order { AreInOrder (texts names.new.items) }
+{
+    names.sort_unstable();
+}
+
+/// The first place whose name is the next one's too.
+fn first_alike(names: &[String]) -> Option<usize>
+    ensures found { IfSome result (IsFirstAlike (texts names.now)) }
+    ensures none { IfNone result ((k : ℕ) → k + 1 < length names.now → AreAlike (texts names.now) k → ⊥) }
+{
+    for place in 1..names.len() {
+        if names[place - 1] == names[place] {
+            return Some(place - 1);
+        }
+    }
+    None
+}
+
+/// The paths of the files with a module of this name.
+fn paths_with(alloc: Global, parsed: &[Parsed], name: &str) -> Result<Vec<String>, AllocError>
+    ensures { IfOk result (λ paths. texts paths.items ≡ paths_of (files_of parsed.now) name.now) }
+{
+    let mut paths = Vec::new(alloc);
+    for file in parsed {
+        if file.name.as_str() == name {
+            paths.push(String::from_str(alloc, file.path.as_str())?)?;
+        }
+    }
+    Ok(paths)
+}
+
+/// Finds that the modules of the files differ in name, or names two that don't.
+pub(crate) fn no_two_alike(alloc: Global, parsed: &[Parsed]) -> Result<(), GraphFault>
+    requires few { length parsed.now ≤ 4096 }
+    ensures differ { OnOk result (DifferInName (files_of parsed.now)) }
+    ensures fault { IfErr result (λ fault. IfSome (fault_said fault) (IsGraphOutcome (files_of parsed.now))) }
+{
+    let mut names = module_names(alloc, parsed)?;
+    put_in_order(&mut names);
+    let Some(place) = first_alike(names.as_slice()) else {
+        return Ok(());
+    };
+    let name = String::from_str(alloc, names[place].as_str())?;
+    let mut paths = paths_with(alloc, parsed, name.as_str())?;
+    put_in_order(&mut paths);
+    let first_path = String::from_str(alloc, paths[0].as_str())?;
+    let second_path = String::from_str(alloc, paths[1].as_str())?;
+    Err(GraphFault::TwoModules {
+        name,
+        first_path,
+        second_path,
+    })
+}

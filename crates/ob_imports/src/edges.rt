@@ -1,0 +1,65 @@
+//! The imports of files as pairs of places in a table of names.
+ghost use Rattle.std.specs.Prelude.{◌≡◌, ◌≤◌, ◌↔◌, ◌++◌, ◌∷◌, [], Contains, IfOk, List, OnOk, length, ℕ};
+ghost use Rattle.std.specs.List.{IsDistinct};
+ghost use Rattle.std.specs.Str.{bytes_eq};
+ghost use Rattle.std.specs.String.{string_bytes};
+ghost use Rattle.ob_imports.specs.Files.{files_of, Imports, IsNode};
+ghost use Rattle.ob_imports.specs.Names.{texts, LeadsBy};
+ghost use Rattle.ob_imports.specs.Numbering.{all_pairs, pairs_from};
+ghost use Rattle.digraph.specs.Edges.{AreBetween, IsAscending, Leads};
+
+use crate::names::number_of;
+use crate::{Pair, Parsed};
+use digraph::put_in_order;
+use indexmap::IndexSet;
+use std::alloc::{AllocError, Global};
+
+fn add_pairs(
+    pairs: &mut Vec<Pair>,
+    file: &Parsed,
+    table: &IndexSet<String>,
+) -> Result<(), AllocError>
+    requires few { length table.now.keys ≤ 8192 }
+    requires known { (n : List ℕ) → IsNode (files_of (file.now ∷ [])) n → Contains (texts table.now.keys) n }
+    ensures { OnOk result (pairs.new.items ≡ pairs.old.items ++ pairs_from (texts table.now.keys) (string_bytes file.now.name) (texts file.now.imports.items)) }
+{
+    for import in &file.imports {
+        let from = number_of(table, file.name.as_str());
+        let to = number_of(table, import.as_str());
+        pairs.push(Pair { from, to })?;
+    }
+    Ok(())
+}
+
+fn all_of(
+    alloc: Global,
+    parsed: &[Parsed],
+    table: &IndexSet<String>,
+) -> Result<Vec<Pair>, AllocError>
+    requires few { length table.now.keys ≤ 8192 }
+    requires known { (n : List ℕ) → IsNode (files_of parsed.now) n → Contains (texts table.now.keys) n }
+    ensures { IfOk result (λ pairs. pairs.items ≡ all_pairs (texts table.now.keys) (files_of parsed.now)) }
+{
+    let mut pairs = Vec::new(alloc);
+    for file in parsed {
+        add_pairs(&mut pairs, file, table)?;
+    }
+    Ok(pairs)
+}
+
+/// The imports of the files, by places in a table that has all their names: ascending, each once.
+pub(crate) fn pairs_of(
+    alloc: Global,
+    parsed: &[Parsed],
+    table: &IndexSet<String>,
+) -> Result<Vec<Pair>, AllocError>
+    requires few { length table.now.keys ≤ 8192 }
+    requires once { IsDistinct bytes_eq (texts table.now.keys) }
+    requires known { (n : List ℕ) → IsNode (files_of parsed.now) n → Contains (texts table.now.keys) n }
+    ensures ascending { IfOk result (λ pairs. IsAscending pairs.items) }
+    ensures leads { IfOk result (λ pairs. (v w : ℕ) → Leads pairs.items v w ↔ LeadsBy (Imports (files_of parsed.now)) (texts table.now.keys) v w) }
+{
+    let mut pairs = all_of(alloc, parsed, table)?;
+    put_in_order(&mut pairs);
+    Ok(pairs)
+}
