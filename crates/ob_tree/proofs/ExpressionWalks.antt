@@ -89,4 +89,12 @@ pub arguments_items : (o : Option (Box ExprList Global)) →
     items_of (selector_outline (selectors.Arguments o)) ≡ items.Word ∷ (items_of (if_there (λ l. expr_list_outline l.value) o) ++ items.Word ∷ [])
 arguments_items o = simp (arguments_made o, items-construct, items-append)
 
-pub ruleset expression_items = (walks, expr_items, sum_items, term_items, element_items, element_list_items, expr_list_items, designator_items, value_items, nil_items, true_items, false_items, set_items, name_items, group_items, not_items, field_items, index_items, target_items, arguments_items)
+pub ruleset expr_walk = (walks, expr_items)
+pub ruleset sum_walk = (walks, sum_items)
+pub ruleset term_walk = (walks, term_items)
+pub ruleset element_walk = (walks, element_items)
+pub ruleset element_list_walk = (walks, element_list_items)
+pub ruleset expr_list_walk = (walks, expr_list_items)
+pub ruleset designator_walk = (walks, designator_items)
+pub ruleset factor_walk = (walks, value_items, nil_items, true_items, false_items, set_items, name_items, group_items, not_items)
+pub ruleset selector_walk = (walks, field_items, index_items, target_items, arguments_items)

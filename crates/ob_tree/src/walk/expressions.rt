@@ -11,7 +11,7 @@ use crate::item::Item;
 use std::alloc::AllocError;
 
 #[cycle(expressions)]
-#[tactic(auto, using(crate::proofs::ExpressionWalks::expression_items))]
+#[tactic(auto, using(crate::proofs::ExpressionWalks::expr_walk))]
 pub(crate) fn walk_expr(out: &mut Vec<Item>, expr: &Expr) -> Result<(), AllocError>
     ensures { IfOk result (λ _. out.new.items ≡ out.old.items ++ items_of (expr_outline expr.now)) }
 {
@@ -27,7 +27,7 @@ pub(crate) fn walk_expr(out: &mut Vec<Item>, expr: &Expr) -> Result<(), AllocErr
 }
 
 #[cycle(expressions)]
-#[tactic(auto, using(crate::proofs::ExpressionWalks::expression_items))]
+#[tactic(auto, using(crate::proofs::ExpressionWalks::sum_walk))]
 fn walk_sum(out: &mut Vec<Item>, sum: &Sum) -> Result<(), AllocError>
     ensures { IfOk result (λ _. out.new.items ≡ out.old.items ++ items_of (sum_outline sum.now)) }
 {
@@ -44,7 +44,7 @@ fn walk_sum(out: &mut Vec<Item>, sum: &Sum) -> Result<(), AllocError>
 }
 
 #[cycle(expressions)]
-#[tactic(auto, using(crate::proofs::ExpressionWalks::expression_items))]
+#[tactic(auto, using(crate::proofs::ExpressionWalks::term_walk))]
 fn walk_term(out: &mut Vec<Item>, term: &Term) -> Result<(), AllocError>
     ensures { IfOk result (λ _. out.new.items ≡ out.old.items ++ items_of (term_outline term.now)) }
 {
@@ -57,7 +57,7 @@ fn walk_term(out: &mut Vec<Item>, term: &Term) -> Result<(), AllocError>
 }
 
 #[cycle(expressions)]
-#[tactic(auto, using(crate::proofs::ExpressionWalks::expression_items))]
+#[tactic(auto, using(crate::proofs::ExpressionWalks::factor_walk))]
 fn walk_factor(out: &mut Vec<Item>, factor: &Factor) -> Result<(), AllocError>
     ensures { IfOk result (λ _. out.new.items ≡ out.old.items ++ items_of (factor_outline factor.now)) }
 {
@@ -89,7 +89,7 @@ fn walk_factor(out: &mut Vec<Item>, factor: &Factor) -> Result<(), AllocError>
 }
 
 #[cycle(expressions)]
-#[tactic(auto, using(crate::proofs::ExpressionWalks::expression_items))]
+#[tactic(auto, using(crate::proofs::ExpressionWalks::element_list_walk))]
 fn walk_element_list(out: &mut Vec<Item>, list: &ElementList) -> Result<(), AllocError>
     ensures { IfOk result (λ _. out.new.items ≡ out.old.items ++ items_of (element_list_outline list.now)) }
 {
@@ -102,7 +102,7 @@ fn walk_element_list(out: &mut Vec<Item>, list: &ElementList) -> Result<(), Allo
 }
 
 #[cycle(expressions)]
-#[tactic(auto, using(crate::proofs::ExpressionWalks::expression_items))]
+#[tactic(auto, using(crate::proofs::ExpressionWalks::element_walk))]
 fn walk_element(out: &mut Vec<Item>, element: &Element) -> Result<(), AllocError>
     ensures { IfOk result (λ _. out.new.items ≡ out.old.items ++ items_of (element_outline element.now)) }
 {
@@ -118,7 +118,7 @@ fn walk_element(out: &mut Vec<Item>, element: &Element) -> Result<(), AllocError
 }
 
 #[cycle(expressions)]
-#[tactic(auto, using(crate::proofs::ExpressionWalks::expression_items))]
+#[tactic(auto, using(crate::proofs::ExpressionWalks::designator_walk))]
 pub(crate) fn walk_designator(
     out: &mut Vec<Item>,
     designator: &Designator,
@@ -133,7 +133,7 @@ pub(crate) fn walk_designator(
 }
 
 #[cycle(expressions)]
-#[tactic(auto, using(crate::proofs::ExpressionWalks::expression_items))]
+#[tactic(auto, using(crate::proofs::ExpressionWalks::selector_walk))]
 fn walk_selector(out: &mut Vec<Item>, selector: &Selector) -> Result<(), AllocError>
     ensures { IfOk result (λ _. out.new.items ≡ out.old.items ++ items_of (selector_outline selector.now)) }
 {
@@ -161,7 +161,7 @@ fn walk_selector(out: &mut Vec<Item>, selector: &Selector) -> Result<(), AllocEr
 }
 
 #[cycle(expressions)]
-#[tactic(auto, using(crate::proofs::ExpressionWalks::expression_items))]
+#[tactic(auto, using(crate::proofs::ExpressionWalks::expr_list_walk))]
 pub(crate) fn walk_expr_list(out: &mut Vec<Item>, list: &ExprList) -> Result<(), AllocError>
     ensures { IfOk result (λ _. out.new.items ≡ out.old.items ++ items_of (expr_list_outline list.now)) }
 {
