@@ -154,35 +154,6 @@ fn checking<'a>(
     with_required(alloc, command, "REPORT", report_help)
 }
 
-fn cut_command<'a>(alloc: Global) -> Result<Command<'a>, AllocError>
-    ensures app { IfOk result (λ c. app_of c ≡ cut_app) }
-    ensures local { IfOk result (λ c. (fields_of c).has_globals ≡ false) }
-{
-    cutting(
-        alloc,
-        "cut",
-        "Find a cheapest set of imports of Oberon-07 modules to remove so that A no longer reaches B, with a flow that proves it",
-        CUT_END,
-        "DIR",
-        FOLDER_HELP,
-    )
-}
-
-fn check_command<'a>(alloc: Global) -> Result<Command<'a>, AllocError>
-    ensures app { IfOk result (λ c. app_of c ≡ check_app) }
-    ensures local { IfOk result (λ c. (fields_of c).has_globals ≡ false) }
-{
-    checking(
-        alloc,
-        "check",
-        "Check a report's proof that its cut of Oberon-07 modules is cheapest",
-        CHECK_END,
-        "DIR",
-        FOLDER_HELP,
-        "The report of a cut between two of the modules",
-    )
-}
-
 /// The command with the names of two modules, M and N.
 fn with_users<'a>(alloc: Global, command: Command<'a>) -> Result<Command<'a>, AllocError>
     ensures app { IfOk result (λ c. app_of c ≡ with_rule (with_rule (app_of command.entry) (required_rule (codes "M"))) (required_rule (codes "N"))) }
@@ -206,65 +177,6 @@ fn crossings_command<'a>(alloc: Global) -> Result<Command<'a>, AllocError>
         .after_help(CROSSINGS_END);
     let command = with_required(alloc, command, "DIR", FOLDER_HELP)?;
     with_users(alloc, command)
-}
-
-fn cut_net_command<'a>(alloc: Global) -> Result<Command<'a>, AllocError>
-    ensures app { IfOk result (λ c. app_of c ≡ cut_net_app) }
-    ensures local { IfOk result (λ c. (fields_of c).has_globals ≡ false) }
-{
-    cutting(
-        alloc,
-        "cut-net",
-        "Find a cheapest set of imports to remove so that A no longer reaches B, with a flow that proves it",
-        CUT_NET_END,
-        "FILE",
-        NETWORK_HELP,
-    )
-}
-
-fn check_net_command<'a>(alloc: Global) -> Result<Command<'a>, AllocError>
-    ensures app { IfOk result (λ c. app_of c ≡ check_net_app) }
-    ensures local { IfOk result (λ c. (fields_of c).has_globals ≡ false) }
-{
-    checking(
-        alloc,
-        "check-net",
-        "Check a report's proof that its cut of a network is cheapest",
-        CHECK_NET_END,
-        "FILE",
-        NETWORK_HELP,
-        "The report of a cut between two of its modules",
-    )
-}
-
-fn dot_command<'a>(alloc: Global) -> Result<Command<'a>, AllocError>
-    ensures app { IfOk result (λ c. app_of c ≡ dot_app) }
-    ensures local { IfOk result (λ c. (fields_of c).has_globals ≡ false) }
-{
-    checking(
-        alloc,
-        "dot",
-        "Draw what a report says of Oberon-07 modules, as a graph in the language DOT of Graphviz",
-        DOT_END,
-        "DIR",
-        FOLDER_HELP,
-        "The report of a cut between two of the modules",
-    )
-}
-
-fn dot_net_command<'a>(alloc: Global) -> Result<Command<'a>, AllocError>
-    ensures app { IfOk result (λ c. app_of c ≡ dot_net_app) }
-    ensures local { IfOk result (λ c. (fields_of c).has_globals ≡ false) }
-{
-    checking(
-        alloc,
-        "dot-net",
-        "Draw what a report says of a network, as a graph in the language DOT of Graphviz",
-        DOT_NET_END,
-        "FILE",
-        NETWORK_HELP,
-        "The report of a cut between two of its modules",
-    )
 }
 
 /// The command with one more number that has to be given, from 0 to 2,147,483,647.
@@ -327,30 +239,6 @@ fn asking<'a>(
         "The path of a document, as the index has it",
     )?;
     with_position(alloc, command)
-}
-
-fn def_command<'a>(alloc: Global) -> Result<Command<'a>, AllocError>
-    ensures app { IfOk result (λ c. app_of c ≡ def_app) }
-    ensures local { IfOk result (λ c. (fields_of c).has_globals ≡ false) }
-{
-    asking(
-        alloc,
-        "def",
-        "Tell where the symbol at a position is defined, by an index in the SCIP format",
-        DEF_END,
-    )
-}
-
-fn refs_command<'a>(alloc: Global) -> Result<Command<'a>, AllocError>
-    ensures app { IfOk result (λ c. app_of c ≡ refs_app) }
-    ensures local { IfOk result (λ c. (fields_of c).has_globals ≡ false) }
-{
-    asking(
-        alloc,
-        "refs",
-        "Tell where the symbol at a position is used and not defined, by an index in the SCIP format",
-        REFS_END,
-    )
 }
 
 /// The command with the words that say where an index goes: the path of a file, or `--hex`.
@@ -446,8 +334,29 @@ fn with_sub<'a>(
 fn with_trees<'a>(alloc: Global, program: Command<'a>) -> Result<Command<'a>, AllocError>
     ensures { IfOk result (λ c. app_of c ≡ with_subcommand (with_subcommand (with_subcommand (app_of program.entry) cut_app.top) check_app.top) crossings_app.top) }
 {
-    let program = with_sub(program, cut_command(alloc))?;
-    let program = with_sub(program, check_command(alloc))?;
+    let program = with_sub(
+        program,
+        cutting(
+            alloc,
+            "cut",
+            "Find a cheapest set of imports of Oberon-07 modules to remove so that A no longer reaches B, with a flow that proves it",
+            CUT_END,
+            "DIR",
+            FOLDER_HELP,
+        ),
+    )?;
+    let program = with_sub(
+        program,
+        checking(
+            alloc,
+            "check",
+            "Check a report's proof that its cut of Oberon-07 modules is cheapest",
+            CHECK_END,
+            "DIR",
+            FOLDER_HELP,
+            "The report of a cut between two of the modules",
+        ),
+    )?;
     with_sub(program, crossings_command(alloc))
 }
 
@@ -455,24 +364,83 @@ fn with_trees<'a>(alloc: Global, program: Command<'a>) -> Result<Command<'a>, Al
 fn with_nets<'a>(alloc: Global, program: Command<'a>) -> Result<Command<'a>, AllocError>
     ensures { IfOk result (λ c. app_of c ≡ with_subcommand (with_subcommand (app_of program.entry) cut_net_app.top) check_net_app.top) }
 {
-    let program = with_sub(program, cut_net_command(alloc))?;
-    with_sub(program, check_net_command(alloc))
+    let program = with_sub(
+        program,
+        cutting(
+            alloc,
+            "cut-net",
+            "Find a cheapest set of imports to remove so that A no longer reaches B, with a flow that proves it",
+            CUT_NET_END,
+            "FILE",
+            NETWORK_HELP,
+        ),
+    )?;
+    with_sub(
+        program,
+        checking(
+            alloc,
+            "check-net",
+            "Check a report's proof that its cut of a network is cheapest",
+            CHECK_NET_END,
+            "FILE",
+            NETWORK_HELP,
+            "The report of a cut between two of its modules",
+        ),
+    )
 }
 
 /// The program with the commands that draw.
 fn with_pictures<'a>(alloc: Global, program: Command<'a>) -> Result<Command<'a>, AllocError>
     ensures { IfOk result (λ c. app_of c ≡ with_subcommand (with_subcommand (app_of program.entry) dot_app.top) dot_net_app.top) }
 {
-    let program = with_sub(program, dot_command(alloc))?;
-    with_sub(program, dot_net_command(alloc))
+    let program = with_sub(
+        program,
+        checking(
+            alloc,
+            "dot",
+            "Draw what a report says of Oberon-07 modules, as a graph in the language DOT of Graphviz",
+            DOT_END,
+            "DIR",
+            FOLDER_HELP,
+            "The report of a cut between two of the modules",
+        ),
+    )?;
+    with_sub(
+        program,
+        checking(
+            alloc,
+            "dot-net",
+            "Draw what a report says of a network, as a graph in the language DOT of Graphviz",
+            DOT_NET_END,
+            "FILE",
+            NETWORK_HELP,
+            "The report of a cut between two of its modules",
+        ),
+    )
 }
 
 /// The program with the commands on indexes.
 fn with_indexes<'a>(alloc: Global, program: Command<'a>) -> Result<Command<'a>, AllocError>
     ensures { IfOk result (λ c. app_of c ≡ with_subcommand (with_subcommand (app_of program.entry) def_app.top) refs_app.top) }
 {
-    let program = with_sub(program, def_command(alloc))?;
-    with_sub(program, refs_command(alloc))
+    let program = with_sub(
+        program,
+        asking(
+            alloc,
+            "def",
+            "Tell where the symbol at a position is defined, by an index in the SCIP format",
+            DEF_END,
+        ),
+    )?;
+    with_sub(
+        program,
+        asking(
+            alloc,
+            "refs",
+            "Tell where the symbol at a position is used and not defined, by an index in the SCIP format",
+            REFS_END,
+        ),
+    )
 }
 
 /// The program with the commands that index modules.

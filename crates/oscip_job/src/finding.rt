@@ -281,37 +281,14 @@ fn unresolved_job(alloc: Global, found: &ArgMatches<'_>) -> Result<Job, JobFault
     Ok(Job::Unresolved { folder })
 }
 
-fn job_from(alloc: Global, matches: &ArgMatches<'_>) -> Result<Job, JobFault>
-    requires { IfSome (subcommand_rows_of matches.now) (λ found. NamesNumbers found.1) }
-    ensures values { IfOk result (Holds (subcommand_rows_of matches.now)) }
+/// The job of a command of this name that asks an index, makes one, or tells what means nothing.
+fn index_job_named(alloc: Global, name: &str, found: &ArgMatches<'_>) -> Result<Job, JobFault>
+    requires { NamesNumbers (rows_of (found_of found.now)) }
+    ensures values { IfOk result (Holds (Some (name.now, rows_of (found_of found.now)))) }
     ensures workers { IfOk result HasWorkers }
     ensures position { IfOk result HasPosition }
     ensures package { IfOk result HasPackage }
 {
-    let Some((name, found)) = matches.subcommand() else {
-        return Err(refused(alloc));
-    };
-    if name == "cut" {
-        return cut_job(alloc, found);
-    }
-    if name == "check" {
-        return check_job(alloc, found);
-    }
-    if name == "crossings" {
-        return crossings_job(alloc, found);
-    }
-    if name == "cut-net" {
-        return cut_net_job(alloc, found);
-    }
-    if name == "check-net" {
-        return check_net_job(alloc, found);
-    }
-    if name == "dot" {
-        return dot_job(alloc, found);
-    }
-    if name == "dot-net" {
-        return dot_net_job(alloc, found);
-    }
     if name == "def" {
         return def_job(alloc, found);
     }
@@ -325,6 +302,62 @@ fn job_from(alloc: Global, matches: &ArgMatches<'_>) -> Result<Job, JobFault>
         return unresolved_job(alloc, found);
     }
     Err(refused(alloc))
+}
+
+/// The job of a command of this name that draws or tells of crossings, or that is on indexes.
+fn other_job_named(alloc: Global, name: &str, found: &ArgMatches<'_>) -> Result<Job, JobFault>
+    requires { NamesNumbers (rows_of (found_of found.now)) }
+    ensures values { IfOk result (Holds (Some (name.now, rows_of (found_of found.now)))) }
+    ensures workers { IfOk result HasWorkers }
+    ensures position { IfOk result HasPosition }
+    ensures package { IfOk result HasPackage }
+{
+    if name == "crossings" {
+        return crossings_job(alloc, found);
+    }
+    if name == "dot" {
+        return dot_job(alloc, found);
+    }
+    if name == "dot-net" {
+        return dot_net_job(alloc, found);
+    }
+    index_job_named(alloc, name, found)
+}
+
+/// The job of the command of this name.
+fn job_named(alloc: Global, name: &str, found: &ArgMatches<'_>) -> Result<Job, JobFault>
+    requires { NamesNumbers (rows_of (found_of found.now)) }
+    ensures values { IfOk result (Holds (Some (name.now, rows_of (found_of found.now)))) }
+    ensures workers { IfOk result HasWorkers }
+    ensures position { IfOk result HasPosition }
+    ensures package { IfOk result HasPackage }
+{
+    if name == "cut" {
+        return cut_job(alloc, found);
+    }
+    if name == "check" {
+        return check_job(alloc, found);
+    }
+    if name == "cut-net" {
+        return cut_net_job(alloc, found);
+    }
+    if name == "check-net" {
+        return check_net_job(alloc, found);
+    }
+    other_job_named(alloc, name, found)
+}
+
+fn job_from(alloc: Global, matches: &ArgMatches<'_>) -> Result<Job, JobFault>
+    requires { IfSome (subcommand_rows_of matches.now) (λ found. NamesNumbers found.1) }
+    ensures values { IfOk result (Holds (subcommand_rows_of matches.now)) }
+    ensures workers { IfOk result HasWorkers }
+    ensures position { IfOk result HasPosition }
+    ensures package { IfOk result HasPackage }
+{
+    match matches.subcommand() {
+        None => Err(refused(alloc)),
+        Some((name, found)) => job_named(alloc, name, found),
+    }
 }
 
 fn fault_from(alloc: Global, error: &clap::Error) -> JobFault

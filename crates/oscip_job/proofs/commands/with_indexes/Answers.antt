@@ -6,6 +6,6 @@ use Rattle.oscip_job.proofs.commands.with_indexes.Goals as goal
 
 pub returns : goal.returns
 returns c =
-    let one = c.in_ok-program.ensures def_app c.def_command.ensures.app c.def_command.ensures.local in
+    let one = c.in_ok-program.ensures def_app c.asking.ensures.app c.asking.ensures.local in
     IfOk-weaker c.with_sub-2.result _ _ (λ all h. h ∙ ap (λ (a : App). with_subcommand a refs_app.top) one)
-    (c.with_sub-2.ensures refs_app c.refs_command.ensures.app c.refs_command.ensures.local)
+    (c.with_sub-2.ensures refs_app c.asking-2.ensures.app c.asking-2.ensures.local)
