@@ -89,6 +89,7 @@ pub arguments_items : (o : Option (Box ExprList Global)) →
     items_of (selector_outline (selectors.Arguments o)) ≡ items.Word ∷ (items_of (if_there (λ l. expr_list_outline l.value) o) ++ items.Word ∷ [])
 arguments_items o = simp (arguments_made o, items-construct, items-append)
 
+-- what closes the goals of each walk
 pub ruleset expr_walk = (walks, expr_items)
 pub ruleset sum_walk = (walks, sum_items)
 pub ruleset term_walk = (walks, term_items)
