@@ -1,0 +1,51 @@
+use Rattle.std.proofs.Common.{arith}
+use Rattle.ob_decls.proofs.TypeLayers.{types_made}
+use Rattle.ob_decls.proofs.walk.types.+types.Goals as goal
+
+pub walk_field-returns : goal.walk_field-returns
+walk_field-returns t c = grind (arith, types_made)
+
+pub walk_fields-loop-field-init : goal.walk_fields-loop-field-init
+walk_fields-loop-field-init t c = grind (arith, types_made)
+
+pub walk_fields-loop-field-preserved : goal.walk_fields-loop-field-preserved
+walk_fields-loop-field-preserved t c = grind (arith, types_made)
+
+pub walk_fields-returns-in_ok-pass-2 : goal.walk_fields-returns-in_ok-pass-2
+walk_fields-returns-in_ok-pass-2 t c = grind (arith, types_made)
+
+pub walk_fields-returns-else-fields : goal.walk_fields-returns-else-fields
+walk_fields-returns-else-fields t c = grind (arith, types_made)
+
+pub walk_record-returns : goal.walk_record-returns
+walk_record-returns t c = grind (arith, types_made)
+
+pub walk_record_fields-returns-in-None : goal.walk_record_fields-returns-in-None
+walk_record_fields-returns-in-None t c = grind (arith, types_made)
+
+pub walk_record_fields-returns-in_ok-walk_fields-in-Some : goal.walk_record_fields-returns-in_ok-walk_fields-in-Some
+walk_record_fields-returns-in_ok-walk_fields-in-Some t c = grind (arith, types_made)
+
+pub walk_type-returns-in_ok-walk_type_name-in-Named : goal.walk_type-returns-in_ok-walk_type_name-in-Named
+walk_type-returns-in_ok-walk_type_name-in-Named t c = grind (arith, types_made)
+
+pub walk_type-returns-in_ok-walk_type-in-ArrayOf : goal.walk_type-returns-in_ok-walk_type-in-ArrayOf
+walk_type-returns-in_ok-walk_type-in-ArrayOf t c = grind (arith, types_made)
+
+pub walk_type-returns-in_ok-walk_record-in-RecordOf : goal.walk_type-returns-in_ok-walk_record-in-RecordOf
+walk_type-returns-in_ok-walk_record-in-RecordOf t c = grind (arith, types_made)
+
+pub walk_type-returns-in_ok-walk_type-in-PointerTo : goal.walk_type-returns-in_ok-walk_type-in-PointerTo
+walk_type-returns-in_ok-walk_type-in-PointerTo t c = grind (arith, types_made)
+
+pub walk_type-returns-in_ok-walk_procedure_type-in-ProcOf : goal.walk_type-returns-in_ok-walk_procedure_type-in-ProcOf
+walk_type-returns-in_ok-walk_procedure_type-in-ProcOf t c = grind (arith, types_made)
+
+pub walk_var-loop-name-init : goal.walk_var-loop-name-init
+walk_var-loop-name-init t c = grind (arith, types_made)
+
+pub walk_var-loop-name-preserved : goal.walk_var-loop-name-preserved
+walk_var-loop-name-preserved t c = grind (arith, types_made)
+
+pub walk_var-returns : goal.walk_var-returns
+walk_var-returns t c = grind (arith, types_made)
