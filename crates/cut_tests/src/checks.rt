@@ -1,5 +1,6 @@
 //! Verdicts on cuts that no report says: with lines of numbers that no module has, out of order, twice, or of no flow.
 
+use crate::told::is_told;
 use crate::worked::{Line, TWO_IMPORTS, TWO_WAYS, cut, judged, net_of};
 use std::process::Abort;
 use std::test::Fail;
@@ -12,7 +13,7 @@ fn says(rt: &(impl Abort + AllocGlobal), row: &Row) -> Result<(), Fail> {
     let net = net_of(rt.alloc(), net)?;
     let cut = cut(rt.alloc(), imports, weight, flow)?;
     let found = judged(rt.alloc(), &*net, (0, 1), &*cut)?;
-    assert_eq!(rt; found.as_str(), want);
+    is_told(rt, found.as_str(), want);
     Ok(())
 }
 

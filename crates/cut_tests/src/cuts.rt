@@ -3,6 +3,7 @@ ghost use Rattle.std.specs.Prelude.{◌≡◌};
 ghost use Rattle.cut_preflow.specs.Flows.{network_between};
 
 use crate::openings::{Trial, run};
+use crate::told::is_told;
 use crate::worked::{A_WAY_BACK, THREE_IMPORTS, TWO_IMPORTS, TWO_WAYS, judged, net_of, told_cut};
 use cut_net::{Cut, Net, Priced};
 use cut_preflow::{NetworkLedger, Preflow};
@@ -108,9 +109,9 @@ fn settles_alone(
         return Err(Fail::from("two names"));
     };
     let verdict = judged(rt.alloc(), net, (from, to), cut)?;
-    assert_eq!(rt; verdict.as_str(), "Yes");
+    is_told(rt, verdict.as_str(), "Yes");
     let found = run(rt.alloc(), net, (from, to), &SettlesAlone(cut))?;
-    assert_eq!(rt; found.as_str(), "true Yes");
+    is_told(rt, found.as_str(), "true Yes");
     Ok(())
 }
 
@@ -129,7 +130,7 @@ fn cuts(
     let net = net_of(rt.alloc(), net)?;
     let cut = plain_cut(rt.alloc(), &*net, names)?;
     let found = told_cut(rt.alloc(), &*cut)?;
-    assert_eq!(rt; found.as_str(), want);
+    is_told(rt, found.as_str(), want);
     settles_alone(rt, &*net, names, &*cut)
 }
 
@@ -212,7 +213,7 @@ fn refuses(
     want: &str,
 ) -> Result<(), Fail> {
     let told = told_names(rt.alloc(), net, names)?;
-    assert_eq!(rt; told.as_str(), want);
+    is_told(rt, told.as_str(), want);
     Ok(())
 }
 

@@ -1,7 +1,8 @@
 //! Two workers whose turns a gate orders, and workers whose gate is open.
-ghost use Rattle.std.specs.Prelude.{◌≡◌, ◌≤◌};
+ghost use Rattle.std.specs.Prelude.{◌≡◌, ◌≤◌, false};
 ghost use Rattle.cut_preflow.specs.Flows.{AreEnds, network_between};
 
+use crate::told::is_told;
 use crate::worked::{THREE_IMPORTS, net_of, told_cut};
 use cut_net::Net;
 use cut_preflow::{Event, NetworkLedger, PARTS, Preflow, Share};
@@ -129,6 +130,45 @@ fn told_end<L: NetworkLedger>(
     )
 }
 
+/// Two workers go on with their shares in threads of their own.
+fn in_threads<L: NetworkLedger + Send + Sync, R: Threads + Wait + Sync, G: Gate + Sync>(
+    rt: &R,
+    lock: &Locked<L>,
+    first: Share<L>,
+    second: Share<L>,
+    gate: &G,
+) -> (Share<L>, Share<L>)
+    requires first { first.marked ≡ false }
+    requires second { second.marked ≡ false }
+{
+    thread::join(
+        rt,
+        move || worker(rt, lock, 0, first, gate),
+        move || worker(rt, lock, 1, second, gate),
+    )
+}
+
+/// Two workers go on from here, and their shares come back.
+fn told_of_two<L: NetworkLedger + Send + Sync, R: Threads + Wait + Sync, G: Gate + Sync>(
+    rt: &R,
+    alloc: Global,
+    mut preflow: Preflow<L>,
+    gate: &G,
+) -> Result<String, Fail> {
+    let (Some(first), Some(second)) = (preflow.share(), preflow.share()) else {
+        return Err(Fail::from("two shares"));
+    };
+    let locked: Locked<L> = Mutex::new(preflow);
+    let (first, second) = in_threads(rt, &locked, first, second, gate);
+    let mut preflow = locked.into_inner();
+    Ok(told_end(alloc, &mut preflow, first, second)?)
+}
+
+/// What worker 7 sees.
+fn told_look<L: NetworkLedger>(alloc: Global, preflow: &Preflow<L>) -> Result<String, AllocError> {
+    format!(in alloc; "{:?}", look(preflow, 7))
+}
+
 /// Two workers in threads of their own go on from the opening at a gate. Tells what worker 7 sees at the opening, and the end.
 fn by_two_in<L: NetworkLedger + Send + Sync, R: Threads + Wait + Sync, G: Gate + Sync>(
     rt: &R,
@@ -142,21 +182,10 @@ fn by_two_in<L: NetworkLedger + Send + Sync, R: Threads + Wait + Sync, G: Gate +
     requires name { blank.name ≡ L.name }
     requires parts { (blank.parts ≡ 65) × (L.parts ≡ 65) }
 {
-    let mut preflow = Preflow::<L>::start(alloc, blank, net, 0, 1)?;
-    let seen = look(&preflow, 7);
-    let (Some(first), Some(second)) = (preflow.share(), preflow.share()) else {
-        return Err(Fail::from("two shares"));
-    };
-    let locked: Locked<L> = Mutex::new(preflow);
-    let lock = &locked;
-    let (first, second) = thread::join(
-        rt,
-        move || worker(rt, lock, 0, first, gate),
-        move || worker(rt, lock, 1, second, gate),
-    );
-    let mut preflow = locked.into_inner();
-    let end = told_end(alloc, &mut preflow, first, second)?;
-    Ok(format!(in alloc; "{seen:?}; {end}")?)
+    let preflow = Preflow::<L>::start(alloc, blank, net, 0, 1)?;
+    let seen = told_look(alloc, &preflow)?;
+    let end = told_of_two(rt, alloc, preflow, gate)?;
+    Ok(format!(in alloc; "{seen}; {end}")?)
 }
 
 /// The same between the first two modules of the line of three imports.
@@ -178,11 +207,12 @@ fn two_workers_take_turns(rt: HostRuntime) -> Result<(), Fail> {
     let gate = Holds::new(&rt);
     let found = by_two(&rt, rt.alloc(), &gate)?;
     assert!(rt; gate.were_passed());
-    assert_eq!(rt;
+    is_told(
+        &rt,
         found.as_str(),
         "Try { event: Event { worker: 7, step: Relabel { node: 2 } } }; \
         marked true counted true out 0 quiet true; \
-        both true 4 events Some(Event { worker: 1, step: Relabel { node: 2 } }) Some(Event { worker: 0, step: Push { arc: 2 } })"
+        both true 4 events Some(Event { worker: 1, step: Relabel { node: 2 } }) Some(Event { worker: 0, step: Push { arc: 2 } })",
     );
     Ok(())
 }
@@ -208,7 +238,7 @@ fn the_solver_takes_turns(rt: HostRuntime) -> Result<(), Fail> {
     let gate = Holds::new(&rt);
     let cut = told_by(&rt, rt.alloc(), 2, &gate)?;
     assert!(rt; gate.were_passed());
-    assert_eq!(rt; cut.as_str(), LINE_CUT);
+    is_told(&rt, cut.as_str(), LINE_CUT);
     Ok(())
 }
 
@@ -262,8 +292,7 @@ fn alone_in<L: NetworkLedger, R: Wait>(
     };
     let locked: Locked<L> = Mutex::new(preflow);
     let share = worker(rt, &locked, 0, share, &OpenGate);
-    let mut preflow = locked.into_inner();
-    told_alone(alloc, &mut preflow, share)
+    told_alone(alloc, &mut locked.into_inner(), share)
 }
 
 /// The same between the first two modules of the line of three imports.
@@ -279,9 +308,10 @@ fn alone<R: Wait>(rt: &R, alloc: Global) -> Result<String, Fail> {
 #[test]
 fn one_worker_takes_all_steps_or_none(rt: HostRuntime) -> Result<(), Fail> {
     let found = alone(&rt, rt.alloc())?;
-    assert_eq!(rt;
+    is_told(
+        &rt,
         found.as_str(),
-        "marked true counted true whole true out 0 quiet true after 4"
+        "marked true counted true whole true out 0 quiet true after 4",
     );
     Ok(())
 }

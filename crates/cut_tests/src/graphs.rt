@@ -1,6 +1,7 @@
 //! A graph on which the way on goes back over flow, and what the calls leave of it.
 ghost use Rattle.std.specs.Prelude.{◌≡◌, ◌≤◌, ◌<◌, IsTrue};
 
+use crate::told::is_told;
 use cut_residual::{Arc, Found, ResidualArc, ResidualGraph, path_to, search};
 use std::alloc::{AllocError, Global};
 use std::process::Abort;
@@ -45,12 +46,13 @@ fn is_good(arc: &Arc, nodes: u32) -> bool
     arc.flow <= arc.capacity && arc.from < nodes && arc.to < nodes
 }
 
-fn graph_of(alloc: Global, rows: &[Row], nodes: u32) -> Result<ResidualGraph, AllocError> {
+fn graph_of(alloc: Global, rows: &[Row], nodes: u32) -> Result<Box<ResidualGraph>, AllocError> {
     let arcs = arcs_of(alloc, rows)?;
     if arcs.iter().any(|arc| !is_good(arc, nodes)) {
         return Err(AllocError);
     }
-    ResidualGraph::new(alloc, arcs, nodes)
+    let graph = ResidualGraph::new(alloc, arcs, nodes)?;
+    Ok(Box::new(alloc, graph)?)
 }
 
 /// The numbers of the arcs, each with the way that the step goes.
@@ -84,6 +86,12 @@ fn told_search(alloc: Global, graph: &ResidualGraph) -> Result<String, AllocErro
     told_found(alloc, &found)
 }
 
+/// The steps of a path, and how much was sent along it.
+fn told_sent(alloc: Global, path: &[ResidualArc], sent: u64) -> Result<String, AllocError> {
+    let steps = told_steps(alloc, path)?;
+    format!(in alloc; "{steps}sends {sent}")
+}
+
 /// Sends what it can along a path from S to another node, and tells the steps of the path and how much it was.
 fn told_augmented(
     alloc: Global,
@@ -99,36 +107,60 @@ fn told_augmented(
     }
     let path = path_to(alloc, graph, &found, node)?;
     let sent = graph.augment(&path);
-    let steps = told_steps(alloc, &path)?;
-    format!(in alloc; "{steps}sends {sent}")
+    told_sent(alloc, &path, sent)
 }
 
-fn forth(arc: usize) -> ResidualArc
-    ensures { result.arc ≡ arc }
-{
-    ResidualArc { arc, forward: true }
-}
-
-fn back(arc: usize) -> ResidualArc
-    ensures { result.arc ≡ arc }
-{
-    ResidualArc {
-        arc,
-        forward: false,
+/// How many arcs and nodes there are, and how many steps leave from a node.
+fn told_sizes(alloc: Global, graph: &ResidualGraph, node: u32) -> Result<String, AllocError> {
+    if node >= graph.nodes() {
+        return Err(AllocError);
     }
+    let (arcs, nodes) = (graph.arcs().len(), graph.nodes());
+    let steps = graph.residual_arcs(node).len();
+    format!(in alloc; "{arcs} arcs, {nodes} nodes, {steps} at {node}")
+}
+
+/// Where a step leaves from, where it leads to, and what is left on it.
+fn told_step(
+    alloc: Global,
+    graph: &ResidualGraph,
+    step: ResidualArc,
+) -> Result<String, AllocError> {
+    if step.arc >= graph.arcs().len() {
+        return Err(AllocError);
+    }
+    let (tail, head) = (graph.tail(step), graph.head(step));
+    let left = graph.residual(step);
+    format!(in alloc; "{tail} to {head}, {left} left")
+}
+
+/// Whether a step goes with its arc, the arc's number, and what is told of the step.
+const STEPS: &[(bool, usize, &str)] = &[
+    (false, 0, "1 to 0, 1 left"),
+    (true, 2, "1 to 2, 0 left"),
+    (true, 3, "1 to 3, 1 left"),
+];
+
+fn is_step(
+    rt: &(impl Abort + AllocGlobal),
+    graph: &ResidualGraph,
+    forward: bool,
+    arc: usize,
+    want: &str,
+) -> Result<(), Fail> {
+    let told = told_step(rt.alloc(), graph, ResidualArc { arc, forward })?;
+    is_told(rt, told.as_str(), want);
+    Ok(())
 }
 
 #[test]
 fn a_step_has_two_ends_and_what_is_left(rt: HostRuntime) -> Result<(), Fail> {
     let graph = graph_of(rt.alloc(), CROSSED, 4)?;
-    assert_eq!(rt; graph.arcs().len(), 5);
-    assert_eq!(rt; graph.nodes(), 4);
-    assert_eq!(rt; graph.residual_arcs(A).len(), 3);
-    assert_eq!(rt; graph.tail(back(0)), A);
-    assert_eq!(rt; graph.head(back(0)), S);
-    assert_eq!(rt; graph.residual(back(0)), 1);
-    assert_eq!(rt; graph.residual(forth(2)), 0);
-    assert_eq!(rt; graph.residual(forth(3)), 1);
+    let sizes = told_sizes(rt.alloc(), &*graph, A)?;
+    is_told(&rt, sizes.as_str(), "5 arcs, 4 nodes, 3 at 1");
+    for (forward, arc, want) in STEPS {
+        is_step(&rt, &*graph, *forward, *arc, want)?;
+    }
     Ok(())
 }
 
@@ -155,9 +187,9 @@ const PATHS: &[PathRow] = &[
 
 fn told_path(alloc: Global, rows: &[Row], nodes: u32, node: u32) -> Result<String, AllocError> {
     let mut graph = graph_of(alloc, rows, nodes)?;
-    let found = told_search(alloc, &graph)?;
-    let sent = told_augmented(alloc, &mut graph, node)?;
-    let flows = told_flows(alloc, &graph)?;
+    let found = told_search(alloc, &*graph)?;
+    let sent = told_augmented(alloc, &mut *graph, node)?;
+    let flows = told_flows(alloc, &*graph)?;
     format!(in alloc; "{found}; {sent}; {flows}")
 }
 
@@ -166,7 +198,7 @@ fn is_path(
     (rows, nodes, node, want): PathRow,
 ) -> Result<(), Fail> {
     let told = told_path(rt.alloc(), rows, nodes, node)?;
-    assert_eq!(rt; told.as_str(), want);
+    is_told(rt, told.as_str(), want);
     Ok(())
 }
 

@@ -22,4 +22,6 @@ mod preflows;
 #[cfg(test)]
 mod sinks;
 #[cfg(test)]
+mod told;
+#[cfg(test)]
 mod worked;

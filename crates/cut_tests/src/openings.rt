@@ -2,6 +2,7 @@
 ghost use Rattle.std.specs.Prelude.{◌≡◌};
 ghost use Rattle.cut_preflow.specs.Flows.{AreEnds, network_between};
 
+use crate::told::is_told;
 use crate::worked::net_of;
 use cut_net::Net;
 use cut_preflow::{Event, NetworkLedger, Outcome, PARTS, Preflow, Step};
@@ -66,7 +67,7 @@ pub(crate) fn tells<T: Trial>(
     want: &str,
 ) -> Result<(), Fail> {
     let found = told_on(rt.alloc(), net, trial)?;
-    assert_eq!(rt; found.as_str(), want);
+    is_told(rt, found.as_str(), want);
     Ok(())
 }
 

@@ -1,6 +1,7 @@
 //! The part of a network between two modules, weights narrowed, and imports turned round.
 ghost use Rattle.std.specs.Prelude.{◌<◌, IsTrue};
 
+use crate::told::is_told;
 use crate::worked::{TWO_IMPORTS, TWO_WAYS, net_of};
 use cut_net::{Net, Priced};
 use cut_part::{between, narrowed, turned_imports};
@@ -129,7 +130,7 @@ const PARTS: &[PartRow] = &[
 fn is_part(rt: &(impl Abort + AllocGlobal), (net, from, to, want): PartRow) -> Result<(), Fail> {
     let net = net_of(rt.alloc(), net)?;
     let found = told_part(rt.alloc(), &net, from, to)?;
-    assert_eq!(rt; found.as_str(), want);
+    is_told(rt, found.as_str(), want);
     Ok(())
 }
 
@@ -158,7 +159,7 @@ fn is_narrowed(
 ) -> Result<(), Fail> {
     let net = net_of(rt.alloc(), net)?;
     let found = told_narrowed(rt.alloc(), &net, order, (0, 1))?;
-    assert_eq!(rt; found.as_str(), want);
+    is_told(rt, found.as_str(), want);
     Ok(())
 }
 
@@ -175,6 +176,6 @@ fn imports_are_turned(rt: HostRuntime) -> Result<(), Fail> {
     let net = net_of(rt.alloc(), TWO_WAYS)?;
     let turned = turned_imports(rt.alloc(), net.imports())?;
     let found = told_imports(rt.alloc(), turned.as_slice())?;
-    assert_eq!(rt; found.as_str(), "2 0 5, 3 0 0, 1 2 1, 2 3 3, ");
+    is_told(&rt, found.as_str(), "2 0 5, 3 0 0, 1 2 1, 2 3 3, ");
     Ok(())
 }

@@ -3,6 +3,7 @@ ghost use Rattle.std.specs.Prelude.{◌≡◌};
 ghost use Rattle.cut_preflow.specs.Flows.{network_between};
 
 use crate::openings::{Trial, tells, told_on, tried};
+use crate::told::is_told;
 use crate::worked::{A_WAY_BACK, THREE_IMPORTS, TWO_IMPORTS};
 use cut_net::Net;
 use cut_preflow::{Event, NetworkLedger, Outcome, Preflow, Share, Step};
@@ -399,7 +400,7 @@ const COUNTED: &str =
 fn a_share_counts_its_steps(rt: HostRuntime) -> Result<(), Fail> {
     let found = told_on(rt.alloc(), TWO_IMPORTS, &CountsSteps)?;
     if found.as_str() != "false Refused 0 true; " {
-        assert_eq!(rt; found.as_str(), COUNTED);
+        is_told(&rt, found.as_str(), COUNTED);
     }
     Ok(())
 }
