@@ -1,16 +1,17 @@
 -- Names in the order in which they come, by their bytes.
 use Rattle.std.proofs.Common.{◌≡◌, ℕ, ◌<◌, true, List, [], length, get_or, Some, refl, sym, ap, ◌∙◌, arith, inl, inr}
 use Rattle.std.specs.Prelude.{String}
-use Rattle.std.specs.List.{list_any}
+use Rattle.std.specs.List.{list_any, position}
 use Rattle.std.specs.Prelude.{slice_get}
 use Rattle.std.specs.Str.{bytes_eq}
 use Rattle.std.specs.String.{string_bytes, string_eq}
 use Rattle.std.proofs.lemmas.Bool.{cases_Bool}
 use Rattle.std.proofs.lemmas.List.{map_push, get_or-map, length-map}
+use Rattle.std.proofs.lemmas.List.Quantifiers.{position-Some}
 use Rattle.std.proofs.lemmas.Option.{slice_get_within, get_or_from_slice_get}
 use Rattle.std.proofs.lemmas.Slice.Eq.{bytes_eq-Decides}
 use Rattle.indexmap.specs.IndexSet.{insert_key}
-use Rattle.digraph.proofs.Names.{any_text}
+use Rattle.digraph.proofs.Names.{any_text, position-map}
 use Rattle.cut_net.specs.Network.{texts}
 use Rattle.cut_net.specs.NetReading.{noted}
 
@@ -31,3 +32,12 @@ module _ {Z : Type 0} where
       let here : get_or names at k ≡ k = get_or_from_slice_get names at k k there in
       let equal : string_bytes value ≡ string_bytes k = (bytes_eq-Decides (string_bytes value) (string_bytes k)).0 same in
       (omega arith, get_or-map string_bytes names at k [] lt ∙ ap string_bytes here ∙ sym equal ∙ e)
+
+  -- a name that is there
+  pub found_noted : (names : List (String Z)) (name : List ℕ) → list_any (λ x. bytes_eq name (string_bytes x)) names ≡ true → texts names ≡ noted (texts names) name
+  found_noted names name there = sym (rw (← any_text name names, there) refl)
+
+  pub found_place : (names : List (String Z)) (name : List ℕ) (at : ℕ) → position (λ x. bytes_eq name (string_bytes x)) names ≡ Some at → get_or (texts names) at [] ≡ name
+  found_place names name at is =
+      let found = position-Some (bytes_eq name) (texts names) at [] (position-map (bytes_eq name) string_bytes names ∙ is) in
+      sym ((bytes_eq-Decides name (get_or (texts names) at [])).0 found.1)

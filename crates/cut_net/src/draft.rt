@@ -76,6 +76,9 @@ fn note_name(alloc: Global, names: &mut IndexSet<String>, name: &str) -> Result<
     ensures within { IfOk result (λ at. at < length (texts names.new.keys)) }
     ensures place { IfOk result (λ at. slice_index_or (texts names.new.keys) at [] ≡ name.now) }
 {
+    if let Some(at) = names.get_index_of(name) {
+        return Ok(at);
+    }
     let (at, _) = names.insert_full(String::from_str(alloc, name)?)?;
     Ok(at)
 }

@@ -1,11 +1,11 @@
 //! Names and imports in their order, from tables in the order of coming.
-ghost use Rattle.std.specs.Prelude.{◌≡◌, ◌<◌, ◌≤◌, ◌^◌, ◌↔◌, All, Contains, IfOk, IsPermutation, List, IsTrue, [], length, map, sum_by};
+ghost use Rattle.std.specs.Prelude.{◌≡◌, ◌<◌, ◌≤◌, ◌^◌, ◌↔◌, All, Contains, IfOk, IsPermutation, List, IsTrue, [], length, map, sum_by, vec_len, ℕ};
 ghost use Rattle.std.specs.List.{slice_index_or, IsDistinct};
 ghost use Rattle.std.specs.Str.{bytes_eq};
 ghost use Rattle.cut_net.specs.Cuts.{same_ends};
 ghost use Rattle.cut_net.specs.Lines.{IsAscending};
 ghost use Rattle.cut_net.specs.Network.{texts};
-ghost use Rattle.cut_net.specs.NetReading.{entry_line, import_line, net_of, IsDraft, IsDrafted};
+ghost use Rattle.cut_net.specs.NetReading.{entry_line, import_line, net_of, AreNumbers, IsDraft, IsDrafted};
 ghost use Rattle.cut_net.specs.NetText.{IsNetOf, NetLine};
 ghost use Rattle.cut_net.specs.WellFormed.{AreBetween, AreNamesInOrder};
 
@@ -45,19 +45,32 @@ fn number_of(names: &[String], name: &str) -> u32
     place_of(names, name).unwrap() as u32
 }
 
-/// An import by the numbers of its modules, from the places of their names in the order of coming.
-fn renumbered(old: &[String], names: &[String], ends: (usize, usize), amount: u64) -> Priced
+/// For each name, in the order of coming, its number.
+fn numbers_of(alloc: Global, old: &[String], names: &[String]) -> Result<Vec<u32>, AllocError>
     requires ascending { AreNamesInOrder (texts names.now) }
     requires few { length names.now ≤ 8192 }
     requires same { IsPermutation (texts old.now) (texts names.now) }
-    requires placed { (ends.0 < length old.now) × (ends.1 < length old.now) }
-    ensures between { (result.from < length names.now) × (result.to < length names.now) }
-    ensures line { import_line (texts names.now) result ≡ entry_line (texts old.now) (ends, amount) }
+    ensures size { IfOk result (λ numbers. vec_len numbers ≡ length old.now) }
+    ensures numbers { IfOk result (λ numbers. AreNumbers (texts old.now) (texts names.now) numbers.items) }
 {
-    let (from, to) = ends;
-    let from = number_of(names, old[from].as_str());
-    let to = number_of(names, old[to].as_str());
-    Priced { from, to, amount }
+    let mut numbers = Vec::new(alloc);
+    for name in old {
+        numbers.push(number_of(names, name.as_str()))?;
+    }
+    Ok(numbers)
+}
+
+/// An import by the numbers of its modules, from the places of their names in the order of coming.
+fn renumbered(numbers: &[u32], ends: (usize, usize), amount: u64) -> Priced
+    requires placed { (ends.0 < length numbers.now) × (ends.1 < length numbers.now) }
+    ensures between { (old names : List (List ℕ)) → AreNumbers old names numbers.now → (result.from < length names) × (result.to < length names) }
+    ensures line { (old names : List (List ℕ)) → AreNumbers old names numbers.now → import_line names result ≡ entry_line old (ends, amount) }
+{
+    Priced {
+        from: numbers[ends.0],
+        to: numbers[ends.1],
+        amount,
+    }
 }
 
 /// The imports by the numbers of their modules, in the order of coming.
@@ -69,10 +82,10 @@ fn numbered(alloc: Global, draft: &Draft, names: &[String]) -> Result<Vec<Priced
     ensures between { IfOk result (λ imports. AreBetween imports.items (length names.now)) }
     ensures listed { IfOk result (λ imports. map (import_line (texts names.now)) imports.items ≡ map (entry_line (texts draft.now.names.keys)) draft.now.imports.entries) }
 {
-    let mut imports = Vec::new(alloc);
-    let old = draft.names.as_slice();
+    let numbers = numbers_of(alloc, draft.names.as_slice(), names)?;
+    let mut imports = Vec::with_capacity(alloc, draft.imports.len())?;
     for (ends, weight) in &draft.imports {
-        imports.push(renumbered(old, names, *ends, *weight))?;
+        imports.push(renumbered(&numbers, *ends, *weight))?;
     }
     Ok(imports)
 }
