@@ -76,7 +76,7 @@ fn before_turns(alloc: Global, ends: Ends, imports: Vec<Priced>) -> Result<Plain
     let flows = opening_flows(alloc, ends.source, imports.as_slice())?;
     let labels = opening_labels(alloc, ends)?;
     let arcs = arcs_of(alloc, imports.as_slice(), ends.nodes)?;
-    let tour = Tour::along(alloc, imports.as_slice(), ends.nodes)?;
+    let tour = Tour::along(alloc, imports.as_slice(), arcs.as_slice(), ends.nodes)?;
     let mut excesses = vec![in alloc; 0u64; ends.nodes as usize]?;
     let mut active = NodeSet::new(alloc, ends.nodes)?;
     saturate(ends, imports.as_slice(), &mut excesses, &mut active);

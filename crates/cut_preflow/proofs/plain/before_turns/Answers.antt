@@ -17,7 +17,7 @@ invariant_of-result c =
     let state : record { flow = c.in_ok-flows.flows.items; label = c.in_ok-labels.labels.items } ≡ opening net = λ i. record { flow = flows i; label = labels i } in
     let arcs = subst (λ xs. AreArcs xs (lists c.in_ok-arcs.arcs.items)) c.as_slice-2.ensures.value c.in_ok-arcs.ensures.arcs in
     let at = opening_indexed ends imports (lists c.in_ok-arcs.arcs.items) c.saturate.new.excesses.items c.saturate.new.active (length-map c.in_ok-arcs.arcs.items (λ g. g.items) ∙ c.in_ok-arcs.ensures.size) arcs
-    (λ v ne. c.saturate.ensures.excesses v ne ∙ ap (λ xs. into xs (opening_flows ends.source xs) v) c.as_slice-4.ensures.value) c.saturate.ensures.active in
+    (λ v ne. c.saturate.ensures.excesses v ne ∙ ap (λ xs. into xs (opening_flows ends.source xs) v) c.as_slice-5.ensures.value) c.saturate.ensures.active in
     rw (c.new-2.ensures.items) (
       (record { network = c.requires.network; limits = c.requires.limits; flows_are = flows; labels_are = labels; legal = refl }),
       (subst (λ s. IsIndexed net s (lists c.in_ok-arcs.arcs.items) c.saturate.new.excesses.items c.saturate.new.active) (sym state) at),
