@@ -1,6 +1,5 @@
 //! The network that a preflow starts on: its weights narrowed, from the end whose imports weigh less.
-ghost use Rattle.std.specs.Prelude.{◌≡◌, ◌<◌, ◌^◌, All, IfOk, length, map, vec_len};
-ghost use Rattle.cut_net.specs.WellFormed.{AreBetween};
+ghost use Rattle.std.specs.Prelude.{◌<◌, ◌^◌, All, IfOk, OnOk, length};
 ghost use Rattle.cut_part.specs.Narrowing.{IsNarrowed};
 ghost use Rattle.cut_preflow.specs.Flows.{AreEnds};
 ghost use Rattle.cut_solve.specs.Starts.{with_imports, IsStart};
@@ -8,7 +7,7 @@ ghost use Rattle.cut_solve.specs.Starts.{with_imports, IsStart};
 use crate::arcs::graph_of;
 use cut_net::{Net, Priced};
 use cut_part::{narrowed, turned_imports};
-use cut_residual::{order_of, places_of};
+use cut_residual::{ResidualGraph, order_of};
 use std::alloc::{AllocError, Global};
 
 /// Imports in the order of a network's, and the two modules that a preflow on them is between.
@@ -19,39 +18,32 @@ pub(crate) struct Start {
     pub(crate) sink: u32,
 }
 
-/// The numbers of the imports, each behind the place of its importer.
-fn placed(alloc: Global, imports: &[Priced], places: &[u32]) -> Result<Vec<(u32, u32)>, AllocError>
-    requires few { length imports.now < 2 ^ 32 }
-    requires between { AreBetween imports.now (length places.now) }
-    ensures { IfOk result (λ pairs. All (λ p. p.1 < length imports.now) pairs.items) }
+/// Adds the numbers of the arcs that leave from a node.
+fn add_leaving(graph: &ResidualGraph, node: u32, numbers: &mut Vec<u32>) -> Result<(), AllocError>
+    requires few { length graph.now.arcs < 2 ^ 32 }
+    requires node { node < graph.now.nodes }
+    requires numbers { All (λ k. k < length graph.now.arcs) numbers.old.items }
+    ensures { OnOk result (All (λ k. k < length graph.now.arcs) numbers.new.items) }
 {
-    let mut pairs = Vec::new(alloc);
-    for number in 0..imports.len() {
-        pairs.push((places[imports[number].from as usize], number as u32))?;
+    for step in graph.residual_arcs(node) {
+        if step.forward {
+            numbers.push(step.arc as u32)?;
+        }
     }
-    Ok(pairs)
+    Ok(())
 }
 
-/// The numbers of the pairs.
-fn numbers_of(alloc: Global, pairs: &[(u32, u32)]) -> Result<Vec<u32>, AllocError>
-    ensures { IfOk result (λ numbers. numbers.items ≡ map (λ p. p.1) pairs.now) }
+/// The numbers of the arcs in the order of the nodes that they leave from.
+fn in_order_of(alloc: Global, graph: &ResidualGraph, order: &[u32]) -> Result<Vec<u32>, AllocError>
+    requires few { length graph.now.arcs < 2 ^ 32 }
+    requires order { All (λ n. n < graph.now.nodes) order.now }
+    ensures { IfOk result (λ numbers. All (λ k. k < length graph.now.arcs) numbers.items) }
 {
-    let mut numbers = Vec::new(alloc);
-    for pair in pairs {
-        numbers.push(pair.1)?;
+    let mut numbers = Vec::with_capacity(alloc, graph.arcs().len())?;
+    for node in order {
+        add_leaving(graph, *node, &mut numbers)?;
     }
     Ok(numbers)
-}
-
-/// The numbers of the imports in the order of their importers' places.
-fn by_importer(alloc: Global, imports: &[Priced], places: &[u32]) -> Result<Vec<u32>, AllocError>
-    requires few { length imports.now < 2 ^ 32 }
-    requires between { AreBetween imports.now (length places.now) }
-    ensures { IfOk result (λ numbers. All (λ k. k < length imports.now) numbers.items) }
-{
-    let mut pairs = placed(alloc, imports, places)?;
-    pairs.sort_unstable();
-    numbers_of(alloc, &pairs)
 }
 
 /// The imports, their weights narrowed along the chains of the network.
@@ -62,8 +54,7 @@ fn narrow(alloc: Global, net: &Net, from: u32, to: u32) -> Result<Vec<Priced>, A
     net.keeps();
     let graph = graph_of(alloc, net)?;
     let order = order_of(alloc, &graph)?;
-    let places = places_of(alloc, &order, graph.nodes())?;
-    let order = by_importer(alloc, net.imports(), &places)?;
+    let order = in_order_of(alloc, &graph, &order)?;
     narrowed(alloc, net.imports(), net.nodes(), &order, from, to)
 }
 
