@@ -103,7 +103,8 @@ impl Trial {
         Ok(label)
     }
 
-    /// Sends on what a node has too much, one label down, and answers the least label that something could still go to.
+    /// Sends on what a node has too much, one label down. Where something is left in the end, answers the least label that it could still
+    /// go to.
     fn push_all(&mut self, node: u32) -> Result<u32, AllocError>
         requires { node < self.old.nodes }
         ensures { OnOk result (HasOtherFlow self.old self.new) }
@@ -113,6 +114,9 @@ impl Trial {
             let Some(step) = self.step_at(node, place) else {
                 return Ok(least);
             };
+            if self.excesses[node as usize] == 0 {
+                return Ok(least);
+            }
             let label = self.push(step)?;
             least = least.min(label);
         }
@@ -190,7 +194,10 @@ impl Trial {
                 return Ok(());
             };
             let excess = self.excesses[node as usize];
-            if !step.forward && excess > 0 {
+            if excess == 0 {
+                return Ok(());
+            }
+            if !step.forward {
                 self.send(step, excess)?;
             }
         }
