@@ -13,7 +13,6 @@ use work_board::{Board, Claim, Graph, NamedTree, WorkEntry};
 
 /// Claims the next module, and takes the parts for it; none where all are delivered.
 fn claimed<T: NamedTree, E: WorkEntry>(
-    alloc: Global,
     board: &mut Board<'_, T, E>,
 ) -> Result<Option<(u32, Vec<Arc<E::Shared>>)>, AllocError>
     requires acyclic { IsAcyclic T.graph.imports }
@@ -29,7 +28,7 @@ fn claimed<T: NamedTree, E: WorkEntry>(
         Claim::Later => unreachable!(),
         Claim::Module { number } => {
             board.keeps();
-            match board.interfaces(alloc, number) {
+            match board.interfaces(number) {
                 Ok(parts) => Ok(Some((number, parts))),
                 Err(_) => Err(AllocError),
             }
@@ -52,7 +51,6 @@ fn put<T: NamedTree, E: WorkEntry>(board: &mut Board<'_, T, E>, number: u32, ent
 
 /// Makes and delivers the entry of the next module; false where all are there.
 fn step<T: NamedTree, W: Work>(
-    alloc: Global,
     board: &mut Board<'_, T, W::Entry>,
     work: &W,
 ) -> Result<bool, AllocError>
@@ -65,7 +63,7 @@ fn step<T: NamedTree, W: Work>(
     ensures more { IfOk result (λ more. more ≡ true → missing board.new < missing board.old) }
     ensures end { IfOk result (λ more. more ≡ false → AreAllThere board.new) }
 {
-    match claimed(alloc, board)? {
+    match claimed(board)? {
         Some((number, parts)) => {
             let entry = work.make(number, parts.as_slice())?;
             put(board, number, entry);
@@ -77,7 +75,6 @@ fn step<T: NamedTree, W: Work>(
 
 /// Makes and delivers the entries that aren't there.
 fn deliver_rest<T: NamedTree, W: Work>(
-    alloc: Global,
     board: &mut Board<'_, T, W::Entry>,
     work: &W,
 ) -> Result<(), AllocError>
@@ -88,7 +85,7 @@ fn deliver_rest<T: NamedTree, W: Work>(
     ensures { OnOk result (AreAllThere board.new) }
 {
     'steps: loop {
-        if !step(alloc, board, work)? {
+        if !step(board, work)? {
             return Ok(());
         }
     }
@@ -125,7 +122,7 @@ pub fn finish<T: NamedTree, W: Work>(
         return Err(AllocError);
     }
     board.take_back();
-    deliver_rest(alloc, &mut board, work)?;
+    deliver_rest(&mut board, work)?;
     whole(alloc, board.gather())
 }
 

@@ -20,7 +20,6 @@ struct Later;
 
 /// Claims a module and takes the parts for it. Where memory is refused, the module is abandoned, and none is left.
 fn take<T: NamedTree, E: WorkEntry>(
-    alloc: Global,
     board: &mut Board<'_, T, E>,
 ) -> Result<Option<(u32, Vec<Arc<E::Shared>>)>, Later>
     ensures { IfOk result (λ job. IfSome job (λ j. IsJob E.is_of E.shared_of T.graph j.0 (map arc_value j.1.items))) }
@@ -30,7 +29,7 @@ fn take<T: NamedTree, E: WorkEntry>(
         Claim::Later => Err(Later),
         Claim::Module { number } => {
             board.keeps();
-            match board.interfaces(alloc, number) {
+            match board.interfaces(number) {
                 Ok(parts) => Ok(Some((number, parts))),
                 Err(_) => {
                     board.abandon(number);
@@ -44,7 +43,6 @@ fn take<T: NamedTree, E: WorkEntry>(
 /// Waits until there is a module to make an entry of, or none is left. Claim and wait are in one holding of the lock.
 fn next<T: NamedTree, E: WorkEntry, R: Wait>(
     rt: &R,
-    alloc: Global,
     locked: &Locked<'_, T, E>,
     changed: &Condvar,
 ) -> Option<(u32, Vec<Arc<E::Shared>>)>
@@ -52,7 +50,7 @@ fn next<T: NamedTree, E: WorkEntry, R: Wait>(
 {
     let mut board = locked.lock(rt);
     for _ in rt.forever() {
-        match take(alloc, &mut *board) {
+        match take(&mut *board) {
             Ok(job) => return job,
             Err(Later) => board = changed.wait(rt, board),
         }
@@ -77,7 +75,6 @@ fn hand_in<T: NamedTree, E: WorkEntry>(
 /// Goes on as the worker of this number until all is delivered or a module was abandoned.
 fn worker<T: NamedTree, W: Work, G: BoardGate, R: Wait>(
     rt: &R,
-    alloc: Global,
     locked: &Locked<'_, T, W::Entry>,
     changed: &Condvar,
     number: u32,
@@ -88,7 +85,7 @@ fn worker<T: NamedTree, W: Work, G: BoardGate, R: Wait>(
 {
     let mut turn = 0u64;
     for _ in rt.forever() {
-        let Some((module, parts)) = next(rt, alloc, locked, changed) else {
+        let Some((module, parts)) = next(rt, locked, changed) else {
             changed.notify_all();
             return;
         };
@@ -107,7 +104,7 @@ fn in_threads<
     W: Work + Sync,
     G: BoardGate + Sync,
     R: Threads + Wait + Sync,
->(rt: &R, alloc: Global, locked: &Locked<'_, T, W::Entry>, workers: u32, work: &W, gate: &G)
+>(rt: &R, locked: &Locked<'_, T, W::Entry>, workers: u32, work: &W, gate: &G)
 where
     W::Entry: Send + Sync,
     <W::Entry as WorkEntry>::Shared: Send + Sync,
@@ -125,10 +122,10 @@ where
                 let _ = scope.spawn(
                     move ||
                         requires { W.graph work.now ≡ T.graph }
-                    { worker(rt, alloc, locked, waked, number, work, gate) },
+                    { worker(rt, locked, waked, number, work, gate) },
                 );
             }
-            worker(rt, alloc, locked, waked, 0, work, gate);
+            worker(rt, locked, waked, 0, work, gate);
         },
     );
 }
@@ -156,7 +153,7 @@ where
     ensures { IfOk result (λ entries. AreEntries W.Entry.is_of T.graph entries.items) }
 {
     let locked: Locked<'_, T, W::Entry> = Mutex::new(Board::new(alloc, graph)?);
-    in_threads(rt, alloc, &locked, workers, work, gate);
+    in_threads(rt, &locked, workers, work, gate);
     finish(alloc, locked.into_inner(), work)
 }
 

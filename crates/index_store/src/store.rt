@@ -86,7 +86,6 @@ impl Store {
 
     fn places_of<'a>(
         &'a self,
-        alloc: Global,
         path: &str,
         symbol: &str,
         defines: bool,
@@ -98,6 +97,7 @@ impl Store {
             local: is_local(symbol),
             path,
         };
+        let alloc = self.by_symbol.allocator();
         match self.by_symbol.number_of(symbol) {
             None => Ok(Vec::new(alloc)),
             Some(number) => {
@@ -108,7 +108,6 @@ impl Store {
 
     fn places<'a>(
         &'a self,
-        alloc: Global,
         path: &str,
         symbol: &str,
         defines: bool,
@@ -117,32 +116,22 @@ impl Store {
     {
         match self.by_path.number_of(path) {
             None => Err(StoreFault::NoDocument),
-            Some(_) => Ok(self.places_of(alloc, path, symbol, defines)?),
+            Some(_) => Ok(self.places_of(path, symbol, defines)?),
         }
     }
 
     /// The places where a symbol is defined, in the index's order; those of a symbol whose text begins with `local ` in the
     /// documents of the path alone. Refuses with `NoDocument` where no document has the path, and with `Memory`.
-    pub fn definitions<'a>(
-        &'a self,
-        alloc: Global,
-        path: &str,
-        symbol: &str,
-    ) -> Result<Vec<Place<'a>>, StoreFault>
+    pub fn definitions<'a>(&'a self, path: &str, symbol: &str) -> Result<Vec<Place<'a>>, StoreFault>
         ensures exact { (index : PlainIndex) → IsStoreOf index self.now → ArePlacesAnswer index path.now (definitions index path.now symbol.now) (answered (λ places. map plain_place places.items) result) }
     {
-        self.places(alloc, path, symbol, true)
+        self.places(path, symbol, true)
     }
 
     /// The places where a symbol is used and not defined; otherwise as `definitions`.
-    pub fn references<'a>(
-        &'a self,
-        alloc: Global,
-        path: &str,
-        symbol: &str,
-    ) -> Result<Vec<Place<'a>>, StoreFault>
+    pub fn references<'a>(&'a self, path: &str, symbol: &str) -> Result<Vec<Place<'a>>, StoreFault>
         ensures exact { (index : PlainIndex) → IsStoreOf index self.now → ArePlacesAnswer index path.now (references index path.now symbol.now) (answered (λ places. map plain_place places.items) result) }
     {
-        self.places(alloc, path, symbol, false)
+        self.places(path, symbol, false)
     }
 }

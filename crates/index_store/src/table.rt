@@ -23,6 +23,11 @@ impl<T: Drop> Table<T> {
         }
     }
 
+    /// The allocator that the table was made with.
+    pub(crate) fn allocator(&self) -> Global {
+        *self.rows.allocator()
+    }
+
     pub(crate) fn number_of(&self, text: &str) -> Option<usize>
         ensures { result ≡ number_of (texts_in self.now) text.now }
     {

@@ -106,7 +106,7 @@ fn numbers_of(
         reached,
     )?;
     let refs = references(alloc, &types)?;
-    let numbers = refs.unresolved(alloc)?;
+    let numbers = refs.unresolved()?;
     Ok(numbers)
 }
 

@@ -37,14 +37,14 @@ impl Refs {
     }
 
     /// The numbers of the tokens that stand for nothing, in order.
-    pub fn unresolved(&self, alloc: Global) -> Result<Vec<u32>, AllocError>
+    pub fn unresolved(&self) -> Result<Vec<u32>, AllocError>
         ensures { IfOk result (λ v. v.items ≡ unresolved self.now) }
     {
         self.rows
             .iter()
             .filter(|row| row.target.is_unresolved())
             .map(|row| row.number)
-            .collect(alloc)
+            .collect(*self.rows.allocator())
     }
 }
 

@@ -34,7 +34,6 @@ fn store_of(alloc: Global, bytes: &[u8]) -> Result<Store, QueryFault>
 
 /// The places of a symbol that are asked for.
 fn places_of<'a>(
-    alloc: Global,
     store: &'a Store,
     path: &str,
     symbol: &str,
@@ -43,8 +42,8 @@ fn places_of<'a>(
     ensures exact { (index : PlainIndex) → IsStoreOf index store.now → ArePlacesAnswer index path.now (places_asked which index path.now symbol.now) (answered (λ places. map plain_place places.items) result) }
 {
     match which {
-        Which::Definitions => store.definitions(alloc, path, symbol),
-        Which::References => store.references(alloc, path, symbol),
+        Which::Definitions => store.definitions(path, symbol),
+        Which::References => store.references(path, symbol),
     }
 }
 
@@ -63,7 +62,7 @@ fn put_answer<S: Sink>(
     let Some(symbol) = store.symbol_at(path, at)? else {
         return Ok(());
     };
-    let places = places_of(alloc, store, path, symbol, which)?;
+    let places = places_of(store, path, symbol, which)?;
     put_lines(alloc, places.as_slice(), sink)?;
     Ok(())
 }

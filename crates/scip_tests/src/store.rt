@@ -76,9 +76,9 @@ fn tells_places(
     rows: &[PlacesRow],
 ) -> Result<(), Fail> {
     for (path, symbol, defined, used) in rows {
-        let told = show_places(rt.alloc(), store.definitions(rt.alloc(), path, symbol))?;
+        let told = show_places(rt.alloc(), store.definitions(path, symbol))?;
         is_told(rt, told.as_str(), defined);
-        let told = show_places(rt.alloc(), store.references(rt.alloc(), path, symbol))?;
+        let told = show_places(rt.alloc(), store.references(path, symbol))?;
         is_told(rt, told.as_str(), used);
     }
     Ok(())

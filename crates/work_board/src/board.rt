@@ -241,7 +241,7 @@ impl<'g, T: NamedTree, E: WorkEntry> Board<'g, T, E> {
 
     /// The shared parts of all that a claimed module reaches, ascending by number. Refuses with `NotClaimed` a module that
     /// nobody claimed, and with `Memory`.
-    pub fn interfaces(&self, alloc: Global, number: u32) -> Result<Vec<Arc<E::Shared>>, BoardFault>
+    pub fn interfaces(&self, number: u32) -> Result<Vec<Arc<E::Shared>>, BoardFault>
         ensures shares { IfOk result (λ parts. AreShares E.shared_of T.graph.imports self.now number (map arc_value parts.items)) }
         ensures claimed { IfOk result (λ parts. is_claimed self.now number ≡ true) }
         ensures refused { IfErr result (λ fault. ((fault ≡ BoardFault.NotClaimed) × (is_claimed self.now number ≡ false)) ⊎ (fault ≡ BoardFault.Memory)) }
@@ -250,6 +250,7 @@ impl<'g, T: NamedTree, E: WorkEntry> Board<'g, T, E> {
             return Err(BoardFault::NotClaimed);
         }
         self.graph.keeps();
+        let alloc = *self.entries.allocator();
         let marks = marks_of(
             alloc,
             self.reached.as_slice(),
