@@ -45,7 +45,7 @@ module _ {X : Type 0} (name : X → List ℕ) where
   sorted : (xs : List X) → Ascend xs → IsSortedBy (λ (a b : X). is_lt (slice_cmp nat_cmp (name a) (name b))) xs
   sorted xs s k d low high = ap is_lt (nat_list_cmp_total.antisymm (name (get_or xs (k + 1) d)) (name (get_or xs k d)) ∙ ap ordering_reverse (s k d high))
 
-  less : (xs : List X) → Ascend xs → (d : X) (i j : ℕ) → j < i → i < length xs → slice_cmp nat_cmp (name (get_or xs j d)) (name (get_or xs i d)) ≡ Less
+  pub less : (xs : List X) → Ascend xs → (d : X) (i j : ℕ) → j < i → i < length xs → slice_cmp nat_cmp (name (get_or xs j d)) (name (get_or xs i d)) ≡ Less
   less xs s d zero j l h = absurd (omega arith)
   less xs s d (suc i) j l h =
       let e : i + 1 ≡ suc i = omega arith in

@@ -71,8 +71,8 @@ fn is_before(module: &Interface, other: &Interface) -> bool
     module.name().cmp(&other.name()).is_lt()
 }
 
-/// Whether the names of modules ascend.
-fn ascend(reached: &[Arc<Interface>]) -> bool
+/// Whether the names of modules ascend, none of them twice.
+pub fn ascend(reached: &[Arc<Interface>]) -> bool
     ensures { OnTrue result (AreByName (map arc_value reached.now)) }
 {
     for at in 1..reached.len() {
@@ -94,11 +94,17 @@ fn place_in_order(reached: &[Arc<Interface>], name: &[u8]) -> Option<usize>
 }
 
 impl<'a> Homes<'a> {
-    /// The places of these modules. AllocError is also answered where a place has more than 32 bits.
-    pub(crate) fn new(alloc: Global, reached: &'a [Arc<Interface>]) -> Result<Homes<'a>, AllocError>
+    /// The places of these modules, whose names are compared where it isn't known that they ascend. AllocError is also
+    /// answered where a place has more than 32 bits.
+    pub(crate) fn new(
+        alloc: Global,
+        reached: &'a [Arc<Interface>],
+        by_name: bool,
+    ) -> Result<Homes<'a>, AllocError>
+        requires { OnTrue by_name (AreByName (map arc_value reached.now)) }
         ensures { IfOk result (λ h. h ≡ map arc_value reached.now) }
     {
-        if reached.len() <= u32::MAX as usize && ascend(reached) {
+        if reached.len() <= u32::MAX as usize && (by_name || ascend(reached)) {
             return Ok(Homes {
                 reached,
                 table: None,

@@ -2,11 +2,14 @@
 #![tactic(auto, unfolding(crate::specs::World::home, crate::specs::World::home_of, crate::specs::World::form_of, crate::specs::Shapes::type_there, crate::specs::Shapes::exported_type, crate::specs::Shapes::own_type, crate::specs::Shapes::home_meant, crate::specs::Shapes::named_here))]
 
 ghost use Rattle.std.specs.Prelude.{◌≡◌, Some, None, IfOk, OnOk, if◌then◌else◌, map, slice_get};
+ghost use Rattle.std.specs.Arc.{arc_value};
+ghost use Rattle.std.specs.Bool.{OnTrue};
 ghost use Rattle.std.specs.Option.{option_and_then};
 ghost use Rattle.ob_scan.specs.Spelling.{AreInText};
 ghost use Rattle.ob_types.specs.declared.nodes.Node.TheVariants as nodes;
 ghost use Rattle.ob_types.specs.declared.nodes.Named.TheVariants as named;
 ghost use Rattle.type_search.specs.declared.shape.Shape.TheVariants as shapes;
+ghost use Rattle.ob_types.specs.Homes.{AreByName};
 ghost use Rattle.ob_types.specs.Parted.{home_by, world_of, AreFields, IsFew};
 ghost use Rattle.ob_types.specs.Shapes.{exported_type, home_meant, is_type, known, named_here, own_type, type_as, type_there, TypeShape};
 ghost use Rattle.ob_types.specs.World.{field_at, form_of, home, home_of, meaning, text};
@@ -95,13 +98,18 @@ fn count(parts: &Parts<'_>) -> Result<(), AllocError>
 }
 
 impl<'a> Indexed<'a> {
-    /// The same with its indexes.
-    pub(crate) fn new(alloc: Global, parts: Parts<'a>) -> Result<Indexed<'a>, AllocError>
-        requires { AreInText parts.bytes.now parts.tokens.now }
+    /// The same with its indexes, told whether it is known that the names of the modules that are reached ascend.
+    pub(crate) fn new(
+        alloc: Global,
+        parts: Parts<'a>,
+        by_name: bool,
+    ) -> Result<Indexed<'a>, AllocError>
+        requires in_text { AreInText parts.bytes.now parts.tokens.now }
+        requires by_name { OnTrue by_name (AreByName (map arc_value parts.reached.now)) }
         ensures { IfOk result (λ i. i.parts ≡ parts.entry) }
     {
         count(&parts)?;
-        let homes = Homes::new(alloc, parts.reached)?;
+        let homes = Homes::new(alloc, parts.reached, by_name)?;
         let item_homes = item_homes(alloc, &parts, &homes)?;
         let fields = fields_of(alloc, &parts)?;
         Ok(Indexed {

@@ -13,5 +13,6 @@ mod shapes;
 mod there;
 mod types;
 
+pub use homes::ascend;
 pub use nodes::{Field, Named, Node, Record};
 pub use types::Types;

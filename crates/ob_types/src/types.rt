@@ -4,8 +4,10 @@
 ghost use Rattle.std.specs.Prelude.{◌≡◌, IfOk, map, slice_get};
 ghost use Rattle.std.specs.Option.{option_map};
 ghost use Rattle.std.specs.Arc.{arc_value};
+ghost use Rattle.std.specs.Bool.{OnTrue};
 ghost use Rattle.ob_decls.specs.Declaring.{rows_in};
 ghost use Rattle.ob_scan.specs.Spelling.{AreInText};
+ghost use Rattle.ob_types.specs.Homes.{AreByName};
 ghost use Rattle.ob_types.specs.World.{exported, form_of, home_of, item_of, meaning, owner_at, owner_there, sort_of, sort_there, text, world};
 ghost use Rattle.ob_types.specs.Shapes.{named_here, type_of_field};
 
@@ -56,6 +58,23 @@ impl<'a> Types<'a> {
         requires in_text { AreInText bytes.now tokens.now }
         ensures { IfOk result (λ t. t ≡ world bytes.now tokens.now (rows_in table.now) scopes.now (map arc_value reached.now)) }
     {
+        Types::with_order(alloc, bytes, tokens, table, scopes, reached, false)
+    }
+
+    /// The same, told whether it is known that the names of the modules that are reached ascend; where it isn't, they are compared.
+    pub fn with_order(
+        alloc: Global,
+        bytes: &'a [u8],
+        tokens: &'a [Token],
+        table: &'a Table,
+        scopes: &'a Scopes,
+        reached: &'a [Arc<Interface>],
+        by_name: bool,
+    ) -> Result<Types<'a>, AllocError>
+        requires in_text { AreInText bytes.now tokens.now }
+        requires by_name { OnTrue by_name (AreByName (map arc_value reached.now)) }
+        ensures { IfOk result (λ t. t ≡ world bytes.now tokens.now (rows_in table.now) scopes.now (map arc_value reached.now)) }
+    {
         let parts = Parts {
             bytes,
             tokens,
@@ -63,7 +82,7 @@ impl<'a> Types<'a> {
             scopes,
             reached,
         };
-        let indexed = Indexed::new(alloc, parts)?;
+        let indexed = Indexed::new(alloc, parts, by_name)?;
         Ok(Types { indexed })
     }
 
