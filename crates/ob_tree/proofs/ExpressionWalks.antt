@@ -91,11 +91,19 @@ arguments_items o = simp (arguments_made o, items-construct, items-append)
 
 -- what closes the goals of each walk
 pub ruleset expr_walk = (walks, expr_items)
+
 pub ruleset sum_walk = (walks, sum_items)
+
 pub ruleset term_walk = (walks, term_items)
+
 pub ruleset element_walk = (walks, element_items)
+
 pub ruleset element_list_walk = (walks, element_list_items)
+
 pub ruleset expr_list_walk = (walks, expr_list_items)
+
 pub ruleset designator_walk = (walks, designator_items)
+
 pub ruleset factor_walk = (walks, value_items, nil_items, true_items, false_items, set_items, name_items, group_items, not_items)
+
 pub ruleset selector_walk = (walks, field_items, index_items, target_items, arguments_items)
