@@ -12,6 +12,7 @@ pub mod Needed
 pub mod NetLines
 pub mod Networks
 pub mod Noted
+pub mod Numbers
 pub mod OneNetReading
 pub mod OneNetwork
 pub mod Pairs

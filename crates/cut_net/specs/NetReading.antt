@@ -1,5 +1,5 @@
 -- Reading the text of a network, line by line.
-use Rattle.std.specs.Prelude.{◌≡◌, ◌≢◌, ℕ, ◌<◌, ◌≤◌, true, List, [], ◌∷◌, ◌++◌, length, map, filter, codes, Option, Some, None, Result, Ok, Err, if◌then◌else◌, option_map, option_and_then, String, All, AllPairs, slice_index}
+use Rattle.std.specs.Prelude.{◌≡◌, ◌≢◌, ℕ, ◌<◌, ◌≤◌, true, List, [], ◌∷◌, ◌++◌, length, map, filter, codes, Option, Some, None, Result, Ok, Err, if◌then◌else◌, option_map, option_and_then, String, All, AllPairs}
 use Rattle.std.specs.List.{list_any, slice_index_or}
 use Rattle.std.specs.Option.{option_map_or}
 use Rattle.std.specs.Str.{bytes_eq}
@@ -120,10 +120,6 @@ IsDrafted draft = (lines : List NetLine) × IsDraft lines draft
 -- the line of an import, by the numbers of its modules
 abbrev pub import_line : List (List ℕ) → Priced → NetLine
 import_line names i = Import (slice_index_or names i.from []) (slice_index_or names i.to []) i.amount
-
--- for each of the first names of a list its place in another
-abbrev pub AreNumbers : List (List ℕ) → List (List ℕ) → List ℕ → Type 0
-AreNumbers old names numbers = (k : ℕ) → k < length numbers → (slice_index numbers k < length names) × (slice_index_or names (slice_index numbers k) [] ≡ slice_index_or old k [])
 
 -- the network of lists
 abbrev pub net_of : {Z : Type 0} → List (String Z) → List Priced → Network

@@ -1,11 +1,11 @@
 //! Names and imports in their order, from tables in the order of coming.
-ghost use Rattle.std.specs.Prelude.{◌≡◌, ◌<◌, ◌≤◌, ◌^◌, ◌↔◌, All, Contains, IfOk, IsPermutation, List, IsTrue, [], length, map, sum_by, vec_len, ℕ};
+ghost use Rattle.std.specs.Prelude.{◌≡◌, ◌<◌, ◌≤◌, ◌^◌, ◌↔◌, All, Contains, IfOk, IsPermutation, List, IsTrue, [], length, map, sum_by, vec_len, slice_index, ℕ};
 ghost use Rattle.std.specs.List.{slice_index_or, IsDistinct};
 ghost use Rattle.std.specs.Str.{bytes_eq};
 ghost use Rattle.cut_net.specs.Cuts.{same_ends};
 ghost use Rattle.cut_net.specs.Lines.{IsAscending};
 ghost use Rattle.cut_net.specs.Network.{texts};
-ghost use Rattle.cut_net.specs.NetReading.{entry_line, import_line, net_of, AreNumbers, IsDraft, IsDrafted};
+ghost use Rattle.cut_net.specs.NetReading.{entry_line, import_line, net_of, IsDraft, IsDrafted};
 ghost use Rattle.cut_net.specs.NetText.{IsNetOf, NetLine};
 ghost use Rattle.cut_net.specs.WellFormed.{AreBetween, AreNamesInOrder};
 
@@ -51,7 +51,7 @@ fn numbers_of(alloc: Global, old: &[String], names: &[String]) -> Result<Vec<u32
     requires few { length names.now ≤ 8192 }
     requires same { IsPermutation (texts old.now) (texts names.now) }
     ensures size { IfOk result (λ numbers. vec_len numbers ≡ length old.now) }
-    ensures numbers { IfOk result (λ numbers. AreNumbers (texts old.now) (texts names.now) numbers.items) }
+    ensures numbers { IfOk result (λ numbers. (k : ℕ) → k < length numbers.items → (slice_index numbers.items k < length (texts names.now)) × (slice_index_or (texts names.now) (slice_index numbers.items k) [] ≡ slice_index_or (texts old.now) k [])) }
 {
     let mut numbers = Vec::new(alloc);
     for name in old {
@@ -63,8 +63,8 @@ fn numbers_of(alloc: Global, old: &[String], names: &[String]) -> Result<Vec<u32
 /// An import by the numbers of its modules, from the places of their names in the order of coming.
 fn renumbered(numbers: &[u32], ends: (usize, usize), amount: u64) -> Priced
     requires placed { (ends.0 < length numbers.now) × (ends.1 < length numbers.now) }
-    ensures between { (old names : List (List ℕ)) → AreNumbers old names numbers.now → (result.from < length names) × (result.to < length names) }
-    ensures line { (old names : List (List ℕ)) → AreNumbers old names numbers.now → import_line names result ≡ entry_line old (ends, amount) }
+    ensures between { (old names : List (List ℕ)) → ((k : ℕ) → k < length numbers.now → (slice_index numbers.now k < length names) × (slice_index_or names (slice_index numbers.now k) [] ≡ slice_index_or old k [])) → (result.from < length names) × (result.to < length names) }
+    ensures line { (old names : List (List ℕ)) → ((k : ℕ) → k < length numbers.now → (slice_index numbers.now k < length names) × (slice_index_or names (slice_index numbers.now k) [] ≡ slice_index_or old k [])) → import_line names result ≡ entry_line old (ends, amount) }
 {
     Priced {
         from: numbers[ends.0],

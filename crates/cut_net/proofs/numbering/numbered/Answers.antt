@@ -2,7 +2,8 @@ use Rattle.std.specs.String.{string_bytes}
 use Rattle.std.proofs.lemmas.List.{length-map}
 use Rattle.std.specs.Map.Iter.{deref_pair}
 use Rattle.cut_net.specs.Network.{texts}
-use Rattle.cut_net.specs.NetReading.{entry_line, import_line, AreNumbers}
+use Rattle.cut_net.specs.NetReading.{entry_line, import_line}
+use Rattle.cut_net.proofs.Numbers.{AreNumbers}
 use Rattle.cut_net.proofs.Networks.{between_next, listed_next}
 use Rattle.cut_net.proofs.numbering.numbered.Goals as goal
 

@@ -1,6 +1,6 @@
 use Rattle.std.proofs.Common.{◌≡◌, vec_len}
 use Rattle.cut_net.specs.Network.{texts}
-use Rattle.cut_net.specs.NetReading.{AreNumbers}
+use Rattle.cut_net.proofs.Numbers.{AreNumbers}
 use Rattle.cut_net.proofs.numbering.numbers_of.Given as goal
 
 abbrev pub invariant-loop-name : goal.invariant-loop-name
