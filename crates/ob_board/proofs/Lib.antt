@@ -6,3 +6,4 @@ pub mod AtHand
 pub mod OneTree
 pub mod OneExternals
 pub mod OneIndex
+pub mod ByName

@@ -1,7 +1,8 @@
 -- The entry of a module of a tree: its document, what others see of it, and the symbols that it names of modules outside of the tree.
-use Rattle.std.specs.Prelude.{◌≡◌, ℕ, List, length, map, Some, Contains, slice_get}
+use Rattle.std.specs.Prelude.{◌≡◌, ℕ, List, length, map, Some, Contains, slice_get, Box}
 use Rattle.std.specs.Arc.{arc_value}
 use Rattle.std.specs.String.{string_bytes}
+use Rattle.std.specs.declared.alloc.Global.{Global}
 use Rattle.ob_emit.specs.Documents.{document_of}
 use Rattle.ob_emit.specs.Externals.{externals_in, AreExternalRows, AreExternals}
 use Rattle.ob_emit.specs.Named.{IsNamed}
@@ -59,6 +60,10 @@ pub record IsWritten (s : Source) (parts : ModuleParts) (reached : List ModuleIn
   pub refs : List Reference
   pub references : AreReferences (world s.bytes.items parts.tokens (rows_in parts.table) parts.scopes reached) refs
   pub are : AreOf (string_bytes s.path) package_name (world s.bytes.items parts.tokens (rows_in parts.table) parts.scopes reached) refs document externals
+
+-- what others see of the modules of these parts
+abbrev pub interfaces_of : List (Box ModuleParts Global) → List ModuleInterface
+interfaces_of modules = map (λ m. arc_value (m.value).interface) modules
 
 -- what others see of these modules has names
 abbrev pub AreAllNamed : List ModuleInterface → Type 0

@@ -1,10 +1,12 @@
 //! The entries of the modules of a tree, as they are made at a board.
 ghost use Rattle.std.specs.Prelude.{◌≡◌, false, map, IfOk};
 ghost use Rattle.std.specs.Arc.{arc_value};
+ghost use Rattle.std.specs.Bool.{OnTrue};
 ghost use Rattle.ob_scope.specs.Texts.{text_at};
+ghost use Rattle.ob_types.specs.Homes.{AreByName};
 ghost use Rattle.scip_symbol.specs.Outcomes.{is_wrong_part};
 ghost use Rattle.tree_board.specs.Seen.{all_seen, AreSeen};
-ghost use Rattle.ob_board.specs.Entries.{plain_entry, AreAllNamed};
+ghost use Rattle.ob_board.specs.Entries.{interfaces_of, plain_entry, AreAllNamed};
 ghost use Rattle.ob_board.specs.Found.{IsAtHand};
 
 use crate::Entry;
@@ -67,16 +69,19 @@ impl<F: NamedIndex> WorkEntry for Made<F> {
     }
 }
 
-/// The entry of a module by its parts and the interfaces of what it reaches.
+/// The entry of a module by its parts and the interfaces of what it reaches, told whether it is known that the names of these
+/// ascend.
 fn made_in<F: NamedIndex>(
     alloc: Global,
     source: &Source,
     parts: &ModuleParts,
     reached: &[Arc<Interface>],
+    by_name: bool,
     package_name: &str,
 ) -> Result<Made<F>, AllocError>
     requires at_hand { IsAtHand F.files source.now parts.now (map arc_value reached.now) }
     requires named { AreAllNamed (map arc_value reached.now) }
+    requires by_name { OnTrue by_name (AreByName (map arc_value reached.now)) }
     requires package { package_name.now ≡ F.package_name }
     requires right { is_wrong_part F.package_name ≡ false }
     ensures { IfOk result (λ m. m.name ≡ text_at source.now.bytes.items parts.now.tokens 1) }
@@ -84,7 +89,7 @@ fn made_in<F: NamedIndex>(
     let Written {
         document,
         externals,
-    } = write_module(alloc, source, parts, reached, package_name)?;
+    } = write_module(alloc, source, parts, reached, by_name, package_name)?;
     let name = String::from_str(alloc, parts.scopes.name())?;
     let interface = Arc::try_clone(&parts.interface)?;
     let entry = Entry {
@@ -107,36 +112,44 @@ pub(crate) struct Making<'a, F: NamedIndex> {
     modules: &'a [Box<ModuleParts>],
     graph: &'a Graph,
     package_name: &'a str,
+    /// Whether the names of the modules are known to ascend.
+    by_name: bool,
     of: PhantomData<F>,
 }
 
 impl<'a, F: NamedIndex> Model for Making<'a, F> {
     ghost use Rattle.std.specs.Prelude.{◌≡◌, false};
     ghost use Rattle.ob_imports.specs.Graphs.{ImportGraph};
+    ghost use Rattle.ob_types.specs.Homes.{AreByName};
     ghost use Rattle.scip_symbol.specs.Outcomes.{is_wrong_part};
+    ghost use Rattle.std.specs.Bool.{OnTrue};
     ghost use Rattle.tree_board.specs.Seen.{all_seen, AreSeen};
+    ghost use Rattle.ob_board.specs.Entries.{interfaces_of};
 
     ghost Value = { ImportGraph };
 
     ghost view = { λ w. w.graph.now };
 
     ghost invariant = { λ w. (F.files ≡ all_seen w.sources.now w.modules.now) × AreSeen w.sources.now w.modules.now w.graph.now × (w.package_name.now ≡ F.package_name)
-        × (is_wrong_part F.package_name ≡ false) };
+        × (is_wrong_part F.package_name ≡ false) × OnTrue w.by_name (AreByName (interfaces_of w.modules.now)) };
 }
 
 impl<'a, F: NamedIndex> Making<'a, F> {
-    /// What makes the entries of the modules of these files, with symbols of this package.
+    /// What makes the entries of the modules of these files, with symbols of this package, told whether the names of the modules
+    /// are known to ascend.
     pub(crate) fn new(
         alloc: Global,
         sources: &'a [Source],
         modules: &'a [Box<ModuleParts>],
         graph: &'a Graph,
         package_name: &'a str,
+        by_name: bool,
     ) -> Making<'a, F>
         requires files { F.files ≡ all_seen sources.now modules.now }
         requires seen { AreSeen sources.now modules.now graph.now }
         requires package { package_name.now ≡ F.package_name }
         requires right { is_wrong_part F.package_name ≡ false }
+        requires by_name { OnTrue by_name (AreByName (interfaces_of modules.now)) }
         ensures { result ≡ graph.now }
     {
         Making {
@@ -145,6 +158,7 @@ impl<'a, F: NamedIndex> Making<'a, F> {
             modules,
             graph,
             package_name,
+            by_name,
             of: PhantomData,
         }
     }
@@ -164,6 +178,7 @@ impl<F: NamedIndex> Work for Making<'_, F> {
             &self.sources[place],
             &self.modules[place],
             parts,
+            self.by_name,
             self.package_name,
         )?;
         Ok(made)

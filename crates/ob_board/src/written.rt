@@ -1,9 +1,11 @@
 //! The document and the external symbols of a module.
 ghost use Rattle.std.specs.Prelude.{◌≡◌, false, map, IfOk};
 ghost use Rattle.std.specs.Arc.{arc_value};
+ghost use Rattle.std.specs.Bool.{OnTrue};
 ghost use Rattle.ob_decls.specs.Declaring.{rows_in};
 ghost use Rattle.ob_scan.specs.Spelling.{IsOutcome, Reads};
 ghost use Rattle.ob_scope.specs.Scoped.{AreScopes};
+ghost use Rattle.ob_types.specs.Homes.{AreByName};
 ghost use Rattle.scip_index.specs.Plain.{plain_document, plain_symbol};
 ghost use Rattle.scip_symbol.specs.Outcomes.{is_wrong_part};
 ghost use Rattle.ob_board.specs.Entries.{AreAllNamed, IsWritten};
@@ -26,30 +28,34 @@ pub(crate) struct Written {
     pub(crate) externals: Vec<SymbolInfo>,
 }
 
-/// What is written of a module, by its parts and the interfaces of what it reaches.
+/// What is written of a module, by its parts and the interfaces of what it reaches, told whether it is known that the names of
+/// these ascend.
 pub(crate) fn write_module(
     alloc: Global,
     source: &Source,
     parts: &ModuleParts,
     reached: &[Arc<Interface>],
+    by_name: bool,
     package_name: &str,
 ) -> Result<Written, AllocError>
     requires spelled { IsOutcome source.now.bytes.items (Reads parts.now.tokens) }
     requires scoped { AreScopes source.now.bytes.items parts.now.tokens (rows_in parts.now.table) parts.now.scopes }
     requires named { AreAllNamed (map arc_value reached.now) }
+    requires by_name { OnTrue by_name (AreByName (map arc_value reached.now)) }
     requires package { is_wrong_part package_name.now ≡ false }
     ensures { IfOk result (λ w. IsWritten source.now parts.now (map arc_value reached.now) package_name.now (plain_document w.document) (map plain_symbol w.externals.items)) }
 {
     tokens_in_text();
     names_of_scopes();
     names_of_references();
-    let types = Types::new(
+    let types = Types::with_order(
         alloc,
         source.bytes.as_slice(),
         parts.tokens.as_slice(),
         &parts.table,
         &parts.scopes,
         reached,
+        by_name,
     )?;
     let refs = references(alloc, &types)?;
     let path = source.path.as_str();

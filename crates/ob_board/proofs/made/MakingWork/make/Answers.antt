@@ -12,6 +12,7 @@ use Rattle.tree_board.specs.Reached.{SeenFile}
 use Rattle.ob_board.specs.Entries.{IsEntryOf, PlainEntry}
 use Rattle.ob_board.specs.Found.{IsAtHand}
 use Rattle.ob_board.proofs.Handing.{below, name_here}
+use Rattle.ob_board.proofs.ByName.{reached_by_name}
 use Rattle.ob_board.proofs.EntryHanding.{entry_at_hand, reached_named}
 use Rattle.ob_board.proofs.made.MakingWork.make.Goals as goal
 
@@ -66,3 +67,18 @@ made_in-requires-clause-named g c =
     let job = subst (λ (fs : List SeenFile). IsJob (λ (x : List ℕ) (f : PlainEntry). IsEntryOf fs g.F.NamedIndex.package_name x f) (λ (f : PlainEntry). f.interface) (modules_of w.graph.now) n parts) c.self.invariant.0 here in
     let hand = entry_at_hand w.sources.now w.modules.now w.graph.now c.self.invariant.1 g.F.NamedIndex.package_name n s m parts at_s at_m job in
     reached_named w.sources.now w.modules.now w.graph.now c.self.invariant.1 g.F.NamedIndex.package_name _ parts hand.are_reached
+
+pub made_in-requires-clause-by_name : goal.made_in-requires-clause-by_name
+made_in-requires-clause-by_name g c =
+    let w = c.self.inside in
+    let n = c.args.number in
+    let parts = map arc_value c.args.parts.now in
+    let both = below w.sources.now w.modules.now w.graph.now c.self.invariant.1 n (subst (λ (v : ImportGraph). n < length (modules_of v).names) (sym c.self.view_is) c.requires.0) in
+    let s = slice_index_or w.sources.now n c.index-self-place.result in
+    let m = slice_index_or w.modules.now n c.index-self-place-2.result in
+    let at_s = slice_get-get_or w.sources.now n c.index-self-place.result both.0 in
+    let at_m = slice_get-get_or w.modules.now n c.index-self-place-2.result both.1 in
+    let here = subst (λ (v : ImportGraph). IsJob (λ (x : List ℕ) (f : PlainEntry). IsEntryOf g.F.NamedIndex.files g.F.NamedIndex.package_name x f) (λ (f : PlainEntry). f.interface) (modules_of v) n parts) (sym c.self.view_is) c.requires in
+    let job = subst (λ (fs : List SeenFile). IsJob (λ (x : List ℕ) (f : PlainEntry). IsEntryOf fs g.F.NamedIndex.package_name x f) (λ (f : PlainEntry). f.interface) (modules_of w.graph.now) n parts) c.self.invariant.0 here in
+    let hand = entry_at_hand w.sources.now w.modules.now w.graph.now c.self.invariant.1 g.F.NamedIndex.package_name n s m parts at_s at_m job in
+    reached_by_name w.sources.now w.modules.now w.graph.now c.self.invariant.1 w.by_name c.self.invariant.4 hand.are_reached.marks parts hand.are_reached.reached_are
