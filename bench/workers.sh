@@ -13,11 +13,11 @@ g++ -O2 -o "$work/generate" "$here/generate.cpp"
 # The program: the crates that it stands on, with what earlier checks kept, and itself.
 build() {
   mkdir "$work/crates"
-  for crate in texts digraph cut_residual cut_net cut_part cut_trial cut_preflow cut_solve; do
+  for crate in texts digraph cut_residual cut_net cut_part cut_trial cut_preflow cut_solve cut_plain; do
     cp -r "$here/../crates/$crate" "$work/crates"
     grep "^$crate[ :]" "$here/../crates.txt" >> "$work/crates.txt"
   done
-  echo "workers may_wait=3: cut_net cut_preflow cut_solve" >> "$work/crates.txt"
+  echo "workers may_wait=3: cut_net cut_preflow cut_solve cut_plain" >> "$work/crates.txt"
   # `rt ci` refuses sources outside the crates, so these have another ending here.
   (cd "$here" && find workers -name '*.in') | while read -r name; do
     mkdir -p "$work/crates/$(dirname "$name")"

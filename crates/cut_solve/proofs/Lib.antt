@@ -1,5 +1,3 @@
-pub mod Descending
-pub mod Measure
 pub mod Parted
 pub mod Listing
 pub mod Far

@@ -1,14 +1,14 @@
 -- The flow of a settled preflow is a greatest flow of the network that a cut is asked of.
-use Rattle.std.proofs.Common.{◌≡◌, ℕ, zero, suc, ◌+◌, ◌≤◌, ◌<◌, ◌==◌, if◌then◌else◌, Bool, true, false, inl, inr, List, [], ◌∷◌, ◌++◌, length, get_or, map, take, refl, sym, ap, ◌∙◌, subst, arith}
+use Rattle.std.proofs.Common.{◌≡◌, ℕ, zero, suc, ◌+◌, ◌≤◌, ◌<◌, ◌==◌, if◌then◌else◌, Bool, false, inl, inr, List, [], ◌∷◌, ◌++◌, length, get_or, map, take, refl, sym, ap, ◌∙◌, subst, arith}
 use Rattle.std.specs.Prelude.{All, Contains, filter}
 use Rattle.std.proofs.lemmas.List.{get_or-map, length-map, take_all}
 use Rattle.std.proofs.Math.Seq.{take-suc}
 use Rattle.digraph.specs.declared.edge.Edge.{Edge}
 use Rattle.cut_net.specs.declared.priced.Priced.{Priced}
 use Rattle.cut_net.specs.Network.{Network, none_there}
-use Rattle.cut_net.specs.Cuts.{AreThose, IsClosed, IsFlow, Reached}
+use Rattle.cut_net.specs.Cuts.{IsClosed, IsFlow}
 use Rattle.cut_net.specs.Lines.{flow_by, IsAscending}
-use Rattle.cut_net.specs.WellFormed.{AreBetween, IsNetwork}
+use Rattle.cut_net.specs.WellFormed.{IsNetwork}
 use Rattle.cut_net.proofs.ListSums.{sum_by-same}
 use Rattle.cut_part.specs.Apart.{flow_lines}
 use Rattle.cut_part.specs.Narrowing.{ends_of, import_in, IsBarred, IsByEnds, IsGreatestFlow}

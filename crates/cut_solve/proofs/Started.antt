@@ -1,6 +1,5 @@
 -- The network that a preflow starts on is one that the core takes.
-use Rattle.std.proofs.Common.{◌≡◌, ◌≢◌, ℕ, ◌+◌, ◌≤◌, ◌<◌, true, false, List, [], ◌∷◌, length, get_or, map, refl, sym, ap, ◌∙◌, subst, arith, inl, inr}
-use Rattle.std.specs.Prelude.{Contains, ◌^◌}
+use Rattle.std.proofs.Common.{◌≡◌, ◌≢◌, ℕ, ◌≤◌, ◌<◌, false, List, [], ◌∷◌, length, get_or, map, refl, sym, ap, ◌∙◌, subst, arith, inl, inr}
 use Rattle.std.proofs.lemmas.Bool.{both_ways, false_from_ne_true}
 use Rattle.std.proofs.lemmas.List.{get_or_default, length-map}
 use Rattle.std.proofs.Math.ListN.{get_or-map as get_or-map_all}
@@ -13,7 +12,7 @@ use Rattle.cut_net.specs.Lines.{pair_of}
 use Rattle.cut_net.specs.WellFormed.{AreBetween, IsNetwork}
 use Rattle.cut_net.proofs.Ends.{same_from, same_true}
 use Rattle.cut_part.specs.Apart.{AreApart}
-use Rattle.cut_part.specs.Narrowing.{ends_of, import_in, IsNarrowed}
+use Rattle.cut_part.specs.Narrowing.{ends_of, import_in}
 use Rattle.cut_part.specs.Turning.{turned}
 use Rattle.cut_part.proofs.Apart.{ascending_apart, turned_apart}
 use Rattle.cut_part.proofs.Narrowing.{same_pair, still_between}
@@ -23,7 +22,7 @@ use Rattle.cut_preflow.specs.Kept.{IsFlowNetwork}
 use Rattle.cut_preflow.specs.Played.{IsWithinLimits}
 use Rattle.cut_preflow.specs.Flows.{AreEnds, network_on}
 use Rattle.cut_preflow.proofs.Networks.{between_limits}
-use Rattle.cut_preflow.proofs.Totals.{total-le, total-same}
+use Rattle.cut_preflow.proofs.Totals.{total-le}
 use Rattle.cut_solve.specs.Starts.{IsBelow, IsLowered, IsStart}
 
 -- what holds both ways holds of the start

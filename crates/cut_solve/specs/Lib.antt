@@ -1,4 +1,3 @@
-pub mod Descents
 pub mod GreatestFlow
 pub mod Lines
 pub mod Settling

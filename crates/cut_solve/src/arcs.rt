@@ -23,7 +23,7 @@ pub(crate) fn arcs_of(alloc: Global, imports: &[Priced]) -> Result<Vec<Arc>, All
 }
 
 /// The imports of a network as arcs between its modules, without flow.
-pub(crate) fn graph_of(alloc: Global, net: &Net) -> Result<ResidualGraph, AllocError>
+pub fn graph_of(alloc: Global, net: &Net) -> Result<ResidualGraph, AllocError>
     ensures { IfOk result (λ graph. graph ≡ record { nodes = length net.now.names; arcs = map empty_of net.now.imports }) }
 {
     net.keeps();
@@ -47,7 +47,7 @@ pub(crate) fn flows_of(alloc: Global, arcs: &[Arc]) -> Result<Vec<Priced>, Alloc
 }
 
 /// The arcs that carry flow, each with its flow.
-pub(crate) fn flow_of(alloc: Global, arcs: &[Arc]) -> Result<Vec<Priced>, AllocError>
+pub fn flow_of(alloc: Global, arcs: &[Arc]) -> Result<Vec<Priced>, AllocError>
     ensures { IfOk result (λ flow. flow.items ≡ filter has_flow (map flow_line arcs.now)) }
 {
     let mut flow = Vec::new(alloc);

@@ -10,7 +10,7 @@ use std::alloc::{AllocError, Global};
 
 /// The cheapest cut that a greatest flow between two modules shows: the printed imports with their weights, the sum of these, and the
 /// flow. The marks are of the modules that residual imports reach from the first.
-pub(crate) fn cut_by(
+pub fn cut_by(
     alloc: Global,
     net: &Net,
     near: &[bool],

@@ -6,7 +6,7 @@ use cut_net::Net;
 use std::alloc::Global;
 
 /// The number of the module of this name.
-pub(crate) fn module_of(alloc: Global, net: &Net, name: &str) -> Result<u32, SolveFault>
+pub fn module_of(alloc: Global, net: &Net, name: &str) -> Result<u32, SolveFault>
     ensures { IsModuleOr net.now name.now result }
 {
     match net.index_of(name) {

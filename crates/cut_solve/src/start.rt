@@ -12,10 +12,13 @@ use std::alloc::{AllocError, Global};
 
 /// Imports in the order of a network's, and the two modules that a preflow on them is between.
 #[derive(Drop)]
-pub(crate) struct Start {
-    pub(crate) imports: Vec<Priced>,
-    pub(crate) source: u32,
-    pub(crate) sink: u32,
+pub struct Start {
+    /// The imports.
+    pub imports: Vec<Priced>,
+    /// The module that the flow starts from.
+    pub source: u32,
+    /// The module that it goes to.
+    pub sink: u32,
 }
 
 /// Adds the numbers of the arcs that leave from a node.
@@ -82,12 +85,7 @@ fn weight_to(imports: &[Priced], module: u32) -> u64 {
 
 /// What a preflow between two modules starts on: the imports narrowed, and turned round where those that lead to the second module weigh
 /// less than those that leave the first, since less flow has to come back then.
-pub(crate) fn start_between(
-    alloc: Global,
-    net: &Net,
-    from: u32,
-    to: u32,
-) -> Result<Start, AllocError>
+pub fn start_between(alloc: Global, net: &Net, from: u32, to: u32) -> Result<Start, AllocError>
     requires { AreEnds net.now from to }
     ensures { IfOk result (λ s. IsStart net.now from to s.imports.items s.source s.sink) }
 {

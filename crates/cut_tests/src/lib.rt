@@ -1,7 +1,7 @@
-//! Tests of the public calls of `cut_residual`, `cut_net`, `cut_part`, `cut_preflow`, `cut_check` and `cut_solve`, of what no command
+//! Tests of the public calls of `cut_residual`, `cut_net`, `cut_part`, `cut_preflow`, `cut_check`, `cut_solve` and `cut_plain`, of what no command
 //! shows: sinks, calls that the solver makes, its workers at gates, `plain`, and verdicts on what no report says. What `cut-net` and
 //! `check-net` print stands in `rows/`.
-//! Stands on those six, on `byte_sink` and on `test_doubles`.
+//! Stands on those seven, on `byte_sink` and on `test_doubles`.
 //! It has nothing but tests: worked networks and cuts, each with what is known of it.
 #![tactic(auto)]
 
@@ -21,6 +21,8 @@ mod parts;
 mod preflows;
 #[cfg(test)]
 mod sinks;
+#[cfg(test)]
+mod starts;
 #[cfg(test)]
 mod told;
 #[cfg(test)]

@@ -1,4 +1,4 @@
-use Rattle.std.proofs.Common.{◌≡◌, ◌<◌, ◌≤◌, length, sym, subst}
+use Rattle.std.proofs.Common.{◌<◌, ◌≤◌, length, sym, subst}
 use Rattle.std.specs.Prelude.{All}
 use Rattle.cut_net.specs.WellFormed.{AreBetween}
 use Rattle.cut_residual.specs.declared.arc.Arc.{Arc}

@@ -1,4 +1,4 @@
-use Rattle.std.proofs.Common.{◌≡◌, ◌∙◌, ◌<◌, ◌≤◌, ℕ, Bool, List, true, length, sym, ap, subst, arith, sum_by}
+use Rattle.std.proofs.Common.{◌≡◌, ◌∙◌, ◌<◌, ℕ, true, length, sym, ap, subst, arith, sum_by}
 use Rattle.std.specs.Prelude.{◌↔◌, filter}
 use Rattle.cut_net.specs.declared.priced.Priced.{Priced}
 use Rattle.cut_net.specs.Lines.{removed_by, IsCutAnswer}

@@ -1,4 +1,4 @@
-use Rattle.std.proofs.Common.{◌≡◌, ◌∙◌, ◌++◌, ◌∷◌, [], ap, sym, length, arith, Vec, Global}
+use Rattle.std.proofs.Common.{◌≡◌, ◌∙◌, ◌++◌, ◌∷◌, [], ap, sym, length, arith}
 use Rattle.cut_part.specs.Narrowing.{import_in}
 use Rattle.cut_preflow.specs.Played.{state_of}
 use Rattle.cut_solve.proofs.Settled.{arc_with, carrying_all, carrying_more}

@@ -1,12 +1,10 @@
-use Rattle.std.proofs.Common.{◌≡◌, ◌<◌, ◌≤◌, ◌∙◌, ℕ, true, false, List, length, get_or, ap, sym, subst, arith}
+use Rattle.std.proofs.Common.{◌≡◌, ◌<◌, ◌≤◌, ◌∙◌, ℕ, true, false, length, ap, sym, subst, arith}
 use Rattle.std.specs.Prelude.{All, filter, map}
 use Rattle.std.proofs.lemmas.Bool.{both_ways}
 use Rattle.std.proofs.lemmas.List.{get_or_default}
 use Rattle.std.proofs.lemmas.List.Elements.{Contains-get_or}
-use Rattle.cut_net.specs.declared.priced.Priced.{Priced}
 use Rattle.cut_net.specs.Network.{Network, none_there}
-use Rattle.cut_part.specs.Narrowing.{import_in}
-use Rattle.cut_preflow.specs.Preflow.{count, FlowNetwork}
+use Rattle.cut_preflow.specs.Preflow.{FlowNetwork}
 use Rattle.cut_preflow.specs.Flows.{HasFlow, IsShutOff, network_on}
 use Rattle.cut_preflow.specs.Played.{state_of}
 use Rattle.cut_residual.specs.declared.arc.Arc.{Arc}

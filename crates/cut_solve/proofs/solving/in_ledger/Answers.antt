@@ -1,4 +1,4 @@
-use Rattle.std.proofs.Common.{◌≡◌, length, sym, subst}
+use Rattle.std.proofs.Common.{sym, subst}
 use Rattle.cut_preflow.specs.Kept.{IsFlowNetwork}
 use Rattle.cut_preflow.specs.Played.{IsWithinLimits}
 use Rattle.cut_preflow.specs.Flows.{network_on}

@@ -1,8 +1,6 @@
 use Rattle.std.proofs.Common.{◌≡◌, ◌∙◌, ℕ, List, length, get_or, subst, sym, ap}
 use Rattle.std.proofs.lemmas.List.{get_or_default}
-use Rattle.cut_net.specs.declared.priced.Priced.{Priced}
 use Rattle.cut_net.specs.Lines.{IsAnswer, IsCheapestSaid}
-use Rattle.cut_net.specs.Said.{Said}
 use Rattle.cut_net.specs.WellFormed.{AreBetween}
 use Rattle.cut_part.specs.Marks.{said_whole}
 use Rattle.cut_preflow.specs.Flows.{AreEnds}

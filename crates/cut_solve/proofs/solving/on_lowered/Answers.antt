@@ -1,4 +1,4 @@
-use Rattle.std.proofs.Common.{◌≡◌, ℕ, length, subst, sym}
+use Rattle.std.proofs.Common.{ℕ, subst, sym}
 use Rattle.cut_net.specs.WellFormed.{AreBetween}
 use Rattle.cut_solve.specs.Starts.{IsBelow}
 use Rattle.cut_solve.proofs.Started.{below_between, lowered_below, start_below}

@@ -1,5 +1,5 @@
 -- Paths that are found from their end back, along falling levels: no arc is on them twice.
-use Rattle.std.proofs.Common.{◌≡◌, ◌≢◌, ℕ, zero, suc, ◌+◌, ◌≤◌, ◌<◌, Bool, true, false, List, [], ◌∷◌, ◌++◌, length, get_or, refl, sym, ap, ◌∙◌, reverse, subst, arith, inl, inr}
+use Rattle.std.proofs.Common.{◌≡◌, ◌≢◌, ℕ, zero, suc, ◌+◌, ◌≤◌, ◌<◌, Bool, true, false, List, [], ◌∷◌, ◌++◌, get_or, refl, sym, ap, ◌∙◌, reverse, subst, arith, inl, inr}
 use Rattle.std.specs.Prelude.{All, AllPairs}
 use Rattle.std.proofs.lemmas.List.{length_push, get_or_append_left, reverse-append}
 use Rattle.cut_residual.specs.declared.arc.Arc.{Arc}
@@ -7,7 +7,7 @@ use Rattle.cut_residual.specs.declared.arc.ResidualArc.{ResidualArc}
 use Rattle.cut_residual.specs.Flows.{IsBalanced}
 use Rattle.cut_residual.specs.Graphs.{tail, head, Leads}
 use Rattle.cut_residual.proofs.Walking.{AllPairs-reverse, same_arc}
-use Rattle.cut_solve.specs.Descents.{opposite, Climbs, LeadsBack, RaisesOrKeeps}
+use Rattle.cut_plain.specs.Descents.{opposite, Climbs, LeadsBack, RaisesOrKeeps}
 
 All-rest : {X : Type 0} (P : X → Type 0) (x : X) (xs : List X) → All P (x ∷ xs) → All P xs
 All-rest P x xs all k d h = all (suc k) d (omega arith)

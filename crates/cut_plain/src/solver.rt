@@ -3,12 +3,9 @@ ghost use Rattle.std.specs.Prelude.{◌≡◌, ◌≢◌, ◌<◌, IfOk, IfSome,
 ghost use Rattle.cut_net.specs.Lines.{IsAnswer, IsCheapestSaid};
 ghost use Rattle.cut_solve.specs.Solving.{outcome_of, said_by, IsRefusal, IsSolveOutcome, SolveOutcome};
 
-use crate::SolveFault;
-use crate::arcs::{flow_of, graph_of};
-use crate::cutting::cut_by;
 use crate::greatest::greatest_flow;
-use crate::names::module_of;
 use cut_net::{Cut, Net};
+use cut_solve::{SolveFault, cut_by, flow_of, graph_of, module_of};
 use std::alloc::{AllocError, Global};
 
 /// A cheapest cut between two modules, with a flow that proves it.

@@ -6,7 +6,7 @@ use Rattle.cut_solve.specs.GreatestFlow.{IsGreatest}
 use Rattle.cut_solve.specs.Lines.{empty_of, has_flow, flow_line}
 use Rattle.cut_solve.proofs.Answering.{greatest_for}
 use Rattle.cut_solve.proofs.Flowing.{empty_balanced, same_imports}
-use Rattle.cut_solve.proofs.solver.solve.Goals as goal
+use Rattle.cut_plain.proofs.solver.solve.Goals as goal
 
 pub greatest_flow-requires-clause-balanced : goal.greatest_flow-requires-clause-balanced
 greatest_flow-requires-clause-balanced c =

@@ -1,6 +1,6 @@
 use Rattle.std.proofs.Common.{◌+◌, ◌∙◌}
-use Rattle.cut_solve.proofs.Measure.{measure_falls}
-use Rattle.cut_solve.proofs.greatest.greatest_flow.Goals as goal
+use Rattle.cut_plain.proofs.Measure.{measure_falls}
+use Rattle.cut_plain.proofs.greatest.greatest_flow.Goals as goal
 
 pub loop-alloc-smaller : goal.loop-alloc-smaller
 loop-alloc-smaller c =

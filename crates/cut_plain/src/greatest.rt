@@ -4,7 +4,7 @@ ghost use Rattle.std.specs.Prelude.{ℕ, ◌≡◌, ◌≢◌, ◌<◌, true, fa
 ghost use Rattle.cut_residual.specs.Flows.{AreSameArcs, IsBalanced};
 ghost use Rattle.cut_residual.specs.Graphs.{is_seen, AreClosed, AreReached};
 ghost use Rattle.cut_residual.specs.Searches.{IsSearchOf};
-ghost use Rattle.cut_solve.specs.Descents.{Raises};
+ghost use Rattle.cut_plain.specs.Descents.{Raises};
 
 use crate::blocking::blocking_flow;
 use cut_residual::{Found, ResidualGraph, order_of, path_to, places_of, search};

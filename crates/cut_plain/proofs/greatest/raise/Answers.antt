@@ -3,7 +3,7 @@ use Rattle.std.specs.Prelude.{All, AllPairs}
 use Rattle.cut_residual.specs.declared.arc.ResidualArc.{ResidualArc}
 use Rattle.cut_residual.specs.Flows.{IsBalanced}
 use Rattle.cut_residual.specs.Graphs.{HasResidual, HasArc, Leads}
-use Rattle.cut_solve.proofs.greatest.raise.Goals as goal
+use Rattle.cut_plain.proofs.greatest.raise.Goals as goal
 
 pub augment-requires-clause-known : goal.augment-requires-clause-known
 augment-requires-clause-known c =

@@ -1,6 +1,6 @@
 use Rattle.std.proofs.Common.{◌∙◌}
-use Rattle.cut_solve.proofs.Descending.{raises_more}
-use Rattle.cut_solve.proofs.blocking.blocking_flow.Goals as goal
+use Rattle.cut_plain.proofs.Descending.{raises_more}
+use Rattle.cut_plain.proofs.blocking.blocking_flow.Goals as goal
 
 pub returns-then-not-moved-clause-rises : goal.returns-then-not-moved-clause-rises
 returns-then-not-moved-clause-rises c =

@@ -2,8 +2,8 @@ use Rattle.std.proofs.Common.{ℕ, ◌≡◌, ◌-◌, vec_len}
 use Rattle.cut_residual.specs.Flows.{AreSameArcs, IsBalanced}
 use Rattle.cut_residual.specs.Graphs.{AreClosed, AreReached}
 use Rattle.cut_residual.specs.Searches.{IsSearchOf}
-use Rattle.cut_solve.proofs.Measure.{total, value_of}
-use Rattle.cut_solve.proofs.greatest.greatest_flow.Given as goal
+use Rattle.cut_plain.proofs.Measure.{total, value_of}
+use Rattle.cut_plain.proofs.greatest.greatest_flow.Given as goal
 
 abbrev pub invariant-loop-alloc : goal.invariant-loop-alloc
 invariant-loop-alloc l = record {
