@@ -1,6 +1,7 @@
 #!/usr/bin/env bash
 # Compares index and unresolved with a plain indexer on small random trees and on the editor, decodes the editor's index, and times
-# index on large trees beside an indexer in C++ that looks at no field.
+# index on large trees beside an indexer in C++ that looks at no field, beside ctags, where that is there, which takes the files for
+# Pascal, and beside cat and wc.
 # Build the program first: (cd crates/oscip && rt run -- --help).
 # Then: bench/index.sh [PATH OF THE PROGRAM [SEED [CASES]]]
 set -eu
@@ -25,9 +26,15 @@ for shape in files graph large; do
       /usr/bin/time -f "$shape oscip-$workers %e %M $bytes" "$oscip" index --workers $workers "$work/$shape" "$work/out" 2>>"$work/times"
     done
     /usr/bin/time -f "$shape c++ %e %M $bytes" "$work/indexer" "$work/$shape" "$work/other" 2>>"$work/times"
+    /usr/bin/time -f "$shape wc %e %M $bytes" sh -c 'cat "$1"/* | wc >/dev/null' sh "$work/$shape" 2>>"$work/times"
+    if command -v ctags >/dev/null; then
+      /usr/bin/time -f "$shape ctags %e %M $bytes" ctags -f - --language-force=Pascal -R "$work/$shape" 2>>"$work/times" >/dev/null
+    fi
   done
 done
 sort "$work/times" | awk '
   { key = $1 " " $2; if (!(key in least) || $3 < least[key]) { least[key] = $3; memory[key] = $4 * 1024 / $5 } shapes[$1] }
-  END { for (s in shapes) printf "%s: one worker over C++ %.1f, four workers over one %.2f, %.0f bytes of memory a byte of source (C++ %.0f), %.2f s\n", s,
-    least[s " oscip-1"] / least[s " c++"], least[s " oscip-4"] / least[s " oscip-1"], memory[s " oscip-1"], memory[s " c++"], least[s " oscip-1"] }'
+  function over(key, other) { return other in least && least[other] > 0 ? sprintf("%.1f", least[key] / least[other]) : "-" }
+  END { for (s in shapes) printf "%s: one worker over C++ %s, ctags %s, reading %s, four workers over one %.2f, %.0f bytes of memory a byte of source (C++ %.0f), %.2f s\n", s,
+    over(s " oscip-1", s " c++"), over(s " oscip-1", s " ctags"), over(s " oscip-1", s " wc"), least[s " oscip-4"] / least[s " oscip-1"],
+    memory[s " oscip-1"], memory[s " c++"], least[s " oscip-1"] }'
