@@ -22,7 +22,7 @@ pub(crate) fn arcs_of(alloc: Global, imports: &[Priced]) -> Result<Vec<Arc>, All
     Ok(arcs)
 }
 
-/// The imports of a network as arcs between its modules, without flow.
+/// The imports of a network as arcs between its modules, each with the import's weight and without flow. Fails where memory is refused.
 pub fn graph_of(alloc: Global, net: &Net) -> Result<ResidualGraph, AllocError>
     ensures { IfOk result (λ graph. graph ≡ record { nodes = length net.now.names; arcs = map empty_of net.now.imports }) }
 {
@@ -46,7 +46,7 @@ pub(crate) fn flows_of(alloc: Global, arcs: &[Arc]) -> Result<Vec<Priced>, Alloc
     Ok(imports)
 }
 
-/// The arcs that carry flow, each with its flow.
+/// The arcs that carry flow, each with its flow. Fails where memory is refused.
 pub fn flow_of(alloc: Global, arcs: &[Arc]) -> Result<Vec<Priced>, AllocError>
     ensures { IfOk result (λ flow. flow.items ≡ filter has_flow (map flow_line arcs.now)) }
 {

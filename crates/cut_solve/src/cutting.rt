@@ -9,7 +9,7 @@ use cut_net::{Cut, Net, Priced};
 use std::alloc::{AllocError, Global};
 
 /// The cheapest cut that a greatest flow between two modules shows: the printed imports with their weights, the sum of these, and the
-/// flow. The marks are of the modules that residual imports reach from the first.
+/// flow. The marks are of the modules that residual imports reach from the first. Fails where memory is refused.
 pub fn cut_by(
     alloc: Global,
     net: &Net,

@@ -5,7 +5,7 @@ use crate::SolveFault;
 use cut_net::Net;
 use std::alloc::Global;
 
-/// The number of the module of this name.
+/// The number of the module of this name. Refuses with `NoSuchModule` where there is none, and with `Memory`.
 pub fn module_of(alloc: Global, net: &Net, name: &str) -> Result<u32, SolveFault>
     ensures { IsModuleOr net.now name.now result }
 {

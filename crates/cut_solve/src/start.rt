@@ -84,7 +84,7 @@ fn weight_to(imports: &[Priced], module: u32) -> u64 {
 }
 
 /// What a preflow between two modules starts on: the imports narrowed, and turned round where those that lead to the second module weigh
-/// less than those that leave the first, since less flow has to come back then.
+/// less than those that leave the first, since less flow has to come back then. Fails where memory is refused.
 pub fn start_between(alloc: Global, net: &Net, from: u32, to: u32) -> Result<Start, AllocError>
     requires { AreEnds net.now from to }
     ensures { IfOk result (λ s. IsStart net.now from to s.imports.items s.source s.sink) }
