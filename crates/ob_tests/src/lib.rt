@@ -1,8 +1,10 @@
-//! Tests of tokens, trees, scopes, interfaces and graphs of imports, from outside.
-//! Stands on `ob_scan`, `ob_tree`, `ob_decls`, `ob_parse`, `ob_scope`, `ob_interface` and `ob_imports`.
+//! Tests of tokens, trees, scopes, interfaces, graphs of imports and the work board, from outside.
+//! Stands on `ob_scan`, `ob_tree`, `ob_decls`, `ob_parse`, `ob_scope`, `ob_interface`, `ob_imports` and `work_board`.
 //! Its contract: none; it has nothing but tests.
 #![tactic(auto)]
 
+#[cfg(test)]
+mod boards;
 #[cfg(test)]
 mod cycles;
 #[cfg(test)]

@@ -1,11 +1,13 @@
 //! Tests of the program's libraries, of what no command shows: sinks that fail, gates, and fault lines that the program can't be
 //! brought to. What a command prints, tells and ends with stands in `rows/`.
-//! Stands on `oscip_job`, `oscip_tree` and `oscip_run`, with the doubles that tests share.
+//! Stands on `oscip_job`, `oscip_tree`, `ob_board` and `oscip_run`, with the doubles that tests share.
 //! Its contract: none, since it has no function but tests.
 #![tactic(auto)]
 
 #[cfg(test)]
 mod faults;
+#[cfg(test)]
+mod indexes;
 #[cfg(test)]
 mod jobs;
 #[cfg(test)]
