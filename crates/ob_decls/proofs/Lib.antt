@@ -31,3 +31,10 @@ pub mod ReadingTypes
 pub mod ReadingSections
 pub mod ReadingDeclarations
 pub mod ReadingModules
+pub mod Lined
+pub mod LinedKinds
+pub mod LinedPieces
+pub mod LinedExpressions
+pub mod LinedStatements
+pub mod LinedTypes
+pub mod LinedModules

@@ -2,36 +2,18 @@
 
 ghost use Rattle.std.specs.Prelude.{◌≡◌, IfOk};
 ghost use Rattle.ob_decls.specs.Declaring.{rows_in, rows_of};
-ghost use Rattle.ob_decls.specs.Drafts.{drafted};
-ghost use Rattle.ob_decls.specs.Order.{AreInOrder};
 
 use crate::draft::{Context, Draft};
-use crate::order::{ascend, rise};
+use crate::order::rise;
 use crate::table::Table;
 use crate::walk::declarations::walk_module;
 use ob_tree::declaration::Module;
 use std::alloc::{AllocError, Global};
 
-/// Answers AllocError where rows are out of order.
-fn in_order(draft: &Draft) -> Result<(), AllocError>
-    ensures { IfOk result (λ _. AreInOrder (drafted draft.now)) }
-{
-    ascend(draft.declarers.as_slice())?;
-    ascend(draft.declared.as_slice())?;
-    ascend(draft.uses.as_slice())?;
-    ascend(draft.blocks.as_slice())?;
-    ascend(draft.imports.as_slice())?;
-    ascend(draft.parts.as_slice())?;
-    rise(draft.parts.as_slice())?;
-    ascend(draft.records.as_slice())?;
-    ascend(draft.designators.as_slice())?;
-    rise(draft.selectors.as_slice())?;
-    ascend(draft.ends.as_slice())
-}
-
 /// The table of a module. The walk recurses a few calls for each level of nesting, so a tree of `parse` needs a stack of 2 MiB;
 /// lists are loops. AllocError is answered where a growth of memory is refused, and for a tree of 2^32 tokens or more, whose
-/// numbers no row can hold. The order of the rows is looked at before the table is answered; no tree breaks it.
+/// numbers no row can hold. The rows stand in the order of the tokens, by a law; that the parts of one form stand together is
+/// looked at before the table is answered, and no tree breaks it.
 pub fn table_of(alloc: Global, module: &Module) -> Result<Table, AllocError>
     ensures exact { IfOk result (λ t. rows_in t ≡ rows_of «module».now) }
 {
@@ -43,7 +25,7 @@ pub fn table_of(alloc: Global, module: &Module) -> Result<Table, AllocError>
         is_target: false,
     };
     walk_module(&mut draft, outermost, module)?;
-    in_order(&draft)?;
+    rise(draft.parts.as_slice())?;
     Ok(Table {
         declarers: draft.declarers,
         declared: draft.declared,

@@ -113,18 +113,6 @@ impl Grouped for Selector {
     }
 }
 
-/// Answers AllocError where the rows do not ascend strictly.
-pub(crate) fn ascend<T: Numbered>(rows: &[T]) -> Result<(), AllocError>
-    ensures { IfOk result (λ _. AscendBy T.number_in rows.now) }
-{
-    for at in 1..rows.len() {
-        if rows[at].key() <= rows[at - 1].key() {
-            return Err(AllocError);
-        }
-    }
-    Ok(())
-}
-
 /// Answers AllocError where the rows of one number do not stand together.
 pub(crate) fn rise<T: Grouped>(rows: &[T]) -> Result<(), AllocError>
     ensures { IfOk result (λ _. RiseBy T.group_in rows.now) }

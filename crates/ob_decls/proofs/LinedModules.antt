@@ -1,0 +1,177 @@
+-- The rows of a module stand in order.
+use Rattle.std.proofs.Common.{◌≡◌, ℕ, ◌+◌, List, refl, sym, ap, ◌∙◌, subst}
+use Rattle.ob_tree.specs.declared.name.OneOrMore.{OneOrMore}
+use Rattle.ob_tree.specs.declared.declaration.ConstDecl.{ConstDecl}
+use Rattle.ob_tree.specs.declared.declaration.TypeDecl.{TypeDecl}
+use Rattle.ob_tree.specs.declared.declaration.VarDecl.{VarDecl}
+use Rattle.ob_tree.specs.declared.declaration.ImportItem.{ImportItem}
+use Rattle.ob_tree.specs.declared.declaration.Module.{Module}
+use Rattle.ob_tree.specs.declared.declaration.Declarations.{Declarations, Declarations-F, roll-Declarations, out-roll-Declarations, ind-Declarations, map-Declarations}
+use Rattle.ob_tree.specs.declared.declaration.ProcDecl.{ProcDecl, ProcDecl-F, roll-ProcDecl, out-roll-ProcDecl, map-ProcDecl}
+use Rattle.ob_tree.proofs.Closed.{With}
+use Rattle.ob_decls.specs.declared.rows.Sort.TheVariants as sorts
+use Rattle.ob_decls.specs.declared.draft.Context.{Context}
+use Rattle.ob_decls.specs.Parts.{Piece, Rows, token, both, tells, declaring, opening, in_block}
+use Rattle.ob_decls.specs.Parts.{if_there as there, each as pieces}
+use Rattle.ob_decls.specs.Expressions.{expr_piece}
+use Rattle.ob_decls.specs.Statements.{block_piece}
+use Rattle.ob_decls.specs.Types.{identdef_piece, parameters_piece}
+use Rattle.ob_decls.specs.Declaring.{const_piece, type_decl_piece, variable_piece, procedure_end, declarations_piece, procedure_piece, import_inner, import_piece, imports_piece, module_piece}
+use Rattle.ob_decls.specs.Declaring.{part as told_part}
+use Rattle.ob_decls.proofs.DeclarationLayers as told
+use Rattle.ob_decls.specs.Declaring.{module_end, rows_of, outermost}
+use Rattle.ob_decls.specs.Order.{AreInOrder, AscendBy, RiseBy}
+use Rattle.ob_decls.proofs.Lined.{Lined, ascends, rises}
+use Rattle.ob_decls.proofs.LinedKinds.{Kind, declarers_kind, declared_kind, uses_kind, blocks_kind, imports_kind, parts_kind, records_kind, designators_kind, ends_kind, selectors_kind}
+use Rattle.ob_decls.proofs.LinedPieces.{Ordered, h-before, h-both, h-tells, h-within, l-both, l-token, l-within, n-headed, o-both, o-declaring, o-each, o-headed, o-is, o-map, o-there, o-token}
+use Rattle.ob_decls.proofs.LinedExpressions.{o-expr}
+use Rattle.ob_decls.proofs.LinedStatements.{o-block}
+use Rattle.ob_decls.proofs.LinedTypes.{h-identdef, o-identdef, o-parameters, n-var, o-type}
+use Rattle.ob_decls.specs.declared.rows.Declarer.{Declarer as DeclarerRow}
+use Rattle.ob_decls.specs.declared.rows.Declared.{Declared as DeclaredRow}
+use Rattle.ob_decls.specs.declared.rows.Used.{Used as UsedRow}
+use Rattle.ob_decls.specs.declared.rows.Block.{Block as BlockRow}
+use Rattle.ob_decls.specs.declared.rows.Import.{Import as ImportRow}
+use Rattle.ob_decls.specs.declared.rows.FormPart.{FormPart as FormPartRow}
+use Rattle.ob_decls.specs.declared.rows.Record.{Record as RecordRow}
+use Rattle.ob_decls.specs.declared.rows.Designator.{Designator as DesignatorRow}
+use Rattle.ob_decls.specs.declared.rows.Selector.{Selector as SelectorRow}
+use Rattle.ob_decls.specs.declared.rows.End.{End as EndRow}
+
+module _ {X : Type 0} (K : Kind X) where
+  o-const : (c : ConstDecl) → Ordered K (const_piece c)
+  unfolding const_piece
+  o-const c = o-declaring K sorts.Constant (n-headed K (h-both K (h-identdef K c.name) (o-both K (o-token K) (o-expr K c.value))) (λ d k by e. K.declares k by _ e refl))
+
+  o-type_decl : (t : TypeDecl) → Ordered K (type_decl_piece t)
+  unfolding type_decl_piece
+  o-type_decl t = o-declaring K sorts.Type (n-headed K (h-both K (h-identdef K t.name) (o-both K (o-token K) (o-type K t.form))) (λ d k by e. K.declares k by _ e refl))
+
+  o-variables : (v : VarDecl) → Ordered K (variable_piece v)
+  unfolding variable_piece
+  o-variables v = o-declaring K sorts.Variable (n-var K v)
+
+  o-import : (i : ImportItem) → Ordered K (import_piece i)
+  unfolding import_piece import_inner
+  o-import i = o-declaring K sorts.Import (n-headed K (h-before K _ (h-tells K _ (l-both K (l-token K) (o-there K (λ m. both token token) i.of (λ m. o-both K (o-token K) (o-token K)))))) (λ c k by e. K.imports k by _ _ e refl refl))
+
+  o-part : {Y : Type 0} (f : Y → Piece) (ys : List Y) → ((y : Y) → Ordered K (f y)) → Ordered K (told_part f ys)
+  o-part f ys w = o-both K (o-token K) (o-each K (λ y. both (f y) token) ys (λ y. o-both K (w y) (o-token K)))
+
+  o-end : (own : Context → ℕ → Rows) → ((c : Context) (k : ℕ) → Lined K.number K.next k (k + 1) (K.of (own c k))) → Ordered K (tells own token)
+  o-end own t = o-headed K (h-tells K own (l-token K)) t
+
+  abbrev HeldDeclarations : Declarations → Type 0
+  HeldDeclarations t = Ordered K (declarations_piece t)
+
+  abbrev HeldProcDecl : ProcDecl → Type 0
+  HeldProcDecl t = Ordered K (procedure_piece t)
+
+  abbrev WithDeclarations : Type 0
+  WithDeclarations = Declarations-F (With HeldDeclarations) (With HeldProcDecl)
+
+  abbrev declarations_of : WithDeclarations → Declarations-F Declarations ProcDecl
+  declarations_of = map-Declarations (With HeldDeclarations) (With HeldProcDecl) Declarations ProcDecl (λ e. e.0) (λ e. e.0)
+
+  abbrev WithProcDecl : Type 0
+  WithProcDecl = ProcDecl-F (With HeldDeclarations) (With HeldProcDecl)
+
+  abbrev procedure_of : WithProcDecl → ProcDecl-F Declarations ProcDecl
+  procedure_of = map-ProcDecl (With HeldDeclarations) (With HeldProcDecl) Declarations ProcDecl (λ e. e.0) (λ e. e.0)
+
+  abbrev declarations_told : Declarations-F Declarations ProcDecl → Piece
+  declarations_told d =
+      both (there (λ v. told_part const_piece v.items) d.constants) (
+      both (there (λ v. told_part type_decl_piece v.items) d.types) (
+      both (there (λ v. told_part variable_piece v.items) d.variables) (pieces (λ p. both (procedure_piece p) token) d.procedures.items)))
+
+  declarations_held : (y : WithDeclarations) → Ordered K (declarations_told (declarations_of y))
+  declarations_held y =
+      o-both K (o-there K (λ v. told_part const_piece v.items) y.constants (λ v. o-part const_piece v.items o-const))
+      (o-both K (o-there K (λ v. told_part type_decl_piece v.items) y.types (λ v. o-part type_decl_piece v.items o-type_decl))
+      (o-both K (o-there K (λ v. told_part variable_piece v.items) y.variables (λ v. o-part variable_piece v.items o-variables))
+      (o-map K (λ p. both (procedure_piece p) token) _ y.procedures.items (λ p. o-both K p.1 (o-token K)))))
+
+  abbrev procedure_told : ProcDecl-F Declarations ProcDecl → Piece
+  procedure_told p = declaring sorts.Procedure (opening (
+      both token (both (identdef_piece p.name) (both (there parameters_piece p.parameters) (both token
+      (both (declarations_piece p.declarations) (both (there (λ b. both token (block_piece b.value)) p.body)
+      (both (there (λ e. both token (expr_piece e.value)) p.returned) (both token (tells procedure_end token))))))))))
+
+  procedure_held : (y : WithProcDecl) → Ordered K (procedure_told (procedure_of y))
+  procedure_held y = o-declaring K sorts.Procedure (n-headed K (h-tells K _ (l-within K in_block (
+      l-both K (l-token K) (o-both K (o-identdef K y.name) (o-both K (o-there K parameters_piece y.parameters (o-parameters K)) (o-both K (o-token K)
+      (o-both K y.declarations.1 (o-both K (o-there K (λ b. both token (block_piece b.value)) y.body (λ b. o-both K (o-token K) (o-block K b.value)))
+      (o-both K (o-there K (λ e. both token (expr_piece e.value)) y.returned (λ e. o-both K (o-token K) (o-expr K e.value)))
+      (o-both K (o-token K) (o-end procedure_end (λ c k. K.end k _ refl))))))))))))
+      (λ c k by e. K.procedure k by _ e refl))
+
+  declarations_step : (x : Declarations-F Declarations ProcDecl) (y : WithDeclarations) → declarations_of y ≡ x → HeldDeclarations (roll-Declarations x)
+  declarations_step x y is = o-is K (told.declarations_out (roll-Declarations x) ∙ ap (λ (z : Declarations-F Declarations ProcDecl). declarations_told z) (out-roll-Declarations x ∙ sym is)) (declarations_held y)
+
+  procedure_step : (x : ProcDecl-F Declarations ProcDecl) (y : WithProcDecl) → procedure_of y ≡ x → HeldProcDecl (roll-ProcDecl x)
+  procedure_step x y is = o-is K (told.procedure_told (roll-ProcDecl x) ∙ ap (λ (z : ProcDecl-F Declarations ProcDecl). procedure_told z) (out-roll-ProcDecl x ∙ sym is)) (procedure_held y)
+
+  o-declarations : (d : Declarations) → Ordered K (declarations_piece d)
+  o-declarations = ind-Declarations HeldDeclarations HeldProcDecl declarations_step procedure_step
+
+  o-imports : (l : OneOrMore ImportItem) → Ordered K (imports_piece l)
+  unfolding imports_piece
+  o-imports l = o-both K (o-token K) (o-both K (o-import l.first) (o-both K (o-each K (λ i. both token (import_piece i)) l.rest.items (λ i. o-both K (o-token K) (o-import i))) (o-token K)))
+
+  o-module : (m : Module) → Ordered K (module_piece m)
+  unfolding module_piece
+  o-module m =
+      o-both K (o-token K) (o-both K (o-token K) (o-both K (o-token K)
+      (o-both K (o-there K imports_piece m.imports o-imports)
+      (o-both K (o-declarations m.declarations) (o-both K (o-there K (λ b. both token (block_piece b)) m.body (λ b. o-both K (o-token K) (o-block K b)))
+      (o-both K (o-token K) (o-both K (o-end module_end (λ c k. K.end k _ refl)) (o-token K))))))))
+
+  module_lined : (m : Module) → Lined K.number K.next 0 (0 + (module_piece m).width) (K.of (rows_of m))
+  module_lined m = (o-module m).lined outermost 0
+
+-- each list but the forms is in the order of the tokens
+pub record AreLined (r : Rows) : Type 0 where
+  pub declarers : AscendBy (λ (x : DeclarerRow). x.first) r.declarers
+  pub declared : AscendBy (λ (x : DeclaredRow). x.number) r.declared
+  pub uses : AscendBy (λ (x : UsedRow). x.number) r.uses
+  pub blocks : AscendBy (λ (x : BlockRow). x.first) r.blocks
+  pub imports : AscendBy (λ (x : ImportRow). x.alias) r.imports
+  pub parts : AscendBy (λ (x : FormPartRow). x.number) r.parts
+  pub records : AscendBy (λ (x : RecordRow). x.number) r.records
+  pub designators : AscendBy (λ (x : DesignatorRow). x.head) r.designators
+  pub selectors : RiseBy (λ (x : SelectorRow). x.of) r.selectors
+  pub ends : AscendBy (λ (x : EndRow). x.number) r.ends
+
+pub rows_lined : (m : Module) → AreLined (rows_of m)
+unfolding declarers_kind declared_kind uses_kind blocks_kind imports_kind parts_kind records_kind designators_kind ends_kind selectors_kind
+rows_lined m = record {
+  declarers = ascends (λ (x : DeclarerRow). x.first) 0 (0 + (module_piece m).width) (rows_of m).declarers (module_lined declarers_kind m);
+  declared = ascends (λ (x : DeclaredRow). x.number) 0 (0 + (module_piece m).width) (rows_of m).declared (module_lined declared_kind m);
+  uses = ascends (λ (x : UsedRow). x.number) 0 (0 + (module_piece m).width) (rows_of m).uses (module_lined uses_kind m);
+  blocks = ascends (λ (x : BlockRow). x.first) 0 (0 + (module_piece m).width) (rows_of m).blocks (module_lined blocks_kind m);
+  imports = ascends (λ (x : ImportRow). x.alias) 0 (0 + (module_piece m).width) (rows_of m).imports (module_lined imports_kind m);
+  parts = ascends (λ (x : FormPartRow). x.number) 0 (0 + (module_piece m).width) (rows_of m).parts (module_lined parts_kind m);
+  records = ascends (λ (x : RecordRow). x.number) 0 (0 + (module_piece m).width) (rows_of m).records (module_lined records_kind m);
+  designators = ascends (λ (x : DesignatorRow). x.head) 0 (0 + (module_piece m).width) (rows_of m).designators (module_lined designators_kind m);
+  selectors = rises (λ (x : SelectorRow). x.of) 0 (0 + (module_piece m).width) (rows_of m).selectors (module_lined selectors_kind m);
+  ends = ascends (λ (x : EndRow). x.number) 0 (0 + (module_piece m).width) (rows_of m).ends (module_lined ends_kind m);
+}
+
+-- and so is a draft that has them, whose forms stand together
+pub all_in_order : (m : Module) (r : Rows) → r ≡ rows_of m → RiseBy (λ (x : FormPartRow). x.declared_by) r.parts → AreInOrder r
+all_in_order m r is forms =
+    let h : AreLined r = subst AreLined (sym is) (rows_lined m) in
+    record {
+      declarers = h.declarers;
+      declared = h.declared;
+      uses = h.uses;
+      blocks = h.blocks;
+      imports = h.imports;
+      parts = h.parts;
+      forms = forms;
+      records = h.records;
+      designators = h.designators;
+      selectors = h.selectors;
+      ends = h.ends;
+    }
