@@ -4,9 +4,7 @@ ghost use Rattle.std.specs.Prelude.{◌≡◌, ℕ, Contains, IfOk, IfSome, IfNo
 ghost use Rattle.std.specs.List.{filter};
 ghost use Rattle.ob_decls.specs.Order.{AscendBy, HasNoneBy, IsPlaceBy, RiseBy};
 
-use crate::rows::{
-    Block, Declared, Declarer, Designator, End, FormPart, Import, Record, Selector, Used,
-};
+use crate::rows::{Declared, Declarer, FormPart, Record, Selector};
 use std::alloc::AllocError;
 
 /// A row with the number by which it stands in its list.
@@ -41,55 +39,7 @@ impl Numbered for Declared {
     }
 }
 
-impl Numbered for Used {
-    ghost number_in = { λ row. row.number };
-
-    fn key(&self) -> u32 {
-        self.number
-    }
-}
-
-impl Numbered for Block {
-    ghost number_in = { λ row. row.first };
-
-    fn key(&self) -> u32 {
-        self.first
-    }
-}
-
-impl Numbered for Import {
-    ghost number_in = { λ row. row.alias };
-
-    fn key(&self) -> u32 {
-        self.alias
-    }
-}
-
-impl Numbered for FormPart {
-    ghost number_in = { λ row. row.number };
-
-    fn key(&self) -> u32 {
-        self.number
-    }
-}
-
 impl Numbered for Record {
-    ghost number_in = { λ row. row.number };
-
-    fn key(&self) -> u32 {
-        self.number
-    }
-}
-
-impl Numbered for Designator {
-    ghost number_in = { λ row. row.head };
-
-    fn key(&self) -> u32 {
-        self.head
-    }
-}
-
-impl Numbered for End {
     ghost number_in = { λ row. row.number };
 
     fn key(&self) -> u32 {
