@@ -16,7 +16,7 @@ if command -v protoc >/dev/null; then
   protoc --proto_path="$here" --decode=wire.Index "$here/index.proto" <"$work/editor.out" >"$work/editor.txt"
   echo "protoc reads the editor's index: $(grep -c '^documents' "$work/editor.txt") documents, $(grep -c 'occurrences {' "$work/editor.txt") occurrences"
 fi
-g++ -O2 -std=c++17 -o "$work/indexer" "$here/indexer.cpp"
+g++ -O2 -std=c++17 -pthread -o "$work/indexer" "$here/indexer.cpp"
 for shape in files graph large; do
   mkdir "$work/$shape"
   python3 "$here/modules.py" "$shape" "$work/$shape"
@@ -24,8 +24,8 @@ for shape in files graph large; do
   for run in 1 2 3; do
     for workers in 1 4; do
       /usr/bin/time -f "$shape oscip-$workers %e %M $bytes" "$oscip" index --workers $workers "$work/$shape" "$work/out" 2>>"$work/times"
+      /usr/bin/time -f "$shape c++-$workers %e %M $bytes" "$work/indexer" "$work/$shape" "$work/other" $workers 2>>"$work/times"
     done
-    /usr/bin/time -f "$shape c++ %e %M $bytes" "$work/indexer" "$work/$shape" "$work/other" 2>>"$work/times"
     /usr/bin/time -f "$shape wc %e %M $bytes" sh -c 'cat "$1"/* | wc >/dev/null' sh "$work/$shape" 2>>"$work/times"
     if command -v ctags >/dev/null; then
       /usr/bin/time -f "$shape ctags %e %M $bytes" ctags -f - --language-force=Pascal -R "$work/$shape" 2>>"$work/times" >/dev/null
@@ -35,6 +35,6 @@ done
 sort "$work/times" | awk '
   { key = $1 " " $2; if (!(key in least) || $3 < least[key]) { least[key] = $3; memory[key] = $4 * 1024 / $5 } shapes[$1] }
   function over(key, other) { return other in least && least[other] > 0 ? sprintf("%.1f", least[key] / least[other]) : "-" }
-  END { for (s in shapes) printf "%s: one worker over C++ %s, ctags %s, reading %s, four workers over one %.2f, %.0f bytes of memory a byte of source (C++ %.0f), %.2f s\n", s,
-    over(s " oscip-1", s " c++"), over(s " oscip-1", s " ctags"), over(s " oscip-1", s " wc"), least[s " oscip-4"] / least[s " oscip-1"],
-    memory[s " oscip-1"], memory[s " c++"], least[s " oscip-1"] }'
+  END { for (s in shapes) printf "%s: one worker over C++ %s, ctags %s, reading %s, four workers over one %.2f, over four threads of C++ %s, %.0f bytes of memory a byte of source (C++ %.0f), %.2f s\n", s,
+    over(s " oscip-1", s " c++-1"), over(s " oscip-1", s " ctags"), over(s " oscip-1", s " wc"), least[s " oscip-4"] / least[s " oscip-1"], over(s " oscip-4", s " c++-4"),
+    memory[s " oscip-1"], memory[s " c++-1"], least[s " oscip-1"] }'

@@ -1,7 +1,8 @@
 // A plain indexer of Oberon-07 modules, to time the program against: it resolves heads of designators and qualified names alone, with
 // the usual containers of C++, knows no field behind a dot, looks at no limit, and proves nothing.
-// Usage: indexer FOLDER OUT
+// Usage: indexer FOLDER OUT [THREADS]
 #include <algorithm>
+#include <atomic>
 #include <cstdint>
 #include <cstdio>
 #include <cstdlib>
@@ -11,6 +12,7 @@
 #include <sstream>
 #include <string>
 #include <string_view>
+#include <thread>
 #include <unordered_map>
 #include <unordered_set>
 #include <vector>
@@ -361,9 +363,23 @@ void number(string& out, int field, uint64_t n) {
   if (n) varint(out, field * 8), varint(out, n);
 }
 
-int main(int, char** words) {
+// Calls f with each number below the count, by so many threads.
+template <class F>
+void for_each(size_t count, int threads, F f) {
+  std::atomic<size_t> next{0};
+  auto run = [&] {
+    for (size_t at; (at = next++) < count;) f(at);
+  };
+  vector<std::thread> others;
+  for (int k = 1; k < threads; k++) others.emplace_back(run);
+  run();
+  for (auto& it : others) it.join();
+}
+
+int main(int count, char** words) {
   vector<Module> modules;
   string root = words[1];
+  int threads = count > 3 ? atoi(words[3]) : 1;
   for (auto& it : fs::recursive_directory_iterator(root))
     if (it.path().extension() == ".Mod" || it.path().extension() == ".mod") {
       std::ifstream in(it.path(), std::ios::binary);
@@ -375,18 +391,22 @@ int main(int, char** words) {
     }
   std::sort(modules.begin(), modules.end(), [](auto& a, auto& b) { return a.path < b.path; });
   std::unordered_map<string_view, Module*> by_name;
-  for (auto& m : modules) {
+  for_each(modules.size(), threads, [&](size_t at) {
+    auto& m = modules[at];
     m.scan();
     m.module();
-    by_name[m.name] = &m;
     for (auto* d : m.decls)
       if (d->star && !d->local && d->sort != Field) m.exported[m.word(d->token)] = d;
-  }
+  });
+  for (auto& m : modules) by_name[m.name] = &m;
   string index, metadata, tool;
   part(tool, 1, "plain"), part(tool, 2, "1"), part(metadata, 2, tool), number(metadata, 4, 1), part(index, 1, metadata);
-  std::map<string, string> externals;
+  vector<string> documents(modules.size());
+  vector<std::map<string, string>> outside(modules.size());
   const string front = "scip-oberon . . . ";
-  for (auto& m : modules) {
+  for_each(modules.size(), threads, [&](size_t at) {
+    auto& m = modules[at];
+    auto& externals = outside[at];
     vector<uint32_t> lines{0};
     for (size_t i = 0; i < m.text.size(); i++)
       if (m.text[i] == '\n') lines.push_back(i + 1);
@@ -441,7 +461,12 @@ int main(int, char** words) {
     }
     document += symbols;
     part(document, 4, "Oberon"), number(document, 6, 1);
-    part(index, 2, document);
+    documents[at] = std::move(document);
+  });
+  std::map<string, string> externals;
+  for (size_t at = 0; at < modules.size(); at++) {
+    part(index, 2, documents[at]);
+    externals.insert(outside[at].begin(), outside[at].end());
   }
   for (auto& [text, name] : externals) {
     string scratch;
