@@ -3,7 +3,7 @@ use Rattle.std.proofs.Common.{◌≡◌, ◌<◌, ℕ, Bool, true, false, List, 
 use Rattle.std.specs.Prelude.{Option, slice_index}
 use Rattle.std.proofs.lemmas.Bool.{cases_lt}
 use Rattle.std.proofs.Math.ListN.{get_or-map}
-use Rattle.std.proofs.lemmas.List.{get_or_past, map-set}
+use Rattle.std.proofs.lemmas.List.{get_or_past}
 use Rattle.work_board.specs.declared.state.State.{State}
 use Rattle.work_board.specs.declared.state.State.TheVariants.{Waiting, Free, Claimed, Delivered}
 use Rattle.work_board.specs.declared.claim.Claim.{Claim}
@@ -120,11 +120,11 @@ module _ {E : Type 0} (is_of : List ℕ → E → Type 0) (g : Modules) (waiting
   )
   claims_other abandoned going (Module n) look other = absurd (other n refl)
 
-  pub claims_module : (abandoned : Bool) → abandoned ≡ false → (n : ℕ) → IsLook states (Module n)
-      → IsClaim g.imports (core_of entries states abandoned) (Module n) (core_of entries (set states n Claimed) abandoned)
-  claims_module abandoned going n look = (
+  pub claims_module : (abandoned : Bool) → abandoned ≡ false → (n : ℕ) → IsLook states (Module n) → (core : Core E)
+      → core ≡ record (core_of entries states abandoned) { claimed = set (map taken states) n true } → IsClaim g.imports (core_of entries states abandoned) (Module n) core
+  claims_module abandoned going n look core is = (
     not_over abandoned going n look.0 (λ (e : state_at states n ≡ Delivered). let f : state_at states n ≡ Free = look.1 in cc),
     free_ready abandoned n look.0 look.1,
     (λ m ready. let f = ready_free abandoned m ready in elim (cases_lt m n) [ inl lt ↦ absurd (look.2 m lt f.1) | inr le ↦ le ]),
-    ap (λ (cs : List Bool). record (core_of entries states abandoned) { claimed = cs }) (map-set taken states n Claimed),
+    is,
   )

@@ -1,17 +1,16 @@
 -- A board with one entry more.
 use Rattle.std.proofs.Common.{◌≡◌, ◌<◌, ◌≤◌, ◌+◌, ℕ, zero, suc, Bool, true, false, List, [], ◌∷◌, length, map, set, refl, sym, ap, ◌∙◌, subst, arith, inl, inr}
-use Rattle.std.specs.Prelude.{◌↔◌, Option, None, Some, is_some, slice_index}
+use Rattle.std.specs.Prelude.{Option, None, Some, is_some, slice_index}
 use Rattle.std.proofs.lemmas.Bool.{cases_eq}
 use Rattle.std.proofs.lemmas.List.{ext_get_or, get_or-set_same, get_or-set_other, length-map, length-set}
 use Rattle.std.proofs.Math.ListN.{get_or-map}
 use Rattle.work_board.specs.declared.state.State.{State}
 use Rattle.work_board.specs.declared.state.State.TheVariants.{Waiting, Free, Claimed, Delivered}
-use Rattle.work_board.specs.Graphs.{row_at, times, IsChain, IsGraph, Leads, Modules, Reaches}
+use Rattle.work_board.specs.Graphs.{row_at, times, IsGraph, Leads, Modules}
 use Rattle.work_board.specs.Cores.{entry_at, has_entry}
-use Rattle.work_board.specs.Marks.{marked, IsMet}
 use Rattle.work_board.specs.Keeping.{freed, state_at, taken, IsFit, IsKept, IsTold}
 use Rattle.work_board.proofs.Claiming.{told_zero, told_none}
-use Rattle.work_board.proofs.Counting.{open_zero, open_delivered}
+use Rattle.work_board.proofs.Counting.{open_delivered}
 
 pub told_freed : (s : State) (k less : ℕ) (there : Bool) → IsTold s k there → less ≤ k → IsTold (freed s less) less there
 told_freed Waiting k zero there told le = (refl, told.1)
@@ -49,29 +48,20 @@ module _ {E : Type 0} (is_of : List ℕ → E → Type 0) (g : Modules) (waiting
   pub none_there : has_entry entries n ≡ false
   none_there = told_none (state_at states n) (slice_index waiting n) (has_entry entries n) (kept.told n below) (λ (f : state_at states n ≡ Delivered). cc)
 
-  pub imports_there : (w : ℕ) → Leads g.imports n w → has_entry entries w ≡ true
-  imports_there w h = open_zero entries (row_at g.imports n) (sym (kept.count_open n below) ∙ none_open) w h
-
   new_there : has_entry (set entries n (Some e)) n ≡ true
   new_there = ap is_some (get_or-set_same entries n (Some e) None entries_below)
 
   old_there : (m : ℕ) → (m ≡ n → ⊥) → has_entry (set entries n (Some e)) m ≡ has_entry entries m
   old_there m other = ap is_some (get_or-set_other entries n m (Some e) None other)
 
-  from_chain : IsGraph g → (v : ℕ) → v < length g.names → (more : List ℕ) → IsChain g.imports n more v → IsMet reached (row_at g.imports n) v
-  from_chain graph v lt [] leads = (v, leads, inl refl)
-  from_chain graph v lt (w ∷ more) chain = (w, chain.0, inr ((kept.marks w v (member_below g graph n w chain.0) lt).1 (imports_there w chain.0, (more, chain.1))))
-
-  met_reaches : IsGraph g → (v : ℕ) → v < length g.names → IsMet reached (row_at g.imports n) v ↔ Reaches g.imports n v
-  met_reaches graph v lt = (
-    (λ met. elim met.2 [
-      | inl same ↦ let P : ℕ → Type 0 = Leads g.imports n in ([], subst P same met.1)
-      | inr mark ↦
-          let r = (kept.marks met.0 v (member_below g graph n met.0 met.1) lt).0 mark in
-          (met.0 ∷ r.1.0, (met.1, r.1.1))
-    ]),
-    (λ r. from_chain graph v lt r.0 r.1),
-  )
+  taken_same : (waiting' : List ℕ) (states' : List State)
+      → ((m : ℕ) → m < length waiting → state_at states' m ≡ freed (state_at (set states n Delivered) m) (slice_index waiting' m))
+      → (m : ℕ) → m < length waiting → taken (state_at states' m) ≡ taken (state_at states m)
+  taken_same waiting' states' told m lt =
+      ap taken (told m lt) ∙ taken_freed (state_at (set states n Delivered) m) (slice_index waiting' m) ∙ (elim (cases_eq m n) [
+        | inl same ↦ ap (λ k. taken (state_at (set states n Delivered) k)) same ∙ ap taken (get_or-set_same states n Delivered Waiting within) ∙ sym (ap taken at_n) ∙ sym (ap (λ k. taken (state_at states k)) same)
+        | inr other ↦ ap taken (get_or-set_other states n m Delivered Waiting other)
+      ])
 
   pub claimed_same : (waiting' : List ℕ) (states' : List State) → length states' ≡ length states
       → ((m : ℕ) → m < length waiting → state_at states' m ≡ freed (state_at (set states n Delivered) m) (slice_index waiting' m))
@@ -81,34 +71,22 @@ module _ {E : Type 0} (is_of : List ℕ → E → Type 0) (g : Modules) (waiting
       let l = length-map states' taken in
       let a = kept.states_size in
       let b = kept.waiting_size in
-      let one : taken (state_at states' m) ≡ taken (state_at (set states n Delivered) m) = ap taken (told m (omega arith)) ∙ taken_freed (state_at (set states n Delivered) m) (slice_index waiting' m) in
-      get_or-map taken states' m Waiting ∙ one ∙ (elim (cases_eq m n) [
-        | inl same ↦ ap (λ k. taken (state_at (set states n Delivered) k)) same ∙ ap taken (get_or-set_same states n Delivered Waiting within) ∙ sym (ap taken at_n) ∙ sym (ap (λ k. taken (state_at states k)) same)
-        | inr other ↦ ap taken (get_or-set_other states n m Delivered Waiting other)
-      ]) ∙ sym (get_or-map taken states m Waiting))
+      get_or-map taken states' m Waiting ∙ taken_same waiting' states' told m (omega arith) ∙ sym (get_or-map taken states m Waiting))
 
-  pub delivered_kept : IsGraph g → (waiting' : List ℕ) (states' : List State) (reached' : List (List Bool)) (spare' : List Bool) (importers : List ℕ)
-      → length waiting' ≡ length waiting → length states' ≡ length states → length reached' ≡ length reached → length spare' ≡ length spare
+  pub delivered_kept : (waiting' : List ℕ) (states' : List State) (importers : List ℕ)
+      → length waiting' ≡ length waiting → length states' ≡ length states
       → ((m : ℕ) → times m importers ≡ times n (row_at g.imports m))
       → ((m : ℕ) → m < length waiting → slice_index waiting' m + times m importers ≡ slice_index waiting m)
       → ((m : ℕ) → m < length waiting → state_at states' m ≡ freed (state_at (set states n Delivered) m) (slice_index waiting' m))
-      → ((m : ℕ) → (m ≡ n → ⊥) → row_at reached' m ≡ row_at reached m)
-      → ((v : ℕ) → v < length spare → (marked (row_at reached' n) v ≡ true) ↔ IsMet reached (row_at g.imports n) v)
-      → length (row_at reached' n) ≡ length spare
-      → ((v : ℕ) → marked spare' v ≡ false)
       → is_of (row_at g.names n) e
-      → IsKept is_of g waiting' states' reached' spare' (set entries n (Some e))
-  delivered_kept graph waiting' states' reached' spare' importers w_size s_size r_size p_size turned counts tells others filled long clear own = record {
+      → IsKept is_of g waiting' states' reached spare (set entries n (Some e))
+  delivered_kept waiting' states' importers w_size s_size turned counts tells own = record {
     entries_size = length-set entries n (Some e) ∙ kept.entries_size;
     waiting_size = w_size ∙ kept.waiting_size;
     states_size = s_size ∙ kept.states_size;
-    reached_size = r_size ∙ kept.reached_size;
-    spare_size = p_size ∙ kept.spare_size;
-    width = λ m lt. elim (cases_eq m n) [
-      | inl same ↦ ap (λ k. length (row_at reached' k)) same ∙ long ∙ kept.spare_size
-      | inr other ↦ ap length (others m other) ∙ kept.width m lt
-    ];
-    spare_clear = clear;
+    reached_size = kept.reached_size;
+    spare_size = kept.spare_size;
+    width = kept.width;
     count_open = λ m lt.
         let a = open_delivered entries n e (row_at g.imports m) entries_below none_there in
         let b = kept.count_open m lt in
@@ -138,18 +116,9 @@ module _ {E : Type 0} (is_of : List ℕ → E → Type 0) (g : Modules) (waiting
           subst P equal (rw same own)
       | inr other ↦ kept.own m f (sym (get_or-set_other entries n m (Some e) None other) ∙ is)
     ];
-    marks = λ m v lt lv.
-        let size = kept.spare_size in
-        elim (cases_eq m n) [
-          | inl same ↦
-              let met = filled v (omega arith) in
-              let reaches = met_reaches graph v lv in
-              rw (same, new_there) (
-                (λ mark. (refl, reaches.0 (met.0 mark))),
-                (λ both. met.1 (reaches.1 both.1)),
-              )
-          | inr other ↦ rw (others m other, old_there m other) (kept.marks m v lt lv)
-        ];
+    marks = λ m v lt lv is_taken.
+        let size = kept.waiting_size in
+        kept.marks m v lt lv (sym (taken_same waiting' states' tells m (omega arith)) ∙ is_taken);
   }
 
   pub fits : (m : ℕ) → m < length waiting → IsFit (state_at (set states n Delivered) m) (slice_index waiting m)

@@ -5,6 +5,7 @@ pub mod Claiming
 pub mod Marking
 pub mod Delivering
 pub mod Reaching
+pub mod Holding
 pub mod Opening
 pub mod Turning
 pub mod Descending

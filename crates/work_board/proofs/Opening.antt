@@ -75,12 +75,10 @@ opened {E = E} is_of g counts size counted rows =
       reached_size = length-replicate n (replicate n false);
       spare_size = length-replicate n false;
       width = λ m lt. ap length (row m lt) ∙ length-replicate n false;
-      spare_clear = λ v. constant n v false;
       count_open = λ m lt. counted m lt ∙ sym (all_open E n (row_at g.imports m));
       told = λ m lt. rw (at m lt, none_yet E n m) (first_told (slice_index counts m));
       own = λ m e is. let nothing_m = nothing E n m in cc;
-      marks = λ m v lt lv.
-          let none : marked (row_at (replicate n (replicate n false)) m) v ≡ false = ap (λ r. marked r v) (row m lt) ∙ constant n v false in
-          let no_entry = none_yet E n m in
-          ((λ e. cc), (λ both. let e = both.0 in cc));
+      marks = λ m v lt lv is_taken.
+          let f : taken (state_at (map (freed Waiting) counts) m) ≡ false = ap taken (at m lt) ∙ first_taken (slice_index counts m) in
+          cc;
     }

@@ -4,8 +4,8 @@ use Rattle.std.specs.Prelude.{◌↔◌, Option, slice_index}
 use Rattle.work_board.specs.declared.state.State.{State}
 use Rattle.work_board.specs.declared.state.State.TheVariants.{Waiting}
 use Rattle.work_board.specs.Graphs.{row_at, IsChain, IsGraph, Leads, Modules, Reaches}
-use Rattle.work_board.specs.Cores.{has_entry, is_claimed}
-use Rattle.work_board.specs.Marks.{IsMet}
+use Rattle.work_board.specs.Cores.{has_entry, is_claimed, shares_of, AreShares}
+use Rattle.work_board.specs.Marks.{marked, IsMet}
 use Rattle.work_board.specs.Keeping.{state_at, taken, IsKept}
 use Rattle.work_board.proofs.Claiming.{claimed_is, core_of, stated_within, told_delivered, told_zero}
 use Rattle.work_board.proofs.Counting.{open_zero}
@@ -36,18 +36,38 @@ module _ {E : Type 0} (is_of : List ℕ → E → Type 0) (g : Modules) (waiting
   reaches_there graph abandoned n v claimed r =
       chain_there graph n v r.0 (sym (claimed_is is_of g waiting states reached spare entries kept abandoned n) ∙ claimed) r.1
 
+  -- the row of an import that is delivered
+  import_marks : IsGraph g → (n : ℕ) → n < length g.names → slice_index waiting n ≡ 0 → (w : ℕ) → Leads g.imports n w → (v : ℕ) → v < length g.names
+      → (marked (row_at reached w) v ≡ true) ↔ Reaches g.imports w v
+  import_marks graph n below zero w leads v lt =
+      kept.marks w v (member_below g graph n w leads) lt (entry_taken graph n w leads (imports_of n below zero w leads))
+
   from_chain : IsGraph g → (n : ℕ) → n < length g.names → slice_index waiting n ≡ 0 → (v : ℕ) → v < length g.names → (more : List ℕ) → IsChain g.imports n more v → IsMet reached (row_at g.imports n) v
   from_chain graph n below zero v lt [] leads = (v, leads, inl refl)
-  from_chain graph n below zero v lt (w ∷ more) chain = (w, chain.0, inr ((kept.marks w v (member_below g graph n w chain.0) lt).1 (imports_of n below zero w chain.0, (more, chain.1))))
+  from_chain graph n below zero v lt (w ∷ more) chain = (w, chain.0, inr ((import_marks graph n below zero w chain.0 v lt).1 (more, chain.1)))
 
-  pub meets : IsGraph g → (n : ℕ) → taken (state_at states n) ≡ true → (v : ℕ) → v < length g.names → IsMet reached (row_at g.imports n) v ↔ Reaches g.imports n v
-  meets graph n is_taken v lt =
-      let z = taken_zero n is_taken in (
-        (λ met. elim met.2 [
-          | inl same ↦ let P : ℕ → Type 0 = Leads g.imports n in ([], subst P same met.1)
-          | inr mark ↦
-              let r = (kept.marks met.0 v (member_below g graph n met.0 met.1) lt).0 mark in
-              (met.0 ∷ r.1.0, (met.1, r.1.1))
-        ]),
-        (λ r. from_chain graph n z.0 z.1 v lt r.0 r.1),
-      )
+  -- of a module without open imports
+  pub meets : IsGraph g → (n : ℕ) → n < length g.names → slice_index waiting n ≡ 0 → (v : ℕ) → v < length g.names → IsMet reached (row_at g.imports n) v ↔ Reaches g.imports n v
+  meets graph n below zero v lt = (
+    (λ met. elim met.2 [
+      | inl same ↦ let P : ℕ → Type 0 = Leads g.imports n in ([], subst P same met.1)
+      | inr mark ↦
+          let r = (import_marks graph n below zero met.0 met.1 v lt).0 mark in
+          (met.0 ∷ r.0, (met.1, r.1))
+    ]),
+    (λ r. from_chain graph n below zero v lt r.0 r.1),
+  )
+
+  -- the parts that the row of a claimed module tells
+  pub shares_told : {X : Type 0} (f : E → X) → IsGraph g → (abandoned : Bool) (n : ℕ) → taken (state_at states n) ≡ true → (parts : List X) → parts ≡ shares_of f (row_at reached n) entries
+      → AreShares f g.imports (core_of entries states abandoned) n parts
+  shares_told f graph abandoned n is_taken parts are =
+      let z = taken_zero n is_taken in
+      let size = kept.entries_size in
+      record {
+        marks = row_at reached n;
+        size = kept.width n z.0 ∙ sym size;
+        reached = λ v lt. kept.marks n v z.0 (omega arith) is_taken;
+        there = λ v r. chain_there graph n v r.0 is_taken r.1;
+        parts_are = are;
+      }

@@ -1,5 +1,5 @@
 -- A board whose workers are gone.
-use Rattle.std.proofs.Common.{◌≡◌, ℕ, Bool, false, List, length, map, sym, ap, ◌∙◌, arith}
+use Rattle.std.proofs.Common.{◌≡◌, ℕ, Bool, true, false, List, length, map, refl, sym, ap, ◌∙◌, arith}
 use Rattle.std.specs.Prelude.{Option, None, is_some, slice_index}
 use Rattle.std.proofs.lemmas.List.{ext_get_or, length-map}
 use Rattle.std.proofs.Math.ListN.{get_or-map}
@@ -21,6 +21,13 @@ taken_let_go Free k there told = sym told.1
 taken_let_go Claimed k there told = sym told.1
 taken_let_go Delivered k there told = sym told.1
 
+-- what is still taken was taken before
+taken_before : (s : State) → taken (let_go s) ≡ true → taken s ≡ true
+taken_before Waiting is_so = cc
+taken_before Free is_so = cc
+taken_before Claimed is_so = refl
+taken_before Delivered is_so = refl
+
 pub state_let_go : (states : List State) (n : ℕ) → state_at (map let_go states) n ≡ let_go (state_at states n)
 state_let_go states n = get_or-map let_go states n Waiting
 
@@ -37,11 +44,10 @@ module _ {E : Type 0} (is_of : List ℕ → E → Type 0) (g : Modules) (waiting
     reached_size = kept.reached_size;
     spare_size = kept.spare_size;
     width = kept.width;
-    spare_clear = kept.spare_clear;
     count_open = kept.count_open;
     told = λ m lt. rw (state_let_go states m) (told_let_go (state_at states m) (slice_index waiting m) (has_entry entries m) (kept.told m lt));
     own = kept.own;
-    marks = kept.marks;
+    marks = λ m v lt lv is_taken. kept.marks m v lt lv (taken_before (state_at states m) (ap taken (sym (state_let_go states m)) ∙ is_taken));
   }
 
   pub back_claimed : map taken (map let_go states) ≡ map is_some entries

@@ -51,11 +51,10 @@ module _ {E : Type 0} (is_of : List ℕ → E → Type 0) (g : Modules) where
     pub reached_size : length reached ≡ length g.names
     pub spare_size : length spare ≡ length g.names
     pub width : (n : ℕ) → n < length g.names → length (row_at reached n) ≡ length g.names
-    pub spare_clear : (v : ℕ) → marked spare v ≡ false
     pub count_open : (m : ℕ) → m < length g.names → slice_index waiting m ≡ open_of entries (row_at g.imports m)
     pub told : (m : ℕ) → m < length g.names → IsTold (state_at states m) (slice_index waiting m) (has_entry entries m)
     pub own : AreOf is_of g.names entries
-    pub marks : (m v : ℕ) → m < length g.names → v < length g.names → (marked (row_at reached m) v ≡ true) ↔ ((has_entry entries m ≡ true) × Reaches g.imports m v)
+    pub marks : (m v : ℕ) → m < length g.names → v < length g.names → taken (state_at states m) ≡ true → (marked (row_at reached m) v ≡ true) ↔ Reaches g.imports m v
 
 -- what a release leaves of a state, by the count that is left
 abbrev pub freed : State → ℕ → State

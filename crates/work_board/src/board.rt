@@ -1,11 +1,11 @@
-//! The board: what is claimed, what is delivered, and what each delivered module reaches.
+//! The board: what is claimed, what is delivered, and what each claimed module reaches.
 ghost use Rattle.std.specs.Prelude.{◌≡◌, ◌<◌, ◌≤◌, ◌+◌, ◌⊎◌, ◌↔◌, ℕ, true, false, length, map, replicate, All, IfOk, IfErr, IfSome, OnOk, [], ◌∷◌, ◌++◌, slice_index, slice_set, None, Some};
 ghost use Rattle.std.specs.Arc.{arc_value};
-ghost use Rattle.work_board.specs.Graphs.{row_at, times, IsAcyclic, Reaches};
+ghost use Rattle.work_board.specs.Graphs.{lists, row_at, times, IsAcyclic, Reaches};
 ghost use Rattle.work_board.specs.Cores.{abandoned_after, entry_at, has_entry, is_claimed, new_core, shares_of, taken_back, AreOf, AreShares, IsClaim, IsDelivery, IsIdle, IsOver, IsReady, IsRefusal};
 ghost use Rattle.work_board.specs.Keeping.{freed, let_go, state_at, taken, IsFit, IsLook};
 
-use crate::marks::{clear_row, clear_rows, fill_row, marks_of};
+use crate::marks::{clear_row, clear_rows, fill_row};
 use crate::state::State;
 use crate::{BoardFault, Claim, Graph, NamedTree, WorkEntry};
 use std::alloc::{AllocError, Global};
@@ -23,9 +23,9 @@ pub struct Board<'g, T: NamedTree, E: WorkEntry> {
     states: Vec<State>,
     /// Per module how many of its imports aren't delivered.
     waiting: Vec<u32>,
-    /// Per delivered module what it reaches; the other rows are clear.
+    /// Per module that is claimed or delivered what it reaches. The other rows say nothing.
     reached: Vec<Vec<bool>>,
-    /// A clear row.
+    /// Room for a row that is made.
     spare: Vec<bool>,
     abandoned: bool,
     of: PhantomData<T>,
@@ -182,9 +182,18 @@ fn shares<E: WorkEntry>(
     Ok(parts)
 }
 
+/// The row of marks at this place.
+fn marks_at(rows: &[Vec<bool>], place: usize) -> &[bool]
+    requires { place < length rows.now }
+    ensures { result.now ≡ row_at (lists rows.now) place }
+{
+    rows[place].as_slice()
+}
+
 /// Whether a module is claimed, perhaps delivered too.
 fn is_taken(states: &[State], place: usize) -> bool
-    ensures { result ≡ taken (state_at states.now place) }
+    ensures taken { result ≡ taken (state_at states.now place) }
+    ensures within { result ≡ true → place < length states.now }
 {
     match state_of(states, place) {
         State::Waiting => false,
@@ -227,6 +236,7 @@ impl<'g, T: NamedTree, E: WorkEntry> Board<'g, T, E> {
         ensures own { AreOf E.is_of T.graph.names self.now.entries }
         ensures claimed { (n : ℕ) → has_entry self.now.entries n ≡ true → is_claimed self.now n ≡ true }
         ensures reached { (n v : ℕ) → is_claimed self.now n ≡ true → Reaches T.graph.imports n v → has_entry self.now.entries v ≡ true }
+        ensures marks { length self.now.claimed ≡ length T.graph.names }
         ensures goes_on { IsAcyclic T.graph.imports → IsIdle self.now → ((n : ℕ) → IsReady T.graph.imports self.now n → ⊥) → IsOver self.now }
     {
         self.graph.keeps();
@@ -250,13 +260,12 @@ impl<'g, T: NamedTree, E: WorkEntry> Board<'g, T, E> {
             return Err(BoardFault::NotClaimed);
         }
         self.graph.keeps();
-        let alloc = *self.entries.allocator();
-        let marks = marks_of(
-            alloc,
-            self.reached.as_slice(),
-            self.graph.imports_of(number),
-        )?;
-        Ok(shares(alloc, marks.as_slice(), self.entries.as_slice())?)
+        let marks = marks_at(self.reached.as_slice(), number as usize);
+        Ok(shares(
+            *self.entries.allocator(),
+            marks,
+            self.entries.as_slice(),
+        )?)
     }
 
     /// What a worker is to do next. The least ready module is claimed, unless all are delivered or one was abandoned.
@@ -269,9 +278,25 @@ impl<'g, T: NamedTree, E: WorkEntry> Board<'g, T, E> {
         self.graph.keeps();
         let claim = look(self.states.as_slice());
         if let Claim::Module { number } = claim {
-            self.states[number as usize] = State::Claimed;
+            self.hold(number);
         }
         claim
+    }
+
+    /// Claims a ready module. What it reaches is marked here, once for each claim.
+    fn hold(&mut self, number: u32)
+        requires { IsReady T.graph.imports self.old number }
+        ensures { self.new ≡ record self.old { claimed = slice_set self.old.claimed number true } }
+    {
+        self.graph.keeps();
+        let place = number as usize;
+        fill_row(
+            &mut self.reached,
+            &mut self.spare,
+            place,
+            self.graph.imports_of(number),
+        );
+        self.states[place] = State::Claimed;
     }
 
     /// Why this delivery is refused.
@@ -305,12 +330,6 @@ impl<'g, T: NamedTree, E: WorkEntry> Board<'g, T, E> {
     {
         self.graph.keeps();
         let place = number as usize;
-        fill_row(
-            &mut self.reached,
-            &mut self.spare,
-            place,
-            self.graph.imports_of(number),
-        );
         self.entries[place] = Some(entry);
         self.states[place] = State::Delivered;
         release(

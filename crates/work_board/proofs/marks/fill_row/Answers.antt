@@ -49,4 +49,4 @@ returns-clause-long c = ap length (here c) ∙ c.unite.auto.marks ∙ c.as_mut_s
 
 pub returns-clause-spare : goal.returns-clause-spare
 returns-clause-spare c =
-    (c.swap.new.x.ok.0 ∙ ap length (out c) ∙ c.requires.width c.args.place c.requires.place, (λ v. ap (λ r. marked r v) (out c) ∙ c.requires.empty v))
+    c.swap.new.x.ok.0 ∙ ap length (out c) ∙ c.requires.width c.args.place c.requires.place

@@ -14,7 +14,7 @@ add-requires c =
     let size = c.requires.size in
     let inside : w < length reached = omega arith in
     let row : row_at (lists reached) w ≡ c.as_slice.result.now = row_of reached w c.index-reached-w.result inside ∙ ap (λ r. r.items) (sym c.index-reached-w.is) ∙ sym c.as_slice.ensures.value in
-    ap length (sym row) ∙ c.requires.width w inside ∙ sym c.loop-w.auto.marks
+    ap length (sym row) ∙ c.requires.width w inside ∙ sym c.clear.auto.marks ∙ sym c.loop-w.auto.marks
 
 pub loop-w-preserved : goal.loop-w-preserved
 loop-w-preserved c =
@@ -27,6 +27,7 @@ loop-w-preserved c =
     let row : row_at (lists reached) w ≡ c.as_slice.result.now = row_of reached w c.index-reached-w.result inside ∙ ap (λ r. r.items) (sym c.index-reached-w.is) ∙ sym c.as_slice.ensures.value in
     let new = c.add.new.marks in
     let long = c.loop-w.auto.marks in
+    let cleared = c.clear.auto.marks in
     let long' = c.add.auto.marks in
     let within : w < length new = omega arith in
     λ v lt.

@@ -1,10 +1,9 @@
 use Rattle.std.proofs.Common.{◌≡◌, ◌<◌, ◌≤◌, ◌+◌, ℕ, Bool, true, false, List, ◌++◌, length, take, drop, map, set, sym, ap, ◌∙◌, subst, arith}
-use Rattle.std.specs.Prelude.{◌↔◌, slice_index, Some}
-use Rattle.std.proofs.lemmas.List.{length-map, length-set}
+use Rattle.std.specs.Prelude.{slice_index, Some}
+use Rattle.std.proofs.lemmas.List.{length-set}
 use Rattle.work_board.specs.declared.state.State.TheVariants.{Claimed, Delivered}
-use Rattle.work_board.specs.Graphs.{lists, row_at, times, IsGraph, Modules}
+use Rattle.work_board.specs.Graphs.{lists, row_at, times, Modules}
 use Rattle.work_board.specs.Cores.{has_entry, is_claimed}
-use Rattle.work_board.specs.Marks.{marked, IsMet}
 use Rattle.work_board.specs.Keeping.{freed, state_at, taken, IsFit, IsKept}
 use Rattle.work_board.proofs.Claiming.{claimed_state}
 use Rattle.work_board.proofs.Delivering.{claimed_same, counted, delivered_kept, fits}
@@ -62,20 +61,6 @@ at_end g c =
     let none = subst (λ core. has_entry core.entries c.args.number ≡ false) (sym c.self.view_is) c.requires.none in
     claimed_state g.E.WorkEntry.is_of g.T.NamedTree.graph b.waiting.items b.states.items (lists b.reached.items) b.spare.items b.entries.items c.self.invariant.1 b.abandoned c.args.number claimed none
 
-graph : (g : _) (c : goal.After-self-4-1 g) → IsGraph g.T.NamedTree.graph
-graph g c = subst IsGraph c.self.invariant.0 c.keeps.ensures
-
-r_size : (g : _) (c : goal.After-self-4-1 g) → length (lists c.fill_row.new.reached.items) ≡ length (lists c.self.inside.reached.items)
-r_size g c =
-    length-map c.fill_row.new.reached.items (λ r. r.items) ∙ sym c.fill_row.new.reached.ok.0 ∙ c.fill_row.ensures.size ∙ c.self.inside.reached.ok.0
-    ∙ sym (length-map c.self.inside.reached.items (λ r. r.items))
-
-p_size : (g : _) (c : goal.After-self-4-1 g) → length c.fill_row.new.spare.items ≡ length c.self.inside.spare.items
-p_size g c = sym c.fill_row.new.spare.ok.0 ∙ c.fill_row.ensures.spare.0 ∙ c.self.inside.spare.ok.0
-
-imports : (g : _) (c : goal.After-self-4-1 g) → c.imports_of.result.now ≡ row_at g.T.NamedTree.graph.imports c.args.number
-imports g c = c.imports_of.ensures ∙ ap (λ (t : Modules). row_at t.imports c.args.number) c.self.invariant.0
-
 turned_end : (g : _) (c : goal.After-self-4-1 g) (m : ℕ) → times m c.importers_of.result.now ≡ times c.args.number (row_at g.T.NamedTree.graph.imports m)
 turned_end g c m = c.importers_of.ensures.turned m ∙ ap (λ (t : Modules). times c.args.number (row_at t.imports m)) c.self.invariant.0
 
@@ -89,21 +74,14 @@ new_states g c =
     restored old.len c.release.new.states (set old.items c.args.number Delivered) (s_size g c ∙ sym (length-set old.items c.args.number Delivered))
     (old.ok.0 ∙ sym (length-set old.items c.args.number Delivered))
 
-filled : (g : _) (c : goal.After-self-4-1 g) (v : ℕ) → v < length c.self.inside.spare.items
-    → (marked (row_at (lists c.fill_row.new.reached.items) c.args.number) v ≡ true) ↔ IsMet (lists c.self.inside.reached.items) (row_at g.T.NamedTree.graph.imports c.args.number) v
-filled g c v lt =
-    let ok = c.self.inside.spare.ok.0 in
-    subst (λ row. (marked (row_at (lists c.fill_row.new.reached.items) c.args.number) v ≡ true) ↔ IsMet (lists c.self.inside.reached.items) row v) (imports g c) (c.fill_row.ensures.filled v (omega arith))
-
 kept : (g : _) (c : goal.After-self-4-1 g)
-    → IsKept g.E.WorkEntry.is_of g.T.NamedTree.graph c.release.new.waiting c.release.new.states (lists c.fill_row.new.reached.items) c.fill_row.new.spare.items (set c.self.inside.entries.items c.args.number (Some c.args.entry))
+    → IsKept g.E.WorkEntry.is_of g.T.NamedTree.graph c.release.new.waiting c.release.new.states (lists c.self.inside.reached.items) c.self.inside.spare.items (set c.self.inside.entries.items c.args.number (Some c.args.entry))
 kept g c =
     let b = c.self.inside in
     let at = at_end g c in
-    delivered_kept g.E.WorkEntry.is_of g.T.NamedTree.graph b.waiting.items b.states.items (lists b.reached.items) b.spare.items b.entries.items c.self.invariant.1 c.args.number c.args.entry at.0 at.1 (graph g c)
-    c.release.new.waiting c.release.new.states (lists c.fill_row.new.reached.items) c.fill_row.new.spare.items c.importers_of.result.now
-    (w_size g c) (s_size g c) (r_size g c) (p_size g c) (turned_end g c) (counts g c) (tells g c) c.fill_row.ensures.others (filled g c)
-    (c.fill_row.ensures.long ∙ b.spare.ok.0) c.fill_row.ensures.spare.1 c.requires.own
+    delivered_kept g.E.WorkEntry.is_of g.T.NamedTree.graph b.waiting.items b.states.items (lists b.reached.items) b.spare.items b.entries.items c.self.invariant.1 c.args.number c.args.entry at.0 at.1
+    c.release.new.waiting c.release.new.states c.importers_of.result.now
+    (w_size g c) (s_size g c) (turned_end g c) (counts g c) (tells g c) c.requires.own
 
 pub invariant_of-self : goal.invariant_of-self
 invariant_of-self g c = (c.self.invariant.0, rw (new_waiting g c, new_states g c) (kept g c))

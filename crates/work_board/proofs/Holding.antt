@@ -1,0 +1,63 @@
+-- A board with one module more claimed.
+use Rattle.std.proofs.Common.{◌≡◌, ◌<◌, ℕ, Bool, true, false, List, length, set, sym, ap, ◌∙◌, subst, arith, inl, inr}
+use Rattle.std.specs.Prelude.{◌↔◌, Option, slice_index}
+use Rattle.std.proofs.lemmas.Bool.{cases_eq}
+use Rattle.std.proofs.lemmas.List.{get_or-set_same, get_or-set_other, length-set}
+use Rattle.work_board.specs.declared.state.State.{State}
+use Rattle.work_board.specs.declared.state.State.TheVariants.{Waiting, Free, Claimed}
+use Rattle.work_board.specs.Graphs.{row_at, IsGraph, Modules}
+use Rattle.work_board.specs.Cores.{has_entry}
+use Rattle.work_board.specs.Marks.{marked, IsMet}
+use Rattle.work_board.specs.Keeping.{state_at, taken, IsKept, IsTold}
+use Rattle.work_board.proofs.Claiming.{told_zero}
+use Rattle.work_board.proofs.Reaching.{meets}
+
+module _ {E : Type 0} (is_of : List ℕ → E → Type 0) (g : Modules) (waiting : List ℕ) (states : List State) (reached : List (List Bool)) (spare : List Bool) (entries : List (Option E)) (kept : IsKept is_of g waiting states reached spare entries) (n : ℕ) (within : n < length states) (free : state_at states n ≡ Free) where
+  below : n < length g.names
+  below = let size = kept.states_size in omega arith
+
+  none_open : slice_index waiting n ≡ 0
+  none_open = told_zero (state_at states n) (slice_index waiting n) (has_entry entries n) (kept.told n below) (λ (f : state_at states n ≡ Waiting). cc)
+
+  told_held : IsTold Claimed (slice_index waiting n) (has_entry entries n)
+  told_held = subst (λ (s : State). IsTold s (slice_index waiting n) (has_entry entries n)) free (kept.told n below)
+
+  held_here : state_at (set states n Claimed) n ≡ Claimed
+  held_here = get_or-set_same states n Claimed Waiting within
+
+  held_away : (m : ℕ) → (m ≡ n → ⊥) → state_at (set states n Claimed) m ≡ state_at states m
+  held_away m other = get_or-set_other states n m Claimed Waiting other
+
+  pub held_kept : IsGraph g → (reached' : List (List Bool)) (spare' : List Bool)
+      → length reached' ≡ length reached → length spare' ≡ length spare
+      → ((m : ℕ) → (m ≡ n → ⊥) → row_at reached' m ≡ row_at reached m)
+      → ((v : ℕ) → v < length spare → (marked (row_at reached' n) v ≡ true) ↔ IsMet reached (row_at g.imports n) v)
+      → length (row_at reached' n) ≡ length spare
+      → IsKept is_of g waiting (set states n Claimed) reached' spare' entries
+  held_kept graph reached' spare' r_size p_size others filled long = record {
+    entries_size = kept.entries_size;
+    waiting_size = kept.waiting_size;
+    states_size = length-set states n Claimed ∙ kept.states_size;
+    reached_size = r_size ∙ kept.reached_size;
+    spare_size = p_size ∙ kept.spare_size;
+    width = λ m lt. elim (cases_eq m n) [
+      | inl same ↦ ap (λ k. length (row_at reached' k)) same ∙ long ∙ kept.spare_size
+      | inr other ↦ ap length (others m other) ∙ kept.width m lt
+    ];
+    count_open = kept.count_open;
+    told = λ m lt. elim (cases_eq m n) [
+      | inl same ↦ rw (same, held_here) told_held
+      | inr other ↦ rw (held_away m other) (kept.told m lt)
+    ];
+    own = kept.own;
+    marks = λ m v lt lv is_taken. elim (cases_eq m n) [
+      | inl same ↦
+          let size = kept.spare_size in
+          let met = filled v (omega arith) in
+          let reaches = meets is_of g waiting states reached spare entries kept graph n below none_open v lv in
+          rw same ((λ mark. reaches.0 (met.0 mark)), (λ chain. met.1 (reaches.1 chain)))
+      | inr other ↦
+          let before : taken (state_at states m) ≡ true = sym (ap taken (held_away m other)) ∙ is_taken in
+          rw (others m other) (kept.marks m v lt lv before)
+    ];
+  }
