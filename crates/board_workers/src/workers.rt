@@ -1,13 +1,15 @@
 //! Workers in threads of their own, at a board behind a lock.
-ghost use Rattle.std.specs.Prelude.{◌≡◌, map, IfOk, IfSome};
+ghost use Rattle.std.specs.Prelude.{◌≡◌, map, IfErr, IfNone, IfOk, IfSome};
 ghost use Rattle.std.specs.Arc.{arc_value};
+ghost use Rattle.std.specs.Sync.Mutex.{mutex_guard_value};
 ghost use Rattle.work_board.specs.Graphs.{IsAcyclic};
+ghost use Rattle.work_board.specs.Cores.{IsOver};
 ghost use Rattle.board_workers.specs.Parts.{AreEntries, IsJob};
 
 use crate::{BoardGate, Work, finish};
 use std::alloc::{AllocError, Global};
 use std::marker::Brand;
-use std::sync::{Arc, Condvar, Mutex, Wait};
+use std::sync::{Arc, Condvar, Mutex, MutexGuard, Wait};
 use std::thread;
 use std::thread::Threads;
 use work_board::{Board, Claim, Graph, NamedTree, WorkEntry};
@@ -15,15 +17,21 @@ use work_board::{Board, Claim, Graph, NamedTree, WorkEntry};
 /// A board behind a lock.
 type Locked<'g, T, E> = Mutex<Board<'g, T, E>>;
 
+/// A board whose lock is held.
+type Held<'l, 'g, T, E> = MutexGuard<'l, Board<'g, T, E>>;
+
 /// No module is ready.
 struct Later;
 
-/// Claims a module and takes the parts for it. Where memory is refused, the module is abandoned, and none is left.
+/// Claims a module and takes the parts for it; none where the board is over. Where memory is refused, the module is abandoned,
+/// and so it is over.
 fn take<T: NamedTree, E: WorkEntry>(
     board: &mut Board<'_, T, E>,
 ) -> Result<Option<(u32, Vec<Arc<E::Shared>>)>, Later>
-    ensures { IfOk result (λ job. IfSome job (λ j. IsJob E.is_of E.shared_of T.graph j.0 (map arc_value j.1.items))) }
+    ensures job { IfOk result (λ job. IfSome job (λ j. IsJob E.is_of E.shared_of T.graph j.0 (map arc_value j.1.items))) }
+    ensures over { IfOk result (λ job. IfNone job (IsOver board.new)) }
 {
+    board.keeps();
     match board.claim() {
         Claim::Finished => Ok(None),
         Claim::Later => Err(Later),
@@ -40,18 +48,21 @@ fn take<T: NamedTree, E: WorkEntry>(
     }
 }
 
-/// Waits until there is a module to make an entry of, or none is left. Claim and wait are in one holding of the lock.
-fn next<T: NamedTree, E: WorkEntry, R: Wait>(
+/// Waits until there is a module to make an entry of. Where the board is over there is none, and the lock is still held. Claim
+/// and wait are in one holding of the lock.
+fn next<'l, 'g, T: NamedTree, E: WorkEntry, R: Wait>(
     rt: &R,
-    locked: &Locked<'_, T, E>,
+    locked: &'l Locked<'g, T, E>,
     changed: &Condvar,
-) -> Option<(u32, Vec<Arc<E::Shared>>)>
-    ensures { IfSome result (λ j. IsJob E.is_of E.shared_of T.graph j.0 (map arc_value j.1.items)) }
+) -> Result<(u32, Vec<Arc<E::Shared>>), Held<'l, 'g, T, E>>
+    ensures job { IfOk result (λ j. IsJob E.is_of E.shared_of T.graph j.0 (map arc_value j.1.items)) }
+    ensures over { IfErr result (λ board. IsOver (mutex_guard_value board)) }
 {
     let mut board = locked.lock(rt);
     for _ in rt.forever() {
         match take(&mut *board) {
-            Ok(job) => return job,
+            Ok(Some(job)) => return Ok(job),
+            Ok(None) => return Err(board),
             Err(Later) => board = changed.wait(rt, board),
         }
     }
@@ -72,22 +83,27 @@ fn hand_in<T: NamedTree, E: WorkEntry>(
     }
 }
 
-/// Goes on as the worker of this number until all is delivered or a module was abandoned.
-fn worker<T: NamedTree, W: Work, G: BoardGate, R: Wait>(
+/// Goes on as the worker of this number. It leaves nowhere but at a board that is over, whose lock it hands out: all is delivered,
+/// or memory was refused to a module, which is abandoned.
+fn worker<'l, 'g, T: NamedTree, W: Work, G: BoardGate, R: Wait>(
     rt: &R,
-    locked: &Locked<'_, T, W::Entry>,
+    locked: &'l Locked<'g, T, W::Entry>,
     changed: &Condvar,
     number: u32,
     work: &W,
     gate: &G,
-)
+) -> Held<'l, 'g, T, W::Entry>
     requires { W.graph work.now ≡ T.graph }
+    ensures { IsOver (mutex_guard_value result) }
 {
     let mut turn = 0u64;
     for _ in rt.forever() {
-        let Some((module, parts)) = next(rt, locked, changed) else {
-            changed.notify_all();
-            return;
+        let (module, parts) = match next(rt, locked, changed) {
+            Ok(job) => job,
+            Err(board) => {
+                changed.notify_all();
+                return board;
+            }
         };
         gate.at(number, turn);
         turn = turn.saturating_add(1);
@@ -122,10 +138,10 @@ where
                 let _ = scope.spawn(
                     move ||
                         requires { W.graph work.now ≡ T.graph }
-                    { worker(rt, locked, waked, number, work, gate) },
+                    { drop(worker(rt, locked, waked, number, work, gate)) },
                 );
             }
-            worker(rt, locked, waked, 0, work, gate);
+            drop(worker(rt, locked, waked, 0, work, gate));
         },
     );
 }
