@@ -6,7 +6,6 @@ use Rattle.std.proofs.lemmas.List.{length-take, take_more, get_or-replicate, get
 use Rattle.work_board.specs.declared.state.State.TheVariants.{Waiting}
 use Rattle.work_board.specs.Graphs.{row_at, Modules}
 use Rattle.work_board.specs.Cores.{entry_at, has_entry, shares_of, Core}
-use Rattle.work_board.specs.Marks.{marked}
 use Rattle.work_board.specs.Keeping.{freed, open_of, state_at, taken, IsKept, IsTold}
 
 pub constant : {X : Type 0} (count i : ℕ) (x : X) → get_or (replicate count x) i x ≡ x

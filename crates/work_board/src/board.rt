@@ -261,11 +261,7 @@ impl<'g, T: NamedTree, E: WorkEntry> Board<'g, T, E> {
         }
         self.graph.keeps();
         let marks = marks_at(self.reached.as_slice(), number as usize);
-        Ok(shares(
-            *self.entries.allocator(),
-            marks,
-            self.entries.as_slice(),
-        )?)
+        Ok(shares(*self.entries.allocator(), marks, self.entries.as_slice())?)
     }
 
     /// What a worker is to do next. The least ready module is claimed, unless all are delivered or one was abandoned.

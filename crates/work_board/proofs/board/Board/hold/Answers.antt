@@ -1,4 +1,4 @@
-use Rattle.std.proofs.Common.{◌≡◌, ◌<◌, ℕ, Bool, true, List, length, map, sym, ap, ◌∙◌, subst}
+use Rattle.std.proofs.Common.{◌≡◌, ◌<◌, ℕ, Bool, true, List, length, sym, ap, ◌∙◌, subst}
 use Rattle.std.specs.Prelude.{◌↔◌}
 use Rattle.std.proofs.lemmas.List.{length-map, map-set}
 use Rattle.work_board.specs.declared.state.State.TheVariants.{Claimed}
@@ -24,7 +24,7 @@ invariant_of-self g c =
     let p_size : length new.spare.items ≡ length b.spare.items = sym new.spare.ok.0 ∙ c.fill_row.ensures.spare ∙ b.spare.ok.0 in
     let imports : c.imports_of.result.now ≡ row_at t.imports n = c.imports_of.ensures ∙ ap (λ (u : Modules). row_at u.imports n) c.self.invariant.0 in
     let filled : (v : ℕ) → v < length b.spare.items → (marked (row_at (lists new.reached.items) n) v ≡ true) ↔ IsMet (lists b.reached.items) (row_at t.imports n) v = λ v lt.
-        subst (λ row. (marked (row_at (lists new.reached.items) n) v ≡ true) ↔ IsMet (lists b.reached.items) row v) imports (c.fill_row.ensures.filled v (subst (λ (k : ℕ). v < k) (sym b.spare.ok.0) lt)) in (
+    subst (λ row. (marked (row_at (lists new.reached.items) n) v ≡ true) ↔ IsMet (lists b.reached.items) row v) imports (c.fill_row.ensures.filled v (subst (λ (k : ℕ). v < k) (sym b.spare.ok.0) lt)) in (
       c.self.invariant.0,
       held_kept g.E.WorkEntry.is_of t b.waiting.items b.states.items (lists b.reached.items) b.spare.items b.entries.items kept n at.0 at.1 (subst IsGraph c.self.invariant.0 c.keeps.ensures)
           (lists new.reached.items) new.spare.items r_size p_size c.fill_row.ensures.others filled (c.fill_row.ensures.long ∙ b.spare.ok.0),
