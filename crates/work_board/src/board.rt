@@ -192,8 +192,7 @@ fn marks_at(rows: &[Vec<bool>], place: usize) -> &[bool]
 
 /// Whether a module is claimed, perhaps delivered too.
 fn is_taken(states: &[State], place: usize) -> bool
-    ensures taken { result ≡ taken (state_at states.now place) }
-    ensures within { result ≡ true → place < length states.now }
+    ensures { result ≡ taken (state_at states.now place) }
 {
     match state_of(states, place) {
         State::Waiting => false,
@@ -279,7 +278,7 @@ impl<'g, T: NamedTree, E: WorkEntry> Board<'g, T, E> {
         claim
     }
 
-    /// Claims a ready module. What it reaches is marked here, once for each claim.
+    /// Claims a ready module, and marks what it reaches.
     fn hold(&mut self, number: u32)
         requires { IsReady T.graph.imports self.old number }
         ensures { self.new ≡ record self.old { claimed = slice_set self.old.claimed number true } }

@@ -9,7 +9,7 @@ use Rattle.work_board.proofs.board.Board.interfaces.Goals as goal
 pub marks_at-marks-requires : goal.marks_at-marks-requires
 marks_at-marks-requires g c =
     let b = c.self.inside in
-    let is_taken : taken (state_at b.states.items c.args.number) ≡ true = ap (λ ss. taken (state_at ss c.args.number)) (sym c.as_slice.ensures.value) ∙ sym c.is_taken.ensures.taken ∙ c.if-not-is_taken.false in
+    let is_taken : taken (state_at b.states.items c.args.number) ≡ true = ap (λ ss. taken (state_at ss c.args.number)) (sym c.as_slice.ensures.value) ∙ sym c.is_taken.ensures ∙ c.if-not-is_taken.false in
     let below = (taken_zero g.E.WorkEntry.is_of g.T.NamedTree.graph b.waiting.items b.states.items (lists b.reached.items) b.spare.items b.entries.items c.self.invariant.1 c.args.number is_taken).0 in
     let size : length c.as_slice-2.result.now ≡ length g.T.NamedTree.graph.names = ap length c.as_slice-2.ensures.value ∙ sym (length-map b.reached.items (λ r. r.items)) ∙ c.self.invariant.1.reached_size in
     omega arith
@@ -17,7 +17,7 @@ marks_at-marks-requires g c =
 pub shares-requires : goal.shares-requires
 shares-requires g c =
     let b = c.self.inside in
-    let is_taken : taken (state_at b.states.items c.args.number) ≡ true = ap (λ ss. taken (state_at ss c.args.number)) (sym c.as_slice.ensures.value) ∙ sym c.is_taken.ensures.taken ∙ c.if-not-is_taken.false in
+    let is_taken : taken (state_at b.states.items c.args.number) ≡ true = ap (λ ss. taken (state_at ss c.args.number)) (sym c.as_slice.ensures.value) ∙ sym c.is_taken.ensures ∙ c.if-not-is_taken.false in
     let below = (taken_zero g.E.WorkEntry.is_of g.T.NamedTree.graph b.waiting.items b.states.items (lists b.reached.items) b.spare.items b.entries.items c.self.invariant.1 c.args.number is_taken).0 in
     ap length c.marks_at-marks.ensures ∙ ap (λ rs. length (row_at (lists rs) c.args.number)) c.as_slice-2.ensures.value ∙ c.self.invariant.1.width c.args.number below
     ∙ sym c.self.invariant.1.entries_size ∙ sym (ap length c.as_slice-3.ensures.value)
@@ -26,7 +26,7 @@ pub returns-clause-shares : goal.returns-clause-shares
 returns-clause-shares g c =
     let b = c.self.inside in
     let f = g.E.WorkEntry.shared_of in
-    let is_taken : taken (state_at b.states.items c.args.number) ≡ true = ap (λ ss. taken (state_at ss c.args.number)) (sym c.as_slice.ensures.value) ∙ sym c.is_taken.ensures.taken ∙ c.if-not-is_taken.false in
+    let is_taken : taken (state_at b.states.items c.args.number) ≡ true = ap (λ ss. taken (state_at ss c.args.number)) (sym c.as_slice.ensures.value) ∙ sym c.is_taken.ensures ∙ c.if-not-is_taken.false in
     let row : c.marks_at-marks.result.now ≡ row_at (lists b.reached.items) c.args.number = c.marks_at-marks.ensures ∙ ap (λ rs. row_at (lists rs) c.args.number) c.as_slice-2.ensures.value in
     rw (← c.self.view_is)
     (shares_told g.E.WorkEntry.is_of g.T.NamedTree.graph b.waiting.items b.states.items (lists b.reached.items) b.spare.items b.entries.items c.self.invariant.1 f
