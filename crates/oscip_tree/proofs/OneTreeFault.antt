@@ -1,11 +1,11 @@
 -- A refused tree has one fault.
-use Rattle.std.proofs.Common.{◌≡◌, ◌≢◌, ℕ, ◌<◌, ◌⊎◌, true, false, List, [], ◌∷◌, ◌++◌, length, Option, None, Some, Err, refl, sym, ap, ap₂, ◌∙◌, subst, inl, inr, arith}
+use Rattle.std.proofs.Common.{◌≡◌, ◌≢◌, ℕ, ◌<◌, true, false, List, [], ◌∷◌, ◌++◌, length, Option, None, Some, Err, refl, sym, ap, ap₂, ◌∙◌, subst, inl, inr, arith}
 use Rattle.std.specs.Prelude.{IfSome, codes, slice_get}
 use Rattle.std.specs.Fmt.{decimal}
 use Rattle.std.specs.List.{flat_map}
 use Rattle.std.specs.String.{string_bytes}
 use Rattle.std.proofs.lemmas.Bool.{cases_order, false≢true}
-use Rattle.std.proofs.lemmas.Option.{get_or_from_slice_get, slice_get_within}
+use Rattle.std.proofs.lemmas.Option.{slice_get_within}
 use Rattle.ob_imports.specs.declared.fault.GraphFault.{GraphFault}
 use Rattle.ob_imports.specs.declared.fault.GraphFault.TheVariants as graphs
 use Rattle.ob_imports.specs.Files.{File}
@@ -18,11 +18,10 @@ use Rattle.ob_scan.specs.declared.token.Token.{Token}
 use Rattle.ob_scan.specs.Position.{IsPosition}
 use Rattle.ob_scan.specs.Spelling.{BadByte, BadNumber, IsOutcome, OpenComment, OpenString, Outcome, Reads, TooLong, outcome_of as scan_outcome_of}
 use Rattle.ob_scan.proofs.Outcomes.{outcome_once, spelled_once}
-use Rattle.ob_tree.specs.Declaring.{module_outline}
-use Rattle.ob_tree.specs.Derives.{endings_in}
 use Rattle.ob_parse.specs.declared.fault.ParseFault.{ParseFault}
 use Rattle.ob_parse.specs.declared.fault.ParseFault.TheVariants as parses
-use Rattle.ob_parse.specs.Parsed.{bytes_of, IsEndFault, IsFaultOf, IsRightEnd, IsWrongEnd, Pair}
+use Rattle.ob_parse.specs.Parsed.{IsFaultOf}
+use Rattle.ob_parse.proofs.OneFault.{one_fault}
 use Rattle.ob_scope.specs.declared.fault.ScopeFault.{ScopeFault}
 use Rattle.ob_scope.specs.declared.fault.ScopeFault.TheVariants as scopes
 use Rattle.ob_decls.specs.Declaring.{rows_of}
@@ -35,7 +34,7 @@ use Rattle.ob_scope.specs.Scope.{IsFirstTwice}
 use Rattle.ob_scope.specs.Scoped.{IsScopeFault}
 use Rattle.ob_scope.specs.Texts.{text_at, token_at}
 use Rattle.ob_scope.proofs.Meanings.{first_once}
-use Rattle.oscip_tree.specs.TreeFaults.{after_space, graph_fault_text, parse_fault_text, placed_text, says_no_tree, scan_fault_text, scope_fault_text, tree_fault_text, wants_memory, AreOneFault}
+use Rattle.oscip_tree.specs.TreeFaults.{after_space, graph_fault_text, parse_fault_text, placed_text, scan_fault_text, scope_fault_text, tree_fault_text, wants_memory}
 use Rattle.oscip_tree.specs.Trees.{files_of, parse_offset, scan_offset, scope_offset, HasParseFault, HasScanFault, HasScopeFault, IsAccepted, IsFault, IsFileFault, IsFirstFault, IsGraphFault, IsTreeFault, ModuleFile}
 use Rattle.oscip_tree.specs.declared.source.Source.{Source}
 use Rattle.oscip_tree.specs.declared.tree.TreeFault.{TreeFault}
@@ -143,54 +142,9 @@ one_scan_fault bytes f g known_f known_g h k =
 
 -- ---- the tree
 
--- the texts of a pair of tokens are told by their numbers
-same_pair : (bytes : List ℕ) (ts : List Token) (e : ℕ × ℕ) (p q : Pair ts e) → bytes_of bytes p.name ≡ bytes_of bytes p.end → bytes_of bytes q.name ≡ bytes_of bytes q.end
-same_pair bytes ts e p q same =
-    let name : p.name ≡ q.name = same_at ts e.0 p.name q.name p.name_there q.name_there in
-    let end : p.end ≡ q.end = same_at ts e.1 p.end q.end p.end_there q.end_there in
-    rw (sym name, sym end) same
-
--- the first wrong name after END
-first_wrong : (bytes : List ℕ) (ts : List Token) (at : ℕ) (f : IsEndFault bytes ts at) → IsFirstWithout (IsRightEnd bytes ts) (endings_in (module_outline f.of)) f.first.before f.first.wrong f.first.after
-first_wrong bytes ts at f = record {
-  split = f.first.split;
-  have = λ i e there. subst (IsRightEnd bytes ts) (get_or_from_slice_get f.first.before i e e there) (f.first.right_before i e (slice_get_within f.first.before i e there));
-  lacks = λ right. f.first.is_wrong.differ (same_pair bytes ts f.first.wrong right.pair f.first.is_wrong.pair right.same);
-}
-
-begins_at : (bytes : List ℕ) (ts : List Token) (m n : ℕ) (e d : ℕ × ℕ) → e ≡ d → IsWrongEnd bytes ts m e → IsWrongEnd bytes ts n d → m ≡ n
-begins_at bytes ts m n e d same a b =
-    let c : IsWrongEnd bytes ts m d = subst (IsWrongEnd bytes ts m) same a in
-    let end : c.pair.end ≡ b.pair.end = same_at ts d.1 c.pair.end b.pair.end c.pair.end_there b.pair.end_there in
-    sym c.begins ∙ ap (λ (t : Token). t.start) end ∙ b.begins
-
-one_end_fault : (bytes : List ℕ) (ts : List Token) (m n : ℕ) → IsEndFault bytes ts m → IsEndFault bytes ts n → m ≡ n
-one_end_fault bytes ts m n f g =
-    let ends : endings_in (module_outline g.of) ≡ endings_in (module_outline f.of) = ap endings_in (f.tree.only g.of g.tree.derived) in
-    let other = subst (λ (es : List (ℕ × ℕ)). IsFirstWithout (IsRightEnd bytes ts) es g.first.before g.first.wrong g.first.after) ends (first_wrong bytes ts n g) in
-    let same = one_first (IsRightEnd bytes ts) (endings_in (module_outline f.of)) f.first.before f.first.after g.first.before g.first.after f.first.wrong g.first.wrong (first_wrong bytes ts m f) other in
-    begins_at bytes ts m n f.first.wrong g.first.wrong same f.first.is_wrong g.first.is_wrong
-
--- two faults of the parser are one, or both say that there is no tree
-abbrev AreOneParseFault : ParseFault → ParseFault → Type 0
-AreOneParseFault f g = (f ≡ g) ⊎ ((says_no_tree f ≡ true) × (says_no_tree g ≡ true))
-
-one_fault_of : (bytes : List ℕ) (ts : List Token) (f g : ParseFault) → (f ≢ parses.Memory) → (g ≢ parses.Memory) → IsFaultOf bytes ts f → IsFaultOf bytes ts g → AreOneParseFault f g
-one_fault_of bytes ts (parses.Syntax at) (parses.Syntax to) some other h k = inr (refl, refl)
-one_fault_of bytes ts (parses.Syntax at) (parses.EndName to) some other h k = absurd (h.1 k.of k.tree.derived)
-one_fault_of bytes ts (parses.Syntax at) (parses.TooDeep to) some other h k = inr (refl, refl)
-one_fault_of bytes ts (parses.EndName at) (parses.Syntax to) some other h k = absurd (k.1 h.of h.tree.derived)
-one_fault_of bytes ts (parses.EndName at) (parses.EndName to) some other h k = inl (ap parses.EndName (one_end_fault bytes ts at to h k))
-one_fault_of bytes ts (parses.EndName at) (parses.TooDeep to) some other h k = let deep = k.1 h.of h.tree.derived in let shallow = h.tree.shallow in absurd (omega arith)
-one_fault_of bytes ts (parses.TooDeep at) (parses.Syntax to) some other h k = inr (refl, refl)
-one_fault_of bytes ts (parses.TooDeep at) (parses.EndName to) some other h k = let deep = h.1 k.of k.tree.derived in let shallow = k.tree.shallow in absurd (omega arith)
-one_fault_of bytes ts (parses.TooDeep at) (parses.TooDeep to) some other h k = inr (refl, refl)
-one_fault_of bytes ts f parses.Memory some other h k = absurd (other refl)
-one_fault_of bytes ts parses.Memory g some other h k = absurd (some refl)
-
-one_parse_fault : (bytes : List ℕ) (f g : ParseFault) → (f ≢ parses.Memory) → (g ≢ parses.Memory) → HasParseFault f bytes → HasParseFault g bytes → AreOneParseFault f g
+one_parse_fault : (bytes : List ℕ) (f g : ParseFault) → (f ≢ parses.Memory) → (g ≢ parses.Memory) → HasParseFault f bytes → HasParseFault g bytes → f ≡ g
 one_parse_fault bytes f g some other (ts, reads, h) (us, spells, k) =
-    one_fault_of bytes ts f g some other h (subst (λ (vs : List Token). IsFaultOf bytes vs g) (spelled_once bytes us ts spells.1 reads.1) k)
+    one_fault bytes ts f g h (subst (λ (vs : List Token). IsFaultOf bytes vs g) (spelled_once bytes us ts spells.1 reads.1) k) some other
 
 -- ---- the names
 
@@ -238,10 +192,10 @@ one_scope_fault bytes f g some other (ts, m, reads, tree, h) k =
 -- ---- one file
 
 -- of a file's tokens, of its tree and of its names there is a fault where those before are right
-one_file_fault : (s : Source) (f g : TreeFault) → wants_memory f ≡ false → wants_memory g ≡ false → IsFileFault s f → IsFileFault s g → AreOneFault f g
+one_file_fault : (s : Source) (f g : TreeFault) → wants_memory f ≡ false → wants_memory g ≡ false → IsFileFault s f → IsFileFault s g → tree_fault_text f ≡ tree_fault_text g
 one_file_fault s (faults.Scan path at f) (faults.Scan other to g) some more (known, h) (sure, k) =
     let same : f ≡ g = one_scan_fault s.bytes.items f g known sure h.has_fault k.has_fault in
-    inl (one_text s (string_bytes path) (string_bytes other) at to (scan_offset f) (scan_offset g) (scan_fault_text f) (scan_fault_text g) (HasScanFault f) (HasScanFault g) h k (ap scan_offset same) (ap scan_fault_text same))
+    one_text s (string_bytes path) (string_bytes other) at to (scan_offset f) (scan_offset g) (scan_fault_text f) (scan_fault_text g) (HasScanFault f) (HasScanFault g) h k (ap scan_offset same) (ap scan_fault_text same)
 one_file_fault s (faults.Scan path at f) (faults.Parse other to g) some more (known, h) (sure, k) =
     let (ts, reads, _) = k.has_fault in absurd (known (no_scan_fault s.bytes.items ts f reads h.has_fault))
 one_file_fault s (faults.Scan path at f) (faults.Scope other to g) some more (known, h) (sure, k) =
@@ -249,10 +203,8 @@ one_file_fault s (faults.Scan path at f) (faults.Scope other to g) some more (kn
 one_file_fault s (faults.Parse path at f) (faults.Scan other to g) some more (known, h) (sure, k) =
     let (ts, reads, _) = h.has_fault in absurd (sure (no_scan_fault s.bytes.items ts g reads k.has_fault))
 one_file_fault s (faults.Parse path at f) (faults.Parse other to g) some more (known, h) (sure, k) =
-    elim (one_parse_fault s.bytes.items f g known sure h.has_fault k.has_fault) [
-      | inl same ↦ inl (one_text s (string_bytes path) (string_bytes other) at to (parse_offset f) (parse_offset g) (parse_fault_text f) (parse_fault_text g) (HasParseFault f) (HasParseFault g) h k (ap parse_offset same) (ap parse_fault_text same))
-      | inr none ↦ inr (string_bytes s.path, (h.path_is, none.0), (k.path_is, none.1))
-    ]
+    let same : f ≡ g = one_parse_fault s.bytes.items f g known sure h.has_fault k.has_fault in
+    one_text s (string_bytes path) (string_bytes other) at to (parse_offset f) (parse_offset g) (parse_fault_text f) (parse_fault_text g) (HasParseFault f) (HasParseFault g) h k (ap parse_offset same) (ap parse_fault_text same)
 one_file_fault s (faults.Parse path at f) (faults.Scope other to g) some more (known, h) (sure, k) =
     let (ts, m, reads, tree, _) = k.has_fault in absurd (known (no_parse_fault s.bytes.items ts m f reads tree h.has_fault))
 one_file_fault s (faults.Scope path at f) (faults.Scan other to g) some more (known, h) (sure, k) =
@@ -261,7 +213,7 @@ one_file_fault s (faults.Scope path at f) (faults.Parse other to g) some more (k
     let (ts, m, reads, tree, _) = h.has_fault in absurd (sure (no_parse_fault s.bytes.items ts m g reads tree k.has_fault))
 one_file_fault s (faults.Scope path at f) (faults.Scope other to g) some more (known, h) (sure, k) =
     let same = one_scope_fault s.bytes.items f g known sure h.has_fault k.has_fault in
-    inl (one_text s (string_bytes path) (string_bytes other) at to (scope_offset f) (scope_offset g) (scope_fault_text f) (scope_fault_text g) (HasScopeFault f) (HasScopeFault g) h k same.0 same.1)
+    one_text s (string_bytes path) (string_bytes other) at to (scope_offset f) (scope_offset g) (scope_fault_text f) (scope_fault_text g) (HasScopeFault f) (HasScopeFault g) h k same.0 same.1
 one_file_fault s f (faults.Graph g) some more h k = absurd k
 one_file_fault s f faults.Memory some more h k = absurd (false≢true (sym more))
 one_file_fault s (faults.Graph f) g some more h k = absurd h
@@ -284,7 +236,7 @@ first_faulty sources fault f known = record {
   lacks = λ (file, ok). false≢true (sym known ∙ no_file_fault f.source file fault ok f.has_fault);
 }
 
-one_first_fault : (sources : List Source) (f g : TreeFault) → wants_memory f ≡ false → wants_memory g ≡ false → IsFirstFault sources f → IsFirstFault sources g → AreOneFault f g
+one_first_fault : (sources : List Source) (f g : TreeFault) → wants_memory f ≡ false → wants_memory g ≡ false → IsFirstFault sources f → IsFirstFault sources g → tree_fault_text f ≡ tree_fault_text g
 one_first_fault sources f g some more h k =
     let same : h.source ≡ k.source = one_first HasTree sources h.before h.after k.before k.after h.source k.source (first_faulty sources f h some) (first_faulty sources g k more) in
     one_file_fault k.source f g some more (subst (λ (s : Source). IsFileFault s f) same h.has_fault) k.has_fault
@@ -330,11 +282,11 @@ which sources faults.Memory known h = absurd (false≢true (sym known))
 apart : (sources : List Source) (fault : TreeFault) (g : GraphFault) → wants_memory fault ≡ false → IsFirstFault sources fault → IsGraphFault sources g → ⊥
 apart sources fault g known h k = false≢true (sym known ∙ no_first_fault sources k.files fault k.accepted h)
 
-pub one_tree_fault : (sources : List Source) (fault other : TreeFault) → IsTreeFault sources fault → IsTreeFault sources other → wants_memory fault ≡ false → wants_memory other ≡ false → AreOneFault fault other
+pub one_tree_fault : (sources : List Source) (fault other : TreeFault) → IsTreeFault sources fault → IsTreeFault sources other → wants_memory fault ≡ false → wants_memory other ≡ false → tree_fault_text fault ≡ tree_fault_text other
 one_tree_fault sources fault other h k some more = go (which sources fault some h) (which sources other more k)
   where
-    go : IsOfTree sources fault → IsOfTree sources other → AreOneFault fault other
+    go : IsOfTree sources fault → IsOfTree sources other → tree_fault_text fault ≡ tree_fault_text other
     go (of_file a) (of_file b) = one_first_fault sources fault other some more a b
     go (of_file a) (of_imports g e b) = absurd (apart sources fault g some a b)
     go (of_imports f e a) (of_file b) = absurd (apart sources other f more b a)
-    go (of_imports f e a) (of_imports g d b) = inl (ap tree_fault_text e ∙ one_graph_fault sources f g a b ∙ sym (ap tree_fault_text d))
+    go (of_imports f e a) (of_imports g d b) = ap tree_fault_text e ∙ one_graph_fault sources f g a b ∙ sym (ap tree_fault_text d)

@@ -1,5 +1,5 @@
 -- What is told of the fault of a tree, and which faults are want of memory.
-use Rattle.std.specs.Prelude.{◌≡◌, ◌⊎◌, ℕ, Bool, true, false, List, ◌∷◌, ◌++◌, codes, IsTrue}
+use Rattle.std.specs.Prelude.{ℕ, Bool, true, false, List, ◌∷◌, ◌++◌, codes}
 use Rattle.std.specs.List.{flat_map}
 use Rattle.std.specs.Fmt.{decimal}
 use Rattle.std.specs.String.{string_bytes}
@@ -88,22 +88,3 @@ wants_memory (Parse path at fault) = parse_wants_memory fault
 wants_memory (Scope path at fault) = scope_wants_memory fault
 wants_memory (Graph fault) = graph_wants_memory fault
 wants_memory Memory = true
-
--- no tree derives the tokens, or none of at most 200 levels
-abbrev pub says_no_tree : ParseFault → Bool
-says_no_tree (parse.Syntax offset) = true
-says_no_tree (parse.EndName offset) = false
-says_no_tree (parse.TooDeep offset) = true
-says_no_tree parse.Memory = false
-
--- that is said of the file of this path
-abbrev pub LacksTree : List ℕ → TreeFault → Type 0
-LacksTree file (Scan path at fault) = ⊥
-LacksTree file (Parse path at fault) = (string_bytes path ≡ file) × IsTrue (says_no_tree fault)
-LacksTree file (Scope path at fault) = ⊥
-LacksTree file (Graph fault) = ⊥
-LacksTree file Memory = ⊥
-
--- the same is told of both; or both say of one file that it has no tree: of Syntax and TooDeep no definition fixes which one it is, and where
-abbrev pub AreOneFault : TreeFault → TreeFault → Type 0
-AreOneFault fault other = (tree_fault_text fault ≡ tree_fault_text other) ⊎ ((file : List ℕ) × LacksTree file fault × LacksTree file other)

@@ -4,7 +4,7 @@ ghost use Rattle.std.specs.Prelude.{◌≡◌, ℕ, Contains, false, length, tru
 ghost use Rattle.cut_net.specs.declared.priced.Priced.{Priced};
 ghost use Rattle.cut_net.specs.Network.{Network, name_of};
 ghost use Rattle.oscip_tree.specs.Crossings.{AreUses};
-ghost use Rattle.oscip_tree.specs.TreeFaults.{wants_memory, AreOneFault};
+ghost use Rattle.oscip_tree.specs.TreeFaults.{tree_fault_text, wants_memory};
 ghost use Rattle.oscip_tree.specs.Trees.{IsNetOfTree, IsTree, IsTreeFault, ModuleFile};
 ghost use Rattle.oscip_tree.specs.declared.crossing.Span.{Span};
 ghost use Rattle.oscip_tree.specs.declared.source.Source.{Source};
@@ -21,11 +21,12 @@ pub fn one_network()
     ensures { (sources : List Source) (net other : Network) → IsNetOfTree sources net → IsNetOfTree sources other → net ≡ other }
 {}
 
-/// A refused tree has one fault: one text is told of it, unless a file has no tree. That is Syntax or TooDeep of this
-/// file, and which of the two and where isn't fixed.
+/// A refused tree has one fault but want of memory: one text is told of it, with its file, its line and its column where it is a
+/// file's. So where a file has no tree, it is fixed which of Syntax and TooDeep is told, and where.
 pub fn one_fault()
     ensures { (sources : List Source) (fault other : TreeFault) → IsTreeFault sources fault → IsTreeFault sources other →
-        wants_memory fault ≡ false → wants_memory other ≡ false → AreOneFault fault other }
+        wants_memory fault ≡ false → wants_memory other ≡ false →
+        tree_fault_text fault ≡ tree_fault_text other }
 {}
 
 /// The places where one module uses another are as many as the import between them weighs in the tree's network.
