@@ -1,4 +1,4 @@
--- No record stands in a statement.
+-- Statements only use; so no record stands in one.
 use Rattle.std.proofs.Common.{◌≡◌, ℕ, true, false, List, map, Option, Some, None, refl, sym, ap, ◌∙◌}
 use Rattle.std.specs.declared.boxed.Box.{Box}
 use Rattle.std.specs.declared.alloc.Global.{Global}
@@ -21,46 +21,47 @@ use Rattle.ob_decls.specs.Parts.{if_there as there}
 use Rattle.ob_decls.specs.Expressions.{each_after, expr_piece}
 use Rattle.ob_decls.specs.Statements.{variable_piece, qualident_piece, label_piece, label_range_piece, case_piece, stmt_piece, block_piece, branch_piece, for_piece}
 use Rattle.ob_decls.proofs.StatementLayers as told
-use Rattle.ob_owners.proofs.Bare.{Bare, b-is, b-nothing, b-token, b-use, b-both, b-tells, b-there, b-each, b-map}
-use Rattle.ob_owners.proofs.BareExpressions.{b-expr, b-designator}
+use Rattle.ob_owners.proofs.Bare.{Bare}
+use Rattle.ob_owners.proofs.Quiet.{Quiet, bare, q-is, q-nothing, q-token, q-use, q-both, q-tells, q-there, q-each, q-map}
+use Rattle.ob_owners.proofs.BareExpressions.{q-expr, q-designator}
 
-pub b-qualident : (q : Qualident) → Bare (qualident_piece q)
+pub q-qualident : (q : Qualident) → Quiet (qualident_piece q)
 unfolding qualident_piece
-b-qualident q = b-both (b-use q.member) (b-there (λ m. both token token) q.member (λ m. b-both b-token b-token))
+q-qualident q = q-both (q-use q.member) (q-there (λ m. both token token) q.member (λ m. q-both q-token q-token))
 
-b-label : (l : Label) → Bare (label_piece l)
+q-label : (l : Label) → Quiet (label_piece l)
 unfolding label_piece
-b-label (labels.Integer n) = b-token
-b-label (labels.Text n) = b-token
-b-label (labels.Name q) = b-qualident q
+q-label (labels.Integer n) = q-token
+q-label (labels.Text n) = q-token
+q-label (labels.Name q) = q-qualident q
 
-b-range : (r : LabelRange) → Bare (label_range_piece r)
+q-range : (r : LabelRange) → Quiet (label_range_piece r)
 unfolding label_range_piece
-b-range r = b-both (b-label r.low) (b-there (λ l. both token (label_piece l)) r.high (λ l. b-both b-token (b-label l)))
+q-range r = q-both (q-label r.low) (q-there (λ l. both token (label_piece l)) r.high (λ l. q-both q-token (q-label l)))
 
-b-variable : (n : ℕ) → Bare variable_piece
+q-variable : (n : ℕ) → Quiet variable_piece
 unfolding variable_piece
-b-variable n = b-tells _ (λ c k. refl) (b-use None)
+q-variable n = q-tells _ (λ c k. refl) (q-use None)
 
--- no record stands in a part
+-- a part only uses
 
 abbrev HeldCase : Case → Type 0
-HeldCase t = Bare (case_piece t)
+HeldCase t = Quiet (case_piece t)
 
 abbrev HeldStmt : Stmt → Type 0
-HeldStmt t = Bare (stmt_piece t)
+HeldStmt t = Quiet (stmt_piece t)
 
 abbrev HeldBlock : Block → Type 0
-HeldBlock t = Bare (block_piece t)
+HeldBlock t = Quiet (block_piece t)
 
 -- a branch with any word in it
 abbrev HeldBranch : Branch → Type 0
-HeldBranch t = (k : Kind) → Bare (branch_piece t)
+HeldBranch t = (k : Kind) → Quiet (branch_piece t)
 
 abbrev HeldFor : For → Type 0
-HeldFor t = Bare (for_piece t)
+HeldFor t = Quiet (for_piece t)
 
--- a layer whose parts have none, and the layer itself
+-- a layer whose parts only use, and the layer itself
 
 abbrev WithCase : Type 0
 WithCase = Case-F (With HeldCase) (With HeldStmt) (With HeldBlock) (With HeldBranch) (With HeldFor)
@@ -92,74 +93,80 @@ WithFor = For-F (With HeldCase) (With HeldStmt) (With HeldBlock) (With HeldBranc
 abbrev for_of : WithFor → For-F Case Stmt Block Branch For
 for_of = map-For (With HeldCase) (With HeldStmt) (With HeldBlock) (With HeldBranch) (With HeldFor) Case Stmt Block Branch For (λ e. e.0) (λ e. e.0) (λ e. e.0) (λ e. e.0) (λ e. e.0)
 
-else_held : (o : Option (Box (With HeldBlock) Global)) → Bare (there (λ b. both token (block_piece b.value)) ((shapes.former-Stmt-If-2).map (With HeldBlock) Block (λ e. e.0) o))
-else_held None = b-nothing
-else_held (Some b) = b-both b-token b.value.1
+else_held : (o : Option (Box (With HeldBlock) Global)) → Quiet (there (λ b. both token (block_piece b.value)) ((shapes.former-Stmt-If-2).map (With HeldBlock) Block (λ e. e.0) o))
+else_held None = q-nothing
+else_held (Some b) = q-both q-token b.value.1
 
-case_held : (y : WithCase) → Bare (told.case_shown (case_of y))
-case_held layers.Nothing = b-nothing
-case_held (layers.Labelled ranges body) = b-both (b-range ranges.first) (b-both (b-each (λ r. both token (label_range_piece r)) ranges.rest.items (λ r. b-both b-token (b-range r))) (b-both b-token body.value.1))
+case_held : (y : WithCase) → Quiet (told.case_shown (case_of y))
+case_held layers.Nothing = q-nothing
+case_held (layers.Labelled ranges body) = q-both (q-range ranges.first) (q-both (q-each (λ r. both token (label_range_piece r)) ranges.rest.items (λ r. q-both q-token (q-range r))) (q-both q-token body.value.1))
 
 branches_held : {X : Type 0} (word_in : Kind) (h : X → Branch) (xs : List X) → ((x : X) → HeldBranch (h x)) →
-    Bare (each_after branch_piece (map h xs))
-branches_held k h xs w = b-map (λ b. both token (branch_piece b)) h xs (λ b. b-both b-token (w b k))
+    Quiet (each_after branch_piece (map h xs))
+branches_held k h xs w = q-map (λ b. both token (branch_piece b)) h xs (λ b. q-both q-token (w b k))
 
-stmt_held : (y : WithStmt) → Bare (told.stmt_shown (stmt_of y))
-stmt_held layers.Empty = b-nothing
-stmt_held (layers.Assign d e) = (b-both (b-designator d true) (b-both b-token (b-expr e)))
-stmt_held (layers.Call d) = (b-designator d false)
+stmt_held : (y : WithStmt) → Quiet (told.stmt_shown (stmt_of y))
+stmt_held layers.Empty = q-nothing
+stmt_held (layers.Assign d e) = (q-both (q-designator d true) (q-both q-token (q-expr e)))
+stmt_held (layers.Call d) = (q-designator d false)
 stmt_held (layers.If first rest otherwise) =
-    (b-both b-token (b-both (first.value.1 kinds.Then) (b-both (branches_held kinds.Then _ rest.items (λ b. b.1)) (b-both (else_held otherwise) b-token))))
+    (q-both q-token (q-both (first.value.1 kinds.Then) (q-both (branches_held kinds.Then _ rest.items (λ b. b.1)) (q-both (else_held otherwise) q-token))))
 stmt_held (layers.Case e first rest) =
-    (b-both b-token (b-both (b-expr e) (b-both b-token (b-both first.value.1 (b-both (b-map (λ c. both token (case_piece c)) _ rest.items (λ c. b-both b-token c.1)) b-token)))))
+    (q-both q-token (q-both (q-expr e) (q-both q-token (q-both first.value.1 (q-both (q-map (λ c. both token (case_piece c)) _ rest.items (λ c. q-both q-token c.1)) q-token)))))
 stmt_held (layers.While first rest) =
-    (b-both b-token (b-both (first.value.1 kinds.Do) (b-both (branches_held kinds.Do _ rest.items (λ b. b.1)) b-token)))
+    (q-both q-token (q-both (first.value.1 kinds.Do) (q-both (branches_held kinds.Do _ rest.items (λ b. b.1)) q-token)))
 stmt_held (layers.Repeat body e) =
-    (b-both b-token (b-both body.value.1 (b-both b-token (b-expr e))))
+    (q-both q-token (q-both body.value.1 (q-both q-token (q-expr e))))
 stmt_held (layers.For f) = f.value.1
 
 abbrev block_told : Block-F Case Stmt Block Branch For → Piece
 block_told b = both (stmt_piece b.first) (each_after stmt_piece b.rest.items)
 
-block_held : (y : WithBlock) → Bare (block_told (block_of y))
-block_held y = b-both y.first.1 (b-map (λ s. both token (stmt_piece s)) _ y.rest.items (λ s. b-both b-token s.1))
+block_held : (y : WithBlock) → Quiet (block_told (block_of y))
+block_held y = q-both y.first.1 (q-map (λ s. both token (stmt_piece s)) _ y.rest.items (λ s. q-both q-token s.1))
 
 abbrev branch_told : Branch-F Case Stmt Block Branch For → Piece
 branch_told b = both (expr_piece b.condition) (both token (block_piece b.body))
 
-branch_held : (y : WithBranch) (k : Kind) → Bare (branch_told (branch_of y))
-branch_held y k = b-both (b-expr y.condition) (b-both b-token y.body.1)
+branch_held : (y : WithBranch) (k : Kind) → Quiet (branch_told (branch_of y))
+branch_held y k = q-both (q-expr y.condition) (q-both q-token y.body.1)
 
 abbrev for_told : For-F Case Stmt Block Branch For → Piece
 for_told f =
     both token (both variable_piece (both token (both (expr_piece f.from) (both token (both (expr_piece f.to)
     (both (there (λ e. both token (expr_piece e)) f.by) (both token (both (block_piece f.body) token))))))))
 
-for_held : (y : WithFor) → Bare (for_told (for_of y))
+for_held : (y : WithFor) → Quiet (for_told (for_of y))
 for_held y =
-    b-both b-token (b-both (b-variable y.variable) (b-both b-token (b-both (b-expr y.from) (b-both b-token (b-both (b-expr y.to) (b-both (b-there (λ e. both token (expr_piece e)) y.by (λ e. b-both b-token (b-expr e))) (b-both b-token (b-both y.body.1 b-token))))))))
+    q-both q-token (q-both (q-variable y.variable) (q-both q-token (q-both (q-expr y.from) (q-both q-token (q-both (q-expr y.to) (q-both (q-there (λ e. both token (expr_piece e)) y.by (λ e. q-both q-token (q-expr e))) (q-both q-token (q-both y.body.1 q-token))))))))
 
 -- ---- layer by layer
 
 case_step : (x : Case-F Case Stmt Block Branch For) (y : WithCase) → case_of y ≡ x → HeldCase (roll-Case x)
 case_step x y is =
-    b-is (told.case_told (roll-Case x) ∙ ap (λ (z : Case-F Case Stmt Block Branch For). told.case_shown z) (out-roll-Case x ∙ sym is)) ((case_held y))
+    q-is (told.case_told (roll-Case x) ∙ ap (λ (z : Case-F Case Stmt Block Branch For). told.case_shown z) (out-roll-Case x ∙ sym is)) ((case_held y))
 
 stmt_step : (x : Stmt-F Case Stmt Block Branch For) (y : WithStmt) → stmt_of y ≡ x → HeldStmt (roll-Stmt x)
 stmt_step x y is =
-    b-is (told.stmt_told (roll-Stmt x) ∙ ap (λ (z : Stmt-F Case Stmt Block Branch For). told.stmt_shown z) (out-roll-Stmt x ∙ sym is)) (stmt_held y)
+    q-is (told.stmt_told (roll-Stmt x) ∙ ap (λ (z : Stmt-F Case Stmt Block Branch For). told.stmt_shown z) (out-roll-Stmt x ∙ sym is)) (stmt_held y)
 
 block_step : (x : Block-F Case Stmt Block Branch For) (y : WithBlock) → block_of y ≡ x → HeldBlock (roll-Block x)
 block_step x y is =
-    b-is (told.block_out (roll-Block x) ∙ ap (λ (z : Block-F Case Stmt Block Branch For). block_told z) (out-roll-Block x ∙ sym is)) (block_held y)
+    q-is (told.block_out (roll-Block x) ∙ ap (λ (z : Block-F Case Stmt Block Branch For). block_told z) (out-roll-Block x ∙ sym is)) (block_held y)
 
 branch_step : (x : Branch-F Case Stmt Block Branch For) (y : WithBranch) → branch_of y ≡ x → HeldBranch (roll-Branch x)
 branch_step x y is k =
-    b-is (told.branch_out (roll-Branch x) ∙ ap (λ (z : Branch-F Case Stmt Block Branch For). branch_told z) (out-roll-Branch x ∙ sym is)) (branch_held y k)
+    q-is (told.branch_out (roll-Branch x) ∙ ap (λ (z : Branch-F Case Stmt Block Branch For). branch_told z) (out-roll-Branch x ∙ sym is)) (branch_held y k)
 
 for_step : (x : For-F Case Stmt Block Branch For) (y : WithFor) → for_of y ≡ x → HeldFor (roll-For x)
 for_step x y is =
-    b-is (told.for_out (roll-For x) ∙ ap (λ (z : For-F Case Stmt Block Branch For). for_told z) (out-roll-For x ∙ sym is)) (for_held y)
+    q-is (told.for_out (roll-For x) ∙ ap (λ (z : For-F Case Stmt Block Branch For). for_told z) (out-roll-For x ∙ sym is)) (for_held y)
+
+pub q-block : (b : Block) → Quiet (block_piece b)
+q-block = ind-Block HeldCase HeldStmt HeldBlock HeldBranch HeldFor case_step stmt_step block_step branch_step for_step
+
+pub b-qualident : (q : Qualident) → Bare (qualident_piece q)
+b-qualident q = bare (q-qualident q)
 
 pub b-block : (b : Block) → Bare (block_piece b)
-b-block = ind-Block HeldCase HeldStmt HeldBlock HeldBranch HeldFor case_step stmt_step block_step branch_step for_step
+b-block b = bare (q-block b)

@@ -1,0 +1,391 @@
+-- What stands around each row in the rows of a whole: a declared identifier has its construct, a field its record and that record's
+-- owner, the name behind an END its procedure.
+use Rattle.std.proofs.Common.{◌≡◌, ℕ, zero, suc, ◌+◌, ◌-◌, ◌<◌, ◌≤◌, ◌⊎◌, inl, inr, Bool, List, [], ◌∷◌, ◌++◌, map, Option, Some, None, refl, sym, ap, ◌∙◌, subst, arith}
+use Rattle.std.specs.Prelude.{Contains}
+use Rattle.std.proofs.lemmas.List.Elements.{Contains-append_left, Contains-append_right, Contains-append_cases}
+use Rattle.ob_tree.specs.declared.name.Identdef.{Identdef}
+use Rattle.ob_tree.specs.declared.name.Qualident.{Qualident}
+use Rattle.ob_decls.specs.declared.rows.Declared.{Declared}
+use Rattle.ob_decls.specs.declared.rows.Declarer.{Declarer}
+use Rattle.ob_decls.specs.declared.rows.End.{End}
+use Rattle.ob_decls.specs.declared.rows.Import.{Import}
+use Rattle.ob_decls.specs.declared.rows.Record.{Record}
+use Rattle.ob_decls.specs.declared.rows.Sort.{Sort}
+use Rattle.ob_decls.specs.declared.rows.Sort.TheVariants as sorts
+use Rattle.ob_decls.specs.Parts.{Piece, Rows, joined, no_rows, one_block, one_declarer, token, both, tells, within, if_there, if_so, each, declaring, opening, declarer, declaring_at, in_block}
+use Rattle.ob_decls.specs.Types.{declared_row, identdef_piece, record_row, in_record}
+use Rattle.ob_owners.proofs.Bare.{Context}
+use Rattle.ob_owners.proofs.Quiet.{Quiet, Told, q-both, q-nothing, q-so, q-token}
+
+-- anything but an import item
+pub IsNoImport : Sort → Type 0
+IsNoImport sorts.Import = ⊥
+IsNoImport sorts.Constant = Unit {0}
+IsNoImport sorts.Type = Unit {0}
+IsNoImport sorts.Variable = Unit {0}
+IsNoImport sorts.Procedure = Unit {0}
+IsNoImport sorts.Parameter = Unit {0}
+IsNoImport sorts.Field = Unit {0}
+
+in_none : {X : Type 0} (x : X) → Contains [] x → ⊥
+in_none x (k, l, e) = omega (arith, l)
+
+in_one : {X : Type 0} (y x : X) → Contains (y ∷ []) x → y ≡ x
+in_one y x (zero, l, e) = e
+in_one y x (suc k, l, e) = absurd (omega (arith, l))
+
+at_front : {X : Type 0} (x : X) (xs : List X) → Contains (x ∷ xs) x
+at_front x xs = (zero, omega arith, refl)
+
+module _ (R : Rows) where
+  -- a token that an import item declares
+  pub record IsAlias (k : ℕ) : Type 0 where
+    pub item : Import
+    pub among : Contains R.imports item
+    pub alias : item.alias ≡ k
+
+  -- an identifier has the construct that declares it, which is an import item only where the identifier is its alias
+  pub record HasConstruct (x : Declared) : Type 0 where
+    pub by : Declarer
+    pub among : Contains R.declarers by
+    pub first : by.first ≡ x.declared_by
+    pub before : by.first ≤ x.number
+    pub sort : IsNoImport by.sort ⊎ IsAlias x.number
+
+  -- a declaration that is no import item, in this block, by its first identifier
+  pub record IsOwner (block k : ℕ) : Type 0 where
+    pub row : Declared
+    pub declared : Contains R.declared row
+    pub number : row.number ≡ k
+    pub by : Declarer
+    pub among : Contains R.declarers by
+    pub first : by.first ≡ row.declared_by
+    pub block_is : by.block ≡ block
+    pub sort : IsNoImport by.sort
+
+  -- a record before this token, with its owner in this block
+  pub record HasRecord (block r k : ℕ) : Type 0 where
+    pub row : Record
+    pub among : Contains R.records row
+    pub number : row.number ≡ r
+    pub before : row.owner < k
+    pub owner : IsOwner block row.owner
+
+  -- where a construct declares fields, they have their record
+  pub record IsField (by : Declarer) (r : ℕ) : Type 0 where
+    pub its : HasRecord by.block r by.first
+    pub sort : IsNoImport by.sort
+
+  pub AreFields : Declarer → Type 0
+  AreFields by = (r : ℕ) → by.of_record ≡ Some r → IsField by r
+
+  -- a name behind END is its procedure's
+  pub record IsNamed (k : ℕ) : Type 0 where
+    pub row : Declared
+    pub declared : Contains R.declared row
+    pub number : row.number ≡ k
+    pub by : Declarer
+    pub among : Contains R.declarers by
+    pub first : by.first ≡ row.declared_by
+    pub sort : IsNoImport by.sort
+
+  pub EndsOne : End → Type 0
+  EndsOne e = (n : ℕ) → e.of ≡ Some n → IsNamed n
+
+  pub record Holds (r : Rows) : Type 0 where
+    pub declared : (x : Declared) → Contains r.declared x → HasConstruct x
+    pub declarers : (x : Declarer) → Contains r.declarers x → AreFields x
+    pub ends : (x : End) → Contains r.ends x → EndsOne x
+
+  -- rows of the whole
+  pub record AreIn (r : Rows) : Type 0 where
+    pub declared : (x : Declared) → Contains r.declared x → Contains R.declared x
+    pub declarers : (x : Declarer) → Contains r.declarers x → Contains R.declarers x
+    pub records : (x : Record) → Contains r.records x → Contains R.records x
+    pub imports : (x : Import) → Contains r.imports x → Contains R.imports x
+
+  in_first : (a b : Rows) → AreIn (joined a b) → AreIn a
+  unfolding joined
+  in_first a b i = record {
+    declared = λ x h. i.declared x (Contains-append_left a.declared b.declared x h);
+    declarers = λ x h. i.declarers x (Contains-append_left a.declarers b.declarers x h);
+    records = λ x h. i.records x (Contains-append_left a.records b.records x h);
+    imports = λ x h. i.imports x (Contains-append_left a.imports b.imports x h);
+  }
+
+  in_second : (a b : Rows) → AreIn (joined a b) → AreIn b
+  unfolding joined
+  in_second a b i = record {
+    declared = λ x h. i.declared x (Contains-append_right a.declared b.declared x h);
+    declarers = λ x h. i.declarers x (Contains-append_right a.declarers b.declarers x h);
+    records = λ x h. i.records x (Contains-append_right a.records b.records x h);
+    imports = λ x h. i.imports x (Contains-append_right a.imports b.imports x h);
+  }
+
+  holds_both : (a b : Rows) → Holds a → Holds b → Holds (joined a b)
+  unfolding joined
+  holds_both a b f g = record {
+    declared = λ x h. elim (Contains-append_cases a.declared b.declared x h) [ inl l ↦ f.declared x l | inr r ↦ g.declared x r ];
+    declarers = λ x h. elim (Contains-append_cases a.declarers b.declarers x h) [ inl l ↦ f.declarers x l | inr r ↦ g.declarers x r ];
+    ends = λ x h. elim (Contains-append_cases a.ends b.ends x h) [ inl l ↦ f.ends x l | inr r ↦ g.ends x r ];
+  }
+
+  pub holds_none : (r : Rows) → r.declared ≡ [] → r.declarers ≡ [] → r.ends ≡ [] → Holds r
+  holds_none r a b c = record {
+    declared = λ x h. absurd (in_none x (subst (λ (xs : List Declared). Contains xs x) a h));
+    declarers = λ x h. absurd (in_none x (subst (λ (xs : List Declarer). Contains xs x) b h));
+    ends = λ x h. absurd (in_none x (subst (λ (xs : List End). Contains xs x) c h));
+  }
+
+  -- ---- what is known around a part
+
+  pub Free : Context → ℕ → Type 0
+  Free c k = Unit {0}
+
+  -- the construct that declares
+  pub record Named (c : Context) (k : ℕ) : Type 0 where
+    pub by : Declarer
+    pub among : Contains R.declarers by
+    pub first : by.first ≡ c.declarer
+    pub before : c.declarer ≤ k
+    pub sort : IsNoImport by.sort
+
+  -- the same, where it begins here, and in this block
+  pub record Begun (c : Context) (k : ℕ) : Type 0 where
+    pub by : Declarer
+    pub among : Contains R.declarers by
+    pub first : by.first ≡ c.declarer
+    pub here : c.declarer ≡ k
+    pub block : by.block ≡ c.block
+    pub sort : IsNoImport by.sort
+
+  -- the declaration around a type
+  pub record Typed (c : Context) (k : ℕ) : Type 0 where
+    pub owner : IsOwner c.block c.declarer
+    pub before : c.declarer < k
+
+  -- the record around fields
+  pub Recorded : Context → ℕ → Type 0
+  Recorded c k = HasRecord c.block c.of_record k
+
+  -- the procedure around its end
+  pub Ended : Context → ℕ → Type 0
+  Ended c k = IsNamed (c.declarer + 1)
+
+  abbrev pub Later : (Context → ℕ → Type 0) → Type 0
+  Later Pre = (c : Context) (k n : ℕ) → Pre c k → Pre c (k + n)
+
+  pub free_later : Later Free
+  unfolding Free
+  free_later c k n p = tt
+
+  pub named_later : Later Named
+  named_later c k n p = record { by = p.by; among = p.among; first = p.first; before = (let b = p.before in omega (arith, b)); sort = p.sort }
+
+  pub typed_later : Later Typed
+  typed_later c k n p = record { owner = p.owner; before = (let b = p.before in omega (arith, b)) }
+
+  pub recorded_later : Later Recorded
+  unfolding Recorded
+  recorded_later c k n p = record { row = p.row; among = p.among; number = p.number; before = (let b = p.before in omega (arith, b)); owner = p.owner }
+
+  pub ended_later : Later Ended
+  unfolding Ended
+  ended_later c k n p = p
+
+  -- ---- parts
+
+  pub record Good (Pre : Context → ℕ → Type 0) (p : Piece) : Type 0 where
+    pub holds : (c : Context) (k : ℕ) → Pre c k → AreIn (p.rows c k) → Holds (p.rows c k)
+
+  pub g-is : {Pre : Context → ℕ → Type 0} {p q : Piece} → p ≡ q → Good Pre q → Good Pre p
+  g-is {Pre} e g = subst (Good Pre) (sym e) g
+
+  pub g-quiet : {Pre : Context → ℕ → Type 0} {p : Piece} → Quiet p → Good Pre p
+  g-quiet {Pre} {p} f = record {
+    holds = λ c k s i. holds_none (p.rows c k) (ap (λ (t : Told). t.declared) (f.none c k)) (ap (λ (t : Told). t.declarers) (f.none c k)) (ap (λ (t : Told). t.ends) (f.none c k));
+  }
+
+  pub g-weak : {Pre Other : Context → ℕ → Type 0} {p : Piece} → ((c : Context) (k : ℕ) → Pre c k → Other c k) → Good Other p → Good Pre p
+  g-weak f g = record { holds = λ c k s i. g.holds c k (f c k s) i }
+
+  pub g-free : {Pre : Context → ℕ → Type 0} {p : Piece} → Good Free p → Good Pre p
+  unfolding Free
+  g-free g = record { holds = λ c k s i. g.holds c k tt i }
+
+  pub g-both : {Pre : Context → ℕ → Type 0} {p q : Piece} → Later Pre → Good Pre p → Good Pre q → Good Pre (both p q)
+  unfolding both
+  g-both {Pre} {p} {q} later f g = record {
+    holds = λ c k s i. holds_both (p.rows c k) (q.rows c (k + p.width))
+        (f.holds c k s (in_first (p.rows c k) (q.rows c (k + p.width)) i))
+        (g.holds c (k + p.width) (later c k p.width s) (in_second (p.rows c k) (q.rows c (k + p.width)) i));
+  }
+
+  pub g-tells : {Pre : Context → ℕ → Type 0} (own : Context → ℕ → Rows) {p : Piece} → ((c : Context) (k : ℕ) → Pre c k → Holds (own c k)) → Good Pre p → Good Pre (tells own p)
+  unfolding tells
+  g-tells own {p} h f = record {
+    holds = λ c k s i. holds_both (own c k) (p.rows c k) (h c k s) (f.holds c k s (in_second (own c k) (p.rows c k) i));
+  }
+
+  -- rows that tell of nothing declared
+  pub g-silent : {Pre : Context → ℕ → Type 0} (own : Context → ℕ → Rows) {p : Piece} → ((c : Context) (k : ℕ) → ((own c k).declared ≡ []) × ((own c k).declarers ≡ []) × ((own c k).ends ≡ []))
+      → Good Pre p → Good Pre (tells own p)
+  g-silent own n f = g-tells own (λ c k s. let e = n c k in holds_none (own c k) e.0 e.1 e.2) f
+
+  pub g-within : {Pre Other : Context → ℕ → Type 0} (around : Context → ℕ → Context) {p : Piece} → ((c : Context) (k : ℕ) → Pre c k → Other (around c k) k) → Good Other p → Good Pre (within around p)
+  unfolding within
+  g-within around f g = record { holds = λ c k s i. g.holds (around c k) k (f c k s) i }
+
+  pub g-there : {Pre : Context → ℕ → Type 0} {X : Type 0} (f : X → Piece) (o : Option X) → ((x : X) → Good Pre (f x)) → Good Pre (if_there f o)
+  g-there f None w = g-quiet q-nothing
+  g-there f (Some x) w = w x
+
+  pub g-each : {Pre : Context → ℕ → Type 0} {X : Type 0} (f : X → Piece) (xs : List X) → Later Pre → ((x : X) → Good Pre (f x)) → Good Pre (each f xs)
+  g-each f [] later w = g-quiet q-nothing
+  g-each f (x ∷ xs) later w = g-both later (w x) (g-each f xs later w)
+
+  pub g-map : {Pre : Context → ℕ → Type 0} {X Y : Type 0} (f : Y → Piece) (h : X → Y) (xs : List X) → Later Pre → ((x : X) → Good Pre (f (h x))) → Good Pre (each f (map h xs))
+  g-map f h [] later w = g-quiet q-nothing
+  g-map f h (x ∷ xs) later w = g-both later (w x) (g-map f h xs later w)
+
+  -- ---- what is declared
+
+  holds_name : (starred : Bool) (c : Context) (k : ℕ) → Named c k → Holds (declared_row starred c k)
+  holds_name starred c k s = record {
+    declared = λ x h.
+        let is : record { number = k; exported = starred; declared_by = c.declarer } ≡ x = in_one _ x h in
+        subst HasConstruct is (record { by = s.by; among = s.among; first = s.first; before = (let f = s.first in let b = s.before in omega (arith, f, b)); sort = inl s.sort });
+    declarers = λ x h. absurd (in_none x h);
+    ends = λ x h. absurd (in_none x h);
+  }
+
+  pub g-name : (starred : Bool) {p : Piece} → Quiet p → Good Named (tells (declared_row starred) p)
+  g-name starred q = g-tells _ (λ c k s. holds_name starred c k s) (g-quiet q)
+
+  pub g-identdef : (i : Identdef) → Good Named (identdef_piece i)
+  unfolding identdef_piece
+  g-identdef i = g-name i.starred (q-both q-token (q-so i.starred q-token))
+
+  -- an identifier that is declared here is among the whole's
+  name_in : (i : Identdef) (c : Context) (k : ℕ) → AreIn ((identdef_piece i).rows c k) → Contains R.declared (record { number = k; exported = i.starred; declared_by = c.declarer })
+  unfolding identdef_piece tells joined
+  name_in i c k h = h.declared _ (at_front _ _)
+
+  begun_named : (c : Context) (k : ℕ) → Begun c k → Named c k
+  begun_named c k s = record { by = s.by; among = s.among; first = s.first; before = (let h = s.here in omega (arith, h)); sort = s.sort }
+
+  begun_typed : (i : Identdef) (c : Context) (k n : ℕ) → 0 < n → Begun c k → AreIn ((identdef_piece i).rows c k) → Typed c (k + n)
+  begun_typed i c k n some s h = record {
+    owner = record { row = _; declared = name_in i c k h; number = sym s.here; by = s.by; among = s.among; first = s.first; block_is = s.block; sort = s.sort };
+    before = (let e = s.here in omega (arith, e, some));
+  }
+
+  -- a first identifier, and what stands in its declaration
+  pub g-owner : (i : Identdef) {q : Piece} → 0 < (identdef_piece i).width → Good Typed q → Good Begun (both (identdef_piece i) q)
+  unfolding both
+  g-owner i {q} some g = record {
+    holds = λ c k s h.
+        let first : AreIn ((identdef_piece i).rows c k) = in_first ((identdef_piece i).rows c k) (q.rows c (k + (identdef_piece i).width)) h in
+        holds_both ((identdef_piece i).rows c k) (q.rows c (k + (identdef_piece i).width))
+        ((g-identdef i).holds c k (begun_named c k s) first)
+        (g.holds c (k + (identdef_piece i).width) (begun_typed i c k (identdef_piece i).width some s first) (in_second ((identdef_piece i).rows c k) (q.rows c (k + (identdef_piece i).width)) h));
+  }
+
+  holds_construct : (by : Declarer) → AreFields by → Holds (one_declarer by)
+  holds_construct by f = record {
+    declared = λ x h. absurd (in_none x h);
+    declarers = λ x h. subst AreFields (in_one by x h) f;
+    ends = λ x h. absurd (in_none x h);
+  }
+
+  pub g-declaring : {Pre : Context → ℕ → Type 0} (sort : Sort) {p : Piece} → IsNoImport sort → ((c : Context) (k last : ℕ) → Pre c k → AreFields (declarer sort c k last)) → Good Begun p → Good Pre (declaring sort p)
+  unfolding declaring
+  g-declaring sort {p} other f g = record {
+    holds = λ c k s h.
+        let row : Declarer = declarer sort c k (k + p.width - 1) in
+        let own : AreIn (one_declarer row) = in_first (one_declarer row) (p.rows (declaring_at c k) k) h in
+        holds_both (one_declarer row) (p.rows (declaring_at c k) k)
+        (holds_construct row (f c k (k + p.width - 1) s))
+        (g.holds (declaring_at c k) k (record { by = row; among = own.declarers row (at_front row []); first = refl; here = refl; block = refl; sort = other }) (in_second (one_declarer row) (p.rows (declaring_at c k) k) h));
+  }
+
+  -- what stands in no record
+  no_fields : (by : Declarer) → by.of_record ≡ None → AreFields by
+  unfolding AreFields
+  no_fields by none r e = absurd (let f : None ≡ Some r = sym none ∙ e in cc)
+
+  pub g-constant : {p : Piece} → Good Begun p → Good Free (declaring sorts.Constant p)
+  unfolding IsNoImport
+  g-constant g = g-declaring sorts.Constant tt (λ c k last s. no_fields _ refl) g
+
+  pub g-type : {p : Piece} → Good Begun p → Good Free (declaring sorts.Type p)
+  unfolding IsNoImport
+  g-type g = g-declaring sorts.Type tt (λ c k last s. no_fields _ refl) g
+
+  pub g-variable : {p : Piece} → Good Begun p → Good Free (declaring sorts.Variable p)
+  unfolding IsNoImport
+  g-variable g = g-declaring sorts.Variable tt (λ c k last s. no_fields _ refl) g
+
+  pub g-parameter : {p : Piece} → Good Named p → Good Free (declaring sorts.Parameter p)
+  unfolding IsNoImport
+  g-parameter g = g-declaring sorts.Parameter tt (λ c k last s. no_fields _ refl) (g-weak begun_named g)
+
+  its_field : (c : Context) (k last : ℕ) → Recorded c k → AreFields (declarer sorts.Field c k last)
+  unfolding AreFields IsNoImport Recorded
+  its_field c k last s r e =
+      let is : c.of_record ≡ r = (let f : Some c.of_record ≡ Some r = e in cc) in
+      record { its = subst (λ (n : ℕ). HasRecord c.block n k) is s; sort = tt }
+
+  pub g-field : {p : Piece} → Good Begun p → Good Recorded (declaring sorts.Field p)
+  unfolding IsNoImport
+  g-field g = g-declaring sorts.Field tt its_field g
+
+  -- a record, and what stands in it
+  pub g-record : (base : Option Qualident) {p : Piece} → Good Recorded p → Good Typed (tells (record_row base) (within in_record p))
+  unfolding tells within Recorded
+  g-record base {p} g = record {
+    holds = λ c k s h.
+        let own : AreIn (record_row base c k) = in_first (record_row base c k) (p.rows (in_record c k) k) h in
+        holds_both (record_row base c k) (p.rows (in_record c k) k)
+        (holds_none (record_row base c k) refl refl refl)
+        (g.holds (in_record c k) k (record { row = _; among = own.records _ (at_front _ []); number = refl; before = s.before; owner = s.owner }) (in_second (record_row base c k) (p.rows (in_record c k) k) h));
+  }
+
+  -- a procedure's name, and what stands behind it
+  procedure_named : (i : Identdef) (c : Context) (k : ℕ) → Begun c k → AreIn ((identdef_piece i).rows (in_block c k) (k + 1)) → IsNamed (c.declarer + 1)
+  procedure_named i c k s h = record {
+    row = _;
+    declared = name_in i (in_block c k) (k + 1) h;
+    number = ap (λ (n : ℕ). n + 1) (sym s.here);
+    by = s.by;
+    among = s.among;
+    first = s.first;
+    sort = s.sort;
+  }
+
+  none_hold : Holds no_rows
+  unfolding no_rows
+  none_hold = holds_none no_rows refl refl refl
+
+  begun_named_in : (c : Context) (k : ℕ) → Begun c k → Named (in_block c k) k
+  begun_named_in c k s = record { by = s.by; among = s.among; first = s.first; before = (let h = s.here in omega (arith, h)); sort = s.sort }
+
+  heading : (j : Identdef) {p : Piece} → Good Ended p → Good Begun (opening (both token (both (identdef_piece j) p)))
+  unfolding both token tells within joined no_rows Ended
+  heading j {p} f = record {
+    holds = λ c k s h.
+        let d : Context = in_block c k in
+        let inner : AreIn (joined no_rows (joined ((identdef_piece j).rows d (k + 1)) (p.rows d (k + 1 + (identdef_piece j).width)))) =
+        in_second (one_block (record { first = k; outer = c.block })) (joined no_rows (joined ((identdef_piece j).rows d (k + 1)) (p.rows d (k + 1 + (identdef_piece j).width)))) h in
+        let rest : AreIn (joined ((identdef_piece j).rows d (k + 1)) (p.rows d (k + 1 + (identdef_piece j).width))) = in_second no_rows _ inner in
+        let name : AreIn ((identdef_piece j).rows d (k + 1)) = in_first ((identdef_piece j).rows d (k + 1)) (p.rows d (k + 1 + (identdef_piece j).width)) rest in
+        holds_both (one_block (record { first = k; outer = c.block })) _ (holds_none _ refl refl refl)
+        (holds_both no_rows _ (none_hold)
+        (holds_both ((identdef_piece j).rows d (k + 1)) (p.rows d (k + 1 + (identdef_piece j).width))
+        ((g-identdef j).holds d (k + 1) (named_later d k 1 (begun_named_in c k s)) name)
+        (f.holds d (k + 1 + (identdef_piece j).width) (procedure_named j c k s name) (in_second ((identdef_piece j).rows d (k + 1)) (p.rows d (k + 1 + (identdef_piece j).width)) rest))));
+  }
+
+  pub g-procedure : (i : Identdef) {q : Piece} → Good Ended q → Good Free (declaring sorts.Procedure (opening (both token (both (identdef_piece i) q))))
+  unfolding IsNoImport
+  g-procedure i {q} g = g-declaring sorts.Procedure tt (λ c k last s. no_fields _ refl) (heading i g)
