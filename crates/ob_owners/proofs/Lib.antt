@@ -6,3 +6,5 @@ pub mod Owned
 pub mod OwnedTypes
 pub mod OwnedModules
 pub mod Placed
+pub mod PlacedTypes
+pub mod PlacedModules

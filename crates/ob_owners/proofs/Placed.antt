@@ -1,8 +1,9 @@
 -- What stands around each row in the rows of a whole: a declared identifier has its construct, a field its record and that record's
 -- owner, the name behind an END its procedure.
-use Rattle.std.proofs.Common.{◌≡◌, ℕ, zero, suc, ◌+◌, ◌-◌, ◌<◌, ◌≤◌, ◌⊎◌, inl, inr, Bool, List, [], ◌∷◌, ◌++◌, map, Option, Some, None, refl, sym, ap, ◌∙◌, subst, arith}
+use Rattle.std.proofs.Common.{◌≡◌, ℕ, zero, suc, ◌+◌, ◌-◌, ◌<◌, ◌≤◌, ◌⊎◌, inl, inr, Bool, false, List, [], ◌∷◌, ◌++◌, map, Option, Some, None, refl, sym, ap, ◌∙◌, subst, arith}
 use Rattle.std.specs.Prelude.{Contains}
 use Rattle.std.proofs.lemmas.List.Elements.{Contains-append_left, Contains-append_right, Contains-append_cases}
+use Rattle.ob_tree.specs.declared.declaration.ImportItem.{ImportItem}
 use Rattle.ob_tree.specs.declared.name.Identdef.{Identdef}
 use Rattle.ob_tree.specs.declared.name.Qualident.{Qualident}
 use Rattle.ob_decls.specs.declared.rows.Declared.{Declared}
@@ -12,13 +13,14 @@ use Rattle.ob_decls.specs.declared.rows.Import.{Import}
 use Rattle.ob_decls.specs.declared.rows.Record.{Record}
 use Rattle.ob_decls.specs.declared.rows.Sort.{Sort}
 use Rattle.ob_decls.specs.declared.rows.Sort.TheVariants as sorts
-use Rattle.ob_decls.specs.Parts.{Piece, Rows, joined, no_rows, one_block, one_declarer, token, both, tells, within, if_there, if_so, each, declaring, opening, declarer, declaring_at, in_block}
+use Rattle.ob_decls.specs.Parts.{Piece, Rows, joined, no_rows, one_block, one_declarer, one_end, token, both, tells, within, if_there, if_so, each, declaring, opening, declarer, declaring_at, in_block}
+use Rattle.ob_decls.specs.Declaring.{import_inner, import_piece, import_row, module_end, procedure_end}
 use Rattle.ob_decls.specs.Types.{declared_row, identdef_piece, record_row, in_record}
 use Rattle.ob_owners.proofs.Bare.{Context}
-use Rattle.ob_owners.proofs.Quiet.{Quiet, Told, q-both, q-nothing, q-so, q-token}
+use Rattle.ob_owners.proofs.Quiet.{Quiet, Told, q-both, q-nothing, q-so, q-there, q-token}
 
 -- anything but an import item
-pub IsNoImport : Sort → Type 0
+unfoldable pub IsNoImport : Sort → Type 0
 IsNoImport sorts.Import = ⊥
 IsNoImport sorts.Constant = Unit {0}
 IsNoImport sorts.Type = Unit {0}
@@ -76,7 +78,7 @@ module _ (R : Rows) where
     pub its : HasRecord by.block r by.first
     pub sort : IsNoImport by.sort
 
-  pub AreFields : Declarer → Type 0
+  unfoldable pub AreFields : Declarer → Type 0
   AreFields by = (r : ℕ) → by.of_record ≡ Some r → IsField by r
 
   -- a name behind END is its procedure's
@@ -89,7 +91,7 @@ module _ (R : Rows) where
     pub first : by.first ≡ row.declared_by
     pub sort : IsNoImport by.sort
 
-  pub EndsOne : End → Type 0
+  unfoldable pub EndsOne : End → Type 0
   EndsOne e = (n : ℕ) → e.of ≡ Some n → IsNamed n
 
   pub record Holds (r : Rows) : Type 0 where
@@ -142,6 +144,10 @@ module _ (R : Rows) where
   pub Free : Context → ℕ → Type 0
   Free c k = Unit {0}
 
+  pub free : (c : Context) (k : ℕ) → Free c k
+  unfolding Free
+  free c k = tt
+
   -- the construct that declares
   pub record Named (c : Context) (k : ℕ) : Type 0 where
     pub by : Declarer
@@ -162,6 +168,7 @@ module _ (R : Rows) where
   -- the declaration around a type
   pub record Typed (c : Context) (k : ℕ) : Type 0 where
     pub owner : IsOwner c.block c.declarer
+    pub owned : (owner.row).declared_by ≡ c.declarer
     pub before : c.declarer < k
 
   -- the record around fields
@@ -183,7 +190,7 @@ module _ (R : Rows) where
   named_later c k n p = record { by = p.by; among = p.among; first = p.first; before = (let b = p.before in omega (arith, b)); sort = p.sort }
 
   pub typed_later : Later Typed
-  typed_later c k n p = record { owner = p.owner; before = (let b = p.before in omega (arith, b)) }
+  typed_later c k n p = record { owner = p.owner; owned = p.owned; before = (let b = p.before in omega (arith, b)) }
 
   pub recorded_later : Later Recorded
   unfolding Recorded
@@ -201,10 +208,11 @@ module _ (R : Rows) where
   pub g-is : {Pre : Context → ℕ → Type 0} {p q : Piece} → p ≡ q → Good Pre q → Good Pre p
   g-is {Pre} e g = subst (Good Pre) (sym e) g
 
+  quiet_holds : {p : Piece} → Quiet p → (c : Context) (k : ℕ) → Holds (p.rows c k)
+  quiet_holds {p} f c k = holds_none (p.rows c k) (ap (λ (t : Told). t.declared) (f.none c k)) (ap (λ (t : Told). t.declarers) (f.none c k)) (ap (λ (t : Told). t.ends) (f.none c k))
+
   pub g-quiet : {Pre : Context → ℕ → Type 0} {p : Piece} → Quiet p → Good Pre p
-  g-quiet {Pre} {p} f = record {
-    holds = λ c k s i. holds_none (p.rows c k) (ap (λ (t : Told). t.declared) (f.none c k)) (ap (λ (t : Told). t.declarers) (f.none c k)) (ap (λ (t : Told). t.ends) (f.none c k));
-  }
+  g-quiet f = record { holds = λ c k s i. quiet_holds f c k }
 
   pub g-weak : {Pre Other : Context → ℕ → Type 0} {p : Piece} → ((c : Context) (k : ℕ) → Pre c k → Other c k) → Good Other p → Good Pre p
   g-weak f g = record { holds = λ c k s i. g.holds c k (f c k s) i }
@@ -274,9 +282,19 @@ module _ (R : Rows) where
   begun_named : (c : Context) (k : ℕ) → Begun c k → Named c k
   begun_named c k s = record { by = s.by; among = s.among; first = s.first; before = (let h = s.here in omega (arith, h)); sort = s.sort }
 
+  pub typed_named : (c : Context) (k : ℕ) → Typed c k → Named c k
+  typed_named c k s = record {
+    by = s.owner.by;
+    among = s.owner.among;
+    first = s.owner.first ∙ s.owned;
+    before = (let b = s.before in omega (arith, b));
+    sort = s.owner.sort;
+  }
+
   begun_typed : (i : Identdef) (c : Context) (k n : ℕ) → 0 < n → Begun c k → AreIn ((identdef_piece i).rows c k) → Typed c (k + n)
   begun_typed i c k n some s h = record {
     owner = record { row = _; declared = name_in i c k h; number = sym s.here; by = s.by; among = s.among; first = s.first; block_is = s.block; sort = s.sort };
+    owned = refl;
     before = (let e = s.here in omega (arith, e, some));
   }
 
@@ -389,3 +407,58 @@ module _ (R : Rows) where
   pub g-procedure : (i : Identdef) {q : Piece} → Good Ended q → Good Free (declaring sorts.Procedure (opening (both token (both (identdef_piece i) q))))
   unfolding IsNoImport
   g-procedure i {q} g = g-declaring sorts.Procedure tt (λ c k last s. no_fields _ refl) (heading i g)
+
+  holds_alias : (by : Declarer) (c : Context) (k : ℕ) → Contains R.declarers by → by.first ≡ k → IsAlias k → Holds (declared_row false (declaring_at c k) k)
+  holds_alias by c k among first alias = record {
+    declared = λ x h.
+        let is : record { number = k; exported = false; declared_by = k } ≡ x = in_one _ x h in
+        subst HasConstruct is (record { by = by; among = among; first = first; before = omega (arith, first); sort = inr alias });
+    declarers = λ x h. absurd (in_none x h);
+    ends = λ x h. absurd (in_none x h);
+  }
+
+  holds_rest : (i : ImportItem) (c : Context) (k : ℕ) → Holds ((both token (if_there (λ m. both token token) i.of)).rows c k)
+  holds_rest i c k =
+      let q : Quiet (both token (if_there (λ m. both token token) i.of)) = q-both q-token (q-there (λ m. both token token) i.of (λ m. q-both q-token q-token)) in
+      quiet_holds q c k
+
+  -- an import item, whose identifier is its alias
+  pub g-import : (i : ImportItem) → Good Free (import_piece i)
+  unfolding import_piece import_inner declaring tells joined
+  g-import i = record {
+    holds = λ c k s h.
+        let rest : Piece = both token (if_there (λ m. both token token) i.of) in
+        let row : Declarer = declarer sorts.Import c k (k + rest.width - 1) in
+        let d : Context = declaring_at c k in
+        let behind : AreIn (joined (import_row i d k) (joined (declared_row false d k) (rest.rows d k))) = in_second (one_declarer row) (joined (import_row i d k) (joined (declared_row false d k) (rest.rows d k))) h in
+        let own : AreIn (one_declarer row) = in_first (one_declarer row) (joined (import_row i d k) (joined (declared_row false d k) (rest.rows d k))) h in
+        let item : AreIn (import_row i d k) = in_first (import_row i d k) (joined (declared_row false d k) (rest.rows d k)) behind in
+        holds_both (one_declarer row) (joined (import_row i d k) (joined (declared_row false d k) (rest.rows d k)))
+        (holds_construct row (no_fields row refl))
+        (holds_both (import_row i d k) (joined (declared_row false d k) (rest.rows d k)) (holds_none _ refl refl refl)
+        (holds_both (declared_row false d k) (rest.rows d k) (holds_alias row c k (own.declarers row (at_front row [])) refl (record { item = _; among = item.imports _ (at_front _ []); alias = refl }))
+        (holds_rest i d k)));
+  }
+
+  -- the name behind a procedure's END, and that behind the module's
+  holds_end : (e : End) → EndsOne e → Holds (one_end e)
+  holds_end e f = record {
+    declared = λ x h. absurd (in_none x h);
+    declarers = λ x h. absurd (in_none x h);
+    ends = λ x h. subst EndsOne (in_one e x h) f;
+  }
+
+  ends_one : (c : Context) (k : ℕ) → IsNamed (c.declarer + 1) → EndsOne (record { number = k; of = Some (c.declarer + 1) })
+  unfolding EndsOne
+  ends_one c k s n e = let is : c.declarer + 1 ≡ n = (let f : Some (c.declarer + 1) ≡ Some n = e in cc) in subst IsNamed is s
+
+  ends_module : (k : ℕ) → EndsOne (record { number = k; of = None })
+  unfolding EndsOne
+  ends_module k n e = absurd (let f : None ≡ Some n = e in cc)
+
+  pub g-ends : Good Ended (tells procedure_end token)
+  unfolding Ended
+  g-ends = g-tells procedure_end (λ c k s. holds_end _ (ends_one c k s)) (g-quiet q-token)
+
+  pub g-finishes : Good Free (tells module_end token)
+  g-finishes = g-tells module_end (λ c k s. holds_end _ (ends_module k)) (g-quiet q-token)

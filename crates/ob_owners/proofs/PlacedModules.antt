@@ -1,0 +1,122 @@
+-- What stands around each row of a module.
+use Rattle.std.proofs.Common.{◌≡◌, List, refl, sym, ap, ◌∙◌}
+use Rattle.ob_tree.specs.declared.name.OneOrMore.{OneOrMore}
+use Rattle.ob_tree.specs.declared.declaration.ConstDecl.{ConstDecl}
+use Rattle.ob_tree.specs.declared.declaration.TypeDecl.{TypeDecl}
+use Rattle.ob_tree.specs.declared.declaration.VarDecl.{VarDecl}
+use Rattle.ob_tree.specs.declared.declaration.ImportItem.{ImportItem}
+use Rattle.ob_tree.specs.declared.declaration.Module.{Module}
+use Rattle.ob_tree.specs.declared.declaration.Declarations.{Declarations, Declarations-F, roll-Declarations, out-roll-Declarations, ind-Declarations, map-Declarations}
+use Rattle.ob_tree.specs.declared.declaration.ProcDecl.{ProcDecl, ProcDecl-F, roll-ProcDecl, out-roll-ProcDecl, map-ProcDecl}
+use Rattle.ob_tree.proofs.Closed.{With}
+use Rattle.ob_decls.specs.declared.rows.Sort.TheVariants as sorts
+use Rattle.ob_decls.specs.Parts.{Piece, token, both, tells, declaring, opening}
+use Rattle.ob_decls.specs.Parts.{if_there as there, each as pieces}
+use Rattle.ob_decls.specs.Expressions.{expr_piece}
+use Rattle.ob_decls.specs.Statements.{block_piece}
+use Rattle.ob_decls.specs.Types.{identdef_piece, parameters_piece}
+use Rattle.ob_decls.specs.Declaring.{const_piece, type_decl_piece, variable_piece, procedure_end, declarations_piece, procedure_piece, import_inner, import_piece, imports_piece, module_piece}
+use Rattle.ob_decls.specs.Declaring.{part as told_part}
+use Rattle.ob_decls.proofs.DeclarationLayers as told
+use Rattle.ob_decls.specs.Declaring.{rows_of, outermost}
+use Rattle.std.proofs.Common.{ℕ, None, Some}
+use Rattle.ob_decls.specs.Declaring.{module_end, outermost, rows_of}
+use Rattle.ob_decls.specs.declared.rows.End.{End}
+use Rattle.ob_decls.specs.Parts.{Rows}
+use Rattle.ob_owners.proofs.Bare.{Context}
+use Rattle.ob_owners.proofs.BareExpressions.{q-expr}
+use Rattle.ob_owners.proofs.BareStatements.{q-block}
+use Rattle.ob_owners.proofs.OwnedTypes.{identdef_some}
+use Rattle.ob_owners.proofs.Placed.{AreIn, Begun, Ended, Free, Good, Holds, Typed, ended_later, free, free_later, g-both, g-constant, g-each, g-ends, g-finishes, g-free, g-import, g-is, g-map, g-owner, g-procedure, g-quiet, g-there, g-type, g-variable, typed_later}
+use Rattle.ob_owners.proofs.PlacedTypes.{g-form, g-parameters, g-variables}
+use Rattle.ob_owners.proofs.Quiet.{q-both, q-there, q-token}
+
+module _ (R : Rows) where
+  g-token : {Pre : Context → ℕ → Type 0} → Good R Pre token
+  g-token = g-quiet R q-token
+
+  g-const : (c : ConstDecl) → Good R (Free R) (const_piece c)
+  unfolding const_piece
+  g-const c = g-constant R (g-owner R c.name (identdef_some c.name) (g-quiet R (q-both q-token (q-expr c.value))))
+
+  g-type_decl : (t : TypeDecl) → Good R (Free R) (type_decl_piece t)
+  unfolding type_decl_piece
+  g-type_decl t = g-type R (g-owner R t.name (identdef_some t.name) (g-both R (typed_later R) g-token (g-form R t.form)))
+
+  g-variable_decl : (v : VarDecl) → Good R (Free R) (variable_piece v)
+  unfolding variable_piece
+  g-variable_decl v = g-variable R (g-variables R v)
+
+  g-part : {X : Type 0} (f : X → Piece) (xs : List X) → ((x : X) → Good R (Free R) (f x)) → Good R (Free R) (told_part f xs)
+  g-part f xs w = g-both R (free_later R) g-token (g-each R (λ x. both (f x) token) xs (free_later R) (λ x. g-both R (free_later R) (w x) g-token))
+
+  abbrev HeldDeclarations : Declarations → Type 0
+  HeldDeclarations t = Good R (Free R) (declarations_piece t)
+
+  abbrev HeldProcDecl : ProcDecl → Type 0
+  HeldProcDecl t = Good R (Free R) (procedure_piece t)
+
+  abbrev WithDeclarations : Type 0
+  WithDeclarations = Declarations-F (With HeldDeclarations) (With HeldProcDecl)
+
+  abbrev declarations_of : WithDeclarations → Declarations-F Declarations ProcDecl
+  declarations_of = map-Declarations (With HeldDeclarations) (With HeldProcDecl) Declarations ProcDecl (λ e. e.0) (λ e. e.0)
+
+  abbrev WithProcDecl : Type 0
+  WithProcDecl = ProcDecl-F (With HeldDeclarations) (With HeldProcDecl)
+
+  abbrev procedure_of : WithProcDecl → ProcDecl-F Declarations ProcDecl
+  procedure_of = map-ProcDecl (With HeldDeclarations) (With HeldProcDecl) Declarations ProcDecl (λ e. e.0) (λ e. e.0)
+
+  abbrev declarations_told : Declarations-F Declarations ProcDecl → Piece
+  declarations_told d =
+      both (there (λ v. told_part const_piece v.items) d.constants) (
+      both (there (λ v. told_part type_decl_piece v.items) d.types) (
+      both (there (λ v. told_part variable_piece v.items) d.variables) (pieces (λ p. both (procedure_piece p) token) d.procedures.items)))
+
+
+  declarations_held : (y : WithDeclarations) → Good R (Free R) (declarations_told (declarations_of y))
+  declarations_held y =
+      g-both R (free_later R) (g-there R (λ v. told_part const_piece v.items) y.constants (λ v. g-part const_piece v.items g-const))
+      (g-both R (free_later R) (g-there R (λ v. told_part type_decl_piece v.items) y.types (λ v. g-part type_decl_piece v.items g-type_decl))
+      (g-both R (free_later R) (g-there R (λ v. told_part variable_piece v.items) y.variables (λ v. g-part variable_piece v.items g-variable_decl))
+      (g-map R (λ p. both (procedure_piece p) token) _ y.procedures.items (free_later R) (λ p. g-both R (free_later R) p.1 g-token))))
+
+  abbrev procedure_told : ProcDecl-F Declarations ProcDecl → Piece
+  procedure_told p = declaring sorts.Procedure (opening (
+      both token (both (identdef_piece p.name) (both (there parameters_piece p.parameters) (both token
+      (both (declarations_piece p.declarations) (both (there (λ b. both token (block_piece b.value)) p.body)
+      (both (there (λ e. both token (expr_piece e.value)) p.returned) (both token (tells procedure_end token))))))))))
+
+  procedure_held : (y : WithProcDecl) → Good R (Free R) (procedure_told (procedure_of y))
+  procedure_held y = g-procedure R y.name (
+      g-both R (ended_later R) (g-free R (g-there R parameters_piece y.parameters (g-parameters R))) (g-both R (ended_later R) g-token
+      (g-both R (ended_later R) (g-free R y.declarations.1) (g-both R (ended_later R) (g-quiet R (q-there (λ b. both token (block_piece b.value)) y.body (λ b. q-both q-token (q-block b.value))))
+      (g-both R (ended_later R) (g-quiet R (q-there (λ e. both token (expr_piece e.value)) y.returned (λ e. q-both q-token (q-expr e.value))))
+      (g-both R (ended_later R) g-token (g-ends R)))))))
+
+  declarations_step : (x : Declarations-F Declarations ProcDecl) (y : WithDeclarations) → declarations_of y ≡ x → HeldDeclarations (roll-Declarations x)
+  declarations_step x y is = g-is R (told.declarations_out (roll-Declarations x) ∙ ap (λ (z : Declarations-F Declarations ProcDecl). declarations_told z) (out-roll-Declarations x ∙ sym is)) (declarations_held y)
+
+  procedure_step : (x : ProcDecl-F Declarations ProcDecl) (y : WithProcDecl) → procedure_of y ≡ x → HeldProcDecl (roll-ProcDecl x)
+  procedure_step x y is = g-is R (told.procedure_told (roll-ProcDecl x) ∙ ap (λ (z : ProcDecl-F Declarations ProcDecl). procedure_told z) (out-roll-ProcDecl x ∙ sym is)) (procedure_held y)
+
+  g-declarations : (d : Declarations) → Good R (Free R) (declarations_piece d)
+  g-declarations = ind-Declarations HeldDeclarations HeldProcDecl declarations_step procedure_step
+
+  g-imports : (l : OneOrMore ImportItem) → Good R (Free R) (imports_piece l)
+  unfolding imports_piece
+  g-imports l = g-both R (free_later R) g-token (g-both R (free_later R) (g-import R l.first) (g-both R (free_later R)
+      (g-each R (λ i. both token (import_piece i)) l.rest.items (free_later R) (λ i. g-both R (free_later R) g-token (g-import R i))) g-token))
+
+  g-module : (m : Module) → Good R (Free R) (module_piece m)
+  unfolding module_piece
+  g-module m =
+      g-both R (free_later R) g-token (g-both R (free_later R) g-token (g-both R (free_later R) g-token
+      (g-both R (free_later R) (g-there R imports_piece m.imports g-imports)
+      (g-both R (free_later R) (g-declarations m.declarations) (g-both R (free_later R) (g-quiet R (q-there (λ b. both token (block_piece b)) m.body (λ b. q-both q-token (q-block b))))
+      (g-both R (free_later R) g-token (g-both R (free_later R) (g-finishes R) g-token)))))))
+
+-- of a tree
+pub module_holds : (m : Module) → Holds (rows_of m) (rows_of m)
+module_holds m = (g-module (rows_of m) m).holds outermost 0 (free (rows_of m) outermost 0) (record { declared = λ x h. h; declarers = λ x h. h; records = λ x h. h; imports = λ x h. h })
