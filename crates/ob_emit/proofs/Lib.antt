@@ -8,6 +8,8 @@ pub mod Numbered
 pub mod OneMember
 pub mod OnePath
 pub mod OneSymbol
+pub mod SomeSymbol
+pub mod SomeTargets
 pub mod Paths
 pub mod Positions
 pub mod Rows

@@ -108,7 +108,7 @@ module _ (v : World) (order : AreInOrder v.rows) (place k : ℕ) (r : Declared) 
       position_there (λ (d : Declared). d.number) v.rows.declared place k order.declared (record { element = r; there = at; has = has }) in
       rw e (rw at (rw local_not (ap (option_map (global p)) (flat (text v own_name) (own_steps v) r.number by.sort (text v r.number) (own none)))))
 
-elsewhere : (w v : World) (p : List ℕ) (i d : ℕ) (it : Declaration) → slice_get w.reached i ≡ Some (interface_of v.bytes v.tokens v.rows)
+pub elsewhere : (w v : World) (p : List ℕ) (i d : ℕ) (it : Declaration) → slice_get w.reached i ≡ Some (interface_of v.bytes v.tokens v.rows)
     → slice_get (interface_of v.bytes v.tokens v.rows).declarations d ≡ Some it → it.of_record ≡ None
     → imported_symbol w p i d ≡ option_map (global p) (option_map (λ (kind : DescriptorKind). module_path (interface_of v.bytes v.tokens v.rows).name ++ descriptor kind it.name ∷ []) (kind_of it.sort))
 elsewhere w v p i d it there at none =
@@ -116,7 +116,7 @@ elsewhere w v p i d it there at none =
     let e : steps_there m d ≡ in_block it.sort it.name = rw at (ap (step_by m d it) none) in
     rw there (ap (option_map (global p)) (flat m.name (steps_there m) d it.sort it.name e))
 
-seen_at : (w : World) (m : ModuleInterface) (i d : ℕ) (it : Declaration) → slice_get w.reached i ≡ Some m → declaration_there w i d ≡ Some it → slice_get m.declarations d ≡ Some it
+pub seen_at : (w : World) (m : ModuleInterface) (i d : ℕ) (it : Declaration) → slice_get w.reached i ≡ Some m → declaration_there w i d ≡ Some it → slice_get m.declarations d ≡ Some it
 unfolding declaration_there
 seen_at w m i d it there is = sym (ap (option_and_then (λ (n : ModuleInterface). declaration_at n d)) there) ∙ is
 

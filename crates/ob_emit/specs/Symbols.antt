@@ -1,5 +1,5 @@
 -- The symbols of what identifiers stand for: this project's names, written in the grammar of SCIP symbols (scip.proto, `Symbol`).
-use Rattle.std.specs.Prelude.{ℕ, zero, suc, ◌==◌, List, [], ◌∷◌, ◌++◌, codes, Bool, false, not, nat_lt, Option, Some, None, slice_get, take, count_by, position, if◌then◌else◌}
+use Rattle.std.specs.Prelude.{ℕ, zero, suc, ◌==◌, List, [], ◌∷◌, ◌++◌, codes, Bool, true, false, not, nat_lt, Option, Some, None, slice_get, take, count_by, position, if◌then◌else◌}
 use Rattle.std.specs.Option.{option_map, option_map_or, option_and_then}
 use Rattle.std.specs.Fmt.{decimal}
 use Rattle.ob_decls.specs.declared.rows.Declared.{Declared}
@@ -141,3 +141,23 @@ symbol_of w package_name targets.Own = Some (global package_name (module_path (t
 symbol_of w package_name (targets.«Module» item) = module_symbol w package_name item
 symbol_of w package_name targets.Predeclared = None
 symbol_of w package_name targets.Unresolved = None
+
+-- whether it is anything but a predeclared name or nothing
+abbrev pub stands_for_something : Target → Bool
+stands_for_something (targets.Declared k) = true
+stands_for_something (targets.Imported i d) = true
+stands_for_something (targets.External item name) = true
+stands_for_something targets.Own = true
+stands_for_something (targets.«Module» item) = true
+stands_for_something targets.Predeclared = false
+stands_for_something targets.Unresolved = false
+
+-- whether another module of the tree declares it
+abbrev pub is_imported : Target → Bool
+is_imported (targets.Declared k) = false
+is_imported (targets.Imported i d) = true
+is_imported (targets.External item name) = false
+is_imported targets.Own = false
+is_imported (targets.«Module» item) = false
+is_imported targets.Predeclared = false
+is_imported targets.Unresolved = false

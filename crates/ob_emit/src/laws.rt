@@ -1,5 +1,6 @@
 //! Laws of what callers of documents know. Each function is a law: its body is empty, and its contract is proved.
-ghost use Rattle.std.specs.Prelude.{◌≡◌, ◌<◌, ◌^◌, ℕ, Contains, List, Some, None, length, slice_get};
+ghost use Rattle.std.specs.Prelude.{◌≡◌, ◌<◌, ◌^◌, ℕ, Contains, List, Some, None, length, slice_get, false, true};
+ghost use Rattle.std.specs.Option.{is_some};
 ghost use Rattle.ob_scan.specs.declared.token.Token.{Token};
 ghost use Rattle.ob_scan.specs.Spelling.{Spells};
 ghost use Rattle.ob_tree.specs.declared.declaration.Module.{Module};
@@ -9,12 +10,13 @@ ghost use Rattle.ob_decls.specs.Parts.{Rows};
 ghost use Rattle.ob_interface.specs.Interfaces.{interface_of, Declaration, ModuleInterface};
 ghost use Rattle.ob_scope.specs.Scoped.{AreScopes, ModuleScopes};
 ghost use Rattle.ob_targets.specs.declared.target.Reference.{Reference};
+ghost use Rattle.ob_targets.specs.declared.target.Target.TheVariants.{Imported};
 ghost use Rattle.ob_targets.specs.Refers.{AreReferences};
 ghost use Rattle.ob_types.specs.World.{declaration_there, text, World};
 ghost use Rattle.scip_symbol.specs.SymbolTexts.{PlainSymbol};
 ghost use Rattle.ob_emit.specs.Apart.{seen_tokens, DeclaresOnce, IsLocal};
 ghost use Rattle.ob_emit.specs.Named.{AreNamed, AreOfNames, IsNamed};
-ghost use Rattle.ob_emit.specs.Symbols.{declared_symbol, imported_symbol};
+ghost use Rattle.ob_emit.specs.Symbols.{declared_symbol, imported_symbol, is_imported, stands_for_something, symbol_of};
 
 /// The scopes of a module say that it has names, and those of the modules that it reaches that these have.
 pub fn names_of_scopes()
@@ -45,4 +47,15 @@ pub fn one_declaration()
 pub fn one_symbol()
     ensures { (w v : World) (package_name : List ℕ) (i d k : ℕ) (it : Declaration) → AreInOrder v.rows → slice_get w.reached i ≡ Some (interface_of v.bytes v.tokens v.rows) → slice_get (seen_tokens v) d ≡ Some k
         → declaration_there w i d ≡ Some it → it.of_record ≡ None → imported_symbol w package_name i d ≡ declared_symbol v package_name k }
+{}
+
+/// What an identifier of a tree stands for has a symbol, but for predeclared names and nothing: so the document of a module, which leaves
+/// out what has none, leaves out no other identifier. What another module declares is there, by the places of both, and has a symbol where
+/// it stands in that module's block. The table of a module has its rows in order.
+pub fn some_symbol()
+    ensures here { (w : World) (m : Module) (refs : List Reference) (package_name : List ℕ) (r : Reference) → w.rows ≡ rows_of m → AreInOrder w.rows → AreScopes w.bytes w.tokens w.rows w.scopes
+        → AreReferences w refs → Contains refs r → is_imported r.target ≡ false → is_some (symbol_of w package_name r.target) ≡ stands_for_something r.target }
+    ensures there { (w v : World) (m : Module) (refs : List Reference) (package_name : List ℕ) (r : Reference) (i d : ℕ) → w.rows ≡ rows_of m → AreInOrder w.rows → AreScopes w.bytes w.tokens w.rows w.scopes
+        → AreReferences w refs → Contains refs r → r.target ≡ Imported i d → slice_get w.reached i ≡ Some (interface_of v.bytes v.tokens v.rows)
+        → (it : Declaration) × (declaration_there w i d ≡ Some it) × (it.of_record ≡ None → is_some (symbol_of w package_name r.target) ≡ true) }
 {}

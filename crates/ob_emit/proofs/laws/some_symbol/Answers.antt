@@ -1,0 +1,8 @@
+use Rattle.ob_emit.proofs.SomeTargets.{seen_symbol, some_symbol}
+use Rattle.ob_emit.proofs.laws.some_symbol.Goals as goal
+
+pub returns : goal.returns
+returns c = record {
+  here = λ w m refs p r is order scopes are h e. some_symbol w m is order scopes p refs r are h e;
+  there = λ w v m refs p r i d is order scopes are h e at. seen_symbol w m is order scopes p v refs r i d are h e at;
+}
