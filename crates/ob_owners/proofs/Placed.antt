@@ -1,6 +1,6 @@
 -- What stands around each row in the rows of a whole: a declared identifier has its construct, a field its record and that record's
 -- owner, the name behind an END its procedure.
-use Rattle.std.proofs.Common.{◌≡◌, ℕ, zero, suc, ◌+◌, ◌-◌, ◌<◌, ◌≤◌, ◌⊎◌, inl, inr, Bool, false, List, [], ◌∷◌, ◌++◌, map, Option, Some, None, refl, sym, ap, ◌∙◌, subst, arith}
+use Rattle.std.proofs.Common.{◌≡◌, ℕ, zero, suc, ◌+◌, ◌-◌, ◌<◌, ◌≤◌, ◌⊎◌, inl, inr, Bool, false, List, [], ◌∷◌, map, Option, Some, None, refl, sym, ap, ◌∙◌, subst, arith}
 use Rattle.std.specs.Prelude.{Contains}
 use Rattle.std.proofs.lemmas.List.Elements.{Contains-append_left, Contains-append_right, Contains-append_cases}
 use Rattle.ob_tree.specs.declared.declaration.ImportItem.{ImportItem}
@@ -13,7 +13,7 @@ use Rattle.ob_decls.specs.declared.rows.Import.{Import}
 use Rattle.ob_decls.specs.declared.rows.Record.{Record}
 use Rattle.ob_decls.specs.declared.rows.Sort.{Sort}
 use Rattle.ob_decls.specs.declared.rows.Sort.TheVariants as sorts
-use Rattle.ob_decls.specs.Parts.{Piece, Rows, joined, no_rows, one_block, one_declarer, one_end, token, both, tells, within, if_there, if_so, each, declaring, opening, declarer, declaring_at, in_block}
+use Rattle.ob_decls.specs.Parts.{Piece, Rows, joined, no_rows, one_block, one_declarer, one_end, token, both, tells, within, if_there, each, declaring, opening, declarer, declaring_at, in_block}
 use Rattle.ob_decls.specs.Declaring.{import_inner, import_piece, import_row, module_end, procedure_end}
 use Rattle.ob_decls.specs.Types.{declared_row, identdef_piece, record_row, in_record}
 use Rattle.ob_owners.proofs.Bare.{Context}

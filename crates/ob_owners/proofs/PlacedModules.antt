@@ -1,5 +1,5 @@
 -- What stands around each row of a module.
-use Rattle.std.proofs.Common.{◌≡◌, List, refl, sym, ap, ◌∙◌}
+use Rattle.std.proofs.Common.{◌≡◌, List, sym, ap, ◌∙◌}
 use Rattle.ob_tree.specs.declared.name.OneOrMore.{OneOrMore}
 use Rattle.ob_tree.specs.declared.declaration.ConstDecl.{ConstDecl}
 use Rattle.ob_tree.specs.declared.declaration.TypeDecl.{TypeDecl}
@@ -15,19 +15,18 @@ use Rattle.ob_decls.specs.Parts.{if_there as there, each as pieces}
 use Rattle.ob_decls.specs.Expressions.{expr_piece}
 use Rattle.ob_decls.specs.Statements.{block_piece}
 use Rattle.ob_decls.specs.Types.{identdef_piece, parameters_piece}
-use Rattle.ob_decls.specs.Declaring.{const_piece, type_decl_piece, variable_piece, procedure_end, declarations_piece, procedure_piece, import_inner, import_piece, imports_piece, module_piece}
+use Rattle.ob_decls.specs.Declaring.{const_piece, type_decl_piece, variable_piece, procedure_end, declarations_piece, procedure_piece, import_piece, imports_piece, module_piece}
 use Rattle.ob_decls.specs.Declaring.{part as told_part}
 use Rattle.ob_decls.proofs.DeclarationLayers as told
 use Rattle.ob_decls.specs.Declaring.{rows_of, outermost}
-use Rattle.std.proofs.Common.{ℕ, None, Some}
-use Rattle.ob_decls.specs.Declaring.{module_end, outermost, rows_of}
-use Rattle.ob_decls.specs.declared.rows.End.{End}
+use Rattle.std.proofs.Common.{ℕ}
+use Rattle.ob_decls.specs.Declaring.{outermost, rows_of}
 use Rattle.ob_decls.specs.Parts.{Rows}
 use Rattle.ob_owners.proofs.Bare.{Context}
 use Rattle.ob_owners.proofs.BareExpressions.{q-expr}
 use Rattle.ob_owners.proofs.BareStatements.{q-block}
 use Rattle.ob_owners.proofs.OwnedTypes.{identdef_some}
-use Rattle.ob_owners.proofs.Placed.{AreIn, Begun, Ended, Free, Good, Holds, Typed, ended_later, free, free_later, g-both, g-constant, g-each, g-ends, g-finishes, g-free, g-import, g-is, g-map, g-owner, g-procedure, g-quiet, g-there, g-type, g-variable, typed_later}
+use Rattle.ob_owners.proofs.Placed.{Free, Good, Holds, ended_later, free, free_later, g-both, g-constant, g-each, g-ends, g-finishes, g-free, g-import, g-is, g-map, g-owner, g-procedure, g-quiet, g-there, g-type, g-variable, typed_later}
 use Rattle.ob_owners.proofs.PlacedTypes.{g-form, g-parameters, g-variables}
 use Rattle.ob_owners.proofs.Quiet.{q-both, q-there, q-token}
 
@@ -73,7 +72,6 @@ module _ (R : Rows) where
       both (there (λ v. told_part const_piece v.items) d.constants) (
       both (there (λ v. told_part type_decl_piece v.items) d.types) (
       both (there (λ v. told_part variable_piece v.items) d.variables) (pieces (λ p. both (procedure_piece p) token) d.procedures.items)))
-
 
   declarations_held : (y : WithDeclarations) → Good R (Free R) (declarations_told (declarations_of y))
   declarations_held y =

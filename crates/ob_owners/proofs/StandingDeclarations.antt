@@ -1,0 +1,104 @@
+-- Declarations by what they tell of records and forms.
+use Rattle.std.proofs.Common.{◌≡◌, ℕ, suc, ◌+◌, ◌-◌, ◌<◌, ◌≤◌, inl, inr, List, ◌++◌, Some, None, true, refl, sym, ap, subst, arith}
+use Rattle.ob_tree.specs.declared.name.Identdef.{Identdef}
+use Rattle.ob_decls.specs.declared.rows.Declared.{Declared}
+use Rattle.ob_decls.specs.declared.rows.Sort.{Sort}
+use Rattle.ob_decls.specs.declared.rows.Sort.TheVariants as sorts
+use Rattle.ob_decls.specs.Parts.{Piece, joined, token, both, tells, within, declaring, declarer, declaring_at, in_block, opening, no_rows, record_for}
+use Rattle.ob_decls.specs.Types.{identdef_piece}
+use Rattle.ob_owners.specs.Owners.{has_type}
+use Rattle.ob_owners.proofs.Bare.{Context}
+use Rattle.ob_owners.proofs.Plain.{Plain, Told, b-first, b-so, b-token}
+use Rattle.ob_owners.proofs.Standing.{Core, Holds, In, both_hold, core}
+use Rattle.ob_owners.proofs.StandingCores.{holds_free, holds_loose, typed_holds}
+use Rattle.ob_owners.proofs.StandingPieces.{Free, Held, Opens, Stands, no_in}
+
+pub p-identdef : (i : Identdef) → Plain (identdef_piece i)
+unfolding identdef_piece
+p-identdef i = b-first _ (λ c k. refl) (b-so i.starred b-token)
+
+pub identdef_some : (i : Identdef) → 0 < (identdef_piece i).width
+unfolding identdef_piece tells both token
+identdef_some i = omega arith
+
+-- what stands behind the word that begins a procedure
+pub o-procedure : {q : Piece} → Free q → Opens (opening (both token q))
+unfolding tells within both token joined no_rows
+o-procedure {q} g = record {
+  some = omega arith;
+  holds = λ c k s.
+      let e : k + 1 + q.width ≡ k + (1 + q.width) = omega arith in
+      let y : Core = core (q.rows (in_block c k) (k + 1)) in
+      let f : Holds ⊥ Unit ⊥ k c.block c.of_record (k + 1) (k + 1 + q.width) y =
+      holds_free ⊥ Unit ⊥ c.declarer k c.of_record k c.block c.of_record (k + 1) (k + 1 + q.width) y (g.holds (in_block c k) (k + 1) (omega arith)) in
+      let h : Holds ⊥ Unit ⊥ k c.block c.of_record (k + 1) (k + (1 + q.width)) y = subst (λ (n : ℕ). Holds ⊥ Unit ⊥ k c.block c.of_record (k + 1) n y) e f in
+      lower k c.block c.of_record (k + 1) (k + (1 + q.width)) y (omega arith) h;
+}
+  where
+    lower : (k b e low high : ℕ) (y : Core) → k ≤ low → Holds ⊥ Unit ⊥ k b e low high y → Holds ⊥ Unit ⊥ k b e k high y
+    lower k b e low high y l h = record {
+      records = λ r i. (let p = h.records r i in ((let m = p.0 in omega arith), elim p.1 [ inl n ↦ absurd n.0 | inr z ↦ inr ((let m = z.0 in omega arith), z.1) ]));
+      parts = λ q i. (let p = h.parts q i in (p.0, elim p.1 [ inl n ↦ inl n | inr z ↦ inr ((let m = z.0 in omega arith), z.1) ]));
+      told = h.told;
+      forms = h.forms;
+      fields = λ f r i t. elim (h.fields f r i t) [ inl n ↦ absurd n.0 | inr o ↦ inr o ];
+    }
+
+-- a declaration's inner part begins with an identifier that it declares, and may own records
+pub record Types (p : Piece) : Type 0 where
+  pub some : 0 < p.width
+  pub row : Context → ℕ → Declared
+  pub there : (c : Context) (k : ℕ) → In (row c k) (p.rows c k).declared
+  pub number : (c : Context) (k : ℕ) → (row c k).number ≡ k
+  pub by : (c : Context) (k : ℕ) → (row c k).declared_by ≡ c.declarer
+  pub holds : (c : Context) (k : ℕ) → c.declarer ≡ k → Holds Unit Unit ⊥ k c.block c.of_record (suc k) (k + p.width) (core (p.rows c k))
+
+begins : (i : Identdef) (c : Context) (k : ℕ) (ds : List Declared) → In (record { number = k; exported = i.starred; declared_by = c.declarer }) (((identdef_piece i).rows c k).declared ++ ds)
+unfolding identdef_piece tells joined In
+begins i c k ds = inl refl
+
+-- named, as the name is opaque in what follows
+pub t-held : (i : Identdef) {q : Piece} → Held q → Types (both (identdef_piece i) q)
+unfolding both joined
+t-held i {q} g = record {
+  some = (let s = identdef_some i in omega arith);
+  row = λ c k. record { number = k; exported = i.starred; declared_by = c.declarer };
+  there = λ c k. begins i c k (q.rows c (k + (identdef_piece i).width)).declared;
+  number = λ c k. refl;
+  by = λ c k. refl;
+  holds = λ c k s.
+      let p : Piece = identdef_piece i in
+      let some : 0 < p.width = identdef_some i in
+      let f = (p-identdef i).none c k in
+      let e : k + p.width + q.width ≡ k + (p.width + q.width) = omega arith in
+      let y : Core = core (q.rows c (k + p.width)) in
+      let g1 : Holds Unit Unit ⊥ c.declarer c.block c.of_record (k + p.width) (k + p.width + q.width) y = g.holds c (k + p.width) (omega arith) in
+      let g2 : Holds Unit Unit ⊥ k c.block c.of_record (k + p.width) (k + p.width + q.width) y = subst (λ (d : ℕ). Holds Unit Unit ⊥ d c.block c.of_record (k + p.width) (k + p.width + q.width) y) s g1 in
+      let h : Holds Unit Unit ⊥ k c.block c.of_record (k + p.width) (k + (p.width + q.width)) y = subst (λ (n : ℕ). Holds Unit Unit ⊥ k c.block c.of_record (k + p.width) n y) e g2 in
+      let x : Core = core (p.rows c k) in
+      let empty : Holds ⊥ Unit ⊥ k c.block c.of_record (suc k) (k + p.width) x =
+      holds_loose ⊥ Unit ⊥ k c.block c.of_record (suc k) (k + p.width) x (ap (λ (t : Told). t.records) f) (ap (λ (t : Told). t.declarers) f)
+      (λ r j. absurd (no_in r x.parts (ap (λ (t : Told). t.parts) f) j)) in
+      both_hold Unit Unit ⊥ k c.block c.of_record (suc k) (k + p.width) (k + (p.width + q.width)) x y (omega arith) (omega arith) (omega arith) empty h;
+}
+
+pub s-types : {F : Type 0} (sort : Sort) {p : Piece} → has_type sort ≡ true → ((e r : ℕ) → record_for sort e ≡ Some r → F × (r ≡ e)) → Types p → Stands ⊥ ⊥ F (declaring sort p)
+unfolding declaring joined
+s-types {F} sort {p} typed stands f = record {
+  holds = λ c k l.
+      let around : Context = declaring_at c k in
+      typed_holds F c.declarer c.block c.of_record k (k + p.width) (declarer sort c k (k + p.width - 1)) (core (p.rows around k)) (let s = f.some in omega arith) refl refl
+      typed (stands c.of_record) (f.row around k) (f.there around k) (f.number around k) (f.by around k) (f.holds around k refl);
+}
+
+pub s-field : {p : Piece} → Types p → Stands ⊥ ⊥ Unit (declaring sorts.Field p)
+s-field f = s-types sorts.Field refl (λ e r t. (tt, (let g : Some e ≡ Some r = t in let h : e ≡ r = cc in sym h))) f
+
+pub s-type : {p : Piece} → Types p → Free (declaring sorts.Type p)
+s-type f = s-types sorts.Type refl (λ e r t. absurd (let g : None ≡ Some r = t in cc)) f
+
+pub s-variable : {p : Piece} → Types p → Free (declaring sorts.Variable p)
+s-variable f = s-types sorts.Variable refl (λ e r t. absurd (let g : None ≡ Some r = t in cc)) f
+
+pub t-is : {p q : Piece} → p ≡ q → Types q → Types p
+t-is e m = subst Types (sym e) m

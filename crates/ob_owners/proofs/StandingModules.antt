@@ -1,0 +1,184 @@
+-- The records and the forms in a module.
+use Rattle.std.proofs.Common.{◌≡◌, ◌+◌, ◌<◌, ℕ, zero, suc, inl, inr, List, [], ◌∷◌, Some, refl, sym, ap, ◌∙◌, arith}
+use Rattle.std.specs.Prelude.{Contains}
+use Rattle.ob_tree.specs.declared.name.OneOrMore.{OneOrMore}
+use Rattle.ob_tree.specs.declared.declaration.ConstDecl.{ConstDecl}
+use Rattle.ob_tree.specs.declared.declaration.TypeDecl.{TypeDecl}
+use Rattle.ob_tree.specs.declared.declaration.VarDecl.{VarDecl}
+use Rattle.ob_tree.specs.declared.declaration.ImportItem.{ImportItem}
+use Rattle.ob_tree.specs.declared.declaration.Module.{Module}
+use Rattle.ob_tree.specs.declared.declaration.Declarations.{Declarations, Declarations-F, roll-Declarations, out-roll-Declarations, ind-Declarations, map-Declarations}
+use Rattle.ob_tree.specs.declared.declaration.ProcDecl.{ProcDecl, ProcDecl-F, roll-ProcDecl, out-roll-ProcDecl, map-ProcDecl}
+use Rattle.ob_tree.proofs.Closed.{With}
+use Rattle.ob_decls.specs.declared.rows.Declarer.{Declarer}
+use Rattle.ob_decls.specs.declared.rows.FormPart.{FormPart}
+use Rattle.ob_decls.specs.declared.rows.Part.TheVariants as kinds
+use Rattle.ob_decls.specs.declared.rows.Record.{Record}
+use Rattle.ob_decls.specs.declared.rows.Sort.TheVariants as sorts
+use Rattle.ob_decls.specs.Parts.{Piece, token, both, tells, declaring, opening, joined, no_rows}
+use Rattle.ob_decls.specs.Parts.{if_there as there, each as pieces}
+use Rattle.ob_decls.specs.Expressions.{expr_piece}
+use Rattle.ob_decls.specs.Statements.{block_piece}
+use Rattle.ob_decls.specs.Types.{identdef_piece, parameters_piece}
+use Rattle.ob_decls.specs.Declaring.{const_piece, type_decl_piece, variable_piece, procedure_end, module_end, declarations_piece, procedure_piece, import_inner, import_piece, imports_piece, module_piece, outermost, rows_of}
+use Rattle.ob_decls.specs.Declaring.{part as told_part}
+use Rattle.ob_decls.proofs.DeclarationLayers as told
+use Rattle.ob_owners.specs.Owners.{EndsForm, IsFieldOf, IsOfRecord}
+use Rattle.ob_owners.proofs.Plain.{Plain, b-both, b-first, b-tells, b-there, b-token}
+use Rattle.ob_owners.proofs.PlainExpressions.{b-expr}
+use Rattle.ob_owners.proofs.PlainStatements.{b-block}
+use Rattle.ob_owners.proofs.Standing.{Ends, FieldOf, Holds, In, OfRecord, Typed, core}
+use Rattle.ob_owners.proofs.StandingPieces.{Free, l-plain, o-loose, s-both, s-each, s-is, s-map, s-opens, s-plain, s-there}
+use Rattle.ob_owners.proofs.StandingDeclarations.{identdef_some, o-procedure, p-identdef, s-type, s-variable, t-held}
+use Rattle.ob_owners.proofs.StandingTypes.{s-parameters, s-type_piece, t-var}
+
+behind : (p q : Piece) → 0 < p.width → 0 < (both p q).width
+unfolding both
+behind p q some = omega arith
+
+s-const : (c : ConstDecl) → Free (const_piece c)
+unfolding const_piece
+s-const c = s-opens sorts.Constant (λ r. refl) (o-loose (behind (identdef_piece c.name) _ (identdef_some c.name)) (l-plain (b-both (p-identdef c.name) (b-both b-token (b-expr c.value)))))
+
+s-type_decl : (t : TypeDecl) → Free (type_decl_piece t)
+unfolding type_decl_piece
+s-type_decl t = s-type (t-held t.name (s-both (s-plain b-token) (s-type_piece t.form)))
+
+s-variables : (v : VarDecl) → Free (variable_piece v)
+unfolding variable_piece
+s-variables v = s-variable (t-var v)
+
+import_some : (i : ImportItem) → 0 < (import_inner i).width
+unfolding import_inner tells both token
+import_some i = omega arith
+
+p-import : (i : ImportItem) → Plain (import_inner i)
+unfolding import_inner
+p-import i = b-tells _ (λ c k. refl) (b-first _ (λ c k. refl) (b-there (λ m. both token token) i.of (λ m. b-both b-token b-token)))
+
+s-import : (i : ImportItem) → Free (import_piece i)
+unfolding import_piece
+s-import i = s-opens sorts.Import (λ r. refl) (o-loose (import_some i) (l-plain (p-import i)))
+
+s-imports : (l : OneOrMore ImportItem) → Free (imports_piece l)
+unfolding imports_piece
+s-imports l = s-both (s-plain b-token) (s-both (s-import l.first) (s-both (s-each (λ i. both token (import_piece i)) l.rest.items (λ i. s-both (s-plain b-token) (s-import i))) (s-plain b-token)))
+
+s-part_of : {X : Type 0} (f : X → Piece) (xs : List X) → ((x : X) → Free (f x)) → Free (told_part f xs)
+s-part_of f xs w = s-both (s-plain b-token) (s-each (λ x. both (f x) token) xs (λ x. s-both (w x) (s-plain b-token)))
+
+abbrev HeldDeclarations : Declarations → Type 0
+HeldDeclarations t = Free (declarations_piece t)
+
+abbrev HeldProcDecl : ProcDecl → Type 0
+HeldProcDecl t = Free (procedure_piece t)
+
+abbrev WithDeclarations : Type 0
+WithDeclarations = Declarations-F (With HeldDeclarations) (With HeldProcDecl)
+
+abbrev declarations_of : WithDeclarations → Declarations-F Declarations ProcDecl
+declarations_of = map-Declarations (With HeldDeclarations) (With HeldProcDecl) Declarations ProcDecl (λ e. e.0) (λ e. e.0)
+
+abbrev WithProcDecl : Type 0
+WithProcDecl = ProcDecl-F (With HeldDeclarations) (With HeldProcDecl)
+
+abbrev procedure_of : WithProcDecl → ProcDecl-F Declarations ProcDecl
+procedure_of = map-ProcDecl (With HeldDeclarations) (With HeldProcDecl) Declarations ProcDecl (λ e. e.0) (λ e. e.0)
+
+abbrev declarations_told : Declarations-F Declarations ProcDecl → Piece
+declarations_told d =
+    both (there (λ v. told_part const_piece v.items) d.constants) (
+    both (there (λ v. told_part type_decl_piece v.items) d.types) (
+    both (there (λ v. told_part variable_piece v.items) d.variables) (pieces (λ p. both (procedure_piece p) token) d.procedures.items)))
+
+declarations_held : (y : WithDeclarations) → Free (declarations_told (declarations_of y))
+declarations_held y =
+    s-both (s-there (λ v. told_part const_piece v.items) y.constants (λ v. s-part_of const_piece v.items s-const))
+    (s-both (s-there (λ v. told_part type_decl_piece v.items) y.types (λ v. s-part_of type_decl_piece v.items s-type_decl))
+    (s-both (s-there (λ v. told_part variable_piece v.items) y.variables (λ v. s-part_of variable_piece v.items s-variables))
+    (s-map (λ p. both (procedure_piece p) token) _ y.procedures.items (λ p. s-both p.1 (s-plain b-token)))))
+
+abbrev procedure_told : ProcDecl-F Declarations ProcDecl → Piece
+procedure_told p = declaring sorts.Procedure (opening (
+    both token (both (identdef_piece p.name) (both (there parameters_piece p.parameters) (both token
+    (both (declarations_piece p.declarations) (both (there (λ b. both token (block_piece b.value)) p.body)
+    (both (there (λ e. both token (expr_piece e.value)) p.returned) (both token (tells procedure_end token))))))))))
+
+procedure_held : (y : WithProcDecl) → Free (procedure_told (procedure_of y))
+procedure_held y = s-opens sorts.Procedure (λ r. refl) (o-procedure (
+    s-both (s-plain (p-identdef y.name)) (s-both (s-there parameters_piece y.parameters s-parameters) (s-both (s-plain b-token)
+    (s-both y.declarations.1 (s-both (s-plain (b-there (λ b. both token (block_piece b.value)) y.body (λ b. b-both b-token (b-block b.value))))
+    (s-both (s-plain (b-there (λ e. both token (expr_piece e.value)) y.returned (λ e. b-both b-token (b-expr e.value))))
+    (s-both (s-plain b-token) (s-plain (b-tells _ (λ c k. refl) b-token))))))))))
+
+declarations_step : (x : Declarations-F Declarations ProcDecl) (y : WithDeclarations) → declarations_of y ≡ x → HeldDeclarations (roll-Declarations x)
+declarations_step x y is = s-is (told.declarations_out (roll-Declarations x) ∙ ap (λ (z : Declarations-F Declarations ProcDecl). declarations_told z) (out-roll-Declarations x ∙ sym is)) (declarations_held y)
+
+procedure_step : (x : ProcDecl-F Declarations ProcDecl) (y : WithProcDecl) → procedure_of y ≡ x → HeldProcDecl (roll-ProcDecl x)
+procedure_step x y is = s-is (told.procedure_told (roll-ProcDecl x) ∙ ap (λ (z : ProcDecl-F Declarations ProcDecl). procedure_told z) (out-roll-ProcDecl x ∙ sym is)) (procedure_held y)
+
+s-declarations : (d : Declarations) → Free (declarations_piece d)
+s-declarations = ind-Declarations HeldDeclarations HeldProcDecl declarations_step procedure_step
+
+-- what stands behind MODULE
+abbrev module_inner : Module → Piece
+module_inner m =
+    both token (both token (
+    both (there imports_piece m.imports) (
+    both (declarations_piece m.declarations) (both (there (λ b. both token (block_piece b)) m.body) (both token (both (tells module_end token) token))))))
+
+s-inner : (m : Module) → Free (module_inner m)
+s-inner m =
+    s-both (s-plain b-token) (s-both (s-plain b-token)
+    (s-both (s-there imports_piece m.imports s-imports)
+    (s-both (s-declarations m.declarations) (s-both (s-plain (b-there (λ b. both token (block_piece b)) m.body (λ b. b-both b-token (b-block b))))
+    (s-both (s-plain b-token) (s-both (s-plain (b-tells _ (λ c k. refl) b-token)) (s-plain b-token)))))))
+
+module_holds : (m : Module) → Holds ⊥ ⊥ ⊥ 0 0 0 1 (1 + (module_inner m).width) (core (rows_of m))
+unfolding module_piece both token joined no_rows
+module_holds m = (s-inner m).holds outermost 1 (omega arith)
+
+-- ---- laws
+
+among : {X : Type 0} (x : X) (xs : List X) → Contains xs x → In x xs
+unfolding In
+among x [] (k, l, e) = absurd (omega arith)
+among x (y ∷ ys) (zero, l, e) = inl e
+among x (y ∷ ys) (suc k, l, e) = inr (among x ys (k, omega arith, e))
+
+contained : {X : Type 0} (x : X) (xs : List X) → In x xs → Contains xs x
+unfolding In
+contained x [] h = absurd h
+contained x (y ∷ ys) h = elim h [ inl e ↦ (0, omega arith, e) | inr i ↦ (let c = contained x ys i in (suc c.0, (let l = c.1 in omega arith), c.2)) ]
+
+pub ends_form : (m : Module) (r : Record) → Contains (rows_of m).records r → EndsForm (rows_of m) r
+ends_form m r h =
+    let e : Ends (rows_of m).parts r = (module_holds m).forms r (among r (rows_of m).records h) in
+    record { part = e.part; among = contained e.part (rows_of m).parts e.among; declared_by = e.declared_by; number = e.number; is = e.is; last = λ q i s. e.last q (among q (rows_of m).parts i) s }
+
+pub of_record : (m : Module) (q : FormPart) → Contains (rows_of m).parts q → q.part ≡ kinds.Record → IsOfRecord (rows_of m) q
+of_record m q h s =
+    let e : OfRecord (rows_of m).records q = (module_holds m).told q (among q (rows_of m).parts h) s in
+    record { row = e.row; among = contained e.row (rows_of m).records e.among; number = e.number; owner = e.owner }
+
+field_of : (m : Module) (f : Declarer) (r : ℕ) → FieldOf ⊥ 0 0 (core (rows_of m)) f r → IsFieldOf (rows_of m) f r
+field_of m f r o =
+    let t : Typed (core (rows_of m)) o.row.owner f.block = elim o.owner [ inl n ↦ absurd n.0 | inr z ↦ z ] in
+    record {
+      row = o.row;
+      among = contained o.row (rows_of m).records o.among;
+      number = o.number;
+      before = o.before;
+      by = t.by;
+      by_among = contained t.by (rows_of m).declarers t.among;
+      first = t.first;
+      block = t.block;
+      sort = t.sort;
+      declared = t.row;
+      declared_among = contained t.row (rows_of m).declared t.there;
+      declared_number = t.number;
+      declared_by = t.declared_by;
+    }
+
+pub has_owner : (m : Module) (f : Declarer) (r : ℕ) → Contains (rows_of m).declarers f → f.of_record ≡ Some r → IsFieldOf (rows_of m) f r
+has_owner m f r h s = elim ((module_holds m).fields f r (among f (rows_of m).declarers h) s) [ inl n ↦ absurd n.0 | inr o ↦ field_of m f r o ]

@@ -1,0 +1,205 @@
+-- Parts of a tree by what they tell of records and forms.
+use Rattle.std.proofs.Common.{◌≡◌, ℕ, suc, ◌+◌, ◌-◌, ◌<◌, ◌≤◌, inl, inr, List, [], ◌∷◌, ◌++◌, map, Bool, Option, Some, None, refl, sym, ap, ap₂, ◌∙◌, subst, arith}
+use Rattle.ob_tree.specs.declared.name.Qualident.{Qualident}
+use Rattle.ob_decls.specs.declared.rows.Declarer.{Declarer}
+use Rattle.ob_decls.specs.declared.rows.FormPart.{FormPart}
+use Rattle.ob_decls.specs.declared.rows.Part.{Part}
+use Rattle.ob_decls.specs.declared.rows.Part.TheVariants as kinds
+use Rattle.ob_decls.specs.declared.rows.Record.{Record}
+use Rattle.ob_decls.specs.declared.rows.Sort.{Sort}
+use Rattle.ob_decls.specs.Parts.{Piece, Rows, no_rows, joined, token, both, tells, within, if_there, each, declaring, declarer, declaring_at, in_block, opening, record_for}
+use Rattle.ob_decls.specs.Types.{base_of, declared_row, in_record, part_here, record_row, targeted, untargeted}
+use Rattle.ob_owners.proofs.Bare.{Context}
+use Rattle.ob_owners.proofs.Plain.{Plain, Told, b-nothing, told}
+use Rattle.ob_owners.proofs.Standing.{Core, Holds, In, and, both_hold, core, split}
+use Rattle.ob_owners.proofs.StandingCores.{holds_free, holds_loose, record_holds, untyped_holds}
+
+pub no_in : {X : Type 0} (x : X) (xs : List X) → xs ≡ [] → In x xs → ⊥
+unfolding In
+no_in x xs e h = let i : In x [] = subst (λ (ys : List _). In x ys) e h in i
+
+-- ---- names, lengths and parameters
+
+-- no record, no construct that declares, and parts of the declaration around
+pub record Loose (p : Piece) : Type 0 where
+  pub records : (c : Context) (k : ℕ) → (p.rows c k).records ≡ []
+  pub declarers : (c : Context) (k : ℕ) → (p.rows c k).declarers ≡ []
+  pub parts : (c : Context) (k : ℕ) (q : FormPart) → In q (p.rows c k).parts → (q.declared_by ≡ c.declarer) × (q.number < k + p.width) × (q.part ≡ kinds.Record → ⊥)
+
+pub l-plain : {p : Piece} → Plain p → Loose p
+l-plain {p} f = record {
+  records = λ c k. ap (λ (t : Told). t.records) (f.none c k);
+  declarers = λ c k. ap (λ (t : Told). t.declarers) (f.none c k);
+  parts = λ c k q h. absurd (no_in q (p.rows c k).parts (ap (λ (t : Told). t.parts) (f.none c k)) h);
+}
+
+pub l-both : {p q : Piece} → Loose p → Loose q → Loose (both p q)
+unfolding both joined
+l-both {p} {q} f g = record {
+  records = λ c k. ap₂ (λ (xs ys : List Record). xs ++ ys) (f.records c k) (g.records c (k + p.width));
+  declarers = λ c k. ap₂ (λ (xs ys : List Declarer). xs ++ ys) (f.declarers c k) (g.declarers c (k + p.width));
+  parts = λ c k r h. elim (split r (p.rows c k).parts (q.rows c (k + p.width)).parts h) [
+    | inl i ↦ (let l = f.parts c k r i in (l.0, (let m = l.1 in omega arith), l.2))
+    | inr i ↦ (let l = g.parts c (k + p.width) r i in (l.0, (let m = l.1 in omega arith), l.2))
+  ];
+}
+
+pub l-own : (own : Context → ℕ → Rows) (part : ℕ → Part) {p : Piece} → ((c : Context) (k : ℕ) → told (own c k) ≡ record { records = []; parts = record { declared_by = c.declarer; number = k; part = part k } ∷ []; declarers = [] })
+    → ((k : ℕ) → part k ≡ kinds.Record → ⊥) → 0 < p.width → Loose p → Loose (tells own p)
+unfolding tells joined In
+l-own own part {p} is other some f = record {
+  records = λ c k. ap₂ (λ (xs ys : List Record). xs ++ ys) (ap (λ (t : Told). t.records) (is c k)) (f.records c k);
+  declarers = λ c k. ap₂ (λ (xs ys : List Declarer). xs ++ ys) (ap (λ (t : Told). t.declarers) (is c k)) (f.declarers c k);
+  parts = λ c k r h.
+      let row : FormPart = record { declared_by = c.declarer; number = k; part = part k } in
+      let e : (own c k).parts ≡ row ∷ [] = ap (λ (t : Told). t.parts) (is c k) in
+      let i : In r (row ∷ (p.rows c k).parts) = subst (λ (xs : List FormPart). In r (xs ++ (p.rows c k).parts)) e h in
+      elim i [
+        | inl s ↦ (let n : k ≡ r.number = ap (λ (z : FormPart). z.number) s in (ap (λ (z : FormPart). z.declared_by) (sym s), omega arith, (λ t. other k (ap (λ (z : FormPart). z.part) s ∙ t))))
+        | inr j ↦ f.parts c k r j
+      ];
+}
+
+pub l-there : {X : Type 0} (f : X → Piece) (o : Option X) → ((x : X) → Loose (f x)) → Loose (if_there f o)
+l-there f None w = l-plain b-nothing
+l-there f (Some x) w = w x
+
+pub l-each : {X : Type 0} (f : X → Piece) (xs : List X) → ((x : X) → Loose (f x)) → Loose (each f xs)
+l-each f [] w = l-plain b-nothing
+l-each f (x ∷ xs) w = l-both (w x) (l-each f xs w)
+
+pub l-declared : (starred : Bool) → Loose (tells (declared_row starred) token)
+unfolding tells joined token no_rows In
+l-declared starred = record { records = λ c k. refl; declarers = λ c k. refl; parts = λ c k q h. absurd h }
+
+pub l-is : {p q : Piece} → p ≡ q → Loose q → Loose p
+l-is e m = subst Loose (sym e) m
+
+-- ---- all parts
+
+-- whether the declaration around may own records here, may have parts of its form here, and whether fields may stand here
+pub record Stands (R P F : Type 0) (p : Piece) : Type 0 where
+  pub holds : (c : Context) (k : ℕ) → c.declarer < k → Holds R P F c.declarer c.block c.of_record k (k + p.width) (core (p.rows c k))
+
+abbrev pub Free : Piece → Type 0
+Free = Stands ⊥ ⊥ ⊥
+
+abbrev pub Held : Piece → Type 0
+Held = Stands Unit Unit ⊥
+
+pub s-loose : {R F : Type 0} {p : Piece} → Loose p → Stands R Unit F p
+s-loose {R} {F} {p} f = record {
+  holds = λ c k l. holds_loose R Unit F c.declarer c.block c.of_record k (k + p.width) (core (p.rows c k)) (f.records c k) (f.declarers c k) (λ q h. (let m = f.parts c k q h in (tt, m.0, m.1, m.2)));
+}
+
+pub s-plain : {R P F : Type 0} {p : Piece} → Plain p → Stands R P F p
+s-plain {R} {P} {F} {p} f = record {
+  holds = λ c k l. holds_loose R P F c.declarer c.block c.of_record k (k + p.width) (core (p.rows c k)) (ap (λ (t : Told). t.records) (f.none c k)) (ap (λ (t : Told). t.declarers) (f.none c k))
+      (λ q h. absurd (no_in q (p.rows c k).parts (ap (λ (t : Told). t.parts) (f.none c k)) h));
+}
+
+pub s-free : {R P F : Type 0} {p : Piece} → Free p → Stands R P F p
+s-free {R} {P} {F} {p} f = record { holds = λ c k l. holds_free R P F c.declarer c.block c.of_record c.declarer c.block c.of_record k (k + p.width) (core (p.rows c k)) (f.holds c k l) }
+
+pub s-both : {R P F : Type 0} {p q : Piece} → Stands ⊥ P F p → Stands R P F q → Stands R P F (both p q)
+unfolding both joined
+s-both {R} {P} {F} {p} {q} f g = record {
+  holds = λ c k l.
+      let m : c.declarer < k + p.width = omega arith in
+      let e : k + p.width + q.width ≡ k + (p.width + q.width) = omega arith in
+      let h : Holds R P F c.declarer c.block c.of_record (k + p.width) (k + (p.width + q.width)) (core (q.rows c (k + p.width))) =
+      subst (λ (n : ℕ). Holds R P F c.declarer c.block c.of_record (k + p.width) n (core (q.rows c (k + p.width)))) e (g.holds c (k + p.width) m) in
+      both_hold R P F c.declarer c.block c.of_record k (k + p.width) (k + (p.width + q.width)) (core (p.rows c k)) (core (q.rows c (k + p.width))) l (omega arith) (omega arith) (f.holds c k l) h;
+}
+
+pub s-there : {P F X : Type 0} (f : X → Piece) (o : Option X) → ((x : X) → Stands ⊥ P F (f x)) → Stands ⊥ P F (if_there f o)
+s-there f None w = s-plain b-nothing
+s-there f (Some x) w = w x
+
+pub s-each : {P F X : Type 0} (f : X → Piece) (xs : List X) → ((x : X) → Stands ⊥ P F (f x)) → Stands ⊥ P F (each f xs)
+s-each f [] w = s-plain b-nothing
+s-each f (x ∷ xs) w = s-both (w x) (s-each f xs w)
+
+pub s-map : {P F X Y : Type 0} (f : Y → Piece) (h : X → Y) (xs : List X) → ((x : X) → Stands ⊥ P F (f (h x))) → Stands ⊥ P F (each f (map h xs))
+s-map f h [] w = s-plain b-nothing
+s-map f h (x ∷ xs) w = s-both (w x) (s-map f h xs w)
+
+pub s-is : {R P F : Type 0} {p q : Piece} → p ≡ q → Stands R P F q → Stands R P F p
+s-is {R} {P} {F} e m = subst (Stands R P F) (sym e) m
+
+-- ---- types
+
+pub s-targeted : {R P F : Type 0} {p : Piece} → Stands R P F p → Stands R P F (within targeted p)
+unfolding within
+s-targeted f = record { holds = λ c k l. f.holds (targeted c k) k l }
+
+pub s-untargeted : {R P F : Type 0} {p : Piece} → Stands R P F p → Stands R P F (within untargeted p)
+unfolding within
+s-untargeted f = record { holds = λ c k l. f.holds (untargeted c k) k l }
+
+-- a part that doesn't end the form, and what stands behind it
+part_holds : {R F : Type 0} (d b e k high : ℕ) (part : FormPart) (y : Core) → d < k → suc k ≤ high → part.declared_by ≡ d → part.number ≡ k → (part.part ≡ kinds.Record → ⊥) → Holds R Unit F d b e (suc k) high y
+    → Holds R Unit F d b e k high (and (record { records = []; parts = part ∷ []; declarers = []; declared = [] }) y)
+unfolding In
+part_holds {R} {F} d b e k high part y l m by at other g =
+    let x : Core = record { records = []; parts = part ∷ []; declarers = []; declared = [] } in
+    both_hold R Unit F d b e k (suc k) high x y l (omega arith) m
+    (holds_loose ⊥ Unit F d b e k (suc k) x refl refl
+    (λ q h. elim h [
+      | inl s ↦ (let n : part.number ≡ q.number = ap (λ (z : FormPart). z.number) s in (tt, ap (λ (z : FormPart). z.declared_by) (sym s) ∙ by, omega arith, (λ t. other (ap (λ (z : FormPart). z.part) s ∙ t))))
+      | inr n ↦ absurd n
+    ])) g
+
+pub s-part : {R F : Type 0} (t : Part) {q : Piece} → (t ≡ kinds.Record → ⊥) → Stands R Unit F q → Stands R Unit F (tells (part_here t) (both token q))
+unfolding tells both token joined no_rows
+s-part {R} {F} t {q} other g = record {
+  holds = λ c k l.
+      let e : k + 1 + q.width ≡ k + (1 + q.width) = omega arith in
+      let s : k + 1 ≡ suc k = omega arith in
+      let h : Holds R Unit F c.declarer c.block c.of_record (k + 1) (k + (1 + q.width)) (core (q.rows c (k + 1))) =
+      subst (λ (n : ℕ). Holds R Unit F c.declarer c.block c.of_record (k + 1) n (core (q.rows c (k + 1)))) e (g.holds c (k + 1) (omega arith)) in
+      let i : Holds R Unit F c.declarer c.block c.of_record (suc k) (k + (1 + q.width)) (core (q.rows c (k + 1))) =
+      subst (λ (n : ℕ). Holds R Unit F c.declarer c.block c.of_record n (k + (1 + q.width)) (core (q.rows c (k + 1)))) s h in
+      part_holds c.declarer c.block c.of_record k (k + (1 + q.width)) (record { declared_by = c.declarer; number = k; part = t }) (core (q.rows c (k + 1))) l (omega arith) refl refl other i;
+}
+
+pub s-procedure : {R F : Type 0} (t : Part) {q : Piece} → (t ≡ kinds.Record → ⊥) → Free q → Stands R Unit F (tells (part_here t) (opening (both token q)))
+unfolding tells within both token joined no_rows
+s-procedure {R} {F} t {q} other g = record {
+  holds = λ c k l.
+      let e : k + 1 + q.width ≡ k + (1 + q.width) = omega arith in
+      let s : k + 1 ≡ suc k = omega arith in
+      let y : Core = core (q.rows (in_block c k) (k + 1)) in
+      let f : Holds R Unit F c.declarer c.block c.of_record (k + 1) (k + 1 + q.width) y =
+      holds_free R Unit F c.declarer k c.of_record c.declarer c.block c.of_record (k + 1) (k + 1 + q.width) y (g.holds (in_block c k) (k + 1) (omega arith)) in
+      let h : Holds R Unit F c.declarer c.block c.of_record (k + 1) (k + (1 + q.width)) y = subst (λ (n : ℕ). Holds R Unit F c.declarer c.block c.of_record (k + 1) n y) e f in
+      let i : Holds R Unit F c.declarer c.block c.of_record (suc k) (k + (1 + q.width)) y = subst (λ (n : ℕ). Holds R Unit F c.declarer c.block c.of_record n (k + (1 + q.width)) y) s h in
+      part_holds c.declarer c.block c.of_record k (k + (1 + q.width)) (record { declared_by = c.declarer; number = k; part = t }) y l (omega arith) refl refl other i;
+}
+
+pub s-record : (base : Option Qualident) {p : Piece} → 0 < p.width → Stands ⊥ ⊥ Unit p → Held (tells (part_here kinds.Record) (tells (record_row base) (within in_record p)))
+unfolding tells within joined
+s-record base {p} some g = record {
+  holds = λ c k l. record_holds c.declarer c.block c.of_record k (k + p.width) (record { number = k; owner = c.declarer; base = base_of base k }) (record { declared_by = c.declarer; number = k; part = kinds.Record })
+      (core (p.rows (in_record c k) k)) l (omega arith) refl refl refl refl refl (g.holds (in_record c k) k l);
+}
+
+-- ---- declarations
+
+-- a declaration's inner part, where it owns nothing
+pub record Opens (p : Piece) : Type 0 where
+  pub some : 0 < p.width
+  pub holds : (c : Context) (k : ℕ) → c.declarer ≡ k → Holds ⊥ Unit ⊥ k c.block c.of_record k (k + p.width) (core (p.rows c k))
+
+pub o-loose : {p : Piece} → 0 < p.width → Loose p → Opens p
+o-loose {p} some f = record {
+  some = some;
+  holds = λ c k s. holds_loose ⊥ Unit ⊥ k c.block c.of_record k (k + p.width) (core (p.rows c k)) (f.records c k) (f.declarers c k) (λ q h. (let m = f.parts c k q h in (tt, m.0 ∙ s, m.1, m.2)));
+}
+
+pub s-opens : (sort : Sort) {p : Piece} → ((r : ℕ) → record_for sort r ≡ None) → Opens p → Free (declaring sort p)
+unfolding declaring joined
+s-opens sort {p} none f = record {
+  holds = λ c k l. untyped_holds ⊥ c.declarer c.block c.of_record k (k + p.width) (declarer sort c k (k + p.width - 1)) (core (p.rows (declaring_at c k) k)) (let s = f.some in omega arith) refl refl
+      (none c.of_record) (f.holds (declaring_at c k) k refl);
+}

@@ -1,0 +1,179 @@
+-- The records and the forms in types.
+use Rattle.std.proofs.Common.{◌≡◌, ◌<◌, ℕ, zero, suc, false, Option, Some, None, refl, sym, ap, ◌∙◌, arith}
+use Rattle.std.specs.declared.boxed.Box.{Box}
+use Rattle.std.specs.declared.alloc.Global.{Global}
+use Rattle.ob_tree.specs.declared.declaration.Parameters.{Parameters}
+use Rattle.ob_tree.specs.declared.declaration.TypeForm.TheOpen as layers
+use Rattle.ob_tree.specs.declared.declaration.TypeForm.TheShapes as shapes
+use Rattle.ob_tree.specs.declared.declaration.TypeForm.{TypeForm, TypeForm-F, roll-TypeForm, out-roll-TypeForm, ind-TypeForm, map-TypeForm}
+use Rattle.ob_tree.specs.declared.declaration.Fields.{Fields, Fields-F, roll-Fields, out-roll-Fields, map-Fields}
+use Rattle.ob_tree.specs.declared.declaration.Record.{Record, Record-F, roll-Record, out-roll-Record, map-Record}
+use Rattle.ob_tree.specs.declared.declaration.VarDecl.{VarDecl, VarDecl-F, roll-VarDecl, out-roll-VarDecl, ind-VarDecl, map-VarDecl}
+use Rattle.ob_tree.proofs.Closed.{With}
+use Rattle.ob_tree.specs.declared.name.Qualident.{Qualident}
+use Rattle.ob_tree.specs.declared.expression.ExprList.{ExprList, out-ExprList}
+use Rattle.ob_tree.specs.declared.declaration.ParameterSection.{ParameterSection}
+use Rattle.ob_decls.specs.declared.rows.Sort.TheVariants as sorts
+use Rattle.ob_decls.specs.declared.rows.Part.TheVariants as parts
+use Rattle.ob_decls.specs.Parts.{Piece, token, both, tells, within, if_so, declaring}
+use Rattle.ob_decls.specs.Parts.{if_there as there}
+use Rattle.ob_decls.specs.Expressions.{behind_dot, each_after, expr_piece}
+use Rattle.ob_decls.specs.Statements.{qualident_piece}
+use Rattle.ob_decls.specs.Types.{name_part, part_here, record_row, in_record, open_arrays, section_inner, section_piece, identdef_piece, parameter_piece, parameters_piece, type_name_piece, lengths_piece, type_piece, fields_piece, record_piece, var_piece}
+use Rattle.ob_decls.proofs.TypeLayers as told
+use Rattle.ob_owners.proofs.Plain.{b-both, b-each, b-nothing, b-so, b-tells, b-there, b-token}
+use Rattle.ob_owners.proofs.PlainExpressions.{b-expr}
+use Rattle.ob_owners.proofs.PlainStatements.{b-qualident}
+use Rattle.ob_owners.proofs.StandingPieces.{Free, Held, Loose, Stands, l-both, l-declared, l-each, l-is, l-own, l-plain, o-loose, s-both, s-each, s-is, s-loose, s-map, s-opens, s-part, s-plain, s-procedure, s-record, s-targeted, s-there, s-untargeted}
+use Rattle.ob_owners.proofs.StandingDeclarations.{Types, p-identdef, s-field, t-held, t-is}
+
+-- ---- names and parameters
+
+token_some : 0 < token.width
+unfolding token
+token_some = omega arith
+
+qualident_some : (q : Qualident) → 0 < (qualident_piece q).width
+unfolding qualident_piece tells both token
+qualident_some q = omega arith
+
+l-array : Loose (tells (part_here parts.Array) token)
+l-array = l-own (part_here parts.Array) (λ k. parts.Array) (λ c k. refl) (λ k e. cc) token_some (l-plain b-token)
+
+l-type_name : (q : Qualident) → Loose (type_name_piece q)
+unfolding type_name_piece tells both token
+l-type_name q = l-own (name_part q) (λ k. parts.Named (behind_dot q.member k)) (λ c k. refl) (λ k e. cc) (omega arith) (l-plain (b-tells _ (λ c k. refl) (b-both b-token (b-there (λ m. both token token) q.member (λ m. b-both b-token b-token)))))
+
+l-open_array : Loose (tells (part_here parts.Array) (both token token))
+unfolding both token
+l-open_array = l-own (part_here parts.Array) (λ k. parts.Array) (λ c k. refl) (λ k e. cc) (omega arith) (l-plain (b-both b-token b-token))
+
+l-arrays : (n : ℕ) → Loose (open_arrays n)
+l-arrays zero = l-plain b-nothing
+l-arrays (suc n) = l-both l-open_array (l-arrays n)
+
+l-parameter : Loose parameter_piece
+unfolding parameter_piece
+l-parameter = l-declared false
+
+l-section : (s : ParameterSection) → Loose (section_inner s)
+unfolding section_inner
+l-section s = l-both (l-plain (b-so s.variable b-token)) (l-both l-parameter (l-both (l-each (λ n. both token parameter_piece) s.names.rest.items (λ n. l-both (l-plain b-token) l-parameter)) (l-both (l-plain b-token)
+    (l-both (l-arrays s.open_arrays) (l-own (name_part s.of) (λ k. parts.Named (behind_dot s.of.member k)) (λ c k. refl) (λ k e. cc) (qualident_some s.of) (l-plain (b-qualident s.of)))))))
+
+section_some : (s : ParameterSection) → 0 < (section_inner s).width
+unfolding section_inner parameter_piece tells both token
+section_some s = omega arith
+
+s-section : (s : ParameterSection) → Free (section_piece s)
+unfolding section_piece
+s-section s = s-opens sorts.Parameter (λ r. refl) (o-loose (section_some s) (l-section s))
+
+pub s-parameters : (p : Parameters) → Free (parameters_piece p)
+unfolding parameters_piece
+s-parameters p =
+    s-both (s-plain b-token) (s-both (s-there (λ l. both (section_piece l.first) (each_after section_piece l.rest.items)) p.sections (λ l. s-both (s-section l.first) (s-each (λ s. both token (section_piece s)) l.rest.items (λ s. s-both (s-plain b-token) (s-section s)))))
+    (s-both (s-plain b-token) (s-plain (b-there (λ q. both token (qualident_piece q)) p.result (λ q. b-both b-token (b-qualident q))))))
+
+l-lengths : (l : ExprList) → Loose (lengths_piece l)
+l-lengths l = l-is (told.lengths_out l) (l-both (l-plain (b-expr (out-ExprList l).first)) (l-each (λ e. both (tells (part_here parts.Array) token) (expr_piece e)) (out-ExprList l).rest.items (λ e. l-both l-array (l-plain (b-expr e)))))
+
+-- ---- each part
+
+abbrev HeldTypeForm : TypeForm → Type 0
+HeldTypeForm t = Held (type_piece t)
+
+abbrev HeldFields : Fields → Type 0
+HeldFields t = Stands ⊥ ⊥ Unit (fields_piece t)
+
+abbrev HeldRecord : Record → Type 0
+HeldRecord t = Held (tells (part_here parts.Record) (record_piece t))
+
+abbrev HeldVarDecl : VarDecl → Type 0
+HeldVarDecl t = Types (var_piece t)
+
+abbrev WithTypeForm : Type 0
+WithTypeForm = TypeForm-F (With HeldTypeForm) (With HeldFields) (With HeldRecord) (With HeldVarDecl)
+
+abbrev type_of : WithTypeForm → TypeForm-F TypeForm Fields Record VarDecl
+type_of = map-TypeForm (With HeldTypeForm) (With HeldFields) (With HeldRecord) (With HeldVarDecl) TypeForm Fields Record VarDecl (λ e. e.0) (λ e. e.0) (λ e. e.0) (λ e. e.0)
+
+abbrev WithFields : Type 0
+WithFields = Fields-F (With HeldTypeForm) (With HeldFields) (With HeldRecord) (With HeldVarDecl)
+
+abbrev fields_of : WithFields → Fields-F TypeForm Fields Record VarDecl
+fields_of = map-Fields (With HeldTypeForm) (With HeldFields) (With HeldRecord) (With HeldVarDecl) TypeForm Fields Record VarDecl (λ e. e.0) (λ e. e.0) (λ e. e.0) (λ e. e.0)
+
+abbrev WithRecord : Type 0
+WithRecord = Record-F (With HeldTypeForm) (With HeldFields) (With HeldRecord) (With HeldVarDecl)
+
+abbrev record_of : WithRecord → Record-F TypeForm Fields Record VarDecl
+record_of = map-Record (With HeldTypeForm) (With HeldFields) (With HeldRecord) (With HeldVarDecl) TypeForm Fields Record VarDecl (λ e. e.0) (λ e. e.0) (λ e. e.0) (λ e. e.0)
+
+abbrev WithVarDecl : Type 0
+WithVarDecl = VarDecl-F (With HeldTypeForm) (With HeldFields) (With HeldRecord) (With HeldVarDecl)
+
+abbrev var_of : WithVarDecl → VarDecl-F TypeForm Fields Record VarDecl
+var_of = map-VarDecl (With HeldTypeForm) (With HeldFields) (With HeldRecord) (With HeldVarDecl) TypeForm Fields Record VarDecl (λ e. e.0) (λ e. e.0) (λ e. e.0) (λ e. e.0)
+
+fields_there : (o : Option (Box (With HeldFields) Global)) → Stands ⊥ ⊥ Unit (there (λ f. fields_piece f.value) ((shapes.former-Record-fields).map (With HeldFields) Fields (λ e. e.0) o))
+fields_there None = s-plain b-nothing
+fields_there (Some f) = f.value.1
+
+type_held : (y : WithTypeForm) → Held (told.type_shown (type_of y))
+type_held (layers.Named q) = s-loose (l-type_name q)
+type_held (layers.ArrayOf lengths of) = s-part parts.Array (λ e. cc) (s-both (s-loose (l-lengths lengths.value)) (s-both (s-plain b-token) (s-untargeted of.value.1)))
+type_held (layers.RecordOf r) = r.1
+type_held (layers.PointerTo t) = s-part parts.Pointer (λ e. cc) (s-both (s-plain b-token) (s-targeted t.value.1))
+type_held (layers.ProcOf p) = s-procedure parts.Procedure (λ e. cc) (s-there parameters_piece p s-parameters)
+
+abbrev fields_told : Fields-F TypeForm Fields Record VarDecl → Piece
+fields_told f = both (declaring sorts.Field (var_piece f.first)) (both (each_after (λ v. declaring sorts.Field (var_piece v)) f.rest.items) (if_so f.closing_semicolon token))
+
+fields_held : (y : WithFields) → Stands ⊥ ⊥ Unit (fields_told (fields_of y))
+fields_held y =
+    s-both (s-field y.first.1)
+    (s-both (s-map (λ v. both token (declaring sorts.Field (var_piece v))) _ y.rest.items (λ v. s-both (s-plain b-token) (s-field v.1)))
+    (s-plain (b-so y.closing_semicolon b-token)))
+
+abbrev record_told : Record-F TypeForm Fields Record VarDecl → Piece
+record_told r = tells (record_row r.base) (within in_record (
+    both token (both (there (λ q. both token (both (qualident_piece q) token)) r.base)
+    (both (there (λ x. fields_piece x.value) r.fields) token))))
+
+behind_token : (p : Piece) → 0 < (both token p).width
+unfolding both token
+behind_token p = omega arith
+
+record_held : (y : WithRecord) → Held (tells (part_here parts.Record) (record_told (record_of y)))
+record_held y = s-record y.base (behind_token _)
+    (s-both (s-plain b-token)
+    (s-both (s-plain (b-there (λ q. both token (both (qualident_piece q) token)) y.base (λ q. b-both b-token (b-both (b-qualident q) b-token))))
+    (s-both (fields_there y.fields) (s-plain b-token))))
+
+abbrev var_told : VarDecl-F TypeForm Fields Record VarDecl → Piece
+var_told v = both (identdef_piece v.names.first) (both (each_after identdef_piece v.names.rest.items) (both token (type_piece v.form)))
+
+var_held : (y : WithVarDecl) → Types (var_told (var_of y))
+var_held y = t-held y.names.first
+    (s-both (s-plain (b-each (λ i. both token (identdef_piece i)) y.names.rest.items (λ i. b-both b-token (p-identdef i)))) (s-both (s-plain b-token) y.form.1))
+
+-- ---- layer by layer
+
+type_step : (x : TypeForm-F TypeForm Fields Record VarDecl) (y : WithTypeForm) → type_of y ≡ x → HeldTypeForm (roll-TypeForm x)
+type_step x y is = s-is (told.type_told (roll-TypeForm x) ∙ ap (λ (z : TypeForm-F TypeForm Fields Record VarDecl). told.type_shown z) (out-roll-TypeForm x ∙ sym is)) (type_held y)
+
+fields_step : (x : Fields-F TypeForm Fields Record VarDecl) (y : WithFields) → fields_of y ≡ x → HeldFields (roll-Fields x)
+fields_step x y is = s-is (told.fields_out (roll-Fields x) ∙ ap (λ (z : Fields-F TypeForm Fields Record VarDecl). fields_told z) (out-roll-Fields x ∙ sym is)) (fields_held y)
+
+record_step : (x : Record-F TypeForm Fields Record VarDecl) (y : WithRecord) → record_of y ≡ x → HeldRecord (roll-Record x)
+record_step x y is = s-is (ap (tells (part_here parts.Record)) (told.record_out (roll-Record x) ∙ ap (λ (z : Record-F TypeForm Fields Record VarDecl). record_told z) (out-roll-Record x ∙ sym is))) (record_held y)
+
+var_step : (x : VarDecl-F TypeForm Fields Record VarDecl) (y : WithVarDecl) → var_of y ≡ x → HeldVarDecl (roll-VarDecl x)
+var_step x y is = t-is (told.var_out (roll-VarDecl x) ∙ ap (λ (z : VarDecl-F TypeForm Fields Record VarDecl). var_told z) (out-roll-VarDecl x ∙ sym is)) (var_held y)
+
+pub s-type_piece : (t : TypeForm) → Held (type_piece t)
+s-type_piece = ind-TypeForm HeldTypeForm HeldFields HeldRecord HeldVarDecl type_step fields_step record_step var_step
+
+pub t-var : (v : VarDecl) → Types (var_piece v)
+t-var = ind-VarDecl HeldTypeForm HeldFields HeldRecord HeldVarDecl type_step fields_step record_step var_step
