@@ -1,6 +1,7 @@
 -- Parts of a tree in which nothing is declared.
 use Rattle.std.proofs.Common.{◌≡◌, ℕ, ◌+◌, Bool, true, false, List, [], ◌∷◌, ◌++◌, map, Option, Some, None, refl, sym, ap, ap₂, subst}
 use Rattle.ob_decls.specs.declared.rows.Record.{Record}
+use Rattle.ob_decls.specs.declared.rows.Declared.{Declared}
 use Rattle.ob_decls.specs.declared.rows.FormPart.{FormPart}
 use Rattle.ob_decls.specs.declared.rows.Declarer.{Declarer}
 use Rattle.ob_decls.specs.Parts.{Piece, Rows, no_rows, joined, nothing, token, both, tells, if_there, if_so, each}
@@ -9,27 +10,28 @@ use Rattle.ob_owners.proofs.Bare.{Context}
 use Rattle.ob_owners.proofs.Quiet as quiet
 use Rattle.ob_owners.proofs.Quiet.{Quiet}
 
--- the records, the parts of forms and the constructs that declare
+-- the records, the parts of forms, the constructs that declare and what they declare
 pub record Told : Type 0 where
   pub records : List Record
   pub parts : List FormPart
   pub declarers : List Declarer
+  pub declared : List Declared
 
 abbrev pub told : Rows → Told
-told r = record { records = r.records; parts = r.parts; declarers = r.declarers }
+told r = record { records = r.records; parts = r.parts; declarers = r.declarers; declared = r.declared }
 
 abbrev pub none : Told
-none = record { records = []; parts = []; declarers = [] }
+none = record { records = []; parts = []; declarers = []; declared = [] }
 
 abbrev pub and : Told → Told → Told
-and a b = record { records = a.records ++ b.records; parts = a.parts ++ b.parts; declarers = a.declarers ++ b.declarers }
+and a b = record { records = a.records ++ b.records; parts = a.parts ++ b.parts; declarers = a.declarers ++ b.declarers; declared = a.declared ++ b.declared }
 
 pub record Plain (p : Piece) : Type 0 where
   pub none : (c : Context) (k : ℕ) → told (p.rows c k) ≡ none
 
 -- nothing is declared where names are only used
 pub plain : {p : Piece} → Quiet p → Plain p
-plain f = record { none = λ c k. ap (λ (t : quiet.Told). record { records = t.records; parts = t.parts; declarers = t.declarers }) (f.none c k) }
+plain f = record { none = λ c k. ap (λ (t : quiet.Told). record { records = t.records; parts = t.parts; declarers = t.declarers; declared = t.declared }) (f.none c k) }
 
 pub b-nothing : Plain nothing
 unfolding nothing no_rows

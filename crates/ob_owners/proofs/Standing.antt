@@ -94,6 +94,7 @@ pub record Holds (R P F : Type 0) (d b e low high : ℕ) (x : Core) : Type 0 whe
   pub parts : (q : FormPart) → In q x.parts → (q.number < high) × OwnOr P d low high q.declared_by
   pub told : (q : FormPart) → In q x.parts → q.part ≡ sorts_of_part.Record → OfRecord x.records q
   pub forms : (r : Record) → In r x.records → Ends x.parts r
+  pub marks : (t : Declared) → In t x.declared → t.declared_by ≤ t.number
   pub fields : (f : Declarer) (r : ℕ) → In f x.declarers → f.of_record ≡ Some r → (F × (r ≡ e) × (f.block ≡ b) × (low ≤ f.first)) ⊎ FieldOf R d b x f r
 
 -- ---- wider
@@ -195,5 +196,8 @@ module _ (R P F : Type 0) (d b e low mid high : ℕ) (x y : Core) (u : d < low) 
     | inr j ↦ (elim (g.fields h r j t) [ inl a ↦ inl (a.0, a.1, a.2, (let l = a.3 in omega arith)) | inr a ↦ inr (field_right R d b x y h r a) ])
   ]
 
+  and_marks : (t : Declared) → In t (x.declared ++ y.declared) → t.declared_by ≤ t.number
+  and_marks t h = elim (split t x.declared y.declared h) [ inl i ↦ f.marks t i | inr i ↦ g.marks t i ]
+
   pub both_hold : Holds R P F d b e low high (and x y)
-  both_hold = record { records = and_records; parts = and_parts; told = and_told; forms = and_forms; fields = and_fields }
+  both_hold = record { records = and_records; parts = and_parts; told = and_told; forms = and_forms; marks = and_marks; fields = and_fields }

@@ -10,9 +10,10 @@ use Rattle.ob_owners.proofs.Standing.{Core, Ends, FieldOf, Holds, In, OfRecord, 
 
 -- what has no records and declares nothing
 pub holds_loose : (R P F : Type 0) (d b e low high : ℕ) (x : Core) → x.records ≡ [] → x.declarers ≡ []
-    → ((q : FormPart) → In q x.parts → P × (q.declared_by ≡ d) × (q.number < high) × (q.part ≡ kinds.Record → ⊥)) → Holds R P F d b e low high x
+    → ((q : FormPart) → In q x.parts → P × (q.declared_by ≡ d) × (q.number < high) × (q.part ≡ kinds.Record → ⊥)) → ((t : Declared) → In t x.declared → t.declared_by ≤ t.number) → Holds R P F d b e low high x
 unfolding In
-holds_loose R P F d b e low high x none undeclared loose = record {
+holds_loose R P F d b e low high x none undeclared loose marks = record {
+  marks = marks;
   records = λ r h. absurd (let i : In r [] = subst (λ (rs : List Record). In r rs) none h in i);
   parts = λ q h. (let l = loose q h in (l.2, inl (l.0, l.1)));
   told = λ q h t. absurd ((loose q h).3 t);
@@ -23,6 +24,7 @@ holds_loose R P F d b e low high x none undeclared loose = record {
 -- what has none of the declaration around it
 pub holds_free : (R P F : Type 0) (d b e a c g low high : ℕ) (x : Core) → Holds ⊥ ⊥ ⊥ d b e low high x → Holds R P F a c g low high x
 holds_free R P F d b e a c g low high x f = record {
+  marks = f.marks;
   records = λ r h. (let p = f.records r h in (p.0, elim p.1 [ inl n ↦ absurd n.0 | inr z ↦ inr z ]));
   parts = λ q h. (let p = f.parts q h in (p.0, elim p.1 [ inl n ↦ absurd n.0 | inr z ↦ inr z ]));
   told = f.told;
@@ -102,7 +104,7 @@ module _ (d b e k high : ℕ) (row : Record) (part : FormPart) (y : Core) (u : d
   ]
 
   pub record_holds : Holds Unit Unit ⊥ d b e k high whole
-  record_holds = record { records = r_records; parts = r_parts; told = r_told; forms = r_forms; fields = r_fields }
+  record_holds = record { records = r_records; parts = r_parts; told = r_told; forms = r_forms; marks = f.marks; fields = r_fields }
 
 -- ---- declarations
 
@@ -145,6 +147,7 @@ module _ (F : Type 0) (d b e k high : ℕ) (own : Declarer) (y : Core) (v : k < 
       parts = λ q h. (let p = f.parts q h in (p.0, closed Unit (suc k) q.declared_by (omega arith) p.1));
       told = f.told;
       forms = f.forms;
+      marks = f.marks;
       fields = t_fields;
     }
 
@@ -165,5 +168,6 @@ module _ (F : Type 0) (d b e k high : ℕ) (own : Declarer) (y : Core) (v : k < 
       parts = λ q h. (let p = f.parts q h in (p.0, closed Unit k q.declared_by (omega arith) p.1));
       told = f.told;
       forms = f.forms;
+      marks = f.marks;
       fields = u_fields;
     }

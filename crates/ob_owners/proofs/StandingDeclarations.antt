@@ -4,18 +4,21 @@ use Rattle.ob_tree.specs.declared.name.Identdef.{Identdef}
 use Rattle.ob_decls.specs.declared.rows.Declared.{Declared}
 use Rattle.ob_decls.specs.declared.rows.Sort.{Sort}
 use Rattle.ob_decls.specs.declared.rows.Sort.TheVariants as sorts
-use Rattle.ob_decls.specs.Parts.{Piece, joined, token, both, tells, within, declaring, declarer, declaring_at, in_block, opening, no_rows, record_for}
+use Rattle.ob_decls.specs.Parts.{Piece, joined, token, both, tells, within, declaring, declarer, declaring_at, if_so, in_block, opening, no_rows, record_for}
 use Rattle.ob_decls.specs.Types.{identdef_piece}
 use Rattle.ob_owners.specs.Owners.{has_type}
 use Rattle.ob_owners.proofs.Bare.{Context}
-use Rattle.ob_owners.proofs.Plain.{Plain, Told, b-first, b-so, b-token}
+use Rattle.ob_owners.proofs.Plain.{Plain, Told, b-both, b-so, b-token}
 use Rattle.ob_owners.proofs.Standing.{Core, Holds, In, both_hold, core}
 use Rattle.ob_owners.proofs.StandingCores.{holds_free, holds_loose, typed_holds}
-use Rattle.ob_owners.proofs.StandingPieces.{Free, Held, Opens, Stands, no_in}
+use Rattle.ob_owners.proofs.StandingPieces.{Free, Held, Loose, Mute, Opens, Stands, m-declared, no_in}
 
-pub p-identdef : (i : Identdef) → Plain (identdef_piece i)
+star : (i : Identdef) → Plain (both token (if_so i.starred token))
+star i = b-both b-token (b-so i.starred b-token)
+
+pub m-identdef : (i : Identdef) → Mute (identdef_piece i)
 unfolding identdef_piece
-p-identdef i = b-first _ (λ c k. refl) (b-so i.starred b-token)
+m-identdef i = m-declared i.starred (star i)
 
 pub identdef_some : (i : Identdef) → 0 < (identdef_piece i).width
 unfolding identdef_piece tells both token
@@ -41,6 +44,7 @@ o-procedure {q} g = record {
       parts = λ q i. (let p = h.parts q i in (p.0, elim p.1 [ inl n ↦ inl n | inr z ↦ inr ((let m = z.0 in omega arith), z.1) ]));
       told = h.told;
       forms = h.forms;
+      marks = h.marks;
       fields = λ f r i t. elim (h.fields f r i t) [ inl n ↦ absurd n.0 | inr o ↦ inr o ];
     }
 
@@ -69,7 +73,7 @@ t-held i {q} g = record {
   holds = λ c k s.
       let p : Piece = identdef_piece i in
       let some : 0 < p.width = identdef_some i in
-      let f = (p-identdef i).none c k in
+      let f = m-identdef i in
       let e : k + p.width + q.width ≡ k + (p.width + q.width) = omega arith in
       let y : Core = core (q.rows c (k + p.width)) in
       let g1 : Holds Unit Unit ⊥ c.declarer c.block c.of_record (k + p.width) (k + p.width + q.width) y = g.holds c (k + p.width) (omega arith) in
@@ -77,8 +81,8 @@ t-held i {q} g = record {
       let h : Holds Unit Unit ⊥ k c.block c.of_record (k + p.width) (k + (p.width + q.width)) y = subst (λ (n : ℕ). Holds Unit Unit ⊥ k c.block c.of_record (k + p.width) n y) e g2 in
       let x : Core = core (p.rows c k) in
       let empty : Holds ⊥ Unit ⊥ k c.block c.of_record (suc k) (k + p.width) x =
-      holds_loose ⊥ Unit ⊥ k c.block c.of_record (suc k) (k + p.width) x (ap (λ (t : Told). t.records) f) (ap (λ (t : Told). t.declarers) f)
-      (λ r j. absurd (no_in r x.parts (ap (λ (t : Told). t.parts) f) j)) in
+      holds_loose ⊥ Unit ⊥ k c.block c.of_record (suc k) (k + p.width) x (f.loose.records c k) (f.loose.declarers c k)
+      (λ r j. absurd (no_in r x.parts (f.parts c k) j)) (f.loose.marks c k (omega arith)) in
       both_hold Unit Unit ⊥ k c.block c.of_record (suc k) (k + p.width) (k + (p.width + q.width)) x y (omega arith) (omega arith) (omega arith) empty h;
 }
 

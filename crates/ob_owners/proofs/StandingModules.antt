@@ -1,5 +1,5 @@
 -- The records and the forms in a module.
-use Rattle.std.proofs.Common.{◌≡◌, ◌+◌, ◌<◌, ℕ, zero, suc, inl, inr, List, [], ◌∷◌, Some, refl, sym, ap, ◌∙◌, arith}
+use Rattle.std.proofs.Common.{◌≡◌, ◌+◌, ◌<◌, ◌≤◌, ℕ, zero, suc, false, inl, inr, List, [], ◌∷◌, Some, refl, sym, ap, ◌∙◌, arith}
 use Rattle.std.specs.Prelude.{Contains}
 use Rattle.ob_tree.specs.declared.name.OneOrMore.{OneOrMore}
 use Rattle.ob_tree.specs.declared.declaration.ConstDecl.{ConstDecl}
@@ -10,6 +10,7 @@ use Rattle.ob_tree.specs.declared.declaration.Module.{Module}
 use Rattle.ob_tree.specs.declared.declaration.Declarations.{Declarations, Declarations-F, roll-Declarations, out-roll-Declarations, ind-Declarations, map-Declarations}
 use Rattle.ob_tree.specs.declared.declaration.ProcDecl.{ProcDecl, ProcDecl-F, roll-ProcDecl, out-roll-ProcDecl, map-ProcDecl}
 use Rattle.ob_tree.proofs.Closed.{With}
+use Rattle.ob_decls.specs.declared.rows.Declared.{Declared}
 use Rattle.ob_decls.specs.declared.rows.Declarer.{Declarer}
 use Rattle.ob_decls.specs.declared.rows.FormPart.{FormPart}
 use Rattle.ob_decls.specs.declared.rows.Part.TheVariants as kinds
@@ -24,12 +25,12 @@ use Rattle.ob_decls.specs.Declaring.{const_piece, type_decl_piece, variable_piec
 use Rattle.ob_decls.specs.Declaring.{part as told_part}
 use Rattle.ob_decls.proofs.DeclarationLayers as told
 use Rattle.ob_owners.specs.Owners.{EndsForm, IsFieldOf, IsOfRecord}
-use Rattle.ob_owners.proofs.Plain.{Plain, b-both, b-first, b-tells, b-there, b-token}
+use Rattle.ob_owners.proofs.Plain.{b-both, b-tells, b-there, b-token}
 use Rattle.ob_owners.proofs.PlainExpressions.{b-expr}
 use Rattle.ob_owners.proofs.PlainStatements.{b-block}
 use Rattle.ob_owners.proofs.Standing.{Ends, FieldOf, Holds, In, OfRecord, Typed, core}
-use Rattle.ob_owners.proofs.StandingPieces.{Free, l-plain, o-loose, s-both, s-each, s-is, s-map, s-opens, s-plain, s-there}
-use Rattle.ob_owners.proofs.StandingDeclarations.{identdef_some, o-procedure, p-identdef, s-type, s-variable, t-held}
+use Rattle.ob_owners.proofs.StandingPieces.{Free, Loose, l-both, l-plain, l-tells, m-declared, o-loose, s-both, s-each, s-is, s-map, s-mute, s-opens, s-plain, s-there}
+use Rattle.ob_owners.proofs.StandingDeclarations.{identdef_some, m-identdef, o-procedure, s-type, s-variable, t-held}
 use Rattle.ob_owners.proofs.StandingTypes.{s-parameters, s-type_piece, t-var}
 
 behind : (p q : Piece) → 0 < p.width → 0 < (both p q).width
@@ -38,7 +39,7 @@ behind p q some = omega arith
 
 s-const : (c : ConstDecl) → Free (const_piece c)
 unfolding const_piece
-s-const c = s-opens sorts.Constant (λ r. refl) (o-loose (behind (identdef_piece c.name) _ (identdef_some c.name)) (l-plain (b-both (p-identdef c.name) (b-both b-token (b-expr c.value)))))
+s-const c = s-opens sorts.Constant (λ r. refl) (o-loose (behind (identdef_piece c.name) _ (identdef_some c.name)) (l-both (m-identdef c.name).loose (l-plain (b-both b-token (b-expr c.value)))))
 
 s-type_decl : (t : TypeDecl) → Free (type_decl_piece t)
 unfolding type_decl_piece
@@ -52,13 +53,13 @@ import_some : (i : ImportItem) → 0 < (import_inner i).width
 unfolding import_inner tells both token
 import_some i = omega arith
 
-p-import : (i : ImportItem) → Plain (import_inner i)
+l-import : (i : ImportItem) → Loose (import_inner i)
 unfolding import_inner
-p-import i = b-tells _ (λ c k. refl) (b-first _ (λ c k. refl) (b-there (λ m. both token token) i.of (λ m. b-both b-token b-token)))
+l-import i = l-tells _ (λ c k. refl) (m-declared false (b-both b-token (b-there (λ m. both token token) i.of (λ m. b-both b-token b-token)))).loose
 
 s-import : (i : ImportItem) → Free (import_piece i)
 unfolding import_piece
-s-import i = s-opens sorts.Import (λ r. refl) (o-loose (import_some i) (l-plain (p-import i)))
+s-import i = s-opens sorts.Import (λ r. refl) (o-loose (import_some i) (l-import i))
 
 s-imports : (l : OneOrMore ImportItem) → Free (imports_piece l)
 unfolding imports_piece
@@ -106,7 +107,7 @@ procedure_told p = declaring sorts.Procedure (opening (
 
 procedure_held : (y : WithProcDecl) → Free (procedure_told (procedure_of y))
 procedure_held y = s-opens sorts.Procedure (λ r. refl) (o-procedure (
-    s-both (s-plain (p-identdef y.name)) (s-both (s-there parameters_piece y.parameters s-parameters) (s-both (s-plain b-token)
+    s-both (s-mute (m-identdef y.name)) (s-both (s-there parameters_piece y.parameters s-parameters) (s-both (s-plain b-token)
     (s-both y.declarations.1 (s-both (s-plain (b-there (λ b. both token (block_piece b.value)) y.body (λ b. b-both b-token (b-block b.value))))
     (s-both (s-plain (b-there (λ e. both token (expr_piece e.value)) y.returned (λ e. b-both b-token (b-expr e.value))))
     (s-both (s-plain b-token) (s-plain (b-tells _ (λ c k. refl) b-token))))))))))
@@ -182,3 +183,6 @@ field_of m f r o =
 
 pub has_owner : (m : Module) (f : Declarer) (r : ℕ) → Contains (rows_of m).declarers f → f.of_record ≡ Some r → IsFieldOf (rows_of m) f r
 has_owner m f r h s = elim ((module_holds m).fields f r (among f (rows_of m).declarers h) s) [ inl n ↦ absurd n.0 | inr o ↦ field_of m f r o ]
+
+pub behind_first : (m : Module) (d : Declared) → Contains (rows_of m).declared d → d.declared_by ≤ d.number
+behind_first m d h = (module_holds m).marks d (among d (rows_of m).declared h)

@@ -1,6 +1,7 @@
 -- Parts of a tree by what they tell of records and forms.
 use Rattle.std.proofs.Common.{◌≡◌, ℕ, suc, ◌+◌, ◌-◌, ◌<◌, ◌≤◌, inl, inr, List, [], ◌∷◌, ◌++◌, map, Bool, Option, Some, None, refl, sym, ap, ap₂, ◌∙◌, subst, arith}
 use Rattle.ob_tree.specs.declared.name.Qualident.{Qualident}
+use Rattle.ob_decls.specs.declared.rows.Declared.{Declared}
 use Rattle.ob_decls.specs.declared.rows.Declarer.{Declarer}
 use Rattle.ob_decls.specs.declared.rows.FormPart.{FormPart}
 use Rattle.ob_decls.specs.declared.rows.Part.{Part}
@@ -10,7 +11,7 @@ use Rattle.ob_decls.specs.declared.rows.Sort.{Sort}
 use Rattle.ob_decls.specs.Parts.{Piece, Rows, no_rows, joined, token, both, tells, within, if_there, each, declaring, declarer, declaring_at, in_block, opening, record_for}
 use Rattle.ob_decls.specs.Types.{base_of, declared_row, in_record, part_here, record_row, targeted, untargeted}
 use Rattle.ob_owners.proofs.Bare.{Context}
-use Rattle.ob_owners.proofs.Plain.{Plain, Told, b-nothing, told}
+use Rattle.ob_owners.proofs.Plain.{Plain, Told, b-nothing, none, told}
 use Rattle.ob_owners.proofs.Standing.{Core, Holds, In, and, both_hold, core, split}
 use Rattle.ob_owners.proofs.StandingCores.{holds_free, holds_loose, record_holds, untyped_holds}
 
@@ -25,12 +26,14 @@ pub record Loose (p : Piece) : Type 0 where
   pub records : (c : Context) (k : ℕ) → (p.rows c k).records ≡ []
   pub declarers : (c : Context) (k : ℕ) → (p.rows c k).declarers ≡ []
   pub parts : (c : Context) (k : ℕ) (q : FormPart) → In q (p.rows c k).parts → (q.declared_by ≡ c.declarer) × (q.number < k + p.width) × (q.part ≡ kinds.Record → ⊥)
+  pub marks : (c : Context) (k : ℕ) → c.declarer ≤ k → (t : Declared) → In t (p.rows c k).declared → t.declared_by ≤ t.number
 
 pub l-plain : {p : Piece} → Plain p → Loose p
 l-plain {p} f = record {
   records = λ c k. ap (λ (t : Told). t.records) (f.none c k);
   declarers = λ c k. ap (λ (t : Told). t.declarers) (f.none c k);
   parts = λ c k q h. absurd (no_in q (p.rows c k).parts (ap (λ (t : Told). t.parts) (f.none c k)) h);
+  marks = λ c k l t h. absurd (no_in t (p.rows c k).declared (ap (λ (z : Told). z.declared) (f.none c k)) h);
 }
 
 pub l-both : {p q : Piece} → Loose p → Loose q → Loose (both p q)
@@ -42,9 +45,10 @@ l-both {p} {q} f g = record {
     | inl i ↦ (let l = f.parts c k r i in (l.0, (let m = l.1 in omega arith), l.2))
     | inr i ↦ (let l = g.parts c (k + p.width) r i in (l.0, (let m = l.1 in omega arith), l.2))
   ];
+  marks = λ c k l t h. elim (split t (p.rows c k).declared (q.rows c (k + p.width)).declared h) [ inl i ↦ f.marks c k l t i | inr i ↦ g.marks c (k + p.width) (omega arith) t i ];
 }
 
-pub l-own : (own : Context → ℕ → Rows) (part : ℕ → Part) {p : Piece} → ((c : Context) (k : ℕ) → told (own c k) ≡ record { records = []; parts = record { declared_by = c.declarer; number = k; part = part k } ∷ []; declarers = [] })
+pub l-own : (own : Context → ℕ → Rows) (part : ℕ → Part) {p : Piece} → ((c : Context) (k : ℕ) → told (own c k) ≡ record { records = []; parts = record { declared_by = c.declarer; number = k; part = part k } ∷ []; declarers = []; declared = [] })
     → ((k : ℕ) → part k ≡ kinds.Record → ⊥) → 0 < p.width → Loose p → Loose (tells own p)
 unfolding tells joined In
 l-own own part {p} is other some f = record {
@@ -58,6 +62,7 @@ l-own own part {p} is other some f = record {
         | inl s ↦ (let n : k ≡ r.number = ap (λ (z : FormPart). z.number) s in (ap (λ (z : FormPart). z.declared_by) (sym s), omega arith, (λ t. other k (ap (λ (z : FormPart). z.part) s ∙ t))))
         | inr j ↦ f.parts c k r j
       ];
+  marks = λ c k l t h. f.marks c k l t (subst (λ (xs : List Declared). In t (xs ++ (p.rows c k).declared)) (ap (λ (z : Told). z.declared) (is c k)) h);
 }
 
 pub l-there : {X : Type 0} (f : X → Piece) (o : Option X) → ((x : X) → Loose (f x)) → Loose (if_there f o)
@@ -68,9 +73,36 @@ pub l-each : {X : Type 0} (f : X → Piece) (xs : List X) → ((x : X) → Loose
 l-each f [] w = l-plain b-nothing
 l-each f (x ∷ xs) w = l-both (w x) (l-each f xs w)
 
-pub l-declared : (starred : Bool) → Loose (tells (declared_row starred) token)
-unfolding tells joined token no_rows In
-l-declared starred = record { records = λ c k. refl; declarers = λ c k. refl; parts = λ c k q h. absurd h }
+-- rows that tell none of these
+pub l-tells : (own : Context → ℕ → Rows) {p : Piece} → ((c : Context) (k : ℕ) → told (own c k) ≡ none) → Loose p → Loose (tells own p)
+unfolding tells joined
+l-tells own {p} is f = record {
+  records = λ c k. ap₂ (λ (xs ys : List Record). xs ++ ys) (ap (λ (z : Told). z.records) (is c k)) (f.records c k);
+  declarers = λ c k. ap₂ (λ (xs ys : List Declarer). xs ++ ys) (ap (λ (z : Told). z.declarers) (is c k)) (f.declarers c k);
+  parts = λ c k q h. f.parts c k q (subst (λ (xs : List FormPart). In q (xs ++ (p.rows c k).parts)) (ap (λ (z : Told). z.parts) (is c k)) h);
+  marks = λ c k l t h. f.marks c k l t (subst (λ (xs : List Declared). In t (xs ++ (p.rows c k).declared)) (ap (λ (z : Told). z.declared) (is c k)) h);
+}
+
+-- a part that declares an identifier, and has no part of a form
+pub record Mute (p : Piece) : Type 0 where
+  pub loose : Loose p
+  pub parts : (c : Context) (k : ℕ) → (p.rows c k).parts ≡ []
+
+mark_alone : (row t : Declared) (xs : List Declared) → xs ≡ [] → row.declared_by ≤ row.number → In t (row ∷ xs) → t.declared_by ≤ t.number
+unfolding In
+mark_alone row t xs none l h = elim h [ inl s ↦ subst (λ (z : Declared). z.declared_by ≤ z.number) s l | inr n ↦ absurd (no_in t xs none n) ]
+
+pub m-declared : (starred : Bool) {p : Piece} → Plain p → Mute (tells (declared_row starred) p)
+unfolding tells joined
+m-declared starred {p} f = record {
+  loose = record {
+    records = λ c k. ap (λ (z : Told). z.records) (f.none c k);
+    declarers = λ c k. ap (λ (z : Told). z.declarers) (f.none c k);
+    parts = λ c k q h. absurd (no_in q (p.rows c k).parts (ap (λ (z : Told). z.parts) (f.none c k)) h);
+    marks = λ c k l t h. mark_alone (record { number = k; exported = starred; declared_by = c.declarer }) t (p.rows c k).declared (ap (λ (z : Told). z.declared) (f.none c k)) l h;
+  };
+  parts = λ c k. ap (λ (z : Told). z.parts) (f.none c k);
+}
 
 pub l-is : {p q : Piece} → p ≡ q → Loose q → Loose p
 l-is e m = subst Loose (sym e) m
@@ -89,13 +121,20 @@ Held = Stands Unit Unit ⊥
 
 pub s-loose : {R F : Type 0} {p : Piece} → Loose p → Stands R Unit F p
 s-loose {R} {F} {p} f = record {
-  holds = λ c k l. holds_loose R Unit F c.declarer c.block c.of_record k (k + p.width) (core (p.rows c k)) (f.records c k) (f.declarers c k) (λ q h. (let m = f.parts c k q h in (tt, m.0, m.1, m.2)));
+  holds = λ c k l. holds_loose R Unit F c.declarer c.block c.of_record k (k + p.width) (core (p.rows c k)) (f.records c k) (f.declarers c k) (λ q h. (let m = f.parts c k q h in (tt, m.0, m.1, m.2))) (f.marks c k (omega arith));
 }
 
 pub s-plain : {R P F : Type 0} {p : Piece} → Plain p → Stands R P F p
 s-plain {R} {P} {F} {p} f = record {
   holds = λ c k l. holds_loose R P F c.declarer c.block c.of_record k (k + p.width) (core (p.rows c k)) (ap (λ (t : Told). t.records) (f.none c k)) (ap (λ (t : Told). t.declarers) (f.none c k))
-      (λ q h. absurd (no_in q (p.rows c k).parts (ap (λ (t : Told). t.parts) (f.none c k)) h));
+      (λ q h. absurd (no_in q (p.rows c k).parts (ap (λ (t : Told). t.parts) (f.none c k)) h))
+      (λ t h. absurd (no_in t (p.rows c k).declared (ap (λ (z : Told). z.declared) (f.none c k)) h));
+}
+
+pub s-mute : {R P F : Type 0} {p : Piece} → Mute p → Stands R P F p
+s-mute {R} {P} {F} {p} f = record {
+  holds = λ c k l. holds_loose R P F c.declarer c.block c.of_record k (k + p.width) (core (p.rows c k)) (f.loose.records c k) (f.loose.declarers c k)
+      (λ q h. absurd (no_in q (p.rows c k).parts (f.parts c k) h)) (f.loose.marks c k (omega arith));
 }
 
 pub s-free : {R P F : Type 0} {p : Piece} → Free p → Stands R P F p
@@ -148,7 +187,7 @@ part_holds {R} {F} d b e k high part y l m by at other g =
     (λ q h. elim h [
       | inl s ↦ (let n : part.number ≡ q.number = ap (λ (z : FormPart). z.number) s in (tt, ap (λ (z : FormPart). z.declared_by) (sym s) ∙ by, omega arith, (λ t. other (ap (λ (z : FormPart). z.part) s ∙ t))))
       | inr n ↦ absurd n
-    ])) g
+    ]) (λ t h. absurd h)) g
 
 pub s-part : {R F : Type 0} (t : Part) {q : Piece} → (t ≡ kinds.Record → ⊥) → Stands R Unit F q → Stands R Unit F (tells (part_here t) (both token q))
 unfolding tells both token joined no_rows
@@ -194,7 +233,7 @@ pub record Opens (p : Piece) : Type 0 where
 pub o-loose : {p : Piece} → 0 < p.width → Loose p → Opens p
 o-loose {p} some f = record {
   some = some;
-  holds = λ c k s. holds_loose ⊥ Unit ⊥ k c.block c.of_record k (k + p.width) (core (p.rows c k)) (f.records c k) (f.declarers c k) (λ q h. (let m = f.parts c k q h in (tt, m.0 ∙ s, m.1, m.2)));
+  holds = λ c k s. holds_loose ⊥ Unit ⊥ k c.block c.of_record k (k + p.width) (core (p.rows c k)) (f.records c k) (f.declarers c k) (λ q h. (let m = f.parts c k q h in (tt, m.0 ∙ s, m.1, m.2))) (f.marks c k (omega arith));
 }
 
 pub s-opens : (sort : Sort) {p : Piece} → ((r : ℕ) → record_for sort r ≡ None) → Opens p → Free (declaring sort p)

@@ -24,8 +24,8 @@ use Rattle.ob_decls.proofs.TypeLayers as told
 use Rattle.ob_owners.proofs.Plain.{b-both, b-each, b-nothing, b-so, b-tells, b-there, b-token}
 use Rattle.ob_owners.proofs.PlainExpressions.{b-expr}
 use Rattle.ob_owners.proofs.PlainStatements.{b-qualident}
-use Rattle.ob_owners.proofs.StandingPieces.{Free, Held, Loose, Stands, l-both, l-declared, l-each, l-is, l-own, l-plain, o-loose, s-both, s-each, s-is, s-loose, s-map, s-opens, s-part, s-plain, s-procedure, s-record, s-targeted, s-there, s-untargeted}
-use Rattle.ob_owners.proofs.StandingDeclarations.{Types, p-identdef, s-field, t-held, t-is}
+use Rattle.ob_owners.proofs.StandingPieces.{Free, Held, Loose, Stands, l-both, l-each, l-is, l-own, l-plain, m-declared, o-loose, s-both, s-each, s-is, s-loose, s-map, s-mute, s-opens, s-part, s-plain, s-procedure, s-record, s-targeted, s-there, s-untargeted}
+use Rattle.ob_owners.proofs.StandingDeclarations.{Types, m-identdef, s-field, t-held, t-is}
 
 -- ---- names and parameters
 
@@ -54,7 +54,7 @@ l-arrays (suc n) = l-both l-open_array (l-arrays n)
 
 l-parameter : Loose parameter_piece
 unfolding parameter_piece
-l-parameter = l-declared false
+l-parameter = (m-declared false b-token).loose
 
 l-section : (s : ParameterSection) → Loose (section_inner s)
 unfolding section_inner
@@ -156,7 +156,7 @@ var_told v = both (identdef_piece v.names.first) (both (each_after identdef_piec
 
 var_held : (y : WithVarDecl) → Types (var_told (var_of y))
 var_held y = t-held y.names.first
-    (s-both (s-plain (b-each (λ i. both token (identdef_piece i)) y.names.rest.items (λ i. b-both b-token (p-identdef i)))) (s-both (s-plain b-token) y.form.1))
+    (s-both (s-each (λ i. both token (identdef_piece i)) y.names.rest.items (λ i. s-both (s-plain b-token) (s-mute (m-identdef i)))) (s-both (s-plain b-token) y.form.1))
 
 -- ---- layer by layer
 

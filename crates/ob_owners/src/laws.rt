@@ -1,6 +1,7 @@
 //! Laws of records. Each function is a law: its body is empty, and its contract is proved.
-ghost use Rattle.std.specs.Prelude.{◌≡◌, ℕ, Contains, Some};
+ghost use Rattle.std.specs.Prelude.{◌≡◌, ◌≤◌, ℕ, Contains, Some};
 ghost use Rattle.ob_tree.specs.declared.declaration.Module.{Module};
+ghost use Rattle.ob_decls.specs.declared.rows.Declared.{Declared};
 ghost use Rattle.ob_decls.specs.declared.rows.Declarer.{Declarer};
 ghost use Rattle.ob_decls.specs.declared.rows.FormPart.{FormPart};
 ghost use Rattle.ob_decls.specs.declared.rows.Part.TheVariants as part_kinds;
@@ -23,4 +24,9 @@ pub fn forms_end()
 /// A field stands in a record of the module, whose owner is declared before the field, in the same block, as a type, a variable or a field.
 pub fn fields_have_owners()
     ensures { (m : Module) (f : Declarer) (r : ℕ) → Contains (rows_of m).declarers f → f.of_record ≡ Some r → IsFieldOf (rows_of m) f r }
+{}
+
+/// An identifier stands in the construct that declares it: not before its first token.
+pub fn identifiers_stand_behind()
+    ensures { (m : Module) (d : Declared) → Contains (rows_of m).declared d → d.declared_by ≤ d.number }
 {}
