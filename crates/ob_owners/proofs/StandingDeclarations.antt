@@ -1,5 +1,5 @@
 -- Declarations by what they tell of records and forms.
-use Rattle.std.proofs.Common.{◌≡◌, ℕ, suc, ◌+◌, ◌-◌, ◌<◌, ◌≤◌, inl, inr, List, ◌++◌, Some, None, true, refl, sym, ap, subst, arith}
+use Rattle.std.proofs.Common.{◌≡◌, ℕ, suc, ◌+◌, ◌-◌, ◌<◌, ◌≤◌, inl, inr, List, ◌++◌, Some, None, true, refl, sym, subst, arith}
 use Rattle.ob_tree.specs.declared.name.Identdef.{Identdef}
 use Rattle.ob_decls.specs.declared.rows.Declared.{Declared}
 use Rattle.ob_decls.specs.declared.rows.Sort.{Sort}
@@ -8,10 +8,10 @@ use Rattle.ob_decls.specs.Parts.{Piece, joined, token, both, tells, within, decl
 use Rattle.ob_decls.specs.Types.{identdef_piece}
 use Rattle.ob_owners.specs.Owners.{has_type}
 use Rattle.ob_owners.proofs.Bare.{Context}
-use Rattle.ob_owners.proofs.Plain.{Plain, Told, b-both, b-so, b-token}
+use Rattle.ob_owners.proofs.Plain.{Plain, b-both, b-so, b-token}
 use Rattle.ob_owners.proofs.Standing.{Core, Holds, In, both_hold, core}
 use Rattle.ob_owners.proofs.StandingCores.{holds_free, holds_loose, typed_holds}
-use Rattle.ob_owners.proofs.StandingPieces.{Free, Held, Loose, Mute, Opens, Stands, m-declared, no_in}
+use Rattle.ob_owners.proofs.StandingPieces.{Free, Held, Mute, Opens, Stands, m-declared, no_in}
 
 star : (i : Identdef) → Plain (both token (if_so i.starred token))
 star i = b-both b-token (b-so i.starred b-token)

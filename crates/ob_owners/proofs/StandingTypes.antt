@@ -21,7 +21,7 @@ use Rattle.ob_decls.specs.Expressions.{behind_dot, each_after, expr_piece}
 use Rattle.ob_decls.specs.Statements.{qualident_piece}
 use Rattle.ob_decls.specs.Types.{name_part, part_here, record_row, in_record, open_arrays, section_inner, section_piece, identdef_piece, parameter_piece, parameters_piece, type_name_piece, lengths_piece, type_piece, fields_piece, record_piece, var_piece}
 use Rattle.ob_decls.proofs.TypeLayers as told
-use Rattle.ob_owners.proofs.Plain.{b-both, b-each, b-nothing, b-so, b-tells, b-there, b-token}
+use Rattle.ob_owners.proofs.Plain.{b-both, b-nothing, b-so, b-tells, b-there, b-token}
 use Rattle.ob_owners.proofs.PlainExpressions.{b-expr}
 use Rattle.ob_owners.proofs.PlainStatements.{b-qualident}
 use Rattle.ob_owners.proofs.StandingPieces.{Free, Held, Loose, Stands, l-both, l-each, l-is, l-own, l-plain, m-declared, o-loose, s-both, s-each, s-is, s-loose, s-map, s-mute, s-opens, s-part, s-plain, s-procedure, s-record, s-targeted, s-there, s-untargeted}
