@@ -1,6 +1,6 @@
 -- What others see of a module's block has the symbol that it has there.
-use Rattle.std.proofs.Common.{◌≡◌, ℕ, zero, suc, List, [], ◌∷◌, ◌++◌, Bool, true, false, cond, Option, Some, None, refl, sym, ap, ◌∙◌, subst, eqb-true}
-use Rattle.std.specs.Prelude.{slice_get, ◌==◌, find, position, not}
+use Rattle.std.proofs.Common.{◌≡◌, ℕ, zero, suc, List, [], ◌∷◌, ◌++◌, Bool, true, false, cond, Option, Some, None, refl, sym, ap, ◌∙◌, eqb-true}
+use Rattle.std.specs.Prelude.{slice_get, ◌==◌, position}
 use Rattle.std.specs.List.{cons_option, filter_map}
 use Rattle.std.specs.Option.{option_and_then, option_map, option_map_or}
 use Rattle.std.proofs.lemmas.Bool.{and_parts}
@@ -13,9 +13,9 @@ use Rattle.ob_interface.specs.Interfaces.{declaration, declaration_by, declarati
 use Rattle.ob_interface.specs.Placed.{declaration_at}
 use Rattle.ob_types.specs.World.{World, declaration_there, declared_at, declarer_from, declarer_of, text}
 use Rattle.scip_symbol.specs.declared.kind.DescriptorKind.{DescriptorKind}
-use Rattle.scip_symbol.specs.SymbolTexts.{PlainDescriptor, PlainSymbol}
+use Rattle.scip_symbol.specs.SymbolTexts.{PlainDescriptor}
 use Rattle.ob_emit.specs.Apart.{seen_tokens}
-use Rattle.ob_emit.specs.Symbols.{Step, declared_symbol, descriptor, global, imported_symbol, in_block, is_local, kind_of, module_path, own_step, own_step_by, own_steps, path, path_within, step_by, step_there, steps_there, symbol_at}
+use Rattle.ob_emit.specs.Symbols.{Step, declared_symbol, descriptor, global, imported_symbol, in_block, is_local, kind_of, module_path, own_step_by, own_steps, path, path_within, step_by, steps_there}
 use Rattle.ob_emit.proofs.Naming.{found_there}
 use Rattle.ob_emit.proofs.Numbered.{find_there, position_there}
 

@@ -1,8 +1,8 @@
 -- What a tree declares has a symbol, unless it is an alias.
-use Rattle.std.proofs.Common.{◌≡◌, ℕ, zero, suc, ◌<◌, ◌≤◌, ◌⊎◌, inl, inr, List, [], ◌∷◌, ◌++◌, take, Bool, true, false, cond, Option, Some, None, refl, sym, ap, ◌∙◌, subst, arith, eqb-true}
-use Rattle.std.specs.Prelude.{◌==◌, slice_get, position, Contains, not, nat_lt, count_by}
+use Rattle.std.proofs.Common.{◌≡◌, ℕ, zero, suc, ◌<◌, ◌≤◌, inl, inr, List, [], ◌∷◌, ◌++◌, take, Bool, true, false, cond, Option, Some, None, refl, sym, ap, ◌∙◌, subst, arith, eqb-true}
+use Rattle.std.specs.Prelude.{◌==◌, position, Contains, not, count_by}
 use Rattle.std.specs.Fmt.{decimal}
-use Rattle.std.specs.Option.{option_and_then, option_map, option_map_or}
+use Rattle.std.specs.Option.{option_map, option_map_or}
 use Rattle.std.proofs.lemmas.Bool.{cases_Bool, eq-eqb, lt-ltb, not-false}
 use Rattle.ob_tree.specs.declared.declaration.Module.{Module}
 use Rattle.ob_decls.specs.declared.rows.Declared.{Declared}
@@ -13,14 +13,14 @@ use Rattle.ob_decls.specs.declared.rows.Sort.TheVariants as sorts
 use Rattle.ob_decls.specs.Declaring.{own_name, rows_of}
 use Rattle.ob_decls.specs.Order.{AreInOrder}
 use Rattle.ob_decls.specs.Parts.{Rows}
-use Rattle.ob_owners.proofs.Placed.{AreFields, HasConstruct, HasRecord, Holds, IsAlias, IsField, IsNamed, IsNoImport, IsOwner}
+use Rattle.ob_owners.proofs.Placed.{AreFields, HasConstruct, HasRecord, Holds, IsAlias, IsNamed, IsNoImport, IsOwner}
 use Rattle.ob_owners.proofs.PlacedModules.{module_holds}
 use Rattle.ob_scope.proofs.Elements.{slice_contains}
 use Rattle.ob_types.specs.World.{World, declared_at, declarer_from, declarer_of, owner_at, record_at, text}
 use Rattle.scip_symbol.specs.declared.kind.DescriptorKind.{DescriptorKind}
-use Rattle.scip_symbol.specs.declared.kind.DescriptorKind.TheVariants.{Namespace, Term, TypeName, Method}
-use Rattle.scip_symbol.specs.SymbolTexts.{PlainDescriptor, PlainSymbol, Local}
-use Rattle.ob_emit.specs.Symbols.{Step, declared_symbol, descriptor, global, in_block, in_record, is_local, kind_of, module_path, own_path, own_step_by, own_steps, path_within, symbol_at}
+use Rattle.scip_symbol.specs.declared.kind.DescriptorKind.TheVariants.{Term, TypeName, Method}
+use Rattle.scip_symbol.specs.SymbolTexts.{PlainDescriptor, Local}
+use Rattle.ob_emit.specs.Symbols.{Step, declared_symbol, descriptor, global, in_record, is_local, kind_of, module_path, own_path, own_step_by, own_steps, path_within, symbol_at}
 use Rattle.ob_emit.proofs.Numbered.{find_among, position_there}
 
 unfoldable pub IsThere : {X : Type 0} → Option X → Type 0

@@ -1,10 +1,10 @@
 -- What the references of a tree stand for: a declaration that has a symbol, or an import item that is there.
-use Rattle.std.proofs.Common.{◌≡◌, ℕ, zero, suc, ◌<◌, ◌⊎◌, inl, inr, ◌==◌, List, [], ◌∷◌, length, get_or, Bool, true, false, cond, Option, Some, None, refl, sym, ap, ◌∙◌, subst, arith, eqb-true}
+use Rattle.std.proofs.Common.{◌≡◌, ℕ, zero, suc, ◌==◌, List, [], ◌∷◌, get_or, Bool, true, false, cond, Option, Some, None, refl, sym, ap, ◌∙◌, subst, arith, eqb-true}
 use Rattle.std.specs.Prelude.{slice_get, position, find, nat_eq, Contains, ◌&&◌}
 use Rattle.std.specs.Str.{bytes_eq}
 use Rattle.std.specs.List.{cons_option, filter_map}
 use Rattle.std.specs.Option.{is_some, option_and_then, option_eq, option_map, option_map_or}
-use Rattle.std.proofs.lemmas.Bool.{and_parts, cases_Bool}
+use Rattle.std.proofs.lemmas.Bool.{and_parts}
 use Rattle.std.proofs.lemmas.List.Elements.{All-contains}
 use Rattle.std.proofs.lemmas.List.Quantifiers.{position-Some}
 use Rattle.std.proofs.lemmas.Option.{get_or_from_slice_get}
@@ -18,7 +18,6 @@ use Rattle.ob_decls.specs.declared.rows.Declared.{Declared}
 use Rattle.ob_decls.specs.declared.rows.Declarer.{Declarer}
 use Rattle.ob_decls.specs.declared.rows.End.{End}
 use Rattle.ob_decls.specs.declared.rows.Import.{Import}
-use Rattle.ob_decls.specs.declared.rows.Selector.{Selector}
 use Rattle.ob_decls.specs.declared.rows.Sort.{Sort}
 use Rattle.ob_decls.specs.declared.rows.Sort.TheVariants as sorts
 use Rattle.ob_decls.specs.declared.rows.Step.{Step}
@@ -27,11 +26,11 @@ use Rattle.ob_decls.specs.Declaring.{own_name, rows_of}
 use Rattle.ob_decls.specs.Order.{AreInOrder}
 use Rattle.ob_interface.specs.Interfaces.{declaration as seen_as, declaration_by, declaration_of, interface_of, is_seen, outer_by, Declaration, ModuleInterface}
 use Rattle.ob_interface.specs.Placed.{declaration_at, place_of}
-use Rattle.ob_owners.proofs.Placed.{AreFields, EndsOne, HasConstruct, Holds, IsAlias, IsField, IsNamed, IsNoImport}
+use Rattle.ob_owners.proofs.Placed.{AreFields, EndsOne, HasConstruct, IsAlias, IsField}
 use Rattle.ob_scope.proofs.Elements.{contains_slice, slice_contains, slice_there, some_one}
 use Rattle.ob_scope.specs.declared.members.Member.{Member}
 use Rattle.ob_scope.specs.Members.{declarer_at, member_by, members_of}
-use Rattle.ob_scope.specs.Scope.{IsSeen, Means, Resolves, by_scope, as_target}
+use Rattle.ob_scope.specs.Scope.{Means, by_scope, as_target}
 use Rattle.ob_scope.specs.Scoped.{AreScopes, Meaning, MeansBy}
 use Rattle.ob_scope.specs.Texts.{text_at}
 use Rattle.ob_targets.specs.declared.known.Known.{Known}
@@ -44,8 +43,8 @@ use Rattle.ob_targets.specs.declared.target.Target.TheVariants as targets
 use Rattle.ob_targets.specs.Predeclared.{is_predeclared}
 use Rattle.ob_targets.specs.Refers.{AreReferences, Refers, own_name as at_own_name, item, declaration, end, used, selected, second, nowhere}
 use Rattle.ob_targets.specs.Standing.{first, is_alias, is_declared, is_end, is_imported, is_second, is_selected, is_use, standing}
-use Rattle.ob_targets.specs.Steps.{FindsField, Follows, Knows, Leads, Levels, Selects, guard_of, there, nowhere as leads_nowhere, of_module, of_nothing, exported as by_module, field as by_field, no_field, unknown, none, one, to_field, to_elements, to_target, by_guard, at_head, behind}
-use Rattle.ob_targets.specs.Targets.{declared_target, end_target, exported_target, field_target, holds_value, known_of, second_target, typed, used_target}
+use Rattle.ob_targets.specs.Steps.{Follows, Knows, Leads, Levels, Selects, guard_of, there, nowhere as leads_nowhere, of_module, of_nothing, exported as by_module, field as by_field, no_field, unknown, none, one, to_field, to_elements, to_target, by_guard, at_head, behind}
+use Rattle.ob_targets.specs.Targets.{declared_target, end_target, field_target, holds_value, known_of, second_target, typed, used_target}
 use Rattle.ob_types.specs.declared.nodes.Field.{Field}
 use Rattle.ob_types.specs.declared.nodes.Field.TheVariants as fields
 use Rattle.ob_types.specs.declared.nodes.Named.{Named}
@@ -59,7 +58,7 @@ use Rattle.ob_types.specs.World.{World, declaration_there, declarer_from, export
 use Rattle.scip_symbol.specs.declared.kind.DescriptorKind.{DescriptorKind}
 use Rattle.scip_symbol.specs.declared.kind.DescriptorKind.TheVariants.{Term, TypeName, Method}
 use Rattle.ob_emit.specs.Symbols.{declared_symbol, external_symbol, imported_symbol, is_imported as is_imported_target, kind_of, module_symbol, stands_for_something, symbol_of}
-use Rattle.ob_emit.proofs.Naming.{found_there, same_declarer}
+use Rattle.ob_emit.proofs.Naming.{found_there}
 use Rattle.ob_emit.proofs.Numbered.{position_there}
 use Rattle.ob_emit.proofs.SeenSymbols.{elsewhere, seen_at}
 use Rattle.ob_emit.proofs.SomeSymbol.{IsThere, declared_has, ended_has, from, has_symbol, holds}
@@ -248,6 +247,7 @@ module _ (w : World) (m : Module) (is_tree : w.rows ≡ rows_of m) (order : AreI
       marked : (it : Declaration) (b : Bool) → cond b (Some j) None ≡ Some d → j ≡ d
       marked it true g = some_one j d g
       marked it false g = absurd (let h : None ≡ Some d = g in cc)
+
       seen_place : (o : Option Declaration) → declaration_at mi j ≡ o → option_and_then (if_exported j) o ≡ Some d → (it : Declaration) × (declaration_at mi d ≡ Some it)
       seen_place None g h = absurd (let i : None ≡ Some d = h in cc)
       seen_place (Some it) g h = (it, ap (declaration_at mi) (sym (marked it it.exported h)) ∙ g)
