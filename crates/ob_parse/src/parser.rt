@@ -64,6 +64,8 @@ fn fault_of(end: u32, tokens: &[Token], stop: Stop) -> ParseFault
 /// Syntax is answered where no tree derives the tokens, and TooDeep where none of at most 200 levels does: at the token
 /// where reading them from the left stops, since it is wrong there, or since it begins a construct with no level left.
 /// EndName is answered where the tree has a wrong name after an END, and Memory where a growth of memory is refused.
+///
+/// It recurses a few calls for each level, so at most 200 levels deep, for which a stack of 2 MiB is enough. Lists are loops.
 pub fn parse(alloc: Global, bytes: &[u8], tokens: &Tokens) -> Result<Module, ParseFault>
     // The tokens are those of the bytes.
     requires { IsOutcome bytes.now (Reads tokens.now) }
