@@ -135,6 +135,9 @@ fn cuts(
     settles_alone(rt, &*net, names, &*cut)
 }
 
+/// Lines in any order, an empty one, and a module that nothing imports. The modules are A, B, M and Z.
+const MIXED: &[u8] = b"import M B 2\n\nmodule Z\nimport A M 3\nmodule A\nimport A B 0";
+
 /// Networks, the names of two modules, and the cut by the numbers of the modules.
 const CUTS: &[(&[u8], (&str, &str), &str)] = &[
     // Two imports in a row are cut at the first.
@@ -177,6 +180,36 @@ const CUTS: &[(&[u8], (&str, &str), &str)] = &[
         ("A", "C"),
         "weight 9223372036854775807 remove 1 2 9223372036854775807 \
         flow 0 1 9223372036854775807 flow 1 2 9223372036854775807",
+    ),
+    // Two ways are cut at the first imports where the later ones weigh as much.
+    (
+        b"import A B 1\nimport C D 3\nimport A C 2\nimport B D 2\n",
+        ("A", "D"),
+        "weight 3 remove 0 1 1 remove 0 2 2 flow 0 1 1 flow 0 2 2 flow 1 3 1 flow 2 3 2",
+    ),
+    // Modules and imports may stand in any order.
+    (
+        MIXED,
+        ("A", "B"),
+        "weight 2 remove 0 1 0 remove 2 1 2 flow 0 2 2 flow 2 1 2",
+    ),
+    (MIXED, ("A", "Z"), "weight 0"),
+    // Several flows have the value, and the cut is one.
+    (
+        b"import A M 2\nimport A N 2\nimport M B 3\nimport M N 1\nimport N B 3\nimport N C 1\nimport C B 1\n",
+        ("A", "B"),
+        "weight 4 remove 0 3 2 remove 0 4 2 flow 0 3 2 flow 0 4 2 flow 2 1 1 flow 3 1 2 flow 4 1 1 flow 4 2 1",
+    ),
+    // The ways part behind the import that is cut, and in front of it.
+    (
+        b"import A M 1\nimport M P 1\nimport M Q 1\nimport P B 1\nimport Q B 1\n",
+        ("A", "B"),
+        "weight 1 remove 0 2 1 flow 0 2 1 flow 2 3 1 flow 3 1 1",
+    ),
+    (
+        b"import A P 1\nimport A Q 1\nimport P M 1\nimport Q M 1\nimport M B 1\n",
+        ("A", "B"),
+        "weight 1 remove 2 1 1 flow 0 3 1 flow 2 1 1 flow 3 2 1",
     ),
 ];
 

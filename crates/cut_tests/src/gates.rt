@@ -1,5 +1,5 @@
 //! Two workers whose turns a gate orders, and workers whose gate is open.
-ghost use Rattle.std.specs.Prelude.{◌≡◌, ◌≤◌, false};
+ghost use Rattle.std.specs.Prelude.{◌≡◌, ◌≤◌};
 ghost use Rattle.cut_preflow.specs.Flows.{AreEnds, network_between};
 
 use crate::told::is_told;
@@ -130,45 +130,6 @@ fn told_end<L: NetworkLedger>(
     )
 }
 
-/// Two workers go on with their shares in threads of their own.
-fn in_threads<L: NetworkLedger + Send + Sync, R: Threads + Wait + Sync, G: Gate + Sync>(
-    rt: &R,
-    lock: &Locked<L>,
-    first: Share<L>,
-    second: Share<L>,
-    gate: &G,
-) -> (Share<L>, Share<L>)
-    requires first { first.marked ≡ false }
-    requires second { second.marked ≡ false }
-{
-    thread::join(
-        rt,
-        move || worker(rt, lock, 0, first, gate),
-        move || worker(rt, lock, 1, second, gate),
-    )
-}
-
-/// Two workers go on from here, and their shares come back.
-fn told_of_two<L: NetworkLedger + Send + Sync, R: Threads + Wait + Sync, G: Gate + Sync>(
-    rt: &R,
-    alloc: Global,
-    mut preflow: Preflow<L>,
-    gate: &G,
-) -> Result<String, Fail> {
-    let (Some(first), Some(second)) = (preflow.share(), preflow.share()) else {
-        return Err(Fail::from("two shares"));
-    };
-    let locked: Locked<L> = Mutex::new(preflow);
-    let (first, second) = in_threads(rt, &locked, first, second, gate);
-    let mut preflow = locked.into_inner();
-    Ok(told_end(alloc, &mut preflow, first, second)?)
-}
-
-/// What worker 7 sees.
-fn told_look<L: NetworkLedger>(alloc: Global, preflow: &Preflow<L>) -> Result<String, AllocError> {
-    format!(in alloc; "{:?}", look(preflow, 7))
-}
-
 /// Two workers in threads of their own go on from the opening at a gate. Tells what worker 7 sees at the opening, and the end.
 fn by_two_in<L: NetworkLedger + Send + Sync, R: Threads + Wait + Sync, G: Gate + Sync>(
     rt: &R,
@@ -182,10 +143,21 @@ fn by_two_in<L: NetworkLedger + Send + Sync, R: Threads + Wait + Sync, G: Gate +
     requires name { blank.name ≡ L.name }
     requires parts { (blank.parts ≡ 65) × (L.parts ≡ 65) }
 {
-    let preflow = Preflow::<L>::start(alloc, blank, net, 0, 1)?;
-    let seen = told_look(alloc, &preflow)?;
-    let end = told_of_two(rt, alloc, preflow, gate)?;
-    Ok(format!(in alloc; "{seen}; {end}")?)
+    let mut preflow = Preflow::<L>::start(alloc, blank, net, 0, 1)?;
+    let seen = look(&preflow, 7);
+    let (Some(first), Some(second)) = (preflow.share(), preflow.share()) else {
+        return Err(Fail::from("two shares"));
+    };
+    let locked: Locked<L> = Mutex::new(preflow);
+    let lock = &locked;
+    let (first, second) = thread::join(
+        rt,
+        move || worker(rt, lock, 0, first, gate),
+        move || worker(rt, lock, 1, second, gate),
+    );
+    let mut preflow = locked.into_inner();
+    let end = told_end(alloc, &mut preflow, first, second)?;
+    Ok(format!(in alloc; "{seen:?}; {end}")?)
 }
 
 /// The same between the first two modules of the line of three imports.
