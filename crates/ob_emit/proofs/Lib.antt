@@ -13,5 +13,9 @@ pub mod SomeTargets
 pub mod Paths
 pub mod Positions
 pub mod Rows
+pub mod SeenLists
+pub mod SeenOrder
+pub mod SeenOwners
+pub mod SeenPaths
 pub mod SeenSymbols
 pub mod Texting

@@ -59,7 +59,7 @@ module _ (w : World) (m : Module) (same : w.rows ≡ rows_of m) (order : AreInOr
   unfolding declarer_of
   of x by h j e = rw (declared x h) (from x.declared_by by j e)
 
-  owner_is : (row : RecordRow) (r : ℕ) → Contains w.rows.records row → row.number ≡ r → owner_at w r ≡ Some row.owner
+  pub owner_is : (row : RecordRow) (r : ℕ) → Contains w.rows.records row → row.number ≡ r → owner_at w r ≡ Some row.owner
   unfolding owner_at record_at
   owner_is row r h e = rw (find_among (λ (x : RecordRow). x.number) w.rows.records r row order.records h e) refl
 

@@ -26,7 +26,7 @@ use Rattle.ob_decls.specs.Declaring.{own_name, rows_of}
 use Rattle.ob_decls.specs.Order.{AreInOrder}
 use Rattle.ob_interface.specs.Interfaces.{declaration as seen_as, declaration_by, declaration_of, interface_of, is_seen, outer_by, Declaration, ModuleInterface}
 use Rattle.ob_interface.specs.Placed.{declaration_at, place_of}
-use Rattle.ob_owners.proofs.Placed.{AreFields, EndsOne, HasConstruct, IsAlias, IsField}
+use Rattle.ob_owners.proofs.Placed.{AreFields, EndsOne, HasConstruct, IsAlias, IsField, IsNoImport}
 use Rattle.ob_scope.proofs.Elements.{contains_slice, slice_contains, slice_there, some_one}
 use Rattle.ob_scope.specs.declared.members.Member.{Member}
 use Rattle.ob_scope.specs.Members.{declarer_at, member_by, members_of}
@@ -60,7 +60,9 @@ use Rattle.scip_symbol.specs.declared.kind.DescriptorKind.TheVariants.{Term, Typ
 use Rattle.ob_emit.specs.Symbols.{declared_symbol, external_symbol, imported_symbol, is_imported as is_imported_target, kind_of, module_symbol, stands_for_something, symbol_of}
 use Rattle.ob_emit.proofs.Naming.{found_there}
 use Rattle.ob_emit.proofs.Numbered.{position_there}
-use Rattle.ob_emit.proofs.SeenSymbols.{elsewhere, seen_at}
+use Rattle.ob_emit.proofs.SeenOrder.{number_there}
+use Rattle.ob_emit.proofs.SeenPaths.{one_symbol}
+use Rattle.ob_emit.proofs.SeenSymbols.{among, first as first_token, row_at, seen_at, seen_by, RowAt, SeenBy}
 use Rattle.ob_emit.proofs.SomeSymbol.{IsThere, declared_has, ended_has, from, has_symbol, holds}
 
 -- ---- lists
@@ -113,6 +115,16 @@ kind_in : (v : World) (it : Declaration) → Contains (interface_of v.bytes v.to
 kind_in v it h =
     let row = back (declaration_of v.bytes v.tokens v.rows) v.rows.declared it h in
     kind_by v row.0 it (outer_by v.rows.declarers row.0.declared_by) row.2
+
+no_import : (s : Sort) (kind : DescriptorKind) → kind_of s ≡ Some kind → IsNoImport s
+unfolding IsNoImport
+no_import sorts.Import kind e = absurd (let none : None ≡ Some kind = e in cc)
+no_import sorts.Constant kind e = tt
+no_import sorts.Type kind e = tt
+no_import sorts.Variable kind e = tt
+no_import sorts.Procedure kind e = tt
+no_import sorts.Parameter kind e = tt
+no_import sorts.Field kind e = tt
 
 same_record : (o : Option ℕ) (r : ℕ) → option_eq nat_eq o (Some r) ≡ true → o ≡ Some r
 same_record None r e = absurd (let f : false ≡ true = e in cc)
@@ -452,16 +464,24 @@ module _ (w : World) (m : Module) (is_tree : w.rows ≡ rows_of m) (order : AreI
   unfolding Valid
   is_there i d t e v = subst Valid e v
 
-  seen_there : (v : World) (i d : ℕ) (it : Declaration) → slice_get w.reached i ≡ Some (interface_of v.bytes v.tokens v.rows) → declaration_there w i d ≡ Some it → it.of_record ≡ None → is_some (imported_symbol w p i d) ≡ true
-  seen_there v i d it at there_at flat =
+  -- what such a module has at a place has a symbol, as it has there
+  seen_there : (v : World) (n : Module) (i d : ℕ) (it : Declaration) → v.rows ≡ rows_of n → AreInOrder v.rows → slice_get w.reached i ≡ Some (interface_of v.bytes v.tokens v.rows) → declaration_there w i d ≡ Some it
+      → is_some (imported_symbol w p i d) ≡ true
+  seen_there v n i d it tree ascending at there_at =
       let placed_at = seen_at w (interface_of v.bytes v.tokens v.rows) i d it at there_at in
       let kind = kind_in v it (contains_slice (interface_of v.bytes v.tokens v.rows).declarations d it placed_at) in
-      ap is_some (elsewhere w v p i d it at placed_at flat) ∙ (rw kind.1 refl)
+      let k = number_there (declaration_of v.bytes v.tokens v.rows) (λ (x : Declared). x.number) v.rows.declared d it placed_at in
+      let r : RowAt (declaration_of v.bytes v.tokens v.rows) (λ (x : Declared). x.number) v.rows.declared it k.0 = row_at (declaration_of v.bytes v.tokens v.rows) (λ (x : Declared). x.number) v.rows.declared it k.0 d placed_at k.1 in
+      let s : SeenBy v r.row it = seen_by v r.row it (outer_by v.rows.declarers r.row.declared_by) refl r.tells in
+      let sort : IsNoImport s.by.sort = no_import s.by.sort kind.0 (ap (λ (x : Declaration). kind_of x.sort) s.is ∙ kind.1) in
+      let has : IsThere (declared_symbol v p r.row.number) =
+      has_symbol v n tree ascending p r.row s.by (contains_slice v.rows.declared r.place r.row r.at) (among v ascending r.place k.0 r.row r.at r.has s.by s.outer) (first_token v ascending r.place k.0 r.row r.at r.has s.by s.outer) sort in
+      ap is_some (one_symbol w v n p i d k.0 it tree ascending at k.1 there_at ∙ ap (declared_symbol v p) (sym r.has)) ∙ there_is (declared_symbol v p r.row.number) has
 
-  -- and what its block declares has a symbol
-  pub seen_symbol : (v : World) (refs : List Reference) (r : Reference) (i d : ℕ) → AreReferences w refs → Contains refs r → r.target ≡ targets.Imported i d → slice_get w.reached i ≡ Some (interface_of v.bytes v.tokens v.rows)
-      → (it : Declaration) × (declaration_there w i d ≡ Some it) × (it.of_record ≡ None → is_some (symbol_of w p r.target) ≡ true)
+  -- and has a symbol
+  pub seen_symbol : (v : World) (n : Module) (refs : List Reference) (r : Reference) (i d : ℕ) → v.rows ≡ rows_of n → AreInOrder v.rows → AreReferences w refs → Contains refs r → r.target ≡ targets.Imported i d
+      → slice_get w.reached i ≡ Some (interface_of v.bytes v.tokens v.rows) → (it : Declaration) × (declaration_there w i d ≡ Some it) × (is_some (symbol_of w p r.target) ≡ true)
   unfolding IsThere
-  seen_symbol v refs r i d are h e at =
+  seen_symbol v n refs r i d tree ascending are h e at =
       let it = is_there i d r.target e (valid r.number r.target r.role (All-contains (λ (x : Reference). Refers w x.number x.target x.role) refs r are.each h)) in
-      (it.0, it.1, λ flat. ap (λ (t : Target). is_some (symbol_of w p t)) e ∙ seen_there v i d it.0 at it.1 flat)
+      (it.0, it.1, ap (λ (t : Target). is_some (symbol_of w p t)) e ∙ seen_there v n i d it.0 tree ascending at it.1)

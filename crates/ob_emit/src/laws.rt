@@ -42,20 +42,20 @@ pub fn one_declaration()
     ensures elsewhere { (w v : World) (package_name : List ℕ) (k j : ℕ) (s : PlainSymbol) → (text w own_name ≡ text v own_name → ⊥) → declared_symbol w package_name k ≡ Some s → declared_symbol v package_name j ≡ Some s → IsLocal s }
 {}
 
-/// What other modules see of a module's block has there the symbol that it has in its own module: so what one file defines is found from any
-/// other. The table of a module has its rows in order.
+/// What other modules see of a module, fields too, has there the symbol that it has in its own module: so what one file defines is found
+/// from any other. The rows of that module are those of its tree, in order.
 pub fn one_symbol()
-    ensures { (w v : World) (package_name : List ℕ) (i d k : ℕ) (it : Declaration) → AreInOrder v.rows → slice_get w.reached i ≡ Some (interface_of v.bytes v.tokens v.rows) → slice_get (seen_tokens v) d ≡ Some k
-        → declaration_there w i d ≡ Some it → it.of_record ≡ None → imported_symbol w package_name i d ≡ declared_symbol v package_name k }
+    ensures { (w v : World) (m : Module) (package_name : List ℕ) (i d k : ℕ) (it : Declaration) → v.rows ≡ rows_of m → AreInOrder v.rows → slice_get w.reached i ≡ Some (interface_of v.bytes v.tokens v.rows)
+        → slice_get (seen_tokens v) d ≡ Some k → declaration_there w i d ≡ Some it → imported_symbol w package_name i d ≡ declared_symbol v package_name k }
 {}
 
 /// What an identifier of a tree stands for has a symbol, but for predeclared names and nothing: so the document of a module, which leaves
-/// out what has none, leaves out no other identifier. What another module declares is there, by the places of both, and has a symbol where
-/// it stands in that module's block. The table of a module has its rows in order.
+/// out what has none, leaves out no other identifier. What another module of the tree declares, fields too, is there, by the places of both,
+/// and has a symbol. The rows of both are those of their trees, in order.
 pub fn some_symbol()
     ensures here { (w : World) (m : Module) (refs : List Reference) (package_name : List ℕ) (r : Reference) → w.rows ≡ rows_of m → AreInOrder w.rows → AreScopes w.bytes w.tokens w.rows w.scopes
         → AreReferences w refs → Contains refs r → is_imported r.target ≡ false → is_some (symbol_of w package_name r.target) ≡ stands_for_something r.target }
-    ensures there { (w v : World) (m : Module) (refs : List Reference) (package_name : List ℕ) (r : Reference) (i d : ℕ) → w.rows ≡ rows_of m → AreInOrder w.rows → AreScopes w.bytes w.tokens w.rows w.scopes
-        → AreReferences w refs → Contains refs r → r.target ≡ Imported i d → slice_get w.reached i ≡ Some (interface_of v.bytes v.tokens v.rows)
-        → (it : Declaration) × (declaration_there w i d ≡ Some it) × (it.of_record ≡ None → is_some (symbol_of w package_name r.target) ≡ true) }
+    ensures there { (w v : World) (m n : Module) (refs : List Reference) (package_name : List ℕ) (r : Reference) (i d : ℕ) → w.rows ≡ rows_of m → AreInOrder w.rows → AreScopes w.bytes w.tokens w.rows w.scopes
+        → v.rows ≡ rows_of n → AreInOrder v.rows → AreReferences w refs → Contains refs r → r.target ≡ Imported i d → slice_get w.reached i ≡ Some (interface_of v.bytes v.tokens v.rows)
+        → (it : Declaration) × (declaration_there w i d ≡ Some it) × (is_some (symbol_of w package_name r.target) ≡ true) }
 {}

@@ -1,4 +1,4 @@
-use Rattle.ob_emit.proofs.SeenSymbols.{one_symbol}
+use Rattle.ob_emit.proofs.SeenPaths.{one_symbol}
 use Rattle.ob_emit.proofs.laws.one_symbol.Goals as goal
 
 pub returns : goal.returns
