@@ -4,6 +4,7 @@ use Rattle.std.specs.Prelude.{Contains, slice_get}
 use Rattle.ob_scan.specs.declared.kind.Kind.{Kind}
 use Rattle.ob_scan.specs.declared.kind.Kind.TheVariants as kinds
 use Rattle.ob_tree.specs.declared.declaration.Module.{Module}
+use Rattle.ob_tree.specs.declared.expression.Literal.{Literal}
 use Rattle.ob_tree.specs.declared.token.Leaf.{Leaf}
 use Rattle.ob_tree.specs.declared.token.Leaf.TheVariants as leafs
 use Rattle.ob_tree.specs.Declaring.{module_outline}
@@ -13,8 +14,10 @@ use Rattle.ob_tree.specs.Marks.{Out, Begins, Ends, Identifier, Value, Word, Decl
 use Rattle.ob_decls.specs.declared.rows.Declared.{Declared}
 use Rattle.ob_decls.specs.declared.rows.Used.{Used}
 use Rattle.ob_decls.specs.Declaring.{own_name, rows_of, outermost}
+use Rattle.ob_decls.specs.Naming.{IsNamed}
 use Rattle.ob_decls.proofs.Mirrored.{declares_at, uses_at}
-use Rattle.ob_decls.proofs.MirroredModules.{m-module}
+use Rattle.ob_decls.proofs.Named.{AtNames}
+use Rattle.ob_decls.proofs.NamedModules.{m-module, module_named}
 
 -- one token with the tokens behind it
 record IsStep (k : ℕ) (l : Leaf) (ls : List Leaf) : Type 0 where
@@ -155,3 +158,44 @@ second (x ∷ y ∷ ks) l n ls e = let s : leaf_of 1 y ≡ leafs.Name n = cc in 
 
 pub own_ident : (ks : List Kind) (m : Module) → Derives ks m → (m.name ≡ own_name) × (slice_get ks own_name ≡ Some kinds.Ident)
 own_ident ks m d = let (l, ls, e) = name_spelled m in second ks l m.name ls (d ∙ e)
+
+-- ---- each identifier
+
+tail_of : (k : ℕ) (x : Kind) (ks : List Kind) (l : Leaf) (ls : List Leaf) → leaves k (x ∷ ks) ≡ l ∷ ls → leaves (suc k) ks ≡ ls
+tail_of k x ks l ls e = let t : leaves (k + 1) ks ≡ ls = cc in let s : suc k ≡ k + 1 = omega arith in ap (λ (j : ℕ). leaves j ks) s ∙ t
+
+no_value : (k : ℕ) (x : Kind) (ks : List Kind) (l : Literal) (n : ℕ) (ls : List Leaf) → leaves k (x ∷ ks) ≡ leafs.Value l n ∷ ls → Some x ≡ Some kinds.Ident → ⊥
+no_value k x ks l n ls e g =
+    let h : leaf_of k x ≡ leafs.Value l n = cc in
+    let i : x ≡ kinds.Ident = cc in
+    let j : leafs.Name k ≡ leafs.Value l n = subst (λ (y : Kind). leaf_of k y ≡ leafs.Value l n) i h in cc
+
+no_word : (k : ℕ) (x : Kind) (ks : List Kind) (w : Kind) (ls : List Leaf) → leaves k (x ∷ ks) ≡ leafs.Word w ∷ ls → Some x ≡ Some kinds.Ident → ⊥
+no_word k x ks w ls e g =
+    let h : leaf_of k x ≡ leafs.Word w = cc in
+    let i : x ≡ kinds.Ident = cc in
+    let j : leafs.Name k ≡ leafs.Word w = subst (λ (y : Kind). leaf_of k y ≡ leafs.Word w) i h in cc
+
+module _ (P : ℕ → Type 0) where
+  moved_on : (k i : ℕ) → P (suc k + i) → P (k + suc i)
+  moved_on k i h = subst P (omega arith) h
+
+  -- what holds of each place of an identifier holds of each token that is one
+  at_each : (o : Out) (k : ℕ) (ks : List Kind) (i : ℕ) → leaves k ks ≡ tokens_of o → AtNames P k o → slice_get ks i ≡ Some kinds.Ident → P (k + i)
+  unfolding AtNames
+  at_each [] k [] i e a g = absurd cc
+  at_each [] k (x ∷ ks) i e a g = absurd cc
+  at_each (Begins c m ∷ ms) k ks i e a g = at_each ms k ks i e a g
+  at_each (Ends c ∷ ms) k ks i e a g = at_each ms k ks i e a g
+  at_each (Identifier r m ∷ ms) k [] i e a g = absurd cc
+  at_each (Identifier r m ∷ ms) k (x ∷ ks) zero e a g = subst P (omega arith) a.0
+  at_each (Identifier r m ∷ ms) k (x ∷ ks) (suc i) e a g = moved_on k i (at_each ms (suc k) ks i (tail_of k x ks (leafs.Name m) (tokens_of ms) e) a.1 g)
+  at_each (Value l m ∷ ms) k [] i e a g = absurd cc
+  at_each (Value l m ∷ ms) k (x ∷ ks) zero e a g = absurd (no_value k x ks l m (tokens_of ms) e g)
+  at_each (Value l m ∷ ms) k (x ∷ ks) (suc i) e a g = moved_on k i (at_each ms (suc k) ks i (tail_of k x ks (leafs.Value l m) (tokens_of ms) e) a g)
+  at_each (Word w ∷ ms) k [] i e a g = absurd cc
+  at_each (Word w ∷ ms) k (x ∷ ks) zero e a g = absurd (no_word k x ks w (tokens_of ms) e g)
+  at_each (Word w ∷ ms) k (x ∷ ks) (suc i) e a g = moved_on k i (at_each ms (suc k) ks i (tail_of k x ks (leafs.Word w) (tokens_of ms) e) a g)
+
+pub each_named : (ks : List Kind) (m : Module) (k : ℕ) → Derives ks m → slice_get ks k ≡ Some kinds.Ident → IsNamed (rows_of m) k
+each_named ks m k d g = subst (IsNamed (rows_of m)) (omega arith) (at_each (IsNamed (rows_of m)) (module_outline m) 0 ks k d (module_named m) g)

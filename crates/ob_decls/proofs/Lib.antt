@@ -10,10 +10,11 @@ pub mod Steps
 pub mod TypeLayers
 pub mod TableRows
 pub mod Mirrored
-pub mod MirroredExpressions
-pub mod MirroredStatements
-pub mod MirroredTypes
-pub mod MirroredModules
+pub mod Named
+pub mod NamedExpressions
+pub mod NamedStatements
+pub mod NamedTypes
+pub mod NamedModules
 pub mod Derived
 pub mod Reading
 pub mod ReadingLists

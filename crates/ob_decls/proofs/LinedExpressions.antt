@@ -21,7 +21,7 @@ use Rattle.ob_decls.specs.Expressions.{each_after, first_name, designator_row, i
 use Rattle.ob_decls.specs.Expressions.{used as uses}
 use Rattle.ob_decls.proofs.ExpressionLayers as told
 use Rattle.ob_decls.proofs.LinedKinds.{AllOf, Kind}
-use Rattle.ob_decls.proofs.LinedPieces.{Later, Ordered, o-is, o-nothing, o-token, o-use, o-both, o-there, o-map, h-before, h-both, h-tells, l-token, o-headed}
+use Rattle.ob_decls.proofs.LinedPieces.{Ordered, o-is, o-nothing, o-token, o-both, o-there, o-map, h-before, h-both, h-tells, l-token, o-headed}
 
 module _ {X : Type 0} (K : Kind X) where
   -- a part has its rows in order

@@ -23,7 +23,7 @@ use Rattle.ob_decls.specs.Declaring.{module_end, rows_of, outermost}
 use Rattle.ob_decls.specs.Order.{AreInOrder, AscendBy, RiseBy}
 use Rattle.ob_decls.proofs.Lined.{Lined, ascends, rises}
 use Rattle.ob_decls.proofs.LinedKinds.{Kind, declarers_kind, declared_kind, uses_kind, blocks_kind, imports_kind, parts_kind, records_kind, designators_kind, ends_kind, selectors_kind}
-use Rattle.ob_decls.proofs.LinedPieces.{Ordered, h-before, h-both, h-tells, h-within, l-both, l-token, l-within, n-headed, o-both, o-declaring, o-each, o-headed, o-is, o-map, o-there, o-token}
+use Rattle.ob_decls.proofs.LinedPieces.{Ordered, h-before, h-both, h-tells, l-both, l-token, l-within, n-headed, o-both, o-declaring, o-each, o-headed, o-is, o-map, o-there, o-token}
 use Rattle.ob_decls.proofs.LinedExpressions.{o-expr}
 use Rattle.ob_decls.proofs.LinedStatements.{o-block}
 use Rattle.ob_decls.proofs.LinedTypes.{h-identdef, o-identdef, o-parameters, n-var, o-type}

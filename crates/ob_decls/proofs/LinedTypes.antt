@@ -23,11 +23,9 @@ use Rattle.ob_decls.specs.Expressions.{each_after, expr_piece}
 use Rattle.ob_decls.specs.Statements.{qualident_piece}
 use Rattle.ob_decls.specs.Types.{part_here, record_row, in_record, open_arrays, section_inner, section_piece, identdef_piece, parameter_piece, parameters_piece, type_name_piece, lengths_piece, type_piece, fields_piece, record_piece, var_piece}
 use Rattle.ob_decls.proofs.TypeLayers as told
-use Rattle.std.specs.Prelude.{List}
-use Rattle.ob_decls.specs.declared.draft.Context.{Context}
-use Rattle.ob_decls.specs.Types.{declared_row, name_part, type_use}
+use Rattle.ob_decls.specs.Types.{declared_row, name_part}
 use Rattle.ob_decls.proofs.LinedKinds.{Kind}
-use Rattle.ob_decls.proofs.LinedPieces.{Beside, Headed, Later, Ordered, h-before, h-both, h-tells, h-within, l-both, l-token, l-within, n-headed, n-is, n-later, n-nothing, o-both, o-declaring, o-each, o-headed, o-is, o-listed, o-map, o-nothing, o-so, o-there, o-token, o-within}
+use Rattle.ob_decls.proofs.LinedPieces.{Beside, Headed, Later, Ordered, h-before, h-both, h-tells, l-both, l-token, l-within, n-headed, n-is, n-later, n-nothing, o-both, o-declaring, o-each, o-headed, o-is, o-listed, o-map, o-nothing, o-so, o-there, o-token, o-within}
 use Rattle.ob_decls.proofs.LinedExpressions.{o-expr}
 use Rattle.ob_decls.proofs.LinedStatements.{h-qualident, o-qualident}
 

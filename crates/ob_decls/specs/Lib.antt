@@ -6,3 +6,4 @@ pub mod Parts
 pub mod Settling
 pub mod Statements
 pub mod Types
+pub mod Naming

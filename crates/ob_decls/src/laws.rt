@@ -1,5 +1,5 @@
 //! Laws of tables. Each function is a law: its body is empty, and its contract is proved.
-ghost use Rattle.std.specs.Prelude.{◌≡◌, Contains, List, Some, map, slice_get};
+ghost use Rattle.std.specs.Prelude.{◌≡◌, ℕ, Contains, List, Some, map, slice_get};
 ghost use Rattle.ob_scan.specs.declared.kind.Kind.{Kind};
 ghost use Rattle.ob_scan.specs.declared.kind.Kind.TheVariants as kinds;
 ghost use Rattle.ob_tree.specs.declared.declaration.Module.{Module};
@@ -8,6 +8,7 @@ ghost use Rattle.ob_tree.specs.Derives.{Derives, declared_in, used_in};
 ghost use Rattle.ob_decls.specs.declared.rows.Declared.{Declared};
 ghost use Rattle.ob_decls.specs.declared.rows.Used.{Used};
 ghost use Rattle.ob_decls.specs.Declaring.{own_name, rows_of};
+ghost use Rattle.ob_decls.specs.Naming.{IsNamed};
 
 /// Where a tree derives tokens, the identifiers that its table has are those that its outline declares and looks up, each
 /// by its token's number, in order.
@@ -23,6 +24,11 @@ pub fn identifiers()
     ensures used { (ks : List Kind) (m : Module) → Derives ks m → (u : Used) → Contains (rows_of m).uses u → slice_get ks u.number ≡ Some kinds.Ident }
     ensures own { (ks : List Kind) (m : Module) → Derives ks m → slice_get ks own_name ≡ Some kinds.Ident }
     ensures name { (ks : List Kind) (m : Module) → Derives ks m → m.name ≡ own_name }
+{}
+
+/// Where a tree derives tokens, each of them that is an identifier is the module's own name, or has a row of the table.
+pub fn named_identifiers()
+    ensures { (ks : List Kind) (m : Module) (k : ℕ) → Derives ks m → slice_get ks k ≡ Some kinds.Ident → IsNamed (rows_of m) k }
 {}
 
 /// Trees with one outline have one table.

@@ -1,4 +1,4 @@
--- The piece of a type and its outline have the same tokens.
+-- The piece of a type and its outline have the same tokens, and its rows name each identifier.
 use Rattle.std.proofs.Common.{◌≡◌, ℕ, zero, suc, false, ◌++◌, Option, Some, None, refl, sym, ap, ◌∙◌}
 use Rattle.std.specs.declared.boxed.Box.{Box}
 use Rattle.std.specs.declared.alloc.Global.{Global}
@@ -12,7 +12,7 @@ use Rattle.ob_tree.specs.declared.declaration.Record.{Record, Record-F, roll-Rec
 use Rattle.ob_tree.specs.declared.declaration.VarDecl.{VarDecl, VarDecl-F, roll-VarDecl, out-roll-VarDecl, ind-VarDecl, map-VarDecl}
 use Rattle.ob_tree.specs.Constructs as constructs
 use Rattle.ob_tree.specs.declared.name.Identdef.{Identdef}
-use Rattle.ob_tree.specs.Marks.{construct, word, declared, named, if_there, listed, times}
+use Rattle.ob_tree.specs.Marks.{construct, word, declared, if_there, listed, times}
 use Rattle.ob_tree.specs.Names.{qualident_outline, identdef_outline}
 use Rattle.ob_tree.specs.Types.{section_outline, parameters_outline, type_outline, fields_outline, record_outline, var_outline}
 use Rattle.ob_tree.proofs.TypeLayers.{type_shown, fields_shown, record_shown, var_shown, type_out, fields_out, record_out, var_out}
@@ -28,61 +28,60 @@ use Rattle.ob_decls.specs.Parts.{Piece, token, both, tells, within, if_so, decla
 use Rattle.ob_decls.specs.Parts.{if_there as there}
 use Rattle.ob_decls.specs.Expressions.{each_after, expr_piece}
 use Rattle.ob_decls.specs.Statements.{qualident_piece}
-use Rattle.ob_decls.specs.Types.{part_here, record_row, in_record, open_arrays, section_inner, section_piece, identdef_piece, parameter_piece, parameters_piece, type_name_piece, lengths_piece, type_piece, fields_piece, record_piece, var_piece}
+use Rattle.ob_decls.specs.Types.{is_lone, part_here, record_row, in_record, open_arrays, section_inner, section_piece, identdef_piece, parameter_piece, parameters_piece, type_name_piece, lengths_piece, type_piece, fields_piece, record_piece, var_piece}
 use Rattle.ob_decls.proofs.TypeLayers as told
-use Rattle.ob_decls.proofs.Mirrored.{Mirrors, mirrored, m-nothing, m-word, m-name, m-declared, m-both, m-three, m-first_declares, m-first_uses, m-held, m-tells, m-within, m-declaring, m-opening, m-there, m-so, m-each, m-map, m-listed}
-use Rattle.ob_decls.proofs.MirroredExpressions.{m-expr}
-use Rattle.ob_decls.proofs.MirroredStatements.{m-qualident}
+use Rattle.ob_decls.proofs.Named.{Named, named_as, n-nothing, n-word, n-declared, n-both, n-three, n-first_declares, n-type_use, n-held, n-tells, n-within, n-declaring, n-opening, n-there, n-so, n-each, n-map, n-listed}
+use Rattle.ob_decls.proofs.NamedExpressions.{n-expr}
+use Rattle.ob_decls.proofs.NamedStatements.{n-qualident}
 
 -- ---- names and parameters
 
-pub m-identdef : (i : Identdef) → Mirrors (identdef_piece i) (identdef_outline i)
+pub n-identdef : (i : Identdef) → Named (identdef_piece i) (identdef_outline i)
 unfolding identdef_piece identdef_outline
-m-identdef i = m-first_declares _ i.name (λ c k. refl) (λ c k. refl) (m-so i.starred (m-word kinds.Star))
+n-identdef i = n-first_declares _ i.name (λ c k. refl) (λ c k. refl) (n-so i.starred (n-word kinds.Star))
 
-m-parameter : (n : ℕ) → Mirrors parameter_piece (declared n)
+n-parameter : (n : ℕ) → Named parameter_piece (declared n)
 unfolding parameter_piece
-m-parameter n = m-declared false n
+n-parameter n = n-declared false n
 
-m-type_name : (q : Qualident) → Mirrors (type_name_piece q) (qualident_outline q)
+n-type_name : (q : Qualident) → Named (type_name_piece q) (qualident_outline q)
 unfolding type_name_piece qualident_outline
-m-type_name q = m-tells _ (λ c k. refl) (λ c k. refl)
-    (m-first_uses _ q.head (λ c k. refl) (λ c k. refl) (m-there (λ m. both token token) (λ m. word kinds.Dot ++ named m) q.member (λ m. m-both (m-word kinds.Dot) (m-name m))))
+n-type_name q = n-tells _ (λ c k. refl) (λ c k. refl) (n-type_use (λ m c. is_lone m c.is_target) q.member q.head)
 
-m-arrays : (n : ℕ) → Mirrors (open_arrays n) (times n (word kinds.Array ++ word kinds.Of))
-m-arrays zero = m-nothing
-m-arrays (suc n) = m-both (m-tells _ (λ c k. refl) (λ c k. refl) (m-both (m-word kinds.Array) (m-word kinds.Of))) (m-arrays n)
+n-arrays : (n : ℕ) → Named (open_arrays n) (times n (word kinds.Array ++ word kinds.Of))
+n-arrays zero = n-nothing
+n-arrays (suc n) = n-both (n-tells _ (λ c k. refl) (λ c k. refl) (n-both (n-word kinds.Array) (n-word kinds.Of))) (n-arrays n)
 
-m-section : (s : ParameterSection) → Mirrors (section_piece s) (section_outline s)
+n-section : (s : ParameterSection) → Named (section_piece s) (section_outline s)
 unfolding section_piece section_inner section_outline
-m-section s = m-held constructs.FPSection (m-declaring sorts.Parameter (m-both (m-so s.variable (m-word kinds.Var)) (m-three (m-parameter s.names.first)
-    (m-each (λ n. both token parameter_piece) (λ n. word kinds.Comma ++ declared n) s.names.rest.items (λ n. m-both (m-word kinds.Comma) (m-parameter n)))
-    (m-both (m-word kinds.Colon) (m-both (m-arrays s.open_arrays) (m-tells _ (λ c k. refl) (λ c k. refl) (m-qualident s.of)))))))
+n-section s = n-held constructs.FPSection (n-declaring sorts.Parameter (n-both (n-so s.variable (n-word kinds.Var)) (n-three (n-parameter s.names.first)
+    (n-each (λ n. both token parameter_piece) (λ n. word kinds.Comma ++ declared n) s.names.rest.items (λ n. n-both (n-word kinds.Comma) (n-parameter n)))
+    (n-both (n-word kinds.Colon) (n-both (n-arrays s.open_arrays) (n-tells _ (λ c k. refl) (λ c k. refl) (n-qualident s.of)))))))
 
-pub m-parameters : (p : Parameters) → Mirrors (parameters_piece p) (parameters_outline p)
+pub n-parameters : (p : Parameters) → Named (parameters_piece p) (parameters_outline p)
 unfolding parameters_piece parameters_outline
-m-parameters p =
-    m-both (m-word kinds.LeftParen) (m-both (m-there (λ l. both (section_piece l.first) (each_after section_piece l.rest.items)) (listed kinds.Semicolon section_outline) p.sections (λ l. m-listed kinds.Semicolon section_piece section_outline l m-section))
-    (m-both (m-word kinds.RightParen) (m-there (λ q. both token (qualident_piece q)) (λ q. word kinds.Colon ++ qualident_outline q) p.result (λ q. m-both (m-word kinds.Colon) (m-qualident q)))))
+n-parameters p =
+    n-both (n-word kinds.LeftParen) (n-both (n-there (λ l. both (section_piece l.first) (each_after section_piece l.rest.items)) (listed kinds.Semicolon section_outline) p.sections (λ l. n-listed kinds.Semicolon section_piece section_outline l n-section))
+    (n-both (n-word kinds.RightParen) (n-there (λ q. both token (qualident_piece q)) (λ q. word kinds.Colon ++ qualident_outline q) p.result (λ q. n-both (n-word kinds.Colon) (n-qualident q)))))
 
-m-lengths : (l : ExprList) → Mirrors (lengths_piece l) (expr_list_outline l)
-m-lengths l = mirrored (told.lengths_out l) (expr_list_out l)
-    (m-both (m-expr (out-ExprList l).first) (m-each (λ e. both (tells (part_here parts.Array) token) (expr_piece e)) (λ e. word kinds.Comma ++ expr_outline e) (out-ExprList l).rest.items
-    (λ e. m-both (m-tells _ (λ c k. refl) (λ c k. refl) (m-word kinds.Comma)) (m-expr e))))
+n-lengths : (l : ExprList) → Named (lengths_piece l) (expr_list_outline l)
+n-lengths l = named_as (told.lengths_out l) (expr_list_out l)
+    (n-both (n-expr (out-ExprList l).first) (n-each (λ e. both (tells (part_here parts.Array) token) (expr_piece e)) (λ e. word kinds.Comma ++ expr_outline e) (out-ExprList l).rest.items
+    (λ e. n-both (n-tells _ (λ c k. refl) (λ c k. refl) (n-word kinds.Comma)) (n-expr e))))
 
 -- each part mirrors its outline
 
 abbrev HeldTypeForm : TypeForm → Type 0
-HeldTypeForm t = Mirrors (type_piece t) (type_outline t)
+HeldTypeForm t = Named (type_piece t) (type_outline t)
 
 abbrev HeldFields : Fields → Type 0
-HeldFields t = Mirrors (fields_piece t) (fields_outline t)
+HeldFields t = Named (fields_piece t) (fields_outline t)
 
 abbrev HeldRecord : Record → Type 0
-HeldRecord t = Mirrors (record_piece t) (record_outline t)
+HeldRecord t = Named (record_piece t) (record_outline t)
 
 abbrev HeldVarDecl : VarDecl → Type 0
-HeldVarDecl t = Mirrors (var_piece t) (var_outline t)
+HeldVarDecl t = Named (var_piece t) (var_outline t)
 
 -- a layer whose parts do, and the layer itself
 
@@ -110,79 +109,79 @@ WithVarDecl = VarDecl-F (With HeldTypeForm) (With HeldFields) (With HeldRecord) 
 abbrev var_of : WithVarDecl → VarDecl-F TypeForm Fields Record VarDecl
 var_of = map-VarDecl (With HeldTypeForm) (With HeldFields) (With HeldRecord) (With HeldVarDecl) TypeForm Fields Record VarDecl (λ e. e.0) (λ e. e.0) (λ e. e.0) (λ e. e.0)
 
-fields_there : (o : Option (Box (With HeldFields) Global)) → Mirrors (there (λ f. fields_piece f.value) ((shapes.former-Record-fields).map (With HeldFields) Fields (λ e. e.0) o))
+fields_there : (o : Option (Box (With HeldFields) Global)) → Named (there (λ f. fields_piece f.value) ((shapes.former-Record-fields).map (With HeldFields) Fields (λ e. e.0) o))
     (if_there (λ f. fields_outline f.value) ((shapes.former-Record-fields).map (With HeldFields) Fields (λ e. e.0) o))
-fields_there None = m-nothing
+fields_there None = n-nothing
 fields_there (Some f) = f.value.1
 
-type_held : (y : WithTypeForm) → Mirrors (told.type_shown (type_of y)) (type_shown (type_of y))
-type_held (layers.Named q) = m-type_name q
-type_held (layers.ArrayOf lengths of) = m-tells _ (λ c k. refl) (λ c k. refl)
-    (m-both (m-word kinds.Array) (m-both (m-lengths lengths.value) (m-both (m-word kinds.Of) (m-within _ of.value.1))))
-type_held (layers.RecordOf r) = m-tells _ (λ c k. refl) (λ c k. refl) r.1
-type_held (layers.PointerTo t) = m-tells _ (λ c k. refl) (λ c k. refl) (m-both (m-word kinds.Pointer) (m-both (m-word kinds.To) (m-within _ t.value.1)))
-type_held (layers.ProcOf p) = m-tells _ (λ c k. refl) (λ c k. refl) (m-opening (m-both (m-word kinds.Procedure) (m-there parameters_piece parameters_outline p m-parameters)))
+type_held : (y : WithTypeForm) → Named (told.type_shown (type_of y)) (type_shown (type_of y))
+type_held (layers.Named q) = n-type_name q
+type_held (layers.ArrayOf lengths of) = n-tells _ (λ c k. refl) (λ c k. refl)
+    (n-both (n-word kinds.Array) (n-both (n-lengths lengths.value) (n-both (n-word kinds.Of) (n-within _ of.value.1))))
+type_held (layers.RecordOf r) = n-tells _ (λ c k. refl) (λ c k. refl) r.1
+type_held (layers.PointerTo t) = n-tells _ (λ c k. refl) (λ c k. refl) (n-both (n-word kinds.Pointer) (n-both (n-word kinds.To) (n-within _ t.value.1)))
+type_held (layers.ProcOf p) = n-tells _ (λ c k. refl) (λ c k. refl) (n-opening (n-both (n-word kinds.Procedure) (n-there parameters_piece parameters_outline p n-parameters)))
 
 abbrev fields_told : Fields-F TypeForm Fields Record VarDecl → Piece
 fields_told f = both (declaring sorts.Field (var_piece f.first)) (both (each_after (λ v. declaring sorts.Field (var_piece v)) f.rest.items) (if_so f.closing_semicolon token))
 
-fields_held : (y : WithFields) → Mirrors (fields_told (fields_of y)) (fields_shown (fields_of y))
+fields_held : (y : WithFields) → Named (fields_told (fields_of y)) (fields_shown (fields_of y))
 fields_held y =
-    m-both (m-held constructs.FieldList (m-declaring sorts.Field y.first.1))
-    (m-both (m-map (λ v. both token (declaring sorts.Field (var_piece v))) (λ v. word kinds.Semicolon ++ construct constructs.FieldList (var_outline v)) _ y.rest.items (λ v. m-both (m-word kinds.Semicolon) (m-held constructs.FieldList (m-declaring sorts.Field v.1))))
-    (m-so y.closing_semicolon (m-word kinds.Semicolon)))
+    n-both (n-held constructs.FieldList (n-declaring sorts.Field y.first.1))
+    (n-both (n-map (λ v. both token (declaring sorts.Field (var_piece v))) (λ v. word kinds.Semicolon ++ construct constructs.FieldList (var_outline v)) _ y.rest.items (λ v. n-both (n-word kinds.Semicolon) (n-held constructs.FieldList (n-declaring sorts.Field v.1))))
+    (n-so y.closing_semicolon (n-word kinds.Semicolon)))
 
 abbrev record_told : Record-F TypeForm Fields Record VarDecl → Piece
 record_told r = tells (record_row r.base) (within in_record (
     both token (both (there (λ q. both token (both (qualident_piece q) token)) r.base)
     (both (there (λ x. fields_piece x.value) r.fields) token))))
 
-record_held : (y : WithRecord) → Mirrors (record_told (record_of y)) (record_shown (record_of y))
-record_held y = m-tells _ (λ c k. refl) (λ c k. refl) (m-within _
-    (m-both (m-word kinds.Record)
-    (m-both (m-there (λ q. both token (both (qualident_piece q) token)) (λ q. word kinds.LeftParen ++ (qualident_outline q ++ word kinds.RightParen)) y.base (λ q. m-both (m-word kinds.LeftParen) (m-both (m-qualident q) (m-word kinds.RightParen))))
-    (m-both (fields_there y.fields) (m-word kinds.End)))))
+record_held : (y : WithRecord) → Named (record_told (record_of y)) (record_shown (record_of y))
+record_held y = n-tells _ (λ c k. refl) (λ c k. refl) (n-within _
+    (n-both (n-word kinds.Record)
+    (n-both (n-there (λ q. both token (both (qualident_piece q) token)) (λ q. word kinds.LeftParen ++ (qualident_outline q ++ word kinds.RightParen)) y.base (λ q. n-both (n-word kinds.LeftParen) (n-both (n-qualident q) (n-word kinds.RightParen))))
+    (n-both (fields_there y.fields) (n-word kinds.End)))))
 
 abbrev var_told : VarDecl-F TypeForm Fields Record VarDecl → Piece
 var_told v = both (identdef_piece v.names.first) (both (each_after identdef_piece v.names.rest.items) (both token (type_piece v.form)))
 
-var_held : (y : WithVarDecl) → Mirrors (var_told (var_of y)) (var_shown (var_of y))
-var_held y = m-three (m-identdef y.names.first)
-    (m-each (λ i. both token (identdef_piece i)) (λ i. word kinds.Comma ++ identdef_outline i) y.names.rest.items (λ i. m-both (m-word kinds.Comma) (m-identdef i)))
-    (m-both (m-word kinds.Colon) y.form.1)
+var_held : (y : WithVarDecl) → Named (var_told (var_of y)) (var_shown (var_of y))
+var_held y = n-three (n-identdef y.names.first)
+    (n-each (λ i. both token (identdef_piece i)) (λ i. word kinds.Comma ++ identdef_outline i) y.names.rest.items (λ i. n-both (n-word kinds.Comma) (n-identdef i)))
+    (n-both (n-word kinds.Colon) y.form.1)
 
 -- ---- layer by layer
 
 type_step : (x : TypeForm-F TypeForm Fields Record VarDecl) (y : WithTypeForm) → type_of y ≡ x → HeldTypeForm (roll-TypeForm x)
 type_step x y is =
-    mirrored
+    named_as
     (told.type_told (roll-TypeForm x) ∙ ap (λ (z : TypeForm-F TypeForm Fields Record VarDecl). told.type_shown z) (out-roll-TypeForm x ∙ sym is))
     (type_out (roll-TypeForm x) ∙ ap (λ (z : TypeForm-F TypeForm Fields Record VarDecl). construct constructs.TypeForm (type_shown z)) (out-roll-TypeForm x ∙ sym is))
-    (m-held constructs.TypeForm (type_held y))
+    (n-held constructs.TypeForm (type_held y))
 
 fields_step : (x : Fields-F TypeForm Fields Record VarDecl) (y : WithFields) → fields_of y ≡ x → HeldFields (roll-Fields x)
 fields_step x y is =
-    mirrored
+    named_as
     (told.fields_out (roll-Fields x) ∙ ap (λ (z : Fields-F TypeForm Fields Record VarDecl). fields_told z) (out-roll-Fields x ∙ sym is))
     (fields_out (roll-Fields x) ∙ ap (λ (z : Fields-F TypeForm Fields Record VarDecl). fields_shown z) (out-roll-Fields x ∙ sym is))
     (fields_held y)
 
 record_step : (x : Record-F TypeForm Fields Record VarDecl) (y : WithRecord) → record_of y ≡ x → HeldRecord (roll-Record x)
 record_step x y is =
-    mirrored
+    named_as
     (told.record_out (roll-Record x) ∙ ap (λ (z : Record-F TypeForm Fields Record VarDecl). record_told z) (out-roll-Record x ∙ sym is))
     (record_out (roll-Record x) ∙ ap (λ (z : Record-F TypeForm Fields Record VarDecl). record_shown z) (out-roll-Record x ∙ sym is))
     (record_held y)
 
 var_step : (x : VarDecl-F TypeForm Fields Record VarDecl) (y : WithVarDecl) → var_of y ≡ x → HeldVarDecl (roll-VarDecl x)
 var_step x y is =
-    mirrored
+    named_as
     (told.var_out (roll-VarDecl x) ∙ ap (λ (z : VarDecl-F TypeForm Fields Record VarDecl). var_told z) (out-roll-VarDecl x ∙ sym is))
     (var_out (roll-VarDecl x) ∙ ap (λ (z : VarDecl-F TypeForm Fields Record VarDecl). var_shown z) (out-roll-VarDecl x ∙ sym is))
     (var_held y)
 
-pub m-type : (t : TypeForm) → Mirrors (type_piece t) (type_outline t)
-m-type = ind-TypeForm HeldTypeForm HeldFields HeldRecord HeldVarDecl type_step fields_step record_step var_step
+pub n-type : (t : TypeForm) → Named (type_piece t) (type_outline t)
+n-type = ind-TypeForm HeldTypeForm HeldFields HeldRecord HeldVarDecl type_step fields_step record_step var_step
 
-pub m-var : (v : VarDecl) → Mirrors (var_piece v) (var_outline v)
-m-var = ind-VarDecl HeldTypeForm HeldFields HeldRecord HeldVarDecl type_step fields_step record_step var_step
+pub n-var : (v : VarDecl) → Named (var_piece v) (var_outline v)
+n-var = ind-VarDecl HeldTypeForm HeldFields HeldRecord HeldVarDecl type_step fields_step record_step var_step

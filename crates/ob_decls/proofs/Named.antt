@@ -1,0 +1,363 @@
+-- Parts of a tree whose rows name each of their identifiers: a piece that mirrors its outline, with a row for each place of an identifier.
+use Rattle.std.proofs.Common.{◌≡◌, ℕ, zero, suc, ◌+◌, inl, inr, Bool, true, false, List, [], ◌∷◌, ◌++◌, map, Option, Some, None, refl, sym, ap, append_assoc, subst, arith}
+use Rattle.std.specs.Prelude.{Contains}
+use Rattle.std.proofs.lemmas.List.Elements.{Contains-append_left, Contains-append_right, Contains-append_cases}
+use Rattle.ob_scan.specs.declared.kind.Kind.{Kind}
+use Rattle.ob_scan.specs.declared.kind.Kind.TheVariants as kinds
+use Rattle.ob_tree.specs.Constructs.{Construct}
+use Rattle.ob_tree.specs.Constructs as constructs
+use Rattle.ob_tree.specs.declared.expression.Literal.{Literal}
+use Rattle.ob_tree.specs.declared.name.OneOrMore.{OneOrMore}
+use Rattle.ob_tree.specs.Marks.{Out, Begins, Ends, Identifier, Value, Word, Declares, Uses, Names, Repeats, construct, word, named, listed}
+use Rattle.ob_tree.specs.Marks.{if_there as outline_there, if_so as outline_so, each as outline_each}
+use Rattle.ob_decls.specs.declared.rows.Declared.{Declared}
+use Rattle.ob_decls.specs.declared.rows.End.{End}
+use Rattle.ob_decls.specs.declared.rows.Import.{Import}
+use Rattle.ob_decls.specs.declared.rows.Selector.{Selector}
+use Rattle.ob_decls.specs.declared.rows.Sort.{Sort}
+use Rattle.ob_decls.specs.declared.rows.Step.TheVariants as steps
+use Rattle.ob_decls.specs.declared.rows.Used.{Used}
+use Rattle.ob_decls.specs.declared.draft.Context.{Context}
+use Rattle.ob_decls.specs.Declaring.{named_by, outermost}
+use Rattle.ob_decls.specs.Expressions.{Selected, behind_dot, each_after, selector_rows, used}
+use Rattle.ob_decls.specs.Naming.{IsNamed}
+use Rattle.ob_decls.specs.Naming as names
+use Rattle.ob_decls.specs.Parts.{Piece, Rows, no_rows, joined, nothing, token, both, tells, within, if_there, if_so, each, declaring, opening, one_declarer, one_end, one_import, one_used, these_selectors, declarer, declaring_at}
+use Rattle.ob_decls.specs.Types.{declared_row}
+use Rattle.ob_decls.proofs.Mirrored.{Mirrors, declared_numbers, m-both, m-declared, m-declaring, m-first_declares, m-first_uses, m-held, m-name, m-nothing, m-repeat, m-tells, m-use, m-value, m-within, m-word, used_numbers, width_of}
+
+-- this holds of the place of each identifier of an outline, where its first token has this one
+unfoldable pub AtNames : (ℕ → Type 0) → ℕ → Out → Type 0
+AtNames P k [] = Unit {0}
+AtNames P k (Begins c n ∷ ms) = AtNames P k ms
+AtNames P k (Ends c ∷ ms) = AtNames P k ms
+AtNames P k (Identifier r n ∷ ms) = P k × AtNames P (suc k) ms
+AtNames P k (Value l n ∷ ms) = AtNames P (suc k) ms
+AtNames P k (Word w ∷ ms) = AtNames P (suc k) ms
+
+at_both : (P : ℕ → Type 0) (k : ℕ) (a b : Out) → AtNames P k a → AtNames P (k + width_of a) b → AtNames P k (a ++ b)
+unfolding AtNames
+at_both P k [] b f g = subst (λ (n : ℕ). AtNames P n b) (omega arith) g
+at_both P k (Begins c n ∷ ms) b f g = at_both P k ms b f g
+at_both P k (Ends c ∷ ms) b f g = at_both P k ms b f g
+at_both P k (Identifier r n ∷ ms) b f g = (f.0, at_both P (suc k) ms b f.1 (subst (λ (n : ℕ). AtNames P n b) (omega arith) g))
+at_both P k (Value l n ∷ ms) b f g = at_both P (suc k) ms b f (subst (λ (n : ℕ). AtNames P n b) (omega arith) g)
+at_both P k (Word w ∷ ms) b f g = at_both P (suc k) ms b f (subst (λ (n : ℕ). AtNames P n b) (omega arith) g)
+
+at_all : (P Q : ℕ → Type 0) (k : ℕ) (o : Out) → ((n : ℕ) → P n → Q n) → AtNames P k o → AtNames Q k o
+unfolding AtNames
+at_all P Q k [] w f = tt
+at_all P Q k (Begins c n ∷ ms) w f = at_all P Q k ms w f
+at_all P Q k (Ends c ∷ ms) w f = at_all P Q k ms w f
+at_all P Q k (Identifier r n ∷ ms) w f = (w k f.0, at_all P Q (suc k) ms w f.1)
+at_all P Q k (Value l n ∷ ms) w f = at_all P Q (suc k) ms w f
+at_all P Q k (Word w2 ∷ ms) w f = at_all P Q (suc k) ms w f
+
+-- ---- rows among others
+
+record AreAmong (a b : Rows) : Type 0 where
+  imports : (x : Import) → Contains a.imports x → Contains b.imports x
+  declared : (x : Declared) → Contains a.declared x → Contains b.declared x
+  ends : (x : End) → Contains a.ends x → Contains b.ends x
+  uses : (x : Used) → Contains a.uses x → Contains b.uses x
+  selectors : (x : Selector) → Contains a.selectors x → Contains b.selectors x
+
+among_first : (a b : Rows) → AreAmong a (joined a b)
+unfolding joined
+among_first a b = record {
+  imports = Contains-append_left a.imports b.imports;
+  declared = Contains-append_left a.declared b.declared;
+  ends = Contains-append_left a.ends b.ends;
+  uses = Contains-append_left a.uses b.uses;
+  selectors = Contains-append_left a.selectors b.selectors;
+}
+
+among_second : (a b : Rows) → AreAmong b (joined a b)
+unfolding joined
+among_second a b = record {
+  imports = Contains-append_right a.imports b.imports;
+  declared = Contains-append_right a.declared b.declared;
+  ends = Contains-append_right a.ends b.ends;
+  uses = Contains-append_right a.uses b.uses;
+  selectors = Contains-append_right a.selectors b.selectors;
+}
+
+among_later : (a b c : Rows) → AreAmong a b → AreAmong b c → AreAmong a c
+among_later a b c f g = record {
+  imports = λ x h. g.imports x (f.imports x h);
+  declared = λ x h. g.declared x (f.declared x h);
+  ends = λ x h. g.ends x (f.ends x h);
+  uses = λ x h. g.uses x (f.uses x h);
+  selectors = λ x h. g.selectors x (f.selectors x h);
+}
+
+either : {X : Type 0} (xs ys zs : List X) (x : X) → (Contains xs x → Contains zs x) → (Contains ys x → Contains zs x) → Contains (xs ++ ys) x → Contains zs x
+either xs ys zs x f g h = elim (Contains-append_cases xs ys x h) [ inl l ↦ f l | inr r ↦ g r ]
+
+among_joined : (a b c : Rows) → AreAmong a c → AreAmong b c → AreAmong (joined a b) c
+unfolding joined
+among_joined a b c f g = record {
+  imports = λ x. either a.imports b.imports c.imports x (f.imports x) (g.imports x);
+  declared = λ x. either a.declared b.declared c.declared x (f.declared x) (g.declared x);
+  ends = λ x. either a.ends b.ends c.ends x (f.ends x) (g.ends x);
+  uses = λ x. either a.uses b.uses c.uses x (f.uses x) (g.uses x);
+  selectors = λ x. either a.selectors b.selectors c.selectors x (f.selectors x) (g.selectors x);
+}
+
+named_among : (a b : Rows) → AreAmong a b → (k : ℕ) → IsNamed a k → IsNamed b k
+named_among a b f k (names.own e) = names.own e
+named_among a b f k (names.imported i h e) = names.imported i (f.imports i h) e
+named_among a b f k (names.declared d h e) = names.declared d (f.declared d h) e
+named_among a b f k (names.ended x h e) = names.ended x (f.ends x h) e
+named_among a b f k (names.used u h e) = names.used u (f.uses u h) e
+named_among a b f k (names.selected s h e) = names.selected s (f.selectors s h) e
+named_among a b f k (names.second u h e) = names.second u (f.uses u h) e
+
+at_among : (a b : Rows) (k : ℕ) (o : Out) → AreAmong a b → AtNames (IsNamed a) k o → AtNames (IsNamed b) k o
+at_among a b k o f h = at_all (IsNamed a) (IsNamed b) k o (named_among a b f) h
+
+-- ---- pieces and outlines
+
+pub record Named (p : Piece) (o : Out) : Type 0 where
+  pub mirrors : Mirrors p o
+  pub has_row : (c : Context) (k : ℕ) → AtNames (IsNamed (p.rows c k)) k o
+
+pub n-nothing : Named nothing []
+unfolding AtNames
+n-nothing = record { mirrors = m-nothing; has_row = λ c k. tt }
+
+pub n-word : (w : Kind) → Named token (word w)
+unfolding AtNames
+n-word w = record { mirrors = m-word w; has_row = λ c k. tt }
+
+pub n-value : (l : Literal) (n : ℕ) → Named token (Value l n ∷ [])
+unfolding AtNames
+n-value l n = record { mirrors = m-value l n; has_row = λ c k. tt }
+
+pub n-both : {p q : Piece} {a b : Out} → Named p a → Named q b → Named (both p q) (a ++ b)
+unfolding both
+n-both {p} {q} {a} {b} f g = record {
+  mirrors = m-both f.mirrors g.mirrors;
+  has_row = λ c k.
+      let R = joined (p.rows c k) (q.rows c (k + p.width)) in
+      at_both (IsNamed R) k a b (at_among (p.rows c k) R k a (among_first (p.rows c k) (q.rows c (k + p.width))) (f.has_row c k))
+      (subst (λ (w : ℕ). AtNames (IsNamed R) (k + w) b) f.mirrors.width
+      (at_among (q.rows c (k + p.width)) R (k + p.width) b (among_second (p.rows c k) (q.rows c (k + p.width))) (g.has_row c (k + p.width))));
+}
+
+pub n-held : (x : Construct) {p : Piece} {o : Out} → Named p o → Named p (construct x o)
+unfolding construct AtNames
+n-held x {p} {o} f = record { mirrors = m-held x f.mirrors; has_row = λ c k. at_both (IsNamed (p.rows c k)) k o (Ends x ∷ []) (f.has_row c k) tt }
+
+pub n-tells : (own : Context → ℕ → Rows) {p : Piece} {o : Out} → ((c : Context) (k : ℕ) → declared_numbers (own c k) ≡ []) → ((c : Context) (k : ℕ) → used_numbers (own c k) ≡ []) →
+    Named p o → Named (tells own p) o
+unfolding tells
+n-tells own {p} {o} d u f = record {
+  mirrors = m-tells own d u f.mirrors;
+  has_row = λ c k. at_among (p.rows c k) (joined (own c k) (p.rows c k)) k o (among_second (own c k) (p.rows c k)) (f.has_row c k);
+}
+
+pub n-within : (around : Context → ℕ → Context) {p : Piece} {o : Out} → Named p o → Named (within around p) o
+unfolding within
+n-within around f = record { mirrors = m-within around f.mirrors; has_row = λ c k. f.has_row (around c k) k }
+
+pub n-declaring : (sort : Sort) {p : Piece} {o : Out} → Named p o → Named (declaring sort p) o
+unfolding declaring
+n-declaring sort {p} {o} f = record {
+  mirrors = m-declaring sort f.mirrors;
+  has_row = λ c k.
+      let own = one_declarer (declarer sort c k _) in
+      at_among (p.rows (declaring_at c k) k) (joined own (p.rows (declaring_at c k) k)) k o (among_second own (p.rows (declaring_at c k) k)) (f.has_row (declaring_at c k) k);
+}
+
+pub n-opening : {p : Piece} {o : Out} → Named p o → Named (opening p) o
+n-opening f = n-tells _ (λ c k. refl) (λ c k. refl) (n-within _ f)
+
+pub n-there : {X : Type 0} (f : X → Piece) (g : X → Out) (o : Option X) → ((x : X) → Named (f x) (g x)) → Named (if_there f o) (outline_there g o)
+n-there f g None w = n-nothing
+n-there f g (Some x) w = w x
+
+pub n-so : (b : Bool) {p : Piece} {o : Out} → Named p o → Named (if_so b p) (outline_so b o)
+n-so true w = w
+n-so false w = n-nothing
+
+pub n-each : {X : Type 0} (f : X → Piece) (g : X → Out) (xs : List X) → ((x : X) → Named (f x) (g x)) → Named (each f xs) (outline_each g xs)
+n-each f g [] w = n-nothing
+n-each f g (x ∷ xs) w = n-both (w x) (n-each f g xs w)
+
+pub n-map : {X Y : Type 0} (f : Y → Piece) (g : Y → Out) (h : X → Y) (xs : List X) → ((x : X) → Named (f (h x)) (g (h x))) → Named (each f (map h xs)) (outline_each g (map h xs))
+n-map f g h [] w = n-nothing
+n-map f g h (x ∷ xs) w = n-both (w x) (n-map f g h xs w)
+
+pub n-listed : {X : Type 0} (k : Kind) (f : X → Piece) (g : X → Out) (l : OneOrMore X) → ((x : X) → Named (f x) (g x)) →
+    Named (both (f l.first) (each_after f l.rest.items)) (listed k g l)
+n-listed k f g l w = n-both (w l.first) (n-each (λ x. both token (f x)) (λ x. word k ++ g x) l.rest.items (λ x. n-both (n-word k) (w x)))
+
+pub named_as : {p q : Piece} {a b : Out} → p ≡ q → a ≡ b → Named q b → Named p a
+named_as {p} {q} {a} {b} e f m = subst (λ (x : Piece). Named x a) (sym e) (subst (λ (x : Out). Named q x) (sym f) m)
+
+pub n-three : {p q r : Piece} {a b c : Out} → Named p a → Named q b → Named r c → Named (both p (both q r)) ((a ++ b) ++ c)
+n-three {p} {q} {r} {a} {b} {c} f g h = named_as {p = both p (both q r)} refl (append_assoc a b c) (n-both f (n-both g h))
+
+-- ---- identifiers
+
+at_front : {X : Type 0} (x : X) (xs : List X) → Contains (x ∷ xs) x
+at_front x xs = (zero, omega arith, refl)
+
+pub n-use : (member : Option ℕ) (n : ℕ) → Named (used member) (Identifier Uses n ∷ [])
+unfolding AtNames tells token joined no_rows
+n-use member n = record { mirrors = m-use member n; has_row = λ c k. (names.used _ (at_front _ []) refl, tt) }
+
+pub n-declared : (starred : Bool) (n : ℕ) → Named (tells (declared_row starred) token) (Identifier Declares n ∷ [])
+unfolding AtNames tells token joined no_rows
+n-declared starred n = record { mirrors = m-declared starred n; has_row = λ c k. (names.declared _ (at_front _ []) refl, tt) }
+
+-- the name behind END
+pub n-ends : (of : Context → ℕ → Option ℕ) (m n : ℕ) → Named (tells (λ c k. one_end (record { number = k; of = of c k })) token) (Identifier (Repeats m) n ∷ [])
+unfolding AtNames tells token joined no_rows
+n-ends of m n = record { mirrors = m-tells (λ c k. one_end (record { number = k; of = of c k })) (λ c k. refl) (λ c k. refl) (m-repeat m n); has_row = λ c k. (names.ended _ (at_front _ []) refl, tt) }
+
+-- a row of this number
+record HasRow (r : Rows) (k : ℕ) : Type 0 where
+  row : Declared
+  among : Contains r.declared row
+  number : row.number ≡ k
+
+declares_here : (xs : List Declared) (k : ℕ) → map (λ (d : Declared). d.number) xs ≡ k ∷ [] → (x : Declared) × Contains xs x × (x.number ≡ k)
+declares_here [] k e = absurd cc
+declares_here (x ∷ xs) k e = (x, at_front x xs, cc)
+
+pub n-first_declares : (own : Context → ℕ → Rows) {p : Piece} {o : Out} (n : ℕ) → ((c : Context) (k : ℕ) → declared_numbers (own c k) ≡ k ∷ []) → ((c : Context) (k : ℕ) → used_numbers (own c k) ≡ []) →
+    Named p o → Named (tells own (both token p)) (Identifier Declares n ∷ o)
+unfolding AtNames tells both token
+n-first_declares own {p} {o} n d u f = record {
+  mirrors = m-first_declares own n d u f.mirrors;
+  has_row = λ c k.
+      let rest = p.rows c (k + 1) in
+      let R = joined (own c k) (joined no_rows rest) in
+      let x = declares_here (own c k).declared k (d c k) in (
+        named_among (own c k) R (among_first (own c k) (joined no_rows rest)) k (names.declared x.0 x.1 x.2),
+        subst (λ (i : ℕ). AtNames (IsNamed R) i o) (omega arith)
+            (at_among rest R (k + 1) o (among_later rest (joined no_rows rest) R (among_second no_rows rest) (among_second (own c k) (joined no_rows rest))) (f.has_row c (k + 1))),
+      );
+}
+
+-- the second name of a qualident
+pub n-qualified : (member : Option ℕ) (n : ℕ) → Named (both (used member) (if_there (λ m. both token token) member)) (Identifier Uses n ∷ outline_there (λ m. word kinds.Dot ++ named m) member)
+unfolding AtNames tells both token joined no_rows
+n-qualified None n = n-both (n-use None n) n-nothing
+n-qualified (Some m) n = record {
+  mirrors = m-both (m-use (Some m) n) (m-both (m-word kinds.Dot) (m-name m));
+  has_row = λ c k. (names.used _ (at_front _ []) refl, (names.second _ (at_front _ []) (ap Some (omega arith)), tt));
+}
+
+-- a name as a type, with what makes its use a target or not
+pub n-type_use : (is_target : Option ℕ → Context → Bool) (member : Option ℕ) (n : ℕ) →
+    Named (tells (λ c k. one_used (record { number = k; block = c.block; is_target = is_target member c; member = behind_dot member k })) (both token (if_there (λ m. both token token) member)))
+    (Identifier Uses n ∷ outline_there (λ m. word kinds.Dot ++ named m) member)
+unfolding AtNames nothing tells both token joined no_rows
+n-type_use t None n = record { mirrors = m-first_uses (λ c k. one_used (record { number = k; block = c.block; is_target = t None c; member = behind_dot None k })) n (λ c k. refl) (λ c k. refl) m-nothing; has_row = λ c k. (names.used _ (at_front _ []) refl, tt) }
+n-type_use t (Some m) n = record {
+  mirrors = m-first_uses (λ c k. one_used (record { number = k; block = c.block; is_target = t (Some m) c; member = behind_dot (Some m) k })) n (λ c k. refl) (λ c k. refl) (m-both (m-word kinds.Dot) (m-name m));
+  has_row = λ c k. (names.used _ (at_front _ []) refl, (names.second _ (at_front _ []) (ap Some (omega arith)), tt));
+}
+
+-- an import item: its alias, and the module that it names
+pub n-item : (of : Option ℕ) (n : ℕ) →
+    Named (tells (λ c k. one_import (record { alias = k; imported = named_by of k })) (tells (declared_row false) (both token (if_there (λ m. both token token) of))))
+    (Identifier Declares n ∷ outline_there (λ m. word kinds.Assign ++ named m) of)
+unfolding AtNames nothing tells both token joined no_rows
+n-item None n = n-tells (λ c k. one_import (record { alias = k; imported = named_by None k })) (λ c k. refl) (λ c k. refl) (n-first_declares (declared_row false) n (λ c k. refl) (λ c k. refl) n-nothing)
+n-item (Some m) n = record {
+  mirrors = m-tells (λ c k. one_import (record { alias = k; imported = named_by (Some m) k })) (λ c k. refl) (λ c k. refl) (m-first_declares (declared_row false) n (λ c k. refl) (λ c k. refl) (m-both (m-word kinds.Assign) (m-name m)));
+  has_row = λ c k. (names.declared _ (at_front _ []) refl, (names.imported _ (at_front _ []) (omega arith), tt));
+}
+
+-- ---- selectors
+
+abbrev pub selector_row : ℕ → Selected → Context → ℕ → Rows
+selector_row head s c k = these_selectors (record { of = head; step = s.step k } ∷ [])
+
+abbrev pub rows_from : ℕ → List Selected → Context → ℕ → Rows
+rows_from head ss c k = these_selectors (selector_rows head ss k)
+
+abbrev pieces_of : List Selected → Piece
+pieces_of ss = each (λ (s : Selected). s.piece) ss
+
+-- a dot and a name
+pub n-field : (head n : ℕ) → Named (tells (λ c k. these_selectors (record { of = head; step = steps.Field (k + 1) } ∷ [])) (both token token)) (Word kinds.Dot ∷ Identifier Names n ∷ [])
+unfolding AtNames tells both token joined no_rows
+n-field head n = record {
+  mirrors = m-tells (λ c k. these_selectors (record { of = head; step = steps.Field (k + 1) } ∷ [])) (λ c k. refl) (λ c k. refl) (m-both (m-word kinds.Dot) (m-name n));
+  has_row = λ c k. (names.selected _ (at_front _ []) (ap steps.Field (omega arith)), tt);
+}
+
+-- a piece without the selectors that are told before it
+untold : (own : Context → ℕ → List Selector) {p : Piece} {o : Out} → Mirrors (tells (λ c k. these_selectors (own c k)) p) o → Mirrors p o
+unfolding tells joined
+untold own f = record { width = f.width; declares = f.declares; uses = f.uses }
+
+pub n-none : (head : ℕ) → Named (tells (rows_from head []) (pieces_of [])) []
+n-none head = n-tells (rows_from head []) (λ c k. refl) (λ c k. refl) n-nothing
+
+selectors_first : (s : Selector) (ss : List Selector) → AreAmong (these_selectors (s ∷ [])) (these_selectors (s ∷ ss))
+selectors_first s ss = record { imports = λ x h. h; declared = λ x h. h; ends = λ x h. h; uses = λ x h. h; selectors = Contains-append_left (s ∷ []) ss }
+
+selectors_rest : (s : Selector) (ss : List Selector) → AreAmong (these_selectors ss) (these_selectors (s ∷ ss))
+selectors_rest s ss = record { imports = λ x h. h; declared = λ x h. h; ends = λ x h. h; uses = λ x h. h; selectors = Contains-append_right (s ∷ []) ss }
+
+among_both : (a b c d : Rows) → AreAmong a c → AreAmong b d → AreAmong (joined a b) (joined c d)
+among_both a b c d f g = among_joined a b (joined c d) (among_later a c (joined c d) f (among_first c d)) (among_later b d (joined c d) g (among_second c d))
+
+pub n-more : (head : ℕ) (s : Selected) (ss : List Selected) {a b : Out} → Named (tells (selector_row head s) s.piece) a → Named (tells (rows_from head ss) (pieces_of ss)) b →
+    Named (tells (rows_from head (s ∷ ss)) (both s.piece (pieces_of ss))) (a ++ b)
+unfolding tells both
+n-more head s ss {a} {b} f g = record {
+  mirrors = m-tells (rows_from head (s ∷ ss)) (λ c k. refl) (λ c k. refl) (m-both (untold (λ c k. record { of = head; step = s.step k } ∷ []) f.mirrors) (untold (λ c k. selector_rows head ss k) g.mirrors));
+  has_row = λ c k.
+      let own : Selector = record { of = head; step = s.step k } in
+      let j = k + s.piece.width in
+      let rest = selector_rows head ss j in
+      let P = s.piece.rows c k in
+      let Q = (pieces_of ss).rows c j in
+      let R = joined (these_selectors (own ∷ rest)) (joined P Q) in
+      at_both (IsNamed R) k a b
+      (at_among (joined (these_selectors (own ∷ [])) P) R k a (among_both (these_selectors (own ∷ [])) P (these_selectors (own ∷ rest)) (joined P Q) (selectors_first own rest) (among_first P Q)) (f.has_row c k))
+      (subst (λ (w : ℕ). AtNames (IsNamed R) (k + w) b) f.mirrors.width
+      (at_among (joined (these_selectors rest) Q) R j b (among_both (these_selectors rest) Q (these_selectors (own ∷ rest)) (joined P Q) (selectors_rest own rest) (among_second P Q)) (g.has_row c j)));
+}
+
+-- a designator: its head, and its selectors behind it
+pub n-designated : (row : Context → ℕ → Rows) (ss : List Selected) (member : Option ℕ) (n : ℕ) {o : Out} → ((c : Context) (k : ℕ) → declared_numbers (row c k) ≡ []) → ((c : Context) (k : ℕ) → used_numbers (row c k) ≡ []) →
+    ((head : ℕ) → Named (tells (rows_from head ss) (pieces_of ss)) o) →
+    Named (tells row (tells (λ c k. these_selectors (selector_rows k ss (k + 1))) (both (used member) (pieces_of ss)))) (Identifier Uses n ∷ o)
+unfolding AtNames tells both token
+n-designated row ss member n {o} d u f = record {
+  mirrors = m-tells row d u (m-tells (λ c k. these_selectors (selector_rows k ss (k + 1))) (λ c k. refl) (λ c k. refl) (m-both (m-use member n) (untold (λ c k. selector_rows 0 ss k) (f 0).mirrors)));
+  has_row = λ c k.
+      let own = these_selectors (selector_rows k ss (k + 1)) in
+      let P = (used member).rows c k in
+      let Q = (pieces_of ss).rows c (k + 1) in
+      let I = joined own (joined P Q) in
+      let R = joined (row c k) I in
+      let head = (n-use member n).has_row c k in (
+        named_among P R (among_later P I R (among_later P (joined P Q) I (among_first P Q) (among_second own (joined P Q))) (among_second (row c k) I)) k head.0,
+        subst (λ (i : ℕ). AtNames (IsNamed R) i o) (omega arith)
+            (at_among (joined own Q) R (k + 1) o
+            (among_later (joined own Q) I R (among_joined own Q I (among_first own (joined P Q)) (among_later Q (joined P Q) I (among_second P Q) (among_second own (joined P Q)))) (among_second (row c k) I))
+            ((f k).has_row c (k + 1))),
+      );
+}
+
+-- ---- modules
+
+-- a module whose first token and name stand before a part
+pub named_module : (n : ℕ) {p : Piece} {o : Out} → Named p o →
+    AtNames (IsNamed ((both token (both token p)).rows outermost 0)) 0 (construct constructs.Module (Word kinds.Module ∷ Identifier Names n ∷ o))
+unfolding AtNames construct both token
+named_module n {p} {o} f =
+    let rest = p.rows outermost 2 in
+    let R = joined no_rows (joined no_rows rest) in (
+      names.own refl,
+      at_both (IsNamed R) 2 o (Ends constructs.Module ∷ []) (at_among rest R 2 o (among_later rest (joined no_rows rest) R (among_second no_rows rest) (among_second no_rows (joined no_rows rest))) (f.has_row outermost 2)) tt,
+    )

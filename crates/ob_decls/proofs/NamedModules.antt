@@ -1,0 +1,153 @@
+-- The piece of a module and its outline have the same tokens, and its rows name each identifier.
+use Rattle.std.proofs.Common.{◌≡◌, ◌+◌, List, Some, None, ◌++◌, sym, ap, ◌∙◌}
+use Rattle.ob_scan.specs.declared.kind.Kind.{Kind}
+use Rattle.ob_scan.specs.declared.kind.Kind.TheVariants as kinds
+use Rattle.ob_tree.specs.declared.name.OneOrMore.{OneOrMore}
+use Rattle.ob_tree.specs.declared.declaration.ConstDecl.{ConstDecl}
+use Rattle.ob_tree.specs.declared.declaration.TypeDecl.{TypeDecl}
+use Rattle.ob_tree.specs.declared.declaration.VarDecl.{VarDecl}
+use Rattle.ob_tree.specs.declared.declaration.ImportItem.{ImportItem}
+use Rattle.ob_tree.specs.declared.declaration.Module.{Module}
+use Rattle.ob_tree.specs.declared.declaration.Declarations.{Declarations, Declarations-F, roll-Declarations, out-roll-Declarations, ind-Declarations, map-Declarations}
+use Rattle.ob_tree.specs.declared.declaration.ProcDecl.{ProcDecl, ProcDecl-F, roll-ProcDecl, out-roll-ProcDecl, map-ProcDecl}
+use Rattle.ob_tree.specs.Constructs as constructs
+use Rattle.ob_tree.specs.Marks.{Out, construct, if_there, word, repeated, listed}
+use Rattle.ob_tree.specs.Expressions.{expr_outline}
+use Rattle.ob_tree.specs.Statements.{block_outline}
+use Rattle.ob_tree.specs.Types.{parameters_outline}
+use Rattle.ob_tree.specs.Declaring.{const_outline, type_decl_outline, variable_outline, part, declarations_outline, procedure_outline, import_outline, module_outline}
+use Rattle.ob_tree.proofs.DeclarationLayers.{declarations_shown, procedure_shown, declarations_out, procedure_out}
+use Rattle.ob_tree.proofs.Closed.{With}
+use Rattle.ob_decls.specs.declared.rows.Sort.TheVariants as sorts
+use Rattle.ob_decls.specs.Parts.{Piece, token, both, tells, declaring, opening}
+use Rattle.ob_decls.specs.Parts.{if_there as there, each as pieces}
+use Rattle.ob_decls.specs.Expressions.{expr_piece}
+use Rattle.ob_decls.specs.Statements.{block_piece}
+use Rattle.ob_decls.specs.Types.{identdef_piece, parameters_piece}
+use Rattle.ob_decls.specs.Declaring.{rows_of, module_end, const_piece, type_decl_piece, variable_piece, procedure_end, declarations_piece, procedure_piece, import_inner, import_piece, imports_piece, module_piece}
+use Rattle.ob_decls.specs.Declaring.{part as told_part}
+use Rattle.ob_decls.proofs.DeclarationLayers as told
+use Rattle.ob_decls.specs.Naming.{IsNamed}
+use Rattle.ob_decls.proofs.Mirrored.{Mirrors, m-both, m-held, m-name, m-word}
+use Rattle.ob_decls.proofs.Named.{AtNames, Named, named_module, named_as, n-word, n-ends, n-both, n-three, n-item, n-held, n-declaring, n-opening, n-there, n-each, n-map}
+use Rattle.ob_decls.proofs.NamedExpressions.{n-expr}
+use Rattle.ob_decls.proofs.NamedStatements.{n-block}
+use Rattle.ob_decls.proofs.NamedTypes.{n-identdef, n-parameters, n-type, n-var}
+
+-- ---- declarations of one name or more
+
+n-const : (c : ConstDecl) → Named (const_piece c) (const_outline c)
+unfolding const_piece const_outline
+n-const c = n-held constructs.ConstDeclaration (n-declaring sorts.Constant (n-both (n-identdef c.name) (n-both (n-word kinds.Equals) (n-expr c.value))))
+
+n-type_decl : (t : TypeDecl) → Named (type_decl_piece t) (type_decl_outline t)
+unfolding type_decl_piece type_decl_outline
+n-type_decl t = n-held constructs.TypeDeclaration (n-declaring sorts.Type (n-both (n-identdef t.name) (n-both (n-word kinds.Equals) (n-type t.form))))
+
+n-variables : (v : VarDecl) → Named (variable_piece v) (variable_outline v)
+unfolding variable_piece variable_outline
+n-variables v = n-held constructs.VariableDeclaration (n-declaring sorts.Variable (n-var v))
+
+n-import : (i : ImportItem) → Named (import_piece i) (import_outline i)
+unfolding import_piece import_inner import_outline
+n-import i = n-held constructs.Import (n-declaring sorts.Import (n-item i.of i.name))
+
+n-part : {X : Type 0} (k : Kind) (f : X → Piece) (g : X → Out) (xs : List X) → ((x : X) → Named (f x) (g x)) → Named (told_part f xs) (part k g xs)
+n-part k f g xs w = n-both (n-word k) (n-each (λ x. both (f x) token) (λ x. g x ++ word kinds.Semicolon) xs (λ x. n-both (w x) (n-word kinds.Semicolon)))
+
+-- each part mirrors its outline
+
+abbrev HeldDeclarations : Declarations → Type 0
+HeldDeclarations t = Named (declarations_piece t) (declarations_outline t)
+
+abbrev HeldProcDecl : ProcDecl → Type 0
+HeldProcDecl t = Named (procedure_piece t) (procedure_outline t)
+
+-- a layer whose parts do, and the layer itself
+
+abbrev WithDeclarations : Type 0
+WithDeclarations = Declarations-F (With HeldDeclarations) (With HeldProcDecl)
+
+abbrev declarations_of : WithDeclarations → Declarations-F Declarations ProcDecl
+declarations_of = map-Declarations (With HeldDeclarations) (With HeldProcDecl) Declarations ProcDecl (λ e. e.0) (λ e. e.0)
+
+abbrev WithProcDecl : Type 0
+WithProcDecl = ProcDecl-F (With HeldDeclarations) (With HeldProcDecl)
+
+abbrev procedure_of : WithProcDecl → ProcDecl-F Declarations ProcDecl
+procedure_of = map-ProcDecl (With HeldDeclarations) (With HeldProcDecl) Declarations ProcDecl (λ e. e.0) (λ e. e.0)
+
+abbrev declarations_told : Declarations-F Declarations ProcDecl → Piece
+declarations_told d =
+    both (there (λ v. told_part const_piece v.items) d.constants) (
+    both (there (λ v. told_part type_decl_piece v.items) d.types) (
+    both (there (λ v. told_part variable_piece v.items) d.variables) (pieces (λ p. both (procedure_piece p) token) d.procedures.items)))
+
+declarations_held : (y : WithDeclarations) → Named (declarations_told (declarations_of y)) (declarations_shown (declarations_of y))
+declarations_held y =
+    n-both (n-there (λ v. told_part const_piece v.items) (λ v. part kinds.Const const_outline v.items) y.constants (λ v. n-part kinds.Const const_piece const_outline v.items n-const))
+    (n-both (n-there (λ v. told_part type_decl_piece v.items) (λ v. part kinds.Type type_decl_outline v.items) y.types (λ v. n-part kinds.Type type_decl_piece type_decl_outline v.items n-type_decl))
+    (n-both (n-there (λ v. told_part variable_piece v.items) (λ v. part kinds.Var variable_outline v.items) y.variables (λ v. n-part kinds.Var variable_piece variable_outline v.items n-variables))
+    (n-map (λ p. both (procedure_piece p) token) (λ p. procedure_outline p ++ word kinds.Semicolon) _ y.procedures.items (λ p. n-both p.1 (n-word kinds.Semicolon)))))
+
+abbrev procedure_told : ProcDecl-F Declarations ProcDecl → Piece
+procedure_told p = declaring sorts.Procedure (opening (
+    both token (both (identdef_piece p.name) (both (there parameters_piece p.parameters) (both token
+    (both (declarations_piece p.declarations) (both (there (λ b. both token (block_piece b.value)) p.body)
+    (both (there (λ e. both token (expr_piece e.value)) p.returned) (both token (tells procedure_end token))))))))))
+
+procedure_held : (y : WithProcDecl) → Named (procedure_told (procedure_of y)) (procedure_shown (procedure_of y))
+procedure_held y = n-declaring sorts.Procedure (n-opening (
+    n-both (n-word kinds.Procedure) (n-both (n-identdef y.name) (n-both (n-there parameters_piece parameters_outline y.parameters n-parameters) (n-both (n-word kinds.Semicolon)
+    (n-both y.declarations.1 (n-both (n-there (λ b. both token (block_piece b.value)) (λ b. word kinds.Begin ++ block_outline b.value) y.body (λ b. n-both (n-word kinds.Begin) (n-block b.value)))
+    (n-both (n-there (λ e. both token (expr_piece e.value)) (λ e. word kinds.Return ++ expr_outline e.value) y.returned (λ e. n-both (n-word kinds.Return) (n-expr e.value)))
+    (n-both (n-word kinds.End) (n-ends (λ c k. Some (c.declarer + 1)) y.name.name y.end_name))))))))))
+
+-- ---- layer by layer
+
+declarations_step : (x : Declarations-F Declarations ProcDecl) (y : WithDeclarations) → declarations_of y ≡ x → HeldDeclarations (roll-Declarations x)
+declarations_step x y is =
+    named_as
+    (told.declarations_out (roll-Declarations x) ∙ ap (λ (z : Declarations-F Declarations ProcDecl). declarations_told z) (out-roll-Declarations x ∙ sym is))
+    (declarations_out (roll-Declarations x) ∙ ap (λ (z : Declarations-F Declarations ProcDecl). declarations_shown z) (out-roll-Declarations x ∙ sym is))
+    (declarations_held y)
+
+procedure_step : (x : ProcDecl-F Declarations ProcDecl) (y : WithProcDecl) → procedure_of y ≡ x → HeldProcDecl (roll-ProcDecl x)
+procedure_step x y is =
+    named_as
+    (told.procedure_told (roll-ProcDecl x) ∙ ap (λ (z : ProcDecl-F Declarations ProcDecl). procedure_told z) (out-roll-ProcDecl x ∙ sym is))
+    (procedure_out (roll-ProcDecl x) ∙ ap (λ (z : ProcDecl-F Declarations ProcDecl). construct constructs.ProcedureDeclaration (procedure_shown z)) (out-roll-ProcDecl x ∙ sym is))
+    (n-held constructs.ProcedureDeclaration (procedure_held y))
+
+n-declarations : (d : Declarations) → Named (declarations_piece d) (declarations_outline d)
+n-declarations = ind-Declarations HeldDeclarations HeldProcDecl declarations_step procedure_step
+
+n-imports : (l : OneOrMore ImportItem) → Named (imports_piece l) (word kinds.Import ++ (listed kinds.Comma import_outline l ++ word kinds.Semicolon))
+unfolding imports_piece
+n-imports l = n-both (n-word kinds.Import) (n-three (n-import l.first)
+    (n-each (λ i. both token (import_piece i)) (λ i. word kinds.Comma ++ import_outline i) l.rest.items (λ i. n-both (n-word kinds.Comma) (n-import i))) (n-word kinds.Semicolon))
+
+-- what stands behind a module's own name
+behind_name : Module → Piece
+behind_name m = both token (both (there imports_piece m.imports) (both (declarations_piece m.declarations) (both (there (λ b. both token (block_piece b)) m.body)
+    (both token (both (tells module_end token) token)))))
+
+behind_outline : Module → Out
+behind_outline m = word kinds.Semicolon ++ (if_there (λ l. word kinds.Import ++ (listed kinds.Comma import_outline l ++ word kinds.Semicolon)) m.imports ++ (declarations_outline m.declarations ++
+    (if_there (λ b. word kinds.Begin ++ block_outline b) m.body ++ (word kinds.End ++ (repeated m.name m.end_name ++ word kinds.Dot)))))
+
+n-behind : (m : Module) → Named (behind_name m) (behind_outline m)
+unfolding behind_name behind_outline
+n-behind m = n-both (n-word kinds.Semicolon)
+    (n-both (n-there imports_piece (λ l. word kinds.Import ++ (listed kinds.Comma import_outline l ++ word kinds.Semicolon)) m.imports n-imports)
+    (n-both (n-declarations m.declarations) (n-both (n-there (λ b. both token (block_piece b)) (λ b. word kinds.Begin ++ block_outline b) m.body (λ b. n-both (n-word kinds.Begin) (n-block b)))
+    (n-both (n-word kinds.End) (n-both (n-ends (λ c k. None) m.name m.end_name) (n-word kinds.Dot))))))
+
+pub m-module : (m : Module) → Mirrors (module_piece m) (module_outline m)
+unfolding module_piece module_outline behind_name behind_outline
+m-module m = m-held constructs.Module (m-both (m-word kinds.Module) (m-both (m-name m.name) (n-behind m).mirrors))
+
+-- and its own name is where every module has it
+pub module_named : (m : Module) → AtNames (IsNamed (rows_of m)) 0 (module_outline m)
+unfolding module_piece module_outline behind_name behind_outline
+module_named m = named_module m.name (n-behind m)
