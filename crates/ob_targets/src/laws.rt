@@ -1,7 +1,13 @@
 //! Laws of what identifiers stand for. Each function is a law: its body is empty, and its contract is proved.
-ghost use Rattle.std.specs.Prelude.{◌≡◌, ◌↔◌, ℕ, List, Contains};
+ghost use Rattle.std.specs.Prelude.{◌≡◌, ◌≢◌, ◌↔◌, ℕ, List, Contains, map};
+ghost use Rattle.ob_scan.specs.declared.token.Token.{Token};
+ghost use Rattle.ob_tree.specs.declared.declaration.Module.{Module};
+ghost use Rattle.ob_tree.specs.Derives.{Derives};
+ghost use Rattle.ob_decls.specs.Declaring.{rows_of};
 ghost use Rattle.ob_types.specs.World.{World};
-ghost use Rattle.ob_targets.specs.Refers.{unresolved, AreReferences, Refers, StandsForNothing};
+ghost use Rattle.ob_targets.specs.Refers.{identifiers, unresolved, AreReferences, Refers, StandsForNothing};
+ghost use Rattle.ob_targets.specs.Standing.{standing};
+ghost use Rattle.ob_targets.specs.declared.standing.Standing.TheVariants as standings;
 ghost use Rattle.ob_targets.specs.declared.target.Reference.{Reference};
 ghost use Rattle.ob_targets.specs.declared.target.Target.{Target};
 
@@ -20,4 +26,10 @@ pub fn unresolved_identifiers()
 /// A module has one list of references.
 pub fn one_references()
     ensures { (w : World) (rs ss : List Reference) → AreReferences w rs → AreReferences w ss → rs ≡ ss }
+{}
+
+/// Where a tree derives the tokens, no identifier of them stands nowhere: what it stands for, or that it stands for nothing, is
+/// told by the rule of the place where it stands.
+pub fn each_stands()
+    ensures { (tokens : List Token) (m : Module) (k : ℕ) → Derives (map (λ (t : Token). t.kind) tokens) m → Contains (identifiers tokens) k → standing (rows_of m) k ≢ standings.Nowhere }
 {}
