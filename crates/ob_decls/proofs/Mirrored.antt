@@ -1,18 +1,16 @@
 -- A piece and an outline of one part of a tree: as many tokens, and the same places of what is declared and looked up.
-use Rattle.std.proofs.Common.{◌≡◌, ℕ, suc, ◌+◌, Bool, true, false, List, [], ◌∷◌, ◌++◌, map, Option, Some, None, refl, sym, ap, ap₂, ◌∙◌, append-nil, append_assoc, subst, arith}
+use Rattle.std.proofs.Common.{◌≡◌, ℕ, suc, ◌+◌, Bool, List, [], ◌∷◌, ◌++◌, map, Option, refl, sym, ap, ap₂, ◌∙◌, append-nil, arith}
 use Rattle.std.proofs.lemmas.List.{map-append}
 use Rattle.ob_scan.specs.declared.kind.Kind.{Kind}
 use Rattle.ob_tree.specs.Constructs.{Construct}
 use Rattle.ob_tree.specs.declared.expression.Literal.{Literal}
-use Rattle.ob_tree.specs.declared.name.OneOrMore.{OneOrMore}
-use Rattle.ob_tree.specs.Marks.{Out, Begins, Ends, Identifier, Value, Word, Declares, Uses, Names, Repeats, construct, word, listed}
-use Rattle.ob_tree.specs.Marks.{if_there as outline_there, if_so as outline_so, each as outline_each}
+use Rattle.ob_tree.specs.Marks.{Out, Begins, Ends, Identifier, Value, Word, Declares, Uses, Names, Repeats, construct, word}
 use Rattle.ob_decls.specs.declared.rows.Declared.{Declared}
 use Rattle.ob_decls.specs.declared.rows.Used.{Used}
 use Rattle.ob_decls.specs.declared.rows.Sort.{Sort}
 use Rattle.ob_decls.specs.declared.draft.Context.{Context}
-use Rattle.ob_decls.specs.Parts.{Piece, Rows, no_rows, joined, nothing, token, both, tells, within, if_there, if_so, each, declaring, opening}
-use Rattle.ob_decls.specs.Expressions.{each_after, used}
+use Rattle.ob_decls.specs.Parts.{Piece, Rows, no_rows, joined, nothing, token, both, tells, within, declaring}
+use Rattle.ob_decls.specs.Expressions.{used}
 use Rattle.ob_decls.specs.Types.{declared_row}
 
 -- how many tokens an outline has
@@ -156,32 +154,6 @@ pub m-declaring : (sort : Sort) {p : Piece} {o : Out} → Mirrors p o → Mirror
 unfolding declaring joined
 m-declaring sort f = record { width = f.width; declares = λ c k. f.declares _ k; uses = λ c k. f.uses _ k }
 
-pub m-opening : {p : Piece} {o : Out} → Mirrors p o → Mirrors (opening p) o
-m-opening f = m-tells _ (λ c k. refl) (λ c k. refl) (m-within _ f)
-
-pub m-there : {X : Type 0} (f : X → Piece) (g : X → Out) (o : Option X) → ((x : X) → Mirrors (f x) (g x)) → Mirrors (if_there f o) (outline_there g o)
-m-there f g None w = m-nothing
-m-there f g (Some x) w = w x
-
-pub m-so : (b : Bool) {p : Piece} {o : Out} → Mirrors p o → Mirrors (if_so b p) (outline_so b o)
-m-so true w = w
-m-so false w = m-nothing
-
-pub m-each : {X : Type 0} (f : X → Piece) (g : X → Out) (xs : List X) → ((x : X) → Mirrors (f x) (g x)) → Mirrors (each f xs) (outline_each g xs)
-m-each f g [] w = m-nothing
-m-each f g (x ∷ xs) w = m-both (w x) (m-each f g xs w)
-
-pub m-map : {X Y : Type 0} (f : Y → Piece) (g : Y → Out) (h : X → Y) (xs : List X) → ((x : X) → Mirrors (f (h x)) (g (h x))) → Mirrors (each f (map h xs)) (outline_each g (map h xs))
-m-map f g h [] w = m-nothing
-m-map f g h (x ∷ xs) w = m-both (w x) (m-map f g h xs w)
-
-pub m-listed : {X : Type 0} (k : Kind) (f : X → Piece) (g : X → Out) (l : OneOrMore X) → ((x : X) → Mirrors (f x) (g x)) →
-    Mirrors (both (f l.first) (each_after f l.rest.items)) (listed k g l)
-m-listed k f g l w = m-both (w l.first) (m-each (λ x. both token (f x)) (λ x. word k ++ g x) l.rest.items (λ x. m-both (m-word k) (w x)))
-
-pub mirrored : {p q : Piece} {a b : Out} → p ≡ q → a ≡ b → Mirrors q b → Mirrors p a
-mirrored {p} {q} {a} {b} e f m = subst (λ (x : Piece). Mirrors x a) (sym e) (subst (λ (x : Out). Mirrors q x) (sym f) m)
-
 pub m-use : (member : Option ℕ) (n : ℕ) → Mirrors (used member) (Identifier Uses n ∷ [])
 unfolding tells token joined no_rows
 m-use member n = record { width = refl; declares = λ c k. refl; uses = λ c k. refl }
@@ -189,10 +161,6 @@ m-use member n = record { width = refl; declares = λ c k. refl; uses = λ c k. 
 pub m-declared : (starred : Bool) (n : ℕ) → Mirrors (tells (declared_row starred) token) (Identifier Declares n ∷ [])
 unfolding tells token joined no_rows
 m-declared starred n = record { width = refl; declares = λ c k. refl; uses = λ c k. refl }
-
--- a list of its own within what follows
-pub m-three : {p q r : Piece} {a b c : Out} → Mirrors p a → Mirrors q b → Mirrors r c → Mirrors (both p (both q r)) ((a ++ b) ++ c)
-m-three {p} {q} {r} {a} {b} {c} f g h = mirrored {p = both p (both q r)} refl (append_assoc a b c) (m-both f (m-both g h))
 
 later : (f : ℕ → List ℕ) (k : ℕ) → f (k + 1) ≡ f (suc k)
 later f k = ap f (omega arith)

@@ -217,12 +217,7 @@ pub n-ends : (of : Context → ℕ → Option ℕ) (m n : ℕ) → Named (tells 
 unfolding AtNames tells token joined no_rows
 n-ends of m n = record { mirrors = m-tells (λ c k. one_end (record { number = k; of = of c k })) (λ c k. refl) (λ c k. refl) (m-repeat m n); has_row = λ c k. (names.ended _ (at_front _ []) refl, tt) }
 
--- a row of this number
-record HasRow (r : Rows) (k : ℕ) : Type 0 where
-  row : Declared
-  among : Contains r.declared row
-  number : row.number ≡ k
-
+-- a row that declares this alone
 declares_here : (xs : List Declared) (k : ℕ) → map (λ (d : Declared). d.number) xs ≡ k ∷ [] → (x : Declared) × Contains xs x × (x.number ≡ k)
 declares_here [] k e = absurd cc
 declares_here (x ∷ xs) k e = (x, at_front x xs, cc)
