@@ -44,7 +44,12 @@ out_of imports flow s n = sum_by (λ i. cond (below s n i.from) (flow i) 0) impo
 abbrev in_to : List Priced → (Priced → ℕ) → (ℕ → Bool) → ℕ → ℕ
 in_to imports flow s n = sum_by (λ i. cond (below s n i.to) (flow i) 0) imports
 
-module _ (net : Network) (a b : ℕ) (flow : Priced → ℕ) (value : ℕ) (is_flow : IsFlow net a b flow value) (s : ℕ → Bool) (is_side : IsSide net a b s) where
+-- at each module but a and b what enters equals what leaves, and the value is what leaves a less what enters it
+pub record IsConserved (net : Network) (a b : ℕ) (flow : Priced → ℕ) (value : ℕ) : Type 0 where
+  pub kept : (m : ℕ) → m ≢ a → m ≢ b → entering net.imports flow m ≡ leaving net.imports flow m
+  pub at_start : entering net.imports flow a + value ≡ leaving net.imports flow a
+
+module _ (net : Network) (a b : ℕ) (flow : Priced → ℕ) (value : ℕ) (is_flow : IsConserved net a b flow value) (s : ℕ → Bool) (is_side : IsSide net a b s) where
   out_more : (n : ℕ) → s n ≡ true → out_of net.imports flow s n + leaving net.imports flow n ≡ out_of net.imports flow s (suc n)
   out_more n has = sum_by-both _ _ _ net.imports (λ i _. below_more_yes s n i.from (flow i) has)
 
@@ -100,17 +105,22 @@ both_ends_back false true v c e = rw e (omega arith)
 both_ends_back false false v c e = refl
 
 -- what leaves a side is what enters it and the value
-pub across : (net : Network) (a b : ℕ) (flow : Priced → ℕ) (value : ℕ) (s : ℕ → Bool) →
-    AreBetween net.imports (length net.names) → a < length net.names → IsFlow net a b flow value → IsSide net a b s →
+pub across_kept : (net : Network) (a b : ℕ) (flow : Priced → ℕ) (value : ℕ) (s : ℕ → Bool) →
+    AreBetween net.imports (length net.names) → a < length net.names → IsConserved net a b flow value → IsSide net a b s →
     sum_by (λ i. cond (enters s i) (flow i) 0) net.imports + value ≡ sum_by (λ i. cond (leaves s i) (flow i) 0) net.imports
 unfolding below
-across net a b flow value s between a_in is_flow is_side =
+across_kept net a b flow value s between a_in is_flow is_side =
     let bal = (balanced net a b flow value is_flow s is_side (length net.names)).1 a_in in
     let out : sum_by (λ i. cond (leaves s i) (flow i) 0) net.imports + sum_by (λ i. cond (s i.from && s i.to) (flow i) 0) net.imports ≡ out_of net.imports flow s (length net.names) =
     sum_by-both _ _ _ net.imports (λ i c. both_ends (s i.from) (s i.to) (ltb i.from (length net.names)) (flow i) (lt-ltb i.from (length net.names) (between i c).0)) in
     let into : sum_by (λ i. cond (enters s i) (flow i) 0) net.imports + sum_by (λ i. cond (s i.from && s i.to) (flow i) 0) net.imports ≡ in_to net.imports flow s (length net.names) =
     sum_by-both _ _ _ net.imports (λ i c. both_ends_back (s i.from) (s i.to) (ltb i.to (length net.names)) (flow i) (lt-ltb i.to (length net.names) (between i c).1)) in
     omega arith
+
+pub across : (net : Network) (a b : ℕ) (flow : Priced → ℕ) (value : ℕ) (s : ℕ → Bool) →
+    AreBetween net.imports (length net.names) → a < length net.names → IsFlow net a b flow value → IsSide net a b s →
+    sum_by (λ i. cond (enters s i) (flow i) 0) net.imports + value ≡ sum_by (λ i. cond (leaves s i) (flow i) 0) net.imports
+across net a b flow value s between a_in is_flow is_side = across_kept net a b flow value s between a_in (record { kept = is_flow.kept; at_start = is_flow.at_start }) is_side
 
 pub cond_le : (t : Bool) (x y : ℕ) → x ≤ y → cond t x 0 ≤ cond t y 0
 cond_le true x y h = h

@@ -5,6 +5,7 @@ pub mod Cycles
 pub mod Duality
 pub mod Ends
 pub mod Fronts
+pub mod LineSearch
 pub mod ListSums
 pub mod Members
 pub mod NearSide
@@ -16,9 +17,12 @@ pub mod Numbers
 pub mod OneNetReading
 pub mod OneNetwork
 pub mod Pairs
+pub mod Pinned
 pub mod Places
+pub mod PriceLines
 pub mod PrintedCut
 pub mod Rows
 pub mod Search
+pub mod Standings
 pub mod Stops
 pub mod Tables

@@ -24,7 +24,7 @@ pub word_again : (word fields : List ℕ) → without 32 word ≡ true → after
 unfolding after_word
 word_again word fields e = rw (cut_again 32 word fields e, (bytes_eq-Decides word word).1 refl) refl
 
-map_some : {A B P : Type 0} (f : A → B) (o : Option A) (y : B) → option_map f o ≡ Some y → ((x : A) → o ≡ Some x → f x ≡ y → P) → P
+pub map_some : {A B P : Type 0} (f : A → B) (o : Option A) (y : B) → option_map f o ≡ Some y → ((x : A) → o ≡ Some x → f x ≡ y → P) → P
 map_some f (Some x) y e go = go x refl cc
 map_some f None y e go = absurd cc
 

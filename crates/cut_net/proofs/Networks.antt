@@ -20,7 +20,7 @@ use Rattle.std.proofs.lemmas.Slice.Eq.{bytes_eq-Decides}
 use Rattle.cut_net.specs.declared.priced.Priced.{Priced}
 use Rattle.cut_net.specs.Cuts.{same_ends}
 use Rattle.cut_net.specs.Lines.{IsAscending}
-use Rattle.cut_net.specs.Network.{texts}
+use Rattle.cut_net.specs.Network.{texts, unpinned}
 use Rattle.cut_net.specs.NetText.{NetLine, Import, is_import, AreApart, IsNetOf}
 use Rattle.cut_net.specs.NetReading.{entry_line, import_line, AreTablesOf}
 use Rattle.cut_net.specs.WellFormed.{AreBetween, AreNamesInOrder}
@@ -41,10 +41,10 @@ module _ {Z : Type 0} where
       → (i : ℕ) × (o ≡ Some i) × (get_or (texts names) i [] ≡ name)
   place_known names name o h e (k, within, at) =
       let here : get_or (texts names) k [] ≡ name = get_or_default (texts names) k [] name within ∙ at in
-      let place = index_again (record { names = texts names; imports = [] }) k (sorted_apart names (sorted_strings names h)) within in
+      let place = index_again (unpinned (texts names) []) k (sorted_apart names (sorted_strings names h)) within in
       (k, e ∙ sym (position_named name names) ∙ rw here at place, here)
 
-same_name : (names : List (List ℕ)) → IsDistinct bytes_eq names → (a b : ℕ) → a < length names → b < length names → get_or names a [] ≡ get_or names b [] → a ≡ b
+pub same_name : (names : List (List ℕ)) → IsDistinct bytes_eq names → (a b : ℕ) → a < length names → b < length names → get_or names a [] ≡ get_or names b [] → a ≡ b
 same_name names once a b la lb e =
     elim (cases_order a b) [
       | inl same ↦ same
@@ -98,7 +98,7 @@ module _ (lines : List NetLine) (old names : List (List ℕ)) (es : List ((ℕ �
       let few = h.few_imports in
       omega arith
 
-  pub net_is : (imports : List Priced) → AreNamesInOrder names → IsPermutation old names → AreBetween list (length names) → IsPermutation list imports → IsAscending imports → IsNetOf lines (record { names = names; imports = imports })
+  pub net_is : (imports : List Priced) → AreNamesInOrder names → IsPermutation old names → AreBetween list (length names) → IsPermutation list imports → IsAscending imports → IsNetOf lines (unpinned names imports)
   net_is imports ascend same between moved ordered =
       let back = IsPermutation-sym list imports moved in
       let away = IsPermutation-sym old names same in
@@ -123,6 +123,7 @@ module _ (lines : List NetLine) (old names : List (List ℕ)) (es : List ((ℕ �
               let whole : j ≡ i = one_import j i first second third in
               Contains-permutation list imports i moved (subst (λ (t : Priced). Contains list t) whole within),
         );
+        no_pins = refl;
       }
 
 -- ---- their order

@@ -35,4 +35,6 @@ one_network lines net other a b =
     let names : net.names ≡ other.names = same_names lines net other a b in
     let imports : net.imports ≡ other.imports = same_members (λ i j. IsTrue (comes_before i j)) both_before net.imports other.imports a.imports_ascend b.imports_ascend
     (import_over lines net other a b names) (import_over lines other net b a (sym names)) in
-    ap (λ (ns : List (List ℕ)). record { names = ns; imports = net.imports }) names ∙ ap (λ (is : List Priced). record { names = other.names; imports = is }) imports
+    ap (λ (ns : List (List ℕ)). record { names = ns; imports = net.imports; pins = net.pins }) names
+    ∙ ap (λ (is : List Priced). record { names = other.names; imports = is; pins = net.pins }) imports
+    ∙ ap (λ (ps : List Priced). record { names = other.names; imports = other.imports; pins = ps }) (a.no_pins ∙ sym b.no_pins)

@@ -1,7 +1,11 @@
 pub mod Network
 pub mod Said
+pub mod Answers
 pub mod Cuts
 pub mod Lines
 pub mod WellFormed
 pub mod NetText
 pub mod NetReading
+pub mod Pins
+pub mod Prices
+pub mod PriceReading

@@ -1,14 +1,20 @@
 -- What lists of imports say of a network: a line has the modules of an import, and a weight or an amount of flow.
 use Rattle.std.specs.Prelude.{◌≡◌, ℕ, ◌<◌, ◌==◌, ◌&&◌, ◌||◌, nat_lt, Bool, List, Option, Some, None, is_some, IfSome, IsTrue, All, AllPairs, find, Contains}
+use Rattle.std.specs.declared.cmp.Ordering.{Ordering}
+use Rattle.std.specs.Ordering.{nat_cmp, ordering_then}
 use Rattle.digraph.specs.declared.edge.Edge.{Edge}
 use Rattle.cut_net.specs.declared.priced.Priced.{Priced}
 use Rattle.cut_net.specs.Network.{Network}
-use Rattle.cut_net.specs.Said.{Said, CutOf}
+use Rattle.cut_net.specs.Said.{Said, CutOf, BlockedBy}
 use Rattle.cut_net.specs.Cuts.{Any, ArePrinted, Imports, IsCheapest, IsCut, IsFlow, same_ends, weight}
 
 -- the one comes before the other: by the importer, then by the imported
 abbrev pub comes_before : Priced → Priced → Bool
 comes_before i j = nat_lt i.from j.from || ((i.from == j.from) && nat_lt i.to j.to)
+
+-- which of two comes first: by the importer, then by the imported
+abbrev pub by_ends : Priced → Priced → Ordering
+by_ends i j = ordering_then (nat_cmp i.from j.from) (nat_cmp i.to j.to)
 
 -- an import without what it carries
 abbrev pub pair_of : Priced → Edge
@@ -59,10 +65,12 @@ pub record IsCutAnswer (net : Network) (a b : ℕ) (printed : List Priced) (tota
   pub are_printed : ArePrinted net a b (removed_by printed)
   pub flow_above_zero : All (λ line. 0 < line.amount) flow
 
--- the same of what is said
+-- the same of what is said, pins aside
 abbrev pub IsAnswer : Network → ℕ → ℕ → Said → Type 0
 IsAnswer net a b (CutOf total printed flow) = IsCutAnswer net a b printed total flow
+IsAnswer net a b (BlockedBy chain) = ⊥
 
--- what is said is a cut, and none weighs less
+-- what is said is a cut, and none weighs less, pins aside
 abbrev pub IsCheapestSaid : Network → ℕ → ℕ → Said → Type 0
 IsCheapestSaid net a b (CutOf total printed flow) = IsCheapest net a b (removed_by printed)
+IsCheapestSaid net a b (BlockedBy chain) = ⊥

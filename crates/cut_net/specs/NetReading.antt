@@ -4,7 +4,7 @@ use Rattle.std.specs.List.{list_any, slice_index_or}
 use Rattle.std.specs.Option.{option_map_or}
 use Rattle.std.specs.Str.{bytes_eq}
 use Rattle.texts.specs.Fields.{cut_at, named, number_of}
-use Rattle.cut_net.specs.Network.{Network, texts}
+use Rattle.cut_net.specs.Network.{Network, texts, unpinned}
 use Rattle.cut_net.specs.NetText.{NetLine, Module, Import, NetOutcome, Reads, BadLine, TwiceImport, Cycle, WeightOverflow, TooMany, net_line, is_import, is_written, pieces_of, AreApart, AreFew, AreNamesOf, IsNetLine, Spell}
 use Rattle.cut_net.specs.declared.draft.Draft.{Draft}
 use Rattle.cut_net.specs.declared.draft.LineFault.{LineFault}
@@ -121,6 +121,6 @@ IsDrafted draft = (lines : List NetLine) × IsDraft lines draft
 abbrev pub import_line : List (List ℕ) → Priced → NetLine
 import_line names i = Import (slice_index_or names i.from []) (slice_index_or names i.to []) i.amount
 
--- the network of lists
+-- the network of lists, with no pin
 abbrev pub net_of : {Z : Type 0} → List (String Z) → List Priced → Network
-net_of names imports = record { names = texts names; imports = imports }
+net_of names imports = unpinned (texts names) imports

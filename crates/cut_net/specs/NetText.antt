@@ -108,7 +108,7 @@ pub record IsTooMany (bytes : List ℕ) (k : ℕ) : Type 0 where
   pub apart : AllPairs AreApart (before ++ line ∷ [])
   pub many : AreFew (before ++ line ∷ []) → ⊥
 
--- the network of the lines: the names that they have, in order, and their imports, in order
+-- the network of the lines: the names that they have, in order, and their imports, in order; nothing is pinned
 pub record IsNetOf (lines : List NetLine) (net : Network) : Type 0 where
   pub names_ascend : AreNamesInOrder net.names
   pub named : (name : List ℕ) → Contains net.names name ↔ AreMentioning lines name
@@ -116,6 +116,7 @@ pub record IsNetOf (lines : List NetLine) (net : Network) : Type 0 where
   pub imports_ascend : IsAscending net.imports
   pub listed : (i : Priced) → i.from < length net.names → i.to < length net.names →
       Contains net.imports i ↔ Contains lines (Import (name_of net i.from) (name_of net i.to) i.amount)
+  pub no_pins : net.pins ≡ []
 
 -- the bytes are good lines of this network
 pub record NetText (bytes : List ℕ) (net : Network) : Type 0 where

@@ -9,10 +9,16 @@ use Rattle.cut_net.specs.declared.priced.Priced.{Priced}
 abbrev pub texts : {Z : Type 0} → List (String Z) → List (List ℕ)
 texts names = map string_bytes names
 
--- the names of the modules in order, and the imports in order
+-- the names of the modules in order; the imports in order, each with its weight; and those of them that are pinned, in order, each with the
+-- weight that it had before
 pub record Network : Type 0 where
   pub names : List (List ℕ)
   pub imports : List Priced
+  pub pins : List Priced
+
+-- the network of these names and imports, with no pin
+abbrev pub unpinned : List (List ℕ) → List Priced → Network
+unpinned names imports = record { names = names; imports = imports; pins = [] }
 
 -- what is read past the end of a list of imports
 abbrev pub none_there : Priced

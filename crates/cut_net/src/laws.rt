@@ -1,10 +1,13 @@
 //! Laws of cuts, flows and texts: a cut that weighs as much as a flow's value is cheapest, a flow without a way on gives such a
 //! cut, and what that says of the imports that are printed. Each function is a law: its body is empty, and its contract is proved.
-ghost use Rattle.std.specs.Prelude.{ℕ, ◌≡◌, ◌<◌, Bool, true, false, length, Contains, List};
+ghost use Rattle.std.specs.Prelude.{ℕ, ◌≡◌, ◌≢◌, ◌↔◌, ◌<◌, Bool, true, false, length, Contains, List, []};
 ghost use Rattle.cut_net.specs.declared.priced.Priced.{Priced};
 ghost use Rattle.cut_net.specs.Network.{Network};
 ghost use Rattle.cut_net.specs.WellFormed.{AreBetween};
 ghost use Rattle.cut_net.specs.NetText.{IsNetOutcome, NetOutcome};
+ghost use Rattle.cut_net.specs.Said.{Said};
+ghost use Rattle.cut_net.specs.Lines.{IsAnswer, IsCheapestSaid};
+ghost use Rattle.cut_net.specs.Pins.{ArePins, ArePrintedWithPins, IsAnswerWithPins, IsCheapestSaidWithPins, IsCheapestWithPins, IsCutWithPins, IsFlowWithPins, NearWithPins, PinChain};
 ghost use Rattle.cut_net.specs.Cuts.{AreThose, ArePrinted, Chain, IsCut, IsCheapest, IsFlow, LeavesNear, Near, Outside, Reached, weight, without};
 
 use crate::Priced;
@@ -49,6 +52,45 @@ pub fn unprinted_weigh_nothing()
     ensures { (net : Network) (a b : ℕ) (x : Priced → Bool) →
         AreBetween net.imports (length net.names) → a < length net.names → ArePrinted net a b x →
         (i : Priced) → Contains net.imports i → LeavesNear net a b i → x i ≡ false → i.amount ≡ 0 }
+{}
+
+/// Where no chain of pins leads from a to b, what is right of a cut pins aside is right with pins: a pinned import stands at a weight that is
+/// more than any cheapest cut weighs.
+pub fn answer_with_pins()
+    ensures answer { (net : Network) (a b : ℕ) (said : Said) → ArePins net → (PinChain net a b → ⊥) →
+        IsAnswer net a b said → IsCheapestSaid net a b said → IsAnswerWithPins net a b said }
+    ensures cheapest { (net : Network) (a b : ℕ) (said : Said) → ArePins net → (PinChain net a b → ⊥) →
+        IsAnswer net a b said → IsCheapestSaid net a b said → IsCheapestSaidWithPins net a b said }
+{}
+
+/// A cut without a pinned import whose weight is the value of a flow is a cheapest of these cuts, however much flows over pinned imports.
+pub fn certificate_with_pins()
+    ensures { (net : Network) (a b : ℕ) (x : Priced → Bool) (flow : Priced → ℕ) →
+        AreBetween net.imports (length net.names) → a < length net.names →
+        IsCutWithPins net a b x → IsFlowWithPins net a b flow (weight net.imports x) →
+        IsCheapestWithPins net a b x }
+{}
+
+/// A chain of pins gets through whatever may be removed.
+pub fn no_cut_of_pins()
+    ensures { (net : Network) (a b : ℕ) (x : Priced → Bool) → PinChain net a b → IsCutWithPins net a b x → ⊥ }
+{}
+
+/// With pins too each import that is printed is needed: with it put back there is a chain again.
+pub fn printed_with_pins_are_needed()
+    ensures { (net : Network) (a b : ℕ) (x : Priced → Bool) →
+        AreBetween net.imports (length net.names) → a < length net.names → ArePins net → (PinChain net a b → ⊥) → ArePrintedWithPins net a b x →
+        (i : Priced) → Contains net.imports i → x i ≡ true → Chain net.imports (Outside (without x i)) a b }
+{}
+
+/// Where nothing is pinned, each word says with pins what it says without.
+pub fn same_without_pins()
+    ensures pins { (net : Network) → net.pins ≡ [] → ArePins net }
+    ensures cut { (net : Network) (a b : ℕ) (x : Priced → Bool) → net.pins ≡ [] → IsCutWithPins net a b x ↔ IsCut net a b x }
+    ensures cheapest { (net : Network) (a b : ℕ) (x : Priced → Bool) → net.pins ≡ [] → IsCheapestWithPins net a b x ↔ IsCheapest net a b x }
+    ensures near { (net : Network) (a b m : ℕ) → net.pins ≡ [] → a ≢ b → NearWithPins net a b m ↔ Near net a b m }
+    ensures printed { (net : Network) (a b : ℕ) (x : Priced → Bool) → net.pins ≡ [] → a ≢ b → ArePrintedWithPins net a b x ↔ ArePrinted net a b x }
+    ensures flow { (net : Network) (a b : ℕ) (flow : Priced → ℕ) (value : ℕ) → net.pins ≡ [] → IsFlowWithPins net a b flow value ↔ IsFlow net a b flow value }
 {}
 
 /// A text of a network says at most one thing: a network or a first fault.

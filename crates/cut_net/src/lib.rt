@@ -3,20 +3,28 @@
 //! Its contract: a network is exactly what its text says; it keeps its limits and has no cycle; and the laws of cuts.
 #![tactic(auto)]
 
+mod answer;
 mod cut;
 mod cycle;
 mod draft;
 mod fault;
+mod found;
 pub mod laws;
 mod lines;
 mod net;
 mod numbering;
+mod price_fault;
+mod price_lines;
 mod priced;
 mod reading;
+mod standing;
 
+pub use answer::Answer;
 pub use cut::Cut;
 pub use fault::NetFault;
+pub use found::line_of;
 pub use net::Net;
 pub use numbering::put_in_order;
+pub use price_fault::PriceFault;
 pub use priced::Priced;
 pub use texts::fields;

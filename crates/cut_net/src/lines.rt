@@ -13,7 +13,8 @@ pub(crate) enum Line<'a> {
 }
 
 #[tactic(auto, unfolding(crate::specs::NetReading::after_word))]
-fn fields_after<'a>(word: &[u8], piece: &'a [u8]) -> Option<&'a [u8]>
+/// The fields after the word that a line begins with.
+pub(crate) fn fields_after<'a>(word: &[u8], piece: &'a [u8]) -> Option<&'a [u8]>
     ensures { option_map (λ fields. fields.now) result ≡ after_word word.now piece.now }
 {
     let (first, fields) = cut_at_byte(piece, b' ')?;

@@ -1,34 +1,42 @@
 //! Networks, and their readers.
-ghost use Rattle.std.specs.Prelude.{◌≡◌, ◌<◌, Some, length, slice_get};
+ghost use Rattle.std.specs.Prelude.{◌≡◌, ◌<◌, IfSome, length, slice_get};
 ghost use Rattle.std.specs.List.{position};
 ghost use Rattle.std.specs.Str.{bytes_eq};
 ghost use Rattle.std.specs.List.Sorted.{IsStrictlySortedBy};
 ghost use Rattle.std.specs.String.{string_bytes, string_cmp};
 ghost use Rattle.cut_net.specs.NetReading.{net_of};
 ghost use Rattle.cut_net.specs.Network.{index_of, name_of};
+ghost use Rattle.cut_net.specs.Pins.{is_pinned, ArePins};
+ghost use Rattle.cut_net.specs.Prices.{as_weighed};
 ghost use Rattle.cut_net.specs.WellFormed.{IsNetwork};
 
 use crate::Priced;
+use crate::found::line_of;
+use std::alloc::Global;
 use std::marker::Model;
 
-/// A network: modules numbered by name, and imports numbered by (importer's name, imported name).
+/// A network: modules numbered by name, and imports numbered by (importer's name, imported name). Some imports may be pinned: they aren't
+/// to be removed, and no flow is too much for them.
 #[derive(Drop)]
 pub struct Net {
-    names: Vec<String>,
-    imports: Vec<Priced>,
+    pub(crate) names: Vec<String>,
+    pub(crate) imports: Vec<Priced>,
+    pub(crate) pins: Vec<Priced>,
 }
 
 impl Model for Net {
     ghost use Rattle.std.specs.Prelude.{map};
     ghost use Rattle.std.specs.String.{string_bytes};
     ghost use Rattle.cut_net.specs.Network.{Network, texts};
+    ghost use Rattle.cut_net.specs.Pins.{ArePins};
     ghost use Rattle.cut_net.specs.WellFormed.{IsNetwork};
 
     ghost Value = { Network };
 
-    ghost view = { λ n. record { names = map string_bytes n.names.items; imports = n.imports.items } };
+    ghost view = { λ n. record { names = map string_bytes n.names.items; imports = n.imports.items; pins = n.pins.items } };
 
-    ghost invariant = { λ n. IsNetwork (record { names = map string_bytes n.names.items; imports = n.imports.items }) };
+    ghost invariant = { λ n. IsNetwork (record { names = map string_bytes n.names.items; imports = n.imports.items; pins = n.pins.items })
+        × ArePins (record { names = map string_bytes n.names.items; imports = n.imports.items; pins = n.pins.items }) };
 }
 
 pub(crate) fn place_of(names: &[String], name: &str) -> Option<usize>
@@ -41,17 +49,23 @@ pub(crate) fn place_of(names: &[String], name: &str) -> Option<usize>
 }
 
 impl Net {
-    /// The network of names and imports that keep what every network keeps.
-    pub fn of(names: Vec<String>, imports: Vec<Priced>) -> Net
+    /// The network of names and imports that keep what every network keeps. Nothing is pinned.
+    pub fn of(alloc: Global, names: Vec<String>, imports: Vec<Priced>) -> Net
         requires { IsNetwork (net_of names.items imports.items) }
         ensures { result ≡ net_of names.items imports.items }
     {
-        Net { names, imports }
+        let pins = Vec::new(alloc);
+        Net {
+            names,
+            imports,
+            pins,
+        }
     }
 
-    /// What every network keeps: its names and imports in order, its limits, and that it has no cycle.
+    /// What every network keeps: its names and imports in order, its limits, and that it has no cycle; and what its pins keep.
     pub fn keeps(&self)
-        ensures { IsNetwork self.now }
+        ensures network { IsNetwork self.now }
+        ensures pins { ArePins self.now }
     {
         // Using a field makes the facts of the type known here.
         let _ = &self.names;
@@ -81,18 +95,41 @@ impl Net {
         Some(at as u32)
     }
 
-    /// All imports, by their numbers.
+    /// All imports, by their numbers, each with its weight. A pinned one has 2^40 + 1 in its place, which is more than every cut weighs.
     pub fn imports(&self) -> &[Priced]
         ensures { result.now ≡ self.now.imports }
     {
         self.imports.as_slice()
     }
 
-    /// The import of this number, with its weight.
+    /// The import of this number, with its weight. A pinned one has the weight that it had before, which nothing counts.
     pub fn import(&self, import: u32) -> Priced
         requires { import < length self.now.imports }
-        ensures { slice_get self.now.imports import ≡ Some result }
+        ensures { IfSome (slice_get self.now.imports import) (λ i. result ≡ as_weighed self.now i) }
     {
-        self.imports[import as usize]
+        let import = self.imports[import as usize];
+        match line_of(self.pins.as_slice(), import) {
+            Some(pin) => Priced {
+                from: import.from,
+                to: import.to,
+                amount: pin.amount,
+            },
+            None => import,
+        }
+    }
+
+    /// Whether the import of this number is pinned.
+    pub fn pinned(&self, import: u32) -> bool
+        requires { import < length self.now.imports }
+        ensures { IfSome (slice_get self.now.imports import) (λ i. result ≡ is_pinned self.now i) }
+    {
+        line_of(self.pins.as_slice(), self.imports[import as usize]).is_some()
+    }
+
+    /// The pinned imports, in order, each with the weight that it had before.
+    pub fn pins(&self) -> &[Priced]
+        ensures { result.now ≡ self.now.pins }
+    {
+        self.pins.as_slice()
     }
 }

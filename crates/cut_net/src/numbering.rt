@@ -14,7 +14,8 @@ use crate::draft::Draft;
 use crate::net::place_of;
 use std::alloc::{AllocError, Global};
 
-fn copied(alloc: Global, names: &[String]) -> Result<Vec<String>, AllocError>
+/// The same names.
+pub(crate) fn copied(alloc: Global, names: &[String]) -> Result<Vec<String>, AllocError>
     ensures { IfOk result (λ copies. texts copies.items ≡ texts names.now) }
 {
     let mut copies = Vec::new(alloc);

@@ -45,7 +45,7 @@ fn net_in(alloc: Global, bytes: &[u8]) -> Result<Net, NetFault>
         return Err(NetFault::WeightOverflow);
     }
     match cycle_of(alloc, imports.as_slice(), names.len())? {
-        None => Ok(Net::of(names, imports)),
+        None => Ok(Net::of(alloc, names, imports)),
         Some(cycle) => {
             let names = names_at(alloc, names.as_slice(), cycle.as_slice())?;
             Err(NetFault::Cycle { names })

@@ -2,4 +2,4 @@ use Rattle.digraph.proofs.Ordered.{sorted_strings}
 use Rattle.cut_net.proofs.net.Net.index_of.Goals as goal
 
 pub place_of-requires : goal.place_of-requires
-place_of-requires c = rw c.as_slice.ensures.value (sorted_strings c.self.inside.names.items c.self.invariant.names_ascend)
+place_of-requires c = rw c.as_slice.ensures.value (sorted_strings c.self.inside.names.items c.self.invariant.0.names_ascend)

@@ -1,0 +1,26 @@
+-- How imports stand, one after another.
+use Rattle.std.proofs.Common.{◌≡◌, ℕ, ◌+◌, ◌<◌, ◌≤◌, List, [], ◌∷◌, ◌++◌, length, get_or, map, take, refl, sym, ap, ◌∙◌, arith}
+use Rattle.std.specs.List.{flat_map}
+use Rattle.std.proofs.lemmas.Grind.{flat_map-append}
+use Rattle.std.proofs.lemmas.List.{append-nil, get_or-map, map_push, take_more}
+use Rattle.cut_net.specs.declared.priced.Priced.{Priced}
+use Rattle.cut_net.specs.declared.standing.Standing.{Standing}
+use Rattle.cut_net.specs.declared.standing.Standing.TheVariants.{Weighs, Stays}
+use Rattle.cut_net.specs.Prices.{pin_as}
+
+-- an element of a list that is mapped
+pub mapped_at : {X Y : Type 0} (f : X → Y) (xs : List X) (ys : List Y) (k : ℕ) (d : X) (e : Y) → ys ≡ map f xs → k < length xs → get_or ys k e ≡ f (get_or xs k d)
+mapped_at {Y} f xs ys k d e same lt = ap (λ (l : List Y). get_or l k e) same ∙ get_or-map f xs k d e lt
+
+-- one more element is mapped
+pub mapped_next : {X Y : Type 0} (f : X → Y) (xs : List X) (ys : List Y) (k : ℕ) (d : X) (y : Y) → ys ≡ map f (take k xs) → k < length xs → y ≡ f (get_or xs k d) → ys ++ y ∷ [] ≡ map f (take (k + 1) xs)
+mapped_next f xs ys k d y same lt e = rw (take_more xs k d lt, map_push f (take k xs) (get_or xs k d), same, e) refl
+
+-- one more element gives what it gives
+pub given_next : {X Y : Type 0} (f : X → List Y) (xs : List X) (ys more : List Y) (k : ℕ) (d : X) → ys ≡ flat_map f (take k xs) → k < length xs → more ≡ f (get_or xs k d) → ys ++ more ≡ flat_map f (take (k + 1) xs)
+given_next f xs ys more k d same lt e = rw (take_more xs k d lt, flat_map-append f (take k xs) (get_or xs k d ∷ []), same, e, append-nil (f (get_or xs k d))) refl
+
+-- an import that isn't pinned gives no pin
+pub no_pin : (i : Priced) (s : Standing) → ((w : ℕ) → s ≡ Stays w → ⊥) → [] ≡ pin_as i s
+no_pin i (Weighs w) none = refl
+no_pin i (Stays w) none = absurd (none w refl)
