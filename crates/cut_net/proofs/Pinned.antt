@@ -50,8 +50,11 @@ free_cut net a b none chain = none (chain.0, widened net.imports net.imports (Ou
 -- a chain of pins gets through every removable set
 pub no_cut : (net : Network) (a b : ℕ) (x : Priced → Bool) → PinChain net a b → IsCutWithPins net a b x → ⊥
 no_cut net a b x chain cut =
-    cut.cut (chain.0, widened net.imports net.imports (ByPin net) (Outside x)
-    (λ i c pinned. (c, elim (cases_Bool (x i)) [ inl t ↦ absurd (both_ways (is_pinned net i) (cut.removable i c t) pinned) | inr f ↦ f ])) a chain.0 b chain.1)
+    cut.cut (
+      chain.0,
+      widened net.imports net.imports (ByPin net) (Outside x)
+          (λ i c pinned. (c, elim (cases_Bool (x i)) [ inl t ↦ absurd (both_ways (is_pinned net i) (cut.removable i c t) pinned) | inr f ↦ f ])) a chain.0 b chain.1,
+    )
 
 module _ (net : Network) (a b : ℕ) (pins : ArePins net) (none : PinChain net a b → ⊥) where
   -- the modules without a chain of pins to b: no pinned import leaves them
@@ -107,16 +110,18 @@ module _ (net : Network) (a b : ℕ) (pins : ArePins net) (none : PinChain net a
   leaves_of i out = (near_of i.from out.0, λ near. out.1 (near_is i.to near))
 
   pub printed_is : (x : Priced → Bool) → ArePrinted net a b x → ArePrintedWithPins net a b x
-  printed_is x printed i c =
-      (λ has. let one = (printed i c).0 has in
-      (leaves_is i one.0, (one.1.0, widened net.imports net.imports _ _ (λ j d stays. (d, λ out. stays (leaves_of j out))) i.to one.1.0 b one.1.1)),
-      λ one. (printed i c).1 (leaves_of i one.0, (one.1.0, widened net.imports net.imports _ _ (λ j d stays. (d, λ out. stays (leaves_is j out))) i.to one.1.0 b one.1.1)))
+  printed_is x printed i c = (
+    λ has. let one = (printed i c).0 has in
+        (leaves_is i one.0, (one.1.0, widened net.imports net.imports _ _ (λ j d stays. (d, λ out. stays (leaves_of j out))) i.to one.1.0 b one.1.1)),
+    λ one. (printed i c).1 (leaves_of i one.0, (one.1.0, widened net.imports net.imports _ _ (λ j d stays. (d, λ out. stays (leaves_is j out))) i.to one.1.0 b one.1.1)),
+  )
 
   pub printed_of : (x : Priced → Bool) → ArePrintedWithPins net a b x → ArePrinted net a b x
-  printed_of x printed i c =
-      (λ has. let one = (printed i c).0 has in
-      (leaves_of i one.0, (one.1.0, widened net.imports net.imports _ _ (λ j d stays. (d, λ out. stays (leaves_is j out))) i.to one.1.0 b one.1.1)),
-      λ one. (printed i c).1 (leaves_is i one.0, (one.1.0, widened net.imports net.imports _ _ (λ j d stays. (d, λ out. stays (leaves_of j out))) i.to one.1.0 b one.1.1)))
+  printed_of x printed i c = (
+    λ has. let one = (printed i c).0 has in
+        (leaves_of i one.0, (one.1.0, widened net.imports net.imports _ _ (λ j d stays. (d, λ out. stays (leaves_is j out))) i.to one.1.0 b one.1.1)),
+    λ one. (printed i c).1 (leaves_is i one.0, (one.1.0, widened net.imports net.imports _ _ (λ j d stays. (d, λ out. stays (leaves_of j out))) i.to one.1.0 b one.1.1)),
+  )
 
   cheapest_free : (x : Priced → Bool) → IsCheapest net a b x → IsRemovable net x
   cheapest_free x cheapest = light_free x (cheapest.least (is_free net) (free_cut net a b none))
@@ -199,14 +204,16 @@ module _ (net : Network) (a b : ℕ) (e : net.pins ≡ []) where
   same_cut x = (λ cut. cut.cut, λ cut. record { removable = all_removable net e x; cut = cut })
 
   pub same_cheapest : (x : Priced → Bool) → IsCheapestWithPins net a b x ↔ IsCheapest net a b x
-  same_cheapest x =
-      (λ cheapest. record { cut = cheapest.cut.cut; least = λ y cut. cheapest.least y (record { removable = all_removable net e y; cut = cut }) },
-      λ cheapest. record { cut = record { removable = all_removable net e x; cut = cheapest.cut }; least = λ y cut. cheapest.least y cut.cut })
+  same_cheapest x = (
+    λ cheapest. record { cut = cheapest.cut.cut; least = λ y cut. cheapest.least y (record { removable = all_removable net e y; cut = cut }) },
+    λ cheapest. record { cut = record { removable = all_removable net e x; cut = cheapest.cut }; least = λ y cut. cheapest.least y cut.cut },
+  )
 
   pub same_flow : (flow : Priced → ℕ) (value : ℕ) → IsFlowWithPins net a b flow value ↔ IsFlow net a b flow value
-  same_flow flow value =
-      (λ is. record { within = λ i c. is.within i c (nothing_pinned net e i); kept = is.kept; at_start = is.at_start },
-      λ is. record { within = λ i c free. is.within i c; kept = is.kept; at_start = is.at_start })
+  same_flow flow value = (
+    λ is. record { within = λ i c. is.within i c (nothing_pinned net e i); kept = is.kept; at_start = is.at_start },
+    λ is. record { within = λ i c free. is.within i c; kept = is.kept; at_start = is.at_start },
+  )
 
   pub same_near : a ≢ b → (m : ℕ) → NearWithPins net a b m ↔ Near net a b m
   same_near apart m = (near_of net a b (no_pins net e) (no_pin_chain net a b e apart) m, near_is net a b (no_pins net e) (no_pin_chain net a b e apart) m)

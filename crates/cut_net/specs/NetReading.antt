@@ -124,3 +124,7 @@ import_line names i = Import (slice_index_or names i.from []) (slice_index_or na
 -- the network of lists, with no pin
 abbrev pub net_of : {Z : Type 0} → List (String Z) → List Priced → Network
 net_of names imports = unpinned (texts names) imports
+
+-- the network of lists, with these pins
+abbrev pub net_with : {Z : Type 0} → List (String Z) → List Priced → List Priced → Network
+net_with names imports pins = record { names = texts names; imports = imports; pins = pins }

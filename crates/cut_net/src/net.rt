@@ -4,7 +4,7 @@ ghost use Rattle.std.specs.List.{position};
 ghost use Rattle.std.specs.Str.{bytes_eq};
 ghost use Rattle.std.specs.List.Sorted.{IsStrictlySortedBy};
 ghost use Rattle.std.specs.String.{string_bytes, string_cmp};
-ghost use Rattle.cut_net.specs.NetReading.{net_of};
+ghost use Rattle.cut_net.specs.NetReading.{net_of, net_with};
 ghost use Rattle.cut_net.specs.Network.{index_of, name_of};
 ghost use Rattle.cut_net.specs.Pins.{is_pinned, ArePins};
 ghost use Rattle.cut_net.specs.Prices.{as_weighed};
@@ -55,6 +55,19 @@ impl Net {
         ensures { result ≡ net_of names.items imports.items }
     {
         let pins = Vec::new(alloc);
+        Net {
+            names,
+            imports,
+            pins,
+        }
+    }
+
+    /// The network of names, imports and pins that keep what every network keeps.
+    pub fn with_pins(names: Vec<String>, imports: Vec<Priced>, pins: Vec<Priced>) -> Net
+        requires network { IsNetwork (net_with names.items imports.items pins.items) }
+        requires pins { ArePins (net_with names.items imports.items pins.items) }
+        ensures { result ≡ net_with names.items imports.items pins.items }
+    {
         Net {
             names,
             imports,

@@ -7,6 +7,7 @@ pub mod Marking
 pub mod Narrowing
 pub mod Numbering
 pub mod Parts
+pub mod PinnedParts
 pub mod PrintedBetween
 pub mod Renumbering
 pub mod Sums

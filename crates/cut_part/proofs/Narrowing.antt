@@ -284,6 +284,7 @@ pub lowered_at : (old new : Network) (a b k amount : ℕ) → AreBetween old.imp
     IsLoweredAt old new a b k amount → IsNarrowed old new a b
 lowered_at old new a b k amount between a_in apart step = subst (λ (net : Network). IsNarrowed old net a b) (sym step.changed) (record {
   names = refl;
+  pins = refl;
   ends = ends_reweighed old k amount;
   lowered = λ j.
       let now = import_now old a b (λ _. 0) 0 (λ i j e f. refl) k amount step.there j in
@@ -337,6 +338,7 @@ module _ (old new : Network) (a b : ℕ) (narrowed : IsNarrowed old new a b) whe
 pub narrowed_twice : (one two three : Network) (a b : ℕ) → IsNarrowed one two a b → IsNarrowed two three a b → IsNarrowed one three a b
 narrowed_twice one two three a b first second = record {
   names = second.names ∙ first.names;
+  pins = second.pins ∙ first.pins;
   ends = second.ends ∙ first.ends;
   lowered = λ k. let f = first.lowered k in let s = second.lowered k in omega arith;
   flows = λ flow value by_ends is_flow. second.flows flow value by_ends (first.flows flow value by_ends is_flow);
@@ -347,6 +349,7 @@ narrowed_twice one two three a b first second = record {
 pub narrowed_none : (net : Network) (a b : ℕ) → IsNarrowed net net a b
 narrowed_none net a b = record {
   names = refl;
+  pins = refl;
   ends = refl;
   lowered = λ k. omega arith;
   flows = λ flow value by_ends is_flow. is_flow;

@@ -74,15 +74,16 @@ names_of_ascending net up (m ∷ more) low ascend = (
 
 module _ (net : Network) (a b : ℕ) (marks : List Bool) (numbers places : List ℕ) (size : length marks ≡ length net.names)
     (between : AreThose (is_seen marks) (IsBetween net a b)) (is : IsNumbering (with_ends marks a b) numbers places) where
-  -- the small network
-  abbrev small_imports : List Priced
-  small_imports = map (renumbered (λ m. get_or places m 0)) (filter (inside (is_seen marks)) net.imports)
+  -- the lines between marked modules, by the places of these
+  abbrev pub small_lines : List Priced → List Priced
+  small_lines lines = map (renumbered (λ m. get_or places m 0)) (filter (inside (is_seen marks)) lines)
 
-  abbrev small_names : List (List ℕ)
+  abbrev pub small_names : List (List ℕ)
   small_names = map (name_of net) numbers
 
-  abbrev small : Network
-  small = record { names = small_names; imports = small_imports }
+  -- the small network
+  abbrev pub small : Network
+  small = record { names = small_names; imports = small_lines net.imports; pins = small_lines net.pins }
 
   count_marks : length (with_ends marks a b) ≡ length net.names
   count_marks = let one = length-set marks a true in let two = length-set (set marks a true) b true in omega arith
@@ -90,29 +91,37 @@ module _ (net : Network) (a b : ℕ) (marks : List Bool) (numbers places : List 
   count_names : length small_names ≡ length numbers
   count_names = length-map numbers (name_of net)
 
-  marked_ends : (i : Priced) → Contains (filter (inside (is_seen marks)) net.imports) i →
-      (is_seen (with_ends marks a b) i.from ≡ true) × (is_seen (with_ends marks a b) i.to ≡ true)
-  marked_ends i c =
-      let parts = and_parts (is_seen marks i.from) (is_seen marks i.to) (of_filter (inside (is_seen marks)) net.imports i c).1 in
+  pub both_marked : (i : Priced) → inside (is_seen marks) i ≡ true → (is_seen (with_ends marks a b) i.from ≡ true) × (is_seen (with_ends marks a b) i.to ≡ true)
+  both_marked i t =
+      let parts = and_parts (is_seen marks i.from) (is_seen marks i.to) t in
       (still_marked marks a b i.from parts.0, still_marked marks a b i.to parts.1)
 
-  small_between : AreBetween small_imports (length small_names)
-  small_between i c =
-      let was = from_map (renumbered (λ m. get_or places m 0)) (filter (inside (is_seen marks)) net.imports) i c in
-      let ends = marked_ends was.0 was.1 in
+  marked_ends : (lines : List Priced) (i : Priced) → Contains (filter (inside (is_seen marks)) lines) i →
+      (is_seen (with_ends marks a b) i.from ≡ true) × (is_seen (with_ends marks a b) i.to ≡ true)
+  marked_ends lines i c = both_marked i (of_filter (inside (is_seen marks)) lines i c).1
+
+  pub lines_between : (lines : List Priced) → AreBetween (small_lines lines) (length small_names)
+  lines_between lines i c =
+      let was = from_map (renumbered (λ m. get_or places m 0)) (filter (inside (is_seen marks)) lines) i c in
+      let ends = marked_ends lines was.0 was.1 in
       let count = count_names in
       let low = is.place_low was.0.from ends.0 in
       let high = is.place_low was.0.to ends.1 in
       subst (λ (j : Priced). (j.from < length small_names) × (j.to < length small_names)) was.2 (omega arith, omega arith)
 
+  -- by the numbers of the whole network they are what they were
+  lines_back : (lines : List Priced) → map (renumbered (λ m. get_or numbers m 0)) (small_lines lines) ≡ filter (inside (is_seen marks)) lines
+  lines_back lines = map_same (renumbered (λ m. get_or numbers m 0)) (renumbered (λ m. get_or places m 0)) (filter (inside (is_seen marks)) lines) (λ i c.
+      let ends = marked_ends lines i c in
+      rw (is.number_is i.from ends.0, is.number_is i.to ends.1) refl)
+
   is_renumbered : IsRenumbered (part_of net (is_seen marks)) small (λ m. get_or numbers m 0) (λ m. get_or places m 0)
   is_renumbered = record {
     named = λ m h. let count = count_names in get_or-map (name_of net) numbers m 0 [] (omega arith);
     back_is = λ m h. let count = count_names in is.place_is m (omega arith);
-    imports = sym (map_same (renumbered (λ m. get_or numbers m 0)) (renumbered (λ m. get_or places m 0)) (filter (inside (is_seen marks)) net.imports) (λ i c.
-        let ends = marked_ends i c in
-        rw (is.number_is i.from ends.0, is.number_is i.to ends.1) refl));
-    between = small_between;
+    imports = sym (lines_back net.imports);
+    pins = sym (lines_back net.pins);
+    between = lines_between net.imports;
   }
 
   pub is_part : IsPart net a b marks numbers places small
@@ -142,52 +151,52 @@ module _ (net : Network) (a b : ℕ) (marks : List Bool) (numbers places : List 
         ]
       ]
 
-  renumbered_before : (i j : Priced) → Contains (filter (inside (is_seen marks)) net.imports) i → Contains (filter (inside (is_seen marks)) net.imports) j → comes_before i j ≡ true →
+  renumbered_before : (lines : List Priced) (i j : Priced) → Contains (filter (inside (is_seen marks)) lines) i → Contains (filter (inside (is_seen marks)) lines) j → comes_before i j ≡ true →
       comes_before (renumbered (λ m. get_or places m 0) i) (renumbered (λ m. get_or places m 0) j) ≡ true
-  renumbered_before i j c d before =
-      let i_ends = marked_ends i c in
-      let j_ends = marked_ends j d in
+  renumbered_before lines i j c d before =
+      let i_ends = marked_ends lines i c in
+      let j_ends = marked_ends lines j d in
       before_true (renumbered (λ m. get_or places m 0) i) (renumbered (λ m. get_or places m 0) j) (elim (before_from i j before).by [
         | inl less ↦ record { by = inl (places_ascend i.from j.from i_ends.0 j_ends.0 less) }
         | inr (e, less) ↦ record { by = inr (ap (λ m. get_or places m 0) e, places_ascend i.to j.to i_ends.1 j_ends.1 less) }
       ])
 
-  small_ascend : IsAscending net.imports → IsAscending small_imports
-  small_ascend up j k d less in_k =
-      let long = length-map (filter (inside (is_seen marks)) net.imports) (renumbered (λ m. get_or places m 0)) in
-      let j_in : j < length (filter (inside (is_seen marks)) net.imports) = omega arith in
-      let k_in : k < length (filter (inside (is_seen marks)) net.imports) = omega arith in
+  pub lines_ascend : (lines : List Priced) → IsAscending lines → IsAscending (small_lines lines)
+  lines_ascend lines up j k d less in_k =
+      let long = length-map (filter (inside (is_seen marks)) lines) (renumbered (λ m. get_or places m 0)) in
+      let j_in : j < length (filter (inside (is_seen marks)) lines) = omega arith in
+      let k_in : k < length (filter (inside (is_seen marks)) lines) = omega arith in
       rw (
-        get_or-map (renumbered (λ m. get_or places m 0)) (filter (inside (is_seen marks)) net.imports) j none_there d j_in,
-        get_or-map (renumbered (λ m. get_or places m 0)) (filter (inside (is_seen marks)) net.imports) k none_there d k_in,
+        get_or-map (renumbered (λ m. get_or places m 0)) (filter (inside (is_seen marks)) lines) j none_there d j_in,
+        get_or-map (renumbered (λ m. get_or places m 0)) (filter (inside (is_seen marks)) lines) k none_there d k_in,
       )
-      (renumbered_before (get_or (filter (inside (is_seen marks)) net.imports) j none_there) (get_or (filter (inside (is_seen marks)) net.imports) k none_there)
-      (Contains-get_or (filter (inside (is_seen marks)) net.imports) j none_there j_in) (Contains-get_or (filter (inside (is_seen marks)) net.imports) k none_there k_in)
-      (AllPairs-filter (λ i j. comes_before i j ≡ true) (inside (is_seen marks)) net.imports up j k none_there less k_in))
+      (renumbered_before lines (get_or (filter (inside (is_seen marks)) lines) j none_there) (get_or (filter (inside (is_seen marks)) lines) k none_there)
+      (Contains-get_or (filter (inside (is_seen marks)) lines) j none_there j_in) (Contains-get_or (filter (inside (is_seen marks)) lines) k none_there k_in)
+      (AllPairs-filter (λ i j. comes_before i j ≡ true) (inside (is_seen marks)) lines up j k none_there less k_in))
 
-  up_leads : (m n : ℕ) → Leads small_imports m n → Leads net.imports (get_or numbers m 0) (get_or numbers n 0)
+  up_leads : (m n : ℕ) → Leads (small_lines net.imports) m n → Leads net.imports (get_or numbers m 0) (get_or numbers n 0)
   up_leads m n (i, c, from, to, any) =
       let was = from_map (renumbered (λ m. get_or places m 0)) (filter (inside (is_seen marks)) net.imports) i c in
-      let ends = marked_ends was.0 was.1 in
+      let ends = marked_ends net.imports was.0 was.1 in
       let from_is : was.0.from ≡ get_or numbers m 0 = sym (is.number_is was.0.from ends.0) ∙ ap (λ k. get_or numbers k 0) (ap (λ (j : Priced). j.from) was.2 ∙ from) in
       let to_is : was.0.to ≡ get_or numbers n 0 = sym (is.number_is was.0.to ends.1) ∙ ap (λ k. get_or numbers k 0) (ap (λ (j : Priced). j.to) was.2 ∙ to) in
       (was.0, (of_filter (inside (is_seen marks)) net.imports was.0 was.1).0, from_is, to_is, tt)
 
-  up_chain : (m : ℕ) (more : List ℕ) (n : ℕ) → IsChain small_imports Any m more n → IsChain net.imports Any (get_or numbers m 0) (map (λ k. get_or numbers k 0) more) (get_or numbers n 0)
+  up_chain : (m : ℕ) (more : List ℕ) (n : ℕ) → IsChain (small_lines net.imports) Any m more n → IsChain net.imports Any (get_or numbers m 0) (map (λ k. get_or numbers k 0) more) (get_or numbers n 0)
   up_chain m [] n e = ap (λ k. get_or numbers k 0) e
   up_chain m (k ∷ more) n (leads, rest) = (up_leads m k leads, up_chain k more n rest)
 
-  small_acyclic : IsAcyclic net.imports → IsAcyclic small_imports
+  small_acyclic : IsAcyclic net.imports → IsAcyclic (small_lines net.imports)
   small_acyclic acyclic m n leads (more, chain) =
       acyclic (get_or numbers m 0) (get_or numbers n 0) (up_leads m n leads) (map (λ k. get_or numbers k 0) more, up_chain n more m chain)
 
-  few_imports : length small_imports ≤ length net.imports
+  few_imports : length (small_lines net.imports) ≤ length net.imports
   few_imports =
       let long = length-map (filter (inside (is_seen marks)) net.imports) (renumbered (λ m. get_or places m 0)) in
       let fewer = length-filter_both (inside (is_seen marks)) (λ i. not (inside (is_seen marks) i)) (λ i. refl) net.imports in
       omega arith
 
-  small_weight : sum_by (λ (i : Priced). i.amount) small_imports ≤ sum_by (λ (i : Priced). i.amount) net.imports
+  small_weight : sum_by (λ (i : Priced). i.amount) (small_lines net.imports) ≤ sum_by (λ (i : Priced). i.amount) net.imports
   small_weight =
       let same = sum_by-map (λ (i : Priced). i.amount) (renumbered (λ m. get_or places m 0)) (filter (inside (is_seen marks)) net.imports) in
       let kept = sum_by-filter (λ (i : Priced). i.amount) (inside (is_seen marks)) net.imports in
@@ -211,8 +220,8 @@ module _ (net : Network) (a b : ℕ) (marks : List Bool) (numbers places : List 
             rw (get_or-map (name_of net) numbers k 0 d in_k) (keeps.named (get_or numbers k 0) [] (omega arith));
         names_ascend = names_of_ascending net keeps.names_ascend numbers (λ x h. let low = is.low x h in omega arith) is.ascend;
         few_names = omega arith;
-        between = small_between;
-        imports_ascend = small_ascend keeps.imports_ascend;
+        between = lines_between net.imports;
+        imports_ascend = lines_ascend net.imports keeps.imports_ascend;
         few_imports = omega arith;
         fits = omega arith;
         acyclic = small_acyclic keeps.acyclic;

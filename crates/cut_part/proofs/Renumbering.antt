@@ -1,5 +1,5 @@
 -- A network whose modules are numbered anew has the same flows, and the same imports are printed of it.
-use Rattle.std.proofs.Common.{◌≡◌, ◌⊎◌, ℕ, ◌≤◌, ◌<◌, ◌==◌, Bool, true, cond, List, [], ◌∷◌, length, map, refl, sym, ap, ◌∙◌, subst, arith, inl, inr}
+use Rattle.std.proofs.Common.{◌≡◌, ◌⊎◌, ℕ, ◌≤◌, ◌<◌, ◌==◌, Bool, true, cond, List, [], ◌∷◌, length, map, refl, sym, ap, ap₂, ◌∙◌, subst, arith, inl, inr}
 use Rattle.std.specs.Prelude.{Contains, ◌↔◌}
 use Rattle.std.proofs.lemmas.Bool.{cases_eq, cases_lt, eq-eqb, ne_eqb}
 use Rattle.digraph.proofs.Members.{in_map, from_map}
@@ -14,10 +14,10 @@ use Rattle.cut_part.proofs.Inside.{none_counts}
 
 -- the whole network by the imports of the small one
 abbrev lifted : Network → Network → (ℕ → ℕ) → Network
-lifted whole small number = record { names = whole.names; imports = map (renumbered number) small.imports }
+lifted whole small number = record { names = whole.names; imports = map (renumbered number) small.imports; pins = map (renumbered number) small.pins }
 
 is_lifted : (whole small : Network) (number back : ℕ → ℕ) → IsRenumbered whole small number back → whole ≡ lifted whole small number
-is_lifted whole small number back is = ap (λ (imports : List Priced). record { names = whole.names; imports = imports }) is.imports
+is_lifted whole small number back is = ap₂ (λ (imports pins : List Priced). record { names = whole.names; imports = imports; pins = pins }) is.imports is.pins
 
 module _ (whole small : Network) (number back : ℕ → ℕ) (is : IsRenumbered whole small number back) where
   same_number : (x y : ℕ) → x < length small.names → y < length small.names → number x ≡ number y → x ≡ y

@@ -75,23 +75,23 @@ module _ (imports : List Priced) (out into : List ℕ) (are : AreTallies imports
       let sizes = are.sizes in
       record {
         sizes = omega arith;
-        between = rw out_size (still_between (set imports k (weighing i amount)) imports (length out) (ends_reweighed (record { names = []; imports = imports }) k amount) are.between);
+        between = rw out_size (still_between (set imports k (weighing i amount)) imports (length out) (ends_reweighed (record { names = []; imports = imports; pins = [] }) k amount) are.between);
         leave = λ m h. less imports k amount there below (λ j. j.from) refl out (length out) refl from_in are.leave m (omega arith);
         enter = λ m h. less imports k amount there below (λ j. j.to) refl into (length out) sizes to_in are.enter m (omega arith);
       }
 
   -- a step where there is room, and none where there is not
   step : (a b amount : ℕ) → a < length out → a ≢ b → amount ≤ (import_in imports k).amount →
-      ((amount ≡ (import_in imports k).amount) ⊎ ((names : List (List ℕ)) → IsEnough (record { names = names; imports = imports }) a b (import_in imports k) amount)) →
+      ((amount ≡ (import_in imports k).amount) ⊎ ((names : List (List ℕ)) (pins : List Priced) → IsEnough (record { names = names; imports = imports; pins = pins }) a b (import_in imports k) amount)) →
       NarrowsTo (length out) imports (set imports k (weighing (import_in imports k) amount)) a b
-  step a b amount a_in apart below enough names size =
+  step a b amount a_in apart below enough names pins size =
       elim enough [
         | inl e ↦
             let same : set imports k (weighing (import_in imports k) amount) ≡ imports = ap (λ n. set imports k (weighing (import_in imports k) n)) e ∙ set-get_or imports k none_there in
-            subst (λ (new : List Priced). IsNarrowed (record { names = names; imports = imports }) (record { names = names; imports = new }) a b) (sym same) (narrowed_none (record { names = names; imports = imports }) a b)
+            subst (λ (new : List Priced). IsNarrowed (record { names = names; imports = imports; pins = pins }) (record { names = names; imports = new; pins = pins }) a b) (sym same) (narrowed_none (record { names = names; imports = imports; pins = pins }) a b)
         | inr is ↦
-            lowered_at (record { names = names; imports = imports }) (reweighed (record { names = names; imports = imports }) k amount) a b k amount (rw size are.between) (omega arith) apart
-            (record { there = there; below = below; enough = is names; changed = refl })
+            lowered_at (record { names = names; imports = imports; pins = pins }) (reweighed (record { names = names; imports = imports; pins = pins }) k amount) a b k amount (rw size are.between) (omega arith) apart
+            (record { there = there; below = below; enough = is names pins; changed = refl })
       ]
 
   pub narrows_into : (a b amount : ℕ) → a < length out → a ≢ b → (import_in imports k).to ≢ b → IsRoom (import_in imports k).amount amount (get_or out (import_in imports k).to 0) →
@@ -99,7 +99,7 @@ module _ (imports : List Priced) (out into : List ℕ) (are : AreTallies imports
   narrows_into a b amount a_in apart not_b room =
       step a b amount a_in apart room.below (elim room.enough [
         | inl e ↦ inl e
-        | inr le ↦ inr (λ names. let is = are.leave (import_in imports k).to to_in in inl (not_b, omega arith))
+        | inr le ↦ inr (λ names pins. let is = are.leave (import_in imports k).to to_in in inl (not_b, omega arith))
       ])
 
   pub narrows_out : (a b amount : ℕ) → a < length out → a ≢ b → (import_in imports k).from ≢ a → IsRoom (import_in imports k).amount amount (get_or into (import_in imports k).from 0) →
@@ -107,12 +107,12 @@ module _ (imports : List Priced) (out into : List ℕ) (are : AreTallies imports
   narrows_out a b amount a_in apart not_a room =
       step a b amount a_in apart room.below (elim room.enough [
         | inl e ↦ inl e
-        | inr le ↦ inr (λ names. let is = are.enter (import_in imports k).from from_in in inr (not_a, omega arith))
+        | inr le ↦ inr (λ names pins. let is = are.enter (import_in imports k).from from_in in inr (not_a, omega arith))
       ])
 
 pub narrows_twice : (modules : ℕ) (one two three : List Priced) (a b : ℕ) → NarrowsTo modules one two a b → NarrowsTo modules two three a b → NarrowsTo modules one three a b
-narrows_twice modules one two three a b first second names size =
-    narrowed_twice (record { names = names; imports = one }) (record { names = names; imports = two }) (record { names = names; imports = three }) a b (first names size) (second names size)
+narrows_twice modules one two three a b first second names pins size =
+    narrowed_twice (record { names = names; imports = one; pins = pins }) (record { names = names; imports = two; pins = pins }) (record { names = names; imports = three; pins = pins }) a b (first names pins size) (second names pins size)
 
 pub narrows_none : (modules : ℕ) (imports : List Priced) (a b : ℕ) → NarrowsTo modules imports imports a b
-narrows_none modules imports a b names size = narrowed_none (record { names = names; imports = imports }) a b
+narrows_none modules imports a b names pins size = narrowed_none (record { names = names; imports = imports; pins = pins }) a b

@@ -1,5 +1,5 @@
 -- A network and the network turned round have the same flows, with the ends exchanged.
-use Rattle.std.proofs.Common.{◌≡◌, ◌≢◌, ℕ, ◌≤◌, ◌<◌, ◌==◌, Bool, true, false, cond, not, ◌&&◌, List, [], ◌∷◌, length, map, refl, sym, ap, ◌∙◌, subst, arith, inl, inr}
+use Rattle.std.proofs.Common.{◌≡◌, ◌≢◌, ℕ, ◌≤◌, ◌<◌, ◌==◌, Bool, true, false, cond, not, ◌&&◌, List, [], ◌∷◌, length, map, refl, sym, ap, ap₂, ◌∙◌, subst, arith, inl, inr}
 use Rattle.std.proofs.lemmas.Bool.{cases_Bool, both_ways}
 use Rattle.cut_net.specs.declared.priced.Priced.{Priced}
 use Rattle.cut_net.specs.Network.{Network}
@@ -71,7 +71,7 @@ barred_round net a b flow (modules, barrier) = (
 
 -- the network is what comes of turning it twice
 turned_twice : (net : Network) → turned_round (turned_round net) ≡ net
-turned_twice net = ap (λ (imports : List Priced). record { names = net.names; imports = imports }) (twice net.imports)
+turned_twice net = ap₂ (λ (imports pins : List Priced). record { names = net.names; imports = imports; pins = pins }) (twice net.imports) (twice net.pins)
 
 pub flow_round_back : (net : Network) (a b : ℕ) (flow : Priced → ℕ) (value : ℕ) → AreBetween net.imports (length net.names) → b < length net.names → a ≢ b →
     IsFlow (turned_round net) b a (flow_turned flow) value → IsFlow net a b flow value

@@ -10,7 +10,7 @@ use Rattle.cut_net.specs.Network.{Network, none_there}
 use Rattle.cut_net.specs.WellFormed.{AreBetween}
 use Rattle.cut_net.specs.Cuts.{Any, Chain, IsChain, IsCheapest, IsCut, Outside, same_ends, weight}
 use Rattle.cut_net.specs.Lines.{amount_in, comes_before, flow_by, removed_by, AreInOrder, IsAnswer, IsCheapestSaid, IsCutAnswer, IsImport}
-use Rattle.cut_net.specs.Said.{Said, CutOf}
+use Rattle.cut_net.specs.Said.{Said, CutOf, BlockedBy}
 use Rattle.cut_net.proofs.Chains.{step, widened}
 use Rattle.cut_net.proofs.Ends.{before_from, before_true, same_from}
 use Rattle.cut_net.proofs.ListSums.{here, there, sum_by-mono, sum_by-same}
@@ -284,7 +284,9 @@ module _ (net : Network) (a b : ℕ) (a_in : a < length net.names) (b_in : b < l
 
   pub answer_up : (said : Said) → IsAnswer small (get_or places a 0) (get_or places b 0) said → IsAnswer net a b (said_whole numbers said)
   answer_up (CutOf total printed flow) is = answer_lines printed total flow is
+  answer_up (BlockedBy chain) is = absurd is
 
   pub cheapest_up : (said : Said) → IsAnswer small (get_or places a 0) (get_or places b 0) said → IsCheapestSaid small (get_or places a 0) (get_or places b 0) said →
       IsCheapestSaid net a b (said_whole numbers said)
   cheapest_up (CutOf total printed flow) is cheapest = cheapest_lines printed (λ line c. All-contains (IsImport small) printed line is.right.printed_in_order.known c) cheapest
+  cheapest_up (BlockedBy chain) is cheapest = absurd is

@@ -3,7 +3,7 @@ use Rattle.std.specs.Prelude.{◌≡◌, ◌&&◌, ℕ, ◌<◌, ◌≤◌, Bool
 use Rattle.cut_net.specs.declared.priced.Priced.{Priced}
 use Rattle.cut_net.specs.Network.{Network}
 use Rattle.cut_net.specs.Cuts.{Any, AreThose, Chain}
-use Rattle.cut_net.specs.Said.{Said, CutOf}
+use Rattle.cut_net.specs.Said.{Said, CutOf, BlockedBy}
 use Rattle.cut_residual.specs.declared.arc.Arc.{Arc}
 use Rattle.cut_residual.specs.Graphs.{is_seen}
 use Rattle.cut_part.specs.Inside.{flow_inside, inside, part_of, IsBetween}
@@ -55,6 +55,7 @@ lines_whole numbers lines = map (renumbered (slice_index numbers)) lines
 -- what is said of the part, by the numbers of the whole network
 abbrev pub said_whole : List ℕ → Said → Said
 said_whole numbers (CutOf total printed flow) = CutOf total (lines_whole numbers printed) (lines_whole numbers flow)
+said_whole numbers (BlockedBy chain) = BlockedBy (map (slice_index numbers) chain)
 
 -- the same of the first so many modules
 pub record IsNumberingTo (marks : List Bool) (numbers places : List ℕ) (count : ℕ) : Type 0 where

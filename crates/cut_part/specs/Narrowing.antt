@@ -32,10 +32,11 @@ ends_of imports = map pair_of imports
 abbrev pub import_in : List Priced → ℕ → Priced
 import_in imports k = slice_index_or imports k none_there
 
--- the new network has the imports of the old one, none with a greater weight, and exactly its flows between a and b; and one that
+-- the new network has the imports and the pins of the old one, no import with a greater weight, and exactly its flows between a and b; and one that
 -- is greatest in the new network is greatest in the old one
 pub record IsNarrowed (old new : Network) (a b : ℕ) : Type 0 where
   pub names : new.names ≡ old.names
+  pub pins : new.pins ≡ old.pins
   pub ends : ends_of new.imports ≡ ends_of old.imports
   pub lowered : (k : ℕ) → (import_in new.imports k).amount ≤ (import_in old.imports k).amount
   pub flows : (flow : Priced → ℕ) (value : ℕ) → IsByEnds flow → IsFlow old a b flow value → IsFlow new a b flow value
@@ -58,7 +59,7 @@ weighing i amount = record { from = i.from; to = i.to; amount = amount }
 
 -- the network with another weight on one import
 abbrev pub reweighed : Network → ℕ → ℕ → Network
-reweighed net k amount = record { names = net.names; imports = slice_set net.imports k (weighing (import_in net.imports k) amount) }
+reweighed net k amount = record { names = net.names; imports = slice_set net.imports k (weighing (import_in net.imports k) amount); pins = net.pins }
 
 -- one import is lowered to what is enough
 pub record IsLoweredAt (old new : Network) (a b k amount : ℕ) : Type 0 where

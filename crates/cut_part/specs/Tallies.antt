@@ -15,10 +15,11 @@ pub record AreTallies (imports : List Priced) (leaving_sums entering_sums : List
   pub leave : (m : ℕ) → m < length leaving_sums → slice_index leaving_sums m ≡ leaving imports weight_of m
   pub enter : (m : ℕ) → m < length leaving_sums → slice_index entering_sums m ≡ entering imports weight_of m
 
--- of any names of so many modules: the imports are narrowed to these between a and b
+-- of any names of so many modules, whatever is pinned: the imports are narrowed to these between a and b
 abbrev pub NarrowsTo : ℕ → List Priced → List Priced → ℕ → ℕ → Type 0
 NarrowsTo modules old new a b =
-    (names : List (List ℕ)) → length names ≡ modules → IsNarrowed (record { names = names; imports = old }) (record { names = names; imports = new }) a b
+    (names : List (List ℕ)) (pins : List Priced) → length names ≡ modules →
+    IsNarrowed (record { names = names; imports = old; pins = pins }) (record { names = names; imports = new; pins = pins }) a b
 
 -- the amount is the import's weight, or one that is enough; and it is no more than the weight
 pub record IsRoom (weight amount sum : ℕ) : Type 0 where

@@ -206,8 +206,8 @@ pub fn lines_whole(
     Ok(all)
 }
 
-/// The network between two modules of a network, which are told by their numbers. It has the same flows from the one to the other, and
-/// what is printed of it is what is printed of the whole network.
+/// The network between two modules of a network, which are told by their numbers, with its pins. It has the same flows from the one to the
+/// other, and what is printed of it is what is printed of the whole network.
 pub fn between(alloc: Global, net: &Net, from: u32, to: u32) -> Result<Part, AllocError>
     requires from { from < length net.now.names }
     requires to { to < length net.now.names }
@@ -218,9 +218,10 @@ pub fn between(alloc: Global, net: &Net, from: u32, to: u32) -> Result<Part, All
     let kept = with_both(alloc, &marks, from, to)?;
     let (numbers, places) = numbered(alloc, &kept)?;
     let imports = imports_between(alloc, net.imports(), &marks, &places)?;
+    let pins = imports_between(alloc, net.pins(), &marks, &places)?;
     let names = names_of(alloc, net, &numbers)?;
     Ok(Part {
-        net: Net::of(names, imports),
+        net: Net::with_pins(names, imports, pins),
         numbers,
         places,
         marks,

@@ -8,12 +8,12 @@ use Rattle.cut_part.proofs.Marking.{both_between}
 use Rattle.cut_part.proofs.part.marks_between.Goals as goal
 
 pub chained-requires-clause-between : goal.chained-requires-clause-between
-chained-requires-clause-between c = rw (c.imports.ensures, c.nodes.ensures) c.keeps.ensures.between
+chained-requires-clause-between c = rw (c.imports.ensures, c.nodes.ensures) c.keeps.ensures.network.between
 
 pub chained-requires-2-clause-between : goal.chained-requires-2-clause-between
 chained-requires-2-clause-between c =
     rw (c.deref.ensures.value, c.in_ok-turned.ensures, c.imports-2.ensures, c.nodes-2.ensures)
-    (between_turned c.args.net.now.imports (length c.args.net.now.names) c.keeps.ensures.between)
+    (between_turned c.args.net.now.imports (length c.args.net.now.names) c.keeps.ensures.network.between)
 
 pub returns-clause-between : goal.returns-clause-between
 returns-clause-between c =
