@@ -1,5 +1,6 @@
 //! A preflow that workers share: each step is counted in a share of a ledger, whose book is the length of the history.
 ghost use Rattle.std.specs.Prelude.{◌≡◌, ◌≢◌, ◌+◌, ◌*◌, ◌<◌, ◌≤◌, ◌↔◌, ◌||◌, ℕ, true, false, IsTrue, IfOk, IfSome, IsNone, IsErr, IsSome, OnOk, Err, length, []};
+ghost use Rattle.cut_net.specs.Pins.{PinChain};
 ghost use Rattle.cut_preflow.specs.Preflow.{count, import_at, flow_at, label_at, excess, inflow, outflow, is_active, applies, after, opening, is_legal};
 ghost use Rattle.cut_preflow.specs.Kept.{IsFlowNetwork, IsQuiet};
 ghost use Rattle.cut_preflow.specs.Bound.{most_changes};
@@ -44,8 +45,8 @@ impl<L: NetworkLedger> Model for Preflow<L> {
 
 impl<L: NetworkLedger> Preflow<L> {
     /// The opening between two different modules, by their numbers: the imports out of `from` are saturated, and its label is the
-    /// number of modules. Its steps are counted in the ledger of the blank, of 65 parts. Fails where memory is refused, and then the
-    /// blank is gone.
+    /// number of modules. No chain of pins leads from the one to the other, which `pinned_chain` tells: nothing would bound what it carries.
+    /// Its steps are counted in the ledger of the blank, of 65 parts. Fails where memory is refused, and then the blank is gone.
     pub fn start(
         alloc: Global,
         blank: Blank,
@@ -54,6 +55,7 @@ impl<L: NetworkLedger> Preflow<L> {
         to: u32,
     ) -> Result<Preflow<L>, AllocError>
         requires ends { AreEnds net.now from to }
+        requires free { PinChain net.now from to → ⊥ }
         requires net { network_between net.now from to ≡ L.net }
         requires name { blank.name ≡ L.name }
         requires parts { (blank.parts ≡ 65) × (L.parts ≡ 65) }
