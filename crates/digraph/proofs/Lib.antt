@@ -1,5 +1,7 @@
 pub mod Ascending
 pub mod EdgeOrder
+pub mod LeastChains
+pub mod Rounds
 pub mod Loops
 pub mod Members
 pub mod Names

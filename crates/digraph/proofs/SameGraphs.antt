@@ -48,7 +48,7 @@ module _ (G H : ℕ → ℕ → Type 0) (same : AreSame G H) where
     turned = c.turned;
   }
 
-  chain_as : (m : ℕ) (more : List ℕ) (b : ℕ) → IsChain H m more b → IsChain G m more b
+  pub chain_as : (m : ℕ) (more : List ℕ) (b : ℕ) → IsChain H m more b → IsChain G m more b
   chain_as m [] b e = e
   chain_as m (n ∷ more) b c = ((same m n).1 c.0, chain_as n more b c.1)
 

@@ -1,5 +1,6 @@
 pub mod Chains
 pub mod Cycle
 pub mod Edges
+pub mod Levels
 pub mod Marks
 pub mod Ranks

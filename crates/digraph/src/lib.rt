@@ -1,11 +1,15 @@
-//! Directed graphs: edges between numbered nodes, chains of them, and the one cycle that is named where a chain comes back.
+//! Directed graphs: edges between numbered nodes, chains of them, the least chain between two nodes, and the one cycle that is named where a
+//! chain comes back.
 //! Stands on std alone.
-//! Its contract: a cycle is named exactly where a chain of edges comes back, and at most one is.
+//! Its contract: a cycle is named exactly where a chain of edges comes back, and at most one is; a chain is found exactly where one leads, and none has
+//! fewer edges.
 #![tactic(auto)]
 
 mod edge;
 mod endless;
 pub mod laws;
+mod least;
+mod levels;
 mod named;
 mod ranks;
 mod rows;
@@ -13,6 +17,7 @@ mod walk;
 
 pub use edge::Edge;
 pub use endless::is_marked;
+pub use least::least_chain;
 pub use named::cycle;
 pub use ranks::{put_in_order, ranks_of, renumbered};
 pub use rows::{flipped, rows_of};
