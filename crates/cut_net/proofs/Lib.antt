@@ -17,6 +17,7 @@ pub mod Numbers
 pub mod OneNetReading
 pub mod OneNetwork
 pub mod Pairs
+pub mod PinChains
 pub mod Pinned
 pub mod Places
 pub mod PriceLines

@@ -1,18 +1,18 @@
 -- Cuts and flows with pins are those of the network in which a pinned import weighs more than every cut.
-use Rattle.std.proofs.Common.{◌≡◌, ◌≢◌, ℕ, suc, zero, ◌+◌, ◌≤◌, ◌<◌, Bool, true, false, cond, not, List, [], ◌∷◌, length, get_or, refl, sym, ◌∙◌, ap, subst, arith, sum_by, ◌⊎◌, inl, inr}
-use Rattle.std.specs.Prelude.{◌↔◌, Contains, Option, Some, None, find, is_some}
+use Rattle.std.proofs.Common.{◌≡◌, ◌≢◌, ℕ, ◌≤◌, ◌<◌, Bool, true, false, cond, not, List, [], ◌∷◌, length, get_or, refl, ap, arith, sum_by, inl, inr}
+use Rattle.std.specs.Prelude.{◌↔◌, Contains, find, is_some}
 use Rattle.std.proofs.lemmas.Bool.{cases_Bool, cases_lt, both_ways, not-true, not_from_false}
 use Rattle.std.proofs.lemmas.List.Sums.{get_or-le-sum_by}
 use Rattle.cut_net.specs.declared.priced.Priced.{Priced}
 use Rattle.cut_net.specs.Network.{Network}
 use Rattle.cut_net.specs.Said.{Said, CutOf, BlockedBy}
-use Rattle.cut_net.specs.WellFormed.{AreBetween, IsNetwork}
-use Rattle.cut_net.specs.Cuts.{Chain, IsChain, Outside, IsCut, IsCheapest, IsSide, IsLeastSide, Near, LeavesNear, ArePrinted, IsFlow, leaves, same_ends, weight, without}
-use Rattle.cut_net.specs.Lines.{removed_by, IsAnswer, IsCheapestSaid, IsCutAnswer}
-use Rattle.cut_net.specs.Pins.{is_pinned, IsRemovable, PinChain, ByPin, IsPinChain, IsLeastPinChain, IsCutWithPins, IsCheapestWithPins, IsSideWithPins, IsLeastSideWithPins, NearWithPins, LeavesNearWithPins, ArePrintedWithPins, IsFlowWithPins, IsCutAnswerWithPins, IsAnswerWithPins, IsCheapestSaidWithPins, ArePins, most_weight, unpinned_weight}
+use Rattle.cut_net.specs.WellFormed.{AreBetween}
+use Rattle.cut_net.specs.Cuts.{Chain, Outside, IsCut, IsCheapest, IsSide, IsLeastSide, Near, LeavesNear, ArePrinted, IsFlow, leaves, same_ends, weight, without}
+use Rattle.cut_net.specs.Lines.{removed_by, IsAnswer, IsCheapestSaid}
+use Rattle.cut_net.specs.Pins.{is_pinned, IsRemovable, PinChain, ByPin, IsCutWithPins, IsCheapestWithPins, IsSideWithPins, IsLeastSideWithPins, NearWithPins, LeavesNearWithPins, ArePrintedWithPins, IsFlowWithPins, IsAnswerWithPins, IsCheapestSaidWithPins, ArePins, unpinned_weight}
 use Rattle.cut_net.proofs.Certificate.{side_of_cut, leaves_in_cut, weight-mono}
 use Rattle.cut_net.proofs.Chains.{no_chain_to, widened}
-use Rattle.cut_net.proofs.Duality.{across_kept, cond_le}
+use Rattle.cut_net.proofs.Duality.{across_kept}
 use Rattle.cut_net.proofs.ListSums.{sum_by-mono}
 use Rattle.cut_net.proofs.Needed.{needed}
 

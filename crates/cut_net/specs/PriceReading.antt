@@ -1,11 +1,11 @@
 -- Reading a prices file, line by line.
-use Rattle.std.specs.Prelude.{◌≡◌, ◌≢◌, ℕ, true, List, [], ◌∷◌, ◌++◌, map, codes, Option, Some, None, Result, Ok, Err, option_map, option_and_then, AllPairs, find}
+use Rattle.std.specs.Prelude.{◌≡◌, ◌≢◌, ℕ, true, List, [], ◌∷◌, ◌++◌, map, codes, Option, Some, None, Result, Ok, Err, option_map, option_and_then, AllPairs}
 use Rattle.std.specs.Option.{option_map_or}
 use Rattle.texts.specs.Fields.{cut_at, named, number_of}
 use Rattle.cut_net.specs.Network.{Network}
 use Rattle.cut_net.specs.NetReading.{after_word}
 use Rattle.cut_net.specs.NetText.{is_written, pieces_of}
-use Rattle.cut_net.specs.Prices.{PriceLine, PriceOutcome, Prices, BadLine, NoSuchImport, TwicePrice, PriceOverflow, price_line, said_of, stands_after, standing_of, IsOfImport, IsPriceLine, SpellPrices, AreGoodPrices, AreOfTwo}
+use Rattle.cut_net.specs.Prices.{PriceLine, PriceOutcome, Prices, BadLine, NoSuchImport, TwicePrice, PriceOverflow, price_line, said_of, IsOfImport, IsPriceLine, SpellPrices, AreGoodPrices, AreOfTwo}
 use Rattle.cut_net.specs.declared.price_fault.LineFault.{LineFault}
 use Rattle.cut_net.specs.declared.price_fault.LineFault.TheVariants as fault
 use Rattle.cut_net.specs.declared.price_fault.PriceFault.{PriceFault}
@@ -14,7 +14,6 @@ use Rattle.cut_net.specs.declared.standing.Change.{Change}
 use Rattle.cut_net.specs.declared.standing.Change.TheVariants.{Price, Pin}
 use Rattle.cut_net.specs.declared.standing.Standing.{Standing}
 use Rattle.cut_net.specs.declared.standing.Standing.TheVariants.{Weighs, Stays}
-use Rattle.cut_net.specs.declared.priced.Priced.{Priced}
 use Rattle.cut_net.specs.declared.price_lines.PriceLine as lines
 
 -- ---- a line

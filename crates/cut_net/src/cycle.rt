@@ -9,7 +9,7 @@ use digraph::Edge;
 use std::alloc::{AllocError, Global};
 
 /// The imports without their weights.
-fn pairs_of(alloc: Global, imports: &[Priced]) -> Result<Vec<Edge>, AllocError>
+pub(crate) fn pairs_of(alloc: Global, imports: &[Priced]) -> Result<Vec<Edge>, AllocError>
     ensures { IfOk result (λ pairs. pairs.items ≡ map pair_of imports.now) }
 {
     let mut pairs = Vec::new(alloc);

@@ -13,6 +13,7 @@ pub mod laws;
 mod lines;
 mod net;
 mod numbering;
+mod pin_chain;
 mod price_fault;
 mod price_lines;
 mod priced;
