@@ -8,7 +8,6 @@ use Rattle.std.proofs.lemmas.List.Filters.{length-filter_both}
 use Rattle.digraph.proofs.Members.{from_map, in_filter, in_map, of_filter}
 use Rattle.cut_net.specs.declared.priced.Priced.{Priced}
 use Rattle.cut_net.specs.Network.{Network}
-use Rattle.cut_net.specs.WellFormed.{AreBetween}
 use Rattle.cut_net.specs.Cuts.{AreThose, same_ends}
 use Rattle.cut_net.specs.Lines.{IsImport}
 use Rattle.cut_net.specs.Pins.{is_pinned, unpinned_weight, ArePins}
@@ -25,17 +24,6 @@ use Rattle.cut_part.proofs.Sums.{sum_by-map}
 -- what is so of each member is so of all
 all_members : (P : Priced → Type 0) (lines : List Priced) → ((i : Priced) → Contains lines i → P i) → All P lines
 all_members P lines each k d h = each (get_or lines k d) (Contains-get_or lines k d h)
-
--- pins lead between the modules, since imports do
-pub pins_between : (net : Network) (n : ℕ) → AreBetween net.imports n → ArePins net → AreBetween net.pins n
-pins_between net n between pins p c =
-    let import = All-contains (IsImport net) net.pins p pins.in_order.known c in
-    let ends = between import.0 import.1 in
-    let from = import.2 in
-    let to = import.3 in
-    let low = ends.0 in
-    let high = ends.1 in
-    (omega arith, omega arith)
 
 module _ (net : Network) (a b : ℕ) (marks : List Bool) (numbers places : List ℕ) (size : length marks ≡ length net.names)
     (between : AreThose (is_seen marks) (IsBetween net a b)) (is : IsNumbering (with_ends marks a b) numbers places) where

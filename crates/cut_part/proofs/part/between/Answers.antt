@@ -4,12 +4,13 @@ use Rattle.cut_net.specs.declared.priced.Priced.{Priced}
 use Rattle.cut_net.specs.Network.{Network, name_of, texts}
 use Rattle.cut_net.specs.WellFormed.{IsNetwork}
 use Rattle.cut_net.specs.Pins.{ArePins}
+use Rattle.cut_net.proofs.PinChains.{pins_between}
 use Rattle.cut_residual.specs.Graphs.{is_seen}
 use Rattle.cut_part.specs.Inside.{inside}
 use Rattle.cut_part.specs.Marks.{with_ends, IsNumbering, IsPart}
 use Rattle.cut_part.specs.Renumbering.{renumbered}
 use Rattle.cut_part.proofs.Parts.{is_network, is_part, numbers_low}
-use Rattle.cut_part.proofs.PinnedParts.{are_pins, pins_between}
+use Rattle.cut_part.proofs.PinnedParts.{are_pins}
 use Rattle.cut_part.proofs.part.between.Goals as goal
 
 abbrev network_of : List (List ℕ) → List Priced → List Priced → Network
