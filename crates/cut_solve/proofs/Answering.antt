@@ -111,20 +111,20 @@ pub kept_above_zero : (lines : List Priced) → All (λ (line : Priced). 0 < lin
 kept_above_zero lines k d h = ltb-true 0 (get_or (filter has_flow lines) k d).amount (filter_passes has_flow lines k d h)
 
 -- a flow of arcs whose residual arcs lead from the marked nodes to no others
-module _ (names : List (List ℕ)) (arcs : List Arc) (a b value : ℕ) (up : IsAscending (imports_of arcs)) (a_in : a < length names)
-    (carried : IsFlow (net_of names arcs) a b (flow_on arcs) value) (near : List Bool) (are : AreReached (record { nodes = length names; arcs = arcs }) a near)
+module _ (names : List (List ℕ)) (pins : List Priced) (arcs : List Arc) (a b value : ℕ) (up : IsAscending (imports_of arcs)) (a_in : a < length names)
+    (carried : IsFlow (net_of names pins arcs) a b (flow_on arcs) value) (near : List Bool) (are : AreReached (record { nodes = length names; arcs = arcs }) a near)
     (shut : AreClosed arcs near) (ends : is_seen near b ≡ false) where
-  line_known : (line : Priced) → Contains (map flow_line arcs) line → IsImport (net_of names arcs) line
+  line_known : (line : Priced) → Contains (map flow_line arcs) line → IsImport (net_of names pins arcs) line
   line_known line c =
       let (r, in_arcs, e) = from_map flow_line arcs line c in
       (import_on r, in_map import_on arcs r in_arcs, ap (λ (v : Priced). v.from) e, ap (λ (v : Priced). v.to) e, tt)
 
-  pub greatest_on : IsGreatest (net_of names arcs) a b near (filter has_flow (map flow_line arcs))
+  pub greatest_on : IsGreatest (net_of names pins arcs) a b near (filter has_flow (map flow_line arcs))
   greatest_on = record {
     size = are.size;
-    reached = reached names arcs up a near a_in are shut;
+    reached = reached names pins arcs up a near a_in are shut;
     end = ends;
-    in_order = kept_lines (net_of names arcs) (map flow_line arcs) (lines_ascend arcs up) line_known;
+    in_order = kept_lines (net_of names pins arcs) (map flow_line arcs) (lines_ascend arcs up) line_known;
     above_zero = kept_above_zero (map flow_line arcs);
     value = value;
     is_flow = carried;
@@ -136,8 +136,8 @@ pub greatest_for : (net : Network) (arcs : List Arc) (a b value : ℕ) → impor
     is_seen near b ≡ false → IsGreatest net a b near (filter has_flow (map flow_line arcs))
 greatest_for net arcs a b value same up a_in within balanced near are shut ends =
     let here = subst IsAscending (sym same) up in
-    subst (λ v. IsGreatest (record { names = net.names; imports = v }) a b near (filter has_flow (map flow_line arcs))) same
-    (greatest_on net.names arcs a b value here a_in (is_flow net.names arcs here a b value within balanced) near are shut ends)
+    subst (λ v. IsGreatest (record { names = net.names; imports = v; pins = net.pins }) a b near (filter has_flow (map flow_line arcs))) same
+    (greatest_on net.names net.pins arcs a b value here a_in (is_flow net.names net.pins arcs here a b value within balanced) near are shut ends)
 
 -- and of a flow over the imports
 pub greatest_by : (net : Network) (arcs : List Arc) (a b value : ℕ) → imports_of arcs ≡ net.imports → IsAscending net.imports → a < length net.names →
@@ -145,8 +145,8 @@ pub greatest_by : (net : Network) (arcs : List Arc) (a b value : ℕ) → import
     is_seen near b ≡ false → IsGreatest net a b near (filter has_flow (map flow_line arcs))
 greatest_by net arcs a b value same up a_in is near are shut ends =
     let here = subst IsAscending (sym same) up in
-    subst (λ v. IsGreatest (record { names = net.names; imports = v }) a b near (filter has_flow (map flow_line arcs))) same
-    (greatest_on net.names arcs a b value here a_in (subst (λ v. IsFlow (record { names = net.names; imports = v }) a b (flow_on arcs) value) (sym same) is) near are shut ends)
+    subst (λ v. IsGreatest (record { names = net.names; imports = v; pins = net.pins }) a b near (filter has_flow (map flow_line arcs))) same
+    (greatest_on net.names net.pins arcs a b value here a_in (subst (λ v. IsFlow (record { names = net.names; imports = v; pins = net.pins }) a b (flow_on arcs) value) (sym same) is) near are shut ends)
 
 -- where the residual imports of the flow don't lead to the end, it isn't marked
 pub end_unmarked : (net : Network) (arcs : List Arc) (a b : ℕ) → imports_of arcs ≡ net.imports → IsAscending net.imports → a < length net.names →
@@ -154,4 +154,4 @@ pub end_unmarked : (net : Network) (arcs : List Arc) (a b : ℕ) → imports_of 
 end_unmarked net arcs a b same up a_in barred near are shut =
     let here = subst IsAscending (sym same) up in
     end_unreached net a b (flow_on arcs) (is_seen near) barred
-    (subst (λ v. AreThose (is_seen near) (Reached (record { names = net.names; imports = v }) (flow_on arcs) a)) same (reached net.names arcs here a near a_in are shut))
+    (subst (λ v. AreThose (is_seen near) (Reached (record { names = net.names; imports = v; pins = net.pins }) (flow_on arcs) a)) same (reached net.names net.pins arcs here a near a_in are shut))

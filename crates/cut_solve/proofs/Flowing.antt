@@ -19,12 +19,12 @@ use Rattle.cut_residual.proofs.Walking.{along}
 use Rattle.cut_solve.specs.Lines.{empty_of, has_flow, import_on, flow_line}
 use Rattle.cut_solve.proofs.Listing.{found}
 
--- the imports of arcs, and a network of them
+-- the imports of arcs, and a network of them, with these pins
 abbrev pub imports_of : List Arc → List Priced
 imports_of arcs = map import_on arcs
 
-abbrev pub net_of : List (List ℕ) → List Arc → Network
-net_of names arcs = record { names = names; imports = imports_of arcs }
+abbrev pub net_of : List (List ℕ) → List Priced → List Arc → Network
+net_of names pins arcs = record { names = names; imports = imports_of arcs; pins = pins }
 
 imports_emptied : (arcs : List Arc) → imports_of (map emptied arcs) ≡ imports_of arcs
 imports_emptied [] = refl
@@ -101,7 +101,7 @@ flow_is arcs up k h =
     subst (λ v. find (same_ends v) (filter has_flow (map flow_line arcs)) ≡ cond (has_flow v) (Some v) None) at_k (found has_flow (map flow_line arcs) (lines_ascend arcs up) k (flow_line no_arc) in_lines) in
     ap amount_in there ∙ amount_cond l (has_flow l) refl
 
-module _ (names : List (List ℕ)) (arcs : List Arc) (up : IsAscending (imports_of arcs)) where
+module _ (names : List (List ℕ)) (pins : List Priced) (arcs : List Arc) (up : IsAscending (imports_of arcs)) where
   sum_imports : (xs : List Arc) (g : Priced → ℕ) → sum_by g (imports_of xs) ≡ sum_by (λ r. g (import_on r)) xs
   sum_imports [] g = refl
   sum_imports (r ∷ more) g = let rest = sum_imports more g in omega (arith, sum_by-cons g (import_on r) (imports_of more), sum_by-cons (λ (s : Arc). g (import_on s)) r more)
@@ -117,7 +117,7 @@ module _ (names : List (List ℕ)) (arcs : List Arc) (up : IsAscending (imports_
   import_at i k in_k at_k = let len = length-map arcs import_on in sym (get_or-map import_on arcs k no_arc i (omega arith)) ∙ at_k
 
   -- it is a flow
-  pub is_flow : (a b value : ℕ) → All (λ r. r.flow ≤ r.capacity) arcs → IsBalanced arcs a b value → IsFlow (net_of names arcs) a b (flow_on arcs) value
+  pub is_flow : (a b value : ℕ) → All (λ r. r.flow ≤ r.capacity) arcs → IsBalanced arcs a b value → IsFlow (net_of names pins arcs) a b (flow_on arcs) value
   is_flow a b value within f =
       let into : (m : ℕ) → cuts.entering (imports_of arcs) (flow_on arcs) m ≡ entering arcs m = λ m. sums (λ r. eqb r.to m) (λ i. eqb i.to m) (λ r. refl) in
       let out : (m : ℕ) → cuts.leaving (imports_of arcs) (flow_on arcs) m ≡ leaving arcs m = λ m. sums (λ r. eqb r.from m) (λ i. eqb i.from m) (λ r. refl) in
@@ -130,7 +130,7 @@ module _ (names : List (List ℕ)) (arcs : List Arc) (up : IsAscending (imports_
         at_start = let i = into a in let o = out a in let s = f.at_start in omega arith;
       }
 
-  goes : (modules : ℕ → Bool) → IsClosed (net_of names arcs) (flow_on arcs) modules → (k : ℕ) (forward : Bool) → k < length arcs → 0 < room (get_or arcs k no_arc) forward →
+  goes : (modules : ℕ → Bool) → IsClosed (net_of names pins arcs) (flow_on arcs) modules → (k : ℕ) (forward : Bool) → k < length arcs → 0 < room (get_or arcs k no_arc) forward →
       modules (tail arcs (record { arc = k; forward = forward })) ≡ true → modules (head arcs (record { arc = k; forward = forward })) ≡ true
   goes modules closed k true h some t =
       let e = flow_is arcs up k h in
@@ -143,7 +143,7 @@ module _ (names : List (List ℕ)) (arcs : List Arc) (up : IsAscending (imports_
 
   -- the nodes that augmenting paths reach are those that the flow's residual imports reach
   pub reached : (a : ℕ) (seen : List Bool) → a < length names → AreReached (record { nodes = length names; arcs = arcs }) a seen → AreClosed arcs seen →
-      AreThose (is_seen seen) (Reached (net_of names arcs) (flow_on arcs) a)
+      AreThose (is_seen seen) (Reached (net_of names pins arcs) (flow_on arcs) a)
   reached a seen a_in are shut m =
       let len = length-map arcs import_on in (
         λ t modules start closed.

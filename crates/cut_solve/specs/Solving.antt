@@ -1,23 +1,24 @@
 -- What a solver answers to two names.
 use Rattle.std.specs.Prelude.{◌≡◌, ◌≢◌, ◌⊎◌, ℕ, List, Option, Some, None, Result, Ok, Err}
 use Rattle.std.specs.String.{string_bytes}
-use Rattle.cut_net.specs.declared.cut.Cut.{Cut}
+use Rattle.cut_net.specs.declared.answer.Answer.{Answer}
 use Rattle.cut_net.specs.Network.{Network, index_of}
-use Rattle.cut_net.specs.Said.{Said, CutOf}
-use Rattle.cut_net.specs.Lines.{IsAnswer, IsCheapestSaid}
+use Rattle.cut_net.specs.Said.{Said}
+use Rattle.cut_net.specs.Answers.{said_by}
+use Rattle.cut_net.specs.Pins.{IsAnswerWithPins, IsCheapestSaidWithPins}
 use Rattle.cut_solve.specs.declared.fault.SolveFault.{SolveFault}
 use Rattle.cut_solve.specs.declared.fault.SolveFault.TheVariants as faults
 
--- the names are of two different modules, and this is a cheapest cut between them: the printed imports, with their weight
--- and a flow of that value
+-- the names are of two different modules, and this is a cheapest cut between them: the printed imports, with their weight and a flow of that
+-- value, none of them pinned; or it is the least chain of pins from the one to the other, exactly where one leads there, and then there is no cut
 pub record IsSolved (net : Network) (from to : List ℕ) (said : Said) : Type 0 where
   pub a : ℕ
   pub b : ℕ
   pub from_is : index_of net from ≡ Some a
   pub to_is : index_of net to ≡ Some b
   pub apart : a ≢ b
-  pub answer : IsAnswer net a b said
-  pub cheapest : IsCheapestSaid net a b said
+  pub answer : IsAnswerWithPins net a b said
+  pub cheapest : IsCheapestSaidWithPins net a b said
 
 -- both names are those of one module
 pub record IsSameModule (net : Network) (from to : List ℕ) : Type 0 where
@@ -30,7 +31,7 @@ abbrev pub IsFirstUnknown : Network → List ℕ → List ℕ → List ℕ → T
 IsFirstUnknown net from to name =
     ((index_of net from ≡ None) × (name ≡ from)) ⊎ (((a : ℕ) × (index_of net from ≡ Some a)) × (index_of net to ≡ None) × (name ≡ to))
 
--- what is answered: a cut, or what is wrong with the names
+-- what is answered: a cut or a chain of pins, or what is wrong with the names
 pub data SolveOutcome : Type 0 where
   Solves : Said → SolveOutcome
   SameModule : SolveOutcome
@@ -48,13 +49,9 @@ IsRefusal (Solves said) = ⊥
 IsRefusal SameModule = Unit {0}
 IsRefusal (NoSuchModule name) = Unit {0}
 
--- what a cut says, without where its lists lie in memory
-abbrev pub said_by : Cut → Said
-said_by cut = CutOf cut.weight cut.imports.items cut.flow.items
-
 -- the outcome that was answered; there is none where memory ran out
-abbrev pub outcome_of : Result Cut SolveFault → Option SolveOutcome
-outcome_of (Ok cut) = Some (Solves (said_by cut))
+abbrev pub outcome_of : Result Answer SolveFault → Option SolveOutcome
+outcome_of (Ok answer) = Some (Solves (said_by answer))
 outcome_of (Err faults.SameModule) = Some SameModule
 outcome_of (Err (faults.NoSuchModule name)) = Some (NoSuchModule (string_bytes name))
 outcome_of (Err faults.Memory) = None

@@ -7,7 +7,7 @@ use Rattle.cut_part.specs.Turning.{turned}
 
 -- the network with other weights on its imports
 abbrev pub with_imports : Network → List Priced → Network
-with_imports net imports = record { names = net.names; imports = imports }
+with_imports net imports = record { names = net.names; imports = imports; pins = net.pins }
 
 -- the imports between a and b, their weights narrowed: as they stand, from a to b, or turned round, from b to a
 pub record IsStart (net : Network) (a b : ℕ) (imports : List Priced) (source sink : ℕ) : Type 0 where

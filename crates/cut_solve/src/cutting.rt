@@ -1,8 +1,8 @@
 //! The cut of a greatest flow.
 ghost use Rattle.std.specs.Prelude.{◌<◌, IfOk, length};
+ghost use Rattle.cut_net.specs.Answers.{said_by_cut};
 ghost use Rattle.cut_net.specs.Lines.{IsAnswer, IsCheapestSaid};
 ghost use Rattle.cut_solve.specs.GreatestFlow.{IsGreatest};
-ghost use Rattle.cut_solve.specs.Solving.{said_by};
 
 use crate::printing::{far_from, printed_of, weight_of};
 use cut_net::{Cut, Net, Priced};
@@ -21,8 +21,8 @@ pub fn cut_by(
     requires from { from < length net.now.names }
     requires to { to < length net.now.names }
     requires greatest { IsGreatest net.now from to near.now flow.items }
-    ensures answer { IfOk result (λ cut. IsAnswer net.now from to (said_by cut)) }
-    ensures cheapest { IfOk result (λ cut. IsCheapestSaid net.now from to (said_by cut)) }
+    ensures answer { IfOk result (λ cut. IsAnswer net.now from to (said_by_cut cut)) }
+    ensures cheapest { IfOk result (λ cut. IsCheapestSaid net.now from to (said_by_cut cut)) }
 {
     net.keeps();
     let imports = net.imports();

@@ -1,9 +1,10 @@
-//! Cheapest cuts: the imports to be removed, and a flow that proves that none is cheaper, by many threads.
+//! Cheapest cuts: the imports to be removed, and a flow that proves that none is cheaper, by many threads; or the chain of pins that no cut parts.
 //! Stands on `cut_net`, `cut_part`, `cut_preflow`, `cut_residual` and `cut_trial`, with `thiserror` for its faults.
 //! Its contract: an answer is the printed imports by their definition, their weight and a flow of that value, so no cut weighs less, whatever turns the workers took.
 #![tactic(auto)]
 
 mod arcs;
+mod blocking;
 mod cutting;
 mod fault;
 pub mod laws;
@@ -19,6 +20,7 @@ mod whole;
 pub mod workers;
 
 pub use arcs::{flow_of, graph_of};
+pub use blocking::{as_answer, blocked};
 pub use cutting::cut_by;
 pub use fault::SolveFault;
 pub use names::module_of;

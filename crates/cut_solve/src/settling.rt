@@ -1,12 +1,12 @@
 //! The last pass: a preflow is settled by one worker, and told as a cut.
 ghost use Rattle.std.specs.Prelude.{◌≡◌, ◌≤◌, IfOk, IfSome, IsSome, length};
+ghost use Rattle.cut_net.specs.Answers.{said_by_cut};
 ghost use Rattle.cut_net.specs.Lines.{IsAnswer, IsCheapestSaid};
 ghost use Rattle.cut_preflow.specs.Flows.{AreEnds};
 ghost use Rattle.cut_preflow.specs.Kept.{IsQuiet};
 ghost use Rattle.cut_preflow.specs.Played.{state_of};
 ghost use Rattle.cut_preflow.specs.Preflow.{count};
 ghost use Rattle.cut_solve.specs.Settling.{carrying};
-ghost use Rattle.cut_solve.specs.Solving.{said_by};
 ghost use Rattle.cut_solve.specs.Starts.{IsBelow, IsStart};
 
 use crate::arcs::flow_of;
@@ -54,8 +54,8 @@ fn quiet_cut<L: NetworkLedger>(
     requires nodes { preflow.now.play.net.nodes ≡ length net.now.names }
     requires start { IsBelow net.now from to preflow.now.play.net.imports preflow.now.play.net.source preflow.now.play.net.sink }
     requires quiet { IsQuiet preflow.now.play.net (state_of preflow.now.play) }
-    ensures answer { IfOk result (λ found. IfSome found (λ cut. IsAnswer net.now from to (said_by cut))) }
-    ensures cheapest { IfOk result (λ found. IfSome found (λ cut. IsCheapestSaid net.now from to (said_by cut))) }
+    ensures answer { IfOk result (λ found. IfSome found (λ cut. IsAnswer net.now from to (said_by_cut cut))) }
+    ensures cheapest { IfOk result (λ found. IfSome found (λ cut. IsCheapestSaid net.now from to (said_by_cut cut))) }
     ensures found { IsStart net.now from to preflow.now.play.net.imports preflow.now.play.net.source preflow.now.play.net.sink → IfOk result (λ found. IsSome found) }
 {
     net.keeps();
@@ -84,8 +84,8 @@ pub(crate) fn last_pass<L: NetworkLedger>(
     requires ends { AreEnds net.now from to }
     requires nodes { preflow.old.play.net.nodes ≡ length net.now.names }
     requires start { IsBelow net.now from to preflow.old.play.net.imports preflow.old.play.net.source preflow.old.play.net.sink }
-    ensures answer { IfOk result (λ found. IfSome found (λ cut. IsAnswer net.now from to (said_by cut))) }
-    ensures cheapest { IfOk result (λ found. IfSome found (λ cut. IsCheapestSaid net.now from to (said_by cut))) }
+    ensures answer { IfOk result (λ found. IfSome found (λ cut. IsAnswer net.now from to (said_by_cut cut))) }
+    ensures cheapest { IfOk result (λ found. IfSome found (λ cut. IsCheapestSaid net.now from to (said_by_cut cut))) }
     ensures found { IsStart net.now from to preflow.old.play.net.imports preflow.old.play.net.source preflow.old.play.net.sink → IfOk result (λ found. IsSome found) }
 {
     preflow.settle()?;

@@ -1,10 +1,12 @@
 //! The solver by many workers: pushes and relabels on one locked preflow, and a last pass for what they left.
 ghost use Rattle.std.specs.Prelude.{◌≡◌, ◌≢◌, ◌≤◌, IfOk, IfSome, IsSome, length};
+ghost use Rattle.cut_net.specs.Answers.{said_by_cut};
 ghost use Rattle.cut_net.specs.Lines.{IsAnswer, IsCheapestSaid};
 ghost use Rattle.cut_preflow.specs.Flows.{AreEnds, network_on};
-ghost use Rattle.cut_solve.specs.Solving.{outcome_of, said_by, IsModuleOr, IsRefusal, IsSolveOutcome, SolveOutcome};
+ghost use Rattle.cut_solve.specs.Solving.{outcome_of, IsModuleOr, IsRefusal, IsSolveOutcome, SolveOutcome};
 ghost use Rattle.cut_solve.specs.Starts.{IsBelow, IsStart};
 
+use crate::blocking::{as_answer, blocked};
 use crate::lowering::lowered;
 use crate::names::module_of;
 use crate::settling::last_pass;
@@ -12,7 +14,7 @@ use crate::start::{Start, start_between};
 use crate::whole::whole_cut;
 use crate::workers::worker;
 use crate::{Gate, Locked, SolveFault};
-use cut_net::{Cut, Net};
+use cut_net::{Answer, Cut, Net};
 use cut_part::between;
 use cut_preflow::{NetworkLedger, PARTS, Preflow, Share};
 use std::alloc::{AllocError, Global};
@@ -86,8 +88,8 @@ fn in_ledger<L: NetworkLedger + Send + Sync, R: Threads + Wait + Sync, G: Gate +
     requires net { network_on (length net.now.names) start.imports.items start.source start.sink ≡ L.net }
     requires name { blank.name ≡ L.name }
     requires parts { (blank.parts ≡ 65) × (L.parts ≡ 65) }
-    ensures answer { IfOk result (λ found. IfSome found (λ cut. IsAnswer net.now ends.0 ends.1 (said_by cut))) }
-    ensures cheapest { IfOk result (λ found. IfSome found (λ cut. IsCheapestSaid net.now ends.0 ends.1 (said_by cut))) }
+    ensures answer { IfOk result (λ found. IfSome found (λ cut. IsAnswer net.now ends.0 ends.1 (said_by_cut cut))) }
+    ensures cheapest { IfOk result (λ found. IfSome found (λ cut. IsCheapestSaid net.now ends.0 ends.1 (said_by_cut cut))) }
     ensures found { IsStart net.now ends.0 ends.1 start.imports.items start.source start.sink → IfOk result (λ found. IsSome found) }
 {
     net.keeps();
@@ -123,8 +125,8 @@ fn in_own_ledger<R: Threads + Wait + Sync, G: Gate + Sync>(
 ) -> Result<Option<Cut>, AllocError>
     requires ends { AreEnds net.now ends.0 ends.1 }
     requires start { IsBelow net.now ends.0 ends.1 start.imports.items start.source start.sink }
-    ensures answer { IfOk result (λ found. IfSome found (λ cut. IsAnswer net.now ends.0 ends.1 (said_by cut))) }
-    ensures cheapest { IfOk result (λ found. IfSome found (λ cut. IsCheapestSaid net.now ends.0 ends.1 (said_by cut))) }
+    ensures answer { IfOk result (λ found. IfSome found (λ cut. IsAnswer net.now ends.0 ends.1 (said_by_cut cut))) }
+    ensures cheapest { IfOk result (λ found. IfSome found (λ cut. IsCheapestSaid net.now ends.0 ends.1 (said_by_cut cut))) }
     ensures found { IsStart net.now ends.0 ends.1 start.imports.items start.source start.sink → IfOk result (λ found. IsSome found) }
 {
     in_ledger::<Brand, R, G>(
@@ -149,8 +151,8 @@ fn on_lowered<R: Threads + Wait + Sync, G: Gate + Sync>(
     gate: &G,
 ) -> Result<Cut, AllocError>
     requires { AreEnds net.now ends.0 ends.1 }
-    ensures answer { IfOk result (λ cut. IsAnswer net.now ends.0 ends.1 (said_by cut)) }
-    ensures cheapest { IfOk result (λ cut. IsCheapestSaid net.now ends.0 ends.1 (said_by cut)) }
+    ensures answer { IfOk result (λ cut. IsAnswer net.now ends.0 ends.1 (said_by_cut cut)) }
+    ensures cheapest { IfOk result (λ cut. IsCheapestSaid net.now ends.0 ends.1 (said_by_cut cut)) }
 {
     net.keeps();
     let start = start_between(alloc, net, ends.0, ends.1)?;
@@ -174,8 +176,8 @@ fn in_part<R: Threads + Wait + Sync, G: Gate + Sync>(
     gate: &G,
 ) -> Result<Cut, AllocError>
     requires { AreEnds net.now ends.0 ends.1 }
-    ensures answer { IfOk result (λ cut. IsAnswer net.now ends.0 ends.1 (said_by cut)) }
-    ensures cheapest { IfOk result (λ cut. IsCheapestSaid net.now ends.0 ends.1 (said_by cut)) }
+    ensures answer { IfOk result (λ cut. IsAnswer net.now ends.0 ends.1 (said_by_cut cut)) }
+    ensures cheapest { IfOk result (λ cut. IsCheapestSaid net.now ends.0 ends.1 (said_by_cut cut)) }
 {
     let (from, to) = ends;
     let part = between(alloc, net, from, to)?;
@@ -185,7 +187,7 @@ fn in_part<R: Threads + Wait + Sync, G: Gate + Sync>(
     Ok(whole)
 }
 
-/// A cheapest cut between the modules of two names, as `plain` tells it, by 1 to 64 threads that push and relabel on one locked
+/// A cheapest cut between the modules of two names, or the chain of pins that no cut parts, as `plain` tells it: the cut by 1 to 64 threads that push and relabel on one locked
 /// preflow (Goldberg and Tarjan 1988) of the modules between the two, and call the gate between their turns. Whatever turns they take, the imports and the weight are
 /// the same; the flow may be another one of that value. A worker that memory is refused to ends alone, a thread that can't be started is
 /// left out, and a last pass does what is left. It is proved that this pass never runs out of fuel, so there is no refusal for it.
@@ -199,9 +201,9 @@ pub fn solve<R: Threads + Wait + Sync, G: Gate + Sync>(
     to: &str,
     workers: u32,
     gate: &G,
-) -> Result<Cut, SolveFault>
+) -> Result<Answer, SolveFault>
     requires workers { (1 ≤ workers) × (workers ≤ 64) }
-    // It is a cheapest cut with a flow that proves it, or what is wrong with the names.
+    // It is a cheapest cut with a flow that proves it, or a chain of pins, which no cut parts, or what is wrong with the names.
     ensures exact { IfSome (outcome_of result) (IsSolveOutcome net.now from.now to.now) }
     // What is wrong with the names is answered unless memory runs out.
     ensures refused { (o : SolveOutcome) → IsRefusal o → IsSolveOutcome net.now from.now to.now o → IfSome (outcome_of result) (λ p. p ≡ o) }
@@ -211,6 +213,9 @@ pub fn solve<R: Threads + Wait + Sync, G: Gate + Sync>(
     if from == to {
         return Err(SolveFault::SameModule);
     }
+    if let Some(answer) = blocked(alloc, net, from, to)? {
+        return Ok(answer);
+    }
     let cut = in_part(rt, alloc, net, (from, to), workers, gate)?;
-    Ok(cut)
+    Ok(as_answer(net, cut, from, to))
 }

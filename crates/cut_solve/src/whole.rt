@@ -1,8 +1,8 @@
 //! What is answered of the part of a network between two modules, told of the whole network.
 ghost use Rattle.std.specs.Prelude.{◌≡◌, IfOk, length};
+ghost use Rattle.cut_net.specs.Answers.{said_by_cut};
 ghost use Rattle.cut_net.specs.WellFormed.{AreBetween};
 ghost use Rattle.cut_part.specs.Marks.{said_whole};
-ghost use Rattle.cut_solve.specs.Solving.{said_by};
 
 use cut_net::Cut;
 use cut_part::lines_whole;
@@ -12,7 +12,7 @@ use std::alloc::{AllocError, Global};
 pub(crate) fn whole_cut(alloc: Global, cut: &Cut, numbers: &[u32]) -> Result<Cut, AllocError>
     requires imports { AreBetween cut.now.imports.items (length numbers.now) }
     requires flow { AreBetween cut.now.flow.items (length numbers.now) }
-    ensures { IfOk result (λ whole. said_by whole ≡ said_whole numbers.now (said_by cut.now)) }
+    ensures { IfOk result (λ whole. said_by_cut whole ≡ said_whole numbers.now (said_by_cut cut.now)) }
 {
     let imports = lines_whole(alloc, &cut.imports, numbers)?;
     let flow = lines_whole(alloc, &cut.flow, numbers)?;

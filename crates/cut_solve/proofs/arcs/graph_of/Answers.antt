@@ -10,6 +10,6 @@ new-requires-clause-within c = subst (All (λ (r : Arc). r.flow ≤ r.capacity))
 
 pub new-requires-clause-between : goal.new-requires-clause-between
 new-requires-clause-between c =
-    let between = subst (λ v. AreBetween v (length c.args.net.now.names)) (sym c.imports.ensures) c.keeps.ensures.between in
+    let between = subst (λ v. AreBetween v (length c.args.net.now.names)) (sym c.imports.ensures) c.keeps.ensures.network.between in
     subst (All (λ (r : Arc). (r.from < c.nodes.result) × (r.to < c.nodes.result))) (sym c.in_ok-arcs.ensures)
     (empty_between c.imports.result.now c.nodes.result (subst (AreBetween c.imports.result.now) (sym c.nodes.ensures) between))

@@ -24,7 +24,7 @@ module _ (net : Network) (a b : ℕ) (p : FlowNetwork) (nodes : p.nodes ≡ leng
 pub carrying-requires-clause-imports : goal.carrying-requires-clause-imports
 carrying-requires-clause-imports g c =
     let p = c.args.preflow.now.play.net in
-    below_size c.args.net.now c.args.from c.args.to c.keeps.ensures c.requires.ends p.imports p.source p.sink c.requires.start ∙ ap length (sym c.imports.ensures)
+    below_size c.args.net.now c.args.from c.args.to c.keeps.ensures.network c.requires.ends p.imports p.source p.sink c.requires.start ∙ ap length (sym c.imports.ensures)
 
 pub new-requires-clause-within : goal.new-requires-clause-within
 new-requires-clause-within g c =
@@ -32,7 +32,7 @@ new-requires-clause-within g c =
     let p = c.args.preflow.now.play.net in
     let s = state_of c.args.preflow.now.play in
     let kept = c.keeps-2.ensures.sound.kept in
-    let size = below_size net c.args.from c.args.to c.keeps.ensures c.requires.ends p.imports p.source p.sink c.requires.start in
+    let size = below_size net c.args.from c.args.to c.keeps.ensures.network c.requires.ends p.imports p.source p.sink c.requires.start in
     let arcs : c.in_ok-arcs.arcs.items ≡ carrying net.imports s.flow = c.in_ok-arcs.ensures ∙ ap (λ v. carrying v s.flow) c.imports.ensures in
     subst (All (λ (r : Arc). r.flow ≤ r.capacity)) (sym arcs) (carrying_within net.imports s.flow (kept.flows ∙ size) (λ k h.
     let low = c.requires.start.lowered k in
@@ -45,11 +45,11 @@ new-requires-clause-between g c =
     let p = c.args.preflow.now.play.net in
     let s = state_of c.args.preflow.now.play in
     let kept = c.keeps-2.ensures.sound.kept in
-    let size = below_size net c.args.from c.args.to c.keeps.ensures c.requires.ends p.imports p.source p.sink c.requires.start in
+    let size = below_size net c.args.from c.args.to c.keeps.ensures.network c.requires.ends p.imports p.source p.sink c.requires.start in
     let arcs : c.in_ok-arcs.arcs.items ≡ carrying net.imports s.flow = c.in_ok-arcs.ensures ∙ ap (λ v. carrying v s.flow) c.imports.ensures in
     subst (λ n. All (λ (r : Arc). (r.from < n) × (r.to < n)) c.in_ok-arcs.arcs.items) (sym c.nodes.ensures)
     (subst (All (λ (r : Arc). (r.from < length net.names) × (r.to < length net.names))) (sym arcs)
-    (carrying_between net.imports s.flow (length net.names) (kept.flows ∙ size) (λ k h. c.keeps.ensures.between _ (Contains-get_or net.imports k none_there h))))
+    (carrying_between net.imports s.flow (length net.names) (kept.flows ∙ size) (λ k h. c.keeps.ensures.network.between _ (Contains-get_or net.imports k none_there h))))
 
 pub cut_by-requires-clause-greatest : goal.cut_by-requires-clause-greatest
 cut_by-requires-clause-greatest g c =
@@ -60,16 +60,16 @@ cut_by-requires-clause-greatest g c =
     let s = state_of c.args.preflow.now.play in
     let near = c.in_ok-near.near.seen.items in
     let whole = started net a b p c.requires.nodes in
-    let size = below_size net a b c.keeps.ensures c.requires.ends p.imports p.source p.sink c.requires.start in
+    let size = below_size net a b c.keeps.ensures.network c.requires.ends p.imports p.source p.sink c.requires.start in
     let arcs : c.in_ok-arcs.arcs.items ≡ carrying net.imports s.flow = c.in_ok-arcs.ensures ∙ ap (λ v. carrying v s.flow) c.imports.ensures in
     let graph : c.in_ok-graph.graph ≡ record { nodes = length net.names; arcs = carrying net.imports s.flow } =
     c.in_ok-graph.ensures ∙ (λ i. record { nodes = c.nodes.ensures i; arcs = arcs i }) in
     let reached : AreReached (record { nodes = length net.names; arcs = carrying net.imports s.flow }) a near = subst (λ (v : Graph). AreReached v a near) graph c.in_ok-near.ensures.reached in
     let there : b < length near = omega (arith, reached.size, c.requires.ends.to_in) in
     let unmarked : is_seen near b ≡ false = sym (get_or_default near b c.index.result.now false there) ∙ sym c.index.ensures ∙ c.if-index.false in
-    let flow = below_flow net a b c.keeps.ensures c.requires.ends p.imports p.source p.sink c.requires.start s
+    let flow = below_flow net a b c.keeps.ensures.network c.requires.ends p.imports p.source p.sink c.requires.start s
     (subst (λ (f : FlowNetwork). HasFlow f s) whole (c.keeps-2.ensures.flow c.requires.quiet)) in
-    let greatest = settled_greatest net a b s.flow near c.keeps.ensures.imports_ascend c.requires.ends.from_in (c.keeps-2.ensures.sound.kept.flows ∙ size)
+    let greatest = settled_greatest net a b s.flow near c.keeps.ensures.network.imports_ascend c.requires.ends.from_in (c.keeps-2.ensures.sound.kept.flows ∙ size)
     reached (subst (λ (v : Graph). AreClosed v.arcs near) graph c.in_ok-near.ensures.closed) flow.0 flow.1 unmarked in
     let lines : c.in_ok-flow.flow.items ≡ filter has_flow (map flow_line (carrying net.imports s.flow)) =
     c.in_ok-flow.ensures ∙ ap (λ v. filter has_flow (map flow_line v)) (c.arcs.ensures ∙ ap (λ (v : Graph). v.arcs) graph) in
@@ -85,15 +85,15 @@ returns-then-index-clause-found g c = λ start.
     let s = state_of c.args.preflow.now.play in
     let near = c.in_ok-near.near.seen.items in
     let whole = started net a b p c.requires.nodes in
-    let size = below_size net a b c.keeps.ensures c.requires.ends p.imports p.source p.sink c.requires.start in
+    let size = below_size net a b c.keeps.ensures.network c.requires.ends p.imports p.source p.sink c.requires.start in
     let arcs : c.in_ok-arcs.arcs.items ≡ carrying net.imports s.flow = c.in_ok-arcs.ensures ∙ ap (λ v. carrying v s.flow) c.imports.ensures in
     let graph : c.in_ok-graph.graph ≡ record { nodes = length net.names; arcs = carrying net.imports s.flow } =
     c.in_ok-graph.ensures ∙ (λ i. record { nodes = c.nodes.ensures i; arcs = arcs i }) in
     let reached : AreReached (record { nodes = length net.names; arcs = carrying net.imports s.flow }) a near = subst (λ (v : Graph). AreReached v a near) graph c.in_ok-near.ensures.reached in
     let there : b < length near = omega (arith, reached.size, c.requires.ends.to_in) in
     let marked : is_seen near b ≡ true = sym (get_or_default near b c.index.result.now false there) ∙ sym c.index.ensures ∙ c.if-index.true in
-    let flow = settled_flow net a b c.keeps.ensures c.requires.ends p.imports p.source p.sink start s
+    let flow = settled_flow net a b c.keeps.ensures.network c.requires.ends p.imports p.source p.sink start s
     (subst (λ (f : FlowNetwork). HasFlow f s) whole (c.keeps-2.ensures.flow c.requires.quiet))
     (subst (λ (f : FlowNetwork). IsShutOff f s) whole (c.keeps-2.ensures.shut c.requires.quiet)) in
-    absurd (both_ways (is_seen near b) (settled_end net a b s.flow near c.keeps.ensures.imports_ascend c.requires.ends.from_in (c.keeps-2.ensures.sound.kept.flows ∙ size)
+    absurd (both_ways (is_seen near b) (settled_end net a b s.flow near c.keeps.ensures.network.imports_ascend c.requires.ends.from_in (c.keeps-2.ensures.sound.kept.flows ∙ size)
     reached (subst (λ (v : Graph). AreClosed v.arcs near) graph c.in_ok-near.ensures.closed) flow.1.barred) marked)

@@ -4,7 +4,7 @@ use Rattle.cut_net.specs.Lines.{IsAnswer, IsCheapestSaid}
 use Rattle.cut_net.specs.WellFormed.{AreBetween}
 use Rattle.cut_part.specs.Marks.{said_whole}
 use Rattle.cut_preflow.specs.Flows.{AreEnds}
-use Rattle.cut_solve.specs.Solving.{said_by}
+use Rattle.cut_net.specs.Answers.{said_by_cut}
 use Rattle.cut_solve.proofs.Parted.{answer_whole, cheapest_whole, ends_there, lines_between, place_in}
 use Rattle.cut_solve.proofs.solving.in_part.Goals as goal
 
@@ -50,7 +50,7 @@ returns-clause-answer g c =
     let b = c.args.ends.1 in
     let part = c.in_ok-part.part in
     let is = c.in_ok-part.ensures in
-    let said = said_by c.in_ok-cut.cut in
+    let said = said_by_cut c.in_ok-cut.cut in
     let a_in = place_in net a b part.marks.items part.numbers.items part.places.items part.net is c.requires a c.requires.from_in in
     let b_in = place_in net a b part.marks.items part.numbers.items part.places.items part.net is c.requires b c.requires.to_in in
     let from : c.index.result.now ≡ get_or part.places.items a 0 = c.index.ensures ∙ get_or_default part.places.items a c.index.result.now 0 a_in in
@@ -58,8 +58,8 @@ returns-clause-answer g c =
     let here : IsAnswer part.net (get_or part.places.items a 0) (get_or part.places.items b 0) said =
     subst (λ (m : ℕ). IsAnswer part.net m (get_or part.places.items b 0) said) from
     (subst (λ (n : ℕ). IsAnswer part.net c.index.result.now n said) to c.in_ok-cut.ensures.answer) in
-    let same : said_by c.in_ok-whole.whole ≡ said_whole part.numbers.items said = c.in_ok-whole.ensures ∙ ap (λ (numbers : List ℕ). said_whole numbers said) c.deref.ensures.value in
-    answer_whole net a b part.marks.items part.numbers.items part.places.items part.net is c.requires said (said_by c.in_ok-whole.whole) same here
+    let same : said_by_cut c.in_ok-whole.whole ≡ said_whole part.numbers.items said = c.in_ok-whole.ensures ∙ ap (λ (numbers : List ℕ). said_whole numbers said) c.deref.ensures.value in
+    answer_whole net a b part.marks.items part.numbers.items part.places.items part.net is c.requires said (said_by_cut c.in_ok-whole.whole) same here
 
 pub returns-clause-cheapest : goal.returns-clause-cheapest
 returns-clause-cheapest g c =
@@ -68,7 +68,7 @@ returns-clause-cheapest g c =
     let b = c.args.ends.1 in
     let part = c.in_ok-part.part in
     let is = c.in_ok-part.ensures in
-    let said = said_by c.in_ok-cut.cut in
+    let said = said_by_cut c.in_ok-cut.cut in
     let a_in = place_in net a b part.marks.items part.numbers.items part.places.items part.net is c.requires a c.requires.from_in in
     let b_in = place_in net a b part.marks.items part.numbers.items part.places.items part.net is c.requires b c.requires.to_in in
     let from : c.index.result.now ≡ get_or part.places.items a 0 = c.index.ensures ∙ get_or_default part.places.items a c.index.result.now 0 a_in in
@@ -79,5 +79,5 @@ returns-clause-cheapest g c =
     let least : IsCheapestSaid part.net (get_or part.places.items a 0) (get_or part.places.items b 0) said =
     subst (λ (m : ℕ). IsCheapestSaid part.net m (get_or part.places.items b 0) said) from
     (subst (λ (n : ℕ). IsCheapestSaid part.net c.index.result.now n said) to c.in_ok-cut.ensures.cheapest) in
-    let same : said_by c.in_ok-whole.whole ≡ said_whole part.numbers.items said = c.in_ok-whole.ensures ∙ ap (λ (numbers : List ℕ). said_whole numbers said) c.deref.ensures.value in
-    cheapest_whole net a b part.marks.items part.numbers.items part.places.items part.net is c.requires said (said_by c.in_ok-whole.whole) same here least
+    let same : said_by_cut c.in_ok-whole.whole ≡ said_whole part.numbers.items said = c.in_ok-whole.ensures ∙ ap (λ (numbers : List ℕ). said_whole numbers said) c.deref.ensures.value in
+    cheapest_whole net a b part.marks.items part.numbers.items part.places.items part.net is c.requires said (said_by_cut c.in_ok-whole.whole) same here least

@@ -9,7 +9,7 @@ lowered-requires-clause-between g c =
     let net = c.args.net.now in
     let s = c.in_ok-start.start in
     subst (AreBetween s.imports.items) (sym c.nodes.ensures)
-    (below_between net c.args.ends.0 c.args.ends.1 c.keeps.ensures s.imports.items s.source s.sink (start_below net c.args.ends.0 c.args.ends.1 s.imports.items s.source s.sink c.in_ok-start.ensures))
+    (below_between net c.args.ends.0 c.args.ends.1 c.keeps.ensures.network s.imports.items s.source s.sink (start_below net c.args.ends.0 c.args.ends.1 s.imports.items s.source s.sink c.in_ok-start.ensures))
 
 pub in_own_ledger-requires-clause-start : goal.in_own_ledger-requires-clause-start
 in_own_ledger-requires-clause-start g c κs within =
