@@ -25,7 +25,7 @@ cut_by-requires-clause-greatest c =
     let lines = filter has_flow (map flow_line arcs) in
     let flow_is : c.in_ok-flow.flow.items ≡ lines = c.in_ok-flow.ensures ∙ ap (λ v. filter has_flow (map flow_line v)) c.arcs.ensures in
     let whole =
-    greatest_for net arcs c.args.from c.args.to c.in_ok-near.ensures.balanced.0 same c.keeps.ensures.imports_ascend c.requires.from
+    greatest_for net arcs c.args.from c.args.to c.in_ok-near.ensures.balanced.0 same c.keeps.ensures.network.imports_ascend c.requires.from
     c.keeps-2.ensures.within c.in_ok-near.ensures.balanced.1 near reached c.in_ok-near.ensures.closed c.in_ok-near.ensures.end in
     subst (λ v. IsGreatest net c.args.from c.args.to v c.in_ok-flow.flow.items) (sym c.deref.ensures.value)
     (subst (IsGreatest net c.args.from c.args.to near) (sym flow_is) whole)
