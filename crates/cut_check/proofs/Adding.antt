@@ -1,8 +1,8 @@
 -- Adding an import's amount to the sum of one of its ends.
-use Rattle.std.proofs.Common.{◌≡◌, ℕ, ◌+◌, ◌≤◌, ◌<◌, Bool, cond, eqb, List, length, get_or, set, take, sym, ap, ◌∙◌, arith, inl, inr, sum_by, get_or-set_same, get_or-set_other}
+use Rattle.std.proofs.Common.{◌≡◌, ℕ, ◌+◌, ◌*◌, ◌^◌, ◌≤◌, ◌<◌, Bool, cond, eqb, List, length, get_or, set, take, sym, ap, ◌∙◌, arith, inl, inr, sum_by, get_or-set_same, get_or-set_other}
 use Rattle.std.proofs.lemmas.Bool.{cases_eq, eq-eqb, ne_eqb}
 use Rattle.std.proofs.lemmas.List.{get_or_default}
-use Rattle.std.proofs.lemmas.List.Sums.{sum_by_more, sum_by_more_le}
+use Rattle.std.proofs.lemmas.List.Sums.{sum_by_more}
 use Rattle.cut_net.specs.declared.priced.Priced.{Priced}
 use Rattle.cut_net.specs.WellFormed.{AreBetween}
 use Rattle.cut_check.specs.Reaching.{any}
@@ -13,23 +13,19 @@ to_in imports modules k between h = (between (get_or imports k any) (k, h, get_o
 pub from_in : (imports : List Priced) (modules k : ℕ) → AreBetween imports modules → k < length imports → (get_or imports k any).from < modules
 from_in imports modules k between h = (between (get_or imports k any) (k, h, get_or_default imports k (get_or imports k any) any h)).0
 
+-- sums of a few amounts of 64 bits have room for one more
+pub adding_fits : (sums : List ℕ) (k x : ℕ) → k < 65536 → x < 2 ^ 64 → ((m : ℕ) → get_or sums m 0 ≤ k * 2 ^ 64) → (place : ℕ) → get_or sums place 0 + x < 2 ^ 128
+adding_fits sums k x few small below place = let here = below place in omega arith
+
+pub adding_most : (sums : List ℕ) (k x : ℕ) → x < 2 ^ 64 → ((m : ℕ) → get_or sums m 0 ≤ k * 2 ^ 64) → (place : ℕ) → place < length sums →
+    (m : ℕ) → get_or (set sums place (get_or sums place 0 + x)) m 0 ≤ (k + 1) * 2 ^ 64
+adding_most sums k x small below place in_place m =
+    elim (cases_eq m place) [
+      | inl e ↦ let here = below place in rw (e, get_or-set_same sums place (get_or sums place 0 + x) 0 in_place) (omega arith)
+      | inr ne ↦ let here = below m in rw (get_or-set_other sums place m (get_or sums place 0 + x) 0 ne) (omega arith)
+    ]
+
 module _ (imports : List Priced) (k : ℕ) (d : Priced) (in_k : k < length imports) (sums : List ℕ) (x : ℕ) where
-  pub adding_fits : ((m : ℕ) → get_or sums m 0 ≤ sum_by (λ (i : Priced). i.amount) (take k imports)) → x ≤ (get_or imports k d).amount → (total : ℕ) → sum_by (λ (i : Priced). i.amount) imports < total →
-      (place : ℕ) → get_or sums place 0 + x < total
-  adding_fits below small total fits place =
-      let here = below place in
-      let more = sum_by_more_le (λ (i : Priced). i.amount) imports k d in_k in
-      omega arith
-
-  pub adding_most : ((m : ℕ) → get_or sums m 0 ≤ sum_by (λ (i : Priced). i.amount) (take k imports)) → x ≤ (get_or imports k d).amount → (place : ℕ) → place < length sums →
-      (m : ℕ) → get_or (set sums place (get_or sums place 0 + x)) m 0 ≤ sum_by (λ (i : Priced). i.amount) (take (k + 1) imports)
-  adding_most below small place in_place m =
-      let more = sum_by_more (λ (i : Priced). i.amount) imports k d in_k in
-      elim (cases_eq m place) [
-        | inl e ↦ let here = below place in rw (e, get_or-set_same sums place (get_or sums place 0 + x) 0 in_place) (omega arith)
-        | inr ne ↦ let here = below m in rw (get_or-set_other sums place m (get_or sums place 0 + x) 0 ne) (omega arith)
-      ]
-
   pub adding_more : (end : Priced → ℕ) (flow : Priced → ℕ) (modules : ℕ) →
       ((m : ℕ) → m < modules → get_or sums m 0 ≡ sum_by (λ i. cond (eqb (end i) m) (flow i) 0) (take k imports)) → x ≡ flow (get_or imports k d) → end (get_or imports k d) < length sums →
       (m : ℕ) → m < modules → get_or (set sums (end (get_or imports k d)) (get_or sums (end (get_or imports k d)) 0 + x)) m 0 ≡ sum_by (λ i. cond (eqb (end i) m) (flow i) 0) (take (k + 1) imports)

@@ -1,5 +1,5 @@
 -- What sums of amounts say of a flow.
-use Rattle.std.proofs.Common.{◌≡◌, ◌≢◌, ℕ, ◌+◌, ◌≤◌, ◌<◌, Bool, cond, length, get_or, take, List, refl, sym, ap, ◌∙◌, subst, arith, inl, inr, Option, sum_by}
+use Rattle.std.proofs.Common.{◌≡◌, ◌≢◌, ℕ, ◌+◌, ◌≤◌, ◌<◌, Bool, false, cond, length, get_or, take, List, refl, sym, ap, ◌∙◌, subst, arith, inl, inr, Option, sum_by}
 use Rattle.std.specs.Prelude.{Contains}
 use Rattle.std.proofs.lemmas.Bool.{cases_lt, ne_eqb}
 use Rattle.std.proofs.lemmas.List.{get_or-take, length-take-le}
@@ -7,6 +7,7 @@ use Rattle.std.proofs.lemmas.Option.{get_or_from_slice_get, slice_get_within}
 use Rattle.cut_net.specs.declared.priced.Priced.{Priced}
 use Rattle.cut_net.specs.Network.{Network}
 use Rattle.cut_net.specs.Cuts.{entering, leaving}
+use Rattle.cut_net.specs.Pins.{is_pinned}
 use Rattle.cut_net.specs.WellFormed.{AreBetween}
 use Rattle.cut_net.proofs.ListSums.{sum_by-same}
 use Rattle.cut_check.specs.Verdicts.{AreKept, AreUnder, HasValue, IsFirstOff, IsFirstOver}
@@ -22,31 +23,33 @@ beyond net modules flow between m h =
     none_in ∙ sym none_out
 
 module _ (net : Network) (flow : Priced → ℕ) (amounts : List (Option ℕ)) (are : AreAmounts net.imports flow amounts) where
-  pub within : AreWithin net.imports amounts → (i : Priced) → Contains net.imports i → flow i ≤ i.amount
-  within w i c = subst (λ v. flow v ≤ v.amount) c.2 (subst (λ n. n ≤ (get_or net.imports c.0 i).amount) (are c.0 i c.1) (w c.0 i c.1))
+  pub within : AreWithin net amounts (length net.imports) → (i : Priced) → Contains net.imports i → is_pinned net i ≡ false → flow i ≤ i.amount
+  within w i c free =
+      subst (λ v. flow v ≤ v.amount) c.2 (subst (λ n. n ≤ (get_or net.imports c.0 i).amount) (are c.0 i c.1) (w c.0 i c.1 (ap (is_pinned net) c.2 ∙ free)))
 
-  pub are_under : AreWithin net.imports amounts → AreUnder net flow
-  are_under w i c over = let le = within w i c in absurd (omega arith)
+  pub are_under : AreWithin net amounts (length net.imports) → AreUnder net flow
+  are_under w i c free over = let le = within w i c free in absurd (omega arith)
 
-  pub first_over : (i : Priced) → IsFirstAbove net.imports amounts i → IsFirstOver net flow i.from i.to
+  pub first_over : (i : Priced) → IsFirstAbove net amounts i → IsFirstOver net flow i.from i.to
   first_over i p = record {
     place = p.place;
     import = i;
     at_place = p.at_place;
     ends = (refl, refl);
+    free = p.free;
     over =
         let in_place : p.place < length net.imports = slice_get_within net.imports p.place i p.at_place in
         let flow_is = are p.place i in_place ∙ ap flow (get_or_from_slice_get net.imports p.place i i p.at_place) in
         let above = p.above in
         omega arith;
-    before = λ j c over.
+    before = λ j c free over.
         let q = c.0 in
         let in_take = c.1 in
         let in_place : p.place < length net.imports = slice_get_within net.imports p.place i p.at_place in
         let len : length (take p.place net.imports) ≡ p.place = length-take-le p.place net.imports (omega arith) in
         let q_in : q < p.place = omega arith in
         let j_is : get_or net.imports q j ≡ j = sym (get_or-take p.place net.imports q j q_in) ∙ c.2 in
-        let small : flow (get_or net.imports q j) ≤ (get_or net.imports q j).amount = subst (λ n. n ≤ (get_or net.imports q j).amount) (are q j (omega arith)) (p.before q j q_in) in
+        let small : flow (get_or net.imports q j) ≤ (get_or net.imports q j).amount = subst (λ n. n ≤ (get_or net.imports q j).amount) (are q j (omega arith)) (p.before q j q_in (ap (is_pinned net) j_is ∙ free)) in
         let le : flow j ≤ j.amount = subst (λ v. flow v ≤ v.amount) j_is small in
         absurd (omega arith);
   }

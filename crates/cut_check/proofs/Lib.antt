@@ -1,7 +1,9 @@
 pub mod Adding
 pub mod ChainPaths
+pub mod ChainVerdicts
 pub mod Flows
 pub mod Matching
 pub mod OnlyVerdict
 pub mod Parts
+pub mod PinChains
 pub mod SomeVerdict

@@ -6,10 +6,11 @@ use Rattle.std.proofs.lemmas.List.{get_or-take, length-take-le}
 use Rattle.std.proofs.lemmas.Option.{slice_get_within, get_or_from_slice_get}
 use Rattle.cut_net.specs.declared.priced.Priced.{Priced}
 use Rattle.cut_net.specs.Network.{Network}
-use Rattle.cut_net.specs.Lines.{AreInOrder, IsRight, flow_by}
+use Rattle.cut_net.specs.Lines.{AreInOrder, flow_by}
+use Rattle.cut_net.specs.Pins.{IsRightWithPins}
 use Rattle.cut_check.specs.Verdicts.{AreKept, AreRead, AreUnder, IsFirstOff, IsFirstOver, IsFirstStray, IsStray, IsCutVerdict}
 use Rattle.cut_check.specs.declared.verdict.Verdict.{Verdict}
-use Rattle.cut_check.specs.declared.verdict.Verdict.TheVariants.{Yes, NoSuchImport, StillChain, WrongWeight, OverWeight, NotKept, WrongValue}
+use Rattle.cut_check.specs.declared.verdict.Verdict.TheVariants.{Yes, NoSuchImport, StillChain, WrongWeight, OverWeight, NotKept, WrongValue, NotPinned}
 use Rattle.cut_check.proofs.Parts.{front_in_order}
 
 take-take : (m n : ℕ) (xs : List Priced) → m ≤ n → take m (take n xs) ≡ take m xs
@@ -57,7 +58,7 @@ module _ (net : Network) (flow : Priced → ℕ) where
       let in_s = slice_get_within net.imports s.place s.import s.at_place in
       let in_r = slice_get_within net.imports r.place r.import r.at_place in
       let len : length (take r.place net.imports) ≡ r.place = length-take-le r.place net.imports (omega arith) in
-      r.before s.import (s.place, omega arith, get_or-take r.place net.imports s.place s.import lt ∙ get_or_from_slice_get net.imports s.place s.import s.import s.at_place) s.over
+      r.before s.import (s.place, omega arith, get_or-take r.place net.imports s.place s.import lt ∙ get_or_from_slice_get net.imports s.place s.import s.import s.at_place) s.free s.over
 
   over_same : (from to f t : ℕ) → IsFirstOver net flow from to → IsFirstOver net flow f t → Ends from to f t
   over_same from to f t s r = elim (cases_order s.place r.place) [
@@ -67,7 +68,7 @@ module _ (net : Network) (flow : Priced → ℕ) where
 
   not_over : (from to : ℕ) → AreUnder net flow → IsFirstOver net flow from to → ⊥
   not_over from to under s =
-      under s.import (s.place, slice_get_within net.imports s.place s.import s.at_place, get_or_from_slice_get net.imports s.place s.import s.import s.at_place) s.over
+      under s.import (s.place, slice_get_within net.imports s.place s.import s.at_place, get_or_from_slice_get net.imports s.place s.import s.import s.at_place) s.free s.over
 
   off_same : (a b m n : ℕ) → IsFirstOff net a b flow m → IsFirstOff net a b flow n → m ≡ n
   off_same a b m n s r = elim (cases_order m n) [
@@ -89,13 +90,13 @@ module _ (net : Network) (a b : ℕ) (printed : List Priced) (total : ℕ) (flow
   strays_same from to f t (inr (o, _)) (inl r) = absurd (not_stray net printed f t o r)
   strays_same from to f t (inr (_, s)) (inr (_, r)) = stray_same net flow from to f t s r
 
-  read_of : IsRight net a b printed total flow → AreRead net printed flow
+  read_of : IsRightWithPins net a b printed total flow → AreRead net printed flow
   read_of r = record { printed_in_order = r.printed_in_order; flow_in_order = r.flow_in_order }
 
-  under_of : IsRight net a b printed total flow → AreUnder net (flow_by flow)
-  under_of r i c over = let le = r.is_flow.within i c in absurd (omega arith)
+  under_of : IsRightWithPins net a b printed total flow → AreUnder net (flow_by flow)
+  under_of r i c free over = let le = r.is_flow.within i c free in absurd (omega arith)
 
-  kept_of : IsRight net a b printed total flow → AreKept net a b (flow_by flow)
+  kept_of : IsRightWithPins net a b printed total flow → AreKept net a b (flow_by flow)
   kept_of r m off = off.2 (r.is_flow.kept m off.0 off.1)
 
   stray_only : (from to : ℕ) → Is (NoSuchImport from to) → (w : Verdict) → Is w → NoSuchImport from to ≡ w
@@ -107,6 +108,7 @@ module _ (net : Network) (a b : ℕ) (printed : List Priced) (total : ℕ) (flow
   stray_only from to p (NotKept n) q = absurd (no_stray from to q.0.read p)
   stray_only from to p WrongValue q = absurd (no_stray from to q.0.read p)
   stray_only from to p Yes q = absurd (no_stray from to (read_of q) p)
+  stray_only from to p (NotPinned f t) q = absurd q
 
   chain_only : Is StillChain → (w : Verdict) → Is w → StillChain ≡ w
   unfolding Is
@@ -117,6 +119,7 @@ module _ (net : Network) (a b : ℕ) (printed : List Priced) (total : ℕ) (flow
   chain_only p (NotKept n) q = absurd (q.0.no_chain p.1)
   chain_only p WrongValue q = absurd (q.0.no_chain p.1)
   chain_only p Yes q = absurd (q.cut p.1)
+  chain_only p (NotPinned f t) q = absurd q
 
   weight_only : Is WrongWeight → (w : Verdict) → Is w → WrongWeight ≡ w
   unfolding Is
@@ -127,6 +130,7 @@ module _ (net : Network) (a b : ℕ) (printed : List Priced) (total : ℕ) (flow
   weight_only p (NotKept n) q = absurd (p.1 q.1)
   weight_only p WrongValue q = absurd (p.1 q.1)
   weight_only p Yes q = absurd (p.1 q.weights)
+  weight_only p (NotPinned f t) q = absurd q
 
   over_only : (from to : ℕ) → Is (OverWeight from to) → (w : Verdict) → Is w → OverWeight from to ≡ w
   unfolding Is
@@ -137,6 +141,7 @@ module _ (net : Network) (a b : ℕ) (printed : List Priced) (total : ℕ) (flow
   over_only from to p (NotKept n) q = absurd (not_over net (flow_by flow) from to q.2 p.2)
   over_only from to p WrongValue q = absurd (not_over net (flow_by flow) from to q.2 p.2)
   over_only from to p Yes q = absurd (not_over net (flow_by flow) from to (under_of q) p.2)
+  over_only from to p (NotPinned f t) q = absurd q
 
   off_only : (m : ℕ) → Is (NotKept m) → (w : Verdict) → Is w → NotKept m ≡ w
   unfolding Is
@@ -147,6 +152,7 @@ module _ (net : Network) (a b : ℕ) (printed : List Priced) (total : ℕ) (flow
   off_only m p (NotKept n) q = ap NotKept (off_same net (flow_by flow) a b m n p.3 q.3)
   off_only m p WrongValue q = absurd (q.3 m p.3.off)
   off_only m p Yes q = absurd (kept_of q m p.3.off)
+  off_only m p (NotPinned f t) q = absurd q
 
   value_only : Is WrongValue → (w : Verdict) → Is w → WrongValue ≡ w
   unfolding Is
@@ -157,6 +163,7 @@ module _ (net : Network) (a b : ℕ) (printed : List Priced) (total : ℕ) (flow
   value_only p (NotKept n) q = absurd (p.3 n q.3.off)
   value_only p WrongValue q = refl
   value_only p Yes q = absurd (p.4 q.is_flow.at_start)
+  value_only p (NotPinned f t) q = absurd q
 
   yes_only : Is Yes → (w : Verdict) → Is w → Yes ≡ w
   unfolding Is
@@ -167,6 +174,7 @@ module _ (net : Network) (a b : ℕ) (printed : List Priced) (total : ℕ) (flow
   yes_only p (NotKept n) q = absurd (kept_of p n q.3.off)
   yes_only p WrongValue q = absurd (q.4 p.is_flow.at_start)
   yes_only p Yes q = refl
+  yes_only p (NotPinned f t) q = absurd q
 
   pub only_verdict : (v w : Verdict) → IsCutVerdict net a b printed total flow v → IsCutVerdict net a b printed total flow w → v ≡ w
   unfolding Is
@@ -177,3 +185,4 @@ module _ (net : Network) (a b : ℕ) (printed : List Priced) (total : ℕ) (flow
   only_verdict (NotKept m) w p q = off_only m p w q
   only_verdict WrongValue w p q = value_only p w q
   only_verdict Yes w p q = yes_only p w q
+  only_verdict (NotPinned from to) w p q = absurd p

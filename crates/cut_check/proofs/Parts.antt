@@ -8,7 +8,8 @@ use Rattle.std.proofs.lemmas.Option.{slice_get_within, slice_get-get_or}
 use Rattle.cut_net.specs.declared.priced.Priced.{Priced}
 use Rattle.cut_net.specs.Network.{Network}
 use Rattle.cut_net.specs.Cuts.{Chain, Outside, weight, same_ends}
-use Rattle.cut_net.specs.Lines.{AreInOrder, AreWeights, IsImport, amount_in, removed_by, flow_by}
+use Rattle.cut_net.specs.Lines.{AreInOrder, IsImport, amount_in, removed_by, flow_by}
+use Rattle.cut_net.specs.Pins.{AreWeightsWithPins, IsRemovable}
 use Rattle.cut_net.proofs.Chains.{widened}
 use Rattle.cut_check.specs.Matched.{AreMatched}
 use Rattle.cut_check.specs.Reaching.{IsAllowed}
@@ -16,7 +17,7 @@ use Rattle.cut_check.specs.Sums.{AreAmounts, AreMarks, AreTheirWeights}
 use Rattle.cut_check.specs.Sums.{IsFlowVerdict}
 use Rattle.cut_check.specs.Verdicts.{HasCut, IsFirstStray, IsCutVerdict}
 use Rattle.cut_check.specs.declared.verdict.Verdict.{Verdict}
-use Rattle.cut_check.specs.declared.verdict.Verdict.TheVariants.{Yes, NoSuchImport, StillChain, WrongWeight, OverWeight, NotKept, WrongValue}
+use Rattle.cut_check.specs.declared.verdict.Verdict.TheVariants.{Yes, NoSuchImport, StillChain, WrongWeight, OverWeight, NotKept, WrongValue, NotPinned}
 
 pub front_in_order : (net : Network) (lines : List Priced) (n : ℕ) → n ≤ length lines → AreInOrder net lines → AreInOrder net (take n lines)
 front_in_order net lines n short o =
@@ -96,11 +97,11 @@ module _ (net : Network) (lines : List Priced) (amounts : List (Option ℕ)) (r 
       let h = w i (k, in_k, get_or_default net.imports k i d in_k) in
       subst (λ o. IfSome o (λ x. x ≡ i.amount)) (sym (r.each k d in_k)) (line_weight_back _ _ h)
 
-  pub are_weights : (total : ℕ) → AreTheirWeights net.imports amounts × (total ≡ weight net.imports (removed_by lines)) → AreWeights net lines total
-  are_weights total h = record { each = weights h.0; sum = h.1 }
+  pub are_weights : (total : ℕ) → IsRemovable net (removed_by lines) × AreTheirWeights net.imports amounts × (total ≡ weight net.imports (removed_by lines)) → AreWeightsWithPins net lines total
+  are_weights total h = record { removable = h.0; each = weights h.1; sum = h.2 }
 
-  pub are_weights_back : (total : ℕ) → AreWeights net lines total → AreTheirWeights net.imports amounts × (total ≡ weight net.imports (removed_by lines))
-  are_weights_back total h = (weights_back h.each, h.sum)
+  pub are_weights_back : (total : ℕ) → AreWeightsWithPins net lines total → IsRemovable net (removed_by lines) × AreTheirWeights net.imports amounts × (total ≡ weight net.imports (removed_by lines))
+  are_weights_back total h = (h.removable, weights_back h.each, h.sum)
 
 abbrev some : Priced → Option Priced
 some line = Some line
@@ -122,7 +123,7 @@ if_ok P Q (Ok v) more h = more v h
 if_ok P Q (Err e) more h = tt
 
 -- the verdict on the flow is the verdict where the printed imports are right
-pub by_flow : (net : Network) (a b : ℕ) (printed : List Priced) (total : ℕ) (flow : List Priced) → HasCut net a b printed flow → AreWeights net printed total →
+pub by_flow : (net : Network) (a b : ℕ) (printed : List Priced) (total : ℕ) (flow : List Priced) → HasCut net a b printed flow → AreWeightsWithPins net printed total →
     (v : Verdict) → IsFlowVerdict net a b (flow_by flow) total v → IsCutVerdict net a b printed total flow v
 by_flow net a b printed total flow cut weigh Yes h = record {
   printed_in_order = cut.read.printed_in_order;
@@ -137,6 +138,7 @@ by_flow net a b printed total flow cut weigh WrongWeight h = absurd h
 by_flow net a b printed total flow cut weigh (OverWeight from to) h = (cut, weigh, h)
 by_flow net a b printed total flow cut weigh (NotKept m) h = (cut, weigh, h.0, h.1)
 by_flow net a b printed total flow cut weigh WrongValue h = (cut, weigh, h.0, h.1, h.2)
+by_flow net a b printed total flow cut weigh (NotPinned from to) h = absurd h
 
 pub stray_at : (net : Network) (lines : List Priced) (count : ℕ) (amounts : List (Option ℕ)) → AreMatched net lines count amounts →
     (line : Priced) → count < length lines → line ≡ get_or lines count line → IsFirstStray net lines line.from line.to

@@ -1,14 +1,15 @@
 -- There is a verdict: each cause is decided, in their order.
-use Rattle.std.proofs.Common.{◌≡◌, ℕ, zero, suc, ◌+◌, ◌≤◌, ◌<◌, List, [], ◌∷◌, ◌++◌, cond, length, get_or, take, refl, sym, ap, ◌∙◌, subst, arith, ◌⊎◌, inl, inr, Option, Some, None}
+use Rattle.std.proofs.Common.{◌≡◌, ℕ, zero, suc, ◌+◌, ◌≤◌, ◌<◌, List, [], ◌∷◌, ◌++◌, cond, true, false, length, get_or, take, refl, sym, ap, ◌∙◌, subst, arith, ◌⊎◌, inl, inr, Option, Some, None}
 use Rattle.std.specs.Prelude.{IfSome, find, is_some}
-use Rattle.std.proofs.lemmas.Bool.{cases_Bool, cases_eq, cases_lt}
+use Rattle.std.proofs.lemmas.Bool.{both_ways, cases_Bool, cases_eq, cases_lt}
 use Rattle.std.proofs.lemmas.List.{get_or_default, get_or-take, length-take-le}
 use Rattle.std.proofs.lemmas.Option.{slice_get-get_or}
 use Rattle.cut_net.specs.declared.priced.Priced.{Priced}
 use Rattle.cut_net.specs.Network.{Network}
 use Rattle.cut_net.specs.Said.{CutOf}
 use Rattle.cut_net.specs.Cuts.{Outside, entering, leaving, same_ends, weight}
-use Rattle.cut_net.specs.Lines.{AreInOrder, AreWeights, IsAscending, removed_by, flow_by}
+use Rattle.cut_net.specs.Lines.{AreInOrder, IsAscending, removed_by, flow_by}
+use Rattle.cut_net.specs.Pins.{is_pinned, AreWeightsWithPins, IsRemovable}
 use Rattle.cut_net.specs.WellFormed.{IsNetwork}
 use Rattle.cut_net.proofs.Chains.{chain_or_none, outside_or_in}
 use Rattle.cut_check.specs.Reaching.{any}
@@ -24,7 +25,7 @@ pub data Below (P : ℕ → Type 0) (n : ℕ) : Type 0 where
   everywhere : ((k : ℕ) → k < n → P k) → Below P n
   first_not : (k : ℕ) → k < n → (P k → ⊥) → ((j : ℕ) → j < k → P j) → Below P n
 
-below : (P : ℕ → Type 0) → ((k : ℕ) → P k ⊎ (P k → ⊥)) → (n : ℕ) → Below P n
+pub below : (P : ℕ → Type 0) → ((k : ℕ) → P k ⊎ (P k → ⊥)) → (n : ℕ) → Below P n
 below P decide zero = everywhere (λ k h. absurd (omega arith))
 below P decide (suc n) = elim (below P decide n) [
   | first_not k lt fails before ↦ first_not k (omega arith) fails before
@@ -78,7 +79,7 @@ in_order_or_stray net lines ascending =
     ]
 
 module _ (net : Network) (a b : ℕ) (printed : List Priced) (total : ℕ) (flow : List Priced) (is_net : IsNetwork net) where
-  at_end : AreKept net a b (flow_by flow) → AreUnder net (flow_by flow) → AreWeights net printed total → HasCut net a b printed flow → HasVerdict net a b (CutOf total printed flow)
+  at_end : AreKept net a b (flow_by flow) → AreUnder net (flow_by flow) → AreWeightsWithPins net printed total → HasCut net a b printed flow → HasVerdict net a b (CutOf total printed flow)
   at_end kept under weigh cut = elim (cases_eq (entering net.imports (flow_by flow) a + total) (leaving net.imports (flow_by flow) a)) [
     | inr wrong ↦ (WrongValue, (cut, weigh, under, kept, wrong))
     | inl value ↦ (
@@ -89,7 +90,7 @@ module _ (net : Network) (a b : ℕ) (printed : List Priced) (total : ℕ) (flow
         cut = cut.no_chain;
         weights = weigh;
         is_flow = record {
-          within = λ i c. elim (cases_lt i.amount (flow_by flow i)) [ inl over ↦ absurd (under i c over) | inr le ↦ le ];
+          within = λ i c free. elim (cases_lt i.amount (flow_by flow i)) [ inl over ↦ absurd (under i c free over) | inr le ↦ le ];
           kept = λ m not_a not_b. elim (cases_eq (entering net.imports (flow_by flow) m) (leaving net.imports (flow_by flow) m)) [ inl e ↦ e | inr ne ↦ absurd (kept m (not_a, not_b, ne)) ];
           at_start = value;
         };
@@ -122,7 +123,7 @@ module _ (net : Network) (a b : ℕ) (printed : List Priced) (total : ℕ) (flow
     λ e. fails (λ off. off.2 e),
   )
 
-  after_under : AreUnder net (flow_by flow) → AreWeights net printed total → HasCut net a b printed flow → HasVerdict net a b (CutOf total printed flow)
+  after_under : AreUnder net (flow_by flow) → AreWeightsWithPins net printed total → HasCut net a b printed flow → HasVerdict net a b (CutOf total printed flow)
   unfolding KeptAt
   after_under under weigh cut = elim (below KeptAt kept_or_off (length net.names)) [
     | first_not m lt fails before ↦ (NotKept m, (cut, weigh, under, record { off = is_off m fails; least = before }))
@@ -132,20 +133,30 @@ module _ (net : Network) (a b : ℕ) (printed : List Priced) (total : ℕ) (flow
     ]) under weigh cut
   ]
 
-  -- the import at a place has a flow within its weight
+  -- the import at a place has a flow within its weight, unless it is pinned
   UnderAt : ℕ → Type 0
-  UnderAt k = flow_by flow (get_or net.imports k any) ≤ (get_or net.imports k any).amount
+  UnderAt k = is_pinned net (get_or net.imports k any) ≡ false → flow_by flow (get_or net.imports k any) ≤ (get_or net.imports k any).amount
 
   under_or_over : (k : ℕ) → UnderAt k ⊎ (UnderAt k → ⊥)
   unfolding UnderAt
-  under_or_over k = elim (cases_lt (get_or net.imports k any).amount (flow_by flow (get_or net.imports k any))) [ inl over ↦ inr (λ le. absurd (omega arith)) | inr le ↦ inl le ]
+  under_or_over k = elim (cases_Bool (is_pinned net (get_or net.imports k any))) [
+    | inl pinned ↦ inl (λ free. absurd (both_ways _ free pinned))
+    | inr free ↦ elim (cases_lt (get_or net.imports k any).amount (flow_by flow (get_or net.imports k any))) [ inl over ↦ inr (λ under. let le = under free in absurd (omega arith)) | inr le ↦ inl (λ _. le) ]
+  ]
 
-  under_here : (i : Priced) (k : ℕ) → get_or net.imports k any ≡ i → UnderAt k → i.amount < flow_by flow i → ⊥
+  under_here : (i : Priced) (k : ℕ) → get_or net.imports k any ≡ i → UnderAt k → is_pinned net i ≡ false → i.amount < flow_by flow i → ⊥
   unfolding UnderAt
-  under_here i k e under over = let le : flow_by flow i ≤ i.amount = subst (λ v. flow_by flow v ≤ v.amount) e under in absurd (omega arith)
+  under_here i k e under free over = let le : flow_by flow i ≤ i.amount = subst (λ v. flow_by flow v ≤ v.amount) e (under (ap (is_pinned net) e ∙ free)) in absurd (omega arith)
 
-  after_weights : AreWeights net printed total → HasCut net a b printed flow → HasVerdict net a b (CutOf total printed flow)
+  free_of : (k : ℕ) → (UnderAt k → ⊥) → is_pinned net (get_or net.imports k any) ≡ false
   unfolding UnderAt
+  free_of k fails = elim (cases_Bool (is_pinned net (get_or net.imports k any))) [ inl pinned ↦ absurd (fails (λ free. absurd (both_ways _ free pinned))) | inr free ↦ free ]
+
+  over_of : (k : ℕ) → (UnderAt k → ⊥) → (get_or net.imports k any).amount < flow_by flow (get_or net.imports k any)
+  unfolding UnderAt
+  over_of k fails = elim (cases_lt (get_or net.imports k any).amount (flow_by flow (get_or net.imports k any))) [ inl over ↦ over | inr le ↦ absurd (fails (λ _. le)) ]
+
+  after_weights : AreWeightsWithPins net printed total → HasCut net a b printed flow → HasVerdict net a b (CutOf total printed flow)
   after_weights weigh cut = elim (below UnderAt under_or_over (length net.imports)) [
     | everywhere all ↦ after_under (λ i c. under_here i c.0 (get_or_default net.imports c.0 any i c.1 ∙ c.2) (all c.0 c.1)) weigh cut
     | first_not k lt fails before ↦
@@ -159,7 +170,8 @@ module _ (net : Network) (a b : ℕ) (printed : List Priced) (total : ℕ) (flow
               import = i;
               at_place = slice_get-get_or net.imports k any lt;
               ends = (refl, refl);
-              over = elim (cases_lt i.amount (flow_by flow i)) [ inl over ↦ over | inr le ↦ absurd (fails le) ];
+              free = free_of k fails;
+              over = over_of k fails;
               before = λ j c.
                   let len : length (take k net.imports) ≡ k = length-take-le k net.imports (omega arith) in
                   let in_take = c.1 in
@@ -186,14 +198,42 @@ module _ (net : Network) (a b : ℕ) (printed : List Priced) (total : ℕ) (flow
   unfolding WeightAt
   weight_here i k e h = subst (λ v. IfSome (find (same_ends v) printed) (λ line. line.amount ≡ v.amount)) e h
 
-  after_cut : HasCut net a b printed flow → HasVerdict net a b (CutOf total printed flow)
+  -- the import at a place isn't both printed and pinned
+  FreeAt : ℕ → Type 0
+  FreeAt k = removed_by printed (get_or net.imports k any) ≡ true → is_pinned net (get_or net.imports k any) ≡ false
+
+  free_or_not : (k : ℕ) → FreeAt k ⊎ (FreeAt k → ⊥)
+  unfolding FreeAt
+  free_or_not k = elim (cases_Bool (is_pinned net (get_or net.imports k any))) [
+    | inr free ↦ inl (λ _. free)
+    | inl pinned ↦ elim (cases_Bool (removed_by printed (get_or net.imports k any))) [
+      | inr stays ↦ inl (λ has. absurd (both_ways _ stays has))
+      | inl has ↦ inr (λ free. both_ways _ (free has) pinned)
+    ]
+  ]
+
+  free_here : (i : Priced) (k : ℕ) → get_or net.imports k any ≡ i → FreeAt k → removed_by printed i ≡ true → is_pinned net i ≡ false
+  unfolding FreeAt
+  free_here i k e = subst (λ v. removed_by printed v ≡ true → is_pinned net v ≡ false) e
+
+  not_free : (k : ℕ) → k < length net.imports → (FreeAt k → ⊥) → AreWeightsWithPins net printed total → ⊥
+  unfolding FreeAt
+  not_free k lt fails weigh = fails (weigh.removable (get_or net.imports k any) (k, lt, get_or_default net.imports k (get_or net.imports k any) any lt))
+
+  after_removable : IsRemovable net (removed_by printed) → HasCut net a b printed flow → HasVerdict net a b (CutOf total printed flow)
   unfolding WeightAt
-  after_cut cut = elim (below WeightAt weight_or_not (length net.imports)) [
+  after_removable free cut = elim (below WeightAt weight_or_not (length net.imports)) [
     | first_not k lt fails _ ↦ (WrongWeight, (cut, λ weigh. fails (weigh.each (get_or net.imports k any) (k, lt, get_or_default net.imports k (get_or net.imports k any) any lt))))
     | everywhere all ↦ elim (cases_eq total (weight net.imports (removed_by printed))) [
       | inr ne ↦ (WrongWeight, (cut, λ weigh. ne weigh.sum))
-      | inl e ↦ after_weights (record { each = λ i c. weight_here i c.0 (get_or_default net.imports c.0 any i c.1 ∙ c.2) (all c.0 c.1); sum = e }) cut
+      | inl e ↦ after_weights (record { removable = free; each = λ i c. weight_here i c.0 (get_or_default net.imports c.0 any i c.1 ∙ c.2) (all c.0 c.1); sum = e }) cut
     ]
+  ]
+
+  after_cut : HasCut net a b printed flow → HasVerdict net a b (CutOf total printed flow)
+  after_cut cut = elim (below FreeAt free_or_not (length net.imports)) [
+    | first_not k lt fails _ ↦ (WrongWeight, (cut, not_free k lt fails))
+    | everywhere all ↦ after_removable (λ i c. free_here i c.0 (get_or_default net.imports c.0 any i c.1 ∙ c.2) (all c.0 c.1)) cut
   ]
 
   pub some_verdict : HasVerdict net a b (CutOf total printed flow)

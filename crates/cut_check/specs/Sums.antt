@@ -1,26 +1,29 @@
 -- Amounts by the places of the imports: what is said of them, and what they sum to.
-use Rattle.std.specs.Prelude.{◌≡◌, ℕ, ◌≤◌, ◌<◌, List, Option, Some, None, unwrap_or, is_some, IfSome, Bool, length, slice_get, slice_index, slice_index_or}
+use Rattle.std.specs.Prelude.{◌≡◌, ℕ, ◌≤◌, ◌<◌, false, List, Option, Some, None, unwrap_or, is_some, IfSome, Bool, length, slice_get, slice_index, slice_index_or}
 use Rattle.cut_net.specs.declared.priced.Priced.{Priced}
 use Rattle.cut_net.specs.Network.{Network}
-use Rattle.cut_net.specs.Cuts.{IsFlow, entering, leaving}
+use Rattle.cut_net.specs.Cuts.{entering, leaving}
+use Rattle.cut_net.specs.Pins.{is_pinned, IsFlowWithPins}
 use Rattle.cut_check.specs.declared.verdict.Verdict.{Verdict}
-use Rattle.cut_check.specs.declared.verdict.Verdict.TheVariants.{Yes, NoSuchImport, StillChain, WrongWeight, OverWeight, NotKept, WrongValue}
+use Rattle.cut_check.specs.declared.verdict.Verdict.TheVariants.{Yes, NoSuchImport, StillChain, WrongWeight, OverWeight, NotKept, WrongValue, NotPinned}
 use Rattle.cut_check.specs.Verdicts.{AreKept, AreUnder, HasValue, IsFirstOff, IsFirstOver}
 
 -- the amounts are those of a flow
 abbrev pub AreAmounts : List Priced → (Priced → ℕ) → List (Option ℕ) → Type 0
 AreAmounts imports flow amounts = (k : ℕ) (d : Priced) → k < length imports → unwrap_or (slice_index_or amounts k None) 0 ≡ flow (slice_index_or imports k d)
 
--- no amount is above the weight of its import
-abbrev pub AreWithin : List Priced → List (Option ℕ) → Type 0
-AreWithin imports amounts = (k : ℕ) (d : Priced) → k < length imports → unwrap_or (slice_index_or amounts k None) 0 ≤ (slice_index_or imports k d).amount
+-- none of the first amounts is above the weight of its import, unless that is pinned
+abbrev pub AreWithin : Network → List (Option ℕ) → ℕ → Type 0
+AreWithin net amounts count = (k : ℕ) (d : Priced) → k < count → is_pinned net (slice_index_or net.imports k d) ≡ false →
+    unwrap_or (slice_index_or amounts k None) 0 ≤ (slice_index_or net.imports k d).amount
 
--- the first import with an amount above its weight
-pub record IsFirstAbove (imports : List Priced) (amounts : List (Option ℕ)) (i : Priced) : Type 0 where
+-- the first import without a pin with an amount above its weight
+pub record IsFirstAbove (net : Network) (amounts : List (Option ℕ)) (i : Priced) : Type 0 where
   pub place : ℕ
-  pub at_place : slice_get imports place ≡ Some i
+  pub at_place : slice_get net.imports place ≡ Some i
+  pub free : is_pinned net i ≡ false
   pub above : i.amount < unwrap_or (slice_index_or amounts place None) 0
-  pub before : (j : ℕ) (d : Priced) → j < place → unwrap_or (slice_index_or amounts j None) 0 ≤ (slice_index_or imports j d).amount
+  pub before : AreWithin net amounts place
 
 -- what enters each module and what leaves it
 pub record AreSums (imports : List Priced) (flow : Priced → ℕ) (modules : ℕ) (into out : List ℕ) : Type 0 where
@@ -37,10 +40,11 @@ AreTheirWeights imports amounts = (k : ℕ) (d : Priced) → k < length imports 
 
 -- the verdict on a flow
 abbrev pub IsFlowVerdict : Network → ℕ → ℕ → (Priced → ℕ) → ℕ → Verdict → Type 0
-IsFlowVerdict net a b flow total Yes = IsFlow net a b flow total
+IsFlowVerdict net a b flow total Yes = IsFlowWithPins net a b flow total
 IsFlowVerdict net a b flow total (NoSuchImport from to) = ⊥
 IsFlowVerdict net a b flow total StillChain = ⊥
 IsFlowVerdict net a b flow total WrongWeight = ⊥
 IsFlowVerdict net a b flow total (OverWeight from to) = IsFirstOver net flow from to
 IsFlowVerdict net a b flow total (NotKept m) = AreUnder net flow × IsFirstOff net a b flow m
 IsFlowVerdict net a b flow total WrongValue = AreUnder net flow × AreKept net a b flow × (HasValue net a flow total → ⊥)
+IsFlowVerdict net a b flow total (NotPinned from to) = ⊥

@@ -1,12 +1,13 @@
--- What a checker says of a cut with a flow: yes, or the first cause that holds. Each cause is defined by what it denies.
-use Rattle.std.specs.Prelude.{◌≡◌, ◌≢◌, ◌⊎◌, ℕ, ◌+◌, ◌<◌, List, Some, slice_get, take, Contains}
+-- What a checker says of a cut with a flow, or of a chain of pins: yes, or the first cause that holds. Each cause is defined by what it denies.
+use Rattle.std.specs.Prelude.{◌≡◌, ◌≢◌, ◌⊎◌, ℕ, ◌+◌, ◌-◌, ◌<◌, false, List, Some, length, slice_get, slice_index, take, Contains}
 use Rattle.cut_net.specs.declared.priced.Priced.{Priced}
 use Rattle.cut_net.specs.Network.{Network}
-use Rattle.cut_net.specs.Said.{Said, CutOf}
-use Rattle.cut_net.specs.Cuts.{Chain, Outside, entering, leaving}
-use Rattle.cut_net.specs.Lines.{AreInOrder, AreWeights, IsRight, removed_by, flow_by}
+use Rattle.cut_net.specs.Said.{Said, CutOf, BlockedBy}
+use Rattle.cut_net.specs.Cuts.{Chain, Imports, Outside, entering, leaving}
+use Rattle.cut_net.specs.Lines.{AreInOrder, removed_by, flow_by}
+use Rattle.cut_net.specs.Pins.{is_pinned, AreWeightsWithPins, ByPin, IsPinChain, IsRightWithPins}
 use Rattle.cut_check.specs.declared.verdict.Verdict.{Verdict}
-use Rattle.cut_check.specs.declared.verdict.Verdict.TheVariants.{Yes, NoSuchImport, StillChain, WrongWeight, OverWeight, NotKept, WrongValue}
+use Rattle.cut_check.specs.declared.verdict.Verdict.TheVariants.{Yes, NoSuchImport, StillChain, WrongWeight, OverWeight, NotKept, WrongValue, NotPinned}
 
 -- the lines before this place are in order, and with the line there they aren't: it has these ends
 pub record IsFirstStray (net : Network) (lines : List Priced) (from to : ℕ) : Type 0 where
@@ -35,18 +36,19 @@ pub record HasCut (net : Network) (a b : ℕ) (printed flow : List Priced) : Typ
   pub read : AreRead net printed flow
   pub no_chain : HasChain net a b printed → ⊥
 
--- the first import whose flow is above its weight has these ends
+-- the first import without a pin whose flow is above its weight has these ends
 pub record IsFirstOver (net : Network) (flow : Priced → ℕ) (from to : ℕ) : Type 0 where
   pub place : ℕ
   pub import : Priced
   pub at_place : slice_get net.imports place ≡ Some import
   pub ends : (import.from ≡ from) × (import.to ≡ to)
+  pub free : is_pinned net import ≡ false
   pub over : import.amount < flow import
-  pub before : (i : Priced) → Contains (take place net.imports) i → i.amount < flow i → ⊥
+  pub before : (i : Priced) → Contains (take place net.imports) i → is_pinned net i ≡ false → i.amount < flow i → ⊥
 
--- no flow is above its import's weight
+-- no flow is above its import's weight, unless that is pinned
 abbrev pub AreUnder : Network → (Priced → ℕ) → Type 0
-AreUnder net flow = (i : Priced) → Contains net.imports i → i.amount < flow i → ⊥
+AreUnder net flow = (i : Priced) → Contains net.imports i → is_pinned net i ≡ false → i.amount < flow i → ⊥
 
 -- the module isn't a or b, and what enters it is not what leaves it
 abbrev pub IsOff : Network → ℕ → ℕ → (Priced → ℕ) → ℕ → Type 0
@@ -67,20 +69,49 @@ HasValue net a flow value = entering net.imports flow a + value ≡ leaving net.
 
 -- the verdict on a cut: the first cause that holds, with what the earlier ones deny
 abbrev pub IsCutVerdict : Network → ℕ → ℕ → List Priced → ℕ → List Priced → Verdict → Type 0
-IsCutVerdict net a b printed total flow Yes = IsRight net a b printed total flow
+IsCutVerdict net a b printed total flow Yes = IsRightWithPins net a b printed total flow
 IsCutVerdict net a b printed total flow (NoSuchImport from to) = IsStray net printed flow from to
 IsCutVerdict net a b printed total flow StillChain = AreRead net printed flow × HasChain net a b printed
-IsCutVerdict net a b printed total flow WrongWeight = HasCut net a b printed flow × (AreWeights net printed total → ⊥)
+IsCutVerdict net a b printed total flow WrongWeight = HasCut net a b printed flow × (AreWeightsWithPins net printed total → ⊥)
 IsCutVerdict net a b printed total flow (OverWeight from to) =
-    HasCut net a b printed flow × AreWeights net printed total × IsFirstOver net (flow_by flow) from to
+    HasCut net a b printed flow × AreWeightsWithPins net printed total × IsFirstOver net (flow_by flow) from to
 IsCutVerdict net a b printed total flow (NotKept m) =
-    HasCut net a b printed flow × AreWeights net printed total × AreUnder net (flow_by flow) × IsFirstOff net a b (flow_by flow) m
+    HasCut net a b printed flow × AreWeightsWithPins net printed total × AreUnder net (flow_by flow) × IsFirstOff net a b (flow_by flow) m
 IsCutVerdict net a b printed total flow WrongValue =
-    HasCut net a b printed flow × AreWeights net printed total × AreUnder net (flow_by flow) × AreKept net a b (flow_by flow) × (HasValue net a (flow_by flow) total → ⊥)
+    HasCut net a b printed flow × AreWeightsWithPins net printed total × AreUnder net (flow_by flow) × AreKept net a b (flow_by flow) × (HasValue net a (flow_by flow) total → ⊥)
+IsCutVerdict net a b printed total flow (NotPinned from to) = ⊥
+
+-- the first of these modules is a, and the last is b
+abbrev pub AreEnds : ℕ → ℕ → List ℕ → Type 0
+AreEnds a b chain = (0 < length chain) × (slice_index chain 0 ≡ a) × (slice_index chain (length chain - 1) ≡ b)
+
+-- the module at this place imports the next one by a pinned import
+abbrev pub IsPinnedAt : Network → List ℕ → ℕ → Type 0
+IsPinnedAt net chain place = Imports net.imports (ByPin net) (slice_index chain place) (slice_index chain (place + 1))
+
+-- these are the first two modules next to each other that no pinned import joins
+pub record IsFirstUnpinned (net : Network) (chain : List ℕ) (from to : ℕ) : Type 0 where
+  pub place : ℕ
+  pub within : place + 1 < length chain
+  pub ends : (slice_index chain place ≡ from) × (slice_index chain (place + 1) ≡ to)
+  pub unpinned : IsPinnedAt net chain place → ⊥
+  pub before : (j : ℕ) → j < place → IsPinnedAt net chain j
+
+-- the verdict on a chain of pins: its ends are looked at first
+abbrev pub IsChainVerdict : Network → ℕ → ℕ → List ℕ → Verdict → Type 0
+IsChainVerdict net a b chain Yes = IsPinChain net a b chain
+IsChainVerdict net a b chain (NoSuchImport from to) = ⊥
+IsChainVerdict net a b chain StillChain = AreEnds a b chain → ⊥
+IsChainVerdict net a b chain WrongWeight = ⊥
+IsChainVerdict net a b chain (OverWeight from to) = ⊥
+IsChainVerdict net a b chain (NotKept m) = ⊥
+IsChainVerdict net a b chain WrongValue = ⊥
+IsChainVerdict net a b chain (NotPinned from to) = AreEnds a b chain × IsFirstUnpinned net chain from to
 
 -- the verdict on what is said of two modules
 abbrev pub IsVerdict : Network → ℕ → ℕ → Said → Verdict → Type 0
 IsVerdict net a b (CutOf total printed flow) verdict = IsCutVerdict net a b printed total flow verdict
+IsVerdict net a b (BlockedBy chain) verdict = IsChainVerdict net a b chain verdict
 
 -- a verdict holds
 abbrev pub HasVerdict : Network → ℕ → ℕ → Said → Type 0

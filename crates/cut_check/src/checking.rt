@@ -1,8 +1,8 @@
 //! The check as a whole.
 ghost use Rattle.std.specs.Prelude.{◌≡◌, ◌<◌, ◌↔◌, IsTrue, IfOk, length};
 ghost use Rattle.cut_net.specs.Cuts.{Chain};
-ghost use Rattle.cut_net.specs.Lines.{IsCheapestSaid};
-ghost use Rattle.cut_net.specs.Said.{CutOf};
+ghost use Rattle.cut_net.specs.Answers.{said_by, said_by_cut};
+ghost use Rattle.cut_net.specs.Pins.{IsCheapestSaidWithPins};
 ghost use Rattle.cut_check.specs.Reaching.{IsAllowed};
 ghost use Rattle.cut_check.specs.Verdicts.{IsVerdict};
 
@@ -10,9 +10,10 @@ use crate::Verdict;
 use crate::arcs::arcs_of;
 use crate::flow::check_flow;
 use crate::lines::{match_lines, without_line};
+use crate::pins::check_chain;
 use crate::weights::has_weights;
-use cut_net::laws::certificate;
-use cut_net::{Cut, Net};
+use cut_net::laws::{certificate_with_pins, no_cut_of_pins};
+use cut_net::{Answer, Cut, Net};
 use cut_residual::{ResidualGraph, search};
 use std::alloc::{AllocError, Global};
 
@@ -36,17 +37,14 @@ fn has_chain(
     Ok(found.seen[to as usize])
 }
 
-/// What is wrong with a cut between two modules of a network, or that nothing is.
-/// Fails where memory is refused.
-pub fn check(alloc: Global, net: &Net, from: u32, to: u32, cut: &Cut) -> Result<Verdict, AllocError>
+/// The verdict on a cut between two modules.
+fn check_cut(alloc: Global, net: &Net, from: u32, to: u32, cut: &Cut) -> Result<Verdict, AllocError>
     requires from { from < length net.now.names }
     requires to { to < length net.now.names }
-    // The first cause that holds, or yes.
-    ensures exact { IfOk result (IsVerdict net.now from to (CutOf cut.now.weight cut.now.imports.items cut.now.flow.items)) }
-    // After a yes no cut weighs less.
-    ensures cheapest { IfOk result (λ v. v ≡ Verdict.Yes → IsCheapestSaid net.now from to (CutOf cut.now.weight cut.now.imports.items cut.now.flow.items)) }
+    ensures exact { IfOk result (IsVerdict net.now from to (said_by_cut cut.now)) }
+    ensures cheapest { IfOk result (λ v. v ≡ Verdict.Yes → IsCheapestSaidWithPins net.now from to (said_by_cut cut.now)) }
 {
-    certificate();
+    certificate_with_pins();
     net.keeps();
     let printed = match_lines(alloc, net, &cut.imports)?;
     if let Some(line) = cut.imports.get(printed.count) {
@@ -66,8 +64,31 @@ pub fn check(alloc: Global, net: &Net, from: u32, to: u32, cut: &Cut) -> Result<
     if has_chain(alloc, net, &allowed, from, to)? {
         return Ok(Verdict::StillChain);
     }
-    if !has_weights(net.imports(), &printed.amounts, cut.weight) {
+    if !has_weights(net, &printed.amounts, cut.weight) {
         return Ok(Verdict::WrongWeight);
     }
     check_flow(alloc, net, &flow.amounts, from, to, cut.weight)
+}
+
+/// What is wrong with an answer of two modules of a network, or that nothing is.
+/// Fails where memory is refused.
+pub fn check(
+    alloc: Global,
+    net: &Net,
+    from: u32,
+    to: u32,
+    answer: &Answer,
+) -> Result<Verdict, AllocError>
+    requires from { from < length net.now.names }
+    requires to { to < length net.now.names }
+    // The first cause that holds, or yes.
+    ensures exact { IfOk result (IsVerdict net.now from to (said_by answer.now)) }
+    // After a yes no cut weighs less; or there is none.
+    ensures cheapest { IfOk result (λ v. v ≡ Verdict.Yes → IsCheapestSaidWithPins net.now from to (said_by answer.now)) }
+{
+    no_cut_of_pins();
+    match answer {
+        Answer::Cut(cut) => check_cut(alloc, net, from, to, cut),
+        Answer::Blocked { chain } => Ok(check_chain(net, from, to, chain)),
+    }
 }

@@ -1,43 +1,44 @@
 //! Flows: their bounds, what enters each module and leaves it, and their value.
-ghost use Rattle.std.specs.Prelude.{ℕ, ◌≡◌, ◌≢◌, ◌<◌, ◌+◌, ◌^◌, ◌↔◌, IsTrue, IfOk, MatchOption, length, slice_index, slice_set, sum_by, vec_len};
+ghost use Rattle.std.specs.Prelude.{ℕ, ◌≡◌, ◌≢◌, ◌≤◌, ◌<◌, ◌+◌, ◌^◌, ◌↔◌, IsTrue, IfOk, MatchOption, length, slice_index, slice_set, vec_len};
 ghost use Rattle.cut_net.specs.declared.priced.Priced.{Priced};
 ghost use Rattle.cut_net.specs.WellFormed.{AreBetween};
 ghost use Rattle.cut_check.specs.Sums.{AreAmounts, AreSums, AreWithin, IsFirstAbove, IsFlowVerdict};
 
 use crate::Verdict;
+use crate::pins::is_pinned;
 use cut_net::{Net, Priced};
 use std::alloc::{AllocError, Global};
 
-/// The first import with an amount above its weight.
-fn first_above(imports: &[Priced], amounts: &[Option<u64>]) -> Option<Priced>
-    requires { length amounts.now ≡ length imports.now }
-    ensures { MatchOption result (AreWithin imports.now amounts.now) (λ i. IsFirstAbove imports.now amounts.now i) }
+/// The first import without a pin with an amount above its weight.
+fn first_above(net: &Net, amounts: &[Option<u64>]) -> Option<Priced>
+    requires { length amounts.now ≡ length net.now.imports }
+    ensures { MatchOption result (AreWithin net.now amounts.now (length net.now.imports)) (λ i. IsFirstAbove net.now amounts.now i) }
 {
-    for (k, i) in imports.iter().enumerate() {
-        if amounts[k].unwrap_or(0) > i.amount {
+    for (k, i) in net.imports().iter().enumerate() {
+        if amounts[k].unwrap_or(0) > i.amount && !is_pinned(net, *i) {
             return Some(*i);
         }
     }
     None
 }
 
-fn add_at(sums: &mut Vec<u64>, place: usize, amount: u64)
+fn add_at(sums: &mut Vec<u128>, place: usize, amount: u64)
     requires place { place < vec_len sums.old }
-    requires fits { slice_index sums.old.items place + amount < 2 ^ 64 }
+    requires fits { slice_index sums.old.items place + amount < 2 ^ 128 }
     ensures items { sums.new.items ≡ slice_set sums.old.items place (slice_index sums.old.items place + amount) }
     ensures size { vec_len sums.new ≡ vec_len sums.old }
 {
-    sums[place] += amount;
+    sums[place] += u128::from(amount);
 }
 
-/// What flows into each module, and out of it.
+/// What flows into each module, and out of it. With pins that may be more than 64 bits hold.
 #[derive(Drop)]
 struct Sums {
-    into: Vec<u64>,
-    out: Vec<u64>,
+    into: Vec<u128>,
+    out: Vec<u128>,
 }
 
-/// Sums that fit, as no amount is above its import's weight.
+/// The sums fit, as there are few imports.
 fn sums_of(
     alloc: Global,
     imports: &[Priced],
@@ -46,8 +47,7 @@ fn sums_of(
 ) -> Result<Sums, AllocError>
     requires between { AreBetween imports.now modules }
     requires amounts { length amounts.now ≡ length imports.now }
-    requires within { AreWithin imports.now amounts.now }
-    requires fits { sum_by (λ i. i.amount) imports.now < 2 ^ 64 }
+    requires few { length imports.now ≤ 65536 }
     ensures size { IfOk result (λ s. (vec_len s.into ≡ modules) × (vec_len s.out ≡ modules)) }
     ensures sums { IfOk result (λ s. (flow : Priced → ℕ) → AreAmounts imports.now flow amounts.now → AreSums imports.now flow modules s.into.items s.out.items) }
 {
@@ -87,7 +87,7 @@ impl Sums {
     {
         let into = self.into[node as usize];
         let out = self.out[node as usize];
-        into <= out && out - into == value
+        into <= out && out - into == u128::from(value)
     }
 }
 
@@ -106,7 +106,7 @@ pub(crate) fn check_flow(
 {
     net.keeps();
     let imports = net.imports();
-    if let Some(over) = first_above(imports, amounts) {
+    if let Some(over) = first_above(net, amounts) {
         return Ok(Verdict::OverWeight {
             from: over.from,
             to: over.to,

@@ -2,9 +2,11 @@
 ghost use Rattle.std.specs.Prelude.{◌≡◌, ◌<◌, ◌^◌, ◌↔◌, Bool, IsTrue, IfSome, length, sum_by};
 ghost use Rattle.cut_net.specs.declared.priced.Priced.{Priced};
 ghost use Rattle.cut_net.specs.Cuts.{weight};
+ghost use Rattle.cut_net.specs.Pins.{IsRemovable};
 ghost use Rattle.cut_check.specs.Sums.{AreMarks, AreTheirWeights};
 
-use cut_net::Priced;
+use crate::pins::is_pinned;
+use cut_net::{Net, Priced};
 
 fn is_weight(amount: Option<u64>, weight: u64) -> bool
     ensures { IsTrue result ↔ IfSome amount (λ x. x ≡ weight) }
@@ -16,7 +18,7 @@ fn is_weight(amount: Option<u64>, weight: u64) -> bool
 }
 
 /// Whether each amount is its import's weight, and the total their sum.
-pub(crate) fn has_weights(imports: &[Priced], amounts: &[Option<u64>], total: u64) -> bool
+fn add_up(imports: &[Priced], amounts: &[Option<u64>], total: u64) -> bool
     requires amounts { length amounts.now ≡ length imports.now }
     requires fits { sum_by (λ i. i.amount) imports.now < 2 ^ 64 }
     ensures { (x : Priced → Bool) → AreMarks imports.now x amounts.now →
@@ -30,4 +32,27 @@ pub(crate) fn has_weights(imports: &[Priced], amounts: &[Option<u64>], total: u6
         sum += amounts[k].unwrap_or(0);
     }
     sum == total
+}
+
+/// Whether no import with an amount is pinned.
+fn are_removable(net: &Net, amounts: &[Option<u64>]) -> bool
+    requires { length amounts.now ≡ length net.now.imports }
+    ensures { (x : Priced → Bool) → AreMarks net.now.imports x amounts.now → (IsTrue result ↔ IsRemovable net.now x) }
+{
+    for (k, i) in net.imports().iter().enumerate() {
+        if amounts[k].is_some() && is_pinned(net, *i) {
+            return false;
+        }
+    }
+    true
+}
+
+/// Whether no import with an amount is pinned, each amount is its import's weight, and the total their sum.
+pub(crate) fn has_weights(net: &Net, amounts: &[Option<u64>], total: u64) -> bool
+    requires { length amounts.now ≡ length net.now.imports }
+    ensures { (x : Priced → Bool) → AreMarks net.now.imports x amounts.now →
+        (IsTrue result ↔ (IsRemovable net.now x × AreTheirWeights net.now.imports amounts.now × (total ≡ weight net.now.imports x))) }
+{
+    net.keeps();
+    are_removable(net, amounts) && add_up(net.imports(), amounts, total)
 }

@@ -9,7 +9,7 @@ use Rattle.cut_check.proofs.checking.has_chain.Goals as goal
 pub new-requires-clause-between : goal.new-requires-clause-between
 new-requires-clause-between c =
     arcs_between c.imports.result.now c.args.allowed.now c.nodes.result c.in_ok-arcs.arcs.items c.in_ok-arcs.ensures
-    (rw (c.imports.ensures, c.nodes.ensures) c.keeps.ensures.between)
+    (rw (c.imports.ensures, c.nodes.ensures) c.keeps.ensures.network.between)
 
 pub returns : goal.returns
 returns c =

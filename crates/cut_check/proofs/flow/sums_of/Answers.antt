@@ -1,4 +1,4 @@
-use Rattle.std.proofs.Common.{◌≤◌, ◌<◌, ◌∙◌, length, arith, subst, get_or}
+use Rattle.std.proofs.Common.{◌<◌, ◌∙◌, length, arith, subst, get_or}
 use Rattle.std.proofs.lemmas.List.{take_all}
 use Rattle.cut_net.specs.declared.priced.Priced.{Priced}
 use Rattle.cut_check.specs.Sums.{AreSums}
@@ -13,9 +13,8 @@ add_at-requires-clause-place c =
 
 pub add_at-requires-clause-fits : goal.add_at-requires-clause-fits
 add_at-requires-clause-fits c =
-    let amount = c.unwrap_or-amount.ensures in
-    let within = c.requires.within c.loop-k.k any c.loop-k-test.true in
-    adding_fits c.args.imports.now c.loop-k.k any c.loop-k-test.true c.loop-k.into.items c.unwrap_or-amount.result c.loop-k.invariant.into_most (omega arith) _ c.requires.fits _
+    let few = c.requires.few in
+    adding_fits c.loop-k.into.items c.loop-k.k c.unwrap_or-amount.result (omega (arith, c.loop-k-test.true)) c.unwrap_or-amount.type_inv c.loop-k.invariant.into_most _
 
 pub add_at-requires-in-loop-k-clause-place : goal.add_at-requires-in-loop-k-clause-place
 add_at-requires-in-loop-k-clause-place c =
@@ -24,9 +23,8 @@ add_at-requires-in-loop-k-clause-place c =
 
 pub add_at-requires-in-loop-k-clause-fits : goal.add_at-requires-in-loop-k-clause-fits
 add_at-requires-in-loop-k-clause-fits c =
-    let amount = c.unwrap_or-amount.ensures in
-    let within = c.requires.within c.loop-k.k any c.loop-k-test.true in
-    adding_fits c.args.imports.now c.loop-k.k any c.loop-k-test.true c.loop-k.out.items c.unwrap_or-amount.result c.loop-k.invariant.out_most (omega arith) _ c.requires.fits _
+    let few = c.requires.few in
+    adding_fits c.loop-k.out.items c.loop-k.k c.unwrap_or-amount.result (omega (arith, c.loop-k-test.true)) c.unwrap_or-amount.type_inv c.loop-k.invariant.out_most _
 
 pub loop-k-preserved : goal.loop-k-preserved
 loop-k-preserved c =
@@ -35,8 +33,6 @@ loop-k-preserved c =
     let in_k = c.loop-k-test.true in
     let x = c.unwrap_or-amount.result in
     let amount = c.unwrap_or-amount.ensures in
-    let within = c.requires.within k any in_k in
-    let small : x ≤ (get_or imports k any).amount = omega arith in
     let to_h = to_in imports c.args.modules k c.requires.between in_k in
     let from_h = from_in imports c.args.modules k c.requires.between in_k in
     let into_ok = c.loop-k.into.ok.0 in
@@ -48,8 +44,8 @@ loop-k-preserved c =
     record {
       into_size = c.add_at.ensures.size ∙ into_size;
       out_size = c.add_at-in-loop-k.ensures.size ∙ out_size;
-      into_most = rw c.add_at.ensures.items (adding_most imports k any in_k c.loop-k.into.items x c.loop-k.invariant.into_most small _ to_in_sums);
-      out_most = rw c.add_at-in-loop-k.ensures.items (adding_most imports k any in_k c.loop-k.out.items x c.loop-k.invariant.out_most small _ from_in_sums);
+      into_most = rw c.add_at.ensures.items (adding_most c.loop-k.into.items k x c.unwrap_or-amount.type_inv c.loop-k.invariant.into_most _ to_in_sums);
+      out_most = rw c.add_at-in-loop-k.ensures.items (adding_most c.loop-k.out.items k x c.unwrap_or-amount.type_inv c.loop-k.invariant.out_most _ from_in_sums);
       sums = λ flow are.
           let so_far = c.loop-k.invariant.sums flow are in
           let x_is = amount ∙ are k any in_k in

@@ -3,7 +3,7 @@ use Rattle.std.specs.Prelude.{IfSome}
 use Rattle.cut_net.specs.declared.priced.Priced.{Priced}
 use Rattle.cut_net.specs.Cuts.{weight}
 use Rattle.cut_check.specs.Sums.{AreMarks}
-use Rattle.cut_check.proofs.weights.has_weights.Given as goal
+use Rattle.cut_check.proofs.weights.add_up.Given as goal
 
 abbrev pub invariant-loop-k : goal.invariant-loop-k
 invariant-loop-k l = record {

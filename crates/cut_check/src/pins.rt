@@ -1,0 +1,57 @@
+//! Pinned imports, and chains of them.
+ghost use Rattle.std.specs.Prelude.{ℕ, ◌≡◌, ◌+◌, ◌<◌, ◌↔◌, IsTrue, MatchOption, length};
+ghost use Rattle.cut_net.specs.Pins.{is_pinned};
+ghost use Rattle.cut_check.specs.Verdicts.{AreEnds, IsChainVerdict, IsFirstUnpinned, IsPinnedAt};
+
+use crate::Verdict;
+use cut_net::{Net, Priced, line_of};
+
+/// Whether the import of these ends is pinned.
+pub(crate) fn is_pinned(net: &Net, import: Priced) -> bool
+    ensures { result ≡ is_pinned net.now import }
+{
+    net.keeps();
+    line_of(net.pins(), import).is_some()
+}
+
+/// The first two modules next to each other that no pinned import joins.
+fn first_unpinned(net: &Net, chain: &[u32]) -> Option<Priced>
+    ensures { MatchOption result
+        ((k : ℕ) → k + 1 < length chain.now → IsPinnedAt net.now chain.now k)
+        (λ pair. IsFirstUnpinned net.now chain.now pair.from pair.to) }
+{
+    net.keeps();
+    for k in 1..chain.len() {
+        let pair = Priced {
+            from: chain[k - 1],
+            to: chain[k],
+            amount: 0,
+        };
+        if !is_pinned(net, pair) {
+            return Some(pair);
+        }
+    }
+    None
+}
+
+fn are_ends(chain: &[u32], from: u32, to: u32) -> bool
+    ensures { IsTrue result ↔ AreEnds from to chain.now }
+{
+    !chain.is_empty() && chain[0] == from && chain[chain.len() - 1] == to
+}
+
+/// The verdict on a chain of pins between two modules.
+pub(crate) fn check_chain(net: &Net, from: u32, to: u32, chain: &[u32]) -> Verdict
+    ensures { IsChainVerdict net.now from to chain.now result }
+{
+    if !are_ends(chain, from, to) {
+        return Verdict::StillChain;
+    }
+    match first_unpinned(net, chain) {
+        Some(pair) => Verdict::NotPinned {
+            from: pair.from,
+            to: pair.to,
+        },
+        None => Verdict::Yes,
+    }
+}
