@@ -1,16 +1,19 @@
 -- A report and its lines.
-use Rattle.std.proofs.Common.{◌≡◌, ℕ, ◌<◌, ◌^◌, true, List, [], ◌∷◌, ◌++◌, length, map, Option, Some, None, refl, append_assoc}
-use Rattle.std.specs.Prelude.{unwrap_or}
-use Rattle.std.proofs.lemmas.List.{append-nil}
-use Rattle.std.proofs.lemmas.List.Elements.{All-weaker}
+use Rattle.std.proofs.Common.{◌≡◌, ℕ, ◌<◌, ◌^◌, true, List, [], ◌∷◌, ◌++◌, length, map, Option, Some, None, refl, append_assoc, arith}
+use Rattle.std.specs.Prelude.{All, unwrap_or}
+use Rattle.std.specs.List.{list_all}
+use Rattle.std.proofs.lemmas.Bool.{and_from, and_parts}
+use Rattle.std.proofs.lemmas.List.{append-nil, length-map}
+use Rattle.std.proofs.lemmas.List.Elements.{All-cons, All-head, All-nil, All-tail, All-weaker}
 use Rattle.cut_net.specs.declared.priced.Priced.{Priced}
 use Rattle.cut_net.specs.Network.{Network, name_of, index_of}
 use Rattle.cut_net.specs.WellFormed.{IsNetwork}
-use Rattle.cut_net.specs.Said.{Said, CutOf}
+use Rattle.cut_net.specs.Said.{Said, CutOf, BlockedBy}
 use Rattle.cut_report.specs.Entry.{Entry}
 use Rattle.cut_report.specs.ReportText.{IsReport, IsSayable, MaySay}
-use Rattle.cut_report.specs.ReportLine.{ReportLine, Ends, Weighs, Removes, Flows, Last}
-use Rattle.cut_report.specs.ReportLines.{may_follow, is_above, IsGoodAfter, AreGoodAfter, last_of}
+use Rattle.cut_report.specs.ReportLine.{ReportLine, Ends, Weighs, Removes, Flows, Blocks, Last}
+use Rattle.texts.specs.Fields.{is_name}
+use Rattle.cut_report.specs.ReportLines.{IsKnownName, may_follow, is_above, IsGoodAfter, AreGoodAfter, last_of}
 use Rattle.cut_net.proofs.Places.{index_again}
 use Rattle.cut_report.specs.ReportLine.{removes, flows, said_lines, front_lines, entry_lines}
 use Rattle.cut_report.proofs.NameOrder.{AreIn, apart, name_known}
@@ -64,6 +67,22 @@ both_fit total net printed flow s = (
   run_from net FitsFlow flow s.flow_between s.flow_in_order (λ k d lt. record { fits = s.flow_fits k d lt; positive = s.flow_above_zero k d lt }),
 )
 
+-- the names of modules are names that the network has
+chain_named : (net : Network) (chain : List ℕ) → IsNetwork net → All (λ m. m < length net.names) chain → list_all is_name (map (name_of net) chain) ≡ true
+chain_named net [] w h = refl
+chain_named net (m ∷ chain) w h =
+    and_from _ _ (name_is net m w (All-head (λ m. m < length net.names) m chain h)) (chain_named net chain w (All-tail (λ m. m < length net.names) m chain h))
+
+chain_known : (net : Network) (chain : List ℕ) → All (λ m. m < length net.names) chain → All (IsKnownName net) (map (name_of net) chain)
+chain_known net [] h = All-nil (IsKnownName net)
+chain_known net (m ∷ chain) h =
+    All-cons (IsKnownName net) (name_of net m) (map (name_of net) chain) (name_known net m (All-head (λ m. m < length net.names) m chain h))
+    (chain_known net chain (All-tail (λ m. m < length net.names) m chain h))
+
+named_chain : (net : Network) (chain : List ℕ) → list_all is_name (map (name_of net) chain) ≡ true → All (λ m. m < length net.names) chain
+named_chain net [] e = All-nil (λ m. m < length net.names)
+named_chain net (m ∷ chain) e = let p = and_parts _ _ e in All-cons (λ m. m < length net.names) m chain (named_in net m p.0) (named_chain net chain p.1)
+
 said_good : (net : Network) (s : Said) (ends : ReportLine) → IsNetwork net → may_follow (Some ends) (Weighs 0) ≡ true → MaySay net s → AreGoodAfter net (Some ends) (said_lines net s ++ Last ∷ [])
 said_good net (CutOf total printed flow) (Ends m n) w f s =
     let runs = both_fit total net printed flow s in
@@ -74,9 +93,16 @@ said_good net (CutOf total printed flow) (Ends m n) w f s =
     let body = run_good net FitsWord (removes net) (Some (Weighs total)) printed (map (flows net) flow) (remove_lines net w) runs.0 (removes_first net total printed) flow_only in
     let end_good : IsGoodAfter net (last_of (Some (Weighs total)) lines) Last = record { form = tt; follows = last_follows net total printed flow; known = tt; above = refl } in
     (record { form = s.fits; follows = refl; known = tt; above = refl }, good-append net (Some (Weighs total)) lines (Last ∷ []) body (end_good, tt))
+said_good net (BlockedBy chain) (Ends m n) w f may =
+    let long = length-map chain (name_of net) in
+    let some = may.0 in (
+      record { form = (omega arith, chain_named net chain w may.1); follows = refl; known = chain_known net chain may.1; above = refl },
+      (record { form = tt; follows = refl; known = tt; above = refl }, tt),
+    )
 said_good net s (Weighs k) w f may = absurd cc
 said_good net s (Removes m n k) w f may = absurd cc
 said_good net s (Flows m n k) w f may = absurd cc
+said_good net s (Blocks names) w f may = absurd cc
 said_good net s Last w f may = absurd cc
 
 pub report_good : (net : Network) (e : Entry) → IsNetwork net → IsReport net e → AreGoodAfter net None (entry_lines net e)
@@ -101,6 +127,10 @@ good_said net (CutOf total printed flow) last w g =
       flow_fits = All-weaker FitsFlow (λ p. p.amount < 2 ^ 64) (λ p f. f.fits) flow (run_fits net FitsFlow flow carried);
       flow_above_zero = All-weaker FitsFlow (λ p. 0 < p.amount) (λ p f. f.positive) flow (run_fits net FitsFlow flow carried);
     }
+good_said net (BlockedBy chain) last w g =
+    let long = length-map chain (name_of net) in
+    let some = g.0.form.0 in
+    (omega arith, named_chain net chain g.0.form.1)
 
 pub good_report : (net : Network) (e : Entry) → IsNetwork net → AreGoodAfter net None (front_lines net e) → IsReport net e
 good_report net e w g = record {
@@ -123,6 +153,7 @@ printed_in net (Ends m n ∷ lines) = printed_in net lines
 printed_in net (Weighs w ∷ lines) = printed_in net lines
 printed_in net (Removes m n k ∷ lines) = priced net m n k ∷ printed_in net lines
 printed_in net (Flows m n k ∷ lines) = printed_in net lines
+printed_in net (Blocks names ∷ lines) = printed_in net lines
 printed_in net (Last ∷ lines) = printed_in net lines
 
 abbrev flow_in : Network → List ReportLine → List Priced
@@ -131,15 +162,22 @@ flow_in net (Ends m n ∷ lines) = flow_in net lines
 flow_in net (Weighs w ∷ lines) = flow_in net lines
 flow_in net (Removes m n k ∷ lines) = flow_in net lines
 flow_in net (Flows m n k ∷ lines) = priced net m n k ∷ flow_in net lines
+flow_in net (Blocks names ∷ lines) = flow_in net lines
 flow_in net (Last ∷ lines) = flow_in net lines
 
-abbrev weight_in : List ReportLine → ℕ
-weight_in [] = 0
-weight_in (Ends m n ∷ lines) = weight_in lines
-weight_in (Weighs w ∷ lines) = w
-weight_in (Removes m n k ∷ lines) = 0
-weight_in (Flows m n k ∷ lines) = 0
-weight_in (Last ∷ lines) = 0
+-- what the lines after the first say
+abbrev said_in : Network → List ReportLine → Said
+said_in net [] = CutOf 0 [] []
+said_in net (Ends m n ∷ lines) = CutOf 0 [] []
+said_in net (Weighs w ∷ lines) = CutOf w (printed_in net lines) (flow_in net lines)
+said_in net (Removes m n k ∷ lines) = CutOf 0 [] []
+said_in net (Flows m n k ∷ lines) = CutOf 0 [] []
+said_in net (Blocks names ∷ lines) = BlockedBy (map (place net) names)
+said_in net (Last ∷ lines) = CutOf 0 [] []
+
+abbrev behind_first : List ReportLine → List ReportLine
+behind_first [] = []
+behind_first (_ ∷ lines) = lines
 
 abbrev first_in : Network → List ReportLine → ℕ × ℕ
 first_in net [] = (0, 0)
@@ -147,10 +185,11 @@ first_in net (Ends m n ∷ lines) = (place net m, place net n)
 first_in net (Weighs w ∷ lines) = (0, 0)
 first_in net (Removes m n k ∷ lines) = (0, 0)
 first_in net (Flows m n k ∷ lines) = (0, 0)
+first_in net (Blocks names ∷ lines) = (0, 0)
 first_in net (Last ∷ lines) = (0, 0)
 
 abbrev pub entry_in : Network → List ReportLine → Entry
-entry_in net lines = record { from = (first_in net lines).0; to = (first_in net lines).1; said = CutOf (weight_in lines) (printed_in net lines) (flow_in net lines) }
+entry_in net lines = record { from = (first_in net lines).0; to = (first_in net lines).1; said = said_in net (behind_first lines) }
 
 place_again : (net : Network) (i : ℕ) → IsNetwork net → i < length net.names → place net (name_of net i) ≡ i
 place_again net i w lt = rw (index_again net i (apart net.names w.names_ascend) lt) refl
@@ -174,7 +213,12 @@ flow_removes : (net : Network) (ps : List Priced) (rest : List ReportLine) → f
 flow_removes net [] rest = refl
 flow_removes net (p ∷ ps) rest = flow_removes net ps rest
 
-said_again : (net : Network) (s : Said) → IsNetwork net → MaySay net s → CutOf (weight_in (said_lines net s ++ Last ∷ [])) (printed_in net (said_lines net s ++ Last ∷ [])) (flow_in net (said_lines net s ++ Last ∷ [])) ≡ s
+chain_again : (net : Network) (chain : List ℕ) → IsNetwork net → All (λ m. m < length net.names) chain → map (place net) (map (name_of net) chain) ≡ chain
+chain_again net [] w h = refl
+chain_again net (m ∷ chain) w h =
+    rw (place_again net m w (All-head (λ m. m < length net.names) m chain h), chain_again net chain w (All-tail (λ m. m < length net.names) m chain h)) refl
+
+said_again : (net : Network) (s : Said) → IsNetwork net → MaySay net s → said_in net (said_lines net s ++ Last ∷ []) ≡ s
 said_again net (CutOf total printed flow) w s =
     let runs = both_fit total net printed flow s in
     rw (
@@ -186,6 +230,7 @@ said_again net (CutOf total printed flow) w s =
       append-nil printed,
       append-nil flow,
     ) refl
+said_again net (BlockedBy chain) w s = rw (chain_again net chain w s.1) refl
 
 pub entry_again : (net : Network) (e : Entry) → IsNetwork net → IsReport net e → entry_in net (entry_lines net e) ≡ e
 entry_again net e w r = rw (place_again net e.from w r.from, place_again net e.to w r.to, said_again net e.said w r.says) refl

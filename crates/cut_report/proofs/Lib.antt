@@ -8,4 +8,6 @@ pub mod Readings
 pub mod LastImports
 pub mod Standings
 pub mod TextSteps
+pub mod Words
+pub mod ChainNames
 pub mod Rows

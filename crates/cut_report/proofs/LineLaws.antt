@@ -1,16 +1,18 @@
 -- A line that is read is the one that was written.
-use Rattle.std.proofs.Common.{◌≡◌, ℕ, ◌<◌, ◌^◌, ◌&&◌, Bool, true, false, cond, List, ◌∷◌, ◌++◌, Option, Some, None, refl, sym, subst, ◌∙◌, codes, ltb}
+use Rattle.std.proofs.Common.{◌≡◌, ℕ, ◌<◌, ◌^◌, ◌&&◌, Bool, true, false, cond, List, ◌∷◌, ◌++◌, Option, Some, None, refl, sym, ap, subst, ◌∙◌, codes, ltb}
 use Rattle.std.specs.Fmt.{decimal}
+use Rattle.std.specs.List.{list_all}
 use Rattle.std.specs.Str.{bytes_eq}
 use Rattle.std.proofs.lemmas.Bool.{and_parts, ltb-true, lt-ltb}
 use Rattle.std.proofs.lemmas.Slice.Eq.{bytes_eq-Decides}
-use Rattle.texts.specs.Fields.{cut_at, named, number_of, is_name}
-use Rattle.cut_report.specs.ReportLine.{ReportLine, Ends, Weighs, Removes, Flows, Last, report_line}
+use Rattle.texts.specs.Fields.{cut_at, named, number_of, is_name, line_of}
+use Rattle.cut_report.specs.ReportLine.{ReportLine, Ends, Weighs, Removes, Flows, Blocks, Last, report_line}
 use Rattle.cut_report.specs.ReportLines.{HasForm}
 use Rattle.texts.proofs.FieldCuts.{cut_takes, cut_again, cut_none, without, some_is}
 use Rattle.texts.proofs.FieldNames.{named_takes, named_again, name_without, decimal_without, without-append}
 use Rattle.texts.proofs.FieldNumbers.{number_takes, number_again}
-use Rattle.cut_report.specs.Lines.{◌>>=◌, amount_of, ends_of, import_under, line_of_text, line_under}
+use Rattle.cut_report.specs.Lines.{◌>>=◌, amount_of, blocks_of, ends_of, import_under, line_of_text, line_under, words_of}
+use Rattle.cut_report.proofs.Words.{joined, names_without, some_word, with_word, words_again}
 
 -- the value of a step that gave one
 bind_some : {A B P : Type 0} (o : Option A) (f : A → Option B) (y : B) → (o >>= f) ≡ Some y → ((x : A) → o ≡ Some x → f x ≡ Some y → P) → P
@@ -88,6 +90,14 @@ import_takes word fields x line h e =
     (record { form = (h.from, h.to, h.fits, ltb-true _ _ p.1); spelled = rw (same_word word (codes "flow") p.0, h.whole) refl }))
     (λ _ e. absurd cc))
 
+blocks_take : (word fields : List ℕ) (line : ReportLine) → word ≡ codes "blocked" → blocks_of fields ≡ Some line → IsSpelling (word ++ 32 ∷ fields) line
+unfolding blocks_of
+blocks_take word fields line w e =
+    by_test (list_all is_name (words_of fields)) _ _ line e
+    (λ t e. subst (λ (l : ReportLine). IsSpelling (word ++ 32 ∷ fields) l) (some_is _ line e)
+    (record { form = (some_word fields, t); spelled = with_word (codes "blocked") (words_of fields) (some_word fields) ∙ rw (joined fields, w) refl }))
+    (λ _ e. absurd cc)
+
 under_takes : (word fields : List ℕ) (line : ReportLine) → line_under word fields ≡ Some line → IsSpelling (word ++ 32 ∷ fields) line
 unfolding line_under
 under_takes word fields line e =
@@ -101,7 +111,9 @@ under_takes word fields line e =
     let t = number_takes fields x h in
     subst (λ (l : ReportLine). IsSpelling (word ++ 32 ∷ fields) l) (some_is _ line e)
     (record { form = t.1; spelled = rw (same_word word (codes "weight") w, t.0) refl })))
-    (λ _ e. bind_some (amount_of fields) _ line e (λ x h e. import_takes word fields x line (amount_takes fields x h) e)))
+    (λ _ e. by_test (bytes_eq word (codes "blocked")) _ _ line e
+    (λ w e. blocks_take word fields line (same_word word (codes "blocked") w) e)
+    (λ _ e. bind_some (amount_of fields) _ line e (λ x h e. import_takes word fields x line (amount_takes fields x h) e))))
 
 pub line_takes : (text : List ℕ) (line : ReportLine) → line_of_text text ≡ Some line → IsSpelling text line
 unfolding line_of_text
@@ -127,11 +139,13 @@ parted word fields h = go (bytes_eq (word ++ 32 ∷ fields) (codes "end")) refl
     go false e = rw cuts refl
 
 pub line_again : (line : ReportLine) → HasForm line → line_of_text (report_line line) ≡ Some line
-unfolding line_of_text line_under
+unfolding line_of_text line_under blocks_of
 line_again (Ends m n) h = parted (codes "cut") (m ++ 32 ∷ n) refl ∙ rw (ends_again m n h.0 h.1) refl
 line_again (Weighs w) h = parted (codes "weight") (decimal w) refl ∙ rw (number_again w h) refl
 line_again (Removes m n w) h = parted (codes "remove") (m ++ 32 ∷ (n ++ 32 ∷ decimal w)) refl ∙ rw (amount_again m n w h.0 h.1 h.2) refl
 line_again (Flows m n f) h = parted (codes "flow") (m ++ 32 ∷ (n ++ 32 ∷ decimal f)) refl ∙ rw (amount_again m n f h.0 h.1 h.2, lt-ltb 0 f h.3) refl
+line_again (Blocks names) h =
+    ap line_of_text (with_word (codes "blocked") names h.0) ∙ parted (codes "blocked") (line_of names) refl ∙ rw (words_again names h.0 h.1, h.1) refl
 line_again Last h = refl
 
 -- a line has no LF
@@ -145,6 +159,8 @@ line_without (Removes m n w) h =
 line_without (Flows m n f) h =
     without-append 10 (codes "flow") (32 ∷ (m ++ 32 ∷ (n ++ 32 ∷ decimal f))) refl (without-append 10 m (32 ∷ (n ++ 32 ∷ decimal f)) (name_without 10 m refl h.0)
     (without-append 10 n (32 ∷ decimal f) (name_without 10 n refl h.1) (decimal_without 10 f refl h.2)))
+line_without (Blocks names) h =
+    rw (with_word (codes "blocked") names h.0) (without-append 10 (codes "blocked") (32 ∷ line_of names) refl (names_without names h.1))
 line_without Last h = refl
 
 -- one text, one line

@@ -1,12 +1,14 @@
 -- What a text goes on with after good lines: a good line, a fault, or nothing.
 use Rattle.std.proofs.Common.{◌≡◌, ◌≢◌, ℕ, ◌&&◌, Bool, true, false, cond, List, [], ◌∷◌, ◌++◌, Option, Some, None, refl, sym, subst, ◌∙◌, append_assoc, inl, inr}
-use Rattle.std.specs.Prelude.{is_some}
+use Rattle.std.specs.Prelude.{All, is_some}
+use Rattle.std.specs.List.{list_all}
 use Rattle.std.specs.Option.{option_map_or}
-use Rattle.std.proofs.lemmas.Bool.{and_parts, false_from_ne_true}
+use Rattle.std.proofs.lemmas.Bool.{and_from, and_parts, false_from_ne_true}
+use Rattle.std.proofs.lemmas.List.Elements.{All-cons, All-head, All-nil, All-tail}
 use Rattle.texts.specs.Fields.{cut_at, ended}
 use Rattle.cut_net.specs.Network.{Network, index_of}
 use Rattle.cut_net.specs.WellFormed.{AreNamesInOrder}
-use Rattle.cut_report.specs.ReportLine.{ReportLine, Ends, Weighs, Removes, Flows, Last, report_line, written}
+use Rattle.cut_report.specs.ReportLine.{ReportLine, Ends, Weighs, Removes, Flows, Blocks, Last, report_line, written}
 use Rattle.cut_report.specs.ReportLines.{may_follow, is_above, IsKnown, IsKnownName, IsGoodAfter, AreGoodAfter, IsNextLine, IsWrong, BeginsWith, has_line_end, last_of}
 use Rattle.texts.proofs.FieldCuts.{cut_none}
 use Rattle.cut_report.specs.Lines.{line_of_text}
@@ -32,6 +34,7 @@ knows net (Ends m n) = has net m && has net n
 knows net (Weighs w) = true
 knows net (Removes m n w) = has net m && has net n
 knows net (Flows m n f) = has net m && has net n
+knows net (Blocks names) = list_all (has net) names
 knows net Last = true
 
 has_known : (net : Network) (name : List ℕ) → AreNamesInOrder net.names → IsKnownName net name → has net name ≡ true
@@ -50,11 +53,20 @@ both_known net m n h p q = rw (has_known net m h p, has_known net n h q) refl
 both_has : (net : Network) (m n : List ℕ) → (has net m && has net n) ≡ true → IsKnownName net m × IsKnownName net n
 both_has net m n e = let p = and_parts (has net m) (has net n) e in (known_has net m p.0, known_has net n p.1)
 
+all_known : (net : Network) (names : List (List ℕ)) → AreNamesInOrder net.names → All (IsKnownName net) names → list_all (has net) names ≡ true
+all_known net [] h k = refl
+all_known net (n ∷ names) h k = and_from _ _ (has_known net n h (All-head (IsKnownName net) n names k)) (all_known net names h (All-tail (IsKnownName net) n names k))
+
+all_has : (net : Network) (names : List (List ℕ)) → list_all (has net) names ≡ true → All (IsKnownName net) names
+all_has net [] e = All-nil (IsKnownName net)
+all_has net (n ∷ names) e = let p = and_parts _ _ e in All-cons (IsKnownName net) n names (known_has net n p.0) (all_has net names p.1)
+
 knows_known : (net : Network) (line : ReportLine) → AreNamesInOrder net.names → IsKnown net line → knows net line ≡ true
 knows_known net (Ends m n) h k = both_known net m n h k.0 k.1
 knows_known net (Weighs w) h k = refl
 knows_known net (Removes m n w) h k = both_known net m n h k.0 k.1
 knows_known net (Flows m n f) h k = both_known net m n h k.0 k.1
+knows_known net (Blocks names) h k = all_known net names h k
 knows_known net Last h k = refl
 
 known_knows : (net : Network) (line : ReportLine) → knows net line ≡ true → IsKnown net line
@@ -62,6 +74,7 @@ known_knows net (Ends m n) e = both_has net m n e
 known_knows net (Weighs w) e = tt
 known_knows net (Removes m n w) e = both_has net m n e
 known_knows net (Flows m n f) e = both_has net m n e
+known_knows net (Blocks names) e = all_has net names e
 known_knows net Last e = tt
 
 -- ---- what comes next
@@ -72,6 +85,7 @@ is_last (Some (Ends m n)) = false
 is_last (Some (Weighs w)) = false
 is_last (Some (Removes m n w)) = false
 is_last (Some (Flows m n f)) = false
+is_last (Some (Blocks names)) = false
 is_last (Some Last) = true
 
 abbrev line_kind : Network → Option ReportLine → ReportLine → Kind
@@ -93,6 +107,7 @@ ended_follows (Ends m n) = refl
 ended_follows (Weighs w) = refl
 ended_follows (Removes m n w) = refl
 ended_follows (Flows m n f) = refl
+ended_follows (Blocks names) = refl
 ended_follows Last = refl
 
 not_last : (last : Option ReportLine) → last ≢ Some Last → is_last last ≡ false
@@ -101,6 +116,7 @@ not_last (Some (Ends m n)) h = refl
 not_last (Some (Weighs w)) h = refl
 not_last (Some (Removes m n w)) h = refl
 not_last (Some (Flows m n f)) h = refl
+not_last (Some (Blocks names)) h = refl
 not_last (Some Last) h = absurd (h refl)
 
 followed : (last : Option ReportLine) (line : ReportLine) → may_follow last line ≡ true → is_last last ≡ false

@@ -6,13 +6,16 @@ use Rattle.std.proofs.lemmas.List.{append-nil, map_push}
 use Rattle.cut_net.specs.declared.priced.Priced.{Priced}
 use Rattle.cut_net.specs.Network.{Network, name_of, index_of}
 use Rattle.cut_net.specs.WellFormed.{IsNetwork}
-use Rattle.cut_report.specs.ReportLine.{ReportLine, Ends, Weighs, Removes, Flows, Last}
+use Rattle.std.specs.Prelude.{All}
+use Rattle.std.proofs.lemmas.List.Elements.{All-cons, All-head, All-nil, All-tail}
+use Rattle.cut_report.specs.Entry.{Entry}
+use Rattle.cut_report.specs.ReportLine.{ReportLine, Ends, Weighs, Removes, Flows, Blocks, Last}
 use Rattle.cut_report.specs.ReportLines.{HasForm, may_follow, is_above, IsKnown, IsKnownName, IsGoodAfter, AreGoodAfter, IsNextLine, last_of}
 use Rattle.cut_net.proofs.Places.{index_takes}
 use Rattle.cut_report.specs.declared.fault.LineFault.{LineFault}
 use Rattle.cut_report.specs.declared.fault.LineFault.TheVariants as faults
 use Rattle.cut_report.specs.ReportLine.{removes, flows, front_lines, entry_lines}
-use Rattle.cut_report.specs.Drafts.{◌>>=◌, Standing, Start, Named, Open, Ended, Part, entry_of_part, going_on, import_of, is_after, last_import, named_by, opened_by, step, with_removed}
+use Rattle.cut_report.specs.Drafts.{◌>>=◌, Standing, Start, Named, Open, Shut, Ended, Part, blocked_entry, chain_of, entry_of_part, going_on, import_of, is_after, last_import, named_by, opened_by, shut_by, step, with_removed}
 use Rattle.cut_report.proofs.NameOrder.{AreIn, index_from_known, known_from_index}
 use Rattle.cut_report.proofs.ImportLines.{AreLines, FitsWord, FitsFlow, IsRun, flow_lines, remove_lines, good_run, good_after}
 use Rattle.cut_report.proofs.EntryLines.{last_of-append, last_follows}
@@ -22,7 +25,8 @@ abbrev pub standing_lines : Network → Standing → List ReportLine
 standing_lines net Start = []
 standing_lines net (Named a b) = Ends (name_of net a) (name_of net b) ∷ []
 standing_lines net (Open p) = front_lines net (entry_of_part p)
-standing_lines net (Ended p) = entry_lines net (entry_of_part p)
+standing_lines net (Shut a b chain) = front_lines net (blocked_entry a b chain)
+standing_lines net (Ended e) = entry_lines net e
 
 abbrev pub last_line : Network → Standing → Option ReportLine
 last_line net s = last_of None (standing_lines net s)
@@ -90,6 +94,22 @@ by_import P net last m n amount f w lacks low good =
       | inr e ↦ rw e (low q (km, kn) found e)
     ]))
 
+by_chain : (P : Result Standing LineFault → Type 0) (net : Network) (names : List (List ℕ)) (f : List ℕ → Result Standing LineFault) → IsNetwork net
+    → ((All (IsKnownName net) names → ⊥) → P (Err faults.UnknownName))
+    → ((chain : List ℕ) → All (IsKnownName net) names → map (name_of net) chain ≡ names → P (f chain))
+    → P (chain_of net names >>= f)
+by_chain P net names f w lacks has = go {T = Standing} P names f lacks has
+  where
+    go : {T : Type 0} (P : Result T LineFault → Type 0) (names : List (List ℕ)) (f : List ℕ → Result T LineFault)
+        → ((All (IsKnownName net) names → ⊥) → P (Err faults.UnknownName))
+        → ((chain : List ℕ) → All (IsKnownName net) names → map (name_of net) chain ≡ names → P (f chain))
+        → P (chain_of net names >>= f)
+    go P [] f lacks has = has [] (All-nil (IsKnownName net)) refl
+    go P (name ∷ names) f lacks has =
+        by_index (λ r. P (r >>= f)) net name _ w (λ k. lacks (λ h. k (All-head (IsKnownName net) name names h))) (λ i known lt name_is.
+        go (λ r. P (r >>= f)) names (λ more. Ok (i ∷ more)) (λ k. lacks (λ h. k (All-tail (IsKnownName net) name names h))) (λ chain all are.
+        has (i ∷ chain) (All-cons (IsKnownName net) name names known all) (rw (name_is, are) refl)))
+
 -- ---- each step
 
 name_is_step : (net : Network) (line : ReportLine) → IsNetwork net → HasForm line → StepIs net Start line (named_by net line)
@@ -101,15 +121,29 @@ name_is_step net (Ends m n) w h =
 name_is_step net (Weighs k) w h = refl
 name_is_step net (Removes m n k) w h = refl
 name_is_step net (Flows m n k) w h = refl
+name_is_step net (Blocks names) w h = refl
 name_is_step net Last w h = refl
 
-open_is_step : (net : Network) (a b : ℕ) (line : ReportLine) → HasForm line → StepIs net (Named a b) line (opened_by a b line)
+open_is_step : (net : Network) (a b : ℕ) (line : ReportLine) → IsNetwork net → HasForm line → StepIs net (Named a b) line (opened_by net a b line)
 unfolding opened_by
-open_is_step net a b (Ends m n) h = refl
-open_is_step net a b (Weighs k) h = (record { form = h; follows = refl; known = tt; above = refl }, refl)
-open_is_step net a b (Removes m n k) h = refl
-open_is_step net a b (Flows m n k) h = refl
-open_is_step net a b Last h = refl
+open_is_step net a b (Ends m n) w h = refl
+open_is_step net a b (Weighs k) w h = (record { form = h; follows = refl; known = tt; above = refl }, refl)
+open_is_step net a b (Removes m n k) w h = refl
+open_is_step net a b (Flows m n k) w h = refl
+open_is_step net a b (Blocks names) w h =
+    by_chain (StepIs net (Named a b) (Blocks names)) net names _ w
+    (λ lacks. (record { form = h; follows = refl }, lacks))
+    (λ chain known names_are. (record { form = h; follows = refl; known = known; above = refl }, rw names_are refl))
+open_is_step net a b Last w h = refl
+
+shut_is_step : (net : Network) (a b : ℕ) (chain : List ℕ) (line : ReportLine) → StepIs net (Shut a b chain) line (shut_by a b chain line)
+unfolding shut_by
+shut_is_step net a b chain (Ends m n) = refl
+shut_is_step net a b chain (Weighs k) = refl
+shut_is_step net a b chain (Removes m n k) = refl
+shut_is_step net a b chain (Flows m n k) = refl
+shut_is_step net a b chain (Blocks names) = refl
+shut_is_step net a b chain Last = (record { form = tt; follows = refl; known = tt; above = refl }, refl)
 
 found_removes : (net : Network) (m n : List ℕ) (k : ℕ) (q : Priced) → IsFound net m n k q → removes net q ≡ Removes m n k
 found_removes net m n k q f = rw (f.from, f.to, f.amount_is) refl
@@ -166,18 +200,20 @@ go_on_is_step net p (Ends m n) w g h = inner net (λ x. may_follow x (Ends m n) 
 go_on_is_step net p (Weighs k) w g h = inner net (λ x. may_follow x (Weighs k) ≡ false) (Some (Weighs p.weight)) p.printed p.flow refl (λ q. refl) (λ q. refl)
 go_on_is_step net p (Removes m n k) w g h = remove_is_step net p m n k p.flow refl w g h
 go_on_is_step net p (Flows m n k) w g h = flow_is_step net p m n k w g h
+go_on_is_step net p (Blocks names) w g h = inner net (λ x. may_follow x (Blocks names) ≡ false) (Some (Weighs p.weight)) p.printed p.flow refl (λ q. refl) (λ q. refl)
 go_on_is_step net p Last w g h = (record { form = tt; follows = last_follows net p.weight p.printed p.flow; known = tt; above = refl }, refl)
 
 -- the last of all lines
-pub last_is_end : (net : Network) (p : Part) → last_line net (Ended p) ≡ Some Last
-last_is_end net p = last_of-append None (front_lines net (entry_of_part p)) (Last ∷ [])
+pub last_is_end : (net : Network) (e : Entry) → last_line net (Ended e) ≡ Some Last
+last_is_end net e = last_of-append None (front_lines net e) (Last ∷ [])
 
 pub step_is : (net : Network) (s : Standing) (line : ReportLine) → IsNetwork net → AreGoodAfter net None (standing_lines net s) → HasForm line → StepIs net s line (step net s line)
 unfolding step
 step_is net Start line w g h = name_is_step net line w h
-step_is net (Named a b) line w g h = open_is_step net a b line h
+step_is net (Named a b) line w g h = open_is_step net a b line w h
 step_is net (Open p) line w g h = go_on_is_step net p line w g h
-step_is net (Ended p) line w g h = rw (last_is_end net p) (ended_follows line)
+step_is net (Shut a b chain) line w g h = shut_is_step net a b chain line
+step_is net (Ended e) line w g h = rw (last_is_end net e) (ended_follows line)
 
 -- before the end, the line before isn't the last
 pub not_ended : (net : Network) (p : Part) → last_line net (Open p) ≢ Some Last

@@ -17,7 +17,7 @@ use Rattle.cut_report.specs.ReportLine.{front_lines, entry_lines}
 use Rattle.cut_report.specs.Lines.{line_of_text}
 use Rattle.cut_report.specs.declared.fault.ReportFault.{ReportFault}
 use Rattle.cut_report.specs.declared.draft.Draft.{Draft}
-use Rattle.cut_report.specs.Drafts.{◌>>=◌, Fails, GivesAt, Standing, Start, Named, Open, Ended, entry_of_part, fault_at, finish_of, standing_of, step, text_step}
+use Rattle.cut_report.specs.Drafts.{◌>>=◌, Fails, GivesAt, Standing, Start, Named, Open, Shut, Ended, fault_at, finish_of, standing_of, step, text_step}
 use Rattle.cut_report.specs.Reading.{outcome_of}
 use Rattle.cut_report.proofs.LineLaws.{line_again, line_once, line_takes}
 use Rattle.cut_report.proofs.TextFronts.{end_without}
@@ -80,7 +80,8 @@ wrong : (net : Network) (s : Standing) (rest text : List ℕ) → BeginsWith res
 wrong net Start rest text b h = inr (λ e. absurd cc, (text, b, h))
 wrong net (Named x y) rest text b h = inr (λ e. absurd cc, (text, b, h))
 wrong net (Open p) rest text b h = inr (not_ended net p, (text, b, h))
-wrong net (Ended p) rest text b h = inl (last_is_end net p, nonempty rest text b)
+wrong net (Shut x y chain) rest text b h = inr (λ e. absurd cc, (text, b, h))
+wrong net (Ended e) rest text b h = inl (last_is_end net e, nonempty rest text b)
 
 next_front : (net : Network) (bytes : List ℕ) (lines : List ReportLine) (line : ReportLine) (rest after : List ℕ) → rest ≡ ended (report_line line) ++ after → IsFront net bytes lines rest → IsGoodAfter net (last_of None lines) line
     → IsFront net bytes (lines ++ line ∷ []) after
@@ -157,12 +158,13 @@ pub rest_is : (net : Network) (bytes : List ℕ) (s : Standing) (rest : List ℕ
 rest_is net bytes Start rest w f e = record { before = []; rest = rest; front = f; unended = end_without rest (cut_none_without 10 rest e); not_last = λ same. absurd cc }
 rest_is net bytes (Named a b) rest w f e = record { before = standing_lines net (Named a b); rest = rest; front = f; unended = end_without rest (cut_none_without 10 rest e); not_last = λ same. absurd cc }
 rest_is net bytes (Open p) rest w f e = record { before = standing_lines net (Open p); rest = rest; front = f; unended = end_without rest (cut_none_without 10 rest e); not_last = not_ended net p }
-rest_is net bytes (Ended p) [] w f e = record {
-  report = good_report net (entry_of_part p) w (good_front net None (front_lines net (entry_of_part p)) (Last ∷ []) f.good);
-  spelled = f.whole ∙ append-nil (written (entry_lines net (entry_of_part p)));
+rest_is net bytes (Shut a b chain) rest w f e = record { before = standing_lines net (Shut a b chain); rest = rest; front = f; unended = end_without rest (cut_none_without 10 rest e); not_last = λ same. absurd cc }
+rest_is net bytes (Ended entry) [] w f e = record {
+  report = good_report net entry w (good_front net None (front_lines net entry) (Last ∷ []) f.good);
+  spelled = f.whole ∙ append-nil (written (entry_lines net entry));
 }
-rest_is net bytes (Ended p) (b ∷ rest) w f e =
-    (length (standing_lines net (Ended p)), refl, record { before = standing_lines net (Ended p); rest = b ∷ rest; front = f; count = refl; wrong = inl (last_is_end net p, λ same. absurd cc) })
+rest_is net bytes (Ended entry) (b ∷ rest) w f e =
+    (length (standing_lines net (Ended entry)), refl, record { before = standing_lines net (Ended entry); rest = b ∷ rest; front = f; count = refl; wrong = inl (last_is_end net entry, λ same. absurd cc) })
 
 -- a good line, and the lines go on after it
 pub goes_on : (net : Network) (bytes : List ℕ) (s t : Standing) (rest text after : List ℕ) → IsNetwork net → IsFront net bytes (standing_lines net s) rest → cut_at 10 rest ≡ Some (text, after) → text_step net s text ≡ Ok t

@@ -4,9 +4,10 @@ use Rattle.std.specs.Option.{ok_or}
 use Rattle.cut_net.specs.declared.priced.Priced.{Priced}
 use Rattle.cut_net.specs.Network.{Network, index_of}
 use Rattle.cut_net.specs.Lines.{comes_before}
-use Rattle.cut_net.specs.Said.{CutOf}
+use Rattle.cut_net.specs.declared.cut.Cut.{Cut}
+use Rattle.cut_net.specs.Said.{CutOf, BlockedBy}
 use Rattle.cut_report.specs.Entry.{Entry}
-use Rattle.cut_report.specs.ReportLine.{ReportLine, Ends, Weighs, Removes, Flows, Last}
+use Rattle.cut_report.specs.ReportLine.{ReportLine, Ends, Weighs, Removes, Flows, Blocks, Last}
 use Rattle.cut_report.specs.ReportLines.{ReportOutcome, Reads, BadLine, NoEnd}
 use Rattle.cut_report.specs.declared.fault.LineFault.{LineFault}
 use Rattle.cut_report.specs.declared.fault.LineFault.TheVariants as faults
@@ -14,8 +15,8 @@ use Rattle.cut_report.specs.declared.fault.ReportFault.{ReportFault}
 use Rattle.cut_report.specs.declared.fault.ReportFault.TheVariants as report_faults
 use Rattle.cut_report.specs.declared.draft.Draft.{Draft}
 use Rattle.cut_report.specs.declared.draft.Draft.TheVariants as drafts
-use Rattle.cut_report.specs.declared.report.Report.{Report}
 use Rattle.cut_report.specs.Lines.{line_of_text}
+use Rattle.cut_report.specs.Reading.{entry_of}
 
 infixl 10 ◌>>=◌
 abbrev pub ◌>>=◌ : {A B E : Type 0} → Result A E → (A → Result B E) → Result B E
@@ -33,21 +34,27 @@ pub record Part : Type 0 where
 abbrev pub entry_of_part : Part → Entry
 entry_of_part p = record { from = p.from; to = p.to; said = CutOf p.weight p.printed p.flow }
 
--- what is read so far: nothing, the first line, more lines, all lines
+-- a chain of pins between two modules
+abbrev pub blocked_entry : ℕ → ℕ → List ℕ → Entry
+blocked_entry a b chain = record { from = a; to = b; said = BlockedBy chain }
+
+-- what is read so far: nothing, the first line, more lines of a cut, a chain of pins, all lines
 pub data Standing : Type 0 where
   Start : Standing
   Named : ℕ → ℕ → Standing
   Open : Part → Standing
-  Ended : Part → Standing
+  Shut : ℕ → ℕ → List ℕ → Standing
+  Ended : Entry → Standing
 
-abbrev pub part_of : Report → Part
-part_of r = record { from = r.from; to = r.to; weight = r.cut.weight; printed = r.cut.imports.items; flow = r.cut.flow.items }
+abbrev pub part_of : ℕ → ℕ → Cut → Part
+part_of a b cut = record { from = a; to = b; weight = cut.weight; printed = cut.imports.items; flow = cut.flow.items }
 
 abbrev pub standing_of : Draft → Standing
 standing_of drafts.Start = Start
 standing_of (drafts.Named a b) = Named a b
-standing_of (drafts.Open r) = Open (part_of r)
-standing_of (drafts.Ended r) = Ended (part_of r)
+standing_of (drafts.Open a b cut) = Open (part_of a b cut)
+standing_of (drafts.Shut a b chain) = Shut a b chain.items
+standing_of (drafts.Ended r) = Ended (entry_of r)
 
 -- the last of the imports, or what stood before them
 abbrev pub last_import : Option Priced → List Priced → Option Priced
@@ -73,14 +80,24 @@ named_by net (Ends m n) = do
 named_by net (Weighs w) = Err faults.BadLine
 named_by net (Removes m n w) = Err faults.BadLine
 named_by net (Flows m n f) = Err faults.BadLine
+named_by net (Blocks names) = Err faults.BadLine
 named_by net Last = Err faults.BadLine
 
-unfoldable pub opened_by : ℕ → ℕ → ReportLine → Result Standing LineFault
-opened_by a b (Ends m n) = Err faults.BadLine
-opened_by a b (Weighs w) = Ok (Open (record { from = a; to = b; weight = w; printed = []; flow = [] }))
-opened_by a b (Removes m n w) = Err faults.BadLine
-opened_by a b (Flows m n f) = Err faults.BadLine
-opened_by a b Last = Err faults.BadLine
+-- the modules of these names
+abbrev pub chain_of : Network → List (List ℕ) → Result (List ℕ) LineFault
+chain_of net [] = Ok []
+chain_of net (name ∷ names) = do
+  m ← ok_or (index_of net name) faults.UnknownName
+  more ← chain_of net names
+  Ok (m ∷ more)
+
+unfoldable pub opened_by : Network → ℕ → ℕ → ReportLine → Result Standing LineFault
+opened_by net a b (Ends m n) = Err faults.BadLine
+opened_by net a b (Weighs w) = Ok (Open (record { from = a; to = b; weight = w; printed = []; flow = [] }))
+opened_by net a b (Removes m n w) = Err faults.BadLine
+opened_by net a b (Flows m n f) = Err faults.BadLine
+opened_by net a b (Blocks names) = chain_of net names >>= λ chain. Ok (Shut a b chain)
+opened_by net a b Last = Err faults.BadLine
 
 -- with one more import to be removed, if no flow is there yet
 abbrev pub with_removed : Network → Part → List Priced → List ℕ → List ℕ → ℕ → Result Standing LineFault
@@ -92,13 +109,23 @@ going_on net p (Ends m n) = Err faults.BadLine
 going_on net p (Weighs w) = Err faults.BadLine
 going_on net p (Removes m n w) = with_removed net p p.flow m n w
 going_on net p (Flows m n f) = import_of net (last_import None p.flow) m n f >>= λ next. Ok (Open (record p { flow = p.flow ++ next ∷ [] }))
-going_on net p Last = Ok (Ended p)
+going_on net p (Blocks names) = Err faults.BadLine
+going_on net p Last = Ok (Ended (entry_of_part p))
+
+unfoldable pub shut_by : ℕ → ℕ → List ℕ → ReportLine → Result Standing LineFault
+shut_by a b chain (Ends m n) = Err faults.BadLine
+shut_by a b chain (Weighs w) = Err faults.BadLine
+shut_by a b chain (Removes m n w) = Err faults.BadLine
+shut_by a b chain (Flows m n f) = Err faults.BadLine
+shut_by a b chain (Blocks names) = Err faults.BadLine
+shut_by a b chain Last = Ok (Ended (blocked_entry a b chain))
 
 unfoldable pub step : Network → Standing → ReportLine → Result Standing LineFault
 step net Start line = named_by net line
-step net (Named a b) line = opened_by a b line
+step net (Named a b) line = opened_by net a b line
 step net (Open p) line = going_on net p line
-step net (Ended p) line = Err faults.BadLine
+step net (Shut a b chain) line = shut_by a b chain line
+step net (Ended e) line = Err faults.BadLine
 
 -- with the line of this text
 unfoldable pub text_step : Network → Standing → List ℕ → Result Standing LineFault
@@ -109,8 +136,9 @@ abbrev pub finish_of : Standing → ℕ → List ℕ → ReportOutcome
 finish_of Start before rest = NoEnd
 finish_of (Named a b) before rest = NoEnd
 finish_of (Open p) before rest = NoEnd
-finish_of (Ended p) before [] = Reads (entry_of_part p)
-finish_of (Ended p) before (_ ∷ _) = BadLine (before + 1)
+finish_of (Shut a b chain) before rest = NoEnd
+finish_of (Ended e) before [] = Reads e
+finish_of (Ended e) before (_ ∷ _) = BadLine (before + 1)
 
 -- what a function returned is this, seen by view, unless memory ran out
 abbrev pub Fails : {Y : Type 0} → LineFault → Result Y LineFault → Type 0

@@ -1,10 +1,19 @@
 -- A line of a report, read field by field: what the private functions of the reader give.
-use Rattle.std.specs.Prelude.{ℕ, ◌&&◌, nat_lt, List, codes, Option, Some, None, if◌then◌else◌}
+use Rattle.std.specs.Prelude.{ℕ, ◌==◌, ◌&&◌, nat_lt, List, ◌∷◌, ◌++◌, codes, Option, Some, None, if◌then◌else◌}
+use Rattle.std.specs.List.{list_all, slice_split}
 use Rattle.std.specs.Str.{bytes_eq}
-use Rattle.texts.specs.Fields.{cut_at, named, number_of}
-use Rattle.cut_report.specs.ReportLine.{ReportLine, Ends, Weighs, Removes, Flows, Last}
+use Rattle.texts.specs.Fields.{cut_at, is_name, named, number_of}
+use Rattle.cut_report.specs.ReportLine.{ReportLine, Ends, Weighs, Removes, Flows, Blocks, Last}
 use Rattle.cut_report.specs.declared.line.Line.{Line}
 use Rattle.cut_report.specs.declared.line.Line.TheVariants as lines
+
+-- what stands between blanks
+abbrev pub words_of : List ℕ → List (List ℕ)
+words_of bytes = slice_split (λ b. b == 32) bytes
+
+-- a word behind the text of this many words
+abbrev pub with_next : List ℕ → ℕ → List ℕ → List ℕ
+with_next text count word = if count == 0 then text ++ word else text ++ 32 ∷ word
 
 -- what the line says, without where its names lie
 abbrev pub line_seen : Line → ReportLine
@@ -12,6 +21,7 @@ line_seen (lines.Ends m n) = Ends m.now n.now
 line_seen (lines.Weighs w) = Weighs w
 line_seen (lines.Removes m n w) = Removes m.now n.now w
 line_seen (lines.Flows m n f) = Flows m.now n.now f
+line_seen (lines.Blocks names) = Blocks (words_of names.now)
 line_seen lines.Last = Last
 
 infixl 10 ◌>>=◌
@@ -43,12 +53,17 @@ import_under word x =
     if bytes_eq word (codes "remove") then Some (Removes x.0 x.1 x.2)
     else (if bytes_eq word (codes "flow") && nat_lt 0 x.2 then Some (Flows x.0 x.1 x.2) else None)
 
+-- one or more names
+unfoldable pub blocks_of : List ℕ → Option ReportLine
+blocks_of fields = if list_all is_name (words_of fields) then Some (Blocks (words_of fields)) else None
+
 -- the line of these fields after its word
 unfoldable pub line_under : List ℕ → List ℕ → Option ReportLine
 line_under word fields =
     if bytes_eq word (codes "cut") then (ends_of fields >>= λ x. Some (Ends x.0 x.1))
     else (if bytes_eq word (codes "weight") then (number_of fields >>= λ w. Some (Weighs w))
-    else (amount_of fields >>= import_under word))
+    else (if bytes_eq word (codes "blocked") then blocks_of fields
+    else (amount_of fields >>= import_under word)))
 
 -- the line of this text
 unfoldable pub line_of_text : List ℕ → Option ReportLine

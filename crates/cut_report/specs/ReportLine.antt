@@ -5,15 +5,17 @@ use Rattle.std.specs.Fmt.{decimal}
 use Rattle.cut_net.specs.declared.priced.Priced.{Priced}
 use Rattle.texts.specs.Fields.{ended, line_of}
 use Rattle.cut_net.specs.Network.{Network, name_of}
-use Rattle.cut_net.specs.Said.{Said, CutOf}
+use Rattle.cut_net.specs.Said.{Said, CutOf, BlockedBy}
 use Rattle.cut_report.specs.Entry.{Entry}
 
--- what a line says: the two modules, the weight, an import to be removed with its weight, one with its flow, the end
+-- what a line says: the two modules, the weight, an import to be removed with its weight, one with its flow, the names of a chain of pins,
+-- the end
 pub data ReportLine : Type 0 where
   Ends : List ℕ → List ℕ → ReportLine
   Weighs : ℕ → ReportLine
   Removes : List ℕ → List ℕ → ℕ → ReportLine
   Flows : List ℕ → List ℕ → ℕ → ReportLine
+  Blocks : List (List ℕ) → ReportLine
   Last : ReportLine
 
 -- how it is spelled
@@ -22,6 +24,7 @@ report_line (Ends m n) = line_of (codes "cut" ∷ m ∷ n ∷ [])
 report_line (Weighs w) = line_of (codes "weight" ∷ decimal w ∷ [])
 report_line (Removes m n w) = line_of (codes "remove" ∷ m ∷ n ∷ decimal w ∷ [])
 report_line (Flows m n f) = line_of (codes "flow" ∷ m ∷ n ∷ decimal f ∷ [])
+report_line (Blocks names) = line_of (codes "blocked" ∷ names)
 report_line Last = codes "end"
 
 -- the bytes of the lines, each with its end
@@ -39,6 +42,7 @@ flows net line = Flows (name_of net line.from) (name_of net line.to) line.amount
 -- the lines between the first and the last
 abbrev pub said_lines : Network → Said → List ReportLine
 said_lines net (CutOf total printed flow) = Weighs total ∷ (map (removes net) printed ++ map (flows net) flow)
+said_lines net (BlockedBy chain) = Blocks (map (name_of net) chain) ∷ []
 
 -- the lines before the last
 abbrev pub front_lines : Network → Entry → List ReportLine

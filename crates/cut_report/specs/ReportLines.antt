@@ -1,54 +1,68 @@
 -- Which lines of a report may stand where, and the first fault of a text that is none. Lines are numbered from 1.
-use Rattle.std.specs.Prelude.{◌≡◌, ◌≢◌, ◌⊎◌, ℕ, ◌+◌, ◌<◌, ◌^◌, ◌==◌, ◌&&◌, ◌||◌, Bool, true, false, List, [], ◌∷◌, ◌++◌, length, Option, Some, None, Contains}
-use Rattle.std.specs.List.{list_any}
+use Rattle.std.specs.Prelude.{◌≡◌, ◌≢◌, ◌⊎◌, ℕ, ◌+◌, ◌<◌, ◌^◌, ◌==◌, ◌&&◌, ◌||◌, Bool, true, false, List, [], ◌∷◌, ◌++◌, length, Option, Some, None, All, Contains}
+use Rattle.std.specs.List.{list_all, list_any}
 use Rattle.std.specs.Str.{bytes_eq}
 use Rattle.std.specs.Ordering.{nat_cmp, is_lt}
 use Rattle.std.specs.Cmp.Lexicographic.{slice_cmp}
 use Rattle.texts.specs.Fields.{ended, is_name}
 use Rattle.cut_net.specs.Network.{Network}
 use Rattle.cut_report.specs.Entry.{Entry}
-use Rattle.cut_report.specs.ReportLine.{ReportLine, Ends, Weighs, Removes, Flows, Last, report_line, written}
+use Rattle.cut_report.specs.ReportLine.{ReportLine, Ends, Weighs, Removes, Flows, Blocks, Last, report_line, written}
 use Rattle.cut_report.specs.ReportText.{ReportText}
 
--- names are names, numbers fit 64 bits, and no flow is 0
+-- names are names, numbers fit 64 bits, no flow is 0, and no chain is empty
 abbrev pub HasForm : ReportLine → Type 0
 HasForm (Ends m n) = (is_name m ≡ true) × (is_name n ≡ true)
 HasForm (Weighs w) = w < 2 ^ 64
 HasForm (Removes m n w) = (is_name m ≡ true) × (is_name n ≡ true) × (w < 2 ^ 64)
 HasForm (Flows m n f) = (is_name m ≡ true) × (is_name n ≡ true) × (f < 2 ^ 64) × (0 < f)
+HasForm (Blocks names) = (0 < length names) × (list_all is_name names ≡ true)
 HasForm Last = Unit {0}
 
--- which kinds of line may follow which: the two modules, the weight, remove lines, flow lines, the end
+-- which kinds of line may follow which: the two modules, the weight, remove lines, flow lines, the end; or the two modules, a chain of pins,
+-- the end
 abbrev pub may_follow : Option ReportLine → ReportLine → Bool
 may_follow None (Ends _ _) = true
 may_follow None (Weighs _) = false
 may_follow None (Removes _ _ _) = false
 may_follow None (Flows _ _ _) = false
+may_follow None (Blocks _) = false
 may_follow None Last = false
 may_follow (Some (Ends _ _)) (Ends _ _) = false
 may_follow (Some (Ends _ _)) (Weighs _) = true
 may_follow (Some (Ends _ _)) (Removes _ _ _) = false
 may_follow (Some (Ends _ _)) (Flows _ _ _) = false
+may_follow (Some (Ends _ _)) (Blocks _) = true
 may_follow (Some (Ends _ _)) Last = false
 may_follow (Some (Weighs _)) (Ends _ _) = false
 may_follow (Some (Weighs _)) (Weighs _) = false
 may_follow (Some (Weighs _)) (Removes _ _ _) = true
 may_follow (Some (Weighs _)) (Flows _ _ _) = true
+may_follow (Some (Weighs _)) (Blocks _) = false
 may_follow (Some (Weighs _)) Last = true
 may_follow (Some (Removes _ _ _)) (Ends _ _) = false
 may_follow (Some (Removes _ _ _)) (Weighs _) = false
 may_follow (Some (Removes _ _ _)) (Removes _ _ _) = true
 may_follow (Some (Removes _ _ _)) (Flows _ _ _) = true
+may_follow (Some (Removes _ _ _)) (Blocks _) = false
 may_follow (Some (Removes _ _ _)) Last = true
 may_follow (Some (Flows _ _ _)) (Ends _ _) = false
 may_follow (Some (Flows _ _ _)) (Weighs _) = false
 may_follow (Some (Flows _ _ _)) (Removes _ _ _) = false
 may_follow (Some (Flows _ _ _)) (Flows _ _ _) = true
+may_follow (Some (Flows _ _ _)) (Blocks _) = false
 may_follow (Some (Flows _ _ _)) Last = true
+may_follow (Some (Blocks _)) (Ends _ _) = false
+may_follow (Some (Blocks _)) (Weighs _) = false
+may_follow (Some (Blocks _)) (Removes _ _ _) = false
+may_follow (Some (Blocks _)) (Flows _ _ _) = false
+may_follow (Some (Blocks _)) (Blocks _) = false
+may_follow (Some (Blocks _)) Last = true
 may_follow (Some Last) (Ends _ _) = false
 may_follow (Some Last) (Weighs _) = false
 may_follow (Some Last) (Removes _ _ _) = false
 may_follow (Some Last) (Flows _ _ _) = false
+may_follow (Some Last) (Blocks _) = false
 may_follow (Some Last) Last = false
 
 -- a module of the network has the name
@@ -61,6 +75,7 @@ IsKnown net (Ends m n) = IsKnownName net m × IsKnownName net n
 IsKnown net (Weighs w) = Unit {0}
 IsKnown net (Removes m n w) = IsKnownName net m × IsKnownName net n
 IsKnown net (Flows m n f) = IsKnownName net m × IsKnownName net n
+IsKnown net (Blocks names) = All (IsKnownName net) names
 IsKnown net Last = Unit {0}
 
 -- the one pair of names comes before the other, by their bytes
@@ -74,6 +89,7 @@ is_above_removed (Some (Ends _ _)) m n = true
 is_above_removed (Some (Weighs _)) m n = true
 is_above_removed (Some (Removes k l _)) m n = is_before k l m n
 is_above_removed (Some (Flows _ _ _)) m n = true
+is_above_removed (Some (Blocks _)) m n = true
 is_above_removed (Some Last) m n = true
 
 -- the names come after those of the line before, if that is a flow line
@@ -83,6 +99,7 @@ is_above_flow (Some (Ends _ _)) m n = true
 is_above_flow (Some (Weighs _)) m n = true
 is_above_flow (Some (Removes _ _ _)) m n = true
 is_above_flow (Some (Flows k l _)) m n = is_before k l m n
+is_above_flow (Some (Blocks _)) m n = true
 is_above_flow (Some Last) m n = true
 
 -- a remove line is above the remove line before it, and a flow line above the flow line before it
@@ -91,6 +108,7 @@ is_above last (Ends _ _) = true
 is_above last (Weighs _) = true
 is_above last (Removes m n _) = is_above_removed last m n
 is_above last (Flows m n _) = is_above_flow last m n
+is_above last (Blocks _) = true
 is_above last Last = true
 
 -- the line may stand after the one before it

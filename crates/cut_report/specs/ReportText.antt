@@ -4,7 +4,7 @@ use Rattle.cut_net.specs.declared.priced.Priced.{Priced}
 use Rattle.cut_net.specs.Network.{Network}
 use Rattle.cut_net.specs.Lines.{IsAscending}
 use Rattle.cut_net.specs.WellFormed.{AreBetween}
-use Rattle.cut_net.specs.Said.{Said, CutOf}
+use Rattle.cut_net.specs.Said.{Said, CutOf, BlockedBy}
 use Rattle.cut_report.specs.Entry.{Entry}
 use Rattle.cut_report.specs.ReportLine.{entry_lines, written}
 
@@ -23,8 +23,10 @@ pub record IsSayable (net : Network) (total : ℕ) (printed flow : List Priced) 
   pub flow_fits : All (λ line. line.amount < 2 ^ 64) flow
   pub flow_above_zero : All (λ line. 0 < line.amount) flow
 
+-- such a cut, or one or more modules that there are
 abbrev pub MaySay : Network → Said → Type 0
 MaySay net (CutOf total printed flow) = IsSayable net total printed flow
+MaySay net (BlockedBy chain) = (0 < length chain) × All (λ m. m < length net.names) chain
 
 -- the report is of modules that there are, and may say what it says
 pub record IsReport (net : Network) (entry : Entry) : Type 0 where

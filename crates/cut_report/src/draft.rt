@@ -1,13 +1,13 @@
 //! A report that is read line by line.
 ghost use Rattle.std.specs.Prelude.{◌≡◌, ◌+◌, ◌<◌, ◌^◌, None, Some, length};
-ghost use Rattle.cut_report.specs.Lines.{line_seen};
+ghost use Rattle.cut_report.specs.Lines.{line_seen, words_of};
 ghost use Rattle.cut_report.specs.Reading.{outcome_of};
-ghost use Rattle.cut_report.specs.Drafts.{finish_of, going_on, import_of, is_after, last_import, named_by, opened_by, part_of, standing_of, step, text_step, Gives, GivesAt};
+ghost use Rattle.cut_report.specs.Drafts.{chain_of, finish_of, going_on, import_of, is_after, last_import, named_by, opened_by, part_of, shut_by, standing_of, step, text_step, Gives, GivesAt};
 
 use crate::fault::LineFault;
 use crate::line::{Line, line_in};
 use crate::{Report, ReportFault};
-use cut_net::{Cut, Net, Priced};
+use cut_net::{Answer, Cut, Net, Priced};
 use std::alloc::Global;
 
 /// What is read so far.
@@ -17,8 +17,10 @@ pub(crate) enum Draft {
     Start,
     /// The first line, with the numbers of its modules.
     Named(u32, u32),
-    /// More lines, but not the last.
-    Open(Report),
+    /// More lines of a cut between these modules, but not the last.
+    Open(u32, u32, Cut),
+    /// A chain of pins between these modules.
+    Shut(u32, u32, Vec<u32>),
     /// All lines.
     Ended(Report),
 }
@@ -73,43 +75,78 @@ fn with_ends(net: &Net, line: Line) -> Result<Draft, LineFault>
     Ok(Draft::Named(from, to))
 }
 
+/// The modules of these names, which have a blank between each two.
+fn chain_in(alloc: Global, net: &Net, names: &str) -> Result<Vec<u32>, LineFault>
+    ensures { Gives (λ chain. chain.items) result (chain_of net.now (words_of names.now)) }
+{
+    let mut chain = Vec::new(alloc);
+    for name in names.split(' ') {
+        let Some(module) = net.index_of(name) else {
+            return Err(LineFault::UnknownName);
+        };
+        chain.push(module)?;
+    }
+    Ok(chain)
+}
+
 /// The line after the first.
 #[tactic(auto, unfolding(crate::specs::Drafts::opened_by))]
-fn with_weight(alloc: Global, from: u32, to: u32, line: Line) -> Result<Draft, LineFault>
-    ensures { Gives standing_of result (opened_by from to (line_seen line.entry)) }
+fn with_second(alloc: Global, net: &Net, from: u32, to: u32, line: Line) -> Result<Draft, LineFault>
+    ensures { Gives standing_of result (opened_by net.now from to (line_seen line.entry)) }
 {
-    let Line::Weighs(weight) = line else {
-        return Err(LineFault::BadLine);
-    };
-    let cut = Cut {
-        imports: Vec::new(alloc),
-        weight,
-        flow: Vec::new(alloc),
-    };
-    Ok(Draft::Open(Report { from, to, cut }))
+    match line {
+        Line::Weighs(weight) => {
+            let cut = Cut {
+                imports: Vec::new(alloc),
+                weight,
+                flow: Vec::new(alloc),
+            };
+            Ok(Draft::Open(from, to, cut))
+        }
+        Line::Blocks(names) => {
+            let chain = chain_in(alloc, net, names)?;
+            Ok(Draft::Shut(from, to, chain))
+        }
+        _ => Err(LineFault::BadLine),
+    }
 }
 
 /// A later line. No remove line follows a flow line.
 #[tactic(auto, unfolding(crate::specs::Drafts::going_on))]
-fn with_more(mut report: Report, net: &Net, line: Line) -> Result<Draft, LineFault>
-    ensures { Gives standing_of result (going_on net.now (part_of report) (line_seen line.entry)) }
+fn with_more(from: u32, to: u32, mut cut: Cut, net: &Net, line: Line) -> Result<Draft, LineFault>
+    ensures { Gives standing_of result (going_on net.now (part_of from to cut) (line_seen line.entry)) }
 {
     match line {
-        Line::Removes(from, to, weight) if report.cut.flow.is_empty() => {
-            let last = last_in(report.cut.imports.as_slice());
-            let next = import_in(net, last, from, to, weight)?;
-            report.cut.imports.push(next)?;
-            Ok(Draft::Open(report))
+        Line::Removes(importer, imported, weight) if cut.flow.is_empty() => {
+            let last = last_in(cut.imports.as_slice());
+            let next = import_in(net, last, importer, imported, weight)?;
+            cut.imports.push(next)?;
+            Ok(Draft::Open(from, to, cut))
         }
-        Line::Flows(from, to, flow) => {
-            let last = last_in(report.cut.flow.as_slice());
-            let next = import_in(net, last, from, to, flow)?;
-            report.cut.flow.push(next)?;
-            Ok(Draft::Open(report))
+        Line::Flows(importer, imported, flow) => {
+            let last = last_in(cut.flow.as_slice());
+            let next = import_in(net, last, importer, imported, flow)?;
+            cut.flow.push(next)?;
+            Ok(Draft::Open(from, to, cut))
         }
-        Line::Last => Ok(Draft::Ended(report)),
+        Line::Last => {
+            let answer = Answer::Cut(cut);
+            Ok(Draft::Ended(Report { from, to, answer }))
+        }
         _ => Err(LineFault::BadLine),
     }
+}
+
+/// The line after a chain of pins.
+#[tactic(auto, unfolding(crate::specs::Drafts::shut_by))]
+fn with_end(from: u32, to: u32, chain: Vec<u32>, line: Line) -> Result<Draft, LineFault>
+    ensures { Gives standing_of result (shut_by from to chain.items (line_seen line.entry)) }
+{
+    let Line::Last = line else {
+        return Err(LineFault::BadLine);
+    };
+    let answer = Answer::Blocked { chain };
+    Ok(Draft::Ended(Report { from, to, answer }))
 }
 
 impl Draft {
@@ -119,8 +156,9 @@ impl Draft {
     {
         match self {
             Draft::Start => with_ends(net, line),
-            Draft::Named(from, to) => with_weight(alloc, from, to, line),
-            Draft::Open(report) => with_more(report, net, line),
+            Draft::Named(from, to) => with_second(alloc, net, from, to, line),
+            Draft::Open(from, to, cut) => with_more(from, to, cut, net, line),
+            Draft::Shut(from, to, chain) => with_end(from, to, chain, line),
             Draft::Ended(_) => Err(LineFault::BadLine),
         }
     }
@@ -158,7 +196,9 @@ impl Draft {
         match self {
             Draft::Ended(report) if rest.is_empty() => Ok(report),
             Draft::Ended(_) => Err(ReportFault::BadLine { line: before + 1 }),
-            Draft::Start | Draft::Named(..) | Draft::Open(_) => Err(ReportFault::NoEnd),
+            Draft::Start | Draft::Named(..) | Draft::Open(..) | Draft::Shut(..) => {
+                Err(ReportFault::NoEnd)
+            }
         }
     }
 }

@@ -1,4 +1,4 @@
-//! Reports on cuts: their one spelling, the reader and the writer of it.
+//! Reports on cuts and on chains of pins: their one spelling, the reader and the writer of it.
 //! Stands on `texts`, `cut_net`, and on `byte_sink`, whose names it gives out again, with `thiserror` for its faults.
 //! Its contract: a report is put as its one text, or a front of it; what is read is exactly what the text says, or its first fault; what was written is read again.
 #![tactic(auto)]

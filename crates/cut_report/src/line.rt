@@ -1,9 +1,11 @@
 //! The lines of a report, each spelled and read by itself.
 ghost use Rattle.std.specs.Prelude.{◌≡◌, option_map};
-ghost use Rattle.cut_report.specs.Lines.{amount_of, ends_of, line_of_text, line_seen, line_under};
+ghost use Rattle.std.specs.List.{list_all};
+ghost use Rattle.texts.specs.Fields.{is_name};
+ghost use Rattle.cut_report.specs.Lines.{amount_of, blocks_of, ends_of, line_of_text, line_seen, line_under, words_of};
 
 use std::fmt;
-use texts::fields::{cut_at_byte, name_in, number_in};
+use texts::fields::{cut_at_byte, is_identifier, name_in, number_in};
 
 /// What a line says.
 #[derive(Clone, Copy, Drop)]
@@ -16,6 +18,8 @@ pub(crate) enum Line<'a> {
     Removes(&'a str, &'a str, u64),
     /// An import that carries flow, with its flow.
     Flows(&'a str, &'a str, u64),
+    /// The names of a chain of pins, with a blank between each two.
+    Blocks(&'a str),
     /// The end.
     Last,
 }
@@ -34,6 +38,7 @@ impl fmt::Display for Line<'_> {
             Line::Weighs(weight) => write!(f, "weight {weight}"),
             Line::Removes(from, to, weight) => write!(f, "remove {from} {to} {weight}"),
             Line::Flows(from, to, flow) => write!(f, "flow {from} {to} {flow}"),
+            Line::Blocks(names) => write!(f, "blocked {names}"),
             Line::Last => write!(f, "end"),
         }
     }
@@ -63,6 +68,24 @@ fn amount_in(fields: &[u8]) -> Option<(&str, &str, u64)>
     Some((from, to, amount))
 }
 
+/// Whether each of the words is a name.
+fn are_names(text: &str) -> bool
+    ensures { result ≡ list_all is_name (words_of text.now) }
+{
+    text.split(' ').all(|word| is_identifier(word.as_bytes()))
+}
+
+/// One or more names.
+#[tactic(auto, unfolding(crate::specs::Lines::blocks_of))]
+fn chain_in(fields: &[u8]) -> Option<Line<'_>>
+    ensures { option_map line_seen result ≡ blocks_of fields.now }
+{
+    match std::str::from_utf8(fields) {
+        Err(_) => None,
+        Ok(names) => are_names(names).then_some(Line::Blocks(names)),
+    }
+}
+
 /// The fields after a word.
 #[tactic(auto, unfolding(crate::specs::Lines::line_under))]
 fn fields_in<'a>(word: &[u8], fields: &'a [u8]) -> Option<Line<'a>>
@@ -75,6 +98,9 @@ fn fields_in<'a>(word: &[u8], fields: &'a [u8]) -> Option<Line<'a>>
     if word == b"weight".as_slice() {
         let weight = number_in(fields)?;
         return Some(Line::Weighs(weight));
+    }
+    if word == b"blocked".as_slice() {
+        return chain_in(fields);
     }
     let (from, to, amount) = amount_in(fields)?;
     if word == b"remove".as_slice() {

@@ -27,7 +27,7 @@ fn read_lines(alloc: Global, bytes: &[u8], net: &Net) -> Result<Report, ReportFa
     draft.finish(before, rest)
 }
 
-/// What the bytes say of a cut in the network, or their first fault by lines; Memory where a growth was refused.
+/// What the bytes say of two modules of the network, or their first fault by lines; Memory where a growth was refused.
 pub fn read(alloc: Global, bytes: &[u8], net: &Net) -> Result<Report, ReportFault>
     // It is a report of the text, or a fault that the text has.
     ensures exact { IfSome (outcome_of result) (IsReportOutcome net.now bytes.now) }

@@ -1,18 +1,21 @@
 //! Writing a report.
-ghost use Rattle.std.specs.Prelude.{◌≡◌, ◌++◌, true, length, map, IfErr, IfOk, OnOk};
+ghost use Rattle.std.specs.Prelude.{◌≡◌, ◌++◌, ◌<◌, true, length, map, All, IfErr, IfOk, OnOk};
 ghost use Rattle.std.specs.String.{string_bytes};
-ghost use Rattle.texts.specs.Fields.{ended};
-ghost use Rattle.cut_report.specs.ReportLine.{flows, removes, report_line, written};
-ghost use Rattle.cut_report.specs.ReportText.{report_text, IsReport};
+ghost use Rattle.texts.specs.Fields.{ended, line_of};
+ghost use Rattle.cut_net.specs.Answers.{said_by_cut};
+ghost use Rattle.cut_net.specs.Network.{name_of};
+ghost use Rattle.cut_net.specs.Said.{BlockedBy};
+ghost use Rattle.cut_report.specs.ReportLine.{flows, removes, report_line, said_lines, written};
+ghost use Rattle.cut_report.specs.ReportText.{report_text, IsReport, MaySay};
 ghost use Rattle.cut_net.specs.WellFormed.{AreBetween};
 ghost use Rattle.cut_report.specs.Faults.{is_failure, is_of_sink};
-ghost use Rattle.cut_report.specs.Lines.{line_seen};
+ghost use Rattle.cut_report.specs.Lines.{line_seen, with_next};
 ghost use Rattle.cut_report.specs.Reading.{said_of};
 ghost use Rattle.byte_sink.specs.Sinks.{failures_by, PutsBy};
 
 use crate::line::Line;
 use crate::{ReportFault, Sink, put_all};
-use cut_net::{Cut, Net, Priced};
+use cut_net::{Answer, Cut, Net, Priced};
 use std::alloc::{AllocError, Global};
 
 /// Puts a line with its end behind the text.
@@ -48,42 +51,88 @@ fn push_flows(text: &mut String, net: &Net, imports: &[Priced]) -> Result<(), Al
     Ok(())
 }
 
-/// The one text of the report.
-fn text_of(alloc: Global, net: &Net, from: u32, to: u32, cut: &Cut) -> Result<String, AllocError>
-    requires { IsReport net.now (said_of from to cut.now) }
-    ensures { IfOk result (λ t. string_bytes t ≡ report_text net.now (said_of from to cut.now)) }
+/// Puts the lines of a cut behind the text.
+fn push_cut(text: &mut String, net: &Net, cut: &Cut) -> Result<(), AllocError>
+    requires { MaySay net.now (said_by_cut cut.now) }
+    ensures { OnOk result (string_bytes text.new ≡ string_bytes text.old ++ written (said_lines net.now (said_by_cut cut.now))) }
 {
-    let removed = cut.imports.as_slice();
-    let flow = cut.flow.as_slice();
+    push_line(text, Line::Weighs(cut.weight))?;
+    push_removes(text, net, cut.imports.as_slice())?;
+    push_flows(text, net, cut.flow.as_slice())
+}
+
+/// Puts a word behind the text, and a blank between them, if the word isn't the first.
+fn push_word(text: &mut String, count: usize, word: &str) -> Result<(), AllocError>
+    ensures { OnOk result (string_bytes text.new ≡ with_next (string_bytes text.old) count word.now) }
+{
+    if count > 0 {
+        text.push_str(" ")?;
+    }
+    text.push_str(word)
+}
+
+/// The names of the modules, with a blank between each two.
+fn names_of(alloc: Global, net: &Net, modules: &[u32]) -> Result<String, AllocError>
+    requires { All (λ m. m < length net.now.names) modules.now }
+    ensures { IfOk result (λ t. string_bytes t ≡ line_of (map (name_of net.now) modules.now)) }
+{
+    let mut text = String::new(alloc);
+    for (k, module) in modules.iter().enumerate() {
+        push_word(&mut text, k, net.name(*module))?;
+    }
+    Ok(text)
+}
+
+/// Puts the line of a chain of pins behind the text.
+fn push_chain(alloc: Global, text: &mut String, net: &Net, chain: &[u32]) -> Result<(), AllocError>
+    requires { MaySay net.now (BlockedBy chain.now) }
+    ensures { OnOk result (string_bytes text.new ≡ string_bytes text.old ++ written (said_lines net.now (BlockedBy chain.now))) }
+{
+    let names = names_of(alloc, net, chain)?;
+    push_line(text, Line::Blocks(names.as_str()))
+}
+
+/// The one text of the report.
+fn text_of(
+    alloc: Global,
+    net: &Net,
+    from: u32,
+    to: u32,
+    answer: &Answer,
+) -> Result<String, AllocError>
+    requires { IsReport net.now (said_of from to answer.now) }
+    ensures { IfOk result (λ t. string_bytes t ≡ report_text net.now (said_of from to answer.now)) }
+{
     let mut text = String::new(alloc);
     push_line(&mut text, Line::Ends(net.name(from), net.name(to)))?;
-    push_line(&mut text, Line::Weighs(cut.weight))?;
-    push_removes(&mut text, net, removed)?;
-    push_flows(&mut text, net, flow)?;
+    match answer {
+        Answer::Cut(cut) => push_cut(&mut text, net, cut)?,
+        Answer::Blocked { chain } => push_chain(alloc, &mut text, net, chain)?,
+    }
     push_line(&mut text, Line::Last)?;
     Ok(text)
 }
 
-/// Puts the one text of the report of a cut between two modules of the network, given by their numbers. Both lists
-/// ascend strictly and are of its modules, and no flow is 0.
+/// Puts the one text of the report of an answer of two modules of the network, given by their numbers. Both lists of a cut
+/// ascend strictly and are of its modules, and no flow is 0; a chain has one or more of its modules.
 /// Refuses with `Device` and `Memory`; the sink has then taken a front of the text.
 pub fn write<S: Sink>(
     alloc: Global,
     net: &Net,
     from: u32,
     to: u32,
-    cut: &Cut,
+    answer: &Answer,
     sink: &mut S,
 ) -> Result<(), ReportFault>
-    requires { IsReport net.now (said_of from to cut.now) }
+    requires { IsReport net.now (said_of from to answer.now) }
     // All of the text at Ok, and a front of it after a refusal.
-    ensures puts { PutsBy is_of_sink (S.taken sink.old) (S.taken sink.new) result (report_text net.now (said_of from to cut.now)) }
+    ensures puts { PutsBy is_of_sink (S.taken sink.old) (S.taken sink.new) result (report_text net.now (said_of from to answer.now)) }
     // Device is answered where the sink counted a failure, and nowhere else.
     ensures failures { S.failures sink.new ≡ failures_by is_failure result (S.failures sink.old) }
     // No fault of a text is answered.
     ensures of_sink { IfErr result (λ fault. is_of_sink fault ≡ true) }
 {
-    let text = text_of(alloc, net, from, to, cut)?;
+    let text = text_of(alloc, net, from, to, answer)?;
     put_all(sink, text.as_bytes())?;
     Ok(())
 }
