@@ -1,4 +1,3 @@
-pub mod LineSearch
 pub mod Passing
 pub mod Staying
 pub mod Alone

@@ -1,7 +1,9 @@
 -- The picture of what is said of two modules of a network: of imports to be removed, and of a flow.
-use Rattle.std.specs.Prelude.{◌≡◌, ℕ, Bool, not, ◌||◌, List, length, filter}
+use Rattle.std.specs.Prelude.{◌≡◌, ℕ, Bool, not, ◌||◌, List, [], length, filter}
 use Rattle.std.specs.List.{range_with_len}
 use Rattle.cut_net.specs.declared.priced.Priced.{Priced}
+use Rattle.cut_net.specs.declared.answer.Answer.{Answer}
+use Rattle.cut_net.specs.declared.answer.Answer.TheVariants as answers
 use Rattle.cut_net.specs.Network.{Network}
 use Rattle.cut_net.specs.Cuts.{AreThose, Chain, Outside}
 use Rattle.cut_net.specs.Lines.{removed_by}
@@ -24,6 +26,16 @@ drawn_modules net a b between = filter (is_drawn a b between) (numbers net)
 -- the imports of the picture, in order: those whose modules are both between
 abbrev pub drawn_imports : Network → (ℕ → Bool) → List Priced
 drawn_imports net between = filter (inside between) net.imports
+
+-- the imports that an answer removes: none where no cut can be made
+abbrev pub removed_said : Answer → List Priced
+removed_said (answers.Cut cut) = cut.imports.items
+removed_said (answers.Blocked chain) = []
+
+-- the flow of an answer
+abbrev pub flow_said : Answer → List Priced
+flow_said (answers.Cut cut) = cut.flow.items
+flow_said (answers.Blocked chain) = []
 
 -- the import isn't removed
 abbrev pub stays : List Priced → Priced → Bool

@@ -1,10 +1,11 @@
 -- The text of a picture, in the language DOT of Graphviz (graphviz.org, "DOT Language" and "Node, Edge and Graph Attributes").
-use Rattle.std.specs.Prelude.{◌≢◌, ℕ, Bool, true, false, List, [], ◌++◌, codes, All}
+use Rattle.std.specs.Prelude.{◌≢◌, if◌then◌else◌, ℕ, Bool, true, false, List, [], ◌++◌, codes, All}
 use Rattle.std.specs.List.{flat_map}
 use Rattle.std.specs.Fmt.{decimal}
 use Rattle.cut_net.specs.declared.priced.Priced.{Priced}
 use Rattle.cut_net.specs.Lines.{flow_by, removed_by}
 use Rattle.cut_net.specs.Network.{Network, name_of}
+use Rattle.cut_net.specs.Pins.{is_pinned}
 use Rattle.cut_dot.specs.Ends.{is_end}
 
 -- A and B have a double border
@@ -34,17 +35,21 @@ ends_text from to = codes "  \"" ++ from ++ codes "\" -> \"" ++ to ++ codes "\""
 abbrev pub label_text : ℕ → ℕ → Bool → List ℕ
 label_text flow weight removed = codes " [label=\"" ++ decimal flow ++ codes "/" ++ decimal weight ++ codes "\"]" ++ removed_mark removed ++ codes ";\n"
 
+-- a pinned import has no weight, and is bold
+abbrev pub pin_text : ℕ → Bool → List ℕ
+pin_text flow removed = codes " [label=\"" ++ (decimal flow ++ (codes "/pin\"] [style=bold]" ++ (removed_mark removed ++ codes ";\n")))
+
 -- the line of an import
-abbrev pub import_line : List ℕ → List ℕ → ℕ → ℕ → Bool → List ℕ
-import_line from to flow weight removed = ends_text from to ++ label_text flow weight removed
+abbrev pub import_line : List ℕ → List ℕ → ℕ → ℕ → Bool → Bool → List ℕ
+import_line from to flow weight removed pinned = ends_text from to ++ (if pinned then pin_text flow removed else label_text flow weight removed)
 
 -- the line of the module of this number, between the ends a and b
 abbrev pub module_at : Network → ℕ → ℕ → (ℕ → Bool) → ℕ → List ℕ
 module_at net a b reached m = module_line (name_of net m) (is_end a b m) (reached m)
 
--- the line of this import, by the lines of the removed imports and of the flow
+-- the line of this import, by the lines of the removed imports and of the flow, and by whether it is pinned
 abbrev pub import_at : Network → List Priced → List Priced → Priced → List ℕ
-import_at net printed flow i = import_line (name_of net i.from) (name_of net i.to) (flow_by flow i) i.amount (removed_by printed i)
+import_at net printed flow i = import_line (name_of net i.from) (name_of net i.to) (flow_by flow i) i.amount (removed_by printed i) (is_pinned net i)
 
 -- the graph with these modules and these imports
 abbrev pub picture_text : Network → ℕ → ℕ → List Priced → List Priced → (ℕ → Bool) → List ℕ → List Priced → List ℕ

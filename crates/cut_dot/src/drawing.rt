@@ -4,12 +4,12 @@ ghost use Rattle.std.specs.String.{string_bytes};
 ghost use Rattle.byte_sink.specs.Sinks.{failures_after};
 ghost use Rattle.cut_net.specs.Lines.{IsAscending};
 ghost use Rattle.cut_dot.specs.Drawing.{IsDrawing};
-ghost use Rattle.cut_dot.specs.Pictures.{IsPicture};
+ghost use Rattle.cut_dot.specs.Pictures.{flow_said, removed_said, IsPicture};
 
 use crate::reached::reached_from;
 use crate::text::text_of;
 use byte_sink::{Sink, SinkFault, put_all};
-use cut_net::{Cut, Net};
+use cut_net::{Answer, Cut, Net};
 use cut_part::between;
 use std::alloc::{AllocError, Global};
 
@@ -26,14 +26,8 @@ fn picture_of(alloc: Global, net: &Net, from: u32, to: u32, cut: &Cut) -> Result
     text_of(alloc, net, from, to, cut, &part.marks, &reached)
 }
 
-/// Puts the picture of what is said of two modules of a network, A and B, given by their numbers, as a graph in DOT: the
-/// modules on a chain of imports from A to B and all imports between these, in the order of the network, each once. A and B
-/// have a double border, and stand there also where no chain leads from A to B; then there is no import. The modules that A
-/// still reaches where the lines of `cut.imports` are removed are shaded, A among them. A removed import is dashed and red.
-/// An import's label is its flow by the lines of `cut.flow`, a slash, and its weight in the network. Both lists ascend; what
-/// they say isn't checked, and a line of an import that isn't drawn is drawn nowhere.
-/// Refuses with `Device` and `Memory`; the sink has then taken a front of the text.
-pub fn draw<S: Sink>(
+/// Puts the picture of a cut.
+fn draw_cut<S: Sink>(
     alloc: Global,
     net: &Net,
     from: u32,
@@ -45,13 +39,49 @@ pub fn draw<S: Sink>(
     requires to { to < length net.now.names }
     requires removed { IsAscending cut.now.imports.items }
     requires flow { IsAscending cut.now.flow.items }
-    // All of the picture at Ok, and a front of it after a refusal.
     ensures run { IsDrawing net.now from to cut.now.imports.items cut.now.flow.items (S.taken sink.old) (S.taken sink.new) result }
-    // Device is answered where the sink counted a failure, and nowhere else.
     ensures failures { S.failures sink.new ≡ failures_after result (S.failures sink.old) }
 {
     let Ok(text) = picture_of(alloc, net, from, to, cut) else {
         return Err(SinkFault::Memory);
     };
     put_all(sink, text.as_bytes())
+}
+
+/// Puts the picture of what is said of two modules of a network, A and B, given by their numbers, as a graph in DOT: the
+/// modules on a chain of imports from A to B and all imports between these, in the order of the network, each once. A and B
+/// have a double border, and stand there also where no chain leads from A to B; then there is no import. The modules that A
+/// still reaches where the removed imports of a cut are gone are shaded, A among them. A removed import is dashed and red.
+/// An import's label is its flow by the cut, a slash, and its weight in the network; a pinned one has the word pin in place of
+/// a weight, and is bold. Where no cut can be made, nothing is removed and nothing flows. Both lists of a cut ascend; what they
+/// say isn't checked, and a line of an import that isn't drawn is drawn nowhere.
+/// Refuses with `Device` and `Memory`; the sink has then taken a front of the text.
+pub fn draw<S: Sink>(
+    alloc: Global,
+    net: &Net,
+    from: u32,
+    to: u32,
+    answer: &Answer,
+    sink: &mut S,
+) -> Result<(), SinkFault>
+    requires from { from < length net.now.names }
+    requires to { to < length net.now.names }
+    requires removed { IsAscending (removed_said answer.now) }
+    requires flow { IsAscending (flow_said answer.now) }
+    // All of the picture at Ok, and a front of it after a refusal.
+    ensures run { IsDrawing net.now from to (removed_said answer.now) (flow_said answer.now) (S.taken sink.old) (S.taken sink.new) result }
+    // Device is answered where the sink counted a failure, and nowhere else.
+    ensures failures { S.failures sink.new ≡ failures_after result (S.failures sink.old) }
+{
+    match answer {
+        Answer::Cut(cut) => draw_cut(alloc, net, from, to, cut, sink),
+        Answer::Blocked { .. } => {
+            let nothing = Cut {
+                imports: Vec::new(alloc),
+                weight: 0,
+                flow: Vec::new(alloc),
+            };
+            draw_cut(alloc, net, from, to, &nothing, sink)
+        }
+    }
 }

@@ -1,28 +1,16 @@
-//! What a list of lines says of an import.
-ghost use Rattle.std.specs.Prelude.{◌≡◌, find};
-ghost use Rattle.cut_net.specs.Cuts.{same_ends};
+//! What lists of lines say of an import.
+ghost use Rattle.std.specs.Prelude.{◌≡◌};
 ghost use Rattle.cut_net.specs.Lines.{flow_by, removed_by, IsAscending};
-ghost use Rattle.cut_dot.specs.Ends.{by_ends};
+ghost use Rattle.cut_net.specs.Pins.{is_pinned};
 
-use cut_net::Priced;
-use std::cmp::Ordering;
+use cut_net::{Net, Priced, line_of};
 
-/// Which of two comes first: by the importer, then by the imported.
-fn by_ends(line: &Priced, import: Priced) -> Ordering
-    ensures { result ≡ by_ends line.now import }
+/// Whether the import is pinned.
+pub(crate) fn is_pinned(net: &Net, import: Priced) -> bool
+    ensures { result ≡ is_pinned net.now import }
 {
-    line.from.cmp(&import.from).then(line.to.cmp(&import.to))
-}
-
-/// The line of the import.
-fn line_of(lines: &[Priced], import: Priced) -> Option<Priced>
-    requires { IsAscending lines.now }
-    ensures { result ≡ find (same_ends import) lines.now }
-{
-    match lines.binary_search_by(|line| by_ends(line, import)) {
-        Ok(place) => Some(lines[place]),
-        Err(_) => None,
-    }
+    net.keeps();
+    line_of(net.pins(), import).is_some()
 }
 
 /// Whether the import has a line among those of removed imports.

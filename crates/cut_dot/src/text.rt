@@ -7,9 +7,9 @@ ghost use Rattle.cut_part.specs.Inside.{inside};
 ghost use Rattle.cut_residual.specs.Graphs.{is_seen};
 ghost use Rattle.cut_dot.specs.Ends.{is_end};
 ghost use Rattle.cut_dot.specs.Pictures.{drawn_imports, drawn_modules, is_drawn};
-ghost use Rattle.cut_dot.specs.Texts.{end_mark, ends_text, import_at, label_text, module_at, module_line, picture_text, reached_mark, removed_mark};
+ghost use Rattle.cut_dot.specs.Texts.{end_mark, ends_text, import_at, label_text, module_at, module_line, picture_text, pin_text, reached_mark, removed_mark};
 
-use crate::lines::{flow_on, is_removed};
+use crate::lines::{flow_on, is_pinned, is_removed};
 use cut_net::{Cut, Net, Priced};
 use std::alloc::{AllocError, Global};
 
@@ -65,6 +65,14 @@ fn push_label(text: &mut String, flow: u64, weight: u64, is_removed: bool) -> Re
 {
     let removed = removed_mark(is_removed);
     writeln!(text, " [label=\"{flow}/{weight}\"]{removed};")
+}
+
+/// Puts the label of a pinned import behind the text, its mark, the mark of a removed one, and the end of the line.
+fn push_pin(text: &mut String, flow: u64, is_removed: bool) -> Result<(), AllocError>
+    ensures { OnOk result (string_bytes text.new ≡ string_bytes text.old ++ pin_text flow is_removed) }
+{
+    let removed = removed_mark(is_removed);
+    writeln!(text, " [label=\"{flow}/pin\"] [style=bold]{removed};")
 }
 
 /// Whether the module is A or B.
@@ -139,7 +147,11 @@ fn push_inside(
         let is_gone = is_removed(removed, import);
         let (from, to) = (net.name(import.from), net.name(import.to));
         push_ends(text, from, to)?;
-        push_label(text, carried, import.amount, is_gone)?;
+        if is_pinned(net, import) {
+            push_pin(text, carried, is_gone)?;
+        } else {
+            push_label(text, carried, import.amount, is_gone)?;
+        }
     }
     Ok(())
 }

@@ -15,7 +15,7 @@ pub new-requires-clause-between : goal.new-requires-clause-between
 new-requires-clause-between c =
     rw (c.in_ok-arcs.ensures, c.imports.ensures, c.nodes.ensures)
     (open_between (filter (stays c.args.removed.now) c.args.net.now.imports) (length c.args.net.now.names)
-    (staying_between c.args.net.now.imports c.args.removed.now (length c.args.net.now.names) c.keeps.ensures.between))
+    (staying_between c.args.net.now.imports c.args.removed.now (length c.args.net.now.names) c.keeps.ensures.network.between))
 
 pub returns-clause-reached : goal.returns-clause-reached
 returns-clause-reached c =

@@ -10,12 +10,12 @@ use Rattle.cut_dot.proofs.text.push_imports.Goals as goal
 
 pub push_inside-requires-clause-from : goal.push_inside-requires-clause-from
 push_inside-requires-clause-from c =
-    let between = subst (λ (v : List Priced). AreBetween v (length c.args.net.now.names)) (sym c.imports-imports.ensures) c.keeps.ensures.between in
+    let between = subst (λ (v : List Priced). AreBetween v (length c.args.net.now.names)) (sym c.imports-imports.ensures) c.keeps.ensures.network.between in
     from_in c.imports-imports.result.now (length c.args.net.now.names) c.loop-import.import-index between c.loop-import-test.true
 
 pub push_inside-requires-clause-to : goal.push_inside-requires-clause-to
 push_inside-requires-clause-to c =
-    let between = subst (λ (v : List Priced). AreBetween v (length c.args.net.now.names)) (sym c.imports-imports.ensures) c.keeps.ensures.between in
+    let between = subst (λ (v : List Priced). AreBetween v (length c.args.net.now.names)) (sym c.imports-imports.ensures) c.keeps.ensures.network.between in
     to_in c.imports-imports.result.now (length c.args.net.now.names) c.loop-import.import-index between c.loop-import-test.true
 
 pub loop-import-preserved : goal.loop-import-preserved

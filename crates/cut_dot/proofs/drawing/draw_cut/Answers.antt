@@ -1,7 +1,7 @@
 use Rattle.std.proofs.Common.{inl}
 use Rattle.std.proofs.KnownBytes.{Keeps-refl}
 use Rattle.cut_dot.proofs.Drawn.{drawn}
-use Rattle.cut_dot.proofs.drawing.draw.Goals as goal
+use Rattle.cut_dot.proofs.drawing.draw_cut.Goals as goal
 
 pub returns-in_default-clause-run : goal.returns-in_default-clause-run
 returns-in_default-clause-run g c = inl (Keeps-refl _)
