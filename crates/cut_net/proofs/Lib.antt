@@ -6,6 +6,7 @@ pub mod Duality
 pub mod Ends
 pub mod Fronts
 pub mod LineSearch
+pub mod LineStops
 pub mod ListSums
 pub mod Members
 pub mod NearSide
@@ -14,12 +15,15 @@ pub mod NetLines
 pub mod Networks
 pub mod Noted
 pub mod Numbers
+pub mod Noting
 pub mod OneNetReading
 pub mod OneNetwork
+pub mod OnePricing
 pub mod Pairs
 pub mod PinChains
 pub mod Pinned
 pub mod Places
+pub mod PriceFronts
 pub mod PriceLines
 pub mod PrintedCut
 pub mod Rows

@@ -1,12 +1,16 @@
 -- How imports stand, one after another.
 use Rattle.std.proofs.Common.{◌≡◌, ℕ, ◌+◌, ◌<◌, List, [], ◌∷◌, ◌++◌, length, get_or, map, take, refl, ap, ◌∙◌}
+use Rattle.std.specs.Prelude.{Option, None, find}
 use Rattle.std.specs.List.{flat_map}
 use Rattle.std.proofs.lemmas.Grind.{flat_map-append}
 use Rattle.std.proofs.lemmas.List.{append-nil, get_or-map, map_push, take_more}
 use Rattle.cut_net.specs.declared.priced.Priced.{Priced}
+use Rattle.cut_net.specs.declared.standing.Change.{Change}
 use Rattle.cut_net.specs.declared.standing.Standing.{Standing}
 use Rattle.cut_net.specs.declared.standing.Standing.TheVariants.{Weighs, Stays}
-use Rattle.cut_net.specs.Prices.{pin_as}
+use Rattle.cut_net.specs.Network.{Network, none_there}
+use Rattle.cut_net.specs.Cuts.{same_ends}
+use Rattle.cut_net.specs.Prices.{pin_as, standing_of, stands_after, stands_by}
 
 -- an element of a list that is mapped
 pub mapped_at : {X Y : Type 0} (f : X → Y) (xs : List X) (ys : List Y) (k : ℕ) (d : X) (e : Y) → ys ≡ map f xs → k < length xs → get_or ys k e ≡ f (get_or xs k d)
@@ -24,3 +28,9 @@ given_next f xs ys more k d same lt e = rw (take_more xs k d lt, flat_map-append
 pub no_pin : (i : Priced) (s : Standing) → ((w : ℕ) → s ≡ Stays w → ⊥) → [] ≡ pin_as i s
 no_pin i (Weighs w) none = refl
 no_pin i (Stays w) none = absurd (none w refl)
+
+-- how an import stands, as it was found
+pub stood : (net : Network) (said : Priced → Option Change) (imports pins : List Priced) (told : List (Option Change)) (k : ℕ) (pin : Option Priced) (now : Standing) → imports ≡ net.imports → pins ≡ net.pins
+    → pin ≡ find (same_ends (get_or imports k none_there)) pins → get_or told k None ≡ said (get_or net.imports k none_there) → now ≡ stands_after (stands_by (get_or imports k none_there) pin) (get_or told k None)
+    → now ≡ stands_after (standing_of net (get_or net.imports k none_there)) (said (get_or net.imports k none_there))
+stood net said imports pins told k pin now e f found tells is = rw (is, found, tells, e, f) refl

@@ -5,6 +5,7 @@ ghost use Rattle.cut_net.specs.declared.priced.Priced.{Priced};
 ghost use Rattle.cut_net.specs.Network.{Network};
 ghost use Rattle.cut_net.specs.WellFormed.{AreBetween};
 ghost use Rattle.cut_net.specs.NetText.{IsNetOutcome, NetOutcome};
+ghost use Rattle.cut_net.specs.Prices.{IsPriceOutcome, PriceOutcome};
 ghost use Rattle.cut_net.specs.Said.{Said};
 ghost use Rattle.cut_net.specs.Lines.{IsAnswer, IsCheapestSaid};
 ghost use Rattle.cut_net.specs.Pins.{ArePins, ArePrintedWithPins, IsAnswerWithPins, IsCheapestSaidWithPins, IsCheapestWithPins, IsCutWithPins, IsFlowWithPins, NearWithPins, PinChain};
@@ -96,4 +97,9 @@ pub fn same_without_pins()
 /// A text of a network says at most one thing: a network or a first fault.
 pub fn one_reading()
     ensures { (bytes : List ℕ) (o p : NetOutcome) → IsNetOutcome bytes o → IsNetOutcome bytes p → o ≡ p }
+{}
+
+/// Prices say at most one thing of a network: what it is with them, or a first fault.
+pub fn one_pricing()
+    ensures { (net : Network) (bytes : List ℕ) (o p : PriceOutcome) → IsPriceOutcome net bytes o → IsPriceOutcome net bytes p → o ≡ p }
 {}

@@ -17,6 +17,7 @@ mod pin_chain;
 mod price_fault;
 mod price_lines;
 mod priced;
+mod prices;
 mod reading;
 mod standing;
 

@@ -1,0 +1,109 @@
+-- Where the lines of a text stop being good: lines of any form, whose spelling is of one line.
+use Rattle.std.proofs.Common.{◌≡◌, ℕ, ◌<◌, inl, inr, List, [], ◌∷◌, ◌++◌, refl, sym, ◌∙◌, ap, subst, arith, true, Some, take, drop, map, append_assoc}
+use Rattle.std.specs.Prelude.{All, filter, slice_get}
+use Rattle.std.proofs.lemmas.Bool.{cases_order}
+use Rattle.std.proofs.lemmas.List.{append-nil, take-append-drop}
+use Rattle.std.proofs.lemmas.List.Elements.{All-head, All-tail, filter-append}
+use Rattle.cut_net.specs.NetText.{is_written}
+use Rattle.cut_net.proofs.Stops.{cons_parts, get_in, rest_at, take_in}
+
+module _ {L : Type 0} (spelled_of : L → List ℕ) (IsLine : L → Type 0) (once : (l k : L) → IsLine l → IsLine k → spelled_of l ≡ spelled_of k → l ≡ k) where
+  -- the pieces that aren't empty are these lines
+  abbrev pub Spelled : List (List ℕ) → List L → Type 0
+  Spelled pieces lines = filter is_written pieces ≡ map spelled_of lines
+
+  -- good lines that are spelled alike are the same, as far as the one list goes
+  record SameStart (before lines : List L) (rest : List (List ℕ)) : Type 0 where
+    pub tail : List L
+    pub whole : lines ≡ before ++ tail
+    pub spelled : map spelled_of tail ≡ rest
+
+  same_start : (before lines : List L) (rest : List (List ℕ)) → All IsLine before → All IsLine lines → map spelled_of lines ≡ map spelled_of before ++ rest → SameStart before lines rest
+  same_start [] lines rest good well e = record { tail = lines; whole = refl; spelled = e }
+  same_start (b ∷ before) [] rest good well e = absurd cc
+  same_start (b ∷ before) (l ∷ lines) rest good well e =
+      let parts = cons_parts (spelled_of l) (spelled_of b) (map spelled_of lines) (map spelled_of before ++ rest) e in
+      let same : l ≡ b = once l b (All-head IsLine l lines well) (All-head IsLine b before good) parts.0 in
+      let r = same_start before lines rest (All-tail IsLine b before good) (All-tail IsLine l lines well) parts.1 in
+      record {
+        tail = r.tail;
+        whole = ap (λ (x : L). x ∷ lines) same ∙ ap (λ (t : List L). b ∷ t) r.whole;
+        spelled = r.spelled;
+      }
+
+  -- good lines of the same pieces are the same
+  pub same_lines : (pieces : List (List ℕ)) (lines others : List L) → Spelled pieces lines → Spelled pieces others → All IsLine lines → All IsLine others → lines ≡ others
+  same_lines pieces lines others a b good well =
+      let e : map spelled_of lines ≡ map spelled_of others ++ [] = sym a ∙ b ∙ sym (append-nil (map spelled_of others)) in
+      ended others lines (same_start others lines [] well good e)
+    where
+      ended : (others lines : List L) → SameStart others lines [] → lines ≡ others
+      ended others lines s = s.whole ∙ ap (λ (t : List L). others ++ t) (none s.tail s.spelled) ∙ append-nil others
+        where
+          none : (tail : List L) → map spelled_of tail ≡ [] → tail ≡ []
+          none [] e = refl
+          none (t ∷ ts) e = absurd cc
+
+  -- the line that a piece after the first k spells, and those after it
+  record NextLine (lines before : List L) (piece : List ℕ) : Type 0 where
+    pub line : L
+    pub tail : List L
+    pub whole : lines ≡ before ++ line ∷ tail
+    pub spelled : spelled_of line ≡ piece
+
+  next_line : (pieces : List (List ℕ)) (lines before : List L) (k : ℕ) (piece : List ℕ) → Spelled pieces lines → All IsLine lines → Spelled (take k pieces) before → All IsLine before
+      → slice_get pieces k ≡ Some piece → is_written piece ≡ true → NextLine lines before piece
+  next_line pieces lines before k piece spelled well front good there written =
+      let rest = rest_at pieces k piece there in
+      let shown : filter is_written (piece ∷ rest.0) ≡ piece ∷ filter is_written rest.0 = rw written refl in
+      let cut : filter is_written pieces ≡ filter is_written (take k pieces) ++ filter is_written (drop k pieces) =
+      ap (filter is_written) (sym (take-append-drop k pieces)) ∙ filter-append is_written (take k pieces) (drop k pieces) in
+      let e : map spelled_of lines ≡ map spelled_of before ++ piece ∷ filter is_written rest.0 =
+      sym spelled ∙ cut ∙ ap (λ (t : List (List ℕ)). t ++ filter is_written (drop k pieces)) front
+      ∙ ap (λ (t : List (List ℕ)). map spelled_of before ++ t) (ap (filter is_written) rest.1 ∙ shown) in
+      let s = same_start before lines (piece ∷ filter is_written rest.0) good well e in
+      by s.tail s.whole s.spelled
+    where
+      by : {more : List (List ℕ)} (tail : List L) → lines ≡ before ++ tail → map spelled_of tail ≡ piece ∷ more → NextLine lines before piece
+      by [] whole e = absurd cc
+      by {more} (line ∷ tail) whole e = record { line = line; tail = tail; whole = whole; spelled = (cons_parts (spelled_of line) piece (map spelled_of tail) more e).0 }
+
+  module _ (Good : List L → Type 0) (each : (lines : List L) → Good lines → All IsLine lines) (front : (xs ys : List L) → Good (xs ++ ys) → Good xs) where
+    -- the first k pieces are good lines, and no line that the next piece spells is good after them
+    pub record StopsAt (pieces : List (List ℕ)) (k : ℕ) : Type 0 where
+      pub before : List L
+      pub piece : List ℕ
+      pub spelled : Spelled (take k pieces) before
+      pub good : Good before
+      pub there : slice_get pieces k ≡ Some piece
+      pub written : is_written piece ≡ true
+      pub bad : (line : L) → spelled_of line ≡ piece → Good (before ++ line ∷ []) → ⊥
+
+    -- pieces that are good lines don't stop being good
+    pub no_stop : (pieces : List (List ℕ)) (lines : List L) (k : ℕ) → Spelled pieces lines → Good lines → StopsAt pieces k → ⊥
+    no_stop pieces lines k spelled good s =
+        let n = next_line pieces lines s.before k s.piece spelled (each lines good) s.spelled (each s.before s.good) s.there s.written in
+        let parts : lines ≡ (s.before ++ n.line ∷ []) ++ n.tail = n.whole ∙ sym (append_assoc s.before (n.line ∷ []) n.tail) in
+        s.bad n.line n.spelled (front (s.before ++ n.line ∷ []) n.tail (subst Good parts good))
+
+    not_before : (pieces : List (List ℕ)) (j k : ℕ) → StopsAt pieces j → StopsAt pieces k → j < k → ⊥
+    not_before pieces j k s t lt =
+        no_stop (take k pieces) t.before j t.spelled t.good (record {
+          before = s.before;
+          piece = s.piece;
+          spelled = subst (λ (p : List (List ℕ)). Spelled p s.before) (sym (take_in j k pieces (omega arith))) s.spelled;
+          good = s.good;
+          there = get_in j k pieces lt ∙ s.there;
+          written = s.written;
+          bad = s.bad;
+        })
+
+    -- they stop at one place
+    pub one_stop : (pieces : List (List ℕ)) (j k : ℕ) → StopsAt pieces j → StopsAt pieces k → j ≡ k
+    one_stop pieces j k s t = elim (cases_order j k) [
+      | inl e ↦ e
+      | inr differs ↦ elim differs [
+        | inl lt ↦ absurd (not_before pieces j k s t lt)
+        | inr gt ↦ absurd (not_before pieces k j t s gt)
+      ]
+    ]

@@ -1,0 +1,57 @@
+-- The lines of prices so far, and the fault of the next piece.
+use Rattle.std.proofs.Common.{◌≡◌, ℕ, ◌+◌, List, [], ◌∷◌, ◌++◌, take, map, Option, Some, Err, refl, sym, ap, ◌∙◌}
+use Rattle.std.specs.Prelude.{filter, slice_get, IfSome}
+use Rattle.std.proofs.lemmas.List.{map-append, map_push}
+use Rattle.std.proofs.lemmas.List.Elements.{filter-append}
+use Rattle.texts.proofs.FieldCuts.{some}
+use Rattle.cut_net.specs.declared.price_fault.LineFault.{LineFault}
+use Rattle.cut_net.specs.declared.price_fault.LineFault.TheVariants as fault
+use Rattle.cut_net.specs.declared.standing.Change.{Change}
+use Rattle.cut_net.specs.Network.{Network}
+use Rattle.cut_net.specs.NetText.{is_written, pieces_of}
+use Rattle.cut_net.specs.Prices.{PriceLine, AreGoodPrices, IsPriceOutcome, SpellPrices, price_line}
+use Rattle.cut_net.specs.PriceReading.{Notes, fault_at, fault_said}
+
+spell_more : (pieces : List (List ℕ)) (piece : List ℕ) (lines more : List PriceLine) → SpellPrices pieces lines → SpellPrices (piece ∷ []) more → SpellPrices (pieces ++ piece ∷ []) (lines ++ more)
+spell_more pieces piece lines more h g =
+    filter-append is_written pieces (piece ∷ []) ∙ ap (λ (t : List (List ℕ)). t ++ filter is_written (piece ∷ [])) h ∙ ap (λ (t : List (List ℕ)). map price_line lines ++ t) g ∙ sym (map-append price_line lines more)
+
+pub spell_next : {A : Type 0} (v : A → List ℕ) (items : List A) (item : A) (lines more : List PriceLine) → SpellPrices (map v items) lines → SpellPrices (v item ∷ []) more → SpellPrices (map v (items ++ item ∷ [])) (lines ++ more)
+spell_next v items item lines more h g = rw (map_push v items item) (spell_more (map v items) (v item) lines more h g)
+
+pub fault_is : (net : Network) (bytes : List ℕ) (k : ℕ) (before : List PriceLine) (piece : List ℕ) (e : LineFault) (told : List (Option Change)) → SpellPrices (take k (pieces_of bytes)) before → AreGoodPrices net before
+    → slice_get (pieces_of bytes) k ≡ Some piece → Notes net before piece (Err e) told → IfSome (fault_said (fault_at (k + 1) e)) (IsPriceOutcome net bytes)
+fault_is net bytes k before piece fault.BadLine told spelled good there t = (
+  k,
+  refl,
+  record {
+    before = before;
+    piece = piece;
+    front = record { spelled = spelled; good = good; there = there };
+    written = t.0;
+    wrong = t.1;
+  },
+)
+fault_is net bytes k before piece fault.NoSuchImport told spelled good there (line, e, form, unknown) = (
+  k,
+  refl,
+  record {
+    before = before;
+    line = line;
+    front = record { spelled = spelled; good = good; there = there ∙ ap some (sym e) };
+    form = form;
+    unknown = unknown;
+  },
+)
+fault_is net bytes k before piece fault.TwicePrice told spelled good there (line, e, form, known, twice) = (
+  k,
+  refl,
+  record {
+    before = before;
+    line = line;
+    front = record { spelled = spelled; good = good; there = there ∙ ap some (sym e) };
+    form = form;
+    known = known;
+    twice = twice;
+  },
+)
