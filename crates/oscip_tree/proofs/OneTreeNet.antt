@@ -1,5 +1,5 @@
 -- A tree has one network.
-use Rattle.std.proofs.Common.{◌≡◌, ℕ, ◌<◌, List, [], length, sym, ap, ap₂, subst, arith}
+use Rattle.std.proofs.Common.{◌≡◌, ℕ, ◌<◌, List, [], length, sym, ap, ap₂, ◌∙◌, subst, arith}
 use Rattle.std.specs.Prelude.{Contains, IsTrue, slice_index_or}
 use Rattle.ob_imports.specs.Files.{File, IsNode}
 use Rattle.digraph.proofs.Ascending.{same_members, same_names}
@@ -33,4 +33,6 @@ one_net sources net other a b =
     let names : net.names ≡ other.names = same_names net.names other.names a.names_ascend b.names_ascend (name_over sources net other a b) (name_over sources other net b a) in
     let imports : net.imports ≡ other.imports = same_members (λ i j. IsTrue (comes_before i j)) (λ i j p q. one_way (before_from i j p) (before_from j i q)) net.imports other.imports a.imports_ascend b.imports_ascend
     (line_over sources net other a b names) (line_over sources other net b a (sym names)) in
-    ap₂ (λ (ns : List (List ℕ)) (is : List Priced). record { names = ns; imports = is }) names imports
+    let pins : net.pins ≡ other.pins = a.no_pins ∙ sym b.no_pins in
+    ap₂ (λ (ns : List (List ℕ)) (is : List Priced). record { names = ns; imports = is; pins = net.pins }) names imports
+    ∙ ap (λ (ps : List Priced). record { names = other.names; imports = other.imports; pins = ps }) pins

@@ -219,4 +219,5 @@ module _ (sources : List Source) (files : List ModuleFile) (g : ImportGraph) (ke
           λ has. import_of_files (name_of net i.from) (name_of net i.to) i.amount ((is.listed i from to).0 has),
           λ has. (is.listed i from to).1 (line_of_import once (name_of net i.from) (name_of net i.to) i.amount has),
         );
+        no_pins = is.no_pins;
       }

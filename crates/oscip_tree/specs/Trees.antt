@@ -1,5 +1,5 @@
 -- What a tree of files is, the network of its imports, and why it is refused.
-use Rattle.std.specs.Prelude.{◌≡◌, ◌≢◌, ◌↔◌, ℕ, ◌<◌, List, ◌∷◌, ◌++◌, length, map, slice_get, Some, IfSome, Err, Contains}
+use Rattle.std.specs.Prelude.{◌≡◌, ◌≢◌, ◌↔◌, ℕ, ◌<◌, List, [], ◌∷◌, ◌++◌, length, map, slice_get, Some, IfSome, Err, Contains}
 use Rattle.std.specs.String.{string_bytes}
 use Rattle.ob_scan.specs.declared.fault.ScanFault.{ScanFault}
 use Rattle.ob_scan.specs.declared.fault.ScanFault.TheVariants as scans
@@ -83,7 +83,8 @@ pub record HasImport (files : List ModuleFile) (m n : List ℕ) (w : ℕ) : Type
   pub imports : Contains (file_of importer).imports n
   pub weight : HasWeight (names importer) (rows importer) n w
 
--- the network of an accepted tree: the names of its modules and of those that they import, in order, and the imports with their weights, in order
+-- the network of an accepted tree: the names of its modules and of those that they import, in order, and the imports with their weights, in order; no
+-- import is pinned
 pub record IsNetOfTree (sources : List Source) (net : Network) : Type 0 where
   pub files : List ModuleFile
   pub is_tree : IsTree sources files
@@ -93,6 +94,7 @@ pub record IsNetOfTree (sources : List Source) (net : Network) : Type 0 where
   pub imports_ascend : IsAscending net.imports
   pub listed : (i : Priced) → i.from < length net.names → i.to < length net.names →
       Contains net.imports i ↔ HasImport files (name_of net i.from) (name_of net i.to) i.amount
+  pub no_pins : net.pins ≡ []
 
 -- where a fault of the scanner stands: at the file's beginning where the file is too long
 abbrev pub scan_offset : ScanFault → ℕ

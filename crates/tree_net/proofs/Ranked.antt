@@ -15,6 +15,7 @@ use Rattle.cut_net.specs.declared.priced.Priced.{Priced}
 use Rattle.cut_net.specs.Cuts.{same_ends}
 use Rattle.texts.specs.Fields.{is_name}
 use Rattle.cut_net.specs.Lines.{IsAscending}
+use Rattle.cut_net.specs.Network.{unpinned}
 use Rattle.cut_net.specs.NetReading.{entry_line, import_line}
 use Rattle.cut_net.specs.NetText.{IsNetOf, NetLine}
 use Rattle.cut_net.specs.WellFormed.{AreBetween, IsNetwork}
@@ -62,10 +63,10 @@ module _ (g : ImportGraph) (ss : List ModuleScopes) (graph : IsGraph g) (order :
     once : IsDistinct same_ends (map (ranked ranks) (map (graph_entry g ss) g.pairs))
     once = ends_once (graph_lines g ss) g.names (names_by g.names order) (map (graph_entry g ss) g.pairs) (map (ranked ranks) (map (graph_entry g ss) g.pairs)) (graph_tables g ss graph light named) (listed_by g.pairs graph.between)
 
-    pub ranked_net : IsNetOf (graph_lines g ss) (record { names = names_by g.names order; imports = imports })
+    pub ranked_net : IsNetOf (graph_lines g ss) (unpinned (names_by g.names order) imports)
     ranked_net = net_is (graph_lines g ss) g.names (names_by g.names order) (map (graph_entry g ss) g.pairs) (map (ranked ranks) (map (graph_entry g ss) g.pairs)) (graph_tables g ss graph light named) (listed_by g.pairs graph.between)
         imports is.ascend is.same ranked_between moved (ordered once)
 
-    pub ranked_network : IsNetwork (record { names = names_by g.names order; imports = imports })
-    ranked_network = graph_network g ss graph light named (record { names = names_by g.names order; imports = imports }) ranked_net (let few = graph.few_names in let long = names_long in omega arith)
+    pub ranked_network : IsNetwork (unpinned (names_by g.names order) imports)
+    ranked_network = graph_network g ss graph light named (unpinned (names_by g.names order) imports) ranked_net (let few = graph.few_names in let long = names_long in omega arith)
         (few_moved (graph_lines g ss) g.names (names_by g.names order) (map (graph_entry g ss) g.pairs) (map (ranked ranks) (map (graph_entry g ss) g.pairs)) (graph_tables g ss graph light named) (listed_by g.pairs graph.between) imports moved)

@@ -106,5 +106,5 @@ pub fn net_of_graph(alloc: Global, graph: &Graph, scopes: &[Scopes]) -> Result<N
     let names = names_at(alloc, graph, order)?;
     let mut imports = imports_with(alloc, graph, scopes, ranks.as_slice())?;
     put_in_order(&mut imports);
-    Ok(Net::of(names, imports))
+    Ok(Net::of(alloc, names, imports))
 }

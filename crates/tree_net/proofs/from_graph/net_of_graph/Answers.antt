@@ -6,6 +6,7 @@ use Rattle.ob_imports.proofs.RankedEdges.{order_long}
 use Rattle.cut_net.specs.declared.priced.Priced.{Priced}
 use Rattle.cut_net.specs.Cuts.{same_ends}
 use Rattle.cut_net.specs.Lines.{IsAscending}
+use Rattle.cut_net.specs.Network.{unpinned}
 use Rattle.cut_net.specs.NetText.{IsNetOf}
 use Rattle.cut_net.specs.WellFormed.{IsNetwork}
 use Rattle.tree_net.specs.GraphNet.{graph_entry, graph_lines, ranked}
@@ -44,7 +45,7 @@ of-requires c =
     let entries : old ≡ map (ranked ranks) (map (graph_entry g ss) g.pairs) = rw c.as_slice.ensures.value at c.in_ok-imports.ensures.entries in
     let moved = subst (λ (is : List Priced). IsPermutation is imports) entries c.put_in_order.ensures.same in
     let ordered = subst (λ (is : List Priced). IsDistinct same_ends is → IsAscending imports) entries c.put_in_order.ensures.ascending in
-    subst (λ (names : List (List ℕ)). IsNetwork (record { names = names; imports = imports })) (sym c.in_ok-names.ensures)
+    subst (λ (names : List (List ℕ)). IsNetwork (unpinned names imports)) (sym c.in_ok-names.ensures)
     (ranked_network g ss c.keeps.ensures c.by_name-order.result.now c.by_name-order.ensures ranks c.in_ok-ranks.ensures c.in_ok-imports.ensures.light c.requires.named imports moved ordered)
 
 pub returns : goal.returns
@@ -57,5 +58,5 @@ returns c =
     let entries : old ≡ map (ranked ranks) (map (graph_entry g ss) g.pairs) = rw c.as_slice.ensures.value at c.in_ok-imports.ensures.entries in
     let moved = subst (λ (is : List Priced). IsPermutation is imports) entries c.put_in_order.ensures.same in
     let ordered = subst (λ (is : List Priced). IsDistinct same_ends is → IsAscending imports) entries c.put_in_order.ensures.ascending in
-    rw c.of.ensures (subst (λ (names : List (List ℕ)). IsNetOf (graph_lines g ss) (record { names = names; imports = imports })) (sym c.in_ok-names.ensures)
+    rw c.of.ensures (subst (λ (names : List (List ℕ)). IsNetOf (graph_lines g ss) (unpinned names imports)) (sym c.in_ok-names.ensures)
     (ranked_net g ss c.keeps.ensures c.by_name-order.result.now c.by_name-order.ensures ranks c.in_ok-ranks.ensures c.in_ok-imports.ensures.light c.requires.named imports moved ordered))
