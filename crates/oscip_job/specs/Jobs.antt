@@ -1,5 +1,5 @@
 -- The command line as clap reads it, and the job that its words give.
-use Rattle.std.specs.Prelude.{◌≡◌, ◌≢◌, ◌<◌, ◌≤◌, ◌^◌, ℕ, List, [], ◌∷◌, Option, Some, None, codes, pos, slice_get, Bool, true, false}
+use Rattle.std.specs.Prelude.{◌≡◌, ◌≢◌, ◌<◌, ◌≤◌, ◌^◌, ℕ, List, [], ◌∷◌, Option, Some, None, codes, option_map, pos, slice_get, Bool, String, true, false}
 use Rattle.std.specs.Str.Parse.{digits_value, without_leading_plus, IsNumeral}
 use Rattle.std.specs.String.{string_bytes}
 use Rattle.clap.specs.Words.{App, Row, Text, first_of, one_of, new_app, new_rule, with_rule, with_subcommand}
@@ -34,33 +34,41 @@ workers_rule = record (new_rule (codes "workers")) {
 abbrev pub with_workers : App → App
 with_workers app = with_rule app workers_rule
 
--- cut [--workers N] DIR A B
-abbrev pub cut_app : App
-cut_app = with_workers (with_modules (with_rule (new_app (codes "cut")) (required_rule (codes "DIR"))))
+-- --prices FILE
+abbrev pub prices_rule : Rule
+prices_rule = record (new_rule (codes "prices")) { long = Some (codes "prices"); value_names = 1 }
 
--- check DIR REPORT
+-- the command with that option
+abbrev pub with_prices : App → App
+with_prices app = with_rule app prices_rule
+
+-- cut [--workers N] [--prices FILE] DIR A B
+abbrev pub cut_app : App
+cut_app = with_prices (with_workers (with_modules (with_rule (new_app (codes "cut")) (required_rule (codes "DIR")))))
+
+-- check [--prices FILE] DIR REPORT
 abbrev pub check_app : App
-check_app = with_rule (with_rule (new_app (codes "check")) (required_rule (codes "DIR"))) (required_rule (codes "REPORT"))
+check_app = with_prices (with_rule (with_rule (new_app (codes "check")) (required_rule (codes "DIR"))) (required_rule (codes "REPORT")))
 
 -- crossings DIR M N
 abbrev pub crossings_app : App
 crossings_app = with_rule (with_rule (with_rule (new_app (codes "crossings")) (required_rule (codes "DIR"))) (required_rule (codes "M"))) (required_rule (codes "N"))
 
--- cut-net [--workers N] FILE A B
+-- cut-net [--workers N] [--prices FILE] FILE A B
 abbrev pub cut_net_app : App
-cut_net_app = with_workers (with_modules (with_rule (new_app (codes "cut-net")) (required_rule (codes "FILE"))))
+cut_net_app = with_prices (with_workers (with_modules (with_rule (new_app (codes "cut-net")) (required_rule (codes "FILE")))))
 
--- check-net FILE REPORT
+-- check-net [--prices FILE] FILE REPORT
 abbrev pub check_net_app : App
-check_net_app = with_rule (with_rule (new_app (codes "check-net")) (required_rule (codes "FILE"))) (required_rule (codes "REPORT"))
+check_net_app = with_prices (with_rule (with_rule (new_app (codes "check-net")) (required_rule (codes "FILE"))) (required_rule (codes "REPORT")))
 
--- dot DIR REPORT
+-- dot [--prices FILE] DIR REPORT
 abbrev pub dot_app : App
-dot_app = with_rule (with_rule (new_app (codes "dot")) (required_rule (codes "DIR"))) (required_rule (codes "REPORT"))
+dot_app = with_prices (with_rule (with_rule (new_app (codes "dot")) (required_rule (codes "DIR"))) (required_rule (codes "REPORT")))
 
--- dot-net FILE REPORT
+-- dot-net [--prices FILE] FILE REPORT
 abbrev pub dot_net_app : App
-dot_net_app = with_rule (with_rule (new_app (codes "dot-net")) (required_rule (codes "FILE"))) (required_rule (codes "REPORT"))
+dot_net_app = with_prices (with_rule (with_rule (new_app (codes "dot-net")) (required_rule (codes "FILE"))) (required_rule (codes "REPORT")))
 
 -- a number from 0 to 2147483647 that has to be given
 abbrev pub number_rule : Text → Rule
@@ -117,6 +125,10 @@ oscip =
 abbrev pub Finds : List Row → Text → Text → Type 0
 Finds rows id text = first_of id rows ≡ Some text
 
+-- the text that was found for an argument, or none where it wasn't given
+abbrev pub MayFind : List Row → Text → Option String → Type 0
+MayFind rows id text = first_of id rows ≡ option_map string_bytes text
+
 -- the number that was found for an argument, in decimal digits, before which a plus may stand
 abbrev pub FindsNumber : List Row → Text → ℕ → Type 0
 FindsNumber rows id n =
@@ -164,18 +176,18 @@ HasIndexing rows it =
 
 -- the job holds the values that were found for its arguments
 abbrev pub HasValues : List Row → Job → Type 0
-HasValues rows (Cut folder from to workers) =
+HasValues rows (Cut folder from to workers prices) =
     Finds rows (codes "DIR") (string_bytes folder) × Finds rows (codes "A") (string_bytes from) × Finds rows (codes "B") (string_bytes to)
-    × FindsNumber rows (codes "workers") workers
-HasValues rows (Check folder report) = Finds rows (codes "DIR") (string_bytes folder) × Finds rows (codes "REPORT") (string_bytes report)
+    × FindsNumber rows (codes "workers") workers × MayFind rows (codes "prices") prices
+HasValues rows (Check folder report prices) = Finds rows (codes "DIR") (string_bytes folder) × Finds rows (codes "REPORT") (string_bytes report) × MayFind rows (codes "prices") prices
 HasValues rows (Crossings folder from to) =
     Finds rows (codes "DIR") (string_bytes folder) × Finds rows (codes "M") (string_bytes from) × Finds rows (codes "N") (string_bytes to)
-HasValues rows (CutNet network from to workers) =
+HasValues rows (CutNet network from to workers prices) =
     Finds rows (codes "FILE") (string_bytes network) × Finds rows (codes "A") (string_bytes from) × Finds rows (codes "B") (string_bytes to)
-    × FindsNumber rows (codes "workers") workers
-HasValues rows (CheckNet network report) = Finds rows (codes "FILE") (string_bytes network) × Finds rows (codes "REPORT") (string_bytes report)
-HasValues rows (Dot folder report) = Finds rows (codes "DIR") (string_bytes folder) × Finds rows (codes "REPORT") (string_bytes report)
-HasValues rows (DotNet network report) = Finds rows (codes "FILE") (string_bytes network) × Finds rows (codes "REPORT") (string_bytes report)
+    × FindsNumber rows (codes "workers") workers × MayFind rows (codes "prices") prices
+HasValues rows (CheckNet network report prices) = Finds rows (codes "FILE") (string_bytes network) × Finds rows (codes "REPORT") (string_bytes report) × MayFind rows (codes "prices") prices
+HasValues rows (Dot folder report prices) = Finds rows (codes "DIR") (string_bytes folder) × Finds rows (codes "REPORT") (string_bytes report) × MayFind rows (codes "prices") prices
+HasValues rows (DotNet network report prices) = Finds rows (codes "FILE") (string_bytes network) × Finds rows (codes "REPORT") (string_bytes report) × MayFind rows (codes "prices") prices
 HasValues rows (Def question) = HasQuestion rows question
 HasValues rows (Refs question) = HasQuestion rows question
 HasValues rows (Index indexing) = HasIndexing rows indexing
@@ -183,13 +195,13 @@ HasValues rows (Unresolved folder) = Finds rows (codes "DIR") (string_bytes fold
 
 -- the word that names the command
 abbrev pub command_name : Job → Text
-command_name (Cut folder from to workers) = codes "cut"
-command_name (Check folder report) = codes "check"
+command_name (Cut folder from to workers prices) = codes "cut"
+command_name (Check folder report prices) = codes "check"
 command_name (Crossings folder from to) = codes "crossings"
-command_name (CutNet network from to workers) = codes "cut-net"
-command_name (CheckNet network report) = codes "check-net"
-command_name (Dot folder report) = codes "dot"
-command_name (DotNet network report) = codes "dot-net"
+command_name (CutNet network from to workers prices) = codes "cut-net"
+command_name (CheckNet network report prices) = codes "check-net"
+command_name (Dot folder report prices) = codes "dot"
+command_name (DotNet network report prices) = codes "dot-net"
 command_name (Def question) = codes "def"
 command_name (Refs question) = codes "refs"
 command_name (Index indexing) = codes "index"
@@ -202,13 +214,13 @@ Holds (Some found) job = (found.0 ≡ command_name job) × HasValues found.1 job
 
 -- the job reads a folder of modules
 abbrev pub is_tree_job : Job → Bool
-is_tree_job (Cut folder from to workers) = true
-is_tree_job (Check folder report) = true
+is_tree_job (Cut folder from to workers prices) = true
+is_tree_job (Check folder report prices) = true
 is_tree_job (Crossings folder from to) = false
-is_tree_job (CutNet network from to workers) = false
-is_tree_job (CheckNet network report) = false
-is_tree_job (Dot folder report) = true
-is_tree_job (DotNet network report) = false
+is_tree_job (CutNet network from to workers prices) = false
+is_tree_job (CheckNet network report prices) = false
+is_tree_job (Dot folder report prices) = true
+is_tree_job (DotNet network report prices) = false
 is_tree_job (Def question) = false
 is_tree_job (Refs question) = false
 is_tree_job (Index indexing) = false
@@ -216,13 +228,13 @@ is_tree_job (Unresolved folder) = false
 
 -- the job reads the lines of a network
 abbrev pub is_net_job : Job → Bool
-is_net_job (Cut folder from to workers) = false
-is_net_job (Check folder report) = false
+is_net_job (Cut folder from to workers prices) = false
+is_net_job (Check folder report prices) = false
 is_net_job (Crossings folder from to) = false
-is_net_job (CutNet network from to workers) = true
-is_net_job (CheckNet network report) = true
-is_net_job (Dot folder report) = false
-is_net_job (DotNet network report) = true
+is_net_job (CutNet network from to workers prices) = true
+is_net_job (CheckNet network report prices) = true
+is_net_job (Dot folder report prices) = false
+is_net_job (DotNet network report prices) = true
 is_net_job (Def question) = false
 is_net_job (Refs question) = false
 is_net_job (Index indexing) = false
@@ -230,13 +242,13 @@ is_net_job (Unresolved folder) = false
 
 -- the job asks an index
 abbrev pub is_query_job : Job → Bool
-is_query_job (Cut folder from to workers) = false
-is_query_job (Check folder report) = false
+is_query_job (Cut folder from to workers prices) = false
+is_query_job (Check folder report prices) = false
 is_query_job (Crossings folder from to) = false
-is_query_job (CutNet network from to workers) = false
-is_query_job (CheckNet network report) = false
-is_query_job (Dot folder report) = false
-is_query_job (DotNet network report) = false
+is_query_job (CutNet network from to workers prices) = false
+is_query_job (CheckNet network report prices) = false
+is_query_job (Dot folder report prices) = false
+is_query_job (DotNet network report prices) = false
 is_query_job (Def question) = true
 is_query_job (Refs question) = true
 is_query_job (Index indexing) = false
@@ -244,13 +256,13 @@ is_query_job (Unresolved folder) = false
 
 -- the job makes an index
 abbrev pub is_index_job : Job → Bool
-is_index_job (Cut folder from to workers) = false
-is_index_job (Check folder report) = false
+is_index_job (Cut folder from to workers prices) = false
+is_index_job (Check folder report prices) = false
 is_index_job (Crossings folder from to) = false
-is_index_job (CutNet network from to workers) = false
-is_index_job (CheckNet network report) = false
-is_index_job (Dot folder report) = false
-is_index_job (DotNet network report) = false
+is_index_job (CutNet network from to workers prices) = false
+is_index_job (CheckNet network report prices) = false
+is_index_job (Dot folder report prices) = false
+is_index_job (DotNet network report prices) = false
 is_index_job (Def question) = false
 is_index_job (Refs question) = false
 is_index_job (Index indexing) = true
@@ -258,13 +270,13 @@ is_index_job (Unresolved folder) = false
 
 -- the job asks for the identifiers that mean nothing
 abbrev pub is_unresolved_job : Job → Bool
-is_unresolved_job (Cut folder from to workers) = false
-is_unresolved_job (Check folder report) = false
+is_unresolved_job (Cut folder from to workers prices) = false
+is_unresolved_job (Check folder report prices) = false
 is_unresolved_job (Crossings folder from to) = false
-is_unresolved_job (CutNet network from to workers) = false
-is_unresolved_job (CheckNet network report) = false
-is_unresolved_job (Dot folder report) = false
-is_unresolved_job (DotNet network report) = false
+is_unresolved_job (CutNet network from to workers prices) = false
+is_unresolved_job (CheckNet network report prices) = false
+is_unresolved_job (Dot folder report prices) = false
+is_unresolved_job (DotNet network report prices) = false
 is_unresolved_job (Def question) = false
 is_unresolved_job (Refs question) = false
 is_unresolved_job (Index indexing) = false
@@ -272,13 +284,13 @@ is_unresolved_job (Unresolved folder) = true
 
 -- the job asks for the places where one module uses another
 abbrev pub is_crossings_job : Job → Bool
-is_crossings_job (Cut folder from to workers) = false
-is_crossings_job (Check folder report) = false
+is_crossings_job (Cut folder from to workers prices) = false
+is_crossings_job (Check folder report prices) = false
 is_crossings_job (Crossings folder from to) = true
-is_crossings_job (CutNet network from to workers) = false
-is_crossings_job (CheckNet network report) = false
-is_crossings_job (Dot folder report) = false
-is_crossings_job (DotNet network report) = false
+is_crossings_job (CutNet network from to workers prices) = false
+is_crossings_job (CheckNet network report prices) = false
+is_crossings_job (Dot folder report prices) = false
+is_crossings_job (DotNet network report prices) = false
 is_crossings_job (Def question) = false
 is_crossings_job (Refs question) = false
 is_crossings_job (Index indexing) = false
@@ -286,13 +298,13 @@ is_crossings_job (Unresolved folder) = false
 
 -- the job's workers, where it has them, are 1 to 64
 abbrev pub HasWorkers : Job → Type 0
-HasWorkers (Cut folder from to workers) = MayWork workers
-HasWorkers (Check folder report) = Unit {0}
+HasWorkers (Cut folder from to workers prices) = MayWork workers
+HasWorkers (Check folder report prices) = Unit {0}
 HasWorkers (Crossings folder from to) = Unit {0}
-HasWorkers (CutNet network from to workers) = MayWork workers
-HasWorkers (CheckNet network report) = Unit {0}
-HasWorkers (Dot folder report) = Unit {0}
-HasWorkers (DotNet network report) = Unit {0}
+HasWorkers (CutNet network from to workers prices) = MayWork workers
+HasWorkers (CheckNet network report prices) = Unit {0}
+HasWorkers (Dot folder report prices) = Unit {0}
+HasWorkers (DotNet network report prices) = Unit {0}
 HasWorkers (Def question) = Unit {0}
 HasWorkers (Refs question) = Unit {0}
 HasWorkers (Index indexing) = MayWork indexing.workers
@@ -304,13 +316,13 @@ IsPositionOf q = (q.line ≤ 2147483647) × (q.column ≤ 2147483647)
 
 -- so those of the job, where it has them
 abbrev pub HasPosition : Job → Type 0
-HasPosition (Cut folder from to workers) = Unit {0}
-HasPosition (Check folder report) = Unit {0}
+HasPosition (Cut folder from to workers prices) = Unit {0}
+HasPosition (Check folder report prices) = Unit {0}
 HasPosition (Crossings folder from to) = Unit {0}
-HasPosition (CutNet network from to workers) = Unit {0}
-HasPosition (CheckNet network report) = Unit {0}
-HasPosition (Dot folder report) = Unit {0}
-HasPosition (DotNet network report) = Unit {0}
+HasPosition (CutNet network from to workers prices) = Unit {0}
+HasPosition (CheckNet network report prices) = Unit {0}
+HasPosition (Dot folder report prices) = Unit {0}
+HasPosition (DotNet network report prices) = Unit {0}
 HasPosition (Def question) = IsPositionOf question
 HasPosition (Refs question) = IsPositionOf question
 HasPosition (Index indexing) = Unit {0}
@@ -322,13 +334,13 @@ IsPackage text = (text ≢ codes ".") × (slice_get text 0 ≢ Some 32)
 
 -- so that of the job, where it has one
 abbrev pub HasPackage : Job → Type 0
-HasPackage (Cut folder from to workers) = Unit {0}
-HasPackage (Check folder report) = Unit {0}
+HasPackage (Cut folder from to workers prices) = Unit {0}
+HasPackage (Check folder report prices) = Unit {0}
 HasPackage (Crossings folder from to) = Unit {0}
-HasPackage (CutNet network from to workers) = Unit {0}
-HasPackage (CheckNet network report) = Unit {0}
-HasPackage (Dot folder report) = Unit {0}
-HasPackage (DotNet network report) = Unit {0}
+HasPackage (CutNet network from to workers prices) = Unit {0}
+HasPackage (CheckNet network report prices) = Unit {0}
+HasPackage (Dot folder report prices) = Unit {0}
+HasPackage (DotNet network report prices) = Unit {0}
 HasPackage (Def question) = Unit {0}
 HasPackage (Refs question) = Unit {0}
 HasPackage (Index indexing) = IsPackage (string_bytes indexing.package)

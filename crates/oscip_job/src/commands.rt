@@ -2,7 +2,7 @@
 ghost use Rattle.std.specs.Prelude.{◌≡◌, IfOk, codes, false};
 ghost use Rattle.clap.specs.Words.{app_of, new_app, with_rule, with_subcommand, App};
 ghost use Rattle.clap.specs.declared.Command.TheViews.{out-Command as fields_of};
-ghost use Rattle.oscip_job.specs.Jobs.{asking_app, check_app, check_net_app, crossings_app, cut_app, cut_net_app, def_app, dot_app, dot_net_app, index_app, number_rule, oscip, refs_app, required_rule, text_rule, unresolved_app, with_modules, with_output, with_position, with_workers};
+ghost use Rattle.oscip_job.specs.Jobs.{asking_app, check_app, check_net_app, crossings_app, cut_app, cut_net_app, def_app, dot_app, dot_net_app, index_app, number_rule, oscip, refs_app, required_rule, text_rule, unresolved_app, with_modules, with_output, with_position, with_prices, with_workers};
 
 use clap::{Arg, ArgAction, Command, value_parser};
 use std::alloc::{AllocError, Global};
@@ -23,16 +23,16 @@ const PROGRAM_END: &str = "Example: oscip cut examples/editor Edit Net{n}{n}\
 
 /// What stands at the end of the help of a command that cuts.
 const CUT_END: &str = "Example: oscip cut examples/editor Edit Net{n}{n}\
-    Status: 0 the report is printed, 1 a module or a name is refused, 2 the command line is refused,{n}\
+    Status: 0 the report is printed, 1 a module, a price or a name is refused, 2 the command line is refused,{n}\
     3 a file can't be read or standard output takes nothing, 4 memory ran out";
 
 const CUT_NET_END: &str = "Example: oscip cut-net examples/six.net A B{n}{n}\
-    Status: 0 the report is printed, 1 the network or a name is refused, 2 the command line is refused,{n}\
+    Status: 0 the report is printed, 1 the network, a price or a name is refused, 2 the command line is refused,{n}\
     3 a file can't be read or standard output takes nothing, 4 memory ran out";
 
 /// What stands at the end of the help of a command that checks.
 const CHECK_END: &str = "Example: oscip check examples/editor edit.cut{n}{n}\
-    Status: 0 yes, 5 no, 1 a module or the report is refused, 2 the command line is refused,{n}\
+    Status: 0 yes, 5 no, 1 a module, a price or the report is refused, 2 the command line is refused,{n}\
     3 a file can't be read or standard output takes nothing, 4 memory ran out";
 
 /// What stands at the end of the help of the command that tells where a module uses another.
@@ -41,16 +41,16 @@ const CROSSINGS_END: &str = "Example: oscip crossings examples/editor Edit Sync{
     3 a file can't be read or standard output takes nothing, 4 memory ran out";
 
 const CHECK_NET_END: &str = "Example: oscip check-net examples/six.net examples/six.cut{n}{n}\
-    Status: 0 yes, 5 no, 1 the network or the report is refused, 2 the command line is refused,{n}\
+    Status: 0 yes, 5 no, 1 the network, a price or the report is refused, 2 the command line is refused,{n}\
     3 a file can't be read or standard output takes nothing, 4 memory ran out";
 
 /// What stands at the end of the help of a command that draws.
 const DOT_END: &str = "Example: oscip dot examples/editor edit.cut{n}{n}\
-    Status: 0 the graph is printed, 1 a module or the report is refused, 2 the command line is refused,{n}\
+    Status: 0 the graph is printed, 1 a module, a price or the report is refused, 2 the command line is refused,{n}\
     3 a file can't be read or standard output takes nothing, 4 memory ran out";
 
 const DOT_NET_END: &str = "Example: oscip dot-net examples/six.net examples/six.cut{n}{n}\
-    Status: 0 the graph is printed, 1 the network or the report is refused, 2 the command line is refused,{n}\
+    Status: 0 the graph is printed, 1 the network, a price or the report is refused, 2 the command line is refused,{n}\
     3 a file can't be read or standard output takes nothing, 4 memory ran out";
 
 /// What stands at the end of the help of the command that makes an index.
@@ -118,7 +118,37 @@ fn with_workers<'a>(alloc: Global, command: Command<'a>) -> Result<Command<'a>, 
     command.arg(workers)
 }
 
-/// The command of this name with a cut's words: what is cut, the names of two modules, and how many workers search.
+/// The command with the option of a file of prices.
+fn with_prices<'a>(alloc: Global, command: Command<'a>) -> Result<Command<'a>, AllocError>
+    ensures app { IfOk result (λ c. app_of c ≡ with_prices (app_of command.entry)) }
+    ensures local { IfOk result (λ c. (fields_of command.entry).has_globals ≡ false → (fields_of c).has_globals ≡ false) }
+{
+    let prices = Arg::new(alloc, "prices")
+        .long("prices")
+        .value_name("FILE")
+        .help("The file of prices: lines `price M N k`, by which an import weighs k, and `pin M N`, by which it is not to be removed");
+    command.arg(prices)
+}
+
+/// The command with the options of a cut.
+fn with_cut_options<'a>(alloc: Global, command: Command<'a>) -> Result<Command<'a>, AllocError>
+    ensures app { IfOk result (λ c. app_of c ≡ with_prices (with_workers (app_of command.entry))) }
+    ensures local { IfOk result (λ c. (fields_of command.entry).has_globals ≡ false → (fields_of c).has_globals ≡ false) }
+{
+    let command = with_workers(alloc, command)?;
+    with_prices(alloc, command)
+}
+
+/// The command with a report and the option of the file of the prices that it was made with.
+fn with_report<'a>(alloc: Global, command: Command<'a>, help: &'a str) -> Result<Command<'a>, AllocError>
+    ensures app { IfOk result (λ c. app_of c ≡ with_prices (with_rule (app_of command.entry) (required_rule (codes "REPORT")))) }
+    ensures local { IfOk result (λ c. (fields_of command.entry).has_globals ≡ false → (fields_of c).has_globals ≡ false) }
+{
+    let command = with_required(alloc, command, "REPORT", help)?;
+    with_prices(alloc, command)
+}
+
+/// The command of this name with a cut's words: what is cut, the names of two modules, and its options.
 fn cutting<'a>(
     alloc: Global,
     name: &'a str,
@@ -127,13 +157,13 @@ fn cutting<'a>(
     id: &'a str,
     help: &'a str,
 ) -> Result<Command<'a>, AllocError>
-    ensures app { IfOk result (λ c. app_of c ≡ with_workers (with_modules (with_rule (new_app name.entry.now) (required_rule id.entry.now)))) }
+    ensures app { IfOk result (λ c. app_of c ≡ with_prices (with_workers (with_modules (with_rule (new_app name.entry.now) (required_rule id.entry.now))))) }
     ensures local { IfOk result (λ c. (fields_of c).has_globals ≡ false) }
 {
     let command = Command::new(alloc, name).about(about).after_help(end);
     let command = with_required(alloc, command, id, help)?;
     let command = with_modules(alloc, command)?;
-    with_workers(alloc, command)
+    with_cut_options(alloc, command)
 }
 
 /// The command of this name with the words of a check or a picture: what was cut, and the report.
@@ -146,12 +176,12 @@ fn checking<'a>(
     help: &'a str,
     report_help: &'a str,
 ) -> Result<Command<'a>, AllocError>
-    ensures app { IfOk result (λ c. app_of c ≡ with_rule (with_rule (new_app name.entry.now) (required_rule id.entry.now)) (required_rule (codes "REPORT"))) }
+    ensures app { IfOk result (λ c. app_of c ≡ with_prices (with_rule (with_rule (new_app name.entry.now) (required_rule id.entry.now)) (required_rule (codes "REPORT")))) }
     ensures local { IfOk result (λ c. (fields_of c).has_globals ≡ false) }
 {
     let command = Command::new(alloc, name).about(about).after_help(end);
     let command = with_required(alloc, command, id, help)?;
-    with_required(alloc, command, "REPORT", report_help)
+    with_report(alloc, command, report_help)
 }
 
 /// The command with the names of two modules, M and N.

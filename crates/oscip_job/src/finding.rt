@@ -2,7 +2,7 @@
 ghost use Rattle.std.specs.Prelude.{◌≡◌, ◌≤◌, ◌↔◌, IfOk, IfSome, codes, map, true};
 ghost use Rattle.std.specs.String.{string_bytes};
 ghost use Rattle.clap.specs.Words.{found_of, kind_of, rows_of, subcommand_of, subcommand_rows_of};
-ghost use Rattle.oscip_job.specs.Jobs.{oscip, AsksForHex, Finds, FindsNumber, HasIndexing, HasOutput, HasPackage, HasPosition, HasQuestion, HasWorkers, Holds, IsPackage, IsPositionOf, MayWork, NamesNumbers, NamesPosition, NamesWithin, NamesWorkers};
+ghost use Rattle.oscip_job.specs.Jobs.{oscip, AsksForHex, Finds, FindsNumber, HasIndexing, HasOutput, HasPackage, HasPosition, HasQuestion, HasWorkers, Holds, IsPackage, IsPositionOf, MayFind, MayWork, NamesNumbers, NamesPosition, NamesWithin, NamesWorkers};
 
 use crate::commands::command;
 use crate::job::{Indexing, Job, JobFault, Output, Question};
@@ -33,6 +33,16 @@ fn value_of(alloc: Global, found: &ArgMatches<'_>, id: &str) -> Result<String, J
     }
 }
 
+/// The path of the file of prices, as text of its own, where it is given.
+fn prices_of(alloc: Global, found: &ArgMatches<'_>) -> Result<Option<String>, JobFault>
+    ensures { IfOk result (MayFind (rows_of (found_of found.now)) (codes "prices")) }
+{
+    match found.get_str("prices") {
+        None => Ok(None),
+        Some(path) => Ok(Some(String::from_str(alloc, path)?)),
+    }
+}
+
 /// The number of workers, as `clap` found it.
 fn workers_of(alloc: Global, found: &ArgMatches<'_>) -> Result<u32, JobFault>
     requires { NamesWorkers (rows_of (found_of found.now)) }
@@ -56,11 +66,13 @@ fn cut_job(alloc: Global, found: &ArgMatches<'_>) -> Result<Job, JobFault>
     let from = value_of(alloc, found, "A")?;
     let to = value_of(alloc, found, "B")?;
     let workers = workers_of(alloc, found)?;
+    let prices = prices_of(alloc, found)?;
     Ok(Job::Cut {
         folder,
         from,
         to,
         workers,
+        prices,
     })
 }
 
@@ -75,11 +87,13 @@ fn cut_net_job(alloc: Global, found: &ArgMatches<'_>) -> Result<Job, JobFault>
     let from = value_of(alloc, found, "A")?;
     let to = value_of(alloc, found, "B")?;
     let workers = workers_of(alloc, found)?;
+    let prices = prices_of(alloc, found)?;
     Ok(Job::CutNet {
         network,
         from,
         to,
         workers,
+        prices,
     })
 }
 
@@ -91,7 +105,12 @@ fn check_job(alloc: Global, found: &ArgMatches<'_>) -> Result<Job, JobFault>
 {
     let folder = value_of(alloc, found, "DIR")?;
     let report = value_of(alloc, found, "REPORT")?;
-    Ok(Job::Check { folder, report })
+    let prices = prices_of(alloc, found)?;
+    Ok(Job::Check {
+        folder,
+        report,
+        prices,
+    })
 }
 
 fn crossings_job(alloc: Global, found: &ArgMatches<'_>) -> Result<Job, JobFault>
@@ -114,7 +133,12 @@ fn check_net_job(alloc: Global, found: &ArgMatches<'_>) -> Result<Job, JobFault>
 {
     let network = value_of(alloc, found, "FILE")?;
     let report = value_of(alloc, found, "REPORT")?;
-    Ok(Job::CheckNet { network, report })
+    let prices = prices_of(alloc, found)?;
+    Ok(Job::CheckNet {
+        network,
+        report,
+        prices,
+    })
 }
 
 fn dot_job(alloc: Global, found: &ArgMatches<'_>) -> Result<Job, JobFault>
@@ -125,7 +149,12 @@ fn dot_job(alloc: Global, found: &ArgMatches<'_>) -> Result<Job, JobFault>
 {
     let folder = value_of(alloc, found, "DIR")?;
     let report = value_of(alloc, found, "REPORT")?;
-    Ok(Job::Dot { folder, report })
+    let prices = prices_of(alloc, found)?;
+    Ok(Job::Dot {
+        folder,
+        report,
+        prices,
+    })
 }
 
 fn dot_net_job(alloc: Global, found: &ArgMatches<'_>) -> Result<Job, JobFault>
@@ -136,7 +165,12 @@ fn dot_net_job(alloc: Global, found: &ArgMatches<'_>) -> Result<Job, JobFault>
 {
     let network = value_of(alloc, found, "FILE")?;
     let report = value_of(alloc, found, "REPORT")?;
-    Ok(Job::DotNet { network, report })
+    let prices = prices_of(alloc, found)?;
+    Ok(Job::DotNet {
+        network,
+        report,
+        prices,
+    })
 }
 
 /// A number of a position, as `clap` found it.

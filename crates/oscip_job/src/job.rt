@@ -40,7 +40,7 @@ pub struct Indexing {
     pub workers: u32,
 }
 
-/// A command with the values of its words.
+/// A command with the values of its words. `prices` is the path of a file with the prices of modules, where it is given.
 #[derive(Drop)]
 pub enum Job {
     /// Finds a cheapest cut of the modules below a folder, given by its path, between the modules of two names, with 1 to
@@ -50,11 +50,13 @@ pub enum Job {
         from: String,
         to: String,
         workers: u32,
+        prices: Option<String>,
     },
     /// Checks a report against the modules below a folder, both given as paths.
     Check {
         folder: String,
         report: String,
+        prices: Option<String>,
     },
     /// Tells where the module of the first name uses that of the second, of the modules below a folder, given by its path.
     Crossings {
@@ -69,21 +71,25 @@ pub enum Job {
         from: String,
         to: String,
         workers: u32,
+        prices: Option<String>,
     },
     /// Checks a report against a network, both given as paths of files.
     CheckNet {
         network: String,
         report: String,
+        prices: Option<String>,
     },
     /// Draws what a report says of the modules below a folder, both given as paths.
     Dot {
         folder: String,
         report: String,
+        prices: Option<String>,
     },
     /// Draws what a report says of a network, both given as paths of files.
     DotNet {
         network: String,
         report: String,
+        prices: Option<String>,
     },
     /// Tells where the symbol at a position is defined.
     Def(Question),
