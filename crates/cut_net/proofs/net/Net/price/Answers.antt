@@ -1,6 +1,6 @@
 use Rattle.std.proofs.Common.{sym}
 use Rattle.cut_net.proofs.OnePricing.{only_said}
-use Rattle.cut_net.proofs.prices.Net.price.Goals as goal
+use Rattle.cut_net.proofs.net.Net.price.Goals as goal
 
 pub returns-clause-only : goal.returns-clause-only
 returns-clause-only c = only_said c.args.self.now c.args.bytes.now _ c.priced.ensures
