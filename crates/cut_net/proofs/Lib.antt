@@ -4,11 +4,13 @@ pub mod Chains
 pub mod Cycles
 pub mod Duality
 pub mod Ends
+pub mod FlatMaps
 pub mod Fronts
 pub mod LineSearch
 pub mod LineStops
 pub mod ListSums
 pub mod Members
+pub mod Moved
 pub mod NearSide
 pub mod Needed
 pub mod NetLines

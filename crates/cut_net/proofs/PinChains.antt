@@ -1,10 +1,10 @@
 -- Chains of pins are chains of the pins' edges.
-use Rattle.std.proofs.Common.{◌≡◌, ℕ, ◌<◌, true, false, List, [], ◌∷◌, length, map, refl, sym, ◌∙◌, ap, subst, arith, inl, inr}
+use Rattle.std.proofs.Common.{◌≡◌, ℕ, true, List, [], ◌∷◌, map, refl, sym, ◌∙◌, ap, subst, arith, inl, inr}
 use Rattle.std.specs.Prelude.{Contains, find, is_some}
 use Rattle.std.proofs.lemmas.Bool.{both_ways, cases_Bool}
 use Rattle.std.proofs.lemmas.List.Elements.{All-contains}
 use Rattle.digraph.specs.declared.edge.Edge.{Edge}
-use Rattle.digraph.specs.Chains.{Chain, IsChain}
+use Rattle.digraph.specs.Chains.{Chain}
 use Rattle.digraph.specs.Edges as edges
 use Rattle.digraph.specs.Levels.{AreChain, IsLeastChain}
 use Rattle.digraph.proofs.Members.{first_or_later, first_member, from_map, in_map, later_member, no_member}
@@ -14,18 +14,18 @@ use Rattle.cut_net.specs.Network.{Network}
 use Rattle.cut_net.specs.WellFormed.{AreBetween}
 use Rattle.cut_net.specs.Cuts.{same_ends, Imports}
 use Rattle.cut_net.specs.Lines.{pair_of, IsImport}
-use Rattle.cut_net.specs.Pins.{is_pinned, ArePins, ByPin, IsLeastPinChain, IsPinChain, PinChain}
+use Rattle.cut_net.specs.Pins.{ArePins, ByPin, IsLeastPinChain, IsPinChain, PinChain}
 use Rattle.cut_net.proofs.Ends.{same_from, same_true}
 
 -- a line with the import's ends is found exactly where there is one
-found_one : (i : Priced) (lines : List Priced) → is_some (find (same_ends i) lines) ≡ true → (l : Priced) × Contains lines l × (same_ends i l ≡ true)
+pub found_one : (i : Priced) (lines : List Priced) → is_some (find (same_ends i) lines) ≡ true → (l : Priced) × Contains lines l × (same_ends i l ≡ true)
 found_one i [] e = absurd cc
 found_one i (l ∷ lines) e = elim (cases_Bool (same_ends i l)) [
   | inl t ↦ (l, first_member l lines l refl, t)
   | inr f ↦ let rest = found_one i lines (rw f at e) in (rest.0, later_member l lines rest.0 rest.1, rest.2)
 ]
 
-one_found : (i : Priced) (lines : List Priced) (l : Priced) → Contains lines l → same_ends i l ≡ true → is_some (find (same_ends i) lines) ≡ true
+pub one_found : (i : Priced) (lines : List Priced) (l : Priced) → Contains lines l → same_ends i l ≡ true → is_some (find (same_ends i) lines) ≡ true
 one_found i [] l has t = no_member l has
 one_found i (m ∷ lines) l has t = elim (cases_Bool (same_ends i m)) [
   | inl here ↦ rw here refl

@@ -6,10 +6,11 @@ ghost use Rattle.cut_net.specs.declared.standing.Change.{Change};
 ghost use Rattle.cut_net.specs.declared.standing.Standing.{Standing};
 ghost use Rattle.cut_net.specs.Network.{none_there};
 ghost use Rattle.cut_net.specs.Pins.{most_weight};
-ghost use Rattle.cut_net.specs.Prices.{import_as, is_named, pin_as, standing_of, stands_after, stands_by, IsPriceOutcome, PriceLine, PriceOutcome};
+ghost use Rattle.cut_net.specs.Prices.{import_as, is_named, pin_as, standing_of, standing_so, stands_after, stands_by, IsPriceOutcome, PriceLine, PriceOutcome};
 ghost use Rattle.cut_net.specs.PriceReading.{fault_said, outcome_of, unpinned_part, IsTold, IsToldOf, Notes};
 
 use crate::found::{line_of, place_in};
+use crate::numbering::copied;
 use crate::price_fault::LineFault;
 use crate::price_lines::price_line_in;
 use crate::standing::{Change, Standing};
@@ -185,6 +186,19 @@ fn pins_as(
     Ok(pins)
 }
 
+/// The network whose imports stand so.
+fn standing_so(alloc: Global, net: &Net, standings: &[Standing]) -> Result<Net, AllocError>
+    requires standing { (standing : Priced → Standing) × (standings.now ≡ map standing net.now.imports) }
+    requires light { sum_by unpinned_part standings.now ≤ most_weight }
+    ensures { IfOk result (λ changed. (standing : Priced → Standing) → standings.now ≡ map standing net.now.imports → changed ≡ standing_so net.now standing) }
+{
+    net.keeps();
+    let names = copied(alloc, net.names.as_slice())?;
+    let imports = imports_as(alloc, net.imports(), standings)?;
+    let pins = pins_as(alloc, net.imports(), standings)?;
+    Ok(Net::with_pins(names, imports, pins))
+}
+
 impl Net {
     /// The network with the prices and pins that the bytes spell, or the first fault: of the faults of lines the first line's, and then that
     /// the weights of the imports without a pin sum to more than 2^40.
@@ -204,6 +218,12 @@ impl Net {
     fn priced(&self, bytes: &[u8]) -> Result<Net, PriceFault>
         ensures { IfSome (outcome_of result) (IsPriceOutcome self.now bytes.now) }
     {
-        Err(PriceFault::Memory)
+        let alloc = *self.names.allocator();
+        let told = told_by(alloc, self, bytes)?;
+        let standings = standings_of(alloc, self, &told)?;
+        if !is_light(&standings) {
+            return Err(PriceFault::PriceOverflow);
+        }
+        Ok(standing_so(alloc, self, &standings)?)
     }
 }

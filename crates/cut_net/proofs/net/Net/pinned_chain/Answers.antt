@@ -1,12 +1,11 @@
 -- The edges stand for the pins.
-use Rattle.std.proofs.Common.{◌≡◌, ◌∙◌, ℕ, List, length, map, ap, sym, subst}
+use Rattle.std.proofs.Common.{◌≡◌, ◌∙◌, List, length, map, ap, subst}
 use Rattle.std.proofs.lemmas.Option.{IfSome_then}
 use Rattle.std.proofs.lemmas.Result.{IfOk-weaker}
 use Rattle.digraph.specs.declared.edge.Edge.{Edge}
 use Rattle.digraph.specs.Chains.{Chain}
 use Rattle.digraph.specs.Edges as edges
 use Rattle.digraph.specs.Levels.{IsLeastChain}
-use Rattle.cut_net.specs.declared.priced.Priced.{Priced}
 use Rattle.cut_net.specs.Lines.{pair_of}
 use Rattle.cut_net.proofs.Cycles.{pairs_ascend, pairs_between, IfNone_then}
 use Rattle.cut_net.proofs.PinChains.{least_of_pins, no_pin_chain, pins_between}

@@ -1,4 +1,3 @@
-use Rattle.std.proofs.Common.{sym}
 use Rattle.cut_net.proofs.OnePricing.{only_said}
 use Rattle.cut_net.proofs.net.Net.price.Goals as goal
 

@@ -1,0 +1,235 @@
+-- A network whose imports stand otherwise keeps what every network keeps.
+use Rattle.std.proofs.Common.{◌≡◌, ℕ, suc, ◌+◌, ◌*◌, ◌<◌, ◌≤◌, Bool, true, false, cond, List, [], ◌∷◌, ◌++◌, length, get_or, map, refl, sym, ap, ◌∙◌, subst, arith, sum_by, inl, inr}
+use Rattle.std.specs.Prelude.{◌↔◌, Contains, IsTrue}
+use Rattle.std.specs.List.{flat_map}
+use Rattle.std.proofs.lemmas.Bool.{both_ways, cases_Bool, cases_lt, cases_order, false_from_ne_true}
+use Rattle.std.proofs.lemmas.List.{get_or-map, get_or_default, length-map}
+use Rattle.std.proofs.lemmas.List.Concat.{flat_map-cons}
+use Rattle.std.proofs.lemmas.List.Elements.{Contains-get_or}
+use Rattle.std.proofs.lemmas.List.Kept.{AllPairs-cons}
+use Rattle.std.proofs.lemmas.List.Sums.{sum_by-cons}
+use Rattle.digraph.proofs.Members.{from_map, in_map, no_member, one_member}
+use Rattle.digraph.proofs.SameGraphs.{AreSame, acyclic_as}
+use Rattle.cut_net.specs.declared.priced.Priced.{Priced}
+use Rattle.cut_net.specs.declared.standing.Standing.{Standing}
+use Rattle.cut_net.specs.declared.standing.Standing.TheVariants.{Weighs, Stays}
+use Rattle.cut_net.specs.Lines.{IsAscending, comes_before}
+use Rattle.cut_net.specs.Network.{Network, none_there}
+use Rattle.cut_net.specs.Pins.{ArePins, is_pinned, most_weight, unpinned_weight}
+use Rattle.cut_net.specs.Prices.{import_as, pin_as, standing_so}
+use Rattle.cut_net.specs.PriceReading.{unpinned_part}
+use Rattle.cut_net.specs.WellFormed.{AreBetween, IsNetwork, Leads, total_weight}
+use Rattle.cut_net.proofs.Ends.{Before, Same, apart, before_from, before_same, before_true, same_from, same_sym, same_trans, same_true}
+use Rattle.cut_net.proofs.FlatMaps.{from_flat_map, in_flat_map}
+use Rattle.cut_net.proofs.ListSums.{sum_by-same}
+use Rattle.cut_net.proofs.PinChains.{found_one, one_found}
+
+-- ---- an import
+
+-- however it stands, an import leads where it led
+same_as : (i : Priced) (s : Standing) → Same (import_as i s) i
+same_as i (Weighs w) = record { from = refl; to = refl }
+same_as i (Stays w) = record { from = refl; to = refl }
+
+-- it is pinned
+abbrev stays : Standing → Bool
+stays (Weighs w) = false
+stays (Stays w) = true
+
+pin_from : (i : Priced) (s : Standing) (p : Priced) → Contains (pin_as i s) p → Same i p × (stays s ≡ true)
+pin_from i (Weighs w) p h = no_member p h
+pin_from i (Stays w) p h = (subst (Same i) (one_member (record { from = i.from; to = i.to; amount = w }) p h) (record { from = refl; to = refl }), refl)
+
+pin_there : (i : Priced) (s : Standing) → stays s ≡ true → (p : Priced) × Contains (pin_as i s) p
+pin_there i (Weighs w) e = absurd cc
+pin_there i (Stays w) e = (record { from = i.from; to = i.to; amount = w }, (0, omega arith, refl))
+
+heavy_as : (i : Priced) (s : Standing) → stays s ≡ true → (import_as i s).amount ≡ most_weight + 1
+heavy_as i (Weighs w) e = absurd cc
+heavy_as i (Stays w) e = refl
+
+light_as : (i : Priced) (s : Standing) → cond (stays s) 0 (import_as i s).amount ≡ unpinned_part s
+light_as i (Weighs w) = refl
+light_as i (Stays w) = refl
+
+within_as : (i : Priced) (s : Standing) → (import_as i s).amount ≤ unpinned_part s + (most_weight + 1)
+within_as i (Weighs w) = omega arith
+within_as i (Stays w) = omega arith
+
+-- ---- lists in order
+
+-- no two imports in order have the same ends
+one_import : (imports : List Priced) → IsAscending imports → (i j : Priced) → Contains imports i → Contains imports j → Same i j → i ≡ j
+one_import imports up i j (k, lk, ik) (l, ll, jl) same =
+    let at : get_or imports l i ≡ j = get_or_default imports l i j ll ∙ jl in
+    elim (cases_order k l) [
+      | inl e ↦ sym ik ∙ ap (λ (n : ℕ). get_or imports n i) e ∙ at
+      | inr differs ↦ elim differs [
+        | inl less ↦ let before = up k l i less ll in absurd (apart (before_from i j (rw (ik, at) at before)) same)
+        | inr more ↦ let before = up l k i more lk in absurd (apart (before_from j i (rw (ik, at) at before)) (same_sym same))
+      ]
+    ]
+
+later_up : (i : Priced) (imports : List Priced) → IsAscending (i ∷ imports) → IsAscending imports
+later_up i imports up j k d lt l = up (suc j) (suc k) d (omega arith) (omega arith)
+
+first_before : (i : Priced) (imports : List Priced) → IsAscending (i ∷ imports) → (j : Priced) → Contains imports j → Before i j
+first_before i imports up j (k, lt, at) = before_from i j (subst (λ (x : Priced). comes_before i x ≡ true) at (up 0 (suc k) j (omega arith) (omega arith)))
+
+pin_ahead : (i : Priced) (s : Standing) (pins : List Priced) → ((p : Priced) → Contains pins p → Before i p) → IsAscending pins → IsAscending (pin_as i s ++ pins)
+pin_ahead i (Weighs w) pins before up = up
+pin_ahead i (Stays w) pins before up =
+    let pin : Priced = record { from = i.from; to = i.to; amount = w } in
+    AllPairs-cons (λ (x : Priced) (y : Priced). comes_before x y ≡ true) pin pins
+    (λ k d lt. let p = get_or pins k d in before_true pin p (before_same (before p (Contains-get_or pins k d lt)) (record { from = refl; to = refl }) (record { from = refl; to = refl }))) up
+
+sum_by-moved : {X Y : Type 0} (f : Y → ℕ) (g : X → Y) (xs : List X) → sum_by f (map g xs) ≡ sum_by (λ x. f (g x)) xs
+sum_by-moved f g [] = refl
+sum_by-moved f g (x ∷ xs) =
+    let rest = sum_by-moved f g xs in
+    omega (arith, sum_by-cons f (g x) (map g xs), sum_by-cons (λ x. f (g x)) x xs)
+
+-- each term at most a bound more
+sum_by-within : {X : Type 0} (f g : X → ℕ) (b : ℕ) (xs : List X) → ((x : X) → f x ≤ g x + b) → sum_by f xs ≤ sum_by g xs + length xs * b
+sum_by-within f g b [] within = omega arith
+sum_by-within f g b (x ∷ xs) within =
+    let rest = sum_by-within f g b xs within in
+    let first = within x in
+    omega (arith, sum_by-cons f x xs, sum_by-cons g x xs)
+
+-- ---- a network
+
+module _ (net : Network) (standing : Priced → Standing) where
+  abbrev moved : Priced → Priced
+  moved i = import_as i (standing i)
+
+  abbrev pin : Priced → List Priced
+  pin i = pin_as i (standing i)
+
+  same_moved : (i : Priced) → Same (moved i) i
+  same_moved i = same_as i (standing i)
+
+  same_leads : AreSame (Leads net.imports) (Leads (map moved net.imports))
+  same_leads m n = (
+    λ (i, has, from, to, any). let s = same_moved i in (moved i, in_map moved net.imports i has, s.from ∙ from, s.to ∙ to, tt),
+    λ (j, has, from, to, any).
+        let (i, there, e) = from_map moved net.imports j has in
+        let s = same_moved i in
+        (i, there, sym s.from ∙ ap (λ (x : Priced). x.from) e ∙ from, sym s.to ∙ ap (λ (x : Priced). x.to) e ∙ to, tt),
+  )
+
+  moved_between : AreBetween net.imports (length net.names) → AreBetween (map moved net.imports) (length net.names)
+  moved_between between j has =
+      let (i, there, e) = from_map moved net.imports j has in
+      let s = same_moved i in
+      let b = between i there in
+      subst (λ (x : Priced). (x.from < length net.names) × (x.to < length net.names)) e (rw (s.from, s.to) b)
+
+  moved_up : (imports : List Priced) → IsAscending imports → IsAscending (map moved imports)
+  moved_up imports up j k d lt l =
+      let long = length-map imports moved in
+      let a = get_or imports j none_there in
+      let b = get_or imports k none_there in
+      let before = before_from a b (up j k none_there lt (omega arith)) in
+      rw (get_or-map moved imports j none_there d (omega arith), get_or-map moved imports k none_there d (omega arith))
+      (before_true (moved a) (moved b) (before_same before (same_sym (same_moved a)) (same_sym (same_moved b))))
+
+  pins_up : (imports : List Priced) → IsAscending imports → IsAscending (flat_map pin imports)
+  pins_up [] up = λ j k d lt l. absurd (omega arith)
+  pins_up (i ∷ imports) up =
+      subst IsAscending (sym (flat_map-cons pin i imports)) (pin_ahead i (standing i) (flat_map pin imports)
+      (λ p has.
+      let (j, there, here) = from_flat_map pin imports p has in
+      before_same (first_before i imports up j there) (record { from = refl; to = refl }) (pin_from j (standing j) p here).0)
+      (pins_up imports (later_up i imports up)))
+
+  abbrev changed : Network
+  changed = standing_so net standing
+
+  module _ (up : IsAscending net.imports) where
+    -- an import is pinned where it is to stay
+    pinned_is : (i : Priced) → Contains net.imports i → is_pinned changed (moved i) ≡ stays (standing i)
+    pinned_is i has = elim (cases_Bool (stays (standing i))) [
+      | inl t ↦
+          let (p, here) = pin_there i (standing i) t in
+          one_found (moved i) (flat_map pin net.imports) p (in_flat_map pin net.imports i p has here)
+          (same_true (moved i) p (same_trans (same_moved i) (same_sym (pin_from i (standing i) p here).0))) ∙ sym t
+      | inr f ↦ false_from_ne_true _ (λ t.
+          let (p, there, ends) = found_one (moved i) (flat_map pin net.imports) t in
+          let (j, known, here) = from_flat_map pin net.imports p there in
+          let from = pin_from j (standing j) p here in
+          let same : i ≡ j = one_import net.imports up i j has known (same_trans (same_trans (same_sym (same_moved i)) (same_sym (same_from (moved i) p ends))) from.0) in
+          both_ways (stays (standing i)) f (subst (λ (x : Priced). stays (standing x) ≡ true) (sym same) from.1)) ∙ sym f
+    ]
+
+    pub unpinned_is : unpinned_weight changed ≡ sum_by (λ i. unpinned_part (standing i)) net.imports
+    unpinned_is =
+        sum_by-moved (λ i. cond (is_pinned changed i) 0 i.amount) moved net.imports
+        ∙ sum_by-same (λ i. cond (is_pinned changed (moved i)) 0 (moved i).amount) (λ i. unpinned_part (standing i)) net.imports
+        (λ i has. ap (λ (b : Bool). cond b 0 (moved i).amount) (pinned_is i has) ∙ light_as i (standing i))
+
+  pub keeps_network : IsNetwork net → sum_by (λ i. unpinned_part (standing i)) net.imports ≤ most_weight → IsNetwork changed
+  keeps_network is light = record {
+    named = is.named;
+    names_ascend = is.names_ascend;
+    few_names = is.few_names;
+    between = moved_between is.between;
+    imports_ascend = moved_up net.imports is.imports_ascend;
+    few_imports = (let few = is.few_imports in let long = length-map net.imports moved in omega arith);
+    fits = (
+        let sum : total_weight changed ≡ sum_by (λ i. (moved i).amount) net.imports = sum_by-moved (λ i. i.amount) moved net.imports in
+        let most = sum_by-within (λ i. (moved i).amount) (λ i. unpinned_part (standing i)) (most_weight + 1) net.imports (λ i. within_as i (standing i)) in
+        let few = is.few_imports in
+        omega arith);
+    acyclic = acyclic_as (Leads net.imports) (Leads (map moved net.imports)) same_leads is.acyclic;
+  }
+
+  pub keeps_pins : IsNetwork net → sum_by (λ i. unpinned_part (standing i)) net.imports ≤ most_weight → ArePins changed
+  keeps_pins is light = record {
+    in_order = record {
+      known = λ k d lt.
+          let p = get_or (flat_map pin net.imports) k d in
+          let (i, has, here) = from_flat_map pin net.imports p (Contains-get_or (flat_map pin net.imports) k d lt) in
+          let s = same_moved i in
+          let t = (pin_from i (standing i) p here).0 in
+          (moved i, in_map moved net.imports i has, s.from ∙ t.from, s.to ∙ t.to, tt);
+      ascending = pins_up net.imports is.imports_ascend;
+    };
+    heavy = λ j has pinned.
+        let (i, there, e) = from_map moved net.imports j has in
+        let t : stays (standing i) ≡ true = sym (pinned_is is.imports_ascend i there) ∙ subst (λ (x : Priced). is_pinned changed x ≡ true) (sym e) pinned in
+        ap (λ (x : Priced). x.amount) (sym e) ∙ heavy_as i (standing i) t;
+    light = λ some. let same = unpinned_is is.imports_ascend in omega arith;
+  }
+
+-- ---- its lists
+
+pub counted : (standing : Priced → Standing) (imports : List Priced) (standings : List Standing) → standings ≡ map standing imports → sum_by unpinned_part standings ≡ sum_by (λ i. unpinned_part (standing i)) imports
+counted standing imports standings same = ap (sum_by unpinned_part) same ∙ sum_by-moved unpinned_part standing imports
+
+abbrev pub net_so : List (List ℕ) → List Priced → List Priced → Network
+net_so names imports pins = record { names = names; imports = imports; pins = pins }
+
+pub same_net : (net : Network) (standing : Priced → Standing) (standings : List Standing) (names : List (List ℕ)) (one two imports pins : List Priced) → standings ≡ map standing net.imports
+    → names ≡ net.names → one ≡ net.imports → two ≡ net.imports
+    → ((s : Priced → Standing) → standings ≡ map s one → imports ≡ map (λ i. import_as i (s i)) one) → ((s : Priced → Standing) → standings ≡ map s two → pins ≡ flat_map (λ i. pin_as i (s i)) two)
+    → net_so names imports pins ≡ standing_so net standing
+same_net net standing standings names one two imports pins same named first second are_imports are_pins =
+    let i = are_imports standing (same ∙ ap (map standing) (sym first)) ∙ ap (map (λ x. import_as x (standing x))) first in
+    let p = are_pins standing (same ∙ ap (map standing) (sym second)) ∙ ap (flat_map (λ x. pin_as x (standing x))) second in
+    λ k. record { names = named k; imports = i k; pins = p k }
+
+-- ---- how heavy it is
+
+module _ (net : Network) (standing : Priced → Standing) (is : IsNetwork net) (standings : List Standing) (same : standings ≡ map standing net.imports) (answer : Bool) (says : IsTrue answer ↔ (sum_by unpinned_part standings ≤ most_weight)) where
+  weighed : unpinned_weight (standing_so net standing) ≡ sum_by unpinned_part standings
+  weighed = unpinned_is net standing is.imports_ascend ∙ sym (counted standing net.imports standings same)
+
+  pub over : answer ≡ false → most_weight < unpinned_weight (standing_so net standing)
+  over not_light = let e = weighed in elim (cases_lt most_weight (unpinned_weight (standing_so net standing))) [
+    | inl more ↦ more
+    | inr less ↦ absurd (both_ways answer not_light (says.1 (omega arith)))
+  ]
+
+  pub light : answer ≡ true → (other : Network) → other ≡ standing_so net standing → unpinned_weight other ≤ most_weight
+  light is_light other is_so = let e = weighed in let f = ap unpinned_weight is_so in let le = says.0 is_light in omega arith
