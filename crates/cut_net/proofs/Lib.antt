@@ -8,6 +8,7 @@ pub mod FlatMaps
 pub mod Fronts
 pub mod LineSearch
 pub mod LineStops
+pub mod ListFronts
 pub mod ListSums
 pub mod Members
 pub mod Moved

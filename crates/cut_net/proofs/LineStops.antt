@@ -5,7 +5,7 @@ use Rattle.std.proofs.lemmas.Bool.{cases_order}
 use Rattle.std.proofs.lemmas.List.{append-nil, take-append-drop}
 use Rattle.std.proofs.lemmas.List.Elements.{All-head, All-tail, filter-append}
 use Rattle.cut_net.specs.NetText.{is_written}
-use Rattle.cut_net.proofs.Stops.{cons_parts, get_in, rest_at, take_in}
+use Rattle.cut_net.proofs.ListFronts.{cons_parts, get_in, rest_at, take_in}
 
 module _ {L : Type 0} (spelled_of : L → List ℕ) (IsLine : L → Type 0) (once : (l k : L) → IsLine l → IsLine k → spelled_of l ≡ spelled_of k → l ≡ k) where
   -- the pieces that aren't empty are these lines

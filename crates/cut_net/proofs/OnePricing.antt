@@ -8,7 +8,7 @@ use Rattle.cut_net.specs.Pins.{most_weight, unpinned_weight}
 use Rattle.cut_net.specs.Prices.{PriceLine, price_line, AreGoodPrices, AreOfTwo, IsBadPrice, IsNoImport, IsOfImport, IsPriced, IsPriceLine, IsPriceOutcome, IsTwicePrice, PriceOutcome, Prices, BadLine, NoSuchImport, TwicePrice, PriceOverflow, priced_by}
 use Rattle.cut_net.proofs.LineStops as stops
 use Rattle.cut_net.proofs.PriceLines.{line_once, line_written}
-use Rattle.cut_net.proofs.Stops.{all_front, pairs_front}
+use Rattle.cut_net.proofs.ListFronts.{all_front, pairs_front}
 use Rattle.texts.proofs.FieldCuts.{some_is}
 
 module _ (net : Network) where
