@@ -1,5 +1,6 @@
 -- The command line as clap reads it, and the job that its words give.
 use Rattle.std.specs.Prelude.{◌≡◌, ◌≢◌, ◌<◌, ◌≤◌, ◌^◌, ℕ, List, [], ◌∷◌, Option, Some, None, codes, option_map, pos, slice_get, Bool, String, true, false}
+use Rattle.std.specs.declared.alloc.Global.{Global}
 use Rattle.std.specs.Str.Parse.{digits_value, without_leading_plus, IsNumeral}
 use Rattle.std.specs.String.{string_bytes}
 use Rattle.clap.specs.Words.{App, Row, Text, first_of, one_of, new_app, new_rule, with_rule, with_subcommand}
@@ -126,7 +127,7 @@ abbrev pub Finds : List Row → Text → Text → Type 0
 Finds rows id text = first_of id rows ≡ Some text
 
 -- the text that was found for an argument, or none where it wasn't given
-abbrev pub MayFind : List Row → Text → Option String → Type 0
+abbrev pub MayFind : List Row → Text → Option (String Global) → Type 0
 MayFind rows id text = first_of id rows ≡ option_map string_bytes text
 
 -- the number that was found for an argument, in decimal digits, before which a plus may stand

@@ -40,7 +40,7 @@ pub struct Indexing {
     pub workers: u32,
 }
 
-/// A command with the values of its words. `prices` is the path of a file with the prices of modules, where it is given.
+/// A command with the values of its words. `prices` is the path of a file with prices of imports, where it is given.
 #[derive(Drop)]
 pub enum Job {
     /// Finds a cheapest cut of the modules below a folder, given by its path, between the modules of two names, with 1 to
