@@ -126,7 +126,9 @@ fn with_prices<'a>(alloc: Global, command: Command<'a>) -> Result<Command<'a>, A
     let prices = Arg::new(alloc, "prices")
         .long("prices")
         .value_name("FILE")
-        .help("The file of prices: lines `price M N k`, by which an import weighs k, and `pin M N`, by which it is not to be removed");
+        .help(
+            "The file of prices: lines `price M N k`, by which an import weighs k, and `pin M N`, by which it is not to be removed",
+        );
     command.arg(prices)
 }
 
@@ -140,7 +142,11 @@ fn with_cut_options<'a>(alloc: Global, command: Command<'a>) -> Result<Command<'
 }
 
 /// The command with a report and the option of the file of the prices that it was made with.
-fn with_report<'a>(alloc: Global, command: Command<'a>, help: &'a str) -> Result<Command<'a>, AllocError>
+fn with_report<'a>(
+    alloc: Global,
+    command: Command<'a>,
+    help: &'a str,
+) -> Result<Command<'a>, AllocError>
     ensures app { IfOk result (λ c. app_of c ≡ with_prices (with_rule (app_of command.entry) (required_rule (codes "REPORT")))) }
     ensures local { IfOk result (λ c. (fields_of command.entry).has_globals ≡ false → (fields_of c).has_globals ≡ false) }
 {

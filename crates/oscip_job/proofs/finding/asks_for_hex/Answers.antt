@@ -1,5 +1,5 @@
-use Rattle.std.proofs.Common.{◌≡◌, ◌∙◌, Option, Some, None, codes, sym, rules}
-use Rattle.clap.specs.Words.{first_of, found_of, rows_of, Text}
+use Rattle.std.proofs.Common.{◌≡◌, ◌∙◌, Some, None, codes, sym, rules}
+use Rattle.clap.specs.Words.{first_of, found_of, rows_of}
 use Rattle.oscip_job.proofs.Found.{first_found}
 use Rattle.oscip_job.proofs.finding.asks_for_hex.Goals as goal
 

@@ -1,5 +1,5 @@
-use Rattle.std.proofs.Common.{◌≡◌, ◌∙◌, Option, Some, None, codes, sym, ap, false, true, rules}
-use Rattle.clap.specs.Words.{first_of, found_of, rows_of, Text}
+use Rattle.std.proofs.Common.{None, codes, rules}
+use Rattle.clap.specs.Words.{found_of, rows_of}
 use Rattle.oscip_job.specs.Jobs.{AsksForHex}
 use Rattle.oscip_job.proofs.Found.{first_found, value}
 use Rattle.oscip_job.proofs.finding.output_of.Goals as goal
