@@ -4,8 +4,10 @@ ghost use Rattle.cut_preflow.specs.Flows.{network_between};
 
 use crate::openings::{Trial, run};
 use crate::told::is_told;
-use crate::worked::{A_WAY_BACK, THREE_IMPORTS, TWO_IMPORTS, TWO_WAYS, judged, net_of, told_cut};
-use cut_net::{Cut, Net, Priced};
+use crate::worked::{
+    A_WAY_BACK, DIAMOND, THREE_IMPORTS, TWO_IMPORTS, TWO_WAYS, judged, net_of, told_answer,
+};
+use cut_net::{Answer, Cut, Net, Priced};
 use cut_plain::plain;
 use cut_preflow::{NetworkLedger, Preflow};
 use cut_solve::SolveFault;
@@ -42,7 +44,7 @@ fn flow_of<L: NetworkLedger>(
 }
 
 /// The imports and the weight of a cut, with this flow.
-fn with_flow(alloc: Global, cut: &Cut, flow: Vec<Priced>) -> Result<Box<Cut>, AllocError> {
+fn with_flow(alloc: Global, cut: &Cut, flow: Vec<Priced>) -> Result<Box<Answer>, AllocError> {
     let imports = cut.imports.as_slice().to_vec(alloc)?;
     let weight = cut.weight;
     let cut = Cut {
@@ -50,7 +52,7 @@ fn with_flow(alloc: Global, cut: &Cut, flow: Vec<Priced>) -> Result<Box<Cut>, Al
         weight,
         flow,
     };
-    Ok(Box::new(alloc, cut)?)
+    Ok(Box::new(alloc, Answer::Cut(cut))?)
 }
 
 /// Whether the imports lead out of the modules that are near now.
@@ -74,8 +76,8 @@ fn judged_with<L: NetworkLedger>(
     requires { preflow.now.play.net ≡ network_between net.now ends.0 ends.1 }
 {
     let flow = flow_of(alloc, net, ends, preflow)?;
-    let cut = with_flow(alloc, cut, flow)?;
-    judged(alloc, net, ends, &*cut)
+    let answer = with_flow(alloc, cut, flow)?;
+    judged(alloc, net, ends, &*answer)
 }
 
 /// Settles the opening with no worker before it. Tells whether the imports of a cut lead out of the modules that are near then, and the
@@ -98,30 +100,60 @@ impl Trial for SettlesAlone<'_> {
     }
 }
 
-/// Checks that the checker says yes to the cut, and that a preflow that is settled from its opening alone shows the same imports and
-/// weight.
+/// Checks that a preflow that is settled from its opening alone shows the same imports and weight.
 fn settles_alone(
     rt: &(impl Abort + AllocGlobal),
     net: &Net,
-    (from, to): (&str, &str),
+    ends: (u32, u32),
     cut: &Cut,
 ) -> Result<(), Fail> {
-    let (Some(from), Some(to)) = (net.index_of(from), net.index_of(to)) else {
-        return Err(Fail::from("two names"));
-    };
-    let verdict = judged(rt.alloc(), net, (from, to), cut)?;
-    is_told(rt, verdict.as_str(), "Yes");
-    let found = run(rt.alloc(), net, (from, to), &SettlesAlone(cut))?;
+    let found = run(rt.alloc(), net, ends, &SettlesAlone(cut))?;
     is_told(rt, found.as_str(), "true Yes");
     Ok(())
 }
 
-/// The cut of the plain solver.
-fn plain_cut(alloc: Global, net: &Net, (from, to): (&str, &str)) -> Result<Box<Cut>, Fail> {
+/// The numbers of two modules.
+fn ends_of(net: &Net, (from, to): (&str, &str)) -> Result<(u32, u32), Fail> {
+    match (net.index_of(from), net.index_of(to)) {
+        (Some(from), Some(to)) => Ok((from, to)),
+        _ => Err(Fail::from("two names")),
+    }
+}
+
+/// The answer of the plain solver.
+fn plain_answer(alloc: Global, net: &Net, (from, to): (&str, &str)) -> Result<Box<Answer>, Fail> {
     Ok(Box::new(alloc, plain(alloc, net, from, to)?)?)
 }
 
-/// Checks that this is the cut between the two modules.
+/// Checks that the checker says yes to the answer, and that a preflow shows the same cut, if it is one.
+fn stands(
+    rt: &(impl Abort + AllocGlobal),
+    net: &Net,
+    ends: (u32, u32),
+    answer: &Answer,
+) -> Result<(), Fail> {
+    let verdict = judged(rt.alloc(), net, ends, answer)?;
+    is_told(rt, verdict.as_str(), "Yes");
+    match answer {
+        Answer::Cut(cut) => settles_alone(rt, net, ends, cut),
+        Answer::Blocked { .. } => Ok(()),
+    }
+}
+
+/// Checks that this is answered of the two modules.
+pub(crate) fn answers(
+    rt: &(impl Abort + AllocGlobal),
+    net: &Net,
+    names: (&str, &str),
+    want: &str,
+) -> Result<(), Fail> {
+    let answer = plain_answer(rt.alloc(), net, names)?;
+    let found = told_answer(rt.alloc(), &*answer)?;
+    is_told(rt, found.as_str(), want);
+    stands(rt, net, ends_of(net, names)?, &*answer)
+}
+
+/// The same of a network's text.
 fn cuts(
     rt: &(impl Abort + AllocGlobal),
     net: &[u8],
@@ -129,10 +161,7 @@ fn cuts(
     want: &str,
 ) -> Result<(), Fail> {
     let net = net_of(rt.alloc(), net)?;
-    let cut = plain_cut(rt.alloc(), &*net, names)?;
-    let found = told_cut(rt.alloc(), &*cut)?;
-    is_told(rt, found.as_str(), want);
-    settles_alone(rt, &*net, names, &*cut)
+    answers(rt, &*net, names, want)
 }
 
 /// Lines in any order, an empty one, and a module that nothing imports. The modules are A, B, M and Z.
@@ -170,7 +199,7 @@ const CUTS: &[(&[u8], (&str, &str), &str)] = &[
     ),
     // Two ways are cut where each is cheapest.
     (
-        b"import A B 1\nimport A C 2\nimport B D 3\nimport C D 1\n",
+        DIAMOND,
         ("A", "D"),
         "weight 2 remove 0 1 1 remove 2 3 1 flow 0 1 1 flow 0 2 1 flow 1 3 1 flow 2 3 1",
     ),
@@ -224,7 +253,7 @@ fn worked_networks_have_their_cuts(rt: HostRuntime) -> Result<(), Fail> {
 /// What `plain` tells of these names.
 fn told_names(alloc: Global, net: &Net, (from, to): (&str, &str)) -> Result<String, AllocError> {
     match plain(alloc, net, from, to) {
-        Ok(cut) => told_cut(alloc, &cut),
+        Ok(answer) => told_answer(alloc, &answer),
         Err(SolveFault::Memory) => Err(AllocError),
         Err(fault) => format!(in alloc; "{fault}"),
     }

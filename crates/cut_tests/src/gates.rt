@@ -1,9 +1,11 @@
 //! Two workers whose turns a gate orders, and workers whose gate is open.
 ghost use Rattle.std.specs.Prelude.{◌≡◌, ◌≤◌};
+ghost use Rattle.cut_net.specs.Pins.{PinChain};
 ghost use Rattle.cut_preflow.specs.Flows.{AreEnds, network_between};
 
+use crate::openings::is_free;
 use crate::told::is_told;
-use crate::worked::{THREE_IMPORTS, net_of, told_cut};
+use crate::worked::{THREE_IMPORTS, net_of, told_answer};
 use cut_net::Net;
 use cut_preflow::{Event, NetworkLedger, PARTS, Preflow, Share};
 use cut_solve::workers::look;
@@ -139,6 +141,7 @@ fn by_two_in<L: NetworkLedger + Send + Sync, R: Threads + Wait + Sync, G: Gate +
     gate: &G,
 ) -> Result<String, Fail>
     requires ends { AreEnds net.now 0 1 }
+    requires free { PinChain net.now 0 1 → ⊥ }
     requires net { network_between net.now 0 1 ≡ L.net }
     requires name { blank.name ≡ L.name }
     requires parts { (blank.parts ≡ 65) × (L.parts ≡ 65) }
@@ -170,6 +173,9 @@ fn by_two<R: Threads + Wait + Sync, G: Gate + Sync>(
     if net.nodes() < 2 {
         return Err(Fail::from("two modules"));
     }
+    if !is_free(alloc, &*net, 0, 1)? {
+        return Err(Fail::from("no chain of pins"));
+    }
     by_two_in::<Brand, R, G>(rt, alloc, Blank::new(PARTS), &*net, gate)
 }
 
@@ -199,8 +205,8 @@ fn told_by<R: Threads + Wait + Sync, G: Gate + Sync>(
     requires { (1 ≤ workers) × (workers ≤ 64) }
 {
     let net = net_of(alloc, THREE_IMPORTS)?;
-    let cut = solve(rt, alloc, &*net, "A", "B", workers, gate)?;
-    Ok(told_cut(alloc, &cut)?)
+    let answer = solve(rt, alloc, &*net, "A", "B", workers, gate)?;
+    Ok(told_answer(alloc, &answer)?)
 }
 
 const LINE_CUT: &str = "weight 2 remove 0 2 2 flow 0 2 2 flow 2 3 2 flow 3 1 2";
@@ -254,6 +260,7 @@ fn alone_in<L: NetworkLedger, R: Wait>(
     net: &Net,
 ) -> Result<String, Fail>
     requires ends { AreEnds net.now 0 1 }
+    requires free { PinChain net.now 0 1 → ⊥ }
     requires net { network_between net.now 0 1 ≡ L.net }
     requires name { blank.name ≡ L.name }
     requires parts { (blank.parts ≡ 65) × (L.parts ≡ 65) }
@@ -272,6 +279,9 @@ fn alone<R: Wait>(rt: &R, alloc: Global) -> Result<String, Fail> {
     let net = net_of(alloc, THREE_IMPORTS)?;
     if net.nodes() < 2 {
         return Err(Fail::from("two modules"));
+    }
+    if !is_free(alloc, &*net, 0, 1)? {
+        return Err(Fail::from("no chain of pins"));
     }
     alone_in::<Brand, R>(rt, alloc, Blank::new(PARTS), &*net)
 }

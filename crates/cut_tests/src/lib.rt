@@ -1,6 +1,6 @@
 //! Tests of the public calls of `cut_residual`, `cut_net`, `cut_part`, `cut_preflow`, `cut_check`, `cut_solve` and `cut_plain`, of what no command
-//! shows: sinks, calls that the solver makes, its workers at gates, `plain`, and verdicts on what no report says. What `cut-net` and
-//! `check-net` print stands in `rows/`.
+//! shows: sinks, calls that the solver makes, its workers at gates, `plain`, prices and pins call by call, and verdicts on what no report says.
+//! What `cut-net` and `check-net` print stands in `rows/`.
 //! Stands on those seven, on `byte_sink` and on `test_doubles`.
 //! It has nothing but tests: worked networks and cuts, each with what is known of it.
 #![tactic(auto)]
@@ -19,6 +19,10 @@ mod openings;
 mod parts;
 #[cfg(test)]
 mod preflows;
+#[cfg(test)]
+mod priced;
+#[cfg(test)]
+mod prices;
 #[cfg(test)]
 mod sinks;
 #[cfg(test)]

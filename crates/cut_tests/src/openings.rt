@@ -1,16 +1,29 @@
 //! Preflows in ledgers of their own.
-ghost use Rattle.std.specs.Prelude.{◌≡◌};
+ghost use Rattle.std.specs.Prelude.{◌≡◌, ◌<◌, IfOk, IsTrue, length};
+ghost use Rattle.cut_net.specs.Pins.{PinChain};
 ghost use Rattle.cut_preflow.specs.Flows.{AreEnds, network_between};
 
 use crate::told::is_told;
 use crate::worked::net_of;
 use cut_net::Net;
 use cut_preflow::{Event, NetworkLedger, Outcome, PARTS, Preflow, Step};
-use std::alloc::Global;
+use std::alloc::{AllocError, Global};
 use std::marker::Brand;
 use std::process::Abort;
 use std::sync::ledger::Blank;
 use std::test::Fail;
+
+/// Whether no chain of pins leads from the one module to the other.
+pub(crate) fn is_free(alloc: Global, net: &Net, from: u32, to: u32) -> Result<bool, AllocError>
+    requires from { from < length net.now.names }
+    requires to { to < length net.now.names }
+    ensures { IfOk result (λ yes. IsTrue yes → PinChain net.now from to → ⊥) }
+{
+    match net.pinned_chain(alloc, from, to)? {
+        Some(_) => Ok(false),
+        None => Ok(true),
+    }
+}
 
 /// What is tried on the opening between two modules of a network, and told as a text.
 pub(crate) trait Trial {
@@ -32,6 +45,7 @@ fn in_ledger<L: NetworkLedger, T: Trial>(
     trial: &T,
 ) -> Result<String, Fail>
     requires ends { AreEnds net.now ends.0 ends.1 }
+    requires free { PinChain net.now ends.0 ends.1 → ⊥ }
     requires net { network_between net.now ends.0 ends.1 ≡ L.net }
     requires name { blank.name ≡ L.name }
     requires parts { (blank.parts ≡ 65) × (L.parts ≡ 65) }
@@ -49,6 +63,9 @@ pub(crate) fn run<T: Trial>(
 ) -> Result<String, Fail> {
     if ends.0 == ends.1 || ends.0 >= net.nodes() || ends.1 >= net.nodes() {
         return Err(Fail::from("two modules"));
+    }
+    if !is_free(alloc, net, ends.0, ends.1)? {
+        return Err(Fail::from("no chain of pins"));
     }
     in_ledger::<Brand, T>(alloc, Blank::new(PARTS), net, ends, trial)
 }

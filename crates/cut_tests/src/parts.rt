@@ -2,15 +2,12 @@
 ghost use Rattle.std.specs.Prelude.{◌<◌, IsTrue};
 
 use crate::told::is_told;
-use crate::worked::{TWO_IMPORTS, TWO_WAYS, net_of};
+use crate::worked::{DIAMOND, TWO_IMPORTS, TWO_WAYS, net_of, net_with};
 use cut_net::{Net, Priced};
 use cut_part::{between, narrowed, turned_imports};
 use std::alloc::{AllocError, Global};
 use std::process::Abort;
 use std::test::Fail;
-
-/// Two ways from A to D. The modules are A, B, C and D.
-const DIAMOND: &[u8] = b"import A B 1\nimport A C 2\nimport B D 3\nimport C D 1\n";
 
 /// A and X import B and nothing leads to them, Y is a way out of C. The modules are A, B, C, D, X and Y.
 const WITH_ODDS: &[u8] =
@@ -30,7 +27,12 @@ fn tell_imports(text: &mut String, net: &Net) -> Result<(), AllocError> {
     net.keeps();
     for number in 0..net.imports().len() as u32 {
         let import = net.import(number);
-        write!(text, ", {} {} {}", import.from, import.to, import.amount)?;
+        let word = if net.pinned(number) { " pinned" } else { "" };
+        write!(
+            text,
+            ", {} {} {}{word}",
+            import.from, import.to, import.amount
+        )?;
     }
     Ok(())
 }
@@ -131,6 +133,32 @@ fn is_part(rt: &(impl Abort + AllocGlobal), (net, from, to, want): PartRow) -> R
     let net = net_of(rt.alloc(), net)?;
     let found = told_part(rt.alloc(), &net, from, to)?;
     is_told(rt, found.as_str(), want);
+    Ok(())
+}
+
+/// The part of the diamond between two modules keeps its prices and its pins.
+const PRICED_PARTS: &[(&[u8], u32, u32, &str)] = &[
+    (
+        b"pin B D\nprice C D 7\n",
+        0,
+        3,
+        "4 modules A B C D, 0 1 1, 0 2 2, 1 3 3 pinned, 2 3 7; [0, 1, 2, 3] [true, true, true, true]",
+    ),
+    (
+        b"pin B D\npin C D\n",
+        2,
+        3,
+        "2 modules C D, 0 1 1 pinned; [2, 3] [false, false, true, true]",
+    ),
+];
+
+#[test]
+fn the_part_keeps_prices_and_pins(rt: HostRuntime) -> Result<(), Fail> {
+    for (prices, from, to, want) in PRICED_PARTS {
+        let net = net_with(rt.alloc(), DIAMOND, prices)?;
+        let found = told_part(rt.alloc(), &net, *from, *to)?;
+        is_told(&rt, found.as_str(), want);
+    }
     Ok(())
 }
 
