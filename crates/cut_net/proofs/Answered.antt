@@ -8,10 +8,10 @@ use Rattle.cut_net.specs.NetText.{NetLine, Module, Import, IsNetLine, IsNetOf, M
 use Rattle.cut_net.specs.NetReading.{IsDraft, IsDraftOf}
 use Rattle.cut_net.specs.WellFormed.{AreBetween, IsAcyclic, IsNetwork, total_weight}
 use Rattle.cut_net.specs.declared.priced.Priced.{Priced}
-use Rattle.cut_net.specs.declared.draft.Draft.{Draft}
+use Rattle.cut_net.specs.declared.draft.NetDraft.{NetDraft}
 use Rattle.cut_net.proofs.Fronts.{good_lines}
 
-pub net_text : (bytes : List ℕ) (draft : Draft) (net : Network) → IsDraftOf bytes draft → ((lines : List NetLine) → IsDraft lines draft → IsNetOf lines net) → NetText bytes net
+pub net_text : (bytes : List ℕ) (draft : NetDraft) (net : Network) → IsDraftOf bytes draft → ((lines : List NetLine) → IsDraft lines draft → IsNetOf lines net) → NetText bytes net
 net_text bytes draft net (lines, spelled, h) is = record { lines = lines; spelled = spelled; good = good_lines lines _ _ h; is_net = is lines h }
 
 named_by : (name : List ℕ) (line : NetLine) → Mentions name line → IsNetLine line → is_name name ≡ true

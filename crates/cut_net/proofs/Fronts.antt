@@ -7,9 +7,9 @@ use Rattle.std.proofs.lemmas.List.Sums.{length-filter}
 use Rattle.std.proofs.lemmas.List.{length-map}
 use Rattle.cut_net.specs.NetText.{NetLine, net_line, is_import, is_written, pieces_of, AreGood, IsNetOutcome, Spell}
 use Rattle.cut_net.specs.NetReading.{entry_line, fault_at, fault_said, AreTablesOf, IsDraft, Takes}
-use Rattle.cut_net.specs.declared.draft.Draft.{Draft}
-use Rattle.cut_net.specs.declared.draft.LineFault.{LineFault}
-use Rattle.cut_net.specs.declared.draft.LineFault.TheVariants as fault
+use Rattle.cut_net.specs.declared.draft.NetDraft.{NetDraft}
+use Rattle.cut_net.specs.declared.draft.NetLineFault.{NetLineFault}
+use Rattle.cut_net.specs.declared.draft.NetLineFault.TheVariants as fault
 
 pub good_lines : (lines : List NetLine) (names : List (List ℕ)) (es : List ((ℕ × ℕ) × ℕ)) → AreTablesOf lines names es → AreGood lines
 good_lines lines names es h =
@@ -31,7 +31,7 @@ spell_more pieces piece lines more h g =
 pub spell_next : {A : Type 0} (v : A → List ℕ) (items : List A) (item : A) (lines more : List NetLine) → Spell (map v items) lines → Spell (v item ∷ []) more → Spell (map v (items ++ item ∷ [])) (lines ++ more)
 spell_next v items item lines more h g = rw (map_push v items item) (spell_more (map v items) (v item) lines more h g)
 
-pub fault_is : (bytes : List ℕ) (k : ℕ) (before : List NetLine) (piece : List ℕ) (e : LineFault) (old new : Draft) → Spell (take k (pieces_of bytes)) before → IsDraft before old
+pub fault_is : (bytes : List ℕ) (k : ℕ) (before : List NetLine) (piece : List ℕ) (e : NetLineFault) (old new : NetDraft) → Spell (take k (pieces_of bytes)) before → IsDraft before old
     → slice_get (pieces_of bytes) k ≡ Some piece → Takes before piece (Err e) new → IfSome (fault_said (fault_at (k + 1) e)) (IsNetOutcome bytes)
 fault_is bytes k before piece fault.BadLine old new spelled h there t = (
   k,

@@ -4,8 +4,8 @@ use Rattle.std.specs.Prelude.{filter, slice_get, IfSome}
 use Rattle.std.proofs.lemmas.List.{map-append, map_push}
 use Rattle.std.proofs.lemmas.List.Elements.{filter-append}
 use Rattle.texts.proofs.FieldCuts.{some}
-use Rattle.cut_net.specs.declared.price_fault.LineFault.{LineFault}
-use Rattle.cut_net.specs.declared.price_fault.LineFault.TheVariants as fault
+use Rattle.cut_net.specs.declared.price_fault.PriceLineFault.{PriceLineFault}
+use Rattle.cut_net.specs.declared.price_fault.PriceLineFault.TheVariants as fault
 use Rattle.cut_net.specs.declared.standing.Change.{Change}
 use Rattle.cut_net.specs.Network.{Network}
 use Rattle.cut_net.specs.NetText.{is_written, pieces_of}
@@ -19,7 +19,7 @@ spell_more pieces piece lines more h g =
 pub spell_next : {A : Type 0} (v : A → List ℕ) (items : List A) (item : A) (lines more : List PriceLine) → SpellPrices (map v items) lines → SpellPrices (v item ∷ []) more → SpellPrices (map v (items ++ item ∷ [])) (lines ++ more)
 spell_next v items item lines more h g = rw (map_push v items item) (spell_more (map v items) (v item) lines more h g)
 
-pub fault_is : (net : Network) (bytes : List ℕ) (k : ℕ) (before : List PriceLine) (piece : List ℕ) (e : LineFault) (told : List (Option Change)) → SpellPrices (take k (pieces_of bytes)) before → AreGoodPrices net before
+pub fault_is : (net : Network) (bytes : List ℕ) (k : ℕ) (before : List PriceLine) (piece : List ℕ) (e : PriceLineFault) (told : List (Option Change)) → SpellPrices (take k (pieces_of bytes)) before → AreGoodPrices net before
     → slice_get (pieces_of bytes) k ≡ Some piece → Notes net before piece (Err e) told → IfSome (fault_said (fault_at (k + 1) e)) (IsPriceOutcome net bytes)
 fault_is net bytes k before piece fault.BadLine told spelled good there t = (
   k,

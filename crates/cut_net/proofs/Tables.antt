@@ -17,9 +17,9 @@ use Rattle.texts.specs.Fields.{is_name}
 use Rattle.cut_net.specs.NetText.{NetLine, Module, Import, net_line, is_import, is_written, AreApart, AreMentioning, AreNamesOf, IsNetLine, Mentions}
 use Rattle.cut_net.specs.NetReading.{entry_line, noted, Adds, AreTablesOf, IsMore, IsTwice, Takes, line_said}
 use Rattle.cut_net.specs.declared.lines.Line.{Line}
-use Rattle.cut_net.specs.declared.draft.Draft.{Draft}
-use Rattle.cut_net.specs.declared.draft.LineFault.{LineFault}
-use Rattle.cut_net.specs.declared.draft.LineFault.TheVariants as fault
+use Rattle.cut_net.specs.declared.draft.NetDraft.{NetDraft}
+use Rattle.cut_net.specs.declared.draft.NetLineFault.{NetLineFault}
+use Rattle.cut_net.specs.declared.draft.NetLineFault.TheVariants as fault
 use Rattle.digraph.proofs.Members.{no_member, in_filter, from_filter, in_map, from_map}
 
 -- the tables of no lines
@@ -346,7 +346,7 @@ module _ (lines : List NetLine) (names middle more : List (List ℕ)) (es : List
 
 -- ---- what came of a piece
 
-pub takes_from_adds : (before : List NetLine) (piece : List ℕ) (line : NetLine) (r : Result (Unit {0}) LineFault) (draft : Draft) → is_written piece ≡ true → net_line line ≡ piece → IsNetLine line
+pub takes_from_adds : (before : List NetLine) (piece : List ℕ) (line : NetLine) (r : Result (Unit {0}) NetLineFault) (draft : NetDraft) → is_written piece ≡ true → net_line line ≡ piece → IsNetLine line
     → Adds before line r draft → Takes before piece r draft
 takes_from_adds before piece line (Ok _) draft written e good h =
     let spelled : filter is_written (piece ∷ []) ≡ net_line line ∷ [] = rw (written, e) refl in

@@ -6,9 +6,9 @@ use Rattle.std.specs.Str.{bytes_eq}
 use Rattle.texts.specs.Fields.{cut_at, named, number_of}
 use Rattle.cut_net.specs.Network.{Network, texts, unpinned}
 use Rattle.cut_net.specs.NetText.{NetLine, Module, Import, NetOutcome, Reads, BadLine, TwiceImport, Cycle, WeightOverflow, TooMany, net_line, is_import, is_written, pieces_of, AreApart, AreFew, AreNamesOf, IsNetLine, Spell}
-use Rattle.cut_net.specs.declared.draft.Draft.{Draft}
-use Rattle.cut_net.specs.declared.draft.LineFault.{LineFault}
-use Rattle.cut_net.specs.declared.draft.LineFault.TheVariants as fault
+use Rattle.cut_net.specs.declared.draft.NetDraft.{NetDraft}
+use Rattle.cut_net.specs.declared.draft.NetLineFault.{NetLineFault}
+use Rattle.cut_net.specs.declared.draft.NetLineFault.TheVariants as fault
 use Rattle.cut_net.specs.declared.fault.NetFault.{NetFault}
 use Rattle.cut_net.specs.declared.fault.NetFault.TheVariants as faults
 use Rattle.cut_net.specs.declared.lines.Line.{Line}
@@ -59,7 +59,7 @@ pub record AreTablesOf (lines : List NetLine) (names : List (List ℕ)) (imports
   pub placed : All (λ entry. (entry.0.0 < length names) × (entry.0.1 < length names)) imports
   pub listed : filter is_import lines ≡ map (entry_line names) imports
 
-abbrev pub IsDraft : List NetLine → Draft → Type 0
+abbrev pub IsDraft : List NetLine → NetDraft → Type 0
 IsDraft lines draft = AreTablesOf lines (texts draft.names.keys) draft.imports.entries
 
 -- with one more line there is an import twice
@@ -72,7 +72,7 @@ pub record IsMore (before : List NetLine) (line : NetLine) : Type 0 where
   pub many : AreFew (before ++ line ∷ []) → ⊥
 
 -- what came of one more line
-abbrev pub Adds : List NetLine → NetLine → Result (Unit {0}) LineFault → Draft → Type 0
+abbrev pub Adds : List NetLine → NetLine → Result (Unit {0}) NetLineFault → NetDraft → Type 0
 Adds before line (Ok _) draft = IsDraft (before ++ line ∷ []) draft
 Adds before line (Err fault.BadLine) draft = ⊥
 Adds before line (Err fault.TwiceImport) draft = IsTwice before line
@@ -80,7 +80,7 @@ Adds before line (Err fault.TooMany) draft = IsMore before line
 Adds before line (Err fault.Memory) draft = Unit {0}
 
 -- what came of one more piece
-abbrev pub Takes : List NetLine → List ℕ → Result (Unit {0}) LineFault → Draft → Type 0
+abbrev pub Takes : List NetLine → List ℕ → Result (Unit {0}) NetLineFault → NetDraft → Type 0
 Takes before piece (Ok _) draft = (more : List NetLine) × Spell (piece ∷ []) more × IsDraft (before ++ more) draft
 Takes before piece (Err fault.BadLine) draft = (is_written piece ≡ true) × ((line : NetLine) → IsNetLine line → net_line line ≢ piece)
 Takes before piece (Err fault.TwiceImport) draft = (line : NetLine) × (net_line line ≡ piece) × IsNetLine line × IsTwice before line
@@ -89,7 +89,7 @@ Takes before piece (Err fault.Memory) draft = Unit {0}
 
 -- ---- the whole text
 
-abbrev pub fault_at : ℕ → LineFault → NetFault
+abbrev pub fault_at : ℕ → NetLineFault → NetFault
 fault_at line fault.BadLine = faults.BadLine line
 fault_at line fault.TwiceImport = faults.TwiceImport line
 fault_at line fault.TooMany = faults.TooMany line
@@ -110,11 +110,11 @@ outcome_of (Ok net) = Some (Reads net)
 outcome_of (Err fault) = fault_said fault
 
 -- the tables are of the lines that the bytes spell
-abbrev pub IsDraftOf : List ℕ → Draft → Type 0
+abbrev pub IsDraftOf : List ℕ → NetDraft → Type 0
 IsDraftOf bytes draft = (lines : List NetLine) × Spell (pieces_of bytes) lines × IsDraft lines draft
 
 -- the tables are of lines
-abbrev pub IsDrafted : Draft → Type 0
+abbrev pub IsDrafted : NetDraft → Type 0
 IsDrafted draft = (lines : List NetLine) × IsDraft lines draft
 
 -- the line of an import, by the numbers of its modules

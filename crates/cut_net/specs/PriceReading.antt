@@ -6,8 +6,8 @@ use Rattle.cut_net.specs.Network.{Network}
 use Rattle.cut_net.specs.NetReading.{after_word}
 use Rattle.cut_net.specs.NetText.{is_written, pieces_of}
 use Rattle.cut_net.specs.Prices.{PriceLine, PriceOutcome, Prices, BadLine, NoSuchImport, TwicePrice, PriceOverflow, price_line, said_of, IsOfImport, IsPriceLine, SpellPrices, AreGoodPrices, AreOfTwo}
-use Rattle.cut_net.specs.declared.price_fault.LineFault.{LineFault}
-use Rattle.cut_net.specs.declared.price_fault.LineFault.TheVariants as fault
+use Rattle.cut_net.specs.declared.price_fault.PriceLineFault.{PriceLineFault}
+use Rattle.cut_net.specs.declared.price_fault.PriceLineFault.TheVariants as fault
 use Rattle.cut_net.specs.declared.price_fault.PriceFault.{PriceFault}
 use Rattle.cut_net.specs.declared.price_fault.PriceFault.TheVariants as faults
 use Rattle.cut_net.specs.declared.standing.Change.{Change}
@@ -48,7 +48,7 @@ pub record IsTold (net : Network) (lines : List PriceLine) (told : List (Option 
   pub told_is : told ≡ map (said_of net lines) net.imports
 
 -- what came of one more piece
-abbrev pub Notes : Network → List PriceLine → List ℕ → Result (Unit {0}) LineFault → List (Option Change) → Type 0
+abbrev pub Notes : Network → List PriceLine → List ℕ → Result (Unit {0}) PriceLineFault → List (Option Change) → Type 0
 Notes net before piece (Ok _) told = (more : List PriceLine) × SpellPrices (piece ∷ []) more × IsTold net (before ++ more) told
 Notes net before piece (Err fault.BadLine) told = (is_written piece ≡ true) × ((line : PriceLine) → IsPriceLine line → price_line line ≢ piece)
 Notes net before piece (Err fault.NoSuchImport) told = (line : PriceLine) × (price_line line ≡ piece) × IsPriceLine line × (IsOfImport net line → ⊥)
@@ -66,7 +66,7 @@ unpinned_part (Stays w) = 0
 
 -- ---- faults
 
-abbrev pub fault_at : ℕ → LineFault → PriceFault
+abbrev pub fault_at : ℕ → PriceLineFault → PriceFault
 fault_at line fault.BadLine = faults.BadLine line
 fault_at line fault.NoSuchImport = faults.NoSuchImport line
 fault_at line fault.TwicePrice = faults.TwicePrice line

@@ -1,7 +1,7 @@
 //! The tables of a network's lines: names in the order in which they come, and imports by the places of their names.
 ghost use Rattle.std.specs.Prelude.{◌≡◌, ◌<◌, ◌++◌, ◌∷◌, true, false, Contains, IfErr, IfOk, List, [], OnOk, length};
 ghost use Rattle.std.specs.Map.{keys_of};
-ghost use Rattle.cut_net.specs.declared.draft.LineFault.TheVariants.{Memory};
+ghost use Rattle.cut_net.specs.declared.draft.NetLineFault.TheVariants.{Memory};
 ghost use Rattle.std.specs.List.{slice_index_or};
 ghost use Rattle.cut_net.specs.Network.{texts};
 ghost use Rattle.cut_net.specs.NetText.{IsNetLine, NetLine, Module, Import};
@@ -17,14 +17,14 @@ const MOST_NAMES: usize = 8192;
 const MOST_IMPORTS: usize = 65536;
 
 /// What is wrong with a line.
-pub(crate) enum LineFault {
+pub(crate) enum NetLineFault {
     BadLine,
     TwiceImport,
     TooMany,
     Memory,
 }
 
-impl LineFault {
+impl NetLineFault {
     ghost use Rattle.std.specs.Prelude.{◌≡◌};
     ghost use Rattle.cut_net.specs.NetReading.{fault_at};
 
@@ -33,39 +33,39 @@ impl LineFault {
         ensures { result ≡ fault_at line self }
     {
         match self {
-            LineFault::BadLine => NetFault::BadLine { line },
-            LineFault::TwiceImport => NetFault::TwiceImport { line },
-            LineFault::TooMany => NetFault::TooMany { line },
-            LineFault::Memory => NetFault::Memory,
+            NetLineFault::BadLine => NetFault::BadLine { line },
+            NetLineFault::TwiceImport => NetFault::TwiceImport { line },
+            NetLineFault::TooMany => NetFault::TooMany { line },
+            NetLineFault::Memory => NetFault::Memory,
         }
     }
 }
 
-impl From<AllocError> for LineFault {
+impl From<AllocError> for NetLineFault {
     ghost use Rattle.std.specs.Prelude.{◌≡◌};
-    ghost use Rattle.cut_net.specs.declared.draft.LineFault.TheVariants.{Memory};
+    ghost use Rattle.cut_net.specs.declared.draft.NetLineFault.TheVariants.{Memory};
 
     ghost from_gives = { λ _ fault. fault ≡ Memory };
 
-    fn from(_error: AllocError) -> LineFault {
-        LineFault::Memory
+    fn from(_error: AllocError) -> NetLineFault {
+        NetLineFault::Memory
     }
 }
 
-impl<T: Drop> From<AllocFailed<T>> for LineFault {
+impl<T: Drop> From<AllocFailed<T>> for NetLineFault {
     ghost use Rattle.std.specs.Prelude.{◌≡◌};
-    ghost use Rattle.cut_net.specs.declared.draft.LineFault.TheVariants.{Memory};
+    ghost use Rattle.cut_net.specs.declared.draft.NetLineFault.TheVariants.{Memory};
 
     ghost from_gives = { λ _ fault. fault ≡ Memory };
 
-    fn from(_error: AllocFailed<T>) -> LineFault {
-        LineFault::Memory
+    fn from(_error: AllocFailed<T>) -> NetLineFault {
+        NetLineFault::Memory
     }
 }
 
 /// The names of the lines so far, and their imports with weights.
 #[derive(Drop)]
-pub(crate) struct Draft {
+pub(crate) struct NetDraft {
     pub(crate) names: IndexSet<String>,
     pub(crate) imports: IndexMap<(usize, usize), u64>,
 }
@@ -88,7 +88,7 @@ fn put_import(
     imports: &mut IndexMap<(usize, usize), u64>,
     ends: (usize, usize),
     weight: u64,
-) -> Result<bool, LineFault>
+) -> Result<bool, NetLineFault>
     ensures there { IfOk result (λ there. there ≡ true → Contains (keys_of imports.old.entries) ends) }
     ensures absent { IfOk result (λ there. there ≡ false → Contains (keys_of imports.old.entries) ends → ⊥) }
     ensures last { IfOk result (λ there. there ≡ false → imports.new.entries ≡ imports.old.entries ++ (ends, weight) ∷ []) }
@@ -98,23 +98,23 @@ fn put_import(
     Ok(before.is_some())
 }
 
-impl Draft {
+impl NetDraft {
     /// The tables of no lines.
-    pub(crate) fn new(alloc: Global) -> Draft
+    pub(crate) fn new(alloc: Global) -> NetDraft
         ensures { IsDraft [] result }
     {
-        Draft {
+        NetDraft {
             names: IndexSet::new(alloc),
             imports: IndexMap::new(alloc),
         }
     }
 
-    fn add_module(&mut self, alloc: Global, name: &str) -> Result<(), LineFault>
+    fn add_module(&mut self, alloc: Global, name: &str) -> Result<(), NetLineFault>
         ensures { (before : List NetLine) → IsDraft before self.old → IsNetLine (Module name.now) → Adds before (Module name.now) result self.new }
     {
         note_name(alloc, &mut self.names, name)?;
         if self.names.len() > MOST_NAMES {
-            return Err(LineFault::TooMany);
+            return Err(NetLineFault::TooMany);
         }
         Ok(())
     }
@@ -125,21 +125,21 @@ impl Draft {
         importer: &str,
         imported: &str,
         weight: u64,
-    ) -> Result<(), LineFault>
+    ) -> Result<(), NetLineFault>
         ensures { (before : List NetLine) → IsDraft before self.old → IsNetLine (Import importer.now imported.now weight) → Adds before (Import importer.now imported.now weight) result self.new }
     {
         let from = note_name(alloc, &mut self.names, importer)?;
         let to = note_name(alloc, &mut self.names, imported)?;
         if put_import(&mut self.imports, (from, to), weight)? {
-            return Err(LineFault::TwiceImport);
+            return Err(NetLineFault::TwiceImport);
         }
         if self.names.len() > MOST_NAMES || self.imports.len() > MOST_IMPORTS {
-            return Err(LineFault::TooMany);
+            return Err(NetLineFault::TooMany);
         }
         Ok(())
     }
 
-    fn add(&mut self, alloc: Global, line: Line<'_>) -> Result<(), LineFault>
+    fn add(&mut self, alloc: Global, line: Line<'_>) -> Result<(), NetLineFault>
         ensures { (before : List NetLine) → IsDraft before self.old → IsNetLine (line_said line.entry) → Adds before (line_said line.entry) result self.new }
     {
         match line {
@@ -151,14 +151,14 @@ impl Draft {
     }
 
     /// Notes what the bytes between two line ends say, if they say anything.
-    pub(crate) fn take(&mut self, alloc: Global, piece: &[u8]) -> Result<(), LineFault>
+    pub(crate) fn take(&mut self, alloc: Global, piece: &[u8]) -> Result<(), NetLineFault>
         ensures { (before : List NetLine) → IsDraft before self.old → Takes before piece.now result self.new }
     {
         if piece.is_empty() {
             return Ok(());
         }
         let Some(line) = line_in(piece) else {
-            return Err(LineFault::BadLine);
+            return Err(NetLineFault::BadLine);
         };
         self.add(alloc, line)
     }

@@ -10,7 +10,7 @@ ghost use Rattle.cut_net.specs.NetText.{IsNetOf, NetLine};
 ghost use Rattle.cut_net.specs.WellFormed.{AreBetween, AreNamesInOrder};
 
 use crate::Priced;
-use crate::draft::Draft;
+use crate::draft::NetDraft;
 use crate::net::place_of;
 use std::alloc::{AllocError, Global};
 
@@ -75,7 +75,7 @@ fn renumbered(numbers: &[u32], ends: (usize, usize), amount: u64) -> Priced
 }
 
 /// The imports by the numbers of their modules, in the order of coming.
-fn numbered(alloc: Global, draft: &Draft, names: &[String]) -> Result<Vec<Priced>, AllocError>
+fn numbered(alloc: Global, draft: &NetDraft, names: &[String]) -> Result<Vec<Priced>, AllocError>
     requires ascending { AreNamesInOrder (texts names.now) }
     requires few { length names.now ≤ 8192 }
     requires drafted { IsDrafted draft.now }
@@ -102,7 +102,7 @@ pub fn put_in_order(imports: &mut Vec<Priced>)
 /// The names and the imports of the network of the lines that the tables hold.
 pub(crate) fn lists_of(
     alloc: Global,
-    draft: &Draft,
+    draft: &NetDraft,
 ) -> Result<(Vec<String>, Vec<Priced>), AllocError>
     requires drafted { IsDrafted draft.now }
     ensures is_net { IfOk result (λ lists. (lines : List NetLine) → IsDraft lines draft.now → IsNetOf lines (net_of lists.0.items lists.1.items)) }

@@ -48,13 +48,13 @@ impl<T: Drop> From<AllocFailed<T>> for PriceFault {
 
 /// What is wrong with a line, in the order in which it is looked for.
 #[derive(Clone, Copy)]
-pub(crate) enum LineFault {
+pub(crate) enum PriceLineFault {
     BadLine,
     NoSuchImport,
     TwicePrice,
 }
 
-impl LineFault {
+impl PriceLineFault {
     ghost use Rattle.std.specs.Prelude.{◌≡◌};
     ghost use Rattle.cut_net.specs.PriceReading.{fault_at};
 
@@ -63,9 +63,9 @@ impl LineFault {
         ensures { result ≡ fault_at line self }
     {
         match self {
-            LineFault::BadLine => PriceFault::BadLine { line },
-            LineFault::NoSuchImport => PriceFault::NoSuchImport { line },
-            LineFault::TwicePrice => PriceFault::TwicePrice { line },
+            PriceLineFault::BadLine => PriceFault::BadLine { line },
+            PriceLineFault::NoSuchImport => PriceFault::NoSuchImport { line },
+            PriceLineFault::TwicePrice => PriceFault::TwicePrice { line },
         }
     }
 }

@@ -11,7 +11,7 @@ ghost use Rattle.cut_net.specs.PriceReading.{fault_said, outcome_of, unpinned_pa
 
 use crate::found::{line_of, place_in};
 use crate::numbering::copied;
-use crate::price_fault::LineFault;
+use crate::price_fault::PriceLineFault;
 use crate::price_lines::price_line_in;
 use crate::standing::{Change, Standing};
 use crate::{Net, PriceFault, Priced};
@@ -39,7 +39,7 @@ fn number_of(net: &Net, importer: &str, imported: &str) -> Option<usize>
 }
 
 /// Notes what the bytes between two line ends say, if they say anything: for the import of this number a change.
-fn note(net: &Net, told: &mut Vec<Option<Change>>, piece: &[u8]) -> Result<(), LineFault>
+fn note(net: &Net, told: &mut Vec<Option<Change>>, piece: &[u8]) -> Result<(), PriceLineFault>
     requires { length told.old.items ≡ length net.now.imports }
     ensures { (before : List PriceLine) → IsTold net.now before told.old.items → Notes net.now before piece.now result told.new.items }
 {
@@ -48,13 +48,13 @@ fn note(net: &Net, told: &mut Vec<Option<Change>>, piece: &[u8]) -> Result<(), L
         return Ok(());
     }
     let Some(line) = price_line_in(piece) else {
-        return Err(LineFault::BadLine);
+        return Err(PriceLineFault::BadLine);
     };
     let Some(number) = number_of(net, line.importer, line.imported) else {
-        return Err(LineFault::NoSuchImport);
+        return Err(PriceLineFault::NoSuchImport);
     };
     if told[number].is_some() {
-        return Err(LineFault::TwicePrice);
+        return Err(PriceLineFault::TwicePrice);
     }
     told[number] = Some(line.change);
     Ok(())

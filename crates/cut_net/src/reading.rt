@@ -4,17 +4,17 @@ ghost use Rattle.cut_net.specs.NetText.{IsNetOutcome, NetOutcome, NetText};
 ghost use Rattle.cut_net.specs.NetReading.{fault_said, net_of, outcome_of, IsDraftOf};
 
 use crate::cycle::cycle_of;
-use crate::draft::Draft;
+use crate::draft::NetDraft;
 use crate::numbering::{fits, lists_of, names_at};
 use crate::{Net, NetFault, Priced};
 use std::alloc::Global;
 
 /// The tables of the lines that the bytes spell, or the fault of the first line that has one.
-fn draft_of(alloc: Global, bytes: &[u8]) -> Result<Draft, NetFault>
+fn draft_of(alloc: Global, bytes: &[u8]) -> Result<NetDraft, NetFault>
     ensures drafted { IfOk result (λ draft. IsDraftOf bytes.now draft) }
     ensures fault { IfErr result (λ fault. IfSome (fault_said fault) (IsNetOutcome bytes.now)) }
 {
-    let mut draft = Draft::new(alloc);
+    let mut draft = NetDraft::new(alloc);
     let mut line = 0;
     for piece in bytes.split(|b| *b == b'\n') {
         line += 1;

@@ -7,7 +7,7 @@ use Rattle.cut_residual.specs.declared.arc.ResidualArc.{ResidualArc}
 use Rattle.cut_residual.specs.Flows.{IsBalanced}
 use Rattle.cut_residual.specs.Graphs.{tail, head, Leads}
 use Rattle.cut_residual.proofs.Walking.{AllPairs-reverse, same_arc}
-use Rattle.cut_plain.specs.Descents.{opposite, Climbs, LeadsBack, RaisesOrKeeps}
+use Rattle.cut_plain.specs.Levels.{opposite, Climbs, LeadsBack, RaisesOrKeeps}
 
 All-rest : {X : Type 0} (P : X → Type 0) (x : X) (xs : List X) → All P (x ∷ xs) → All P xs
 All-rest P x xs all k d h = all (suc k) d (omega arith)

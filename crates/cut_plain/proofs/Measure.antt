@@ -5,7 +5,7 @@ use Rattle.std.proofs.lemmas.List.Sums.{sum_by-cons}
 use Rattle.cut_net.proofs.ListSums.{sum_by-mono}
 use Rattle.cut_residual.specs.declared.arc.Arc.{Arc}
 use Rattle.cut_residual.specs.Flows.{emptied, entering, leaving, AreSameArcs, IsBalanced}
-use Rattle.cut_plain.specs.Descents.{Raises}
+use Rattle.cut_plain.specs.Levels.{Raises}
 
 abbrev pub total : List Arc → ℕ
 total arcs = sum_by (λ r. r.capacity) arcs

@@ -1,1 +1,1 @@
-pub mod Descents
+pub mod Levels

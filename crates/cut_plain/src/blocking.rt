@@ -3,7 +3,7 @@
 ghost use Rattle.std.specs.Prelude.{◌≡◌, ◌≢◌, ◌<◌, IsTrue, OnOk, length};
 ghost use Rattle.cut_residual.specs.Flows.{AreSameArcs};
 ghost use Rattle.cut_residual.specs.Graphs.{HasArc};
-ghost use Rattle.cut_plain.specs.Descents.{Climbs, IsDescent, RaisesOrKeeps, opposite};
+ghost use Rattle.cut_plain.specs.Levels.{Climbs, IsDescent, RaisesOrKeeps, opposite};
 
 use cut_residual::{ResidualArc, ResidualGraph};
 use std::alloc::{AllocError, Global};

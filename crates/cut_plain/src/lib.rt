@@ -4,7 +4,7 @@
 #![tactic(auto)]
 
 mod blocking;
-mod greatest;
+mod maximum_flow;
 mod solver;
 
 pub use solver::plain;

@@ -4,7 +4,7 @@ ghost use Rattle.cut_net.specs.Answers.{said_by_cut};
 ghost use Rattle.cut_net.specs.Lines.{IsAnswer, IsCheapestSaid};
 ghost use Rattle.cut_solve.specs.Solving.{outcome_of, IsRefusal, IsSolveOutcome, SolveOutcome};
 
-use crate::greatest::greatest_flow;
+use crate::maximum_flow::maximum_flow;
 use cut_net::{Answer, Cut, Net};
 use cut_solve::{SolveFault, as_answer, blocked, cut_by, flow_of, graph_of, module_of};
 use std::alloc::{AllocError, Global};
@@ -19,7 +19,7 @@ fn solve(alloc: Global, net: &Net, from: u32, to: u32) -> Result<Cut, AllocError
 {
     net.keeps();
     let mut graph = graph_of(alloc, net)?;
-    let near = greatest_flow(alloc, &mut graph, from, to)?;
+    let near = maximum_flow(alloc, &mut graph, from, to)?;
     graph.keeps();
     let flow = flow_of(alloc, graph.arcs())?;
     cut_by(alloc, net, &near.seen, flow, from, to)

@@ -1,6 +1,6 @@
 -- What holds of a preflow's fields holds of what contracts see.
 use Rattle.std.proofs.Common.{◌≡◌, sym, subst}
-use Rattle.cut_preflow.specs.declared.plain.PlainPreflow.TheInside.{Inside}
+use Rattle.cut_preflow.specs.declared.preflow_core.PreflowCore.TheInside.{Inside}
 use Rattle.cut_preflow.specs.Preflow.{FlowNetwork, State}
 use Rattle.cut_preflow.specs.Played.{Played, flow_network, state_of, IsPlayed, IsSound}
 use Rattle.cut_preflow.proofs.Histories.{played_sound, played_state}

@@ -26,7 +26,7 @@ fn write(ends: Ends, excesses: &mut Vec<u64>, active: &mut NodeSet, node: u32, e
 }
 
 /// Brings an amount to a node. What comes to the source isn't counted.
-pub(crate) fn bring(
+pub(crate) fn add_excess(
     ends: Ends,
     excesses: &mut Vec<u64>,
     active: &mut NodeSet,
@@ -46,7 +46,7 @@ pub(crate) fn bring(
 }
 
 /// Carries an amount from one node to another.
-pub(crate) fn carry(
+pub(crate) fn move_excess(
     ends: Ends,
     excesses: &mut Vec<u64>,
     active: &mut NodeSet,
@@ -64,7 +64,7 @@ pub(crate) fn carry(
 {
     let left = excesses[from as usize] - amount;
     write(ends, excesses, active, from, left);
-    bring(ends, excesses, active, to, amount);
+    add_excess(ends, excesses, active, to, amount);
 }
 
 /// Brings to each node what the imports out of the source bring to it at the opening.
@@ -83,7 +83,7 @@ pub(crate) fn saturate(
 {
     for import in imports {
         if import.from == ends.source {
-            bring(ends, excesses, active, import.to, import.amount);
+            add_excess(ends, excesses, active, import.to, import.amount);
         }
     }
 }

@@ -3,19 +3,19 @@
 //! Its contract: the state is the run of a legal history, whatever events came, and each step is counted in one share; once quiet, its flow and its side are those of cuts.
 #![tactic(auto)]
 
+mod admissible;
+mod arcs;
 mod ends;
 mod event;
 mod excesses;
 pub mod laws;
 mod node_arcs;
 mod node_set;
-mod plain;
 mod preflow;
+mod preflow_core;
 mod share;
 mod sides;
-mod sums;
 mod tour;
-mod tries;
 
 pub use event::{Event, Outcome, Step};
 pub use preflow::Preflow;

@@ -12,7 +12,7 @@ ghost use Rattle.cut_preflow.specs.Side.{has};
 
 use crate::ends::Ends;
 use crate::event::SettleFault;
-use crate::plain::{PlainPreflow, opening};
+use crate::preflow_core::{PreflowCore, opening};
 use crate::share::MOST_SHARES;
 use crate::{Event, NetworkLedger, Outcome, Share, Step};
 use cut_net::{Net, Priced};
@@ -26,7 +26,7 @@ use std::sync::ledger::{Blank, Book};
 /// the events and the counts: flows and labels are what the events lead to. The type names the network.
 #[derive(Drop)]
 pub struct Preflow<L: NetworkLedger> {
-    plain: PlainPreflow,
+    plain: PreflowCore,
     book: Book<L>,
     own: ledger::Share<L>,
     out: u32,
@@ -61,7 +61,7 @@ impl<L: NetworkLedger> Preflow<L> {
         requires parts { (blank.parts ≡ 65) × (L.parts ≡ 65) }
         ensures { IfOk result (λ p. p ≡ record { play = record { net = network_between net.now from to; history = [] }; booked = 0; own = 0; out = 0 }) }
     {
-        let plain = PlainPreflow::start(alloc, net, from, to)?;
+        let plain = PreflowCore::start(alloc, net, from, to)?;
         let (book, own) = blank.open::<L>();
         Ok(Preflow {
             plain,

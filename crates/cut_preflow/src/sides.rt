@@ -4,10 +4,10 @@ ghost use Rattle.cut_preflow.specs.Played.{state_of};
 ghost use Rattle.cut_preflow.specs.Preflow.{count, head, residual};
 ghost use Rattle.cut_preflow.specs.Side.{has, IsReach, IsReached, IsSearched, unmarked};
 
-use crate::plain::PlainPreflow;
+use crate::preflow_core::PreflowCore;
 use std::alloc::{AllocError, Global};
 
-impl PlainPreflow {
+impl PreflowCore {
     /// The node that an arc newly reaches from its tail, if it does.
     fn newly(&self, arc: u32, marks: &[bool]) -> Option<u32>
         requires known { arc / 2 < count self.now.net }

@@ -2,16 +2,16 @@
 use Rattle.std.proofs.Common.{◌≡◌, ℕ, suc, zero, ◌<◌, List, [], ◌∷◌, ◌++◌, length, get_or, take, Option, Some, None, Result, Ok, Err, refl, ◌∙◌, arith}
 use Rattle.std.specs.Option.{ok_or}
 use Rattle.cut_net.specs.Network.{Network, index_of}
-use Rattle.cut_report.specs.declared.fault.LineFault.{LineFault}
-use Rattle.cut_report.specs.declared.fault.LineFault.TheVariants as faults
+use Rattle.cut_report.specs.declared.fault.ReportLineFault.{ReportLineFault}
+use Rattle.cut_report.specs.declared.fault.ReportLineFault.TheVariants as faults
 use Rattle.cut_report.specs.Drafts.{◌>>=◌, chain_of}
 
 module _ (net : Network) where
-  itself : (r : Result (List ℕ) LineFault) → r ≡ (r >>= λ back. Ok back)
+  itself : (r : Result (List ℕ) ReportLineFault) → r ≡ (r >>= λ back. Ok back)
   itself (Ok x) = refl
   itself (Err e) = refl
 
-  inner : (m : ℕ) (r s : Result (List ℕ) LineFault) → ((r >>= λ front. s >>= λ back. Ok (front ++ back)) >>= λ more. Ok (m ∷ more)) ≡ ((r >>= λ more. Ok (m ∷ more)) >>= λ front. s >>= λ back. Ok (front ++ back))
+  inner : (m : ℕ) (r s : Result (List ℕ) ReportLineFault) → ((r >>= λ front. s >>= λ back. Ok (front ++ back)) >>= λ more. Ok (m ∷ more)) ≡ ((r >>= λ more. Ok (m ∷ more)) >>= λ front. s >>= λ back. Ok (front ++ back))
   inner m (Ok f) (Ok b) = refl
   inner m (Ok f) (Err e) = refl
   inner m (Err e) s = refl
@@ -35,7 +35,7 @@ module _ (net : Network) where
   chain_fails (w ∷ names) (suc n) name chain lt at e i =
       go (index_of net w) (chain_of net (take n names)) (λ more same. chain_fails names n name more (omega arith) at same i) e
     where
-      go : (o : Option ℕ) (r : Result (List ℕ) LineFault) → ((more : List ℕ) → r ≡ Ok more → chain_of net names ≡ Err faults.UnknownName) → (ok_or o faults.UnknownName >>= λ m. r >>= λ more. Ok (m ∷ more)) ≡ Ok chain → (ok_or o faults.UnknownName >>= λ m. chain_of net names >>= λ more. Ok (m ∷ more)) ≡ Err faults.UnknownName
+      go : (o : Option ℕ) (r : Result (List ℕ) ReportLineFault) → ((more : List ℕ) → r ≡ Ok more → chain_of net names ≡ Err faults.UnknownName) → (ok_or o faults.UnknownName >>= λ m. r >>= λ more. Ok (m ∷ more)) ≡ Ok chain → (ok_or o faults.UnknownName >>= λ m. chain_of net names >>= λ more. Ok (m ∷ more)) ≡ Err faults.UnknownName
       go None r rest h = absurd cc
       go (Some m) (Err x) rest h = absurd cc
       go (Some m) (Ok more) rest h = rw (rest more refl) refl

@@ -12,8 +12,8 @@ use Rattle.cut_report.specs.Entry.{Entry}
 use Rattle.cut_report.specs.ReportLine.{ReportLine, Ends, Weighs, Removes, Flows, Blocks, Last}
 use Rattle.cut_report.specs.ReportLines.{HasForm, may_follow, is_above, IsKnown, IsKnownName, IsGoodAfter, AreGoodAfter, IsNextLine, last_of}
 use Rattle.cut_net.proofs.Places.{index_takes}
-use Rattle.cut_report.specs.declared.fault.LineFault.{LineFault}
-use Rattle.cut_report.specs.declared.fault.LineFault.TheVariants as faults
+use Rattle.cut_report.specs.declared.fault.ReportLineFault.{ReportLineFault}
+use Rattle.cut_report.specs.declared.fault.ReportLineFault.TheVariants as faults
 use Rattle.cut_report.specs.ReportLine.{removes, flows, front_lines, entry_lines}
 use Rattle.cut_report.specs.Drafts.{◌>>=◌, Standing, Start, Named, Open, Shut, Ended, Part, blocked_entry, chain_of, entry_of_part, going_on, import_of, is_after, last_import, named_by, opened_by, shut_by, step, with_removed}
 use Rattle.cut_report.proofs.NameOrder.{AreIn, index_from_known, known_from_index}
@@ -32,7 +32,7 @@ abbrev pub last_line : Network → Standing → Option ReportLine
 last_line net s = last_of None (standing_lines net s)
 
 -- what a step is, by what it gives
-abbrev pub StepIs : Network → Standing → ReportLine → Result Standing LineFault → Type 0
+abbrev pub StepIs : Network → Standing → ReportLine → Result Standing ReportLineFault → Type 0
 StepIs net s line (Ok t) = IsGoodAfter net (last_line net s) line × (standing_lines net t ≡ standing_lines net s ++ line ∷ [])
 StepIs net s line (Err faults.BadLine) = may_follow (last_line net s) line ≡ false
 StepIs net s line (Err faults.UnknownName) = IsNextLine (last_line net s) line × (IsKnown net line → ⊥)
@@ -64,7 +64,7 @@ above_last net Fit line start before (p ∷ ps) q laws r a e = above_last net Fi
 
 -- ---- names that are looked up
 
-by_index : {T : Type 0} (P : Result T LineFault → Type 0) (net : Network) (name : List ℕ) (f : ℕ → Result T LineFault) → IsNetwork net → ((IsKnownName net name → ⊥) → P (Err faults.UnknownName))
+by_index : {T : Type 0} (P : Result T ReportLineFault → Type 0) (net : Network) (name : List ℕ) (f : ℕ → Result T ReportLineFault) → IsNetwork net → ((IsKnownName net name → ⊥) → P (Err faults.UnknownName))
     → ((i : ℕ) → IsKnownName net name → i < length net.names → name_of net i ≡ name → P (f i)) → P (ok_or (index_of net name) faults.UnknownName >>= f)
 by_index P net name f w lacks has = go (index_of net name) refl
   where
@@ -78,7 +78,7 @@ pub record IsFound (net : Network) (m n : List ℕ) (amount : ℕ) (q : Priced) 
   pub to : name_of net q.to ≡ n
   pub amount_is : q.amount ≡ amount
 
-by_import : (P : Result Standing LineFault → Type 0) (net : Network) (last : Option Priced) (m n : List ℕ) (amount : ℕ) (f : Priced → Result Standing LineFault) → IsNetwork net
+by_import : (P : Result Standing ReportLineFault → Type 0) (net : Network) (last : Option Priced) (m n : List ℕ) (amount : ℕ) (f : Priced → Result Standing ReportLineFault) → IsNetwork net
     → ((IsKnownName net m × IsKnownName net n → ⊥) → P (Err faults.UnknownName))
     → ((q : Priced) → IsKnownName net m × IsKnownName net n → IsFound net m n amount q → is_after last q ≡ false → P (Err faults.Order))
     → ((q : Priced) → IsKnownName net m × IsKnownName net n → IsFound net m n amount q → is_after last q ≡ true → P (f q))
@@ -94,13 +94,13 @@ by_import P net last m n amount f w lacks low good =
       | inr e ↦ rw e (low q (km, kn) found e)
     ]))
 
-by_chain : (P : Result Standing LineFault → Type 0) (net : Network) (names : List (List ℕ)) (f : List ℕ → Result Standing LineFault) → IsNetwork net
+by_chain : (P : Result Standing ReportLineFault → Type 0) (net : Network) (names : List (List ℕ)) (f : List ℕ → Result Standing ReportLineFault) → IsNetwork net
     → ((All (IsKnownName net) names → ⊥) → P (Err faults.UnknownName))
     → ((chain : List ℕ) → All (IsKnownName net) names → map (name_of net) chain ≡ names → P (f chain))
     → P (chain_of net names >>= f)
 by_chain P net names f w lacks has = go {T = Standing} P names f lacks has
   where
-    go : {T : Type 0} (P : Result T LineFault → Type 0) (names : List (List ℕ)) (f : List ℕ → Result T LineFault)
+    go : {T : Type 0} (P : Result T ReportLineFault → Type 0) (names : List (List ℕ)) (f : List ℕ → Result T ReportLineFault)
         → ((All (IsKnownName net) names → ⊥) → P (Err faults.UnknownName))
         → ((chain : List ℕ) → All (IsKnownName net) names → map (name_of net) chain ≡ names → P (f chain))
         → P (chain_of net names >>= f)

@@ -11,12 +11,12 @@ use Rattle.cut_net.specs.WellFormed.{IsNetwork}
 use Rattle.cut_report.specs.ReportLine.{ReportLine, Last, report_line, written}
 use Rattle.cut_report.specs.ReportLines.{HasForm, IsGoodAfter, IsNextLine, IsFront, BeginsWith, IsWrong, IsBadLine, IsUnknownName, IsOutOfOrder, has_line_end, last_of, IsReportOutcome}
 use Rattle.texts.proofs.FieldCuts.{cut_takes, without, some, some_is, with_some}
-use Rattle.cut_report.specs.declared.fault.LineFault.{LineFault}
-use Rattle.cut_report.specs.declared.fault.LineFault.TheVariants as faults
+use Rattle.cut_report.specs.declared.fault.ReportLineFault.{ReportLineFault}
+use Rattle.cut_report.specs.declared.fault.ReportLineFault.TheVariants as faults
 use Rattle.cut_report.specs.ReportLine.{front_lines, entry_lines}
 use Rattle.cut_report.specs.Lines.{line_of_text}
 use Rattle.cut_report.specs.declared.fault.ReportFault.{ReportFault}
-use Rattle.cut_report.specs.declared.draft.Draft.{Draft}
+use Rattle.cut_report.specs.declared.draft.ReportDraft.{ReportDraft}
 use Rattle.cut_report.specs.Drafts.{◌>>=◌, Fails, GivesAt, Standing, Start, Named, Open, Shut, Ended, fault_at, finish_of, standing_of, step, text_step}
 use Rattle.cut_report.specs.Reading.{outcome_of}
 use Rattle.cut_report.proofs.LineLaws.{line_again, line_once, line_takes}
@@ -62,7 +62,7 @@ begins rest text after e = record {
 }
 
 -- what a step over a line is, by what it gives
-abbrev pub TextIs : Network → List ℕ → Standing → List ℕ → Result Standing LineFault → Type 0
+abbrev pub TextIs : Network → List ℕ → Standing → List ℕ → Result Standing ReportLineFault → Type 0
 TextIs net bytes s after (Ok t) = IsFront net bytes (standing_lines net t) after × (length (standing_lines net t) ≡ length (standing_lines net s) + 1)
 TextIs net bytes s after (Err faults.BadLine) = IsBadLine net bytes (length (standing_lines net s))
 TextIs net bytes s after (Err faults.UnknownName) = IsUnknownName net bytes (length (standing_lines net s))
@@ -92,7 +92,7 @@ next_front net bytes lines line rest after e f g =
       whole = f.whole ∙ ap (λ (t : List ℕ). written lines ++ t) e ∙ sym (append_assoc (written lines) (ended (report_line line)) after) ∙ ap (λ (t : List ℕ). t ++ after) (sym more);
     }
 
-by_line : (net : Network) (bytes : List ℕ) (s : Standing) (rest after : List ℕ) (line : ReportLine) (r : Result Standing LineFault) → IsFront net bytes (standing_lines net s) rest → HasForm line
+by_line : (net : Network) (bytes : List ℕ) (s : Standing) (rest after : List ℕ) (line : ReportLine) (r : Result Standing ReportLineFault) → IsFront net bytes (standing_lines net s) rest → HasForm line
     → rest ≡ ended (report_line line) ++ after → has_line_end (report_line line) ≡ false → StepIs net s line r → TextIs net bytes s after r
 by_line net bytes s rest after line (Ok t) f h e one is = (
   rw is.1 (next_front net bytes (standing_lines net s) line rest after e f is.0),
@@ -173,10 +173,10 @@ goes_on net bytes s t rest text after w f e is = rw is at (text_is net bytes s r
 
 -- the fault of a line is that of the text
 pub fails : (net : Network) (bytes : List ℕ) (s : Standing) (rest text after : List ℕ) (line : ℕ) (fault : ReportFault) → IsNetwork net → IsFront net bytes (standing_lines net s) rest → cut_at 10 rest ≡ Some (text, after)
-    → line ≡ length (standing_lines net s) + 1 → GivesAt {X = Draft} line standing_of (Err fault) (text_step net s text) → IfSome (outcome_of (Err fault)) (IsReportOutcome net bytes)
+    → line ≡ length (standing_lines net s) + 1 → GivesAt {X = ReportDraft} line standing_of (Err fault) (text_step net s text) → IfSome (outcome_of (Err fault)) (IsReportOutcome net bytes)
 fails net bytes s rest text after line fault w f e n given = rw given.1 (by_fault given.0 given.2)
   where
-    by_fault : (x : LineFault) → Fails x (text_step net s text) → IfSome (outcome_of (Err (fault_at line x))) (IsReportOutcome net bytes)
+    by_fault : (x : ReportLineFault) → Fails x (text_step net s text) → IfSome (outcome_of (Err (fault_at line x))) (IsReportOutcome net bytes)
     by_fault faults.BadLine is = (length (standing_lines net s), n, rw is at (text_is net bytes s rest text after w f e))
     by_fault faults.UnknownName is = (length (standing_lines net s), n, rw is at (text_is net bytes s rest text after w f e))
     by_fault faults.Order is = (length (standing_lines net s), n, rw is at (text_is net bytes s rest text after w f e))

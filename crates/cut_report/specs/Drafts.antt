@@ -9,12 +9,12 @@ use Rattle.cut_net.specs.Said.{CutOf, BlockedBy}
 use Rattle.cut_report.specs.Entry.{Entry}
 use Rattle.cut_report.specs.ReportLine.{ReportLine, Ends, Weighs, Removes, Flows, Blocks, Last}
 use Rattle.cut_report.specs.ReportLines.{ReportOutcome, Reads, BadLine, NoEnd}
-use Rattle.cut_report.specs.declared.fault.LineFault.{LineFault}
-use Rattle.cut_report.specs.declared.fault.LineFault.TheVariants as faults
+use Rattle.cut_report.specs.declared.fault.ReportLineFault.{ReportLineFault}
+use Rattle.cut_report.specs.declared.fault.ReportLineFault.TheVariants as faults
 use Rattle.cut_report.specs.declared.fault.ReportFault.{ReportFault}
 use Rattle.cut_report.specs.declared.fault.ReportFault.TheVariants as report_faults
-use Rattle.cut_report.specs.declared.draft.Draft.{Draft}
-use Rattle.cut_report.specs.declared.draft.Draft.TheVariants as drafts
+use Rattle.cut_report.specs.declared.draft.ReportDraft.{ReportDraft}
+use Rattle.cut_report.specs.declared.draft.ReportDraft.TheVariants as drafts
 use Rattle.cut_report.specs.Lines.{line_of_text}
 use Rattle.cut_report.specs.Reading.{entry_of}
 
@@ -49,7 +49,7 @@ pub data Standing : Type 0 where
 abbrev pub part_of : ℕ → ℕ → Cut → Part
 part_of a b cut = record { from = a; to = b; weight = cut.weight; printed = cut.imports.items; flow = cut.flow.items }
 
-abbrev pub standing_of : Draft → Standing
+abbrev pub standing_of : ReportDraft → Standing
 standing_of drafts.Start = Start
 standing_of (drafts.Named a b) = Named a b
 standing_of (drafts.Open a b cut) = Open (part_of a b cut)
@@ -66,13 +66,13 @@ is_after None next = true
 is_after (Some last) next = comes_before last next
 
 -- the import between two names
-unfoldable pub import_of : Network → Option Priced → List ℕ → List ℕ → ℕ → Result Priced LineFault
+unfoldable pub import_of : Network → Option Priced → List ℕ → List ℕ → ℕ → Result Priced ReportLineFault
 import_of net last m n amount = do
   x ← ok_or (index_of net m) faults.UnknownName
   y ← ok_or (index_of net n) faults.UnknownName
   if is_after last (record { from = x; to = y; amount = amount }) then Ok (record { from = x; to = y; amount = amount }) else Err faults.Order
 
-unfoldable pub named_by : Network → ReportLine → Result Standing LineFault
+unfoldable pub named_by : Network → ReportLine → Result Standing ReportLineFault
 named_by net (Ends m n) = do
   x ← ok_or (index_of net m) faults.UnknownName
   y ← ok_or (index_of net n) faults.UnknownName
@@ -84,14 +84,14 @@ named_by net (Blocks names) = Err faults.BadLine
 named_by net Last = Err faults.BadLine
 
 -- the modules of these names
-abbrev pub chain_of : Network → List (List ℕ) → Result (List ℕ) LineFault
+abbrev pub chain_of : Network → List (List ℕ) → Result (List ℕ) ReportLineFault
 chain_of net [] = Ok []
 chain_of net (name ∷ names) = do
   m ← ok_or (index_of net name) faults.UnknownName
   more ← chain_of net names
   Ok (m ∷ more)
 
-unfoldable pub opened_by : Network → ℕ → ℕ → ReportLine → Result Standing LineFault
+unfoldable pub opened_by : Network → ℕ → ℕ → ReportLine → Result Standing ReportLineFault
 opened_by net a b (Ends m n) = Err faults.BadLine
 opened_by net a b (Weighs w) = Ok (Open (record { from = a; to = b; weight = w; printed = []; flow = [] }))
 opened_by net a b (Removes m n w) = Err faults.BadLine
@@ -100,11 +100,11 @@ opened_by net a b (Blocks names) = chain_of net names >>= λ chain. Ok (Shut a b
 opened_by net a b Last = Err faults.BadLine
 
 -- with one more import to be removed, if no flow is there yet
-abbrev pub with_removed : Network → Part → List Priced → List ℕ → List ℕ → ℕ → Result Standing LineFault
+abbrev pub with_removed : Network → Part → List Priced → List ℕ → List ℕ → ℕ → Result Standing ReportLineFault
 with_removed net p [] m n w = import_of net (last_import None p.printed) m n w >>= λ next. Ok (Open (record p { printed = p.printed ++ next ∷ [] }))
 with_removed net p (_ ∷ _) m n w = Err faults.BadLine
 
-unfoldable pub going_on : Network → Part → ReportLine → Result Standing LineFault
+unfoldable pub going_on : Network → Part → ReportLine → Result Standing ReportLineFault
 going_on net p (Ends m n) = Err faults.BadLine
 going_on net p (Weighs w) = Err faults.BadLine
 going_on net p (Removes m n w) = with_removed net p p.flow m n w
@@ -112,7 +112,7 @@ going_on net p (Flows m n f) = import_of net (last_import None p.flow) m n f >>=
 going_on net p (Blocks names) = Err faults.BadLine
 going_on net p Last = Ok (Ended (entry_of_part p))
 
-unfoldable pub shut_by : ℕ → ℕ → List ℕ → ReportLine → Result Standing LineFault
+unfoldable pub shut_by : ℕ → ℕ → List ℕ → ReportLine → Result Standing ReportLineFault
 shut_by a b chain (Ends m n) = Err faults.BadLine
 shut_by a b chain (Weighs w) = Err faults.BadLine
 shut_by a b chain (Removes m n w) = Err faults.BadLine
@@ -120,7 +120,7 @@ shut_by a b chain (Flows m n f) = Err faults.BadLine
 shut_by a b chain (Blocks names) = Err faults.BadLine
 shut_by a b chain Last = Ok (Ended (blocked_entry a b chain))
 
-unfoldable pub step : Network → Standing → ReportLine → Result Standing LineFault
+unfoldable pub step : Network → Standing → ReportLine → Result Standing ReportLineFault
 step net Start line = named_by net line
 step net (Named a b) line = opened_by net a b line
 step net (Open p) line = going_on net p line
@@ -128,7 +128,7 @@ step net (Shut a b chain) line = shut_by a b chain line
 step net (Ended e) line = Err faults.BadLine
 
 -- with the line of this text
-unfoldable pub text_step : Network → Standing → List ℕ → Result Standing LineFault
+unfoldable pub text_step : Network → Standing → List ℕ → Result Standing ReportLineFault
 text_step net standing text = ok_or (line_of_text text) faults.BadLine >>= λ line. step net standing line
 
 -- what the bytes after the last line end make of it, after this many lines
@@ -141,23 +141,23 @@ finish_of (Ended e) before [] = Reads e
 finish_of (Ended e) before (_ ∷ _) = BadLine (before + 1)
 
 -- what a function returned is this, seen by view, unless memory ran out
-abbrev pub Fails : {Y : Type 0} → LineFault → Result Y LineFault → Type 0
+abbrev pub Fails : {Y : Type 0} → ReportLineFault → Result Y ReportLineFault → Type 0
 Fails faults.Memory read = Unit {0}
 Fails faults.BadLine read = read ≡ Err faults.BadLine
 Fails faults.UnknownName read = read ≡ Err faults.UnknownName
 Fails faults.Order read = read ≡ Err faults.Order
 
-abbrev pub Gives : {X Y : Type 0} → (X → Y) → Result X LineFault → Result Y LineFault → Type 0
+abbrev pub Gives : {X Y : Type 0} → (X → Y) → Result X ReportLineFault → Result Y ReportLineFault → Type 0
 Gives view (Ok x) read = read ≡ Ok (view x)
 Gives view (Err e) read = Fails e read
 
-abbrev pub fault_at : ℕ → LineFault → ReportFault
+abbrev pub fault_at : ℕ → ReportLineFault → ReportFault
 fault_at line faults.BadLine = report_faults.BadLine line
 fault_at line faults.UnknownName = report_faults.UnknownName line
 fault_at line faults.Order = report_faults.Order line
 fault_at line faults.Memory = report_faults.Memory
 
 -- the same, with the fault put into a line
-abbrev pub GivesAt : {X Y : Type 0} → ℕ → (X → Y) → Result X ReportFault → Result Y LineFault → Type 0
+abbrev pub GivesAt : {X Y : Type 0} → ℕ → (X → Y) → Result X ReportFault → Result Y ReportLineFault → Type 0
 GivesAt line view (Ok x) read = read ≡ Ok (view x)
-GivesAt line view (Err fault) read = (e : LineFault) × (fault ≡ fault_at line e) × Fails e read
+GivesAt line view (Err fault) read = (e : ReportLineFault) × (fault ≡ fault_at line e) × Fails e read

@@ -4,7 +4,7 @@ ghost use Rattle.cut_report.specs.Lines.{line_seen, words_of};
 ghost use Rattle.cut_report.specs.Reading.{outcome_of};
 ghost use Rattle.cut_report.specs.Drafts.{chain_of, finish_of, going_on, import_of, is_after, last_import, named_by, opened_by, part_of, shut_by, standing_of, step, text_step, Gives, GivesAt};
 
-use crate::fault::LineFault;
+use crate::fault::ReportLineFault;
 use crate::line::{Line, line_in};
 use crate::{Report, ReportFault};
 use cut_net::{Answer, Cut, Net, Priced};
@@ -12,7 +12,7 @@ use std::alloc::Global;
 
 /// What is read so far.
 #[derive(Drop)]
-pub(crate) enum Draft {
+pub(crate) enum ReportDraft {
     /// No line.
     Start,
     /// The first line, with the numbers of its modules.
@@ -49,40 +49,40 @@ fn import_in(
     from: &str,
     to: &str,
     amount: u64,
-) -> Result<Priced, LineFault>
+) -> Result<Priced, ReportLineFault>
     ensures { result ≡ import_of net.now last from.now to.now amount }
 {
-    let from = net.index_of(from).ok_or(LineFault::UnknownName)?;
-    let to = net.index_of(to).ok_or(LineFault::UnknownName)?;
+    let from = net.index_of(from).ok_or(ReportLineFault::UnknownName)?;
+    let to = net.index_of(to).ok_or(ReportLineFault::UnknownName)?;
     let next = Priced { from, to, amount };
     if comes_after(last, next) {
         Ok(next)
     } else {
-        Err(LineFault::Order)
+        Err(ReportLineFault::Order)
     }
 }
 
 /// The first line.
 #[tactic(auto, unfolding(crate::specs::Drafts::named_by))]
-fn with_ends(net: &Net, line: Line) -> Result<Draft, LineFault>
+fn with_ends(net: &Net, line: Line) -> Result<ReportDraft, ReportLineFault>
     ensures { Gives standing_of result (named_by net.now (line_seen line.entry)) }
 {
     let Line::Ends(from, to) = line else {
-        return Err(LineFault::BadLine);
+        return Err(ReportLineFault::BadLine);
     };
-    let from = net.index_of(from).ok_or(LineFault::UnknownName)?;
-    let to = net.index_of(to).ok_or(LineFault::UnknownName)?;
-    Ok(Draft::Named(from, to))
+    let from = net.index_of(from).ok_or(ReportLineFault::UnknownName)?;
+    let to = net.index_of(to).ok_or(ReportLineFault::UnknownName)?;
+    Ok(ReportDraft::Named(from, to))
 }
 
 /// The modules of these names, which have a blank between each two.
-fn chain_in(alloc: Global, net: &Net, names: &str) -> Result<Vec<u32>, LineFault>
+fn chain_in(alloc: Global, net: &Net, names: &str) -> Result<Vec<u32>, ReportLineFault>
     ensures { Gives (λ chain. chain.items) result (chain_of net.now (words_of names.now)) }
 {
     let mut chain = Vec::new(alloc);
     for name in names.split(' ') {
         let Some(module) = net.index_of(name) else {
-            return Err(LineFault::UnknownName);
+            return Err(ReportLineFault::UnknownName);
         };
         chain.push(module)?;
     }
@@ -91,7 +91,13 @@ fn chain_in(alloc: Global, net: &Net, names: &str) -> Result<Vec<u32>, LineFault
 
 /// The line after the first.
 #[tactic(auto, unfolding(crate::specs::Drafts::opened_by))]
-fn with_second(alloc: Global, net: &Net, from: u32, to: u32, line: Line) -> Result<Draft, LineFault>
+fn with_second(
+    alloc: Global,
+    net: &Net,
+    from: u32,
+    to: u32,
+    line: Line,
+) -> Result<ReportDraft, ReportLineFault>
     ensures { Gives standing_of result (opened_by net.now from to (line_seen line.entry)) }
 {
     match line {
@@ -101,19 +107,25 @@ fn with_second(alloc: Global, net: &Net, from: u32, to: u32, line: Line) -> Resu
                 weight,
                 flow: Vec::new(alloc),
             };
-            Ok(Draft::Open(from, to, cut))
+            Ok(ReportDraft::Open(from, to, cut))
         }
         Line::Blocks(names) => {
             let chain = chain_in(alloc, net, names)?;
-            Ok(Draft::Shut(from, to, chain))
+            Ok(ReportDraft::Shut(from, to, chain))
         }
-        _ => Err(LineFault::BadLine),
+        _ => Err(ReportLineFault::BadLine),
     }
 }
 
 /// A later line. No remove line follows a flow line.
 #[tactic(auto, unfolding(crate::specs::Drafts::going_on))]
-fn with_more(from: u32, to: u32, mut cut: Cut, net: &Net, line: Line) -> Result<Draft, LineFault>
+fn with_more(
+    from: u32,
+    to: u32,
+    mut cut: Cut,
+    net: &Net,
+    line: Line,
+) -> Result<ReportDraft, ReportLineFault>
     ensures { Gives standing_of result (going_on net.now (part_of from to cut) (line_seen line.entry)) }
 {
     match line {
@@ -121,54 +133,59 @@ fn with_more(from: u32, to: u32, mut cut: Cut, net: &Net, line: Line) -> Result<
             let last = last_in(cut.imports.as_slice());
             let next = import_in(net, last, importer, imported, weight)?;
             cut.imports.push(next)?;
-            Ok(Draft::Open(from, to, cut))
+            Ok(ReportDraft::Open(from, to, cut))
         }
         Line::Flows(importer, imported, flow) => {
             let last = last_in(cut.flow.as_slice());
             let next = import_in(net, last, importer, imported, flow)?;
             cut.flow.push(next)?;
-            Ok(Draft::Open(from, to, cut))
+            Ok(ReportDraft::Open(from, to, cut))
         }
         Line::Last => {
             let answer = Answer::Cut(cut);
-            Ok(Draft::Ended(Report { from, to, answer }))
+            Ok(ReportDraft::Ended(Report { from, to, answer }))
         }
-        _ => Err(LineFault::BadLine),
+        _ => Err(ReportLineFault::BadLine),
     }
 }
 
 /// The line after a chain of pins.
 #[tactic(auto, unfolding(crate::specs::Drafts::shut_by))]
-fn with_end(from: u32, to: u32, chain: Vec<u32>, line: Line) -> Result<Draft, LineFault>
+fn with_end(from: u32, to: u32, chain: Vec<u32>, line: Line) -> Result<ReportDraft, ReportLineFault>
     ensures { Gives standing_of result (shut_by from to chain.items (line_seen line.entry)) }
 {
     let Line::Last = line else {
-        return Err(LineFault::BadLine);
+        return Err(ReportLineFault::BadLine);
     };
     let answer = Answer::Blocked { chain };
-    Ok(Draft::Ended(Report { from, to, answer }))
+    Ok(ReportDraft::Ended(Report { from, to, answer }))
 }
 
-impl Draft {
+impl ReportDraft {
     #[tactic(auto, unfolding(crate::specs::Drafts::step))]
-    fn with_line(self, alloc: Global, net: &Net, line: Line) -> Result<Draft, LineFault>
+    fn with_line(self, alloc: Global, net: &Net, line: Line) -> Result<ReportDraft, ReportLineFault>
         ensures { Gives standing_of result (step net.now (standing_of self) (line_seen line.entry)) }
     {
         match self {
-            Draft::Start => with_ends(net, line),
-            Draft::Named(from, to) => with_second(alloc, net, from, to, line),
-            Draft::Open(from, to, cut) => with_more(from, to, cut, net, line),
-            Draft::Shut(from, to, chain) => with_end(from, to, chain, line),
-            Draft::Ended(_) => Err(LineFault::BadLine),
+            ReportDraft::Start => with_ends(net, line),
+            ReportDraft::Named(from, to) => with_second(alloc, net, from, to, line),
+            ReportDraft::Open(from, to, cut) => with_more(from, to, cut, net, line),
+            ReportDraft::Shut(from, to, chain) => with_end(from, to, chain, line),
+            ReportDraft::Ended(_) => Err(ReportLineFault::BadLine),
         }
     }
 
     /// The draft with the line of this text, which has no LF.
     #[tactic(auto, unfolding(crate::specs::Drafts::text_step))]
-    fn with_text(self, alloc: Global, net: &Net, text: &[u8]) -> Result<Draft, LineFault>
+    fn with_text(
+        self,
+        alloc: Global,
+        net: &Net,
+        text: &[u8],
+    ) -> Result<ReportDraft, ReportLineFault>
         ensures { Gives standing_of result (text_step net.now (standing_of self) text.now) }
     {
-        let line = line_in(text).ok_or(LineFault::BadLine)?;
+        let line = line_in(text).ok_or(ReportLineFault::BadLine)?;
         self.with_line(alloc, net, line)
     }
 
@@ -179,7 +196,7 @@ impl Draft {
         net: &Net,
         number: u64,
         text: &[u8],
-    ) -> Result<Draft, ReportFault>
+    ) -> Result<ReportDraft, ReportFault>
         ensures { GivesAt number standing_of result (text_step net.now (standing_of self) text.now) }
     {
         match self.with_text(alloc, net, text) {
@@ -194,11 +211,12 @@ impl Draft {
         ensures { outcome_of result ≡ Some (finish_of (standing_of self) before rest.now) }
     {
         match self {
-            Draft::Ended(report) if rest.is_empty() => Ok(report),
-            Draft::Ended(_) => Err(ReportFault::BadLine { line: before + 1 }),
-            Draft::Start | Draft::Named(..) | Draft::Open(..) | Draft::Shut(..) => {
-                Err(ReportFault::NoEnd)
-            }
+            ReportDraft::Ended(report) if rest.is_empty() => Ok(report),
+            ReportDraft::Ended(_) => Err(ReportFault::BadLine { line: before + 1 }),
+            ReportDraft::Start
+            | ReportDraft::Named(..)
+            | ReportDraft::Open(..)
+            | ReportDraft::Shut(..) => { Err(ReportFault::NoEnd) }
         }
     }
 }

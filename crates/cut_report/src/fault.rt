@@ -66,14 +66,14 @@ impl From<SinkFault> for ReportFault {
 
 /// What is wrong within a line, in the order in which it is looked for.
 #[derive(Clone, Copy)]
-pub(crate) enum LineFault {
+pub(crate) enum ReportLineFault {
     BadLine,
     UnknownName,
     Order,
     Memory,
 }
 
-impl LineFault {
+impl ReportLineFault {
     ghost use Rattle.std.specs.Prelude.{◌≡◌};
     ghost use Rattle.cut_report.specs.Drafts.{fault_at};
 
@@ -81,21 +81,21 @@ impl LineFault {
         ensures { result ≡ fault_at line self }
     {
         match self {
-            LineFault::BadLine => ReportFault::BadLine { line },
-            LineFault::UnknownName => ReportFault::UnknownName { line },
-            LineFault::Order => ReportFault::Order { line },
-            LineFault::Memory => ReportFault::Memory,
+            ReportLineFault::BadLine => ReportFault::BadLine { line },
+            ReportLineFault::UnknownName => ReportFault::UnknownName { line },
+            ReportLineFault::Order => ReportFault::Order { line },
+            ReportLineFault::Memory => ReportFault::Memory,
         }
     }
 }
 
-impl<T: Drop> From<AllocFailed<T>> for LineFault {
+impl<T: Drop> From<AllocFailed<T>> for ReportLineFault {
     ghost use Rattle.std.specs.Prelude.{◌≡◌};
-    ghost use Rattle.cut_report.specs.declared.fault.LineFault.TheVariants.{Memory};
+    ghost use Rattle.cut_report.specs.declared.fault.ReportLineFault.TheVariants.{Memory};
 
     ghost from_gives = { λ _ fault. fault ≡ Memory };
 
-    fn from(_error: AllocFailed<T>) -> LineFault {
-        LineFault::Memory
+    fn from(_error: AllocFailed<T>) -> ReportLineFault {
+        ReportLineFault::Memory
     }
 }

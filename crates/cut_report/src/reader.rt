@@ -4,7 +4,7 @@ ghost use Rattle.cut_net.specs.WellFormed.{IsNetwork};
 ghost use Rattle.cut_report.specs.ReportLines.{IsReportOutcome, ReportOutcome};
 ghost use Rattle.cut_report.specs.Reading.{outcome_of, IsOfText};
 
-use crate::draft::Draft;
+use crate::draft::ReportDraft;
 use crate::{Report, ReportFault};
 use cut_net::Net;
 use std::alloc::Global;
@@ -16,7 +16,7 @@ fn read_lines(alloc: Global, bytes: &[u8], net: &Net) -> Result<Report, ReportFa
     ensures exact { IfSome (outcome_of result) (IsReportOutcome net.now bytes.now) }
     ensures of_text { IsOfText result }
 {
-    let mut draft = Draft::Start;
+    let mut draft = ReportDraft::Start;
     let mut before = 0;
     let mut rest = bytes;
     while let Some((text, after)) = cut_at_byte(rest, b'\n') {

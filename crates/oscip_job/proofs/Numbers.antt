@@ -73,54 +73,123 @@ module _ (id : Text) (least most : ℕ) where
 
 -- the rules of the id workers have a parser for 1 to 64
 workers_right : AreAllRight (codes "workers") WithoutMinus (IsSignedIn (pos 1) (pos 64)) (built oscip).subs
-workers_right =
-    (((λ e. absurd cc), ((λ e. absurd cc), ((λ e. absurd cc), ((λ e. (refl, refl, passed (codes "workers") 1 64)), ((λ e. absurd cc), ((λ e. absurd cc), tt)))))),
-    (((λ e. absurd cc), ((λ e. absurd cc), ((λ e. absurd cc), ((λ e. absurd cc), tt)))),
-    (((λ e. absurd cc), ((λ e. absurd cc), ((λ e. absurd cc), ((λ e. absurd cc), tt)))),
-    (((λ e. absurd cc), ((λ e. absurd cc), ((λ e. absurd cc), ((λ e. (refl, refl, passed (codes "workers") 1 64)), ((λ e. absurd cc), ((λ e. absurd cc), tt)))))),
-    (((λ e. absurd cc), ((λ e. absurd cc), ((λ e. absurd cc), ((λ e. absurd cc), tt)))),
-    (((λ e. absurd cc), ((λ e. absurd cc), ((λ e. absurd cc), ((λ e. absurd cc), tt)))),
-    (((λ e. absurd cc), ((λ e. absurd cc), ((λ e. absurd cc), ((λ e. absurd cc), tt)))),
-    (((λ e. absurd cc), ((λ e. absurd cc), ((λ e. absurd cc), ((λ e. absurd cc), ((λ e. absurd cc), tt))))),
-    (((λ e. absurd cc), ((λ e. absurd cc), ((λ e. absurd cc), ((λ e. absurd cc), ((λ e. absurd cc), tt))))),
-    (((λ e. absurd cc), ((λ e. absurd cc), ((λ e. absurd cc), ((λ e. absurd cc), ((λ e. absurd cc), ((λ e. (refl, refl, passed (codes "workers") 1 64)), ((λ e. absurd cc), tt))))))),
-    (((λ e. absurd cc), ((λ e. absurd cc), tt)),
-    (((λ e. absurd cc), tt),
-    tt))))))))))))
+workers_right = (
+  ((λ e. absurd cc), ((λ e. absurd cc), ((λ e. absurd cc), ((λ e. (refl, refl, passed (codes "workers") 1 64)), ((λ e. absurd cc), ((λ e. absurd cc), tt)))))),
+  (
+    ((λ e. absurd cc), ((λ e. absurd cc), ((λ e. absurd cc), ((λ e. absurd cc), tt)))),
+    (
+      ((λ e. absurd cc), ((λ e. absurd cc), ((λ e. absurd cc), ((λ e. absurd cc), tt)))),
+      (
+        ((λ e. absurd cc), ((λ e. absurd cc), ((λ e. absurd cc), ((λ e. (refl, refl, passed (codes "workers") 1 64)), ((λ e. absurd cc), ((λ e. absurd cc), tt)))))),
+        (
+          ((λ e. absurd cc), ((λ e. absurd cc), ((λ e. absurd cc), ((λ e. absurd cc), tt)))),
+          (
+            ((λ e. absurd cc), ((λ e. absurd cc), ((λ e. absurd cc), ((λ e. absurd cc), tt)))),
+            (
+              ((λ e. absurd cc), ((λ e. absurd cc), ((λ e. absurd cc), ((λ e. absurd cc), tt)))),
+              (
+                ((λ e. absurd cc), ((λ e. absurd cc), ((λ e. absurd cc), ((λ e. absurd cc), ((λ e. absurd cc), tt))))),
+                (
+                  ((λ e. absurd cc), ((λ e. absurd cc), ((λ e. absurd cc), ((λ e. absurd cc), ((λ e. absurd cc), tt))))),
+                  (
+                    ((λ e. absurd cc), ((λ e. absurd cc), ((λ e. absurd cc), ((λ e. absurd cc), ((λ e. absurd cc), ((λ e. (refl, refl, passed (codes "workers") 1 64)), ((λ e. absurd cc), tt))))))),
+                    (
+                      ((λ e. absurd cc), ((λ e. absurd cc), tt)),
+                      (
+                        ((λ e. absurd cc), tt),
+                        tt,
+                      ),
+                    ),
+                  ),
+                ),
+              ),
+            ),
+          ),
+        ),
+      ),
+    ),
+  ),
+)
 
 -- and those of LINE and COL one for 0 to 2147483647
 line_right : AreAllRight (codes "LINE") WithoutMinus (IsSignedIn (pos 0) (pos 2147483647)) (built oscip).subs
-line_right =
-    (((λ e. absurd cc), ((λ e. absurd cc), ((λ e. absurd cc), ((λ e. absurd cc), ((λ e. absurd cc), ((λ e. absurd cc), tt)))))),
-    (((λ e. absurd cc), ((λ e. absurd cc), ((λ e. absurd cc), ((λ e. absurd cc), tt)))),
-    (((λ e. absurd cc), ((λ e. absurd cc), ((λ e. absurd cc), ((λ e. absurd cc), tt)))),
-    (((λ e. absurd cc), ((λ e. absurd cc), ((λ e. absurd cc), ((λ e. absurd cc), ((λ e. absurd cc), ((λ e. absurd cc), tt)))))),
-    (((λ e. absurd cc), ((λ e. absurd cc), ((λ e. absurd cc), ((λ e. absurd cc), tt)))),
-    (((λ e. absurd cc), ((λ e. absurd cc), ((λ e. absurd cc), ((λ e. absurd cc), tt)))),
-    (((λ e. absurd cc), ((λ e. absurd cc), ((λ e. absurd cc), ((λ e. absurd cc), tt)))),
-    (((λ e. absurd cc), ((λ e. absurd cc), ((λ e. (refl, refl, passed (codes "LINE") 0 2147483647)), ((λ e. absurd cc), ((λ e. absurd cc), tt))))),
-    (((λ e. absurd cc), ((λ e. absurd cc), ((λ e. (refl, refl, passed (codes "LINE") 0 2147483647)), ((λ e. absurd cc), ((λ e. absurd cc), tt))))),
-    (((λ e. absurd cc), ((λ e. absurd cc), ((λ e. absurd cc), ((λ e. absurd cc), ((λ e. absurd cc), ((λ e. absurd cc), ((λ e. absurd cc), tt))))))),
-    (((λ e. absurd cc), ((λ e. absurd cc), tt)),
-    (((λ e. absurd cc), tt),
-    tt))))))))))))
+line_right = (
+  ((λ e. absurd cc), ((λ e. absurd cc), ((λ e. absurd cc), ((λ e. absurd cc), ((λ e. absurd cc), ((λ e. absurd cc), tt)))))),
+  (
+    ((λ e. absurd cc), ((λ e. absurd cc), ((λ e. absurd cc), ((λ e. absurd cc), tt)))),
+    (
+      ((λ e. absurd cc), ((λ e. absurd cc), ((λ e. absurd cc), ((λ e. absurd cc), tt)))),
+      (
+        ((λ e. absurd cc), ((λ e. absurd cc), ((λ e. absurd cc), ((λ e. absurd cc), ((λ e. absurd cc), ((λ e. absurd cc), tt)))))),
+        (
+          ((λ e. absurd cc), ((λ e. absurd cc), ((λ e. absurd cc), ((λ e. absurd cc), tt)))),
+          (
+            ((λ e. absurd cc), ((λ e. absurd cc), ((λ e. absurd cc), ((λ e. absurd cc), tt)))),
+            (
+              ((λ e. absurd cc), ((λ e. absurd cc), ((λ e. absurd cc), ((λ e. absurd cc), tt)))),
+              (
+                ((λ e. absurd cc), ((λ e. absurd cc), ((λ e. (refl, refl, passed (codes "LINE") 0 2147483647)), ((λ e. absurd cc), ((λ e. absurd cc), tt))))),
+                (
+                  ((λ e. absurd cc), ((λ e. absurd cc), ((λ e. (refl, refl, passed (codes "LINE") 0 2147483647)), ((λ e. absurd cc), ((λ e. absurd cc), tt))))),
+                  (
+                    ((λ e. absurd cc), ((λ e. absurd cc), ((λ e. absurd cc), ((λ e. absurd cc), ((λ e. absurd cc), ((λ e. absurd cc), ((λ e. absurd cc), tt))))))),
+                    (
+                      ((λ e. absurd cc), ((λ e. absurd cc), tt)),
+                      (
+                        ((λ e. absurd cc), tt),
+                        tt,
+                      ),
+                    ),
+                  ),
+                ),
+              ),
+            ),
+          ),
+        ),
+      ),
+    ),
+  ),
+)
 
 -- so of COL
 column_right : AreAllRight (codes "COL") WithoutMinus (IsSignedIn (pos 0) (pos 2147483647)) (built oscip).subs
-column_right =
-    (((λ e. absurd cc), ((λ e. absurd cc), ((λ e. absurd cc), ((λ e. absurd cc), ((λ e. absurd cc), ((λ e. absurd cc), tt)))))),
-    (((λ e. absurd cc), ((λ e. absurd cc), ((λ e. absurd cc), ((λ e. absurd cc), tt)))),
-    (((λ e. absurd cc), ((λ e. absurd cc), ((λ e. absurd cc), ((λ e. absurd cc), tt)))),
-    (((λ e. absurd cc), ((λ e. absurd cc), ((λ e. absurd cc), ((λ e. absurd cc), ((λ e. absurd cc), ((λ e. absurd cc), tt)))))),
-    (((λ e. absurd cc), ((λ e. absurd cc), ((λ e. absurd cc), ((λ e. absurd cc), tt)))),
-    (((λ e. absurd cc), ((λ e. absurd cc), ((λ e. absurd cc), ((λ e. absurd cc), tt)))),
-    (((λ e. absurd cc), ((λ e. absurd cc), ((λ e. absurd cc), ((λ e. absurd cc), tt)))),
-    (((λ e. absurd cc), ((λ e. absurd cc), ((λ e. absurd cc), ((λ e. (refl, refl, passed (codes "COL") 0 2147483647)), ((λ e. absurd cc), tt))))),
-    (((λ e. absurd cc), ((λ e. absurd cc), ((λ e. absurd cc), ((λ e. (refl, refl, passed (codes "COL") 0 2147483647)), ((λ e. absurd cc), tt))))),
-    (((λ e. absurd cc), ((λ e. absurd cc), ((λ e. absurd cc), ((λ e. absurd cc), ((λ e. absurd cc), ((λ e. absurd cc), ((λ e. absurd cc), tt))))))),
-    (((λ e. absurd cc), ((λ e. absurd cc), tt)),
-    (((λ e. absurd cc), tt),
-    tt))))))))))))
+column_right = (
+  ((λ e. absurd cc), ((λ e. absurd cc), ((λ e. absurd cc), ((λ e. absurd cc), ((λ e. absurd cc), ((λ e. absurd cc), tt)))))),
+  (
+    ((λ e. absurd cc), ((λ e. absurd cc), ((λ e. absurd cc), ((λ e. absurd cc), tt)))),
+    (
+      ((λ e. absurd cc), ((λ e. absurd cc), ((λ e. absurd cc), ((λ e. absurd cc), tt)))),
+      (
+        ((λ e. absurd cc), ((λ e. absurd cc), ((λ e. absurd cc), ((λ e. absurd cc), ((λ e. absurd cc), ((λ e. absurd cc), tt)))))),
+        (
+          ((λ e. absurd cc), ((λ e. absurd cc), ((λ e. absurd cc), ((λ e. absurd cc), tt)))),
+          (
+            ((λ e. absurd cc), ((λ e. absurd cc), ((λ e. absurd cc), ((λ e. absurd cc), tt)))),
+            (
+              ((λ e. absurd cc), ((λ e. absurd cc), ((λ e. absurd cc), ((λ e. absurd cc), tt)))),
+              (
+                ((λ e. absurd cc), ((λ e. absurd cc), ((λ e. absurd cc), ((λ e. (refl, refl, passed (codes "COL") 0 2147483647)), ((λ e. absurd cc), tt))))),
+                (
+                  ((λ e. absurd cc), ((λ e. absurd cc), ((λ e. absurd cc), ((λ e. (refl, refl, passed (codes "COL") 0 2147483647)), ((λ e. absurd cc), tt))))),
+                  (
+                    ((λ e. absurd cc), ((λ e. absurd cc), ((λ e. absurd cc), ((λ e. absurd cc), ((λ e. absurd cc), ((λ e. absurd cc), ((λ e. absurd cc), tt))))))),
+                    (
+                      ((λ e. absurd cc), ((λ e. absurd cc), tt)),
+                      (
+                        ((λ e. absurd cc), tt),
+                        tt,
+                      ),
+                    ),
+                  ),
+                ),
+              ),
+            ),
+          ),
+        ),
+      ),
+    ),
+  ),
+)
 
 both : (o : Option (Text × List Row)) (A B : List Row → Type 0) → IfSome o (λ found. A found.1) → IfSome o (λ found. B found.1) → IfSome o (λ found. A found.1 × B found.1)
 both None A B a b = tt

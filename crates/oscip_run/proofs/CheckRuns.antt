@@ -29,7 +29,7 @@ use Rattle.oscip_tree.specs.Trees.{IsTreeFault}
 use Rattle.oscip_run.specs.declared.fault.RunFault.{RunFault}
 use Rattle.oscip_run.specs.declared.fault.RunFault.TheVariants as run
 use Rattle.oscip_tree.specs.declared.source.Source.{Source}
-use Rattle.oscip_tree.specs.declared.tree.TreeFault.{TreeFault}
+use Rattle.oscip_tree.specs.declared.tree_fault.TreeFault.{TreeFault}
 
 pub Keeps-same : (known : Option (List ℕ)) → Keeps known known
 Keeps-same None = tt

@@ -17,7 +17,7 @@ use Rattle.oscip_query.specs.Faults.{query_fault_text, query_status}
 use Rattle.oscip_query.specs.declared.fault.QueryFault.{QueryFault}
 use Rattle.oscip_query.specs.declared.fault.QueryFault.TheVariants as query
 use Rattle.oscip_run.specs.declared.fault.RunFault.TheVariants.{CannotRead, CannotWrite, Tree, Net, Report, Solve, Query, Device, Memory}
-use Rattle.oscip_tree.specs.declared.tree.TreeFault.{TreeFault}
+use Rattle.oscip_tree.specs.declared.tree_fault.TreeFault.{TreeFault}
 use Rattle.oscip_tree.specs.TreeFaults.{after_space, tree_fault_text, wants_memory}
 
 -- want of memory is one fault, whoever met it

@@ -38,7 +38,7 @@ use Rattle.oscip_tree.specs.declared.crossing.Crossed.{Crossed}
 use Rattle.oscip_tree.specs.declared.crossing.Crossed.TheVariants.{Places, NoImporter, NoImported}
 use Rattle.oscip_tree.specs.declared.crossing.Span.{Span}
 use Rattle.oscip_tree.specs.declared.source.Source.{Source}
-use Rattle.oscip_tree.specs.declared.tree.TreeFault.{TreeFault}
+use Rattle.oscip_tree.specs.declared.tree_fault.TreeFault.{TreeFault}
 use Rattle.oscip_tree.specs.declared.tree_reading.Tree.{Tree}
 use Rattle.oscip_tree.proofs.SameFiles.{import_over, one_rows}
 use Rattle.oscip_tree.proofs.ReadFiles.{first_fault, of_tree}

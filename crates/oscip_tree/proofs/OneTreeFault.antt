@@ -37,8 +37,8 @@ use Rattle.ob_scope.proofs.Meanings.{first_once}
 use Rattle.oscip_tree.specs.TreeFaults.{after_space, graph_fault_text, parse_fault_text, placed_text, scan_fault_text, scope_fault_text, tree_fault_text, wants_memory}
 use Rattle.oscip_tree.specs.Trees.{files_of, parse_offset, scan_offset, scope_offset, HasParseFault, HasScanFault, HasScopeFault, IsAccepted, IsFault, IsFileFault, IsFirstFault, IsGraphFault, IsTreeFault, ModuleFile}
 use Rattle.oscip_tree.specs.declared.source.Source.{Source}
-use Rattle.oscip_tree.specs.declared.tree.TreeFault.{TreeFault}
-use Rattle.oscip_tree.specs.declared.tree.TreeFault.TheVariants as faults
+use Rattle.oscip_tree.specs.declared.tree_fault.TreeFault.{TreeFault}
+use Rattle.oscip_tree.specs.declared.tree_fault.TreeFault.TheVariants as faults
 use Rattle.oscip_tree.proofs.NoTreeFault.{at_seam, no_file_fault, no_first_fault, no_parse_fault, no_scan_fault, scope_fault_of}
 use Rattle.oscip_tree.proofs.SameFiles.{same_files}
 use Rattle.oscip_tree.proofs.TreeFiles.{there}

@@ -9,8 +9,8 @@ use Rattle.std.proofs.lemmas.List.{append-nil, length-drop, take-append-drop}
 use Rattle.oscip_tree.specs.Files.{AreAllOf, AreOfPieces, HasKept, IsFaultOfFiles, IsReading}
 use Rattle.oscip_tree.specs.Trees.{AreAccepted, IsAccepted, IsFileFault, IsFirstFault, IsTreeFault, ModuleFile}
 use Rattle.oscip_tree.specs.declared.source.Source.{Source}
-use Rattle.oscip_tree.specs.declared.tree.TreeFault.{TreeFault}
-use Rattle.oscip_tree.specs.declared.tree.TreeFault.TheVariants as faults
+use Rattle.oscip_tree.specs.declared.tree_fault.TreeFault.{TreeFault}
+use Rattle.oscip_tree.specs.declared.tree_fault.TreeFault.TheVariants as faults
 use Rattle.oscip_tree.proofs.TreeFiles.{at_item, each_joined, longer, take_at, Each}
 
 pub nothing_left : {X : Type 0} (xs : List X) → length xs ≡ 0 → xs ≡ []

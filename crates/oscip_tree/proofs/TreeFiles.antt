@@ -15,8 +15,8 @@ use Rattle.ob_scope.specs.Scoped.{AliasUses, ModuleScopes}
 use Rattle.oscip_tree.specs.Trees.{file_of, files_of, rows, names, AreAccepted, IsAccepted, IsFileFault, IsTreeFault, ModuleFile}
 use Rattle.oscip_tree.specs.TreeReading.{AreRead, AreScopesOf}
 use Rattle.oscip_tree.specs.declared.source.Source.{Source}
-use Rattle.oscip_tree.specs.declared.tree.TreeFault.{TreeFault}
-use Rattle.oscip_tree.specs.declared.tree.TreeFault.TheVariants as faults
+use Rattle.oscip_tree.specs.declared.tree_fault.TreeFault.{TreeFault}
+use Rattle.oscip_tree.specs.declared.tree_fault.TreeFault.TheVariants as faults
 
 -- ---- two lists of one length
 

@@ -3,8 +3,8 @@ use Rattle.std.specs.Prelude.{◌≡◌, ℕ, List, [], ◌∷◌, ◌++◌, len
 use Rattle.std.specs.declared.alloc.Global.{Global}
 use Rattle.oscip_tree.specs.Trees.{AreAccepted, IsAccepted, IsFirstFault, ModuleFile}
 use Rattle.oscip_tree.specs.declared.source.Source.{Source}
-use Rattle.oscip_tree.specs.declared.tree.TreeFault.{TreeFault}
-use Rattle.oscip_tree.specs.declared.tree.TreeFault.TheVariants as faults
+use Rattle.oscip_tree.specs.declared.tree_fault.TreeFault.{TreeFault}
+use Rattle.oscip_tree.specs.declared.tree_fault.TreeFault.TheVariants as faults
 
 -- the file is accepted, and this is what is kept of its module
 abbrev pub HasKept : {K : Type 0} → (ModuleFile → K → Type 0) → Source → K → Type 0

@@ -13,8 +13,8 @@ use Rattle.ob_scope.specs.declared.fault.ScopeFault.{ScopeFault}
 use Rattle.ob_scope.specs.declared.fault.ScopeFault.TheVariants as scope
 use Rattle.ob_imports.specs.declared.fault.GraphFault.{GraphFault}
 use Rattle.ob_imports.specs.declared.fault.GraphFault.TheVariants as graph
-use Rattle.oscip_tree.specs.declared.tree.TreeFault.{TreeFault}
-use Rattle.oscip_tree.specs.declared.tree.TreeFault.TheVariants.{Scan, Parse, Scope, Graph, Memory}
+use Rattle.oscip_tree.specs.declared.tree_fault.TreeFault.{TreeFault}
+use Rattle.oscip_tree.specs.declared.tree_fault.TreeFault.TheVariants.{Scan, Parse, Scope, Graph, Memory}
 
 abbrev pub after_space : List ℕ → List ℕ
 after_space name = 32 ∷ name

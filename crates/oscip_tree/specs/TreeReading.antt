@@ -9,8 +9,8 @@ use Rattle.ob_scope.specs.Scoped.{AreScopes, ModuleScopes}
 use Rattle.oscip_tree.specs.Files.{AreAllOf, HasKept}
 use Rattle.oscip_tree.specs.Trees.{ModuleFile, files_of, rows}
 use Rattle.oscip_tree.specs.declared.source.Source.{Source}
-use Rattle.oscip_tree.specs.declared.tree.TreeFault.{TreeFault}
-use Rattle.oscip_tree.specs.declared.tree.TreeFault.TheVariants.{Graph, Memory}
+use Rattle.oscip_tree.specs.declared.tree_fault.TreeFault.{TreeFault}
+use Rattle.oscip_tree.specs.declared.tree_fault.TreeFault.TheVariants.{Graph, Memory}
 use Rattle.oscip_tree.specs.declared.tree_reading.Tree.{Tree}
 
 -- want of memory is one fault, whoever met it

@@ -30,8 +30,8 @@ use Rattle.cut_net.specs.Lines.{IsAscending}
 use Rattle.cut_net.specs.Network.{Network, name_of}
 use Rattle.cut_net.specs.WellFormed.{AreBetween, AreNamesInOrder}
 use Rattle.oscip_tree.specs.declared.source.Source.{Source}
-use Rattle.oscip_tree.specs.declared.tree.TreeFault.{TreeFault}
-use Rattle.oscip_tree.specs.declared.tree.TreeFault.TheVariants as faults
+use Rattle.oscip_tree.specs.declared.tree_fault.TreeFault.{TreeFault}
+use Rattle.oscip_tree.specs.declared.tree_fault.TreeFault.TheVariants as faults
 
 -- a file as it was read: its path, its bytes, its tokens and its tree
 pub record ModuleFile : Type 0 where

@@ -12,7 +12,7 @@ ghost use Rattle.oscip_tree.specs.Crossings.{AreSpans, ArePlaces, IsCrossed, IsC
 ghost use Rattle.oscip_tree.specs.TreeReading.{AreScopesOf};
 ghost use Rattle.oscip_tree.specs.Trees.{files_of, names, IsAccepted, IsFileFault, IsTreeFault, ModuleFile};
 
-use crate::module_file::{scan_fault, table_after};
+use crate::front_end::{scan_fault, table_after};
 use crate::tree_reading::read_tree;
 use crate::{Source, TreeFault};
 use ob_imports::Graph;

@@ -8,7 +8,7 @@ ghost use Rattle.oscip_tree.specs.TreeFaults.{tree_fault_text, wants_memory};
 ghost use Rattle.oscip_tree.specs.Trees.{IsNetOfTree, IsTree, IsTreeFault, ModuleFile};
 ghost use Rattle.oscip_tree.specs.declared.crossing.Span.{Span};
 ghost use Rattle.oscip_tree.specs.declared.source.Source.{Source};
-ghost use Rattle.oscip_tree.specs.declared.tree.TreeFault.{TreeFault};
+ghost use Rattle.oscip_tree.specs.declared.tree_fault.TreeFault.{TreeFault};
 
 /// An accepted tree has no fault but want of memory.
 pub fn no_fault_of_a_tree()

@@ -4,18 +4,18 @@
 #![tactic(auto)]
 
 mod crossing;
+mod fault_text;
 mod files;
+mod front_end;
 pub mod laws;
-mod module_file;
 mod parts;
 mod source;
-mod tree;
 mod tree_fault;
 mod tree_reading;
 
 pub use crossing::{Crossed, Span, uses_across};
+pub use fault_text::{after_spaces, tree_fault_text, wants_memory};
 pub use parts::{ModuleParts, TreeParts, tree_parts};
 pub use source::{Source, in_order};
-pub use tree::TreeFault;
-pub use tree_fault::{after_spaces, tree_fault_text, wants_memory};
+pub use tree_fault::TreeFault;
 pub use tree_reading::net_of;

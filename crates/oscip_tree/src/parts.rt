@@ -12,7 +12,7 @@ ghost use Rattle.oscip_tree.specs.Parts.{AreAllParts, ArePartsOfTree, HasParts};
 ghost use Rattle.oscip_tree.specs.Trees.{files_of, IsFileFault, IsTreeFault, ModuleFile};
 
 use crate::files::{OfFile, read_files};
-use crate::module_file::{scan_fault, scope_fault, table_after};
+use crate::front_end::{scan_fault, scope_fault, table_after};
 use crate::tree_reading::parsed_of;
 use crate::{Source, TreeFault};
 use ob_decls::Table;

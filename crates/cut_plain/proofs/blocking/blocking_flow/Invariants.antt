@@ -1,6 +1,6 @@
 use Rattle.std.proofs.Common.{◌≡◌}
 use Rattle.cut_residual.specs.Flows.{AreSameArcs}
-use Rattle.cut_plain.specs.Descents.{IsDescent, RaisesOrKeeps}
+use Rattle.cut_plain.specs.Levels.{IsDescent, RaisesOrKeeps}
 use Rattle.cut_plain.proofs.blocking.blocking_flow.Given as goal
 
 abbrev pub invariant-loop : goal.invariant-loop

@@ -3,7 +3,7 @@ use Rattle.std.specs.Prelude.{All, AllPairs}
 use Rattle.std.proofs.lemmas.List.Elements.{All-push, Contains-get_or}
 use Rattle.cut_residual.specs.declared.arc.ResidualArc.{ResidualArc}
 use Rattle.cut_residual.specs.Graphs.{no_residual_arc, head, HasArc, Leads}
-use Rattle.cut_plain.specs.Descents.{Climbs, LeadsBack}
+use Rattle.cut_plain.specs.Levels.{Climbs, LeadsBack}
 use Rattle.cut_plain.proofs.Descending.{All-front, head_opposite, leads_forth, leads_off, leads_on, once_reversed}
 use Rattle.cut_plain.proofs.blocking.make_move.Goals as goal
 

@@ -8,18 +8,18 @@ use Rattle.cut_solve.proofs.Answering.{greatest_for}
 use Rattle.cut_solve.proofs.Flowing.{empty_balanced, same_imports}
 use Rattle.cut_plain.proofs.solver.solve.Goals as goal
 
-pub greatest_flow-requires-clause-balanced : goal.greatest_flow-requires-clause-balanced
-greatest_flow-requires-clause-balanced c =
+pub maximum_flow-requires-clause-balanced : goal.maximum_flow-requires-clause-balanced
+maximum_flow-requires-clause-balanced c =
     let graph_is = ap (λ (g : Graph). g.arcs) c.in_ok-graph.ensures in
     subst (λ v. IsBalanced v c.args.from c.args.to 0) (sym graph_is) (empty_balanced c.args.net.now.imports c.args.from c.args.to)
 
 pub cut_by-requires-clause-greatest : goal.cut_by-requires-clause-greatest
 cut_by-requires-clause-greatest c =
     let net = c.args.net.now in
-    let arcs = c.greatest_flow.new.graph.arcs in
+    let arcs = c.maximum_flow.new.graph.arcs in
     let graph_is : c.in_ok-graph.graph.arcs ≡ map empty_of net.imports = ap (λ (g : Graph). g.arcs) c.in_ok-graph.ensures in
     let same = same_imports net.imports arcs (subst (λ v. AreSameArcs v arcs) graph_is c.in_ok-near.ensures.same) in
-    let nodes : c.greatest_flow.new.graph.nodes ≡ length net.names = c.in_ok-near.ensures.nodes ∙ ap (λ (g : Graph). g.nodes) c.in_ok-graph.ensures in
+    let nodes : c.maximum_flow.new.graph.nodes ≡ length net.names = c.in_ok-near.ensures.nodes ∙ ap (λ (g : Graph). g.nodes) c.in_ok-graph.ensures in
     let near = c.in_ok-near.near.seen.items in
     let reached = subst (λ n. AreReached (record { nodes = n; arcs = arcs }) c.args.from near) nodes c.in_ok-near.ensures.reached in
     let lines = filter has_flow (map flow_line arcs) in

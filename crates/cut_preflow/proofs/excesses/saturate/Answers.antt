@@ -4,8 +4,8 @@ use Rattle.cut_preflow.proofs.Saturating.{saturate_fits, saturate_more, saturate
 use Rattle.cut_preflow.proofs.excesses.saturate.Goals as goal
 use Rattle.cut_preflow.proofs.excesses.saturate.Goals.{then-import-ends, else-import-ends}
 
-pub bring-requires-clause-fits : goal.bring-requires-clause-fits
-bring-requires-clause-fits c = λ ne.
+pub add_excess-requires-clause-fits : goal.add_excess-requires-clause-fits
+add_excess-requires-clause-fits c = λ ne.
     let k = c.loop-import.import-index in
     let imports = c.args.imports.now in
     omega (arith, saturate_fits c.args.ends.source imports k c.loop-import-test.true c.requires.weights, c.loop-import.invariant.sums (import_in imports k).to ne)
@@ -17,9 +17,9 @@ loop-import-preserved c =
     let source = c.args.ends.source in
     elim c.if-import-ends.branch [
       | then-import-ends w ↦
-          (let is = ap (λ v. v.items) w.excesses-is ∙ w.bring.ensures.excesses in
+          (let is = ap (λ v. v.items) w.excesses-is ∙ w.add_excess.ensures.excesses in
           record {
-            active = rw (w.excesses-is, w.active-is) w.bring.ensures.active;
+            active = rw (w.excesses-is, w.active-is) w.add_excess.ensures.active;
             sums = λ v ne. ap (λ xs. get_or xs v 0) is ∙ saturate_more source imports c.loop-import.excesses.items k v (omega (arith, c.requires.nodes k c.loop-import-test.true, c.loop-import.invariant.active.each_counted)) w.if-import-ends.true ne (c.loop-import.invariant.sums v ne);
           })
       | else-import-ends w ↦ record {

@@ -1,0 +1,64 @@
+//! A greatest flow: first along paths on which the order of the nodes rises, then in phases, each with a search for an
+//! augmenting path and flow along paths on which its levels rise.
+ghost use Rattle.std.specs.Prelude.{ℕ, ◌≡◌, ◌≢◌, ◌<◌, true, false, IfOk, OnOk, vec_len};
+ghost use Rattle.cut_residual.specs.Flows.{AreSameArcs, IsBalanced};
+ghost use Rattle.cut_residual.specs.Graphs.{is_seen, AreClosed, AreReached};
+ghost use Rattle.cut_residual.specs.Searches.{IsSearchOf};
+ghost use Rattle.cut_plain.specs.Levels.{Raises};
+
+use crate::blocking::blocking_flow;
+use cut_residual::{Found, ResidualGraph, order_of, path_to, places_of, search};
+use std::alloc::{AllocError, Global};
+
+/// Raises the flow, where the search has come to the end.
+fn raise(
+    alloc: Global,
+    graph: &mut ResidualGraph,
+    found: &Found,
+    from: u32,
+    to: u32,
+) -> Result<(), AllocError>
+    requires apart { from ≢ to }
+    requires to { to < graph.old.nodes }
+    requires levels { vec_len found.now.levels ≡ graph.old.nodes }
+    requires tree { IsSearchOf graph.old from found.now }
+    requires found { is_seen found.now.seen.items to ≡ true }
+    ensures nodes { OnOk result (graph.new.nodes ≡ graph.old.nodes) }
+    ensures same { OnOk result (AreSameArcs graph.old.arcs graph.new.arcs) }
+    ensures raises { OnOk result (Raises graph.old.arcs graph.new.arcs from to) }
+{
+    let path = path_to(alloc, graph, found, to)?;
+    graph.augment(&path);
+    blocking_flow(alloc, graph, &found.levels, from, to)?;
+    Ok(())
+}
+
+/// Raises the flow until no augmenting path leads to the end, and answers the last search.
+pub(crate) fn maximum_flow(
+    alloc: Global,
+    graph: &mut ResidualGraph,
+    from: u32,
+    to: u32,
+) -> Result<Found, AllocError>
+    requires apart { from ≢ to }
+    requires from { from < graph.old.nodes }
+    requires to { to < graph.old.nodes }
+    requires balanced { IsBalanced graph.old.arcs from to 0 }
+    ensures nodes { OnOk result (graph.new.nodes ≡ graph.old.nodes) }
+    ensures same { OnOk result (AreSameArcs graph.old.arcs graph.new.arcs) }
+    ensures balanced { OnOk result ((value : ℕ) × IsBalanced graph.new.arcs from to value) }
+    ensures reached { IfOk result (λ found. AreReached graph.new from found.seen.items) }
+    ensures closed { IfOk result (λ found. AreClosed graph.new.arcs found.seen.items) }
+    ensures end { IfOk result (λ found. is_seen found.seen.items to ≡ false) }
+{
+    let order = order_of(alloc, graph)?;
+    let places = places_of(alloc, &order, graph.nodes())?;
+    blocking_flow(alloc, graph, &places, from, to)?;
+    let mut found = search(alloc, graph, from)?;
+    while found.seen[to as usize] {
+        raise(alloc, graph, &found, from, to)?;
+        graph.keeps();
+        found = search(alloc, graph, from)?;
+    }
+    Ok(found)
+}
