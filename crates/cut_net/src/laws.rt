@@ -64,6 +64,14 @@ pub fn answer_with_pins()
         IsAnswer net a b said → IsCheapestSaid net a b said → IsCheapestSaidWithPins net a b said }
 {}
 
+/// Where no chain of pins leads from a to b, a module is near with pins where it is near pins aside, and so for the imports that are printed; and a
+/// flow pins aside is one with pins.
+pub fn near_with_pins()
+    ensures near { (net : Network) (a b m : ℕ) → ArePins net → (PinChain net a b → ⊥) → NearWithPins net a b m ↔ Near net a b m }
+    ensures printed { (net : Network) (a b : ℕ) (x : Priced → Bool) → ArePins net → (PinChain net a b → ⊥) → ArePrintedWithPins net a b x ↔ ArePrinted net a b x }
+    ensures flow { (net : Network) (a b : ℕ) (flow : Priced → ℕ) (value : ℕ) → IsFlow net a b flow value → IsFlowWithPins net a b flow value }
+{}
+
 /// A cut without a pinned import whose weight is the value of a flow is a cheapest of these cuts, however much flows over pinned imports.
 pub fn certificate_with_pins()
     ensures { (net : Network) (a b : ℕ) (x : Priced → Bool) (flow : Priced → ℕ) →

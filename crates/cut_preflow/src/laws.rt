@@ -1,7 +1,8 @@
-//! What holds of every list of events, stale ones and ones with strange numbers included. Each function is a law: its body is empty,
+//! What holds of every list of events, stale ones and ones with strange numbers included. Each function is a law: its body does nothing,
 //! and its contract is proved, by the definitions that the contracts of `start` and `apply` name.
 ghost use Rattle.std.specs.Prelude.{◌≡◌, ◌≢◌, ◌↔◌, ◌≤◌, ◌<◌, ◌*◌, ◌+◌, ℕ, Bool, true, Some, List, length};
 ghost use Rattle.cut_net.specs.Network.{Network};
+ghost use Rattle.cut_net.specs.Pins.{ArePins, IsFlowWithPins, NearWithPins, PinChain};
 ghost use Rattle.cut_net.specs.WellFormed.{IsNetwork};
 ghost use Rattle.cut_net.specs.Cuts.{AreThose, IsFlow, Near, Reached};
 ghost use Rattle.cut_preflow.specs.declared.event.Event.{Event};
@@ -10,6 +11,8 @@ ghost use Rattle.cut_preflow.specs.Kept.{IsKept, IsQuiet};
 ghost use Rattle.cut_preflow.specs.Bound.{changes, most_changes};
 ghost use Rattle.cut_preflow.specs.Flows.{AreEnds, flow_on, network_between, value_of};
 ghost use Rattle.cut_preflow.specs.Relabels.{IsRaised};
+
+use cut_net::laws::near_with_pins;
 
 /// Whatever events come: each flow is within its capacity, no node but the source sends out more than enters it, the labelling is
 /// valid, the ends keep their labels, and no label reaches twice the number of nodes.
@@ -34,6 +37,21 @@ pub fn quiet_run_reaches_near()
         let s = run flow_net (opening flow_net) events in
         IsQuiet flow_net s → AreThose modules (Reached net (flow_on flow_net s) a) → AreThose modules (Near net a b) }
 {}
+
+/// Both with pins: the flow is one, and where no chain of pins leads from the one module to the other, what the source reaches is what is near.
+pub fn quiet_run_with_pins()
+    ensures flow { (net : Network) (a b : ℕ) (events : List Event) → IsNetwork net → AreEnds net a b →
+        let flow_net = network_between net a b in
+        let s = run flow_net (opening flow_net) events in
+        IsQuiet flow_net s → IsFlowWithPins net a b (flow_on flow_net s) (value_of flow_net s) }
+    ensures near { (net : Network) (a b : ℕ) (events : List Event) (modules : ℕ → Bool) → IsNetwork net → AreEnds net a b →
+        ArePins net → (PinChain net a b → ⊥) →
+        let flow_net = network_between net a b in
+        let s = run flow_net (opening flow_net) events in
+        IsQuiet flow_net s → AreThose modules (Reached net (flow_on flow_net s) a) → AreThose modules (NearWithPins net a b) }
+{
+    near_with_pins();
+}
 
 /// No list of events changes the state more often than the bound, and no legal history is longer.
 pub fn steps_are_bounded()
