@@ -4,7 +4,7 @@ use Rattle.std.specs.Prelude.{IfSome}
 use Rattle.std.specs.Io.KnownBytes.{Keeps}
 use Rattle.std.proofs.lemmas.Bool.{cond_both}
 use Rattle.cut_net.specs.Network.{Network}
-use Rattle.cut_net.specs.Lines.{IsCheapestSaid}
+use Rattle.cut_net.specs.Pins.{IsCheapestSaidWithPins}
 use Rattle.cut_net.specs.NetText.{IsNetOutcome}
 use Rattle.cut_net.specs.NetText as nets
 use Rattle.cut_net.specs.NetReading.{outcome_of as net_outcome_of}
@@ -20,9 +20,10 @@ use Rattle.cut_report.specs.declared.fault.ReportFault.TheVariants as report
 use Rattle.byte_sink.specs.declared.sink.SinkFault.{SinkFault}
 use Rattle.byte_sink.specs.declared.sink.SinkFault.TheVariants as sink
 use Rattle.cut_check.specs.declared.verdict.Verdict.{Verdict}
-use Rattle.cut_check.specs.declared.verdict.Verdict.TheVariants.{Yes, NoSuchImport, StillChain, WrongWeight, OverWeight, NotKept, WrongValue}
+use Rattle.cut_check.specs.declared.verdict.Verdict.TheVariants.{Yes, NoSuchImport, StillChain, WrongWeight, OverWeight, NotKept, WrongValue, NotPinned}
 use Rattle.cut_check.specs.Verdicts.{IsVerdict}
 use Rattle.oscip_run.specs.Faults.{of_net, of_report, of_sink, of_tree}
+use Rattle.oscip_run.specs.PricedInputs.{IsRefusedOr}
 use Rattle.oscip_run.specs.Runs.{IsChecked, IsCheckRun, IsNeverRefused, IsRefusedText, IsRefusedTree, IsThis, PutsFront, is_yes, verdict_text}
 use Rattle.oscip_tree.specs.TreeFaults.{wants_memory}
 use Rattle.oscip_tree.specs.Trees.{IsTreeFault}
@@ -68,11 +69,12 @@ yes_from WrongWeight e = absurd cc
 yes_from (OverWeight from to) e = absurd cc
 yes_from (NotKept m) e = absurd cc
 yes_from WrongValue e = absurd cc
+yes_from (NotPinned from to) e = absurd cc
 
 -- a verdict of what was read
 pub checked : (IsOf : Network → Type 0) (report line : List ℕ) (n : Network) (r : ReportRead) (v : Verdict) (agrees : Bool) →
     IsOf n → IsReportOutcome n report (reports.Reads (entry_of r)) →
-    IsVerdict n r.from r.to (entry_of r).said v → (v ≡ Yes → IsCheapestSaid n r.from r.to (entry_of r).said) →
+    IsVerdict n r.from r.to (entry_of r).said v → (v ≡ Yes → IsCheapestSaidWithPins n r.from r.to (entry_of r).said) →
     line ≡ verdict_text n v → agrees ≡ is_yes v → IsChecked IsOf report line agrees
 checked IsOf report line n r v agrees is says holds cheapest line_is agrees_is = record {
   net = n;
@@ -117,6 +119,7 @@ run_of IsOf IsRefused n is report old new (Err (run.CannotRead path)) h = absurd
 run_of IsOf IsRefused n is report old new (Err (run.CannotWrite path)) h = absurd h
 run_of IsOf IsRefused n is report old new (Err (run.Tree fault)) h = absurd h.0
 run_of IsOf IsRefused n is report old new (Err (run.Net fault)) h = absurd h.0
+run_of IsOf IsRefused n is report old new (Err (run.Price fault)) h = absurd h.0
 run_of IsOf IsRefused n is report old new (Err (run.Report fault)) h =
     let refused = h.0 in
     let of = refused.2 in
@@ -126,6 +129,20 @@ run_of IsOf IsRefused n is report old new (Err (run.Query fault)) h = absurd h
 run_of IsOf IsRefused n is report old new (Err run.Device) h = front_of IsOf n is report old new h
 run_of IsOf IsRefused n is report old new (Err run.Memory) (inl h) = inl h
 run_of IsOf IsRefused n is report old new (Err run.Memory) (inr h) = inr (front_of IsOf n is report old new h)
+
+-- no network, in a run of the check
+pub no_net : (IsOf : Network → Type 0) (IsRefused : RunFault → Type 0) (report : List ℕ) (known : Option (List ℕ)) (fault : RunFault) → IsRefusedOr IsRefused fault →
+    IsCheckRun IsOf IsRefused report known known (Err fault)
+no_net IsOf IsRefused report known (run.CannotRead path) h = h
+no_net IsOf IsRefused report known (run.CannotWrite path) h = h
+no_net IsOf IsRefused report known (run.Tree fault) h = (h, Keeps-same known)
+no_net IsOf IsRefused report known (run.Net fault) h = (h, Keeps-same known)
+no_net IsOf IsRefused report known (run.Price fault) h = (h, Keeps-same known)
+no_net IsOf IsRefused report known (run.Report fault) h = absurd h
+no_net IsOf IsRefused report known (run.Solve fault) h = h
+no_net IsOf IsRefused report known (run.Query fault) h = h
+no_net IsOf IsRefused report known run.Device h = absurd h
+no_net IsOf IsRefused report known run.Memory h = inl (Keeps-same known)
 
 -- a line of two names
 pub two_names : (cause from to a b ending : List ℕ) → from ≡ a → to ≡ b → cause ++ (from ++ (32 ∷ (to ++ ending))) ≡ cause ++ a ++ (32 ∷ []) ++ b ++ ending

@@ -1,5 +1,5 @@
 -- From what the lower crates promise to what a run that tells where a module uses another is.
-use Rattle.std.proofs.Common.{◌≡◌, ℕ, List, Option, Err, map, false, true, refl, sym, ◌∙◌, ap, subst, inl, inr}
+use Rattle.std.proofs.Common.{◌≡◌, ℕ, List, Option, Err, map, false, refl, sym, subst, inl, inr}
 use Rattle.std.proofs.KnownBytes.{Keeps-refl}
 use Rattle.byte_sink.specs.declared.sink.SinkFault.{SinkFault}
 use Rattle.byte_sink.specs.declared.sink.SinkFault.TheVariants as sink
@@ -9,7 +9,7 @@ use Rattle.oscip_query.specs.Lines.{place_lines}
 use Rattle.oscip_run.specs.CrossingRuns.{place_at, IsCrossingsRun, IsFirstUnknown, IsNoName, IsUsesText}
 use Rattle.oscip_run.specs.Faults.{is_device, of_sink}
 use Rattle.oscip_run.specs.declared.fault.RunFault.{RunFault}
-use Rattle.oscip_run.specs.declared.fault.RunFault.TheVariants.{CannotRead, CannotWrite, Tree, Net, Report, Solve, Query, Device, Memory}
+use Rattle.oscip_run.specs.declared.fault.RunFault.TheVariants.{CannotRead, CannotWrite, Tree, Net, Price, Report, Solve, Query, Device, Memory}
 use Rattle.oscip_tree.specs.Crossings.{AreUses}
 use Rattle.oscip_tree.specs.declared.crossing.Span.{Span}
 use Rattle.oscip_tree.specs.declared.source.Source.{Source}
@@ -28,6 +28,7 @@ unknown sources m n name known (CannotRead path) first h = absurd h
 unknown sources m n name known (CannotWrite path) first h = absurd h
 unknown sources m n name known (Tree fault) first h = absurd h
 unknown sources m n name known (Net fault) first h = absurd h
+unknown sources m n name known (Price fault) first h = absurd h
 unknown sources m n name known (Report fault) first h = absurd h
 unknown sources m n name known (Solve solve.SameModule) first h = absurd h
 unknown sources m n name known (Solve (solve.NoSuchModule own)) first h = (subst (IsFirstUnknown sources m n) (sym h) first, Keeps-refl known)
@@ -42,6 +43,7 @@ no_device name (CannotRead path) h = absurd h
 no_device name (CannotWrite path) h = absurd h
 no_device name (Tree fault) h = absurd h
 no_device name (Net fault) h = absurd h
+no_device name (Price fault) h = absurd h
 no_device name (Report fault) h = absurd h
 no_device name (Solve solve.SameModule) h = absurd h
 no_device name (Solve (solve.NoSuchModule own)) h = refl

@@ -3,9 +3,10 @@ use Rattle.std.proofs.Common.{◌≡◌, ℕ, List, Option, Some, Result, Ok, Er
 use Rattle.std.specs.Prelude.{IfSome}
 use Rattle.std.proofs.lemmas.Option.{same_Some}
 use Rattle.cut_net.specs.Network.{Network, index_of}
-use Rattle.cut_report.specs.ReportText.{report_text}
-use Rattle.cut_net.specs.Said.{Said, CutOf}
+use Rattle.cut_net.specs.Pins.{IsAnswerWithPins, IsCheapestSaidWithPins}
 use Rattle.cut_net.specs.WellFormed.{IsNetwork}
+use Rattle.cut_report.specs.ReportText.{report_text}
+use Rattle.cut_net.specs.Said.{Said, CutOf, BlockedBy}
 use Rattle.cut_report.specs.Faults.{is_of_sink}
 use Rattle.byte_sink.specs.Sinks.{PutsBy}
 use Rattle.cut_report.specs.declared.fault.ReportFault.{ReportFault}
@@ -15,12 +16,13 @@ use Rattle.cut_solve.specs.Solving as solving
 use Rattle.cut_solve.specs.declared.fault.SolveFault.{SolveFault}
 use Rattle.cut_solve.specs.declared.fault.SolveFault.TheVariants as solve
 use Rattle.oscip_run.specs.Faults.{of_report, of_solve}
-use Rattle.oscip_run.specs.CutRuns.{IsCutRun, IsCutText, PutsCutFront}
+use Rattle.oscip_run.specs.CutRuns.{IsCutRun, IsCutText, IsPrinted, PutsCutFront}
+use Rattle.oscip_run.specs.PricedInputs.{IsRefusedOr}
 use Rattle.oscip_run.specs.Runs.{IsNeverRefused, IsThis}
 use Rattle.oscip_run.specs.declared.fault.RunFault.{RunFault}
 use Rattle.oscip_run.specs.declared.fault.RunFault.TheVariants as run
 use Rattle.oscip_run.proofs.CheckRuns.{Keeps-same}
-use Rattle.oscip_run.proofs.Sayable.{is_report}
+use Rattle.oscip_run.proofs.Sayable.{is_report, FlowFits}
 
 -- refused names
 pub refused_names : (IsOf : Network → Type 0) (IsRefused : RunFault → Type 0) (first second : List ℕ) (known : Option (List ℕ)) (n : Network) → IsOf n → (fault : SolveFault) →
@@ -29,12 +31,25 @@ refused_names IsOf IsRefused first second known n is solve.SameModule h = ((solv
 refused_names IsOf IsRefused first second known n is (solve.NoSuchModule name) h = ((solving.NoSuchModule _, refl, (n, is, h)), Keeps-same known)
 refused_names IsOf IsRefused first second known n is solve.Memory h = inl (Keeps-same known)
 
+-- what is answered is what is printed
+printed_of : (n : Network) (a b : ℕ) (said : Said) → IsAnswerWithPins n a b said → IsCheapestSaidWithPins n a b said → IsPrinted n a b said
+printed_of n a b (CutOf total printed flow) answer cheapest = record {
+  free = answer.free;
+  printed_in_order = answer.right.printed_in_order;
+  flow_in_order = answer.right.flow_in_order;
+  cheapest = cheapest;
+  weights = answer.right.weights;
+  is_flow = answer.right.is_flow;
+  are_printed = answer.are_printed;
+}
+printed_of n a b (BlockedBy chain) answer cheapest = record { least = answer; no_cut = cheapest }
+
 -- the text of an answer to two names
 pub cut_text : (IsOf : Network → Type 0) (first second : List ℕ) (n : Network) (from to : ℕ) (said : Said) → IsOf n →
-    IsNetwork n → Some from ≡ index_of n first → Some to ≡ index_of n second → IsSolved n first second said →
+    IsNetwork n → Some from ≡ index_of n first → Some to ≡ index_of n second → IsSolved n first second said → FlowFits said →
     IsCutText IsOf first second (report_text n (record { from = from; to = to; said = said }))
-cut_text IsOf first second n from to (CutOf total printed flow) is keeps from_is to_is s =
-    let report = is_report n first second (record { from = from; to = to; said = CutOf total printed flow }) keeps from_is to_is s in
+cut_text IsOf first second n from to said is keeps from_is to_is s flow_fits =
+    let report = is_report n first second (record { from = from; to = to; said = said }) keeps from_is to_is s flow_fits in
     let a_is : s.a ≡ from = same_Some _ _ (sym s.from_is ∙ sym from_is) in
     let b_is : s.b ≡ to = same_Some _ _ (sym s.to_is ∙ sym to_is) in
     record {
@@ -45,16 +60,9 @@ cut_text IsOf first second n from to (CutOf total printed flow) is keeps from_is
       b = s.b;
       second_is = s.to_is;
       apart = s.apart;
-      total = total;
-      printed = printed;
-      flow = flow;
+      said = said;
       says = record { report = rw (a_is, b_is) report; spelled = rw (a_is, b_is) refl };
-      printed_in_order = s.answer.right.printed_in_order;
-      flow_in_order = s.answer.right.flow_in_order;
-      cheapest = s.cheapest;
-      weights = s.answer.right.weights;
-      is_flow = s.answer.right.is_flow;
-      are_printed = s.answer.are_printed;
+      holds = printed_of n s.a s.b said s.answer s.cheapest;
     }
 
 -- a sink that failed
@@ -77,20 +85,27 @@ text_of IsOf n is first second text c = record {
   b = c.b;
   second_is = c.second_is;
   apart = c.apart;
-  total = c.total;
-  printed = c.printed;
-  flow = c.flow;
+  said = c.said;
   says = c.says;
-  printed_in_order = c.printed_in_order;
-  flow_in_order = c.flow_in_order;
-  cheapest = c.cheapest;
-  weights = c.weights;
-  is_flow = c.is_flow;
-  are_printed = c.are_printed;
+  holds = c.holds;
 }
 
 front_of : (IsOf : Network → Type 0) (n : Network) → IsOf n → (first second : List ℕ) (old new : Option (List ℕ)) → PutsCutFront (IsThis n) first second old new → PutsCutFront IsOf first second old new
 front_of IsOf n is first second old new h = (h.0, text_of IsOf n is first second h.0 h.1, h.2)
+
+-- no network, in a run of the search for a cut
+pub no_net : (IsOf : Network → Type 0) (IsRefused : RunFault → Type 0) (first second : List ℕ) (known : Option (List ℕ)) (fault : RunFault) → IsRefusedOr IsRefused fault →
+    IsCutRun IsOf IsRefused first second known known (Err fault)
+no_net IsOf IsRefused first second known (run.CannotRead path) h = h
+no_net IsOf IsRefused first second known (run.CannotWrite path) h = h
+no_net IsOf IsRefused first second known (run.Tree fault) h = (h, Keeps-same known)
+no_net IsOf IsRefused first second known (run.Net fault) h = (h, Keeps-same known)
+no_net IsOf IsRefused first second known (run.Price fault) h = (h, Keeps-same known)
+no_net IsOf IsRefused first second known (run.Report fault) h = h
+no_net IsOf IsRefused first second known (run.Solve fault) h = absurd h
+no_net IsOf IsRefused first second known (run.Query fault) h = h
+no_net IsOf IsRefused first second known run.Device h = absurd h
+no_net IsOf IsRefused first second known run.Memory h = inl (Keeps-same known)
 
 -- and so is a run
 pub run_of : (IsOf : Network → Type 0) (IsRefused : RunFault → Type 0) (n : Network) → IsOf n → (first second : List ℕ) (old new : Option (List ℕ)) (result : Result (Unit {0}) RunFault) →
@@ -100,6 +115,7 @@ run_of IsOf IsRefused n is first second old new (Err (run.CannotRead path)) h = 
 run_of IsOf IsRefused n is first second old new (Err (run.CannotWrite path)) h = absurd h
 run_of IsOf IsRefused n is first second old new (Err (run.Tree fault)) h = absurd h.0
 run_of IsOf IsRefused n is first second old new (Err (run.Net fault)) h = absurd h.0
+run_of IsOf IsRefused n is first second old new (Err (run.Price fault)) h = absurd h.0
 run_of IsOf IsRefused n is first second old new (Err (run.Report fault)) h = absurd h
 run_of IsOf IsRefused n is first second old new (Err (run.Solve fault)) h =
     let refused = h.0 in

@@ -1,5 +1,5 @@
 -- From what the lower crates promise to what a run that draws is.
-use Rattle.std.proofs.Common.{◌≡◌, ◌≢◌, ℕ, List, Option, Some, Result, Ok, Err, refl, inl, inr, sym, subst}
+use Rattle.std.proofs.Common.{◌≢◌, ℕ, arith, List, Option, Result, Ok, Err, refl, inl, inr, sym, subst}
 use Rattle.std.specs.Prelude.{IfSome}
 use Rattle.byte_sink.specs.declared.sink.SinkFault.{SinkFault}
 use Rattle.byte_sink.specs.declared.sink.SinkFault.TheVariants as sink
@@ -10,9 +10,16 @@ use Rattle.cut_report.specs.declared.fault.ReportFault.TheVariants as report
 use Rattle.cut_report.specs.ReportLines.{IsReportOutcome}
 use Rattle.cut_report.specs.ReportLines as reports
 use Rattle.cut_report.specs.Reading.{outcome_of as report_outcome_of, entry_of}
+use Rattle.cut_net.specs.declared.answer.Answer.{Answer}
+use Rattle.cut_net.specs.declared.answer.Answer.TheVariants as answers
+use Rattle.cut_net.specs.Answers.{said_by}
+use Rattle.cut_report.specs.ReportText.{MaySay}
+use Rattle.cut_net.specs.Lines.{IsAscending}
 use Rattle.cut_dot.specs.Drawing.{IsDrawing}
+use Rattle.cut_dot.specs.Pictures.{flow_said, removed_said, IsPicture}
 use Rattle.oscip_run.specs.Faults.{of_report, of_sink}
-use Rattle.oscip_run.specs.DotRuns.{IsDotRun, IsDrawn, PutsDrawnFront}
+use Rattle.oscip_run.specs.DotRuns.{IsDotRun, IsDrawn, IsPictureOf, PutsDrawnFront}
+use Rattle.oscip_run.specs.PricedInputs.{IsRefusedOr}
 use Rattle.oscip_run.specs.Runs.{IsNeverRefused, IsThis}
 use Rattle.oscip_run.specs.declared.fault.RunFault.{RunFault}
 use Rattle.oscip_run.specs.declared.fault.RunFault.TheVariants as run
@@ -28,12 +35,26 @@ refused n text known report.NoEnd not_device h = ((reports.NoEnd, refl, (n, refl
 refused n text known report.Device not_device h = absurd (not_device refl)
 refused n text known report.Memory not_device h = inl (Keeps-same known)
 
+-- both lists of an answer that may be said ascend
+pub removed_ascend : (n : Network) (answer : Answer) → MaySay n (said_by answer) → IsAscending (removed_said answer)
+removed_ascend n (answers.Cut cut) says = says.printed_in_order
+removed_ascend n (answers.Blocked chain) says = λ j k d lt within. absurd (omega arith)
+
+pub flow_ascends : (n : Network) (answer : Answer) → MaySay n (said_by answer) → IsAscending (flow_said answer)
+flow_ascends n (answers.Cut cut) says = says.flow_in_order
+flow_ascends n (answers.Blocked chain) says = λ j k d lt within. absurd (omega arith)
+
+-- the picture of an answer is that of what it says
+pub picture_of : (n : Network) (a b : ℕ) (answer : Answer) (text : List ℕ) → IsPicture n a b (removed_said answer) (flow_said answer) text → IsPictureOf n a b (said_by answer) text
+picture_of n a b (answers.Cut cut) text h = h
+picture_of n a b (answers.Blocked chain) text h = h
+
 -- what came of a drawing
 pub drawn : (n : Network) (bytes : List ℕ) (r : ReportRead) (old new : Option (List ℕ)) (fault : SinkFault) → IsReportOutcome n bytes (reports.Reads (entry_of r))
-    → IsDrawing n r.from r.to r.cut.imports.items r.cut.flow.items old new (Err fault) → IsDotRun (IsThis n) IsNeverRefused bytes old new (Err (of_sink fault))
-drawn n bytes r old new sink.Device says h = (h.0, record { net = n; reads = refl; entry = entry_of r; says = says; picture = h.1 }, h.2)
+    → IsDrawing n r.from r.to (removed_said r.answer) (flow_said r.answer) old new (Err fault) → IsDotRun (IsThis n) IsNeverRefused bytes old new (Err (of_sink fault))
+drawn n bytes r old new sink.Device says h = (h.0, record { net = n; reads = refl; entry = entry_of r; says = says; picture = picture_of n r.from r.to r.answer h.0 h.1 }, h.2)
 drawn n bytes r old new sink.Memory says (inl h) = inl h
-drawn n bytes r old new sink.Memory says (inr h) = inr (h.0, record { net = n; reads = refl; entry = entry_of r; says = says; picture = h.1 }, h.2)
+drawn n bytes r old new sink.Memory says (inr h) = inr (h.0, record { net = n; reads = refl; entry = entry_of r; says = says; picture = picture_of n r.from r.to r.answer h.0 h.1 }, h.2)
 
 -- a picture on a network is one on the input that has it
 drawn_of : (IsOf : Network → Type 0) (n : Network) → IsOf n → (bytes text : List ℕ) → IsDrawn (IsThis n) bytes text → IsDrawn IsOf bytes text
@@ -41,6 +62,20 @@ drawn_of IsOf n is bytes text d = record { net = d.net; reads = subst IsOf (sym 
 
 front_of : (IsOf : Network → Type 0) (n : Network) → IsOf n → (bytes : List ℕ) (old new : Option (List ℕ)) → PutsDrawnFront (IsThis n) bytes old new → PutsDrawnFront IsOf bytes old new
 front_of IsOf n is bytes old new h = (h.0, drawn_of IsOf n is bytes h.0 h.1, h.2)
+
+-- no network, in a run that draws
+pub no_net : (IsOf : Network → Type 0) (IsRefused : RunFault → Type 0) (bytes : List ℕ) (known : Option (List ℕ)) (fault : RunFault) → IsRefusedOr IsRefused fault →
+    IsDotRun IsOf IsRefused bytes known known (Err fault)
+no_net IsOf IsRefused bytes known (run.CannotRead path) h = h
+no_net IsOf IsRefused bytes known (run.CannotWrite path) h = h
+no_net IsOf IsRefused bytes known (run.Tree fault) h = (h, Keeps-same known)
+no_net IsOf IsRefused bytes known (run.Net fault) h = (h, Keeps-same known)
+no_net IsOf IsRefused bytes known (run.Price fault) h = (h, Keeps-same known)
+no_net IsOf IsRefused bytes known (run.Report fault) h = absurd h
+no_net IsOf IsRefused bytes known (run.Solve fault) h = h
+no_net IsOf IsRefused bytes known (run.Query fault) h = h
+no_net IsOf IsRefused bytes known run.Device h = absurd h
+no_net IsOf IsRefused bytes known run.Memory h = inl (Keeps-same known)
 
 -- and so is a run
 pub run_of : (IsOf : Network → Type 0) (IsRefused : RunFault → Type 0) (n : Network) → IsOf n → (bytes : List ℕ) (old new : Option (List ℕ)) (result : Result (Unit {0}) RunFault)
@@ -50,6 +85,7 @@ run_of IsOf IsRefused n is bytes old new (Err (run.CannotRead path)) h = absurd 
 run_of IsOf IsRefused n is bytes old new (Err (run.CannotWrite path)) h = absurd h
 run_of IsOf IsRefused n is bytes old new (Err (run.Tree fault)) h = absurd h.0
 run_of IsOf IsRefused n is bytes old new (Err (run.Net fault)) h = absurd h.0
+run_of IsOf IsRefused n is bytes old new (Err (run.Price fault)) h = absurd h.0
 run_of IsOf IsRefused n is bytes old new (Err (run.Report fault)) h =
     let at = h.0 in
     let of = at.2 in

@@ -1,5 +1,5 @@
 -- From what the lower crates promise to what a run that indexes a tree is.
-use Rattle.std.proofs.Common.{◌≡◌, ◌++◌, ℕ, List, Option, Err, codes, refl, inl, inr}
+use Rattle.std.proofs.Common.{◌++◌, ℕ, List, Option, Err, codes, refl, inr}
 use Rattle.byte_sink.specs.declared.sink.SinkFault.{SinkFault}
 use Rattle.byte_sink.specs.declared.sink.SinkFault.TheVariants as sink
 use Rattle.byte_sink.specs.Sinks.{AppendsFront}

@@ -1,9 +1,11 @@
 pub mod CheckRuns
+pub mod PricedInputs
 pub mod Sayable
 pub mod CutRuns
 pub mod DotRuns
 pub mod JobRuns
 pub mod NoRefusal
+pub mod WithoutPrices
 pub mod CrossingRuns
 pub mod IndexRuns
 pub mod Packages

@@ -15,6 +15,7 @@ no_refusal sources net (runs.CannotRead path) of h = h
 no_refusal sources net (runs.CannotWrite path) of h = h
 no_refusal sources net (runs.Tree fault) of h = false≢true (sym h.0 ∙ no_tree_fault sources of.files fault of.is_tree h.1)
 no_refusal sources net (runs.Net fault) of h = h
+no_refusal sources net (runs.Price fault) of h = h
 no_refusal sources net (runs.Report fault) of h = h
 no_refusal sources net (runs.Solve fault) of h = h
 no_refusal sources net (runs.Query fault) of h = h

@@ -1,5 +1,5 @@
 -- A package that a command line takes is one that a symbol may have.
-use Rattle.std.proofs.Common.{◌≡◌, ◌∷◌, [], ℕ, List, Some, codes, false, refl, ap}
+use Rattle.std.proofs.Common.{◌≡◌, ◌∷◌, [], ℕ, List, Some, false, refl, ap}
 use Rattle.std.proofs.lemmas.Bool.{ne_eqb}
 use Rattle.oscip_job.specs.Jobs.{IsPackage}
 use Rattle.scip_symbol.specs.Outcomes.{is_wrong_part}

@@ -1,18 +1,23 @@
 -- What a solver answers may stand in a report.
-use Rattle.std.proofs.Common.{◌≡◌, ℕ, ◌≤◌, ◌<◌, ◌^◌, true, List, length, get_or, Some, refl, sym, ap, ◌∙◌, subst, arith}
+use Rattle.std.proofs.Common.{◌≡◌, ℕ, ◌≤◌, ◌<◌, ◌^◌, true, List, [], ◌∷◌, length, get_or, Some, refl, sym, ap, ◌∙◌, subst, arith}
 use Rattle.std.specs.Prelude.{Contains, All, IfSome, find}
 use Rattle.std.specs.List.{position_or_len, slice_get}
 use Rattle.std.proofs.lemmas.Bool.{false_from_ne_true}
-use Rattle.std.proofs.lemmas.List.Elements.{All-contains}
+use Rattle.std.proofs.lemmas.List.Elements.{All-contains, All-cons, All-nil}
 use Rattle.std.proofs.lemmas.List.Folds.{find_at}
 use Rattle.std.proofs.lemmas.List.Sums.{get_or-le-sum_by, position_or_len_is}
 use Rattle.std.proofs.lemmas.Option.{slice_get-get_or}
+use Rattle.cut_dot.specs.Pictures.{flow_said}
+use Rattle.cut_net.specs.declared.answer.Answer.{Answer}
+use Rattle.cut_net.specs.declared.answer.Answer.TheVariants as answers
+use Rattle.cut_net.specs.Answers.{said_by}
 use Rattle.cut_net.specs.declared.priced.Priced.{Priced}
 use Rattle.cut_net.specs.Network.{Network, index_of}
-use Rattle.cut_net.specs.Cuts.{same_ends}
-use Rattle.cut_net.specs.Lines.{amount_in, removed_by, AreInOrder, IsAnswer, IsAscending, IsImport}
+use Rattle.cut_net.specs.Cuts.{same_ends, IsChain}
+use Rattle.cut_net.specs.Lines.{removed_by, AreInOrder, IsAscending, IsImport}
+use Rattle.cut_net.specs.Pins.{ByPin, IsAnswerWithPins, IsPinChain}
 use Rattle.cut_report.specs.ReportText.{IsReport, MaySay}
-use Rattle.cut_net.specs.Said.{Said, CutOf}
+use Rattle.cut_net.specs.Said.{Said, CutOf, BlockedBy}
 use Rattle.cut_report.specs.Entry.{Entry}
 use Rattle.cut_net.specs.WellFormed.{total_weight, AreBetween, IsNetwork}
 use Rattle.cut_net.proofs.Certificate.{weight-mono}
@@ -51,8 +56,41 @@ lines_fit net lines keeps h within k d lt =
     let fits = keeps.fits in
     omega arith
 
-may_say : (net : Network) (a b : ℕ) (said : Said) → IsNetwork net → IsAnswer net a b said → MaySay net said
-may_say net a b (CutOf total printed flow) keeps answer =
+-- the amounts of the first so many lines are at most this
+abbrev pub AtMost : ℕ → List Priced → ℕ → Type 0
+AtMost most lines count = (k : ℕ) (d : Priced) → k < count → k < length lines → (get_or lines k d).amount ≤ most
+
+-- the network has the module
+abbrev Within : Network → ℕ → Type 0
+Within net m = m < length net.names
+
+-- the amounts of the flow fit 64 bits
+abbrev pub FlowFits : Said → Type 0
+FlowFits (CutOf total printed flow) = All (λ (line : Priced). line.amount < 2 ^ 64) flow
+FlowFits (BlockedBy chain) = Unit {0}
+
+fit_below : (most : ℕ) (lines : List Priced) → most < 2 ^ 64 → All (λ (line : Priced). line.amount ≤ most) lines → All (λ (line : Priced). line.amount < 2 ^ 64) lines
+fit_below most lines below h k d within = let le = h k d within in omega arith
+
+-- they do where the greatest does
+pub fits_said : (answer : Answer) (lines : List Priced) (most : ℕ) → lines ≡ flow_said answer → most < 2 ^ 64 → All (λ (line : Priced). line.amount ≤ most) lines → FlowFits (said_by answer)
+fits_said (answers.Cut cut) lines most e below h = fit_below most cut.flow.items below (subst (λ (flow : List Priced). All (λ (line : Priced). line.amount ≤ most) flow) e h)
+fits_said (answers.Blocked chain) lines most e below h = tt
+
+-- the modules of a chain that begins with one are modules of the network
+chain_within : (net : Network) (m : ℕ) (more : List ℕ) (b : ℕ) → IsNetwork net → IsChain net.imports (ByPin net) m more b → Within net m → All (Within net) (m ∷ more)
+chain_within net m [] b keeps h within = All-cons (Within net) m [] within (All-nil (Within net))
+chain_within net m (n ∷ more) b keeps (step, rest) within =
+    let to : Within net n = subst (Within net) step.3 (keeps.between step.0 step.1).1 in
+    All-cons (Within net) m (n ∷ more) within (chain_within net n more b keeps rest to)
+
+chain_said : (net : Network) (a b : ℕ) (chain : List ℕ) → IsNetwork net → a < length net.names → IsPinChain net a b chain → MaySay net (BlockedBy chain)
+chain_said net a b [] keeps within h = absurd h
+chain_said net a b (m ∷ more) keeps within h = (omega arith, chain_within net m more b keeps h.1 (subst (Within net) (sym h.0) within))
+
+may_say : (net : Network) (a b : ℕ) (said : Said) → IsNetwork net → a < length net.names → IsAnswerWithPins net a b said → FlowFits said → MaySay net said
+may_say net a b (BlockedBy chain) keeps a_within answer flow_fits = chain_said net a b chain keeps a_within answer.is_chain
+may_say net a b (CutOf total printed flow) keeps a_within answer flow_fits =
     let r = answer.right in
     let less = weight-mono net.imports (removed_by printed) (λ _. true) (λ i c e. refl) in
     let sum = r.weights.sum in
@@ -65,16 +103,15 @@ may_say net a b (CutOf total printed flow) keeps answer =
           let same = subst (λ o. IfSome o (λ (l : Priced). l.amount ≡ i.amount)) e (r.weights.each i c) in omega arith);
       flow_between = lines_between net flow keeps r.flow_in_order.known;
       flow_in_order = r.flow_in_order.ascending;
-      flow_fits = lines_fit net flow keeps r.flow_in_order (λ i line c e.
-          subst (λ o. amount_in o ≤ i.amount) e (r.is_flow.within i c));
+      flow_fits = flow_fits;
       flow_above_zero = answer.flow_above_zero;
     }
 
 -- an answer to two names is a report
 pub is_report : (net : Network) (first second : List ℕ) (entry : Entry) → IsNetwork net → Some entry.from ≡ index_of net first → Some entry.to ≡ index_of net second →
-    IsSolved net first second entry.said → IsReport net entry
-is_report net first second entry keeps from_is to_is solved = record {
+    IsSolved net first second entry.said → FlowFits entry.said → IsReport net entry
+is_report net first second entry keeps from_is to_is solved flow_fits = record {
   from = (index_takes net first entry.from (sym from_is)).0;
   to = (index_takes net second entry.to (sym to_is)).0;
-  says = may_say net solved.a solved.b entry.said keeps solved.answer;
+  says = may_say net solved.a solved.b entry.said keeps (index_takes net first solved.a solved.from_is).0 solved.answer flow_fits;
 }

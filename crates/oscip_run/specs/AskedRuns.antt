@@ -23,13 +23,13 @@ IsAskedRun index q which old new (Err fault) = (lower : QueryFault) × (fault �
 
 -- a run of a job that asks an index: for the places where the symbol is defined, or those where it is used
 abbrev pub IsAskedJob : List ℕ → Job → Option (List ℕ) → Option (List ℕ) → Result (Unit {0}) RunFault → Type 0
-IsAskedJob index (Cut folder from to workers) old new result = ⊥
-IsAskedJob index (Check folder report) old new result = ⊥
+IsAskedJob index (Cut folder from to workers prices) old new result = ⊥
+IsAskedJob index (Check folder report prices) old new result = ⊥
 IsAskedJob index (Crossings folder from to) old new result = ⊥
-IsAskedJob index (CutNet network from to workers) old new result = ⊥
-IsAskedJob index (CheckNet network report) old new result = ⊥
-IsAskedJob index (Dot folder report) old new result = ⊥
-IsAskedJob index (DotNet network report) old new result = ⊥
+IsAskedJob index (CutNet network from to workers prices) old new result = ⊥
+IsAskedJob index (CheckNet network report prices) old new result = ⊥
+IsAskedJob index (Dot folder report prices) old new result = ⊥
+IsAskedJob index (DotNet network report prices) old new result = ⊥
 IsAskedJob index (Def question) old new result = IsAskedRun index question Definitions old new result
 IsAskedJob index (Refs question) old new result = IsAskedRun index question References old new result
 IsAskedJob index (Index indexing) old new result = ⊥

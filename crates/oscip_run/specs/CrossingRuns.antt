@@ -11,7 +11,7 @@ use Rattle.oscip_job.specs.declared.job.Job.TheVariants.{Cut, Check, Crossings, 
 use Rattle.oscip_query.specs.Lines.{place_lines}
 use Rattle.oscip_run.specs.Runs.{IsRefusedTree}
 use Rattle.oscip_run.specs.declared.fault.RunFault.{RunFault}
-use Rattle.oscip_run.specs.declared.fault.RunFault.TheVariants.{CannotRead, CannotWrite, Tree, Net, Report, Solve, Query, Device, Memory}
+use Rattle.oscip_run.specs.declared.fault.RunFault.TheVariants.{CannotRead, CannotWrite, Tree, Net, Price, Report, Solve, Query, Device, Memory}
 use Rattle.oscip_tree.specs.Crossings.{AreUses, IsNoModule, IsNoNode}
 use Rattle.oscip_tree.specs.declared.crossing.Span.{Span}
 use Rattle.oscip_tree.specs.declared.source.Source.{Source}
@@ -55,6 +55,7 @@ IsCrossingsRun sources m n old new (Err (CannotRead path)) = ⊥
 IsCrossingsRun sources m n old new (Err (CannotWrite path)) = ⊥
 IsCrossingsRun sources m n old new (Err (Tree fault)) = IsRefusedTree sources (Tree fault) × Keeps old new
 IsCrossingsRun sources m n old new (Err (Net fault)) = ⊥
+IsCrossingsRun sources m n old new (Err (Price fault)) = ⊥
 IsCrossingsRun sources m n old new (Err (Report fault)) = ⊥
 IsCrossingsRun sources m n old new (Err (Solve fault)) = IsUnknown sources m n fault × Keeps old new
 IsCrossingsRun sources m n old new (Err (Query fault)) = ⊥
@@ -63,13 +64,13 @@ IsCrossingsRun sources m n old new (Err Memory) = Keeps old new ⊎ PutsUsesFron
 
 -- a run of a job that asks where a module uses another, with the job's own names
 abbrev pub IsCrossingsJob : List Source → Job → Option (List ℕ) → Option (List ℕ) → Result (Unit {0}) RunFault → Type 0
-IsCrossingsJob sources (Cut folder from to workers) old new result = ⊥
-IsCrossingsJob sources (Check folder report) old new result = ⊥
+IsCrossingsJob sources (Cut folder from to workers prices) old new result = ⊥
+IsCrossingsJob sources (Check folder report prices) old new result = ⊥
 IsCrossingsJob sources (Crossings folder from to) old new result = IsCrossingsRun sources (string_bytes from) (string_bytes to) old new result
-IsCrossingsJob sources (CutNet network from to workers) old new result = ⊥
-IsCrossingsJob sources (CheckNet network report) old new result = ⊥
-IsCrossingsJob sources (Dot folder report) old new result = ⊥
-IsCrossingsJob sources (DotNet network report) old new result = ⊥
+IsCrossingsJob sources (CutNet network from to workers prices) old new result = ⊥
+IsCrossingsJob sources (CheckNet network report prices) old new result = ⊥
+IsCrossingsJob sources (Dot folder report prices) old new result = ⊥
+IsCrossingsJob sources (DotNet network report prices) old new result = ⊥
 IsCrossingsJob sources (Def question) old new result = ⊥
 IsCrossingsJob sources (Refs question) old new result = ⊥
 IsCrossingsJob sources (Index indexing) old new result = ⊥
@@ -83,6 +84,7 @@ IsNoName name (CannotRead path) = ⊥
 IsNoName name (CannotWrite path) = ⊥
 IsNoName name (Tree fault) = ⊥
 IsNoName name (Net fault) = ⊥
+IsNoName name (Price fault) = ⊥
 IsNoName name (Report fault) = ⊥
 IsNoName name (Solve solve.SameModule) = ⊥
 IsNoName name (Solve (solve.NoSuchModule own)) = string_bytes own ≡ name

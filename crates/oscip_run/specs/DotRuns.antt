@@ -1,21 +1,22 @@
 -- What a run that draws what a report says reads and puts.
-use Rattle.std.specs.Prelude.{◌≡◌, ◌⊎◌, ℕ, List, Option, Some, Result, Ok, Err}
+use Rattle.std.specs.Prelude.{◌≡◌, ◌⊎◌, ℕ, List, [], Option, Some, Result, Ok, Err}
 use Rattle.std.specs.Io.KnownBytes.{Appends, Keeps}
 use Rattle.byte_sink.specs.Sinks.{AppendsFront}
 use Rattle.cut_net.specs.Network.{Network}
-use Rattle.cut_net.specs.Said.{Said, CutOf}
+use Rattle.cut_net.specs.Said.{Said, CutOf, BlockedBy}
 use Rattle.cut_report.specs.Entry.{Entry}
 use Rattle.cut_report.specs.ReportLines.{IsReportOutcome}
 use Rattle.cut_report.specs.ReportLines as reports
 use Rattle.cut_report.specs.Reading.{outcome_of as report_outcome_of}
 use Rattle.cut_dot.specs.Pictures.{IsPicture}
 use Rattle.oscip_run.specs.declared.fault.RunFault.{RunFault}
-use Rattle.oscip_run.specs.declared.fault.RunFault.TheVariants.{CannotRead, CannotWrite, Tree, Net, Report, Solve, Query, Device, Memory}
+use Rattle.oscip_run.specs.declared.fault.RunFault.TheVariants.{CannotRead, CannotWrite, Tree, Net, Price, Report, Solve, Query, Device, Memory}
 use Rattle.oscip_run.specs.Runs.{IsRefusedReport}
 
--- the text is the picture of what is said of two modules
+-- the text is the picture of what is said of two modules; where no cut can be made nothing is removed, and nothing flows
 abbrev pub IsPictureOf : Network → ℕ → ℕ → Said → List ℕ → Type 0
 IsPictureOf net a b (CutOf total printed flow) text = IsPicture net a b printed flow text
+IsPictureOf net a b (BlockedBy chain) text = IsPicture net a b [] [] text
 
 -- the report is one on the input's network, and the text is the picture of what it says, right or wrong
 pub record IsDrawn (IsOf : Network → Type 0) (report text : List ℕ) : Type 0 where
@@ -40,6 +41,7 @@ IsDotRun IsOf IsRefused report old new (Err (CannotRead path)) = ⊥
 IsDotRun IsOf IsRefused report old new (Err (CannotWrite path)) = ⊥
 IsDotRun IsOf IsRefused report old new (Err (Tree fault)) = IsRefused (Tree fault) × Keeps old new
 IsDotRun IsOf IsRefused report old new (Err (Net fault)) = IsRefused (Net fault) × Keeps old new
+IsDotRun IsOf IsRefused report old new (Err (Price fault)) = IsRefused (Price fault) × Keeps old new
 IsDotRun IsOf IsRefused report old new (Err (Report fault)) =
     ((outcome : reports.ReportOutcome) × (report_outcome_of (Err fault) ≡ Some outcome) × IsRefusedReport IsOf report outcome) × Keeps old new
 IsDotRun IsOf IsRefused report old new (Err (Solve fault)) = ⊥

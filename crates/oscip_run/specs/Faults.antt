@@ -6,6 +6,8 @@ use Rattle.std.specs.String.{string_bytes}
 use Rattle.cut_net.specs.Network.{texts}
 use Rattle.cut_net.specs.declared.fault.NetFault.{NetFault}
 use Rattle.cut_net.specs.declared.fault.NetFault.TheVariants as net
+use Rattle.cut_net.specs.declared.price_fault.PriceFault.{PriceFault}
+use Rattle.cut_net.specs.declared.price_fault.PriceFault.TheVariants as price
 use Rattle.cut_report.specs.declared.fault.ReportFault.{ReportFault}
 use Rattle.cut_report.specs.declared.fault.ReportFault.TheVariants as report
 use Rattle.byte_sink.specs.declared.sink.SinkFault.{SinkFault}
@@ -16,7 +18,7 @@ use Rattle.oscip_run.specs.declared.fault.RunFault.{RunFault}
 use Rattle.oscip_query.specs.Faults.{query_fault_text, query_status}
 use Rattle.oscip_query.specs.declared.fault.QueryFault.{QueryFault}
 use Rattle.oscip_query.specs.declared.fault.QueryFault.TheVariants as query
-use Rattle.oscip_run.specs.declared.fault.RunFault.TheVariants.{CannotRead, CannotWrite, Tree, Net, Report, Solve, Query, Device, Memory}
+use Rattle.oscip_run.specs.declared.fault.RunFault.TheVariants.{CannotRead, CannotWrite, Tree, Net, Price, Report, Solve, Query, Device, Memory}
 use Rattle.oscip_tree.specs.declared.tree_fault.TreeFault.{TreeFault}
 use Rattle.oscip_tree.specs.TreeFaults.{after_space, tree_fault_text, wants_memory}
 
@@ -31,6 +33,13 @@ of_net (net.Cycle names) = Net (net.Cycle names)
 of_net net.WeightOverflow = Net net.WeightOverflow
 of_net (net.TooMany line) = Net (net.TooMany line)
 of_net net.Memory = Memory
+
+abbrev pub of_price : PriceFault → RunFault
+of_price (price.BadLine line) = Price (price.BadLine line)
+of_price (price.NoSuchImport line) = Price (price.NoSuchImport line)
+of_price (price.TwicePrice line) = Price (price.TwicePrice line)
+of_price price.PriceOverflow = Price price.PriceOverflow
+of_price price.Memory = Memory
 
 -- and so is a failed device
 abbrev pub of_report : ReportFault → RunFault
@@ -64,6 +73,13 @@ net_fault_text net.WeightOverflow = codes "WeightOverflow"
 net_fault_text (net.TooMany line) = decimal line ++ codes ": TooMany"
 net_fault_text net.Memory = codes "Memory"
 
+abbrev pub price_fault_text : PriceFault → List ℕ
+price_fault_text (price.BadLine line) = decimal line ++ codes ": BadLine"
+price_fault_text (price.NoSuchImport line) = decimal line ++ codes ": NoSuchImport"
+price_fault_text (price.TwicePrice line) = decimal line ++ codes ": TwicePrice"
+price_fault_text price.PriceOverflow = codes "PriceOverflow"
+price_fault_text price.Memory = codes "Memory"
+
 abbrev pub report_fault_text : ReportFault → List ℕ
 report_fault_text (report.BadLine line) = decimal line ++ codes ": BadLine"
 report_fault_text (report.UnknownName line) = decimal line ++ codes ": UnknownName"
@@ -83,6 +99,7 @@ fault_text (CannotRead path) = codes "cannot read " ++ string_bytes path
 fault_text (CannotWrite path) = codes "cannot write " ++ string_bytes path
 fault_text (Tree fault) = tree_fault_text fault
 fault_text (Net fault) = net_fault_text fault
+fault_text (Price fault) = price_fault_text fault
 fault_text (Report fault) = report_fault_text fault
 fault_text (Solve fault) = solve_fault_text fault
 fault_text (Query fault) = query_fault_text fault
@@ -97,6 +114,13 @@ net_status (net.Cycle names) = 1
 net_status net.WeightOverflow = 1
 net_status (net.TooMany line) = 1
 net_status net.Memory = 4
+
+abbrev pub price_status : PriceFault → ℕ
+price_status (price.BadLine line) = 1
+price_status (price.NoSuchImport line) = 1
+price_status (price.TwicePrice line) = 1
+price_status price.PriceOverflow = 1
+price_status price.Memory = 4
 
 abbrev pub report_status : ReportFault → ℕ
 report_status (report.BadLine line) = 1
@@ -119,6 +143,7 @@ status_number (CannotRead path) = 3
 status_number (CannotWrite path) = 3
 status_number (Tree fault) = tree_status fault
 status_number (Net fault) = net_status fault
+status_number (Price fault) = price_status fault
 status_number (Report fault) = report_status fault
 status_number (Solve fault) = solve_status fault
 status_number (Query fault) = query_status fault
@@ -131,6 +156,7 @@ is_device (CannotRead path) = false
 is_device (CannotWrite path) = false
 is_device (Tree fault) = false
 is_device (Net fault) = false
+is_device (Price fault) = false
 is_device (Report fault) = false
 is_device (Solve fault) = false
 is_device (Query fault) = false
@@ -143,6 +169,7 @@ IsReadFault (CannotRead path) = Unit {0}
 IsReadFault (CannotWrite path) = ⊥
 IsReadFault (Tree fault) = ⊥
 IsReadFault (Net fault) = ⊥
+IsReadFault (Price fault) = ⊥
 IsReadFault (Report fault) = ⊥
 IsReadFault (Solve fault) = ⊥
 IsReadFault (Query fault) = ⊥

@@ -26,13 +26,13 @@ IsDotJobRun IsOf IsRefused report old new result =
 
 -- a run of the job's engine on a network, with the job's own names, or with the report; a question and a search for uses have none
 abbrev pub IsJobRun : (Network → Type 0) → (RunFault → Type 0) → Job → List ℕ → Option (List ℕ) → Option (List ℕ) → Result Bool RunFault → Type 0
-IsJobRun IsOf IsRefused (Cut folder from to workers) report old new result = IsCutJobRun IsOf IsRefused (string_bytes from) (string_bytes to) old new result
-IsJobRun IsOf IsRefused (Check folder other) report old new result = IsCheckRun IsOf IsRefused report old new result
+IsJobRun IsOf IsRefused (Cut folder from to workers prices) report old new result = IsCutJobRun IsOf IsRefused (string_bytes from) (string_bytes to) old new result
+IsJobRun IsOf IsRefused (Check folder other prices) report old new result = IsCheckRun IsOf IsRefused report old new result
 IsJobRun IsOf IsRefused (Crossings folder from to) report old new result = ⊥
-IsJobRun IsOf IsRefused (CutNet path from to workers) report old new result = IsCutJobRun IsOf IsRefused (string_bytes from) (string_bytes to) old new result
-IsJobRun IsOf IsRefused (CheckNet path other) report old new result = IsCheckRun IsOf IsRefused report old new result
-IsJobRun IsOf IsRefused (Dot folder other) report old new result = IsDotJobRun IsOf IsRefused report old new result
-IsJobRun IsOf IsRefused (DotNet path other) report old new result = IsDotJobRun IsOf IsRefused report old new result
+IsJobRun IsOf IsRefused (CutNet path from to workers prices) report old new result = IsCutJobRun IsOf IsRefused (string_bytes from) (string_bytes to) old new result
+IsJobRun IsOf IsRefused (CheckNet path other prices) report old new result = IsCheckRun IsOf IsRefused report old new result
+IsJobRun IsOf IsRefused (Dot folder other prices) report old new result = IsDotJobRun IsOf IsRefused report old new result
+IsJobRun IsOf IsRefused (DotNet path other prices) report old new result = IsDotJobRun IsOf IsRefused report old new result
 IsJobRun IsOf IsRefused (Def question) report old new result = ⊥
 IsJobRun IsOf IsRefused (Refs question) report old new result = ⊥
 IsJobRun IsOf IsRefused (Index indexing) report old new result = ⊥

@@ -1,6 +1,7 @@
 pub mod CutRuns
 pub mod Faults
 pub mod Runs
+pub mod PricedInputs
 pub mod DotRuns
 pub mod JobRuns
 pub mod Endings

@@ -2,7 +2,7 @@
 use Rattle.std.specs.Prelude.{◌≡◌, ◌⊎◌, ℕ, Bool, true, false, List, ◌++◌, Option, Some, Result, Ok, Err, codes}
 use Rattle.std.specs.Io.KnownBytes.{Appends, Keeps}
 use Rattle.cut_net.specs.Network.{Network, name_of}
-use Rattle.cut_net.specs.Lines.{IsCheapestSaid}
+use Rattle.cut_net.specs.Pins.{IsCheapestSaidWithPins}
 use Rattle.cut_net.specs.NetText.{IsNetOutcome}
 use Rattle.cut_net.specs.NetText as nets
 use Rattle.cut_net.specs.NetReading.{outcome_of as net_outcome_of}
@@ -12,10 +12,10 @@ use Rattle.cut_report.specs.ReportLines as reports
 use Rattle.cut_report.specs.Reading.{outcome_of as report_outcome_of}
 use Rattle.byte_sink.specs.Sinks.{AppendsFront}
 use Rattle.cut_check.specs.declared.verdict.Verdict.{Verdict}
-use Rattle.cut_check.specs.declared.verdict.Verdict.TheVariants.{Yes, NoSuchImport, StillChain, WrongWeight, OverWeight, NotKept, WrongValue}
+use Rattle.cut_check.specs.declared.verdict.Verdict.TheVariants.{Yes, NoSuchImport, StillChain, WrongWeight, OverWeight, NotKept, WrongValue, NotPinned}
 use Rattle.cut_check.specs.Verdicts.{IsVerdict}
 use Rattle.oscip_run.specs.declared.fault.RunFault.{RunFault}
-use Rattle.oscip_run.specs.declared.fault.RunFault.TheVariants.{CannotRead, CannotWrite, Tree, Net, Report, Solve, Query, Device, Memory}
+use Rattle.oscip_run.specs.declared.fault.RunFault.TheVariants.{CannotRead, CannotWrite, Tree, Net, Price, Report, Solve, Query, Device, Memory}
 use Rattle.oscip_tree.specs.declared.source.Source.{Source}
 use Rattle.oscip_tree.specs.TreeFaults.{wants_memory}
 use Rattle.oscip_tree.specs.Trees.{IsTreeFault}
@@ -30,6 +30,7 @@ IsRefusedText text (CannotRead path) = ⊥
 IsRefusedText text (CannotWrite path) = ⊥
 IsRefusedText text (Tree fault) = ⊥
 IsRefusedText text (Net fault) = (outcome : nets.NetOutcome) × (net_outcome_of (Err fault) ≡ Some outcome) × IsNetOutcome text outcome
+IsRefusedText text (Price fault) = ⊥
 IsRefusedText text (Report fault) = ⊥
 IsRefusedText text (Solve fault) = ⊥
 IsRefusedText text (Query fault) = ⊥
@@ -42,6 +43,7 @@ IsRefusedTree sources (CannotRead path) = ⊥
 IsRefusedTree sources (CannotWrite path) = ⊥
 IsRefusedTree sources (Tree fault) = (wants_memory fault ≡ false) × IsTreeFault sources fault
 IsRefusedTree sources (Net fault) = ⊥
+IsRefusedTree sources (Price fault) = ⊥
 IsRefusedTree sources (Report fault) = ⊥
 IsRefusedTree sources (Solve fault) = ⊥
 IsRefusedTree sources (Query fault) = ⊥
@@ -65,6 +67,7 @@ verdict_text net WrongWeight = codes "no WrongWeight\n"
 verdict_text net (OverWeight from to) = codes "no OverWeight " ++ name_of net from ++ codes " " ++ name_of net to ++ codes "\n"
 verdict_text net (NotKept m) = codes "no NotKept " ++ name_of net m ++ codes "\n"
 verdict_text net WrongValue = codes "no WrongValue\n"
+verdict_text net (NotPinned from to) = codes "no NotPinned " ++ name_of net from ++ codes " " ++ name_of net to ++ codes "\n"
 
 -- the verdict is yes
 abbrev pub is_yes : Verdict → Bool
@@ -75,10 +78,11 @@ is_yes WrongWeight = false
 is_yes (OverWeight from to) = false
 is_yes (NotKept m) = false
 is_yes WrongValue = false
+is_yes (NotPinned from to) = false
 
--- Below a network is that of the input, a text or a tree.
+-- Below a network is that of the input, a text or a tree, with its prices.
 
--- the report is one on the input's network, of which this is the verdict's line; at yes what it says is a cheapest cut
+-- the report is one on the input's network, of which this is the verdict's line; at yes what it says is a cheapest cut, or that there is none
 pub record IsChecked (IsOf : Network → Type 0) (report line : List ℕ) (agrees : Bool) : Type 0 where
   pub net : Network
   pub reads : IsOf net
@@ -88,7 +92,7 @@ pub record IsChecked (IsOf : Network → Type 0) (report line : List ℕ) (agree
   pub holds : IsVerdict net entry.from entry.to entry.said verdict
   pub line_is : line ≡ verdict_text net verdict
   pub agrees_is : agrees ≡ is_yes verdict
-  pub cheapest : agrees ≡ true → IsCheapestSaid net entry.from entry.to entry.said
+  pub cheapest : agrees ≡ true → IsCheapestSaidWithPins net entry.from entry.to entry.said
 
 -- the sink has the whole line of the check
 abbrev pub PutsCheck : (Network → Type 0) → List ℕ → Option (List ℕ) → Option (List ℕ) → Bool → Type 0
@@ -109,6 +113,7 @@ IsCheckRun IsOf IsRefused report old new (Err (CannotRead path)) = ⊥
 IsCheckRun IsOf IsRefused report old new (Err (CannotWrite path)) = ⊥
 IsCheckRun IsOf IsRefused report old new (Err (Tree fault)) = IsRefused (Tree fault) × Keeps old new
 IsCheckRun IsOf IsRefused report old new (Err (Net fault)) = IsRefused (Net fault) × Keeps old new
+IsCheckRun IsOf IsRefused report old new (Err (Price fault)) = IsRefused (Price fault) × Keeps old new
 IsCheckRun IsOf IsRefused report old new (Err (Report fault)) =
     ((outcome : reports.ReportOutcome) × (report_outcome_of (Err fault) ≡ Some outcome) × IsRefusedReport IsOf report outcome) × Keeps old new
 IsCheckRun IsOf IsRefused report old new (Err (Solve fault)) = ⊥

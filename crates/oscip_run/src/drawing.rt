@@ -1,18 +1,19 @@
 //! What the commands that draw do with the bytes of their files, over any sink.
-ghost use Rattle.std.specs.Prelude.{◌≡◌};
+ghost use Rattle.std.specs.Prelude.{◌≡◌, option_copied};
 ghost use Rattle.byte_sink.specs.Sinks.{failures_by};
 ghost use Rattle.oscip_run.specs.DotRuns.{IsDotRun};
 ghost use Rattle.oscip_run.specs.Faults.{is_device};
-ghost use Rattle.oscip_run.specs.Runs.{IsNetOfText, IsNeverRefused, IsRefusedText, IsRefusedTree, IsThis};
+ghost use Rattle.oscip_run.specs.PricedInputs.{IsNetOfPricedText, IsNetOfPricedTree, IsRefusedPricedText, IsRefusedPricedTree};
+ghost use Rattle.oscip_run.specs.Runs.{IsNeverRefused, IsThis};
 ghost use Rattle.oscip_tree.specs.Sources.{AreInOrder};
-ghost use Rattle.oscip_tree.specs.Trees.{IsNetOfTree};
 
 use crate::RunFault;
 use crate::engine::READERS;
+use crate::priced::{net_of_text, net_of_tree};
 use byte_sink::Sink;
 use cut_dot::draw;
 use cut_net::Net;
-use oscip_tree::{Source, net_of};
+use oscip_tree::Source;
 use std::alloc::Global;
 use std::thread::Threads;
 
@@ -22,44 +23,46 @@ fn dot_in<S: Sink>(alloc: Global, net: &Net, report: &[u8], sink: &mut S) -> Res
     ensures failures { S.failures sink.new ≡ failures_by is_device result (S.failures sink.old) }
 {
     let report = cut_report::read(alloc, report, net)?;
-    draw(alloc, net, report.from, report.to, &report.cut, sink)?;
+    draw(alloc, net, report.from, report.to, &report.answer, sink)?;
     Ok(())
 }
 
-/// Reads a network and then a report on it, and puts the picture of what the report says of its two modules, as a graph in
+/// Reads a network, its prices where they are given, and then a report on it, and puts the picture of what the report says of its two modules, as a graph in
 /// DOT: see `cut_dot::draw`. What the report says isn't checked.
-/// Refuses with `Net`, `Report`, `Device` or `Memory`.
+/// Refuses with `Net`, `Price`, `Report`, `Device` or `Memory`.
 pub fn dot_net_bytes<S: Sink>(
     alloc: Global,
     network: &[u8],
     report: &[u8],
+    prices: Option<&[u8]>,
     sink: &mut S,
 ) -> Result<(), RunFault>
     // What was read, and the picture that the sink took; after a refusal of the input it took nothing.
-    ensures run { IsDotRun (IsNetOfText network.now) (IsRefusedText network.now) report.now (S.taken sink.old) (S.taken sink.new) result }
+    ensures run { IsDotRun (IsNetOfPricedText network.now (option_copied prices.entry)) (IsRefusedPricedText network.now (option_copied prices.entry)) report.now (S.taken sink.old) (S.taken sink.new) result }
     // Device is answered where the sink counted a failure, and nowhere else.
     ensures failures { S.failures sink.new ≡ failures_by is_device result (S.failures sink.old) }
 {
-    let net = Net::read(alloc, network)?;
+    let net = net_of_text(alloc, network, prices)?;
     dot_in(alloc, &net, report, sink)
 }
 
-/// Reads the files of a tree and then a report on it, and puts the picture of what the report says, as `dot_net_bytes` does.
-/// Refuses with `Tree`, `Report`, `Device` or `Memory`.
+/// Reads the files of a tree, its prices where they are given, and then a report on it, and puts the picture of what the report says, as `dot_net_bytes` does.
+/// Refuses with `Tree`, `Price`, `Report`, `Device` or `Memory`.
 pub fn dot_tree<R: Threads + Sync, S: Sink>(
     rt: &R,
     alloc: Global,
     sources: &[Source],
     report: &[u8],
+    prices: Option<&[u8]>,
     sink: &mut S,
 ) -> Result<(), RunFault>
     // The files stand in the order of their paths.
     requires { AreInOrder sources.now }
     // What was read, and the picture that the sink took; after a refusal of the input it took nothing.
-    ensures run { IsDotRun (IsNetOfTree sources.now) (IsRefusedTree sources.now) report.now (S.taken sink.old) (S.taken sink.new) result }
+    ensures run { IsDotRun (IsNetOfPricedTree sources.now (option_copied prices.entry)) (IsRefusedPricedTree sources.now (option_copied prices.entry)) report.now (S.taken sink.old) (S.taken sink.new) result }
     // Device is answered where the sink counted a failure, and nowhere else.
     ensures failures { S.failures sink.new ≡ failures_by is_device result (S.failures sink.old) }
 {
-    let net = net_of(rt, alloc, sources, READERS)?;
+    let net = net_of_tree(rt, alloc, sources, READERS, prices)?;
     dot_in(alloc, &net, report, sink)
 }

@@ -1,10 +1,10 @@
 //! Why a run ends without an answer, the line that tells of it, and the status that it ends with.
 ghost use Rattle.std.specs.Prelude.{◌≡◌, ◌++◌, IfOk, codes};
 ghost use Rattle.std.specs.String.{string_bytes};
-ghost use Rattle.oscip_run.specs.Faults.{fault_text, net_status, net_fault_text, report_status, report_fault_text, solve_fault_text, solve_status, status_number, tree_status};
+ghost use Rattle.oscip_run.specs.Faults.{fault_text, net_status, net_fault_text, price_fault_text, price_status, report_status, report_fault_text, solve_fault_text, solve_status, status_number, tree_status};
 
 use byte_sink::SinkFault;
-use cut_net::NetFault;
+use cut_net::{NetFault, PriceFault};
 use cut_report::ReportFault;
 use cut_solve::SolveFault;
 use oscip_query::{QueryFault, query_fault_text, query_status};
@@ -12,8 +12,8 @@ use oscip_tree::{TreeFault, after_spaces, tree_fault_text, wants_memory};
 use std::alloc::{AllocError, Global};
 use thiserror::Error;
 
-/// Why a run ends without an answer. As `From` makes them, `Tree`, `Net`, `Report`, `Solve` and `Query` hold
-/// neither want of memory nor a failed device.
+/// Why a run ends without an answer. As `From` makes them, `Tree`, `Net`, `Price`, `Report`, `Solve` and
+/// `Query` hold neither want of memory nor a failed device.
 #[derive(Debug, Drop, Error)]
 pub enum RunFault {
     /// A file or a folder can't be read: it isn't there, is no regular file, has more than 2^30 bytes or a name that isn't UTF-8, or lies too deep.
@@ -28,6 +28,9 @@ pub enum RunFault {
     /// The network is refused.
     #[error(transparent)]
     Net(NetFault),
+    /// The prices are refused.
+    #[error(transparent)]
+    Price(PriceFault),
     /// The report is refused.
     #[error(transparent)]
     Report(ReportFault),
@@ -81,6 +84,20 @@ impl From<NetFault> for RunFault {
         match fault {
             NetFault::Memory => RunFault::Memory,
             fault => RunFault::Net(fault),
+        }
+    }
+}
+
+impl From<PriceFault> for RunFault {
+    ghost use Rattle.std.specs.Prelude.{◌≡◌};
+    ghost use Rattle.oscip_run.specs.Faults.{of_price};
+
+    ghost from_gives = { λ lower fault. fault ≡ of_price lower };
+
+    fn from(fault: PriceFault) -> RunFault {
+        match fault {
+            PriceFault::Memory => RunFault::Memory,
+            fault => RunFault::Price(fault),
         }
     }
 }
@@ -159,6 +176,18 @@ fn net_fault_text(alloc: Global, fault: &NetFault) -> Result<String, AllocError>
     }
 }
 
+fn price_fault_text(alloc: Global, fault: &PriceFault) -> Result<String, AllocError>
+    ensures { IfOk result (λ t. string_bytes t ≡ price_fault_text fault.now) }
+{
+    match fault {
+        PriceFault::BadLine { line } => format!(in alloc; "{line}: BadLine"),
+        PriceFault::NoSuchImport { line } => format!(in alloc; "{line}: NoSuchImport"),
+        PriceFault::TwicePrice { line } => format!(in alloc; "{line}: TwicePrice"),
+        PriceFault::PriceOverflow => String::from_str(alloc, "PriceOverflow"),
+        PriceFault::Memory => String::from_str(alloc, "Memory"),
+    }
+}
+
 fn report_fault_text(alloc: Global, fault: &ReportFault) -> Result<String, AllocError>
     ensures { IfOk result (λ t. string_bytes t ≡ report_fault_text fault.now) }
 {
@@ -190,6 +219,7 @@ fn text_of(alloc: Global, fault: &RunFault) -> Result<String, AllocError>
         RunFault::CannotWrite { path } => format!(in alloc; "cannot write {path}"),
         RunFault::Tree(fault) => tree_fault_text(alloc, fault),
         RunFault::Net(fault) => net_fault_text(alloc, fault),
+        RunFault::Price(fault) => price_fault_text(alloc, fault),
         RunFault::Report(fault) => report_fault_text(alloc, fault),
         RunFault::Solve(fault) => solve_fault_text(alloc, fault),
         RunFault::Query(fault) => query_fault_text(alloc, fault),
@@ -217,6 +247,18 @@ fn net_status(fault: &NetFault) -> u8
         | NetFault::Cycle { .. }
         | NetFault::WeightOverflow
         | NetFault::TooMany { .. } => 1,
+    }
+}
+
+fn price_status(fault: &PriceFault) -> u8
+    ensures { result ≡ price_status fault.now }
+{
+    match fault {
+        PriceFault::Memory => 4,
+        PriceFault::BadLine { .. }
+        | PriceFault::NoSuchImport { .. }
+        | PriceFault::TwicePrice { .. }
+        | PriceFault::PriceOverflow => 1,
     }
 }
 
@@ -256,6 +298,7 @@ pub fn status_of(fault: &RunFault) -> u8
         RunFault::CannotRead { .. } | RunFault::CannotWrite { .. } | RunFault::Device => 3,
         RunFault::Tree(fault) => tree_status(fault),
         RunFault::Net(fault) => net_status(fault),
+        RunFault::Price(fault) => price_status(fault),
         RunFault::Report(fault) => report_status(fault),
         RunFault::Solve(fault) => solve_status(fault),
         RunFault::Query(fault) => query_status(fault),

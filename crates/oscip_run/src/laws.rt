@@ -1,9 +1,12 @@
-//! Laws of runs on trees of files: no tree is read and refused, and what is made of a tree is put in one way.
+//! Laws of runs: no tree is read and refused, what is made of a tree is put in one way, and without prices a cut is what it was
+//! before there were any.
 //! Each function is a law: its body is empty, and its contract is proved.
-ghost use Rattle.std.specs.Prelude.{◌≡◌, ℕ, List, Ok, Option, Some};
+ghost use Rattle.std.specs.Prelude.{◌≡◌, ℕ, List, None, Ok, Option, Some};
 ghost use Rattle.cut_net.specs.Network.{Network};
+ghost use Rattle.oscip_run.specs.CutRuns.{IsCutText, IsPlainCutText};
 ghost use Rattle.oscip_run.specs.IndexRuns.{IsHexRun, IsIndexRun, IsUnresolvedRun};
-ghost use Rattle.oscip_run.specs.Runs.{IsRefusedTree};
+ghost use Rattle.oscip_run.specs.PricedInputs.{IsNetOfPricedText, IsNetOfPricedTree};
+ghost use Rattle.oscip_run.specs.Runs.{IsNetOfText, IsRefusedTree};
 ghost use Rattle.oscip_run.specs.declared.fault.RunFault.{RunFault};
 ghost use Rattle.oscip_tree.specs.Trees.{IsNetOfTree};
 ghost use Rattle.oscip_tree.specs.declared.source.Source.{Source};
@@ -23,4 +26,13 @@ pub fn same_bytes()
         IsHexRun sources package_name root (Some before) new (Ok tt) → IsHexRun sources package_name root (Some before) other (Ok tt) → new ≡ other }
     ensures unresolved { (sources : List Source) (before : List ℕ) (new other : Option (List ℕ)) →
         IsUnresolvedRun sources (Some before) new (Ok tt) → IsUnresolvedRun sources (Some before) other (Ok tt) → new ≡ other }
+{}
+
+/// Where no prices are given nothing is pinned, and the report is of a cut: a cheapest one of all sets of imports, with a flow that
+/// keeps each weight.
+pub fn without_prices()
+    ensures tree { (sources : List Source) (first second text : List ℕ) →
+        IsCutText (IsNetOfPricedTree sources None) first second text → IsPlainCutText (IsNetOfTree sources) first second text }
+    ensures network { (lines first second text : List ℕ) →
+        IsCutText (IsNetOfPricedText lines None) first second text → IsPlainCutText (IsNetOfText lines) first second text }
 {}

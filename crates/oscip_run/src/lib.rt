@@ -13,6 +13,7 @@ mod fault;
 mod folder;
 mod indexing;
 pub mod laws;
+mod priced;
 mod reading;
 
 pub use answering::{answer, answer_tree};

@@ -1,9 +1,10 @@
 use Rattle.std.proofs.lemmas.Result.{err_from_is_err_and}
-use Rattle.oscip_run.specs.Runs.{IsNetOfText, IsRefusedText}
+use Rattle.std.specs.Prelude.{option_copied}
+use Rattle.oscip_run.specs.PricedInputs.{IsNetOfPricedText, IsRefusedPricedText}
 use Rattle.oscip_run.proofs.JobRuns.{refused_cut}
 use Rattle.oscip_run.proofs.answering.answer.Goals as goal
 
 pub returns-in_err-cut_net_bytes-in-CutNet-clause-run : goal.returns-in_err-cut_net_bytes-in-CutNet-clause-run
 returns-in_err-cut_net_bytes-in-CutNet-clause-run g c =
     let p = err_from_is_err_and c.from_residual.result c.from_residual.ensures.1 in
-    rw (c.in-CutNet.is, p.1, p.2) (refused_cut (IsNetOfText c.args.network.now) (IsRefusedText c.args.network.now) _ _ _ _ _ _ _ c.as_str-from.ensures.value c.as_str-to.ensures.value c.in_err-cut_net_bytes-in-CutNet.ensures.run)
+    rw (c.in-CutNet.is, p.1, p.2) (refused_cut (IsNetOfPricedText c.args.network.now (option_copied c.args.prices)) (IsRefusedPricedText c.args.network.now (option_copied c.args.prices)) _ _ _ _ _ _ _ c.as_str-from.ensures.value c.as_str-to.ensures.value c.in_err-cut_net_bytes-in-CutNet.ensures.run)

@@ -1,7 +1,7 @@
 use Rattle.std.proofs.Common.{refl}
 use Rattle.std.proofs.lemmas.Result.{err_from_is_err_and}
 use Rattle.cut_report.specs.Reading.{entry_of}
-use Rattle.oscip_run.proofs.DotRuns.{drawn, refused}
+use Rattle.oscip_run.proofs.DotRuns.{drawn, flow_ascends, picture_of, refused, removed_ascend}
 use Rattle.oscip_run.proofs.drawing.dot_in.Goals as goal
 
 pub draw-requires-clause-from : goal.draw-requires-clause-from
@@ -11,10 +11,10 @@ pub draw-requires-clause-to : goal.draw-requires-clause-to
 draw-requires-clause-to g c = c.in_ok-report.ensures.exact.report.to
 
 pub draw-requires-clause-removed : goal.draw-requires-clause-removed
-draw-requires-clause-removed g c = c.in_ok-report.ensures.exact.report.says.printed_in_order
+draw-requires-clause-removed g c = removed_ascend c.args.net.now c.in_ok-report.report.answer c.in_ok-report.ensures.exact.report.says
 
 pub draw-requires-clause-flow : goal.draw-requires-clause-flow
-draw-requires-clause-flow g c = c.in_ok-report.ensures.exact.report.says.flow_in_order
+draw-requires-clause-flow g c = flow_ascends c.args.net.now c.in_ok-report.report.answer c.in_ok-report.ensures.exact.report.says
 
 pub returns-in_err-report-clause-run : goal.returns-in_err-report-clause-run
 returns-in_err-report-clause-run g c =
@@ -29,4 +29,4 @@ returns-in_err-draw-clause-run g c =
 pub returns-clause-run : goal.returns-clause-run
 returns-clause-run g c =
     let put = c.in_ok-draw.ensures.run in
-    (put.0, record { net = c.args.net.now; reads = refl; entry = entry_of c.in_ok-report.report; says = c.in_ok-report.ensures.exact; picture = put.1 }, put.2)
+    (put.0, record { net = c.args.net.now; reads = refl; entry = entry_of c.in_ok-report.report; says = c.in_ok-report.ensures.exact; picture = picture_of c.args.net.now c.in_ok-report.report.from c.in_ok-report.report.to c.in_ok-report.report.answer put.0 put.1 }, put.2)

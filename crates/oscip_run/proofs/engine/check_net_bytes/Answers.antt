@@ -1,15 +1,13 @@
-use Rattle.std.proofs.Common.{Err, inl}
 use Rattle.std.proofs.lemmas.Result.{err_from_is_err_and}
-use Rattle.oscip_run.specs.Runs.{IsCheckRun, IsNetOfText, IsRefusedText}
-use Rattle.oscip_run.specs.declared.fault.RunFault.{RunFault}
-use Rattle.oscip_run.proofs.CheckRuns.{refused_net, run_of, Keeps-same}
+use Rattle.std.specs.Prelude.{option_copied}
+use Rattle.oscip_run.specs.PricedInputs.{IsNetOfPricedText, IsRefusedPricedText}
+use Rattle.oscip_run.proofs.CheckRuns.{no_net, run_of}
 use Rattle.oscip_run.proofs.engine.check_net_bytes.Goals as goal
 
 pub returns-in_err-net-clause-run : goal.returns-in_err-net-clause-run
 returns-in_err-net-clause-run g c =
     let p = err_from_is_err_and c.from_residual.result c.from_residual.ensures.1 in
-    rw (p.1, p.2) (refused_net (λ (fault : RunFault). IsCheckRun (IsNetOfText c.args.network.now) (IsRefusedText c.args.network.now) c.args.report.now (g.S.Sink.taken c.args.sink.now) (g.S.Sink.taken c.args.sink.now) (Err fault)) _
-    (λ fault h. (h, Keeps-same _)) (inl (Keeps-same _)) _ c.in_err-net.ensures.exact)
+    rw (p.1, p.2) (no_net (IsNetOfPricedText c.args.network.now (option_copied c.args.prices)) (IsRefusedPricedText c.args.network.now (option_copied c.args.prices)) _ _ _ c.in_err-net.ensures.fault)
 
 pub returns-clause-run : goal.returns-clause-run
-returns-clause-run g c = run_of (IsNetOfText c.args.network.now) (IsRefusedText c.args.network.now) c.in_ok-net.net c.in_ok-net.ensures.exact _ _ _ _ c.check_in.ensures.run
+returns-clause-run g c = run_of (IsNetOfPricedText c.args.network.now (option_copied c.args.prices)) (IsRefusedPricedText c.args.network.now (option_copied c.args.prices)) c.in_ok-net.net c.in_ok-net.ensures.net _ _ _ _ c.check_in.ensures.run

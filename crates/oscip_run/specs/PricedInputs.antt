@@ -1,0 +1,78 @@
+-- The network of a run: that of its input, a text or a tree, with the prices that are given.
+use Rattle.std.specs.Prelude.{◌≡◌, ◌⊎◌, ℕ, List, Option, Some, None}
+use Rattle.cut_net.specs.Network.{Network}
+use Rattle.cut_net.specs.Prices.{IsPriceOutcome, PriceOutcome}
+use Rattle.cut_net.specs.Prices as prices
+use Rattle.cut_net.specs.PriceReading.{fault_said}
+use Rattle.cut_net.specs.declared.price_fault.PriceFault.{PriceFault}
+use Rattle.oscip_run.specs.Runs.{IsNetOfText, IsRefusedText, IsRefusedTree}
+use Rattle.oscip_run.specs.declared.fault.RunFault.{RunFault}
+use Rattle.oscip_run.specs.declared.fault.RunFault.TheVariants.{CannotRead, CannotWrite, Tree, Net, Price, Report, Solve, Query, Device, Memory}
+use Rattle.oscip_tree.specs.Trees.{IsNetOfTree}
+use Rattle.oscip_tree.specs.declared.source.Source.{Source}
+
+-- the prices make this network of the input's
+abbrev pub IsPricedBy : (Network → Type 0) → List ℕ → Network → Type 0
+IsPricedBy IsOf text net = (before : Network) × IsOf before × IsPriceOutcome before text (prices.Prices net)
+
+-- the network of the input, with its prices where they are given
+abbrev pub IsPriced : (Network → Type 0) → Option (List ℕ) → Network → Type 0
+IsPriced IsOf None = IsOf
+IsPriced IsOf (Some text) = IsPricedBy IsOf text
+
+-- the prices say this of the input's network: they are refused with this fault
+abbrev pub IsPriceRefusal : (Network → Type 0) → List ℕ → PriceFault → Type 0
+IsPriceRefusal IsOf text fault = (before : Network) × IsOf before × (outcome : PriceOutcome) × (fault_said fault ≡ Some outcome) × IsPriceOutcome before text outcome
+
+-- the same, of the fault of a run
+abbrev pub IsRefusedBy : (Network → Type 0) → List ℕ → RunFault → Type 0
+IsRefusedBy IsOf text (CannotRead path) = ⊥
+IsRefusedBy IsOf text (CannotWrite path) = ⊥
+IsRefusedBy IsOf text (Tree fault) = ⊥
+IsRefusedBy IsOf text (Net fault) = ⊥
+IsRefusedBy IsOf text (Price fault) = IsPriceRefusal IsOf text fault
+IsRefusedBy IsOf text (Report fault) = ⊥
+IsRefusedBy IsOf text (Solve fault) = ⊥
+IsRefusedBy IsOf text (Query fault) = ⊥
+IsRefusedBy IsOf text Device = ⊥
+IsRefusedBy IsOf text Memory = ⊥
+
+-- the input is refused with this fault; or it isn't, and the prices are, where they are given
+abbrev pub IsRefusedPriced : (Network → Type 0) → (RunFault → Type 0) → Option (List ℕ) → RunFault → Type 0
+IsRefusedPriced IsOf IsRefused None = IsRefused
+IsRefusedPriced IsOf IsRefused (Some text) = λ fault. IsRefused fault ⊎ IsRefusedBy IsOf text fault
+
+-- ---- of a text
+
+-- the network that a text says, with its prices
+abbrev pub IsNetOfPricedText : List ℕ → Option (List ℕ) → Network → Type 0
+IsNetOfPricedText text = IsPriced (IsNetOfText text)
+
+-- the text or its prices are refused
+abbrev pub IsRefusedPricedText : List ℕ → Option (List ℕ) → RunFault → Type 0
+IsRefusedPricedText text = IsRefusedPriced (IsNetOfText text) (IsRefusedText text)
+
+-- ---- of a tree
+
+-- the network of a tree, with its prices
+abbrev pub IsNetOfPricedTree : List Source → Option (List ℕ) → Network → Type 0
+IsNetOfPricedTree sources = IsPriced (IsNetOfTree sources)
+
+-- the tree or its prices are refused
+abbrev pub IsRefusedPricedTree : List Source → Option (List ℕ) → RunFault → Type 0
+IsRefusedPricedTree sources = IsRefusedPriced (IsNetOfTree sources) (IsRefusedTree sources)
+
+-- ---- what is made on the way
+
+-- memory ran out, or this is refused
+abbrev pub IsRefusedOr : (RunFault → Type 0) → RunFault → Type 0
+IsRefusedOr IsRefused (CannotRead path) = ⊥
+IsRefusedOr IsRefused (CannotWrite path) = ⊥
+IsRefusedOr IsRefused (Tree fault) = IsRefused (Tree fault)
+IsRefusedOr IsRefused (Net fault) = IsRefused (Net fault)
+IsRefusedOr IsRefused (Price fault) = IsRefused (Price fault)
+IsRefusedOr IsRefused (Report fault) = ⊥
+IsRefusedOr IsRefused (Solve fault) = ⊥
+IsRefusedOr IsRefused (Query fault) = ⊥
+IsRefusedOr IsRefused Device = ⊥
+IsRefusedOr IsRefused Memory = Unit {0}

@@ -1,0 +1,50 @@
+//! The network of a run: that of its input, with the prices that are given.
+ghost use Rattle.std.specs.Prelude.{IfErr, IfOk, option_copied};
+ghost use Rattle.oscip_run.specs.PricedInputs.{IsNetOfPricedText, IsNetOfPricedTree, IsPriced, IsRefusedOr, IsRefusedPriced, IsRefusedPricedText, IsRefusedPricedTree};
+ghost use Rattle.oscip_run.specs.Runs.{IsNeverRefused, IsThis};
+
+use crate::RunFault;
+use cut_net::Net;
+use oscip_tree::{Source, net_of};
+use std::alloc::Global;
+use std::thread::Threads;
+
+/// The network with its prices, where they are given. Refuses with `Price` or `Memory`.
+fn with_prices(net: Net, prices: Option<&[u8]>) -> Result<Net, RunFault>
+    ensures net { IfOk result (IsPriced (IsThis net) (option_copied prices.entry)) }
+    ensures fault { IfErr result (IsRefusedOr (IsRefusedPriced (IsThis net) IsNeverRefused (option_copied prices.entry))) }
+{
+    match prices {
+        Some(prices) => Ok(net.price(prices)?),
+        None => Ok(net),
+    }
+}
+
+/// The network that a text says, with its prices. Refuses with `Net`, then with `Price`, or with `Memory`.
+pub(crate) fn net_of_text(
+    alloc: Global,
+    network: &[u8],
+    prices: Option<&[u8]>,
+) -> Result<Net, RunFault>
+    ensures net { IfOk result (IsNetOfPricedText network.now (option_copied prices.entry)) }
+    ensures fault { IfErr result (IsRefusedOr (IsRefusedPricedText network.now (option_copied prices.entry))) }
+{
+    let net = Net::read(alloc, network)?;
+    with_prices(net, prices)
+}
+
+/// The network of a tree's files, read by so many threads at most, with its prices. Refuses with `Tree`, then with `Price`, or
+/// with `Memory`.
+pub(crate) fn net_of_tree<R: Threads + Sync>(
+    rt: &R,
+    alloc: Global,
+    sources: &[Source],
+    workers: u32,
+    prices: Option<&[u8]>,
+) -> Result<Net, RunFault>
+    ensures net { IfOk result (IsNetOfPricedTree sources.now (option_copied prices.entry)) }
+    ensures fault { IfErr result (IsRefusedOr (IsRefusedPricedTree sources.now (option_copied prices.entry))) }
+{
+    let net = net_of(rt, alloc, sources, workers)?;
+    with_prices(net, prices)
+}
