@@ -1,4 +1,4 @@
-pub mod ImportedTexts
+pub mod KeptTexts
 pub mod Declarers
 pub mod ExternalOrder
 pub mod ExternalTexts

@@ -22,8 +22,8 @@ use Rattle.ob_scope.proofs.Elements.{slice_there, some_one}
 use Rattle.ob_types.specs.World.{text}
 use Rattle.scip_symbol.specs.SymbolTexts.{plain_descriptor_text}
 use Rattle.scip_symbol.specs.declared.kind.DescriptorKind.TheVariants.{Term}
-use Rattle.ob_emit.specs.Made.{front_text, path_text}
-use Rattle.ob_emit.specs.Symbols.{declared_symbol, descriptor, scheme, external_symbol, is_local, module_path, module_symbol, package_of}
+use Rattle.ob_emit.specs.Made.{front_text, named_symbol, path_text}
+use Rattle.ob_emit.specs.Symbols.{declared_symbol, descriptor, scheme, is_local, module_path, module_symbol, package_of}
 use Rattle.ob_emit.proofs.Paths.{text_more}
 use Rattle.scip_symbol.specs.SymbolTexts.{Global, plain_text}
 
@@ -120,11 +120,11 @@ module_text_is w p item i front out e f is =
     ap Some (is ∙ ap (λ (x : List ℕ). x ++ path_text (module_path (text w i.imported))) f)
     ∙ sym (ap (λ (o : Option Import). option_map plain_text (option_map (λ (j : Import). Global scheme [] (package_of w p item) [] (module_path (text w j.imported))) o)) e)
 
-pub external_text_is : (w : World) (item name : ℕ) (i : Import) (front mid out : List ℕ) → slice_get w.rows.imports item ≡ Some i → front ≡ front_text []
-    → mid ≡ front ++ path_text (module_path (text w i.imported)) → out ≡ mid ++ plain_descriptor_text (descriptor Term (text w name)) → Some out ≡ option_map plain_text (external_symbol w item name)
+pub external_text_is : (w : World) (item : ℕ) (name : List ℕ) (i : Import) (front mid out : List ℕ) → slice_get w.rows.imports item ≡ Some i → front ≡ front_text []
+    → mid ≡ front ++ path_text (module_path (text w i.imported)) → out ≡ mid ++ plain_descriptor_text (descriptor Term name) → Some out ≡ option_map plain_text (named_symbol w item name)
 external_text_is w item name i front mid out e f is more =
     let m = module_path (text w i.imported) in
-    let d = descriptor Term (text w name) in
+    let d = descriptor Term name in
     let whole : out ≡ front_text [] ++ path_text (m ++ d ∷ []) =
     more ∙ (ap (λ (x : List ℕ). x ++ plain_descriptor_text d) (is ∙ ap (λ (x : List ℕ). x ++ path_text m) f)
     ∙ (append_assoc (front_text []) (path_text m) (plain_descriptor_text d) ∙ ap (λ (x : List ℕ). front_text [] ++ x) (sym (text_more m d)))) in

@@ -1,16 +1,23 @@
 -- What the texts of symbols are made from.
-use Rattle.std.specs.Prelude.{◌≡◌, ◌<◌, ℕ, List, [], ◌++◌, length, map, Option, Some, None, Bool, true, false, slice_get, nat_eq, ◌&&◌, String}
+use Rattle.std.specs.Prelude.{◌≡◌, ◌<◌, ℕ, List, [], ◌∷◌, ◌++◌, length, map, Option, Some, None, Bool, true, false, slice_get, nat_eq, ◌&&◌, String}
 use Rattle.std.specs.List.{flat_map}
 use Rattle.std.specs.Option.{option_map}
 use Rattle.std.specs.String.{string_bytes}
+use Rattle.std.specs.Str.{bytes_eq}
+use Rattle.std.specs.Borrow.{Bor}
 use Rattle.std.specs.declared.alloc.Global.{Global}
 use Rattle.indexmap.specs.IndexMap.{get, IndexMap}
 use Rattle.ob_decls.specs.declared.rows.Declared.{Declared}
-use Rattle.ob_types.specs.World.{World}
-use Rattle.scip_symbol.specs.SymbolTexts.{PlainDescriptor, parts_text, plain_descriptor_text, plain_text}
+use Rattle.ob_decls.specs.declared.rows.Import.{Import}
+use Rattle.ob_decls.specs.Declaring.{own_name}
+use Rattle.ob_types.specs.World.{World, text}
+use Rattle.scip_symbol.specs.SymbolTexts.{PlainDescriptor, PlainSymbol, parts_text, plain_descriptor_text, plain_text}
+use Rattle.scip_symbol.specs.declared.kind.DescriptorKind.TheVariants.{Term}
 use Rattle.ob_emit.specs.declared.steps.StepRow.{StepRow}
+use Rattle.ob_emit.specs.declared.fronts.Fronts.{Fronts}
+use Rattle.ob_emit.specs.declared.outer_texts.Outer.{Outer}
 use Rattle.ob_emit.specs.declared.own_texts.Texts.{Texts}
-use Rattle.ob_emit.specs.Symbols.{Step, descriptor, imported_symbol, scheme, symbol_at}
+use Rattle.ob_emit.specs.Symbols.{Step, descriptor, global, imported_symbol, module_path, module_symbol, scheme, symbol_at}
 use Rattle.ob_emit.specs.Named.{IsName}
 
 -- a step as clauses see it
@@ -43,18 +50,53 @@ pub record AreMade (w : World) (package_name : List ℕ) (count : ℕ) (made : L
 abbrev pub front_text : List ℕ → List ℕ
 front_text package_name = parts_text scheme [] package_name []
 
+-- what stands there where the tree is in this package
+pub record AreFronts (package_name : List ℕ) (f : Fronts) : Type 0 where
+  pub tree : string_bytes f.tree ≡ front_text package_name
+  pub outside : string_bytes f.outside ≡ front_text []
+
+-- ---- texts by what they stand for
+
+-- each text is the one that its key has
+abbrev pub AreKept : {K S : Type 0} → (K → K → Bool) → (K → Option (List ℕ)) → IndexMap K (Option (String Global)) S → Type 0
+AreKept same text_of texts = (key : _) (text : Option (String Global)) → get same texts key ≡ Some text → option_map string_bytes text ≡ text_of key
+
 -- places of modules, with places of declarations in them, that are one
 abbrev pub same_place : ℕ × ℕ → ℕ × ℕ → Bool
 same_place a b = nat_eq a.0 b.0 && nat_eq a.1 b.1
 
 -- texts of what other modules declare, by the places of the module and of the declaration
 abbrev pub AreImported : {S : Type 0} → World → List ℕ → IndexMap (ℕ × ℕ) (Option (String Global)) S → Type 0
-AreImported w package_name texts =
-    (key : ℕ × ℕ) (text : Option (String Global)) → get same_place texts key ≡ Some text → option_map string_bytes text ≡ option_map plain_text (imported_symbol w package_name key.0 key.1)
+AreImported w package_name texts = AreKept same_place (λ (key : ℕ × ℕ). option_map plain_text (imported_symbol w package_name key.0 key.1)) texts
+
+-- texts of modules, by the places of the import items that name them
+abbrev pub AreModules : {S : Type 0} → World → List ℕ → IndexMap ℕ (Option (String Global)) S → Type 0
+AreModules w package_name texts = AreKept nat_eq (λ (item : ℕ). option_map plain_text (module_symbol w package_name item)) texts
+
+-- the symbol of a name of a module that isn't in the tree, by the import item that names the module and the name's text
+abbrev pub named_symbol : World → ℕ → List ℕ → Option PlainSymbol
+named_symbol w item name = option_map (λ (i : Import). global [] (module_path (text w i.imported) ++ descriptor Term name ∷ [])) (slice_get w.rows.imports item)
+
+-- the place of an import item and a name
+abbrev pub NameKey : Type 0
+NameKey = ℕ × Bor (List ℕ)
+
+abbrev pub same_name : NameKey → NameKey → Bool
+same_name a b = nat_eq a.0 b.0 && bytes_eq a.1.now b.1.now
+
+-- texts of names of modules that aren't in the tree, by the places of the import items and by the names
+abbrev pub AreExternal : {S : Type 0} → World → IndexMap NameKey (Option (String Global)) S → Type 0
+AreExternal w texts = AreKept same_name (λ (key : NameKey). option_map plain_text (named_symbol w key.0 key.1.now)) texts
+
+-- the texts of what stands outside of a module, in this package
+pub record AreOuter (w : World) (package_name : List ℕ) (t : Outer) : Type 0 where
+  pub imported : AreImported w package_name t.imported
+  pub modules : AreModules w package_name t.modules
+  pub names : AreExternal w t.names
 
 -- the texts of a module's symbols in this package
 pub record AreTexts (w : World) (package_name : List ℕ) (t : Texts) : Type 0 where
-  pub front : string_bytes t.front ≡ front_text package_name
-  pub outside : string_bytes t.outside ≡ front_text []
+  pub fronts : AreFronts package_name t.fronts
+  pub own : string_bytes t.own ≡ plain_text (global package_name (module_path (text w own_name)))
   pub declared : AreMade w package_name (length w.rows.declared) (map (option_map string_bytes) (t.declared).items)
-  pub imported : AreImported w package_name t.imported
+  pub outer : AreOuter w package_name t.outer

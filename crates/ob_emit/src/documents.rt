@@ -34,7 +34,7 @@ fn is_bad(package_name: &str) -> bool
 fn occurrence_of(
     alloc: Global,
     types: &Types<'_>,
-    texts: &Texts,
+    texts: &Texts<'_>,
     lines: &Lines,
     reference: &Reference,
 ) -> Result<Option<Occurrence>, AllocError>
@@ -60,7 +60,7 @@ fn occurrence_of(
 fn occurrences(
     alloc: Global,
     types: &Types<'_>,
-    texts: &Texts,
+    texts: &Texts<'_>,
     refs: &[Reference],
 ) -> Result<Vec<Occurrence>, AllocError>
     requires in_text { AreInText types.now.bytes types.now.tokens }
@@ -83,7 +83,7 @@ fn occurrences(
 fn symbol_row(
     alloc: Global,
     types: &Types<'_>,
-    texts: &Texts,
+    texts: &Texts<'_>,
     reference: &Reference,
 ) -> Result<Option<SymbolInfo>, AllocError>
     requires named { AreNamed types.now }
@@ -108,7 +108,7 @@ fn symbol_row(
 fn symbols(
     alloc: Global,
     types: &Types<'_>,
-    texts: &Texts,
+    texts: &Texts<'_>,
     refs: &[Reference],
 ) -> Result<Vec<SymbolInfo>, AllocError>
     requires named { AreNamed types.now }

@@ -6,8 +6,11 @@
 
 mod documents;
 mod fault;
+mod fronts;
 mod imported_texts;
 pub mod laws;
+mod module_texts;
+mod outer_texts;
 mod outside;
 mod own;
 mod own_texts;

@@ -12,10 +12,10 @@ ghost use Rattle.ob_emit.specs.Made.{front_text};
 ghost use Rattle.ob_emit.specs.Named.{AreNamed, AreOfNames, IsName};
 ghost use Rattle.std.specs.Prelude.{List, ℕ};
 
+use crate::fronts::front_text;
+use crate::module_texts::{external_text, module_text};
 use crate::own::import_at;
-use crate::own_texts::front_text;
 use crate::path::name_of;
-use crate::symbol_texts::{external_text, module_text};
 use ob_targets::{Reference, Target};
 use ob_types::Types;
 use scip_index::SymbolInfo;
@@ -67,10 +67,11 @@ fn external_name(
     requires front { outside.now ≡ front_text [] }
     ensures { IfOk result (λ s. option_map plain_symbol s ≡ external_row types.now (External item name)) }
 {
+    let name = types.text(name);
     let Some(symbol) = external_text(alloc, types, outside, item, name)? else {
         return Ok(None);
     };
-    Ok(Some(shown(alloc, symbol, types.text(name))?))
+    Ok(Some(shown(alloc, symbol, name)?))
 }
 
 /// What stands for something outside.

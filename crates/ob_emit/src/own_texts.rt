@@ -6,40 +6,28 @@ ghost use Rattle.std.specs.String.{string_bytes};
 ghost use Rattle.std.specs.Prelude.{List, ℕ};
 ghost use Rattle.scip_symbol.specs.SymbolTexts.{plain_text, PlainDescriptor};
 ghost use Rattle.ob_emit.specs.Made.{front_text, path_text, AreMade, AreTexts};
-ghost use Rattle.ob_emit.specs.Named.{AreNamed};
+ghost use Rattle.ob_emit.specs.Named.{AreNamed, AreOfNames};
 ghost use Rattle.ob_emit.specs.Symbols.{is_local, own_path, symbol_at};
 
-use crate::imported_texts::imported_texts;
+use crate::fronts::Fronts;
+use crate::module_texts::module_text;
+use crate::outer_texts::{Outer, outer_texts};
 use crate::own::is_local;
 use crate::path::path_text;
-use indexmap::IndexMap;
 use ob_decls::Declared;
 use ob_targets::Reference;
 use ob_types::Types;
-use scip_symbol::write_parts;
 use std::alloc::{AllocError, Global};
 
-/// The scheme of all symbols here.
-const SCHEME: &str = "scip-oberon";
-
-/// What the texts of a module's symbols are made of.
+/// The texts of a module's symbols in a package, and what others are made of.
 #[derive(Drop)]
-pub(crate) struct Texts {
-    /// What stands before the descriptors of the tree's symbols.
-    pub(crate) front: String,
-    /// What stands before those of symbols outside.
-    pub(crate) outside: String,
+pub(crate) struct Texts<'a> {
+    pub(crate) fronts: Fronts,
+    /// The text of the module itself.
+    pub(crate) own: String,
     /// The texts of what the module declares, by place; an import item has none.
     pub(crate) declared: Vec<Option<String>>,
-    /// The texts of what other modules declare and this one refers to, by the places of the module and of the declaration.
-    pub(crate) imported: IndexMap<(u32, u32), Option<String>>,
-}
-
-/// What stands before the descriptors of a package's symbols.
-pub(crate) fn front_text(alloc: Global, package_name: &str) -> Result<String, AllocError>
-    ensures { IfOk result (λ text. string_bytes text ≡ front_text package_name.now) }
-{
-    write_parts(alloc, SCHEME, "", package_name, "")
+    pub(crate) outer: Outer<'a>,
 }
 
 /// The text of a local symbol.
@@ -109,26 +97,28 @@ fn declared_texts(
     Ok(texts)
 }
 
-impl Texts {
+impl<'a> Texts<'a> {
     /// The texts of the symbols in a package that a module with these references needs.
     pub(crate) fn new(
         alloc: Global,
-        types: &Types<'_>,
+        types: &Types<'a>,
         refs: &[Reference],
         package_name: &str,
-    ) -> Result<Texts, AllocError>
-        requires { AreNamed types.now }
+    ) -> Result<Texts<'a>, AllocError>
+        requires named { AreNamed types.now }
+        requires of_names { AreOfNames types.now refs.now }
         ensures { IfOk result (AreTexts types.now package_name.now) }
     {
-        let front = front_text(alloc, package_name)?;
-        let outside = front_text(alloc, "")?;
-        let declared = declared_texts(alloc, types, front.as_str())?;
-        let imported = imported_texts(alloc, types, front.as_str(), refs)?;
+        let fronts = Fronts::new(alloc, package_name)?;
+        let name = types.text(types.table().own_name());
+        let own = module_text(alloc, fronts.tree.as_str(), name)?;
+        let declared = declared_texts(alloc, types, fronts.tree.as_str())?;
+        let outer = outer_texts(alloc, types, &fronts, refs)?;
         Ok(Texts {
-            front,
-            outside,
+            fronts,
+            own,
             declared,
-            imported,
+            outer,
         })
     }
 }

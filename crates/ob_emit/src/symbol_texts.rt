@@ -1,54 +1,21 @@
 //! The texts of symbols.
-ghost use Rattle.std.specs.Prelude.{◌≡◌, ◌++◌, ℕ, List, IfOk, Some, [], slice_get};
+ghost use Rattle.std.specs.Prelude.{◌≡◌, ℕ, List, IfOk, Some, slice_get};
 ghost use Rattle.std.specs.Option.{option_and_then, option_map};
 ghost use Rattle.std.specs.String.{string_bytes};
-ghost use Rattle.scip_symbol.specs.SymbolTexts.{plain_text, PlainDescriptor};
+ghost use Rattle.scip_symbol.specs.SymbolTexts.{plain_text};
 ghost use Rattle.ob_targets.specs.declared.target.Target.TheVariants.{External};
-ghost use Rattle.ob_emit.specs.Made.{front_text, path_text, AreTexts};
+ghost use Rattle.ob_emit.specs.Made.{named_symbol, AreTexts};
 ghost use Rattle.ob_emit.specs.Named.{AreNamed, IsName};
-ghost use Rattle.ob_emit.specs.Symbols.{declared_symbol, external_symbol, imported_symbol, module_path, module_symbol, package_of, symbol_of};
+ghost use Rattle.ob_emit.specs.Symbols.{declared_symbol, imported_symbol, module_symbol, symbol_of};
 ghost use Rattle.ob_types.specs.World.{text};
 
 use crate::imported_texts::imported_text;
-use crate::own::{import_at, place_of};
+use crate::module_texts::{external_text, item_text};
+use crate::own::place_of;
 use crate::own_texts::Texts;
-use crate::path::{name_of, room_for};
 use ob_targets::Target;
 use ob_types::Types;
-use scip_symbol::{DescriptorKind, push_step};
 use std::alloc::{AllocError, Global};
-
-/// The text of a module's symbol.
-pub(crate) fn module_text(alloc: Global, front: &str, name: &[u8]) -> Result<String, AllocError>
-    requires { IsName name.now }
-    ensures { IfOk result (λ text. string_bytes text ≡ front.now ++ path_text (module_path name.now)) }
-{
-    let mut out = String::with_capacity(alloc, room_for(front, name))?;
-    out.push_str(front)?;
-    push_step(&mut out, DescriptorKind::Namespace, name_of(name))?;
-    Ok(out)
-}
-
-/// The text of the symbol of a name of a module that isn't in the tree, behind what stands before the descriptors there.
-pub(crate) fn external_text(
-    alloc: Global,
-    types: &Types<'_>,
-    outside: &str,
-    item: u32,
-    name: u32,
-) -> Result<Option<String>, AllocError>
-    requires named { AreNamed types.now }
-    requires of_name { IsName (text types.now name) }
-    ensures { outside.now ≡ front_text [] →
-        IfOk result (λ text. option_map string_bytes text ≡ option_map plain_text (external_symbol types.now item name)) }
-{
-    let Some(import) = import_at(types, item) else {
-        return Ok(None);
-    };
-    let mut out = module_text(alloc, outside, types.text(import.imported))?;
-    push_step(&mut out, DescriptorKind::Term, name_of(types.text(name)))?;
-    Ok(Some(out))
-}
 
 /// A text, if there is one, once more.
 fn copied(text: &Option<String>) -> Result<Option<String>, AllocError>
@@ -60,7 +27,7 @@ fn copied(text: &Option<String>) -> Result<Option<String>, AllocError>
     }
 }
 
-impl Texts {
+impl Texts<'_> {
     /// The text of the symbol of the declaration at a place among all.
     fn text_at(&self, at: usize) -> Option<&String>
         ensures { option_map (λ text. string_bytes text.now) result ≡ option_and_then (option_map string_bytes) (slice_get self.now.declared.items at) }
@@ -99,19 +66,15 @@ impl Texts {
         ensures { (package_name : List ℕ) → AreTexts types.now package_name self.now →
             IfOk result (λ text. option_map string_bytes text ≡ option_map plain_text (imported_symbol types.now package_name reached declaration)) }
     {
-        match self.imported.get(&(reached, declaration)) {
+        match self.outer.imported.get(&(reached, declaration)) {
             Some(text) => copied(text),
-            None => imported_text(alloc, types, self.front.as_str(), reached, declaration),
-        }
-    }
-
-    /// What stands before the descriptors of the module that an import item names.
-    fn front_of(&self, types: &Types<'_>, item: u32) -> &str
-        ensures { (package_name : List ℕ) → AreTexts types.now package_name self.now → result.now ≡ front_text (package_of types.now package_name item) }
-    {
-        match types.home(item) {
-            Some(_) => self.front.as_str(),
-            None => self.outside.as_str(),
+            None => imported_text(
+                alloc,
+                types,
+                self.fronts.tree.as_str(),
+                reached,
+                declaration,
+            ),
         }
     }
 
@@ -126,15 +89,29 @@ impl Texts {
         ensures { (package_name : List ℕ) → AreTexts types.now package_name self.now →
             IfOk result (λ text. option_map string_bytes text ≡ option_map plain_text (module_symbol types.now package_name item)) }
     {
-        let Some(import) = import_at(types, item) else {
-            return Ok(None);
-        };
-        let text = module_text(
-            alloc,
-            self.front_of(types, item),
-            types.text(import.imported),
-        )?;
-        Ok(Some(text))
+        match self.outer.modules.get(&item) {
+            Some(text) => copied(text),
+            None => item_text(alloc, types, &self.fronts, item),
+        }
+    }
+
+    /// The text of the symbol of a name of a module that isn't in the tree.
+    fn external(
+        &self,
+        alloc: Global,
+        types: &Types<'_>,
+        item: u32,
+        name: &[u8],
+    ) -> Result<Option<String>, AllocError>
+        requires named { AreNamed types.now }
+        requires of_name { IsName name.now }
+        ensures { (package_name : List ℕ) → AreTexts types.now package_name self.now →
+            IfOk result (λ text. option_map string_bytes text ≡ option_map plain_text (named_symbol types.now item name.now)) }
+    {
+        match self.outer.names.get(&(item, name)) {
+            Some(text) => copied(text),
+            None => external_text(alloc, types, self.fronts.outside.as_str(), item, name),
+        }
     }
 
     /// The text of the symbol of what an identifier stands for, if that has one.
@@ -155,14 +132,8 @@ impl Texts {
                 reached,
                 declaration,
             } => self.imported(alloc, types, reached, declaration),
-            Target::External { item, name } => {
-                external_text(alloc, types, self.outside.as_str(), item, name)
-            }
-            Target::Own => Ok(Some(module_text(
-                alloc,
-                self.front.as_str(),
-                types.text(types.table().own_name()),
-            )?)),
+            Target::External { item, name } => self.external(alloc, types, item, types.text(name)),
+            Target::Own => Ok(Some(self.own.clone()?)),
             Target::Module(item) => self.module(alloc, types, item),
             Target::Predeclared | Target::Unresolved => Ok(None),
         }

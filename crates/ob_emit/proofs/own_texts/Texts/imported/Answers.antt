@@ -8,7 +8,7 @@ use Rattle.ob_emit.proofs.own_texts.Texts.imported.Goals as goal
 pub returns-in-Some : goal.returns-in-Some
 returns-in-Some c = λ p made.
     subst (λ (t : Option (List ℕ)). IfOk c.copied.result (λ (more : Option (String Global)). option_map string_bytes more ≡ t))
-    (made.imported (c.args.reached, c.args.declaration) c.in-Some.text.now (sym c.in-Some.ensures.value)) c.copied.ensures
+    (made.outer.imported (c.args.reached, c.args.declaration) c.in-Some.text.now (sym c.in-Some.ensures.value)) c.copied.ensures
 
 pub returns-in-None : goal.returns-in-None
-returns-in-None c = λ p made. c.imported_text.ensures p (c.as_str.ensures.value ∙ made.front)
+returns-in-None c = λ p made. c.imported_text.ensures p (c.as_str.ensures.value ∙ made.fronts.tree)

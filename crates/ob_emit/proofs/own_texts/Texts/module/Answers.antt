@@ -1,25 +1,14 @@
--- The module's text.
-use Rattle.std.proofs.Common.{◌≡◌, ◌++◌, ℕ, List, Some, sym, ap, ◌∙◌, subst}
-use Rattle.std.specs.Borrow.{Bor}
-use Rattle.std.specs.Prelude.{slice_get}
+-- The text that was kept, or one that is made.
+use Rattle.std.proofs.Common.{◌≡◌, ℕ, List, Option, String, Global, sym, subst}
+use Rattle.std.specs.Prelude.{IfOk}
 use Rattle.std.specs.Option.{option_map}
 use Rattle.std.specs.String.{string_bytes}
-use Rattle.ob_decls.specs.declared.rows.Import.{Import}
-use Rattle.ob_emit.specs.Named.{IsName}
-use Rattle.ob_emit.proofs.Naming.{import_named}
-use Rattle.ob_emit.specs.Symbols.{module_path}
-use Rattle.ob_emit.specs.Made.{path_text}
-use Rattle.ob_emit.proofs.Texting.{module_text_is}
 use Rattle.ob_emit.proofs.own_texts.Texts.«module».Goals as goal
 
-pub module_text-requires : goal.module_text-requires
-module_text-requires c =
-    let there : slice_get c.args.types.now.rows.imports c.args.item ≡ Some c.in-Some.import.now = sym c.import_at.ensures ∙ ap (option_map (λ (i : Bor Import). i.now)) c.in-Some.is in
-    subst IsName (sym c.text.ensures) (import_named c.args.types.now c.requires c.in-Some.import.now c.args.item there)
+pub returns-in-Some : goal.returns-in-Some
+returns-in-Some c = λ p made.
+    subst (λ (t : Option (List ℕ)). IfOk c.copied.result (λ (more : Option (String Global)). option_map string_bytes more ≡ t))
+    (made.outer.modules c.args.item c.in-Some.text.now (sym c.in-Some.ensures.value)) c.copied.ensures
 
-pub returns : goal.returns
-returns c = λ p made.
-    let w = c.args.types.now in
-    let there : slice_get w.rows.imports c.args.item ≡ Some c.in-Some.import.now = sym c.import_at.ensures ∙ ap (option_map (λ (i : Bor Import). i.now)) c.in-Some.is in
-    module_text_is w p c.args.item c.in-Some.import.now c.front_of.result.now (string_bytes c.in_ok-text.text) there (c.front_of.ensures p made)
-    (c.in_ok-text.ensures ∙ ap (λ (x : List ℕ). c.front_of.result.now ++ path_text (module_path x)) c.text.ensures)
+pub returns-in-None : goal.returns-in-None
+returns-in-None c = λ p made. c.item_text.ensures p made.fronts

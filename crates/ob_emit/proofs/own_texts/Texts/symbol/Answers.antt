@@ -1,12 +1,15 @@
 -- What each kind of target has.
-use Rattle.std.proofs.Common.{sym, ap, ◌∙◌, subst}
-use Rattle.ob_types.specs.World.{text}
+use Rattle.std.proofs.Common.{◌≡◌, ℕ, List, Some, Option, String, Global, sym, ap, ◌∙◌, subst}
+use Rattle.std.specs.Prelude.{IfOk}
+use Rattle.std.specs.Option.{option_map}
+use Rattle.std.specs.String.{string_bytes}
+use Rattle.ob_emit.specs.Made.{named_symbol}
 use Rattle.ob_emit.specs.Named.{IsName}
-use Rattle.ob_emit.proofs.Naming.{own_named}
+use Rattle.scip_symbol.specs.SymbolTexts.{plain_text}
 use Rattle.ob_emit.proofs.own_texts.Texts.symbol.Goals as goal
 
-pub module_text-requires : goal.module_text-requires
-module_text-requires c = subst IsName (sym (c.text.ensures ∙ ap (text c.args.types.now) c.own_name.ensures)) (own_named c.args.types.now c.requires.named)
+pub external-requires-clause-of_name : goal.external-requires-clause-of_name
+external-requires-clause-of_name c = subst IsName (sym c.text.ensures) (c.requires.external c.in-External.item c.in-External.name c.in-External.is)
 
 pub returns-in-Declared : goal.returns-in-Declared
 returns-in-Declared c = λ p made. rw c.in-Declared.is (c.declared.ensures p made)
@@ -15,7 +18,10 @@ pub returns-in-Imported : goal.returns-in-Imported
 returns-in-Imported c = λ p made. rw c.in-Imported.is (c.imported.ensures p made)
 
 pub returns-in-External : goal.returns-in-External
-returns-in-External c = λ p made. rw c.in-External.is (c.external_text.ensures (c.as_str.ensures.value ∙ made.outside))
+returns-in-External c = λ p made.
+    rw c.in-External.is
+    (subst (λ (n : List ℕ). IfOk c.external.result (λ (t : Option (String Global)). option_map string_bytes t ≡ option_map plain_text (named_symbol c.args.types.now c.in-External.item n))) c.text.ensures
+    (c.external.ensures p made))
 
 pub returns-in-Module : goal.returns-in-Module
 returns-in-Module c = λ p made. rw c.in-Module.is (c.module.ensures p made)

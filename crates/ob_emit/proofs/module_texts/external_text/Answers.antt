@@ -12,7 +12,7 @@ use Rattle.ob_emit.specs.Made.{path_text}
 use Rattle.scip_symbol.specs.SymbolTexts.{plain_descriptor_text}
 use Rattle.scip_symbol.specs.declared.kind.DescriptorKind.TheVariants.{Term}
 use Rattle.ob_emit.proofs.Texting.{external_text_is}
-use Rattle.ob_emit.proofs.symbol_texts.external_text.Goals as goal
+use Rattle.ob_emit.proofs.module_texts.external_text.Goals as goal
 
 pub module_text-requires : goal.module_text-requires
 module_text-requires c =
@@ -23,7 +23,7 @@ pub returns : goal.returns
 returns c = λ front.
     let w = c.args.types.now in
     let there : slice_get w.rows.imports c.args.item ≡ Some c.in-Some.import.now = sym c.import_at.ensures ∙ ap (option_map (λ (i : Bor Import). i.now)) c.in-Some.is in
-    external_text_is w c.args.item c.args.name c.in-Some.import.now c.args.outside.now (string_bytes c.in_ok-out.out) (string_bytes c.push_step.new.out) there
+    external_text_is w c.args.item c.args.name.now c.in-Some.import.now c.args.outside.now (string_bytes c.in_ok-out.out) (string_bytes c.push_step.new.out) there
     front
     (c.in_ok-out.ensures ∙ ap (λ (x : List ℕ). c.args.outside.now ++ path_text (module_path x)) c.text.ensures)
-    (c.in_ok-push_step.ensures ∙ ap (λ (x : List ℕ). string_bytes c.in_ok-out.out ++ plain_descriptor_text (descriptor Term x)) (c.name_of.ensures ∙ c.text-2.ensures))
+    (c.in_ok-push_step.ensures ∙ ap (λ (x : List ℕ). string_bytes c.in_ok-out.out ++ plain_descriptor_text (descriptor Term x)) c.name_of.ensures)

@@ -1,6 +1,6 @@
 -- One text more, or all as it was.
-use Rattle.ob_emit.proofs.ImportedTexts.{imported_more}
-use Rattle.ob_emit.proofs.imported_texts.add_text.Goals as goal
+use Rattle.ob_emit.proofs.KeptTexts.{imported_more}
+use Rattle.ob_emit.proofs.outer_texts.add_imported.Goals as goal
 
 pub returns : goal.returns
 returns c = λ p front before.

@@ -1,0 +1,48 @@
+//! What stands before the descriptors of symbols.
+ghost use Rattle.std.specs.Prelude.{◌≡◌, IfOk, List, ℕ};
+ghost use Rattle.std.specs.String.{string_bytes};
+ghost use Rattle.ob_emit.specs.Made.{front_text, AreFronts};
+ghost use Rattle.ob_emit.specs.Symbols.{package_of};
+
+use ob_types::Types;
+use scip_symbol::write_parts;
+use std::alloc::{AllocError, Global};
+
+/// The scheme of all symbols here.
+const SCHEME: &str = "scip-oberon";
+
+/// What stands before the descriptors of symbols in the tree's package and outside.
+#[derive(Drop)]
+pub(crate) struct Fronts {
+    pub(crate) tree: String,
+    pub(crate) outside: String,
+}
+
+/// What stands before the descriptors of a package's symbols.
+pub(crate) fn front_text(alloc: Global, package_name: &str) -> Result<String, AllocError>
+    ensures { IfOk result (λ text. string_bytes text ≡ front_text package_name.now) }
+{
+    write_parts(alloc, SCHEME, "", package_name, "")
+}
+
+impl Fronts {
+    /// What stands there where the tree is in this package.
+    pub(crate) fn new(alloc: Global, package_name: &str) -> Result<Fronts, AllocError>
+        ensures { IfOk result (AreFronts package_name.now) }
+    {
+        Ok(Fronts {
+            tree: front_text(alloc, package_name)?,
+            outside: front_text(alloc, "")?,
+        })
+    }
+
+    /// What stands before the descriptors of the module that an import item names.
+    pub(crate) fn front_of(&self, types: &Types<'_>, item: u32) -> &str
+        ensures { (package_name : List ℕ) → AreFronts package_name self.now → result.now ≡ front_text (package_of types.now package_name item) }
+    {
+        match types.home(item) {
+            Some(_) => self.tree.as_str(),
+            None => self.outside.as_str(),
+        }
+    }
+}

@@ -1,0 +1,69 @@
+//! The texts of the symbols of modules, and of names of modules that aren't in the tree.
+ghost use Rattle.std.specs.Prelude.{◌≡◌, ◌++◌, ℕ, List, IfOk, []};
+ghost use Rattle.std.specs.Option.{option_map};
+ghost use Rattle.std.specs.String.{string_bytes};
+ghost use Rattle.scip_symbol.specs.SymbolTexts.{plain_text};
+ghost use Rattle.ob_emit.specs.Made.{front_text, named_symbol, path_text, AreFronts};
+ghost use Rattle.ob_emit.specs.Named.{AreNamed, IsName};
+ghost use Rattle.ob_emit.specs.Symbols.{module_path, module_symbol};
+
+use crate::fronts::Fronts;
+use crate::own::import_at;
+use crate::path::{name_of, room_for};
+use ob_types::Types;
+use scip_symbol::{DescriptorKind, push_step};
+use std::alloc::{AllocError, Global};
+
+/// The text of a module's symbol.
+pub(crate) fn module_text(alloc: Global, front: &str, name: &[u8]) -> Result<String, AllocError>
+    requires { IsName name.now }
+    ensures { IfOk result (λ text. string_bytes text ≡ front.now ++ path_text (module_path name.now)) }
+{
+    let mut out = String::with_capacity(alloc, room_for(front, name))?;
+    out.push_str(front)?;
+    push_step(&mut out, DescriptorKind::Namespace, name_of(name))?;
+    Ok(out)
+}
+
+/// The text of the symbol of the module that an import item names.
+pub(crate) fn item_text(
+    alloc: Global,
+    types: &Types<'_>,
+    fronts: &Fronts,
+    item: u32,
+) -> Result<Option<String>, AllocError>
+    requires { AreNamed types.now }
+    ensures { (package_name : List ℕ) → AreFronts package_name fronts.now →
+        IfOk result (λ text. option_map string_bytes text ≡ option_map plain_text (module_symbol types.now package_name item)) }
+{
+    let Some(import) = import_at(types, item) else {
+        return Ok(None);
+    };
+    let text = module_text(
+        alloc,
+        fronts.front_of(types, item),
+        types.text(import.imported),
+    )?;
+    Ok(Some(text))
+}
+
+/// The text of the symbol of a name of a module that isn't in the tree, behind what stands before the descriptors there.
+pub(crate) fn external_text(
+    alloc: Global,
+    types: &Types<'_>,
+    outside: &str,
+    item: u32,
+    name: &[u8],
+) -> Result<Option<String>, AllocError>
+    requires named { AreNamed types.now }
+    requires of_name { IsName name.now }
+    ensures { outside.now ≡ front_text [] →
+        IfOk result (λ text. option_map string_bytes text ≡ option_map plain_text (named_symbol types.now item name.now)) }
+{
+    let Some(import) = import_at(types, item) else {
+        return Ok(None);
+    };
+    let mut out = module_text(alloc, outside, types.text(import.imported))?;
+    push_step(&mut out, DescriptorKind::Term, name_of(name))?;
+    Ok(Some(out))
+}
