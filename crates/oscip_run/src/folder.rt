@@ -5,7 +5,7 @@ ghost use Rattle.oscip_run.specs.Files.{AreFronts, IsFrontOfModule};
 ghost use Rattle.oscip_tree.specs.Sources.{AreInOrder};
 
 use crate::RunFault;
-use crate::reading::{ReadFault, cannot_read, fault_at, read_front};
+use crate::files::{ReadFault, cannot_read, fault_at, read_front};
 use oscip_tree::{Source, in_order};
 use std::alloc::{AllocError, Global};
 use std::fs::ReadDir;

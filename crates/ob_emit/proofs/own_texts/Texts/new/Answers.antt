@@ -14,9 +14,9 @@ pub returns : goal.returns
 returns c = record {
   fronts = c.in_ok-fronts.ensures;
   own =
-    c.in_ok-own.ensures
-    ∙ (ap (λ (x : List ℕ). x ++ path_text (module_path c.text-name.result.now)) (c.as_str.ensures.value ∙ c.in_ok-fronts.ensures.tree)
-    ∙ ap (λ (x : List ℕ). front_text c.args.package_name.now ++ path_text (module_path x)) (c.text-name.ensures ∙ ap (text c.args.types.now) c.own_name.ensures));
+      c.in_ok-own.ensures
+      ∙ (ap (λ (x : List ℕ). x ++ path_text (module_path c.text-name.result.now)) (c.as_str.ensures.value ∙ c.in_ok-fronts.ensures.tree)
+      ∙ ap (λ (x : List ℕ). front_text c.args.package_name.now ++ path_text (module_path x)) (c.text-name.ensures ∙ ap (text c.args.types.now) c.own_name.ensures));
   declared = c.in_ok-declared.ensures c.args.package_name.now (c.as_str-2.ensures.value ∙ c.in_ok-fronts.ensures.tree);
   outer = c.in_ok-outer.ensures c.args.package_name.now c.in_ok-fronts.ensures;
 }

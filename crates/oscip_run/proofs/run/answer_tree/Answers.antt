@@ -2,7 +2,7 @@ use Rattle.std.proofs.lemmas.Result.{err_from_is_err_and}
 use Rattle.std.specs.Prelude.{option_copied}
 use Rattle.oscip_run.specs.PricedInputs.{IsNetOfPricedTree, IsRefusedPricedTree}
 use Rattle.oscip_run.proofs.JobRuns.{refused_cut}
-use Rattle.oscip_run.proofs.answering.answer_tree.Goals as goal
+use Rattle.oscip_run.proofs.run.answer_tree.Goals as goal
 
 pub returns-in_err-cut_tree-in-Cut-clause-run : goal.returns-in_err-cut_tree-in-Cut-clause-run
 returns-in_err-cut_tree-in-Cut-clause-run g c =

@@ -2,7 +2,7 @@ use Rattle.std.proofs.lemmas.Result.{err_from_is_err_and}
 use Rattle.std.specs.Prelude.{option_copied}
 use Rattle.oscip_run.specs.PricedInputs.{IsNetOfPricedText, IsRefusedPricedText}
 use Rattle.oscip_run.proofs.JobRuns.{refused_cut}
-use Rattle.oscip_run.proofs.answering.answer.Goals as goal
+use Rattle.oscip_run.proofs.run.answer.Goals as goal
 
 pub returns-in_err-cut_net_bytes-in-CutNet-clause-run : goal.returns-in_err-cut_net_bytes-in-CutNet-clause-run
 returns-in_err-cut_net_bytes-in-CutNet-clause-run g c =
