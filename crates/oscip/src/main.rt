@@ -41,6 +41,35 @@ fn report_of<R: Files + AllocGlobal>(rt: &R, job: &Job) -> Result<Vec<u8>, RunFa
     }
 }
 
+/// The bytes of a file, where one is named.
+fn read_named<R: Files + AllocGlobal>(
+    rt: &R,
+    path: &Option<String>,
+) -> Result<Option<Vec<u8>>, RunFault> {
+    match path {
+        Some(path) => Ok(Some(read_file(rt, path.as_str())?)),
+        None => Ok(None),
+    }
+}
+
+/// The bytes of the job's prices, where it has any.
+fn prices_of<R: Files + AllocGlobal>(rt: &R, job: &Job) -> Result<Option<Vec<u8>>, RunFault> {
+    match job {
+        Job::Cut { prices, .. }
+        | Job::Check { prices, .. }
+        | Job::CutNet { prices, .. }
+        | Job::CheckNet { prices, .. }
+        | Job::Dot { prices, .. }
+        | Job::DotNet { prices, .. } => read_named(rt, prices),
+        Job::Crossings { .. }
+        | Job::Def(_)
+        | Job::Refs(_)
+        | Job::Index(_)
+        | Job::Unresolved { .. } => Ok(None),
+    }
+}
+
+/// Runs a job on the lines of a network. Its files are read in the order of the words, and its prices last.
 fn run_net<R: Files + AllocGlobal + Print + Threads + Wait + Sync>(
     rt: &R,
     job: &Job,
@@ -51,6 +80,7 @@ fn run_net<R: Files + AllocGlobal + Print + Threads + Wait + Sync>(
 {
     let network = read_file(rt, network)?;
     let report = report_of(rt, job)?;
+    let prices = prices_of(rt, job)?;
     let mut sink = ToWrite::new(io::writer(rt));
     answer(
         rt,
@@ -59,10 +89,12 @@ fn run_net<R: Files + AllocGlobal + Print + Threads + Wait + Sync>(
         network.as_slice(),
         report.as_slice(),
         &OpenGate,
+        prices.as_ref().map(|prices| prices.as_slice()),
         &mut sink,
     )
 }
 
+/// Runs a job on the modules of a folder. Its files are read in the order of the words, and its prices last.
 fn run_tree<R: Files + AllocGlobal + Print + Threads + Wait + Sync + Clone + Drop>(
     rt: &R,
     job: &Job,
@@ -73,6 +105,7 @@ fn run_tree<R: Files + AllocGlobal + Print + Threads + Wait + Sync + Clone + Dro
 {
     let sources = sources_of(rt, folder)?;
     let report = report_of(rt, job)?;
+    let prices = prices_of(rt, job)?;
     let mut sink = ToWrite::new(io::writer(rt));
     answer_tree(
         rt,
@@ -81,6 +114,7 @@ fn run_tree<R: Files + AllocGlobal + Print + Threads + Wait + Sync + Clone + Dro
         sources.as_slice(),
         report.as_slice(),
         &OpenGate,
+        prices.as_ref().map(|prices| prices.as_slice()),
         &mut sink,
     )
 }
@@ -173,7 +207,7 @@ fn run_unresolved<R: Files + AllocGlobal + Print + Threads + Sync + Clone + Drop
     Ok(true)
 }
 
-/// Runs the job on the real standard output. Its files are read in the order of the words.
+/// Runs the job on the real standard output. Its files are read in the order of the words, and its prices last.
 fn run_job<R: Files + AllocGlobal + Print + Threads + Wait + Sync + Clone + Drop>(
     rt: &R,
     job: &Job,

@@ -26,8 +26,9 @@ fn cut_net_job<R: AllocGlobal + Threads + Wait + Sync, G: Gate + Sync>(
         from,
         to,
         workers: 8,
+        prices: None,
     };
-    let end = answer(rt, rt.alloc(), &job, SIX, b"", gate, out);
+    let end = answer(rt, rt.alloc(), &job, SIX, b"", gate, None, out);
     answer_told(rt.alloc(), &end)
 }
 
@@ -47,8 +48,9 @@ fn cut_job<R: Abort + AllocGlobal + Threads + Wait + Sync, G: Gate + Sync>(
         from,
         to,
         workers: 8,
+        prices: None,
     };
-    let end = answer_tree(rt, rt.alloc(), &job, sources, b"", gate, out);
+    let end = answer_tree(rt, rt.alloc(), &job, sources, b"", gate, None, out);
     answer_told(rt.alloc(), &end)
 }
 

@@ -18,7 +18,7 @@ fn net_cut<R: AllocGlobal + Threads + Wait + Sync>(
     rt: &R,
     sink: &mut ByOne,
 ) -> Result<String, AllocError> {
-    let end = cut_net_bytes(rt, rt.alloc(), SIX, "A", "B", 2, &OpenGate, sink);
+    let end = cut_net_bytes(rt, rt.alloc(), SIX, "A", "B", 2, &OpenGate, None, sink);
     end_told(rt.alloc(), &end)
 }
 
@@ -29,19 +29,19 @@ fn tree_cut<R: Abort + AllocGlobal + Threads + Wait + Sync>(
     sink: &mut ByOne,
 ) -> Result<String, AllocError> {
     assert!(rt; in_order(sources));
-    let end = cut_tree(rt, rt.alloc(), sources, "A", "D", 2, &OpenGate, sink);
+    let end = cut_tree(rt, rt.alloc(), sources, "A", "D", 2, &OpenGate, None, sink);
     end_told(rt.alloc(), &end)
 }
 
 /// The end of a check of the network.
 fn net_check(alloc: Global, sink: &mut ByOne) -> Result<String, AllocError> {
-    let end = check_net_bytes(alloc, SIX, SIX_CUT, sink);
+    let end = check_net_bytes(alloc, SIX, SIX_CUT, None, sink);
     answer_told(alloc, &end)
 }
 
 /// The end of a picture of the network.
 fn net_picture(alloc: Global, sink: &mut ByOne) -> Result<String, AllocError> {
-    let end = dot_net_bytes(alloc, SIX, SIX_CUT, sink);
+    let end = dot_net_bytes(alloc, SIX, SIX_CUT, None, sink);
     end_told(alloc, &end)
 }
 

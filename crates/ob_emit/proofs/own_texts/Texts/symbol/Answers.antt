@@ -1,5 +1,5 @@
 -- What each kind of target has.
-use Rattle.std.proofs.Common.{◌≡◌, ℕ, List, Some, Option, String, Global, sym, ap, ◌∙◌, subst}
+use Rattle.std.proofs.Common.{◌≡◌, ℕ, List, Option, String, Global, sym, subst}
 use Rattle.std.specs.Prelude.{IfOk}
 use Rattle.std.specs.Option.{option_map}
 use Rattle.std.specs.String.{string_bytes}
