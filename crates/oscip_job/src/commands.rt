@@ -127,7 +127,7 @@ fn with_prices<'a>(alloc: Global, command: Command<'a>) -> Result<Command<'a>, A
         .long("prices")
         .value_name("FILE")
         .help(
-            "The file of prices: lines `price M N k`, by which an import weighs k, and `pin M N`, by which it is not to be removed",
+            "The file of prices: lines `price M N k`, by which M's import of N weighs k, and `pin M N`, by which it is not to be removed",
         );
     command.arg(prices)
 }
