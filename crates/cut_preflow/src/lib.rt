@@ -4,7 +4,6 @@
 #![tactic(auto)]
 
 mod admissible;
-mod arcs;
 mod ends;
 mod event;
 mod excesses;
@@ -15,6 +14,7 @@ mod preflow;
 mod preflow_core;
 mod share;
 mod sides;
+mod sums;
 mod tour;
 
 pub use event::{Event, Outcome, Step};

@@ -7,11 +7,11 @@ ghost use Rattle.cut_preflow.specs.Flows.{AreEnds, AreNear, AreReached, HasFlow,
 ghost use Rattle.cut_preflow.specs.Side.{has};
 ghost use Rattle.cut_preflow.specs.Played.{state_of, outcome_of, history_after, IsSound, IsWithinLimits, flow_network};
 
-use crate::arcs::{excess, head, residual, tail};
 use crate::ends::Ends;
 use crate::excesses::{move_excess, saturate};
 use crate::node_arcs::arcs_of;
 use crate::node_set::NodeSet;
+use crate::sums::{excess, head, residual, tail};
 use crate::tour::Tour;
 use crate::{Event, Outcome, Step};
 use cut_net::{Net, Priced};

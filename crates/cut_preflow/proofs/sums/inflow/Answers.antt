@@ -2,7 +2,7 @@ use Rattle.std.proofs.Common.{◌==◌, if◌then◌else◌, slice_index, length
 use Rattle.cut_preflow.specs.Preflow.{import_in}
 use Rattle.cut_preflow.proofs.Choices.{choice_le}
 use Rattle.cut_preflow.proofs.Totals.{part_le-total}
-use Rattle.cut_preflow.proofs.arcs.inflow.Goals as goal
+use Rattle.cut_preflow.proofs.sums.inflow.Goals as goal
 
 pub overflow_add-sum : goal.overflow_add-sum
 overflow_add-sum c =
