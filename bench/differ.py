@@ -1,5 +1,6 @@
-# Compares cut-net with its definitions on small random networks, by going through all sets of imports and all sides.
-# An import is a triple: who imports, what is imported, the weight. It writes the files net and report where it is run.
+# Compares cut-net with its definitions on small random networks, half of them with prices, by going through all sets of imports and
+# all sides. An import is a triple: who imports, what is imported, the weight; a line of prices is one too, without a weight where it
+# is a pin. It writes the files net, prices and report where it is run.
 # Usage: differ.py PROGRAM SEED CASES
 import itertools, random, subprocess, sys
 
@@ -25,26 +26,40 @@ def is_cut(imports, removed, a, b):
     return b not in reached(imports - removed, a)
 
 
-def least_weight(imports, a, b):
-    """That of the cheapest set of imports that cuts a and b apart."""
-    return min(weight(removed) for removed in subsets(imports) if is_cut(imports, removed, a, b))
+def least_weight(imports, pins, a, b):
+    """That of the cheapest set of imports without a pin that cuts a and b apart."""
+    return min(weight(removed) for removed in subsets(imports) if is_cut(imports | pins, removed, a, b))
 
 
 def leaving(imports, side):
     return {i for i in imports if i[0] in side and i[1] not in side}
 
 
-def near(modules, imports, a, b):
-    """The modules that are in every side of least weight."""
-    sides = [side | {a} for side in subsets(modules - {a, b})]
+def near(modules, imports, pins, a, b):
+    """The modules that are in every side of least weight, of the sides that no pinned import leaves."""
+    sides = [side for side in (some | {a} for some in subsets(modules - {a, b})) if not leaving(pins, side)]
     weights = [weight(leaving(imports, side)) for side in sides]
     return set.intersection(*(side for side, w in zip(sides, weights) if w == min(weights)))
 
 
-def printed(modules, imports, a, b):
+def printed(modules, imports, pins, a, b):
     """Of the imports that leave the near modules, those whose imported module has a chain to b by none of these."""
-    away = leaving(imports, near(modules, imports, a, b))
-    return {i for i in away if b in reached(imports - away, i[1])}
+    away = leaving(imports, near(modules, imports, pins, a, b))
+    return {i for i in away if b in reached(imports - away | pins, i[1])}
+
+
+def chains(imports, a, b):
+    """All chains from a to b."""
+    if a == b:
+        return [[b]]
+    return [[a, *rest] for (of, to, _) in imports if of == a for rest in chains(imports, to, b)]
+
+
+def with_prices(imports, prices):
+    """The imports without a pin, with their weights, and those with one."""
+    said = {(of, to): price for of, to, price in prices}
+    pins = {i for i in imports if said.get(i[:2], 0) is None}
+    return {(of, to, said.get((of, to), amount)) for of, to, amount in imports - pins}, pins
 
 
 def front(a, b, least, removed):
@@ -52,12 +67,23 @@ def front(a, b, least, removed):
     return f"cut {a} {b}\nweight {least}\n" + "".join("remove %s %s %d\n" % i for i in sorted(removed))
 
 
-def front_by_definition(imports, a, b):
+def front_by_definition(imports, pins, a, b):
     """What is printed has to be a cheapest cut too."""
-    modules = {a, b} | {i[0] for i in imports} | {i[1] for i in imports}
-    removed, least = printed(modules, imports, a, b), least_weight(imports, a, b)
-    assert weight(removed) == least and is_cut(imports, removed, a, b)
+    modules = {a, b} | {of for of, _, _ in imports | pins} | {to for _, to, _ in imports | pins}
+    removed, least = printed(modules, imports, pins, a, b), least_weight(imports, pins, a, b)
+    assert weight(removed) == least and is_cut(imports | pins, removed, a, b)
     return front(a, b, least, removed)
+
+
+def answer_by_definition(imports, prices, a, b):
+    """The lines of a report down to the last remove line, or all that is put or told."""
+    imports, pins = with_prices(imports, prices)
+    if weight(imports) > 2**40:
+        return "oscip: PriceOverflow\nstatus 1\n"
+    blocking = chains(pins, a, b)
+    if blocking:
+        return "cut %s %s\nblocked %s\nend\n" % (a, b, " ".join(min(blocking, key=lambda chain: (len(chain), chain))))
+    return front_by_definition(imports, pins, a, b)
 
 
 def random_case():
@@ -79,21 +105,41 @@ def text_of(imports, a, b):
     return "".join(lines)
 
 
+def random_prices(imports):
+    """Lines on some of the imports."""
+    told = random.sample(sorted(imports), random.randint(0, len(imports)))
+    return [(of, to, random.choice([None, None, 0, 1, 2, 4, 2**38])) for of, to, _ in told]
+
+
+def text_of_prices(prices):
+    return "".join(f"pin {of} {to}\n" if price is None else f"price {of} {to} {price}\n" for of, to, price in prices)
+
+
 def run(program, *words):
     done = subprocess.run([program, *words], stdout=subprocess.PIPE, stderr=subprocess.STDOUT, text=True)
     return done.stdout if done.returncode == 0 else f"{done.stdout}status {done.returncode}\n"
 
 
-def is_right(program, text, wanted, a, b):
-    with open("net", "w") as file:
+def write(path, text):
+    with open(path, "w") as file:
         file.write(text)
-    report = run(program, "cut-net", "net", a, b)
-    with open("report", "w") as file:
-        file.write(report)
-    verdict = run(program, "check-net", "net", "report")
-    if report.startswith(wanted) and report[len(wanted) :].startswith(("flow ", "end\n")) and verdict == "yes\n":
+
+
+def is_like(report, wanted):
+    return report == wanted or report.startswith(wanted) and report[len(wanted) :].startswith(("flow ", "end\n"))
+
+
+def is_right(program, text, wanted, a, b, prices=None):
+    write("net", text)
+    write("prices", prices or "")
+    option = [] if prices is None else ["--prices", "prices"]
+    report = run(program, "cut-net", *option, "net", a, b)
+    write("report", report)
+    is_refused = wanted.startswith("oscip: ")
+    verdict = "yes\n" if is_refused else run(program, "check-net", *option, "net", "report")
+    if is_like(report, wanted) and verdict == "yes\n":
         return True
-    print(f"Of the network\n{text}wanted\n{wanted}got\n{report}of which check-net says\n{verdict}", end="")
+    print(f"Of the network\n{text}with the prices\n{prices}\nwanted\n{wanted}got\n{report}of which check-net says\n{verdict}", end="")
     return False
 
 
@@ -115,17 +161,21 @@ def main():
     random.seed(seed)
     for text, a, b, least, removed in KNOWN:
         imports, wanted = triples(text), front(a, b, least, triples(removed))
-        assert front_by_definition(imports, a, b) == wanted
+        assert front_by_definition(imports, set(), a, b) == wanted
         if not is_right(program, text_of(imports, a, b), wanted, a, b):
             return 1
-    zeros = 0
-    for _ in range(cases):
+    zeros = blocked = refused = 0
+    for at in range(cases):
         imports, a, b = random_case()
-        wanted = front_by_definition(imports, a, b)
-        zeros += " 0\n" in wanted.split("\n", 2)[2]
-        if not is_right(program, text_of(imports, a, b), wanted, a, b):
+        prices = random_prices(imports) if at % 2 else None
+        wanted = front_by_definition(imports, set(), a, b) if prices is None else answer_by_definition(imports, prices, a, b)
+        zeros += any(line.startswith("remove ") and line.endswith(" 0") for line in wanted.split("\n"))
+        blocked += "\nblocked " in wanted
+        refused += wanted.startswith("oscip: ")
+        if not is_right(program, text_of(imports, a, b), wanted, a, b, None if prices is None else text_of_prices(prices)):
             return 1
-    print(f"{len(KNOWN)} networks by hand and {cases} of seed {seed}: all right; {zeros} remove an import of weight 0")
+    print(f"{len(KNOWN)} networks by hand and {cases} of seed {seed}: all right; {zeros} remove an import of weight 0, "
+          f"{blocked} are blocked, and {refused} cost too much")
     return 0
 
 

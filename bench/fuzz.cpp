@@ -61,7 +61,7 @@ const Words TOKENS = {
     "ARRAY", "BEGIN", "BY", "CASE", "CONST", "DIV", "DO", "ELSE", "ELSIF", "END", "FALSE", "FOR", "IF", "IMPORT", "IN", "IS", "MOD", "MODULE", "NIL", "OF",
     "OR", "POINTER", "PROCEDURE", "RECORD", "REPEAT", "RETURN", "THEN", "TO", "TRUE", "TYPE", "UNTIL", "VAR", "WHILE", "(*", "*)", "(", ")", "[", "]", "{",
     "}", ":=", "^", "=", "#", "<=", ">=", "..", ":", ";", ",", ".", "|", "~", "&", "*", "\"", "1E5", "0FFH", "22X", "1.5E-3", "A", "B", "x",
-    "SET", "import ", "module ", "cut ", "weight ", "remove ", "flow ", "end\n", "\n", "\r\n", "\r", " ", "0", "1", "18446744073709551615",
+    "SET", "import ", "module ", "cut ", "weight ", "remove ", "flow ", "blocked ", "price ", "pin ", "end\n", "\n", "\r\n", "\r", " ", "0", "1", "18446744073709551615",
     "18446744073709551616", "00", Text(1, '\0'), "\x80", "\xff", "\xef\xbb\xbf", "local ", "\x12\x7f", "\x08\xff\xff\xff\xff\xff\xff\xff\xff\x7f"};
 
 // Changes a text at one to four places; other texts lend parts.
@@ -148,10 +148,10 @@ Ended run(const Words &words) {
 
 const char *const FAULT = "oscip: ("
     "[^\n]+:\\d+:\\d+: (BadByte|BadNumber|OpenString|OpenComment|TooLong|Syntax|EndName|TooDeep|Twice \\w+|TwiceField \\w+)"
-    "|\\d+: (BadLine|TwiceImport|TooMany|UnknownName|Order)"
-    "|TwoModules \\w+ \\S+ \\S+|TooMany|Cycle( \\w+)+|WeightOverflow|NoEnd|NoDocument|SameModule|NoSuchModule [^]*"
+    "|\\d+: (BadLine|TwiceImport|TooMany|UnknownName|Order|NoSuchImport|TwicePrice)"
+    "|TwoModules \\w+ \\S+ \\S+|TooMany|Cycle( \\w+)+|WeightOverflow|PriceOverflow|NoEnd|NoDocument|SameModule|NoSuchModule [^]*"
     "|(Truncated|LongVarint|Group|ZeroField|BadText) \\d+)\n";
-const char *const REPORT = "cut \\w+ \\w+\nweight \\d+\n(remove \\w+ \\w+ \\d+\n)*(flow \\w+ \\w+ [1-9]\\d*\n)*end\n";
+const char *const REPORT = "cut \\w+ \\w+\n(weight \\d+\n(remove \\w+ \\w+ \\d+\n)*(flow \\w+ \\w+ [1-9]\\d*\n)*|blocked( \\w+)+\n)end\n";
 const char *const PLACES = "([^]*:\\d+:\\d+-\\d+:\\d+\n)*";
 
 // What standard output has to be after status 0.
@@ -177,10 +177,13 @@ bool is_documented(const Words &words, const Ended &ended) {
     case 1: return put.empty() && is_like(told, FAULT);
     case 2: return put.empty() && told.rfind("error: ", 0) == 0;
     case 3: return is_like(told, "oscip: cannot (read|write)( [^]*)?\n");
-    case 5: return told.empty() && is_like(put, "no (StillChain|WrongWeight|WrongValue|(OverWeight|NoSuchImport) \\w+ \\w+|NotKept \\w+)\n");
+    case 5: return told.empty() && is_like(put, "no (StillChain|WrongWeight|WrongValue|(OverWeight|NoSuchImport|NotPinned) \\w+ \\w+|NotKept \\w+)\n");
     default: return false;
     }
 }
+
+// The option that names the file of prices, where it is there the last word.
+const Text PRICED = "--prices=prices";
 
 Ended tried(const Words &words) {
     Ended ended = run(words);
@@ -188,18 +191,19 @@ Ended tried(const Words &words) {
     return ended;
 }
 
-// Runs a command that puts a cut, and gives what it put to the check.
+// Runs a command that puts a cut, and gives what it put to the check, with the prices if it had them.
 void tried_cut(const Words &words) {
     Ended ended = tried(words);
     if (ended.status != 0 || ended.put.rfind("cut ", 0) != 0) return;
     write_file("report", ended.put);
     Words asked = {words[0] == "cut" ? "check" : "check-net", words[1], "report"};
+    if (words.back() == PRICED) asked.push_back(PRICED);
     Ended checked = tried(asked);
     if (checked.status != 0) stop(asked, checked, "a cut doesn't pass the check");
 }
 
 struct Examples {
-    Words nets, reports, modules, indexes;
+    Words nets, reports, prices, modules, indexes;
     std::map<Text, Text> tree;
 };
 
@@ -209,6 +213,9 @@ Examples examples_of(const Text &at) {
     for (const char *name : {"six.cut", "editor.cut"}) found.reports.push_back(read_file(at + "/" + name));
     found.nets.push_back("import A U 5\nimport U D 1\nimport A V 0\nimport V U 3\n");
     found.nets.push_back("import A B 9223372036854775808\nimport B C 9223372036854775807\n");
+    found.reports.push_back("cut A D\nblocked A B D\nend\n");
+    found.prices = {"pin Edit Printer\nprice Dictionary Sync 7\nprice Printer Net 1099511627\n", "pin A B\nprice C D 3\n", "pin A B\npin B D\n",
+                    "price A M 0\npin M B\n", "pin A U\npin U D\nprice V U 1099511627776\n", "pin A B\nprice B C 5\n", read_file(at + "/editor.prices")};
     for (const auto &it : std::filesystem::recursive_directory_iterator(at + "/editor"))
         if (it.is_regular_file()) found.modules.push_back(read_file(it.path()));
     found.indexes.push_back(read_file(at + "/foreign.scip"));
@@ -225,14 +232,23 @@ Text some_name() { return NAMES[below(one_in(6) ? NAMES.size() : 10)]; }
 
 Text some_workers() { return "--workers=" + std::to_string(below(one_in(20) ? 70 : 5)); }
 
+// The words, and in one of two runs a file of prices with them.
+Words priced(Words words, const Examples &examples) {
+    if (one_in(2)) return words;
+    const Text &prices = one_of(examples.prices);
+    write_file("prices", one_in(4) ? prices : changed(prices, examples.nets));
+    words.push_back(PRICED);
+    return words;
+}
+
 void try_net(const Examples &examples) {
     const Text &net = one_of(examples.nets);
     write_file("net", one_in(8) ? net : changed(net, examples.reports));
     write_file("report", changed(one_of(examples.reports), examples.nets));
     switch (below(4)) {
-    case 0: tried({"check-net", "net", "report"}); break;
-    case 1: tried({"dot-net", "net", "report"}); break;
-    default: tried_cut({"cut-net", "net", some_name(), some_name(), some_workers()});
+    case 0: tried(priced({"check-net", "net", "report"}, examples)); break;
+    case 1: tried(priced({"dot-net", "net", "report"}, examples)); break;
+    default: tried_cut(priced({"cut-net", "net", some_name(), some_name(), some_workers()}, examples));
     }
 }
 
@@ -253,11 +269,11 @@ void try_tree(const Examples &examples) {
     }
     write_file("report", changed(one_of(examples.reports), examples.nets));
     switch (below(8)) {
-    case 0: tried({"check", "tree", "report"}); break;
-    case 1: tried({"dot", "tree", "report"}); break;
+    case 0: tried(priced({"check", "tree", "report"}, examples)); break;
+    case 1: tried(priced({"dot", "tree", "report"}, examples)); break;
     case 2: tried({"crossings", "tree", some_name(), some_name()}); break;
     case 3: tried({"unresolved", "tree"}); break;
-    case 4: tried_cut({"cut", "tree", some_name(), some_name(), some_workers()}); break;
+    case 4: tried_cut(priced({"cut", "tree", some_name(), some_name(), some_workers()}, examples)); break;
     case 5: tried({"index", "tree", "out", some_workers()}); break;
     default: {
         Ended one = tried({"index", "tree", "--hex", "--workers=1"});
@@ -269,7 +285,7 @@ void try_tree(const Examples &examples) {
 }
 
 const Words SAID = {"cut", "cut-net", "check", "check-net", "dot", "dot-net", "def", "refs", "crossings", "index", "unresolved", "help", "--help", "-h", "-V", "--version",
-    "--workers", "--workers=2", "--workers=99", "--hex", "--package", "--package=p", "--package= p", "--root=r", "--", "-", "net", "report", "tree", "index", "gone", "A", "B", "0", "3",
+    "--workers", "--workers=2", "--workers=99", "--prices", "--prices=prices", "--hex", "--package", "--package=p", "--package= p", "--root=r", "--", "-", "net", "report", "tree", "index", "gone", "A", "B", "0", "3",
     "-1", "2147483648", "", "\xff"};
 
 // Each front of a text, and the text with one byte changed at each place, in the file of that name; then the commands.
@@ -291,6 +307,12 @@ void try_all(const Examples &examples) {
     try_each(examples.nets[1], "net", {{"cut-net", "net", "Edit", "Net", "--workers=2"}, {"check-net", "net", "report"}});
     write_file("net", examples.nets[1]);
     try_each(examples.reports[1], "report", {{"check-net", "net", "report"}, {"dot-net", "net", "report"}});
+    write_file("report", examples.reports[1]);
+    Words cut = {"cut-net", "net", "Edit", "Net", "--workers=2", PRICED}, check = {"check-net", "net", "report", PRICED};
+    try_each(examples.prices[0], "prices", {cut, check, {"dot-net", "net", "report", PRICED}});
+    write_file("net", "import A B 1\nimport B D 3\n");
+    write_file("prices", examples.prices[2]);
+    try_each(examples.reports.back(), "report", {check, {"dot-net", "net", "report", PRICED}});
     try_each(examples.indexes[0], "index", {{"def", "index", "src/view.ts", "2", "19"}, {"refs", "index", "src/view.ts", "6", "9"}});
     std::filesystem::create_directory("tree");
     for (const auto &[name, text] : examples.tree) write_file("tree/" + name, text);
@@ -298,7 +320,7 @@ void try_all(const Examples &examples) {
     try_each(read_file("index"), "index", {{"def", "index", "A.Mod", "0", "7"}, {"refs", "index", "C.Mod", "0", "93"}});
     std::filesystem::create_directory("one");
     for (const auto &[name, text] : examples.tree) {
-        std::vector<Words> commands = {{"cut", "tree", "A", "D"}, {"unresolved", "tree"}, {"index", "tree", "--hex"}};
+        std::vector<Words> commands = {{"cut", "tree", "A", "D"}, {"cut", "tree", "A", "D", PRICED}, {"unresolved", "tree"}, {"index", "tree", "--hex"}};
         try_each(text, "tree/" + name, commands);
         write_file("tree/" + name, text);
     }

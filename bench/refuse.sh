@@ -11,7 +11,7 @@ trap 'rm -rf "$work"' EXIT
 gcc -shared -fPIC -O1 -o "$work/refuse.so" "$here/refuse.c" -ldl
 g++ -O2 -o "$work/generate" "$here/generate.cpp"
 cd "$work"
-cp "$here"/../examples/*.net "$here"/../examples/*.cut "$here"/../examples/*.scip .
+cp "$here"/../examples/*.net "$here"/../examples/*.cut "$here"/../examples/*.scip "$here"/../examples/*.prices .
 head -c 3000 foreign.scip > short.scip
 cp -r "$here"/../examples/editor .
 printf 'import A B 1\nimport B C 1\nimport C A 1\n' > cycle.net
@@ -22,6 +22,12 @@ sed 's/^flow A M 2/flow A M 3/' six.cut > over.cut
 sed '/^end/d' six.cut > short.cut
 ends=$(./generate layered 1 64 512 layered.net)
 printf 'oscip: Memory\n' > memory
+printf 'pin A M\n' > pin.prices
+printf 'pin A M\npin M B\n' > pins.prices
+printf 'pin A M\nprice M B 1\npin M B\n' > twice.prices
+printf 'price A M 1099511627776\n' > dear.prices
+printf 'cut A B\nweight 2\nremove M B 2\nflow A M 2\nflow M B 2\nend\n' > pinned.cut
+printf 'cut A B\nblocked A M B\nend\n' > blocked.cut
 
 mkdir -p four/b wrong twice
 printf 'MODULE A; IMPORT B, C; BEGIN B.p; C.q; C.q END A.' > four/A.Mod
@@ -40,7 +46,7 @@ is_memory() {
 # Whether standard output is right but for its flow, which has to pass the check.
 is_right() {
   cmp -s got right && return
-  cmp -s <(sed '/^flow /d' got) <(sed '/^flow /d' right) && [ "$("$oscip" ${1/cut/check} "$2" got)" = yes ]
+  cmp -s <(sed '/^flow /d' got) <(sed '/^flow /d' right) && [ "$("$oscip" ${1/cut/check} "${@:2:$#-3}" got)" = yes ]
 }
 
 # The words of a run, after the status with which it ends where nothing is refused.
@@ -86,8 +92,23 @@ trial 2 cut-net six.net A
 for workers in 0 65; do
   trial 2 cut-net --workers $workers six.net A B
 done
+for prices in pin pins; do
+  trial 0 cut-net --prices=$prices.prices six.net A B
+done
+for prices in twice dear; do
+  trial 1 cut-net --prices=$prices.prices six.net A B
+done
+trial 3 cut-net --prices=absent.prices six.net A B
+trial 0 check-net --prices=pin.prices six.net pinned.cut
+trial 0 check-net --prices=pins.prices six.net blocked.cut
+trial 5 check-net --prices=pin.prices six.net blocked.cut
+trial 5 check-net --prices=pin.prices six.net six.cut
+trial 1 check-net --prices=twice.prices six.net six.cut
+trial 0 dot-net --prices=pin.prices six.net pinned.cut
+trial 0 dot-net --prices=pins.prices six.net blocked.cut
 trial 0 cut four A D
 trial 0 cut editor Edit Net
+trial 0 cut --prices=editor.prices editor Edit Net
 trial 0 check four four.cut
 for words in "four A Z" "wrong A D" "twice A D"; do
   trial 1 cut $words
