@@ -1,5 +1,6 @@
 //! Faults that the program can't be brought to by what it reads, each with its status and its line.
 use crate::runs::fault_told;
+use cut_net::PriceFault;
 use ob_imports::GraphFault;
 use ob_scan::{Position, ScanFault};
 use oscip_run::RunFault;
@@ -37,5 +38,7 @@ fn want_of_memory_and_a_sink_that_fails_have_their_lines(rt: HostRuntime) -> Res
     is_told(&rt, in_graph, "4 oscip: Memory\n");
     let in_tree = tree_told(alloc, TreeFault::Memory)?;
     is_told(&rt, in_tree, "4 oscip: Memory\n");
+    let in_prices = fault_told(alloc, &RunFault::from(PriceFault::Memory))?;
+    is_told(&rt, in_prices, "4 oscip: Memory\n");
     Ok(())
 }

@@ -13,6 +13,8 @@ mod jobs;
 #[cfg(test)]
 mod orders;
 #[cfg(test)]
+mod prices;
+#[cfg(test)]
 mod runs;
 #[cfg(test)]
 mod sinks;

@@ -7,7 +7,12 @@ pub const SIX: &[u8] = b"import A M 2\nimport M B 2\n";
 
 pub const SIX_CUT: &[u8] = b"cut A B\nweight 2\nremove A M 2\nflow A M 2\nflow M B 2\nend\n";
 
-/// The picture of that report.
+/// Prices with which A can't be cut from B, and the report of that.
+pub const SIX_PINS: &[u8] = b"pin A M\npin M B\n";
+
+pub const SIX_BLOCKED: &[u8] = b"cut A B\nblocked A M B\nend\n";
+
+/// The picture of the report without prices.
 pub const SIX_DOT: &[u8] =
     b"digraph cut {\n  rankdir=LR;\n  \"A\" [peripheries=2] [style=filled];\n  \"B\" [peripheries=2];\n  \"M\";\n  \"A\" -> \"M\" [label=\"2/2\"] [style=dashed, color=red];\n  \"M\" -> \"B\" [label=\"2/2\"];\n}\n";
 
@@ -27,6 +32,11 @@ const FOUR: &[(&str, &str)] = &[
 
 pub const FOUR_CUT: &[u8] =
     b"cut A D\nweight 2\nremove A B 1\nremove C D 1\nflow A B 1\nflow A C 1\nflow B D 1\nflow C D 1\nend\n";
+
+/// Prices with which A can't be cut from D, and the report of that.
+pub const FOUR_PINS: &[u8] = b"pin A B\npin B D\n";
+
+pub const FOUR_BLOCKED: &[u8] = b"cut A D\nblocked A B D\nend\n";
 
 /// The four files, in order.
 pub fn four(alloc: Global) -> Result<Vec<Source>, AllocError> {
