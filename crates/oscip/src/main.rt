@@ -69,6 +69,13 @@ fn prices_of<R: Files + AllocGlobal>(rt: &R, job: &Job) -> Result<Option<Vec<u8>
     }
 }
 
+fn slice_of(bytes: &Option<Vec<u8>>) -> Option<&[u8]> {
+    match bytes {
+        Some(bytes) => Some(bytes.as_slice()),
+        None => None,
+    }
+}
+
 /// Runs a job on the lines of a network. Its files are read in the order of the words, and its prices last.
 fn run_net<R: Files + AllocGlobal + Print + Threads + Wait + Sync>(
     rt: &R,
@@ -89,7 +96,7 @@ fn run_net<R: Files + AllocGlobal + Print + Threads + Wait + Sync>(
         network.as_slice(),
         report.as_slice(),
         &OpenGate,
-        prices.as_ref().map(|prices| prices.as_slice()),
+        slice_of(&prices),
         &mut sink,
     )
 }
@@ -114,7 +121,7 @@ fn run_tree<R: Files + AllocGlobal + Print + Threads + Wait + Sync + Clone + Dro
         sources.as_slice(),
         report.as_slice(),
         &OpenGate,
-        prices.as_ref().map(|prices| prices.as_slice()),
+        slice_of(&prices),
         &mut sink,
     )
 }
