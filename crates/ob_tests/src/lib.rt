@@ -1,5 +1,5 @@
-//! Tests of tokens, trees, scopes, interfaces, graphs of imports and the work board, from outside.
-//! Stands on `ob_scan`, `ob_tree`, `ob_decls`, `ob_parse`, `ob_scope`, `ob_interface`, `ob_imports` and `work_board`.
+//! Tests of tokens, trees, scopes, interfaces, documents, graphs of imports and the work board, from outside.
+//! Stands on `ob_scan`, `ob_tree`, `ob_decls`, `ob_parse`, `ob_scope`, `ob_interface`, `ob_types`, `ob_emit`, `ob_imports` and `work_board`.
 //! Its contract: none; it has nothing but tests.
 #![tactic(auto)]
 
@@ -9,6 +9,8 @@ mod boards;
 mod cycles;
 #[cfg(test)]
 mod declared;
+#[cfg(test)]
+mod documents;
 #[cfg(test)]
 mod graphs;
 #[cfg(test)]

@@ -18,7 +18,11 @@ pub(crate) fn is_told(rt: &impl Abort, told: &str, want: &str) {
 }
 
 /// The tree of tokens.
-fn parsed(alloc: Global, bytes: &[u8], tokens: &Tokens) -> Result<Box<Module>, ParseFault>
+pub(crate) fn parsed(
+    alloc: Global,
+    bytes: &[u8],
+    tokens: &Tokens,
+) -> Result<Box<Module>, ParseFault>
     requires { IsOutcome bytes.now (Reads tokens.now) }
     ensures tree { IfOk result (λ tree. IsTheTree bytes.now tokens.now tree.value) }
     ensures few { IfOk result (λ tree. length (spelling tree.value) < 2 ^ 32) }
