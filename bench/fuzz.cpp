@@ -131,8 +131,8 @@ Ended run(const Words &words) {
     posix_spawn_file_actions_addopen(&files, 1, "put", O_WRONLY | O_CREAT | O_TRUNC, 0600);
     posix_spawn_file_actions_addopen(&files, 2, "told", O_WRONLY | O_CREAT | O_TRUNC, 0600);
     is_late = 0;
-    if (posix_spawn(&child, program.c_str(), &files, nullptr, list.data(), environ)) {
-        std::cout << "can't start " << program << std::endl;
+    if (int why = posix_spawn(&child, program.c_str(), &files, nullptr, list.data(), environ)) {
+        std::cout << "can't start " << program << ": " << strerror(why) << std::endl;
         exit(2);
     }
     posix_spawn_file_actions_destroy(&files);
