@@ -1,8 +1,8 @@
 //! The commands of the program and their words, as `clap` takes them.
 ghost use Rattle.std.specs.Prelude.{◌≡◌, IfOk, codes, false};
-ghost use Rattle.clap.specs.Words.{app_of, new_app, with_rule, with_subcommand, App};
+ghost use Rattle.clap.specs.Words.{app_of, new_app, rule_of, with_rule, with_subcommand, App};
 ghost use Rattle.clap.specs.declared.Command.TheViews.{out-Command as fields_of};
-ghost use Rattle.oscip_job.specs.Jobs.{asking_app, check_app, check_net_app, crossings_app, cut_app, cut_net_app, def_app, dot_app, dot_net_app, index_app, number_rule, oscip, refs_app, required_rule, text_rule, unresolved_app, with_modules, with_output, with_position, with_prices, with_workers};
+ghost use Rattle.oscip_job.specs.Jobs.{asking_app, check_app, check_net_app, crossings_app, cut_app, cut_net_app, def_app, dot_app, dot_net_app, index_app, number_rule, oscip, program_app, refs_app, required_rule, text_rule, unresolved_app, with_modules, with_output, with_position, with_prices, with_workers};
 
 use clap::{Arg, ArgAction, Command, value_parser};
 use std::alloc::{AllocError, Global};
@@ -72,23 +72,61 @@ const REFS_END: &str = "Example: oscip refs examples/foreign.scip src/view.ts 2 
     Status: 0 the places are printed, 1 the index or the path is refused, 2 the command line is refused,{n}\
     3 a file can't be read or standard output takes nothing, 4 memory ran out";
 
+/// The command in a box: what hands a command on has then one name for it, and not all that it holds.
+fn boxed<'a>(alloc: Global, command: Command<'a>) -> Result<Box<Command<'a>>, AllocError>
+    ensures { IfOk result (λ c. c.value ≡ command.entry) }
+{
+    Ok(Box::new(alloc, command)?)
+}
+
+/// The command of this name, with what help says of it and what stands at the end of that.
+fn named<'a>(
+    alloc: Global,
+    name: &'a str,
+    about: &'a str,
+    end: &'a str,
+) -> Result<Box<Command<'a>>, AllocError>
+    ensures app { IfOk result (λ c. app_of c.value ≡ new_app name.entry.now) }
+    ensures local { IfOk result (λ c. (fields_of c.value).has_globals ≡ false) }
+{
+    let command = Command::new(alloc, name).about(about).after_help(end);
+    boxed(alloc, command)
+}
+
+/// The command with one more argument, which is of this command alone.
+fn with_arg<'a>(
+    alloc: Global,
+    command: Box<Command<'a>>,
+    arg: Arg<'a>,
+) -> Result<Box<Command<'a>>, AllocError>
+    ensures app { arg.entry.global ≡ false → IfOk result (λ c. app_of c.value ≡ with_rule (app_of command.entry.value) (rule_of arg.entry)) }
+    ensures local { arg.entry.global ≡ false → IfOk result (λ c. (fields_of command.entry.value).has_globals ≡ false → (fields_of c.value).has_globals ≡ false) }
+{
+    let command = Box::into_inner(command).arg(arg)?;
+    boxed(alloc, command)
+}
+
 /// The command with one more argument that has to be given.
 fn with_required<'a>(
     alloc: Global,
-    command: Command<'a>,
+    command: Box<Command<'a>>,
     id: &'a str,
     help: &'a str,
-) -> Result<Command<'a>, AllocError>
-    ensures app { IfOk result (λ c. app_of c ≡ with_rule (app_of command.entry) (required_rule id.entry.now)) }
-    ensures local { IfOk result (λ c. (fields_of command.entry).has_globals ≡ false → (fields_of c).has_globals ≡ false) }
+) -> Result<Box<Command<'a>>, AllocError>
+    ensures app { IfOk result (λ c. app_of c.value ≡ with_rule (app_of command.entry.value) (required_rule id.entry.now)) }
+    ensures local { IfOk result (λ c. (fields_of command.entry.value).has_globals ≡ false → (fields_of c.value).has_globals ≡ false) }
 {
-    command.arg(Arg::new(alloc, id).required(true).help(help))
+    let required = Arg::new(alloc, id).required(true).help(help);
+    with_arg(alloc, command, required)
 }
 
 /// The command with the names of two modules, A and B.
-fn with_modules<'a>(alloc: Global, command: Command<'a>) -> Result<Command<'a>, AllocError>
-    ensures app { IfOk result (λ c. app_of c ≡ with_modules (app_of command.entry)) }
-    ensures local { IfOk result (λ c. (fields_of command.entry).has_globals ≡ false → (fields_of c).has_globals ≡ false) }
+fn with_modules<'a>(
+    alloc: Global,
+    command: Box<Command<'a>>,
+) -> Result<Box<Command<'a>>, AllocError>
+    ensures app { IfOk result (λ c. app_of c.value ≡ with_modules (app_of command.entry.value)) }
+    ensures local { IfOk result (λ c. (fields_of command.entry.value).has_globals ≡ false → (fields_of c.value).has_globals ≡ false) }
 {
     let command = with_required(
         alloc,
@@ -105,9 +143,12 @@ fn with_modules<'a>(alloc: Global, command: Command<'a>) -> Result<Command<'a>, 
 }
 
 /// The command with the option of how many workers search, 1 to 64.
-fn with_workers<'a>(alloc: Global, command: Command<'a>) -> Result<Command<'a>, AllocError>
-    ensures app { IfOk result (λ c. app_of c ≡ with_workers (app_of command.entry)) }
-    ensures local { IfOk result (λ c. (fields_of command.entry).has_globals ≡ false → (fields_of c).has_globals ≡ false) }
+fn with_workers<'a>(
+    alloc: Global,
+    command: Box<Command<'a>>,
+) -> Result<Box<Command<'a>>, AllocError>
+    ensures app { IfOk result (λ c. app_of c.value ≡ with_workers (app_of command.entry.value)) }
+    ensures local { IfOk result (λ c. (fields_of command.entry.value).has_globals ≡ false → (fields_of c.value).has_globals ≡ false) }
 {
     let workers = Arg::new(alloc, "workers")
         .long("workers")
@@ -115,13 +156,13 @@ fn with_workers<'a>(alloc: Global, command: Command<'a>) -> Result<Command<'a>, 
         .value_parser(value_parser!(u32).range(1..=64))
         .default_value("4")
         .help("How many threads search for the cut, from 1 to 64");
-    command.arg(workers)
+    with_arg(alloc, command, workers)
 }
 
 /// The command with the option of a file of prices.
-fn with_prices<'a>(alloc: Global, command: Command<'a>) -> Result<Command<'a>, AllocError>
-    ensures app { IfOk result (λ c. app_of c ≡ with_prices (app_of command.entry)) }
-    ensures local { IfOk result (λ c. (fields_of command.entry).has_globals ≡ false → (fields_of c).has_globals ≡ false) }
+fn with_prices<'a>(alloc: Global, command: Box<Command<'a>>) -> Result<Box<Command<'a>>, AllocError>
+    ensures app { IfOk result (λ c. app_of c.value ≡ with_prices (app_of command.entry.value)) }
+    ensures local { IfOk result (λ c. (fields_of command.entry.value).has_globals ≡ false → (fields_of c.value).has_globals ≡ false) }
 {
     let prices = Arg::new(alloc, "prices")
         .long("prices")
@@ -129,13 +170,16 @@ fn with_prices<'a>(alloc: Global, command: Command<'a>) -> Result<Command<'a>, A
         .help(
             "The file of prices: lines `price M N k`, by which M's import of N weighs k, and `pin M N`, by which it is not to be removed",
         );
-    command.arg(prices)
+    with_arg(alloc, command, prices)
 }
 
 /// The command with the options of a cut.
-fn with_cut_options<'a>(alloc: Global, command: Command<'a>) -> Result<Command<'a>, AllocError>
-    ensures app { IfOk result (λ c. app_of c ≡ with_prices (with_workers (app_of command.entry))) }
-    ensures local { IfOk result (λ c. (fields_of command.entry).has_globals ≡ false → (fields_of c).has_globals ≡ false) }
+fn with_cut_options<'a>(
+    alloc: Global,
+    command: Box<Command<'a>>,
+) -> Result<Box<Command<'a>>, AllocError>
+    ensures app { IfOk result (λ c. app_of c.value ≡ with_prices (with_workers (app_of command.entry.value))) }
+    ensures local { IfOk result (λ c. (fields_of command.entry.value).has_globals ≡ false → (fields_of c.value).has_globals ≡ false) }
 {
     let command = with_workers(alloc, command)?;
     with_prices(alloc, command)
@@ -144,11 +188,11 @@ fn with_cut_options<'a>(alloc: Global, command: Command<'a>) -> Result<Command<'
 /// The command with a report and the option of the file of the prices that it was made with.
 fn with_report<'a>(
     alloc: Global,
-    command: Command<'a>,
+    command: Box<Command<'a>>,
     help: &'a str,
-) -> Result<Command<'a>, AllocError>
-    ensures app { IfOk result (λ c. app_of c ≡ with_prices (with_rule (app_of command.entry) (required_rule (codes "REPORT")))) }
-    ensures local { IfOk result (λ c. (fields_of command.entry).has_globals ≡ false → (fields_of c).has_globals ≡ false) }
+) -> Result<Box<Command<'a>>, AllocError>
+    ensures app { IfOk result (λ c. app_of c.value ≡ with_prices (with_rule (app_of command.entry.value) (required_rule (codes "REPORT")))) }
+    ensures local { IfOk result (λ c. (fields_of command.entry.value).has_globals ≡ false → (fields_of c.value).has_globals ≡ false) }
 {
     let command = with_required(alloc, command, "REPORT", help)?;
     with_prices(alloc, command)
@@ -162,11 +206,11 @@ fn cutting<'a>(
     end: &'a str,
     id: &'a str,
     help: &'a str,
-) -> Result<Command<'a>, AllocError>
-    ensures app { IfOk result (λ c. app_of c ≡ with_prices (with_workers (with_modules (with_rule (new_app name.entry.now) (required_rule id.entry.now))))) }
-    ensures local { IfOk result (λ c. (fields_of c).has_globals ≡ false) }
+) -> Result<Box<Command<'a>>, AllocError>
+    ensures app { IfOk result (λ c. app_of c.value ≡ with_prices (with_workers (with_modules (with_rule (new_app name.entry.now) (required_rule id.entry.now))))) }
+    ensures local { IfOk result (λ c. (fields_of c.value).has_globals ≡ false) }
 {
-    let command = Command::new(alloc, name).about(about).after_help(end);
+    let command = named(alloc, name, about, end)?;
     let command = with_required(alloc, command, id, help)?;
     let command = with_modules(alloc, command)?;
     with_cut_options(alloc, command)
@@ -181,19 +225,19 @@ fn checking<'a>(
     id: &'a str,
     help: &'a str,
     report_help: &'a str,
-) -> Result<Command<'a>, AllocError>
-    ensures app { IfOk result (λ c. app_of c ≡ with_prices (with_rule (with_rule (new_app name.entry.now) (required_rule id.entry.now)) (required_rule (codes "REPORT")))) }
-    ensures local { IfOk result (λ c. (fields_of c).has_globals ≡ false) }
+) -> Result<Box<Command<'a>>, AllocError>
+    ensures app { IfOk result (λ c. app_of c.value ≡ with_prices (with_rule (with_rule (new_app name.entry.now) (required_rule id.entry.now)) (required_rule (codes "REPORT")))) }
+    ensures local { IfOk result (λ c. (fields_of c.value).has_globals ≡ false) }
 {
-    let command = Command::new(alloc, name).about(about).after_help(end);
+    let command = named(alloc, name, about, end)?;
     let command = with_required(alloc, command, id, help)?;
     with_report(alloc, command, report_help)
 }
 
 /// The command with the names of two modules, M and N.
-fn with_users<'a>(alloc: Global, command: Command<'a>) -> Result<Command<'a>, AllocError>
-    ensures app { IfOk result (λ c. app_of c ≡ with_rule (with_rule (app_of command.entry) (required_rule (codes "M"))) (required_rule (codes "N"))) }
-    ensures local { IfOk result (λ c. (fields_of command.entry).has_globals ≡ false → (fields_of c).has_globals ≡ false) }
+fn with_users<'a>(alloc: Global, command: Box<Command<'a>>) -> Result<Box<Command<'a>>, AllocError>
+    ensures app { IfOk result (λ c. app_of c.value ≡ with_rule (with_rule (app_of command.entry.value) (required_rule (codes "M"))) (required_rule (codes "N"))) }
+    ensures local { IfOk result (λ c. (fields_of command.entry.value).has_globals ≡ false → (fields_of c.value).has_globals ≡ false) }
 {
     let command = with_required(alloc, command, "M", "The name of the module that uses N")?;
     with_required(
@@ -204,13 +248,16 @@ fn with_users<'a>(alloc: Global, command: Command<'a>) -> Result<Command<'a>, Al
     )
 }
 
-fn crossings_command<'a>(alloc: Global) -> Result<Command<'a>, AllocError>
-    ensures app { IfOk result (λ c. app_of c ≡ crossings_app) }
-    ensures local { IfOk result (λ c. (fields_of c).has_globals ≡ false) }
+fn crossings_command<'a>(alloc: Global) -> Result<Box<Command<'a>>, AllocError>
+    ensures app { IfOk result (λ c. app_of c.value ≡ crossings_app) }
+    ensures local { IfOk result (λ c. (fields_of c.value).has_globals ≡ false) }
 {
-    let command = Command::new(alloc, "crossings")
-        .about("Tell where an Oberon-07 module uses another: what to rewrite to remove that import")
-        .after_help(CROSSINGS_END);
+    let command = named(
+        alloc,
+        "crossings",
+        "Tell where an Oberon-07 module uses another: what to rewrite to remove that import",
+        CROSSINGS_END,
+    )?;
     let command = with_required(alloc, command, "DIR", FOLDER_HELP)?;
     with_users(alloc, command)
 }
@@ -218,24 +265,27 @@ fn crossings_command<'a>(alloc: Global) -> Result<Command<'a>, AllocError>
 /// The command with one more number that has to be given, from 0 to 2,147,483,647.
 fn with_number<'a>(
     alloc: Global,
-    command: Command<'a>,
+    command: Box<Command<'a>>,
     id: &'a str,
     help: &'a str,
-) -> Result<Command<'a>, AllocError>
-    ensures app { IfOk result (λ c. app_of c ≡ with_rule (app_of command.entry) (number_rule id.entry.now)) }
-    ensures local { IfOk result (λ c. (fields_of command.entry).has_globals ≡ false → (fields_of c).has_globals ≡ false) }
+) -> Result<Box<Command<'a>>, AllocError>
+    ensures app { IfOk result (λ c. app_of c.value ≡ with_rule (app_of command.entry.value) (number_rule id.entry.now)) }
+    ensures local { IfOk result (λ c. (fields_of command.entry.value).has_globals ≡ false → (fields_of c.value).has_globals ≡ false) }
 {
     let number = Arg::new(alloc, id)
         .required(true)
         .value_parser(value_parser!(u32).range(0..=2147483647))
         .help(help);
-    command.arg(number)
+    with_arg(alloc, command, number)
 }
 
 /// The command with the line and the column of a position.
-fn with_position<'a>(alloc: Global, command: Command<'a>) -> Result<Command<'a>, AllocError>
-    ensures app { IfOk result (λ c. app_of c ≡ with_position (app_of command.entry)) }
-    ensures local { IfOk result (λ c. (fields_of command.entry).has_globals ≡ false → (fields_of c).has_globals ≡ false) }
+fn with_position<'a>(
+    alloc: Global,
+    command: Box<Command<'a>>,
+) -> Result<Box<Command<'a>>, AllocError>
+    ensures app { IfOk result (λ c. app_of c.value ≡ with_position (app_of command.entry.value)) }
+    ensures local { IfOk result (λ c. (fields_of command.entry.value).has_globals ≡ false → (fields_of c.value).has_globals ≡ false) }
 {
     let command = with_number(
         alloc,
@@ -257,11 +307,11 @@ fn asking<'a>(
     name: &'a str,
     about: &'a str,
     end: &'a str,
-) -> Result<Command<'a>, AllocError>
-    ensures app { IfOk result (λ c. app_of c ≡ asking_app name.entry.now) }
-    ensures local { IfOk result (λ c. (fields_of c).has_globals ≡ false) }
+) -> Result<Box<Command<'a>>, AllocError>
+    ensures app { IfOk result (λ c. app_of c.value ≡ asking_app name.entry.now) }
+    ensures local { IfOk result (λ c. (fields_of c.value).has_globals ≡ false) }
 {
-    let command = Command::new(alloc, name).about(about).after_help(end);
+    let command = named(alloc, name, about, end)?;
     let command = with_required(
         alloc,
         command,
@@ -278,43 +328,46 @@ fn asking<'a>(
 }
 
 /// The command with the words that say where an index goes: the path of a file, or `--hex`.
-fn with_output<'a>(alloc: Global, command: Command<'a>) -> Result<Command<'a>, AllocError>
-    ensures app { IfOk result (λ c. app_of c ≡ with_output (app_of command.entry)) }
-    ensures local { IfOk result (λ c. (fields_of command.entry).has_globals ≡ false → (fields_of c).has_globals ≡ false) }
+fn with_output<'a>(alloc: Global, command: Box<Command<'a>>) -> Result<Box<Command<'a>>, AllocError>
+    ensures app { IfOk result (λ c. app_of c.value ≡ with_output (app_of command.entry.value)) }
+    ensures local { IfOk result (λ c. (fields_of command.entry.value).has_globals ≡ false → (fields_of c.value).has_globals ≡ false) }
 {
     let out = Arg::new(alloc, "OUT").help(
         "The file that the index is written to, in the SCIP format",
     );
-    let command = command.arg(out)?;
+    let command = with_arg(alloc, command, out)?;
     let hex = Arg::new(alloc, "hex")
         .long("hex")
         .action(ArgAction::SetTrue)
         .help("Print the index as a line of hexadecimal digits, in place of writing it to a file");
-    command.arg(hex)
+    with_arg(alloc, command, hex)
 }
 
 /// The command with one more option that takes a text, which is empty where it isn't given.
 fn with_text<'a>(
     alloc: Global,
-    command: Command<'a>,
+    command: Box<Command<'a>>,
     id: &'a str,
     help: &'a str,
-) -> Result<Command<'a>, AllocError>
-    ensures app { IfOk result (λ c. app_of c ≡ with_rule (app_of command.entry) (text_rule id.entry.now)) }
-    ensures local { IfOk result (λ c. (fields_of command.entry).has_globals ≡ false → (fields_of c).has_globals ≡ false) }
+) -> Result<Box<Command<'a>>, AllocError>
+    ensures app { IfOk result (λ c. app_of c.value ≡ with_rule (app_of command.entry.value) (text_rule id.entry.now)) }
+    ensures local { IfOk result (λ c. (fields_of command.entry.value).has_globals ≡ false → (fields_of c.value).has_globals ≡ false) }
 {
     let text = Arg::new(alloc, id)
         .long(id)
         .value_name("TEXT")
         .default_value("")
         .help(help);
-    command.arg(text)
+    with_arg(alloc, command, text)
 }
 
 /// The command with the options of an index.
-fn with_options<'a>(alloc: Global, command: Command<'a>) -> Result<Command<'a>, AllocError>
-    ensures app { IfOk result (λ c. app_of c ≡ with_workers (with_rule (with_rule (app_of command.entry) (text_rule (codes "package"))) (text_rule (codes "root")))) }
-    ensures local { IfOk result (λ c. (fields_of command.entry).has_globals ≡ false → (fields_of c).has_globals ≡ false) }
+fn with_options<'a>(
+    alloc: Global,
+    command: Box<Command<'a>>,
+) -> Result<Box<Command<'a>>, AllocError>
+    ensures app { IfOk result (λ c. app_of c.value ≡ with_workers (with_rule (with_rule (app_of command.entry.value) (text_rule (codes "package"))) (text_rule (codes "root")))) }
+    ensures local { IfOk result (λ c. (fields_of command.entry.value).has_globals ≡ false → (fields_of c.value).has_globals ≡ false) }
 {
     let command = with_text(
         alloc,
@@ -331,165 +384,167 @@ fn with_options<'a>(alloc: Global, command: Command<'a>) -> Result<Command<'a>, 
     with_workers(alloc, command)
 }
 
-fn index_command<'a>(alloc: Global) -> Result<Command<'a>, AllocError>
-    ensures app { IfOk result (λ c. app_of c ≡ index_app) }
-    ensures local { IfOk result (λ c. (fields_of c).has_globals ≡ false) }
+fn index_command<'a>(alloc: Global) -> Result<Box<Command<'a>>, AllocError>
+    ensures app { IfOk result (λ c. app_of c.value ≡ index_app) }
+    ensures local { IfOk result (λ c. (fields_of c.value).has_globals ≡ false) }
 {
-    let command = Command::new(alloc, "index")
-        .about(
-            "Write an index of Oberon-07 modules in the SCIP format, for go to definition and find references",
-        )
-        .after_help(INDEX_END);
+    let command = named(
+        alloc,
+        "index",
+        "Write an index of Oberon-07 modules in the SCIP format, for go to definition and find references",
+        INDEX_END,
+    )?;
     let command = with_required(alloc, command, "DIR", FOLDER_HELP)?;
     let command = with_output(alloc, command)?;
     with_options(alloc, command)
 }
 
-fn unresolved_command<'a>(alloc: Global) -> Result<Command<'a>, AllocError>
-    ensures app { IfOk result (λ c. app_of c ≡ unresolved_app) }
-    ensures local { IfOk result (λ c. (fields_of c).has_globals ≡ false) }
+fn unresolved_command<'a>(alloc: Global) -> Result<Box<Command<'a>>, AllocError>
+    ensures app { IfOk result (λ c. app_of c.value ≡ unresolved_app) }
+    ensures local { IfOk result (λ c. (fields_of c.value).has_globals ≡ false) }
 {
-    let command = Command::new(alloc, "unresolved")
-        .about("Tell which identifiers of Oberon-07 modules mean nothing that the modules declare")
-        .after_help(UNRESOLVED_END);
+    let command = named(
+        alloc,
+        "unresolved",
+        "Tell which identifiers of Oberon-07 modules mean nothing that the modules declare",
+        UNRESOLVED_END,
+    )?;
     with_required(alloc, command, "DIR", FOLDER_HELP)
 }
 
-/// The program with one more command, if there is memory for that.
+/// The program with one more command.
 fn with_sub<'a>(
-    program: Command<'a>,
-    command: Result<Command<'a>, AllocError>,
-) -> Result<Command<'a>, AllocError>
-    ensures { (app : App) → IfOk command.entry (λ c. app_of c ≡ app) → IfOk command.entry (λ c. (fields_of c).has_globals ≡ false) →
-        IfOk result (λ c. app_of c ≡ with_subcommand (app_of program.entry) app.top) }
+    alloc: Global,
+    program: Box<Command<'a>>,
+    command: Box<Command<'a>>,
+) -> Result<Box<Command<'a>>, AllocError>
+    ensures { (app : App) → app_of command.entry.value ≡ app → (fields_of command.entry.value).has_globals ≡ false →
+        IfOk result (λ c. app_of c.value ≡ with_subcommand (app_of program.entry.value) app.top) }
 {
-    program.subcommand(command?)
+    let program = Box::into_inner(program).subcommand(Box::into_inner(command))?;
+    boxed(alloc, program)
 }
 
 /// The program with the commands on folders of modules.
-fn with_trees<'a>(alloc: Global, program: Command<'a>) -> Result<Command<'a>, AllocError>
-    ensures { IfOk result (λ c. app_of c ≡ with_subcommand (with_subcommand (with_subcommand (app_of program.entry) cut_app.top) check_app.top) crossings_app.top) }
+fn with_trees<'a>(alloc: Global, program: Box<Command<'a>>) -> Result<Box<Command<'a>>, AllocError>
+    ensures { IfOk result (λ c. app_of c.value ≡ with_subcommand (with_subcommand (with_subcommand (app_of program.entry.value) cut_app.top) check_app.top) crossings_app.top) }
 {
-    let program = with_sub(
-        program,
-        cutting(
-            alloc,
-            "cut",
-            "Find a cheapest set of imports of Oberon-07 modules to remove so that A no longer reaches B, with a flow that proves it",
-            CUT_END,
-            "DIR",
-            FOLDER_HELP,
-        ),
+    let cut = cutting(
+        alloc,
+        "cut",
+        "Find a cheapest set of imports of Oberon-07 modules to remove so that A no longer reaches B, with a flow that proves it",
+        CUT_END,
+        "DIR",
+        FOLDER_HELP,
     )?;
-    let program = with_sub(
-        program,
-        checking(
-            alloc,
-            "check",
-            "Check a report's proof that its cut of Oberon-07 modules is cheapest",
-            CHECK_END,
-            "DIR",
-            FOLDER_HELP,
-            "The report of a cut between two of the modules",
-        ),
+    let program = with_sub(alloc, program, cut)?;
+    let check = checking(
+        alloc,
+        "check",
+        "Check a report's proof that its cut of Oberon-07 modules is cheapest",
+        CHECK_END,
+        "DIR",
+        FOLDER_HELP,
+        "The report of a cut between two of the modules",
     )?;
-    with_sub(program, crossings_command(alloc))
+    let program = with_sub(alloc, program, check)?;
+    let crossings = crossings_command(alloc)?;
+    with_sub(alloc, program, crossings)
 }
 
 /// The program with the commands on networks.
-fn with_nets<'a>(alloc: Global, program: Command<'a>) -> Result<Command<'a>, AllocError>
-    ensures { IfOk result (λ c. app_of c ≡ with_subcommand (with_subcommand (app_of program.entry) cut_net_app.top) check_net_app.top) }
+fn with_nets<'a>(alloc: Global, program: Box<Command<'a>>) -> Result<Box<Command<'a>>, AllocError>
+    ensures { IfOk result (λ c. app_of c.value ≡ with_subcommand (with_subcommand (app_of program.entry.value) cut_net_app.top) check_net_app.top) }
 {
-    let program = with_sub(
-        program,
-        cutting(
-            alloc,
-            "cut-net",
-            "Find a cheapest set of imports to remove so that A no longer reaches B, with a flow that proves it",
-            CUT_NET_END,
-            "FILE",
-            NETWORK_HELP,
-        ),
+    let cut = cutting(
+        alloc,
+        "cut-net",
+        "Find a cheapest set of imports to remove so that A no longer reaches B, with a flow that proves it",
+        CUT_NET_END,
+        "FILE",
+        NETWORK_HELP,
     )?;
-    with_sub(
-        program,
-        checking(
-            alloc,
-            "check-net",
-            "Check a report's proof that its cut of a network is cheapest",
-            CHECK_NET_END,
-            "FILE",
-            NETWORK_HELP,
-            "The report of a cut between two of its modules",
-        ),
-    )
+    let program = with_sub(alloc, program, cut)?;
+    let check = checking(
+        alloc,
+        "check-net",
+        "Check a report's proof that its cut of a network is cheapest",
+        CHECK_NET_END,
+        "FILE",
+        NETWORK_HELP,
+        "The report of a cut between two of its modules",
+    )?;
+    with_sub(alloc, program, check)
 }
 
 /// The program with the commands that draw.
-fn with_pictures<'a>(alloc: Global, program: Command<'a>) -> Result<Command<'a>, AllocError>
-    ensures { IfOk result (λ c. app_of c ≡ with_subcommand (with_subcommand (app_of program.entry) dot_app.top) dot_net_app.top) }
+fn with_pictures<'a>(
+    alloc: Global,
+    program: Box<Command<'a>>,
+) -> Result<Box<Command<'a>>, AllocError>
+    ensures { IfOk result (λ c. app_of c.value ≡ with_subcommand (with_subcommand (app_of program.entry.value) dot_app.top) dot_net_app.top) }
 {
-    let program = with_sub(
-        program,
-        checking(
-            alloc,
-            "dot",
-            "Draw what a report says of Oberon-07 modules, as a graph in the language DOT of Graphviz",
-            DOT_END,
-            "DIR",
-            FOLDER_HELP,
-            "The report of a cut between two of the modules",
-        ),
+    let tree = checking(
+        alloc,
+        "dot",
+        "Draw what a report says of Oberon-07 modules, as a graph in the language DOT of Graphviz",
+        DOT_END,
+        "DIR",
+        FOLDER_HELP,
+        "The report of a cut between two of the modules",
     )?;
-    with_sub(
-        program,
-        checking(
-            alloc,
-            "dot-net",
-            "Draw what a report says of a network, as a graph in the language DOT of Graphviz",
-            DOT_NET_END,
-            "FILE",
-            NETWORK_HELP,
-            "The report of a cut between two of its modules",
-        ),
-    )
+    let program = with_sub(alloc, program, tree)?;
+    let net = checking(
+        alloc,
+        "dot-net",
+        "Draw what a report says of a network, as a graph in the language DOT of Graphviz",
+        DOT_NET_END,
+        "FILE",
+        NETWORK_HELP,
+        "The report of a cut between two of its modules",
+    )?;
+    with_sub(alloc, program, net)
 }
 
 /// The program with the commands on indexes.
-fn with_indexes<'a>(alloc: Global, program: Command<'a>) -> Result<Command<'a>, AllocError>
-    ensures { IfOk result (λ c. app_of c ≡ with_subcommand (with_subcommand (app_of program.entry) def_app.top) refs_app.top) }
+fn with_indexes<'a>(
+    alloc: Global,
+    program: Box<Command<'a>>,
+) -> Result<Box<Command<'a>>, AllocError>
+    ensures { IfOk result (λ c. app_of c.value ≡ with_subcommand (with_subcommand (app_of program.entry.value) def_app.top) refs_app.top) }
 {
-    let program = with_sub(
-        program,
-        asking(
-            alloc,
-            "def",
-            "Tell where the symbol at a position is defined, by an index in the SCIP format",
-            DEF_END,
-        ),
+    let def = asking(
+        alloc,
+        "def",
+        "Tell where the symbol at a position is defined, by an index in the SCIP format",
+        DEF_END,
     )?;
-    with_sub(
-        program,
-        asking(
-            alloc,
-            "refs",
-            "Tell where the symbol at a position is used and not defined, by an index in the SCIP format",
-            REFS_END,
-        ),
-    )
+    let program = with_sub(alloc, program, def)?;
+    let refs = asking(
+        alloc,
+        "refs",
+        "Tell where the symbol at a position is used and not defined, by an index in the SCIP format",
+        REFS_END,
+    )?;
+    with_sub(alloc, program, refs)
 }
 
 /// The program with the commands that index modules.
-fn with_indexers<'a>(alloc: Global, program: Command<'a>) -> Result<Command<'a>, AllocError>
-    ensures { IfOk result (λ c. app_of c ≡ with_subcommand (with_subcommand (app_of program.entry) index_app.top) unresolved_app.top) }
+fn with_indexers<'a>(
+    alloc: Global,
+    program: Box<Command<'a>>,
+) -> Result<Box<Command<'a>>, AllocError>
+    ensures { IfOk result (λ c. app_of c.value ≡ with_subcommand (with_subcommand (app_of program.entry.value) index_app.top) unresolved_app.top) }
 {
-    let program = with_sub(program, index_command(alloc))?;
-    with_sub(program, unresolved_command(alloc))
+    let index = index_command(alloc)?;
+    let program = with_sub(alloc, program, index)?;
+    let unresolved = unresolved_command(alloc)?;
+    with_sub(alloc, program, unresolved)
 }
 
-/// The program with all its commands.
-pub(crate) fn command<'a>(alloc: Global) -> Result<Command<'a>, AllocError>
-    ensures { IfOk result (λ c. app_of c ≡ oscip) }
+/// The program without any command.
+fn bare<'a>(alloc: Global) -> Result<Box<Command<'a>>, AllocError>
+    ensures { IfOk result (λ c. app_of c.value ≡ program_app) }
 {
     let program = Command::new(alloc, "oscip")
         .about(
@@ -498,6 +553,14 @@ pub(crate) fn command<'a>(alloc: Global) -> Result<Command<'a>, AllocError>
         .version(VERSION)
         .after_help(PROGRAM_END)
         .subcommand_required(true);
+    boxed(alloc, program)
+}
+
+/// The program with all its commands.
+pub(crate) fn command<'a>(alloc: Global) -> Result<Box<Command<'a>>, AllocError>
+    ensures { IfOk result (λ c. app_of c.value ≡ oscip) }
+{
+    let program = bare(alloc)?;
     let program = with_trees(alloc, program)?;
     let program = with_nets(alloc, program)?;
     let program = with_pictures(alloc, program)?;

@@ -425,7 +425,7 @@ pub fn job_of(alloc: Global, words: &[String]) -> Result<Job, JobFault>
     ensures package { IfOk result HasPackage }
 {
     let command = command(alloc)?;
-    match command.try_get_matches_from(words) {
+    match Box::into_inner(command).try_get_matches_from(words) {
         Ok(matches) => job_from(alloc, &matches),
         Err(error) => Err(fault_from(alloc, &error)),
     }

@@ -6,6 +6,6 @@ use Rattle.oscip_job.proofs.commands.with_indexers.Goals as goal
 
 pub returns : goal.returns
 returns c =
-    let one = c.in_ok-program.ensures index_app c.index_command.ensures.app c.index_command.ensures.local in
+    let one = c.in_ok-program.ensures index_app c.in_ok-index.ensures.app c.in_ok-index.ensures.local in
     IfOk-weaker c.with_sub-2.result _ _ (λ all h. h ∙ ap (λ (a : App). with_subcommand a unresolved_app.top) one)
-    (c.with_sub-2.ensures unresolved_app c.unresolved_command.ensures.app c.unresolved_command.ensures.local)
+    (c.with_sub-2.ensures unresolved_app c.in_ok-unresolved.ensures.app c.in_ok-unresolved.ensures.local)

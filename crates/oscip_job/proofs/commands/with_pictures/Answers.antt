@@ -6,6 +6,6 @@ use Rattle.oscip_job.proofs.commands.with_pictures.Goals as goal
 
 pub returns : goal.returns
 returns c =
-    let one = c.in_ok-program.ensures dot_app c.checking.ensures.app c.checking.ensures.local in
+    let one = c.in_ok-program.ensures dot_app c.in_ok-tree.ensures.app c.in_ok-tree.ensures.local in
     IfOk-weaker c.with_sub-2.result _ _ (λ all h. h ∙ ap (λ (a : App). with_subcommand a dot_net_app.top) one)
-    (c.with_sub-2.ensures dot_net_app c.checking-2.ensures.app c.checking-2.ensures.local)
+    (c.with_sub-2.ensures dot_net_app c.in_ok-net.ensures.app c.in_ok-net.ensures.local)

@@ -1,8 +1,17 @@
-use Rattle.std.proofs.Common.{◌≡◌, ◌∙◌, ap₂, false, ◌||◌, Bool, rules}
+use Rattle.std.proofs.Common.{◌≡◌, ◌∙◌, ap, false, rules}
 use Rattle.std.proofs.lemmas.Result.{IfOk-weaker}
+use Rattle.clap.specs.Walk.{Rule}
+use Rattle.clap.specs.Words.{app_of, rule_of, with_rule}
+use Rattle.oscip_job.specs.Jobs.{text_rule}
 use Rattle.oscip_job.proofs.commands.with_text.Goals as goal
+
+pub returns-clause-app : goal.returns-clause-app
+returns-clause-app c =
+    let local : c.help-text.result.global ≡ false = search rules in
+    let same : rule_of c.help-text.result ≡ text_rule c.args.id.now = search rules in
+    IfOk-weaker c.with_arg.result _ _ (λ all h. h ∙ ap (λ (r : Rule). with_rule (app_of c.args.command.value) r) same) (c.with_arg.ensures.app local)
 
 pub returns-clause-local : goal.returns-clause-local
 returns-clause-local c =
     let local : c.help-text.result.global ≡ false = search rules in
-    IfOk-weaker c.arg.result _ _ (λ r h e. h.globals ∙ ap₂ (λ (x : Bool) (y : Bool). x || y) e local) c.arg.ensures
+    c.with_arg.ensures.local local
