@@ -1,8 +1,11 @@
 //! What is seen of a module, in rows.
-ghost use Rattle.std.specs.Prelude.{◌≡◌, IfOk};
+ghost use Rattle.std.specs.Prelude.{◌≡◌, ℕ, nat_eq, IfOk, IsSome};
+ghost use Rattle.std.specs.List.{filter};
+ghost use Rattle.std.specs.List.Sorted.{IsNonDecreasingBy};
+ghost use Rattle.indexmap.specs.IndexMap.{get};
 ghost use Rattle.ob_scan.specs.Spelling.{AreInText};
 ghost use Rattle.ob_decls.specs.Declaring.{rows_in};
-ghost use Rattle.ob_interface.specs.Interfaces.{interface_of};
+ghost use Rattle.ob_interface.specs.Interfaces.{interface_of, is_part_by, outer_by};
 ghost use Rattle.ob_interface.specs.Rowed.{interface_in};
 
 use crate::forms::{add_parts, parts_of};
@@ -10,28 +13,34 @@ use crate::members::{add_bases, add_declarations, add_imports};
 use crate::outers::outers_of;
 use crate::rows::Rows;
 use crate::texts::{Source, add_text};
-use ob_decls::Table;
+use indexmap::IndexMap;
+use ob_decls::{Declarer, FormPart, Table};
 use ob_scan::Token;
 use std::alloc::{AllocError, Global};
 use std::marker::Model;
 
-/// The rows of what the table of a module says of its block. AllocError is answered where a growth of memory is refused, and where
-/// the texts come to 2^32 bytes.
-fn rows_of(alloc: Global, table: &Table, tokens: &[Token], bytes: &[u8]) -> Result<Rows, AllocError>
-    requires { AreInText bytes.now tokens.now }
-    ensures { IfOk result (λ rows. interface_in rows ≡ interface_of bytes.now tokens.now (rows_in table.now)) }
+/// The rows of what the table of a module says of its block, by the constructs of that block and the parts of their forms. AllocError is
+/// answered where a growth of memory is refused, and where the texts come to 2^32 bytes.
+fn rows_with(
+    alloc: Global,
+    table: &Table,
+    source: &Source,
+    outers: &IndexMap<u32, Declarer>,
+    own: &[FormPart],
+) -> Result<Rows, AllocError>
+    requires in_text { AreInText source.now.bytes.now source.now.tokens.now }
+    requires outer { (k : ℕ) → get nat_eq outers.now k ≡ outer_by (rows_in table.now).declarers k }
+    requires together { IsNonDecreasingBy (λ p. p.declared_by) own.now }
+    requires same { (k : ℕ) → IsSome (get nat_eq outers.now k) → filter (is_part_by k) own.now ≡ filter (is_part_by k) (rows_in table.now).parts }
+    ensures { IfOk result (λ rows. interface_in rows ≡ interface_of source.now.bytes.now source.now.tokens.now (rows_in table.now)) }
 {
-    let source = Source { bytes, tokens };
-    let outers = outers_of(alloc, table.declarers())?;
-    let own_parts = parts_of(alloc, &outers, table.parts())?;
-    let own = own_parts.as_slice();
     let mut text = Vec::new(alloc);
     let name = add_text(&mut text, source.text(1))?;
     let declared = table.declared();
-    let declarations = add_declarations(alloc, &mut text, &source, &outers, own, declared)?;
-    let bases = add_bases(alloc, &mut text, &source, &outers, table.records())?;
-    let imports = add_imports(alloc, &mut text, &source, table.imports())?;
-    let parts = add_parts(alloc, &mut text, &source, own)?;
+    let declarations = add_declarations(alloc, &mut text, source, outers, own, declared)?;
+    let bases = add_bases(alloc, &mut text, source, outers, table.records())?;
+    let imports = add_imports(alloc, &mut text, source, table.imports())?;
+    let parts = add_parts(alloc, &mut text, source, own)?;
     Ok(Rows {
         text,
         name,
@@ -40,6 +49,22 @@ fn rows_of(alloc: Global, table: &Table, tokens: &[Token], bytes: &[u8]) -> Resu
         bases,
         imports,
     })
+}
+
+/// The rows of what the table of a module says of its block.
+fn rows_of(alloc: Global, table: &Table, tokens: &[Token], bytes: &[u8]) -> Result<Rows, AllocError>
+    requires { AreInText bytes.now tokens.now }
+    ensures { IfOk result (λ rows. interface_in rows ≡ interface_of bytes.now tokens.now (rows_in table.now)) }
+{
+    let outers = outers_of(alloc, table.declarers())?;
+    let own = parts_of(alloc, &outers, table.parts())?;
+    rows_with(
+        alloc,
+        table,
+        &Source { bytes, tokens },
+        &outers,
+        own.as_slice(),
+    )
 }
 
 /// What other modules see of a module, with its texts in one buffer. A contract sees it as the `ModuleInterface`.

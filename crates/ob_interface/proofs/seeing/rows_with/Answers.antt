@@ -12,14 +12,14 @@ use Rattle.ob_decls.specs.declared.rows.Import.{Import}
 use Rattle.ob_interface.specs.declared.rows.Rows.{Rows}
 use Rattle.ob_interface.specs.Interfaces.{is_part_by, outer_by, declaration_by, base_by, imported_of}
 use Rattle.ob_interface.proofs.Assembled.{assembled}
-use Rattle.ob_interface.proofs.seeing.rows_of.Goals as goal
+use Rattle.ob_interface.proofs.seeing.rows_with.Goals as goal
 
 pub returns : goal.returns
 returns c =
-    let bytes = c.args.bytes.now in
-    let ts = c.args.tokens.now in
-    let ps = c.as_slice-own.result.now in
-    let outers : ℕ → Option Declarer = get nat_eq c.in_ok-outers.outers in
+    let bytes = c.args.source.now.bytes.now in
+    let ts = c.args.source.now.tokens.now in
+    let ps = c.args.own.now in
+    let outers : ℕ → Option Declarer = get nat_eq c.args.outers.now in
     let rows : Rows = record {
       text = c.add_parts.new.text;
       name = c.in_ok-name.name;
@@ -29,8 +29,8 @@ returns c =
       imports = c.in_ok-imports.imports;
     } in
     assembled bytes ts (rows_in c.args.table.now) ps outers rows c.add_text.new.text.items c.add_declarations.new.text.items c.add_bases.new.text.items c.add_imports.new.text.items (record {
-      outer = λ k. c.in_ok-outers.ensures k ∙ ap (λ (ds : List Declarer). outer_by ds k) c.declarers.ensures;
-      same = λ k h. ap (λ (xs : List FormPart). filter (is_part_by k) xs) c.as_slice-own.ensures.value ∙ c.in_ok-own_parts.ensures.same k h ∙ ap (λ (xs : List FormPart). filter (is_part_by k) xs) c.parts.ensures;
+      outer = c.requires.outer;
+      same = c.requires.same;
     }) (λ more. c.in_ok-name.ensures.tells more ∙ c.text.ensures) c.in_ok-declarations.ensures.grown
     (λ more. c.in_ok-declarations.ensures.tell more ∙ ap (λ (xs : List Declared). filter_map (λ r. declaration_by bytes ts ps r (outers r.declared_by)) xs) c.declared-declared.ensures) c.in_ok-bases.ensures.grown
     (λ more. c.in_ok-bases.ensures.tell more ∙ ap (λ (xs : List Record). filter_map (λ r. base_by bytes ts r (outers r.owner)) xs) c.records.ensures) c.in_ok-imports.ensures.grown
