@@ -68,13 +68,16 @@ symbol_row w package_name r =
     if r.role == 1 then option_map (λ (s : PlainSymbol). record { symbol = plain_text s; display_name = text w r.number }) (symbol_of w package_name r.target)
     else None
 
--- the document of a module at this path: the occurrences of its identifiers and what they declare, each in the order of the identifiers;
--- positions count bytes of UTF-8
-abbrev pub document_of : World → List ℕ → List ℕ → List Reference → PlainDocument
-document_of w path package_name refs = record {
+-- the document at this path with these occurrences and symbols; positions count bytes of UTF-8
+abbrev pub filed : List ℕ → List PlainOccurrence → List SymbolRow → PlainDocument
+filed path occurrences symbols = record {
   relative_path = path;
-  occurrences = filter_map (occurrence w package_name) refs;
-  symbols = filter_map (symbol_row w package_name) refs;
+  occurrences = occurrences;
+  symbols = symbols;
   language = codes "Oberon";
   position_encoding = pos 1;
 }
+
+-- the document of a module at this path: the occurrences of its identifiers and what they declare, each in the order of the identifiers
+abbrev pub document_of : World → List ℕ → List ℕ → List Reference → PlainDocument
+document_of w path package_name refs = filed path (filter_map (occurrence w package_name) refs) (filter_map (symbol_row w package_name) refs)

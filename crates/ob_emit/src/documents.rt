@@ -9,7 +9,7 @@ ghost use Rattle.ob_types.specs.World.{text};
 ghost use Rattle.scip_index.specs.Plain.{plain_document, plain_occurrence, plain_symbol};
 ghost use Rattle.scip_symbol.specs.Outcomes.{is_wrong_part};
 ghost use Rattle.ob_emit.specs.declared.fault.EmitFault.TheVariants.{BadPackage};
-ghost use Rattle.ob_emit.specs.Documents.{document_of, occurrence, symbol_row};
+ghost use Rattle.ob_emit.specs.Documents.{document_of, filed, occurrence, symbol_row};
 ghost use Rattle.ob_emit.specs.Made.{AreTexts};
 ghost use Rattle.ob_emit.specs.Named.{AreNamed, AreOfNames, IsName};
 
@@ -124,6 +124,45 @@ fn symbols(
     Ok(found)
 }
 
+/// The document at this path that has these occurrences and symbols.
+fn filed(
+    alloc: Global,
+    path: &str,
+    occurrences: Vec<Occurrence>,
+    symbols: Vec<SymbolInfo>,
+) -> Result<Document, AllocError>
+    ensures { IfOk result (λ d. plain_document d ≡ filed path.now (map plain_occurrence occurrences.items) (map plain_symbol symbols.items)) }
+{
+    let relative_path = String::from_str(alloc, path)?;
+    let language = String::from_str(alloc, "Oberon")?;
+    Ok(Document {
+        relative_path,
+        occurrences,
+        symbols,
+        language,
+        position_encoding: 1,
+    })
+}
+
+/// The document of a module at this path, with the texts of its symbols.
+fn document_with(
+    alloc: Global,
+    path: &str,
+    types: &Types<'_>,
+    refs: &[Reference],
+    texts: &Texts<'_>,
+) -> Result<Document, AllocError>
+    requires in_text { AreInText types.now.bytes types.now.tokens }
+    requires short { length types.now.bytes < 2 ^ 31 }
+    requires named { AreNamed types.now }
+    requires of_names { AreOfNames types.now refs.now }
+    ensures { (package_name : List ℕ) → AreTexts types.now package_name texts.now → IfOk result (λ d. plain_document d ≡ document_of types.now path.now package_name refs.now) }
+{
+    let occurrences = occurrences(alloc, types, texts, refs)?;
+    let symbols = symbols(alloc, types, texts, refs)?;
+    filed(alloc, path, occurrences, symbols)
+}
+
 /// The document of a module at this path, in a package that no symbol's text refuses.
 fn document_in(
     alloc: Global,
@@ -139,13 +178,7 @@ fn document_in(
     ensures { IfOk result (λ d. plain_document d ≡ document_of types.now path.now package_name.now refs.now) }
 {
     let texts = Texts::new(alloc, types, refs, package_name)?;
-    Ok(Document {
-        relative_path: String::from_str(alloc, path)?,
-        occurrences: occurrences(alloc, types, &texts, refs)?,
-        symbols: symbols(alloc, types, &texts, refs)?,
-        language: String::from_str(alloc, "Oberon")?,
-        position_encoding: 1,
-    })
+    document_with(alloc, path, types, refs, &texts)
 }
 
 /// The document of a module at this path (scip.proto, `Document`): where its identifiers stand, with the symbols of what they stand for
