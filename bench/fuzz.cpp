@@ -362,6 +362,7 @@ int main(int count, char **words) {
     }
     std::filesystem::current_path("/");
     std::filesystem::remove_all(folder);
-    std::cout << "seed " << seed << ": " << runs << " runs" << std::endl;
+    if (seed == 0) std::cout << "every front, and each byte changed" << std::endl;
+    else std::cout << "seed " << seed << ": " << runs << " runs" << std::endl;
     return 0;
 }
