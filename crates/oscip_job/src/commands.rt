@@ -142,7 +142,7 @@ fn with_modules<'a>(
     )
 }
 
-/// The command with the option of how many workers search, 1 to 64.
+/// The command with the option of how many workers there are, 1 to 64.
 fn with_workers<'a>(
     alloc: Global,
     command: Box<Command<'a>>,
@@ -155,7 +155,7 @@ fn with_workers<'a>(
         .value_name("N")
         .value_parser(value_parser!(u32).range(1..=64))
         .default_value("4")
-        .help("How many threads search for the cut, from 1 to 64");
+        .help("How many threads work, from 1 to 64");
     with_arg(alloc, command, workers)
 }
 
@@ -333,7 +333,7 @@ fn with_output<'a>(alloc: Global, command: Box<Command<'a>>) -> Result<Box<Comma
     ensures local { IfOk result (λ c. (fields_of command.entry.value).has_globals ≡ false → (fields_of c.value).has_globals ≡ false) }
 {
     let out = Arg::new(alloc, "OUT").help(
-        "The file that the index is written to, in the SCIP format",
+        "The file that the index is written to, in the SCIP format; it is emptied only once DIR has been read, so it may be one of DIR's files",
     );
     let command = with_arg(alloc, command, out)?;
     let hex = Arg::new(alloc, "hex")
