@@ -1,19 +1,20 @@
 //! The tables of a store, while they are made of an index.
-ghost use Rattle.std.specs.Prelude.{◌≡◌, ◌<◌, ◌++◌, [], ◌∷◌, Some, length, List, None, ℕ, IfErr, IfOk, OnOk};
+ghost use Rattle.std.specs.Prelude.{◌≡◌, ◌<◌, ◌++◌, [], ◌∷◌, Some, length, List, None, ℕ, IfErr, OnOk, map};
+ghost use Rattle.std.specs.List.{flat_map};
 ghost use Rattle.proto_wire.specs.Faults.{UnlessMemory};
 ghost use Rattle.proto_wire.specs.Messages.{IsFirstFault};
 ghost use Rattle.scip_index.specs.Meaning.{index_fault};
 ghost use Rattle.scip_index.specs.Streaming.{given};
-ghost use Rattle.scip_index.specs.Plain.{plain_document, plain_index, plain_occurrence};
+ghost use Rattle.scip_index.specs.Plain.{plain_document, plain_occurrence};
 ghost use Rattle.index_store.specs.Queries.{Found, found_at, found_in, is_definition};
-ghost use Rattle.index_store.specs.Stores.{tables_of, AreWhole, IsStoreOf, IsStoreOfBytes, Keeps};
+ghost use Rattle.index_store.specs.Stores.{paths_of, tables_of, AreWhole, IsStoreOfBytes, Keeps};
 ghost use Rattle.index_store.specs.Tables.{number_of, texts_in};
 
 use crate::row::{Covering, Mention};
 use crate::span::span_of;
 use crate::table::Table;
 use proto_wire::WireFault;
-use scip_index::{Document, Index, IndexReader, Occurrence};
+use scip_index::{Document, IndexReader, Occurrence};
 use std::alloc::{AllocError, Global};
 
 /// The occurrences so far that are places, by their paths and by their symbols.
@@ -32,7 +33,7 @@ fn is_definition(occurrence: &Occurrence) -> bool
 
 impl Draft {
     /// Tables with nothing in them.
-    fn new(alloc: Global) -> Draft
+    pub(crate) fn new(alloc: Global) -> Draft
         ensures whole { AreWhole (tables_of result) }
         ensures nothing { Keeps [] [] (tables_of result) }
     {
@@ -82,31 +83,41 @@ impl Draft {
         }
         Ok(())
     }
-}
 
-/// The tables of an index.
-pub(crate) fn draft_of(alloc: Global, index: &Index) -> Result<Draft, AllocError>
-    ensures whole { IfOk result (λ draft. AreWhole (tables_of draft)) }
-    ensures kept { IfOk result (λ draft. IsStoreOf (plain_index index.now) (tables_of draft)) }
-{
-    let mut draft = Draft::new(alloc);
-    for document in &index.documents {
-        draft.add_document(alloc, document)?;
+    /// Keeps the occurrences of documents, where nothing is kept yet.
+    pub(crate) fn add_documents(
+        &mut self,
+        alloc: Global,
+        documents: &[Document],
+    ) -> Result<(), AllocError>
+        requires whole { AreWhole (tables_of self.old) }
+        requires nothing { Keeps [] [] (tables_of self.old) }
+        ensures whole { OnOk result (AreWhole (tables_of self.new)) }
+        ensures kept { OnOk result (Keeps (paths_of (map plain_document documents.now)) (flat_map found_in (map plain_document documents.now)) (tables_of self.new)) }
+    {
+        for document in documents {
+            self.add_document(alloc, document)?;
+        }
+        Ok(())
     }
-    Ok(draft)
-}
 
-/// The tables of the index that a reader reads, of which one document at a time is held.
-pub(crate) fn draft_read(alloc: Global, mut reader: IndexReader<'_>) -> Result<Draft, WireFault>
-    requires fresh { given reader ≡ [] }
-    requires sound { reader.refusal ≡ None }
-    ensures whole { IfOk result (λ draft. AreWhole (tables_of draft)) }
-    ensures kept { IfOk result (λ draft. IsStoreOfBytes reader.entry.bytes (tables_of draft)) }
-    ensures fault { IfErr result (λ e. UnlessMemory e (IsFirstFault index_fault 0 reader.entry.bytes e)) }
-{
-    let mut draft = Draft::new(alloc);
-    'documents: while let Some(document) = reader.next()? {
-        draft.add_document(alloc, &document)?;
+    /// Keeps the occurrences of the documents that a reader reads, one document at a time, where nothing is kept yet.
+    pub(crate) fn add_read(
+        &mut self,
+        alloc: Global,
+        reader: &mut IndexReader<'_>,
+    ) -> Result<(), WireFault>
+        requires whole { AreWhole (tables_of self.old) }
+        requires nothing { Keeps [] [] (tables_of self.old) }
+        requires fresh { given reader.old ≡ [] }
+        requires sound { reader.old.refusal ≡ None }
+        ensures whole { OnOk result (AreWhole (tables_of self.new)) }
+        ensures kept { OnOk result (IsStoreOfBytes reader.old.bytes (tables_of self.new)) }
+        ensures fault { IfErr result (λ e. UnlessMemory e (IsFirstFault index_fault 0 reader.old.bytes e)) }
+    {
+        'documents: while let Some(document) = reader.next()? {
+            self.add_document(alloc, &document)?;
+        }
+        Ok(())
     }
-    Ok(draft)
 }

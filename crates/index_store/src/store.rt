@@ -11,7 +11,7 @@ ghost use Rattle.index_store.specs.Asked.{place_asked, places_wanted};
 ghost use Rattle.index_store.specs.Queries.{answered, definitions, is_local, plain_place, references, ArePlacesAnswer, IsSymbolAnswer};
 ghost use Rattle.index_store.specs.Stores.{mentions_under, said_mention, IsStoreOf, IsStoreOfBytes};
 
-use crate::draft::{draft_of, draft_read};
+use crate::draft::Draft;
 use crate::nearest::nearest;
 use crate::places::{Asked, is_local, places_asked};
 use crate::row::{Covering, Mention};
@@ -45,7 +45,8 @@ impl Store {
         ensures exact { IfOk result (IsStoreOf (plain_index index)) }
         ensures memory { IfErr result (λ fault. fault ≡ Memory) }
     {
-        let draft = draft_of(alloc, &index)?;
+        let mut draft = Draft::new(alloc);
+        draft.add_documents(alloc, &index.documents)?;
         Ok(Store {
             by_path: draft.by_path,
             by_symbol: draft.by_symbol,
@@ -54,7 +55,7 @@ impl Store {
 
     /// The store of the index that a reader reads whose `next` wasn't called yet. It holds one document at a time, and of each only
     /// what is a place. Refuses with the first fault of the bytes, as `from_bytes` does, and with `Memory`.
-    pub fn from_reader(alloc: Global, reader: IndexReader<'_>) -> Result<Store, WireFault>
+    pub fn from_reader(alloc: Global, mut reader: IndexReader<'_>) -> Result<Store, WireFault>
         requires fresh { given reader ≡ [] }
         requires sound { reader.refusal ≡ None }
         // The bytes mean an index, and it is the store of that.
@@ -62,7 +63,8 @@ impl Store {
         // It is the first fault of the bytes, unless memory ran out.
         ensures fault { IfErr result (λ e. UnlessMemory e (IsFirstFault index_fault 0 reader.entry.bytes e)) }
     {
-        let draft = draft_read(alloc, reader)?;
+        let mut draft = Draft::new(alloc);
+        draft.add_read(alloc, &mut reader)?;
         Ok(Store {
             by_path: draft.by_path,
             by_symbol: draft.by_symbol,

@@ -6,7 +6,7 @@ use Rattle.scip_index.specs.Streaming.{given}
 use Rattle.index_store.specs.Queries.{found_in}
 use Rattle.index_store.specs.Stores.{tables_of, paths_of}
 use Rattle.index_store.proofs.StoreLemmas.{kept_more}
-use Rattle.index_store.proofs.draft.draft_read.Goals as goal
+use Rattle.index_store.proofs.draft.Draft.add_read.Goals as goal
 
 pub documents-preserved : goal.documents-preserved
 documents-preserved c =

@@ -5,15 +5,15 @@ use Rattle.scip_index.specs.Plain.{plain_document}
 use Rattle.index_store.specs.Queries.{found_in}
 use Rattle.index_store.specs.Stores.{paths_of}
 use Rattle.index_store.proofs.StoreLemmas.{documents_more}
-use Rattle.index_store.proofs.draft.draft_of.Goals as goal
+use Rattle.index_store.proofs.draft.Draft.add_documents.Goals as goal
 
 pub loop-document-init : goal.loop-document-init
-loop-document-init c = (c.new-draft.ensures.whole, c.new-draft.ensures.nothing)
+loop-document-init c = (c.requires.whole, c.requires.nothing)
 
 pub loop-document-preserved : goal.loop-document-preserved
 loop-document-preserved c =
-    let items = c.args.index.now.documents.items in
+    let items = c.args.documents.now in
     let k = c.loop-document.document-index in
-    let more = documents_more items k c.document-item.result (rw c.deref-document-items.ensures.value at c.loop-document-test.true) (rw c.deref-document-items.ensures.value at c.document-item.is) in
+    let more = documents_more items k c.document-item.result c.loop-document-test.true c.document-item.is in
     let documents = map plain_document (take k items) in
     (c.in_ok-add_document.ensures.whole, rw (← more.0, ← more.1) (c.in_ok-add_document.ensures.kept (paths_of documents) (flat_map found_in documents) c.loop-document.invariant.1))
