@@ -9,7 +9,7 @@ use indexmap::IndexSet;
 use std::alloc::{AllocError, Global};
 
 /// What a search for a field comes to at a type.
-#[derive(Clone, Copy, Drop)]
+#[derive(Drop)]
 pub(crate) enum Step<Node, Field> {
     /// The field.
     Found(Field),

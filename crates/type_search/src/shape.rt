@@ -1,7 +1,7 @@
 //! What a type is.
 
 /// What a type is, by the nodes of the types that it is made of.
-#[derive(Clone, Copy, Drop)]
+#[derive(Drop)]
 pub enum Shape<Node, Declaration, Record> {
     /// An array, with the type of its elements; one for each of its lengths.
     Array(Node),
