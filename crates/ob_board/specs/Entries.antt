@@ -55,11 +55,15 @@ pub record AreEntriesOf (files : List SeenFile) (package_name : List ℕ) (entri
 
 -- ---- on the way
 
--- what is written of a module by its parts and the interfaces of what it reaches
-pub record IsWritten (s : Source) (parts : ModuleParts) (reached : List ModuleInterface) (package_name : List ℕ) (document : PlainDocument) (externals : List PlainSymbol) : Type 0 where
+-- what is written of a module at this path, by what its names and types mean
+pub record IsWrittenBy (w : World) (path package_name : List ℕ) (document : PlainDocument) (externals : List PlainSymbol) : Type 0 where
   pub refs : List Reference
-  pub references : AreReferences (world s.bytes.items parts.tokens (rows_in parts.table) parts.scopes reached) refs
-  pub are : AreOf (string_bytes s.path) package_name (world s.bytes.items parts.tokens (rows_in parts.table) parts.scopes reached) refs document externals
+  pub references : AreReferences w refs
+  pub are : AreOf path package_name w refs document externals
+
+-- so by its parts and the interfaces of what it reaches
+abbrev pub IsWritten : Source → ModuleParts → List ModuleInterface → List ℕ → PlainDocument → List PlainSymbol → Type 0
+IsWritten s parts reached = IsWrittenBy (world s.bytes.items parts.tokens (rows_in parts.table) parts.scopes reached) (string_bytes s.path)
 
 -- what others see of the modules of these parts
 abbrev pub interfaces_of : List (Box ModuleParts Global) → List ModuleInterface

@@ -86,7 +86,16 @@ impl<F: NamedFiles> WorkEntry for Found<F> {
     }
 }
 
-/// The numbers of a module's tokens that stand for nothing, by what its parts and the interfaces of what it reaches say.
+/// The numbers of a module's tokens that stand for nothing, by what its names and types mean.
+fn unresolved_by(alloc: Global, types: &Types<'_>) -> Result<Vec<u32>, AllocError>
+    ensures { IfOk result (λ numbers. (refs : List Reference) × (numbers.items ≡ unresolved refs) × AreReferences types.now refs) }
+{
+    let refs = references(alloc, types)?;
+    let numbers = refs.unresolved()?;
+    Ok(numbers)
+}
+
+/// The same, by what its parts and the interfaces of what it reaches say.
 fn numbers_of(
     alloc: Global,
     source: &Source,
@@ -105,9 +114,7 @@ fn numbers_of(
         &parts.scopes,
         reached,
     )?;
-    let refs = references(alloc, &types)?;
-    let numbers = refs.unresolved()?;
-    Ok(numbers)
+    unresolved_by(alloc, &types)
 }
 
 /// What is found of a module by its parts and the interfaces of what it reaches.

@@ -1,14 +1,15 @@
 //! The document and the external symbols of a module.
-ghost use Rattle.std.specs.Prelude.{◌≡◌, false, map, IfOk};
+ghost use Rattle.std.specs.Prelude.{◌≡◌, ◌<◌, ◌^◌, false, length, map, IfOk};
 ghost use Rattle.std.specs.Arc.{arc_value};
 ghost use Rattle.std.specs.Bool.{OnTrue};
 ghost use Rattle.ob_decls.specs.Declaring.{rows_in};
-ghost use Rattle.ob_scan.specs.Spelling.{IsOutcome, Reads};
+ghost use Rattle.ob_emit.specs.Named.{AreNamed};
+ghost use Rattle.ob_scan.specs.Spelling.{IsOutcome, Reads, Spells};
 ghost use Rattle.ob_scope.specs.Scoped.{AreScopes};
 ghost use Rattle.ob_types.specs.Homes.{AreByName};
 ghost use Rattle.scip_index.specs.Plain.{plain_document, plain_symbol};
 ghost use Rattle.scip_symbol.specs.Outcomes.{is_wrong_part};
-ghost use Rattle.ob_board.specs.Entries.{AreAllNamed, IsWritten};
+ghost use Rattle.ob_board.specs.Entries.{AreAllNamed, IsWritten, IsWrittenBy};
 
 use ob_emit::laws::{names_of_references, names_of_scopes};
 use ob_emit::{EmitFault, document, externals};
@@ -26,6 +27,35 @@ use std::sync::Arc;
 pub(crate) struct Written {
     pub(crate) document: Document,
     pub(crate) externals: Vec<SymbolInfo>,
+}
+
+/// What is written of a module at this path, by what its names and types mean.
+fn written_by(
+    alloc: Global,
+    path: &str,
+    types: &Types<'_>,
+    package_name: &str,
+) -> Result<Written, AllocError>
+    requires short { length types.now.bytes < 2 ^ 31 }
+    requires spelled { Spells types.now.bytes types.now.tokens }
+    requires named { AreNamed types.now }
+    requires package { is_wrong_part package_name.now ≡ false }
+    ensures { IfOk result (λ w. IsWrittenBy types.now path.now package_name.now (plain_document w.document) (map plain_symbol w.externals.items)) }
+{
+    names_of_references();
+    types.keeps();
+    let refs = references(alloc, types)?;
+    match document(alloc, path, types, refs.as_slice(), package_name) {
+        Ok(document) => {
+            let externals = externals(alloc, types, refs.as_slice())?;
+            Ok(Written {
+                document,
+                externals,
+            })
+        }
+        Err(EmitFault::Memory) => Err(AllocError),
+        Err(EmitFault::BadPackage) => unreachable!(),
+    }
 }
 
 /// What is written of a module, by its parts and the interfaces of what it reaches, told whether it is known that the names of
@@ -47,7 +77,6 @@ pub(crate) fn write_module(
 {
     tokens_in_text();
     names_of_scopes();
-    names_of_references();
     let types = Types::with_order(
         alloc,
         source.bytes.as_slice(),
@@ -57,17 +86,5 @@ pub(crate) fn write_module(
         reached,
         by_name,
     )?;
-    let refs = references(alloc, &types)?;
-    let path = source.path.as_str();
-    match document(alloc, path, &types, refs.as_slice(), package_name) {
-        Ok(document) => {
-            let externals = externals(alloc, &types, refs.as_slice())?;
-            Ok(Written {
-                document,
-                externals,
-            })
-        }
-        Err(EmitFault::Memory) => Err(AllocError),
-        Err(EmitFault::BadPackage) => unreachable!(),
-    }
+    written_by(alloc, source.path.as_str(), &types, package_name)
 }
