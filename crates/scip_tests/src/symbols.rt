@@ -1,20 +1,128 @@
 //! Symbols and their texts.
-mod reading;
-mod writing;
-
 use crate::told::is_told;
-use scip_symbol::{Descriptor, DescriptorKind, Symbol, read, write};
+use scip_symbol::{Descriptor, DescriptorKind, Symbol, SymbolFault, read, write};
 use std::alloc::{AllocError, Global};
-use std::process::Abort;
 use std::test::Fail;
-
-/// A step of a path: what it names, its name, and its disambiguator.
-type Step = (DescriptorKind, &'static str, &'static str);
 
 /// The scheme, the manager, the package and the version of a symbol.
 type Parts = [&'static str; 4];
 
-const NO_PARTS: Parts = ["x", "", "", ""];
+/// A step of a path: what it names, its name, and its disambiguator.
+type Step = (DescriptorKind, &'static str, &'static str);
+
+/// Symbols with their texts, or why they have none.
+const SYMBOLS: &[(Parts, &[Step], &str)] = &[
+    (
+        ["x y", "", "", ""],
+        &[(DescriptorKind::TypeName, "a`b", "")],
+        "x  y . . . `a``b`#",
+    ),
+    (
+        ["x", "m", "p", "v"],
+        &[
+            (DescriptorKind::Namespace, "n", ""),
+            (DescriptorKind::TypeName, "t", ""),
+            (DescriptorKind::Term, "v", ""),
+            (DescriptorKind::Method, "p", ""),
+            (DescriptorKind::Method, "q", "+1"),
+            (DescriptorKind::Meta, "m", ""),
+            (DescriptorKind::Macro, "c", ""),
+            (DescriptorKind::TypeParameter, "a", ""),
+            (DescriptorKind::Parameter, "b", ""),
+        ],
+        "x m p v n/t#v.p().q(+1).m:c![a](b)",
+    ),
+    // The first reason is told.
+    (
+        ["local", ".", "", ""],
+        &[(DescriptorKind::TypeName, "", "")],
+        "something is empty",
+    ),
+    (
+        ["locale", ".", "", ""],
+        &[(DescriptorKind::Term, "t", "")],
+        "the scheme begins with local",
+    ),
+    (
+        ["x", "..", "p", "."],
+        &[(DescriptorKind::Method, "p", ".")],
+        "part 3 is wrong",
+    ),
+    (
+        ["x", "", "", ""],
+        &[
+            (DescriptorKind::Term, "a b", ""),
+            (DescriptorKind::Method, "p", "1 2"),
+        ],
+        "the descriptor at 1 is wrong",
+    ),
+];
+
+/// Texts with the plain ones of what they stand for, or why they are no symbols.
+const TEXTS: &[(&str, &str)] = &[
+    ("local 0", "local 0"),
+    ("local a_+-$9", "local a_+-$9"),
+    (
+        "scip-oberon . editor . M/R#f.",
+        "scip-oberon . editor . M/R#f.",
+    ),
+    // A simple name may stand in backticks, and any other has to.
+    ("x . . . `a`#", "x . . . a#"),
+    (
+        "x . . . `a/b`/`a.b`.`a()`(1).`a:b`:`a!b`![`[a]`](`(a)`)",
+        "x . . . `a/b`/`a.b`.`a()`(1).`a:b`:`a!b`![`[a]`](`(a)`)",
+    ),
+    (
+        "x . . . `a b`#` `#`.`#````#`````a`````#`größe`#`\u{1f600}`#_+-$Az09#",
+        "x . . . `a b`#` `#`.`#````#`````a`````#`größe`#`\u{1f600}`#_+-$Az09#",
+    ),
+    // Parts with spaces and full stops, and with letters beyond ASCII.
+    ("x . a    b 1   t#", "x . a    b 1   t#"),
+    ("x   .   .. .a t#", "x   .   .. .a t#"),
+    (". . . . t#", ". . . . t#"),
+    ("схема m ü  é . t#", "схема m ü  é . t#"),
+    ("loca local local  a ` t#", "loca local local  a ` t#"),
+    // Texts that are no symbols. Something is empty.
+    ("", "something is empty"),
+    ("local ", "something is empty"),
+    ("x . . . ", "something is empty"),
+    // An id is wrong.
+    ("local  0", "the descriptor at 6 is wrong"),
+    ("local ab.c.", "the descriptor at 8 is wrong"),
+    // The scheme begins with local.
+    ("local", "the scheme begins with local"),
+    ("localx . . . a#", "the scheme begins with local"),
+    ("local. ", "the scheme begins with local"),
+    // A part is missing.
+    (" ", "part 0 is wrong"),
+    (" x . . . a#", "part 0 is wrong"),
+    ("x", "part 0 is wrong"),
+    ("x ", "part 1 is wrong"),
+    ("x . .", "part 2 is wrong"),
+    ("x . . .", "part 3 is wrong"),
+    ("x  . . . a#", "part 3 is wrong"),
+    ("x y . z  M/T#", "part 3 is wrong"),
+    // A descriptor is wrong.
+    ("x . . . a", "the descriptor at 8 is wrong"),
+    ("x . . . /", "the descriptor at 8 is wrong"),
+    ("x . . . ``#", "the descriptor at 8 is wrong"),
+    ("x . . . [a)", "the descriptor at 8 is wrong"),
+    ("x . . . a()", "the descriptor at 8 is wrong"),
+    ("x . . . a(b c).", "the descriptor at 8 is wrong"),
+    ("x . . . a b#", "the descriptor at 8 is wrong"),
+    ("x . . . M/ü#", "the descriptor at 10 is wrong"),
+    ("x . . . `ü`/a", "the descriptor at 13 is wrong"),
+    ("x y . z  . M/T#f", "the descriptor at 15 is wrong"),
+    // A backtick is open.
+    ("x . . . `a#", "a backtick is open"),
+    ("x . . . ```", "a backtick is open"),
+    ("x . . . M/(`a)", "a backtick is open"),
+    // The first reason is told.
+    ("x . . . a/b c/`d", "the descriptor at 10 is wrong"),
+    ("x . . . `a/b c/", "a backtick is open"),
+    ("local a#`b", "the descriptor at 7 is wrong"),
+    ("x . `a ", "part 3 is wrong"),
+];
 
 fn step(alloc: Global, (kind, name, disambiguator): Step) -> Result<Descriptor, AllocError> {
     let name = String::from_str(alloc, name)?;
@@ -33,7 +141,7 @@ fn path(alloc: Global, steps: &[Step]) -> Result<Vec<Descriptor>, AllocError> {
     Ok(descriptors)
 }
 
-fn global_of(alloc: Global, parts: Parts, steps: &[Step]) -> Result<Symbol, AllocError> {
+fn global(alloc: Global, parts: Parts, steps: &[Step]) -> Result<Symbol, AllocError> {
     let [scheme, manager, package, version] = parts;
     Ok(Symbol::Global {
         scheme: String::from_str(alloc, scheme)?,
@@ -44,60 +152,56 @@ fn global_of(alloc: Global, parts: Parts, steps: &[Step]) -> Result<Symbol, Allo
     })
 }
 
-fn global(alloc: Global, parts: Parts, steps: &[Step]) -> Result<Box<Symbol>, Fail> {
-    Ok(Box::new(alloc, global_of(alloc, parts, steps)?)?)
+fn told_fault(alloc: Global, fault: SymbolFault) -> Result<String, AllocError> {
+    match fault {
+        SymbolFault::Memory => Err(AllocError),
+        _ => format!(in alloc; "{fault}"),
+    }
 }
 
-fn local(alloc: Global, id: &str) -> Result<Box<Symbol>, Fail> {
-    let id = String::from_str(alloc, id)?;
-    Ok(Box::new(alloc, Symbol::Local(id))?)
+/// Whether a text is read as this symbol.
+fn is_read(alloc: Global, text: &str, symbol: &Symbol) -> bool {
+    match read(alloc, text) {
+        Ok(found) => found == *symbol,
+        Err(_) => false,
+    }
 }
 
-/// The text of a symbol, or why it has none.
-fn text_of(alloc: Global, symbol: &Symbol) -> Result<String, AllocError> {
+/// The text of a symbol, which is read as the symbol again, or why it has none.
+fn told_written(alloc: Global, symbol: &Symbol) -> Result<String, AllocError> {
     match write(alloc, symbol) {
-        Ok(text) => Ok(text),
-        Err(fault) => format!(in alloc; "{fault}"),
+        Ok(text) if is_read(alloc, text.as_str(), symbol) => Ok(text),
+        Ok(_) => String::from_str(alloc, "another symbol"),
+        Err(fault) => told_fault(alloc, fault),
     }
 }
 
-/// Whether a text is read as this symbol: "read", or "not read".
-fn told_read(alloc: Global, text: &str, symbol: &Symbol) -> &'static str {
+fn told_global(alloc: Global, parts: Parts, steps: &[Step]) -> Result<String, AllocError> {
+    told_written(alloc, &global(alloc, parts, steps)?)
+}
+
+/// The plain text of the symbol that a text stands for, or why it is none.
+fn told_read(alloc: Global, text: &str) -> Result<String, AllocError> {
     match read(alloc, text) {
-        Ok(found) if found == *symbol => "read",
-        _ => "not read",
+        Ok(symbol) => told_written(alloc, &symbol),
+        Err(fault) => told_fault(alloc, fault),
     }
 }
 
-/// Checks that a symbol is written as this text, or is refused so.
-fn writes(
-    rt: &(impl Abort + AllocGlobal),
-    parts: Parts,
-    steps: &[Step],
-    want: &str,
-) -> Result<(), Fail> {
-    let symbol = global(rt.alloc(), parts, steps)?;
-    let found = text_of(rt.alloc(), &symbol)?;
-    is_told(rt, found.as_str(), want);
+#[test]
+fn symbols_have_texts(rt: HostRuntime) -> Result<(), Fail> {
+    for (parts, steps, want) in SYMBOLS {
+        let told = told_global(rt.alloc(), *parts, steps)?;
+        is_told(&rt, told.as_str(), want);
+    }
     Ok(())
 }
 
-/// Checks that a text is read as this symbol.
-fn reads(
-    rt: &(impl Abort + AllocGlobal),
-    text: &str,
-    parts: Parts,
-    steps: &[Step],
-) -> Result<(), Fail> {
-    let symbol = global(rt.alloc(), parts, steps)?;
-    is_told(rt, told_read(rt.alloc(), text, &symbol), "read");
-    Ok(())
-}
-
-/// Why a text is no symbol.
-fn fault_in(alloc: Global, text: &str) -> Result<String, AllocError> {
-    match read(alloc, text) {
-        Ok(_) => String::from_str(alloc, "none"),
-        Err(fault) => format!(in alloc; "{fault}"),
+#[test]
+fn texts_are_read(rt: HostRuntime) -> Result<(), Fail> {
+    for (text, want) in TEXTS {
+        let told = told_read(rt.alloc(), text)?;
+        is_told(&rt, told.as_str(), want);
     }
+    Ok(())
 }
