@@ -1,4 +1,5 @@
-use Rattle.std.proofs.Common.{arith}
+use Rattle.std.proofs.Common.{Bool, arith}
+use Rattle.std.proofs.lemmas.List.Sums.{count_by-le-length}
 use Rattle.cut_residual.proofs.Searching.{searching_end}
 use Rattle.cut_residual.proofs.Walking.{reached}
 use Rattle.cut_residual.proofs.searches.search.Goals as goal
@@ -11,3 +12,41 @@ returns-clause-reached c =
     let ok = c.loop-place.places.ok.0 in
     reached c.args.graph.now c.args.start c.loop-place.seen.items c.loop-place.places.items z.tree
     (searching_end c.args.graph.now c.args.start c.loop-place.seen.items c.loop-place.places.items c.loop-place.place _ 0 z (omega arith))
+
+pub loop-place-preserved : goal.loop-place-preserved
+loop-place-preserved c = record {
+  seen_size = c.in_ok-visit.ensures.seen;
+  levels_size = c.in_ok-visit.ensures.levels;
+  search = c.in_ok-visit.ensures.search c.args.start c.loop-place.invariant.search;
+}
+
+pub loop-place-smaller : goal.loop-place-smaller
+loop-place-smaller c =
+    let z = c.loop-place.invariant.search in
+    let counted = z.counted in
+    let size = z.tree.size in
+    let few = count_by-le-length (λ (s : Bool). s) c.loop-place.seen.items in
+    let within = c.loop-place-test.true in
+    let len = c.len.ensures in
+    let ok = c.loop-place.places.ok.0 in
+    omega arith
+
+pub visit-requires-clause-node : goal.visit-requires-clause-node
+visit-requires-clause-node c =
+    let within = c.loop-place-test.true in
+    let len = c.len.ensures in
+    let ok = c.loop-place.places.ok.0 in
+    (c.loop-place.invariant.search.tree.listed c.loop-place.place (omega arith)).0
+
+pub invariant_of-result : goal.invariant_of-result
+invariant_of-result c = record { have_parents = λ p h in_p. (c.loop-place.invariant.search.tree.found p h in_p).earlier; }
+
+pub returns-clause-closed : goal.returns-clause-closed
+returns-clause-closed c =
+    let past = c.loop-place-test.false in
+    let len = c.len.ensures in
+    let ok = c.loop-place.places.ok.0 in
+    searching_end c.args.graph.now c.args.start c.loop-place.seen.items c.loop-place.places.items c.loop-place.place _ 0 c.loop-place.invariant.search (omega arith)
+
+pub returns-clause-tree : goal.returns-clause-tree
+returns-clause-tree c = record { tree = c.loop-place.invariant.search.tree; }
