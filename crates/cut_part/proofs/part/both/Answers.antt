@@ -6,11 +6,13 @@ use Rattle.cut_part.proofs.part.both.Goals as goal
 pub loop-m-preserved : goal.loop-m-preserved
 loop-m-preserved c =
     let size = c.loop-m.invariant.0 in
-    let marks = c.loop-m.marks.items in
-    (ap length c.in_ok-push.ensures.items ∙ length_push marks _ ∙ ap (λ n. n + 1) size, λ j h. elim (cases_eq j c.loop-m.m) [
-      | inl e ↦ rw (c.in_ok-push.ensures.items, e) (get_or_push marks _ false c.loop-m.m size)
-      | inr ne ↦
-          let before : j < c.loop-m.m = omega arith in
-          let within : j < length marks = omega arith in
-          rw c.in_ok-push.ensures.items (get_or_append_left marks _ false j within ∙ c.loop-m.invariant.1 j before)
-    ])
+    let marks = c.loop-m.marks.items in (
+      ap length c.in_ok-push.ensures.items ∙ length_push marks _ ∙ ap (λ n. n + 1) size,
+      λ j h. elim (cases_eq j c.loop-m.m) [
+        | inl e ↦ rw (c.in_ok-push.ensures.items, e) (get_or_push marks _ false c.loop-m.m size)
+        | inr ne ↦
+            let before : j < c.loop-m.m = omega arith in
+            let within : j < length marks = omega arith in
+            rw c.in_ok-push.ensures.items (get_or_append_left marks _ false j within ∙ c.loop-m.invariant.1 j before)
+      ],
+    )

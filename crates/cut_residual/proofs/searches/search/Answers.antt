@@ -39,7 +39,7 @@ visit-requires-clause-node c =
     (c.loop-place.invariant.search.tree.listed c.loop-place.place (omega arith)).0
 
 pub invariant_of-result : goal.invariant_of-result
-invariant_of-result c = record { have_parents = λ p h in_p. (c.loop-place.invariant.search.tree.found p h in_p).earlier; }
+invariant_of-result c = record { have_parents = λ p h in_p. (c.loop-place.invariant.search.tree.found p h in_p).earlier }
 
 pub returns-clause-closed : goal.returns-clause-closed
 returns-clause-closed c =
@@ -49,4 +49,4 @@ returns-clause-closed c =
     searching_end c.args.graph.now c.args.start c.loop-place.seen.items c.loop-place.places.items c.loop-place.place _ 0 c.loop-place.invariant.search (omega arith)
 
 pub returns-clause-tree : goal.returns-clause-tree
-returns-clause-tree c = record { tree = c.loop-place.invariant.search.tree; }
+returns-clause-tree c = record { tree = c.loop-place.invariant.search.tree }
