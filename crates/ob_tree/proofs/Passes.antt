@@ -10,7 +10,6 @@ use Rattle.ob_tree.specs.declared.declaration.Module.{Module}
 use Rattle.ob_tree.specs.declared.token.Leaf.{Leaf}
 use Rattle.ob_tree.specs.declared.token.Leaf.TheVariants as leafs
 use Rattle.ob_tree.specs.declared.item.Item.{Item}
-use Rattle.ob_tree.specs.declared.item.Item.TheVariants as items
 use Rattle.ob_tree.specs.Declaring.{module_outline}
 use Rattle.ob_tree.specs.Items.{items_of, number_at, declared_by, used_by}
 use Rattle.ob_tree.specs.Leaves.{leaf_of, leaves}

@@ -1,9 +1,8 @@
 -- Kinds that are the same.
-use Rattle.std.proofs.Common.{◌≡◌, true, false, refl}
+use Rattle.std.proofs.Common.{◌≡◌, true, refl}
 use denote.Enum.Bare.{same_true, true_same}
 use Rattle.ob_scan.specs.contracts.kind.Kind.{the_type}
 use Rattle.ob_scan.specs.declared.kind.Kind.{Kind}
-use Rattle.ob_scan.specs.declared.kind.Kind.TheVariants as kinds
 use Rattle.ob_tree.specs.Leaves.{same_kind}
 
 pub same_is : (j k : Kind) → same_kind j k ≡ true → j ≡ k

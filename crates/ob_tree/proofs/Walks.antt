@@ -1,12 +1,13 @@
 -- The items of outlines, layer by layer.
-use Rattle.std.proofs.Common.{◌≡◌, Bool, true, false, if◌then◌else◌, ℕ, zero, suc, add-one, ◌+◌, ◌<◌, List, [], ◌∷◌, ◌++◌, Option, Some, None, refl, sym, ap, ◌∙◌, append_assoc, length, take, get_or}
+use Rattle.std.proofs.Common.{◌≡◌, Bool, true, false, if◌then◌else◌, ℕ, zero, suc, add-one, ◌+◌, ◌<◌, List, [], ◌∷◌, ◌++◌, refl, sym, ap, ◌∙◌, ◌≤◌, min, append_assoc, length, length-append, set, take, get_or, arith}
 use Rattle.ob_tree.specs.Constructs.{Construct}
 use Rattle.ob_tree.specs.declared.item.Item.{Item}
 use Rattle.ob_tree.specs.declared.item.Item.TheVariants as items
 use Rattle.ob_tree.specs.Marks.{Out, Begins, Ends, Identifier, Value, Word, Declares, Uses, Names, Repeats, construct, each, times}
-use Rattle.ob_tree.specs.Items.{items_of}
+use Rattle.ob_tree.specs.Items.{items_of, more, with_item}
 use Rattle.std.proofs.lemmas.List.{append-nil, take_all}
 use Rattle.std.proofs.lemmas.Grind.{take_at_read}
+use Rattle.std.proofs.Math.Seq.{set-append_seam}
 
 pub items-append : (a b : Out) → items_of (a ++ b) ≡ items_of a ++ items_of b
 items-append [] b = refl
@@ -38,4 +39,40 @@ times_more (suc n) o = ap (λ (r : Out). o ++ r) (times_more n o) ∙ sym (appen
 pub items-times : (n : ℕ) (o : Out) → items_of (times (n + 1) o) ≡ items_of (times n o) ++ items_of o
 items-times n o = rw (add-one, times_more, items-append) refl
 
-pub ruleset walks = (append_assoc, append-nil, items-each_push, take_at_read, take_all)
+pub more-more : (s : List Item × ℕ) (a b : List Item) → more (more s a) b ≡ more s (a ++ b)
+unfolding more
+more-more s [] b = refl
+more-more s (x ∷ xs) b = more-more (with_item s x) xs b
+
+pub more-none : (s : List Item × ℕ) → more s [] ≡ s
+unfolding more
+more-none s = refl
+
+pub set_past : (xs : List Item) (i : ℕ) (x : Item) → length xs ≤ i → set xs i x ≡ xs
+set_past [] i x h = refl
+set_past (y ∷ ys) zero x h = absurd (omega arith)
+set_past (y ∷ ys) (suc i) x h = ap (λ (o : List Item). y ∷ o) (set_past ys i x (omega arith))
+
+pub counted : (s : List Item × ℕ) (xs : List Item) → s.1 ≤ 18446744073709551615 → (more s xs).1 ≡ min (s.1 + length xs) 18446744073709551615
+unfolding more
+counted s [] h = omega arith
+counted s (x ∷ xs) h = omega (arith, counted (with_item s x) xs (omega arith))
+
+filled_behind : (before after xs : List Item) → length after ≡ length xs → length before + length xs ≤ 18446744073709551615
+    → (more (before ++ after, length before) xs).0 ≡ before ++ xs
+unfolding more
+filled_behind before [] [] e h = refl
+filled_behind before [] (x ∷ xs) e h = absurd (omega arith)
+filled_behind before (y ∷ ys) [] e h = absurd (omega arith)
+filled_behind before (y ∷ ys) (x ∷ xs) e h =
+    let n : length (before ++ x ∷ []) ≡ length before + 1 = length-append before (x ∷ []) in
+    let at : min (length before + 1) 18446744073709551615 ≡ length (before ++ x ∷ []) = omega arith in
+    let places : set (before ++ y ∷ ys) (length before) x ≡ (before ++ x ∷ []) ++ ys = set-append_seam before y ys x ∙ sym (append_assoc before (x ∷ []) ys) in
+    let one : with_item (before ++ y ∷ ys, length before) x ≡ ((before ++ x ∷ []) ++ ys, length (before ++ x ∷ [])) = rw (at, places) refl in
+    ap (λ (s : List Item × ℕ). (more s xs).0) one ∙ filled_behind (before ++ x ∷ []) ys xs (omega arith) (omega arith) ∙ append_assoc before (x ∷ []) xs
+
+-- so many places as there are items have them all
+pub filled : (places xs : List Item) → length places ≡ length xs → length xs ≤ 18446744073709551615 → (more (places, 0) xs).0 ≡ xs
+filled places xs e h = filled_behind [] places xs e (omega arith)
+
+pub ruleset walks = (more-more, more-none, append_assoc, append-nil, items-each_push, take_at_read, take_all)

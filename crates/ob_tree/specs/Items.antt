@@ -1,5 +1,5 @@
 -- The tokens of an outline, each with what it does where it stands.
-use Rattle.std.specs.Prelude.{ℕ, ◌+◌, List, [], ◌∷◌, Option, Some, None}
+use Rattle.std.specs.Prelude.{ℕ, ◌+◌, min, List, [], ◌∷◌, Option, Some, None, slice_set}
 use Rattle.ob_tree.specs.declared.item.Item.{Item}
 use Rattle.ob_tree.specs.declared.item.Item.TheVariants as items
 use Rattle.ob_tree.specs.Marks.{Out, Begins, Ends, Identifier, Value, Word, Declares, Uses, Names, Repeats}
@@ -33,3 +33,12 @@ used_by (items.Declared n) = None
 used_by (items.Used n) = Some n
 used_by (items.Other n) = None
 used_by items.Word = None
+
+-- places in order, and how many items came: one more stands in the next place, if there is one
+abbrev pub with_item : List Item × ℕ → Item → List Item × ℕ
+with_item s i = (slice_set s.0 s.1 i, min (s.1 + 1) 18446744073709551615)
+
+-- the same with these items
+unfoldable pub more : List Item × ℕ → List Item → List Item × ℕ
+more s [] = s
+more s (i ∷ is) = more (with_item s i) is

@@ -6,6 +6,7 @@
 pub mod declaration;
 pub mod expression;
 mod item;
+mod items;
 pub mod laws;
 pub mod name;
 pub mod statement;

@@ -10,17 +10,24 @@ ghost use Rattle.ob_tree.specs.Items.{items_of, number_at};
 
 use crate::declaration::Module;
 use crate::item::Item;
+use crate::items::Items;
 use crate::walk::declarations::walk_module;
 use crate::walk::ends::module_ends;
 use std::alloc::{AllocError, Global};
 
-/// The tokens of a module's tree in order, each with what it does.
+/// The tokens of a module's tree in order, each with what it does. It walks twice: for how many there are, and for them.
 fn items(alloc: Global, module: &Module) -> Result<Vec<Item>, AllocError>
     ensures { IfOk result (λ v. v.items ≡ items_of (module_outline «module».now)) }
 {
-    let mut out = Vec::new(alloc);
-    walk_module(&mut out, module)?;
-    Ok(out)
+    let mut counted = Items::over(Vec::new(alloc));
+    walk_module(&mut counted, module);
+    let count = counted.count();
+    if count == usize::MAX {
+        return Err(AllocError);
+    }
+    let mut filled = Items::over(vec![in alloc; Item::Word; count]?);
+    walk_module(&mut filled, module);
+    Ok(filled.places())
 }
 
 /// The number of a token, which stands in this place.

@@ -1,163 +1,153 @@
 //! The items of types.
 
-ghost use Rattle.std.specs.Prelude.{◌≡◌, ◌++◌, IfOk};
+ghost use Rattle.std.specs.Prelude.{◌≡◌, ◌++◌};
 ghost use Rattle.ob_scan.specs.declared.kind.Kind.TheVariants as kinds;
-ghost use Rattle.ob_tree.specs.Items.{items_of};
+ghost use Rattle.ob_tree.specs.Items.{items_of, more};
 ghost use Rattle.ob_tree.specs.Marks.{declared, if_so, listed, word, times};
 ghost use Rattle.ob_tree.specs.Types.{section_outline, parameters_outline, type_outline, fields_outline, record_outline, var_outline};
 
 use crate::declaration::{Fields, ParameterSection, Parameters, Record, TypeForm, VarDecl};
 use crate::item::Item;
+use crate::items::Items;
 use crate::walk::expressions::walk_expr_list;
 use crate::walk::names::{walk_identdef, walk_qualident};
-use std::alloc::AllocError;
 
 /// ARRAY OF, so many times.
 #[tactic(auto, using(crate::proofs::TypeWalks::section_walks))]
-fn walk_open_arrays(out: &mut Vec<Item>, count: u32) -> Result<(), AllocError>
-    ensures { IfOk result (λ _. out.new.items ≡ out.old.items ++ items_of (times count (word kinds.Array ++ word kinds.Of))) }
+fn walk_open_arrays(out: &mut Items, count: u32)
+    ensures { out.new ≡ more out.old (items_of (times count (word kinds.Array ++ word kinds.Of))) }
 {
     for level in 0..count {
-        out.push(Item::Word)?;
-        out.push(Item::Word)?;
+        out.put(Item::Word);
+        out.put(Item::Word);
     }
-    Ok(())
 }
 
 /// The names of a section, with VAR if it stands before them.
 #[tactic(auto, using(crate::proofs::TypeWalks::section_walks))]
-fn walk_section_names(out: &mut Vec<Item>, section: &ParameterSection) -> Result<(), AllocError>
-    ensures { IfOk result (λ _. out.new.items ≡ out.old.items ++ items_of (if_so section.now.variable (word kinds.Var) ++ listed kinds.Comma declared section.now.names)) }
+fn walk_section_names(out: &mut Items, section: &ParameterSection)
+    ensures { out.new ≡ more out.old (items_of (if_so section.now.variable (word kinds.Var) ++ listed kinds.Comma declared section.now.names)) }
 {
     if section.variable {
-        out.push(Item::Word)?;
+        out.put(Item::Word);
     }
-    out.push(Item::Declared(section.names.first))?;
+    out.put(Item::Declared(section.names.first));
     for name in &section.names.rest {
-        out.push(Item::Word)?;
-        out.push(Item::Declared(*name))?;
+        out.put(Item::Word);
+        out.put(Item::Declared(*name));
     }
-    Ok(())
 }
 
 #[tactic(auto, using(crate::proofs::TypeWalks::section_walks))]
-fn walk_section(out: &mut Vec<Item>, section: &ParameterSection) -> Result<(), AllocError>
-    ensures { IfOk result (λ _. out.new.items ≡ out.old.items ++ items_of (section_outline section.now)) }
+fn walk_section(out: &mut Items, section: &ParameterSection)
+    ensures { out.new ≡ more out.old (items_of (section_outline section.now)) }
 {
-    walk_section_names(out, section)?;
-    out.push(Item::Word)?;
-    walk_open_arrays(out, section.open_arrays)?;
-    walk_qualident(out, section.of)?;
-    Ok(())
+    walk_section_names(out, section);
+    out.put(Item::Word);
+    walk_open_arrays(out, section.open_arrays);
+    walk_qualident(out, section.of);
 }
 
 #[tactic(auto, using(crate::proofs::TypeWalks::section_walks))]
-pub(crate) fn walk_parameters(
-    out: &mut Vec<Item>,
-    parameters: &Parameters,
-) -> Result<(), AllocError>
-    ensures { IfOk result (λ _. out.new.items ≡ out.old.items ++ items_of (parameters_outline parameters.now)) }
+pub(crate) fn walk_parameters(out: &mut Items, parameters: &Parameters)
+    ensures { out.new ≡ more out.old (items_of (parameters_outline parameters.now)) }
 {
-    out.push(Item::Word)?;
+    out.put(Item::Word);
     match &parameters.sections {
         None => {}
         Some(sections) => {
-            walk_section(out, &sections.first)?;
+            walk_section(out, &sections.first);
             for section in &sections.rest {
-                out.push(Item::Word)?;
-                walk_section(out, section)?;
+                out.put(Item::Word);
+                walk_section(out, section);
             }
         }
     }
-    out.push(Item::Word)?;
+    out.put(Item::Word);
     match parameters.result {
         None => {}
         Some(answer) => {
-            out.push(Item::Word)?;
-            walk_qualident(out, answer)?;
+            out.put(Item::Word);
+            walk_qualident(out, answer);
         }
     }
-    Ok(())
 }
 
 #[cycle(types)]
 #[tactic(auto, using(crate::proofs::TypeWalks::type_walks))]
-pub(crate) fn walk_type(out: &mut Vec<Item>, form: &TypeForm) -> Result<(), AllocError>
-    ensures { IfOk result (λ _. out.new.items ≡ out.old.items ++ items_of (type_outline form.now)) }
+pub(crate) fn walk_type(out: &mut Items, form: &TypeForm)
+    ensures { out.new ≡ more out.old (items_of (type_outline form.now)) }
 {
     match form {
-        TypeForm::Named(name) => walk_qualident(out, *name)?,
+        TypeForm::Named(name) => walk_qualident(out, *name),
         TypeForm::ArrayOf(lengths, of) => {
-            out.push(Item::Word)?;
-            walk_expr_list(out, lengths)?;
-            out.push(Item::Word)?;
-            walk_type(out, of)?;
+            out.put(Item::Word);
+            walk_expr_list(out, lengths);
+            out.put(Item::Word);
+            walk_type(out, of);
         }
-        TypeForm::RecordOf(record) => walk_record(out, record)?,
+        TypeForm::RecordOf(record) => walk_record(out, record),
         TypeForm::PointerTo(target) => {
-            out.push(Item::Word)?;
-            out.push(Item::Word)?;
-            walk_type(out, target)?;
+            out.put(Item::Word);
+            out.put(Item::Word);
+            walk_type(out, target);
         }
         TypeForm::ProcOf(parameters) => {
-            out.push(Item::Word)?;
+            out.put(Item::Word);
             match parameters {
                 None => {}
-                Some(parameters) => walk_parameters(out, parameters)?,
+                Some(parameters) => walk_parameters(out, parameters),
             }
         }
     }
-    Ok(())
 }
 
 #[cycle(types)]
 #[tactic(auto, using(crate::proofs::TypeWalks::type_walks))]
-fn walk_record(out: &mut Vec<Item>, form: &Record) -> Result<(), AllocError>
-    ensures { IfOk result (λ _. out.new.items ≡ out.old.items ++ items_of (record_outline form.now)) }
+fn walk_record(out: &mut Items, form: &Record)
+    ensures { out.new ≡ more out.old (items_of (record_outline form.now)) }
 {
-    out.push(Item::Word)?;
+    out.put(Item::Word);
     match form.base {
         None => {}
         Some(base) => {
-            out.push(Item::Word)?;
-            walk_qualident(out, base)?;
-            out.push(Item::Word)?;
+            out.put(Item::Word);
+            walk_qualident(out, base);
+            out.put(Item::Word);
         }
     }
     match &form.fields {
         None => {}
-        Some(fields) => walk_fields(out, fields)?,
+        Some(fields) => walk_fields(out, fields),
     }
-    out.push(Item::Word)?;
-    Ok(())
+    out.put(Item::Word);
 }
 
 #[cycle(types)]
 #[tactic(auto, using(crate::proofs::TypeWalks::type_walks))]
-fn walk_fields(out: &mut Vec<Item>, fields: &Fields) -> Result<(), AllocError>
-    ensures { IfOk result (λ _. out.new.items ≡ out.old.items ++ items_of (fields_outline fields.now)) }
+fn walk_fields(out: &mut Items, fields: &Fields)
+    ensures { out.new ≡ more out.old (items_of (fields_outline fields.now)) }
 {
-    walk_var(out, &fields.first)?;
+    walk_var(out, &fields.first);
     for field in &fields.rest {
-        out.push(Item::Word)?;
-        walk_var(out, field)?;
+        out.put(Item::Word);
+        walk_var(out, field);
     }
     if fields.closing_semicolon {
-        out.push(Item::Word)?;
+        out.put(Item::Word);
     }
-    Ok(())
 }
 
 #[cycle(types)]
 #[tactic(auto, using(crate::proofs::TypeWalks::type_walks))]
-pub(crate) fn walk_var(out: &mut Vec<Item>, variables: &VarDecl) -> Result<(), AllocError>
-    ensures { IfOk result (λ _. out.new.items ≡ out.old.items ++ items_of (var_outline variables.now)) }
+pub(crate) fn walk_var(out: &mut Items, variables: &VarDecl)
+    ensures { out.new ≡ more out.old (items_of (var_outline variables.now)) }
 {
-    walk_identdef(out, variables.names.first)?;
+    walk_identdef(out, variables.names.first);
     for name in &variables.names.rest {
-        out.push(Item::Word)?;
-        walk_identdef(out, *name)?;
+        out.put(Item::Word);
+        walk_identdef(out, *name);
     }
-    out.push(Item::Word)?;
+    out.put(Item::Word);
     walk_type(out, &variables.form)
 }

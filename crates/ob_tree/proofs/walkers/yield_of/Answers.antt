@@ -1,6 +1,5 @@
 use Rattle.std.proofs.Common.{arith, length, sym, ◌≡◌, ap, ◌∙◌}
 use Rattle.ob_tree.specs.Declaring.{module_outline}
-use Rattle.ob_tree.specs.Items.{items_of}
 use Rattle.ob_tree.specs.Marks.{tokens_of}
 use Rattle.ob_tree.proofs.Passes.{items-length, numbers-more}
 use Rattle.ob_tree.proofs.walkers.yield_of.Goals as goal

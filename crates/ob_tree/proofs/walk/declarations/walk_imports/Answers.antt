@@ -11,5 +11,5 @@ loop-import-preserved c = grind (arith, module_walks)
 pub returns-in-None : goal.returns-in-None
 returns-in-None c = grind (arith, module_walks)
 
-pub returns-in_ok-push-in-Some-3 : goal.returns-in_ok-push-in-Some-3
-returns-in_ok-push-in-Some-3 c = grind (arith, module_walks)
+pub returns-after-loop-import : goal.returns-after-loop-import
+returns-after-loop-import c = grind (arith, module_walks)

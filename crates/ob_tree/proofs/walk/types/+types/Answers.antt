@@ -8,32 +8,29 @@ walk_fields-loop-field-init t c = grind (arith, type_walks)
 pub walk_fields-loop-field-preserved : goal.walk_fields-loop-field-preserved
 walk_fields-loop-field-preserved t c = grind (arith, type_walks)
 
-pub walk_fields-returns-in_ok-push-2 : goal.walk_fields-returns-in_ok-push-2
-walk_fields-returns-in_ok-push-2 t c = grind (arith, type_walks)
-
 pub walk_fields-returns-else-fields : goal.walk_fields-returns-else-fields
 walk_fields-returns-else-fields t c = grind (arith, type_walks)
 
 pub walk_record-returns : goal.walk_record-returns
 walk_record-returns t c = grind (arith, type_walks)
 
-pub walk_type-returns-in_ok-walk_qualident-in-Named : goal.walk_type-returns-in_ok-walk_qualident-in-Named
-walk_type-returns-in_ok-walk_qualident-in-Named t c = grind (arith, type_walks)
+pub walk_type-returns-in-Named : goal.walk_type-returns-in-Named
+walk_type-returns-in-Named t c = grind (arith, type_walks)
 
-pub walk_type-returns-in_ok-walk_type-in-ArrayOf : goal.walk_type-returns-in_ok-walk_type-in-ArrayOf
-walk_type-returns-in_ok-walk_type-in-ArrayOf t c = grind (arith, type_walks)
+pub walk_type-returns-in-ArrayOf : goal.walk_type-returns-in-ArrayOf
+walk_type-returns-in-ArrayOf t c = grind (arith, type_walks)
 
-pub walk_type-returns-in_ok-walk_record-in-RecordOf : goal.walk_type-returns-in_ok-walk_record-in-RecordOf
-walk_type-returns-in_ok-walk_record-in-RecordOf t c = grind (arith, type_walks)
+pub walk_type-returns-in-RecordOf : goal.walk_type-returns-in-RecordOf
+walk_type-returns-in-RecordOf t c = grind (arith, type_walks)
 
-pub walk_type-returns-in_ok-walk_type-in-PointerTo : goal.walk_type-returns-in_ok-walk_type-in-PointerTo
-walk_type-returns-in_ok-walk_type-in-PointerTo t c = grind (arith, type_walks)
+pub walk_type-returns-in-PointerTo : goal.walk_type-returns-in-PointerTo
+walk_type-returns-in-PointerTo t c = grind (arith, type_walks)
 
 pub walk_type-returns-in-None : goal.walk_type-returns-in-None
 walk_type-returns-in-None t c = grind (arith, type_walks)
 
-pub walk_type-returns-in_ok-walk_parameters-in-Some : goal.walk_type-returns-in_ok-walk_parameters-in-Some
-walk_type-returns-in_ok-walk_parameters-in-Some t c = grind (arith, type_walks)
+pub walk_type-returns-in-Some : goal.walk_type-returns-in-Some
+walk_type-returns-in-Some t c = grind (arith, type_walks)
 
 pub walk_var-loop-name-init : goal.walk_var-loop-name-init
 walk_var-loop-name-init t c = grind (arith, type_walks)

@@ -11,5 +11,5 @@ loop-section-preserved c = grind (arith, section_walks)
 pub returns-in-None-result : goal.returns-in-None-result
 returns-in-None-result c = grind (arith, section_walks)
 
-pub returns-in_ok-walk_qualident-in-Some-result : goal.returns-in_ok-walk_qualident-in-Some-result
-returns-in_ok-walk_qualident-in-Some-result c = grind (arith, section_walks)
+pub returns-in-Some-result : goal.returns-in-Some-result
+returns-in-Some-result c = grind (arith, section_walks)
