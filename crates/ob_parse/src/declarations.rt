@@ -14,13 +14,13 @@ ghost use Rattle.ob_parse.specs.ReadTypes.{type_at};
 ghost use Rattle.ob_parse.specs.ReadModules.{is_name, ended, const_with, type_decl_with, variable_with, part_with, procedures_with, body_with, procedure_with, procedure_at, declarations_at};
 ghost use Rattle.ob_parse.specs.Gives.{Gives, ahead};
 
-use crate::expressions::expression;
+use crate::expressions::{expression, expression_behind};
 use crate::input::Input;
-use crate::names::{identdef, star};
+use crate::names::identdef;
 use crate::parameters::some_parameters;
-use crate::statements::block;
-use crate::stop::{Stop, boxed};
-use crate::symbols::{accept, beyond, expect, identifier, is_at};
+use crate::statements::block_behind;
+use crate::stop::{Stop, boxed, push};
+use crate::symbols::{accept, beyond, expect, identifier, is_at, skip};
 use crate::types::{type_form, var_declaration};
 use ob_scan::{Kind, Token};
 use ob_tree::declaration::{ConstDecl, Declarations, ProcDecl, TypeDecl, VarDecl};
@@ -158,12 +158,12 @@ fn ended_variable(
     tokens: &[Token],
     input: Input,
     depth: u32,
-) -> Result<(VarDecl, Input), Stop>
-    ensures { Gives tokens.now (λ x. (variable_outline x.0 ++ word kinds.Semicolon, ahead tokens.now x.1)) result (ended (variable_with (type_at depth)) (ahead tokens.now input)) }
+) -> Result<(Box<VarDecl>, Input), Stop>
+    ensures { Gives tokens.now (λ x. (variable_outline x.0.value ++ word kinds.Semicolon, ahead tokens.now x.1)) result (ended (variable_with (type_at depth)) (ahead tokens.now input)) }
 {
     let (declaration, here) = var_declaration(alloc, tokens, input, depth)?;
     let here = expect(tokens, here, Kind::Semicolon)?;
-    Ok((Box::into_inner(declaration), here))
+    Ok((declaration, here))
 }
 
 /// The declarations of variables.
@@ -180,7 +180,7 @@ fn variables(
     let mut here = input;
     'more: while begins_declaration(tokens, here) {
         let (next, after) = ended_variable(alloc, tokens, here, depth)?;
-        declared.push(next)?;
+        push(&mut declared, next)?;
         here = after;
     }
     Ok((declared, here))
@@ -220,7 +220,7 @@ fn procedures(
     let mut here = input;
     'more: while is_at(tokens, here, Kind::Procedure) {
         let (next, after) = ended_procedure(alloc, tokens, here, depth)?;
-        declared.push(Box::into_inner(next))?;
+        push(&mut declared, next)?;
         here = after;
     }
     Ok((declared, here))
@@ -271,7 +271,7 @@ fn procedure_within(
 {
     let here = expect(tokens, input, Kind::Procedure)?;
     let (name, here) = identifier(tokens, here)?;
-    let (starred, here) = star(tokens, here);
+    let (starred, here) = skip(tokens, here, Kind::Star);
     let (parameters, here) = some_parameters(alloc, tokens, here)?;
     let here = expect(tokens, here, Kind::Semicolon)?;
     let ((declarations, (body, returned, end_name)), here) = inside(
@@ -314,7 +314,7 @@ fn inside(
 type Ending = (Option<Box<Block>>, Option<Box<Expr>>, u32);
 
 /// What stands behind the declarations in the procedure of this name.
-#[tactic(auto, unfolding(crate::specs::Forms::name_at))]
+#[tactic(auto, unfolding(crate::specs::Forms::name_at, crate::specs::ReadModules::body_with))]
 fn ending(
     alloc: Global,
     tokens: &[Token],
@@ -330,8 +330,8 @@ fn ending(
         (seq (body_with (block_at depth)) (seq (optional (accept_at kinds.Return) (expr_at depth))
         (seq (expect_at kinds.End) (name_at (repeated name)))) (ahead tokens.now input)) }
 {
-    let (body, here) = body(alloc, tokens, input, depth)?;
-    let (returned, here) = returned(alloc, tokens, here, depth)?;
+    let (body, here) = block_behind(alloc, tokens, input, depth, Kind::Begin)?;
+    let (returned, here) = expression_behind(alloc, tokens, here, depth, Kind::Return)?;
     let here = expect(tokens, here, Kind::End)?;
     let (end_name, here) = identifier(tokens, here)?;
     Ok(((body, returned, end_name), here))
@@ -359,41 +359,4 @@ pub(crate) fn declarations(
         procedures,
     };
     Ok((boxed(alloc, declarations)?, here))
-}
-
-/// The statements behind BEGIN, in a box, if it stands here.
-#[tactic(auto, unfolding(crate::specs::ReadModules::body_with))]
-pub(crate) fn body(
-    alloc: Global,
-    tokens: &[Token],
-    input: Input,
-    depth: u32,
-) -> Result<(Option<Box<Block>>, Input), Stop>
-    ensures { Gives tokens.now (λ x. (if_there (λ b. word kinds.Begin ++ block_outline b.value) x.0, ahead tokens.now x.1)) result (body_with (block_at depth) (ahead tokens.now input)) }
-{
-    match accept(tokens, input, Kind::Begin) {
-        Some(rest) => {
-            let (block, rest) = block(alloc, tokens, rest, depth)?;
-            Ok((Some(block), rest))
-        }
-        None => Ok((None, input)),
-    }
-}
-
-/// The expression behind RETURN, if it stands here.
-fn returned(
-    alloc: Global,
-    tokens: &[Token],
-    input: Input,
-    depth: u32,
-) -> Result<(Option<Box<Expr>>, Input), Stop>
-    ensures { Gives tokens.now (λ x. (if_there (λ e. word kinds.Return ++ expr_outline e.value) x.0, ahead tokens.now x.1)) result (optional (accept_at kinds.Return) (expr_at depth) (ahead tokens.now input)) }
-{
-    match accept(tokens, input, Kind::Return) {
-        Some(rest) => {
-            let (value, rest) = expression(alloc, tokens, rest, depth)?;
-            Ok((Some(value), rest))
-        }
-        None => Ok((None, input)),
-    }
 }

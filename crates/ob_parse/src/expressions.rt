@@ -4,7 +4,7 @@ ghost use Rattle.std.specs.Prelude.{◌≡◌, ◌++◌};
 ghost use Rattle.ob_scan.specs.declared.kind.Kind.TheVariants as kinds;
 ghost use Rattle.ob_tree.specs.Constructs as constructs;
 ghost use Rattle.ob_tree.specs.Marks as marks;
-ghost use Rattle.ob_tree.specs.Marks.{construct, word, if_there, each, each_after};
+ghost use Rattle.ob_tree.specs.Marks.{word, if_there, each, each_after};
 ghost use Rattle.ob_tree.specs.Expressions.{relation_kind, mul_kind, add_kind, expr_outline, expr_list_outline, sum_outline, term_outline, factor_outline, element_outline, element_list_outline, designator_outline, selector_outline};
 ghost use Rattle.ob_parse.specs.Forms.{many, several, optional, unless, begins, accept_at, expect_at, name_at, seq, prefixed, node};
 ghost use Rattle.ob_parse.specs.Gives.{Gives, ahead};
@@ -14,7 +14,7 @@ use crate::input::Input;
 use crate::operators::{
     add_operator, begins_expression, begins_factor, begins_selector, mul_operator, relation, sign,
 };
-use crate::stop::{Stop, boxed};
+use crate::stop::{Stop, boxed, push};
 use crate::symbols::{accept, beyond, expect, identifier, is_at};
 use ob_scan::{Kind, Token};
 use ob_tree::expression::{
@@ -43,6 +43,25 @@ pub(crate) fn expression(
     let left = Box::into_inner(left);
     let expression = Expr { left, compared };
     Ok((boxed(alloc, expression)?, input))
+}
+
+/// The expression behind a word, if this stands here.
+pub(crate) fn expression_behind(
+    alloc: Global,
+    tokens: &[Token],
+    input: Input,
+    depth: u32,
+    word: Kind,
+) -> Result<(Option<Box<Expr>>, Input), Stop>
+    ensures { Gives tokens.now (λ x. (if_there (λ e. marks.word word ++ expr_outline e.value) x.0, ahead tokens.now x.1)) result (optional (accept_at word) (expr_at depth) (ahead tokens.now input)) }
+{
+    match accept(tokens, input, word) {
+        None => Ok((None, input)),
+        Some(rest) => {
+            let (value, rest) = expression(alloc, tokens, rest, depth)?;
+            Ok((Some(value), rest))
+        }
+    }
 }
 
 /// A relation and its right side, if it stands here.
@@ -97,7 +116,7 @@ fn more_expressions(
     let mut here = input;
     'more: while let Some(after) = accept(tokens, here, Kind::Comma) {
         let (next, after) = expression(alloc, tokens, after, depth)?;
-        rest.push(Box::into_inner(next))?;
+        push(&mut rest, next)?;
         here = after;
     }
     Ok((rest, here))
@@ -181,7 +200,7 @@ fn factor(
         Some((Leaf::Word(Kind::False), rest)) => Ok((Factor::False, rest)),
         Some((Leaf::Word(Kind::LeftBrace), rest)) => set(alloc, tokens, rest, depth),
         Some((Leaf::Word(Kind::LeftParen), rest)) => group(alloc, tokens, rest, depth),
-        Some((Leaf::Word(Kind::Tilde), rest)) => inverted(alloc, tokens, rest, depth),
+        Some((Leaf::Word(Kind::Tilde), rest)) => negated(alloc, tokens, rest, depth),
         _ => Err(Stop::Wrong(input)),
     }
 }
@@ -226,10 +245,10 @@ fn group(alloc: Global, tokens: &[Token], input: Input, depth: u32) -> Result<(F
     Ok((Factor::Group(inner), rest))
 }
 
-/// What stands behind a `~`.
+/// What stands behind a `~`: a factor, itself a level.
 #[cycle(expressions)]
-#[tactic(auto, using(ob_tree::proofs::ExpressionLayers::expressions_made))]
-fn inverted(
+#[tactic(auto, using(ob_tree::proofs::ExpressionLayers::expressions_made), unfolding(crate::specs::ReadExpressions::negated_at, crate::specs::Forms::limit_at))]
+fn negated(
     alloc: Global,
     tokens: &[Token],
     input: Input,
@@ -238,25 +257,11 @@ fn inverted(
     ensures { Gives tokens.now (λ x. (factor_outline x.0, ahead tokens.now x.1)) result
         (node constructs.Factor (prefixed (word kinds.Tilde) (negated_at depth)) (ahead tokens.now input)) }
 {
-    let (inner, rest) = negated(alloc, tokens, input, depth)?;
-    Ok((Factor::Not(boxed(alloc, inner)?), rest))
-}
-
-/// The factor behind a `~`, itself a level.
-#[cycle(expressions)]
-#[tactic(auto, unfolding(crate::specs::ReadExpressions::negated_at, crate::specs::Forms::limit_at))]
-fn negated(
-    alloc: Global,
-    tokens: &[Token],
-    input: Input,
-    depth: u32,
-) -> Result<(Factor, Input), Stop>
-    ensures { Gives tokens.now (λ x. (construct constructs.Negated (factor_outline x.0), ahead tokens.now x.1)) result (negated_at depth (ahead tokens.now input)) }
-{
     if depth == 0 {
         return Err(beyond(tokens, input, begins_factor(tokens, input)));
     }
-    factor(alloc, tokens, input, depth - 1)
+    let (factor, rest) = factor(alloc, tokens, input, depth - 1)?;
+    Ok((Factor::Not(boxed(alloc, factor)?), rest))
 }
 
 /// The elements of a set, if it isn't empty.
@@ -309,7 +314,7 @@ fn more_elements(
     let mut here = input;
     'more: while let Some(after) = accept(tokens, here, Kind::Comma) {
         let (next, after) = element(alloc, tokens, after, depth)?;
-        rest.push(Box::into_inner(next))?;
+        push(&mut rest, next)?;
         here = after;
     }
     Ok((rest, here))

@@ -10,8 +10,9 @@ ghost use Rattle.ob_parse.specs.ReadStatements.{block_at};
 ghost use Rattle.ob_parse.specs.ReadModules.{import_at, imports_at, declarations_at, body_with, module_at, all_of};
 ghost use Rattle.ob_parse.specs.Gives.{Gives, ahead};
 
-use crate::declarations::{body, declarations};
+use crate::declarations::declarations;
 use crate::input::Input;
+use crate::statements::block_behind;
 use crate::stop::{Stop, boxed};
 use crate::symbols::{accept, expect, identifier};
 use ob_scan::{Kind, Token};
@@ -131,6 +132,7 @@ pub(crate) fn module(
 }
 
 /// What stands behind the imports in the module of this name.
+#[tactic(auto, unfolding(crate::specs::ReadModules::body_with))]
 fn inside(
     alloc: Global,
     tokens: &[Token],
@@ -147,7 +149,7 @@ fn inside(
         (seq (name_at (repeated name)) (expect_at kinds.Dot)))) (ahead tokens.now input)) }
 {
     let (declarations, here) = declarations(alloc, tokens, input, depth)?;
-    let (body, here) = body(alloc, tokens, here, depth)?;
+    let (body, here) = block_behind(alloc, tokens, here, depth, Kind::Begin)?;
     let (end_name, here) = ending(tokens, here, name)?;
     Ok(((declarations, body, end_name), here))
 }

@@ -1,16 +1,12 @@
 //! Names (Oberon-07 report, section 4).
 
-ghost use Rattle.std.specs.Prelude.{◌≡◌, Ok};
-ghost use Rattle.ob_scan.specs.declared.kind.Kind.TheVariants as kinds;
-ghost use Rattle.ob_tree.specs.Marks.{word, if_so};
 ghost use Rattle.ob_tree.specs.Names.{qualident_outline, identdef_outline};
-ghost use Rattle.ob_parse.specs.Forms.{accept_at, nothing, optional};
 ghost use Rattle.ob_parse.specs.Gives.{Gives, ahead};
 ghost use Rattle.ob_parse.specs.ReadNames as readers;
 
 use crate::input::Input;
 use crate::stop::Stop;
-use crate::symbols::{accept, identifier};
+use crate::symbols::{accept, identifier, skip};
 use ob_scan::{Kind, Token};
 use ob_tree::name::{Identdef, Qualident};
 
@@ -47,22 +43,12 @@ pub(crate) fn qualident(tokens: &[Token], input: Input) -> Result<(Qualident, In
     qualident_after(tokens, head, rest)
 }
 
-/// Whether a star stands here, and the tokens behind it.
-pub(crate) fn star(tokens: &[Token], input: Input) -> (bool, Input)
-    ensures { Ok (if_so result.0 (word kinds.Star), ahead tokens.now result.1) ≡ optional (accept_at kinds.Star) nothing (ahead tokens.now input) }
-{
-    match accept(tokens, input, Kind::Star) {
-        None => (false, input),
-        Some(rest) => (true, rest),
-    }
-}
-
 /// A declaring identifier.
 #[tactic(auto, unfolding(ob_tree::specs::Names::identdef_outline, crate::specs::ReadNames::identdef_at, crate::specs::Forms::name_at))]
 pub(crate) fn identdef(tokens: &[Token], input: Input) -> Result<(Identdef, Input), Stop>
     ensures { Gives tokens.now (λ x. (identdef_outline x.0, ahead tokens.now x.1)) result (readers.identdef_at (ahead tokens.now input)) }
 {
     let (name, rest) = identifier(tokens, input)?;
-    let (starred, rest) = star(tokens, rest);
+    let (starred, rest) = skip(tokens, rest, Kind::Star);
     Ok((Identdef { name, starred }, rest))
 }

@@ -2,10 +2,10 @@
 
 ghost use Rattle.std.specs.Prelude.{◌++◌};
 ghost use Rattle.ob_scan.specs.declared.kind.Kind.TheVariants as kinds;
-ghost use Rattle.ob_tree.specs.Marks.{word, declared, if_there, if_so, each_after, listed, times};
+ghost use Rattle.ob_tree.specs.Marks.{word, declared, if_there, each_after, listed, times};
 ghost use Rattle.ob_tree.specs.Names.{qualident_outline};
 ghost use Rattle.ob_tree.specs.Types.{section_outline, parameters_outline};
-ghost use Rattle.ob_parse.specs.Forms.{optional, accept_at, expect_at, name_at, nothing, many, several, unless};
+ghost use Rattle.ob_parse.specs.Forms.{optional, accept_at, expect_at, name_at, many, several, unless};
 ghost use Rattle.ob_parse.specs.ReadNames.{qualident_at};
 ghost use Rattle.ob_parse.specs.ReadTypes.{section_at, parameters_at, some_parameters_at};
 ghost use Rattle.ob_parse.specs.Gives.{Gives, ahead};
@@ -13,7 +13,7 @@ ghost use Rattle.ob_parse.specs.Gives.{Gives, ahead};
 use crate::input::Input;
 use crate::names::qualident;
 use crate::stop::Stop;
-use crate::symbols::{accept, expect, identifier, is_at};
+use crate::symbols::{accept, expect, identifier, is_at, skip};
 use ob_scan::{Kind, Token};
 use ob_tree::declaration::{ParameterSection, Parameters};
 use ob_tree::name::{OneOrMore, Qualident};
@@ -64,22 +64,12 @@ fn open_arrays(tokens: &[Token], input: Input) -> Result<(u32, Input), Stop>
     Ok((count, here))
 }
 
-/// Whether VAR stands here, and what follows.
-fn variable(tokens: &[Token], input: Input) -> Result<(bool, Input), Stop>
-    ensures { Gives tokens.now (λ x. (if_so x.0 (word kinds.Var), ahead tokens.now x.1)) result (optional (accept_at kinds.Var) nothing (ahead tokens.now input)) }
-{
-    match accept(tokens, input, Kind::Var) {
-        Some(rest) => Ok((true, rest)),
-        None => Ok((false, input)),
-    }
-}
-
 /// Parameters of one formal type.
 #[tactic(auto, using(ob_tree::proofs::TypeLayers::types_made), unfolding(crate::specs::ReadTypes::section_at))]
 fn section(alloc: Global, tokens: &[Token], input: Input) -> Result<(ParameterSection, Input), Stop>
     ensures { Gives tokens.now (λ x. (section_outline x.0, ahead tokens.now x.1)) result (section_at (ahead tokens.now input)) }
 {
-    let (variable, here) = variable(tokens, input)?;
+    let (variable, here) = skip(tokens, input, Kind::Var);
     let (names, here) = names(alloc, tokens, here)?;
     let here = expect(tokens, here, Kind::Colon)?;
     let (open_arrays, here) = open_arrays(tokens, here)?;

@@ -9,13 +9,14 @@ ghost use Rattle.ob_parse.specs.ReadStatements.{assign_with, block_at, branch_wi
 ghost use Rattle.ob_scan.specs.declared.kind.Kind.TheVariants as kinds;
 ghost use Rattle.ob_tree.specs.Constructs as constructs;
 ghost use Rattle.ob_tree.specs.Expressions.{expr_outline};
+ghost use Rattle.ob_tree.specs.Marks as marks;
 ghost use Rattle.ob_tree.specs.Marks.{each_after, if_there, word};
 ghost use Rattle.ob_tree.specs.Statements.{block_outline, branch_outline, case_outline, stmt_outline};
 
-use crate::expressions::{designator, expression};
+use crate::expressions::{designator, expression, expression_behind};
 use crate::input::Input;
 use crate::labels::{begins_label, label_ranges};
-use crate::stop::{Stop, boxed};
+use crate::stop::{Stop, boxed, push};
 use crate::symbols::{accept, expect, identifier};
 use ob_scan::{Kind, Token};
 use ob_tree::expression::Expr;
@@ -147,7 +148,7 @@ fn more_statements(
     let mut here = input;
     'more: while let Some(after) = accept(tokens, here, Kind::Semicolon) {
         let (next, after) = statement(alloc, tokens, after, depth)?;
-        rest.push(Box::into_inner(next))?;
+        push(&mut rest, next)?;
         here = after;
     }
     Ok((rest, here))
@@ -190,23 +191,24 @@ fn more_branches(
     let mut here = input;
     'more: while let Some(after) = accept(tokens, here, Kind::Elsif) {
         let (next, after) = branch(alloc, tokens, after, depth, keyword)?;
-        rest.push(Box::into_inner(next))?;
+        push(&mut rest, next)?;
         here = after;
     }
     Ok((rest, here))
 }
 
-/// The statements after ELSE, if it stands here.
+/// The statements behind a word, if this stands here.
 #[cycle(statements)]
-fn otherwise(
+pub(crate) fn block_behind(
     alloc: Global,
     tokens: &[Token],
     input: Input,
     depth: u32,
+    word: Kind,
 ) -> Result<(Option<Box<Block>>, Input), Stop>
-    ensures { Gives tokens.now (λ x. (if_there (λ b. word kinds.Else ++ block_outline b.value) x.0, ahead tokens.now x.1)) result (optional (accept_at kinds.Else) (block_at depth) (ahead tokens.now input)) }
+    ensures { Gives tokens.now (λ x. (if_there (λ b. marks.word word ++ block_outline b.value) x.0, ahead tokens.now x.1)) result (optional (accept_at word) (block_at depth) (ahead tokens.now input)) }
 {
-    match accept(tokens, input, Kind::Else) {
+    match accept(tokens, input, word) {
         None => Ok((None, input)),
         Some(rest) => {
             let (body, rest) = block(alloc, tokens, rest, depth)?;
@@ -228,7 +230,7 @@ fn if_statement(
 {
     let (first, input) = branch(alloc, tokens, input, depth, Kind::Then)?;
     let (rest, input) = more_branches(alloc, tokens, input, depth, Kind::Then)?;
-    let (otherwise, input) = otherwise(alloc, tokens, input, depth)?;
+    let (otherwise, input) = block_behind(alloc, tokens, input, depth, Kind::Else)?;
     let input = expect(tokens, input, Kind::End)?;
     Ok((Stmt::If(first, rest, otherwise), input))
 }
@@ -300,7 +302,7 @@ fn more_cases(
     let mut here = input;
     'more: while let Some(after) = accept(tokens, here, Kind::Bar) {
         let (next, after) = case(alloc, tokens, after, depth)?;
-        rest.push(Box::into_inner(next))?;
+        push(&mut rest, next)?;
         here = after;
     }
     Ok((rest, here))
@@ -383,7 +385,7 @@ fn for_rest(
 {
     let input = expect(tokens, input, Kind::To)?;
     let (to, input) = expression(alloc, tokens, input, depth)?;
-    let (by, input) = for_step(alloc, tokens, input, depth)?;
+    let (by, input) = expression_behind(alloc, tokens, input, depth, Kind::By)?;
     let (body, input) = for_body(alloc, tokens, input, depth)?;
     Ok(((to, by, body), input))
 }
@@ -402,24 +404,6 @@ fn for_body(
     let (body, input) = block(alloc, tokens, input, depth)?;
     let input = expect(tokens, input, Kind::End)?;
     Ok((body, input))
-}
-
-/// The step of a FOR statement after BY, if it stands here.
-fn for_step(
-    alloc: Global,
-    tokens: &[Token],
-    input: Input,
-    depth: u32,
-) -> Result<(Option<Box<Expr>>, Input), Stop>
-    ensures { Gives tokens.now (λ x. (if_there (λ e. word kinds.By ++ expr_outline e.value) x.0, ahead tokens.now x.1)) result (optional (accept_at kinds.By) (expr_at depth) (ahead tokens.now input)) }
-{
-    match accept(tokens, input, Kind::By) {
-        None => Ok((None, input)),
-        Some(rest) => {
-            let (step, rest) = expression(alloc, tokens, rest, depth)?;
-            Ok((Some(step), rest))
-        }
-    }
 }
 
 /// The step of a FOR statement, out of its box.

@@ -1,6 +1,6 @@
 //! Why the parser stops.
 
-ghost use Rattle.std.specs.Prelude.{◌≡◌, IfOk, IfErr};
+ghost use Rattle.std.specs.Prelude.{◌≡◌, [], ◌∷◌, ◌++◌, IfOk, IfErr};
 ghost use Rattle.ob_parse.specs.declared.stop.Stop.TheVariants.{Memory};
 
 use crate::input::Input;
@@ -39,4 +39,13 @@ pub(crate) fn boxed<T: Drop>(alloc: Global, value: T) -> Result<Box<T>, Stop>
     ensures refused { IfErr result (λ stop. stop ≡ Memory) }
 {
     Ok(Box::new(alloc, value)?)
+}
+
+/// One more at the end of a list, out of its box.
+pub(crate) fn push<T: Drop>(list: &mut Vec<T>, item: Box<T>) -> Result<(), Stop>
+    ensures items { IfOk result (λ _. list.new.items ≡ list.old.items ++ item.value ∷ []) }
+    ensures refused { IfErr result (λ stop. stop ≡ Memory) }
+{
+    list.push(Box::into_inner(item))?;
+    Ok(())
 }

@@ -1,10 +1,10 @@
 //! One token: expected, accepted or looked at.
 
-ghost use Rattle.std.specs.Prelude.{◌≡◌};
+ghost use Rattle.std.specs.Prelude.{◌≡◌, Ok};
 ghost use Rattle.ob_parse.specs.Front.{uncons, front, is_word};
-ghost use Rattle.ob_parse.specs.Forms.{expect_at, accept_at, identifier_at, limited};
+ghost use Rattle.ob_parse.specs.Forms.{expect_at, accept_at, identifier_at, limited, nothing, optional};
 ghost use Rattle.ob_parse.specs.Gives.{Fails, Gives, ahead, skipped};
-ghost use Rattle.ob_tree.specs.Marks.{word};
+ghost use Rattle.ob_tree.specs.Marks.{if_so, word};
 
 use crate::input::Input;
 use crate::stop::Stop;
@@ -30,6 +30,16 @@ pub(crate) fn accept(tokens: &[Token], input: Input, kind: Kind) -> Option<Input
     match input.next(tokens) {
         Some((Leaf::Word(found), rest)) if found == kind => Some(rest),
         _ => None,
+    }
+}
+
+/// Whether a token of this kind stands here, and the tokens behind it then.
+pub(crate) fn skip(tokens: &[Token], input: Input, kind: Kind) -> (bool, Input)
+    ensures { Ok (if_so result.0 (word kind), ahead tokens.now result.1) ≡ optional (accept_at kind) nothing (ahead tokens.now input) }
+{
+    match accept(tokens, input, kind) {
+        None => (false, input),
+        Some(rest) => (true, rest),
     }
 }
 

@@ -3,11 +3,11 @@
 ghost use Rattle.std.specs.Prelude.{◌≡◌, ◌++◌};
 ghost use Rattle.ob_scan.specs.declared.kind.Kind.TheVariants as kinds;
 ghost use Rattle.ob_tree.specs.Constructs as constructs;
-ghost use Rattle.ob_tree.specs.Marks.{construct, word, if_there, if_so, each_after, listed};
+ghost use Rattle.ob_tree.specs.Marks.{construct, word, if_there, each_after, listed};
 ghost use Rattle.ob_tree.specs.Names.{qualident_outline, identdef_outline};
-ghost use Rattle.ob_tree.specs.Types.{type_outline, fields_outline, record_outline, var_outline};
+ghost use Rattle.ob_tree.specs.Types.{type_outline, fields_outline, var_outline};
 ghost use Rattle.ob_parse.specs.Front.{front, uncons};
-ghost use Rattle.ob_parse.specs.Forms.{optional, accept_at, expect_at, nothing, many, several, unless, seq, node, prefixed};
+ghost use Rattle.ob_parse.specs.Forms.{optional, accept_at, expect_at, many, several, unless, seq, node, prefixed};
 ghost use Rattle.ob_parse.specs.ReadExpressions.{expr_at};
 ghost use Rattle.ob_parse.specs.ReadNames as names;
 ghost use Rattle.ob_parse.specs.ReadNames.{qualident_at, identdef_at};
@@ -18,8 +18,8 @@ use crate::expressions::expression_list;
 use crate::input::Input;
 use crate::names::{identdef, qualident, qualident_after};
 use crate::parameters::some_parameters;
-use crate::stop::{Stop, boxed};
-use crate::symbols::{accept, beyond, expect, is_at};
+use crate::stop::{Stop, boxed, push};
+use crate::symbols::{accept, beyond, expect, is_at, skip};
 use ob_scan::{Kind, Token};
 use ob_tree::declaration::{Fields, Record, TypeForm, VarDecl};
 use ob_tree::name::{Identdef, OneOrMore, Qualident};
@@ -132,20 +132,10 @@ fn more_fields(
     let mut here = input;
     'more: while let Some(after) = next_fields(tokens, here) {
         let (next, after) = field_list(alloc, tokens, after, depth)?;
-        rest.push(Box::into_inner(next))?;
+        push(&mut rest, next)?;
         here = after;
     }
     Ok((rest, here))
-}
-
-/// Whether a semicolon stands here, and what follows.
-fn semicolon(tokens: &[Token], input: Input) -> Result<(bool, Input), Stop>
-    ensures { Gives tokens.now (λ x. (if_so x.0 (word kinds.Semicolon), ahead tokens.now x.1)) result (optional (accept_at kinds.Semicolon) nothing (ahead tokens.now input)) }
-{
-    match accept(tokens, input, Kind::Semicolon) {
-        Some(rest) => Ok((true, rest)),
-        None => Ok((false, input)),
-    }
 }
 
 /// The field lists of a record.
@@ -161,7 +151,7 @@ fn fields(
 {
     let (first, here) = field_list(alloc, tokens, input, depth)?;
     let (rest, here) = more_fields(alloc, tokens, here, depth)?;
-    let (closing_semicolon, here) = semicolon(tokens, here)?;
+    let (closing_semicolon, here) = skip(tokens, here, Kind::Semicolon);
     let fields = Fields {
         first: Box::into_inner(first),
         rest,
@@ -203,23 +193,6 @@ fn some_fields(
     Ok((Some(fields), here))
 }
 
-/// A record, behind RECORD.
-#[cycle(types)]
-#[tactic(auto, using(ob_tree::proofs::TypeLayers::types_made), unfolding(crate::specs::ReadTypes::record_with))]
-fn record(
-    alloc: Global,
-    tokens: &[Token],
-    input: Input,
-    depth: u32,
-) -> Result<(Record, Input), Stop>
-    ensures { Gives tokens.now (λ x. (record_outline x.0, ahead tokens.now x.1)) result (prefixed (word kinds.Record) (record_with (type_at depth)) (ahead tokens.now input)) }
-{
-    let (base, here) = base(tokens, input)?;
-    let (fields, here) = some_fields(alloc, tokens, here, depth)?;
-    let here = expect(tokens, here, Kind::End)?;
-    Ok((Record { base, fields }, here))
-}
-
 /// A type, with at most so many levels in its parts.
 #[cycle(types)]
 #[tactic(auto, using(ob_tree::proofs::TypeLayers::types_made), unfolding(crate::specs::ReadTypes::type_with))]
@@ -234,7 +207,7 @@ fn type_within(
     match input.next(tokens) {
         Some((Leaf::Name(head), rest)) => named(tokens, head, rest),
         Some((Leaf::Word(Kind::Array), rest)) => array(alloc, tokens, rest, depth),
-        Some((Leaf::Word(Kind::Record), rest)) => record_form(alloc, tokens, rest, depth),
+        Some((Leaf::Word(Kind::Record), rest)) => record(alloc, tokens, rest, depth),
         Some((Leaf::Word(Kind::Pointer), rest)) => pointer(alloc, tokens, rest, depth),
         Some((Leaf::Word(Kind::Procedure), rest)) => procedure(alloc, tokens, rest),
         _ => Err(Stop::Wrong(input)),
@@ -270,8 +243,8 @@ fn array(
 
 /// What stands behind RECORD.
 #[cycle(types)]
-#[tactic(auto, using(ob_tree::proofs::TypeLayers::types_made))]
-fn record_form(
+#[tactic(auto, using(ob_tree::proofs::TypeLayers::types_made), unfolding(crate::specs::ReadTypes::record_with))]
+fn record(
     alloc: Global,
     tokens: &[Token],
     input: Input,
@@ -280,8 +253,10 @@ fn record_form(
     ensures { Gives tokens.now (λ x. (type_outline x.0, ahead tokens.now x.1)) result
         (node constructs.TypeForm (prefixed (word kinds.Record) (record_with (type_at depth))) (ahead tokens.now input)) }
 {
-    let (record, rest) = record(alloc, tokens, input, depth)?;
-    Ok((TypeForm::RecordOf(record), rest))
+    let (base, here) = base(tokens, input)?;
+    let (fields, here) = some_fields(alloc, tokens, here, depth)?;
+    let here = expect(tokens, here, Kind::End)?;
+    Ok((TypeForm::RecordOf(Record { base, fields }), here))
 }
 
 /// What stands behind POINTER.

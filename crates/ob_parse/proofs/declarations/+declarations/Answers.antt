@@ -1,4 +1,4 @@
-use Rattle.std.proofs.Common.{ℕ, ◌++◌, [], sym, ap, ◌∙◌}
+use Rattle.std.proofs.Common.{refl, ℕ, ◌++◌, [], sym, ap, ◌∙◌}
 use Rattle.std.proofs.lemmas.Result.{err_from_is_err_and}
 use Rattle.ob_scan.specs.declared.kind.Kind.TheVariants as kinds
 use Rattle.ob_tree.specs.declared.declaration.ProcDecl.{ProcDecl}
@@ -24,8 +24,8 @@ procedures-more-smaller t c = smaller (begins (is_word kinds.Procedure)) (declar
     (has_begun (is_word kinds.Procedure) _ (sym c.is_at.ensures ∙ c.more-test.true)) c.in_ok-next.ensures
 
 pub procedures-more-preserved : goal.procedures-more-preserved
-procedures-more-preserved t c = pushed (begins (is_word kinds.Procedure)) (declared_at c.args.depth) (procedure_advances c.args.depth) shown c.more.declared.items _ c.into_inner.result
-    (ahead c.args.tokens.now c.more.here) ([], ahead c.args.tokens.now c.more.here) _ _ c.in_ok-push.ensures.items (has_begun (is_word kinds.Procedure) _ (sym c.is_at.ensures ∙ c.more-test.true)) c.in_ok-next.ensures (ap shown c.into_inner.ensures) c.more.invariant
+procedures-more-preserved t c = pushed (begins (is_word kinds.Procedure)) (declared_at c.args.depth) (procedure_advances c.args.depth) shown c.more.declared.items _ c.in_ok-next.next.value
+    (ahead c.args.tokens.now c.more.here) ([], ahead c.args.tokens.now c.more.here) _ _ c.in_ok-push.ensures.items (has_begun (is_word kinds.Procedure) _ (sym c.is_at.ensures ∙ c.more-test.true)) c.in_ok-next.ensures refl c.more.invariant
 
 pub procedures-returns-in_err-next : goal.procedures-returns-in_err-next
 procedures-returns-in_err-next t c =

@@ -27,7 +27,7 @@ more-smaller c = smaller (begins is_name) (declared_at c.args.depth) (advances c
     (has_begun is_name _ (sym c.begins_declaration.ensures ∙ c.more-test.true)) c.in_ok-next.ensures
 
 pub more-preserved : goal.more-preserved
-more-preserved c = pushed (begins is_name) (declared_at c.args.depth) (advances c.args.depth) shown c.more.declared.items _ c.in_ok-next.next (ahead c.args.tokens.now c.more.here) ([], ahead c.args.tokens.now c.more.here) _ _
+more-preserved c = pushed (begins is_name) (declared_at c.args.depth) (advances c.args.depth) shown c.more.declared.items _ c.in_ok-next.next.value (ahead c.args.tokens.now c.more.here) ([], ahead c.args.tokens.now c.more.here) _ _
     c.in_ok-push.ensures.items (has_begun is_name _ (sym c.begins_declaration.ensures ∙ c.more-test.true)) c.in_ok-next.ensures refl c.more.invariant
 
 pub returns-in_err-next : goal.returns-in_err-next

@@ -82,8 +82,8 @@ more_expressions-more-smaller t c =
 pub more_expressions-more-preserved : goal.more_expressions-more-preserved
 more_expressions-more-preserved t c =
     pushed_after (accept_at kinds.Comma) (expr_at c.args.depth) (comma_adv c.args.depth)
-    expr_outline kinds.Comma c.more.rest.items _ c.into_inner.result (ahead c.args.tokens.now c.more.here) (ahead c.args.tokens.now c.in-Some.after) _ _ c.in_ok-push.ensures.items
-    (sym c.in-Some.ensures) c.in_ok-next.ensures (ap expr_outline c.into_inner.ensures) c.more.invariant
+    expr_outline kinds.Comma c.more.rest.items _ c.in_ok-next.next.value (ahead c.args.tokens.now c.more.here) (ahead c.args.tokens.now c.in-Some.after) _ _ c.in_ok-push.ensures.items
+    (sym c.in-Some.ensures) c.in_ok-next.ensures refl c.more.invariant
 
 pub more_expressions-returns-in_err-next : goal.more_expressions-returns-in_err-next
 more_expressions-returns-in_err-next t c =
@@ -106,8 +106,8 @@ more_elements-more-smaller t c =
 pub more_elements-more-preserved : goal.more_elements-more-preserved
 more_elements-more-preserved t c =
     pushed_after (accept_at kinds.Comma) (element_with (expr_at c.args.depth)) (element_adv c.args.depth)
-    element_outline kinds.Comma c.more.rest.items _ c.into_inner.result (ahead c.args.tokens.now c.more.here) (ahead c.args.tokens.now c.in-Some.after) _ _ c.in_ok-push.ensures.items
-    (sym c.in-Some.ensures) c.in_ok-next.ensures (ap element_outline c.into_inner.ensures) c.more.invariant
+    element_outline kinds.Comma c.more.rest.items _ c.in_ok-next.next.value (ahead c.args.tokens.now c.more.here) (ahead c.args.tokens.now c.in-Some.after) _ _ c.in_ok-push.ensures.items
+    (sym c.in-Some.ensures) c.in_ok-next.ensures refl c.more.invariant
 
 pub more_elements-returns-in_err-next : goal.more_elements-returns-in_err-next
 more_elements-returns-in_err-next t c =

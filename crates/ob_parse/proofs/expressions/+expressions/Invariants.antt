@@ -15,7 +15,7 @@ abbrev pub decreases-high : goal.decreases-high
 decreases-high l = 16 * l.depth + 1
 
 abbrev pub decreases-negated : goal.decreases-negated
-decreases-negated l = 16 * l.depth + 0
+decreases-negated l = 16 * l.depth + 8
 
 abbrev pub decreases-element : goal.decreases-element
 decreases-element l = 16 * l.depth + 2
@@ -73,9 +73,6 @@ decreases-set l = 16 * l.depth + 8
 
 abbrev pub decreases-group : goal.decreases-group
 decreases-group l = 16 * l.depth + 8
-
-abbrev pub decreases-inverted : goal.decreases-inverted
-decreases-inverted l = 16 * l.depth + 8
 
 abbrev pub decreases-sum : goal.decreases-sum
 decreases-sum l = 16 * l.depth + 13

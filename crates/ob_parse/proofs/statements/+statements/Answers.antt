@@ -1,4 +1,4 @@
-use Rattle.std.proofs.Common.{ℕ, sym, ap, ◌∙◌}
+use Rattle.std.proofs.Common.{refl, ℕ, sym, ap, ◌∙◌}
 use Rattle.std.proofs.lemmas.Result.{err_from_is_err_and}
 use Rattle.ob_scan.specs.declared.kind.Kind.{Kind}
 use Rattle.ob_scan.specs.declared.kind.Kind.TheVariants as kinds
@@ -31,8 +31,8 @@ more_statements-more-smaller t c =
 pub more_statements-more-preserved : goal.more_statements-more-preserved
 more_statements-more-preserved t c =
     pushed_after (accept_at kinds.Semicolon) (statement_at c.args.depth) (semicolon_adv c.args.depth)
-    stmt_outline kinds.Semicolon c.more.rest.items _ c.into_inner.result (ahead c.args.tokens.now c.more.here) (ahead c.args.tokens.now c.in-Some.after) _ _ c.in_ok-push.ensures.items
-    (sym c.in-Some.ensures) c.in_ok-next.ensures (ap stmt_outline c.into_inner.ensures) c.more.invariant
+    stmt_outline kinds.Semicolon c.more.rest.items _ c.in_ok-next.next.value (ahead c.args.tokens.now c.more.here) (ahead c.args.tokens.now c.in-Some.after) _ _ c.in_ok-push.ensures.items
+    (sym c.in-Some.ensures) c.in_ok-next.ensures refl c.more.invariant
 
 pub more_statements-returns-in_err-next : goal.more_statements-returns-in_err-next
 more_statements-returns-in_err-next t c =
@@ -55,8 +55,8 @@ more_branches-more-smaller t c =
 pub more_branches-more-preserved : goal.more_branches-more-preserved
 more_branches-more-preserved t c =
     pushed_after (accept_at kinds.Elsif) (branch_with (expr_at c.args.depth) (block_at c.args.depth) c.args.keyword) (elsif_adv c.args.depth c.args.keyword)
-    (λ b. branch_outline b c.args.keyword) kinds.Elsif c.more.rest.items _ c.into_inner.result (ahead c.args.tokens.now c.more.here) (ahead c.args.tokens.now c.in-Some.after) _ _ c.in_ok-push.ensures.items
-    (sym c.in-Some.ensures) c.in_ok-next.ensures (ap (λ b. branch_outline b c.args.keyword) c.into_inner.ensures) c.more.invariant
+    (λ b. branch_outline b c.args.keyword) kinds.Elsif c.more.rest.items _ c.in_ok-next.next.value (ahead c.args.tokens.now c.more.here) (ahead c.args.tokens.now c.in-Some.after) _ _ c.in_ok-push.ensures.items
+    (sym c.in-Some.ensures) c.in_ok-next.ensures refl c.more.invariant
 
 pub more_branches-returns-in_err-next : goal.more_branches-returns-in_err-next
 more_branches-returns-in_err-next t c =
@@ -81,8 +81,8 @@ more_cases-more-smaller t c =
 pub more_cases-more-preserved : goal.more_cases-more-preserved
 more_cases-more-preserved t c =
     pushed_after (accept_at kinds.Bar) (case_with (block_at c.args.depth)) (bar_adv c.args.depth)
-    case_outline kinds.Bar c.more.rest.items _ c.into_inner.result (ahead c.args.tokens.now c.more.here) (ahead c.args.tokens.now c.in-Some.after) _ _ c.in_ok-push.ensures.items
-    (sym c.in-Some.ensures) c.in_ok-next.ensures (ap case_outline c.into_inner.ensures) c.more.invariant
+    case_outline kinds.Bar c.more.rest.items _ c.in_ok-next.next.value (ahead c.args.tokens.now c.more.here) (ahead c.args.tokens.now c.in-Some.after) _ _ c.in_ok-push.ensures.items
+    (sym c.in-Some.ensures) c.in_ok-next.ensures refl c.more.invariant
 
 pub more_cases-returns-in_err-next : goal.more_cases-returns-in_err-next
 more_cases-returns-in_err-next t c =

@@ -24,8 +24,8 @@ decreases-branch l = 16 * l.depth + 3
 abbrev pub decreases-case : goal.decreases-case
 decreases-case l = 16 * l.depth + 4
 
-abbrev pub decreases-otherwise : goal.decreases-otherwise
-decreases-otherwise l = 16 * l.depth + 5
+abbrev pub decreases-block_behind : goal.decreases-block_behind
+decreases-block_behind l = 16 * l.depth + 5
 
 abbrev pub decreases-more_branches : goal.decreases-more_branches
 decreases-more_branches l = 16 * l.depth + 6

@@ -27,8 +27,8 @@ pub more_fields-more-smaller : goal.more_fields-more-smaller
 more_fields-more-smaller t c = smaller field_start (field_at c.args.depth) (advances c.args.depth) (ahead c.args.tokens.now c.more.here) _ _ (sym c.in-Some.ensures) c.in_ok-next.ensures
 
 pub more_fields-more-preserved : goal.more_fields-more-preserved
-more_fields-more-preserved t c = pushed_after field_start (field_at c.args.depth) (advances c.args.depth) field_outline kinds.Semicolon c.more.rest.items _ c.into_inner.result
-    (ahead c.args.tokens.now c.more.here) (ahead c.args.tokens.now c.in-Some.after) _ _ c.in_ok-push.ensures.items (sym c.in-Some.ensures) c.in_ok-next.ensures (ap field_outline c.into_inner.ensures) c.more.invariant
+more_fields-more-preserved t c = pushed_after field_start (field_at c.args.depth) (advances c.args.depth) field_outline kinds.Semicolon c.more.rest.items _ c.in_ok-next.next.value
+    (ahead c.args.tokens.now c.more.here) (ahead c.args.tokens.now c.in-Some.after) _ _ c.in_ok-push.ensures.items (sym c.in-Some.ensures) c.in_ok-next.ensures refl c.more.invariant
 
 pub more_fields-returns-in_err-next : goal.more_fields-returns-in_err-next
 more_fields-returns-in_err-next t c =

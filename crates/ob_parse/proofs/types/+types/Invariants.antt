@@ -44,8 +44,5 @@ decreases-type_within l = 16 * l.depth + 8
 abbrev pub decreases-array : goal.decreases-array
 decreases-array l = 16 * l.depth + 7
 
-abbrev pub decreases-record_form : goal.decreases-record_form
-decreases-record_form l = 16 * l.depth + 7
-
 abbrev pub decreases-pointer : goal.decreases-pointer
 decreases-pointer l = 16 * l.depth + 7
