@@ -1,16 +1,18 @@
-use Rattle.std.proofs.Common.{refl, ℕ, ◌++◌, [], sym, ap, ◌∙◌}
+use Rattle.std.proofs.Common.{refl, ℕ, ◌++◌, [], sym, ap, ◌∙◌, arith}
 use Rattle.std.proofs.lemmas.Result.{err_from_is_err_and}
 use Rattle.ob_scan.specs.declared.kind.Kind.TheVariants as kinds
 use Rattle.ob_tree.specs.declared.declaration.ProcDecl.{ProcDecl}
 use Rattle.ob_tree.specs.Marks.{Out, word, each}
 use Rattle.ob_tree.specs.Declaring.{procedure_outline}
 use Rattle.ob_parse.specs.Front.{is_word}
-use Rattle.ob_parse.specs.Forms.{Reader, many, begins}
+use Rattle.ob_parse.specs.Forms.{Reader, many, begins, limit_at, name_at}
 use Rattle.ob_parse.specs.Gives.{ahead}
-use Rattle.ob_parse.specs.ReadModules.{ended, procedure_at}
+use Rattle.ob_parse.specs.ReadModules.{ended, procedure_at, declarations_with, procedure_named, procedure_with, procedures_with}
 use Rattle.ob_parse.proofs.Loops.{pushed, smaller, is_done, has_begun, has_not_begun}
 use Rattle.ob_parse.proofs.LoopEnds.{ends}
 use Rattle.ob_parse.proofs.LoopProcedures.{procedure_advances}
+use Rattle.ob_tree.proofs.DeclarationLayers.{declaring_made}
+use Rattle.ob_tree.proofs.NameLayers.{names_made}
 use Rattle.ob_parse.proofs.declarations.+declarations.Goals as goal
 
 abbrev declared_at : ℕ → Reader
@@ -39,3 +41,19 @@ pub procedures-returns : goal.procedures-returns
 procedures-returns t c = is_done (begins (is_word kinds.Procedure)) (declared_at c.args.depth) (procedure_advances c.args.depth) (each shown c.more.declared.items) (ahead c.args.tokens.now c.more.here)
     (many (begins (is_word kinds.Procedure)) (declared_at c.args.depth) (ahead c.args.tokens.now c.args.input))
     (has_not_begun (is_word kinds.Procedure) _ (sym c.is_at.ensures ∙ c.more-test.false)) c.more.invariant
+
+pub declarations-returns : goal.declarations-returns
+unfolding declarations_with procedures_with
+declarations-returns t c = grind (arith, declaring_made)
+
+pub procedure-returns : goal.procedure-returns
+unfolding procedure_at limit_at
+procedure-returns t c = grind arith
+
+pub procedure-returns-then-depth-eq0 : goal.procedure-returns-then-depth-eq0
+unfolding procedure_at limit_at
+procedure-returns-then-depth-eq0 t c = grind arith
+
+pub procedure_within-returns : goal.procedure_within-returns
+unfolding procedure_with procedure_named name_at
+procedure_within-returns t c = grind (arith, declaring_made, names_made)

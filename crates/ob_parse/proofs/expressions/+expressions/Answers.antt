@@ -1,14 +1,15 @@
-use Rattle.std.proofs.Common.{ℕ, ◌++◌, [], refl, sym, ap, ◌∙◌}
+use Rattle.std.proofs.Common.{ℕ, ◌++◌, [], refl, sym, ap, ◌∙◌, arith}
 use Rattle.std.proofs.lemmas.Result.{err_from_is_err_and}
 use Rattle.ob_scan.specs.declared.kind.Kind.TheVariants as kinds
 use Rattle.ob_tree.specs.Marks.{word, each, each_after}
 use Rattle.ob_tree.specs.Expressions.{mul_kind, add_kind, expr_outline, term_outline, factor_outline, element_outline, selector_outline}
-use Rattle.ob_parse.specs.Forms.{many, begins, accept_at}
+use Rattle.ob_parse.specs.Forms.{many, begins, accept_at, limit_at, name_at, several, unless}
 use Rattle.ob_parse.specs.Gives.{ahead, seen, skipped}
-use Rattle.ob_parse.specs.ReadExpressions.{mul_start, add_start, selector_first, element_with, selector_with, factor_at, term_at, expr_at}
+use Rattle.ob_parse.specs.ReadExpressions.{mul_start, add_start, selector_first, element_with, selector_with, factor_at, term_at, expr_at, designator_with, expr_with, factor_with, negated_at, sum_with, term_with}
 use Rattle.ob_parse.proofs.LoopEnds.{ends}
 use Rattle.ob_parse.proofs.Loops.{Advances, pushed, pushed_after, smaller, is_done, mul_advances, add_advances, accept_advances, selector_advances, marked_some, marked_none, has_begun, has_not_begun}
 use Rattle.ob_parse.proofs.SoundExpressions.{expr_at_sound, element_sound, factor_at_sound, term_at_sound}
+use Rattle.ob_tree.proofs.ExpressionLayers.{expressions_made}
 use Rattle.ob_parse.proofs.expressions.+expressions.Goals as goal
 
 mul_adv : (d : ℕ) → Advances mul_start (factor_at d)
@@ -145,3 +146,130 @@ more_selectors-returns t c =
     is_done (begins selector_first) (selector_with (expr_at c.args.depth)) (selector_adv c.args.depth)
     (each selector_outline c.more.selectors.items) (ahead c.args.tokens.now c.more.here) (many (begins selector_first) (selector_with (expr_at c.args.depth)) (ahead c.args.tokens.now c.args.input))
     (has_not_begun selector_first (ahead c.args.tokens.now c.more.here) (sym c.begins_selector.ensures ∙ c.more-test.false)) c.more.invariant
+
+pub arguments-returns : goal.arguments-returns
+unfolding unless
+arguments-returns t c = grind arith
+
+pub arguments-returns-then-is_at : goal.arguments-returns-then-is_at
+unfolding unless
+arguments-returns-then-is_at t c = grind arith
+
+pub call-returns : goal.call-returns
+call-returns t c = grind (arith, expressions_made)
+
+pub designator-returns : goal.designator-returns
+unfolding designator_with
+designator-returns t c = grind (arith, expressions_made)
+
+pub element-returns : goal.element-returns
+unfolding element_with
+element-returns t c = grind (arith, expressions_made)
+
+pub element_list-returns : goal.element_list-returns
+unfolding several
+element_list-returns t c = grind (arith, expressions_made)
+
+pub elements-returns : goal.elements-returns
+unfolding unless
+elements-returns t c = grind arith
+
+pub elements-returns-then-is_at : goal.elements-returns-then-is_at
+unfolding unless
+elements-returns-then-is_at t c = grind arith
+
+pub expression-returns : goal.expression-returns
+unfolding expr_at expr_with limit_at
+expression-returns t c = grind (arith, expressions_made)
+
+pub expression-returns-then-depth-eq0 : goal.expression-returns-then-depth-eq0
+unfolding expr_at expr_with limit_at
+expression-returns-then-depth-eq0 t c = grind (arith, expressions_made)
+
+pub expression_list-returns : goal.expression_list-returns
+unfolding several
+expression_list-returns t c = grind (arith, expressions_made)
+
+pub factor-returns-in-Some-Name-default : goal.factor-returns-in-Some-Name-default
+unfolding factor_with
+factor-returns-in-Some-Name-default t c = grind (arith, expressions_made)
+
+pub factor-returns-in-Some-Value-default : goal.factor-returns-in-Some-Value-default
+unfolding factor_with
+factor-returns-in-Some-Value-default t c = grind (arith, expressions_made)
+
+pub factor-returns-in-Some-Word-False-default : goal.factor-returns-in-Some-Word-False-default
+unfolding factor_with
+factor-returns-in-Some-Word-False-default t c = grind (arith, expressions_made)
+
+pub factor-returns-in-Some-Word-LeftBrace-default : goal.factor-returns-in-Some-Word-LeftBrace-default
+unfolding factor_with
+factor-returns-in-Some-Word-LeftBrace-default t c = grind (arith, expressions_made)
+
+pub factor-returns-in-Some-Word-LeftParen-default : goal.factor-returns-in-Some-Word-LeftParen-default
+unfolding factor_with
+factor-returns-in-Some-Word-LeftParen-default t c = grind (arith, expressions_made)
+
+pub factor-returns-in-Some-Word-Nil-default : goal.factor-returns-in-Some-Word-Nil-default
+unfolding factor_with
+factor-returns-in-Some-Word-Nil-default t c = grind (arith, expressions_made)
+
+pub factor-returns-in-Some-Word-Tilde-default : goal.factor-returns-in-Some-Word-Tilde-default
+unfolding factor_with
+factor-returns-in-Some-Word-Tilde-default t c = grind (arith, expressions_made)
+
+pub factor-returns-in-Some-Word-True-default : goal.factor-returns-in-Some-Word-True-default
+unfolding factor_with
+factor-returns-in-Some-Word-True-default t c = grind (arith, expressions_made)
+
+pub factor-returns-in_default : goal.factor-returns-in_default
+unfolding factor_with
+factor-returns-in_default t c = grind (arith, expressions_made)
+
+pub group-returns : goal.group-returns
+group-returns t c = grind (arith, expressions_made)
+
+pub index-returns : goal.index-returns
+index-returns t c = grind (arith, expressions_made)
+
+pub named-returns : goal.named-returns
+named-returns t c = grind (arith, expressions_made)
+
+pub negated-returns : goal.negated-returns
+unfolding negated_at limit_at
+negated-returns t c = grind (arith, expressions_made)
+
+pub negated-returns-then-depth-eq0 : goal.negated-returns-then-depth-eq0
+unfolding negated_at limit_at
+negated-returns-then-depth-eq0 t c = grind (arith, expressions_made)
+
+pub selector-returns-in-Some-Word-Caret-default : goal.selector-returns-in-Some-Word-Caret-default
+unfolding selector_with name_at
+selector-returns-in-Some-Word-Caret-default t c = grind (arith, expressions_made)
+
+pub selector-returns-in-Some-Word-Dot-default : goal.selector-returns-in-Some-Word-Dot-default
+unfolding selector_with name_at
+selector-returns-in-Some-Word-Dot-default t c = grind (arith, expressions_made)
+
+pub selector-returns-in-Some-Word-LeftBracket-default : goal.selector-returns-in-Some-Word-LeftBracket-default
+unfolding selector_with name_at
+selector-returns-in-Some-Word-LeftBracket-default t c = grind (arith, expressions_made)
+
+pub selector-returns-in-Some-Word-LeftParen-default : goal.selector-returns-in-Some-Word-LeftParen-default
+unfolding selector_with name_at
+selector-returns-in-Some-Word-LeftParen-default t c = grind (arith, expressions_made)
+
+pub selector-returns-in_default : goal.selector-returns-in_default
+unfolding selector_with name_at
+selector-returns-in_default t c = grind (arith, expressions_made)
+
+pub set-returns : goal.set-returns
+set-returns t c = grind (arith, expressions_made)
+
+pub sum-returns : goal.sum-returns
+unfolding sum_with
+sum-returns t c = grind (arith, expressions_made)
+
+pub term-returns : goal.term-returns
+unfolding term_with
+term-returns t c = grind (arith, expressions_made)

@@ -1,17 +1,18 @@
-use Rattle.std.proofs.Common.{refl, ℕ, sym, ap, ◌∙◌}
+use Rattle.std.proofs.Common.{refl, ℕ, sym, ap, ◌∙◌, arith}
 use Rattle.std.proofs.lemmas.Result.{err_from_is_err_and}
 use Rattle.ob_scan.specs.declared.kind.Kind.{Kind}
 use Rattle.ob_scan.specs.declared.kind.Kind.TheVariants as kinds
 use Rattle.ob_tree.specs.Marks.{each_after}
 use Rattle.ob_tree.specs.Statements.{branch_outline, case_outline, stmt_outline}
-use Rattle.ob_parse.specs.Forms.{accept_at, many}
+use Rattle.ob_parse.specs.Forms.{accept_at, many, begins, name_at, several}
 use Rattle.ob_parse.specs.Gives.{ahead, skipped}
 use Rattle.ob_parse.specs.ReadExpressions.{expr_at}
-use Rattle.ob_parse.specs.ReadStatements.{block_at, branch_with, case_with, statement_at}
+use Rattle.ob_parse.specs.ReadStatements.{block_at, branch_with, case_with, statement_at, block_with, cases_with, for_with, if_with, repeat_with, statement_with, while_with}
 use Rattle.ob_parse.proofs.LoopEnds.{ends}
 use Rattle.ob_parse.proofs.Loops.{Advances, pushed_after, smaller, is_done, accept_advances}
 use Rattle.ob_parse.proofs.SoundExpressions.{expr_at_sound}
 use Rattle.ob_parse.proofs.SoundStatements.{block_at_sound, branch_sound, case_sound, statement_at_sound}
+use Rattle.ob_parse.proofs.StatementSteps.{made}
 use Rattle.ob_parse.proofs.statements.+statements.Goals as goal
 
 semicolon_adv : (d : ℕ) → Advances (accept_at kinds.Semicolon) (statement_at d)
@@ -96,3 +97,75 @@ more_cases-returns t c =
     is_done (accept_at kinds.Bar) (case_with (block_at c.args.depth)) (bar_adv c.args.depth)
     (each_after kinds.Bar case_outline c.more.rest.items) (ahead c.args.tokens.now c.more.here) (many (accept_at kinds.Bar) (case_with (block_at c.args.depth)) (ahead c.args.tokens.now c.args.input))
     (sym c.accept.ensures ∙ ap (skipped c.args.tokens.now kinds.Bar) c.in_default.is) c.more.invariant
+
+pub block-returns : goal.block-returns
+unfolding block_with several
+block-returns t c = grind (arith, made)
+
+pub branch-returns : goal.branch-returns
+unfolding branch_with
+branch-returns t c = grind (arith, made)
+
+pub case-returns : goal.case-returns
+unfolding case_with begins
+case-returns t c = grind (arith, made)
+
+pub case-returns-then-not-begins_label : goal.case-returns-then-not-begins_label
+unfolding case_with begins
+case-returns-then-not-begins_label t c = grind (arith, made)
+
+pub case_statement-returns : goal.case_statement-returns
+unfolding cases_with
+case_statement-returns t c = grind (arith, made)
+
+pub for_statement-returns : goal.for_statement-returns
+unfolding for_with name_at
+for_statement-returns t c = grind (arith, made)
+
+pub if_statement-returns : goal.if_statement-returns
+unfolding if_with
+if_statement-returns t c = grind (arith, made)
+
+pub repeat_statement-returns : goal.repeat_statement-returns
+unfolding repeat_with
+repeat_statement-returns t c = grind (arith, made)
+
+pub statement-returns : goal.statement-returns
+unfolding statement_at
+statement-returns t c = grind arith
+
+pub statement-returns-then-depth-eq0 : goal.statement-returns-then-depth-eq0
+unfolding statement_at
+statement-returns-then-depth-eq0 t c = grind arith
+
+pub statement_within-returns-in-Some-Name-default : goal.statement_within-returns-in-Some-Name-default
+unfolding statement_with
+statement_within-returns-in-Some-Name-default t c = grind (arith, made)
+
+pub statement_within-returns-in-Some-Word-Case-default : goal.statement_within-returns-in-Some-Word-Case-default
+unfolding statement_with
+statement_within-returns-in-Some-Word-Case-default t c = grind (arith, made)
+
+pub statement_within-returns-in-Some-Word-For-default : goal.statement_within-returns-in-Some-Word-For-default
+unfolding statement_with
+statement_within-returns-in-Some-Word-For-default t c = grind (arith, made)
+
+pub statement_within-returns-in-Some-Word-If-default : goal.statement_within-returns-in-Some-Word-If-default
+unfolding statement_with
+statement_within-returns-in-Some-Word-If-default t c = grind (arith, made)
+
+pub statement_within-returns-in-Some-Word-Repeat-default : goal.statement_within-returns-in-Some-Word-Repeat-default
+unfolding statement_with
+statement_within-returns-in-Some-Word-Repeat-default t c = grind (arith, made)
+
+pub statement_within-returns-in-Some-Word-While-default : goal.statement_within-returns-in-Some-Word-While-default
+unfolding statement_with
+statement_within-returns-in-Some-Word-While-default t c = grind (arith, made)
+
+pub statement_within-returns-in_default : goal.statement_within-returns-in_default
+unfolding statement_with
+statement_within-returns-in_default t c = grind (arith, made)
+
+pub while_statement-returns : goal.while_statement-returns
+unfolding while_with
+while_statement-returns t c = grind (arith, made)

@@ -1,17 +1,18 @@
-use Rattle.std.proofs.Common.{ℕ, refl, sym, ap, ◌∙◌}
+use Rattle.std.proofs.Common.{ℕ, refl, sym, ap, ◌∙◌, arith}
 use Rattle.std.proofs.lemmas.Result.{err_from_is_err_and}
 use Rattle.ob_scan.specs.declared.kind.Kind.TheVariants as kinds
 use Rattle.ob_tree.specs.declared.declaration.VarDecl.{VarDecl}
 use Rattle.ob_tree.specs.Constructs as constructs
 use Rattle.ob_tree.specs.Marks.{Out, construct, each_after}
 use Rattle.ob_tree.specs.Types.{var_outline}
-use Rattle.ob_parse.specs.Forms.{Reader, many, node}
+use Rattle.ob_parse.specs.Forms.{Reader, many, node, limit_at, unless}
 use Rattle.ob_parse.specs.Gives.{ahead, skipped}
-use Rattle.ob_parse.specs.ReadTypes.{field_start, var_with, type_at}
+use Rattle.ob_parse.specs.ReadTypes.{field_start, var_with, type_at, fields_with, record_with, type_with}
 use Rattle.ob_parse.proofs.Loops.{Advances, pushed_after, smaller, is_done, field_advances}
 use Rattle.ob_parse.proofs.LoopEnds.{ends}
 use Rattle.ob_parse.proofs.Sound.{sound_flat}
 use Rattle.ob_parse.proofs.SoundTypes.{var_sound, type_at_sound}
+use Rattle.ob_tree.proofs.TypeLayers.{types_made}
 use Rattle.ob_parse.proofs.types.+types.Goals as goal
 
 abbrev field_at : ℕ → Reader
@@ -41,3 +42,61 @@ pub more_fields-returns : goal.more_fields-returns
 more_fields-returns t c = is_done field_start (field_at c.args.depth) (advances c.args.depth)
     (each_after kinds.Semicolon field_outline c.more.rest.items) (ahead c.args.tokens.now c.more.here) (many field_start (field_at c.args.depth) (ahead c.args.tokens.now c.args.input))
     (sym (sym (ap (skipped c.args.tokens.now kinds.Semicolon) c.in_default.is) ∙ c.next_fields.ensures)) c.more.invariant
+
+pub array-returns : goal.array-returns
+array-returns t c = grind (arith, types_made)
+
+pub fields-returns : goal.fields-returns
+unfolding fields_with
+fields-returns t c = grind (arith, types_made)
+
+pub pointer-returns : goal.pointer-returns
+pointer-returns t c = grind (arith, types_made)
+
+pub record-returns : goal.record-returns
+unfolding record_with
+record-returns t c = grind (arith, types_made)
+
+pub some_fields-returns : goal.some_fields-returns
+unfolding unless
+some_fields-returns t c = grind arith
+
+pub some_fields-returns-then-is_at : goal.some_fields-returns-then-is_at
+unfolding unless
+some_fields-returns-then-is_at t c = grind arith
+
+pub type_form-returns : goal.type_form-returns
+unfolding type_at limit_at
+type_form-returns t c = grind arith
+
+pub type_form-returns-then-depth-eq0 : goal.type_form-returns-then-depth-eq0
+unfolding type_at limit_at
+type_form-returns-then-depth-eq0 t c = grind arith
+
+pub type_within-returns-in-Some-Name-default : goal.type_within-returns-in-Some-Name-default
+unfolding type_with
+type_within-returns-in-Some-Name-default t c = grind (arith, types_made)
+
+pub type_within-returns-in-Some-Word-Array-default : goal.type_within-returns-in-Some-Word-Array-default
+unfolding type_with
+type_within-returns-in-Some-Word-Array-default t c = grind (arith, types_made)
+
+pub type_within-returns-in-Some-Word-Pointer-default : goal.type_within-returns-in-Some-Word-Pointer-default
+unfolding type_with
+type_within-returns-in-Some-Word-Pointer-default t c = grind (arith, types_made)
+
+pub type_within-returns-in-Some-Word-Procedure-default : goal.type_within-returns-in-Some-Word-Procedure-default
+unfolding type_with
+type_within-returns-in-Some-Word-Procedure-default t c = grind (arith, types_made)
+
+pub type_within-returns-in-Some-Word-Record-default : goal.type_within-returns-in-Some-Word-Record-default
+unfolding type_with
+type_within-returns-in-Some-Word-Record-default t c = grind (arith, types_made)
+
+pub type_within-returns-in_default : goal.type_within-returns-in_default
+unfolding type_with
+type_within-returns-in_default t c = grind (arith, types_made)
+
+pub var_declaration-returns : goal.var_declaration-returns
+unfolding var_with
+var_declaration-returns t c = grind (arith, types_made)
