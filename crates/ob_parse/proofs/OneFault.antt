@@ -1,5 +1,5 @@
 -- A text has at most one fault.
-use Rattle.std.proofs.Common.{◌≡◌, ◌≢◌, ℕ, ◌<◌, ◌-◌, suc, List, [], ◌∷◌, ◌++◌, Option, None, Some, Err, length, length-append, drop, get_or, refl, sym, ap, ◌∙◌, subst, slice_get, inl, inr, arith}
+use Rattle.std.proofs.Common.{◌≡◌, ◌≢◌, ℕ, ◌<◌, ◌-◌, suc, List, [], ◌∷◌, Option, None, Some, Err, length, drop, get_or, refl, sym, ap, ◌∙◌, subst, slice_get, inl, inr, arith}
 use Rattle.std.proofs.Math.Seq.{get_or-append_seam}
 use Rattle.std.proofs.lemmas.Bool.{cases_order, cases_lt}
 use Rattle.std.proofs.lemmas.List.{get_or_append_left, length-drop, length-map}

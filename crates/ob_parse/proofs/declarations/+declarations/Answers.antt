@@ -1,4 +1,4 @@
-use Rattle.std.proofs.Common.{refl, ℕ, ◌++◌, [], sym, ap, ◌∙◌, arith}
+use Rattle.std.proofs.Common.{refl, ℕ, ◌++◌, [], sym, ◌∙◌, arith}
 use Rattle.std.proofs.lemmas.Result.{err_from_is_err_and}
 use Rattle.ob_scan.specs.declared.kind.Kind.TheVariants as kinds
 use Rattle.ob_tree.specs.declared.declaration.ProcDecl.{ProcDecl}
