@@ -1,8 +1,15 @@
 //! The reserved words (Oberon-07 report, section 3).
 ghost use Rattle.std.specs.Prelude.{◌≡◌};
 ghost use Rattle.ob_scan.specs.Tables.{long_word_of, word_of, word_of_two, word_of_three, word_of_four, word_of_five};
+ghost use Rattle.std.specs.Str.{bytes_eq};
 
 use crate::Kind;
+
+fn is(text: &[u8], word: &[u8]) -> bool
+    ensures { result ≡ bytes_eq text.now word.now }
+{
+    text == word
+}
 
 fn word_of_two(text: &[u8]) -> Option<Kind>
     ensures { result ≡ word_of_two text.now }
@@ -50,25 +57,25 @@ fn word_of_four(text: &[u8]) -> Option<Kind>
 fn word_of_five(text: &[u8]) -> Option<Kind>
     ensures { result ≡ word_of_five text.now }
 {
-    if text == b"ARRAY".as_slice() {
+    if is(text, b"ARRAY") {
         return Some(Kind::Array);
     }
-    if text == b"BEGIN".as_slice() {
+    if is(text, b"BEGIN") {
         return Some(Kind::Begin);
     }
-    if text == b"CONST".as_slice() {
+    if is(text, b"CONST") {
         return Some(Kind::Const);
     }
-    if text == b"ELSIF".as_slice() {
+    if is(text, b"ELSIF") {
         return Some(Kind::Elsif);
     }
-    if text == b"FALSE".as_slice() {
+    if is(text, b"FALSE") {
         return Some(Kind::False);
     }
-    if text == b"UNTIL".as_slice() {
+    if is(text, b"UNTIL") {
         return Some(Kind::Until);
     }
-    if text == b"WHILE".as_slice() {
+    if is(text, b"WHILE") {
         return Some(Kind::While);
     }
     None
@@ -77,25 +84,25 @@ fn word_of_five(text: &[u8]) -> Option<Kind>
 fn long_word_of(text: &[u8]) -> Option<Kind>
     ensures { result ≡ long_word_of text.now }
 {
-    if text == b"IMPORT".as_slice() {
+    if is(text, b"IMPORT") {
         return Some(Kind::Import);
     }
-    if text == b"MODULE".as_slice() {
+    if is(text, b"MODULE") {
         return Some(Kind::Module);
     }
-    if text == b"POINTER".as_slice() {
+    if is(text, b"POINTER") {
         return Some(Kind::Pointer);
     }
-    if text == b"PROCEDURE".as_slice() {
+    if is(text, b"PROCEDURE") {
         return Some(Kind::Procedure);
     }
-    if text == b"RECORD".as_slice() {
+    if is(text, b"RECORD") {
         return Some(Kind::Record);
     }
-    if text == b"REPEAT".as_slice() {
+    if is(text, b"REPEAT") {
         return Some(Kind::Repeat);
     }
-    if text == b"RETURN".as_slice() {
+    if is(text, b"RETURN") {
         return Some(Kind::Return);
     }
     None
