@@ -7,7 +7,7 @@ ghost use Rattle.ob_scope.specs.Found.{AreAliasesOf, AreCounted, AreMeant, IsCou
 ghost use Rattle.ob_scope.specs.Identified.{AreNames};
 ghost use Rattle.ob_decls.specs.Order.{AreInOrder, AscendBy};
 ghost use Rattle.ob_scope.specs.Members.{members_of};
-ghost use Rattle.ob_scope.specs.Places.{TellsTwice};
+ghost use Rattle.ob_scope.specs.Places.{IsIndex, TellsTwice};
 ghost use Rattle.ob_scope.specs.Scope.{NoneTwice};
 ghost use Rattle.ob_scope.specs.Scoped.{AreScopes, IsScopeFault};
 ghost use Rattle.ob_scope.specs.Texts.{text_at};
@@ -15,10 +15,11 @@ ghost use Rattle.ob_scope.specs.declared.members.Member.{Member};
 
 use crate::identified::are_identifiers;
 use crate::members::{Member, Place, members_by, place_of_member};
-use crate::places::{IndexFault, index_of};
+use crate::places::{IndexFault, Key, index_of};
 use crate::text::Text;
 use crate::uses::{Found, found_by};
 use crate::{Alias, ScopeFault, Scopes};
+use indexmap::IndexSet;
 use ob_decls::{Import, Table};
 use ob_scan::Token;
 use std::alloc::{AllocError, Global};
@@ -130,6 +131,27 @@ fn scopes_of(
     })
 }
 
+/// The scopes of a module with this table, whose members have this index.
+fn scopes_with(
+    alloc: Global,
+    text: &Text,
+    table: &Table,
+    members: &[Member],
+    index: &IndexSet<Key>,
+) -> Result<Scopes, AllocError>
+    requires in_text { AreInText text.now.bytes.now text.now.tokens.now }
+    requires ordered { AreInOrder (rows_in table.now) }
+    requires few { length (rows_in table.now).uses ≤ 16777216 }
+    requires members { members.now ≡ members_of (rows_in table.now) }
+    requires named { AreNames (text_at text.now.bytes.now text.now.tokens.now) (rows_in table.now) }
+    requires once { NoneTwice (text_at text.now.bytes.now text.now.tokens.now) members.now }
+    requires index { IsIndex (text_at text.now.bytes.now text.now.tokens.now) members.now index.now.keys }
+    ensures { IfOk result (AreScopes text.now.bytes.now text.now.tokens.now (rows_in table.now)) }
+{
+    let found = found_by(alloc, text, index, table.blocks(), members, table.uses())?;
+    scopes_of(alloc, text, table, members, found)
+}
+
 /// The scopes of a module with this table, of these tokens: what `scopes` answers of the tree that the table is of, for a
 /// caller that keeps the table. Memory is also answered where what the table names are no identifiers, or where it has more
 /// uses than a text has bytes; the table of a tree of tokens is never so.
@@ -156,10 +178,7 @@ pub fn scopes_from(
         return Err(ScopeFault::Memory);
     }
     match index_of(alloc, &text, members) {
-        Ok(index) => {
-            let found = found_by(alloc, &text, &index, table.blocks(), members, table.uses())?;
-            Ok(scopes_of(alloc, &text, table, members, found)?)
-        }
+        Ok(index) => Ok(scopes_with(alloc, &text, table, members, &index)?),
         Err(fault) => Err(fault_of(alloc, &text, members, fault)?),
     }
 }

@@ -95,6 +95,42 @@ fn find_each(
     Ok(())
 }
 
+/// What the uses mean, by the numbers of the members' names.
+fn found_with(
+    alloc: Global,
+    text: &Text,
+    index: &IndexSet<Key>,
+    blocks: &[Block],
+    members: &[Member],
+    named: &Numbered,
+    uses: &[Used],
+) -> Result<Found, AllocError>
+    requires in_text { AreInText text.now.bytes.now text.now.tokens.now }
+    requires blocks { AscendBy (λ (b : Block). b.first) blocks.now }
+    requires uses { AscendBy (λ (u : Used). u.number) uses.now }
+    requires members { AscendBy (λ (m : Member). m.number) members.now }
+    requires index { IsIndex (text_at text.now.bytes.now text.now.tokens.now) members.now index.now.keys }
+    requires numbered { AreNumbered (text_at text.now.bytes.now text.now.tokens.now) members.now named.now.names.keys named.now.numbers.items }
+    ensures meant { IfOk result (λ f. AreMeant (text_at text.now.bytes.now text.now.tokens.now) blocks.now members.now uses.now (length uses.now) f.meanings.items) }
+    ensures counted { IfOk result (λ f. AreCounted (text_at text.now.bytes.now text.now.tokens.now) blocks.now members.now uses.now (length uses.now) f.counts.items) }
+{
+    let mut sight = no_sight(alloc, named.names.len(), members.len())?;
+    let mut meanings = Vec::new(alloc);
+    let mut counts = vec![in alloc; 0u64; members.len()]?;
+    find_each(
+        text,
+        index,
+        blocks,
+        members,
+        named,
+        &mut sight,
+        uses,
+        &mut meanings,
+        counts.as_mut_slice(),
+    )?;
+    Ok(Found { meanings, counts })
+}
+
 /// What the uses mean.
 pub(crate) fn found_by(
     alloc: Global,
@@ -113,19 +149,5 @@ pub(crate) fn found_by(
     ensures counted { IfOk result (λ f. AreCounted (text_at text.now.bytes.now text.now.tokens.now) blocks.now members.now uses.now (length uses.now) f.counts.items) }
 {
     let named = number_names(alloc, text, members)?;
-    let mut sight = no_sight(alloc, named.names.len(), members.len())?;
-    let mut meanings = Vec::new(alloc);
-    let mut counts = vec![in alloc; 0u64; members.len()]?;
-    find_each(
-        text,
-        index,
-        blocks,
-        members,
-        &named,
-        &mut sight,
-        uses,
-        &mut meanings,
-        counts.as_mut_slice(),
-    )?;
-    Ok(Found { meanings, counts })
+    found_with(alloc, text, index, blocks, members, &named, uses)
 }

@@ -1,11 +1,12 @@
 -- The two members of the places.
-use Rattle.std.proofs.Common.{◌≡◌, ℕ, sym, ap, ◌∙◌, subst}
+use Rattle.std.proofs.Common.{◌≡◌, ℕ, sym, ap, ◌∙◌, subst, arith}
 use Rattle.std.proofs.lemmas.Option.{get_or_from_slice_get}
 use Rattle.std.specs.Str.{IsUtf8}
 use Rattle.std.specs.String.{string_bytes}
 use Rattle.ob_scope.specs.declared.members.Member.{Member}
 use Rattle.ob_scope.specs.Texts.{text_at, token_at}
 use Rattle.ob_scope.proofs.Assembling.{is_twice}
+use Rattle.std.proofs.lemmas.Grind.{elements}
 use Rattle.ob_scope.proofs.making.fault_of.Goals as goal
 use Rattle.ob_scope.proofs.making.fault_of.Goals.{in-Block, in-Record}
 
@@ -40,3 +41,15 @@ returns c = λ rows same texts.
             is_twice bytes ts ms rows f s _ _ _ same h texts name start (w.start-in-Record.ensures ∙ ap (λ (m : Member). (token_at ts m.number).start) (second _)),
           ))
     ]
+
+pub offset_bounds-members-first : goal.offset_bounds-members-first
+offset_bounds-members-first c = grind (arith, elements)
+
+pub bounds-members-first : goal.bounds-members-first
+bounds-members-first c = grind (arith, elements)
+
+pub offset_bounds-members-second : goal.offset_bounds-members-second
+offset_bounds-members-second c = grind (arith, elements)
+
+pub bounds-members-second : goal.bounds-members-second
+bounds-members-second c = grind (arith, elements)

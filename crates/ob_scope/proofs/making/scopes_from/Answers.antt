@@ -1,17 +1,11 @@
--- The members are those of the rows, and what they name are names.
+-- What the members name are names.
 use Rattle.std.proofs.Common.{◌∙◌}
 use Rattle.ob_decls.specs.Declaring.{rows_in}
 use Rattle.ob_scope.proofs.Names.{named_by}
-use Rattle.ob_scope.proofs.Placing.{members_ascend}
 use Rattle.ob_scope.proofs.making.scopes_from.Goals as goal
 
-pub found_by-requires-clause-members : goal.found_by-requires-clause-members
-found_by-requires-clause-members c =
-    rw (c.as_slice-members.ensures.value, c.in_ok-members.ensures, c.declarers.ensures, c.declared.ensures)
-    (members_ascend (rows_in c.args.table.now).declarers (rows_in c.args.table.now).declared c.keeps.ensures.declared)
-
-pub scopes_of-requires-clause-named : goal.scopes_of-requires-clause-named
-scopes_of-requires-clause-named c =
+pub scopes_with-requires-clause-named : goal.scopes_with-requires-clause-named
+scopes_with-requires-clause-named c =
     let members = rw (c.declarers.ensures, c.declared.ensures) at (c.as_slice-members.ensures.value ∙ c.in_ok-members.ensures) in
     named_by c.args.bytes.now c.args.tokens.now (rows_in c.args.table.now) _ _ c.requires.spelled members c.imports.ensures (c.are_identifiers.ensures c.if-not-are_identifiers.false)
 

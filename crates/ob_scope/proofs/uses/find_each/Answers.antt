@@ -6,6 +6,7 @@ use Rattle.ob_scope.specs.Texts.{text_at}
 use Rattle.ob_scope.proofs.Elements.{some_one}
 use Rattle.ob_scope.proofs.Meanings.{means_as}
 use Rattle.ob_scope.proofs.Finding.{meant_none, meant_other, meant_more, counted_none, counted_other, counted_more}
+use Rattle.std.proofs.lemmas.Grind.{elements}
 use Rattle.ob_scope.proofs.uses.find_each.Goals as goal
 use Rattle.ob_scope.proofs.uses.find_each.Goals.{in-Some+in_ok-push, in_default}
 
@@ -68,3 +69,12 @@ loop-k-preserved c =
             counted = counted_other name blocks members uses k c.loop-k.counts _ c.loop-k.invariant.counted at nothing;
           }))
     ]
+
+pub offset_bounds-members-at : goal.offset_bounds-members-at
+offset_bounds-members-at c = grind (arith, elements)
+
+pub offset_bounds-counts-at : goal.offset_bounds-counts-at
+offset_bounds-counts-at c = grind (arith, elements)
+
+pub bounds-counts-at-in-Some : goal.bounds-counts-at-in-Some
+bounds-counts-at-in-Some c = grind (arith, elements)
