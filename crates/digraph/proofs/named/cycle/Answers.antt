@@ -9,6 +9,7 @@ use Rattle.digraph.specs.Edges.{Leads}
 use Rattle.digraph.proofs.Loops.{acyclic_without_endless}
 use Rattle.digraph.proofs.Settling.{marked_below}
 use Rattle.digraph.proofs.Walks.{All-turned, rest_whole}
+use Rattle.std.proofs.lemmas.Grind.{common_steps}
 use Rattle.digraph.proofs.named.cycle.Goals as goal
 
 pub returns-in_default-clause-none : goal.returns-in_default-clause-none
@@ -29,3 +30,6 @@ returns-clause-within c =
     let all = All-weaker (λ m. marked endless.marks.items m ≡ true) (λ m. m < nodes) below c.in_ok-walk.walk.items c.in_ok-walk.ensures.members in
     let loop : c.as_mut_slice.result.now ≡ drop c.in_ok-walk.place c.in_ok-walk.walk.items = c.as_mut_slice.ensures.value ∙ c.in_ok-cycle.ensures.items ∙ rest_whole c.as_slice-2.result.now c.in_ok-walk.place ∙ ap (drop c.in_ok-walk.place) c.as_slice-2.ensures.value in
     subst (All (λ m. m < nodes)) (sym same) (All-turned (λ m. m < nodes) (drop c.in_ok-walk.place c.in_ok-walk.walk.items) new (subst (λ (x : List ℕ). IsTurned x new) loop c.turn.ensures) (All-drop (λ m. m < nodes) c.in_ok-walk.place c.in_ok-walk.walk.items all))
+
+pub returns-clause-named : goal.returns-clause-named
+returns-clause-named c = grind (arith, common_steps)

@@ -7,6 +7,7 @@ use Rattle.digraph.specs.Marks.{edge_at, marked, place_at}
 use Rattle.digraph.specs.Edges.{Leads}
 use Rattle.digraph.proofs.Settling.{marked_below, read_place}
 use Rattle.digraph.proofs.Walks.{none_cloned, walking_start, step_more, step_back, new_members, walking_length}
+use Rattle.std.proofs.lemmas.Grind.{common_steps}
 use Rattle.digraph.proofs.walk.walk.Goals as goal
 
 pub steps-init : goal.steps-init
@@ -99,3 +100,12 @@ steps-smaller c =
     let long : vec_len c.push.new.self ≡ vec_len c.steps.walk + 1 = c.in_ok-push.ensures.len in
     let ok = c.push.new.self.ok in
     omega arith
+
+pub index-requires : goal.index-requires
+index-requires c = grind (arith, common_steps)
+
+pub offset_bounds-edges-index : goal.offset_bounds-edges-index
+offset_bounds-edges-index c = grind (arith, common_steps)
+
+pub bounds-edges-index : goal.bounds-edges-index
+bounds-edges-index c = grind (arith, common_steps)

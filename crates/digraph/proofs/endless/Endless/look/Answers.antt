@@ -3,6 +3,7 @@ use Rattle.std.proofs.Common.{◌≡◌, ℕ, ◌++◌, ◌<◌, ◌≤◌, List
 use Rattle.std.specs.Prelude.{slice_set}
 use Rattle.digraph.specs.Marks.{ArePassed, LeadsToMarked, IsSettling, lists, marked, place_at, row_at, work_left}
 use Rattle.digraph.proofs.Settling.{marked_below, read_place, read_row, settling_unmarked, settling_placed, settling_without, work_less}
+use Rattle.std.proofs.lemmas.Grind.{common_steps}
 use Rattle.digraph.proofs.endless.Endless.look.Goals as goal
 
 pub returns-then-not-is_marked-clause-settling : goal.returns-then-not-is_marked-clause-settling
@@ -63,3 +64,18 @@ returns-in_ok-extend_from_slice-in-None-clause-less c =
     let few : length c.as_slice-in-None.result.now ≤ length edges = subst (λ (r : List ℕ). length r ≤ length edges) row (c.requires.predecessors.few v) in
     subst (λ (a : List ℕ). work_left edges (slice_set marks v false) a ≤ work_left edges marks c.args.again.now.items) (sym c.in_ok-extend_from_slice-in-None.ensures.items)
     (work_less edges marks c.args.again.now.items c.as_slice-in-None.result.now v on few)
+
+pub index-start-requires : goal.index-start-requires
+index-start-requires c = grind (arith, common_steps)
+
+pub marked_from-requires-clause-start : goal.marked_from-requires-clause-start
+marked_from-requires-clause-start c = grind (arith, common_steps)
+
+pub index_mut-requires : goal.index_mut-requires
+index_mut-requires c = grind (arith, common_steps)
+
+pub index_mut-requires-in-None : goal.index_mut-requires-in-None
+index_mut-requires-in-None c = grind (arith, common_steps)
+
+pub bounds-predecessors-node : goal.bounds-predecessors-node
+bounds-predecessors-node c = grind (arith, common_steps)
