@@ -1,9 +1,10 @@
-use Rattle.std.proofs.Common.{◌++◌, [], ◌∷◌, true, false, map, take, get_or, refl, sym, ap, ◌∙◌}
+use Rattle.std.proofs.Common.{◌++◌, [], ◌∷◌, true, false, map, take, get_or, refl, sym, ap, ◌∙◌, arith}
 use Rattle.std.specs.Prelude.{None}
 use Rattle.std.specs.Arc.{arc_value}
 use Rattle.std.proofs.lemmas.List.{append-nil}
 use Rattle.work_board.specs.Cores.{shares_of}
 use Rattle.work_board.proofs.Opening.{shares_more}
+use Rattle.std.proofs.lemmas.Grind.{common_steps}
 use Rattle.work_board.proofs.board.shares.Goals as goal
 use Rattle.work_board.proofs.board.shares.Goals.{then-marks-place+in_ok-add_share, else-marks-place}
 
@@ -21,3 +22,6 @@ loop-place-preserved g c =
           ap (λ v. map arc_value v.items) w.parts-is ∙ c.loop-place.invariant ∙ sym (append-nil (shares_of f (take i marks) (take i entries)))
           ∙ sym (shares_more f marks entries i c.requires c.loop-place-test.true false _ w.if-marks-place.false (get_or entries i None) None refl)
     ]
+
+pub returns : goal.returns
+returns g c = grind (arith, common_steps)

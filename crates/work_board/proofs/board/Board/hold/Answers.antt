@@ -1,4 +1,4 @@
-use Rattle.std.proofs.Common.{◌≡◌, ◌<◌, ℕ, Bool, true, List, length, sym, ap, ◌∙◌, subst}
+use Rattle.std.proofs.Common.{◌≡◌, ◌<◌, ℕ, Bool, true, List, length, sym, ap, ◌∙◌, subst, arith}
 use Rattle.std.specs.Prelude.{◌↔◌}
 use Rattle.std.proofs.lemmas.List.{length-map, map-set}
 use Rattle.work_board.specs.declared.state.State.TheVariants.{Claimed}
@@ -8,6 +8,7 @@ use Rattle.work_board.specs.Marks.{marked, IsMet}
 use Rattle.work_board.specs.Keeping.{taken}
 use Rattle.work_board.proofs.Claiming.{ready_free}
 use Rattle.work_board.proofs.Holding.{held_kept}
+use Rattle.std.proofs.lemmas.Grind.{common_steps}
 use Rattle.work_board.proofs.board.Board.hold.Goals as goal
 
 pub invariant_of-self : goal.invariant_of-self
@@ -34,3 +35,12 @@ pub returns : goal.returns
 returns g c =
     let b = c.self.inside in
     rw (← c.self.view_is) (ap (λ (cs : List Bool). record { entries = b.entries.items; claimed = cs; abandoned = b.abandoned }) (map-set taken b.states.items c.args.number Claimed))
+
+pub fill_row-requires-clause-place : goal.fill_row-requires-clause-place
+fill_row-requires-clause-place g c = grind (arith, common_steps)
+
+pub fill_row-requires-clause-width : goal.fill_row-requires-clause-width
+fill_row-requires-clause-width g c = grind (arith, common_steps)
+
+pub fill_row-requires-clause-size : goal.fill_row-requires-clause-size
+fill_row-requires-clause-size g c = grind (arith, common_steps)

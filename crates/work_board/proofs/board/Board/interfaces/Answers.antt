@@ -4,6 +4,7 @@ use Rattle.work_board.specs.Graphs.{lists, row_at, IsGraph}
 use Rattle.work_board.specs.Cores.{shares_of}
 use Rattle.work_board.specs.Keeping.{state_at, taken}
 use Rattle.work_board.proofs.Reaching.{shares_told, taken_zero}
+use Rattle.std.proofs.lemmas.Grind.{common_steps}
 use Rattle.work_board.proofs.board.Board.interfaces.Goals as goal
 
 pub marks_at-marks-requires : goal.marks_at-marks-requires
@@ -32,3 +33,9 @@ returns-clause-shares g c =
     (shares_told g.E.WorkEntry.is_of g.T.NamedTree.graph b.waiting.items b.states.items (lists b.reached.items) b.spare.items b.entries.items c.self.invariant.1 f
     (subst IsGraph c.self.invariant.0 c.keeps.ensures) b.abandoned c.args.number is_taken _
     (c.in_ok-shares.ensures ∙ ap (λ ms. shares_of f ms c.as_slice-3.result.now) row ∙ ap (shares_of f (row_at (lists b.reached.items) c.args.number)) c.as_slice-3.ensures.value))
+
+pub returns-then-not-is_taken-clause-refused : goal.returns-then-not-is_taken-clause-refused
+returns-then-not-is_taken-clause-refused g c = grind (arith, common_steps)
+
+pub returns-clause-claimed : goal.returns-clause-claimed
+returns-clause-claimed g c = grind (arith, common_steps)

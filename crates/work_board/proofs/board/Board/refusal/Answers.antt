@@ -1,9 +1,10 @@
-use Rattle.std.proofs.Common.{◌≡◌, sym, ap, ◌∙◌}
+use Rattle.std.proofs.Common.{◌≡◌, sym, ap, ◌∙◌, arith}
 use Rattle.std.proofs.lemmas.Slice.Eq.{bytes_eq-Decides}
 use Rattle.work_board.specs.Graphs.{lists, row_at}
 use Rattle.work_board.specs.Keeping.{state_at}
 use Rattle.work_board.specs.declared.state.State.TheVariants.{Claimed}
 use Rattle.work_board.proofs.Claiming.{claimed_core}
+use Rattle.std.proofs.lemmas.Grind.{common_steps}
 use Rattle.work_board.proofs.board.Board.refusal.Goals as goal
 
 pub returns-then-eq-clause-told : goal.returns-then-eq-clause-told
@@ -30,3 +31,12 @@ returns-else-eq-clause-told g c =
           let fails = c.if-eq.false in
           cc),
     )
+
+pub returns-in-Waiting-clause-told : goal.returns-in-Waiting-clause-told
+returns-in-Waiting-clause-told g c = grind (arith, common_steps)
+
+pub returns-in-Free-clause-told : goal.returns-in-Free-clause-told
+returns-in-Free-clause-told g c = grind (arith, common_steps)
+
+pub returns-in-Delivered-clause-told : goal.returns-in-Delivered-clause-told
+returns-in-Delivered-clause-told g c = grind (arith, common_steps)
