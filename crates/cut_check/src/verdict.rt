@@ -2,7 +2,7 @@
 
 /// What is wrong with a cut and its flow, or with a chain of pins, or that nothing is. Modules are by their numbers.
 /// Where several causes hold, it is the first of them in this order, yes last.
-#[derive(Clone, Copy, Debug, PartialEq, Eq)]
+#[derive(Clone, Copy, Debug)]
 pub enum Verdict {
     /// The printed imports are a cut of the printed weight, none of them pinned, and the flow has it as its value.
     /// Or the modules are a chain of pinned imports from the one end to the other.

@@ -10,8 +10,8 @@ use Rattle.std.specs.Cmp.Lexicographic.{nat_list_eq_equiv}
 use Rattle.std.specs.Str.{bytes_eq}
 use Rattle.std.specs.String.{string_bytes, string_cmp}
 use Rattle.std.specs.declared.cmp.Ordering.{Ordering}
-use Rattle.std.proofs.lemmas.Bool.{and_parts, cases_order, eqb-true, false_from_ne_true, false≢true}
-use Rattle.std.proofs.lemmas.List.{get_or-map, get_or_default, length-map, map_push}
+use Rattle.std.proofs.lemmas.Bool.{and_parts, cases_eq, cases_order, eqb-true, false_from_ne_true, false≢true}
+use Rattle.std.proofs.lemmas.List.{get_or-map, get_or_append_left, get_or_default, get_or_push, length-map, length_push, map_push}
 use Rattle.std.proofs.lemmas.List.Elements.{Contains-push_cases}
 use Rattle.std.proofs.lemmas.List.Kept.{AllPairs-filter}
 use Rattle.std.proofs.lemmas.List.Sorted.{Contains-permutation, IsPermutation-sym, length_permutation, ranks_by, sorted_far}
@@ -27,6 +27,7 @@ use Rattle.cut_net.specs.WellFormed.{AreBetween, AreNamesInOrder}
 use Rattle.digraph.proofs.Members.{in_filter, from_filter, in_map, from_map}
 use Rattle.digraph.proofs.Ordered.{sorted_strings, texts_in_order}
 use Rattle.digraph.proofs.Names.{apart_ascend}
+use Rattle.cut_net.proofs.Numbers.{AreNumbers}
 use Rattle.cut_net.proofs.Places.{index_again, position_named}
 use Rattle.cut_net.proofs.Search.{sorted_apart}
 
@@ -157,6 +158,17 @@ module _ {Z : Type 0} where
   -- a name in the order of coming is one of the names in order
   pub known_moved : (old names : List (String Z)) (i : ℕ) (s : String Z) → IsPermutation (texts old) (texts names) → i < length old → s ≡ get_or old i s → Contains (texts names) (string_bytes s)
   known_moved old names i s same within at = Contains-permutation (texts old) (texts names) (string_bytes s) same (in_map string_bytes old s (i, within, sym at))
+
+  pub numbers_more : (old names : List (String Z)) (numbers : List ℕ) (n i : ℕ) (s : String Z) → AreNumbers (texts old) (texts names) numbers → length numbers ≡ i → i < length old → s ≡ get_or old i s →
+      n < length names → get_or (texts names) n [] ≡ string_bytes s → AreNumbers (texts old) (texts names) (numbers ++ n ∷ [])
+  numbers_more old names numbers n i s are count within at in_names place k h =
+      let longer = length_push numbers n in
+      elim (cases_eq k i) [
+        | inl e ↦ rw (e, get_or_push numbers n 0 i count, length-map names string_bytes) (in_names, place ∙ ap string_bytes at ∙ sym (get_or-map string_bytes old i s [] within))
+        | inr ne ↦
+            let before : k < length numbers = omega arith in
+            rw (get_or_append_left numbers (n ∷ []) 0 k before) (are k before)
+      ]
 
   pub few_moved_names : (old names : List (String Z)) → IsPermutation (texts old) (texts names) → length (texts old) ≤ 8192 → length names ≤ 8192
   few_moved_names old names same few =

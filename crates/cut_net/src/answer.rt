@@ -4,7 +4,7 @@ use crate::Cut;
 
 /// What is claimed of two modules: a cut between them, or that no cut can be made.
 /// The type keeps none of this.
-#[derive(Debug, PartialEq, Eq, Drop)]
+#[derive(Drop)]
 pub enum Answer {
     /// This cut parts the two.
     Cut(Cut),

@@ -4,7 +4,7 @@ use crate::Priced;
 
 /// What is claimed of a cut: imports to be removed with their weights, the sum of those, and a flow of that value.
 /// The type keeps none of this. The reader of reports and the solver give ascending lists and no flow of 0.
-#[derive(Debug, PartialEq, Eq, Drop)]
+#[derive(Drop)]
 pub struct Cut {
     /// The imports to be removed, each with its weight.
     pub imports: Vec<Priced>,

@@ -5,7 +5,7 @@ use thiserror::Error;
 
 /// The first fault of a text: of the faults with a line the first line's, then the total weight, then a cycle.
 /// Lines are numbered from 1, and empty lines count.
-#[derive(Debug, PartialEq, Eq, Drop, Error)]
+#[derive(Debug, Drop, Error)]
 pub enum NetFault {
     /// The line is neither empty nor one of the two forms.
     #[error("line {line} breaks the form")]

@@ -5,7 +5,7 @@ use thiserror::Error;
 
 /// The first fault of a prices file: of the faults with a line the first line's, within a line in this order, then the sum of the weights.
 /// Lines are numbered from 1, and empty lines count.
-#[derive(Clone, Copy, Debug, PartialEq, Eq, Error)]
+#[derive(Clone, Copy, Debug, Error)]
 pub enum PriceFault {
     /// The line is neither empty nor one of the two forms.
     #[error("line {line} breaks the form")]

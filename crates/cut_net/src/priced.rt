@@ -1,7 +1,7 @@
 //! Imports with what they carry.
 
 /// An import by the numbers of its modules, the one that imports first, with its weight or its flow.
-#[derive(Clone, Copy, Debug, PartialEq, Eq)]
+#[derive(Clone, Copy)]
 pub struct Priced {
     /// The number of the module that imports.
     pub from: u32,

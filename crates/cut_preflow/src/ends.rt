@@ -1,7 +1,7 @@
 //! The two ends of a question.
 
 /// How many nodes there are, and between which two the flow goes.
-#[derive(Clone, Copy, Debug, PartialEq, Eq)]
+#[derive(Clone, Copy)]
 pub(crate) struct Ends {
     pub(crate) nodes: u32,
     pub(crate) source: u32,

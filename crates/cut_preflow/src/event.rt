@@ -4,7 +4,7 @@ use std::mem::size_of;
 
 /// A step that is tried (Goldberg and Tarjan 1988, section 3). An import of number i has the forward arc 2i, from the module that
 /// imports to the one that is imported, and the backward arc 2i + 1.
-#[derive(Clone, Copy, Debug, PartialEq, Eq)]
+#[derive(Clone, Copy, Debug)]
 pub enum Step {
     /// Moves excess over an arc.
     Push { arc: u32 },
@@ -14,7 +14,7 @@ pub enum Step {
 
 /// A step, with the number of the worker that tries it. Any numbers are taken: a step over an arc or of a node that there isn't
 /// doesn't apply.
-#[derive(Clone, Copy, Debug, PartialEq, Eq)]
+#[derive(Clone, Copy, Debug)]
 pub struct Event {
     /// Who tries the step. It changes nothing of what the step does.
     pub worker: u32,

@@ -6,7 +6,7 @@ use thiserror::Error;
 
 /// The first fault of a text, by lines and then within the line; or why a sink did not take it.
 /// Lines are numbered from 1.
-#[derive(Clone, Copy, Debug, PartialEq, Eq, Error)]
+#[derive(Clone, Copy, Debug, Error)]
 pub enum ReportFault {
     /// The line is none that may stand there, or a byte stands behind the last line.
     #[error("line {line} breaks the form")]

@@ -3,7 +3,7 @@
 use cut_net::Answer;
 
 /// What is said of two modules, given by their numbers.
-#[derive(Debug, PartialEq, Eq, Drop)]
+#[derive(Drop)]
 pub struct Report {
     /// The module that is to lose its chains to the other.
     pub from: u32,

@@ -1,7 +1,7 @@
 //! Arcs, and residual arcs.
 
 /// An arc between two nodes, given by their numbers, with what it can carry and what it carries.
-#[derive(Clone, Copy, Debug, PartialEq, Eq)]
+#[derive(Clone, Copy)]
 pub struct Arc {
     /// The node that it leaves from.
     pub from: u32,
@@ -14,7 +14,7 @@ pub struct Arc {
 }
 
 /// A residual arc (Goldberg and Tarjan 1988, section 2): the arc of this number, forwards or backwards. Paths take them as steps.
-#[derive(Clone, Copy, Debug, PartialEq, Eq)]
+#[derive(Clone, Copy)]
 pub struct ResidualArc {
     /// The number of the arc.
     pub arc: usize,

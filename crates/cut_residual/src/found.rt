@@ -4,7 +4,7 @@ ghost use Rattle.cut_residual.specs.Trees.{HaveParents};
 use crate::ResidualArc;
 
 /// A node that a search came to: by which residual arc, from which place.
-#[derive(Clone, Copy, Debug)]
+#[derive(Clone, Copy)]
 pub(crate) struct Place {
     pub(crate) node: u32,
     pub(crate) step: ResidualArc,

@@ -4,7 +4,7 @@ use std::alloc::AllocError;
 use thiserror::Error;
 
 /// What is wrong with the two names of a question, or that memory ran out.
-#[derive(Debug, PartialEq, Eq, Drop, Error)]
+#[derive(Debug, Drop, Error)]
 pub enum SolveFault {
     /// Both names are those of one module.
     #[error("both names are of one module")]

@@ -7,7 +7,7 @@ use std::sync::Mutex;
 pub type Locked<L> = Mutex<Preflow<L>>;
 
 /// What a worker sees under the lock.
-#[derive(Clone, Copy, Debug, PartialEq, Eq)]
+#[derive(Clone, Copy, Debug)]
 pub enum Look {
     /// No module but the two ends has excess.
     Quiet,

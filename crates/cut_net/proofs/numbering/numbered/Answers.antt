@@ -1,3 +1,4 @@
+use Rattle.std.proofs.Common.{arith, refl}
 use Rattle.std.specs.String.{string_bytes}
 use Rattle.std.proofs.lemmas.List.{length-map}
 use Rattle.std.specs.Map.Iter.{deref_pair}
@@ -17,3 +18,9 @@ loop-ends-preserved c =
       between_next _ _ _ c.loop-ends.invariant.0 within,
       listed_next (import_line names) (entry_line old) deref_pair _ _ c.loop-ends.yielded (c.in-Some.ends, c.in-Some.weight) c.loop-ends.invariant.1 (c.renumbered.ensures.line old names are),
     )
+
+pub loop-ends-init : goal.loop-ends-init
+loop-ends-init c = rw c.in_ok-imports.ensures.items (λ i h. absurd (omega (arith, h.1)), refl)
+
+pub returns-clause-between : goal.returns-clause-between
+returns-clause-between c = c.loop-ends.invariant.0
