@@ -1,8 +1,9 @@
 -- A search from a node over what is left of the arcs.
-use Rattle.std.proofs.Common.{◌≡◌, ◌≢◌, ℕ, ◌+◌, ◌≤◌, ◌<◌, Bool, true, false, cond, List, [], ◌∷◌, ◌++◌, length, get_or, set, refl, sym, ap, ◌∙◌, subst, arith, inl, inr, length-set, get_or-set_same, get_or-set_other}
+use Rattle.std.proofs.Common.{◌≡◌, ◌≢◌, ℕ, ◌+◌, ◌≤◌, ◌<◌, Bool, true, false, cond, List, [], ◌∷◌, ◌++◌, length, get_or, set, replicate, refl, sym, ap, ◌∙◌, subst, arith, inl, inr, length-set, get_or-set_same, get_or-set_other}
 use Rattle.std.specs.Prelude.{◌↔◌, Contains}
-use Rattle.std.proofs.lemmas.Bool.{cases_Bool, cases_eq, both_ways}
-use Rattle.std.proofs.lemmas.List.{get_or_default, get_or_push, get_or_append_left, length_push}
+use Rattle.std.proofs.lemmas.Bool.{cases_Bool, cases_eq, cases_lt, both_ways}
+use Rattle.std.proofs.lemmas.List.{get_or-replicate, get_or_default, get_or_past, get_or_push, get_or_append_left, length-replicate, length_push}
+use Rattle.std.proofs.lemmas.List.Folds.{sum_by-replicate}
 use Rattle.std.proofs.lemmas.List.Sums.{sum_by-set}
 use Rattle.cut_residual.specs.declared.arc.ResidualArc.{ResidualArc}
 use Rattle.cut_residual.specs.declared.found.Place.{Place}
@@ -137,3 +138,39 @@ searching_at g start seen places place group z = record {
   before = z.before;
   here = λ j h _. absurd (omega arith);
 }
+
+none_seen : (n m : ℕ) → is_seen (replicate n false) m ≡ false
+none_seen n m = elim (cases_lt m n) [
+  | inl low ↦ get_or-replicate n m false false low
+  | inr past ↦ get_or_past (replicate n false) m false (omega (arith, length-replicate n false))
+]
+
+-- a search begins with the start alone
+pub searching_start : (g : Graph) (start : ℕ) (step : ResidualArc) → start < g.nodes →
+    Searching g start (set (replicate g.nodes false) start true) ((record { node = start; step = step; parent = 0 }) ∷ []) 0 [] 0
+searching_start g start step low =
+    let none : List Bool = replicate g.nodes false in
+    let size : length none ≡ g.nodes = length-replicate g.nodes false in
+    let within : start < length none = omega arith in
+    let marked : is_seen (set none start true) start ≡ true = get_or-set_same none start true false within in
+    record {
+      tree = record {
+        size = length-set none start true ∙ size;
+        first = refl;
+        found = λ p after in_p. absurd (omega arith);
+        once = λ p q h in_q. absurd (omega arith);
+        listed = λ p in_p. let e : p ≡ 0 = omega arith in rw e (low, marked);
+        placed = λ m on. elim (cases_eq m start) [
+          | inl e ↦ (0, omega arith, sym e)
+          | inr ne ↦ absurd (both_ways _ (get_or-set_other none start m true false ne ∙ none_seen g.nodes m) on)
+        ];
+        started = marked;
+      };
+      counted =
+          let sum = sum_by-set (λ v. cond v 1 0) none start true false within in
+          let before : cond {A = ℕ} (is_seen none start) 1 0 ≡ 0 = ap (λ (v : Bool). cond {A = ℕ} v 1 0) (none_seen g.nodes start) in
+          let all = sum_by-replicate (λ (v : Bool). cond {A = ℕ} v 1 0) g.nodes false in
+          omega arith;
+      before = λ p s h. absurd (omega arith);
+      here = λ j h. absurd (omega arith);
+    }

@@ -1,6 +1,8 @@
-use Rattle.std.proofs.Common.{Bool, arith}
+use Rattle.std.proofs.Common.{◌≡◌, ◌∙◌, Bool, false, List, [], ◌∷◌, ◌++◌, replicate, ap, arith}
 use Rattle.std.proofs.lemmas.List.Sums.{count_by-le-length}
-use Rattle.cut_residual.proofs.Searching.{searching_end}
+use Rattle.cut_residual.specs.declared.arc.ResidualArc.{ResidualArc}
+use Rattle.cut_residual.specs.declared.found.Place.{Place}
+use Rattle.cut_residual.proofs.Searching.{searching_end, searching_start}
 use Rattle.cut_residual.proofs.Walking.{reached}
 use Rattle.cut_residual.proofs.searches.search.Goals as goal
 
@@ -50,3 +52,17 @@ returns-clause-closed c =
 
 pub returns-clause-tree : goal.returns-clause-tree
 returns-clause-tree c = record { tree = c.loop-place.invariant.search.tree }
+
+pub loop-place-init : goal.loop-place-init
+loop-place-init c =
+    let g = c.args.graph.now in
+    let start = c.args.start in
+    let step : ResidualArc = record { arc = 0; forward = false } in
+    let unseen : c.in_ok-seen.seen.items ≡ replicate g.nodes false = c.in_ok-seen.ensures.items_if_clones_equal (λ y same. same) ∙ ap (λ n. replicate n false) c.nodes.ensures in
+    let placed : c.push.new.self.items ≡ (record { node = start; step = step; parent = 0 }) ∷ [] =
+    c.in_ok-push.ensures.items ∙ ap (λ (v : List Place). v ++ (record { node = start; step = step; parent = 0 }) ∷ []) c.new-places.ensures.items in
+    record {
+      seen_size = c.in_ok-seen.ensures.len ∙ c.nodes.ensures;
+      levels_size = c.in_ok-levels.ensures.len ∙ c.nodes-2.ensures;
+      search = rw (unseen, placed) (searching_start g start step c.requires);
+    }
