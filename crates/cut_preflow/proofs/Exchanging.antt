@@ -157,6 +157,17 @@ places_written places slice new first other node size new_is slice_is first_is =
     is : new ≡ map (exchanged (get_or places.items node 0) other) places.items
     is = new_is ∙ ap (map (exchanged first other)) slice_is ∙ ap (λ p. map (exchanged p other) places.items) first_is
 
+-- both vectors written through their whole slices
+pub arranged_written : (order place : Vec ℕ Global) (new_order new_place slice : List ℕ) (first second size : ℕ) → length order.items ≡ order.len →
+    length place.items ≡ place.len → length order.items ≡ length place.items → length place.items < 2 ^ 32 → slice ≡ place.items →
+    new_place ≡ map (exchanged first second) slice → AreInverse new_order new_place → size ≤ length place.items →
+    IsArranged (with_items order new_order).items (with_items place new_place).items size
+arranged_written order place new_order new_place slice first second size in_order in_place lengths few slice_is new_is inverse within =
+    let places : length new_place ≡ length place.items = ap length new_is ∙ length-map slice (exchanged first second) ∙ ap length slice_is in
+    let orders = inverse.lengths in
+    rw (with_items_is order new_order (omega arith), with_items_is place new_place (omega arith))
+    (record { inverse = inverse; within = omega arith; few = omega arith })
+
 -- the first nodes of the order are members
 pub has_placed : (order place : List ℕ) (i size : ℕ) → AreInverse order place → i < length order → i < size →
     get_or (map (λ p. nat_lt p size) place) (get_or order i 0) false ≡ true
