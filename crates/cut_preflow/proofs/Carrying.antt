@@ -1,5 +1,5 @@
 -- The excesses after a push, and the active nodes by a list of excesses.
-use Rattle.std.proofs.Common.{◌≡◌, ◌≢◌, ℕ, ◌+◌, ◌-◌, ◌/◌, ◌^◌, ◌<◌, ◌≤◌, inl, inr, Bool, true, false, not, ◌&&◌, ◌==◌, if◌then◌else◌, nat_lt, List, length, get_or, set, refl, sym, ap, ◌∙◌, arith, get_or-set_same, get_or-set_other}
+use Rattle.std.proofs.Common.{◌≡◌, ◌≢◌, ℕ, ◌+◌, ◌-◌, ◌/◌, ◌^◌, ◌<◌, ◌≤◌, inl, inr, Bool, true, false, not, ◌&&◌, ◌==◌, if◌then◌else◌, nat_lt, List, length, get_or, set, refl, sym, ap, ◌∙◌, subst, arith, get_or-set_same, get_or-set_other}
 use Rattle.std.proofs.lemmas.Bool.{cases_eq}
 use Rattle.std.proofs.lemmas.Bool.Decides.{nat_tests}
 use Rattle.std.proofs.lemmas.List.{length-set}
@@ -183,4 +183,36 @@ relabelled_indexed net s labels arcs xs active is = record {
   excesses_are = is.excesses_are;
   each_tested = is.each_tested;
   active_are = is.active_are;
+}
+
+-- another excess of a node, which is a member by it now
+pub active_written : (ends : Ends) (excesses : List ℕ) (active : List Bool) (node excess : ℕ) (is : Bool) → node < ends.nodes → AreActive ends excesses active →
+    is_active_by ends (set excesses node excess) node ≡ is → AreActive ends (set excesses node excess) (set active node is)
+active_written ends excesses active node excess is low was by = record {
+  each_counted = length-set excesses node excess ∙ was.each_counted;
+  each_tested = length-set active node is ∙ was.each_tested;
+  active_are = λ v. elim (cases_eq v node) [
+    | inl e ↦
+        subst (λ w. get_or (set active node is) w false ≡ is_active_by ends (set excesses node excess) w) (sym e)
+        (get_or-set_same active node is false (omega (arith, low, was.each_tested)) ∙ sym by)
+    | inr other ↦
+        get_or-set_other active node v is false other ∙ was.active_are v
+        ∙ ap (λ x. nat_lt v ends.nodes && (not (v == ends.source) && (not (v == ends.sink) && nat_lt 0 x))) (sym (get_or-set_other excesses node v excess 0 other))
+  ];
+}
+
+-- another excess of an end, which is no member
+pub active_kept : (ends : Ends) (excesses : List ℕ) (active : List Bool) (node excess : ℕ) → AreActive ends excesses active →
+    ((xs : List ℕ) → is_active_by ends xs node ≡ false) → AreActive ends (set excesses node excess) active
+active_kept ends excesses active node excess was none = record {
+  each_counted = length-set excesses node excess ∙ was.each_counted;
+  each_tested = was.each_tested;
+  active_are = λ v. elim (cases_eq v node) [
+    | inl e ↦
+        subst (λ w. get_or active w false ≡ is_active_by ends (set excesses node excess) w) (sym e)
+        (was.active_are node ∙ none excesses ∙ sym (none (set excesses node excess)))
+    | inr other ↦
+        was.active_are v
+        ∙ ap (λ x. nat_lt v ends.nodes && (not (v == ends.source) && (not (v == ends.sink) && nat_lt 0 x))) (sym (get_or-set_other excesses node v excess 0 other))
+  ];
 }

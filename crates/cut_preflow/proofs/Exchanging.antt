@@ -1,5 +1,5 @@
 -- Two places of an order exchanged, and what that does to a set of nodes.
-use Rattle.std.proofs.Common.{◌≡◌, ◌≢◌, ℕ, zero, suc, ◌+◌, ◌-◌, ◌^◌, ◌<◌, ◌≤◌, Bool, true, false, nat_lt, List, [], ◌∷◌, length, get_or, set, map, replicate, inl, inr, refl, sym, ap, ◌∙◌, arith, length-set, get_or-set_same, get_or-set_other}
+use Rattle.std.proofs.Common.{◌≡◌, ◌≢◌, ℕ, zero, suc, ◌+◌, ◌-◌, ◌^◌, ◌<◌, ◌≤◌, Bool, true, false, nat_lt, List, [], ◌∷◌, length, get_or, set, map, replicate, inl, inr, refl, sym, ap, ◌∙◌, subst, arith, length-set, get_or-set_same, get_or-set_other}
 use Rattle.std.proofs.lemmas.Bool.{cases_eq}
 use Rattle.std.proofs.lemmas.Bool.Decides.{nat_tests}
 use Rattle.std.proofs.lemmas.List.{ext_get_or, get_or-map, length-map, with_items_is}
@@ -62,6 +62,88 @@ places_exchanged order place first second inv in_first in_second =
                     past ∙ own ∙ sym (mapped ∙ exchanged_other first second (get_or place v 0) not_first not_second)
               ]
         ]
+
+-- exchanged twice it is as it was
+exchanged_again : (first second p : ℕ) → exchanged first second (exchanged first second p) ≡ p
+exchanged_again first second p = elim (cases_eq p first) [
+  | inl e ↦ ap (exchanged first second) (exchanged_first first second p e) ∙ exchanged_second first second second refl ∙ sym e
+  | inr not_first ↦ elim (cases_eq p second) [
+    | inl e ↦ ap (exchanged first second) (exchanged_second first second p e) ∙ exchanged_first first second first refl ∙ sym e
+    | inr not_second ↦
+        let same = exchanged_other first second p not_first not_second in
+        ap (exchanged first second) same ∙ same
+  ]
+]
+
+exchanged_within : (first second p n : ℕ) → first < n → second < n → p < n → exchanged first second p < n
+exchanged_within first second p n in_first in_second within = elim (cases_eq p first) [
+  | inl e ↦ subst (λ q. q < n) (sym (exchanged_first first second p e)) in_second
+  | inr not_first ↦ elim (cases_eq p second) [
+    | inl e ↦ subst (λ q. q < n) (sym (exchanged_second first second p e)) in_first
+    | inr not_second ↦ subst (λ q. q < n) (sym (exchanged_other first second p not_first not_second)) within
+  ]
+]
+
+-- what stands at each place once two are exchanged
+order_exchanged : (order : List ℕ) (first second i : ℕ) → first < length order → second < length order →
+    get_or (set (set order first (get_or order second 0)) second (get_or order first 0)) i 0 ≡ get_or order (exchanged first second i) 0
+order_exchanged order first second i in_first in_second =
+    let here = get_or order first 0 in
+    let there = get_or order second 0 in
+    let once = set order first there in
+    elim (cases_eq i second) [
+      | inl e ↦
+          ap (λ j. get_or (set once second here) j 0) e
+          ∙ get_or-set_same once second here 0 (omega (arith, in_second, length-set order first there))
+          ∙ sym (ap (λ j. get_or order j 0) (exchanged_second first second i e))
+      | inr not_second ↦
+          get_or-set_other once second i here 0 not_second
+          ∙ elim (cases_eq i first) [
+            | inl e ↦
+                ap (λ j. get_or once j 0) e
+                ∙ get_or-set_same order first there 0 in_first
+                ∙ sym (ap (λ j. get_or order j 0) (exchanged_first first second i e))
+            | inr not_first ↦
+                get_or-set_other order first i there 0 not_first
+                ∙ sym (ap (λ j. get_or order j 0) (exchanged_other first second i not_first not_second))
+          ]
+    ]
+
+-- the two are still inverse
+pub inverse_exchanged : (order place : List ℕ) (first second : ℕ) → AreInverse order place → first < length order → second < length order →
+    AreInverse (set (set order first (get_or order second 0)) second (get_or order first 0))
+    (set (set place (get_or order first 0) second) (get_or order second 0) first)
+inverse_exchanged order place first second inv in_first in_second =
+    let here = get_or order first 0 in
+    let there = get_or order second 0 in
+    let sizes : length (set (set order first there) second here) ≡ length order = length-set (set order first there) second here ∙ length-set order first there in
+    let other = exchanged first second in
+    let mapped = length-map place other in
+    subst (AreInverse (set (set order first there) second here)) (sym (places_exchanged order place first second inv in_first in_second))
+    (record {
+      lengths = sizes ∙ inv.lengths ∙ sym mapped;
+      nodes = λ i l.
+          let within : i < length order = omega (arith, l, sizes) in
+          rw (order_exchanged order first second i in_first in_second, mapped)
+          (inv.nodes (other i) (exchanged_within first second i (length order) in_first in_second within));
+      places = λ v l.
+          let within : v < length place = omega (arith, l, mapped) in
+          rw (get_or-map other place v 0 0 within, sizes)
+          (exchanged_within first second (get_or place v 0) (length order) in_first in_second (inv.places v within));
+      placed = λ i l.
+          let within : other i < length order = exchanged_within first second i (length order) in_first in_second (omega (arith, l, sizes)) in
+          ap (λ v. get_or (map other place) v 0) (order_exchanged order first second i in_first in_second)
+          ∙ get_or-map other place (get_or order (other i) 0) 0 0 (inv.nodes (other i) within)
+          ∙ ap other (inv.placed (other i) within)
+          ∙ exchanged_again first second i;
+      ordered = λ v l.
+          let within : v < length place = omega (arith, l, mapped) in
+          let p = get_or place v 0 in
+          ap (λ q. get_or (set (set order first there) second here) q 0) (get_or-map other place v 0 0 within)
+          ∙ order_exchanged order first second (other p) in_first in_second
+          ∙ ap (λ q. get_or order q 0) (exchanged_again first second p)
+          ∙ inv.ordered v within;
+    })
 
 -- a node at another place, with another bound on the places of members, which is to change nothing for the other nodes
 pub members_exchanged : (order place : List ℕ) (node other old new : ℕ) (is : Bool) → AreInverse order place → node < length place →
