@@ -1,9 +1,8 @@
 -- The three ways in which a node is looked at again.
 use Rattle.std.proofs.Common.{◌≡◌, ℕ, ◌++◌, ◌<◌, ◌≤◌, List, Bool, true, false, length, sym, ap, ◌∙◌, subst, arith}
 use Rattle.std.specs.Prelude.{slice_set}
-use Rattle.digraph.specs.Marks.{ArePassed, LeadsToMarked, IsSettling, lists, marked, place_at, row_at, work_left}
+use Rattle.digraph.specs.Marks.{ArePassed, LeadsToMarked, IsSettling, StartsFrom, lists, marked, place_at, row_at, work_left}
 use Rattle.digraph.proofs.Settling.{marked_below, read_place, read_row, settling_unmarked, settling_placed, settling_without, work_less}
-use Rattle.std.proofs.lemmas.Grind.{common_steps}
 use Rattle.digraph.proofs.endless.Endless.look.Goals as goal
 
 pub returns-then-not-is_marked-clause-settling : goal.returns-then-not-is_marked-clause-settling
@@ -66,16 +65,50 @@ returns-in_ok-extend_from_slice-in-None-clause-less c =
     (work_less edges marks c.args.again.now.items c.as_slice-in-None.result.now v on few)
 
 pub index-start-requires : goal.index-start-requires
-index-start-requires c = grind (arith, common_steps)
+index-start-requires c =
+    let marks = c.args.self.now.marks.items in
+    let v = c.args.node in
+    let s = c.requires.settling in
+    let on : marked marks v ≡ true = ap (λ (m : List Bool). marked m v) (sym c.as_slice.ensures.value) ∙ sym c.is_marked.ensures ∙ c.if-not-is_marked.false in
+    let in_marks : v < length marks = marked_below marks v on in
+    omega (arith, in_marks, s.size, s.placed, c.args.self.now.places.ok.0)
 
 pub marked_from-requires-clause-start : goal.marked_from-requires-clause-start
-marked_from-requires-clause-start c = grind (arith, common_steps)
+marked_from-requires-clause-start c =
+    let edges = c.args.edges.now in
+    let places = c.args.self.now.places.items in
+    let marks = c.args.self.now.marks.items in
+    let v = c.args.node in
+    let s = c.requires.settling in
+    let on : marked marks v ≡ true = ap (λ (m : List Bool). marked m v) (sym c.as_slice.ensures.value) ∙ sym c.is_marked.ensures ∙ c.if-not-is_marked.false in
+    let in_marks : v < length marks = marked_below marks v on in
+    let here : v < length places = omega (arith, in_marks, s.size, s.placed) in
+    let start : c.index-start.result.now ≡ place_at places v = read_place places v c.index-start.result.now c.index-start.ensures here in
+    subst (StartsFrom edges v) (sym start) (s.starts v (omega (arith, in_marks, s.size)))
 
 pub index_mut-requires : goal.index_mut-requires
-index_mut-requires c = grind (arith, common_steps)
+index_mut-requires c =
+    let marks = c.args.self.now.marks.items in
+    let v = c.args.node in
+    let s = c.requires.settling in
+    let on : marked marks v ≡ true = ap (λ (m : List Bool). marked m v) (sym c.as_slice.ensures.value) ∙ sym c.is_marked.ensures ∙ c.if-not-is_marked.false in
+    let in_marks : v < length marks = marked_below marks v on in
+    omega (arith, in_marks, s.size, s.placed, c.args.self.now.places.ok.0)
 
 pub index_mut-requires-in-None : goal.index_mut-requires-in-None
-index_mut-requires-in-None c = grind (arith, common_steps)
+index_mut-requires-in-None c =
+    let marks = c.args.self.now.marks.items in
+    let v = c.args.node in
+    let s = c.requires.settling in
+    let on : marked marks v ≡ true = ap (λ (m : List Bool). marked m v) (sym c.as_slice.ensures.value) ∙ sym c.is_marked.ensures ∙ c.if-not-is_marked.false in
+    let in_marks : v < length marks = marked_below marks v on in
+    omega (arith, in_marks, c.args.self.now.marks.ok.0)
 
 pub bounds-predecessors-node : goal.bounds-predecessors-node
-bounds-predecessors-node c = grind (arith, common_steps)
+bounds-predecessors-node c =
+    let marks = c.args.self.now.marks.items in
+    let v = c.args.node in
+    let s = c.requires.settling in
+    let on : marked marks v ≡ true = ap (λ (m : List Bool). marked m v) (sym c.as_slice.ensures.value) ∙ sym c.is_marked.ensures ∙ c.if-not-is_marked.false in
+    let in_marks : v < length marks = marked_below marks v on in
+    omega (arith, in_marks, s.size)
