@@ -1,18 +1,17 @@
 //! Two workers whose turns a gate orders, and workers whose gate is open.
-ghost use Rattle.std.specs.Prelude.{◌≡◌, ◌≤◌};
+ghost use Rattle.std.specs.Prelude.{◌≡◌, ◌≤◌, false};
 ghost use Rattle.cut_net.specs.Pins.{PinChain};
 ghost use Rattle.cut_preflow.specs.Flows.{AreEnds, network_between};
 
-use crate::openings::is_free;
+use crate::preflows::is_free;
 use crate::told::is_told;
 use crate::worked::{THREE_IMPORTS, net_of, told_answer};
 use cut_net::Net;
-use cut_preflow::{Event, NetworkLedger, PARTS, Preflow, Share};
-use cut_solve::workers::look;
+use cut_preflow::{NetworkLedger, PARTS, Preflow, Share};
 use cut_solve::{Gate, Locked, OpenGate, solve, worker};
 use std::alloc::{AllocError, Global};
 use std::marker::Brand;
-use std::sync::atomic::{AtomicBool, AtomicU64, Ordering};
+use std::sync::atomic::{AtomicU64, Ordering};
 use std::sync::ledger::Blank;
 use std::sync::{Mutex, Wait};
 use std::test::Fail;
@@ -23,26 +22,6 @@ use std::time::{Clock, Duration};
 /// Waits at most this often.
 const MOST_WAITS: u32 = 1000;
 
-/// One hold: whether a worker came to it, and whether it was let go in time.
-#[derive(Drop)]
-struct Hold {
-    reached: AtomicBool,
-    let_go: AtomicBool,
-}
-
-impl Hold {
-    fn new() -> Hold {
-        Hold {
-            reached: AtomicBool::new(false),
-            let_go: AtomicBool::new(false),
-        }
-    }
-
-    fn was_passed(&self) -> bool {
-        self.reached.load(Ordering::SeqCst) && self.let_go.load(Ordering::SeqCst)
-    }
-}
-
 /// Holds worker 0 at turn 0 until worker 1 has come to turn 1, and worker 1 at turn 0 until worker 0 has come to turn 0 and at turn 1
 /// until worker 0 has come to turn 2.
 #[derive(Drop)]
@@ -51,9 +30,8 @@ struct Holds<'a, R> {
     /// How many turns each worker has come to.
     by_first: AtomicU64,
     by_second: AtomicU64,
-    first: Hold,
-    second: Hold,
-    third: Hold,
+    /// How many of the three holds were let go in time.
+    let_go: AtomicU64,
 }
 
 impl<'a, R: Clock> Holds<'a, R> {
@@ -62,17 +40,14 @@ impl<'a, R: Clock> Holds<'a, R> {
             clock,
             by_first: AtomicU64::new(0),
             by_second: AtomicU64::new(0),
-            first: Hold::new(),
-            second: Hold::new(),
-            third: Hold::new(),
+            let_go: AtomicU64::new(0),
         }
     }
 
-    fn wait(&self, hold: &Hold, turns: &AtomicU64, least: u64) {
-        hold.reached.store(true, Ordering::SeqCst);
+    fn wait(&self, turns: &AtomicU64, least: u64) {
         for _ in 0..MOST_WAITS {
             if turns.load(Ordering::SeqCst) >= least {
-                hold.let_go.store(true, Ordering::SeqCst);
+                self.let_go.fetch_add(1, Ordering::SeqCst);
                 return;
             }
             thread::sleep(self.clock, Duration::from_millis(1));
@@ -80,7 +55,7 @@ impl<'a, R: Clock> Holds<'a, R> {
     }
 
     fn were_passed(&self) -> bool {
-        self.first.was_passed() && self.second.was_passed() && self.third.was_passed()
+        self.let_go.load(Ordering::SeqCst) == 3
     }
 }
 
@@ -89,207 +64,200 @@ impl<R: Clock> Gate for Holds<'_, R> {
         let turns = turn.saturating_add(1);
         match worker {
             0 => self.by_first.store(turns, Ordering::SeqCst),
-            1 => self.by_second.store(turns, Ordering::SeqCst),
-            _ => {}
+            _ => self.by_second.store(turns, Ordering::SeqCst),
         }
         match (worker, turn) {
-            (0, 0) => self.wait(&self.first, &self.by_second, 2),
-            (1, 0) => self.wait(&self.second, &self.by_first, 1),
-            (1, 1) => self.wait(&self.third, &self.by_first, 3),
+            (0, 0) => self.wait(&self.by_second, 2),
+            (1, 0) => self.wait(&self.by_first, 1),
+            (1, 1) => self.wait(&self.by_first, 3),
             _ => {}
         }
     }
 }
 
-/// How many events there are, and the first two.
-fn told_events(alloc: Global, events: &[Event]) -> Result<String, AllocError> {
-    format!(in alloc;
-        "{} events {:?} {:?}",
-        events.len(),
-        events.first(),
-        events.get(1)
-    )
-}
-
 /// What both shares and the preflow came to: whether the shares came back marked and count the steps, how many are out, whether it is
 /// quiet, whether each worker took a step, and the events.
-fn told_end<L: NetworkLedger>(
+fn told_two<L: NetworkLedger>(
     alloc: Global,
     preflow: &mut Preflow<L>,
     first: Share<L>,
     second: Share<L>,
 ) -> Result<String, AllocError> {
     let marked = first.is_marked() && second.is_marked();
-    let (one, two) = (first.count(), second.count());
+    let both = first.count() > 0 && second.count() > 0;
+    let steps = first.count().saturating_add(second.count());
     let _ = preflow.rejoin(first);
     let out = preflow.rejoin(second);
-    let quiet = preflow.is_quiet();
-    let counted = one.saturating_add(two) == preflow.history().len() as u64;
-    let both = one > 0 && two > 0;
-    let events = told_events(alloc, preflow.history())?;
+    let events = preflow.history();
+    let counted = steps == events.len() as u64;
     format!(in alloc;
-        "marked {marked} counted {counted} out {out} quiet {quiet}; both {both} {events}"
+        "marked {marked} counted {counted} out {out} quiet {}; both {both} {} events {:?} {:?}",
+        preflow.is_quiet(),
+        events.len(),
+        events.first(),
+        events.get(1)
     )
-}
-
-/// Two workers in threads of their own go on from the opening at a gate. Tells what worker 7 sees at the opening, and the end.
-fn by_two_in<L: NetworkLedger + Send + Sync, R: Threads + Wait + Sync, G: Gate + Sync>(
-    rt: &R,
-    alloc: Global,
-    blank: Blank,
-    net: &Net,
-    gate: &G,
-) -> Result<String, Fail>
-    requires ends { AreEnds net.now 0 1 }
-    requires free { PinChain net.now 0 1 → ⊥ }
-    requires net { network_between net.now 0 1 ≡ L.net }
-    requires name { blank.name ≡ L.name }
-    requires parts { (blank.parts ≡ 65) × (L.parts ≡ 65) }
-{
-    let mut preflow = Preflow::<L>::start(alloc, blank, net, 0, 1)?;
-    let seen = look(&preflow, 7);
-    let (Some(first), Some(second)) = (preflow.share(), preflow.share()) else {
-        return Err(Fail::from("two shares"));
-    };
-    let locked: Locked<L> = Mutex::new(preflow);
-    let lock = &locked;
-    let (first, second) = thread::join(
-        rt,
-        move || worker(rt, lock, 0, first, gate),
-        move || worker(rt, lock, 1, second, gate),
-    );
-    let mut preflow = locked.into_inner();
-    let end = told_end(alloc, &mut preflow, first, second)?;
-    Ok(format!(in alloc; "{seen:?}; {end}")?)
-}
-
-/// The same between the first two modules of the line of three imports.
-fn by_two<R: Threads + Wait + Sync, G: Gate + Sync>(
-    rt: &R,
-    alloc: Global,
-    gate: &G,
-) -> Result<String, Fail> {
-    let net = net_of(alloc, THREE_IMPORTS)?;
-    if net.nodes() < 2 {
-        return Err(Fail::from("two modules"));
-    }
-    if !is_free(alloc, &*net, 0, 1)? {
-        return Err(Fail::from("no chain of pins"));
-    }
-    by_two_in::<Brand, R, G>(rt, alloc, Blank::new(PARTS), &*net, gate)
-}
-
-// Where memory for the history is refused to a worker, the other waits at the gate in vain, and this test or the next fails.
-#[test]
-fn two_workers_take_turns(rt: HostRuntime) -> Result<(), Fail> {
-    let gate = Holds::new(&rt);
-    let found = by_two(&rt, rt.alloc(), &gate)?;
-    assert!(rt; gate.were_passed());
-    is_told(
-        &rt,
-        found.as_str(),
-        "Try { event: Event { worker: 7, step: Relabel { node: 2 } } }; \
-        marked true counted true out 0 quiet true; \
-        both true 4 events Some(Event { worker: 1, step: Relabel { node: 2 } }) Some(Event { worker: 0, step: Push { arc: 2 } })",
-    );
-    Ok(())
-}
-
-/// Cuts the line of three imports at a gate, by so many workers.
-fn told_by<R: Threads + Wait + Sync, G: Gate + Sync>(
-    rt: &R,
-    alloc: Global,
-    workers: u32,
-    gate: &G,
-) -> Result<String, Fail>
-    requires { (1 ≤ workers) × (workers ≤ 64) }
-{
-    let net = net_of(alloc, THREE_IMPORTS)?;
-    let answer = solve(rt, alloc, &*net, "A", "B", workers, gate)?;
-    Ok(told_answer(alloc, &answer)?)
-}
-
-const LINE_CUT: &str = "weight 2 remove 0 2 2 flow 0 2 2 flow 2 3 2 flow 3 1 2";
-
-#[test]
-fn the_solver_takes_turns(rt: HostRuntime) -> Result<(), Fail> {
-    let gate = Holds::new(&rt);
-    let cut = told_by(&rt, rt.alloc(), 2, &gate)?;
-    assert!(rt; gate.were_passed());
-    is_told(&rt, cut.as_str(), LINE_CUT);
-    Ok(())
-}
-
-// Where memory for the history is refused to one of the workers, the other goes on.
-#[test]
-fn each_worker_ends_marked(rt: HostRuntime) -> Result<(), Fail> {
-    let found = by_two(&rt, rt.alloc(), &OpenGate)?;
-    assert!(rt;
-        found
-            .as_str()
-            .contains("; marked true counted true out 0 quiet true; "),
-        "{found}"
-    );
-    Ok(())
 }
 
 /// What one worker alone left: whether its share came back marked and counts the steps, and whether these were none or all; then what
 /// is left is settled: how many shares are out, and whether it is quiet after how many steps.
-fn told_alone<L: NetworkLedger>(
+fn told_one<L: NetworkLedger>(
     alloc: Global,
     preflow: &mut Preflow<L>,
     share: Share<L>,
-) -> Result<String, Fail> {
+) -> Result<String, AllocError> {
     let marked = share.is_marked();
     let events = preflow.history().len();
     let counted = share.count() == events as u64;
     let whole = events == 0 || events == 4;
     let out = preflow.rejoin(share);
     preflow.settle()?;
-    let (quiet, settled) = (preflow.is_quiet(), preflow.history().len());
-    Ok(format!(in alloc;
-        "marked {marked} counted {counted} whole {whole} out {out} quiet {quiet} after {settled}"
-    )?)
+    format!(in alloc;
+        "marked {marked} counted {counted} whole {whole} out {out} quiet {} after {}",
+        preflow.is_quiet(),
+        preflow.history().len()
+    )
+}
+
+/// Two workers in threads of their own go on at a gate.
+fn join<R: Threads + Wait + Sync, L: NetworkLedger + Send + Sync, G: Gate + Sync>(
+    rt: &R,
+    locked: &Locked<L>,
+    first: Share<L>,
+    second: Share<L>,
+    gate: &G,
+) -> (Share<L>, Share<L>)
+    requires first { first.marked ≡ false }
+    requires second { second.marked ≡ false }
+{
+    thread::join(
+        rt,
+        move || worker(rt, locked, 0, first, gate),
+        move || worker(rt, locked, 1, second, gate),
+    )
+}
+
+/// Two workers go on from the opening at a gate.
+fn by_two<R: Threads + Wait + Sync, L: NetworkLedger + Send + Sync, G: Gate + Sync>(
+    rt: &R,
+    alloc: Global,
+    mut preflow: Preflow<L>,
+    gate: &G,
+) -> Result<String, AllocError> {
+    let (Some(first), Some(second)) = (preflow.share(), preflow.share()) else {
+        return Err(AllocError);
+    };
+    let locked: Locked<L> = Mutex::new(preflow);
+    let (first, second) = join(rt, &locked, first, second, gate);
+    told_two(alloc, &mut locked.into_inner(), first, second)
 }
 
 /// One worker goes on from the opening alone.
-fn alone_in<L: NetworkLedger, R: Wait>(
+fn by_one<R: Wait, L: NetworkLedger>(
+    rt: &R,
+    alloc: Global,
+    mut preflow: Preflow<L>,
+) -> Result<String, AllocError> {
+    let Some(share) = preflow.share() else {
+        return Err(AllocError);
+    };
+    let locked: Locked<L> = Mutex::new(preflow);
+    let share = worker(rt, &locked, 0, share, &OpenGate);
+    told_one(alloc, &mut locked.into_inner(), share)
+}
+
+/// One worker or two go on from the opening between the first two modules.
+fn told_in<L: NetworkLedger + Send + Sync, R: Threads + Wait + Sync, G: Gate + Sync>(
     rt: &R,
     alloc: Global,
     blank: Blank,
     net: &Net,
-) -> Result<String, Fail>
+    gate: Option<&G>,
+) -> Result<String, AllocError>
     requires ends { AreEnds net.now 0 1 }
     requires free { PinChain net.now 0 1 → ⊥ }
     requires net { network_between net.now 0 1 ≡ L.net }
     requires name { blank.name ≡ L.name }
     requires parts { (blank.parts ≡ 65) × (L.parts ≡ 65) }
 {
-    let mut preflow = Preflow::<L>::start(alloc, blank, net, 0, 1)?;
-    let Some(share) = preflow.share() else {
-        return Err(Fail::from("a share"));
-    };
-    let locked: Locked<L> = Mutex::new(preflow);
-    let share = worker(rt, &locked, 0, share, &OpenGate);
-    told_alone(alloc, &mut locked.into_inner(), share)
+    let preflow = Preflow::<L>::start(alloc, blank, net, 0, 1)?;
+    match gate {
+        Some(gate) => by_two(rt, alloc, preflow, gate),
+        None => by_one(rt, alloc, preflow),
+    }
 }
 
-/// The same between the first two modules of the line of three imports.
-fn alone<R: Wait>(rt: &R, alloc: Global) -> Result<String, Fail> {
-    let net = net_of(alloc, THREE_IMPORTS)?;
-    if net.nodes() < 2 {
-        return Err(Fail::from("two modules"));
+/// What two workers at a gate come to on the line of three imports, and without one what one worker comes to.
+fn told_on_line<R: Threads + Wait + Sync, G: Gate + Sync>(
+    rt: &R,
+    alloc: Global,
+    gate: Option<&G>,
+) -> Result<String, AllocError> {
+    let net = net_of(alloc, THREE_IMPORTS, b"")?;
+    if net.nodes() < 2 || !is_free(alloc, &net, 0, 1)? {
+        return Err(AllocError);
     }
-    if !is_free(alloc, &*net, 0, 1)? {
-        return Err(Fail::from("no chain of pins"));
+    told_in::<Brand, R, G>(rt, alloc, Blank::new(PARTS), &net, gate)
+}
+
+/// The cut of the line of three imports by two workers at a gate.
+fn told_cut<R: Threads + Wait + Sync, G: Gate + Sync>(
+    rt: &R,
+    alloc: Global,
+    gate: &G,
+) -> Result<String, AllocError> {
+    let net = net_of(alloc, THREE_IMPORTS, b"")?;
+    match solve(rt, alloc, &net, "A", "B", 2, gate) {
+        Ok(answer) => told_answer(alloc, &answer),
+        Err(_) => Err(AllocError),
     }
-    alone_in::<Brand, R>(rt, alloc, Blank::new(PARTS), &*net)
+}
+
+// Where memory for the history is refused to a worker, the other waits at the gate in vain, and this test or the next fails.
+#[test]
+fn two_workers_take_turns(rt: HostRuntime) -> Result<(), Fail> {
+    let gate = Holds::new(&rt);
+    let found = told_on_line(&rt, rt.alloc(), Some(&gate))?;
+    assert!(rt; gate.were_passed());
+    is_told(
+        &rt,
+        found.as_str(),
+        "marked true counted true out 0 quiet true; \
+        both true 4 events Some(Event { worker: 1, step: Relabel { node: 2 } }) Some(Event { worker: 0, step: Push { arc: 2 } })",
+    );
+    Ok(())
+}
+
+#[test]
+fn the_solver_takes_turns(rt: HostRuntime) -> Result<(), Fail> {
+    let gate = Holds::new(&rt);
+    let cut = told_cut(&rt, rt.alloc(), &gate)?;
+    assert!(rt; gate.were_passed());
+    is_told(
+        &rt,
+        cut.as_str(),
+        "weight 2 remove 0 2 2 flow 0 2 2 flow 2 3 2 flow 3 1 2",
+    );
+    Ok(())
+}
+
+// Where memory for the history is refused to one of the workers, the other goes on.
+#[test]
+fn each_worker_ends_marked(rt: HostRuntime) -> Result<(), Fail> {
+    let found = told_on_line(&rt, rt.alloc(), Some(&OpenGate))?;
+    assert!(rt;
+        found
+            .as_str()
+            .starts_with("marked true counted true out 0 quiet true; "),
+        "{found}"
+    );
+    Ok(())
 }
 
 // Where memory for the history is refused, the worker ends at its first step, which isn't counted, and `settle` takes all four.
 #[test]
 fn one_worker_takes_all_steps_or_none(rt: HostRuntime) -> Result<(), Fail> {
-    let found = alone(&rt, rt.alloc())?;
+    let found = told_on_line::<_, OpenGate>(&rt, rt.alloc(), None)?;
     is_told(
         &rt,
         found.as_str(),

@@ -1,33 +1,25 @@
-//! Tests of the public calls of `cut_residual`, `cut_net`, `cut_part`, `cut_preflow`, `cut_check`, `cut_solve` and `cut_plain`, of what no command
-//! shows: sinks, calls that the solver makes, its workers at gates, `plain`, prices and pins call by call, and verdicts on what no report says.
-//! What `cut-net` and `check-net` print stands in `rows/`.
+//! Tests of the public calls of `cut_residual`, `cut_net`, `cut_part`, `cut_preflow`, `cut_check`, `cut_solve` and `cut_plain`, of what no
+//! command shows: sinks that fail, calls that the solver makes, its workers at gates, `plain`, prices upon prices, and verdicts on what no
+//! report says. What `cut-net` and `check-net` print stands in `rows/`.
 //! Stands on those seven, on `byte_sink` and on `test_doubles`.
 //! It has nothing but tests: worked networks and cuts, each with what is known of it.
 #![tactic(auto)]
 
 #[cfg(test)]
-mod checks;
-#[cfg(test)]
-mod cuts;
+mod answers;
 #[cfg(test)]
 mod gates;
 #[cfg(test)]
 mod graphs;
 #[cfg(test)]
-mod openings;
-#[cfg(test)]
-mod parts;
+mod networks;
 #[cfg(test)]
 mod preflows;
 #[cfg(test)]
-mod priced;
-#[cfg(test)]
-mod prices;
-#[cfg(test)]
 mod sinks;
 #[cfg(test)]
-mod starts;
-#[cfg(test)]
 mod told;
+#[cfg(test)]
+mod verdicts;
 #[cfg(test)]
 mod worked;

@@ -1,64 +1,104 @@
-//! Steps with their outcomes, preflows that are settled, and shares.
-ghost use Rattle.std.specs.Prelude.{◌≡◌};
-ghost use Rattle.cut_preflow.specs.Flows.{network_between};
+//! Steps with their outcomes, from the opening on, in any order, in shares and outside of them, and what is left to settle.
+ghost use Rattle.std.specs.Prelude.{◌≡◌, ◌<◌, IfOk, IsTrue, length};
+ghost use Rattle.cut_net.specs.Pins.{PinChain};
+ghost use Rattle.cut_preflow.specs.Flows.{AreEnds, network_between};
 
-use crate::openings::{Trial, tells, told_on, tried};
 use crate::told::is_told;
-use crate::worked::{A_WAY_BACK, THREE_IMPORTS, TWO_IMPORTS};
-use cut_net::Net;
-use cut_preflow::{Event, NetworkLedger, Outcome, Preflow, Share, Step};
+use crate::worked::{A_WAY_BACK, THREE_IMPORTS, TWO_IMPORTS, net_of, tell_lines};
+use cut_net::{Net, Priced};
+use cut_preflow::{Event, NetworkLedger, Outcome, PARTS, Preflow, Share, Step};
+use cut_solve::workers::look;
 use std::alloc::{AllocError, Global};
+use std::marker::Brand;
+use std::sync::ledger::Blank;
 use std::test::Fail;
+
+/// What is tried on the opening.
+#[derive(Clone, Copy)]
+pub(crate) enum Trial {
+    /// These steps in turn.
+    Steps(&'static [Step]),
+    /// All steps that there are again and again, each so many numbers behind the one before it.
+    All(u32),
+    /// 66 calls of `share`.
+    Shares,
+    /// Steps in a share and outside of it.
+    Counts,
+}
+
+/// What is told of a trial; and once the preflow is settled the modules that are near, and the imports that carry flow.
+#[derive(Drop)]
+pub(crate) struct Settled {
+    pub(crate) told: String,
+    pub(crate) side: Vec<bool>,
+    pub(crate) flow: Vec<Priced>,
+}
+
+/// Whether no chain of pins leads from the one module to the other.
+pub(crate) fn is_free(alloc: Global, net: &Net, from: u32, to: u32) -> Result<bool, AllocError>
+    requires from { from < length net.now.names }
+    requires to { to < length net.now.names }
+    ensures { IfOk result (λ yes. IsTrue yes → PinChain net.now from to → ⊥) }
+{
+    match net.pinned_chain(alloc, from, to)? {
+        Some(_) => Ok(false),
+        None => Ok(true),
+    }
+}
+
+/// The imports that carry flow, each with its flow.
+fn flow_of<L: NetworkLedger>(
+    alloc: Global,
+    net: &Net,
+    _ends: (u32, u32),
+    preflow: &Preflow<L>,
+) -> Result<Vec<Priced>, AllocError>
+    requires { preflow.now.play.net ≡ network_between net.now _ends.0 _ends.1 }
+{
+    net.keeps();
+    let mut flow = Vec::new(alloc);
+    for number in 0..net.imports().len() as u32 {
+        let import = net.import(number);
+        let amount = preflow.flow(number);
+        if amount > 0 {
+            flow.push(Priced { amount, ..import })?;
+        }
+    }
+    Ok(flow)
+}
 
 /// The label and the excess of each module.
 fn tell_modules<L: NetworkLedger>(
     text: &mut String,
     net: &Net,
+    ends: (u32, u32),
     preflow: &Preflow<L>,
-    _ends: (u32, u32),
 ) -> Result<(), AllocError>
-    requires { preflow.now.play.net ≡ network_between net.now _ends.0 _ends.1 }
+    requires { preflow.now.play.net ≡ network_between net.now ends.0 ends.1 }
 {
+    let _ = ends;
     for node in 0..net.nodes() {
-        write!(text, "{}:{} ", preflow.label(node), preflow.excess(node))?;
+        write!(text, " {}:{}", preflow.label(node), preflow.excess(node))?;
     }
     Ok(())
 }
 
-/// The flow of each import.
-fn tell_flows<L: NetworkLedger>(
-    text: &mut String,
-    net: &Net,
-    preflow: &Preflow<L>,
-    _ends: (u32, u32),
-) -> Result<(), AllocError>
-    requires { preflow.now.play.net ≡ network_between net.now _ends.0 _ends.1 }
-{
-    net.keeps();
-    for import in 0..net.imports().len() as u32 {
-        write!(text, "{} ", preflow.flow(import))?;
-    }
-    Ok(())
-}
-
-/// What is next to be done, and what was done.
-fn tell_look<L: NetworkLedger>(
-    text: &mut String,
-    alloc: Global,
-    preflow: &Preflow<L>,
-) -> Result<(), AllocError> {
-    let active = preflow.active();
-    let next = preflow.next_step();
-    let quiet = preflow.is_quiet();
-    let steps = preflow.history().len();
+/// What is next to be done, how much was done, and which modules are near.
+fn tell_next<L: NetworkLedger>(text: &mut String, preflow: &Preflow<L>) -> Result<(), AllocError> {
     let side = preflow.side()?;
     write!(
         text,
-        "{active:?} {next:?} quiet {quiet} after {steps} side {side:?}"
+        "{:?} {:?} {:?} quiet {} after {} side {:?}; ",
+        preflow.active(),
+        preflow.next_step(),
+        look(preflow, 7),
+        preflow.is_quiet(),
+        preflow.history().len(),
+        side.as_slice()
     )
 }
 
-/// The labels and excesses of the modules, the flows of the imports, and what is next to be done.
+/// The labels and excesses of the modules, the imports that carry flow, and what is next to be done.
 fn tell_state<L: NetworkLedger>(
     text: &mut String,
     alloc: Global,
@@ -68,12 +108,13 @@ fn tell_state<L: NetworkLedger>(
 ) -> Result<(), AllocError>
     requires { preflow.now.play.net ≡ network_between net.now ends.0 ends.1 }
 {
-    tell_modules(text, net, preflow, ends)?;
-    tell_flows(text, net, preflow, ends)?;
-    tell_look(text, alloc, preflow)
+    tell_modules(text, net, ends, preflow)?;
+    tell_lines(text, "flow", &flow_of(alloc, net, ends, preflow)?)?;
+    text.push_str("; ")?;
+    tell_next(text, preflow)
 }
 
-/// Tries these steps in turn, and tells what became of each and which node is active then.
+/// Tries these steps in turn, and tells what became of each and which module has excess then.
 fn tell_steps<L: NetworkLedger>(
     text: &mut String,
     preflow: &mut Preflow<L>,
@@ -82,158 +123,16 @@ fn tell_steps<L: NetworkLedger>(
     ensures { preflow.new.play.net ≡ preflow.old.play.net }
 {
     for step in steps {
-        let outcome = tried(preflow, *step);
-        let active = preflow.active();
-        write!(text, "; {outcome:?} {active:?}")?;
+        let outcome = preflow.apply(Event {
+            worker: 4294967295,
+            step: *step,
+        });
+        if outcome == Outcome::Refused {
+            return Err(AllocError);
+        }
+        write!(text, "{outcome:?} {:?}; ", preflow.active())?;
     }
     Ok(())
-}
-
-/// Tells the opening, tries these steps in turn, and tells what they led to.
-#[derive(Drop)]
-struct Plays<'a>(&'a [Step]);
-
-impl Trial for Plays<'_> {
-    fn on<L: NetworkLedger>(
-        &self,
-        alloc: Global,
-        net: &Net,
-        ends: (u32, u32),
-        preflow: &mut Preflow<L>,
-    ) -> Result<String, Fail> {
-        let mut text = String::new(alloc);
-        tell_state(&mut text, alloc, net, ends, preflow)?;
-        tell_steps(&mut text, preflow, self.0)?;
-        text.push_str("; ")?;
-        tell_state(&mut text, alloc, net, ends, preflow)?;
-        Ok(text)
-    }
-}
-
-const EACH_EVENT: &[Step] = &[
-    Step::Push { arc: 2 },
-    Step::Relabel { node: 2 },
-    Step::Push { arc: 2 },
-    Step::Push { arc: 2 },
-    Step::Relabel { node: 2 },
-    Step::Push { arc: 99 },
-];
-
-#[test]
-fn each_event_is_answered(rt: HostRuntime) -> Result<(), Fail> {
-    tells(
-        &rt,
-        TWO_IMPORTS,
-        &Plays(EACH_EVENT),
-        "3:0 0:0 0:2 2 0 Some(2) Some(Relabel { node: 2 }) quiet false after 0 side [true, false, false]; \
-        Stale Some(2); Raised { label: 1 } Some(2); Moved { amount: 2 } None; Stale None; Stale None; Stale None; \
-        3:0 0:2 1:0 2 2 None None quiet true after 2 side [true, false, false]",
-    )
-}
-
-const STRANGE: &[Step] = &[
-    Step::Push { arc: 4294967295 },
-    Step::Relabel { node: 4294967295 },
-    Step::Relabel { node: 0 },
-    Step::Relabel { node: 1 },
-];
-
-#[test]
-fn strange_numbers_are_stale(rt: HostRuntime) -> Result<(), Fail> {
-    tells(
-        &rt,
-        TWO_IMPORTS,
-        &Plays(STRANGE),
-        "3:0 0:0 0:2 2 0 Some(2) Some(Relabel { node: 2 }) quiet false after 0 side [true, false, false]; \
-        Stale Some(2); Stale Some(2); Stale Some(2); Stale Some(2); \
-        3:0 0:0 0:2 2 0 Some(2) Some(Relabel { node: 2 }) quiet false after 0 side [true, false, false]",
-    )
-}
-
-// X gets excess over two arcs, and gives one unit on and one back. Arcs of U are its two imports and the way back to S.
-const THERE_AND_BACK: &[Step] = &[
-    Step::Relabel { node: 3 },
-    Step::Push { arc: 8 },
-    Step::Relabel { node: 2 },
-    Step::Push { arc: 4 },
-    Step::Relabel { node: 4 },
-    Step::Push { arc: 10 },
-    Step::Relabel { node: 4 },
-    Step::Push { arc: 5 },
-    Step::Push { arc: 6 },
-    Step::Relabel { node: 5 },
-    Step::Push { arc: 12 },
-];
-
-#[test]
-fn excess_goes_back_over_an_arc(rt: HostRuntime) -> Result<(), Fail> {
-    tells(
-        &rt,
-        A_WAY_BACK,
-        &Plays(THERE_AND_BACK),
-        "6:0 0:0 0:1 0:1 0:0 0:0 1 1 0 0 0 0 0 Some(3) Some(Relabel { node: 3 }) quiet false after 0 \
-        side [true, false, false, false, false, false]; \
-        Raised { label: 1 } Some(3); Moved { amount: 1 } Some(4); Raised { label: 1 } Some(4); Moved { amount: 1 } Some(4); \
-        Raised { label: 1 } Some(4); Moved { amount: 1 } Some(4); Raised { label: 2 } Some(4); Moved { amount: 1 } Some(2); \
-        Moved { amount: 1 } Some(5); Raised { label: 1 } Some(5); Moved { amount: 1 } None; \
-        6:0 0:2 1:0 1:0 2:0 1:0 1 1 0 1 1 1 1 None None quiet true after 11 \
-        side [true, false, false, false, false, false]",
-    )
-}
-
-/// Settles, and tells the end and how many steps were applied.
-#[derive(Drop)]
-struct Settles;
-
-impl Trial for Settles {
-    fn on<L: NetworkLedger>(
-        &self,
-        alloc: Global,
-        _net: &Net,
-        _ends: (u32, u32),
-        preflow: &mut Preflow<L>,
-    ) -> Result<String, Fail> {
-        let mut end = preflow.settle();
-        // Where memory for the history is refused, a step is left.
-        if end.is_err() {
-            if preflow.is_quiet() {
-                return Err(Fail::from("a step"));
-            }
-            end = preflow.settle();
-        }
-        Ok(format!(in alloc; "{end:?} after {}", preflow.history().len())?)
-    }
-}
-
-#[test]
-fn four_steps_settle_a_line_of_three(rt: HostRuntime) -> Result<(), Fail> {
-    tells(&rt, THREE_IMPORTS, &Settles, "Ok(()) after 4")
-}
-
-/// Tries all events that there are a thousand times over, and tells whether it is quiet then and how many were applied.
-#[derive(Drop)]
-struct TriesAll;
-
-impl Trial for TriesAll {
-    fn on<L: NetworkLedger>(
-        &self,
-        alloc: Global,
-        _net: &Net,
-        _ends: (u32, u32),
-        preflow: &mut Preflow<L>,
-    ) -> Result<String, Fail> {
-        for turn in 0..10_000u32 {
-            let _ = tried(preflow, step_of(turn % 10, 6));
-        }
-        let (quiet, applied) = (preflow.is_quiet(), preflow.history().len());
-        Ok(format!(in alloc; "quiet {quiet} after {applied}")?)
-    }
-}
-
-// The bound for four modules and three imports is 280 steps.
-#[test]
-fn no_history_is_longer_than_the_bound(rt: HostRuntime) -> Result<(), Fail> {
-    tells(&rt, THREE_IMPORTS, &TriesAll, "quiet true after 4")
 }
 
 /// The step of this number: the pushes over all arcs, then the relabels of all nodes.
@@ -247,160 +146,327 @@ fn step_of(number: u32, arcs: u32) -> Step {
     }
 }
 
-/// Tries all events again and again, each so many numbers behind the one before it, until quiet.
-#[derive(Drop)]
-struct Stride(u32);
-
-impl Trial for Stride {
-    fn on<L: NetworkLedger>(
-        &self,
-        alloc: Global,
-        _net: &Net,
-        _ends: (u32, u32),
-        preflow: &mut Preflow<L>,
-    ) -> Result<String, Fail> {
-        let steps = 20u32;
-        for turn in 0..10000u32 {
-            if preflow.is_quiet() {
-                break;
-            }
-            let number = turn.wrapping_mul(self.0) % steps;
-            let _ = tried(preflow, step_of(number, 14));
-        }
-        let side = preflow.side()?;
-        Ok(format!(in alloc; "quiet {} side {side:?}", preflow.is_quiet())?)
+/// Tries all steps again and again, ten thousand in all.
+fn try_all<L: NetworkLedger>(preflow: &mut Preflow<L>, net: &Net, by: u32)
+    ensures { preflow.new.play.net ≡ preflow.old.play.net }
+{
+    net.keeps();
+    let arcs = (net.imports().len() as u32).saturating_mul(2);
+    let steps = arcs.saturating_add(net.nodes()).max(1);
+    for turn in 0..10_000u32 {
+        let _ = preflow.apply(Event {
+            worker: 4294967295,
+            step: step_of(turn.wrapping_mul(by) % steps, arcs),
+        });
     }
 }
 
-const STRIDES: &[u32] = &[1, 3, 7, 9, 11, 13, 17, 19];
-
-#[test]
-fn every_order_ends_in_the_same_side(rt: HostRuntime) -> Result<(), Fail> {
-    for stride in STRIDES {
-        tells(
-            &rt,
-            A_WAY_BACK,
-            &Stride(*stride),
-            "quiet true side [true, false, false, false, false, false]",
-        )?;
-    }
-    Ok(())
-}
-
-/// Takes a share again and again.
-fn take_shares<L: NetworkLedger>(preflow: &mut Preflow<L>, most: u32) -> (u32, Option<Share<L>>) {
+/// Tells which of 66 calls of `share` gives none, and how many are out once the last that there was has come back.
+fn tell_shares<L: NetworkLedger>(
+    text: &mut String,
+    preflow: &mut Preflow<L>,
+) -> Result<(), AllocError>
+    ensures { preflow.new.play.net ≡ preflow.old.play.net }
+{
     let mut last = None;
-    for taken in 0..most {
+    for call in 1..67u32 {
         match preflow.share() {
             Some(share) => last = Some(share),
-            None => return (taken, last),
+            None => write!(text, "call {call} gives none, ")?,
         }
     }
-    (most, last)
-}
-
-#[derive(Drop)]
-struct TakesShares;
-
-impl Trial for TakesShares {
-    fn on<L: NetworkLedger>(
-        &self,
-        alloc: Global,
-        _net: &Net,
-        _ends: (u32, u32),
-        preflow: &mut Preflow<L>,
-    ) -> Result<String, Fail> {
-        let (taken, last) = take_shares(preflow, 65);
-        let none = preflow.share().is_none();
-        let Some(share) = last else {
-            return Err(Fail::from("a share"));
-        };
-        let out = preflow.rejoin(share);
-        Ok(format!(in alloc; "{taken} taken, then none {none}, {out} out")?)
+    match last {
+        Some(share) => write!(text, "{} out; ", preflow.rejoin(share)),
+        None => Ok(()),
     }
 }
 
-#[test]
-fn of_65_calls_the_last_has_no_share(rt: HostRuntime) -> Result<(), Fail> {
-    tells(
-        &rt,
-        TWO_IMPORTS,
-        &TakesShares,
-        "64 taken, then none true, 63 out",
-    )
-}
+/// Whether each step is tried in the share, and the step.
+const COUNTED: &[(bool, Step)] = &[
+    (true, Step::Relabel { node: 2 }),
+    (true, Step::Relabel { node: 2 }),
+    (false, Step::Push { arc: 2 }),
+];
 
 fn tell_share<L: NetworkLedger>(text: &mut String, share: &Share<L>) -> Result<(), AllocError> {
     write!(text, "{} {}; ", share.count(), share.is_marked())
 }
 
-const RELABEL: Event = Event {
-    worker: 7,
-    step: Step::Relabel { node: 2 },
-};
+fn tell_tried(text: &mut String, quiet: bool, outcome: Outcome) -> Result<(), AllocError> {
+    write!(text, "{quiet} {outcome:?} ")
+}
 
-/// Relabels the last module in a share, and tells the share. Whether it was relabelled.
-fn tell_first<L: NetworkLedger>(
+/// Tells before each step whether it is quiet, and then what became of the step and what is in the share.
+fn tell_counted<L: NetworkLedger>(
     text: &mut String,
     preflow: &mut Preflow<L>,
     share: &mut Share<L>,
-) -> Result<bool, AllocError> {
-    let early = preflow.note_quiet(share);
-    let raised = preflow.apply_as(RELABEL, share);
-    write!(text, "{early} {raised:?} ")?;
-    tell_share(text, share)?;
-    Ok(raised != Outcome::Refused)
-}
-
-/// Relabels the last module once more in the share, pushes over the last import outside of it, and tells the share after each.
-fn tell_more<L: NetworkLedger>(
-    text: &mut String,
-    preflow: &mut Preflow<L>,
-    share: &mut Share<L>,
-) -> Result<(), AllocError> {
-    let again = preflow.apply_as(RELABEL, share);
-    write!(text, "{again:?} {:?} ", preflow.history())?;
-    tell_share(text, share)?;
-    let moved = tried(preflow, Step::Push { arc: 2 });
-    let quiet = preflow.note_quiet(share);
-    write!(text, "{moved:?} {quiet} ")?;
-    tell_share(text, share)
-}
-
-/// Counts steps in a share and outside of it.
-#[derive(Drop)]
-struct CountsSteps;
-
-impl Trial for CountsSteps {
-    fn on<L: NetworkLedger>(
-        &self,
-        alloc: Global,
-        _net: &Net,
-        _ends: (u32, u32),
-        preflow: &mut Preflow<L>,
-    ) -> Result<String, Fail> {
-        let Some(mut share) = preflow.share() else {
-            return Err(Fail::from("a share"));
+) -> Result<(), AllocError>
+    ensures { preflow.new.play.net ≡ preflow.old.play.net }
+{
+    for (counted, step) in COUNTED {
+        let event = Event {
+            worker: 7,
+            step: *step,
         };
-        let mut text = String::new(alloc);
-        if tell_first(&mut text, preflow, &mut share)? {
-            tell_more(&mut text, preflow, &mut share)?;
-            write!(text, "{} out", preflow.rejoin(share))?;
+        let quiet = preflow.note_quiet(share);
+        let outcome = if *counted {
+            preflow.apply_as(event, share)
+        } else {
+            preflow.apply(event)
+        };
+        if outcome == Outcome::Refused {
+            return Err(AllocError);
         }
-        Ok(text)
+        tell_tried(text, quiet, outcome)?;
+        tell_share(text, share)?;
+    }
+    Ok(())
+}
+
+/// Counts steps in a share; once it is quiet, tells whether it is, what is in the share, the steps, and how many shares are out.
+fn tell_counts<L: NetworkLedger>(
+    text: &mut String,
+    preflow: &mut Preflow<L>,
+) -> Result<(), AllocError>
+    ensures { preflow.new.play.net ≡ preflow.old.play.net }
+{
+    let Some(mut share) = preflow.share() else {
+        return Err(AllocError);
+    };
+    tell_counted(text, preflow, &mut share)?;
+    let quiet = preflow.note_quiet(&mut share);
+    tell_share(text, &share)?;
+    let out = preflow.rejoin(share);
+    write!(text, "{quiet} {:?} {out} out; ", preflow.history())
+}
+
+fn tell_trial<L: NetworkLedger>(
+    text: &mut String,
+    alloc: Global,
+    net: &Net,
+    ends: (u32, u32),
+    preflow: &mut Preflow<L>,
+    trial: Trial,
+) -> Result<(), AllocError>
+    requires { preflow.old.play.net ≡ network_between net.now ends.0 ends.1 }
+    ensures { preflow.new.play.net ≡ preflow.old.play.net }
+{
+    match trial {
+        Trial::Steps(steps) => {
+            tell_state(text, alloc, net, ends, preflow)?;
+            tell_steps(text, preflow, steps)?;
+            tell_state(text, alloc, net, ends, preflow)
+        }
+        Trial::All(by) => {
+            try_all(preflow, net, by);
+            write!(
+                text,
+                "quiet {} after {}; ",
+                preflow.is_quiet(),
+                preflow.history().len()
+            )
+        }
+        Trial::Shares => tell_shares(text, preflow),
+        Trial::Counts => tell_counts(text, preflow),
     }
 }
 
-const COUNTED: &str =
-    "false Raised { label: 1 } 1 false; Stale [Event { worker: 7, step: Relabel { node: 2 } }] 1 false; \
-    Moved { amount: 2 } true 1 true; 0 out";
+/// Tells a trial, settles, and tells what that led to.
+fn tried<L: NetworkLedger>(
+    alloc: Global,
+    net: &Net,
+    ends: (u32, u32),
+    preflow: &mut Preflow<L>,
+    trial: Trial,
+) -> Result<Settled, AllocError>
+    requires { preflow.old.play.net ≡ network_between net.now ends.0 ends.1 }
+{
+    let mut told = String::new(alloc);
+    tell_trial(&mut told, alloc, net, ends, preflow, trial)?;
+    preflow.settle()?;
+    tell_next(&mut told, preflow)?;
+    Ok(Settled {
+        told,
+        side: preflow.side()?,
+        flow: flow_of(alloc, net, ends, preflow)?,
+    })
+}
 
-// Where memory for the history is refused, the step isn't counted, and the share is marked.
+fn tried_in<L: NetworkLedger>(
+    alloc: Global,
+    blank: Blank,
+    net: &Net,
+    ends: (u32, u32),
+    trial: Trial,
+) -> Result<Settled, AllocError>
+    requires ends { AreEnds net.now ends.0 ends.1 }
+    requires free { PinChain net.now ends.0 ends.1 → ⊥ }
+    requires net { network_between net.now ends.0 ends.1 ≡ L.net }
+    requires name { blank.name ≡ L.name }
+    requires parts { (blank.parts ≡ 65) × (L.parts ≡ 65) }
+{
+    let mut preflow = Preflow::<L>::start(alloc, blank, net, ends.0, ends.1)?;
+    tried(alloc, net, ends, &mut preflow, trial)
+}
+
+/// Tries this on the opening between two modules that no chain of pins joins.
+pub(crate) fn try_on(
+    alloc: Global,
+    net: &Net,
+    ends: (u32, u32),
+    trial: Trial,
+) -> Result<Settled, AllocError> {
+    if ends.0 == ends.1 || ends.0 >= net.nodes() || ends.1 >= net.nodes() {
+        return Err(AllocError);
+    }
+    if !is_free(alloc, net, ends.0, ends.1)? {
+        return Err(AllocError);
+    }
+    tried_in::<Brand>(alloc, Blank::new(PARTS), net, ends, trial)
+}
+
+/// A network, what is tried between its first two modules, and what is told of it.
+const ROWS: &[(&[u8], Trial, &str)] = &[
+    // Each event is answered.
+    (
+        TWO_IMPORTS,
+        Trial::Steps(&[
+            Step::Push { arc: 2 },
+            Step::Relabel { node: 2 },
+            Step::Push { arc: 2 },
+            Step::Push { arc: 2 },
+            Step::Relabel { node: 2 },
+            Step::Push { arc: 99 },
+        ]),
+        " 3:0 0:0 0:2 flow 0 2 2; \
+        Some(2) Some(Relabel { node: 2 }) Try { event: Event { worker: 7, step: Relabel { node: 2 } } } quiet false after 0 side [true, false, false]; \
+        Stale Some(2); Raised { label: 1 } Some(2); Moved { amount: 2 } None; Stale None; Stale None; Stale None;  \
+        3:0 0:2 1:0 flow 0 2 2 flow 2 1 2; \
+        None None Quiet quiet true after 2 side [true, false, false]; \
+        None None Quiet quiet true after 2 side [true, false, false]; ",
+    ),
+    // Strange numbers are stale.
+    (
+        TWO_IMPORTS,
+        Trial::Steps(&[
+            Step::Push { arc: 4294967295 },
+            Step::Relabel { node: 4294967295 },
+            Step::Relabel { node: 0 },
+            Step::Relabel { node: 1 },
+        ]),
+        " 3:0 0:0 0:2 flow 0 2 2; \
+        Some(2) Some(Relabel { node: 2 }) Try { event: Event { worker: 7, step: Relabel { node: 2 } } } quiet false after 0 side [true, false, false]; \
+        Stale Some(2); Stale Some(2); Stale Some(2); Stale Some(2);  \
+        3:0 0:0 0:2 flow 0 2 2; \
+        Some(2) Some(Relabel { node: 2 }) Try { event: Event { worker: 7, step: Relabel { node: 2 } } } quiet false after 0 side [true, false, false]; \
+        None None Quiet quiet true after 2 side [true, false, false]; ",
+    ),
+    // Four steps settle a line of three.
+    (
+        THREE_IMPORTS,
+        Trial::Steps(&[]),
+        " 4:0 0:0 0:2 0:0 flow 0 2 2; \
+        Some(2) Some(Relabel { node: 2 }) Try { event: Event { worker: 7, step: Relabel { node: 2 } } } quiet false after 0 side [true, false, false, false];  \
+        4:0 0:0 0:2 0:0 flow 0 2 2; \
+        Some(2) Some(Relabel { node: 2 }) Try { event: Event { worker: 7, step: Relabel { node: 2 } } } quiet false after 0 side [true, false, false, false]; \
+        None None Quiet quiet true after 4 side [true, false, false, false]; ",
+    ),
+    // X gets excess over two arcs, and gives one unit on and one back. Arcs of U are its two imports and the way back to S.
+    (
+        A_WAY_BACK,
+        Trial::Steps(&[
+            Step::Relabel { node: 3 },
+            Step::Push { arc: 8 },
+            Step::Relabel { node: 2 },
+            Step::Push { arc: 4 },
+            Step::Relabel { node: 4 },
+            Step::Push { arc: 10 },
+            Step::Relabel { node: 4 },
+            Step::Push { arc: 5 },
+            Step::Push { arc: 6 },
+            Step::Relabel { node: 5 },
+            Step::Push { arc: 12 },
+        ]),
+        " 6:0 0:0 0:1 0:1 0:0 0:0 flow 0 2 1 flow 0 3 1; \
+        Some(3) Some(Relabel { node: 3 }) Try { event: Event { worker: 7, step: Relabel { node: 3 } } } quiet false after 0 side [true, false, false, false, false, false]; \
+        Raised { label: 1 } Some(3); Moved { amount: 1 } Some(4); Raised { label: 1 } Some(4); Moved { amount: 1 } Some(4); \
+        Raised { label: 1 } Some(4); Moved { amount: 1 } Some(4); Raised { label: 2 } Some(4); Moved { amount: 1 } Some(2); \
+        Moved { amount: 1 } Some(5); Raised { label: 1 } Some(5); Moved { amount: 1 } None;  \
+        6:0 0:2 1:0 1:0 2:0 1:0 flow 0 2 1 flow 0 3 1 flow 2 5 1 flow 3 4 1 flow 4 1 1 flow 5 1 1; \
+        None None Quiet quiet true after 11 side [true, false, false, false, false, false]; \
+        None None Quiet quiet true after 11 side [true, false, false, false, false, false]; ",
+    ),
+    (
+        THREE_IMPORTS,
+        Trial::All(1),
+        "quiet true after 4; None None Quiet quiet true after 4 side [true, false, false, false]; ",
+    ),
+    (
+        A_WAY_BACK,
+        Trial::All(1),
+        "quiet true after 11; None None Quiet quiet true after 11 side [true, false, false, false, false, false]; ",
+    ),
+    (
+        A_WAY_BACK,
+        Trial::All(3),
+        "quiet true after 8; None None Quiet quiet true after 8 side [true, false, false, false, false, false]; ",
+    ),
+    (
+        A_WAY_BACK,
+        Trial::All(7),
+        "quiet true after 12; None None Quiet quiet true after 12 side [true, false, false, false, false, false]; ",
+    ),
+    (
+        A_WAY_BACK,
+        Trial::All(9),
+        "quiet true after 8; None None Quiet quiet true after 8 side [true, false, false, false, false, false]; ",
+    ),
+    (
+        A_WAY_BACK,
+        Trial::All(11),
+        "quiet true after 8; None None Quiet quiet true after 8 side [true, false, false, false, false, false]; ",
+    ),
+    (
+        A_WAY_BACK,
+        Trial::All(13),
+        "quiet true after 8; None None Quiet quiet true after 8 side [true, false, false, false, false, false]; ",
+    ),
+    (
+        A_WAY_BACK,
+        Trial::All(17),
+        "quiet true after 14; None None Quiet quiet true after 14 side [true, false, false, false, false, false]; ",
+    ),
+    (
+        A_WAY_BACK,
+        Trial::All(19),
+        "quiet true after 8; None None Quiet quiet true after 8 side [true, false, false, false, false, false]; ",
+    ),
+    (
+        TWO_IMPORTS,
+        Trial::Shares,
+        "call 65 gives none, call 66 gives none, 63 out; \
+        None None Quiet quiet true after 2 side [true, false, false]; ",
+    ),
+    (
+        TWO_IMPORTS,
+        Trial::Counts,
+        "false Raised { label: 1 } 1 false; false Stale 1 false; false Moved { amount: 2 } 1 false; \
+        1 true; true [Event { worker: 7, step: Relabel { node: 2 } }, Event { worker: 7, step: Push { arc: 2 } }] 0 out; \
+        None None Quiet quiet true after 2 side [true, false, false]; ",
+    ),
+];
+
+fn told(alloc: Global, net: &[u8], trial: Trial) -> Result<String, AllocError> {
+    let net = net_of(alloc, net, b"")?;
+    Ok(try_on(alloc, &net, (0, 1), trial)?.told)
+}
+
 #[test]
-fn a_share_counts_its_steps(rt: HostRuntime) -> Result<(), Fail> {
-    let found = told_on(rt.alloc(), TWO_IMPORTS, &CountsSteps)?;
-    if found.as_str() != "false Refused 0 true; " {
-        is_told(&rt, found.as_str(), COUNTED);
+fn what_is_tried_is_answered(rt: HostRuntime) -> Result<(), Fail> {
+    for (net, trial, want) in ROWS {
+        let told = told(rt.alloc(), net, *trial)?;
+        is_told(&rt, told.as_str(), want);
     }
     Ok(())
 }

@@ -1,0 +1,200 @@
+//! Answers of the plain solver, each compared with the checker, and each cut with a preflow that nobody shares.
+ghost use Rattle.std.specs.Prelude.{◌<◌, length};
+
+use crate::preflows::{Trial, try_on};
+use crate::told::is_told;
+use crate::worked::{
+    A_WAY_BACK, DIAMOND, THREE_IMPORTS, TWO_IMPORTS, TWO_WAYS, net_of, told_answer,
+};
+use cut_check::{Verdict, check};
+use cut_net::{Answer, Net, Priced};
+use cut_plain::plain;
+use cut_solve::SolveFault;
+use std::alloc::{AllocError, Global};
+use std::test::Fail;
+
+/// Three ways from A to B. The modules are A to F.
+const WAYS: &[u8] =
+    b"import A C 1\nimport A D 1\nimport A E 1\nimport C B 1\nimport D B 1\nimport E F 1\nimport F B 1\n";
+
+/// A network, its prices, the names of two modules, and the answer by the numbers of the modules.
+const ROWS: &[(&[u8], &[u8], (&str, &str), &str)] = &[
+    // Two imports in a row are cut at the first.
+    (
+        TWO_IMPORTS,
+        b"",
+        ("A", "B"),
+        "weight 2 remove 0 2 2 flow 0 2 2 flow 2 1 2",
+    ),
+    // A V leaves the modules that are near, and no chain needs it.
+    (
+        TWO_WAYS,
+        b"",
+        ("A", "D"),
+        "weight 1 remove 2 1 1 flow 0 2 1 flow 2 1 1",
+    ),
+    // An import of weight 0 is cut.
+    (b"import M N 0\n", b"", ("M", "N"), "weight 0 remove 0 1 0"),
+    // Where there is no chain nothing is cut.
+    (TWO_IMPORTS, b"", ("B", "A"), "weight 0"),
+    // A path goes back over flow.
+    (
+        A_WAY_BACK,
+        b"",
+        ("S", "T"),
+        "weight 2 remove 0 2 1 remove 0 3 1 flow 0 2 1 flow 0 3 1 flow 2 5 1 flow 3 4 1 flow 4 1 1 flow 5 1 1",
+    ),
+    // A line of three is cut at the first.
+    (
+        THREE_IMPORTS,
+        b"",
+        ("A", "B"),
+        "weight 2 remove 0 2 2 flow 0 2 2 flow 2 3 2 flow 3 1 2",
+    ),
+    // Two ways are cut where each is cheapest.
+    (
+        DIAMOND,
+        b"",
+        ("A", "D"),
+        "weight 2 remove 0 1 1 remove 2 3 1 flow 0 1 1 flow 0 2 1 flow 1 3 1 flow 2 3 1",
+    ),
+    // A total weight of 64 bits is cut.
+    (
+        b"import A B 9223372036854775808\nimport B C 9223372036854775807\n",
+        b"",
+        ("A", "C"),
+        "weight 9223372036854775807 remove 1 2 9223372036854775807 \
+        flow 0 1 9223372036854775807 flow 1 2 9223372036854775807",
+    ),
+    // Two ways are cut at the first imports where the later ones weigh as much.
+    (
+        b"import A B 1\nimport C D 3\nimport A C 2\nimport B D 2\n",
+        b"",
+        ("A", "D"),
+        "weight 3 remove 0 1 1 remove 0 2 2 flow 0 1 1 flow 0 2 2 flow 1 3 1 flow 2 3 2",
+    ),
+    // Several flows have the value, and the cut is one.
+    (
+        b"import A M 2\nimport A N 2\nimport M B 3\nimport M N 1\nimport N B 3\nimport N C 1\nimport C B 1\n",
+        b"",
+        ("A", "B"),
+        "weight 4 remove 0 3 2 remove 0 4 2 flow 0 3 2 flow 0 4 2 flow 2 1 1 flow 3 1 2 flow 4 1 1 flow 4 2 1",
+    ),
+    // A pin moves the cut behind it.
+    (
+        DIAMOND,
+        b"pin A B\n",
+        ("A", "D"),
+        "weight 4 remove 1 3 3 remove 2 3 1 flow 0 1 3 flow 0 2 1 flow 1 3 3 flow 2 3 1",
+    ),
+    // No cut parts a chain of pins.
+    (
+        DIAMOND,
+        b"pin A B\npin B D\n",
+        ("A", "D"),
+        "blocked [0, 1, 3]",
+    ),
+    // Where it leads to another module it is no obstacle.
+    (
+        DIAMOND,
+        b"pin A B\npin B D\n",
+        ("A", "C"),
+        "weight 2 remove 0 2 2 flow 0 2 2",
+    ),
+    // Pins on each way, and on none all of them.
+    (
+        WAYS,
+        b"pin A C\npin D B\npin E F\npin F B\n",
+        ("A", "B"),
+        "weight 3 remove 0 3 1 remove 0 4 1 remove 2 1 1 \
+        flow 0 2 1 flow 0 3 1 flow 0 4 1 flow 2 1 1 flow 3 1 1 flow 4 5 1 flow 5 1 1",
+    ),
+    // The first unknown name is told.
+    (TWO_IMPORTS, b"", ("Q", "Z"), "no module is named Q"),
+    // One module is not cut from itself.
+    (TWO_IMPORTS, b"", ("M", "M"), "both names are of one module"),
+];
+
+/// Whether the imports lead out of the marked modules.
+fn leave(imports: &[Priced], side: &[bool]) -> bool {
+    for import in imports {
+        if side.get(import.from as usize) != Some(&true)
+            || side.get(import.to as usize) != Some(&false)
+        {
+            return false;
+        }
+    }
+    true
+}
+
+/// Whether the imports of a cut lead out of the modules that are near once a preflow is settled from its opening alone. The cut has its
+/// flow then.
+fn is_settled(
+    alloc: Global,
+    net: &Net,
+    ends: (u32, u32),
+    answer: &mut Answer,
+) -> Result<bool, AllocError> {
+    match answer {
+        Answer::Blocked { .. } => Ok(true),
+        Answer::Cut(cut) => {
+            let settled = try_on(alloc, net, ends, Trial::Steps(&[]))?;
+            cut.flow = settled.flow;
+            Ok(leave(&cut.imports, &settled.side))
+        }
+    }
+}
+
+/// Whether the checker says yes to an answer, also with the flow of a preflow, and the preflow shows the same cut.
+fn stands(
+    alloc: Global,
+    net: &Net,
+    ends: (u32, u32),
+    mut answer: Answer,
+) -> Result<bool, AllocError>
+    requires from { ends.0 < length net.now.names }
+    requires to { ends.1 < length net.now.names }
+{
+    let found = check(alloc, net, ends.0, ends.1, &answer)?;
+    let settled = is_settled(alloc, net, ends, &mut answer)?;
+    let again = check(alloc, net, ends.0, ends.1, &answer)?;
+    Ok(settled && matches!((found, again), (Verdict::Yes, Verdict::Yes)))
+}
+
+fn told_answered(
+    alloc: Global,
+    net: &Net,
+    names: (&str, &str),
+    answer: Answer,
+) -> Result<String, AllocError> {
+    let (Some(from), Some(to)) = (net.index_of(names.0), net.index_of(names.1)) else {
+        return Err(AllocError);
+    };
+    if from >= net.nodes() || to >= net.nodes() {
+        return Err(AllocError);
+    }
+    let mut told = told_answer(alloc, &answer)?;
+    if !stands(alloc, net, (from, to), answer)? {
+        told.push_str(", which doesn't stand")?;
+    }
+    Ok(told)
+}
+
+/// What is answered of these names. No answer may fall.
+fn told(alloc: Global, net: &Net, names: (&str, &str)) -> Result<String, AllocError> {
+    match plain(alloc, net, names.0, names.1) {
+        Ok(answer) => told_answered(alloc, net, names, answer),
+        Err(SolveFault::Memory) => Err(AllocError),
+        Err(fault) => format!(in alloc; "{fault}"),
+    }
+}
+
+#[test]
+fn worked_networks_have_their_answers(rt: HostRuntime) -> Result<(), Fail> {
+    for (net, prices, names, want) in ROWS {
+        let net = net_of(rt.alloc(), net, prices)?;
+        let told = told(rt.alloc(), &net, *names)?;
+        is_told(&rt, told.as_str(), want);
+    }
+    Ok(())
+}
