@@ -9,11 +9,11 @@ ghost use Rattle.ob_scan.specs.Spelling.{AreInText, IsOutcome, Reads};
 ghost use Rattle.ob_scope.specs.Texts.{token_at};
 ghost use Rattle.ob_tree.specs.declared.declaration.Module.{Module};
 ghost use Rattle.oscip_tree.specs.Crossings.{AreSpans, ArePlaces, IsCrossed, IsCrossedIn, IsSpan};
-ghost use Rattle.oscip_tree.specs.TreeReading.{AreScopesOf};
+ghost use Rattle.oscip_tree.specs.TreeReading.{AreScopesOf, IsTreeOf};
 ghost use Rattle.oscip_tree.specs.Trees.{files_of, names, IsAccepted, IsFileFault, IsTreeFault, ModuleFile};
 
 use crate::front_end::{scan_fault, table_after};
-use crate::tree_reading::read_tree;
+use crate::tree_reading::{Tree, read_tree};
 use crate::{Source, TreeFault};
 use ob_imports::Graph;
 use ob_scan::laws::tokens_in_text;
@@ -151,6 +151,28 @@ fn importer_of(graph: &Graph, name: &str) -> Option<u32>
     }
 }
 
+/// The places in the tree of these files where its module of the first name uses that of the second.
+fn uses_in(
+    alloc: Global,
+    tree: &Tree,
+    sources: &[Source],
+    from: &str,
+    to: &str,
+) -> Result<Crossed, TreeFault>
+    requires { IsTreeOf sources.now tree.now }
+    ensures crossed { IfOk result (IsCrossed sources.now from.now to.now) }
+    ensures fault { IfErr result (IsTreeFault sources.now) }
+{
+    let Some(importer) = importer_of(&tree.graph, from) else {
+        return Ok(Crossed::NoImporter);
+    };
+    if tree.graph.node_of(to).is_none() {
+        return Ok(Crossed::NoImported);
+    }
+    let importer = importer as usize;
+    crossed_in(alloc, &sources[importer], &tree.scopes[importer], to)
+}
+
 /// Where the module of the first name uses that of the second: the places of the qualified uses whose alias stands for it, in
 /// order, from the alias's first byte to behind the name that follows the dot; there are as many as the import weighs. The
 /// first name has to be that of a module of the tree, and the second that of one of the tree or of an imported one; what
@@ -169,12 +191,5 @@ pub fn uses_across<R: Threads + Sync>(
     ensures fault { IfErr result (IsTreeFault sources.now) }
 {
     let tree = read_tree(rt, alloc, sources, workers)?;
-    let Some(importer) = importer_of(&tree.graph, from) else {
-        return Ok(Crossed::NoImporter);
-    };
-    if tree.graph.node_of(to).is_none() {
-        return Ok(Crossed::NoImported);
-    }
-    let importer = importer as usize;
-    crossed_in(alloc, &sources[importer], &tree.scopes[importer], to)
+    uses_in(alloc, &tree, sources, from, to)
 }

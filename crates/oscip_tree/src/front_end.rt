@@ -1,7 +1,7 @@
 //! The scopes of one file of a tree, or its fault.
 ghost use Rattle.std.specs.Prelude.{◌≡◌, IfErr, IfOk};
 ghost use Rattle.ob_decls.specs.Declaring.{rows_in, rows_of};
-ghost use Rattle.ob_parse.specs.Parsed.{IsTheTree};
+ghost use Rattle.ob_parse.specs.Parsed.{IsFaultOf, IsTheTree};
 ghost use Rattle.ob_scan.specs.Spelling.{IsOutcome, Reads};
 ghost use Rattle.ob_tree.specs.declared.declaration.Module.{Module};
 ghost use Rattle.oscip_tree.specs.Trees.{parse_offset, scan_offset, scope_offset, HasParseFault, HasScanFault, HasScopeFault, IsFileFault};
@@ -13,7 +13,7 @@ use ob_decls::{Table, table_of};
 use ob_parse::{ParseFault, parse};
 use ob_scan::laws::tokens_in_text;
 use ob_scan::{ScanFault, Tokens, position, scan};
-use ob_scope::{ScopeFault, Scopes, scopes};
+use ob_scope::{ScopeFault, Scopes, scopes_from};
 use ob_tree::declaration::Module;
 use std::alloc::Global;
 
@@ -96,6 +96,26 @@ pub(crate) fn scope_fault(alloc: Global, source: &Source, fault: ScopeFault) -> 
     }
 }
 
+/// The table of a module, or the want of memory.
+fn table_in(alloc: Global, module: &Module) -> Result<Table, ParseFault>
+    ensures table { IfOk result (λ t. rows_in t ≡ rows_of «module».now) }
+    ensures fault { IfErr result (λ fault. fault ≡ ParseFault.Memory) }
+{
+    Ok(table_of(alloc, module)?)
+}
+
+/// The table of the module that these tokens are of, or the fault of the parser.
+fn parsed_table(alloc: Global, bytes: &[u8], tokens: &Tokens) -> Result<Table, ParseFault>
+    requires { IsOutcome bytes.now (Reads tokens.now) }
+    ensures table { IfOk result (λ t. (m : Module) × IsTheTree bytes.now tokens.now m × (rows_in t ≡ rows_of m)) }
+    ensures fault { IfErr result (IsFaultOf bytes.now tokens.now) }
+{
+    match parse(alloc, bytes, tokens) {
+        Ok(module) => table_in(alloc, &module),
+        Err(fault) => Err(fault),
+    }
+}
+
 /// The table of a file's module with these tokens.
 pub(crate) fn table_after(
     alloc: Global,
@@ -106,25 +126,26 @@ pub(crate) fn table_after(
     ensures table { IfOk result (λ t. (m : Module) × IsTheTree source.now.bytes.items tokens.now m × (rows_in t ≡ rows_of m)) }
     ensures fault { IfErr result (IsFileFault source.now) }
 {
-    match parse(alloc, source.bytes.as_slice(), tokens) {
-        Ok(module) => Ok(table_of(alloc, &module)?),
+    match parsed_table(alloc, source.bytes.as_slice(), tokens) {
+        Ok(table) => Ok(table),
         Err(fault) => Err(parse_fault(alloc, source, fault)),
     }
 }
 
-/// The scopes of a file's module with this syntax tree, or the fault of its names.
+/// The scopes of a file's module with this table of its syntax tree, or the fault of its names.
 fn scopes_in(
     alloc: Global,
     source: &Source,
     tokens: &Tokens,
-    module: &Module,
+    table: &Table,
 ) -> Result<Scopes, TreeFault>
     requires spelled { IsOutcome source.now.bytes.items (Reads tokens.now) }
-    requires parsed { IsTheTree source.now.bytes.items tokens.now «module».now }
+    requires parsed { (tree : Module) × IsTheTree source.now.bytes.items tokens.now tree × (rows_in table.now ≡ rows_of tree) }
     ensures scoped { IfOk result (HasScopes source.now) }
     ensures fault { IfErr result (IsFileFault source.now) }
 {
-    match scopes(alloc, module, tokens, source.bytes.as_slice()) {
+    tokens_in_text();
+    match scopes_from(alloc, table, tokens.as_slice(), source.bytes.as_slice()) {
         Ok(scopes) => Ok(scopes),
         Err(fault) => Err(scope_fault(alloc, source, fault)),
     }
@@ -136,10 +157,8 @@ fn scopes_after(alloc: Global, source: &Source, tokens: &Tokens) -> Result<Scope
     ensures scoped { IfOk result (HasScopes source.now) }
     ensures fault { IfErr result (IsFileFault source.now) }
 {
-    match parse(alloc, source.bytes.as_slice(), tokens) {
-        Ok(module) => scopes_in(alloc, source, tokens, &module),
-        Err(fault) => Err(parse_fault(alloc, source, fault)),
-    }
+    let table = table_after(alloc, source, tokens)?;
+    scopes_in(alloc, source, tokens, &table)
 }
 
 impl OfFile for Scopes {
