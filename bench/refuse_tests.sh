@@ -36,7 +36,7 @@ only() {
 
 if [ "${1:-}" = ob_tests ]; then
   cd ob_tests
-  wants='(error: (Memory|AllocError)|left: "(Memory|memory ran out)")'
+  wants='(error: (Memory|AllocError)|left: "(.*; )?(Memory|memory ran out)(; .*)?")'
   number=${2:-1}
   while [ "${3:-0}" -eq 0 ] || [ "$number" -le "$3" ]; do
     refuse "$number" "${4:-}"

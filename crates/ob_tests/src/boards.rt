@@ -1,12 +1,14 @@
 //! The board of a tree of four modules, step by step: A imports B and C, and these D.
 ghost use Rattle.std.specs.Prelude.{◌≡◌};
 
+use crate::asked::Asked::Board as OnBoard;
+use crate::asked::{Row, are_told};
+use crate::graphs::texts;
 use std::alloc::{AllocError, Global};
 use std::marker::Brand;
-use std::process::Abort;
 use std::sync::Arc;
 use std::test::Fail;
-use work_board::{Board, BoardFault, Claim, Graph, NamedTree, WorkEntry};
+use work_board::{Board, Graph, NamedTree, WorkEntry};
 
 /// An entry that is but the name of a module and its number.
 #[derive(Drop)]
@@ -36,137 +38,173 @@ impl WorkEntry for Named {
     }
 }
 
-/// The graph of the four modules.
-fn four(rt: &(impl Abort + AllocGlobal)) -> Result<Graph, AllocError> {
-    let alloc = rt.alloc();
-    let mut names = Vec::new(alloc);
-    for name in ["A", "B", "C", "D"] {
-        names.push(String::from_str(alloc, name)?)?;
-    }
-    let mut imports = Vec::new(alloc);
-    imports.push(vec![in alloc; 1, 2]?)?;
-    imports.push(vec![in alloc; 3]?)?;
-    imports.push(vec![in alloc; 3]?)?;
-    imports.push(Vec::new(alloc))?;
-    assert!(rt; Graph::is_graph(names.as_slice(), imports.as_slice()));
-    Graph::new(alloc, names, imports)
+/// A step on a board.
+pub(crate) enum Step {
+    Claim,
+    /// Delivers an entry of this name.
+    Deliver(u32, &'static str),
+    Abandon(u32),
+    /// Asks for the parts for a module.
+    Parts(u32),
 }
 
-/// Delivers an entry of this name, and tells why it is refused.
-fn refusal<T: NamedTree>(
+/// Steps on a board, with what they tell, and the entries that are gathered then.
+const ROWS: &[Row] = &[
+    // To its end.
+    (
+        OnBoard(&[
+            Step::Abandon(0),
+            Step::Claim,
+            Step::Claim,
+            Step::Parts(0),
+            Step::Deliver(3, "D"),
+            Step::Claim,
+            Step::Claim,
+            Step::Deliver(1, "C"),
+            Step::Deliver(0, "A"),
+            Step::Deliver(3, "D"),
+            Step::Deliver(1, "B"),
+            Step::Deliver(2, "C"),
+            Step::Claim,
+            Step::Parts(0),
+            Step::Claim,
+            Step::Deliver(0, "A"),
+            Step::Claim,
+        ]),
+        "abandoned; Module { number: 3 }; Later; NotClaimed; taken; Module { number: 1 }; Module { number: 2 }; WrongModule; NotClaimed; \
+         Twice; taken; taken; Module { number: 0 }; 123; Later; taken; Finished; ABCD",
+    ),
+    // Given up at its first module.
+    (
+        OnBoard(&[Step::Claim, Step::Abandon(3), Step::Claim]),
+        "Module { number: 3 }; abandoned; Finished; ----",
+    ),
+    // A module that was given up may still be delivered.
+    (
+        OnBoard(&[
+            Step::Claim,
+            Step::Abandon(3),
+            Step::Deliver(3, "D"),
+            Step::Claim,
+        ]),
+        "Module { number: 3 }; abandoned; taken; Finished; ---D",
+    ),
+];
+
+fn lists(alloc: Global, lists: &[&[u32]]) -> Result<Vec<Vec<u32>>, AllocError> {
+    let mut copies = Vec::new(alloc);
+    for list in lists {
+        copies.push(list.to_vec(alloc)?)?;
+    }
+    Ok(copies)
+}
+
+fn entry_of(alloc: Global, number: u32, name: &str) -> Result<Named, AllocError> {
+    Ok(Named {
+        name: String::from_str(alloc, name)?,
+        number: Arc::new(alloc, number)?,
+    })
+}
+
+/// Delivers an entry of this name, and tells why it isn't taken.
+fn tell_delivery<T: NamedTree>(
     alloc: Global,
+    told: &mut String,
     board: &mut Board<'_, T, Named>,
     number: u32,
     name: &str,
-) -> Result<Option<BoardFault>, AllocError> {
-    let entry = Named {
-        name: String::from_str(alloc, name)?,
-        number: Arc::new(alloc, number)?,
-    };
-    match board.deliver(number, entry) {
-        Ok(()) => Ok(None),
-        Err((fault, _entry)) => Ok(Some(fault)),
+) -> Result<(), AllocError> {
+    match board.deliver(number, entry_of(alloc, number, name)?) {
+        Ok(()) => told.push_str("taken"),
+        Err((fault, _entry)) => write!(told, "{fault:?}"),
     }
 }
 
-/// The numbers that the parts for a module tell, each a digit.
-fn parts_told<T: NamedTree>(
-    alloc: Global,
+/// Tells the numbers of parts, each a digit.
+fn tell_numbers(told: &mut String, parts: &[Arc<u32>]) -> Result<(), AllocError> {
+    for part in parts {
+        write!(told, "{}", **part)?;
+    }
+    Ok(())
+}
+
+fn tell_parts<T: NamedTree>(
+    told: &mut String,
     board: &Board<'_, T, Named>,
     number: u32,
-) -> Result<String, Fail> {
-    let mut told = String::new(alloc);
+) -> Result<(), AllocError> {
     match board.interfaces(number) {
-        Ok(parts) => {
-            for part in &parts {
-                let number = **part;
-                write!(told, "{number}")?;
-            }
-        }
-        Err(fault) => write!(told, "{fault:?}")?,
+        Ok(parts) => tell_numbers(told, parts.as_slice()),
+        Err(fault) => write!(told, "{fault:?}"),
     }
+}
+
+fn tell_step<T: NamedTree>(
+    alloc: Global,
+    told: &mut String,
+    board: &mut Board<'_, T, Named>,
+    step: &Step,
+) -> Result<(), AllocError> {
+    match step {
+        Step::Claim => write!(told, "{:?}", board.claim()),
+        Step::Deliver(number, name) => tell_delivery(alloc, told, board, *number, name),
+        Step::Abandon(number) => {
+            board.abandon(*number);
+            told.push_str("abandoned")
+        }
+        Step::Parts(number) => tell_parts(told, board, *number),
+    }
+}
+
+fn tell_steps<T: NamedTree>(
+    alloc: Global,
+    told: &mut String,
+    board: &mut Board<'_, T, Named>,
+    steps: &[Step],
+) -> Result<(), AllocError> {
+    for step in steps {
+        tell_step(alloc, told, board, step)?;
+        told.push_str("; ")?;
+    }
+    Ok(())
+}
+
+/// Tells the names of entries, and a dash for each that isn't there.
+fn tell_entries(told: &mut String, entries: &[Option<Named>]) -> Result<(), AllocError> {
+    for entry in entries {
+        match entry {
+            Some(entry) => told.push_str(entry.name.as_str())?,
+            None => told.push_str("-")?,
+        }
+    }
+    Ok(())
+}
+
+fn told_run<T: NamedTree>(
+    alloc: Global,
+    graph: &Graph,
+    steps: &[Step],
+) -> Result<String, AllocError>
+    requires { graph.now ≡ T.graph }
+{
+    let mut told = String::new(alloc);
+    let mut board: Board<'_, T, Named> = Board::new(alloc, graph)?;
+    tell_steps(alloc, &mut told, &mut board, steps)?;
+    tell_entries(&mut told, board.gather().as_slice())?;
     Ok(told)
 }
 
-/// Goes through the board to its end.
-fn to_the_end<T: NamedTree, R: Abort + AllocGlobal>(rt: &R, graph: &Graph) -> Result<(), Fail>
-    requires { graph.now ≡ T.graph }
-{
-    let alloc = rt.alloc();
-    let mut board: Board<'_, T, Named> = Board::new(alloc, graph)?;
-    board.abandon(0);
-    assert_eq!(rt; board.claim(), Claim::Module { number: 3 });
-    assert_eq!(rt; board.claim(), Claim::Later);
-    assert_eq!(rt; parts_told(alloc, &board, 0)?.as_str(), "NotClaimed");
-    assert_eq!(rt; refusal(alloc, &mut board, 3, "D")?, None);
-    assert_eq!(rt; board.claim(), Claim::Module { number: 1 });
-    assert_eq!(rt; board.claim(), Claim::Module { number: 2 });
-    assert_eq!(rt;
-        refusal(alloc, &mut board, 1, "C")?,
-        Some(BoardFault::WrongModule)
-    );
-    assert_eq!(rt;
-        refusal(alloc, &mut board, 0, "A")?,
-        Some(BoardFault::NotClaimed)
-    );
-    assert_eq!(rt;
-        refusal(alloc, &mut board, 3, "D")?,
-        Some(BoardFault::Twice)
-    );
-    assert_eq!(rt; refusal(alloc, &mut board, 1, "B")?, None);
-    assert_eq!(rt; refusal(alloc, &mut board, 2, "C")?, None);
-    assert_eq!(rt; board.claim(), Claim::Module { number: 0 });
-    assert_eq!(rt; parts_told(alloc, &board, 0)?.as_str(), "123");
-    assert_eq!(rt; board.claim(), Claim::Later);
-    assert_eq!(rt; refusal(alloc, &mut board, 0, "A")?, None);
-    assert_eq!(rt; board.claim(), Claim::Finished);
-    Ok(())
-}
-
-/// Gives the board up at its first module.
-fn given_up<T: NamedTree, R: Abort + AllocGlobal>(rt: &R, graph: &Graph) -> Result<(), Fail>
-    requires { graph.now ≡ T.graph }
-{
-    let alloc = rt.alloc();
-    let mut board: Board<'_, T, Named> = Board::new(alloc, graph)?;
-    assert_eq!(rt; board.claim(), Claim::Module { number: 3 });
-    board.abandon(3);
-    assert_eq!(rt; board.claim(), Claim::Finished);
-    let entries = board.gather();
-    assert_eq!(rt; entries.len(), 4);
-    assert!(rt; entries.iter().all(|entry| entry.is_none()));
-    Ok(())
-}
-
-/// Gives the board up at its first module, and delivers that after all.
-fn delivered_late<T: NamedTree, R: Abort + AllocGlobal>(rt: &R, graph: &Graph) -> Result<(), Fail>
-    requires { graph.now ≡ T.graph }
-{
-    let alloc = rt.alloc();
-    let mut board: Board<'_, T, Named> = Board::new(alloc, graph)?;
-    assert_eq!(rt; board.claim(), Claim::Module { number: 3 });
-    board.abandon(3);
-    assert_eq!(rt; refusal(alloc, &mut board, 3, "D")?, None);
-    assert_eq!(rt; board.claim(), Claim::Finished);
-    let entries = board.gather();
-    assert_eq!(rt; entries.iter().filter(|entry| entry.is_some()).count(), 1);
-    Ok(())
+pub(crate) fn told_board(alloc: Global, steps: &[Step]) -> Result<String, AllocError> {
+    let names = texts(alloc, &["A", "B", "C", "D"])?;
+    let imports = lists(alloc, &[&[1, 2], &[3], &[3], &[]])?;
+    if !Graph::is_graph(names.as_slice(), imports.as_slice()) {
+        return String::from_str(alloc, "no graph");
+    }
+    let graph = Graph::new(alloc, names, imports)?;
+    told_run::<Brand>(alloc, &graph, steps)
 }
 
 #[test]
-fn a_board_goes_to_its_end(rt: HostRuntime) -> Result<(), Fail> {
-    let graph = four(&rt)?;
-    to_the_end::<Brand, HostRuntime>(&rt, &graph)
-}
-
-#[test]
-fn an_abandoned_board_hands_nothing_out(rt: HostRuntime) -> Result<(), Fail> {
-    let graph = four(&rt)?;
-    given_up::<Brand, HostRuntime>(&rt, &graph)
-}
-
-#[test]
-fn an_abandoned_module_may_still_be_delivered(rt: HostRuntime) -> Result<(), Fail> {
-    let graph = four(&rt)?;
-    delivered_late::<Brand, HostRuntime>(&rt, &graph)
+fn boards_go_step_by_step(rt: HostRuntime) -> Result<(), Fail> {
+    are_told(&rt, ROWS)
 }

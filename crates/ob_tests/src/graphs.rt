@@ -1,131 +1,19 @@
-//! The graphs of files' imports.
-use crate::readings::is_told;
-use ob_imports::{Graph, GraphFault, Parsed, graph};
+//! The graphs of files' imports, and which modules are ready.
+use crate::asked::Asked::Files;
+use crate::asked::{Row, are_told};
+use ob_imports::{Graph, Parsed, graph};
 use std::alloc::{AllocError, Global};
 use std::test::Fail;
 
 /// A file: its path, its module's name, and what it imports.
-type File = (&'static str, &'static str, &'static [&'static str]);
+pub(crate) type File = (&'static str, &'static str, &'static [&'static str]);
 
-fn texts(alloc: Global, texts: &[&str]) -> Result<Vec<String>, AllocError> {
-    let mut copies = Vec::new(alloc);
-    for text in texts {
-        copies.push(String::from_str(alloc, text)?)?;
-    }
-    Ok(copies)
-}
-
-fn parsed(alloc: Global, (path, name, imports): File) -> Result<Parsed, AllocError> {
-    Ok(Parsed {
-        path: String::from_str(alloc, path)?,
-        name: String::from_str(alloc, name)?,
-        imports: texts(alloc, imports)?,
-    })
-}
-
-fn all_parsed(alloc: Global, files: &[File]) -> Result<Vec<Parsed>, AllocError> {
-    let mut all = Vec::new(alloc);
-    for file in files {
-        all.push(parsed(alloc, *file)?)?;
-    }
-    Ok(all)
-}
-
-fn made(alloc: Global, files: &[File]) -> Result<Box<Graph>, GraphFault> {
-    let files = all_parsed(alloc, files)?;
-    Ok(Box::new(alloc, graph(alloc, files.as_slice())?)?)
-}
-
-/// A module of a graph: its name, what it imports, and what imports it.
-fn show_node(alloc: Global, graph: &Graph, node: u32) -> Result<String, AllocError> {
-    if node >= graph.nodes() {
-        return String::from_str(alloc, "no module");
-    }
-    let name = graph.name(node);
-    let imports = graph.imports_of(node);
-    let importers = graph.importers_of(node);
-    format!(in alloc; "{name} {imports:?} {importers:?}; ")
-}
-
-/// All modules of a graph, behind the number of those that are of the tree.
-fn show_graph(alloc: Global, graph: &Graph) -> Result<String, AllocError> {
-    let modules = graph.modules();
-    let mut text = format!(in alloc; "{modules}: ")?;
-    for node in 0..graph.nodes() {
-        text.push_str(show_node(alloc, graph, node)?.as_str())?;
-    }
-    Ok(text)
-}
-
-/// The graph of files, or why they have none.
-fn told(alloc: Global, files: &[File]) -> Result<String, AllocError> {
-    match made(alloc, files) {
-        Ok(graph) => show_graph(alloc, &graph),
-        Err(fault) => format!(in alloc; "{fault:?}"),
-    }
-}
-
+/// Modules come first, and external ones follow by name.
 const FOUR: &[File] = &[
     ("D.Mod", "D", &["SYSTEM"]),
     ("B.Mod", "B", &["D", "Texts", "D"]),
     ("A.Mod", "A", &["C", "B", "SYSTEM"]),
     ("C.Mod", "C", &["D"]),
-];
-
-const GRAPHS: &[(&[File], &str)] = &[
-    // Modules come first, and external ones follow by name; imports and importers ascend.
-    (
-        FOUR,
-        "4: D [4] [1, 3]; B [0, 5] [2]; A [1, 3, 4] []; C [0] [2]; SYSTEM [] [0, 2]; Texts [] [1]; ",
-    ),
-    (&[], "0: "),
-    // The least name and its least paths are told.
-    (
-        &[
-            ("z/B.Mod", "B", &[]),
-            ("B.Mod", "B", &[]),
-            ("c/A.Mod", "A", &["A"]),
-            ("b/A.Mod", "A", &[]),
-            ("A.Mod", "A", &[]),
-        ],
-        "TwoModules { name: \"A\", first_path: \"A.Mod\", second_path: \"b/A.Mod\" }",
-    ),
-    // The cycle goes by names.
-    (
-        &[
-            ("1.Mod", "D", &["A"]),
-            ("2.Mod", "C", &["A"]),
-            ("3.Mod", "B", &["C"]),
-            ("4.Mod", "A", &["B"]),
-        ],
-        "Cycle { names: [\"A\", \"B\", \"C\"] }",
-    ),
-    (&[("M.Mod", "M", &["M"])], "Cycle { names: [\"M\"] }"),
-];
-
-#[test]
-fn files_have_graphs_or_faults(rt: HostRuntime) -> Result<(), Fail> {
-    for (files, want) in GRAPHS {
-        is_told(&rt, told(rt.alloc(), files)?.as_str(), want);
-    }
-    Ok(())
-}
-
-#[test]
-fn modules_are_found_by_name(rt: HostRuntime) -> Result<(), Fail> {
-    let graph = made(rt.alloc(), FOUR)?;
-    graph.keeps();
-    assert_eq!(rt; graph.node_of("C"), Some(3));
-    assert_eq!(rt; graph.node_of("Files"), None);
-    Ok(())
-}
-
-/// Files, with the modules that are done and those that are ready then.
-const READY: &[(&[File], &[bool], &str)] = &[
-    (FOUR, &[true, false, false, false], "[1, 3]"),
-    // The last module is ready first.
-    (DIAMOND, &[false, false, false, false], "[3]"),
-    (DIAMOND, &[false, false, false, true], "[1, 2]"),
 ];
 
 const DIAMOND: &[File] = &[
@@ -135,20 +23,77 @@ const DIAMOND: &[File] = &[
     ("D.Mod", "D", &[]),
 ];
 
-/// The modules of files that are ready where these are done.
-fn told_ready(alloc: Global, files: &[File], done: &[bool]) -> Result<String, Fail> {
-    let graph = made(alloc, files)?;
-    if graph.modules() as usize != done.len() {
-        return Ok(String::from_str(alloc, "another number of modules")?);
+/// Files, the modules that are done, and their graph: how many modules are of the tree, each module with its number by its name, what it
+/// imports and what imports it, another name's number, and the modules that are ready. Imports and importers ascend.
+const ROWS: &[Row] = &[
+    (
+        Files(FOUR, &[true, false, false, false]),
+        "4: D Some(0) [4] [1, 3]; B Some(1) [0, 5] [2]; A Some(2) [1, 3, 4] []; C Some(3) [0] [2]; SYSTEM Some(4) [] [0, 2]; \
+         Texts Some(5) [] [1]; None [1, 3]",
+    ),
+    // The last module is ready first.
+    (
+        Files(DIAMOND, &[false, false, false, false]),
+        "4: A Some(0) [1, 2] []; B Some(1) [3] [0]; C Some(2) [3] [0]; D Some(3) [] [1, 2]; None [3]",
+    ),
+    (
+        Files(DIAMOND, &[false, false, false, true]),
+        "4: A Some(0) [1, 2] []; B Some(1) [3] [0]; C Some(2) [3] [0]; D Some(3) [] [1, 2]; None [1, 2]",
+    ),
+    (Files(&[], &[]), "0: None []"),
+];
+
+pub(crate) fn texts(alloc: Global, texts: &[&str]) -> Result<Vec<String>, AllocError> {
+    let mut copies = Vec::new(alloc);
+    for text in texts {
+        copies.push(String::from_str(alloc, text)?)?;
     }
-    let ready = graph.ready(done)?;
-    Ok(format!(in alloc; "{ready:?}")?)
+    Ok(copies)
+}
+
+fn parsed(alloc: Global, files: &[File]) -> Result<Vec<Parsed>, AllocError> {
+    let mut all = Vec::new(alloc);
+    for (path, name, imports) in files {
+        all.push(Parsed {
+            path: String::from_str(alloc, path)?,
+            name: String::from_str(alloc, name)?,
+            imports: texts(alloc, imports)?,
+        })?;
+    }
+    Ok(all)
+}
+
+/// Tells a module of a graph.
+fn tell_node(told: &mut String, graph: &Graph, node: u32) -> Result<(), AllocError> {
+    if node >= graph.nodes() {
+        return told.push_str("no module");
+    }
+    let name = graph.name(node);
+    let found = graph.node_of(name);
+    let (imports, importers) = (graph.imports_of(node), graph.importers_of(node));
+    write!(told, "{name} {found:?} {imports:?} {importers:?}; ")
+}
+
+fn told_graph(alloc: Global, graph: &Graph, done: &[bool]) -> Result<String, AllocError> {
+    let mut told = format!(in alloc; "{}: ", graph.modules())?;
+    if graph.modules() as usize != done.len() {
+        return Ok(told);
+    }
+    for node in 0..graph.nodes() {
+        tell_node(&mut told, graph, node)?;
+    }
+    let (another, ready) = (graph.node_of("Files"), graph.ready(done)?);
+    write!(told, "{another:?} {ready:?}")?;
+    Ok(told)
+}
+
+pub(crate) fn told_files(alloc: Global, files: &[File], done: &[bool]) -> Result<String, Fail> {
+    let files = parsed(alloc, files)?;
+    let graph = graph(alloc, files.as_slice())?;
+    Ok(told_graph(alloc, &graph, done)?)
 }
 
 #[test]
-fn modules_whose_imports_are_done_are_ready(rt: HostRuntime) -> Result<(), Fail> {
-    for (files, done, want) in READY {
-        is_told(&rt, told_ready(rt.alloc(), files, done)?.as_str(), want);
-    }
-    Ok(())
+fn files_have_graphs(rt: HostRuntime) -> Result<(), Fail> {
+    are_told(&rt, ROWS)
 }

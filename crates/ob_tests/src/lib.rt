@@ -1,26 +1,23 @@
-//! Tests of tokens, trees, scopes, interfaces, documents, graphs of imports and the work board, from outside.
-//! Stands on `ob_scan`, `ob_tree`, `ob_decls`, `ob_parse`, `ob_scope`, `ob_interface`, `ob_types`, `ob_emit`, `ob_imports` and `work_board`.
+//! Tests of tokens, trees, tables, scopes, interfaces, graphs of imports and the work board, from outside: of what no
+//! command shows. What a command prints, tells and ends with stands in `rows/`.
+//! Stands on `ob_scan`, `ob_tree`, `ob_decls`, `ob_parse`, `ob_scope`, `ob_interface`, `ob_emit`, `ob_imports` and `work_board`.
 //! Its contract: none; it has nothing but tests.
 #![tactic(auto)]
 
 #[cfg(test)]
+mod asked;
+#[cfg(test)]
 mod boards;
-#[cfg(test)]
-mod cycles;
-#[cfg(test)]
-mod declared;
-#[cfg(test)]
-mod documents;
 #[cfg(test)]
 mod graphs;
 #[cfg(test)]
 mod interfaces;
 #[cfg(test)]
-mod parses;
-#[cfg(test)]
 mod readings;
 #[cfg(test)]
 mod scopes;
+#[cfg(test)]
+mod tables;
 #[cfg(test)]
 mod tokens;
 #[cfg(test)]

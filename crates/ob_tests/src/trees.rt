@@ -1,42 +1,58 @@
 //! Texts, each with the value of its first statement. Identifiers and literals are told by the numbers of their tokens.
-use crate::readings::{is_told, tree_of};
+use crate::asked::Asked::Value;
+use crate::asked::{Row, are_told};
+use crate::readings::parsed;
+use ob_scan::scan;
 use ob_tree::declaration::Module;
 use ob_tree::expression::{Expr, Factor, Sum, Term};
 use ob_tree::statement::Stmt;
 use std::alloc::{AllocError, Global};
 use std::test::Fail;
 
-/// A name or a literal, as `6` or `Real 6`.
-fn show_factor(alloc: Global, factor: &Factor) -> Result<String, AllocError> {
+const ROWS: &[Row] = &[
+    (Value(b"MODULE M; END M."), "none"),
+    (
+        Value(b"MODULE M; BEGIN x := a - b * c END M."),
+        "(6) Minus (8 Times 10)",
+    ),
+    (
+        Value(b"MODULE M; BEGIN x := a DIV b & c + d OR e END M."),
+        "(6 Div 8 And 10) Plus (12) Or (14)",
+    ),
+    (
+        Value(b"MODULE M; BEGIN x := 1.5E3 * \"ab\" * 22X * 0FFH END M."),
+        "(Real 6 Times Text 8 Times Text 10 Times Integer 12)",
+    ),
+];
+
+/// Tells a name or a literal, as `6` or `Real 6`.
+fn tell_factor(told: &mut String, factor: &Factor) -> Result<(), AllocError> {
     match factor {
-        Factor::Name(designator) => {
-            let head = designator.head;
-            format!(in alloc; "{head}")
-        }
-        Factor::Value(literal, number) => format!(in alloc; "{literal:?} {number}"),
-        _ => String::from_str(alloc, "another"),
+        Factor::Name(designator) => write!(told, "{}", designator.head),
+        Factor::Value(literal, number) => write!(told, "{literal:?} {number}"),
+        _ => told.push_str("another"),
     }
 }
 
-/// The factors with their operators.
-fn show_term(alloc: Global, term: &Term) -> Result<String, AllocError> {
-    let mut text = show_factor(alloc, &term.first)?;
+/// Tells the factors with their operators.
+fn tell_term(told: &mut String, term: &Term) -> Result<(), AllocError> {
+    tell_factor(told, &term.first)?;
     for (operator, factor) in &term.rest {
-        let shown = show_factor(alloc, factor)?;
-        text.push_str(format!(in alloc; " {operator:?} {shown}")?.as_str())?;
+        write!(told, " {operator:?} ")?;
+        tell_factor(told, factor)?;
     }
-    Ok(text)
+    Ok(())
 }
 
-/// The terms with their operators, each in parentheses.
-fn show_sum(alloc: Global, sum: &Sum) -> Result<String, AllocError> {
-    let first = show_term(alloc, &sum.first)?;
-    let mut text = format!(in alloc; "({first})")?;
+/// Tells the terms with their operators, each in parentheses.
+fn tell_sum(told: &mut String, sum: &Sum) -> Result<(), AllocError> {
+    told.push_str("(")?;
+    tell_term(told, &sum.first)?;
     for (operator, term) in &sum.rest {
-        let shown = show_term(alloc, term)?;
-        text.push_str(format!(in alloc; " {operator:?} ({shown})")?.as_str())?;
+        write!(told, ") {operator:?} (")?;
+        tell_term(told, term)?;
     }
-    Ok(text)
+    told.push_str(")")
 }
 
 /// What the first statement assigns.
@@ -47,34 +63,22 @@ fn value_of(module: &Module) -> Option<&Expr> {
     }
 }
 
-fn told_value(alloc: Global, text: &[u8]) -> Result<String, Fail> {
-    let tree = tree_of(alloc, text)?;
-    match value_of(&tree) {
-        Some(value) => Ok(show_sum(alloc, &value.left)?),
-        None => Ok(String::from_str(alloc, "none")?),
+fn told_of_tree(alloc: Global, tree: &Module) -> Result<String, AllocError> {
+    let mut told = String::new(alloc);
+    match value_of(tree) {
+        Some(value) => tell_sum(&mut told, &value.left)?,
+        None => told.push_str("none")?,
     }
+    Ok(told)
 }
 
-const VALUES: &[(&[u8], &str)] = &[
-    (b"MODULE M; END M.", "none"),
-    (
-        b"MODULE M; BEGIN x := a - b * c END M.",
-        "(6) Minus (8 Times 10)",
-    ),
-    (
-        b"MODULE M; BEGIN x := a DIV b & c + d OR e END M.",
-        "(6 Div 8 And 10) Plus (12) Or (14)",
-    ),
-    (
-        b"MODULE M; BEGIN x := 1.5E3 * \"ab\" * 22X * 0FFH END M.",
-        "(Real 6 Times Text 8 Times Text 10 Times Integer 12)",
-    ),
-];
+pub(crate) fn told_value(alloc: Global, text: &[u8]) -> Result<String, Fail> {
+    let tokens = scan(alloc, text)?;
+    let tree = parsed(alloc, text, &tokens)?;
+    Ok(told_of_tree(alloc, &tree)?)
+}
 
 #[test]
 fn operators_bind_their_operands(rt: HostRuntime) -> Result<(), Fail> {
-    for (text, want) in VALUES {
-        is_told(&rt, told_value(rt.alloc(), text)?.as_str(), want);
-    }
-    Ok(())
+    are_told(&rt, ROWS)
 }

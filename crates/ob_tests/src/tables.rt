@@ -1,6 +1,7 @@
-//! A worked text, with the table of what it declares and uses. The rows are counted by hand.
-use crate::readings::{is_told, tree_of};
-use ob_decls::{Table, table_of};
+//! Worked texts, with the tables of what they declare and use. The rows are counted by hand.
+use crate::asked::Asked::{ByToken, Forms, Names, Steps};
+use crate::asked::{Row, are_told};
+use crate::readings::table_in;
 use std::alloc::Global;
 use std::test::Fail;
 
@@ -12,23 +13,17 @@ const TEXT: &[u8] = b"MODULE M; IMPORT A, T := Texts; \
 const STEPS: &[u8] =
     b"MODULE M; PROCEDURE P; BEGIN a.b[x.y, 2](T.U).c(z)^ := q(w[i], 1); END P; END M.";
 
-fn table_in(alloc: Global, text: &[u8]) -> Result<Box<Table>, Fail> {
-    let tree = tree_of(alloc, text)?;
-    Ok(Box::new(alloc, table_of(alloc, &tree)?)?)
-}
+/// Forms of lists of names, of further lengths, of open arrays, of records in records, and of a name that a pointer of its own list
+/// means.
+const FORMS: &[u8] =
+    b"MODULE M; TYPE A = ARRAY a, b OF SET; VAR a, T: POINTER TO T; r: RECORD x, y: RECORD (B.C) z: A END END; \
+    PROCEDURE p(s, t: ARRAY OF ARRAY OF A; VAR u: B.C); END p; END M.";
 
-fn told_declared(alloc: Global, text: &[u8]) -> Result<String, Fail> {
-    let table = table_in(alloc, text)?;
-    let (declarers, declared, uses) = (table.declarers(), table.declared(), table.uses());
-    Ok(format!(in alloc; "{declarers:?} {declared:?} {uses:?}")?)
-}
-
-#[test]
-fn what_is_declared_and_used(rt: HostRuntime) -> Result<(), Fail> {
-    let told = told_declared(rt.alloc(), TEXT)?;
-    is_told(
-        &rt,
-        told.as_str(),
+/// Each list of the tables of the first two texts, the forms of the third, and what tokens find: the identifier that is declared there,
+/// what begins there and declares, the record, the form, and the selectors.
+const ROWS: &[Row] = &[
+    (
+        Names(TEXT),
         "[Declarer { sort: Import, first: 4, last: 4, block: 0, of_record: None }, \
          Declarer { sort: Import, first: 6, last: 8, block: 0, of_record: None }, \
          Declarer { sort: Type, first: 11, last: 33, block: 0, of_record: None }, \
@@ -55,17 +50,61 @@ fn what_is_declared_and_used(rt: HostRuntime) -> Result<(), Fail> {
          Used { number: 75, block: 40, is_target: false, member: None }, \
          Used { number: 78, block: 40, is_target: false, member: None }, \
          Used { number: 80, block: 40, is_target: false, member: Some(82) }]",
-    );
-    Ok(())
+    ),
+    (
+        Forms(TEXT),
+        "[FormPart { declared_by: 11, number: 14, part: Record }, FormPart { declared_by: 20, number: 25, part: Array }, \
+         FormPart { declared_by: 20, number: 27, part: Array }, FormPart { declared_by: 20, number: 30, part: Pointer }, \
+         FormPart { declared_by: 20, number: 32, part: Named(None) }, \
+         FormPart { declared_by: 36, number: 38, part: Named(None) }, FormPart { declared_by: 44, number: 49, part: Array }, \
+         FormPart { declared_by: 44, number: 51, part: Named(Some(53)) }, \
+         FormPart { declared_by: 59, number: 61, part: Procedure }, FormPart { declared_by: 63, number: 65, part: Named(None) }] \
+         [Block { first: 40, outer: 0 }, Block { first: 61, outer: 40 }] [Import { alias: 4, imported: 4 }, Import { alias: 6, imported: 8 }] \
+         [Record { number: 14, owner: 11, base: Some(TypeName { head: 16, member: Some(18) }) }] \
+         [End { number: 88, of: Some(41) }, End { number: 91, of: None }] 1",
+    ),
+    (
+        Forms(FORMS),
+        "[FormPart { declared_by: 4, number: 6, part: Array }, FormPart { declared_by: 4, number: 8, part: Array }, \
+         FormPart { declared_by: 4, number: 11, part: Named(None) }, FormPart { declared_by: 14, number: 18, part: Pointer }, \
+         FormPart { declared_by: 14, number: 20, part: Named(None) }, FormPart { declared_by: 22, number: 24, part: Record }, \
+         FormPart { declared_by: 25, number: 29, part: Record }, FormPart { declared_by: 35, number: 37, part: Named(None) }, \
+         FormPart { declared_by: 44, number: 48, part: Array }, FormPart { declared_by: 44, number: 50, part: Array }, \
+         FormPart { declared_by: 44, number: 52, part: Named(None) }, FormPart { declared_by: 54, number: 57, part: Named(Some(59)) }] \
+         [Block { first: 41, outer: 0 }] [] \
+         [Record { number: 24, owner: 22, base: None }, Record { number: 29, owner: 25, base: Some(TypeName { head: 31, member: Some(33) }) }] \
+         [End { number: 63, of: Some(42) }, End { number: 66, of: None }] 1",
+    ),
+    (
+        Steps(STEPS),
+        "[Designator { head: 7, block: 3, is_written: true }, Designator { head: 11, block: 3, is_written: false }, \
+         Designator { head: 18, block: 3, is_written: false }, Designator { head: 25, block: 3, is_written: false }, \
+         Designator { head: 29, block: 3, is_written: false }, Designator { head: 31, block: 3, is_written: false }, \
+         Designator { head: 33, block: 3, is_written: false }] \
+         [Selector { of: 7, step: Field(9) }, Selector { of: 7, step: Elements(2) }, \
+         Selector { of: 7, step: Arguments(Some(TypeName { head: 18, member: Some(20) })) }, \
+         Selector { of: 7, step: Field(23) }, Selector { of: 7, step: Arguments(Some(TypeName { head: 25, member: None })) }, \
+         Selector { of: 7, step: Target }, Selector { of: 11, step: Field(13) }, Selector { of: 18, step: Field(20) }, \
+         Selector { of: 29, step: Arguments(None) }, Selector { of: 31, step: Elements(1) }]",
+    ),
+    (ByToken(STEPS, 6), "None None None [] []"),
+    (
+        ByToken(STEPS, 3),
+        "None Some(Declarer { sort: Procedure, first: 3, last: 40, block: 0, of_record: None }) None [] []",
+    ),
+    (
+        ByToken(STEPS, 18),
+        "None None None [] [Selector { of: 18, step: Field(20) }]",
+    ),
+];
+
+pub(crate) fn told_names(alloc: Global, text: &[u8]) -> Result<String, Fail> {
+    let table = table_in(alloc, text)?;
+    let (declarers, declared, uses) = (table.declarers(), table.declared(), table.uses());
+    Ok(format!(in alloc; "{declarers:?} {declared:?} {uses:?}")?)
 }
 
-/// Forms of lists of names, of further lengths, of open arrays, of records in records, and of a name that a pointer of its own list
-/// means.
-const FORMS: &[u8] =
-    b"MODULE M; TYPE A = ARRAY a, b OF SET; VAR a, T: POINTER TO T; r: RECORD x, y: RECORD (B.C) z: A END END; \
-    PROCEDURE p(s, t: ARRAY OF ARRAY OF A; VAR u: B.C); END p; END M.";
-
-fn told_forms(alloc: Global, text: &[u8]) -> Result<String, Fail> {
+pub(crate) fn told_forms(alloc: Global, text: &[u8]) -> Result<String, Fail> {
     let table = table_in(alloc, text)?;
     let (parts, blocks, imports, records) = (
         table.parts(),
@@ -77,71 +116,24 @@ fn told_forms(alloc: Global, text: &[u8]) -> Result<String, Fail> {
     Ok(format!(in alloc; "{parts:?} {blocks:?} {imports:?} {records:?} {ends:?} {name}")?)
 }
 
-/// Modules, each with its forms, blocks, import items, records and names behind END.
-const FORMED: &[(&[u8], &str)] = &[
-    (
-        TEXT,
-        "[FormPart { declared_by: 11, number: 14, part: Record }, FormPart { declared_by: 20, number: 25, part: Array }, \
-         FormPart { declared_by: 20, number: 27, part: Array }, FormPart { declared_by: 20, number: 30, part: Pointer }, \
-         FormPart { declared_by: 20, number: 32, part: Named(None) }, \
-         FormPart { declared_by: 36, number: 38, part: Named(None) }, FormPart { declared_by: 44, number: 49, part: Array }, \
-         FormPart { declared_by: 44, number: 51, part: Named(Some(53)) }, \
-         FormPart { declared_by: 59, number: 61, part: Procedure }, FormPart { declared_by: 63, number: 65, part: Named(None) }] \
-         [Block { first: 40, outer: 0 }, Block { first: 61, outer: 40 }] [Import { alias: 4, imported: 4 }, Import { alias: 6, imported: 8 }] [Record { number: 14, owner: 11, base: Some(TypeName { head: 16, member: Some(18) }) }] \
-         [End { number: 88, of: Some(41) }, End { number: 91, of: None }] 1",
-    ),
-    (
-        FORMS,
-        "[FormPart { declared_by: 4, number: 6, part: Array }, FormPart { declared_by: 4, number: 8, part: Array }, \
-         FormPart { declared_by: 4, number: 11, part: Named(None) }, FormPart { declared_by: 14, number: 18, part: Pointer }, \
-         FormPart { declared_by: 14, number: 20, part: Named(None) }, FormPart { declared_by: 22, number: 24, part: Record }, \
-         FormPart { declared_by: 25, number: 29, part: Record }, FormPart { declared_by: 35, number: 37, part: Named(None) }, \
-         FormPart { declared_by: 44, number: 48, part: Array }, FormPart { declared_by: 44, number: 50, part: Array }, \
-         FormPart { declared_by: 44, number: 52, part: Named(None) }, FormPart { declared_by: 54, number: 57, part: Named(Some(59)) }] \
-         [Block { first: 41, outer: 0 }] [] \
-         [Record { number: 24, owner: 22, base: None }, Record { number: 29, owner: 25, base: Some(TypeName { head: 31, member: Some(33) }) }] \
-         [End { number: 63, of: Some(42) }, End { number: 66, of: None }] 1",
-    ),
-];
-
-#[test]
-fn forms_blocks_imports_records_and_ends(rt: HostRuntime) -> Result<(), Fail> {
-    for (text, want) in FORMED {
-        is_told(&rt, told_forms(rt.alloc(), text)?.as_str(), want);
-    }
-    Ok(())
-}
-
-fn told_steps(alloc: Global, text: &[u8]) -> Result<String, Fail> {
+pub(crate) fn told_steps(alloc: Global, text: &[u8]) -> Result<String, Fail> {
     let table = table_in(alloc, text)?;
     let (designators, selectors) = (table.designators(), table.selectors());
-    let (declaration, declarer) = (table.declaration(6), table.declarer(3).is_some());
-    let (record, form, used) = (
-        table.record(6).is_some(),
-        table.form(3),
-        table.selectors_of(18),
+    Ok(format!(in alloc; "{designators:?} {selectors:?}")?)
+}
+
+pub(crate) fn told_by_token(alloc: Global, text: &[u8], token: u32) -> Result<String, Fail> {
+    let table = table_in(alloc, text)?;
+    let (declaration, declarer) = (table.declaration(token), table.declarer(token));
+    let (record, form, selectors) = (
+        table.record(token),
+        table.form(token),
+        table.selectors_of(token),
     );
-    Ok(format!(in alloc;
-        "{designators:?} {selectors:?} {declaration:?} {declarer} {record} {form:?} {used:?}"
-    )?)
+    Ok(format!(in alloc; "{declaration:?} {declarer:?} {record:?} {form:?} {selectors:?}")?)
 }
 
 #[test]
-fn designators_and_rows_by_their_tokens(rt: HostRuntime) -> Result<(), Fail> {
-    let told = told_steps(rt.alloc(), STEPS)?;
-    is_told(
-        &rt,
-        told.as_str(),
-        "[Designator { head: 7, block: 3, is_written: true }, Designator { head: 11, block: 3, is_written: false }, \
-         Designator { head: 18, block: 3, is_written: false }, Designator { head: 25, block: 3, is_written: false }, \
-         Designator { head: 29, block: 3, is_written: false }, Designator { head: 31, block: 3, is_written: false }, \
-         Designator { head: 33, block: 3, is_written: false }] \
-         [Selector { of: 7, step: Field(9) }, Selector { of: 7, step: Elements(2) }, \
-         Selector { of: 7, step: Arguments(Some(TypeName { head: 18, member: Some(20) })) }, \
-         Selector { of: 7, step: Field(23) }, Selector { of: 7, step: Arguments(Some(TypeName { head: 25, member: None })) }, \
-         Selector { of: 7, step: Target }, Selector { of: 11, step: Field(13) }, Selector { of: 18, step: Field(20) }, \
-         Selector { of: 29, step: Arguments(None) }, Selector { of: 31, step: Elements(1) }] \
-         None true false [] [Selector { of: 18, step: Field(20) }]",
-    );
-    Ok(())
+fn tables_have_their_rows(rt: HostRuntime) -> Result<(), Fail> {
+    are_told(&rt, ROWS)
 }
