@@ -1,22 +1,14 @@
-//! Tests of the program's libraries, of what no command shows: sinks that fail, gates, and fault lines that the program can't be
-//! brought to. What a command prints, tells and ends with stands in `rows/`.
+//! Tests of the program's libraries, of what no command shows: sinks that fail at each put, gates at which workers meet, and fault
+//! lines that the program can't be brought to. What a command prints, tells and ends with stands in `rows/`.
 //! Stands on `oscip_job`, `oscip_tree`, `ob_board` and `oscip_run`, with the doubles that tests share.
 //! Its contract: none, since it has no function but tests.
 #![tactic(auto)]
 
 #[cfg(test)]
+mod boards;
+#[cfg(test)]
+mod commands;
+#[cfg(test)]
 mod faults;
 #[cfg(test)]
-mod indexes;
-#[cfg(test)]
-mod jobs;
-#[cfg(test)]
-mod orders;
-#[cfg(test)]
-mod prices;
-#[cfg(test)]
-mod runs;
-#[cfg(test)]
-mod sinks;
-#[cfg(test)]
-mod words;
+mod inputs;

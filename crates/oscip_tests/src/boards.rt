@@ -1,0 +1,87 @@
+//! Indexes by two workers, whose gate sees each module that they take.
+use crate::inputs::{THREE, TWO, sources};
+use cut_solve::Gate;
+use ob_board::{BoardGate, IndexOptions};
+use oscip_run::index_to;
+use oscip_tree::{Source, in_order};
+use std::process::Abort;
+use std::sync::Wait;
+use std::sync::atomic::{AtomicU64, Ordering};
+use std::test::Fail;
+use std::thread;
+use std::thread::Threads;
+use std::time::{Clock, Duration};
+use test_doubles::{AllCome, ByOne};
+
+/// A gate of a board at which all workers meet.
+#[derive(Drop)]
+struct Meeting<'a, R>(AllCome<'a, R>);
+
+impl<R: Clock> BoardGate for Meeting<'_, R> {
+    fn at(&self, worker: u32, turn: u64) {
+        self.0.at(worker, turn);
+    }
+}
+
+/// A gate of a board that holds the first module that is claimed for a while, so that the other worker finds none ready, and lets
+/// both meet at the next two.
+#[derive(Drop)]
+struct Waking<'a, R> {
+    clock: &'a R,
+    /// How many modules were claimed.
+    came: AtomicU64,
+    later: AllCome<'a, R>,
+}
+
+impl<'a, R: Clock> Waking<'a, R> {
+    fn new(clock: &'a R) -> Waking<'a, R> {
+        Waking {
+            clock,
+            came: AtomicU64::new(0),
+            later: AllCome::new(clock, 2),
+        }
+    }
+}
+
+impl<R: Clock> BoardGate for Waking<'_, R> {
+    fn at(&self, worker: u32, _turn: u64) {
+        if self.came.fetch_add(1, Ordering::SeqCst) == 0 {
+            thread::sleep(self.clock, Duration::from_millis(50));
+        } else {
+            self.later.at(worker, 0);
+        }
+    }
+}
+
+/// Whether an index by two workers, without package and root, is put.
+fn is_put<R: Abort + AllocGlobal + Threads + Wait + Sync, G: BoardGate + Sync>(
+    rt: &R,
+    sources: &[Source],
+    gate: &G,
+) -> bool {
+    assert!(rt; in_order(sources));
+    let options = IndexOptions {
+        package: String::new(rt.alloc()),
+        root: String::new(rt.alloc()),
+    };
+    let mut sink = ByOne::new(rt.alloc(), 10000);
+    index_to(rt, rt.alloc(), sources, &options, 2, gate, &mut sink).is_ok()
+}
+
+#[test]
+fn two_workers_hold_a_module_at_once(rt: HostRuntime) -> Result<(), Fail> {
+    let sources = sources(rt.alloc(), TWO)?;
+    let gate = Meeting(AllCome::new(&rt, 2));
+    assert!(rt; is_put(&rt, sources.as_slice(), &gate));
+    assert_eq!(rt; gate.0.let_go.load(Ordering::SeqCst), 2);
+    Ok(())
+}
+
+#[test]
+fn a_worker_that_finds_no_module_ready_waits_for_one(rt: HostRuntime) -> Result<(), Fail> {
+    let sources = sources(rt.alloc(), THREE)?;
+    let gate = Waking::new(&rt);
+    assert!(rt; is_put(&rt, sources.as_slice(), &gate));
+    assert_eq!(rt; gate.later.let_go.load(Ordering::SeqCst), 2);
+    Ok(())
+}

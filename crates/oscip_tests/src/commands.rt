@@ -1,0 +1,265 @@
+//! Commands, each from its words to what it puts: with a sink that fails at each put, and with a gate at which all workers meet.
+ghost use Rattle.std.specs.Prelude.{IfOk};
+ghost use Rattle.oscip_job.specs.Jobs.{HasPackage, HasWorkers};
+ghost use Rattle.oscip_tree.specs.Sources.{AreInOrder};
+
+use crate::faults::fault_told;
+use crate::inputs::{
+    FOUR, FOUR_BLOCKED, FOUR_CUT, FOUR_PINS, ONE, ONE_INDEX, SIX, SIX_BLOCKED, SIX_CUT, SIX_DOT,
+    SIX_PINS, WRONG, WRONG_LINE, sources,
+};
+use oscip_job::{Job, JobFault, job_of};
+use oscip_run::{OpenBoard, RunFault, answer, answer_index, answer_tree, unresolved_to};
+use oscip_tree::{Source, in_order};
+use std::alloc::{AllocError, Global};
+use std::process::Abort;
+use std::sync::Wait;
+use std::sync::atomic::Ordering;
+use std::test::Fail;
+use std::thread::Threads;
+use std::time::Clock;
+use test_doubles::{AllCome, ByOne};
+
+/// Words behind the program's name, files, prices, and what is put.
+type Command = (
+    &'static [&'static str],
+    &'static [(&'static str, &'static str)],
+    Option<&'static [u8]>,
+    &'static [u8],
+);
+
+const PUTS: &[Command] = &[
+    (
+        &["cut-net", "six.net", "A", "B", "--workers", "2"],
+        &[],
+        None,
+        SIX_CUT,
+    ),
+    (
+        &["cut-net", "six.net", "A", "B", "--workers", "2"],
+        &[],
+        Some(SIX_PINS),
+        SIX_BLOCKED,
+    ),
+    (&["check-net", "six.net", "six.cut"], &[], None, b"yes\n"),
+    (&["dot-net", "six.net", "six.cut"], &[], None, SIX_DOT),
+    (
+        &["cut", "four", "A", "D", "--workers", "2"],
+        FOUR,
+        None,
+        FOUR_CUT,
+    ),
+    (
+        &["cut", "four", "A", "D", "--workers", "2"],
+        FOUR,
+        Some(FOUR_PINS),
+        FOUR_BLOCKED,
+    ),
+    (
+        &["index", "one", "one.scip", "--workers", "1"],
+        ONE,
+        None,
+        ONE_INDEX,
+    ),
+    (&["unresolved", "wrong"], WRONG, None, WRONG_LINE),
+];
+
+/// The words of cuts, each with the number of workers and what is put. Zeros and a plus may stand before it.
+const WORKERS: &[(&[&str], u64, &[u8])] = &[
+    (&["cut", "four", "A", "D"], 4, FOUR_CUT),
+    (&["cut", "four", "A", "D", "--workers", "8"], 8, FOUR_CUT),
+    (&["cut", "--workers=1", "four", "A", "D"], 1, FOUR_CUT),
+    (&["cut", "--workers", "+4", "four", "A", "D"], 4, FOUR_CUT),
+    (&["cut", "--workers", "04", "four", "A", "D"], 4, FOUR_CUT),
+    (&["cut", "--workers", "010", "four", "A", "D"], 10, FOUR_CUT),
+    (&["cut", "--workers", "64", "four", "A", "D"], 64, FOUR_CUT),
+    (&["cut-net", "six.net", "A", "B"], 4, SIX_CUT),
+    (
+        &["cut-net", "six.net", "A", "B", "--workers", "8"],
+        8,
+        SIX_CUT,
+    ),
+    (
+        &["cut-net", "--workers", "+4", "six.net", "A", "B"],
+        4,
+        SIX_CUT,
+    ),
+    (
+        &["cut-net", "--workers", "04", "six.net", "A", "B"],
+        4,
+        SIX_CUT,
+    ),
+    (
+        &["cut-net", "--workers", "63", "six.net", "A", "B"],
+        63,
+        SIX_CUT,
+    ),
+];
+
+/// The program's name and the words behind it.
+fn line_of(alloc: Global, words: &[&str]) -> Result<Vec<String>, AllocError> {
+    let mut line = Vec::new(alloc);
+    line.push(String::from_str(alloc, "oscip")?)?;
+    for word in words {
+        line.push(String::from_str(alloc, word)?)?;
+    }
+    Ok(line)
+}
+
+fn boxed(alloc: Global, job: Job) -> Result<Box<Job>, JobFault>
+    requires workers { HasWorkers job }
+    requires package { HasPackage job }
+    ensures workers { IfOk result (λ job. HasWorkers job.value) }
+    ensures package { IfOk result (λ job. HasPackage job.value) }
+{
+    match Box::new(alloc, job) {
+        Ok(job) => Ok(job),
+        Err(_) => Err(JobFault::Memory),
+    }
+}
+
+/// The job of words.
+fn job_in(alloc: Global, words: &[String]) -> Result<Box<Job>, JobFault>
+    ensures workers { IfOk result (λ job. HasWorkers job.value) }
+    ensures package { IfOk result (λ job. HasPackage job.value) }
+{
+    boxed(alloc, job_of(alloc, words)?)
+}
+
+/// `yes` or `no`, or the fault.
+fn answer_told(alloc: Global, ended: &Result<bool, RunFault>) -> Result<String, AllocError> {
+    match ended {
+        Ok(true) => String::from_str(alloc, "yes"),
+        Ok(false) => String::from_str(alloc, "no"),
+        Err(fault) => fault_told(alloc, fault),
+    }
+}
+
+/// `put`, or the fault.
+fn puts_told(alloc: Global, ended: &Result<(), RunFault>) -> Result<String, AllocError> {
+    match ended {
+        Ok(()) => String::from_str(alloc, "put"),
+        Err(fault) => fault_told(alloc, fault),
+    }
+}
+
+/// How a job ends.
+fn told<R: Threads + Wait + AllocGlobal + Clock + Sync>(
+    rt: &R,
+    job: &Job,
+    sources: &[Source],
+    prices: Option<&[u8]>,
+    gate: &AllCome<'_, R>,
+    sink: &mut ByOne,
+) -> Result<String, AllocError>
+    requires workers { HasWorkers job.now }
+    requires package { HasPackage job.now }
+    requires in_order { AreInOrder sources.now }
+{
+    let alloc = rt.alloc();
+    match job {
+        Job::CutNet { .. } | Job::CheckNet { .. } | Job::DotNet { .. } => answer_told(
+            alloc,
+            &answer(rt, alloc, job, SIX, SIX_CUT, gate, prices, sink),
+        ),
+        Job::Cut { .. } => answer_told(
+            alloc,
+            &answer_tree(rt, alloc, job, sources, SIX_CUT, gate, prices, sink),
+        ),
+        Job::Index(indexing) => puts_told(
+            alloc,
+            &answer_index(rt, alloc, indexing, sources, &OpenBoard, sink),
+        ),
+        Job::Unresolved { .. } => puts_told(alloc, &unresolved_to(rt, alloc, sources, sink)),
+        _ => String::from_str(alloc, "another job"),
+    }
+}
+
+/// Checks how a job ends.
+fn ends<R: Abort + Threads + Wait + AllocGlobal + Clock + Sync>(
+    rt: &R,
+    job: &Job,
+    sources: &[Source],
+    prices: Option<&[u8]>,
+    gate: &AllCome<'_, R>,
+    sink: &mut ByOne,
+    want: &str,
+) -> Result<(), AllocError>
+    requires workers { HasWorkers job.now }
+    requires package { HasPackage job.now }
+{
+    assert!(rt; in_order(sources));
+    let told = told(rt, job, sources, prices, gate, sink)?;
+    assert_eq!(rt; told.as_str(), want);
+    Ok(())
+}
+
+/// Checks that a sink that fails at each put in turn has the front of the text.
+fn has_fronts<R: Abort + Threads + Wait + AllocGlobal + Clock + Sync>(
+    rt: &R,
+    job: &Job,
+    sources: &[Source],
+    prices: Option<&[u8]>,
+    text: &[u8],
+) -> Result<(), AllocError>
+    requires workers { HasWorkers job.now }
+    requires package { HasPackage job.now }
+{
+    for puts in 0..text.len() {
+        let mut sink = ByOne::new(rt.alloc(), puts as u64);
+        let gate = AllCome::new(rt, 0);
+        ends(
+            rt,
+            job,
+            sources,
+            prices,
+            &gate,
+            &mut sink,
+            "3 oscip: cannot write\n",
+        )?;
+        assert_eq!(rt; (sink.taken.len(), sink.failures), (puts, 1));
+        assert!(rt; text.starts_with(sink.taken.as_slice()));
+    }
+    Ok(())
+}
+
+/// Checks that all workers of a cut come to its gate, and what it puts.
+fn has_workers<R: Abort + Threads + Wait + AllocGlobal + Clock + Sync>(
+    rt: &R,
+    job: &Job,
+    sources: &[Source],
+    workers: u64,
+    text: &[u8],
+) -> Result<(), AllocError>
+    requires workers { HasWorkers job.now }
+    requires package { HasPackage job.now }
+{
+    let mut sink = ByOne::new(rt.alloc(), 1000);
+    let gate = AllCome::new(rt, workers);
+    ends(rt, job, sources, None, &gate, &mut sink, "yes")?;
+    assert_eq!(rt; gate.came.load(Ordering::SeqCst), workers);
+    assert_eq!(rt; sink.taken.as_slice(), text);
+    Ok(())
+}
+
+#[test]
+fn a_sink_that_fails_has_the_front(rt: HostRuntime) -> Result<(), Fail> {
+    for (words, files, prices, text) in PUTS {
+        let line = line_of(rt.alloc(), words)?;
+        let sources = sources(rt.alloc(), files)?;
+        let job = job_in(rt.alloc(), line.as_slice())?;
+        has_fronts(&rt, &job, sources.as_slice(), *prices, text)?;
+    }
+    Ok(())
+}
+
+#[test]
+fn all_workers_of_a_cut_come(rt: HostRuntime) -> Result<(), Fail> {
+    let sources = sources(rt.alloc(), FOUR)?;
+    for (words, workers, text) in WORKERS {
+        let line = line_of(rt.alloc(), words)?;
+        let job = job_in(rt.alloc(), line.as_slice())?;
+        has_workers(&rt, &job, sources.as_slice(), *workers, text)?;
+    }
+    Ok(())
+}
