@@ -160,18 +160,27 @@ fn told_fault(alloc: Global, fault: SymbolFault) -> Result<String, AllocError> {
 }
 
 /// Whether a text is read as this symbol.
-fn is_read(alloc: Global, text: &str, symbol: &Symbol) -> bool {
+fn is_read(alloc: Global, text: &str, symbol: &Symbol) -> Result<bool, AllocError> {
     match read(alloc, text) {
-        Ok(found) => found == *symbol,
-        Err(_) => false,
+        Ok(found) => Ok(found == *symbol),
+        Err(SymbolFault::Memory) => Err(AllocError),
+        Err(_) => Ok(false),
+    }
+}
+
+/// The text, if it is read as this symbol.
+fn told_again(alloc: Global, text: String, symbol: &Symbol) -> Result<String, AllocError> {
+    if is_read(alloc, text.as_str(), symbol)? {
+        Ok(text)
+    } else {
+        String::from_str(alloc, "another symbol")
     }
 }
 
 /// The text of a symbol, which is read as the symbol again, or why it has none.
 fn told_written(alloc: Global, symbol: &Symbol) -> Result<String, AllocError> {
     match write(alloc, symbol) {
-        Ok(text) if is_read(alloc, text.as_str(), symbol) => Ok(text),
-        Ok(_) => String::from_str(alloc, "another symbol"),
+        Ok(text) => told_again(alloc, text, symbol),
         Err(fault) => told_fault(alloc, fault),
     }
 }
