@@ -15,7 +15,7 @@ import tempfile
 from concurrent.futures import ThreadPoolExecutor
 
 HERE = os.path.dirname(os.path.realpath(__file__))
-WANTS = re.compile(rb"\b(Memory|AllocError|Refused|memory ran out)\b")
+WANTS = re.compile(rb"\b(Memory|AllocError|AllocFailed|Refused|memory ran out)\b")
 MISSED = b"were_passed()"
 COMPARED = re.compile(rb'left: (".*")\n right: (".*")')
 STEPS = re.compile(rb"after \d+")
