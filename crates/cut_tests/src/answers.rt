@@ -17,6 +17,9 @@ use std::test::Fail;
 const WAYS: &[u8] =
     b"import A C 1\nimport A D 1\nimport A E 1\nimport C B 1\nimport D B 1\nimport E F 1\nimport F B 1\n";
 
+/// Weights with a zero, and a module without imports.
+const MIXED: &[u8] = b"import M B 2\n\nmodule Z\nimport A M 3\nmodule A\nimport A B 0";
+
 /// A network, its prices, the names of two modules, and the answer by the numbers of the modules.
 const ROWS: &[(&[u8], &[u8], (&str, &str), &str)] = &[
     // Two imports in a row are cut at the first.
@@ -32,6 +35,29 @@ const ROWS: &[(&[u8], &[u8], (&str, &str), &str)] = &[
         b"",
         ("A", "D"),
         "weight 1 remove 2 1 1 flow 0 2 1 flow 2 1 1",
+    ),
+    // Two imports with a third of weight 0 go together.
+    (
+        MIXED,
+        b"",
+        ("A", "B"),
+        "weight 2 remove 0 1 0 remove 2 1 2 flow 0 2 2 flow 2 1 2",
+    ),
+    // Nothing leads to a module without imports.
+    (MIXED, b"", ("A", "Z"), "weight 0"),
+    // Two ways part behind a module.
+    (
+        b"import A M 1\nimport M P 1\nimport M Q 1\nimport P B 1\nimport Q B 1\n",
+        b"",
+        ("A", "B"),
+        "weight 1 remove 0 2 1 flow 0 2 1 flow 2 3 1 flow 3 1 1",
+    ),
+    // Two ways meet before a module.
+    (
+        b"import A P 1\nimport A Q 1\nimport P M 1\nimport Q M 1\nimport M B 1\n",
+        b"",
+        ("A", "B"),
+        "weight 1 remove 2 1 1 flow 0 3 1 flow 2 1 1 flow 3 2 1",
     ),
     // An import of weight 0 is cut.
     (b"import M N 0\n", b"", ("M", "N"), "weight 0 remove 0 1 0"),
@@ -109,8 +135,52 @@ const ROWS: &[(&[u8], &[u8], (&str, &str), &str)] = &[
         "weight 3 remove 0 3 1 remove 0 4 1 remove 2 1 1 \
         flow 0 2 1 flow 0 3 1 flow 0 4 1 flow 2 1 1 flow 3 1 1 flow 4 5 1 flow 5 1 1",
     ),
+    // Pins that lead away are no obstacle.
+    (DIAMOND, b"pin A B\npin B D\n", ("D", "A"), "weight 0"),
+    // A price of 0 is cut for nothing.
+    (
+        DIAMOND,
+        b"price A C 0\n",
+        ("A", "D"),
+        "weight 1 remove 0 1 1 remove 0 2 0 flow 0 1 1 flow 1 3 1",
+    ),
+    // Prices by the greatest number.
+    (
+        TWO_IMPORTS,
+        b"price A M 1099511627776\npin M B\n",
+        ("A", "B"),
+        "weight 1099511627776 remove 0 2 1099511627776 flow 0 2 1099511627776 flow 2 1 1099511627776",
+    ),
+    (
+        TWO_IMPORTS,
+        b"price A M 1099511627774\n",
+        ("A", "B"),
+        "weight 2 remove 2 1 2 flow 0 2 2 flow 2 1 2",
+    ),
+    // The chain of pins that is told is a shortest one, the first of these.
+    (
+        WAYS,
+        b"pin A E\npin E F\npin F B\n",
+        ("A", "B"),
+        "blocked [0, 4, 5, 1]",
+    ),
+    (
+        WAYS,
+        b"pin A E\npin E F\npin F B\npin A D\npin D B\n",
+        ("A", "B"),
+        "blocked [0, 3, 1]",
+    ),
+    (
+        WAYS,
+        b"pin A D\npin D B\npin A C\npin C B\n",
+        ("A", "B"),
+        "blocked [0, 2, 1]",
+    ),
     // The first unknown name is told.
     (TWO_IMPORTS, b"", ("Q", "Z"), "no module is named Q"),
+    (TWO_IMPORTS, b"", ("Q", "B"), "no module is named Q"),
+    (TWO_IMPORTS, b"", ("A", "Q"), "no module is named Q"),
+    (TWO_IMPORTS, b"", ("Q", "Q"), "no module is named Q"),
     // One module is not cut from itself.
     (TWO_IMPORTS, b"", ("M", "M"), "both names are of one module"),
 ];
