@@ -1,13 +1,13 @@
 -- The rows of a designator's selectors stand before those of what stands in them.
-use Rattle.std.proofs.Common.{◌≡◌, ℕ, suc, ◌+◌, ◌≤◌, Bool, List, [], ◌∷◌, ◌++◌, length, set, take, map, refl, sym, ap, ◌∙◌, append_assoc, length-append, get_or, ◌<◌, Option, arith}
+use Rattle.std.proofs.Common.{◌≡◌, ℕ, suc, ◌+◌, ◌≤◌, Bool, false, List, [], ◌∷◌, ◌++◌, length, set, take, map, refl, sym, ap, ◌∙◌, append_assoc, length-append, get_or, ◌<◌, Option, arith}
 use Rattle.std.proofs.lemmas.List.{append-nil, set_at}
 use Rattle.ob_tree.specs.declared.expression.Designator.{Designator}
 use Rattle.ob_tree.specs.declared.expression.Selector.{Selector}
 use Rattle.ob_decls.specs.declared.rows.Selector.{Selector as SelectorRow}
-use Rattle.ob_decls.specs.declared.rows.Step.{Step}
 use Rattle.ob_decls.specs.declared.draft.Context.{Context}
+use Rattle.ob_decls.specs.declared.draft.Draft.{Draft}
 use Rattle.ob_decls.specs.Parts.{joined, no_rows, token, tells, each, these_selectors}
-use Rattle.ob_decls.specs.Drafts.{Stage, after, added, settled}
+use Rattle.ob_decls.specs.Drafts.{Stage, stage_of, after, added, settled, Reaches}
 use Rattle.ob_decls.specs.Expressions.{Selected, used, first_name, selected, selector_rows, its_selectors, designator_row, designator_piece}
 use Rattle.ob_decls.specs.Settling.{blank, blanks, row_at, settling}
 use Rattle.ob_decls.proofs.Steps.{added_number, after_both, after_nothing, after_tells, number_of, selectors_of}
@@ -112,18 +112,34 @@ designator_after w d c s =
     ∙ ap (λ (u : Stage). after (each (λ (x : Selected). x.piece) ss) c u) (sym (filled (first_name ss) w ss d.selectors.items c s))
     ∙ sym (settled_all s.number (length s.rows.selectors) ss c t s.rows.selectors [] refl (opened (first_name ss) w ss d.selectors.items c s (blanks_map s.number selected d.selectors.items)))
 
-pub settling_taken : (head at place i : ℕ) (items : List Selector) (x : Selector) (c : Context) (s t : Stage) (step : Step) → i < length items → x ≡ get_or items i x →
-    place ≡ at + i → t ≡ settling head at (map selected (take i items)) c s → step ≡ (selected x).step t.number →
-    settling head at (map selected (take (i + 1) items)) c s ≡ after (selected x).piece c (settled place (record { of = head; step = step }) t)
-settling_taken head at place i items x c s t step h e p f g =
+settling_taken : (head at place i : ℕ) (items : List Selector) (x : Selector) (c : Context) (s t : Stage) → i < length items → x ≡ get_or items i x →
+    place ≡ at + i → t ≡ settling head at (map selected (take i items)) c s →
+    after (selected x).piece c (settled place (row_at head (selected x) t) t) ≡ settling head at (map selected (take (i + 1) items)) c s
+settling_taken head at place i items x c s t h e p f =
     let xs : List Selected = map selected (take i items) in
     let w : take (i + 1) items ≡ take i items ++ x ∷ [] = grind (arith, take_at_read) in
     let n : length xs ≡ i = length_map selected (take i items) ∙ grind (arith, common_steps) in
     let q : at + length xs ≡ place = omega arith in
+    sym (
     ap (λ (ys : List Selector). settling head at (map selected ys) c s) w
     ∙ ap (λ (ys : List Selected). settling head at ys c s) (map_more selected (take i items) x)
     ∙ settling_more head at xs (selected x) c s
-    ∙ rw (q, ← f, g) refl
+    ∙ rw (q, ← f) refl
+    )
+
+pub settling_reached : (head at place i : ℕ) (items : List Selector) (x : Selector) (c : Context) (old now given new : Draft) → i < length items → x ≡ get_or items i x →
+    (now.refused ≡ false → place ≡ at + i) → Reaches (settling head at (map selected (take i items)) c) old now →
+    Reaches (λ s. settled place (row_at head (selected x) s) s) now given → Reaches (after (selected x).piece c) given new →
+    Reaches (settling head at (map selected (take (i + 1) items)) c) old new
+settling_reached head at place i items x c old now given new h e p f g k r =
+    let behind = k r in
+    let here = g behind.0 in
+    let before = f here.0 in (
+      before.0,
+      behind.1
+          ∙ ap (λ (s : Stage). after (selected x).piece c s) here.1
+          ∙ settling_taken head at place i items x c (stage_of old) (stage_of now) h e (p here.0) before.1,
+    )
 
 pub ruleset places_made = (number_of, take_at_read, take_all, places_none, places_more)
 

@@ -1,5 +1,5 @@
 -- How far a table is made.
-use Rattle.std.specs.Prelude.{ℕ, ◌+◌, ◌-◌}
+use Rattle.std.specs.Prelude.{◌≡◌, ℕ, ◌+◌, ◌-◌, false}
 use Rattle.std.specs.Prelude.{set}
 use Rattle.ob_decls.specs.declared.rows.Declarer.{Declarer}
 use Rattle.ob_decls.specs.declared.rows.Selector.{Selector}
@@ -30,6 +30,10 @@ drafted d = record {
 -- how far a draft is
 unfoldable pub stage_of : Draft → Stage
 stage_of d = record { number = d.number; rows = drafted d }
+
+-- where the new draft was refused nothing, the old one was refused nothing, and this leads from its stage to the new one
+abbrev pub Reaches : (Stage → Stage) → Draft → Draft → Type 0
+Reaches step old new = new.refused ≡ false → (old.refused ≡ false) × (stage_of new ≡ step (stage_of old))
 
 -- before the first token
 abbrev pub start : Stage

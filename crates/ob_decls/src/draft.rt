@@ -1,8 +1,8 @@
 //! A table that is being made.
 
-ghost use Rattle.std.specs.Prelude.{◌≡◌, ◌+◌, ◌∷◌, [], length, IfOk};
+ghost use Rattle.std.specs.Prelude.{◌≡◌, ◌+◌, ◌∷◌, [], false, length, IfOk};
 ghost use Rattle.ob_decls.specs.Parts.{declarer, declaring_at, in_block, one_block, one_declarer, one_declared, one_designator, one_end, one_import, one_part, one_record, one_used, record_for, these_selectors};
-ghost use Rattle.ob_decls.specs.Drafts.{added, closed, passed, settled, stage_of, start};
+ghost use Rattle.ob_decls.specs.Drafts.{added, closed, passed, settled, stage_of, start, Reaches};
 
 use crate::rows::{
     Block, Declared, Declarer, Designator, End, FormPart, Import, Record, Selector, Sort, Used,
@@ -22,10 +22,12 @@ pub(crate) struct Context {
     pub(crate) is_target: bool,
 }
 
-/// The rows so far, and the number of the next token.
+/// The rows so far, and the number of the next token. A draft that was refused memory, or a number that no row can hold, says
+/// nothing of its rows from then on.
 #[derive(Drop)]
 pub(crate) struct Draft {
     pub(crate) number: u32,
+    pub(crate) refused: bool,
     pub(crate) declarers: Vec<Declarer>,
     pub(crate) declared: Vec<Declared>,
     pub(crate) uses: Vec<Used>,
@@ -39,128 +41,142 @@ pub(crate) struct Draft {
 }
 
 impl Draft {
-    /// Passes a token. AllocError is answered behind 2^32 - 1 tokens.
+    /// Passes a token, of which there are 2^32 - 1 at most.
     #[tactic(auto, using(crate::proofs::Steps::growing), unfolding(crate::specs::Drafts::stage_of, crate::specs::Drafts::passed, crate::specs::Drafts::added, crate::specs::Drafts::closed, crate::specs::Parts::joined))]
-    pub(crate) fn pass(&mut self) -> Result<(), AllocError>
-        ensures { IfOk result (λ _. stage_of self.new ≡ passed (stage_of self.old)) }
+    pub(crate) fn pass(&mut self)
+        ensures { Reaches passed self.old self.new }
     {
         match self.number.checked_add(1) {
-            None => Err(AllocError),
-            Some(number) => {
-                self.number = number;
-                Ok(())
-            }
+            None => self.refused = true,
+            Some(number) => self.number = number,
         }
     }
 
     /// Adds an identifier that is declared.
     #[tactic(auto, using(crate::proofs::Steps::growing), unfolding(crate::specs::Drafts::stage_of, crate::specs::Drafts::passed, crate::specs::Drafts::added, crate::specs::Drafts::closed, crate::specs::Parts::joined))]
-    pub(crate) fn add_declared(&mut self, row: Declared) -> Result<(), AllocError>
-        ensures { IfOk result (λ _. stage_of self.new ≡ added (one_declared row) (stage_of self.old)) }
+    pub(crate) fn add_declared(&mut self, row: Declared)
+        ensures { Reaches (added (one_declared row)) self.old self.new }
     {
-        self.declared.push(row)?;
-        Ok(())
+        if self.declared.push(row).is_err() {
+            self.refused = true;
+        }
     }
 
     /// Adds an identifier that is looked up.
     #[tactic(auto, using(crate::proofs::Steps::growing), unfolding(crate::specs::Drafts::stage_of, crate::specs::Drafts::passed, crate::specs::Drafts::added, crate::specs::Drafts::closed, crate::specs::Parts::joined))]
-    pub(crate) fn add_used(&mut self, row: Used) -> Result<(), AllocError>
-        ensures { IfOk result (λ _. stage_of self.new ≡ added (one_used row) (stage_of self.old)) }
+    pub(crate) fn add_used(&mut self, row: Used)
+        ensures { Reaches (added (one_used row)) self.old self.new }
     {
-        self.uses.push(row)?;
-        Ok(())
+        if self.uses.push(row).is_err() {
+            self.refused = true;
+        }
     }
 
     /// Adds a block that begins with the next token.
     #[tactic(auto, using(crate::proofs::Steps::growing), unfolding(crate::specs::Drafts::stage_of, crate::specs::Drafts::passed, crate::specs::Drafts::added, crate::specs::Drafts::closed, crate::specs::Parts::joined))]
-    pub(crate) fn add_block(&mut self, row: Block) -> Result<(), AllocError>
-        ensures { IfOk result (λ _. stage_of self.new ≡ added (one_block row) (stage_of self.old)) }
+    pub(crate) fn add_block(&mut self, row: Block)
+        ensures { Reaches (added (one_block row)) self.old self.new }
     {
-        self.blocks.push(row)?;
-        Ok(())
+        if self.blocks.push(row).is_err() {
+            self.refused = true;
+        }
     }
 
     /// Adds an import item.
     #[tactic(auto, using(crate::proofs::Steps::growing), unfolding(crate::specs::Drafts::stage_of, crate::specs::Drafts::passed, crate::specs::Drafts::added, crate::specs::Drafts::closed, crate::specs::Parts::joined))]
-    pub(crate) fn add_import(&mut self, row: Import) -> Result<(), AllocError>
-        ensures { IfOk result (λ _. stage_of self.new ≡ added (one_import row) (stage_of self.old)) }
+    pub(crate) fn add_import(&mut self, row: Import)
+        ensures { Reaches (added (one_import row)) self.old self.new }
     {
-        self.imports.push(row)?;
-        Ok(())
+        if self.imports.push(row).is_err() {
+            self.refused = true;
+        }
     }
 
     /// Adds a part of a form.
     #[tactic(auto, using(crate::proofs::Steps::growing), unfolding(crate::specs::Drafts::stage_of, crate::specs::Drafts::passed, crate::specs::Drafts::added, crate::specs::Drafts::closed, crate::specs::Parts::joined))]
-    pub(crate) fn add_part(&mut self, row: FormPart) -> Result<(), AllocError>
-        ensures { IfOk result (λ _. stage_of self.new ≡ added (one_part row) (stage_of self.old)) }
+    pub(crate) fn add_part(&mut self, row: FormPart)
+        ensures { Reaches (added (one_part row)) self.old self.new }
     {
-        self.parts.push(row)?;
-        Ok(())
+        if self.parts.push(row).is_err() {
+            self.refused = true;
+        }
     }
 
     /// Adds a record.
     #[tactic(auto, using(crate::proofs::Steps::growing), unfolding(crate::specs::Drafts::stage_of, crate::specs::Drafts::passed, crate::specs::Drafts::added, crate::specs::Drafts::closed, crate::specs::Parts::joined))]
-    pub(crate) fn add_record(&mut self, row: Record) -> Result<(), AllocError>
-        ensures { IfOk result (λ _. stage_of self.new ≡ added (one_record row) (stage_of self.old)) }
+    pub(crate) fn add_record(&mut self, row: Record)
+        ensures { Reaches (added (one_record row)) self.old self.new }
     {
-        self.records.push(row)?;
-        Ok(())
+        if self.records.push(row).is_err() {
+            self.refused = true;
+        }
     }
 
     /// Adds a designator.
     #[tactic(auto, using(crate::proofs::Steps::growing), unfolding(crate::specs::Drafts::stage_of, crate::specs::Drafts::passed, crate::specs::Drafts::added, crate::specs::Drafts::closed, crate::specs::Parts::joined))]
-    pub(crate) fn add_designator(&mut self, row: Designator) -> Result<(), AllocError>
-        ensures { IfOk result (λ _. stage_of self.new ≡ added (one_designator row) (stage_of self.old)) }
+    pub(crate) fn add_designator(&mut self, row: Designator)
+        ensures { Reaches (added (one_designator row)) self.old self.new }
     {
-        self.designators.push(row)?;
-        Ok(())
+        if self.designators.push(row).is_err() {
+            self.refused = true;
+        }
     }
 
     /// Adds a selector.
     #[tactic(auto, using(crate::proofs::Steps::growing), unfolding(crate::specs::Drafts::stage_of, crate::specs::Drafts::passed, crate::specs::Drafts::added, crate::specs::Drafts::closed, crate::specs::Parts::joined))]
-    pub(crate) fn add_selector(&mut self, row: Selector) -> Result<(), AllocError>
-        ensures { IfOk result (λ _. stage_of self.new ≡ added (these_selectors (row ∷ [])) (stage_of self.old)) }
+    pub(crate) fn add_selector(&mut self, row: Selector)
+        ensures { Reaches (added (these_selectors (row ∷ []))) self.old self.new }
     {
-        self.selectors.push(row)?;
-        Ok(())
+        if self.selectors.push(row).is_err() {
+            self.refused = true;
+        }
     }
 
     /// Adds a name behind END.
     #[tactic(auto, using(crate::proofs::Steps::growing), unfolding(crate::specs::Drafts::stage_of, crate::specs::Drafts::passed, crate::specs::Drafts::added, crate::specs::Drafts::closed, crate::specs::Parts::joined))]
-    pub(crate) fn add_end(&mut self, row: End) -> Result<(), AllocError>
-        ensures { IfOk result (λ _. stage_of self.new ≡ added (one_end row) (stage_of self.old)) }
+    pub(crate) fn add_end(&mut self, row: End)
+        ensures { Reaches (added (one_end row)) self.old self.new }
     {
-        self.ends.push(row)?;
-        Ok(())
+        if self.ends.push(row).is_err() {
+            self.refused = true;
+        }
     }
 
     /// Gives the row in this place, and answers the place behind it.
     #[tactic(auto, using(crate::proofs::Steps::growing), unfolding(crate::specs::Drafts::stage_of, crate::specs::Drafts::passed, crate::specs::Drafts::added, crate::specs::Drafts::settled, crate::specs::Parts::joined))]
-    pub(crate) fn settle(&mut self, at: usize, row: Selector) -> Result<usize, AllocError>
-        ensures row { IfOk result (λ _. stage_of self.new ≡ settled at row (stage_of self.old)) }
-        ensures place { IfOk result (λ next. next ≡ at + 1) }
+    pub(crate) fn settle(&mut self, at: usize, row: Selector) -> usize
+        ensures row { Reaches (settled at row) self.old self.new }
+        ensures place { self.new.refused ≡ false → result ≡ at + 1 }
     {
         if at < self.selectors.len() {
             self.selectors[at] = row;
         }
-        at.checked_add(1).ok_or(AllocError)
+        match at.checked_add(1) {
+            None => {
+                self.refused = true;
+                at
+            }
+            Some(next) => next,
+        }
     }
 
     /// Begins a construct that declares, whose last token isn't known yet.
     #[tactic(auto, using(crate::proofs::Steps::growing), unfolding(crate::specs::Drafts::stage_of, crate::specs::Drafts::passed, crate::specs::Drafts::added, crate::specs::Drafts::closed, crate::specs::Parts::joined))]
-    pub(crate) fn open(&mut self, row: Declarer) -> Result<usize, AllocError>
-        ensures row { IfOk result (λ _. stage_of self.new ≡ added (one_declarer row) (stage_of self.old)) }
-        ensures place { IfOk result (λ at. at ≡ length self.old.declarers.items) }
+    pub(crate) fn open(&mut self, row: Declarer) -> usize
+        ensures row { Reaches (added (one_declarer row)) self.old self.new }
+        ensures place { result ≡ length self.old.declarers.items }
     {
         let at = self.declarers.len();
-        self.declarers.push(row)?;
-        Ok(at)
+        if self.declarers.push(row).is_err() {
+            self.refused = true;
+        }
+        at
     }
 
     /// Ends the construct of this row, behind its last token.
     #[tactic(auto, using(crate::proofs::Steps::growing), unfolding(crate::specs::Drafts::stage_of, crate::specs::Drafts::passed, crate::specs::Drafts::added, crate::specs::Drafts::closed, crate::specs::Parts::joined))]
     pub(crate) fn close(&mut self, at: usize, row: Declarer)
-        ensures { stage_of self.new ≡ closed at row (stage_of self.old) }
+        ensures { Reaches (closed at row) self.old self.new }
     {
         if at < self.declarers.len() {
             self.declarers[at] = Declarer {
@@ -222,6 +238,7 @@ impl Draft {
     {
         Draft {
             number: 0,
+            refused: false,
             declarers: Vec::new(alloc),
             declared: Vec::new(alloc),
             uses: Vec::new(alloc),
@@ -232,6 +249,23 @@ impl Draft {
             designators: Vec::new(alloc),
             selectors: Vec::new(alloc),
             ends: Vec::new(alloc),
+        }
+    }
+}
+
+impl Draft {
+    /// The number of the token that stands so many tokens behind this one.
+    #[tactic(auto, unfolding(crate::specs::Drafts::stage_of))]
+    pub(crate) fn behind(&mut self, number: u32, by: u32) -> u32
+        ensures stage { Reaches (λ s. s) self.old self.new }
+        ensures number { self.new.refused ≡ false → result ≡ number + by }
+    {
+        match number.checked_add(by) {
+            None => {
+                self.refused = true;
+                number
+            }
+            Some(number) => number,
         }
     }
 }

@@ -24,7 +24,10 @@ pub fn table_of(alloc: Global, module: &Module) -> Result<Table, AllocError>
         of_record: 0,
         is_target: false,
     };
-    walk_module(&mut draft, outermost, module)?;
+    walk_module(&mut draft, outermost, module);
+    if draft.refused {
+        return Err(AllocError);
+    }
     rise(draft.parts.as_slice())?;
     Ok(Table {
         declarers: draft.declarers,

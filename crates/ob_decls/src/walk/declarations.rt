@@ -1,14 +1,14 @@
 //! The rows of declarations and modules.
 
-ghost use Rattle.std.specs.Prelude.{◌≡◌, IfOk};
+ghost use Rattle.std.specs.Prelude.{◌≡◌, false};
 ghost use Rattle.ob_decls.specs.Declaring.{const_piece, declarations_piece, import_inner, import_piece, imports_piece, module_end, module_piece, named_by, part, procedure_end, procedure_inner, procedure_piece, type_decl_piece, variable_piece};
-ghost use Rattle.ob_decls.specs.Drafts.{after, stage_of};
+ghost use Rattle.ob_decls.specs.Drafts.{after, Reaches};
 ghost use Rattle.ob_decls.specs.Expressions.{expr_piece};
 ghost use Rattle.ob_decls.specs.Parts.{both, if_there, tells, token};
 ghost use Rattle.ob_decls.specs.Statements.{block_piece};
 ghost use Rattle.ob_decls.specs.Types.{parameters_piece};
 
-use crate::draft::{Context, Draft, behind, block_from, declarer_at, declaring_from};
+use crate::draft::{Context, Draft, block_from, declarer_at, declaring_from};
 use crate::rows::{Block as BlockRow, Declared, End, Import, Sort};
 use crate::walk::expressions::walk_expr;
 use crate::walk::statements::walk_block;
@@ -19,364 +19,297 @@ use ob_tree::declaration::{
 use ob_tree::expression::Expr;
 use ob_tree::name::OneOrMore;
 use ob_tree::statement::Block;
-use std::alloc::AllocError;
 
 /// The declaration of a constant.
 #[tactic(auto, using(crate::proofs::DeclarationLayers::sections_made))]
-fn walk_constant(draft: &mut Draft, inside: Context, constant: &ConstDecl) -> Result<(), AllocError>
-    ensures { IfOk result (λ _. stage_of draft.new ≡ after (const_piece constant.now) inside (stage_of draft.old)) }
+fn walk_constant(draft: &mut Draft, inside: Context, constant: &ConstDecl)
+    ensures { Reaches (after (const_piece constant.now) inside) draft.old draft.new }
 {
     let first = draft.number;
     let row = declarer_at(Sort::Constant, inside, first);
     let around = declaring_from(inside, first);
-    let at = draft.open(row)?;
-    walk_identdef(draft, around, constant.name)?;
-    draft.pass()?;
-    walk_expr(draft, around, &constant.value)?;
+    let at = draft.open(row);
+    walk_identdef(draft, around, constant.name);
+    draft.pass();
+    walk_expr(draft, around, &constant.value);
     draft.close(at, row);
-    Ok(())
 }
 
 /// The declaration of a type.
 #[tactic(auto, using(crate::proofs::DeclarationLayers::sections_made))]
-fn walk_type_declaration(
-    draft: &mut Draft,
-    inside: Context,
-    declared: &TypeDecl,
-) -> Result<(), AllocError>
-    ensures { IfOk result (λ _. stage_of draft.new ≡ after (type_decl_piece declared.now) inside (stage_of draft.old)) }
+fn walk_type_declaration(draft: &mut Draft, inside: Context, declared: &TypeDecl)
+    ensures { Reaches (after (type_decl_piece declared.now) inside) draft.old draft.new }
 {
     let first = draft.number;
     let row = declarer_at(Sort::Type, inside, first);
     let around = declaring_from(inside, first);
-    let at = draft.open(row)?;
-    walk_identdef(draft, around, declared.name)?;
-    draft.pass()?;
-    walk_type(draft, around, &declared.form)?;
+    let at = draft.open(row);
+    walk_identdef(draft, around, declared.name);
+    draft.pass();
+    walk_type(draft, around, &declared.form);
     draft.close(at, row);
-    Ok(())
 }
 
 /// The declaration of variables of one type.
 #[tactic(auto, using(crate::proofs::DeclarationLayers::sections_made))]
-fn walk_variable(draft: &mut Draft, inside: Context, declared: &VarDecl) -> Result<(), AllocError>
-    ensures { IfOk result (λ _. stage_of draft.new ≡ after (variable_piece declared.now) inside (stage_of draft.old)) }
+fn walk_variable(draft: &mut Draft, inside: Context, declared: &VarDecl)
+    ensures { Reaches (after (variable_piece declared.now) inside) draft.old draft.new }
 {
     let first = draft.number;
     let row = declarer_at(Sort::Variable, inside, first);
-    let at = draft.open(row)?;
-    walk_var(draft, declaring_from(inside, first), declared)?;
+    let at = draft.open(row);
+    walk_var(draft, declaring_from(inside, first), declared);
     draft.close(at, row);
-    Ok(())
 }
 
 /// CONST and its declarations.
 #[tactic(auto, using(crate::proofs::DeclarationLayers::sections_made))]
-fn walk_constants(
-    draft: &mut Draft,
-    inside: Context,
-    constants: &[ConstDecl],
-) -> Result<(), AllocError>
-    ensures { IfOk result (λ _. stage_of draft.new ≡ after (part const_piece constants.now) inside (stage_of draft.old)) }
+fn walk_constants(draft: &mut Draft, inside: Context, constants: &[ConstDecl])
+    ensures { Reaches (after (part const_piece constants.now) inside) draft.old draft.new }
 {
-    draft.pass()?;
+    draft.pass();
     for constant in constants {
-        walk_constant(draft, inside, constant)?;
-        draft.pass()?;
+        walk_constant(draft, inside, constant);
+        draft.pass();
     }
-    Ok(())
 }
 
 /// TYPE and its declarations.
 #[tactic(auto, using(crate::proofs::DeclarationLayers::sections_made))]
-fn walk_types(draft: &mut Draft, inside: Context, types: &[TypeDecl]) -> Result<(), AllocError>
-    ensures { IfOk result (λ _. stage_of draft.new ≡ after (part type_decl_piece types.now) inside (stage_of draft.old)) }
+fn walk_types(draft: &mut Draft, inside: Context, types: &[TypeDecl])
+    ensures { Reaches (after (part type_decl_piece types.now) inside) draft.old draft.new }
 {
-    draft.pass()?;
+    draft.pass();
     for declared in types {
-        walk_type_declaration(draft, inside, declared)?;
-        draft.pass()?;
+        walk_type_declaration(draft, inside, declared);
+        draft.pass();
     }
-    Ok(())
 }
 
 /// VAR and its declarations.
 #[tactic(auto, using(crate::proofs::DeclarationLayers::sections_made))]
-fn walk_variables(
-    draft: &mut Draft,
-    inside: Context,
-    variables: &[VarDecl],
-) -> Result<(), AllocError>
-    ensures { IfOk result (λ _. stage_of draft.new ≡ after (part variable_piece variables.now) inside (stage_of draft.old)) }
+fn walk_variables(draft: &mut Draft, inside: Context, variables: &[VarDecl])
+    ensures { Reaches (after (part variable_piece variables.now) inside) draft.old draft.new }
 {
-    draft.pass()?;
+    draft.pass();
     for declared in variables {
-        walk_variable(draft, inside, declared)?;
-        draft.pass()?;
+        walk_variable(draft, inside, declared);
+        draft.pass();
     }
-    Ok(())
 }
 
 #[cycle(declarations)]
 #[tactic(auto, using(crate::proofs::DeclarationLayers::declarations_made))]
-fn walk_declarations(
-    draft: &mut Draft,
-    inside: Context,
-    declarations: &Declarations,
-) -> Result<(), AllocError>
-    ensures { IfOk result (λ _. stage_of draft.new ≡ after (declarations_piece declarations.now) inside (stage_of draft.old)) }
+fn walk_declarations(draft: &mut Draft, inside: Context, declarations: &Declarations)
+    ensures { Reaches (after (declarations_piece declarations.now) inside) draft.old draft.new }
 {
     match &declarations.constants {
         None => {}
-        Some(constants) => walk_constants(draft, inside, constants)?,
+        Some(constants) => walk_constants(draft, inside, constants),
     }
     match &declarations.types {
         None => {}
-        Some(types) => walk_types(draft, inside, types)?,
+        Some(types) => walk_types(draft, inside, types),
     }
     match &declarations.variables {
         None => {}
-        Some(variables) => walk_variables(draft, inside, variables)?,
+        Some(variables) => walk_variables(draft, inside, variables),
     }
     for procedure in &declarations.procedures {
-        walk_procedure(draft, inside, procedure)?;
-        draft.pass()?;
+        walk_procedure(draft, inside, procedure);
+        draft.pass();
     }
-    Ok(())
 }
 
 /// Parameters, if they stand there.
 #[tactic(auto, using(crate::proofs::DeclarationLayers::sections_made))]
-fn walk_heading(
-    draft: &mut Draft,
-    inside: Context,
-    parameters: &Option<Parameters>,
-) -> Result<(), AllocError>
-    ensures { IfOk result (λ _. stage_of draft.new ≡ after (if_there parameters_piece parameters.now) inside (stage_of draft.old)) }
+fn walk_heading(draft: &mut Draft, inside: Context, parameters: &Option<Parameters>)
+    ensures { Reaches (after (if_there parameters_piece parameters.now) inside) draft.old draft.new }
 {
     match parameters {
         None => {}
-        Some(parameters) => walk_parameters(draft, inside, parameters)?,
+        Some(parameters) => walk_parameters(draft, inside, parameters),
     }
-    Ok(())
 }
 
 /// What stands in the block of a procedure, with its name, which is declared outside.
 #[cycle(declarations)]
 #[tactic(auto, using(crate::proofs::DeclarationLayers::declarations_made))]
-fn walk_procedure_inner(
-    draft: &mut Draft,
-    inside: Context,
-    procedure: &ProcDecl,
-) -> Result<(), AllocError>
-    ensures { IfOk result (λ _. stage_of draft.new ≡ after (procedure_inner procedure.now) inside (stage_of draft.old)) }
+fn walk_procedure_inner(draft: &mut Draft, inside: Context, procedure: &ProcDecl)
+    ensures { Reaches (after (procedure_inner procedure.now) inside) draft.old draft.new }
 {
-    draft.pass()?;
-    walk_identdef(draft, inside, procedure.name)?;
-    walk_heading(draft, inside, &procedure.parameters)?;
-    draft.pass()?;
-    walk_declarations(draft, inside, &procedure.declarations)?;
-    walk_procedure_body(draft, inside, &procedure.body)?;
-    walk_answer(draft, inside, &procedure.returned)?;
-    draft.pass()?;
+    draft.pass();
+    walk_identdef(draft, inside, procedure.name);
+    walk_heading(draft, inside, &procedure.parameters);
+    draft.pass();
+    walk_declarations(draft, inside, &procedure.declarations);
+    walk_procedure_body(draft, inside, &procedure.body);
+    walk_answer(draft, inside, &procedure.returned);
+    draft.pass();
     walk_procedure_end(draft, inside)
 }
 
 /// The name behind the END of a procedure.
 #[tactic(auto, using(crate::proofs::DeclarationLayers::sections_made))]
-fn walk_procedure_end(draft: &mut Draft, inside: Context) -> Result<(), AllocError>
-    ensures { IfOk result (λ _. stage_of draft.new ≡ after (tells procedure_end token) inside (stage_of draft.old)) }
+fn walk_procedure_end(draft: &mut Draft, inside: Context)
+    ensures { Reaches (after (tells procedure_end token) inside) draft.old draft.new }
 {
     let number = draft.number;
-    let of = behind(inside.declarer, 1)?;
+    let of = draft.behind(inside.declarer, 1);
     draft.add_end(End {
         number,
         of: Some(of),
-    })?;
+    });
     draft.pass()
 }
 
 #[cycle(declarations)]
 #[tactic(auto, using(crate::proofs::DeclarationLayers::declarations_made))]
-fn walk_procedure(
-    draft: &mut Draft,
-    inside: Context,
-    procedure: &ProcDecl,
-) -> Result<(), AllocError>
-    ensures { IfOk result (λ _. stage_of draft.new ≡ after (procedure_piece procedure.now) inside (stage_of draft.old)) }
+fn walk_procedure(draft: &mut Draft, inside: Context, procedure: &ProcDecl)
+    ensures { Reaches (after (procedure_piece procedure.now) inside) draft.old draft.new }
 {
     let first = draft.number;
     let row = declarer_at(Sort::Procedure, inside, first);
-    let at = draft.open(row)?;
+    let at = draft.open(row);
     draft.add_block(BlockRow {
         first,
         outer: inside.block,
-    })?;
+    });
     let around = block_from(declaring_from(inside, first), first);
-    walk_procedure_inner(draft, around, procedure)?;
+    walk_procedure_inner(draft, around, procedure);
     draft.close(at, row);
-    Ok(())
 }
 
 /// BEGIN and the statements of a procedure.
 #[tactic(auto, using(crate::proofs::DeclarationLayers::sections_made))]
-fn walk_procedure_body(
-    draft: &mut Draft,
-    inside: Context,
-    body: &Option<Box<Block>>,
-) -> Result<(), AllocError>
-    ensures { IfOk result (λ _. stage_of draft.new ≡ after (if_there (λ b. both token (block_piece b.value)) body.now) inside (stage_of draft.old)) }
+fn walk_procedure_body(draft: &mut Draft, inside: Context, body: &Option<Box<Block>>)
+    ensures { Reaches (after (if_there (λ b. both token (block_piece b.value)) body.now) inside) draft.old draft.new }
 {
     match body {
         None => {}
         Some(body) => {
-            draft.pass()?;
-            walk_block(draft, inside, body)?;
+            draft.pass();
+            walk_block(draft, inside, body);
         }
     }
-    Ok(())
 }
 
 /// RETURN and its expression.
 #[tactic(auto, using(crate::proofs::DeclarationLayers::sections_made))]
-fn walk_answer(
-    draft: &mut Draft,
-    inside: Context,
-    answer: &Option<Box<Expr>>,
-) -> Result<(), AllocError>
-    ensures { IfOk result (λ _. stage_of draft.new ≡ after (if_there (λ e. both token (expr_piece e.value)) answer.now) inside (stage_of draft.old)) }
+fn walk_answer(draft: &mut Draft, inside: Context, answer: &Option<Box<Expr>>)
+    ensures { Reaches (after (if_there (λ e. both token (expr_piece e.value)) answer.now) inside) draft.old draft.new }
 {
     match answer {
         None => {}
         Some(answer) => {
-            draft.pass()?;
-            walk_expr(draft, inside, answer)?;
+            draft.pass();
+            walk_expr(draft, inside, answer);
         }
     }
-    Ok(())
 }
 
 /// What an import item names that begins with this token: the identifier behind `:=`, or else its own.
-fn imported_by(import: ImportItem, number: u32) -> Result<u32, AllocError>
-    ensures { IfOk result (λ n. n ≡ named_by import.of number) }
+fn imported_by(draft: &mut Draft, import: ImportItem, number: u32) -> u32
+    ensures stage { Reaches (λ s. s) draft.old draft.new }
+    ensures imported { draft.new.refused ≡ false → result ≡ named_by import.of number }
 {
     match import.of {
-        None => Ok(number),
-        Some(_) => behind(number, 2),
+        None => number,
+        Some(_) => draft.behind(number, 2),
     }
 }
 
 /// The parts of an import item.
 #[tactic(auto, using(crate::proofs::DeclarationLayers::sections_made))]
-fn walk_import_inner(
-    draft: &mut Draft,
-    inside: Context,
-    import: ImportItem,
-) -> Result<(), AllocError>
-    ensures { IfOk result (λ _. stage_of draft.new ≡ after (import_inner import) inside (stage_of draft.old)) }
+fn walk_import_inner(draft: &mut Draft, inside: Context, import: ImportItem)
+    ensures { Reaches (after (import_inner import) inside) draft.old draft.new }
 {
     let number = draft.number;
-    let imported = imported_by(import, number)?;
+    let imported = imported_by(draft, import, number);
     draft.add_import(Import {
         alias: number,
         imported,
-    })?;
+    });
     draft.add_declared(Declared {
         number,
         exported: false,
         declared_by: inside.declarer,
-    })?;
-    draft.pass()?;
+    });
+    draft.pass();
     match import.of {
         None => {}
         Some(_) => {
-            draft.pass()?;
-            draft.pass()?;
+            draft.pass();
+            draft.pass();
         }
     }
-    Ok(())
 }
 
 #[tactic(auto, using(crate::proofs::DeclarationLayers::sections_made))]
-fn walk_import(draft: &mut Draft, inside: Context, import: ImportItem) -> Result<(), AllocError>
-    ensures { IfOk result (λ _. stage_of draft.new ≡ after (import_piece import) inside (stage_of draft.old)) }
+fn walk_import(draft: &mut Draft, inside: Context, import: ImportItem)
+    ensures { Reaches (after (import_piece import) inside) draft.old draft.new }
 {
     let first = draft.number;
     let row = declarer_at(Sort::Import, inside, first);
-    let at = draft.open(row)?;
-    walk_import_inner(draft, declaring_from(inside, first), import)?;
+    let at = draft.open(row);
+    walk_import_inner(draft, declaring_from(inside, first), import);
     draft.close(at, row);
-    Ok(())
 }
 
 /// IMPORT up to its semicolon.
 #[tactic(auto, using(crate::proofs::DeclarationLayers::sections_made))]
-fn walk_imports(
-    draft: &mut Draft,
-    inside: Context,
-    imports: &Option<OneOrMore<ImportItem>>,
-) -> Result<(), AllocError>
-    ensures { IfOk result (λ _. stage_of draft.new ≡ after (if_there imports_piece imports.now) inside (stage_of draft.old)) }
+fn walk_imports(draft: &mut Draft, inside: Context, imports: &Option<OneOrMore<ImportItem>>)
+    ensures { Reaches (after (if_there imports_piece imports.now) inside) draft.old draft.new }
 {
     match imports {
         None => {}
         Some(imports) => {
-            draft.pass()?;
-            walk_import(draft, inside, imports.first)?;
+            draft.pass();
+            walk_import(draft, inside, imports.first);
             for import in &imports.rest {
-                draft.pass()?;
-                walk_import(draft, inside, *import)?;
+                draft.pass();
+                walk_import(draft, inside, *import);
             }
-            draft.pass()?;
+            draft.pass();
         }
     }
-    Ok(())
 }
 
 /// BEGIN and the statements of a module.
 #[tactic(auto, using(crate::proofs::DeclarationLayers::sections_made))]
-fn walk_module_body(
-    draft: &mut Draft,
-    inside: Context,
-    body: &Option<Block>,
-) -> Result<(), AllocError>
-    ensures { IfOk result (λ _. stage_of draft.new ≡ after (if_there (λ b. both token (block_piece b)) body.now) inside (stage_of draft.old)) }
+fn walk_module_body(draft: &mut Draft, inside: Context, body: &Option<Block>)
+    ensures { Reaches (after (if_there (λ b. both token (block_piece b)) body.now) inside) draft.old draft.new }
 {
     match body {
         None => {}
         Some(body) => {
-            draft.pass()?;
-            walk_block(draft, inside, body)?;
+            draft.pass();
+            walk_block(draft, inside, body);
         }
     }
-    Ok(())
 }
 
 /// The name behind the END of a module.
 #[tactic(auto, using(crate::proofs::DeclarationLayers::sections_made))]
-fn walk_module_end(draft: &mut Draft, inside: Context) -> Result<(), AllocError>
-    ensures { IfOk result (λ _. stage_of draft.new ≡ after (tells module_end token) inside (stage_of draft.old)) }
+fn walk_module_end(draft: &mut Draft, inside: Context)
+    ensures { Reaches (after (tells module_end token) inside) draft.old draft.new }
 {
     let number = draft.number;
-    draft.add_end(End { number, of: None })?;
+    draft.add_end(End { number, of: None });
     draft.pass()
 }
 
 #[tactic(auto, using(crate::proofs::DeclarationLayers::module_made))]
-pub(crate) fn walk_module(
-    draft: &mut Draft,
-    inside: Context,
-    module: &Module,
-) -> Result<(), AllocError>
-    ensures { IfOk result (λ _. stage_of draft.new ≡ after (module_piece «module».now) inside (stage_of draft.old)) }
+pub(crate) fn walk_module(draft: &mut Draft, inside: Context, module: &Module)
+    ensures { Reaches (after (module_piece «module».now) inside) draft.old draft.new }
 {
-    draft.pass()?;
-    draft.pass()?;
-    draft.pass()?;
-    walk_imports(draft, inside, &module.imports)?;
-    walk_declarations(draft, inside, &module.declarations)?;
-    walk_module_body(draft, inside, &module.body)?;
-    draft.pass()?;
-    walk_module_end(draft, inside)?;
+    draft.pass();
+    draft.pass();
+    draft.pass();
+    walk_imports(draft, inside, &module.imports);
+    walk_declarations(draft, inside, &module.declarations);
+    walk_module_body(draft, inside, &module.body);
+    draft.pass();
+    walk_module_end(draft, inside);
     draft.pass()
 }

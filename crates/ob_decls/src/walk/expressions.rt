@@ -1,10 +1,10 @@
 //! The rows of expressions and designators.
 
-ghost use Rattle.std.specs.Prelude.{◌≡◌, ◌+◌, IfOk, length, map};
-ghost use Rattle.ob_decls.specs.Drafts.{added, after, stage_of};
+ghost use Rattle.std.specs.Prelude.{◌≡◌, ◌+◌, IfOk, false, length, map};
+ghost use Rattle.ob_decls.specs.Drafts.{added, after, settled, stage_of, Reaches};
 ghost use Rattle.ob_decls.specs.Expressions.{behind_dot, between, denoted, designator_piece, dotted, element_list_piece, element_piece, expr_list_piece, expr_phrase, expr_piece, factor_phrase, factor_piece, first_name, listed, selected, sum_phrase, sum_piece, term_phrase, term_piece, used};
 ghost use Rattle.ob_decls.specs.Parts.{these_selectors};
-ghost use Rattle.ob_decls.specs.Settling.{blanks, settling};
+ghost use Rattle.ob_decls.specs.Settling.{blanks, row_at, settling};
 
 use crate::draft::{Context, Draft, behind};
 use crate::rows::{Designator as DesignatorRow, Selector as SelectorRow, Step, TypeName, Used};
@@ -14,33 +14,30 @@ use ob_tree::expression::{
 use std::alloc::AllocError;
 
 /// The name behind a dot that follows this token, if one does.
-pub(crate) fn member_at(member: Option<u32>, head: u32) -> Result<Option<u32>, AllocError>
-    ensures { IfOk result (λ m. m ≡ behind_dot member head) }
+pub(crate) fn member_at(draft: &mut Draft, member: Option<u32>, head: u32) -> Option<u32>
+    ensures stage { Reaches (λ s. s) draft.old draft.new }
+    ensures member { draft.new.refused ≡ false → result ≡ behind_dot member head }
 {
     match member {
-        None => Ok(None),
-        Some(_) => Ok(Some(behind(head, 2)?)),
+        None => None,
+        Some(_) => Some(draft.behind(head, 2)),
     }
 }
 
 /// An identifier that is looked up and is no pointer's target.
 #[tactic(auto, using(crate::proofs::Steps::steps))]
-pub(crate) fn walk_used(
-    draft: &mut Draft,
-    inside: Context,
-    member: Option<u32>,
-) -> Result<(), AllocError>
-    ensures { IfOk result (λ _. stage_of draft.new ≡ after (used member) inside (stage_of draft.old)) }
+pub(crate) fn walk_used(draft: &mut Draft, inside: Context, member: Option<u32>)
+    ensures { Reaches (after (used member) inside) draft.old draft.new }
 {
     let number = draft.number;
-    let member = member_at(member, number)?;
+    let member = member_at(draft, member, number);
     draft.add_used(Used {
         number,
         block: inside.block,
         is_target: false,
         member,
-    })?;
-    draft.pass()
+    });
+    draft.pass();
 }
 
 /// The name that a selector selects, if it is a dot and a name.
@@ -189,129 +186,119 @@ fn inner_name_of(list: &Option<Box<ExprList>>, number: u32) -> Result<Option<Typ
 
 /// Adds a place for each of these selectors, and answers the first place.
 #[tactic(auto, using(crate::proofs::Settled::places_made))]
-fn open_selectors(draft: &mut Draft, head: u32, selectors: &[Selector]) -> Result<usize, AllocError>
-    ensures rows { IfOk result (λ _. stage_of draft.new ≡ added (these_selectors (blanks head selectors.now)) (stage_of draft.old)) }
-    ensures place { IfOk result (λ at. at ≡ length draft.old.selectors.items) }
+fn open_selectors(draft: &mut Draft, head: u32, selectors: &[Selector]) -> usize
+    ensures rows { Reaches (added (these_selectors (blanks head selectors.now))) draft.old draft.new }
+    ensures place { result ≡ length draft.old.selectors.items }
 {
     let at = draft.selectors.len();
     for selector in selectors {
         draft.add_selector(SelectorRow {
             of: head,
             step: Step::Target,
-        })?;
+        });
     }
-    Ok(at)
+    at
 }
 
 #[cycle(expressions)]
 #[tactic(auto, using(crate::proofs::ExpressionLayers::expressions_made))]
-pub(crate) fn walk_expr(draft: &mut Draft, inside: Context, expr: &Expr) -> Result<(), AllocError>
-    ensures { IfOk result (λ _. stage_of draft.new ≡ after (expr_piece expr.now) inside (stage_of draft.old)) }
+pub(crate) fn walk_expr(draft: &mut Draft, inside: Context, expr: &Expr)
+    ensures { Reaches (after (expr_piece expr.now) inside) draft.old draft.new }
 {
-    walk_sum(draft, inside, &expr.left)?;
+    walk_sum(draft, inside, &expr.left);
     match &expr.compared {
         None => {}
         Some((_, right)) => {
-            draft.pass()?;
-            walk_sum(draft, inside, right)?;
+            draft.pass();
+            walk_sum(draft, inside, right);
         }
     }
-    Ok(())
 }
 
 #[cycle(expressions)]
 #[tactic(auto, using(crate::proofs::ExpressionLayers::expressions_made))]
-fn walk_sum(draft: &mut Draft, inside: Context, sum: &Sum) -> Result<(), AllocError>
-    ensures { IfOk result (λ _. stage_of draft.new ≡ after (sum_piece sum.now) inside (stage_of draft.old)) }
+fn walk_sum(draft: &mut Draft, inside: Context, sum: &Sum)
+    ensures { Reaches (after (sum_piece sum.now) inside) draft.old draft.new }
 {
     match sum.sign {
         None => {}
-        Some(_) => draft.pass()?,
+        Some(_) => draft.pass(),
     }
-    walk_term(draft, inside, &sum.first)?;
+    walk_term(draft, inside, &sum.first);
     for (_, term) in &sum.rest {
-        draft.pass()?;
-        walk_term(draft, inside, term)?;
+        draft.pass();
+        walk_term(draft, inside, term);
     }
-    Ok(())
 }
 
 #[cycle(expressions)]
 #[tactic(auto, using(crate::proofs::ExpressionLayers::expressions_made))]
-fn walk_term(draft: &mut Draft, inside: Context, term: &Term) -> Result<(), AllocError>
-    ensures { IfOk result (λ _. stage_of draft.new ≡ after (term_piece term.now) inside (stage_of draft.old)) }
+fn walk_term(draft: &mut Draft, inside: Context, term: &Term)
+    ensures { Reaches (after (term_piece term.now) inside) draft.old draft.new }
 {
-    walk_factor(draft, inside, &term.first)?;
+    walk_factor(draft, inside, &term.first);
     for (_, factor) in &term.rest {
-        draft.pass()?;
-        walk_factor(draft, inside, factor)?;
+        draft.pass();
+        walk_factor(draft, inside, factor);
     }
-    Ok(())
 }
 
 #[cycle(expressions)]
 #[tactic(auto, using(crate::proofs::ExpressionLayers::expressions_made))]
-fn walk_factor(draft: &mut Draft, inside: Context, factor: &Factor) -> Result<(), AllocError>
-    ensures { IfOk result (λ _. stage_of draft.new ≡ after (factor_piece factor.now) inside (stage_of draft.old)) }
+fn walk_factor(draft: &mut Draft, inside: Context, factor: &Factor)
+    ensures { Reaches (after (factor_piece factor.now) inside) draft.old draft.new }
 {
     match factor {
-        Factor::Value(_, _) => draft.pass()?,
-        Factor::Nil => draft.pass()?,
-        Factor::True => draft.pass()?,
-        Factor::False => draft.pass()?,
+        Factor::Value(_, _) => draft.pass(),
+        Factor::Nil => draft.pass(),
+        Factor::True => draft.pass(),
+        Factor::False => draft.pass(),
         Factor::Set(elements) => {
-            draft.pass()?;
+            draft.pass();
             match elements {
                 None => {}
-                Some(list) => walk_element_list(draft, inside, list)?,
+                Some(list) => walk_element_list(draft, inside, list),
             }
-            draft.pass()?;
+            draft.pass();
         }
-        Factor::Name(designator) => walk_designator(draft, inside, designator, false)?,
+        Factor::Name(designator) => walk_designator(draft, inside, designator, false),
         Factor::Group(expr) => {
-            draft.pass()?;
-            walk_expr(draft, inside, expr)?;
-            draft.pass()?;
+            draft.pass();
+            walk_expr(draft, inside, expr);
+            draft.pass();
         }
         Factor::Not(factor) => {
-            draft.pass()?;
-            walk_factor(draft, inside, factor)?;
+            draft.pass();
+            walk_factor(draft, inside, factor);
         }
     }
-    Ok(())
 }
 
 #[cycle(expressions)]
 #[tactic(auto, using(crate::proofs::ExpressionLayers::expressions_made))]
-fn walk_element_list(
-    draft: &mut Draft,
-    inside: Context,
-    list: &ElementList,
-) -> Result<(), AllocError>
-    ensures { IfOk result (λ _. stage_of draft.new ≡ after (element_list_piece list.now) inside (stage_of draft.old)) }
+fn walk_element_list(draft: &mut Draft, inside: Context, list: &ElementList)
+    ensures { Reaches (after (element_list_piece list.now) inside) draft.old draft.new }
 {
-    walk_element(draft, inside, &list.first)?;
+    walk_element(draft, inside, &list.first);
     for element in &list.rest {
-        draft.pass()?;
-        walk_element(draft, inside, element)?;
+        draft.pass();
+        walk_element(draft, inside, element);
     }
-    Ok(())
 }
 
 #[cycle(expressions)]
 #[tactic(auto, using(crate::proofs::ExpressionLayers::expressions_made))]
-fn walk_element(draft: &mut Draft, inside: Context, element: &Element) -> Result<(), AllocError>
-    ensures { IfOk result (λ _. stage_of draft.new ≡ after (element_piece element.now) inside (stage_of draft.old)) }
+fn walk_element(draft: &mut Draft, inside: Context, element: &Element)
+    ensures { Reaches (after (element_piece element.now) inside) draft.old draft.new }
 {
-    walk_expr(draft, inside, &element.low)?;
+    walk_expr(draft, inside, &element.low);
     match &element.high {
         None => {}
         Some(high) => {
-            draft.pass()?;
-            walk_expr(draft, inside, high)?;
+            draft.pass();
+            walk_expr(draft, inside, high);
         }
     }
-    Ok(())
 }
 
 #[cycle(expressions)]
@@ -321,78 +308,83 @@ pub(crate) fn walk_designator(
     inside: Context,
     designator: &Designator,
     is_written: bool,
-) -> Result<(), AllocError>
-    ensures { IfOk result (λ _. stage_of draft.new ≡ after (designator_piece is_written designator.now) inside (stage_of draft.old)) }
+)
+    ensures { Reaches (after (designator_piece is_written designator.now) inside) draft.old draft.new }
 {
     let head = draft.number;
     draft.add_designator(DesignatorRow {
         head,
         block: inside.block,
         is_written,
-    })?;
-    let at = open_selectors(draft, head, &designator.selectors)?;
-    walk_used(draft, inside, name_of(&designator.selectors))?;
-    walk_selectors(draft, inside, head, at, &designator.selectors)
+    });
+    let at = open_selectors(draft, head, &designator.selectors);
+    walk_used(draft, inside, name_of(&designator.selectors));
+    walk_selectors(draft, inside, head, at, &designator.selectors);
+}
+
+/// Gives a selector's row in this place, and answers the place behind it.
+#[tactic(auto, using(crate::proofs::Steps::steps))]
+fn settle_selector(draft: &mut Draft, head: u32, at: usize, selector: &Selector) -> usize
+    ensures row { Reaches (λ s. settled at (row_at head (selected selector.now) s) s) draft.old draft.new }
+    ensures place { draft.new.refused ≡ false → result ≡ at + 1 }
+{
+    match step_of(selector, draft.number) {
+        Err(_) => {
+            draft.refused = true;
+            at
+        }
+        Ok(step) => draft.settle(at, SelectorRow { of: head, step }),
+    }
 }
 
 /// Selectors, whose rows have their places already.
 #[cycle(expressions)]
 #[tactic(auto, using(crate::proofs::Settled::selectors_settled))]
-fn walk_selectors(
-    draft: &mut Draft,
-    inside: Context,
-    head: u32,
-    at: usize,
-    selectors: &[Selector],
-) -> Result<(), AllocError>
-    ensures { IfOk result (λ _. stage_of draft.new ≡ settling head at (map selected selectors.now) inside (stage_of draft.old)) }
+fn walk_selectors(draft: &mut Draft, inside: Context, head: u32, at: usize, selectors: &[Selector])
+    ensures { Reaches (settling head at (map selected selectors.now) inside) draft.old draft.new }
 {
     let mut place = at;
     for selector in selectors {
-        let step = step_of(selector, draft.number)?;
-        place = draft.settle(place, SelectorRow { of: head, step })?;
-        walk_selector(draft, inside, selector)?;
+        place = settle_selector(draft, head, place, selector);
+        walk_selector(draft, inside, selector);
     }
-    Ok(())
 }
 
 #[cycle(expressions)]
 #[tactic(auto, using(crate::proofs::ExpressionLayers::expressions_made))]
-fn walk_selector(draft: &mut Draft, inside: Context, selector: &Selector) -> Result<(), AllocError>
-    ensures { IfOk result (λ _. stage_of draft.new ≡ after (selected selector.now).piece inside (stage_of draft.old)) }
+fn walk_selector(draft: &mut Draft, inside: Context, selector: &Selector)
+    ensures { Reaches (after (selected selector.now).piece inside) draft.old draft.new }
 {
     match selector {
         Selector::Field(_) => {
-            draft.pass()?;
-            draft.pass()?;
+            draft.pass();
+            draft.pass();
         }
         Selector::Index(list) => {
-            draft.pass()?;
-            walk_expr_list(draft, inside, list)?;
-            draft.pass()?;
+            draft.pass();
+            walk_expr_list(draft, inside, list);
+            draft.pass();
         }
-        Selector::Target => draft.pass()?,
+        Selector::Target => draft.pass(),
         Selector::Arguments(list) => {
-            draft.pass()?;
+            draft.pass();
             match list {
                 None => {}
-                Some(list) => walk_expr_list(draft, inside, list)?,
+                Some(list) => walk_expr_list(draft, inside, list),
             }
-            draft.pass()?;
+            draft.pass();
         }
     }
-    Ok(())
 }
 
 #[cycle(expressions)]
 #[tactic(auto, using(crate::proofs::ExpressionLayers::expressions_made))]
-fn walk_expr_list(draft: &mut Draft, inside: Context, list: &ExprList) -> Result<(), AllocError>
-    ensures { IfOk result (λ _. stage_of draft.new ≡ after (expr_list_piece list.now) inside (stage_of draft.old)) }
+fn walk_expr_list(draft: &mut Draft, inside: Context, list: &ExprList)
+    ensures { Reaches (after (expr_list_piece list.now) inside) draft.old draft.new }
 {
-    walk_expr(draft, inside, &list.first)?;
+    walk_expr(draft, inside, &list.first);
     for expr in &list.rest {
-        draft.pass()?;
-        walk_expr(draft, inside, expr)?;
+        draft.pass();
+        walk_expr(draft, inside, expr);
     }
-    Ok(())
 }

@@ -1,8 +1,8 @@
-use Rattle.std.proofs.Common.{◌≡◌, take}
-use Rattle.ob_decls.specs.Drafts.{after, stage_of}
+use Rattle.std.proofs.Common.{take}
+use Rattle.ob_decls.specs.Drafts.{after, Reaches}
 use Rattle.ob_decls.specs.Parts.{both, each, token}
 use Rattle.ob_decls.specs.Declaring.{const_piece}
 use Rattle.ob_decls.proofs.walk.declarations.walk_constants.Given as goal
 
 abbrev pub invariant-loop-constant : goal.invariant-loop-constant
-invariant-loop-constant l = stage_of l.draft ≡ after (each (λ x. both (const_piece x) token) (take l.constant-index l.constants)) l.inside (stage_of l.initial.draft)
+invariant-loop-constant l = Reaches (after (each (λ x. both (const_piece x) token) (take l.constant-index l.constants)) l.inside) l.initial.draft l.draft

@@ -11,8 +11,8 @@ walk_fields-loop-field-init t c = grind (arith, types_made)
 pub walk_fields-loop-field-preserved : goal.walk_fields-loop-field-preserved
 walk_fields-loop-field-preserved t c = grind (arith, types_made)
 
-pub walk_fields-returns-in_ok-pass-2 : goal.walk_fields-returns-in_ok-pass-2
-walk_fields-returns-in_ok-pass-2 t c = grind (arith, types_made)
+pub walk_fields-returns-then-fields : goal.walk_fields-returns-then-fields
+walk_fields-returns-then-fields t c = grind (arith, types_made)
 
 pub walk_fields-returns-else-fields : goal.walk_fields-returns-else-fields
 walk_fields-returns-else-fields t c = grind (arith, types_made)
@@ -23,23 +23,23 @@ walk_record-returns t c = grind (arith, types_made)
 pub walk_record_fields-returns-in-None : goal.walk_record_fields-returns-in-None
 walk_record_fields-returns-in-None t c = grind (arith, types_made)
 
-pub walk_record_fields-returns-in_ok-walk_fields-in-Some : goal.walk_record_fields-returns-in_ok-walk_fields-in-Some
-walk_record_fields-returns-in_ok-walk_fields-in-Some t c = grind (arith, types_made)
+pub walk_record_fields-returns-in-Some : goal.walk_record_fields-returns-in-Some
+walk_record_fields-returns-in-Some t c = grind (arith, types_made)
 
-pub walk_type-returns-in_ok-walk_type_name-in-Named : goal.walk_type-returns-in_ok-walk_type_name-in-Named
-walk_type-returns-in_ok-walk_type_name-in-Named t c = grind (arith, types_made)
+pub walk_type-returns-in-Named : goal.walk_type-returns-in-Named
+walk_type-returns-in-Named t c = grind (arith, types_made)
 
-pub walk_type-returns-in_ok-walk_type-in-ArrayOf : goal.walk_type-returns-in_ok-walk_type-in-ArrayOf
-walk_type-returns-in_ok-walk_type-in-ArrayOf t c = grind (arith, types_made)
+pub walk_type-returns-in-ArrayOf : goal.walk_type-returns-in-ArrayOf
+walk_type-returns-in-ArrayOf t c = grind (arith, types_made)
 
-pub walk_type-returns-in_ok-walk_record-in-RecordOf : goal.walk_type-returns-in_ok-walk_record-in-RecordOf
-walk_type-returns-in_ok-walk_record-in-RecordOf t c = grind (arith, types_made)
+pub walk_type-returns-in-RecordOf : goal.walk_type-returns-in-RecordOf
+walk_type-returns-in-RecordOf t c = grind (arith, types_made)
 
-pub walk_type-returns-in_ok-walk_type-in-PointerTo : goal.walk_type-returns-in_ok-walk_type-in-PointerTo
-walk_type-returns-in_ok-walk_type-in-PointerTo t c = grind (arith, types_made)
+pub walk_type-returns-in-PointerTo : goal.walk_type-returns-in-PointerTo
+walk_type-returns-in-PointerTo t c = grind (arith, types_made)
 
-pub walk_type-returns-in_ok-walk_procedure_type-in-ProcOf : goal.walk_type-returns-in_ok-walk_procedure_type-in-ProcOf
-walk_type-returns-in_ok-walk_procedure_type-in-ProcOf t c = grind (arith, types_made)
+pub walk_type-returns-in-ProcOf : goal.walk_type-returns-in-ProcOf
+walk_type-returns-in-ProcOf t c = grind (arith, types_made)
 
 pub walk_var-loop-name-init : goal.walk_var-loop-name-init
 walk_var-loop-name-init t c = grind (arith, types_made)
