@@ -3,6 +3,7 @@ use Rattle.cut_net.specs.Network.{Network, texts}
 use Rattle.cut_net.specs.Pins.{ArePins}
 use Rattle.cut_net.specs.WellFormed.{IsNetwork}
 use Rattle.cut_net.proofs.Moved.{counted, keeps_network, keeps_pins, same_net}
+use Rattle.std.proofs.lemmas.Grind.{common_steps}
 use Rattle.cut_net.proofs.prices.standing_so.Goals as goal
 
 pub with_pins-requires-clause-network : goal.with_pins-requires-clause-network
@@ -22,3 +23,9 @@ with_pins-requires-clause-pins c =
     let is = same_net net standing c.args.standings.now (texts c.in_ok-names.names.items) c.imports.result.now c.imports-2.result.now c.in_ok-imports.imports.items c.in_ok-pins.pins.items same
     (c.in_ok-names.ensures ∙ ap texts c.as_slice.ensures.value ∙ ap (λ (n : Network). n.names) c.net.view_is) c.imports.ensures c.imports-2.ensures c.in_ok-imports.ensures c.in_ok-pins.ensures in
     subst ArePins (sym is) (keeps_pins net standing c.keeps.ensures.network (let light = c.requires.light in omega arith))
+
+pub imports_as-requires : goal.imports_as-requires
+imports_as-requires c = grind (arith, common_steps)
+
+pub pins_as-requires : goal.pins_as-requires
+pins_as-requires c = grind (arith, common_steps)

@@ -1,5 +1,6 @@
 use Rattle.std.proofs.Common.{arith}
 use Rattle.ob_scan.proofs.Pieces.{begun, one_gap, one_token, fits}
+use Rattle.std.proofs.lemmas.Grind.{common_steps}
 use Rattle.ob_scan.proofs.scanner.tokens_in.Goals as goal
 
 pub pieces-init : goal.pieces-init
@@ -10,3 +11,6 @@ pieces-preserved-in-Gap c = record { within = fits c.args.bytes.now c.pieces.at 
 
 pub pieces-preserved : goal.pieces-preserved
 pieces-preserved c = record { within = fits c.args.bytes.now c.pieces.at c.in-Token.n c.pieces.invariant.within c.in-Token.ensures.2; so_far = one_token _ _ _ _ _ _ c.pieces.invariant.within c.pieces.invariant.so_far c.in-Token.ensures.0 c.in_ok-push-in-Token.ensures.items }
+
+pub returns-in-Nothing : goal.returns-in-Nothing
+returns-in-Nothing c = grind (arith, common_steps)
