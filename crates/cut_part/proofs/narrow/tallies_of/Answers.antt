@@ -4,6 +4,7 @@ use Rattle.cut_net.specs.declared.priced.Priced.{Priced}
 use Rattle.cut_net.specs.Network.{none_there}
 use Rattle.cut_part.specs.Tallies.{AreTallies}
 use Rattle.cut_part.proofs.Adding.{adding_fits, adding_more, adding_most, from_in, to_in}
+use Rattle.std.proofs.lemmas.Grind.{common_steps}
 use Rattle.cut_part.proofs.narrow.tallies_of.Goals as goal
 
 pub add_at-requires-clause-place : goal.add_at-requires-clause-place
@@ -64,3 +65,9 @@ returns-clause-tallies c =
       leave = λ m h. rw whole at (kept.leave m (omega arith));
       enter = λ m h. rw whole at (kept.enter m (omega arith));
     })
+
+pub loop-import-init : goal.loop-import-init
+loop-import-init c = grind (arith, common_steps)
+
+pub returns-clause-imports : goal.returns-clause-imports
+returns-clause-imports c = grind (arith, common_steps)

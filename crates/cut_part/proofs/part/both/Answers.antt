@@ -1,6 +1,7 @@
 use Rattle.std.proofs.Common.{◌<◌, ◌+◌, ◌∙◌, false, ap, arith, get_or, inl, inr, length}
 use Rattle.std.proofs.lemmas.Bool.{cases_eq}
 use Rattle.std.proofs.lemmas.List.{get_or_append_left, get_or_push, length_push}
+use Rattle.std.proofs.lemmas.Grind.{common_steps}
 use Rattle.cut_part.proofs.part.both.Goals as goal
 
 pub loop-m-preserved : goal.loop-m-preserved
@@ -16,3 +17,6 @@ loop-m-preserved c =
             rw c.in_ok-push.ensures.items (get_or_append_left marks _ false j within ∙ c.loop-m.invariant.1 j before)
       ],
     )
+
+pub returns-clause-both : goal.returns-clause-both
+returns-clause-both c = grind (arith, common_steps)

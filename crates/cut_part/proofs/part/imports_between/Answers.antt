@@ -1,4 +1,4 @@
-use Rattle.std.proofs.Common.{◌≡◌, ◌∙◌, ◌∷◌, [], true, false, ap, filter, get_or, length, map, sym, take}
+use Rattle.std.proofs.Common.{◌≡◌, ◌∙◌, ◌∷◌, [], true, false, ap, filter, get_or, length, map, sym, take, arith}
 use Rattle.std.proofs.lemmas.List.{append-nil, map-append}
 use Rattle.std.proofs.lemmas.List.Elements.{filter_more}
 use Rattle.cut_net.specs.Network.{none_there}
@@ -6,6 +6,7 @@ use Rattle.cut_residual.specs.Graphs.{is_seen}
 use Rattle.cut_part.specs.Inside.{inside}
 use Rattle.cut_part.specs.Renumbering.{renumbered}
 use Rattle.cut_part.proofs.Adding.{from_in, to_in}
+use Rattle.std.proofs.lemmas.Grind.{common_steps}
 use Rattle.cut_part.proofs.part.imports_between.Goals as goal
 use Rattle.cut_part.proofs.part.imports_between.Goals.{then-is_inside+in_ok-push, else-is_inside}
 
@@ -31,3 +32,12 @@ loop-i-preserved c =
           rw (w.some-is, c.loop-i.invariant, filter_more keeps imports k none_there c.loop-i-test.true, left)
           (ap (map place) (sym (append-nil (filter keeps (take k imports)))))
     ]
+
+pub bounds-places-i : goal.bounds-places-i
+bounds-places-i c = grind (arith, common_steps)
+
+pub bounds-places-i-then-is_inside : goal.bounds-places-i-then-is_inside
+bounds-places-i-then-is_inside c = grind (arith, common_steps)
+
+pub returns : goal.returns
+returns c = grind (arith, common_steps)

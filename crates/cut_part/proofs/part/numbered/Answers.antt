@@ -1,5 +1,6 @@
 use Rattle.std.proofs.Common.{◌≡◌, length, arith}
 use Rattle.cut_part.proofs.Numbering.{numbering_over, numbering_with}
+use Rattle.std.proofs.lemmas.Grind.{common_steps}
 use Rattle.cut_part.proofs.part.numbered.Goals as goal
 use Rattle.cut_part.proofs.part.numbered.Goals.{then-marks-m+in_ok-push-2, else-marks-m}
 
@@ -16,3 +17,6 @@ loop-m-preserved c =
           rw (w.numbers-is, c.in_ok-push.ensures.items)
           (numbering_over c.args.marks.now c.loop-m.numbers.items c.loop-m.places.items c.loop-m.m c.loop-m.invariant c.len.result w.if-marks-m.false)
     ]
+
+pub returns : goal.returns
+returns c = grind (arith, common_steps)
