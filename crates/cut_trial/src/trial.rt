@@ -231,6 +231,24 @@ impl Trial {
         }
         Ok(())
     }
+
+    /// Sends everything from the start, gets to the end what it can in rounds, and takes back what is stuck.
+    fn settle(
+        &mut self,
+        alloc: Global,
+        order: &[u32],
+        start: u32,
+        end: u32,
+    ) -> Result<(), AllocError>
+        requires order { All (λ n. n < self.old.nodes) order.now }
+        requires start { start < self.old.nodes }
+        requires end { end < self.old.nodes }
+        ensures { OnOk result (HasOtherFlow self.old self.new) }
+    {
+        self.open(start)?;
+        self.run(alloc, end)?;
+        self.take_all_back(order, end)
+    }
 }
 
 /// A flow from the start to the end over the arcs of a graph that carries none, as great as a preflow finds it. That is so where
@@ -253,8 +271,6 @@ pub fn trial_flow(
         labels: vec![in alloc; nodes; nodes as usize]?,
         waiting: Vec::new(alloc),
     };
-    trial.open(start)?;
-    trial.run(alloc, end)?;
-    trial.take_all_back(&order, end)?;
+    trial.settle(alloc, &order, start, end)?;
     Ok(trial.graph)
 }
