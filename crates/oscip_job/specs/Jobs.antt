@@ -346,3 +346,7 @@ HasPackage (Def question) = Unit {0}
 HasPackage (Refs question) = Unit {0}
 HasPackage (Index indexing) = IsPackage (string_bytes indexing.package)
 HasPackage (Unresolved folder) = Unit {0}
+
+-- the job is that of the command that clap found, and its numbers and its package are as they may be
+abbrev pub IsJobOf : Option (Text × List Row) → Job → Type 0
+IsJobOf found job = Holds found job × HasWorkers job × HasPosition job × HasPackage job

@@ -1,8 +1,8 @@
 //! The commands of the program and their words, as `clap` takes them.
 ghost use Rattle.std.specs.Prelude.{◌≡◌, IfOk, codes, false};
 ghost use Rattle.clap.specs.Words.{app_of, new_app, rule_of, with_rule, with_subcommand, App};
-ghost use Rattle.clap.specs.declared.Command.TheViews.{out-Command as fields_of};
 ghost use Rattle.oscip_job.specs.Jobs.{asking_app, check_app, check_net_app, crossings_app, cut_app, cut_net_app, def_app, dot_app, dot_net_app, index_app, number_rule, oscip, program_app, refs_app, required_rule, text_rule, unresolved_app, with_modules, with_output, with_position, with_prices, with_workers};
+ghost use Rattle.oscip_job.specs.Making.{Reads};
 
 use clap::{Arg, ArgAction, Command, value_parser};
 use std::alloc::{AllocError, Global};
@@ -72,68 +72,52 @@ const REFS_END: &str = "Example: oscip refs examples/foreign.scip src/view.ts 2 
     Status: 0 the places are printed, 1 the index or the path is refused, 2 the command line is refused,{n}\
     3 a file can't be read or standard output takes nothing, 4 memory ran out";
 
-/// The command in a box: what hands a command on has then one name for it, and not all that it holds.
-fn boxed<'a>(alloc: Global, command: Command<'a>) -> Result<Box<Command<'a>>, AllocError>
+/// A command, or the want of memory that stopped its making: the steps after that hand it on. In its box the command has
+/// one name for what takes it over.
+type Made<'a> = Result<Box<Command<'a>>, AllocError>;
+
+fn boxed<'a>(alloc: Global, command: Command<'a>) -> Made<'a>
     ensures { IfOk result (λ c. c.value ≡ command.entry) }
 {
     Ok(Box::new(alloc, command)?)
 }
 
 /// The command of this name, with what help says of it and what stands at the end of that.
-fn named<'a>(
-    alloc: Global,
-    name: &'a str,
-    about: &'a str,
-    end: &'a str,
-) -> Result<Box<Command<'a>>, AllocError>
-    ensures app { IfOk result (λ c. app_of c.value ≡ new_app name.entry.now) }
-    ensures local { IfOk result (λ c. (fields_of c.value).has_globals ≡ false) }
+fn named<'a>(alloc: Global, name: &'a str, about: &'a str, end: &'a str) -> Made<'a>
+    ensures { IfOk result (λ c. Reads (new_app name.entry.now) c.value) }
 {
     let command = Command::new(alloc, name).about(about).after_help(end);
     boxed(alloc, command)
 }
 
 /// The command with one more argument, which is of this command alone.
-fn with_arg<'a>(
-    alloc: Global,
-    command: Box<Command<'a>>,
-    arg: Arg<'a>,
-) -> Result<Box<Command<'a>>, AllocError>
-    ensures app { arg.entry.global ≡ false → IfOk result (λ c. app_of c.value ≡ with_rule (app_of command.entry.value) (rule_of arg.entry)) }
-    ensures local { arg.entry.global ≡ false → IfOk result (λ c. (fields_of command.entry.value).has_globals ≡ false → (fields_of c.value).has_globals ≡ false) }
+fn with_arg<'a>(alloc: Global, command: Box<Command<'a>>, arg: Arg<'a>) -> Made<'a>
+    requires { arg.global ≡ false }
+    ensures { (app : App) → Reads app command.entry.value → IfOk result (λ c. Reads (with_rule app (rule_of arg.entry)) c.value) }
 {
     let command = Box::into_inner(command).arg(arg)?;
     boxed(alloc, command)
 }
 
 /// The command with one more argument that has to be given.
-fn with_required<'a>(
-    alloc: Global,
-    command: Box<Command<'a>>,
-    id: &'a str,
-    help: &'a str,
-) -> Result<Box<Command<'a>>, AllocError>
-    ensures app { IfOk result (λ c. app_of c.value ≡ with_rule (app_of command.entry.value) (required_rule id.entry.now)) }
-    ensures local { IfOk result (λ c. (fields_of command.entry.value).has_globals ≡ false → (fields_of c.value).has_globals ≡ false) }
+fn with_required<'a>(alloc: Global, command: Made<'a>, id: &'a str, help: &'a str) -> Made<'a>
+    ensures { (app : App) → IfOk command.entry (λ c. Reads app c.value) → IfOk result (λ c. Reads (with_rule app (required_rule id.entry.now)) c.value) }
 {
+    let command = command?;
     let required = Arg::new(alloc, id).required(true).help(help);
     with_arg(alloc, command, required)
 }
 
 /// The command with the names of two modules, A and B.
-fn with_modules<'a>(
-    alloc: Global,
-    command: Box<Command<'a>>,
-) -> Result<Box<Command<'a>>, AllocError>
-    ensures app { IfOk result (λ c. app_of c.value ≡ with_modules (app_of command.entry.value)) }
-    ensures local { IfOk result (λ c. (fields_of command.entry.value).has_globals ≡ false → (fields_of c.value).has_globals ≡ false) }
+fn with_modules<'a>(alloc: Global, command: Made<'a>) -> Made<'a>
+    ensures { (app : App) → IfOk command.entry (λ c. Reads app c.value) → IfOk result (λ c. Reads (with_modules app) c.value) }
 {
     let command = with_required(
         alloc,
         command,
         "A",
         "The name of the module that is to reach B no longer",
-    )?;
+    );
     with_required(
         alloc,
         command,
@@ -143,13 +127,10 @@ fn with_modules<'a>(
 }
 
 /// The command with the option of how many workers there are, 1 to 64.
-fn with_workers<'a>(
-    alloc: Global,
-    command: Box<Command<'a>>,
-) -> Result<Box<Command<'a>>, AllocError>
-    ensures app { IfOk result (λ c. app_of c.value ≡ with_workers (app_of command.entry.value)) }
-    ensures local { IfOk result (λ c. (fields_of command.entry.value).has_globals ≡ false → (fields_of c.value).has_globals ≡ false) }
+fn with_workers<'a>(alloc: Global, command: Made<'a>) -> Made<'a>
+    ensures { (app : App) → IfOk command.entry (λ c. Reads app c.value) → IfOk result (λ c. Reads (with_workers app) c.value) }
 {
+    let command = command?;
     let workers = Arg::new(alloc, "workers")
         .long("workers")
         .value_name("N")
@@ -160,10 +141,10 @@ fn with_workers<'a>(
 }
 
 /// The command with the option of a file of prices.
-fn with_prices<'a>(alloc: Global, command: Box<Command<'a>>) -> Result<Box<Command<'a>>, AllocError>
-    ensures app { IfOk result (λ c. app_of c.value ≡ with_prices (app_of command.entry.value)) }
-    ensures local { IfOk result (λ c. (fields_of command.entry.value).has_globals ≡ false → (fields_of c.value).has_globals ≡ false) }
+fn with_prices<'a>(alloc: Global, command: Made<'a>) -> Made<'a>
+    ensures { (app : App) → IfOk command.entry (λ c. Reads app c.value) → IfOk result (λ c. Reads (with_prices app) c.value) }
 {
+    let command = command?;
     let prices = Arg::new(alloc, "prices")
         .long("prices")
         .value_name("FILE")
@@ -174,27 +155,18 @@ fn with_prices<'a>(alloc: Global, command: Box<Command<'a>>) -> Result<Box<Comma
 }
 
 /// The command with the options of a cut.
-fn with_cut_options<'a>(
-    alloc: Global,
-    command: Box<Command<'a>>,
-) -> Result<Box<Command<'a>>, AllocError>
-    ensures app { IfOk result (λ c. app_of c.value ≡ with_prices (with_workers (app_of command.entry.value))) }
-    ensures local { IfOk result (λ c. (fields_of command.entry.value).has_globals ≡ false → (fields_of c.value).has_globals ≡ false) }
+fn with_cut_options<'a>(alloc: Global, command: Made<'a>) -> Made<'a>
+    ensures { (app : App) → IfOk command.entry (λ c. Reads app c.value) → IfOk result (λ c. Reads (with_prices (with_workers app)) c.value) }
 {
-    let command = with_workers(alloc, command)?;
+    let command = with_workers(alloc, command);
     with_prices(alloc, command)
 }
 
 /// The command with a report and the option of the file of the prices that it was made with.
-fn with_report<'a>(
-    alloc: Global,
-    command: Box<Command<'a>>,
-    help: &'a str,
-) -> Result<Box<Command<'a>>, AllocError>
-    ensures app { IfOk result (λ c. app_of c.value ≡ with_prices (with_rule (app_of command.entry.value) (required_rule (codes "REPORT")))) }
-    ensures local { IfOk result (λ c. (fields_of command.entry.value).has_globals ≡ false → (fields_of c.value).has_globals ≡ false) }
+fn with_report<'a>(alloc: Global, command: Made<'a>, help: &'a str) -> Made<'a>
+    ensures { (app : App) → IfOk command.entry (λ c. Reads app c.value) → IfOk result (λ c. Reads (with_prices (with_rule app (required_rule (codes "REPORT")))) c.value) }
 {
-    let command = with_required(alloc, command, "REPORT", help)?;
+    let command = with_required(alloc, command, "REPORT", help);
     with_prices(alloc, command)
 }
 
@@ -206,13 +178,12 @@ fn cutting<'a>(
     end: &'a str,
     id: &'a str,
     help: &'a str,
-) -> Result<Box<Command<'a>>, AllocError>
-    ensures app { IfOk result (λ c. app_of c.value ≡ with_prices (with_workers (with_modules (with_rule (new_app name.entry.now) (required_rule id.entry.now))))) }
-    ensures local { IfOk result (λ c. (fields_of c.value).has_globals ≡ false) }
+) -> Made<'a>
+    ensures { IfOk result (λ c. Reads (with_prices (with_workers (with_modules (with_rule (new_app name.entry.now) (required_rule id.entry.now))))) c.value) }
 {
-    let command = named(alloc, name, about, end)?;
-    let command = with_required(alloc, command, id, help)?;
-    let command = with_modules(alloc, command)?;
+    let command = named(alloc, name, about, end);
+    let command = with_required(alloc, command, id, help);
+    let command = with_modules(alloc, command);
     with_cut_options(alloc, command)
 }
 
@@ -225,21 +196,19 @@ fn checking<'a>(
     id: &'a str,
     help: &'a str,
     report_help: &'a str,
-) -> Result<Box<Command<'a>>, AllocError>
-    ensures app { IfOk result (λ c. app_of c.value ≡ with_prices (with_rule (with_rule (new_app name.entry.now) (required_rule id.entry.now)) (required_rule (codes "REPORT")))) }
-    ensures local { IfOk result (λ c. (fields_of c.value).has_globals ≡ false) }
+) -> Made<'a>
+    ensures { IfOk result (λ c. Reads (with_prices (with_rule (with_rule (new_app name.entry.now) (required_rule id.entry.now)) (required_rule (codes "REPORT")))) c.value) }
 {
-    let command = named(alloc, name, about, end)?;
-    let command = with_required(alloc, command, id, help)?;
+    let command = named(alloc, name, about, end);
+    let command = with_required(alloc, command, id, help);
     with_report(alloc, command, report_help)
 }
 
 /// The command with the names of two modules, M and N.
-fn with_users<'a>(alloc: Global, command: Box<Command<'a>>) -> Result<Box<Command<'a>>, AllocError>
-    ensures app { IfOk result (λ c. app_of c.value ≡ with_rule (with_rule (app_of command.entry.value) (required_rule (codes "M"))) (required_rule (codes "N"))) }
-    ensures local { IfOk result (λ c. (fields_of command.entry.value).has_globals ≡ false → (fields_of c.value).has_globals ≡ false) }
+fn with_users<'a>(alloc: Global, command: Made<'a>) -> Made<'a>
+    ensures { (app : App) → IfOk command.entry (λ c. Reads app c.value) → IfOk result (λ c. Reads (with_rule (with_rule app (required_rule (codes "M"))) (required_rule (codes "N"))) c.value) }
 {
-    let command = with_required(alloc, command, "M", "The name of the module that uses N")?;
+    let command = with_required(alloc, command, "M", "The name of the module that uses N");
     with_required(
         alloc,
         command,
@@ -248,30 +217,24 @@ fn with_users<'a>(alloc: Global, command: Box<Command<'a>>) -> Result<Box<Comman
     )
 }
 
-fn crossings_command<'a>(alloc: Global) -> Result<Box<Command<'a>>, AllocError>
-    ensures app { IfOk result (λ c. app_of c.value ≡ crossings_app) }
-    ensures local { IfOk result (λ c. (fields_of c.value).has_globals ≡ false) }
+fn crossings_command<'a>(alloc: Global) -> Made<'a>
+    ensures { IfOk result (λ c. Reads crossings_app c.value) }
 {
     let command = named(
         alloc,
         "crossings",
         "Tell where an Oberon-07 module uses another: what to rewrite to remove that import",
         CROSSINGS_END,
-    )?;
-    let command = with_required(alloc, command, "DIR", FOLDER_HELP)?;
+    );
+    let command = with_required(alloc, command, "DIR", FOLDER_HELP);
     with_users(alloc, command)
 }
 
 /// The command with one more number that has to be given, from 0 to 2,147,483,647.
-fn with_number<'a>(
-    alloc: Global,
-    command: Box<Command<'a>>,
-    id: &'a str,
-    help: &'a str,
-) -> Result<Box<Command<'a>>, AllocError>
-    ensures app { IfOk result (λ c. app_of c.value ≡ with_rule (app_of command.entry.value) (number_rule id.entry.now)) }
-    ensures local { IfOk result (λ c. (fields_of command.entry.value).has_globals ≡ false → (fields_of c.value).has_globals ≡ false) }
+fn with_number<'a>(alloc: Global, command: Made<'a>, id: &'a str, help: &'a str) -> Made<'a>
+    ensures { (app : App) → IfOk command.entry (λ c. Reads app c.value) → IfOk result (λ c. Reads (with_rule app (number_rule id.entry.now)) c.value) }
 {
+    let command = command?;
     let number = Arg::new(alloc, id)
         .required(true)
         .value_parser(value_parser!(u32).range(0..=2147483647))
@@ -280,19 +243,15 @@ fn with_number<'a>(
 }
 
 /// The command with the line and the column of a position.
-fn with_position<'a>(
-    alloc: Global,
-    command: Box<Command<'a>>,
-) -> Result<Box<Command<'a>>, AllocError>
-    ensures app { IfOk result (λ c. app_of c.value ≡ with_position (app_of command.entry.value)) }
-    ensures local { IfOk result (λ c. (fields_of command.entry.value).has_globals ≡ false → (fields_of c.value).has_globals ≡ false) }
+fn with_position<'a>(alloc: Global, command: Made<'a>) -> Made<'a>
+    ensures { (app : App) → IfOk command.entry (λ c. Reads app c.value) → IfOk result (λ c. Reads (with_position app) c.value) }
 {
     let command = with_number(
         alloc,
         command,
         "LINE",
         "A line of the document, counted from 0",
-    )?;
+    );
     with_number(
         alloc,
         command,
@@ -302,36 +261,30 @@ fn with_position<'a>(
 }
 
 /// The command of this name with a question's words: the index, a document of it, and a position in that.
-fn asking<'a>(
-    alloc: Global,
-    name: &'a str,
-    about: &'a str,
-    end: &'a str,
-) -> Result<Box<Command<'a>>, AllocError>
-    ensures app { IfOk result (λ c. app_of c.value ≡ asking_app name.entry.now) }
-    ensures local { IfOk result (λ c. (fields_of c.value).has_globals ≡ false) }
+fn asking<'a>(alloc: Global, name: &'a str, about: &'a str, end: &'a str) -> Made<'a>
+    ensures { IfOk result (λ c. Reads (asking_app name.entry.now) c.value) }
 {
-    let command = named(alloc, name, about, end)?;
+    let command = named(alloc, name, about, end);
     let command = with_required(
         alloc,
         command,
         "INDEX",
         "The file of an index in the SCIP format",
-    )?;
+    );
     let command = with_required(
         alloc,
         command,
         "PATH",
         "The path of a document, as the index has it",
-    )?;
+    );
     with_position(alloc, command)
 }
 
 /// The command with the words that say where an index goes: the path of a file, or `--hex`.
-fn with_output<'a>(alloc: Global, command: Box<Command<'a>>) -> Result<Box<Command<'a>>, AllocError>
-    ensures app { IfOk result (λ c. app_of c.value ≡ with_output (app_of command.entry.value)) }
-    ensures local { IfOk result (λ c. (fields_of command.entry.value).has_globals ≡ false → (fields_of c.value).has_globals ≡ false) }
+fn with_output<'a>(alloc: Global, command: Made<'a>) -> Made<'a>
+    ensures { (app : App) → IfOk command.entry (λ c. Reads app c.value) → IfOk result (λ c. Reads (with_output app) c.value) }
 {
+    let command = command?;
     let out = Arg::new(alloc, "OUT").help(
         "The file that the index is written to, in the SCIP format; it is emptied only once DIR has been read, so it may be one of DIR's files",
     );
@@ -344,15 +297,10 @@ fn with_output<'a>(alloc: Global, command: Box<Command<'a>>) -> Result<Box<Comma
 }
 
 /// The command with one more option that takes a text, which is empty where it isn't given.
-fn with_text<'a>(
-    alloc: Global,
-    command: Box<Command<'a>>,
-    id: &'a str,
-    help: &'a str,
-) -> Result<Box<Command<'a>>, AllocError>
-    ensures app { IfOk result (λ c. app_of c.value ≡ with_rule (app_of command.entry.value) (text_rule id.entry.now)) }
-    ensures local { IfOk result (λ c. (fields_of command.entry.value).has_globals ≡ false → (fields_of c.value).has_globals ≡ false) }
+fn with_text<'a>(alloc: Global, command: Made<'a>, id: &'a str, help: &'a str) -> Made<'a>
+    ensures { (app : App) → IfOk command.entry (λ c. Reads app c.value) → IfOk result (λ c. Reads (with_rule app (text_rule id.entry.now)) c.value) }
 {
+    let command = command?;
     let text = Arg::new(alloc, id)
         .long(id)
         .value_name("TEXT")
@@ -362,72 +310,64 @@ fn with_text<'a>(
 }
 
 /// The command with the options of an index.
-fn with_options<'a>(
-    alloc: Global,
-    command: Box<Command<'a>>,
-) -> Result<Box<Command<'a>>, AllocError>
-    ensures app { IfOk result (λ c. app_of c.value ≡ with_workers (with_rule (with_rule (app_of command.entry.value) (text_rule (codes "package"))) (text_rule (codes "root")))) }
-    ensures local { IfOk result (λ c. (fields_of command.entry.value).has_globals ≡ false → (fields_of c.value).has_globals ≡ false) }
+fn with_options<'a>(alloc: Global, command: Made<'a>) -> Made<'a>
+    ensures { (app : App) → IfOk command.entry (λ c. Reads app c.value) → IfOk result (λ c. Reads (with_workers (with_rule (with_rule app (text_rule (codes "package"))) (text_rule (codes "root")))) c.value) }
 {
     let command = with_text(
         alloc,
         command,
         "package",
         "The package that the symbols of the modules name: not `.`, and no space in front",
-    )?;
+    );
     let command = with_text(
         alloc,
         command,
         "root",
         "The root of the project that the index names, as a URI",
-    )?;
+    );
     with_workers(alloc, command)
 }
 
-fn index_command<'a>(alloc: Global) -> Result<Box<Command<'a>>, AllocError>
-    ensures app { IfOk result (λ c. app_of c.value ≡ index_app) }
-    ensures local { IfOk result (λ c. (fields_of c.value).has_globals ≡ false) }
+fn index_command<'a>(alloc: Global) -> Made<'a>
+    ensures { IfOk result (λ c. Reads index_app c.value) }
 {
     let command = named(
         alloc,
         "index",
         "Write an index of Oberon-07 modules in the SCIP format, for go to definition and find references",
         INDEX_END,
-    )?;
-    let command = with_required(alloc, command, "DIR", FOLDER_HELP)?;
-    let command = with_output(alloc, command)?;
+    );
+    let command = with_required(alloc, command, "DIR", FOLDER_HELP);
+    let command = with_output(alloc, command);
     with_options(alloc, command)
 }
 
-fn unresolved_command<'a>(alloc: Global) -> Result<Box<Command<'a>>, AllocError>
-    ensures app { IfOk result (λ c. app_of c.value ≡ unresolved_app) }
-    ensures local { IfOk result (λ c. (fields_of c.value).has_globals ≡ false) }
+fn unresolved_command<'a>(alloc: Global) -> Made<'a>
+    ensures { IfOk result (λ c. Reads unresolved_app c.value) }
 {
     let command = named(
         alloc,
         "unresolved",
         "Tell which identifiers of Oberon-07 modules mean nothing that the modules declare",
         UNRESOLVED_END,
-    )?;
+    );
     with_required(alloc, command, "DIR", FOLDER_HELP)
 }
 
 /// The program with one more command.
-fn with_sub<'a>(
-    alloc: Global,
-    program: Box<Command<'a>>,
-    command: Box<Command<'a>>,
-) -> Result<Box<Command<'a>>, AllocError>
-    ensures { (app : App) → app_of command.entry.value ≡ app → (fields_of command.entry.value).has_globals ≡ false →
-        IfOk result (λ c. app_of c.value ≡ with_subcommand (app_of program.entry.value) app.top) }
+fn with_sub<'a>(alloc: Global, program: Made<'a>, command: Made<'a>) -> Made<'a>
+    ensures { (first : App) → (second : App) → IfOk program.entry (λ c. app_of c.value ≡ first) → IfOk command.entry (λ c. Reads second c.value) →
+        IfOk result (λ c. app_of c.value ≡ with_subcommand first second.top) }
 {
+    let program = program?;
+    let command = command?;
     let program = Box::into_inner(program).subcommand(Box::into_inner(command))?;
     boxed(alloc, program)
 }
 
 /// The program with the commands on folders of modules.
-fn with_trees<'a>(alloc: Global, program: Box<Command<'a>>) -> Result<Box<Command<'a>>, AllocError>
-    ensures { IfOk result (λ c. app_of c.value ≡ with_subcommand (with_subcommand (with_subcommand (app_of program.entry.value) cut_app.top) check_app.top) crossings_app.top) }
+fn with_trees<'a>(alloc: Global, program: Made<'a>) -> Made<'a>
+    ensures { (app : App) → IfOk program.entry (λ c. app_of c.value ≡ app) → IfOk result (λ c. app_of c.value ≡ with_subcommand (with_subcommand (with_subcommand app cut_app.top) check_app.top) crossings_app.top) }
 {
     let cut = cutting(
         alloc,
@@ -436,8 +376,8 @@ fn with_trees<'a>(alloc: Global, program: Box<Command<'a>>) -> Result<Box<Comman
         CUT_END,
         "DIR",
         FOLDER_HELP,
-    )?;
-    let program = with_sub(alloc, program, cut)?;
+    );
+    let program = with_sub(alloc, program, cut);
     let check = checking(
         alloc,
         "check",
@@ -446,15 +386,15 @@ fn with_trees<'a>(alloc: Global, program: Box<Command<'a>>) -> Result<Box<Comman
         "DIR",
         FOLDER_HELP,
         "The report of a cut between two of the modules",
-    )?;
-    let program = with_sub(alloc, program, check)?;
-    let crossings = crossings_command(alloc)?;
+    );
+    let program = with_sub(alloc, program, check);
+    let crossings = crossings_command(alloc);
     with_sub(alloc, program, crossings)
 }
 
 /// The program with the commands on networks.
-fn with_nets<'a>(alloc: Global, program: Box<Command<'a>>) -> Result<Box<Command<'a>>, AllocError>
-    ensures { IfOk result (λ c. app_of c.value ≡ with_subcommand (with_subcommand (app_of program.entry.value) cut_net_app.top) check_net_app.top) }
+fn with_nets<'a>(alloc: Global, program: Made<'a>) -> Made<'a>
+    ensures { (app : App) → IfOk program.entry (λ c. app_of c.value ≡ app) → IfOk result (λ c. app_of c.value ≡ with_subcommand (with_subcommand app cut_net_app.top) check_net_app.top) }
 {
     let cut = cutting(
         alloc,
@@ -463,8 +403,8 @@ fn with_nets<'a>(alloc: Global, program: Box<Command<'a>>) -> Result<Box<Command
         CUT_NET_END,
         "FILE",
         NETWORK_HELP,
-    )?;
-    let program = with_sub(alloc, program, cut)?;
+    );
+    let program = with_sub(alloc, program, cut);
     let check = checking(
         alloc,
         "check-net",
@@ -473,16 +413,13 @@ fn with_nets<'a>(alloc: Global, program: Box<Command<'a>>) -> Result<Box<Command
         "FILE",
         NETWORK_HELP,
         "The report of a cut between two of its modules",
-    )?;
+    );
     with_sub(alloc, program, check)
 }
 
 /// The program with the commands that draw.
-fn with_pictures<'a>(
-    alloc: Global,
-    program: Box<Command<'a>>,
-) -> Result<Box<Command<'a>>, AllocError>
-    ensures { IfOk result (λ c. app_of c.value ≡ with_subcommand (with_subcommand (app_of program.entry.value) dot_app.top) dot_net_app.top) }
+fn with_pictures<'a>(alloc: Global, program: Made<'a>) -> Made<'a>
+    ensures { (app : App) → IfOk program.entry (λ c. app_of c.value ≡ app) → IfOk result (λ c. app_of c.value ≡ with_subcommand (with_subcommand app dot_app.top) dot_net_app.top) }
 {
     let tree = checking(
         alloc,
@@ -492,8 +429,8 @@ fn with_pictures<'a>(
         "DIR",
         FOLDER_HELP,
         "The report of a cut between two of the modules",
-    )?;
-    let program = with_sub(alloc, program, tree)?;
+    );
+    let program = with_sub(alloc, program, tree);
     let net = checking(
         alloc,
         "dot-net",
@@ -502,48 +439,42 @@ fn with_pictures<'a>(
         "FILE",
         NETWORK_HELP,
         "The report of a cut between two of its modules",
-    )?;
+    );
     with_sub(alloc, program, net)
 }
 
 /// The program with the commands on indexes.
-fn with_indexes<'a>(
-    alloc: Global,
-    program: Box<Command<'a>>,
-) -> Result<Box<Command<'a>>, AllocError>
-    ensures { IfOk result (λ c. app_of c.value ≡ with_subcommand (with_subcommand (app_of program.entry.value) def_app.top) refs_app.top) }
+fn with_indexes<'a>(alloc: Global, program: Made<'a>) -> Made<'a>
+    ensures { (app : App) → IfOk program.entry (λ c. app_of c.value ≡ app) → IfOk result (λ c. app_of c.value ≡ with_subcommand (with_subcommand app def_app.top) refs_app.top) }
 {
     let def = asking(
         alloc,
         "def",
         "Tell where the symbol at a position is defined, by an index in the SCIP format",
         DEF_END,
-    )?;
-    let program = with_sub(alloc, program, def)?;
+    );
+    let program = with_sub(alloc, program, def);
     let refs = asking(
         alloc,
         "refs",
         "Tell where the symbol at a position is used and not defined, by an index in the SCIP format",
         REFS_END,
-    )?;
+    );
     with_sub(alloc, program, refs)
 }
 
 /// The program with the commands that index modules.
-fn with_indexers<'a>(
-    alloc: Global,
-    program: Box<Command<'a>>,
-) -> Result<Box<Command<'a>>, AllocError>
-    ensures { IfOk result (λ c. app_of c.value ≡ with_subcommand (with_subcommand (app_of program.entry.value) index_app.top) unresolved_app.top) }
+fn with_indexers<'a>(alloc: Global, program: Made<'a>) -> Made<'a>
+    ensures { (app : App) → IfOk program.entry (λ c. app_of c.value ≡ app) → IfOk result (λ c. app_of c.value ≡ with_subcommand (with_subcommand app index_app.top) unresolved_app.top) }
 {
-    let index = index_command(alloc)?;
-    let program = with_sub(alloc, program, index)?;
-    let unresolved = unresolved_command(alloc)?;
+    let index = index_command(alloc);
+    let program = with_sub(alloc, program, index);
+    let unresolved = unresolved_command(alloc);
     with_sub(alloc, program, unresolved)
 }
 
 /// The program without any command.
-fn bare<'a>(alloc: Global) -> Result<Box<Command<'a>>, AllocError>
+fn bare<'a>(alloc: Global) -> Made<'a>
     ensures { IfOk result (λ c. app_of c.value ≡ program_app) }
 {
     let program = Command::new(alloc, "oscip")
@@ -557,13 +488,13 @@ fn bare<'a>(alloc: Global) -> Result<Box<Command<'a>>, AllocError>
 }
 
 /// The program with all its commands.
-pub(crate) fn command<'a>(alloc: Global) -> Result<Box<Command<'a>>, AllocError>
+pub(crate) fn command<'a>(alloc: Global) -> Made<'a>
     ensures { IfOk result (λ c. app_of c.value ≡ oscip) }
 {
-    let program = bare(alloc)?;
-    let program = with_trees(alloc, program)?;
-    let program = with_nets(alloc, program)?;
-    let program = with_pictures(alloc, program)?;
-    let program = with_indexes(alloc, program)?;
+    let program = bare(alloc);
+    let program = with_trees(alloc, program);
+    let program = with_nets(alloc, program);
+    let program = with_pictures(alloc, program);
+    let program = with_indexes(alloc, program);
     with_indexers(alloc, program)
 }

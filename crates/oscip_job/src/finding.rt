@@ -2,13 +2,13 @@
 ghost use Rattle.std.specs.Prelude.{◌≡◌, ◌≤◌, ◌↔◌, IfOk, IfSome, codes, map, true};
 ghost use Rattle.std.specs.String.{string_bytes};
 ghost use Rattle.clap.specs.Words.{found_of, kind_of, rows_of, subcommand_of, subcommand_rows_of};
-ghost use Rattle.oscip_job.specs.Jobs.{oscip, AsksForHex, Finds, FindsNumber, HasIndexing, HasOutput, HasPackage, HasPosition, HasQuestion, HasWorkers, Holds, IsPackage, IsPositionOf, MayFind, MayWork, NamesNumbers, NamesPosition, NamesWithin, NamesWorkers};
+ghost use Rattle.oscip_job.specs.Jobs.{oscip, AsksForHex, Finds, FindsNumber, HasIndexing, HasOutput, HasPackage, HasPosition, HasQuestion, HasWorkers, Holds, IsJobOf, IsPackage, IsPositionOf, MayFind, MayWork, NamesNumbers, NamesPosition, NamesWithin, NamesWorkers};
 
 use crate::commands::command;
 use crate::job::{Indexing, Job, JobFault, Output, Question};
 use clap::ArgMatches;
 use clap::error::ErrorKind;
-use std::alloc::Global;
+use std::alloc::{AllocError, Global};
 
 /// Why a command line is refused that gives neither a file nor `--hex`, or both.
 const ONE_OUTPUT: &str =
@@ -18,23 +18,55 @@ const ONE_OUTPUT: &str =
 const WRONG_PACKAGE: &str =
     "error: the package can't be `.` and can't begin with a space\n\nFor more information, try '--help'.\n";
 
-fn refused(alloc: Global) -> JobFault {
-    let text = String::new(alloc);
-    JobFault::Line { text }
+/// Why there is no job of what `clap` found.
+#[derive(Drop)]
+enum Refusal {
+    /// A value isn't there that `clap` sees to.
+    Missing,
+    /// The words give neither a file nor `--hex`, or both.
+    Output,
+    /// The package can't stand in a symbol.
+    Package,
+    /// A growth of memory was refused.
+    Memory,
+}
+
+impl From<AllocError> for Refusal {
+    fn from(_error: AllocError) -> Refusal {
+        Refusal::Memory
+    }
+}
+
+/// The refusal of a command line with this text.
+fn refused(alloc: Global, text: &str) -> JobFault {
+    match String::from_str(alloc, text) {
+        Ok(text) => JobFault::Line { text },
+        Err(_) => JobFault::Memory,
+    }
+}
+
+/// What is told of a refusal.
+fn fault_of(alloc: Global, refusal: Refusal) -> JobFault {
+    match refusal {
+        Refusal::Missing => refused(alloc, ""),
+        Refusal::Output => refused(alloc, ONE_OUTPUT),
+        Refusal::Package => refused(alloc, WRONG_PACKAGE),
+        Refusal::Memory => JobFault::Memory,
+    }
 }
 
 /// The value of an argument, as text of its own.
-fn value_of(alloc: Global, found: &ArgMatches<'_>, id: &str) -> Result<String, JobFault>
+fn value_of(alloc: Global, found: &ArgMatches<'_>, id: &str) -> Result<String, Refusal>
     ensures { IfOk result (λ text. Finds (rows_of (found_of found.now)) id.now (string_bytes text)) }
 {
     match found.get_str(id) {
-        None => Err(refused(alloc)),
+        None => Err(Refusal::Missing),
         Some(text) => Ok(String::from_str(alloc, text)?),
     }
 }
 
 /// The path of the file of prices, as text of its own, where it is given.
-fn prices_of(alloc: Global, found: &ArgMatches<'_>) -> Result<Option<String>, JobFault>
+fn prices_of(alloc: Global, found: &ArgMatches<'_>) -> Result<Option<String>, AllocError>
     ensures { IfOk result (MayFind (rows_of (found_of found.now)) (codes "prices")) }
 {
     match found.get_str("prices") {
@@ -44,31 +76,43 @@ fn prices_of(alloc: Global, found: &ArgMatches<'_>) -> Result<Option<String>, Jo
 }
 
 /// The number of workers, as `clap` found it.
-fn workers_of(alloc: Global, found: &ArgMatches<'_>) -> Result<u32, JobFault>
+fn workers_of(found: &ArgMatches<'_>) -> Result<u32, Refusal>
     requires { NamesWorkers (rows_of (found_of found.now)) }
     ensures value { IfOk result (FindsNumber (rows_of (found_of found.now)) (codes "workers")) }
     ensures within { IfOk result MayWork }
 {
     match found.get_one::<u32>("workers") {
-        None => Err(refused(alloc)),
+        None => Err(Refusal::Missing),
         Some(workers) => Ok(workers),
     }
 }
 
-fn cut_job(alloc: Global, found: &ArgMatches<'_>) -> Result<Job, JobFault>
+/// The words of a command that cuts.
+#[derive(Drop)]
+struct CutWords {
+    input: String,
+    from: String,
+    to: String,
+    workers: u32,
+    prices: Option<String>,
+}
+
+/// The words of a command that cuts what the argument of this name gives.
+fn cut_words(alloc: Global, found: &ArgMatches<'_>, id: &str) -> Result<CutWords, Refusal>
     requires { NamesWorkers (rows_of (found_of found.now)) }
-    ensures values { IfOk result (Holds (Some (codes "cut", rows_of (found_of found.now)))) }
-    ensures workers { IfOk result HasWorkers }
-    ensures position { IfOk result HasPosition }
-    ensures package { IfOk result HasPackage }
+    ensures { IfOk result (λ it. Finds (rows_of (found_of found.now)) id.now (string_bytes it.input)
+        × Finds (rows_of (found_of found.now)) (codes "A") (string_bytes it.from)
+        × Finds (rows_of (found_of found.now)) (codes "B") (string_bytes it.to)
+        × FindsNumber (rows_of (found_of found.now)) (codes "workers") it.workers
+        × MayFind (rows_of (found_of found.now)) (codes "prices") it.prices × MayWork it.workers) }
 {
-    let folder = value_of(alloc, found, "DIR")?;
+    let workers = workers_of(found)?;
+    let input = value_of(alloc, found, id)?;
     let from = value_of(alloc, found, "A")?;
     let to = value_of(alloc, found, "B")?;
-    let workers = workers_of(alloc, found)?;
     let prices = prices_of(alloc, found)?;
-    Ok(Job::Cut {
-        folder,
+    Ok(CutWords {
+        input,
         from,
         to,
         workers,
@@ -76,48 +120,71 @@ fn cut_job(alloc: Global, found: &ArgMatches<'_>) -> Result<Job, JobFault>
     })
 }
 
-fn cut_net_job(alloc: Global, found: &ArgMatches<'_>) -> Result<Job, JobFault>
-    requires { NamesWorkers (rows_of (found_of found.now)) }
-    ensures values { IfOk result (Holds (Some (codes "cut-net", rows_of (found_of found.now)))) }
-    ensures workers { IfOk result HasWorkers }
-    ensures position { IfOk result HasPosition }
-    ensures package { IfOk result HasPackage }
-{
-    let network = value_of(alloc, found, "FILE")?;
-    let from = value_of(alloc, found, "A")?;
-    let to = value_of(alloc, found, "B")?;
-    let workers = workers_of(alloc, found)?;
-    let prices = prices_of(alloc, found)?;
-    Ok(Job::CutNet {
-        network,
-        from,
-        to,
-        workers,
-        prices,
-    })
+/// The words of a command that reads a report.
+#[derive(Drop)]
+struct ReportWords {
+    input: String,
+    report: String,
+    prices: Option<String>,
 }
 
-fn check_job(alloc: Global, found: &ArgMatches<'_>) -> Result<Job, JobFault>
-    ensures values { IfOk result (Holds (Some (codes "check", rows_of (found_of found.now)))) }
-    ensures workers { IfOk result HasWorkers }
-    ensures position { IfOk result HasPosition }
-    ensures package { IfOk result HasPackage }
+/// The words of a command that reads a report on what the argument of this name gives.
+fn report_words(alloc: Global, found: &ArgMatches<'_>, id: &str) -> Result<ReportWords, Refusal>
+    ensures { IfOk result (λ it. Finds (rows_of (found_of found.now)) id.now (string_bytes it.input)
+        × Finds (rows_of (found_of found.now)) (codes "REPORT") (string_bytes it.report)
+        × MayFind (rows_of (found_of found.now)) (codes "prices") it.prices) }
 {
-    let folder = value_of(alloc, found, "DIR")?;
+    let input = value_of(alloc, found, id)?;
     let report = value_of(alloc, found, "REPORT")?;
     let prices = prices_of(alloc, found)?;
-    Ok(Job::Check {
-        folder,
+    Ok(ReportWords {
+        input,
         report,
         prices,
     })
 }
 
-fn crossings_job(alloc: Global, found: &ArgMatches<'_>) -> Result<Job, JobFault>
-    ensures values { IfOk result (Holds (Some (codes "crossings", rows_of (found_of found.now)))) }
-    ensures workers { IfOk result HasWorkers }
-    ensures position { IfOk result HasPosition }
-    ensures package { IfOk result HasPackage }
+fn cut_job(alloc: Global, found: &ArgMatches<'_>) -> Result<Job, Refusal>
+    requires { NamesWorkers (rows_of (found_of found.now)) }
+    ensures { IfOk result (IsJobOf (Some (codes "cut", rows_of (found_of found.now)))) }
+{
+    let words = cut_words(alloc, found, "DIR")?;
+    Ok(Job::Cut {
+        folder: words.input,
+        from: words.from,
+        to: words.to,
+        workers: words.workers,
+        prices: words.prices,
+    })
+}
+
+fn cut_net_job(alloc: Global, found: &ArgMatches<'_>) -> Result<Job, Refusal>
+    requires { NamesWorkers (rows_of (found_of found.now)) }
+    ensures { IfOk result (IsJobOf (Some (codes "cut-net", rows_of (found_of found.now)))) }
+{
+    let words = cut_words(alloc, found, "FILE")?;
+    Ok(Job::CutNet {
+        network: words.input,
+        from: words.from,
+        to: words.to,
+        workers: words.workers,
+        prices: words.prices,
+    })
+}
+
+fn check_job(alloc: Global, found: &ArgMatches<'_>) -> Result<Job, Refusal>
+    ensures { IfOk result (IsJobOf (Some (codes "check", rows_of (found_of found.now)))) }
+{
+    let words = report_words(alloc, found, "DIR")?;
+    Ok(Job::Check {
+        folder: words.input,
+        report: words.report,
+        prices: words.prices,
+    })
+}
+
+fn crossings_job(alloc: Global, found: &ArgMatches<'_>) -> Result<Job, Refusal>
+    ensures { IfOk result (IsJobOf (Some (codes "crossings", rows_of (found_of found.now)))) }
 {
     let folder = value_of(alloc, found, "DIR")?;
     let from = value_of(alloc, found, "M")?;
@@ -125,74 +192,59 @@ fn crossings_job(alloc: Global, found: &ArgMatches<'_>) -> Result<Job, JobFault>
     Ok(Job::Crossings { folder, from, to })
 }
 
-fn check_net_job(alloc: Global, found: &ArgMatches<'_>) -> Result<Job, JobFault>
-    ensures values { IfOk result (Holds (Some (codes "check-net", rows_of (found_of found.now)))) }
-    ensures workers { IfOk result HasWorkers }
-    ensures position { IfOk result HasPosition }
-    ensures package { IfOk result HasPackage }
+fn check_net_job(alloc: Global, found: &ArgMatches<'_>) -> Result<Job, Refusal>
+    ensures { IfOk result (IsJobOf (Some (codes "check-net", rows_of (found_of found.now)))) }
 {
-    let network = value_of(alloc, found, "FILE")?;
-    let report = value_of(alloc, found, "REPORT")?;
-    let prices = prices_of(alloc, found)?;
+    let words = report_words(alloc, found, "FILE")?;
     Ok(Job::CheckNet {
-        network,
-        report,
-        prices,
+        network: words.input,
+        report: words.report,
+        prices: words.prices,
     })
 }
 
-fn dot_job(alloc: Global, found: &ArgMatches<'_>) -> Result<Job, JobFault>
-    ensures values { IfOk result (Holds (Some (codes "dot", rows_of (found_of found.now)))) }
-    ensures workers { IfOk result HasWorkers }
-    ensures position { IfOk result HasPosition }
-    ensures package { IfOk result HasPackage }
+fn dot_job(alloc: Global, found: &ArgMatches<'_>) -> Result<Job, Refusal>
+    ensures { IfOk result (IsJobOf (Some (codes "dot", rows_of (found_of found.now)))) }
 {
-    let folder = value_of(alloc, found, "DIR")?;
-    let report = value_of(alloc, found, "REPORT")?;
-    let prices = prices_of(alloc, found)?;
+    let words = report_words(alloc, found, "DIR")?;
     Ok(Job::Dot {
-        folder,
-        report,
-        prices,
+        folder: words.input,
+        report: words.report,
+        prices: words.prices,
     })
 }
 
-fn dot_net_job(alloc: Global, found: &ArgMatches<'_>) -> Result<Job, JobFault>
-    ensures values { IfOk result (Holds (Some (codes "dot-net", rows_of (found_of found.now)))) }
-    ensures workers { IfOk result HasWorkers }
-    ensures position { IfOk result HasPosition }
-    ensures package { IfOk result HasPackage }
+fn dot_net_job(alloc: Global, found: &ArgMatches<'_>) -> Result<Job, Refusal>
+    ensures { IfOk result (IsJobOf (Some (codes "dot-net", rows_of (found_of found.now)))) }
 {
-    let network = value_of(alloc, found, "FILE")?;
-    let report = value_of(alloc, found, "REPORT")?;
-    let prices = prices_of(alloc, found)?;
+    let words = report_words(alloc, found, "FILE")?;
     Ok(Job::DotNet {
-        network,
-        report,
-        prices,
+        network: words.input,
+        report: words.report,
+        prices: words.prices,
     })
 }
 
 /// A number of a position, as `clap` found it.
-fn number_of(alloc: Global, found: &ArgMatches<'_>, id: &str) -> Result<u32, JobFault>
+fn number_of(found: &ArgMatches<'_>, id: &str) -> Result<u32, Refusal>
     requires { NamesWithin id.now 0 2147483647 (rows_of (found_of found.now)) }
     ensures value { IfOk result (FindsNumber (rows_of (found_of found.now)) id.now) }
     ensures within { IfOk result (λ number. number ≤ 2147483647) }
 {
     match found.get_one::<u32>(id) {
-        None => Err(refused(alloc)),
+        None => Err(Refusal::Missing),
         Some(number) => Ok(number),
     }
 }
 
 /// The question of a command on indexes.
-fn question_of(alloc: Global, found: &ArgMatches<'_>) -> Result<Question, JobFault>
+fn question_of(alloc: Global, found: &ArgMatches<'_>) -> Result<Question, Refusal>
     requires { NamesPosition (rows_of (found_of found.now)) }
     ensures values { IfOk result (HasQuestion (rows_of (found_of found.now))) }
     ensures position { IfOk result IsPositionOf }
 {
-    let line = number_of(alloc, found, "LINE")?;
-    let column = number_of(alloc, found, "COL")?;
+    let line = number_of(found, "LINE")?;
+    let column = number_of(found, "COL")?;
     let index = value_of(alloc, found, "INDEX")?;
     let path = value_of(alloc, found, "PATH")?;
     Ok(Question {
@@ -203,22 +255,16 @@ fn question_of(alloc: Global, found: &ArgMatches<'_>) -> Result<Question, JobFau
     })
 }
 
-fn def_job(alloc: Global, found: &ArgMatches<'_>) -> Result<Job, JobFault>
+fn def_job(alloc: Global, found: &ArgMatches<'_>) -> Result<Job, Refusal>
     requires { NamesPosition (rows_of (found_of found.now)) }
-    ensures values { IfOk result (Holds (Some (codes "def", rows_of (found_of found.now)))) }
-    ensures workers { IfOk result HasWorkers }
-    ensures position { IfOk result HasPosition }
-    ensures package { IfOk result HasPackage }
+    ensures { IfOk result (IsJobOf (Some (codes "def", rows_of (found_of found.now)))) }
 {
     Ok(Job::Def(question_of(alloc, found)?))
 }
 
-fn refs_job(alloc: Global, found: &ArgMatches<'_>) -> Result<Job, JobFault>
+fn refs_job(alloc: Global, found: &ArgMatches<'_>) -> Result<Job, Refusal>
     requires { NamesPosition (rows_of (found_of found.now)) }
-    ensures values { IfOk result (Holds (Some (codes "refs", rows_of (found_of found.now)))) }
-    ensures workers { IfOk result HasWorkers }
-    ensures position { IfOk result HasPosition }
-    ensures package { IfOk result HasPackage }
+    ensures { IfOk result (IsJobOf (Some (codes "refs", rows_of (found_of found.now)))) }
 {
     Ok(Job::Refs(question_of(alloc, found)?))
 }
@@ -233,23 +279,15 @@ fn asks_for_hex(found: &ArgMatches<'_>) -> bool
     }
 }
 
-/// The refusal of a command line with this text.
-fn refusal(alloc: Global, text: &str) -> JobFault {
-    match String::from_str(alloc, text) {
-        Ok(text) => JobFault::Line { text },
-        Err(_) => JobFault::Memory,
-    }
-}
-
 /// Where the index goes, of which the words have to name exactly one.
-fn output_of(alloc: Global, found: &ArgMatches<'_>) -> Result<Output, JobFault>
+fn output_of(alloc: Global, found: &ArgMatches<'_>) -> Result<Output, Refusal>
     ensures { IfOk result (HasOutput (rows_of (found_of found.now))) }
 {
     let hex = asks_for_hex(found);
     match found.get_str("OUT") {
         None if hex => Ok(Output::Hex),
         Some(path) if !hex => Ok(Output::File(String::from_str(alloc, path)?)),
-        _ => Err(refusal(alloc, ONE_OUTPUT)),
+        _ => Err(Refusal::Output),
     }
 }
 
@@ -262,7 +300,7 @@ fn is_package(text: &str) -> bool
 }
 
 /// The package of an index.
-fn package_of(alloc: Global, found: &ArgMatches<'_>) -> Result<String, JobFault>
+fn package_of(alloc: Global, found: &ArgMatches<'_>) -> Result<String, Refusal>
     ensures value { IfOk result (λ text. Finds (rows_of (found_of found.now)) (codes "package") (string_bytes text)) }
     ensures package { IfOk result (λ text. IsPackage (string_bytes text)) }
 {
@@ -270,18 +308,18 @@ fn package_of(alloc: Global, found: &ArgMatches<'_>) -> Result<String, JobFault>
     if is_package(text.as_str()) {
         Ok(text)
     } else {
-        Err(refusal(alloc, WRONG_PACKAGE))
+        Err(Refusal::Package)
     }
 }
 
 /// What index the words ask for.
-fn indexing_of(alloc: Global, found: &ArgMatches<'_>) -> Result<Indexing, JobFault>
+fn indexing_of(alloc: Global, found: &ArgMatches<'_>) -> Result<Indexing, Refusal>
     requires { NamesWorkers (rows_of (found_of found.now)) }
     ensures values { IfOk result (HasIndexing (rows_of (found_of found.now))) }
     ensures workers { IfOk result (λ it. MayWork it.workers) }
     ensures package { IfOk result (λ it. IsPackage (string_bytes it.package)) }
 {
-    let workers = workers_of(alloc, found)?;
+    let workers = workers_of(found)?;
     let folder = value_of(alloc, found, "DIR")?;
     let root = value_of(alloc, found, "root")?;
     let package = package_of(alloc, found)?;
@@ -295,33 +333,24 @@ fn indexing_of(alloc: Global, found: &ArgMatches<'_>) -> Result<Indexing, JobFau
     })
 }
 
-fn index_job(alloc: Global, found: &ArgMatches<'_>) -> Result<Job, JobFault>
+fn index_job(alloc: Global, found: &ArgMatches<'_>) -> Result<Job, Refusal>
     requires { NamesWorkers (rows_of (found_of found.now)) }
-    ensures values { IfOk result (Holds (Some (codes "index", rows_of (found_of found.now)))) }
-    ensures workers { IfOk result HasWorkers }
-    ensures position { IfOk result HasPosition }
-    ensures package { IfOk result HasPackage }
+    ensures { IfOk result (IsJobOf (Some (codes "index", rows_of (found_of found.now)))) }
 {
     Ok(Job::Index(indexing_of(alloc, found)?))
 }
 
-fn unresolved_job(alloc: Global, found: &ArgMatches<'_>) -> Result<Job, JobFault>
-    ensures values { IfOk result (Holds (Some (codes "unresolved", rows_of (found_of found.now)))) }
-    ensures workers { IfOk result HasWorkers }
-    ensures position { IfOk result HasPosition }
-    ensures package { IfOk result HasPackage }
+fn unresolved_job(alloc: Global, found: &ArgMatches<'_>) -> Result<Job, Refusal>
+    ensures { IfOk result (IsJobOf (Some (codes "unresolved", rows_of (found_of found.now)))) }
 {
     let folder = value_of(alloc, found, "DIR")?;
     Ok(Job::Unresolved { folder })
 }
 
 /// The job of a command of this name that asks an index, makes one, or tells what means nothing.
-fn index_job_named(alloc: Global, name: &str, found: &ArgMatches<'_>) -> Result<Job, JobFault>
+fn index_job_named(alloc: Global, name: &str, found: &ArgMatches<'_>) -> Result<Job, Refusal>
     requires { NamesNumbers (rows_of (found_of found.now)) }
-    ensures values { IfOk result (Holds (Some (name.now, rows_of (found_of found.now)))) }
-    ensures workers { IfOk result HasWorkers }
-    ensures position { IfOk result HasPosition }
-    ensures package { IfOk result HasPackage }
+    ensures { IfOk result (IsJobOf (Some (name.now, rows_of (found_of found.now)))) }
 {
     if name == "def" {
         return def_job(alloc, found);
@@ -335,16 +364,13 @@ fn index_job_named(alloc: Global, name: &str, found: &ArgMatches<'_>) -> Result<
     if name == "unresolved" {
         return unresolved_job(alloc, found);
     }
-    Err(refused(alloc))
+    Err(Refusal::Missing)
 }
 
 /// The job of a command of this name that draws or tells of crossings, or that is on indexes.
-fn other_job_named(alloc: Global, name: &str, found: &ArgMatches<'_>) -> Result<Job, JobFault>
+fn other_job_named(alloc: Global, name: &str, found: &ArgMatches<'_>) -> Result<Job, Refusal>
     requires { NamesNumbers (rows_of (found_of found.now)) }
-    ensures values { IfOk result (Holds (Some (name.now, rows_of (found_of found.now)))) }
-    ensures workers { IfOk result HasWorkers }
-    ensures position { IfOk result HasPosition }
-    ensures package { IfOk result HasPackage }
+    ensures { IfOk result (IsJobOf (Some (name.now, rows_of (found_of found.now)))) }
 {
     if name == "crossings" {
         return crossings_job(alloc, found);
@@ -359,12 +385,9 @@ fn other_job_named(alloc: Global, name: &str, found: &ArgMatches<'_>) -> Result<
 }
 
 /// The job of the command of this name.
-fn job_named(alloc: Global, name: &str, found: &ArgMatches<'_>) -> Result<Job, JobFault>
+fn job_named(alloc: Global, name: &str, found: &ArgMatches<'_>) -> Result<Job, Refusal>
     requires { NamesNumbers (rows_of (found_of found.now)) }
-    ensures values { IfOk result (Holds (Some (name.now, rows_of (found_of found.now)))) }
-    ensures workers { IfOk result HasWorkers }
-    ensures position { IfOk result HasPosition }
-    ensures package { IfOk result HasPackage }
+    ensures { IfOk result (IsJobOf (Some (name.now, rows_of (found_of found.now)))) }
 {
     if name == "cut" {
         return cut_job(alloc, found);
@@ -381,16 +404,24 @@ fn job_named(alloc: Global, name: &str, found: &ArgMatches<'_>) -> Result<Job, J
     other_job_named(alloc, name, found)
 }
 
-fn job_from(alloc: Global, matches: &ArgMatches<'_>) -> Result<Job, JobFault>
+/// The job of the command that was met, and the values that were found for it.
+fn job_met(alloc: Global, matches: &ArgMatches<'_>) -> Result<Job, Refusal>
     requires { IfSome (subcommand_rows_of matches.now) (λ found. NamesNumbers found.1) }
-    ensures values { IfOk result (Holds (subcommand_rows_of matches.now)) }
-    ensures workers { IfOk result HasWorkers }
-    ensures position { IfOk result HasPosition }
-    ensures package { IfOk result HasPackage }
+    ensures { IfOk result (IsJobOf (subcommand_rows_of matches.now)) }
 {
     match matches.subcommand() {
-        None => Err(refused(alloc)),
+        None => Err(Refusal::Missing),
         Some((name, found)) => job_named(alloc, name, found),
+    }
+}
+
+fn job_from(alloc: Global, matches: &ArgMatches<'_>) -> Result<Job, JobFault>
+    requires { IfSome (subcommand_rows_of matches.now) (λ found. NamesNumbers found.1) }
+    ensures { IfOk result (IsJobOf (subcommand_rows_of matches.now)) }
+{
+    match job_met(alloc, matches) {
+        Ok(job) => Ok(job),
+        Err(refusal) => Err(fault_of(alloc, refusal)),
     }
 }
 

@@ -1,15 +1,4 @@
-use Rattle.std.proofs.Common.{◌∙◌, ap, codes}
-use Rattle.std.proofs.lemmas.Result.{IfOk-weaker}
-use Rattle.clap.specs.Words.{with_rule, App}
-use Rattle.oscip_job.specs.Jobs.{required_rule, with_position}
 use Rattle.oscip_job.proofs.commands.asking.Goals as goal
 
-pub returns-clause-app : goal.returns-clause-app
-returns-clause-app c =
-    let first = c.in_ok-command-2.ensures.app ∙ ap (λ (a : App). with_rule a (required_rule (codes "INDEX"))) c.in_ok-command.ensures.app in
-    let second = c.in_ok-command-3.ensures.app ∙ ap (λ (a : App). with_rule a (required_rule (codes "PATH"))) first in
-    IfOk-weaker c.with_position.result _ _ (λ all h. h ∙ ap with_position second) c.with_position.ensures.app
-
-pub returns-clause-local : goal.returns-clause-local
-returns-clause-local c =
-    IfOk-weaker c.with_position.result _ _ (λ all h. h (c.in_ok-command-3.ensures.local (c.in_ok-command-2.ensures.local c.in_ok-command.ensures.local))) c.with_position.ensures.local
+pub returns : goal.returns
+returns c = c.with_position.ensures _ (c.with_required-command-2.ensures _ (c.with_required-command.ensures _ c.named-command.ensures))

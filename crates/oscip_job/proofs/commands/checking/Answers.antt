@@ -1,14 +1,4 @@
-use Rattle.std.proofs.Common.{◌∙◌, ap, codes}
-use Rattle.std.proofs.lemmas.Result.{IfOk-weaker}
-use Rattle.clap.specs.Words.{with_rule, App}
-use Rattle.oscip_job.specs.Jobs.{required_rule, with_prices}
 use Rattle.oscip_job.proofs.commands.checking.Goals as goal
 
-pub returns-clause-app : goal.returns-clause-app
-returns-clause-app c =
-    let first = c.in_ok-command-2.ensures.app ∙ ap (λ (a : App). with_rule a (required_rule c.args.id.now)) c.in_ok-command.ensures.app in
-    IfOk-weaker c.with_report.result _ _ (λ all h. h ∙ ap (λ (a : App). with_prices (with_rule a (required_rule (codes "REPORT")))) first) c.with_report.ensures.app
-
-pub returns-clause-local : goal.returns-clause-local
-returns-clause-local c =
-    IfOk-weaker c.with_report.result _ _ (λ all h. h (c.in_ok-command-2.ensures.local c.in_ok-command.ensures.local)) c.with_report.ensures.local
+pub returns : goal.returns
+returns c = c.with_report.ensures _ (c.with_required-command.ensures _ c.named-command.ensures)

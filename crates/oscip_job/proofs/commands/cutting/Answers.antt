@@ -1,15 +1,4 @@
-use Rattle.std.proofs.Common.{◌∙◌, ap}
-use Rattle.std.proofs.lemmas.Result.{IfOk-weaker}
-use Rattle.clap.specs.Words.{with_rule, App}
-use Rattle.oscip_job.specs.Jobs.{required_rule, with_modules, with_prices, with_workers}
 use Rattle.oscip_job.proofs.commands.cutting.Goals as goal
 
-pub returns-clause-app : goal.returns-clause-app
-returns-clause-app c =
-    let first = c.in_ok-command-2.ensures.app ∙ ap (λ (a : App). with_rule a (required_rule c.args.id.now)) c.in_ok-command.ensures.app in
-    let second = c.in_ok-command-3.ensures.app ∙ ap with_modules first in
-    IfOk-weaker c.with_cut_options.result _ _ (λ all h. h ∙ ap (λ (a : App). with_prices (with_workers a)) second) c.with_cut_options.ensures.app
-
-pub returns-clause-local : goal.returns-clause-local
-returns-clause-local c =
-    IfOk-weaker c.with_cut_options.result _ _ (λ all h. h (c.in_ok-command-3.ensures.local (c.in_ok-command-2.ensures.local c.in_ok-command.ensures.local))) c.with_cut_options.ensures.local
+pub returns : goal.returns
+returns c = c.with_cut_options.ensures _ (c.with_modules-command.ensures _ (c.with_required-command.ensures _ c.named-command.ensures))

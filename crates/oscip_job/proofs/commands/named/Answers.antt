@@ -5,12 +5,8 @@ use Rattle.clap.specs.declared.Command.{Command}
 use Rattle.clap.specs.declared.Command.TheViews.{out-Command as fields_of}
 use Rattle.oscip_job.proofs.commands.named.Goals as goal
 
-pub returns-clause-app : goal.returns-clause-app
-returns-clause-app c =
-    let all : app_of c.after_help-command.result ≡ new_app c.args.name.now = search rules in
-    IfOk-weaker c.boxed.result _ _ (λ it h. ap app_of h ∙ all) c.boxed.ensures
-
-pub returns-clause-local : goal.returns-clause-local
-returns-clause-local c =
+pub returns : goal.returns
+returns c =
+    let words : app_of c.after_help-command.result ≡ new_app c.args.name.now = search rules in
     let local : (fields_of c.after_help-command.result).has_globals ≡ false = search rules in
-    IfOk-weaker c.boxed.result _ _ (λ it h. ap (λ (k : Command). (fields_of k).has_globals) h ∙ local) c.boxed.ensures
+    IfOk-weaker c.boxed.result _ _ (λ it h. (ap app_of h ∙ words, ap (λ (k : Command). (fields_of k).has_globals) h ∙ local)) c.boxed.ensures

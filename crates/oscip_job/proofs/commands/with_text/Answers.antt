@@ -1,17 +1,14 @@
-use Rattle.std.proofs.Common.{◌≡◌, ◌∙◌, ap, false, rules}
-use Rattle.std.proofs.lemmas.Result.{IfOk-weaker}
+use Rattle.std.proofs.Common.{◌≡◌, rules, subst}
+use Rattle.std.specs.Prelude.{IfOk}
 use Rattle.clap.specs.Walk.{Rule}
-use Rattle.clap.specs.Words.{app_of, rule_of, with_rule}
+use Rattle.clap.specs.Words.{rule_of, with_rule}
 use Rattle.oscip_job.specs.Jobs.{text_rule}
+use Rattle.oscip_job.specs.Making.{Reads}
+use Rattle.oscip_job.proofs.Subcommands.{of_made}
 use Rattle.oscip_job.proofs.commands.with_text.Goals as goal
 
-pub returns-clause-app : goal.returns-clause-app
-returns-clause-app c =
-    let local : c.help-text.result.global ≡ false = search rules in
+pub returns : goal.returns
+returns c app reads =
     let same : rule_of c.help-text.result ≡ text_rule c.args.id.now = search rules in
-    IfOk-weaker c.with_arg.result _ _ (λ all h. h ∙ ap (λ (r : Rule). with_rule (app_of c.args.command.value) r) same) (c.with_arg.ensures.app local)
-
-pub returns-clause-local : goal.returns-clause-local
-returns-clause-local c =
-    let local : c.help-text.result.global ≡ false = search rules in
-    c.with_arg.ensures.local local
+    let before = of_made c.args.command c.in_ok-command.command (Reads app) c.in_ok-command.was reads in
+    subst (λ (r : Rule). IfOk c.with_arg.result (λ k. Reads (with_rule app r) k.value)) same (c.with_arg.ensures app before)

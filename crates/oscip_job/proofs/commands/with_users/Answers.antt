@@ -1,5 +1,4 @@
-use Rattle.std.proofs.lemmas.Result.{IfOk-weaker}
 use Rattle.oscip_job.proofs.commands.with_users.Goals as goal
 
-pub returns-clause-local : goal.returns-clause-local
-returns-clause-local c = IfOk-weaker c.with_required-2.result _ _ (λ r h e. h (c.in_ok-command.ensures.local e)) c.with_required-2.ensures.local
+pub returns : goal.returns
+returns c app reads = c.with_required.ensures _ (c.with_required-command.ensures app reads)

@@ -1,5 +1,6 @@
 use Rattle.std.proofs.Common.{◌∙◌, ap, List, Option, subst}
 use Rattle.std.specs.Prelude.{IfOk}
+use Rattle.std.proofs.lemmas.Result.{IfOk-weaker}
 use Rattle.clap.specs.Words.{app_of, Row, Text}
 use Rattle.oscip_job.specs.Jobs.{Holds}
 use Rattle.oscip_job.proofs.Numbers.{parsed_names, parsed_rows}
@@ -10,4 +11,14 @@ job_from-requires c = parsed_names (app_of c.into_inner.result) _ c.in-Ok.matche
 
 pub returns-in-Ok-clause-values : goal.returns-in-Ok-clause-values
 returns-in-Ok-clause-values c =
-    subst (λ (o : Option (Text × List Row)). IfOk c.job_from.result (Holds o)) (parsed_rows (app_of c.into_inner.result) _ c.in-Ok.matches (ap app_of c.into_inner.ensures ∙ c.in_ok-command.ensures) c.in-Ok.ensures.matches) c.job_from.ensures.values
+    subst (λ (o : Option (Text × List Row)). IfOk c.job_from.result (Holds o)) (parsed_rows (app_of c.into_inner.result) _ c.in-Ok.matches (ap app_of c.into_inner.ensures ∙ c.in_ok-command.ensures) c.in-Ok.ensures.matches)
+    (IfOk-weaker c.job_from.result _ _ (λ job is. is.0) c.job_from.ensures)
+
+pub returns-in-Ok-clause-workers : goal.returns-in-Ok-clause-workers
+returns-in-Ok-clause-workers c = IfOk-weaker c.job_from.result _ _ (λ job is. is.1) c.job_from.ensures
+
+pub returns-in-Ok-clause-position : goal.returns-in-Ok-clause-position
+returns-in-Ok-clause-position c = IfOk-weaker c.job_from.result _ _ (λ job is. is.2) c.job_from.ensures
+
+pub returns-in-Ok-clause-package : goal.returns-in-Ok-clause-package
+returns-in-Ok-clause-package c = IfOk-weaker c.job_from.result _ _ (λ job is. is.3) c.job_from.ensures
