@@ -6,7 +6,11 @@ ghost use Rattle.ob_imports.specs.Outcomes.{AreKept};
 ghost use Rattle.ob_parse.specs.Parsed.{IsTheTree};
 ghost use Rattle.ob_scan.specs.Position.{line_starts};
 ghost use Rattle.ob_scan.specs.Spelling.{AreInText, IsOutcome, Reads};
-ghost use Rattle.ob_scope.specs.Texts.{token_at};
+ghost use Rattle.ob_scan.specs.declared.token.Token.{Token};
+ghost use Rattle.ob_scope.specs.Crossings.{AreCrossings};
+ghost use Rattle.ob_scope.specs.Scoped.{AreScopes};
+ghost use Rattle.ob_scope.specs.Texts.{text_at, token_at};
+ghost use Rattle.ob_scope.specs.declared.across.Crossing.{Crossing};
 ghost use Rattle.ob_tree.specs.declared.declaration.Module.{Module};
 ghost use Rattle.oscip_tree.specs.Crossings.{AreSpans, ArePlaces, IsCrossed, IsCrossedIn, IsSpan};
 ghost use Rattle.oscip_tree.specs.TreeReading.{AreScopesOf, IsTreeOf};
@@ -15,6 +19,7 @@ ghost use Rattle.oscip_tree.specs.Trees.{files_of, names, IsAccepted, IsFileFaul
 use crate::front_end::{scan_fault, table_after};
 use crate::tree_reading::{Tree, read_tree};
 use crate::{Source, TreeFault};
+use ob_decls::Table;
 use ob_imports::Graph;
 use ob_scan::laws::tokens_in_text;
 use ob_scan::{Lines, Position, Token, Tokens, lines, scan};
@@ -88,6 +93,24 @@ fn spans_of(
     Ok(spans)
 }
 
+/// The places of the crossings to a module of this name, by the table and the scopes of a module with these tokens.
+fn spans_by(
+    alloc: Global,
+    bytes: &[u8],
+    tokens: &[Token],
+    table: &Table,
+    scopes: &Scopes,
+    imported: &str,
+) -> Result<Vec<Span>, AllocError>
+    requires { AreInText bytes.now tokens.now }
+    ensures { IfOk result (λ v. (found : List Crossing)
+        × ((bs : List ℕ) (ts : List Token) → AreScopes bs ts (rows_in table.now) scopes.now → AreCrossings (text_at bs ts) (rows_in table.now) imported.now (rows_in table.now).uses found)
+        × AreSpans bytes.now tokens.now found v.items) }
+{
+    let found = crossings(alloc, table, scopes, imported)?;
+    spans_of(alloc, bytes, tokens, found.as_slice())
+}
+
 /// The places in a file, which has these tokens, where its module uses that of this name.
 fn places_after(
     alloc: Global,
@@ -102,9 +125,8 @@ fn places_after(
 {
     tokens_in_text();
     let table = table_after(alloc, source, tokens)?;
-    let found = crossings(alloc, &table, scopes, imported)?;
-    let (bytes, tokens) = (source.bytes.as_slice(), tokens.as_slice());
-    Ok(spans_of(alloc, bytes, tokens, found.as_slice())?)
+    let bytes = source.bytes.as_slice();
+    Ok(spans_by(alloc, bytes, tokens.as_slice(), &table, scopes, imported)?)
 }
 
 /// The places in a file where its module uses that of this name.

@@ -1,8 +1,9 @@
 //! The scopes of one file of a tree, or its fault.
-ghost use Rattle.std.specs.Prelude.{◌≡◌, IfErr, IfOk};
+ghost use Rattle.std.specs.Prelude.{◌≡◌, ℕ, IfErr, IfOk, List, Ok};
 ghost use Rattle.ob_decls.specs.Declaring.{rows_in, rows_of};
 ghost use Rattle.ob_parse.specs.Parsed.{IsFaultOf, IsTheTree};
 ghost use Rattle.ob_scan.specs.Spelling.{IsOutcome, Reads};
+ghost use Rattle.ob_scan.specs.declared.token.Token.{Token};
 ghost use Rattle.ob_tree.specs.declared.declaration.Module.{Module};
 ghost use Rattle.oscip_tree.specs.Trees.{parse_offset, scan_offset, scope_offset, HasParseFault, HasScanFault, HasScopeFault, IsFileFault};
 ghost use Rattle.oscip_tree.specs.TreeReading.{HasScopes};
@@ -96,12 +97,15 @@ pub(crate) fn scope_fault(alloc: Global, source: &Source, fault: ScopeFault) -> 
     }
 }
 
-/// The table of a module, or the want of memory.
-fn table_in(alloc: Global, module: &Module) -> Result<Table, ParseFault>
-    ensures table { IfOk result (λ t. rows_in t ≡ rows_of «module».now) }
-    ensures fault { IfErr result (λ fault. fault ≡ ParseFault.Memory) }
+/// The table of what was parsed, or why there is none.
+fn table_in(alloc: Global, parsed: &Result<Module, ParseFault>) -> Result<Table, ParseFault>
+    ensures table { IfOk result (λ t. (m : Module) × (parsed.now ≡ Ok m) × (rows_in t ≡ rows_of m)) }
+    ensures fault { (bytes : List ℕ) (tokens : List Token) → IfErr parsed.now (IsFaultOf bytes tokens) → IfErr result (IsFaultOf bytes tokens) }
 {
-    Ok(table_of(alloc, module)?)
+    match parsed {
+        Ok(module) => Ok(table_of(alloc, module)?),
+        Err(fault) => Err(*fault),
+    }
 }
 
 /// The table of the module that these tokens are of, or the fault of the parser.
@@ -110,10 +114,8 @@ fn parsed_table(alloc: Global, bytes: &[u8], tokens: &Tokens) -> Result<Table, P
     ensures table { IfOk result (λ t. (m : Module) × IsTheTree bytes.now tokens.now m × (rows_in t ≡ rows_of m)) }
     ensures fault { IfErr result (IsFaultOf bytes.now tokens.now) }
 {
-    match parse(alloc, bytes, tokens) {
-        Ok(module) => table_in(alloc, &module),
-        Err(fault) => Err(fault),
-    }
+    let parsed = parse(alloc, bytes, tokens);
+    table_in(alloc, &parsed)
 }
 
 /// The table of a file's module with these tokens.

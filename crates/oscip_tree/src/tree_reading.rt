@@ -2,6 +2,7 @@
 ghost use Rattle.std.specs.Prelude.{◌≡◌, IfErr, IfOk, List, length, map};
 ghost use Rattle.cut_net.specs.Network.{texts};
 ghost use Rattle.ob_imports.specs.Files.{file_of as parsed_file, files_of as parsed_files};
+ghost use Rattle.oscip_tree.specs.declared.source.Source.{Source};
 ghost use Rattle.oscip_tree.specs.Trees.{IsAccepted, IsNetOfTree, IsTreeFault, ModuleFile, file_of, files_of};
 ghost use Rattle.oscip_tree.specs.TreeReading.{AreRead, AreScopesOf, IsTreeOf};
 
@@ -72,14 +73,25 @@ pub(crate) fn read_tree<R: Threads + Sync>(
     alloc: Global,
     sources: &[Source],
     workers: u32,
-) -> Result<Tree, TreeFault>
-    ensures tree { IfOk result (IsTreeOf sources.now) }
+) -> Result<Box<Tree>, TreeFault>
+    ensures tree { IfOk result (λ tree. IsTreeOf sources.now tree.value) }
     ensures fault { IfErr result (IsTreeFault sources.now) }
 {
     let scopes: Vec<Scopes> = read_files(rt, alloc, sources, workers)?;
     let parsed = all_parsed(alloc, sources, scopes.as_slice())?;
     let graph = graph(alloc, parsed.as_slice())?;
-    Ok(Tree { graph, scopes })
+    Ok(Box::new(alloc, Tree { graph, scopes })?)
+}
+
+/// The network of the imports of a tree that is read.
+fn net_in(alloc: Global, tree: &Tree) -> Result<Net, AllocError>
+    requires { (sources : List Source) × IsTreeOf sources tree.now }
+    ensures { (sources : List Source) → IsTreeOf sources tree.now → IfOk result (IsNetOfTree sources) }
+{
+    tree.graph.keeps();
+    weight_of_aliases();
+    one_weight();
+    net_of_graph(alloc, &tree.graph, tree.scopes.as_slice())
 }
 
 /// The network of the imports of a tree, each with how many qualified names cross it. The files are read in at most as many
@@ -94,8 +106,5 @@ pub fn net_of<R: Threads + Sync>(
     ensures fault { IfErr result (IsTreeFault sources.now) }
 {
     let tree = read_tree(rt, alloc, sources, workers)?;
-    tree.graph.keeps();
-    weight_of_aliases();
-    one_weight();
-    Ok(net_of_graph(alloc, &tree.graph, tree.scopes.as_slice())?)
+    Ok(net_in(alloc, &tree)?)
 }

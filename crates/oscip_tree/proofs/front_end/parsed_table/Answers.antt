@@ -1,10 +1,15 @@
-use Rattle.std.proofs.Common.{sym, subst}
-use Rattle.std.proofs.lemmas.Result.{IfErr-weaker, IfOk-weaker}
-use Rattle.ob_parse.specs.Parsed.{IsFaultOf}
+use Rattle.std.proofs.Common.{subst, Result}
+use Rattle.std.specs.Prelude.{IfOk}
+use Rattle.std.proofs.lemmas.Result.{IfOk-weaker}
+use Rattle.ob_parse.specs.Parsed.{IsTheTree}
+use Rattle.ob_parse.specs.declared.fault.ParseFault.{ParseFault}
+use Rattle.ob_tree.specs.declared.declaration.Module.{Module}
 use Rattle.oscip_tree.proofs.front_end.parsed_table.Goals as goal
 
-pub returns-in-Ok-clause-table : goal.returns-in-Ok-clause-table
-returns-in-Ok-clause-table c = IfOk-weaker c.table_in.result _ _ (λ t same. (c.in-Ok.«module», c.in-Ok.ensures.tree, same)) c.table_in.ensures.table
+pub returns-clause-table : goal.returns-clause-table
+returns-clause-table c =
+    IfOk-weaker c.table_in.result _ _ (λ t of. let (m, was, same) = of in
+    (m, subst (λ (r : Result Module ParseFault). IfOk r (IsTheTree c.args.bytes.now c.args.tokens.now)) was c.parse-parsed.ensures.tree, same)) c.table_in.ensures.table
 
-pub returns-in-Ok-clause-fault : goal.returns-in-Ok-clause-fault
-returns-in-Ok-clause-fault c = IfErr-weaker c.table_in.result _ _ (λ fault is. subst (IsFaultOf c.args.bytes.now c.args.tokens.now) (sym is) tt) c.table_in.ensures.fault
+pub returns-clause-fault : goal.returns-clause-fault
+returns-clause-fault c = c.table_in.ensures.fault c.args.bytes.now c.args.tokens.now c.parse-parsed.ensures.fault

@@ -3,7 +3,7 @@ use Rattle.digraph.specs.Chains.{IsAcyclic}
 use Rattle.ob_imports.specs.Files.{files_of as parsed_files, File, Imports}
 use Rattle.ob_imports.specs.Outcomes.{AreKept}
 use Rattle.oscip_tree.specs.Trees.{files_of}
-use Rattle.oscip_tree.specs.TreeReading.{AreRead}
+use Rattle.oscip_tree.specs.TreeReading.{AreRead, IsTreeOf}
 use Rattle.oscip_tree.proofs.tree_reading.read_tree.Goals as goal
 
 pub returns-clause-tree : goal.returns-clause-tree
@@ -12,9 +12,9 @@ returns-clause-tree g c =
     let told = c.in_ok-parsed.ensures files (subst (AreRead c.args.sources.now files) (sym c.as_slice.ensures.value) read) in
     let whole : parsed_files c.as_slice-2.result.now ≡ files_of files = ap parsed_files c.as_slice-2.ensures.value ∙ told in
     let (kept, acyclic) = c.in_ok-graph.ensures.exact in
-    record {
+    subst (IsTreeOf c.args.sources.now) (sym c.in_ok-new.ensures.ok) (record {
       files = files;
       read = read;
       kept = subst (λ (fs : List File). AreKept fs c.in_ok-graph.graph) whole kept;
       acyclic = subst (λ (fs : List File). IsAcyclic (Imports fs)) whole acyclic;
-    }
+    })
