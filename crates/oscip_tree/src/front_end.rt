@@ -115,7 +115,10 @@ fn parsed_table(alloc: Global, bytes: &[u8], tokens: &Tokens) -> Result<Table, P
     ensures fault { IfErr result (IsFaultOf bytes.now tokens.now) }
 {
     let parsed = parse(alloc, bytes, tokens);
-    table_in(alloc, &parsed)
+    let table = table_in(alloc, &parsed);
+    // One call lets the tree go, so that its parts are no steps of this function.
+    drop(parsed);
+    table
 }
 
 /// The table of a file's module with these tokens.

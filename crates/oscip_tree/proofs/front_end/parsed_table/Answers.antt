@@ -8,8 +8,8 @@ use Rattle.oscip_tree.proofs.front_end.parsed_table.Goals as goal
 
 pub returns-clause-table : goal.returns-clause-table
 returns-clause-table c =
-    IfOk-weaker c.table_in.result _ _ (λ t of. let (m, was, same) = of in
-    (m, subst (λ (r : Result Module ParseFault). IfOk r (IsTheTree c.args.bytes.now c.args.tokens.now)) was c.parse-parsed.ensures.tree, same)) c.table_in.ensures.table
+    IfOk-weaker c.table_in-table.result _ _ (λ t of. let (m, was, same) = of in
+    (m, subst (λ (r : Result Module ParseFault). IfOk r (IsTheTree c.args.bytes.now c.args.tokens.now)) was c.parse-parsed.ensures.tree, same)) c.table_in-table.ensures.table
 
 pub returns-clause-fault : goal.returns-clause-fault
-returns-clause-fault c = c.table_in.ensures.fault c.args.bytes.now c.args.tokens.now c.parse-parsed.ensures.fault
+returns-clause-fault c = c.table_in-table.ensures.fault c.args.bytes.now c.args.tokens.now c.parse-parsed.ensures.fault
