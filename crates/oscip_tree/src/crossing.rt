@@ -126,7 +126,9 @@ fn places_after(
     tokens_in_text();
     let table = table_after(alloc, source, tokens)?;
     let bytes = source.bytes.as_slice();
-    Ok(spans_by(alloc, bytes, tokens.as_slice(), &table, scopes, imported)?)
+    let spans = spans_by(alloc, bytes, tokens.as_slice(), &table, scopes, imported);
+    drop(table);
+    Ok(spans?)
 }
 
 /// The places in a file where its module uses that of this name.

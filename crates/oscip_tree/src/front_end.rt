@@ -163,7 +163,9 @@ fn scopes_after(alloc: Global, source: &Source, tokens: &Tokens) -> Result<Scope
     ensures fault { IfErr result (IsFileFault source.now) }
 {
     let table = table_after(alloc, source, tokens)?;
-    scopes_in(alloc, source, tokens, &table)
+    let scopes = scopes_in(alloc, source, tokens, &table);
+    drop(table);
+    scopes
 }
 
 impl OfFile for Scopes {
