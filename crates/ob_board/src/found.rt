@@ -91,8 +91,9 @@ fn unresolved_by(alloc: Global, types: &Types<'_>) -> Result<Vec<u32>, AllocErro
     ensures { IfOk result (λ numbers. (refs : List Reference) × (numbers.items ≡ unresolved refs) × AreReferences types.now refs) }
 {
     let refs = references(alloc, types)?;
-    let numbers = refs.unresolved()?;
-    Ok(numbers)
+    let numbers = refs.unresolved();
+    drop(refs);
+    numbers
 }
 
 /// The same, by what its parts and the interfaces of what it reaches say.
@@ -114,7 +115,9 @@ fn numbers_of(
         &parts.scopes,
         reached,
     )?;
-    unresolved_by(alloc, &types)
+    let numbers = unresolved_by(alloc, &types);
+    drop(types);
+    numbers
 }
 
 /// What is found of a module by its parts and the interfaces of what it reaches.

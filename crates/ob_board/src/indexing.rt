@@ -85,8 +85,8 @@ fn entries_in<F: NamedIndex + Send + Sync, G: BoardGate + Sync, R: Threads + Wai
     requires right { is_wrong_part F.package_name ≡ false }
     ensures { IfOk result (λ entries. AreEntriesOf F.files F.package_name (map plain_entry entries.items)) }
 {
-    let graph = board_graph(alloc, &tree.graph)?;
     let by_name = names_ascend(alloc, tree.modules.as_slice())?;
+    let graph = board_graph(alloc, &tree.graph)?;
     let work = Making::<F>::new(
         alloc,
         sources,
@@ -95,9 +95,9 @@ fn entries_in<F: NamedIndex + Send + Sync, G: BoardGate + Sync, R: Threads + Wai
         options.package.as_str(),
         by_name,
     );
-    let all = board_workers::entries(rt, alloc, &graph, workers, &work, gate)?;
-    let entries = plain(alloc, all)?;
-    Ok(entries)
+    let all = board_workers::entries(rt, alloc, &graph, workers, &work, gate);
+    drop(graph);
+    plain(alloc, all?)
 }
 
 /// The entries of the modules of a tree, in the order of the files, which are read by at most `workers` threads. They are made
@@ -118,8 +118,9 @@ pub fn entries<G: BoardGate + Sync, R: Threads + Wait + Sync>(
     ensures fault { IfErr result (IsTreeFault sources.now) }
 {
     let tree = tree_parts(rt, alloc, sources, workers)?;
-    let entries = entries_in::<Brand, G, R>(rt, alloc, sources, &tree, options, workers, gate)?;
-    Ok(entries)
+    let entries = entries_in::<Brand, G, R>(rt, alloc, sources, &tree, options, workers, gate);
+    drop(tree);
+    Ok(entries?)
 }
 
 /// What an index says of itself.

@@ -39,9 +39,9 @@ fn listed<F: NamedFiles>(
 {
     let graph = board_graph(alloc, &tree.graph)?;
     let work = Finding::<F>::new(alloc, sources, tree.modules.as_slice(), &tree.graph);
-    let all = entries_alone(alloc, &graph, &work)?;
-    let rows = joined(alloc, all)?;
-    Ok(rows)
+    let all = entries_alone(alloc, &graph, &work);
+    drop(graph);
+    joined(alloc, all?)
 }
 
 /// The identifiers of a tree that stand for nothing and aren't predeclared, in the order of the files, and in each by start;
@@ -59,6 +59,7 @@ pub fn unresolved_in_tree<R: Threads + Sync>(
     ensures fault { IfErr result (IsTreeFault sources.now) }
 {
     let tree = tree_parts(rt, alloc, sources, workers)?;
-    let rows = listed::<Brand>(alloc, sources, &tree)?;
-    Ok(rows)
+    let rows = listed::<Brand>(alloc, sources, &tree);
+    drop(tree);
+    Ok(rows?)
 }

@@ -86,5 +86,7 @@ pub(crate) fn write_module(
         reached,
         by_name,
     )?;
-    written_by(alloc, source.path.as_str(), &types, package_name)
+    let written = written_by(alloc, source.path.as_str(), &types, package_name);
+    drop(types);
+    written
 }

@@ -1,4 +1,5 @@
 use Rattle.std.proofs.Common.{ℕ, List, map, sym, subst}
+use Rattle.std.proofs.lemmas.Result.{IfOk-weaker}
 use Rattle.tree_board.specs.Boards.{modules_of}
 use Rattle.tree_board.specs.Reached.{SeenFile}
 use Rattle.tree_board.specs.Seen.{all_seen}
@@ -14,9 +15,10 @@ returns g c =
     let files = g.F.NamedFiles.files in
     let sources = c.args.sources.now in
     let tree = c.args.tree.now in
-    let all = c.in_ok-all.all.items in
+    let all = c.in_ok-all.field-0.items in
     let here = subst (λ (m : Modules). AreEntries (λ (x : List ℕ) (f : PlainFound). IsFoundOf files x f) m all) c.in_ok-graph.ensures.graph c.in_ok-all.ensures in
     let are = subst (λ (fs : List SeenFile). AreEntries (λ (x : List ℕ) (f : PlainFound). IsFoundOf fs x f) (modules_of tree.graph) all) c.requires.files here in
     let of = found_all sources tree.modules.items tree.graph c.requires.seen all are in
-    subst (λ (fs : List SeenFile). IsUnresolvedOf fs (map plain_unresolved c.in_ok-rows.rows.items)) (sym c.requires.files)
-    (subst (λ (rows : List PlainUnresolved). IsUnresolvedOf (all_seen sources tree.modules.items) rows) (sym c.in_ok-rows.ensures) of)
+    IfOk-weaker c.joined.result _ _
+    (λ rows same. subst (λ (fs : List SeenFile). IsUnresolvedOf fs (map plain_unresolved rows.items)) (sym c.requires.files)
+    (subst (λ (all : List PlainUnresolved). IsUnresolvedOf (all_seen sources tree.modules.items) all) (sym same) of)) c.joined.ensures

@@ -4,8 +4,8 @@ use Rattle.tree_board.proofs.SeenFiles.{parts_seen, seen_are}
 use Rattle.ob_board.specs.Unresolved.{plain_unresolved, IsUnresolvedOf}
 use Rattle.ob_board.proofs.listing.unresolved_in_tree.Goals as goal
 
-pub listed-requires-clause-seen : goal.listed-requires-clause-seen
-listed-requires-clause-seen g c =
+pub listed-rows-requires-clause-seen : goal.listed-rows-requires-clause-seen
+listed-rows-requires-clause-seen g c =
     let (files, of) = c.in_ok-tree.ensures.parts in
     parts_seen c.args.sources.now files c.in_ok-tree.tree.modules.items of.all c.in_ok-tree.tree.graph of.kept
 
@@ -16,5 +16,5 @@ returns-clause-exact g c =
     record {
       files = files;
       is_tree = record { accepted = of.all.accepted; graph = tree.graph; kept = of.kept; acyclic = of.acyclic };
-      are_rows = subst (λ (fs : List SeenFile). IsUnresolvedOf fs (map plain_unresolved c.in_ok-rows.rows.items)) (seen_are c.args.sources.now files tree.modules.items of.all) c.in_ok-rows.ensures;
+      are_rows = subst (λ (fs : List SeenFile). IsUnresolvedOf fs (map plain_unresolved c.in_ok-rows.field-0.items)) (seen_are c.args.sources.now files tree.modules.items of.all) c.in_ok-rows.ensures;
     }
