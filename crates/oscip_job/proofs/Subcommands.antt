@@ -1,7 +1,5 @@
 -- A program with its commands.
-use Rattle.std.proofs.Common.{◌≡◌, ◌∙◌, ap, ap₂, false, subst, Box, Global, Result, Ok}
-use Rattle.std.specs.Prelude.{IfOk}
-use Rattle.std.specs.declared.alloc.AllocError.{AllocError}
+use Rattle.std.proofs.Common.{◌≡◌, ◌∙◌, ap, ap₂, false}
 use Rattle.clap.specs.Words.{App, AddsSubcommand, app_of, with_subcommand}
 use Rattle.clap.specs.declared.Command.{Command}
 use Rattle.clap.specs.declared.Command.TheViews.{out-Command as fields_of}
@@ -10,7 +8,3 @@ pub with_command : (program command all : Command) (first second : App) → Adds
     → app_of command ≡ second → app_of all ≡ with_subcommand first second.top
 with_command program command all first second adds local is_first is_second =
     adds.shape local ∙ ap₂ (λ (a : App) s. with_subcommand a s) is_first (ap (λ (a : App). a.top) is_second)
-
--- what holds of a command that is made
-pub of_made : (made : Result (Box Command Global) AllocError) (command : Box Command Global) (Holds : Command → Type 0) → made ≡ Ok command → IfOk made (λ c. Holds c.value) → Holds command.value
-of_made made command Holds was holds = subst (λ (m : Result (Box Command Global) AllocError). IfOk m (λ c. Holds c.value)) was holds
