@@ -7,6 +7,7 @@ pub mod Naming
 pub mod Numbered
 pub mod OneMember
 pub mod OnePath
+pub mod OwnersBefore
 pub mod OneSymbol
 pub mod SomeSymbol
 pub mod SomeTargets

@@ -20,10 +20,11 @@ use Rattle.ob_decls.specs.Parts.{Rows}
 use Rattle.ob_decls.specs.declared.rows.Import.{Import}
 use Rattle.ob_scope.proofs.Elements.{slice_there, some_one}
 use Rattle.ob_types.specs.World.{text}
-use Rattle.scip_symbol.specs.SymbolTexts.{plain_descriptor_text}
+use Rattle.ob_interface.specs.Interfaces.{ModuleInterface}
+use Rattle.scip_symbol.specs.SymbolTexts.{plain_descriptor_text, PlainDescriptor}
 use Rattle.scip_symbol.specs.declared.kind.DescriptorKind.TheVariants.{Term}
 use Rattle.ob_emit.specs.Made.{front_text, named_symbol, path_text}
-use Rattle.ob_emit.specs.Symbols.{declared_symbol, descriptor, scheme, is_local, module_path, module_symbol, package_of}
+use Rattle.ob_emit.specs.Symbols.{declared_symbol, descriptor, global, imported_symbol, scheme, is_local, module_path, module_symbol, package_of, path, path_there, steps_there}
 use Rattle.ob_emit.proofs.Paths.{text_more}
 use Rattle.scip_symbol.specs.SymbolTexts.{Global, plain_text}
 
@@ -130,3 +131,22 @@ external_text_is w item name i front mid out e f is more =
     ∙ (append_assoc (front_text []) (path_text m) (plain_descriptor_text d) ∙ ap (λ (x : List ℕ). front_text [] ++ x) (sym (text_more m d)))) in
     ap Some whole
     ∙ sym (ap (λ (o : Option Import). option_map plain_text (option_map (λ (j : Import). Global scheme [] [] [] (module_path (text w j.imported) ++ d ∷ [])) o)) e)
+
+-- ---- the texts of what other modules declare
+
+told : (p : List ℕ) (o : Option (List PlainDescriptor)) → option_map (λ (ds : List PlainDescriptor). front_text p ++ path_text ds) o ≡ option_map plain_text (option_map (global p) o)
+told p None = refl
+told p (Some ds) = refl
+
+abbrev symbol_there : List ℕ → ℕ → Option ModuleInterface → Option (List ℕ)
+symbol_there p d o = option_map plain_text (option_and_then (λ (m : ModuleInterface). option_map (global p) (path_there m d)) o)
+
+pub imported_none : (w : World) (p : List ℕ) (i d : ℕ) → slice_get w.reached i ≡ None → None ≡ option_map plain_text (imported_symbol w p i d)
+imported_none w p i d e = sym (ap (symbol_there p d) e)
+
+pub imported_text_is : (w : World) (p : List ℕ) (i d : ℕ) (m : ModuleInterface) (name front : List ℕ) → slice_get w.reached i ≡ Some m → name ≡ m.name → front ≡ front_text p
+    → option_map (λ (ds : List PlainDescriptor). front ++ path_text ds) (path name (steps_there m) d) ≡ option_map plain_text (imported_symbol w p i d)
+imported_text_is w p i d m name front e n f =
+    ap (λ (x : List ℕ). option_map (λ (ds : List PlainDescriptor). front ++ path_text ds) (path x (steps_there m) d)) n
+    ∙ (ap (λ (x : List ℕ). option_map (λ (ds : List PlainDescriptor). x ++ path_text ds) (path_there m d)) f
+    ∙ (told p (path_there m d) ∙ sym (ap (symbol_there p d) e)))

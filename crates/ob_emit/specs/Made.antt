@@ -99,4 +99,4 @@ pub record AreTexts (w : World) (package_name : List ℕ) (t : Texts) : Type 0 w
   pub fronts : AreFronts package_name t.fronts
   pub own : string_bytes t.own ≡ plain_text (global package_name (module_path (text w own_name)))
   pub declared : AreMade w package_name (length w.rows.declared) (map (option_map string_bytes) (t.declared).items)
-  pub outer : AreOuter w package_name t.outer
+  pub outer : AreOuter w package_name (t.outer).value

@@ -4,7 +4,7 @@ use std::alloc::AllocError;
 use thiserror::Error;
 
 /// Why a document can't be made.
-#[derive(Clone, Copy, Debug, PartialEq, Eq, Error)]
+#[derive(Clone, Copy, Debug, Error)]
 pub enum EmitFault {
     /// The package is `.` or begins with a space, which no symbol's text can hold.
     #[error("the package is '.' or begins with a space")]

@@ -1,7 +1,7 @@
 //! The texts of the symbols of what references stand for outside of a module, each made once.
 ghost use Rattle.std.specs.Prelude.{◌≡◌, ℕ, List, IfOk, OnOk, []};
 ghost use Rattle.ob_targets.specs.declared.target.Target.TheVariants.{External};
-ghost use Rattle.ob_types.specs.World.{text};
+ghost use Rattle.ob_types.specs.World.{text, World};
 ghost use Rattle.ob_emit.specs.Made.{front_text, AreExternal, AreFronts, AreImported, AreModules, AreOuter};
 ghost use Rattle.ob_emit.specs.Named.{AreNamed, AreOfNames, IsName};
 
@@ -36,7 +36,7 @@ fn add_imported(
     ensures { (package_name : List ℕ) → front.now ≡ front_text package_name → AreImported types.now package_name texts.old →
         OnOk result (AreImported types.now package_name texts.new) }
 {
-    if texts.get(&key).is_some() {
+    if texts.contains_key(&key) {
         return Ok(());
     }
     let text = imported_text(alloc, types, front, key.0, key.1)?;
@@ -56,7 +56,7 @@ fn add_module(
     ensures { (package_name : List ℕ) → AreFronts package_name fronts.now → AreModules types.now package_name texts.old →
         OnOk result (AreModules types.now package_name texts.new) }
 {
-    if texts.get(&item).is_some() {
+    if texts.contains_key(&item) {
         return Ok(());
     }
     let text = item_text(alloc, types, fronts, item)?;
@@ -76,7 +76,7 @@ fn add_name<'a>(
     requires of_name { IsName key.1.now }
     ensures { outside.now ≡ front_text [] → AreExternal types.now texts.old → OnOk result (AreExternal types.now texts.new) }
 {
-    if texts.get(&key).is_some() {
+    if texts.contains_key(&key) {
         return Ok(());
     }
     let text = external_text(alloc, types, outside, key.0, key.1)?;
@@ -85,6 +85,18 @@ fn add_name<'a>(
 }
 
 impl<'a> Outer<'a> {
+    /// No texts, boxed, so that they are handed on as one pointer.
+    fn new(alloc: Global) -> Result<Box<Outer<'a>>, AllocError>
+        ensures { (w : World) (package_name : List ℕ) → IfOk result (λ texts. AreOuter w package_name texts.value) }
+    {
+        let texts = Outer {
+            imported: IndexMap::new(alloc),
+            modules: IndexMap::new(alloc),
+            names: IndexMap::new(alloc),
+        };
+        Ok(Box::new(alloc, texts)?)
+    }
+
     /// Adds the text of what this stands for, if that is outside of the module.
     fn add(
         &mut self,
@@ -131,16 +143,12 @@ pub(crate) fn outer_texts<'a>(
     types: &Types<'a>,
     fronts: &Fronts,
     refs: &[Reference],
-) -> Result<Outer<'a>, AllocError>
+) -> Result<Box<Outer<'a>>, AllocError>
     requires named { AreNamed types.now }
     requires of_names { AreOfNames types.now refs.now }
-    ensures { (package_name : List ℕ) → AreFronts package_name fronts.now → IfOk result (AreOuter types.now package_name) }
+    ensures { (package_name : List ℕ) → AreFronts package_name fronts.now → IfOk result (λ texts. AreOuter types.now package_name texts.value) }
 {
-    let mut texts = Outer {
-        imported: IndexMap::new(alloc),
-        modules: IndexMap::new(alloc),
-        names: IndexMap::new(alloc),
-    };
+    let mut texts = Outer::new(alloc)?;
     for reference in refs {
         texts.add(alloc, types, fronts, reference.target)?;
     }

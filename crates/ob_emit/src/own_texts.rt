@@ -27,7 +27,7 @@ pub(crate) struct Texts<'a> {
     pub(crate) own: String,
     /// The texts of what the module declares, by place; an import item has none.
     pub(crate) declared: Vec<Option<String>>,
-    pub(crate) outer: Outer<'a>,
+    pub(crate) outer: Box<Outer<'a>>,
 }
 
 /// The text of a local symbol.

@@ -1,6 +1,6 @@
 //! The texts of symbols.
-ghost use Rattle.std.specs.Prelude.{◌≡◌, ℕ, List, IfOk, Some, slice_get};
-ghost use Rattle.std.specs.Option.{option_and_then, option_map};
+ghost use Rattle.std.specs.Prelude.{◌≡◌, ℕ, List, IfOk};
+ghost use Rattle.std.specs.Option.{option_map};
 ghost use Rattle.std.specs.String.{string_bytes};
 ghost use Rattle.scip_symbol.specs.SymbolTexts.{plain_text};
 ghost use Rattle.ob_targets.specs.declared.target.Target.TheVariants.{External};
@@ -28,13 +28,6 @@ fn copied(text: &Option<String>) -> Result<Option<String>, AllocError>
 }
 
 impl Texts<'_> {
-    /// The text of the symbol of the declaration at a place among all.
-    fn text_at(&self, at: usize) -> Option<&String>
-        ensures { option_map (λ text. string_bytes text.now) result ≡ option_and_then (option_map string_bytes) (slice_get self.now.declared.items at) }
-    {
-        self.declared.get(at)?.as_ref()
-    }
-
     /// The text of the symbol of what this token declares.
     fn declared(
         &self,
@@ -48,8 +41,8 @@ impl Texts<'_> {
         let Some(at) = place_of(types.table(), number) else {
             return Ok(None);
         };
-        match self.text_at(at) {
-            Some(text) => Ok(Some(text.clone()?)),
+        match self.declared.get(at) {
+            Some(text) => copied(text),
             None => Ok(None),
         }
     }

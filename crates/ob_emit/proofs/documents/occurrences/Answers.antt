@@ -1,4 +1,5 @@
 -- What stands for a name of an external module is a name, and a row more is the next reference's.
+use Rattle.std.proofs.Common.{ap, map}
 use Rattle.scip_index.specs.Plain.{plain_occurrence}
 use Rattle.ob_emit.specs.Documents.{occurrence}
 use Rattle.ob_emit.proofs.Rows.{external_named, no_row, row_more, rows_done}
@@ -25,3 +26,6 @@ loop-reference-preserved c = λ p made.
 
 pub returns : goal.returns
 returns c = λ p made. rows_done plain_occurrence (occurrence c.args.types.now p) c.args.refs.now c.loop-reference.reference-index c.loop-reference.found.items c.loop-reference-test.false (c.loop-reference.invariant p made)
+
+pub loop-reference-init : goal.loop-reference-init
+loop-reference-init c = λ p made. ap (map plain_occurrence) c.in_ok-found.ensures.items

@@ -1,7 +1,8 @@
 -- What stands for a name of an external module is a name, and a row more is the next reference's.
+use Rattle.std.proofs.Common.{ap, map}
 use Rattle.scip_index.specs.Plain.{plain_symbol}
 use Rattle.ob_emit.specs.Documents.{symbol_row}
-use Rattle.ob_emit.proofs.Rows.{external_named, no_row, row_more}
+use Rattle.ob_emit.proofs.Rows.{external_named, no_row, row_more, rows_done}
 use Rattle.ob_emit.proofs.documents.symbols.Goals as goal
 use Rattle.ob_emit.proofs.documents.symbols.Goals.{in-Some+in_ok-push, in_default}
 
@@ -22,3 +23,9 @@ loop-reference-preserved c = λ p made.
           (no_row plain_symbol (symbol_row w p) c.args.refs.now i _ c.loop-reference.found.items c.loop-reference-test.true (c.loop-reference.invariant p made) c.in_ok-row.field-0
           (c.in_ok-row.ensures p made) w'.in_default.is)
     ]
+
+pub returns : goal.returns
+returns c = λ p made. rows_done plain_symbol (symbol_row c.args.types.now p) c.args.refs.now c.loop-reference.reference-index c.loop-reference.found.items c.loop-reference-test.false (c.loop-reference.invariant p made)
+
+pub loop-reference-init : goal.loop-reference-init
+loop-reference-init c = λ p made. ap (map plain_symbol) c.new-found.ensures.items

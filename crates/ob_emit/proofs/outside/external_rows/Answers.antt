@@ -1,8 +1,9 @@
 -- What stands for a name of an external module is a name, and a row more is the next reference's.
+use Rattle.std.proofs.Common.{ap, map, ◌∙◌}
 use Rattle.ob_targets.specs.declared.target.Reference.{Reference}
 use Rattle.scip_index.specs.Plain.{plain_symbol}
 use Rattle.ob_emit.specs.Externals.{external_row}
-use Rattle.ob_emit.proofs.Rows.{external_named, no_row, row_more}
+use Rattle.ob_emit.proofs.Rows.{external_named, no_row, row_more, rows_done}
 use Rattle.ob_emit.proofs.outside.external_rows.Goals as goal
 use Rattle.ob_emit.proofs.outside.external_rows.Goals.{in-Some+in_ok-push, in_default}
 
@@ -23,3 +24,12 @@ loop-reference-preserved c =
           (no_row plain_symbol (λ (r : Reference). external_row w r.target) c.args.refs.now i _ c.loop-reference.found.items c.loop-reference-test.true c.loop-reference.invariant c.in_ok-row.field-0
           c.in_ok-row.ensures w'.in_default.is)
     ]
+
+pub loop-reference-init : goal.loop-reference-init
+loop-reference-init c = ap (map plain_symbol) c.new-found.ensures.items
+
+pub returns : goal.returns
+returns c = rows_done plain_symbol (λ (r : Reference). external_row c.args.types.now r.target) c.args.refs.now c.loop-reference.reference-index c.loop-reference.found.items c.loop-reference-test.false c.loop-reference.invariant
+
+pub external_row-requires-clause-front : goal.external_row-requires-clause-front
+external_row-requires-clause-front c = c.as_str.ensures.value ∙ c.in_ok-outside.ensures

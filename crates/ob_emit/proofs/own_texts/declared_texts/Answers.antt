@@ -8,7 +8,7 @@ use Rattle.std.proofs.lemmas.Option.{slice_get-get_or}
 use Rattle.ob_decls.specs.declared.rows.Declared.{Declared}
 use Rattle.ob_decls.specs.Parts.{Rows}
 use Rattle.ob_emit.specs.Made.{AreMade}
-use Rattle.ob_emit.proofs.Texting.{before_local, before_other}
+use Rattle.ob_emit.proofs.Texting.{before_local, before_none, before_other}
 use Rattle.ob_emit.proofs.own_texts.declared_texts.Goals as goal
 use Rattle.ob_emit.proofs.own_texts.declared_texts.Goals.{then-is_local, else-is_local}
 
@@ -38,3 +38,6 @@ returns c = λ p f.
     let same : c.declared-declared.result.now ≡ w.rows.declared = c.declared-declared.ensures ∙ ap (λ (r : Rows). r.declared) c.table.ensures in
     let all : c.loop-row.row-index ≡ length w.rows.declared = omega (arith, ap length same, c.loop-row-test.false, c.loop-row.auto.row-index-end) in
     subst (λ (n : ℕ). AreMade w p n (map (option_map string_bytes) c.loop-row.texts.items)) all (c.loop-row.invariant.each p f)
+
+pub loop-row-init : goal.loop-row-init
+loop-row-init c = rw c.new-texts.ensures.items (before_none c.args.types.now c.args.front.now)

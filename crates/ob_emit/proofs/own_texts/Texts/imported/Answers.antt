@@ -3,12 +3,14 @@ use Rattle.std.proofs.Common.{◌≡◌, ℕ, List, Option, String, Global, sym,
 use Rattle.std.specs.Prelude.{IfOk}
 use Rattle.std.specs.Option.{option_map}
 use Rattle.std.specs.String.{string_bytes}
+use Rattle.ob_emit.specs.Made.{AreOuter}
 use Rattle.ob_emit.proofs.own_texts.Texts.imported.Goals as goal
 
 pub returns-in-Some : goal.returns-in-Some
 returns-in-Some c = λ p made.
+    let outer : AreOuter c.args.types.now p c.deref.result.now = subst (AreOuter c.args.types.now p) (sym c.deref.ensures) made.outer in
     subst (λ (t : Option (List ℕ)). IfOk c.copied.result (λ (more : Option (String Global)). option_map string_bytes more ≡ t))
-    (made.outer.imported (c.args.reached, c.args.declaration) c.in-Some.text.now (sym c.in-Some.ensures.value)) c.copied.ensures
+    (outer.imported (c.args.reached, c.args.declaration) c.in-Some.text.now (sym c.in-Some.ensures.value)) c.copied.ensures
 
 pub returns-in-None : goal.returns-in-None
 returns-in-None c = λ p made. c.imported_text.ensures p (c.as_str.ensures.value ∙ made.fronts.tree)
