@@ -12,11 +12,11 @@ use Rattle.std.specs.Str.{bytes_eq}
 use Rattle.std.specs.declared.cmp.Ordering.TheVariants.{Less, Equal}
 use Rattle.std.proofs.lemmas.Bool.{cases_lt}
 use Rattle.std.proofs.lemmas.Cmp.{nat_list_cmp_total}
-use Rattle.std.proofs.lemmas.List.{length-map}
+use Rattle.std.proofs.lemmas.List.{length-map, map_push, take_more}
 use Rattle.std.proofs.lemmas.List.Sorted.{searchable_from_sorted}
 use Rattle.std.proofs.lemmas.Map.Lookups.{exact_bytes}
 use Rattle.std.proofs.lemmas.Map.Text.{is_eq-slice_cmp}
-use Rattle.std.proofs.Common.{◌-◌, Global}
+use Rattle.std.proofs.Common.{◌-◌, ◌++◌, Global, take}
 use Rattle.std.specs.Arc.{arc_value}
 use Rattle.std.specs.declared.sync.Arc.{Arc}
 use Rattle.std.proofs.lemmas.List.{get_or-map}
@@ -127,3 +127,7 @@ no_item {X} f xs i o e is = at (slice_get xs i) (sym is ∙ e ∙ slice_get-map 
     at : (x : Option X) → None ≡ option_map f x → None ≡ option_and_then f x
     at None h = refl
     at (Some x) h = cc
+
+-- one item more
+pub mapped_more : {X Y : Type 0} (f : X → Y) (xs : List X) (i : ℕ) (d : X) (ys : List Y) (y : Y) → i < length xs → ys ≡ map f (take i xs) → y ≡ f (get_or xs i d) → ys ++ y ∷ [] ≡ map f (take (i + 1) xs)
+mapped_more f xs i d ys y l e is = rw (e, is) (sym (ap (map f) (take_more xs i d l) ∙ map_push f (take i xs) (get_or xs i d)))

@@ -1,10 +1,11 @@
 -- The places of modules by their names.
-use Rattle.std.specs.Prelude.{◌≡◌, ◌<◌, ◌^◌, ℕ, List, length, Bool, Option, Some, None, position}
+use Rattle.std.specs.Prelude.{◌≡◌, ◌<◌, ◌^◌, ℕ, List, length, Bool, Box, Option, Some, None, position}
 use Rattle.std.specs.Borrow.{Bor}
 use Rattle.std.specs.List.{AllAdjacentBelow}
 use Rattle.std.specs.Cmp.Lexicographic.{slice_cmp}
 use Rattle.std.specs.Ordering.{nat_cmp}
 use Rattle.std.specs.Str.{bytes_eq}
+use Rattle.std.specs.declared.alloc.Global.{Global}
 use Rattle.std.specs.declared.cmp.Ordering.TheVariants.{Less}
 use Rattle.indexmap.specs.IndexMap.{get, IndexMap}
 use Rattle.ob_interface.specs.Interfaces.{ModuleInterface}
@@ -22,6 +23,6 @@ abbrev pub AreByName : List ModuleInterface → Type 0
 AreByName modules = AllAdjacentBelow (λ (a b : ModuleInterface). slice_cmp nat_cmp a.name b.name ≡ Less) modules (length modules)
 
 -- a table has the places of all, or there is none and the names ascend
-abbrev pub AreHomes : {S : Type 0} → List ModuleInterface → Option (IndexMap (Bor (List ℕ)) ℕ S) → Type 0
+abbrev pub AreHomes : {S : Type 0} → List ModuleInterface → Option (Box (IndexMap (Bor (List ℕ)) ℕ S) Global) → Type 0
 AreHomes modules None = AreByName modules × (length modules < 2 ^ 32)
-AreHomes modules (Some table) = (name : Bor (List ℕ)) → get same_name table name ≡ home_in modules name.now
+AreHomes modules (Some table) = (name : Bor (List ℕ)) → get same_name table.value name ≡ home_in modules name.now

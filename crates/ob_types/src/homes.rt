@@ -1,5 +1,6 @@
 //! The places of modules by their names.
-ghost use Rattle.std.specs.Prelude.{◌≡◌, ℕ, List, IfOk, map};
+ghost use Rattle.std.specs.Prelude.{◌≡◌, ℕ, List, Some, IfOk, OnOk, if◌then◌else◌, map};
+ghost use Rattle.std.specs.Str.{bytes_eq};
 ghost use Rattle.std.specs.Bool.{OnTrue};
 ghost use Rattle.std.specs.Cmp.Lexicographic.{slice_cmp};
 ghost use Rattle.std.specs.Ordering.{nat_cmp};
@@ -21,7 +22,7 @@ use std::sync::Arc;
 pub(crate) struct Homes<'a> {
     reached: &'a [Arc<Interface>],
     /// The places by name, where the names don't ascend.
-    table: Option<IndexMap<&'a [u8], u32>>,
+    table: Option<Box<IndexMap<&'a [u8], u32>>>,
 }
 
 impl<'a> Model for Homes<'a> {
@@ -47,19 +48,32 @@ fn place(at: usize) -> Result<u32, AllocError>
     }
 }
 
+/// Puts a module at a place before the others. AllocError is also answered where the place has more than 32 bits.
+fn add_home<'a>(
+    homes: &mut IndexMap<&'a [u8], u32>,
+    module: &'a Interface,
+    at: usize,
+) -> Result<(), AllocError>
+    ensures { OnOk result ((name : Bor (List ℕ)) → get same_name homes.new name ≡ (if bytes_eq module.now.name name.now then Some at else get same_name homes.old name)) }
+{
+    let place = place(at)?;
+    homes.insert(module.name(), place)?;
+    Ok(())
+}
+
 /// The places of modules by their names, as a table. AllocError is also answered where a place has more than 32 bits.
 fn table_of<'a>(
     alloc: Global,
     reached: &'a [Arc<Interface>],
-) -> Result<IndexMap<&'a [u8], u32>, AllocError>
-    ensures { IfOk result (λ homes. (name : Bor (List ℕ)) → get same_name homes name ≡ home_in (map arc_value reached.now) name.now) }
+) -> Result<Box<IndexMap<&'a [u8], u32>>, AllocError>
+    ensures { IfOk result (λ homes. (name : Bor (List ℕ)) → get same_name homes.value name ≡ home_in (map arc_value reached.now) name.now) }
 {
-    let mut homes = IndexMap::with_capacity(alloc, reached.len())?;
+    let table = IndexMap::with_capacity(alloc, reached.len())?;
+    let mut homes = Box::new(alloc, table)?;
     let mut at = reached.len();
     'modules: while at > 0 {
         at -= 1;
-        let place = place(at)?;
-        homes.insert(reached[at].name(), place)?;
+        add_home(&mut homes, &reached[at], at)?;
     }
     Ok(homes)
 }

@@ -1,7 +1,7 @@
 //! A module's parts with their indexes.
 #![tactic(auto, unfolding(crate::specs::World::home, crate::specs::World::home_of, crate::specs::World::form_of, crate::specs::Shapes::type_there, crate::specs::Shapes::exported_type, crate::specs::Shapes::own_type, crate::specs::Shapes::home_meant, crate::specs::Shapes::named_here))]
 
-ghost use Rattle.std.specs.Prelude.{◌≡◌, Some, None, IfOk, OnOk, if◌then◌else◌, map, slice_get};
+ghost use Rattle.std.specs.Prelude.{◌≡◌, Some, None, IfOk, OnOk, if◌then◌else◌, map};
 ghost use Rattle.std.specs.Arc.{arc_value};
 ghost use Rattle.std.specs.Bool.{OnTrue};
 ghost use Rattle.std.specs.Option.{option_and_then};
@@ -29,12 +29,12 @@ pub(crate) struct Indexed<'a> {
     pub(crate) parts: Parts<'a>,
     pub(crate) homes: Homes<'a>,
     pub(crate) item_homes: Vec<Option<u32>>,
-    pub(crate) fields: IndexMap<(u32, &'a [u8]), u32>,
+    pub(crate) fields: Box<IndexMap<(u32, &'a [u8]), u32>>,
     ghost in_text: { AreInText parts.bytes.now parts.tokens.now },
     ghost few: { IsFew parts },
     ghost homes_are: { homes ≡ (world_of parts).reached },
     ghost item_homes_are: { item_homes.items ≡ map (home_by (world_of parts) homes) (world_of parts).rows.imports },
-    ghost fields_are: { AreFields (world_of parts) fields },
+    ghost fields_are: { AreFields (world_of parts) fields.value },
 }
 
 /// Whether what is declared is a type.
@@ -134,18 +134,14 @@ impl<'a> Indexed<'a> {
         self.homes.place(name)
     }
 
-    /// What is known of the module that the import item at this place names, if there is such an item.
-    fn item_home(&self, item: u32) -> Option<Option<u32>>
-        ensures { result ≡ slice_get (map (home_by (world_of self.now.parts) (world_of self.now.parts).reached) (world_of self.now.parts).rows.imports) item }
-    {
-        self.item_homes.as_slice().get(item as usize).copied()
-    }
-
     /// The place of the module that the import item at this place names.
     pub(crate) fn home_of(&self, item: u32) -> Option<u32>
         ensures { result ≡ home_of (world_of self.now.parts) item }
     {
-        self.item_home(item)?
+        match self.item_homes.as_slice().get(item as usize) {
+            Some(home) => *home,
+            None => None,
+        }
     }
 
     /// The field of this name in a record of the module's own.

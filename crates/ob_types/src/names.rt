@@ -55,15 +55,16 @@ fn add_field<'a>(
     }
 }
 
-/// The fields by their records and names; of several of one name in one record the first.
+/// The fields by their records and names; of several of one name in one record the first. They are boxed, so that they are handed on as one
+/// pointer.
 pub(crate) fn fields_of<'a>(
     alloc: Global,
     parts: &Parts<'a>,
-) -> Result<IndexMap<(u32, &'a [u8]), u32>, AllocError>
+) -> Result<Box<IndexMap<(u32, &'a [u8]), u32>>, AllocError>
     requires { AreInText parts.now.bytes.now parts.now.tokens.now }
-    ensures { IfOk result (AreFields (world_of parts.now)) }
+    ensures { IfOk result (λ fields. AreFields (world_of parts.now) fields.value) }
 {
-    let mut fields = IndexMap::new(alloc);
+    let mut fields = Box::new(alloc, IndexMap::new(alloc))?;
     let rows = parts.table.declared();
     let mut at = rows.len();
     'rows: while at > 0 {

@@ -7,7 +7,7 @@ ghost use Rattle.ob_types.specs.Parted.{world_of, IsFew};
 ghost use Rattle.ob_types.specs.World.{declared_at, declarer_from, declarer_of, form_at, form_from, item_of, meaning, owner_at, record_at, sort_of, text};
 
 use crate::places::{place_of_alias, place_of_form};
-use ob_decls::{Declared, Declarer, FormPart, Import, Record, Sort, Table};
+use ob_decls::{Declared, Declarer, FormPart, Record, Sort, Table};
 use ob_interface::Interface;
 use ob_scan::Token;
 use ob_scope::Scopes;
@@ -121,12 +121,5 @@ impl<'a> Parts<'a> {
         ensures { result ≡ slice_get (world_of self.now).rows.parts place }
     {
         self.table.parts().get(place as usize).copied()
-    }
-
-    /// The import item at a place.
-    pub(crate) fn import(&self, place: u32) -> Option<Import>
-        ensures { result ≡ slice_get (world_of self.now).rows.imports place }
-    {
-        self.table.imports().get(place as usize).copied()
     }
 }

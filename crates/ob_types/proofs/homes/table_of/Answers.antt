@@ -1,4 +1,4 @@
-use Rattle.std.proofs.Common.{◌≡◌, ◌<◌, ◌≤◌, ◌-◌, ◌∙◌, sym, ap, map, length, arith}
+use Rattle.std.proofs.Common.{◌≡◌, ◌<◌, ◌≤◌, ◌-◌, ◌∙◌, refl, sym, ap, map, length, arith}
 use Rattle.std.specs.Arc.{arc_value}
 use Rattle.std.specs.Str.{bytes_eq}
 use Rattle.std.proofs.lemmas.Iterator.Adapters.{position_from-zero}
@@ -18,8 +18,8 @@ modules-preserved c =
     record {
       within = omega arith;
       homes = λ name.
-          home_before (map arc_value reached) (c.modules.at - 1) c.modules.at _ (arc_value element) _ name.now _ _ (omega arith) all c.in_ok-place.ensures
-          (c.name.ensures ∙ ap (λ (m : ModuleInterface). m.name) (c.deref.ensures ∙ sym it)) (c.in_ok-insert.ensures.updates.0 name) (c.modules.invariant.homes name);
+          home_before (map arc_value reached) (c.modules.at - 1) c.modules.at _ (arc_value element) _ name.now _ _ (omega arith) all refl
+          (ap (λ (m : ModuleInterface). m.name) (c.deref.ensures ∙ sym it)) (c.in_ok-add_home.ensures name) (rw c.deref_mut.ensures.value (c.modules.invariant.homes name));
     }
 
 pub returns : goal.returns

@@ -10,7 +10,7 @@ use Rattle.ob_types.proofs.homes.table_of.Given as goal
 abbrev pub invariant-modules : goal.invariant-modules
 invariant-modules l = record {
   within : l.at ≤ length l.reached;
-  homes : (name : Bor (List ℕ)) → get same_name l.homes name ≡ position_from (λ (m : ModuleInterface). bytes_eq m.name name.now) l.at (drop l.at (map arc_value l.reached));
+  homes : (name : Bor (List ℕ)) → get same_name (l.homes).value name ≡ position_from (λ (m : ModuleInterface). bytes_eq m.name name.now) l.at (drop l.at (map arc_value l.reached));
 }
 
 abbrev pub decreases-modules : goal.decreases-modules

@@ -6,7 +6,8 @@ use Rattle.ob_types.proofs.names.fields_of.Goals as goal
 pub rows-preserved : goal.rows-preserved
 rows-preserved c = record {
   within = omega arith;
-  fields = λ key. row_before _ (λ d. d.number) c.declared-rows.result.now (c.rows.at - 1) c.rows.at _ _ _ (omega arith) (omega arith) (c.in_ok-add_field.ensures key) (c.rows.invariant.fields key);
+  fields = λ key.
+      row_before _ (λ d. d.number) c.declared-rows.result.now (c.rows.at - 1) c.rows.at _ _ _ (omega arith) (omega arith) (c.in_ok-add_field.ensures key) (rw c.deref_mut.ensures.value (c.rows.invariant.fields key));
 }
 
 pub returns : goal.returns
