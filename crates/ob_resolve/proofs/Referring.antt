@@ -41,6 +41,9 @@ module _ (w : World) where
   pub stands_as : (f : Found) (k : ℕ) (s t d : Standing) → IsFound w f → k < length w.tokens → s ≡ get_or f.standings.items k d → s ≡ t → standing w.rows k ≡ t
   stands_as f k s t d found l read is = sym (get_or_from_slice_get f.standings.items k (standing w.rows k) d (found.standings k l)) ∙ sym read ∙ is
 
+  pub written_as : (f : Found) (k : ℕ) (b d : Bool) → IsFound w f → k < length w.tokens → b ≡ get_or f.written.items k d → b ≡ is_written w.rows k
+  written_as f k b d found l read = read ∙ get_or_from_slice_get f.written.items k (is_written w.rows k) d (found.written k l)
+
   pub own_refers : (k : ℕ) → standing w.rows k ≡ standings.OwnName → IsReference w k (record { number = k; target = targets.Own; role = 1 })
   own_refers k is = record { number = refl; refers = own_name is }
 

@@ -1,8 +1,8 @@
-use Rattle.std.proofs.Common.{sym, ap, ◌∙◌, subst, List, Vec, Global}
+use Rattle.std.proofs.Common.{sym, ap, ◌∙◌, ◌≤◌, subst, List, Vec, Global, length}
 use Rattle.ob_decls.specs.Order.{AscendBy}
 use Rattle.ob_scan.specs.declared.token.Token.{Token}
 use Rattle.ob_targets.specs.declared.target.Reference.{Reference}
-use Rattle.ob_resolve.proofs.Referring.{identifier_step, other_step}
+use Rattle.ob_resolve.proofs.Referring.{all_gone, identifier_step, none_gone, other_step}
 use Rattle.ob_resolve.proofs.Within.{tokens_ascend}
 use Rattle.ob_resolve.proofs.refs.references.Goals as goal
 use Rattle.ob_resolve.proofs.refs.references.Goals.{then-is_identifier+in_ok-push, else-is_identifier}
@@ -24,3 +24,12 @@ loop-place-preserved c =
       | else-is_identifier t ↦ other_step w ts i _ c.is_identifier.result rs c.if-is_identifier.rows.items c.tokens-tokens.ensures c.loop-place-test.true c.is_identifier.ensures
           t.if-is_identifier.false (ap (λ (v : Vec Reference Global). v.items) t.rows-is) c.loop-place.invariant
     ]
+
+pub loop-place-init : goal.loop-place-init
+loop-place-init c = none_gone c.args.types.now c.new-rows.result.items c.new-rows.ensures.items
+
+pub returns : goal.returns
+returns c = record {
+  exact = all_gone c.args.types.now c.loop-place.place c.loop-place.rows.items (subst (λ (ts : List Token). length ts ≤ c.loop-place.place) c.tokens-tokens.ensures c.loop-place-test.false)
+      c.loop-place.invariant;
+}
