@@ -5,9 +5,10 @@ ghost use Rattle.std.specs.Str.{bytes_eq};
 ghost use Rattle.digraph.specs.Chains.{IsAcyclic};
 ghost use Rattle.digraph.specs.Edges.{AreBetween, Leads};
 ghost use Rattle.ob_imports.specs.Files.{files_of, File};
+ghost use Rattle.ob_imports.specs.Graphs.{graph_with};
 ghost use Rattle.ob_imports.specs.Names.{names_by, texts, IsByName};
 ghost use Rattle.ob_imports.specs.Numbering.{AreLed};
-ghost use Rattle.ob_imports.specs.Outcomes.{outcome_of, GraphOutcome, IsCycleOf, IsGraphOutcome};
+ghost use Rattle.ob_imports.specs.Outcomes.{outcome_of, AreFiles, AreKept, GraphOutcome, IsCycleOf, IsGraphOutcome};
 
 use crate::duplicates::no_two_alike;
 use crate::edges::pairs_of;
@@ -15,6 +16,7 @@ use crate::names::nodes_of;
 use crate::order::order_of;
 use crate::{Graph, GraphFault, Pair, Parsed};
 use digraph::{cycle, ranks_of, renumbered};
+use indexmap::IndexSet;
 use std::alloc::{AllocError, Global};
 
 const MOST_MODULES: usize = 4096;
@@ -64,14 +66,28 @@ fn cycle_in(
     }
 }
 
-/// What the files make: a graph, or the first refusal.
-fn made(alloc: Global, parsed: &[Parsed]) -> Result<Graph, GraphFault>
+/// The graph of the files by its names and imports, or the cycle that these have.
+fn from_names(
+    alloc: Global,
+    parsed: &[Parsed],
+    names: IndexSet<String>,
+    pairs: Vec<Pair>,
+) -> Result<Graph, GraphFault>
+    requires { AreKept (files_of parsed.now) (graph_with names.keys (length parsed.now) pairs.items) }
     ensures { IfSome (outcome_of result) (IsGraphOutcome (files_of parsed.now)) }
 {
-    if parsed.len() > MOST_MODULES {
-        return Err(GraphFault::TooMany);
+    let order = order_of(alloc, names.as_slice())?;
+    match cycle_in(alloc, pairs.as_slice(), names.as_slice(), order.as_slice())? {
+        None => Ok(Graph::of(alloc, names, parsed.len() as u32, pairs, order)?),
+        Some(names) => Err(GraphFault::Cycle { names }),
     }
-    no_two_alike(alloc, parsed)?;
+}
+
+/// What files make whose modules differ in name: a graph, or the first refusal.
+fn from_files(alloc: Global, parsed: &[Parsed]) -> Result<Graph, GraphFault>
+    requires { AreFiles (files_of parsed.now) }
+    ensures { IfSome (outcome_of result) (IsGraphOutcome (files_of parsed.now)) }
+{
     let names = nodes_of(alloc, parsed)?;
     if names.len() > MOST_NODES {
         return Err(GraphFault::TooMany);
@@ -80,11 +96,18 @@ fn made(alloc: Global, parsed: &[Parsed]) -> Result<Graph, GraphFault>
     if pairs.len() > MOST_PAIRS {
         return Err(GraphFault::TooMany);
     }
-    let order = order_of(alloc, names.as_slice())?;
-    match cycle_in(alloc, pairs.as_slice(), names.as_slice(), order.as_slice())? {
-        None => Ok(Graph::of(alloc, names, parsed.len() as u32, pairs, order)?),
-        Some(names) => Err(GraphFault::Cycle { names }),
+    from_names(alloc, parsed, names, pairs)
+}
+
+/// What the files make: a graph, or the first refusal.
+fn made(alloc: Global, parsed: &[Parsed]) -> Result<Graph, GraphFault>
+    ensures { IfSome (outcome_of result) (IsGraphOutcome (files_of parsed.now)) }
+{
+    if parsed.len() > MOST_MODULES {
+        return Err(GraphFault::TooMany);
     }
+    no_two_alike(alloc, parsed)?;
+    from_files(alloc, parsed)
 }
 
 /// The graph of the files' imports, or the first refusal: too many files, then two modules of one name, then too many

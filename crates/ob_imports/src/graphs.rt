@@ -1,5 +1,7 @@
 //! The graph of the imports of a tree, and its readers.
-ghost use Rattle.std.specs.Prelude.{◌≡◌, ◌<◌, length, IfOk};
+ghost use Rattle.std.specs.Prelude.{ℕ, ◌≡◌, ◌<◌, length, vec_len, IfOk};
+ghost use Rattle.digraph.specs.Edges.{AreBetween};
+ghost use Rattle.digraph.specs.Marks.{lists, row_at};
 ghost use Rattle.ob_imports.specs.Graphs.{graph_with, imported, importing, name_of, IsGraph, IsListOf, IsReady};
 ghost use Rattle.ob_imports.specs.Names.{place_in, texts, IsByName};
 
@@ -23,6 +25,24 @@ pub struct Graph {
     pub(crate) imports: Vec<Vec<u32>>,
     /// Per module those that import it.
     pub(crate) importers: Vec<Vec<u32>>,
+}
+
+/// Per module those that it imports, and those that import it.
+fn rows_both(
+    alloc: Global,
+    pairs: &[Pair],
+    nodes: usize,
+) -> Result<(Vec<Vec<u32>>, Vec<Vec<u32>>), AllocError>
+    requires between { AreBetween pairs.now nodes }
+    ensures imports_long { IfOk result (λ rows. vec_len rows.0 ≡ nodes) }
+    ensures importers_long { IfOk result (λ rows. vec_len rows.1 ≡ nodes) }
+    ensures imports { IfOk result (λ rows. (v : ℕ) → row_at (lists rows.0.items) v ≡ imported pairs.now v) }
+    ensures importers { IfOk result (λ rows. (v : ℕ) → row_at (lists rows.1.items) v ≡ importing pairs.now v) }
+{
+    let others = flipped(alloc, pairs)?;
+    let imports = rows_of(alloc, others.as_slice(), nodes)?;
+    let importers = rows_of(alloc, pairs, nodes)?;
+    Ok((imports, importers))
 }
 
 impl Model for Graph {
@@ -55,10 +75,7 @@ impl Graph {
         requires order { IsByName (texts names.keys) order.items }
         ensures { IfOk result (λ graph. graph ≡ graph_with names.keys modules pairs.items) }
     {
-        let nodes = names.len();
-        let others = flipped(alloc, pairs.as_slice())?;
-        let imports = rows_of(alloc, others.as_slice(), nodes)?;
-        let importers = rows_of(alloc, pairs.as_slice(), nodes)?;
+        let (imports, importers) = rows_both(alloc, pairs.as_slice(), names.len())?;
         Ok(Graph {
             names,
             modules,

@@ -76,16 +76,38 @@ fn put_in_order(names: &mut Vec<String>)
     names.dedup();
 }
 
+/// The names of the files' modules.
+fn of_files(alloc: Global, parsed: &[Parsed]) -> Result<IndexSet<String>, AllocError>
+    requires { DifferInName (files_of parsed.now) }
+    ensures { IfOk result (λ table. texts table.keys ≡ names_of (files_of parsed.now)) }
+{
+    let names = module_names(alloc, parsed)?;
+    let mut table = IndexSet::new(alloc);
+    put_names(alloc, &mut table, names.as_slice())?;
+    Ok(table)
+}
+
+/// The imports of the files that the table lacks: ascending, each once.
+fn others_in_order(
+    alloc: Global,
+    parsed: &[Parsed],
+    table: &IndexSet<String>,
+) -> Result<Vec<String>, AllocError>
+    ensures ascending { IfOk result (λ others. AreAscending (texts others.items)) }
+    ensures same { IfOk result (λ others. (n : List ℕ) → Contains (texts others.items) n ↔ Contains (all_lacked (texts table.now.keys) (files_of parsed.now)) n) }
+{
+    let mut others = all_others(alloc, parsed, table)?;
+    put_in_order(&mut others);
+    Ok(others)
+}
+
 /// The names of all modules, by their numbers.
 pub(crate) fn nodes_of(alloc: Global, parsed: &[Parsed]) -> Result<IndexSet<String>, AllocError>
     requires { DifferInName (files_of parsed.now) }
     ensures { IfOk result (λ table. AreNodes (files_of parsed.now) (texts table.keys)) }
 {
-    let names = module_names(alloc, parsed)?;
-    let mut table = IndexSet::new(alloc);
-    put_names(alloc, &mut table, names.as_slice())?;
-    let mut others = all_others(alloc, parsed, &table)?;
-    put_in_order(&mut others);
+    let mut table = of_files(alloc, parsed)?;
+    let others = others_in_order(alloc, parsed, &table)?;
     put_names(alloc, &mut table, others.as_slice())?;
     Ok(table)
 }
