@@ -1,6 +1,7 @@
 pub mod Ahead
 pub mod Arrays
 pub mod Bounded
+pub mod Boxes
 pub mod CompleteExpressions
 pub mod CompleteModules
 pub mod CompleteNames

@@ -285,7 +285,7 @@ fn procedure_within(
         returned,
         end_name,
     };
-    Ok((boxed(alloc, procedure)?, here))
+    boxed(alloc, procedure, here)
 }
 
 /// What stands behind the heading of the procedure of this name.
@@ -358,5 +358,5 @@ pub(crate) fn declarations(
         variables,
         procedures,
     };
-    Ok((boxed(alloc, declarations)?, here))
+    boxed(alloc, declarations, here)
 }

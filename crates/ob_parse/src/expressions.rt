@@ -42,7 +42,7 @@ pub(crate) fn expression(
     let (compared, input) = compared(alloc, tokens, input, depth - 1)?;
     let left = Box::into_inner(left);
     let expression = Expr { left, compared };
-    Ok((boxed(alloc, expression)?, input))
+    boxed(alloc, expression, input)
 }
 
 /// The expression behind a word, if this stands here.
@@ -100,7 +100,7 @@ pub(crate) fn expression_list(
         first: Box::into_inner(first),
         rest,
     };
-    Ok((boxed(alloc, list)?, here))
+    boxed(alloc, list, here)
 }
 
 #[cycle(expressions)]
@@ -131,7 +131,7 @@ fn sum(alloc: Global, tokens: &[Token], input: Input, depth: u32) -> Result<(Box
     let (sign, here) = sign(tokens, input);
     let (first, here) = term(alloc, tokens, here, depth)?;
     let (rest, here) = more_terms(alloc, tokens, here, depth)?;
-    Ok((boxed(alloc, Sum { sign, first, rest })?, here))
+    boxed(alloc, Sum { sign, first, rest }, here)
 }
 
 #[cycle(expressions)]
@@ -261,7 +261,8 @@ fn negated(
         return Err(beyond(tokens, input, begins_factor(tokens, input)));
     }
     let (factor, rest) = factor(alloc, tokens, input, depth - 1)?;
-    Ok((Factor::Not(boxed(alloc, factor)?), rest))
+    let (factor, rest) = boxed(alloc, factor, rest)?;
+    Ok((Factor::Not(factor), rest))
 }
 
 /// The elements of a set, if it isn't empty.
@@ -298,7 +299,7 @@ fn element_list(
         first: Box::into_inner(first),
         rest,
     };
-    Ok((boxed(alloc, list)?, here))
+    boxed(alloc, list, here)
 }
 
 #[cycle(expressions)]
@@ -336,7 +337,7 @@ fn element(
         low: Box::into_inner(low),
         high,
     };
-    Ok((boxed(alloc, element)?, here))
+    boxed(alloc, element, here)
 }
 
 /// The end of a range behind its two dots, if they stand here.

@@ -128,7 +128,7 @@ pub(crate) fn module(
         body: unboxed(body),
         end_name,
     };
-    Ok((boxed(alloc, module)?, here))
+    boxed(alloc, module, here)
 }
 
 /// What stands behind the imports in the module of this name.

@@ -51,7 +51,7 @@ fn empty_statement(
     if begins_statement(tokens, input) {
         return Err(Stop::Deep(input));
     }
-    Ok((boxed(alloc, Stmt::Empty)?, input))
+    boxed(alloc, Stmt::Empty, input)
 }
 
 /// A statement, with at most so many levels in it, itself one of them.
@@ -69,7 +69,7 @@ fn statement(
         return empty_statement(alloc, tokens, input);
     }
     let (statement, input) = statement_within(alloc, tokens, input, depth - 1)?;
-    Ok((boxed(alloc, statement)?, input))
+    boxed(alloc, statement, input)
 }
 
 /// A statement whose parts have at most so many levels in them.
@@ -132,7 +132,7 @@ pub(crate) fn block(
         first: Box::into_inner(first),
         rest,
     };
-    Ok((boxed(alloc, block)?, here))
+    boxed(alloc, block, here)
 }
 
 #[cycle(statements)]
@@ -173,7 +173,7 @@ fn branch(
         condition: Box::into_inner(condition),
         body: Box::into_inner(body),
     };
-    Ok((boxed(alloc, branch)?, input))
+    boxed(alloc, branch, input)
 }
 
 #[cycle(statements)]
@@ -281,12 +281,12 @@ fn case(
     ensures { Gives tokens.now (λ x. (case_outline x.0.value, ahead tokens.now x.1)) result (case_with (block_at depth) (ahead tokens.now input)) }
 {
     if !begins_label(tokens, input) {
-        return Ok((boxed(alloc, Case::Nothing)?, input));
+        return boxed(alloc, Case::Nothing, input);
     }
     let (labels, input) = label_ranges(alloc, tokens, input)?;
     let input = expect(tokens, input, Kind::Colon)?;
     let (body, input) = block(alloc, tokens, input, depth)?;
-    Ok((boxed(alloc, Case::Labelled(labels, body))?, input))
+    boxed(alloc, Case::Labelled(labels, body), input)
 }
 
 #[cycle(statements)]
@@ -364,7 +364,8 @@ fn for_statement(
         by: unboxed(by),
         body: Box::into_inner(body),
     };
-    Ok((Stmt::For(boxed(alloc, statement)?), input))
+    let (statement, input) = boxed(alloc, statement, input)?;
+    Ok((Stmt::For(statement), input))
 }
 
 /// A FOR statement from its TO on: the limit, the step and the body.

@@ -33,12 +33,12 @@ impl<T: Drop> From<AllocFailed<T>> for Stop {
     }
 }
 
-/// A value in a box.
-pub(crate) fn boxed<T: Drop>(alloc: Global, value: T) -> Result<Box<T>, Stop>
-    ensures of { IfOk result (λ b. b.value ≡ value) }
+/// A value in a box, and the tokens behind what it was read from.
+pub(crate) fn boxed<T: Drop>(alloc: Global, value: T, rest: Input) -> Result<(Box<T>, Input), Stop>
+    ensures of { IfOk result (λ b. (b.0.value ≡ value) × (b.1 ≡ rest)) }
     ensures refused { IfErr result (λ stop. stop ≡ Memory) }
 {
-    Ok(Box::new(alloc, value)?)
+    Ok((Box::new(alloc, value)?, rest))
 }
 
 /// One more at the end of a list, out of its box.

@@ -87,7 +87,7 @@ pub(crate) fn var_declaration(
     let here = expect(tokens, here, Kind::Colon)?;
     let (form, here) = type_form(alloc, tokens, here, depth)?;
     let form = Box::into_inner(form);
-    Ok((boxed(alloc, VarDecl { names, form })?, here))
+    boxed(alloc, VarDecl { names, form }, here)
 }
 
 /// What stands behind a semicolon, if a field list begins there.
@@ -157,7 +157,7 @@ fn fields(
         rest,
         closing_semicolon,
     };
-    Ok((boxed(alloc, fields)?, here))
+    boxed(alloc, fields, here)
 }
 
 /// The base of a record, in parentheses.
@@ -301,5 +301,5 @@ pub(crate) fn type_form(
         return Err(beyond(tokens, input, begins_type(tokens, input)));
     }
     let (form, here) = type_within(alloc, tokens, input, depth - 1)?;
-    Ok((boxed(alloc, form)?, here))
+    boxed(alloc, form, here)
 }

@@ -3,7 +3,7 @@ use Rattle.std.proofs.lemmas.Result.{err_from_is_err_and}
 use Rattle.ob_scan.specs.declared.kind.Kind.TheVariants as kinds
 use Rattle.ob_tree.specs.declared.declaration.ProcDecl.{ProcDecl}
 use Rattle.ob_tree.specs.Marks.{Out, word, each}
-use Rattle.ob_tree.specs.Declaring.{procedure_outline}
+use Rattle.ob_tree.specs.Declaring.{procedure_outline, declarations_outline}
 use Rattle.ob_parse.specs.Front.{is_word}
 use Rattle.ob_parse.specs.Forms.{Reader, many, begins, limit_at, name_at}
 use Rattle.ob_parse.specs.Gives.{ahead}
@@ -13,6 +13,7 @@ use Rattle.ob_parse.proofs.LoopEnds.{ends}
 use Rattle.ob_parse.proofs.LoopProcedures.{procedure_advances}
 use Rattle.ob_tree.proofs.DeclarationLayers.{declaring_made}
 use Rattle.ob_tree.proofs.NameLayers.{names_made}
+use Rattle.ob_parse.proofs.Boxes.{gives_boxed}
 use Rattle.ob_parse.proofs.declarations.+declarations.Goals as goal
 
 abbrev declared_at : ℕ → Reader
@@ -44,7 +45,7 @@ procedures-returns t c = is_done (begins (is_word kinds.Procedure)) (declared_at
 
 pub declarations-returns : goal.declarations-returns
 unfolding declarations_with procedures_with
-declarations-returns t c = grind (arith, declaring_made)
+declarations-returns t c = gives_boxed c.args.tokens.now declarations_outline _ _ c.boxed.result _ c.boxed.ensures.of c.boxed.ensures.refused (grind (arith, declaring_made))
 
 pub procedure-returns : goal.procedure-returns
 unfolding procedure_at limit_at
@@ -56,4 +57,4 @@ procedure-returns-then-depth-eq0 t c = grind arith
 
 pub procedure_within-returns : goal.procedure_within-returns
 unfolding procedure_with procedure_named name_at
-procedure_within-returns t c = grind (arith, declaring_made, names_made)
+procedure_within-returns t c = gives_boxed c.args.tokens.now procedure_outline _ _ c.boxed.result _ c.boxed.ensures.of c.boxed.ensures.refused (grind (arith, declaring_made, names_made))

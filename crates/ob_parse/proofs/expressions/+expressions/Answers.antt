@@ -2,7 +2,7 @@ use Rattle.std.proofs.Common.{ℕ, ◌++◌, [], refl, sym, ap, ◌∙◌, arith
 use Rattle.std.proofs.lemmas.Result.{err_from_is_err_and}
 use Rattle.ob_scan.specs.declared.kind.Kind.TheVariants as kinds
 use Rattle.ob_tree.specs.Marks.{word, each, each_after}
-use Rattle.ob_tree.specs.Expressions.{mul_kind, add_kind, expr_outline, term_outline, factor_outline, element_outline, selector_outline}
+use Rattle.ob_tree.specs.Expressions.{mul_kind, add_kind, expr_outline, term_outline, factor_outline, element_outline, selector_outline, element_list_outline, expr_list_outline, sum_outline}
 use Rattle.ob_parse.specs.Forms.{many, begins, accept_at, limit_at, name_at, several, unless}
 use Rattle.ob_parse.specs.Gives.{ahead, seen, skipped}
 use Rattle.ob_parse.specs.ReadExpressions.{mul_start, add_start, selector_first, element_with, selector_with, factor_at, term_at, expr_at, designator_with, expr_with, factor_with, negated_at, sum_with, term_with}
@@ -10,6 +10,7 @@ use Rattle.ob_parse.proofs.LoopEnds.{ends}
 use Rattle.ob_parse.proofs.Loops.{Advances, pushed, pushed_after, smaller, is_done, mul_advances, add_advances, accept_advances, selector_advances, marked_some, marked_none, has_begun, has_not_begun}
 use Rattle.ob_parse.proofs.SoundExpressions.{expr_at_sound, element_sound, factor_at_sound, term_at_sound}
 use Rattle.ob_tree.proofs.ExpressionLayers.{expressions_made}
+use Rattle.ob_parse.proofs.Boxes.{gives_boxed}
 use Rattle.ob_parse.proofs.expressions.+expressions.Goals as goal
 
 mul_adv : (d : ℕ) → Advances mul_start (factor_at d)
@@ -164,11 +165,11 @@ designator-returns t c = grind (arith, expressions_made)
 
 pub element-returns : goal.element-returns
 unfolding element_with
-element-returns t c = grind (arith, expressions_made)
+element-returns t c = gives_boxed c.args.tokens.now element_outline _ _ c.boxed.result _ c.boxed.ensures.of c.boxed.ensures.refused (grind (arith, expressions_made))
 
 pub element_list-returns : goal.element_list-returns
 unfolding several
-element_list-returns t c = grind (arith, expressions_made)
+element_list-returns t c = gives_boxed c.args.tokens.now element_list_outline _ _ c.boxed.result _ c.boxed.ensures.of c.boxed.ensures.refused (grind (arith, expressions_made))
 
 pub elements-returns : goal.elements-returns
 unfolding unless
@@ -180,7 +181,7 @@ elements-returns-then-is_at t c = grind arith
 
 pub expression-returns : goal.expression-returns
 unfolding expr_at expr_with limit_at
-expression-returns t c = grind (arith, expressions_made)
+expression-returns t c = gives_boxed c.args.tokens.now expr_outline _ _ c.boxed.result _ c.boxed.ensures.of c.boxed.ensures.refused (grind (arith, expressions_made))
 
 pub expression-returns-then-depth-eq0 : goal.expression-returns-then-depth-eq0
 unfolding expr_at expr_with limit_at
@@ -188,7 +189,7 @@ expression-returns-then-depth-eq0 t c = grind (arith, expressions_made)
 
 pub expression_list-returns : goal.expression_list-returns
 unfolding several
-expression_list-returns t c = grind (arith, expressions_made)
+expression_list-returns t c = gives_boxed c.args.tokens.now expr_list_outline _ _ c.boxed.result _ c.boxed.ensures.of c.boxed.ensures.refused (grind (arith, expressions_made))
 
 pub factor-returns-in-Some-Name-default : goal.factor-returns-in-Some-Name-default
 unfolding factor_with
@@ -268,7 +269,7 @@ set-returns t c = grind (arith, expressions_made)
 
 pub sum-returns : goal.sum-returns
 unfolding sum_with
-sum-returns t c = grind (arith, expressions_made)
+sum-returns t c = gives_boxed c.args.tokens.now sum_outline _ _ c.boxed.result _ c.boxed.ensures.of c.boxed.ensures.refused (grind (arith, expressions_made))
 
 pub term-returns : goal.term-returns
 unfolding term_with

@@ -3,7 +3,7 @@ use Rattle.std.proofs.lemmas.Result.{err_from_is_err_and}
 use Rattle.ob_scan.specs.declared.kind.Kind.{Kind}
 use Rattle.ob_scan.specs.declared.kind.Kind.TheVariants as kinds
 use Rattle.ob_tree.specs.Marks.{each_after}
-use Rattle.ob_tree.specs.Statements.{branch_outline, case_outline, stmt_outline}
+use Rattle.ob_tree.specs.Statements.{branch_outline, case_outline, stmt_outline, block_outline}
 use Rattle.ob_parse.specs.Forms.{accept_at, many, begins, name_at, several}
 use Rattle.ob_parse.specs.Gives.{ahead, skipped}
 use Rattle.ob_parse.specs.ReadExpressions.{expr_at}
@@ -13,6 +13,7 @@ use Rattle.ob_parse.proofs.Loops.{Advances, pushed_after, smaller, is_done, acce
 use Rattle.ob_parse.proofs.SoundExpressions.{expr_at_sound}
 use Rattle.ob_parse.proofs.SoundStatements.{block_at_sound, branch_sound, case_sound, statement_at_sound}
 use Rattle.ob_parse.proofs.StatementSteps.{made}
+use Rattle.ob_parse.proofs.Boxes.{gives_boxed}
 use Rattle.ob_parse.proofs.statements.+statements.Goals as goal
 
 semicolon_adv : (d : ℕ) → Advances (accept_at kinds.Semicolon) (statement_at d)
@@ -100,19 +101,19 @@ more_cases-returns t c =
 
 pub block-returns : goal.block-returns
 unfolding block_with several
-block-returns t c = grind (arith, made)
+block-returns t c = gives_boxed c.args.tokens.now block_outline _ _ c.boxed.result _ c.boxed.ensures.of c.boxed.ensures.refused (grind (arith, made))
 
 pub branch-returns : goal.branch-returns
 unfolding branch_with
-branch-returns t c = grind (arith, made)
+branch-returns t c = gives_boxed c.args.tokens.now (λ b. branch_outline b c.args.keyword) _ _ c.boxed.result _ c.boxed.ensures.of c.boxed.ensures.refused (grind (arith, made))
 
 pub case-returns : goal.case-returns
 unfolding case_with begins
-case-returns t c = grind (arith, made)
+case-returns t c = gives_boxed c.args.tokens.now case_outline _ _ c.boxed-2.result _ c.boxed-2.ensures.of c.boxed-2.ensures.refused (grind (arith, made))
 
 pub case-returns-then-not-begins_label : goal.case-returns-then-not-begins_label
 unfolding case_with begins
-case-returns-then-not-begins_label t c = grind (arith, made)
+case-returns-then-not-begins_label t c = gives_boxed c.args.tokens.now case_outline _ _ c.boxed.result _ c.boxed.ensures.of c.boxed.ensures.refused (grind (arith, made))
 
 pub case_statement-returns : goal.case_statement-returns
 unfolding cases_with
@@ -132,7 +133,7 @@ repeat_statement-returns t c = grind (arith, made)
 
 pub statement-returns : goal.statement-returns
 unfolding statement_at
-statement-returns t c = grind arith
+statement-returns t c = gives_boxed c.args.tokens.now stmt_outline _ _ c.boxed.result _ c.boxed.ensures.of c.boxed.ensures.refused (grind arith)
 
 pub statement-returns-then-depth-eq0 : goal.statement-returns-then-depth-eq0
 unfolding statement_at

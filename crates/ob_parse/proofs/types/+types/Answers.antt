@@ -4,7 +4,7 @@ use Rattle.ob_scan.specs.declared.kind.Kind.TheVariants as kinds
 use Rattle.ob_tree.specs.declared.declaration.VarDecl.{VarDecl}
 use Rattle.ob_tree.specs.Constructs as constructs
 use Rattle.ob_tree.specs.Marks.{Out, construct, each_after}
-use Rattle.ob_tree.specs.Types.{var_outline}
+use Rattle.ob_tree.specs.Types.{var_outline, fields_outline, type_outline}
 use Rattle.ob_parse.specs.Forms.{Reader, many, node, limit_at, unless}
 use Rattle.ob_parse.specs.Gives.{ahead, skipped}
 use Rattle.ob_parse.specs.ReadTypes.{field_start, var_with, type_at, fields_with, record_with, type_with}
@@ -13,6 +13,7 @@ use Rattle.ob_parse.proofs.LoopEnds.{ends}
 use Rattle.ob_parse.proofs.Sound.{sound_flat}
 use Rattle.ob_parse.proofs.SoundTypes.{var_sound, type_at_sound}
 use Rattle.ob_tree.proofs.TypeLayers.{types_made}
+use Rattle.ob_parse.proofs.Boxes.{gives_boxed}
 use Rattle.ob_parse.proofs.types.+types.Goals as goal
 
 abbrev field_at : ℕ → Reader
@@ -48,7 +49,7 @@ array-returns t c = grind (arith, types_made)
 
 pub fields-returns : goal.fields-returns
 unfolding fields_with
-fields-returns t c = grind (arith, types_made)
+fields-returns t c = gives_boxed c.args.tokens.now fields_outline _ _ c.boxed.result _ c.boxed.ensures.of c.boxed.ensures.refused (grind (arith, types_made))
 
 pub pointer-returns : goal.pointer-returns
 pointer-returns t c = grind (arith, types_made)
@@ -67,7 +68,7 @@ some_fields-returns-then-is_at t c = grind arith
 
 pub type_form-returns : goal.type_form-returns
 unfolding type_at limit_at
-type_form-returns t c = grind arith
+type_form-returns t c = gives_boxed c.args.tokens.now type_outline _ _ c.boxed.result _ c.boxed.ensures.of c.boxed.ensures.refused (grind arith)
 
 pub type_form-returns-then-depth-eq0 : goal.type_form-returns-then-depth-eq0
 unfolding type_at limit_at
@@ -99,4 +100,4 @@ type_within-returns-in_default t c = grind (arith, types_made)
 
 pub var_declaration-returns : goal.var_declaration-returns
 unfolding var_with
-var_declaration-returns t c = grind (arith, types_made)
+var_declaration-returns t c = gives_boxed c.args.tokens.now var_outline _ _ c.boxed.result _ c.boxed.ensures.of c.boxed.ensures.refused (grind (arith, types_made))
