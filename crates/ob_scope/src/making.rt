@@ -152,6 +152,27 @@ fn scopes_with(
     scopes_of(alloc, text, table, members, found)
 }
 
+/// The scopes of a module with this table, or the fault of two members of one name in one place.
+fn scopes_by(
+    alloc: Global,
+    text: &Text,
+    table: &Table,
+    members: &[Member],
+) -> Result<Scopes, ScopeFault>
+    requires in_text { AreInText text.now.bytes.now text.now.tokens.now }
+    requires ordered { AreInOrder (rows_in table.now) }
+    requires few { length (rows_in table.now).uses ≤ 16777216 }
+    requires members { members.now ≡ members_of (rows_in table.now) }
+    requires named { AreNames (text_at text.now.bytes.now text.now.tokens.now) (rows_in table.now) }
+    ensures scoped { IfOk result (AreScopes text.now.bytes.now text.now.tokens.now (rows_in table.now)) }
+    ensures fault { IfErr result (IsScopeFault text.now.bytes.now text.now.tokens.now (rows_in table.now)) }
+{
+    match index_of(alloc, text, members) {
+        Ok(index) => Ok(scopes_with(alloc, text, table, members, &index)?),
+        Err(fault) => Err(fault_of(alloc, text, members, fault)?),
+    }
+}
+
 /// The scopes of a module with this table, of these tokens: what `scopes` answers of the tree that the table is of, for a
 /// caller that keeps the table. Memory is also answered where what the table names are no identifiers, or where it has more
 /// uses than a text has bytes; the table of a tree of tokens is never so.
@@ -177,8 +198,5 @@ pub fn scopes_from(
     if table.uses().len() > MOST_USES || !are_identifiers(tokens, members, table.imports()) {
         return Err(ScopeFault::Memory);
     }
-    match index_of(alloc, &text, members) {
-        Ok(index) => Ok(scopes_with(alloc, &text, table, members, &index)?),
-        Err(fault) => Err(fault_of(alloc, &text, members, fault)?),
-    }
+    scopes_by(alloc, &text, table, members)
 }

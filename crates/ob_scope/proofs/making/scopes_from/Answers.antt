@@ -4,13 +4,7 @@ use Rattle.ob_decls.specs.Declaring.{rows_in}
 use Rattle.ob_scope.proofs.Names.{named_by}
 use Rattle.ob_scope.proofs.making.scopes_from.Goals as goal
 
-pub scopes_with-requires-clause-named : goal.scopes_with-requires-clause-named
-scopes_with-requires-clause-named c =
+pub scopes_by-requires-clause-named : goal.scopes_by-requires-clause-named
+scopes_by-requires-clause-named c =
     let members = rw (c.declarers.ensures, c.declared.ensures) at (c.as_slice-members.ensures.value ∙ c.in_ok-members.ensures) in
     named_by c.args.bytes.now c.args.tokens.now (rows_in c.args.table.now) _ _ c.requires.spelled members c.imports.ensures (c.are_identifiers.ensures c.if-not-are_identifiers.false)
-
-pub returns-clause-fault : goal.returns-clause-fault
-returns-clause-fault c =
-    let members = rw (c.declarers.ensures, c.declared.ensures) at (c.as_slice-members.ensures.value ∙ c.in_ok-members.ensures) in
-    c.in_ok-fault_of-in-Err.ensures (rows_in c.args.table.now) members
-    (named_by c.args.bytes.now c.args.tokens.now (rows_in c.args.table.now) _ _ c.requires.spelled members c.imports.ensures (c.are_identifiers.ensures c.if-not-are_identifiers.false))
