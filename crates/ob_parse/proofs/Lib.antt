@@ -12,6 +12,7 @@ pub mod DeeperModules
 pub mod DeeperStatements
 pub mod DeeperTypes
 pub mod Endings
+pub mod Kept
 pub mod LoopEnds
 pub mod LoopProcedures
 pub mod Loops

@@ -1,5 +1,5 @@
 -- What the functions of the parser answer, by readers.
-use Rattle.std.specs.Prelude.{◌≡◌, List, map, drop, take, Option, Some, None, Result, Ok, Err}
+use Rattle.std.specs.Prelude.{◌≡◌, List, [], ◌∷◌, ◌++◌, map, drop, take, Option, Some, None, Result, Ok, Err}
 use Rattle.ob_scan.specs.declared.kind.Kind.{Kind}
 use Rattle.ob_scan.specs.declared.token.Token.{Token}
 use Rattle.ob_tree.specs.declared.token.Leaf.{Leaf}
@@ -38,3 +38,10 @@ Fails ts stops.Memory read = Unit {0}
 abbrev pub Gives : {X Y : Type 0} → List Token → (X → Y) → Result X Stop → Result Y Refusal → Type 0
 Gives ts view (Ok x) read = read ≡ Ok (view x)
 Gives ts view (Err e) read = Fails ts e read
+
+-- what was read was put at the end of a list, and the tokens behind it are answered; else why the parser stopped
+abbrev pub Keeps : {X T : Type 0} → (X → T) → List T → List T → Result (X × Input) Stop → Result Input Stop → Type 0
+Keeps value old new (Ok x) (Ok rest) = (new ≡ old ++ value x.0 ∷ []) × (x.1 ≡ rest)
+Keeps value old new (Ok x) (Err stop) = stop ≡ stops.Memory
+Keeps value old new (Err e) (Ok rest) = ⊥
+Keeps value old new (Err e) (Err stop) = e ≡ stop

@@ -19,7 +19,7 @@ use crate::input::Input;
 use crate::names::identdef;
 use crate::parameters::some_parameters;
 use crate::statements::block_behind;
-use crate::stop::{Stop, boxed, push};
+use crate::stop::{Stop, boxed, keep, keep_boxed};
 use crate::symbols::{accept, beyond, expect, identifier, is_at, skip};
 use crate::types::{type_form, var_declaration};
 use ob_scan::{Kind, Token};
@@ -68,9 +68,7 @@ fn constants(
     let mut declared = Vec::new(alloc);
     let mut here = input;
     'more: while begins_declaration(tokens, here) {
-        let (next, after) = ended_constant(alloc, tokens, here, depth)?;
-        declared.push(next)?;
-        here = after;
+        here = keep(&mut declared, ended_constant(alloc, tokens, here, depth))?;
     }
     Ok((declared, here))
 }
@@ -125,9 +123,7 @@ fn named_types(
     let mut declared = Vec::new(alloc);
     let mut here = input;
     'more: while begins_declaration(tokens, here) {
-        let (next, after) = ended_named_type(alloc, tokens, here, depth)?;
-        declared.push(next)?;
-        here = after;
+        here = keep(&mut declared, ended_named_type(alloc, tokens, here, depth))?;
     }
     Ok((declared, here))
 }
@@ -179,9 +175,7 @@ fn variables(
     let mut declared = Vec::new(alloc);
     let mut here = input;
     'more: while begins_declaration(tokens, here) {
-        let (next, after) = ended_variable(alloc, tokens, here, depth)?;
-        push(&mut declared, next)?;
-        here = after;
+        here = keep_boxed(&mut declared, ended_variable(alloc, tokens, here, depth))?;
     }
     Ok((declared, here))
 }
@@ -219,9 +213,7 @@ fn procedures(
     let mut declared = Vec::new(alloc);
     let mut here = input;
     'more: while is_at(tokens, here, Kind::Procedure) {
-        let (next, after) = ended_procedure(alloc, tokens, here, depth)?;
-        push(&mut declared, next)?;
-        here = after;
+        here = keep_boxed(&mut declared, ended_procedure(alloc, tokens, here, depth))?;
     }
     Ok((declared, here))
 }

@@ -14,7 +14,7 @@ use crate::input::Input;
 use crate::operators::{
     add_operator, begins_expression, begins_factor, begins_selector, mul_operator, relation, sign,
 };
-use crate::stop::{Stop, boxed, push};
+use crate::stop::{Stop, boxed, keep, keep_boxed};
 use crate::symbols::{accept, beyond, expect, identifier, is_at};
 use ob_scan::{Kind, Token};
 use ob_tree::expression::{
@@ -115,9 +115,7 @@ fn more_expressions(
     let mut rest = Vec::new(alloc);
     let mut here = input;
     'more: while let Some(after) = accept(tokens, here, Kind::Comma) {
-        let (next, after) = expression(alloc, tokens, after, depth)?;
-        push(&mut rest, next)?;
-        here = after;
+        here = keep_boxed(&mut rest, expression(alloc, tokens, after, depth))?;
     }
     Ok((rest, here))
 }
@@ -314,9 +312,7 @@ fn more_elements(
     let mut rest = Vec::new(alloc);
     let mut here = input;
     'more: while let Some(after) = accept(tokens, here, Kind::Comma) {
-        let (next, after) = element(alloc, tokens, after, depth)?;
-        push(&mut rest, next)?;
-        here = after;
+        here = keep_boxed(&mut rest, element(alloc, tokens, after, depth))?;
     }
     Ok((rest, here))
 }
@@ -387,9 +383,7 @@ fn more_selectors(
     let mut selectors = Vec::new(alloc);
     let mut here = input;
     'more: while begins_selector(tokens, here) {
-        let (next, after) = selector(alloc, tokens, here, depth)?;
-        selectors.push(next)?;
-        here = after;
+        here = keep(&mut selectors, selector(alloc, tokens, here, depth))?;
     }
     Ok((selectors, here))
 }

@@ -11,7 +11,7 @@ ghost use Rattle.ob_tree.specs.Statements.{label_outline, label_range_outline};
 
 use crate::input::Input;
 use crate::names::qualident_after;
-use crate::stop::Stop;
+use crate::stop::{Stop, keep};
 use crate::symbols::accept;
 use ob_scan::{Kind, Token};
 use ob_tree::expression::Literal;
@@ -93,9 +93,7 @@ fn more_label_ranges(
     let mut rest = Vec::new(alloc);
     let mut here = input;
     'more: while let Some(after) = accept(tokens, here, Kind::Comma) {
-        let (next, after) = label_range(tokens, after)?;
-        rest.push(next)?;
-        here = after;
+        here = keep(&mut rest, label_range(tokens, after))?;
     }
     Ok((rest, here))
 }

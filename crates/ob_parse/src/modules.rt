@@ -13,7 +13,7 @@ ghost use Rattle.ob_parse.specs.Gives.{Gives, ahead};
 use crate::declarations::declarations;
 use crate::input::Input;
 use crate::statements::block_behind;
-use crate::stop::{Stop, boxed};
+use crate::stop::{Stop, boxed, keep};
 use crate::symbols::{accept, expect, identifier};
 use ob_scan::{Kind, Token};
 use ob_tree::declaration::{Declarations, ImportItem, Module};
@@ -56,9 +56,7 @@ fn more_imports(
     let mut rest = Vec::new(alloc);
     let mut here = input;
     'more: while let Some(after) = accept(tokens, here, Kind::Comma) {
-        let (next, after) = import(tokens, after)?;
-        rest.push(next)?;
-        here = after;
+        here = keep(&mut rest, import(tokens, after))?;
     }
     Ok((rest, here))
 }

@@ -12,7 +12,7 @@ ghost use Rattle.ob_parse.specs.Gives.{Gives, ahead};
 
 use crate::input::Input;
 use crate::names::qualident;
-use crate::stop::Stop;
+use crate::stop::{Stop, keep};
 use crate::symbols::{accept, expect, identifier, is_at, skip};
 use ob_scan::{Kind, Token};
 use ob_tree::declaration::{ParameterSection, Parameters};
@@ -34,9 +34,7 @@ fn more_names(alloc: Global, tokens: &[Token], input: Input) -> Result<(Vec<u32>
     let mut rest = Vec::new(alloc);
     let mut here = input;
     'more: while let Some(after) = accept(tokens, here, Kind::Comma) {
-        let (next, after) = name(tokens, after)?;
-        rest.push(next)?;
-        here = after;
+        here = keep(&mut rest, name(tokens, after))?;
     }
     Ok((rest, here))
 }
@@ -96,9 +94,7 @@ fn more_sections(
     let mut rest = Vec::new(alloc);
     let mut here = input;
     'more: while let Some(after) = accept(tokens, here, Kind::Semicolon) {
-        let (next, after) = section(alloc, tokens, after)?;
-        rest.push(next)?;
-        here = after;
+        here = keep(&mut rest, section(alloc, tokens, after))?;
     }
     Ok((rest, here))
 }

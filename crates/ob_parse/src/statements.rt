@@ -16,7 +16,7 @@ ghost use Rattle.ob_tree.specs.Statements.{block_outline, branch_outline, case_o
 use crate::expressions::{designator, expression, expression_behind};
 use crate::input::Input;
 use crate::labels::{begins_label, label_ranges};
-use crate::stop::{Stop, boxed, push};
+use crate::stop::{Stop, boxed, keep_boxed};
 use crate::symbols::{accept, expect, identifier};
 use ob_scan::{Kind, Token};
 use ob_tree::expression::Expr;
@@ -147,9 +147,7 @@ fn more_statements(
     let mut rest = Vec::new(alloc);
     let mut here = input;
     'more: while let Some(after) = accept(tokens, here, Kind::Semicolon) {
-        let (next, after) = statement(alloc, tokens, after, depth)?;
-        push(&mut rest, next)?;
-        here = after;
+        here = keep_boxed(&mut rest, statement(alloc, tokens, after, depth))?;
     }
     Ok((rest, here))
 }
@@ -190,9 +188,7 @@ fn more_branches(
     let mut rest = Vec::new(alloc);
     let mut here = input;
     'more: while let Some(after) = accept(tokens, here, Kind::Elsif) {
-        let (next, after) = branch(alloc, tokens, after, depth, keyword)?;
-        push(&mut rest, next)?;
-        here = after;
+        here = keep_boxed(&mut rest, branch(alloc, tokens, after, depth, keyword))?;
     }
     Ok((rest, here))
 }
@@ -301,9 +297,7 @@ fn more_cases(
     let mut rest = Vec::new(alloc);
     let mut here = input;
     'more: while let Some(after) = accept(tokens, here, Kind::Bar) {
-        let (next, after) = case(alloc, tokens, after, depth)?;
-        push(&mut rest, next)?;
-        here = after;
+        here = keep_boxed(&mut rest, case(alloc, tokens, after, depth))?;
     }
     Ok((rest, here))
 }

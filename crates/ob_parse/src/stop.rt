@@ -1,6 +1,7 @@
 //! Why the parser stops.
 
-ghost use Rattle.std.specs.Prelude.{◌≡◌, [], ◌∷◌, ◌++◌, IfOk, IfErr};
+ghost use Rattle.std.specs.Prelude.{◌≡◌, IfOk, IfErr};
+ghost use Rattle.ob_parse.specs.Gives.{Keeps};
 ghost use Rattle.ob_parse.specs.declared.stop.Stop.TheVariants.{Memory};
 
 use crate::input::Input;
@@ -41,11 +42,26 @@ pub(crate) fn boxed<T: Drop>(alloc: Global, value: T, rest: Input) -> Result<(Bo
     Ok((Box::new(alloc, value)?, rest))
 }
 
-/// One more at the end of a list, out of its box.
-pub(crate) fn push<T: Drop>(list: &mut Vec<T>, item: Box<T>) -> Result<(), Stop>
-    ensures items { IfOk result (λ _. list.new.items ≡ list.old.items ++ item.value ∷ []) }
-    ensures refused { IfErr result (λ stop. stop ≡ Memory) }
+/// One more at the end of a list, as it was read; and the tokens behind it.
+pub(crate) fn keep<T: Drop>(
+    list: &mut Vec<T>,
+    read: Result<(T, Input), Stop>,
+) -> Result<Input, Stop>
+    ensures { Keeps (λ x. x) list.old.items list.new.items read result }
 {
+    let (item, rest) = read?;
+    list.push(item)?;
+    Ok(rest)
+}
+
+/// The same, out of its box.
+pub(crate) fn keep_boxed<T: Drop>(
+    list: &mut Vec<T>,
+    read: Result<(Box<T>, Input), Stop>,
+) -> Result<Input, Stop>
+    ensures { Keeps (λ b. b.value) list.old.items list.new.items read result }
+{
+    let (item, rest) = read?;
     list.push(Box::into_inner(item))?;
-    Ok(())
+    Ok(rest)
 }

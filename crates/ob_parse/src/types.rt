@@ -18,7 +18,7 @@ use crate::expressions::expression_list;
 use crate::input::Input;
 use crate::names::{identdef, qualident, qualident_after};
 use crate::parameters::some_parameters;
-use crate::stop::{Stop, boxed, push};
+use crate::stop::{Stop, boxed, keep, keep_boxed};
 use crate::symbols::{accept, beyond, expect, is_at, skip};
 use ob_scan::{Kind, Token};
 use ob_tree::declaration::{Fields, Record, TypeForm, VarDecl};
@@ -51,9 +51,7 @@ fn more_identdefs(
     let mut rest = Vec::new(alloc);
     let mut here = input;
     'more: while let Some(after) = accept(tokens, here, Kind::Comma) {
-        let (next, after) = identdef(tokens, after)?;
-        rest.push(next)?;
-        here = after;
+        here = keep(&mut rest, identdef(tokens, after))?;
     }
     Ok((rest, here))
 }
@@ -131,9 +129,7 @@ fn more_fields(
     let mut rest = Vec::new(alloc);
     let mut here = input;
     'more: while let Some(after) = next_fields(tokens, here) {
-        let (next, after) = field_list(alloc, tokens, after, depth)?;
-        push(&mut rest, next)?;
-        here = after;
+        here = keep_boxed(&mut rest, field_list(alloc, tokens, after, depth))?;
     }
     Ok((rest, here))
 }

@@ -8,6 +8,7 @@ use Rattle.ob_parse.specs.Front.{is_word}
 use Rattle.ob_parse.specs.Forms.{Reader, many, begins, limit_at, name_at}
 use Rattle.ob_parse.specs.Gives.{ahead}
 use Rattle.ob_parse.specs.ReadModules.{ended, procedure_at, declarations_with, procedure_named, procedure_with, procedures_with}
+use Rattle.ob_parse.proofs.Kept.{kept, unkept}
 use Rattle.ob_parse.proofs.Loops.{pushed, smaller, is_done, has_begun, has_not_begun}
 use Rattle.ob_parse.proofs.LoopEnds.{ends}
 use Rattle.ob_parse.proofs.LoopProcedures.{procedure_advances}
@@ -23,20 +24,24 @@ abbrev shown : ProcDecl → Out
 shown p = procedure_outline p ++ word kinds.Semicolon
 
 pub procedures-more-smaller : goal.procedures-more-smaller
-procedures-more-smaller t c = smaller (begins (is_word kinds.Procedure)) (declared_at c.args.depth) (procedure_advances c.args.depth) (ahead c.args.tokens.now c.more.here) _ _
-    (has_begun (is_word kinds.Procedure) _ (sym c.is_at.ensures ∙ c.more-test.true)) c.in_ok-next.ensures
+procedures-more-smaller t c =
+    let k = kept c.args.tokens.now shown c.ended_procedure.result (λ b. b.value) _ _ _ _ c.ended_procedure.ensures c.in_ok-here.ensures in
+    smaller (begins (is_word kinds.Procedure)) (declared_at c.args.depth) (procedure_advances c.args.depth) (ahead c.args.tokens.now c.more.here) _ _
+    (has_begun (is_word kinds.Procedure) _ (sym c.is_at.ensures ∙ c.more-test.true)) k.is_read
 
 pub procedures-more-preserved : goal.procedures-more-preserved
-procedures-more-preserved t c = pushed (begins (is_word kinds.Procedure)) (declared_at c.args.depth) (procedure_advances c.args.depth) shown c.more.declared.items _ c.in_ok-next.next.value
-    (ahead c.args.tokens.now c.more.here) ([], ahead c.args.tokens.now c.more.here) _ _ c.in_ok-push.ensures.items (has_begun (is_word kinds.Procedure) _ (sym c.is_at.ensures ∙ c.more-test.true)) c.in_ok-next.ensures refl c.more.invariant
+procedures-more-preserved t c =
+    let k = kept c.args.tokens.now shown c.ended_procedure.result (λ b. b.value) _ _ _ _ c.ended_procedure.ensures c.in_ok-here.ensures in
+    pushed (begins (is_word kinds.Procedure)) (declared_at c.args.depth) (procedure_advances c.args.depth) shown c.more.declared.items _ k.item
+    (ahead c.args.tokens.now c.more.here) ([], ahead c.args.tokens.now c.more.here) _ _ k.items (has_begun (is_word kinds.Procedure) _ (sym c.is_at.ensures ∙ c.more-test.true)) k.is_read refl c.more.invariant
 
-pub procedures-returns-in_err-next : goal.procedures-returns-in_err-next
-procedures-returns-in_err-next t c =
+pub procedures-returns-in_err-here : goal.procedures-returns-in_err-here
+procedures-returns-in_err-here t c =
     let p = err_from_is_err_and c.from_residual.result c.from_residual.ensures.1 in
-    rw (p.1, p.2) (ends (begins (is_word kinds.Procedure)) (declared_at c.args.depth) (procedure_advances c.args.depth) c.args.tokens.now c.in_err-next.field-0.0
+    rw (p.1, p.2) (ends (begins (is_word kinds.Procedure)) (declared_at c.args.depth) (procedure_advances c.args.depth) c.args.tokens.now c.in_err-here.field-0.0
     (each shown c.more.declared.items) (ahead c.args.tokens.now c.more.here) _
     (many (begins (is_word kinds.Procedure)) (declared_at c.args.depth) (ahead c.args.tokens.now c.args.input))
-    (has_begun (is_word kinds.Procedure) _ (sym c.is_at.ensures ∙ c.more-test.true)) c.in_err-next.ensures c.more.invariant)
+    (has_begun (is_word kinds.Procedure) _ (sym c.is_at.ensures ∙ c.more-test.true)) (unkept c.args.tokens.now shown c.ended_procedure.result (λ b. b.value) _ _ _ _ c.ended_procedure.ensures c.in_err-here.ensures) c.more.invariant)
 
 pub procedures-returns : goal.procedures-returns
 procedures-returns t c = is_done (begins (is_word kinds.Procedure)) (declared_at c.args.depth) (procedure_advances c.args.depth) (each shown c.more.declared.items) (ahead c.args.tokens.now c.more.here)

@@ -9,6 +9,7 @@ use Rattle.ob_parse.specs.Gives.{ahead}
 use Rattle.ob_parse.specs.ReadTypes.{type_at}
 use Rattle.ob_parse.specs.ReadModules.{is_name, ended, type_decl_with}
 use Rattle.ob_parse.proofs.SoundTypes.{type_at_sound}
+use Rattle.ob_parse.proofs.Kept.{kept, unkept}
 use Rattle.ob_parse.proofs.Loops.{Advances, pushed, smaller, is_done, has_begun, has_not_begun, type_decl_advances}
 use Rattle.ob_parse.proofs.LoopEnds.{ends}
 use Rattle.ob_parse.proofs.declarations.named_types.Goals as goal
@@ -23,19 +24,23 @@ advances : (d : ℕ) → Advances (begins is_name) (declared_at d)
 advances d = type_decl_advances d _ (type_at_sound d)
 
 pub more-smaller : goal.more-smaller
-more-smaller c = smaller (begins is_name) (declared_at c.args.depth) (advances c.args.depth) (ahead c.args.tokens.now c.more.here) _ _
-    (has_begun is_name _ (sym c.begins_declaration.ensures ∙ c.more-test.true)) c.in_ok-next.ensures
+more-smaller c =
+    let k = kept c.args.tokens.now shown c.ended_named_type.result (λ x. x) _ _ _ _ c.ended_named_type.ensures c.in_ok-here.ensures in
+    smaller (begins is_name) (declared_at c.args.depth) (advances c.args.depth) (ahead c.args.tokens.now c.more.here) _ _
+    (has_begun is_name _ (sym c.begins_declaration.ensures ∙ c.more-test.true)) k.is_read
 
 pub more-preserved : goal.more-preserved
-more-preserved c = pushed (begins is_name) (declared_at c.args.depth) (advances c.args.depth) shown c.more.declared.items _ c.in_ok-next.next (ahead c.args.tokens.now c.more.here) ([], ahead c.args.tokens.now c.more.here) _ _
-    c.in_ok-push.ensures.items (has_begun is_name _ (sym c.begins_declaration.ensures ∙ c.more-test.true)) c.in_ok-next.ensures refl c.more.invariant
+more-preserved c =
+    let k = kept c.args.tokens.now shown c.ended_named_type.result (λ x. x) _ _ _ _ c.ended_named_type.ensures c.in_ok-here.ensures in
+    pushed (begins is_name) (declared_at c.args.depth) (advances c.args.depth) shown c.more.declared.items _ k.item (ahead c.args.tokens.now c.more.here) ([], ahead c.args.tokens.now c.more.here) _ _
+    k.items (has_begun is_name _ (sym c.begins_declaration.ensures ∙ c.more-test.true)) k.is_read refl c.more.invariant
 
-pub returns-in_err-next : goal.returns-in_err-next
-returns-in_err-next c =
+pub returns-in_err-here : goal.returns-in_err-here
+returns-in_err-here c =
     let p = err_from_is_err_and c.from_residual.result c.from_residual.ensures.1 in
-    rw (p.1, p.2) (ends (begins is_name) (declared_at c.args.depth) (advances c.args.depth) c.args.tokens.now c.in_err-next.field-0.0
+    rw (p.1, p.2) (ends (begins is_name) (declared_at c.args.depth) (advances c.args.depth) c.args.tokens.now c.in_err-here.field-0.0
     (each shown c.more.declared.items) (ahead c.args.tokens.now c.more.here) _ (many (begins is_name) (declared_at c.args.depth) (ahead c.args.tokens.now c.args.input))
-    (has_begun is_name _ (sym c.begins_declaration.ensures ∙ c.more-test.true)) c.in_err-next.ensures c.more.invariant)
+    (has_begun is_name _ (sym c.begins_declaration.ensures ∙ c.more-test.true)) (unkept c.args.tokens.now shown c.ended_named_type.result (λ x. x) _ _ _ _ c.ended_named_type.ensures c.in_err-here.ensures) c.more.invariant)
 
 pub returns : goal.returns
 returns c = is_done (begins is_name) (declared_at c.args.depth) (advances c.args.depth) (each shown c.more.declared.items) (ahead c.args.tokens.now c.more.here)

@@ -7,6 +7,7 @@ use Rattle.ob_parse.specs.Forms.{many, begins, accept_at, limit_at, name_at, sev
 use Rattle.ob_parse.specs.Gives.{ahead, seen, skipped}
 use Rattle.ob_parse.specs.ReadExpressions.{mul_start, add_start, selector_first, element_with, selector_with, factor_at, term_at, expr_at, designator_with, expr_with, factor_with, negated_at, sum_with, term_with}
 use Rattle.ob_parse.proofs.LoopEnds.{ends}
+use Rattle.ob_parse.proofs.Kept.{kept, unkept}
 use Rattle.ob_parse.proofs.Loops.{Advances, pushed, pushed_after, smaller, is_done, mul_advances, add_advances, accept_advances, selector_advances, marked_some, marked_none, has_begun, has_not_begun}
 use Rattle.ob_parse.proofs.SoundExpressions.{expr_at_sound, element_sound, factor_at_sound, term_at_sound}
 use Rattle.ob_tree.proofs.ExpressionLayers.{expressions_made}
@@ -78,21 +79,23 @@ more_terms-returns t c =
 
 pub more_expressions-more-smaller : goal.more_expressions-more-smaller
 more_expressions-more-smaller t c =
+    let k = kept c.args.tokens.now expr_outline c.expression.result (λ b. b.value) _ _ _ _ c.expression.ensures c.in_ok-here.ensures in
     smaller (accept_at kinds.Comma) (expr_at c.args.depth) (comma_adv c.args.depth) (ahead c.args.tokens.now c.more.here) _ _
-    (sym c.in-Some.ensures) c.in_ok-next.ensures
+    (sym c.in-Some.ensures) k.is_read
 
 pub more_expressions-more-preserved : goal.more_expressions-more-preserved
 more_expressions-more-preserved t c =
+    let k = kept c.args.tokens.now expr_outline c.expression.result (λ b. b.value) _ _ _ _ c.expression.ensures c.in_ok-here.ensures in
     pushed_after (accept_at kinds.Comma) (expr_at c.args.depth) (comma_adv c.args.depth)
-    expr_outline kinds.Comma c.more.rest.items _ c.in_ok-next.next.value (ahead c.args.tokens.now c.more.here) (ahead c.args.tokens.now c.in-Some.after) _ _ c.in_ok-push.ensures.items
-    (sym c.in-Some.ensures) c.in_ok-next.ensures refl c.more.invariant
+    expr_outline kinds.Comma c.more.rest.items _ k.item (ahead c.args.tokens.now c.more.here) (ahead c.args.tokens.now c.in-Some.after) _ _ k.items
+    (sym c.in-Some.ensures) k.is_read refl c.more.invariant
 
-pub more_expressions-returns-in_err-next : goal.more_expressions-returns-in_err-next
-more_expressions-returns-in_err-next t c =
+pub more_expressions-returns-in_err-here : goal.more_expressions-returns-in_err-here
+more_expressions-returns-in_err-here t c =
     let p = err_from_is_err_and c.from_residual.result c.from_residual.ensures.1 in
-    rw (p.1, p.2) (ends (accept_at kinds.Comma) (expr_at c.args.depth) (comma_adv c.args.depth) c.args.tokens.now c.in_err-next.field-0.0
+    rw (p.1, p.2) (ends (accept_at kinds.Comma) (expr_at c.args.depth) (comma_adv c.args.depth) c.args.tokens.now c.in_err-here.field-0.0
     (each_after kinds.Comma expr_outline c.more.rest.items) (ahead c.args.tokens.now c.more.here) _ (many (accept_at kinds.Comma) (expr_at c.args.depth) (ahead c.args.tokens.now c.args.input))
-    (sym c.in-Some.ensures) c.in_err-next.ensures c.more.invariant)
+    (sym c.in-Some.ensures) (unkept c.args.tokens.now expr_outline c.expression.result (λ b. b.value) _ _ _ _ c.expression.ensures c.in_err-here.ensures) c.more.invariant)
 
 pub more_expressions-returns : goal.more_expressions-returns
 more_expressions-returns t c =
@@ -102,21 +105,23 @@ more_expressions-returns t c =
 
 pub more_elements-more-smaller : goal.more_elements-more-smaller
 more_elements-more-smaller t c =
+    let k = kept c.args.tokens.now element_outline c.element.result (λ b. b.value) _ _ _ _ c.element.ensures c.in_ok-here.ensures in
     smaller (accept_at kinds.Comma) (element_with (expr_at c.args.depth)) (element_adv c.args.depth) (ahead c.args.tokens.now c.more.here) _ _
-    (sym c.in-Some.ensures) c.in_ok-next.ensures
+    (sym c.in-Some.ensures) k.is_read
 
 pub more_elements-more-preserved : goal.more_elements-more-preserved
 more_elements-more-preserved t c =
+    let k = kept c.args.tokens.now element_outline c.element.result (λ b. b.value) _ _ _ _ c.element.ensures c.in_ok-here.ensures in
     pushed_after (accept_at kinds.Comma) (element_with (expr_at c.args.depth)) (element_adv c.args.depth)
-    element_outline kinds.Comma c.more.rest.items _ c.in_ok-next.next.value (ahead c.args.tokens.now c.more.here) (ahead c.args.tokens.now c.in-Some.after) _ _ c.in_ok-push.ensures.items
-    (sym c.in-Some.ensures) c.in_ok-next.ensures refl c.more.invariant
+    element_outline kinds.Comma c.more.rest.items _ k.item (ahead c.args.tokens.now c.more.here) (ahead c.args.tokens.now c.in-Some.after) _ _ k.items
+    (sym c.in-Some.ensures) k.is_read refl c.more.invariant
 
-pub more_elements-returns-in_err-next : goal.more_elements-returns-in_err-next
-more_elements-returns-in_err-next t c =
+pub more_elements-returns-in_err-here : goal.more_elements-returns-in_err-here
+more_elements-returns-in_err-here t c =
     let p = err_from_is_err_and c.from_residual.result c.from_residual.ensures.1 in
-    rw (p.1, p.2) (ends (accept_at kinds.Comma) (element_with (expr_at c.args.depth)) (element_adv c.args.depth) c.args.tokens.now c.in_err-next.field-0.0
+    rw (p.1, p.2) (ends (accept_at kinds.Comma) (element_with (expr_at c.args.depth)) (element_adv c.args.depth) c.args.tokens.now c.in_err-here.field-0.0
     (each_after kinds.Comma element_outline c.more.rest.items) (ahead c.args.tokens.now c.more.here) _ (many (accept_at kinds.Comma) (element_with (expr_at c.args.depth)) (ahead c.args.tokens.now c.args.input))
-    (sym c.in-Some.ensures) c.in_err-next.ensures c.more.invariant)
+    (sym c.in-Some.ensures) (unkept c.args.tokens.now element_outline c.element.result (λ b. b.value) _ _ _ _ c.element.ensures c.in_err-here.ensures) c.more.invariant)
 
 pub more_elements-returns : goal.more_elements-returns
 more_elements-returns t c =
@@ -126,21 +131,23 @@ more_elements-returns t c =
 
 pub more_selectors-more-smaller : goal.more_selectors-more-smaller
 more_selectors-more-smaller t c =
+    let k = kept c.args.tokens.now selector_outline c.selector.result (λ x. x) _ _ _ _ c.selector.ensures c.in_ok-here.ensures in
     smaller (begins selector_first) (selector_with (expr_at c.args.depth)) (selector_adv c.args.depth) (ahead c.args.tokens.now c.more.here) _ _
-    (has_begun selector_first (ahead c.args.tokens.now c.more.here) (sym c.begins_selector.ensures ∙ c.more-test.true)) c.in_ok-next.ensures
+    (has_begun selector_first (ahead c.args.tokens.now c.more.here) (sym c.begins_selector.ensures ∙ c.more-test.true)) k.is_read
 
 pub more_selectors-more-preserved : goal.more_selectors-more-preserved
 more_selectors-more-preserved t c =
+    let k = kept c.args.tokens.now selector_outline c.selector.result (λ x. x) _ _ _ _ c.selector.ensures c.in_ok-here.ensures in
     pushed (begins selector_first) (selector_with (expr_at c.args.depth)) (selector_adv c.args.depth)
-    selector_outline c.more.selectors.items _ c.in_ok-next.next (ahead c.args.tokens.now c.more.here) ([], ahead c.args.tokens.now c.more.here) _ _ c.in_ok-push.ensures.items
-    (has_begun selector_first (ahead c.args.tokens.now c.more.here) (sym c.begins_selector.ensures ∙ c.more-test.true)) c.in_ok-next.ensures refl c.more.invariant
+    selector_outline c.more.selectors.items _ k.item (ahead c.args.tokens.now c.more.here) ([], ahead c.args.tokens.now c.more.here) _ _ k.items
+    (has_begun selector_first (ahead c.args.tokens.now c.more.here) (sym c.begins_selector.ensures ∙ c.more-test.true)) k.is_read refl c.more.invariant
 
-pub more_selectors-returns-in_err-next : goal.more_selectors-returns-in_err-next
-more_selectors-returns-in_err-next t c =
+pub more_selectors-returns-in_err-here : goal.more_selectors-returns-in_err-here
+more_selectors-returns-in_err-here t c =
     let p = err_from_is_err_and c.from_residual.result c.from_residual.ensures.1 in
-    rw (p.1, p.2) (ends (begins selector_first) (selector_with (expr_at c.args.depth)) (selector_adv c.args.depth) c.args.tokens.now c.in_err-next.field-0.0
+    rw (p.1, p.2) (ends (begins selector_first) (selector_with (expr_at c.args.depth)) (selector_adv c.args.depth) c.args.tokens.now c.in_err-here.field-0.0
     (each selector_outline c.more.selectors.items) (ahead c.args.tokens.now c.more.here) _ (many (begins selector_first) (selector_with (expr_at c.args.depth)) (ahead c.args.tokens.now c.args.input))
-    (has_begun selector_first (ahead c.args.tokens.now c.more.here) (sym c.begins_selector.ensures ∙ c.more-test.true)) c.in_err-next.ensures c.more.invariant)
+    (has_begun selector_first (ahead c.args.tokens.now c.more.here) (sym c.begins_selector.ensures ∙ c.more-test.true)) (unkept c.args.tokens.now selector_outline c.selector.result (λ x. x) _ _ _ _ c.selector.ensures c.in_err-here.ensures) c.more.invariant)
 
 pub more_selectors-returns : goal.more_selectors-returns
 more_selectors-returns t c =

@@ -9,6 +9,7 @@ use Rattle.ob_parse.specs.Gives.{ahead, skipped}
 use Rattle.ob_parse.specs.ReadExpressions.{expr_at}
 use Rattle.ob_parse.specs.ReadStatements.{block_at, branch_with, case_with, statement_at, block_with, cases_with, for_with, if_with, repeat_with, statement_with, while_with}
 use Rattle.ob_parse.proofs.LoopEnds.{ends}
+use Rattle.ob_parse.proofs.Kept.{kept, unkept}
 use Rattle.ob_parse.proofs.Loops.{Advances, pushed_after, smaller, is_done, accept_advances}
 use Rattle.ob_parse.proofs.SoundExpressions.{expr_at_sound}
 use Rattle.ob_parse.proofs.SoundStatements.{block_at_sound, branch_sound, case_sound, statement_at_sound}
@@ -27,21 +28,23 @@ bar_adv d = accept_advances d kinds.Bar _ (case_sound d _ (block_at_sound d))
 
 pub more_statements-more-smaller : goal.more_statements-more-smaller
 more_statements-more-smaller t c =
+    let k = kept c.args.tokens.now stmt_outline c.statement.result (λ b. b.value) _ _ _ _ c.statement.ensures c.in_ok-here.ensures in
     smaller (accept_at kinds.Semicolon) (statement_at c.args.depth) (semicolon_adv c.args.depth) (ahead c.args.tokens.now c.more.here) _ _
-    (sym c.in-Some.ensures) c.in_ok-next.ensures
+    (sym c.in-Some.ensures) k.is_read
 
 pub more_statements-more-preserved : goal.more_statements-more-preserved
 more_statements-more-preserved t c =
+    let k = kept c.args.tokens.now stmt_outline c.statement.result (λ b. b.value) _ _ _ _ c.statement.ensures c.in_ok-here.ensures in
     pushed_after (accept_at kinds.Semicolon) (statement_at c.args.depth) (semicolon_adv c.args.depth)
-    stmt_outline kinds.Semicolon c.more.rest.items _ c.in_ok-next.next.value (ahead c.args.tokens.now c.more.here) (ahead c.args.tokens.now c.in-Some.after) _ _ c.in_ok-push.ensures.items
-    (sym c.in-Some.ensures) c.in_ok-next.ensures refl c.more.invariant
+    stmt_outline kinds.Semicolon c.more.rest.items _ k.item (ahead c.args.tokens.now c.more.here) (ahead c.args.tokens.now c.in-Some.after) _ _ k.items
+    (sym c.in-Some.ensures) k.is_read refl c.more.invariant
 
-pub more_statements-returns-in_err-next : goal.more_statements-returns-in_err-next
-more_statements-returns-in_err-next t c =
+pub more_statements-returns-in_err-here : goal.more_statements-returns-in_err-here
+more_statements-returns-in_err-here t c =
     let p = err_from_is_err_and c.from_residual.result c.from_residual.ensures.1 in
-    rw (p.1, p.2) (ends (accept_at kinds.Semicolon) (statement_at c.args.depth) (semicolon_adv c.args.depth) c.args.tokens.now c.in_err-next.field-0.0
+    rw (p.1, p.2) (ends (accept_at kinds.Semicolon) (statement_at c.args.depth) (semicolon_adv c.args.depth) c.args.tokens.now c.in_err-here.field-0.0
     (each_after kinds.Semicolon stmt_outline c.more.rest.items) (ahead c.args.tokens.now c.more.here) _ (many (accept_at kinds.Semicolon) (statement_at c.args.depth) (ahead c.args.tokens.now c.args.input))
-    (sym c.in-Some.ensures) c.in_err-next.ensures c.more.invariant)
+    (sym c.in-Some.ensures) (unkept c.args.tokens.now stmt_outline c.statement.result (λ b. b.value) _ _ _ _ c.statement.ensures c.in_err-here.ensures) c.more.invariant)
 
 pub more_statements-returns : goal.more_statements-returns
 more_statements-returns t c =
@@ -51,22 +54,24 @@ more_statements-returns t c =
 
 pub more_branches-more-smaller : goal.more_branches-more-smaller
 more_branches-more-smaller t c =
+    let k = kept c.args.tokens.now (λ b. branch_outline b c.args.keyword) c.branch-alloc.result (λ b. b.value) _ _ _ _ c.branch-alloc.ensures c.in_ok-here.ensures in
     smaller (accept_at kinds.Elsif) (branch_with (expr_at c.args.depth) (block_at c.args.depth) c.args.keyword) (elsif_adv c.args.depth c.args.keyword) (ahead c.args.tokens.now c.more.here) _ _
-    (sym c.in-Some.ensures) c.in_ok-next.ensures
+    (sym c.in-Some.ensures) k.is_read
 
 pub more_branches-more-preserved : goal.more_branches-more-preserved
 more_branches-more-preserved t c =
+    let k = kept c.args.tokens.now (λ b. branch_outline b c.args.keyword) c.branch-alloc.result (λ b. b.value) _ _ _ _ c.branch-alloc.ensures c.in_ok-here.ensures in
     pushed_after (accept_at kinds.Elsif) (branch_with (expr_at c.args.depth) (block_at c.args.depth) c.args.keyword) (elsif_adv c.args.depth c.args.keyword)
-    (λ b. branch_outline b c.args.keyword) kinds.Elsif c.more.rest.items _ c.in_ok-next.next.value (ahead c.args.tokens.now c.more.here) (ahead c.args.tokens.now c.in-Some.after) _ _ c.in_ok-push.ensures.items
-    (sym c.in-Some.ensures) c.in_ok-next.ensures refl c.more.invariant
+    (λ b. branch_outline b c.args.keyword) kinds.Elsif c.more.rest.items _ k.item (ahead c.args.tokens.now c.more.here) (ahead c.args.tokens.now c.in-Some.after) _ _ k.items
+    (sym c.in-Some.ensures) k.is_read refl c.more.invariant
 
-pub more_branches-returns-in_err-next : goal.more_branches-returns-in_err-next
-more_branches-returns-in_err-next t c =
+pub more_branches-returns-in_err-here : goal.more_branches-returns-in_err-here
+more_branches-returns-in_err-here t c =
     let p = err_from_is_err_and c.from_residual.result c.from_residual.ensures.1 in
-    rw (p.1, p.2) (ends (accept_at kinds.Elsif) (branch_with (expr_at c.args.depth) (block_at c.args.depth) c.args.keyword) (elsif_adv c.args.depth c.args.keyword) c.args.tokens.now c.in_err-next.field-0.0
+    rw (p.1, p.2) (ends (accept_at kinds.Elsif) (branch_with (expr_at c.args.depth) (block_at c.args.depth) c.args.keyword) (elsif_adv c.args.depth c.args.keyword) c.args.tokens.now c.in_err-here.field-0.0
     (each_after kinds.Elsif (λ b. branch_outline b c.args.keyword) c.more.rest.items) (ahead c.args.tokens.now c.more.here) _
     (many (accept_at kinds.Elsif) (branch_with (expr_at c.args.depth) (block_at c.args.depth) c.args.keyword) (ahead c.args.tokens.now c.args.input))
-    (sym c.in-Some.ensures) c.in_err-next.ensures c.more.invariant)
+    (sym c.in-Some.ensures) (unkept c.args.tokens.now (λ b. branch_outline b c.args.keyword) c.branch-alloc.result (λ b. b.value) _ _ _ _ c.branch-alloc.ensures c.in_err-here.ensures) c.more.invariant)
 
 pub more_branches-returns : goal.more_branches-returns
 more_branches-returns t c =
@@ -77,21 +82,23 @@ more_branches-returns t c =
 
 pub more_cases-more-smaller : goal.more_cases-more-smaller
 more_cases-more-smaller t c =
+    let k = kept c.args.tokens.now case_outline c.case.result (λ b. b.value) _ _ _ _ c.case.ensures c.in_ok-here.ensures in
     smaller (accept_at kinds.Bar) (case_with (block_at c.args.depth)) (bar_adv c.args.depth) (ahead c.args.tokens.now c.more.here) _ _
-    (sym c.in-Some.ensures) c.in_ok-next.ensures
+    (sym c.in-Some.ensures) k.is_read
 
 pub more_cases-more-preserved : goal.more_cases-more-preserved
 more_cases-more-preserved t c =
+    let k = kept c.args.tokens.now case_outline c.case.result (λ b. b.value) _ _ _ _ c.case.ensures c.in_ok-here.ensures in
     pushed_after (accept_at kinds.Bar) (case_with (block_at c.args.depth)) (bar_adv c.args.depth)
-    case_outline kinds.Bar c.more.rest.items _ c.in_ok-next.next.value (ahead c.args.tokens.now c.more.here) (ahead c.args.tokens.now c.in-Some.after) _ _ c.in_ok-push.ensures.items
-    (sym c.in-Some.ensures) c.in_ok-next.ensures refl c.more.invariant
+    case_outline kinds.Bar c.more.rest.items _ k.item (ahead c.args.tokens.now c.more.here) (ahead c.args.tokens.now c.in-Some.after) _ _ k.items
+    (sym c.in-Some.ensures) k.is_read refl c.more.invariant
 
-pub more_cases-returns-in_err-next : goal.more_cases-returns-in_err-next
-more_cases-returns-in_err-next t c =
+pub more_cases-returns-in_err-here : goal.more_cases-returns-in_err-here
+more_cases-returns-in_err-here t c =
     let p = err_from_is_err_and c.from_residual.result c.from_residual.ensures.1 in
-    rw (p.1, p.2) (ends (accept_at kinds.Bar) (case_with (block_at c.args.depth)) (bar_adv c.args.depth) c.args.tokens.now c.in_err-next.field-0.0
+    rw (p.1, p.2) (ends (accept_at kinds.Bar) (case_with (block_at c.args.depth)) (bar_adv c.args.depth) c.args.tokens.now c.in_err-here.field-0.0
     (each_after kinds.Bar case_outline c.more.rest.items) (ahead c.args.tokens.now c.more.here) _ (many (accept_at kinds.Bar) (case_with (block_at c.args.depth)) (ahead c.args.tokens.now c.args.input))
-    (sym c.in-Some.ensures) c.in_err-next.ensures c.more.invariant)
+    (sym c.in-Some.ensures) (unkept c.args.tokens.now case_outline c.case.result (λ b. b.value) _ _ _ _ c.case.ensures c.in_err-here.ensures) c.more.invariant)
 
 pub more_cases-returns : goal.more_cases-returns
 more_cases-returns t c =

@@ -8,6 +8,7 @@ use Rattle.ob_tree.specs.Types.{var_outline, fields_outline, type_outline}
 use Rattle.ob_parse.specs.Forms.{Reader, many, node, limit_at, unless}
 use Rattle.ob_parse.specs.Gives.{ahead, skipped}
 use Rattle.ob_parse.specs.ReadTypes.{field_start, var_with, type_at, fields_with, record_with, type_with}
+use Rattle.ob_parse.proofs.Kept.{kept, unkept}
 use Rattle.ob_parse.proofs.Loops.{Advances, pushed_after, smaller, is_done, field_advances}
 use Rattle.ob_parse.proofs.LoopEnds.{ends}
 use Rattle.ob_parse.proofs.Sound.{sound_flat}
@@ -26,18 +27,22 @@ advances : (d : ℕ) → Advances field_start (field_at d)
 advances d = field_advances d _ (sound_flat d _ _ refl (var_sound d _ (type_at_sound d)))
 
 pub more_fields-more-smaller : goal.more_fields-more-smaller
-more_fields-more-smaller t c = smaller field_start (field_at c.args.depth) (advances c.args.depth) (ahead c.args.tokens.now c.more.here) _ _ (sym c.in-Some.ensures) c.in_ok-next.ensures
+more_fields-more-smaller t c =
+    let k = kept c.args.tokens.now field_outline c.field_list.result (λ b. b.value) _ _ _ _ c.field_list.ensures c.in_ok-here.ensures in
+    smaller field_start (field_at c.args.depth) (advances c.args.depth) (ahead c.args.tokens.now c.more.here) _ _ (sym c.in-Some.ensures) k.is_read
 
 pub more_fields-more-preserved : goal.more_fields-more-preserved
-more_fields-more-preserved t c = pushed_after field_start (field_at c.args.depth) (advances c.args.depth) field_outline kinds.Semicolon c.more.rest.items _ c.in_ok-next.next.value
-    (ahead c.args.tokens.now c.more.here) (ahead c.args.tokens.now c.in-Some.after) _ _ c.in_ok-push.ensures.items (sym c.in-Some.ensures) c.in_ok-next.ensures refl c.more.invariant
+more_fields-more-preserved t c =
+    let k = kept c.args.tokens.now field_outline c.field_list.result (λ b. b.value) _ _ _ _ c.field_list.ensures c.in_ok-here.ensures in
+    pushed_after field_start (field_at c.args.depth) (advances c.args.depth) field_outline kinds.Semicolon c.more.rest.items _ k.item
+    (ahead c.args.tokens.now c.more.here) (ahead c.args.tokens.now c.in-Some.after) _ _ k.items (sym c.in-Some.ensures) k.is_read refl c.more.invariant
 
-pub more_fields-returns-in_err-next : goal.more_fields-returns-in_err-next
-more_fields-returns-in_err-next t c =
+pub more_fields-returns-in_err-here : goal.more_fields-returns-in_err-here
+more_fields-returns-in_err-here t c =
     let p = err_from_is_err_and c.from_residual.result c.from_residual.ensures.1 in
-    rw (p.1, p.2) (ends field_start (field_at c.args.depth) (advances c.args.depth) c.args.tokens.now c.in_err-next.field-0.0
+    rw (p.1, p.2) (ends field_start (field_at c.args.depth) (advances c.args.depth) c.args.tokens.now c.in_err-here.field-0.0
     (each_after kinds.Semicolon field_outline c.more.rest.items) (ahead c.args.tokens.now c.more.here) _
-    (many field_start (field_at c.args.depth) (ahead c.args.tokens.now c.args.input)) (sym c.in-Some.ensures) c.in_err-next.ensures c.more.invariant)
+    (many field_start (field_at c.args.depth) (ahead c.args.tokens.now c.args.input)) (sym c.in-Some.ensures) (unkept c.args.tokens.now field_outline c.field_list.result (λ b. b.value) _ _ _ _ c.field_list.ensures c.in_err-here.ensures) c.more.invariant)
 
 pub more_fields-returns : goal.more_fields-returns
 more_fields-returns t c = is_done field_start (field_at c.args.depth) (advances c.args.depth)
