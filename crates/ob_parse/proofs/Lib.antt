@@ -20,6 +20,7 @@ pub mod OneFault
 pub mod OneTree
 pub mod ReadsBack
 pub mod RightEnds
+pub mod Somes
 pub mod Sound
 pub mod SoundExpressions
 pub mod SoundModules

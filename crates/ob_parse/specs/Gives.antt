@@ -45,3 +45,8 @@ Keeps value old new (Ok x) (Ok rest) = (new ≡ old ++ value x.0 ∷ []) × (x.1
 Keeps value old new (Ok x) (Err stop) = stop ≡ stops.Memory
 Keeps value old new (Err e) (Ok rest) = ⊥
 Keeps value old new (Err e) (Err stop) = e ≡ stop
+
+-- what was read, where something may stand
+abbrev pub some_of : {X : Type 0} → Result (X × Input) Stop → Result (Option X × Input) Stop
+some_of (Ok x) = Ok (Some x.0, x.1)
+some_of (Err e) = Err e

@@ -19,7 +19,7 @@ use crate::input::Input;
 use crate::names::identdef;
 use crate::parameters::some_parameters;
 use crate::statements::block_behind;
-use crate::stop::{Stop, boxed, keep, keep_boxed};
+use crate::stop::{Stop, boxed, keep, keep_boxed, some};
 use crate::symbols::{accept, beyond, expect, identifier, is_at, skip};
 use crate::types::{type_form, var_declaration};
 use ob_scan::{Kind, Token};
@@ -84,10 +84,7 @@ fn constant_section(
     ensures { Gives tokens.now (λ x. (if_there (λ v. part kinds.Const const_outline v.items) x.0, ahead tokens.now x.1)) result (part_with kinds.Const (const_with (expr_at depth)) (ahead tokens.now input)) }
 {
     match accept(tokens, input, Kind::Const) {
-        Some(rest) => {
-            let (declared, rest) = constants(alloc, tokens, rest, depth)?;
-            Ok((Some(declared), rest))
-        }
+        Some(rest) => some(constants(alloc, tokens, rest, depth)),
         None => Ok((None, input)),
     }
 }
@@ -139,10 +136,7 @@ fn named_type_section(
     ensures { Gives tokens.now (λ x. (if_there (λ v. part kinds.Type type_decl_outline v.items) x.0, ahead tokens.now x.1)) result (part_with kinds.Type (type_decl_with (type_at depth)) (ahead tokens.now input)) }
 {
     match accept(tokens, input, Kind::Type) {
-        Some(rest) => {
-            let (declared, rest) = named_types(alloc, tokens, rest, depth)?;
-            Ok((Some(declared), rest))
-        }
+        Some(rest) => some(named_types(alloc, tokens, rest, depth)),
         None => Ok((None, input)),
     }
 }
@@ -191,10 +185,7 @@ fn variable_section(
     ensures { Gives tokens.now (λ x. (if_there (λ v. part kinds.Var variable_outline v.items) x.0, ahead tokens.now x.1)) result (part_with kinds.Var (variable_with (type_at depth)) (ahead tokens.now input)) }
 {
     match accept(tokens, input, Kind::Var) {
-        Some(rest) => {
-            let (declared, rest) = variables(alloc, tokens, rest, depth)?;
-            Ok((Some(declared), rest))
-        }
+        Some(rest) => some(variables(alloc, tokens, rest, depth)),
         None => Ok((None, input)),
     }
 }

@@ -14,7 +14,7 @@ use crate::input::Input;
 use crate::operators::{
     add_operator, begins_expression, begins_factor, begins_selector, mul_operator, relation, sign,
 };
-use crate::stop::{Stop, boxed, keep, keep_boxed};
+use crate::stop::{Stop, boxed, keep, keep_boxed, some};
 use crate::symbols::{accept, beyond, expect, identifier, is_at};
 use ob_scan::{Kind, Token};
 use ob_tree::expression::{
@@ -57,10 +57,7 @@ pub(crate) fn expression_behind(
 {
     match accept(tokens, input, word) {
         None => Ok((None, input)),
-        Some(rest) => {
-            let (value, rest) = expression(alloc, tokens, rest, depth)?;
-            Ok((Some(value), rest))
-        }
+        Some(rest) => some(expression(alloc, tokens, rest, depth)),
     }
 }
 
@@ -277,8 +274,7 @@ fn elements(
     if is_at(tokens, input, Kind::RightBrace) {
         return Ok((None, input));
     }
-    let (list, rest) = element_list(alloc, tokens, input, depth)?;
-    Ok((Some(list), rest))
+    some(element_list(alloc, tokens, input, depth))
 }
 
 #[cycle(expressions)]
@@ -464,6 +460,5 @@ fn arguments(
     if is_at(tokens, input, Kind::RightParen) {
         return Ok((None, input));
     }
-    let (list, rest) = expression_list(alloc, tokens, input, depth)?;
-    Ok((Some(list), rest))
+    some(expression_list(alloc, tokens, input, depth))
 }

@@ -12,7 +12,7 @@ ghost use Rattle.ob_parse.specs.Gives.{Gives, ahead};
 
 use crate::input::Input;
 use crate::names::qualident;
-use crate::stop::{Stop, keep};
+use crate::stop::{Stop, keep, some};
 use crate::symbols::{accept, expect, identifier, is_at, skip};
 use ob_scan::{Kind, Token};
 use ob_tree::declaration::{ParameterSection, Parameters};
@@ -121,10 +121,7 @@ fn result_type(tokens: &[Token], input: Input) -> Result<(Option<Qualident>, Inp
     ensures { Gives tokens.now (λ x. (if_there (λ q. word kinds.Colon ++ qualident_outline q) x.0, ahead tokens.now x.1)) result (optional (accept_at kinds.Colon) qualident_at (ahead tokens.now input)) }
 {
     match accept(tokens, input, Kind::Colon) {
-        Some(rest) => {
-            let (of, rest) = qualident(tokens, rest)?;
-            Ok((Some(of), rest))
-        }
+        Some(rest) => some(qualident(tokens, rest)),
         None => Ok((None, input)),
     }
 }
@@ -151,8 +148,7 @@ pub(crate) fn some_parameters(
     ensures { Gives tokens.now (λ x. (if_there parameters_outline x.0, ahead tokens.now x.1)) result (some_parameters_at (ahead tokens.now input)) }
 {
     if is_at(tokens, input, Kind::LeftParen) {
-        let (parameters, here) = parameters(alloc, tokens, input)?;
-        return Ok((Some(parameters), here));
+        return some(parameters(alloc, tokens, input));
     }
     Ok((None, input))
 }

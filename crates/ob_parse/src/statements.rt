@@ -16,7 +16,7 @@ ghost use Rattle.ob_tree.specs.Statements.{block_outline, branch_outline, case_o
 use crate::expressions::{designator, expression, expression_behind};
 use crate::input::Input;
 use crate::labels::{begins_label, label_ranges};
-use crate::stop::{Stop, boxed, keep_boxed};
+use crate::stop::{Stop, boxed, keep_boxed, some};
 use crate::symbols::{accept, expect, identifier};
 use ob_scan::{Kind, Token};
 use ob_tree::expression::Expr;
@@ -206,10 +206,7 @@ pub(crate) fn block_behind(
 {
     match accept(tokens, input, word) {
         None => Ok((None, input)),
-        Some(rest) => {
-            let (body, rest) = block(alloc, tokens, rest, depth)?;
-            Ok((Some(body), rest))
-        }
+        Some(rest) => some(block(alloc, tokens, rest, depth)),
     }
 }
 

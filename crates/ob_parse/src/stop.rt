@@ -1,7 +1,7 @@
 //! Why the parser stops.
 
 ghost use Rattle.std.specs.Prelude.{◌≡◌, IfOk, IfErr};
-ghost use Rattle.ob_parse.specs.Gives.{Keeps};
+ghost use Rattle.ob_parse.specs.Gives.{some_of, Keeps};
 ghost use Rattle.ob_parse.specs.declared.stop.Stop.TheVariants.{Memory};
 
 use crate::input::Input;
@@ -64,4 +64,12 @@ pub(crate) fn keep_boxed<T: Drop>(
     let (item, rest) = read?;
     list.push(Box::into_inner(item))?;
     Ok(rest)
+}
+
+/// What was read, where something may stand.
+pub(crate) fn some<T: Drop>(read: Result<(T, Input), Stop>) -> Result<(Option<T>, Input), Stop>
+    ensures { result ≡ some_of read }
+{
+    let (item, rest) = read?;
+    Ok((Some(item), rest))
 }

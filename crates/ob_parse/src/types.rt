@@ -18,7 +18,7 @@ use crate::expressions::expression_list;
 use crate::input::Input;
 use crate::names::{identdef, qualident, qualident_after};
 use crate::parameters::some_parameters;
-use crate::stop::{Stop, boxed, keep, keep_boxed};
+use crate::stop::{Stop, boxed, keep, keep_boxed, some};
 use crate::symbols::{accept, beyond, expect, is_at, skip};
 use ob_scan::{Kind, Token};
 use ob_tree::declaration::{Fields, Record, TypeForm, VarDecl};
@@ -185,8 +185,7 @@ fn some_fields(
     if is_at(tokens, input, Kind::End) {
         return Ok((None, input));
     }
-    let (fields, here) = fields(alloc, tokens, input, depth)?;
-    Ok((Some(fields), here))
+    some(fields(alloc, tokens, input, depth))
 }
 
 /// A type, with at most so many levels in its parts.

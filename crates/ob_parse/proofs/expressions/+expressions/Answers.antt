@@ -12,6 +12,7 @@ use Rattle.ob_parse.proofs.Loops.{Advances, pushed, pushed_after, smaller, is_do
 use Rattle.ob_parse.proofs.SoundExpressions.{expr_at_sound, element_sound, factor_at_sound, term_at_sound}
 use Rattle.ob_tree.proofs.ExpressionLayers.{expressions_made}
 use Rattle.ob_parse.proofs.Boxes.{gives_boxed}
+use Rattle.ob_parse.proofs.Somes.{gives_some, not_closed}
 use Rattle.ob_parse.proofs.expressions.+expressions.Goals as goal
 
 mul_adv : (d : ℕ) → Advances mul_start (factor_at d)
@@ -156,8 +157,8 @@ more_selectors-returns t c =
     (has_not_begun selector_first (ahead c.args.tokens.now c.more.here) (sym c.begins_selector.ensures ∙ c.more-test.false)) c.more.invariant
 
 pub arguments-returns : goal.arguments-returns
-unfolding unless
-arguments-returns t c = grind arith
+arguments-returns t c =
+    gives_some c.args.tokens.now c.expression_list.result (λ l. expr_list_outline l.value) c.some.result (unless kinds.RightParen) _ _ _ c.some.ensures (not_closed kinds.RightParen _ (sym c.is_at.ensures ∙ c.if-is_at.false)) c.expression_list.ensures
 
 pub arguments-returns-then-is_at : goal.arguments-returns-then-is_at
 unfolding unless
@@ -179,8 +180,8 @@ unfolding several
 element_list-returns t c = gives_boxed c.args.tokens.now element_list_outline _ _ c.boxed.result _ c.boxed.ensures.of c.boxed.ensures.refused (grind (arith, expressions_made))
 
 pub elements-returns : goal.elements-returns
-unfolding unless
-elements-returns t c = grind arith
+elements-returns t c =
+    gives_some c.args.tokens.now c.element_list.result (λ l. element_list_outline l.value) c.some.result (unless kinds.RightBrace) _ _ _ c.some.ensures (not_closed kinds.RightBrace _ (sym c.is_at.ensures ∙ c.if-is_at.false)) c.element_list.ensures
 
 pub elements-returns-then-is_at : goal.elements-returns-then-is_at
 unfolding unless

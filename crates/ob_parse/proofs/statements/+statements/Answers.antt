@@ -15,6 +15,7 @@ use Rattle.ob_parse.proofs.SoundExpressions.{expr_at_sound}
 use Rattle.ob_parse.proofs.SoundStatements.{block_at_sound, branch_sound, case_sound, statement_at_sound}
 use Rattle.ob_parse.proofs.StatementSteps.{made}
 use Rattle.ob_parse.proofs.Boxes.{gives_boxed}
+use Rattle.ob_parse.proofs.Somes.{gives_some}
 use Rattle.ob_parse.proofs.statements.+statements.Goals as goal
 
 semicolon_adv : (d : ℕ) → Advances (accept_at kinds.Semicolon) (statement_at d)
@@ -177,3 +178,7 @@ statement_within-returns-in_default t c = grind (arith, made)
 pub while_statement-returns : goal.while_statement-returns
 unfolding while_with
 while_statement-returns t c = grind (arith, made)
+
+pub block_behind-returns-in-Some : goal.block_behind-returns-in-Some
+block_behind-returns-in-Some t c =
+    gives_some c.args.tokens.now c.block.result (λ b. block_outline b.value) c.some.result (accept_at c.args.word) _ _ _ c.some.ensures (sym c.in-Some.ensures) c.block.ensures

@@ -15,6 +15,7 @@ use Rattle.ob_parse.proofs.Sound.{sound_flat}
 use Rattle.ob_parse.proofs.SoundTypes.{var_sound, type_at_sound}
 use Rattle.ob_tree.proofs.TypeLayers.{types_made}
 use Rattle.ob_parse.proofs.Boxes.{gives_boxed}
+use Rattle.ob_parse.proofs.Somes.{gives_some, not_closed}
 use Rattle.ob_parse.proofs.types.+types.Goals as goal
 
 abbrev field_at : ℕ → Reader
@@ -64,8 +65,8 @@ unfolding record_with
 record-returns t c = grind (arith, types_made)
 
 pub some_fields-returns : goal.some_fields-returns
-unfolding unless
-some_fields-returns t c = grind arith
+some_fields-returns t c =
+    gives_some c.args.tokens.now c.fields.result (λ l. fields_outline l.value) c.some.result (unless kinds.End) _ _ _ c.some.ensures (not_closed kinds.End _ (sym c.is_at.ensures ∙ c.if-is_at.false)) c.fields.ensures
 
 pub some_fields-returns-then-is_at : goal.some_fields-returns-then-is_at
 unfolding unless

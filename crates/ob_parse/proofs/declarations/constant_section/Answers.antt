@@ -1,0 +1,12 @@
+use Rattle.std.proofs.Common.{sym, ◌++◌}
+use Rattle.ob_scan.specs.declared.kind.Kind.TheVariants as kinds
+use Rattle.ob_tree.specs.Declaring.{const_outline}
+use Rattle.ob_tree.specs.Marks.{each, word}
+use Rattle.ob_parse.specs.Forms.{accept_at}
+use Rattle.ob_parse.specs.ReadModules.{part_with}
+use Rattle.ob_parse.proofs.Somes.{gives_some}
+use Rattle.ob_parse.proofs.declarations.constant_section.Goals as goal
+
+pub returns-in-Some : goal.returns-in-Some
+unfolding part_with
+returns-in-Some c = gives_some c.args.tokens.now c.constants.result (λ v. each (λ d. const_outline d ++ word kinds.Semicolon) v.items) c.some.result (accept_at kinds.Const) _ _ _ c.some.ensures (sym c.in-Some.ensures) c.constants.ensures
