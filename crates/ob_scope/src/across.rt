@@ -17,7 +17,7 @@ use ob_decls::{Table, Used};
 use std::alloc::{AllocError, Global};
 
 /// A use that crosses an import, by the numbers of its tokens.
-#[derive(Clone, Copy, Debug, Drop)]
+#[derive(Clone, Copy, Drop)]
 pub struct Crossing {
     /// The alias.
     pub first: u32,
