@@ -1,7 +1,8 @@
 -- Identifier after identifier.
-use Rattle.std.proofs.Common.{◌∷◌, ◌++◌, [], List, None, Some, ap, append-nil, sym, ◌∙◌}
+use Rattle.std.proofs.Common.{◌∷◌, ◌++◌, [], List, None, Some, ap, append-nil, sym, ◌∙◌, arith}
 use Rattle.ob_scope.specs.declared.members.Member.{Member}
 use Rattle.ob_scope.proofs.Placing.{members_more}
+use Rattle.std.proofs.lemmas.Grind.{common_steps}
 use Rattle.ob_scope.proofs.members.members_by.Goals as goal
 use Rattle.ob_scope.proofs.members.members_by.Goals.{in-Some+in_ok-push, in_default}
 
@@ -18,3 +19,6 @@ loop-row-preserved c =
           ∙ sym (append-nil _)
           ∙ sym (members_more c.args.declarers.now c.args.declared.now c.loop-row.row-index _ None c.loop-row-test.true (sym w.in_default.is ∙ c.member_by.ensures))))
     ]
+
+pub returns : goal.returns
+returns c = grind (arith, common_steps)
