@@ -4,7 +4,7 @@ use std::alloc::{AllocError, AllocFailed};
 use thiserror::Error;
 
 /// The first refusal: too many files, then two modules of one name, then too many modules or imports, then a cycle.
-#[derive(Debug, PartialEq, Eq, Drop, Error)]
+#[derive(Debug, Drop, Error)]
 pub enum GraphFault {
     /// Two files have modules of this name: the least such name, and the two least paths.
     #[error("two files have the module {name}")]
