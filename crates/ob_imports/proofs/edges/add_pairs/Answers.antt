@@ -14,9 +14,6 @@ number_of-to-requires-clause-known c =
     let among : Contains c.args.file.now.imports.items item = subst (λ (xs : List _). Contains xs item) c.deref-import-items.ensures.value (c.loop-import.import-index, c.loop-import-test.true, sym c.import-item.is) in
     rw c.as_str-in-loop-import.ensures.value (c.requires.known (string_bytes item) (inr (file.name, (file, first_member file [] file refl, refl, in_map string_bytes c.args.file.now.imports.items item among))))
 
-pub loop-import-init : goal.loop-import-init
-loop-import-init c = grind (arith, common_steps)
-
 pub loop-import-preserved : goal.loop-import-preserved
 loop-import-preserved c = grind (arith, common_steps)
 

@@ -14,8 +14,5 @@ add_pairs-requires-clause-known c n node =
 pub loop-file-preserved : goal.loop-file-preserved
 loop-file-preserved c = grind (arith, common_steps)
 
-pub loop-file-init : goal.loop-file-init
-loop-file-init c = grind (arith, common_steps)
-
 pub returns : goal.returns
 returns c = grind (arith, common_steps)

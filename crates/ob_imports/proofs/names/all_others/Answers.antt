@@ -5,8 +5,5 @@ use Rattle.ob_imports.proofs.names.all_others.Goals as goal
 pub loop-file-preserved : goal.loop-file-preserved
 loop-file-preserved c = grind (arith, common_steps)
 
-pub loop-file-init : goal.loop-file-init
-loop-file-init c = grind (arith, common_steps)
-
 pub returns : goal.returns
 returns c = grind (arith, common_steps)

@@ -5,8 +5,5 @@ use Rattle.ob_imports.proofs.order.numbers_of.Goals as goal
 pub loop-pair-preserved : goal.loop-pair-preserved
 loop-pair-preserved c = grind (arith, common_steps)
 
-pub loop-pair-init : goal.loop-pair-init
-loop-pair-init c = grind (arith, common_steps)
-
 pub returns : goal.returns
 returns c = grind (arith, common_steps)

@@ -2,11 +2,5 @@ use Rattle.std.proofs.Common.{arith}
 use Rattle.std.proofs.lemmas.Grind.{common_steps}
 use Rattle.ob_imports.proofs.ready.can_start.Goals as goal
 
-pub returns-then-done-node-clause-can : goal.returns-then-done-node-clause-can
-returns-then-done-node-clause-can c = grind (arith, common_steps)
-
-pub returns-then-done-node-clause-not : goal.returns-then-done-node-clause-not
-returns-then-done-node-clause-not c = grind (arith, common_steps)
-
 pub returns-clause-can : goal.returns-clause-can
 returns-clause-can c = grind (arith, common_steps)
