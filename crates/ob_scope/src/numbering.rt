@@ -29,8 +29,10 @@ pub(crate) fn number_names<'a>(
     let mut numbers = Vec::new(alloc);
     for i in 0..members.len() {
         let name = text.of(members[i].number);
-        let (number, _) = names.insert_full(name)?;
-        numbers.push(number)?;
+        match names.insert_full(name) {
+            Ok((number, _)) => numbers.push(number)?,
+            Err(_) => return Err(AllocError),
+        }
     }
     Ok(Numbered { names, numbers })
 }

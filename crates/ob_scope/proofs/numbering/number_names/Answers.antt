@@ -9,9 +9,9 @@ loop-i-init c = rw (c.new-names.ensures.empty, c.new-numbers.ensures.items) (num
 
 pub loop-i-preserved : goal.loop-i-preserved
 loop-i-preserved c =
-    rw c.in_ok-push.ensures.items
+    rw c.in_ok-push-in-Ok.ensures.items
     (numbered_more (text_at c.args.text.now.bytes.now c.args.text.now.tokens.now) c.args.members.now c.loop-i.i _ _ c.of-name.result c.loop-i.names.keys c.insert_full.new.self.keys c.loop-i.numbers.items c.loop-i.invariant
-    (slice_get-get_or c.args.members.now c.loop-i.i _ c.loop-i-test.true) c.of-name.ensures c.in_ok-number.ensures.index c.in_ok-number.ensures.keys)
+    (slice_get-get_or c.args.members.now c.loop-i.i _ c.loop-i-test.true) c.of-name.ensures c.in-Ok.ensures.index c.in-Ok.ensures.keys)
 
 pub returns : goal.returns
 returns c =
