@@ -1,4 +1,4 @@
-//! Why the parser stops.
+//! Why the parser stops, and what becomes of what it read until then.
 
 ghost use Rattle.std.specs.Prelude.{◌≡◌, IfOk, IfErr};
 ghost use Rattle.ob_parse.specs.Gives.{some_of, Keeps};
