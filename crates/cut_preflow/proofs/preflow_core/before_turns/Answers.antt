@@ -1,10 +1,11 @@
-use Rattle.std.proofs.Common.{◌≡◌, ◌∙◌, refl, sym, ap, subst}
+use Rattle.std.proofs.Common.{◌≡◌, ◌∙◌, refl, sym, ap, subst, arith}
 use Rattle.std.proofs.lemmas.List.{length-map}
 use Rattle.cut_preflow.specs.NodeArcs.{AreArcs, lists}
 use Rattle.cut_preflow.specs.Indexed.{IsIndexed}
 use Rattle.cut_preflow.specs.Preflow.{into, opening, opening_flows}
 use Rattle.cut_preflow.specs.Played.{flow_network}
 use Rattle.cut_preflow.proofs.Saturating.{opening_indexed}
+use Rattle.std.proofs.lemmas.Grind.{common_steps}
 use Rattle.cut_preflow.proofs.preflow_core.before_turns.Goals as goal
 
 pub invariant_of-result : goal.invariant_of-result
@@ -22,3 +23,9 @@ invariant_of-result c =
       (record { network = c.requires.network; limits = c.requires.limits; flows_are = flows; labels_are = labels; legal = refl }),
       (subst (λ s. IsIndexed net s (lists c.in_ok-arcs.arcs.items) c.saturate.new.excesses.items c.saturate.new.active) (sym state) at),
     )
+
+pub saturate-requires-clause-none : goal.saturate-requires-clause-none
+saturate-requires-clause-none c = grind (arith, common_steps)
+
+pub saturate-requires-clause-active : goal.saturate-requires-clause-active
+saturate-requires-clause-active c = grind (arith, common_steps)

@@ -2,6 +2,7 @@ use Rattle.std.proofs.Common.{◌≢◌, ◌+◌, ◌∙◌, sym, ap, refl, subs
 use Rattle.cut_preflow.specs.declared.event.Outcome.TheVariants.{Stale}
 use Rattle.cut_preflow.specs.Settled.{Appends}
 use Rattle.cut_preflow.proofs.Settling.{Appends-push, count_after-applied, history_after-applied}
+use Rattle.std.proofs.lemmas.Grind.{common_steps}
 use Rattle.cut_preflow.proofs.preflow.Preflow.settle_within.Goals as goal
 
 pub loop-i-preserved : goal.loop-i-preserved
@@ -15,3 +16,21 @@ loop-i-preserved g c =
       own = omega (arith, ap (λ p. p.own) c.apply.ensures.counted, count_after-applied c.loop-i.self.own c.apply.result fresh c.in_default-apply.not-Refused, c.loop-i.invariant.own);
       out = ap (λ p. p.out) c.apply.ensures.counted ∙ c.loop-i.invariant.out;
     }
+
+pub returns-in_default-clause-own : goal.returns-in_default-clause-own
+returns-in_default-clause-own g c = grind (arith, common_steps)
+
+pub returns-in-Refused-clause-own : goal.returns-in-Refused-clause-own
+returns-in-Refused-clause-own g c = grind (arith, common_steps)
+
+pub returns-in-Refused-clause-memory : goal.returns-in-Refused-clause-memory
+returns-in-Refused-clause-memory g c = grind (arith, common_steps)
+
+pub returns-in-None-clause-own : goal.returns-in-None-clause-own
+returns-in-None-clause-own g c = grind (arith, common_steps)
+
+pub returns-in-Some-next_step-clause-own : goal.returns-in-Some-next_step-clause-own
+returns-in-Some-next_step-clause-own g c = grind (arith, common_steps)
+
+pub returns-in-Some-next_step-clause-enough : goal.returns-in-Some-next_step-clause-enough
+returns-in-Some-next_step-clause-enough g c = grind (arith, common_steps)
