@@ -1,7 +1,8 @@
 //! The solver by many workers: pushes and relabels on one locked preflow, and a last pass for what they left.
 ghost use Rattle.std.specs.Prelude.{◌≡◌, ◌≢◌, ◌≤◌, IfOk, IfSome, IsSome, length};
-ghost use Rattle.cut_net.specs.Answers.{said_by_cut};
+ghost use Rattle.cut_net.specs.Answers.{said_by, said_by_cut};
 ghost use Rattle.cut_net.specs.Lines.{IsAnswer, IsCheapestSaid};
+ghost use Rattle.cut_net.specs.Pins.{IsAnswerWithPins, IsCheapestSaidWithPins};
 ghost use Rattle.cut_preflow.specs.Flows.{AreEnds, network_on};
 ghost use Rattle.cut_solve.specs.Solving.{outcome_of, IsModuleOr, IsRefusal, IsSolveOutcome, SolveOutcome};
 ghost use Rattle.cut_solve.specs.Starts.{IsBelow, IsStart};
@@ -71,6 +72,19 @@ fn in_threads<L: NetworkLedger + Send + Sync, R: Threads + Wait + Sync, G: Gate 
     })
 }
 
+/// The preflow, with what this many workers did to it.
+fn worked<L: NetworkLedger + Send + Sync, R: Threads + Wait + Sync, G: Gate + Sync>(
+    rt: &R,
+    alloc: Global,
+    preflow: Preflow<L>,
+    workers: u32,
+    gate: &G,
+) -> Result<Preflow<L>, AllocError> {
+    let locked = Mutex::new(preflow);
+    in_threads(rt, alloc, &locked, workers, gate)?;
+    Ok(locked.into_inner())
+}
+
 /// A cheapest cut between two modules, with a flow that proves it, by this many workers on one preflow in the ledger of the blank. None where the
 /// weights that it started on lost flow.
 fn in_ledger<L: NetworkLedger + Send + Sync, R: Threads + Wait + Sync, G: Gate + Sync>(
@@ -99,16 +113,8 @@ fn in_ledger<L: NetworkLedger + Send + Sync, R: Threads + Wait + Sync, G: Gate +
         source,
         sink,
     } = start;
-    let locked = Mutex::new(Preflow::<L>::start_on(
-        alloc,
-        blank,
-        net.nodes(),
-        imports,
-        source,
-        sink,
-    )?);
-    in_threads(rt, alloc, &locked, workers, gate)?;
-    let mut preflow = locked.into_inner();
+    let preflow = Preflow::<L>::start_on(alloc, blank, net.nodes(), imports, source, sink)?;
+    let mut preflow = worked(rt, alloc, preflow, workers, gate)?;
     preflow.keeps();
     last_pass(alloc, net, &mut preflow, from, to)
 }
@@ -187,6 +193,27 @@ fn in_part<R: Threads + Wait + Sync, G: Gate + Sync>(
     Ok(whole)
 }
 
+/// What is answered of two modules: a cheapest cut, or the chain of pins that no cut parts.
+fn answer_between<R: Threads + Wait + Sync, G: Gate + Sync>(
+    rt: &R,
+    alloc: Global,
+    net: &Net,
+    ends: (u32, u32),
+    workers: u32,
+    gate: &G,
+) -> Result<Answer, AllocError>
+    requires { AreEnds net.now ends.0 ends.1 }
+    ensures answer { IfOk result (λ answer. IsAnswerWithPins net.now ends.0 ends.1 (said_by answer)) }
+    ensures cheapest { IfOk result (λ answer. IsCheapestSaidWithPins net.now ends.0 ends.1 (said_by answer)) }
+{
+    let (from, to) = ends;
+    if let Some(answer) = blocked(alloc, net, from, to)? {
+        return Ok(answer);
+    }
+    let cut = in_part(rt, alloc, net, ends, workers, gate)?;
+    Ok(as_answer(net, cut, from, to))
+}
+
 /// A cheapest cut between the modules of two names, or the chain of pins that no cut parts, as `plain` tells it: the cut by 1 to 64 threads that push and relabel on one locked
 /// preflow (Goldberg and Tarjan 1988) of the modules between the two, and call the gate between their turns. Whatever turns they take, the imports and the weight are
 /// the same; the flow may be another one of that value. A worker that memory is refused to ends alone, a thread that can't be started is
@@ -213,9 +240,5 @@ pub fn solve<R: Threads + Wait + Sync, G: Gate + Sync>(
     if from == to {
         return Err(SolveFault::SameModule);
     }
-    if let Some(answer) = blocked(alloc, net, from, to)? {
-        return Ok(answer);
-    }
-    let cut = in_part(rt, alloc, net, (from, to), workers, gate)?;
-    Ok(as_answer(net, cut, from, to))
+    Ok(answer_between(rt, alloc, net, (from, to), workers, gate)?)
 }
