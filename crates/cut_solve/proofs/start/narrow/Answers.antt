@@ -1,8 +1,9 @@
-use Rattle.std.proofs.Common.{List, length, sym, subst}
+use Rattle.std.proofs.Common.{List, length, sym, subst, arith}
 use Rattle.std.proofs.lemmas.Result.{IfOk-weaker}
 use Rattle.cut_net.specs.declared.priced.Priced.{Priced}
 use Rattle.cut_net.specs.WellFormed.{AreBetween}
 use Rattle.cut_part.specs.Narrowing.{IsNarrowed}
+use Rattle.std.proofs.lemmas.Grind.{common_steps}
 use Rattle.cut_solve.proofs.start.narrow.Goals as goal
 
 pub narrowed-requires-clause-between : goal.narrowed-requires-clause-between
@@ -15,3 +16,9 @@ returns c =
     IfOk-weaker c.narrowed.result _ _
     (λ v h. subst (λ (imports : List Priced). IsNarrowed (record { names = net.names; imports = imports; pins = net.pins }) (record { names = net.names; imports = v.items; pins = net.pins }) c.args.from c.args.to)
     c.imports.ensures (h net.names net.pins (sym c.nodes.ensures))) c.narrowed.ensures
+
+pub in_order_of-requires-clause-few : goal.in_order_of-requires-clause-few
+in_order_of-requires-clause-few c = grind (arith, common_steps)
+
+pub narrowed-requires-clause-order : goal.narrowed-requires-clause-order
+narrowed-requires-clause-order c = grind (arith, common_steps)
