@@ -1,20 +1,25 @@
 //! Reading a network from its text.
-ghost use Rattle.std.specs.Prelude.{◌≡◌, ◌≤◌, IfErr, IfOk, IfSome, length};
+ghost use Rattle.std.specs.Prelude.{◌≡◌, ◌≤◌, ℕ, IfErr, IfNone, IfOk, IfSome, List, [], OnOk, length, map};
+ghost use Rattle.std.specs.List.{slice_index_or};
+ghost use Rattle.digraph.specs.Cycle.{NamesCycle};
+ghost use Rattle.cut_net.specs.Lines.{IsAscending};
 ghost use Rattle.cut_net.specs.NetText.{IsNetOutcome, NetOutcome, NetText};
-ghost use Rattle.cut_net.specs.NetReading.{fault_said, net_of, outcome_of, IsDraftOf};
+ghost use Rattle.cut_net.specs.Network.{texts};
+ghost use Rattle.cut_net.specs.NetReading.{fault_said, net_of, outcome_of, IsDraft, IsDraftOf};
+ghost use Rattle.cut_net.specs.WellFormed.{AreBetween, IsAcyclic, Leads};
 
 use crate::cycle::cycle_of;
 use crate::draft::NetDraft;
 use crate::numbering::{fits, lists_of, names_at};
 use crate::{Net, NetFault, Priced};
-use std::alloc::Global;
+use std::alloc::{AllocError, Global};
 
-/// The tables of the lines that the bytes spell, or the fault of the first line that has one.
-fn draft_of(alloc: Global, bytes: &[u8]) -> Result<NetDraft, NetFault>
-    ensures drafted { IfOk result (λ draft. IsDraftOf bytes.now draft) }
+/// Fills the tables of no lines with the lines that the bytes spell, or tells the fault of the first line that has one.
+fn draft_of(alloc: Global, bytes: &[u8], draft: &mut NetDraft) -> Result<(), NetFault>
+    requires { IsDraft [] draft.old }
+    ensures drafted { OnOk result (IsDraftOf bytes.now draft.new) }
     ensures fault { IfErr result (λ fault. IfSome (fault_said fault) (IsNetOutcome bytes.now)) }
 {
-    let mut draft = NetDraft::new(alloc);
     let mut line = 0;
     for piece in bytes.split(|b| *b == b'\n') {
         line += 1;
@@ -22,18 +27,54 @@ fn draft_of(alloc: Global, bytes: &[u8]) -> Result<NetDraft, NetFault>
             return Err(fault.at(line));
         }
     }
-    Ok(draft)
+    Ok(())
 }
 
-/// The names and the imports of the lines that the bytes spell, or the fault of the first line that has one.
+/// The names and the imports of the lines that the bytes spell, by way of the tables of no lines, or the fault of the first line that
+/// has one.
+fn lists_by(
+    alloc: Global,
+    bytes: &[u8],
+    draft: &mut NetDraft,
+) -> Result<(Vec<String>, Vec<Priced>), NetFault>
+    requires { IsDraft [] draft.old }
+    ensures text { IfOk result (λ lists. NetText bytes.now (net_of lists.0.items lists.1.items)) }
+    ensures few_names { IfOk result (λ lists. length lists.0.items ≤ 8192) }
+    ensures few_imports { IfOk result (λ lists. length lists.1.items ≤ 65536) }
+    ensures fault { IfErr result (λ fault. IfSome (fault_said fault) (IsNetOutcome bytes.now)) }
+{
+    draft_of(alloc, bytes, draft)?;
+    Ok(lists_of(alloc, draft)?)
+}
+
+/// The same, with the tables made and dropped here.
 fn lists_in(alloc: Global, bytes: &[u8]) -> Result<(Vec<String>, Vec<Priced>), NetFault>
     ensures text { IfOk result (λ lists. NetText bytes.now (net_of lists.0.items lists.1.items)) }
     ensures few_names { IfOk result (λ lists. length lists.0.items ≤ 8192) }
     ensures few_imports { IfOk result (λ lists. length lists.1.items ≤ 65536) }
     ensures fault { IfErr result (λ fault. IfSome (fault_said fault) (IsNetOutcome bytes.now)) }
 {
-    let draft = draft_of(alloc, bytes)?;
-    Ok(lists_of(alloc, &draft)?)
+    let mut draft = NetDraft::new(alloc);
+    lists_by(alloc, bytes, &mut draft)
+}
+
+/// The names on the named cycle of the imports, or none where no module comes back to itself.
+fn names_on_cycle(
+    alloc: Global,
+    names: &[String],
+    imports: &[Priced],
+) -> Result<Option<Vec<String>>, AllocError>
+    requires between { AreBetween imports.now (length names.now) }
+    requires ascending { IsAscending imports.now }
+    requires few_names { length names.now ≤ 8192 }
+    requires few_imports { length imports.now ≤ 65536 }
+    ensures named { IfOk result (λ found. IfSome found (λ named. (cycle : List ℕ) × NamesCycle (Leads imports.now) cycle × (texts named.items ≡ map (λ m. slice_index_or (texts names.now) m []) cycle))) }
+    ensures none { IfOk result (λ found. IfNone found (IsAcyclic imports.now)) }
+{
+    match cycle_of(alloc, imports, names.len())? {
+        None => Ok(None),
+        Some(cycle) => Ok(Some(names_at(alloc, names, cycle.as_slice())?)),
+    }
 }
 
 /// What the bytes say: a network, or the first fault.
@@ -44,12 +85,9 @@ fn net_in(alloc: Global, bytes: &[u8]) -> Result<Net, NetFault>
     if !fits(imports.as_slice()) {
         return Err(NetFault::WeightOverflow);
     }
-    match cycle_of(alloc, imports.as_slice(), names.len())? {
+    match names_on_cycle(alloc, names.as_slice(), imports.as_slice())? {
         None => Ok(Net::of(alloc, names, imports)),
-        Some(cycle) => {
-            let names = names_at(alloc, names.as_slice(), cycle.as_slice())?;
-            Err(NetFault::Cycle { names })
-        }
+        Some(names) => Err(NetFault::Cycle { names }),
     }
 }
 
