@@ -7,7 +7,7 @@ use crate::DescriptorKind;
 
 /// One step of a symbol's path (scip.proto, `Descriptor`): what it names, its name, and of a method a disambiguator that tells it
 /// from others of its name. Whatever the type holds, only a method has a disambiguator that isn't empty.
-#[derive(Debug, PartialEq, Eq, Drop)]
+#[derive(PartialEq, Eq, Drop)]
 pub struct Descriptor {
     kind: DescriptorKind,
     name: String,

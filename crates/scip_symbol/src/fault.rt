@@ -4,7 +4,7 @@ use std::alloc::{AllocError, AllocFailed};
 use thiserror::Error;
 
 /// The first fault of a symbol or of a text.
-#[derive(Clone, Copy, Debug, PartialEq, Eq, Error)]
+#[derive(Clone, Copy, Debug, Error)]
 pub enum SymbolFault {
     /// The text, the id or what stands behind the four parts is empty; or the symbol has an empty scheme, id or name, or no descriptor.
     #[error("something is empty")]

@@ -1,7 +1,7 @@
 //! What a descriptor names.
 
 /// What a descriptor names (scip.proto, `Descriptor.Suffix`).
-#[derive(Clone, Copy, Debug, PartialEq, Eq)]
+#[derive(Clone, Copy, PartialEq, Eq)]
 pub enum DescriptorKind {
     /// A module or another space of names: `name/`.
     Namespace,

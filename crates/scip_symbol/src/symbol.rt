@@ -3,7 +3,7 @@
 use crate::Descriptor;
 
 /// What a symbol text stands for (scip.proto, `Symbol`).
-#[derive(Debug, PartialEq, Eq, Drop)]
+#[derive(PartialEq, Eq, Drop)]
 pub enum Symbol {
     /// A symbol of one document, by its id.
     Local(String),
