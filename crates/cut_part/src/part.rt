@@ -165,6 +165,40 @@ fn with_both(alloc: Global, marks: &[bool], from: u32, to: u32) -> Result<Vec<bo
     Ok(all)
 }
 
+/// The numbers of the marked modules, and of these two, in order, and the place of each.
+fn numbering(
+    alloc: Global,
+    marks: &[bool],
+    from: u32,
+    to: u32,
+) -> Result<(Vec<u32>, Vec<u32>), AllocError>
+    requires few { length marks.now ≤ 8192 }
+    requires from { from < length marks.now }
+    requires to { to < length marks.now }
+    ensures { IfOk result (λ r. IsNumbering (with_ends marks.now from to) r.0.items r.1.items) }
+{
+    let all = with_both(alloc, marks, from, to)?;
+    numbered(alloc, &all)
+}
+
+/// The imports and the pins between marked modules, by the places of these.
+fn lines_between(
+    alloc: Global,
+    net: &Net,
+    marks: &[bool],
+    places: &[u32],
+) -> Result<(Vec<Priced>, Vec<Priced>), AllocError>
+    requires marks { length marks.now ≡ length net.now.names }
+    requires places { length places.now ≡ length marks.now }
+    ensures imports { IfOk result (λ v. v.0.items ≡ map (renumbered (slice_index places.now)) (filter (inside (is_seen marks.now)) net.now.imports)) }
+    ensures pins { IfOk result (λ v. v.1.items ≡ map (renumbered (slice_index places.now)) (filter (inside (is_seen marks.now)) net.now.pins)) }
+{
+    net.keeps();
+    let imports = imports_between(alloc, net.imports(), marks, places)?;
+    let pins = imports_between(alloc, net.pins(), marks, places)?;
+    Ok((imports, pins))
+}
+
 /// The names of modules, by their numbers.
 fn names_of(alloc: Global, net: &Net, numbers: &[u32]) -> Result<Vec<String>, AllocError>
     requires { All (λ m. m < length net.now.names) numbers.now }
@@ -215,10 +249,8 @@ pub fn between(alloc: Global, net: &Net, from: u32, to: u32) -> Result<Part, All
 {
     net.keeps();
     let marks = marks_between(alloc, net, from, to)?;
-    let kept = with_both(alloc, &marks, from, to)?;
-    let (numbers, places) = numbered(alloc, &kept)?;
-    let imports = imports_between(alloc, net.imports(), &marks, &places)?;
-    let pins = imports_between(alloc, net.pins(), &marks, &places)?;
+    let (numbers, places) = numbering(alloc, &marks, from, to)?;
+    let (imports, pins) = lines_between(alloc, net, &marks, &places)?;
     let names = names_of(alloc, net, &numbers)?;
     Ok(Part {
         net: Net::with_pins(names, imports, pins),

@@ -4,7 +4,6 @@ use Rattle.cut_net.specs.declared.priced.Priced.{Priced}
 use Rattle.cut_net.specs.Network.{Network, name_of, texts}
 use Rattle.cut_net.specs.WellFormed.{IsNetwork}
 use Rattle.cut_net.specs.Pins.{ArePins}
-use Rattle.cut_net.proofs.PinChains.{pins_between}
 use Rattle.cut_residual.specs.Graphs.{is_seen}
 use Rattle.cut_part.specs.Inside.{inside}
 use Rattle.cut_part.specs.Marks.{with_ends, IsNumbering, IsPart}
@@ -16,28 +15,18 @@ use Rattle.cut_part.proofs.part.between.Goals as goal
 abbrev network_of : List (List ℕ) → List Priced → List Priced → Network
 network_of names imports pins = record { names = names; imports = imports; pins = pins }
 
--- the lines between marked modules, of marks, places and lines that were lent
-lines_in : (marks : List Bool) (places : List ℕ) (lines : List Priced) (marks_now : List Bool) (places_now : List ℕ) (lines_now items : List Priced) →
-    items ≡ map (renumbered (λ m. get_or places_now m 0)) (filter (inside (is_seen marks_now)) lines_now) → marks_now ≡ marks → places_now ≡ places → lines_now ≡ lines →
+-- the lines between marked modules, of marks and places that were lent
+lines_in : (marks : List Bool) (places : List ℕ) (lines : List Priced) (marks_now : List Bool) (places_now : List ℕ) (items : List Priced) →
+    items ≡ map (renumbered (λ m. get_or places_now m 0)) (filter (inside (is_seen marks_now)) lines) → marks_now ≡ marks → places_now ≡ places →
     items ≡ map (renumbered (λ m. get_or places m 0)) (filter (inside (is_seen marks)) lines)
-lines_in marks places lines marks_now places_now lines_now items e m p l =
-    e ∙ ap (λ (v : List ℕ). map (renumbered (λ m. get_or v m 0)) (filter (inside (is_seen marks_now)) lines_now)) p
-    ∙ ap (λ (v : List Bool). map (renumbered (λ m. get_or places m 0)) (filter (inside (is_seen v)) lines_now)) m
-    ∙ ap (λ (v : List Priced). map (renumbered (λ m. get_or places m 0)) (filter (inside (is_seen marks)) v)) l
+lines_in marks places lines marks_now places_now items e m p =
+    e ∙ ap (λ (v : List ℕ). map (renumbered (λ m. get_or v m 0)) (filter (inside (is_seen marks_now)) lines)) p
+    ∙ ap (λ (v : List Bool). map (renumbered (λ m. get_or places m 0)) (filter (inside (is_seen v)) lines)) m
 
 same_parts : (names others : List (List ℕ)) (imports more pins rest : List Priced) → names ≡ others → imports ≡ more → pins ≡ rest →
     network_of names imports pins ≡ network_of others more rest
 same_parts names others imports more pins rest n i p =
     ap (λ (v : List (List ℕ)). network_of v imports pins) n ∙ ap₂ (λ (v w : List Priced). network_of others v w) i p
-
-pub imports_between-requires-clause-between : goal.imports_between-requires-clause-between
-imports_between-requires-clause-between c =
-    rw (c.imports.ensures, c.deref-3.ensures.value, c.in_ok-marks.ensures.size) c.keeps.ensures.network.between
-
-pub imports_between-requires-2-clause-between : goal.imports_between-requires-2-clause-between
-imports_between-requires-2-clause-between c =
-    rw (c.pins.ensures, c.deref-5.ensures.value, c.in_ok-marks.ensures.size)
-    (pins_between c.args.net.now (length c.args.net.now.names) c.keeps.ensures.network.between c.keeps.ensures.pins)
 
 pub names_of-requires : goal.names_of-requires
 names_of-requires c =
@@ -45,9 +34,8 @@ names_of-requires c =
     let marks = c.in_ok-marks.marks.items in
     let numbers = c.in_ok-numbers.numbers.items in
     let places = c.in_ok-numbers.places.items in
-    let kept_is = c.deref-2.ensures.value ∙ c.in_ok-kept.ensures ∙ ap (λ (v : List Bool). with_ends v c.args.from c.args.to) c.deref.ensures.value in
-    let is : IsNumbering (with_ends marks c.args.from c.args.to) numbers places = subst (λ (v : List Bool). IsNumbering v numbers places) kept_is c.in_ok-numbers.ensures in
-    rw c.deref-7.ensures.value (numbers_low net c.args.from c.args.to marks numbers places c.in_ok-marks.ensures.size c.in_ok-marks.ensures.between is)
+    let is : IsNumbering (with_ends marks c.args.from c.args.to) numbers places = subst (λ (v : List Bool). IsNumbering (with_ends v c.args.from c.args.to) numbers places) c.deref.ensures.value c.in_ok-numbers.ensures in
+    rw c.deref-4.ensures.value (numbers_low net c.args.from c.args.to marks numbers places c.in_ok-marks.ensures.size c.in_ok-marks.ensures.between is)
 
 pub with_pins-requires-clause-network : goal.with_pins-requires-clause-network
 with_pins-requires-clause-network c =
@@ -55,11 +43,10 @@ with_pins-requires-clause-network c =
     let marks = c.in_ok-marks.marks.items in
     let numbers = c.in_ok-numbers.numbers.items in
     let places = c.in_ok-numbers.places.items in
-    let kept_is = c.deref-2.ensures.value ∙ c.in_ok-kept.ensures ∙ ap (λ (v : List Bool). with_ends v c.args.from c.args.to) c.deref.ensures.value in
-    let is : IsNumbering (with_ends marks c.args.from c.args.to) numbers places = subst (λ (v : List Bool). IsNumbering v numbers places) kept_is c.in_ok-numbers.ensures in
-    let imports = lines_in marks places net.imports _ _ _ _ c.in_ok-imports.ensures c.deref-3.ensures.value c.deref-4.ensures.value c.imports.ensures in
-    let pins = lines_in marks places net.pins _ _ _ _ c.in_ok-pins.ensures c.deref-5.ensures.value c.deref-6.ensures.value c.pins.ensures in
-    let names : texts c.in_ok-names.names.items ≡ map (name_of net) numbers = c.in_ok-names.ensures ∙ ap (λ (v : List ℕ). map (name_of net) v) c.deref-7.ensures.value in
+    let is : IsNumbering (with_ends marks c.args.from c.args.to) numbers places = subst (λ (v : List Bool). IsNumbering (with_ends v c.args.from c.args.to) numbers places) c.deref.ensures.value c.in_ok-numbers.ensures in
+    let imports = lines_in marks places net.imports _ _ _ c.in_ok-imports.ensures.imports c.deref-2.ensures.value c.deref-3.ensures.value in
+    let pins = lines_in marks places net.pins _ _ _ c.in_ok-imports.ensures.pins c.deref-2.ensures.value c.deref-3.ensures.value in
+    let names : texts c.in_ok-names.names.items ≡ map (name_of net) numbers = c.in_ok-names.ensures ∙ ap (λ (v : List ℕ). map (name_of net) v) c.deref-4.ensures.value in
     let made = same_parts _ _ _ _ _ _ (sym names) (sym imports) (sym pins) in
     subst IsNetwork made (is_network net c.args.from c.args.to marks numbers places c.in_ok-marks.ensures.size c.in_ok-marks.ensures.between is c.keeps.ensures.network)
 
@@ -69,11 +56,10 @@ with_pins-requires-clause-pins c =
     let marks = c.in_ok-marks.marks.items in
     let numbers = c.in_ok-numbers.numbers.items in
     let places = c.in_ok-numbers.places.items in
-    let kept_is = c.deref-2.ensures.value ∙ c.in_ok-kept.ensures ∙ ap (λ (v : List Bool). with_ends v c.args.from c.args.to) c.deref.ensures.value in
-    let is : IsNumbering (with_ends marks c.args.from c.args.to) numbers places = subst (λ (v : List Bool). IsNumbering v numbers places) kept_is c.in_ok-numbers.ensures in
-    let imports = lines_in marks places net.imports _ _ _ _ c.in_ok-imports.ensures c.deref-3.ensures.value c.deref-4.ensures.value c.imports.ensures in
-    let pins = lines_in marks places net.pins _ _ _ _ c.in_ok-pins.ensures c.deref-5.ensures.value c.deref-6.ensures.value c.pins.ensures in
-    let names : texts c.in_ok-names.names.items ≡ map (name_of net) numbers = c.in_ok-names.ensures ∙ ap (λ (v : List ℕ). map (name_of net) v) c.deref-7.ensures.value in
+    let is : IsNumbering (with_ends marks c.args.from c.args.to) numbers places = subst (λ (v : List Bool). IsNumbering (with_ends v c.args.from c.args.to) numbers places) c.deref.ensures.value c.in_ok-numbers.ensures in
+    let imports = lines_in marks places net.imports _ _ _ c.in_ok-imports.ensures.imports c.deref-2.ensures.value c.deref-3.ensures.value in
+    let pins = lines_in marks places net.pins _ _ _ c.in_ok-imports.ensures.pins c.deref-2.ensures.value c.deref-3.ensures.value in
+    let names : texts c.in_ok-names.names.items ≡ map (name_of net) numbers = c.in_ok-names.ensures ∙ ap (λ (v : List ℕ). map (name_of net) v) c.deref-4.ensures.value in
     let made = same_parts _ _ _ _ _ _ (sym names) (sym imports) (sym pins) in
     subst ArePins made (are_pins net c.args.from c.args.to marks numbers places c.in_ok-marks.ensures.size c.in_ok-marks.ensures.between is c.keeps.ensures.pins)
 
@@ -83,11 +69,10 @@ returns c =
     let marks = c.in_ok-marks.marks.items in
     let numbers = c.in_ok-numbers.numbers.items in
     let places = c.in_ok-numbers.places.items in
-    let kept_is = c.deref-2.ensures.value ∙ c.in_ok-kept.ensures ∙ ap (λ (v : List Bool). with_ends v c.args.from c.args.to) c.deref.ensures.value in
-    let is : IsNumbering (with_ends marks c.args.from c.args.to) numbers places = subst (λ (v : List Bool). IsNumbering v numbers places) kept_is c.in_ok-numbers.ensures in
-    let imports = lines_in marks places net.imports _ _ _ _ c.in_ok-imports.ensures c.deref-3.ensures.value c.deref-4.ensures.value c.imports.ensures in
-    let pins = lines_in marks places net.pins _ _ _ _ c.in_ok-pins.ensures c.deref-5.ensures.value c.deref-6.ensures.value c.pins.ensures in
-    let names : texts c.in_ok-names.names.items ≡ map (name_of net) numbers = c.in_ok-names.ensures ∙ ap (λ (v : List ℕ). map (name_of net) v) c.deref-7.ensures.value in
+    let is : IsNumbering (with_ends marks c.args.from c.args.to) numbers places = subst (λ (v : List Bool). IsNumbering (with_ends v c.args.from c.args.to) numbers places) c.deref.ensures.value c.in_ok-numbers.ensures in
+    let imports = lines_in marks places net.imports _ _ _ c.in_ok-imports.ensures.imports c.deref-2.ensures.value c.deref-3.ensures.value in
+    let pins = lines_in marks places net.pins _ _ _ c.in_ok-imports.ensures.pins c.deref-2.ensures.value c.deref-3.ensures.value in
+    let names : texts c.in_ok-names.names.items ≡ map (name_of net) numbers = c.in_ok-names.ensures ∙ ap (λ (v : List ℕ). map (name_of net) v) c.deref-4.ensures.value in
     let made = same_parts _ _ _ _ _ _ (sym names) (sym imports) (sym pins) in
     subst (λ (n : Network). IsPart net c.args.from c.args.to marks numbers places n) (made ∙ sym c.with_pins.ensures)
     (is_part net c.args.from c.args.to marks numbers places c.in_ok-marks.ensures.size c.in_ok-marks.ensures.between is)
