@@ -41,21 +41,21 @@ fn comes_after(last: Option<Priced>, next: Priced) -> bool
     }
 }
 
-/// The import between two names, which is to come after the last.
+/// The import between two names, which is to come after the last of those that are read.
 #[tactic(auto, unfolding(crate::specs::Drafts::import_of))]
 fn import_in(
     net: &Net,
-    last: Option<Priced>,
+    read: &[Priced],
     from: &str,
     to: &str,
     amount: u64,
 ) -> Result<Priced, ReportLineFault>
-    ensures { result ≡ import_of net.now last from.now to.now amount }
+    ensures { result ≡ import_of net.now (last_import None read.now) from.now to.now amount }
 {
     let from = net.index_of(from).ok_or(ReportLineFault::UnknownName)?;
     let to = net.index_of(to).ok_or(ReportLineFault::UnknownName)?;
     let next = Priced { from, to, amount };
-    if comes_after(last, next) {
+    if comes_after(last_in(read), next) {
         Ok(next)
     } else {
         Err(ReportLineFault::Order)
@@ -130,14 +130,12 @@ fn with_more(
 {
     match line {
         Line::Removes(importer, imported, weight) if cut.flow.is_empty() => {
-            let last = last_in(cut.imports.as_slice());
-            let next = import_in(net, last, importer, imported, weight)?;
+            let next = import_in(net, &cut.imports, importer, imported, weight)?;
             cut.imports.push(next)?;
             Ok(ReportDraft::Open(from, to, cut))
         }
         Line::Flows(importer, imported, flow) => {
-            let last = last_in(cut.flow.as_slice());
-            let next = import_in(net, last, importer, imported, flow)?;
+            let next = import_in(net, &cut.flow, importer, imported, flow)?;
             cut.flow.push(next)?;
             Ok(ReportDraft::Open(from, to, cut))
         }
