@@ -1,8 +1,8 @@
 -- A buffer that grows, and what tells the same in it.
-use Rattle.std.proofs.Common.{◌≡◌, ℕ, ◌+◌, List, [], ◌∷◌, ◌++◌, length, take, map, refl, sym, ap, ◌∙◌, append_assoc, append-nil}
-use Rattle.std.proofs.Common.{◌<◌, get_or, Option, Some, None}
+use Rattle.std.proofs.Common.{◌≡◌, ℕ, ◌+◌, List, [], ◌∷◌, ◌++◌, length, take, map, refl, sym, ap, ◌∙◌, subst, append_assoc, append-nil, take_all}
+use Rattle.std.proofs.Common.{◌<◌, ◌≤◌, get_or, Option, Some, None}
 use Rattle.std.specs.List.{filter_map}
-use Rattle.std.proofs.lemmas.List.{take_more, map-append}
+use Rattle.std.proofs.lemmas.List.{take_more, map_more, map-append}
 use Rattle.std.proofs.lemmas.List.Elements.{filter_map-append}
 use Rattle.ob_interface.specs.Texts.{IsGrown, Tells, AllTell}
 
@@ -35,3 +35,13 @@ more_told tell h a b xs rs i d x y all grown one l e more =
 pub none_told : {R X Y : Type 0} (tell : List ℕ → X → Y) (h : R → Option Y) (a : List ℕ) (xs : List X) (rs : List R) (i : ℕ) (d : R) → AllTell tell a xs (filter_map h (take i rs))
     → i < length rs → h (get_or rs i d) ≡ None → AllTell tell a xs (filter_map h (take (i + 1) rs))
 none_told tell h a xs rs i d all l e more = rw (take_more rs i d l, filter_map-append h (take i rs) (get_or rs i d ∷ []), e, append-nil (filter_map h (take i rs))) (all more)
+
+-- one more row for each
+pub map_told : {R X Y : Type 0} (tell : List ℕ → X → Y) (h : R → Y) (a b : List ℕ) (xs : List X) (rs : List R) (i : ℕ) (d : R) (x : X) → AllTell tell a xs (map h (take i rs)) → IsGrown a b → Tells tell b x (h (get_or rs i d)) → i < length rs
+    → AllTell tell b (xs ++ x ∷ []) (map h (take (i + 1) rs))
+map_told tell h a b xs rs i d x all grown one l more =
+    rw (map_more h rs i d l, map-append (tell (b ++ more)) xs (x ∷ []), all_tell_grown tell a b xs (map h (take i rs)) all grown more, one more) refl
+
+-- what is told of all up to a place behind the last is told of all
+pub all_told : {R X Y : Type 0} (tell : List ℕ → X → Y) (a : List ℕ) (xs : List X) (ys : List R → List Y) (rs : List R) (i : ℕ) → AllTell tell a xs (ys (take i rs)) → length rs ≤ i → AllTell tell a xs (ys rs)
+all_told tell a xs ys rs i h l = subst (λ (r : List _). AllTell tell a xs (ys r)) (take_all i rs l) h

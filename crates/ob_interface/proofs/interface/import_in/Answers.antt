@@ -5,3 +5,6 @@ use Rattle.ob_interface.proofs.interface.import_in.Goals as goal
 
 pub returns : goal.returns
 returns c = named_fit fits_alias _ c.args.aliases.now _ _ (None, c.args.alias.now) _ c.as_slice.ensures.value c.requires.indexes c.first_by_name.ensures.found c.first_by_name.ensures.none
+
+pub first_by_name-requires : goal.first_by_name-requires
+first_by_name-requires c = rw c.as_slice.ensures.value c.requires.by_name

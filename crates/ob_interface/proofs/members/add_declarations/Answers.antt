@@ -1,10 +1,11 @@
-use Rattle.std.proofs.Common.{sym, ◌∙◌, ap, nat_eq}
+use Rattle.std.proofs.Common.{sym, ◌∙◌, ap, nat_eq, refl}
+use Rattle.std.specs.List.{filter_map}
 use Rattle.std.specs.Option.{option_map}
 use Rattle.indexmap.specs.IndexMap.{get}
 use Rattle.ob_decls.specs.declared.rows.Declared.{Declared}
 use Rattle.ob_interface.specs.Interfaces.{declaration, declaration_by}
 use Rattle.ob_interface.specs.Texts.{declaration_in, form_at}
-use Rattle.ob_interface.proofs.Growing.{more_told, none_told, grown_twice}
+use Rattle.ob_interface.proofs.Growing.{all_told, grown_none, grown_twice, more_told, none_told}
 use Rattle.ob_interface.proofs.members.add_declarations.Goals as goal
 use Rattle.ob_interface.proofs.members.add_declarations.Goals.{in-Some+in_ok-row-in-Some+in_ok-push-in-Some, in-None}
 
@@ -27,3 +28,16 @@ loop-i-preserved c =
         tell = none_told tell h _ _ c.args.declared.now c.loop-i.i _ c.loop-i.invariant.tell c.loop-i-test.true (sym found ∙ ap (option_map (declaration bytes ts ps _)) w.in-None.is);
       })
     ]
+
+pub loop-i-init : goal.loop-i-init
+loop-i-init c = record { grown = grown_none _; tell = λ more. rw c.new-rows.ensures.items refl }
+
+pub returns-clause-grown : goal.returns-clause-grown
+returns-clause-grown c = c.loop-i.invariant.grown
+
+pub returns-clause-tell : goal.returns-clause-tell
+returns-clause-tell c =
+    let bytes = c.args.source.now.bytes.now in
+    let ts = c.args.source.now.tokens.now in
+    let ps = c.args.parts.now in
+    all_told (declaration_in (form_at bytes ts ps)) _ _ (filter_map (λ (r : Declared). declaration_by bytes ts ps r (get nat_eq c.args.outers.now r.declared_by))) c.args.declared.now c.loop-i.i c.loop-i.invariant.tell c.loop-i-test.false
