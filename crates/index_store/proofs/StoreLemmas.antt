@@ -5,7 +5,7 @@ use Rattle.std.specs.List.{flat_map}
 use Rattle.std.specs.Str.{bytes_eq}
 use Rattle.std.proofs.lemmas.Bool.{cases_Bool, eqb-true}
 use Rattle.std.proofs.lemmas.Grind.{flat_map-append}
-use Rattle.std.proofs.lemmas.List.{append-nil, append_assoc, map-append, map_more}
+use Rattle.std.proofs.lemmas.List.{append-nil, append_assoc, length-set, map-append, map_more}
 use Rattle.std.proofs.lemmas.List.Elements.{All-append, Contains-append_left, Contains-push, Contains-push_cases}
 use Rattle.index_store.specs.declared.row.Covering.{Covering}
 use Rattle.index_store.specs.declared.row.Mention.{Mention}
@@ -15,7 +15,7 @@ use Rattle.scip_index.specs.declared.index.Occurrence.{Occurrence}
 use Rattle.scip_index.specs.Plain.{PlainDocument, plain_document, plain_occurrence}
 use Rattle.index_store.specs.Queries.{Found, found_at, found_in, is_definition}
 use Rattle.index_store.specs.Spans.{span_of}
-use Rattle.index_store.specs.Stores.{AreWhole, Keeps, Mentioned, Tables, covering_given, covering_in, coverings_under, mention_of, mentions_under, paths_of, said_covering, said_mention}
+use Rattle.index_store.specs.Stores.{AreWhole, IsMentionOf, Keeps, Mentioned, Tables, covering_given, covering_in, coverings_under, mention_of, mentions_under, paths_of, said_covering, said_mention}
 use Rattle.index_store.specs.Tables.{IsEntered, number_of, rows_at, rows_under, text_at}
 use Rattle.index_store.proofs.TableLemmas.{number_last, number_there, text_among, text_kept, under_added, under_pushed}
 
@@ -205,6 +205,37 @@ whole_is (b ∷ more) e = (b, more, refl)
 pub empty_is : (text : List ℕ) → eqb (length text) 0 ≡ true → text ≡ []
 empty_is [] e = refl
 empty_is (b ∷ more) e = absurd (let z = eqb-true (length (b ∷ more)) 0 e in omega (arith, z))
+
+-- the symbol is entered, and then a mention of it
+module _ (t : Tables) (symbol : List ℕ) (ss : List (List ℕ)) (ms : List (List Mention)) (n : ℕ) (m : Mention) (whole : AreWhole t) (entered : IsEntered t.symbols t.mentions symbol ss ms n) where
+  whole_more : AreWhole (record { paths = t.paths; coverings = t.coverings; symbols = ss; mentions = ms })
+  whole_more = record { of_paths = whole.of_paths; of_symbols = entered_whole t.symbols t.mentions symbol ss ms n whole.of_symbols entered }
+
+  pub mentioned_within : n < length ms
+  mentioned_within = entered_within t.symbols t.mentions symbol ss ms n whole.of_symbols entered
+
+  pub bare_whole : AreWhole (record { paths = t.paths; coverings = t.coverings; symbols = ss; mentions = set ms n (rows_at ms n ++ m ∷ []) })
+  bare_whole = record { of_paths = whole.of_paths; of_symbols = whole_more.of_symbols ∙ sym (length-set ms n (rows_at ms n ++ m ∷ [])) }
+
+  pub covered_whole : (c : Covering) → AreWhole (record { paths = t.paths; coverings = set t.coverings m.path (rows_at t.coverings m.path ++ c ∷ []); symbols = ss; mentions = set ms n (rows_at ms n ++ m ∷ []) })
+  covered_whole c = record { of_paths = whole.of_paths ∙ sym (length-set t.coverings m.path (rows_at t.coverings m.path ++ c ∷ [])); of_symbols = bare_whole.of_symbols }
+
+  module _ (paths : List (List ℕ)) (found : List Found) (f : Found) (k : Keeps paths found t) (at : number_of t.paths f.path ≡ Some m.path) (is : IsMentionOf f symbol m) where
+    kept_entered : Keeps paths found (record { paths = t.paths; coverings = t.coverings; symbols = ss; mentions = ms })
+    kept_entered = symbol_entered paths found t symbol ss ms n whole k entered
+
+    number_more : number_of ss f.occurrence.symbol ≡ Some n
+    number_more = ap (number_of ss) is.named ∙ entered_number t.symbols t.mentions symbol ss ms n whole.of_symbols entered
+
+    pub bare_mentioned : eqb (length symbol) 0 ≡ true → Keeps paths (found ++ f ∷ []) (record { paths = t.paths; coverings = t.coverings; symbols = ss; mentions = set ms n (rows_at ms n ++ m ∷ []) })
+    bare_mentioned e =
+        bare_kept paths found (record { paths = t.paths; coverings = t.coverings; symbols = ss; mentions = ms }) f m n whole_more kept_entered at number_more is.placed is.defines (is.named ∙ empty_is symbol e)
+
+    pub whole_mentioned : eqb (length symbol) 0 ≡ false
+        → Keeps paths (found ++ f ∷ []) (record { paths = t.paths; coverings = set t.coverings m.path (rows_at t.coverings m.path ++ (record { span = m.span; symbol = n }) ∷ []); symbols = ss; mentions = set ms n (rows_at ms n ++ m ∷ []) })
+    whole_mentioned e =
+        let w = whole_is symbol e in
+        whole_kept paths found (record { paths = t.paths; coverings = t.coverings; symbols = ss; mentions = ms }) f m n whole_more kept_entered at number_more is.placed is.defines w.0 w.1 (is.named ∙ w.2)
 
 -- ---- loops
 

@@ -79,6 +79,12 @@ pub record Keeps (paths : List (List ℕ)) (found : List Found) (t : Tables) : T
   pub symbols_there : (path : List ℕ) → All (λ c. c.symbol < length t.symbols) (coverings_under t path)
   pub paths_there : (symbol : List ℕ) → All (λ m. m.path < length t.paths) (mentions_under t symbol)
 
+-- the mention is that of what is found, whose symbol this is
+pub record IsMentionOf (f : Found) (symbol : List ℕ) (m : Mention) : Type 0 where
+  pub placed : span_of f.occurrence.range ≡ Some m.span
+  pub defines : m.defines ≡ is_definition f.occurrence
+  pub named : f.occurrence.symbol ≡ symbol
+
 abbrev pub paths_of : List PlainDocument → List (List ℕ)
 paths_of documents = map (λ document. document.relative_path) documents
 

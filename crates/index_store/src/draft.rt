@@ -7,7 +7,7 @@ ghost use Rattle.scip_index.specs.Meaning.{index_fault};
 ghost use Rattle.scip_index.specs.Streaming.{given};
 ghost use Rattle.scip_index.specs.Plain.{plain_document, plain_occurrence};
 ghost use Rattle.index_store.specs.Queries.{Found, found_at, found_in, is_definition};
-ghost use Rattle.index_store.specs.Stores.{paths_of, tables_of, AreWhole, IsStoreOfBytes, Keeps};
+ghost use Rattle.index_store.specs.Stores.{paths_of, tables_of, AreWhole, IsMentionOf, IsStoreOfBytes, Keeps};
 ghost use Rattle.index_store.specs.Tables.{number_of, texts_in};
 
 use crate::row::{Covering, Mention};
@@ -43,6 +43,31 @@ impl Draft {
         }
     }
 
+    /// Keeps a mention of this symbol.
+    fn add_mention(
+        &mut self,
+        alloc: Global,
+        symbol: &str,
+        mention: Mention,
+    ) -> Result<(), AllocError>
+        requires whole { AreWhole (tables_of self.old) }
+        requires within { mention.path < length (texts_in self.old.by_path) }
+        ensures whole { OnOk result (AreWhole (tables_of self.new)) }
+        ensures paths { texts_in self.new.by_path ≡ texts_in self.old.by_path }
+        ensures kept { (paths : List (List ℕ)) (found : List Found) (f : Found) → Keeps paths found (tables_of self.old) → number_of (texts_in self.old.by_path) f.path ≡ Some mention.path → IsMentionOf f symbol.now mention → OnOk result (Keeps paths (found ++ f ∷ []) (tables_of self.new)) }
+    {
+        let number = self.by_symbol.enter(alloc, symbol)?;
+        self.by_symbol.push(number, mention)?;
+        if !symbol.is_empty() {
+            let covering = Covering {
+                span: mention.span,
+                symbol: number,
+            };
+            self.by_path.push(mention.path, covering)?;
+        }
+        Ok(())
+    }
+
     /// Keeps an occurrence of the document whose path has this number.
     fn add(&mut self, alloc: Global, path: usize, occurrence: &Occurrence) -> Result<(), AllocError>
         requires whole { AreWhole (tables_of self.old) }
@@ -51,24 +76,17 @@ impl Draft {
         ensures paths { texts_in self.new.by_path ≡ texts_in self.old.by_path }
         ensures kept { (paths : List (List ℕ)) (found : List Found) (name : List ℕ) → Keeps paths found (tables_of self.old) → number_of (texts_in self.old.by_path) name ≡ Some path → OnOk result (Keeps paths (found ++ found_at name (plain_occurrence occurrence.now) ∷ []) (tables_of self.new)) }
     {
-        let Some(span) = span_of(occurrence.range.as_slice()) else {
-            return Ok(());
-        };
-        let defines = is_definition(occurrence);
-        let text = occurrence.symbol.as_str();
-        let symbol = self.by_symbol.enter(alloc, text)?;
-        self.by_symbol.push(
-            symbol,
-            Mention {
-                path,
-                span,
-                defines,
-            },
-        )?;
-        if !text.is_empty() {
-            self.by_path.push(path, Covering { span, symbol })?;
+        match span_of(occurrence.range.as_slice()) {
+            None => Ok(()),
+            Some(span) => {
+                let mention = Mention {
+                    path,
+                    span,
+                    defines: is_definition(occurrence),
+                };
+                self.add_mention(alloc, occurrence.symbol.as_str(), mention)
+            }
         }
-        Ok(())
     }
 
     /// Keeps the occurrences of a document.

@@ -5,11 +5,11 @@ ghost use Rattle.proto_wire.specs.Faults.{UnlessMemory};
 ghost use Rattle.proto_wire.specs.Messages.{IsFirstFault};
 ghost use Rattle.scip_index.specs.Meaning.{index_fault};
 ghost use Rattle.scip_index.specs.Streaming.{given};
-ghost use Rattle.scip_index.specs.Plain.{plain_index, PlainIndex};
+ghost use Rattle.scip_index.specs.Plain.{plain_document, plain_index, PlainIndex};
 ghost use Rattle.index_store.specs.declared.fault.StoreFault.TheVariants.{Memory};
 ghost use Rattle.index_store.specs.Asked.{place_asked, places_wanted};
-ghost use Rattle.index_store.specs.Queries.{answered, definitions, is_local, plain_place, references, ArePlacesAnswer, IsSymbolAnswer};
-ghost use Rattle.index_store.specs.Stores.{mentions_under, said_mention, IsStoreOf, IsStoreOfBytes};
+ghost use Rattle.index_store.specs.Queries.{answered, definitions, found_in, is_local, plain_place, references, ArePlacesAnswer, IsSymbolAnswer};
+ghost use Rattle.index_store.specs.Stores.{mentions_under, paths_of, said_mention, IsStoreOf, IsStoreOfBytes, Keeps};
 
 use crate::draft::Draft;
 use crate::nearest::nearest;
@@ -18,7 +18,7 @@ use crate::row::{Covering, Mention};
 use crate::table::Table;
 use crate::{Place, Position, StoreFault};
 use proto_wire::WireFault;
-use scip_index::{Index, IndexReader};
+use scip_index::{Document, Index, IndexReader};
 use std::alloc::{AllocError, Global};
 use std::marker::Model;
 
@@ -45,8 +45,16 @@ impl Store {
         ensures exact { IfOk result (IsStoreOf (plain_index index)) }
         ensures memory { IfErr result (λ fault. fault ≡ Memory) }
     {
+        Store::of_documents(alloc, &index.documents)
+    }
+
+    /// The store of documents.
+    fn of_documents(alloc: Global, documents: &[Document]) -> Result<Store, StoreFault>
+        ensures exact { IfOk result (Keeps (paths_of (map plain_document documents.now)) (flat_map found_in (map plain_document documents.now))) }
+        ensures memory { IfErr result (λ fault. fault ≡ Memory) }
+    {
         let mut draft = Draft::new(alloc);
-        draft.add_documents(alloc, &index.documents)?;
+        draft.add_documents(alloc, documents)?;
         Ok(Store {
             by_path: draft.by_path,
             by_symbol: draft.by_symbol,
@@ -63,8 +71,18 @@ impl Store {
         // It is the first fault of the bytes, unless memory ran out.
         ensures fault { IfErr result (λ e. UnlessMemory e (IsFirstFault index_fault 0 reader.entry.bytes e)) }
     {
+        Store::of_reader(alloc, &mut reader)
+    }
+
+    /// The store of what a reader reads.
+    fn of_reader(alloc: Global, reader: &mut IndexReader<'_>) -> Result<Store, WireFault>
+        requires fresh { given reader.old ≡ [] }
+        requires sound { reader.old.refusal ≡ None }
+        ensures exact { IfOk result (IsStoreOfBytes reader.old.bytes) }
+        ensures fault { IfErr result (λ e. UnlessMemory e (IsFirstFault index_fault 0 reader.old.bytes e)) }
+    {
         let mut draft = Draft::new(alloc);
-        draft.add_read(alloc, &mut reader)?;
+        draft.add_read(alloc, reader)?;
         Ok(Store {
             by_path: draft.by_path,
             by_symbol: draft.by_symbol,

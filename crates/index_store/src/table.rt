@@ -1,5 +1,6 @@
 //! Rows under texts.
-ghost use Rattle.std.specs.Prelude.{◌≡◌, ◌<◌, ◌++◌, [], ◌∷◌, length, slice_set, IfOk, OnOk, None};
+ghost use Rattle.std.specs.Prelude.{◌≡◌, ◌<◌, ◌++◌, [], ◌∷◌, length, map, slice_set, IfOk, OnOk, None};
+ghost use Rattle.std.specs.String.{string_bytes};
 ghost use Rattle.index_store.specs.Tables.{number_of, rows_at, rows_in, text_at, texts_in, IsEntered};
 
 use indexmap::IndexSet;
@@ -10,6 +11,16 @@ use std::alloc::{AllocError, Global};
 pub(crate) struct Table<T: Drop> {
     texts: IndexSet<String>,
     rows: Vec<Vec<T>>,
+}
+
+/// Puts a text behind the others.
+fn add_text(texts: &mut IndexSet<String>, alloc: Global, text: &str) -> Result<(), AllocError>
+    requires { number_of (map string_bytes texts.old.keys) text.now ≡ None }
+    ensures { OnOk result (map string_bytes texts.new.keys ≡ map string_bytes texts.old.keys ++ text.now ∷ []) }
+{
+    let text = String::from_str(alloc, text)?;
+    texts.insert(text)?;
+    Ok(())
 }
 
 impl<T: Drop> Table<T> {
@@ -42,7 +53,7 @@ impl<T: Drop> Table<T> {
         ensures last { IfOk result (λ n. n ≡ length (texts_in self.old)) }
     {
         let number = self.rows.len();
-        self.texts.insert(String::from_str(alloc, text)?)?;
+        add_text(&mut self.texts, alloc, text)?;
         self.rows.push(Vec::new(alloc))?;
         Ok(number)
     }

@@ -1,5 +1,11 @@
-use Rattle.index_store.proofs.TableLemmas.{texts_more}
+use Rattle.std.proofs.Common.{List, [], ◌∷◌, ◌++◌, ap, map, ◌∙◌}
+use Rattle.std.specs.Global.{Vec}
+use Rattle.std.proofs.lemmas.List.{map_push}
 use Rattle.index_store.proofs.table.Table.add.Goals as goal
 
-pub returns-clause-texts : goal.returns-clause-texts
-returns-clause-texts g c = rw c.in_ok-insert.ensures.keys (texts_more c.args.self.now.texts.keys c.in_ok-from_str.field-0 c.args.text.now c.in_ok-from_str.ensures.ok c.requires.new)
+pub returns-clause-rows : goal.returns-clause-rows
+returns-clause-rows g c =
+    let A = g.row.T.Denot in
+    let rows = c.args.self.now.rows.items in
+    let items : Vec A → List A = λ r. r.items in
+    ap (map items) c.in_ok-push.ensures.items ∙ map_push items rows _ ∙ ap (λ (r : List A). map items rows ++ r ∷ []) c.new.ensures.items
