@@ -6,6 +6,7 @@ ghost use Rattle.ob_interface.specs.Orders.{fits_alias, fits_base, fits_name, na
 ghost use Rattle.ob_interface.specs.Placed.{base_named, declaration_at, form_part, holds, module_named, owner_place, place_of};
 ghost use Rattle.ob_interface.specs.Places.{Indexes};
 ghost use Rattle.ob_interface.specs.Rowed.{interface_in};
+ghost use Rattle.ob_interface.specs.Indexed.{IsIndexed};
 ghost use Rattle.ob_interface.specs.Texts.{base_in, text_in};
 ghost use Rattle.ob_interface.specs.declared.rows.ImportRow.{ImportRow as ImportItem};
 
@@ -17,13 +18,9 @@ use crate::seeing::Seen;
 use std::alloc::{AllocError, Global};
 use std::marker::Model;
 
-/// What other modules see of a module, with indexes. A contract sees it as the `ModuleInterface`. It holds no borrow.
-///
-/// A declaration is told by its place among the declarations, in the order of the file, from 0; a record by the number of its RECORD's
-/// token, from 0. Of several that would do, the first in the file is answered.
+/// The indexes of rows.
 #[derive(Drop)]
-pub struct Interface {
-    rows: Rows,
+struct RowIndexes {
     /// The declarations by record and name, those of the block first.
     members: Vec<NamePlace>,
     /// The import items by alias.
@@ -32,6 +29,34 @@ pub struct Interface {
     bases: Vec<RecordPlace>,
     /// The declarations by the record in which their form ends.
     owners: Vec<RecordPlace>,
+}
+
+/// The indexes of these rows.
+fn indexes_of(alloc: Global, rows: &Rows) -> Result<RowIndexes, AllocError>
+    ensures { IfOk result (λ x. IsIndexed rows.now x.members.items x.aliases.items x.bases.items x.owners.items) }
+{
+    let text = rows.text.as_slice();
+    let declarations = rows.declarations.as_slice();
+    let members = members_of(alloc, text, declarations)?;
+    let aliases = aliases_of(alloc, text, rows.imports.as_slice())?;
+    let bases = bases_of(alloc, rows.bases.as_slice())?;
+    let owners = owners_of(alloc, rows.parts.as_slice(), declarations)?;
+    Ok(RowIndexes {
+        members,
+        aliases,
+        bases,
+        owners,
+    })
+}
+
+/// What other modules see of a module, with indexes. A contract sees it as the `ModuleInterface`. It holds no borrow.
+///
+/// A declaration is told by its place among the declarations, in the order of the file, from 0; a record by the number of its RECORD's
+/// token, from 0. Of several that would do, the first in the file is answered.
+#[derive(Drop)]
+pub struct Interface {
+    rows: Rows,
+    indexes: RowIndexes,
 }
 
 impl Model for Interface {
@@ -43,7 +68,7 @@ impl Model for Interface {
 
     ghost view = { λ i. interface_in i.rows };
 
-    ghost invariant = { λ i. IsIndexed i.rows i.members.items i.aliases.items i.bases.items i.owners.items };
+    ghost invariant = { λ i. IsIndexed i.rows i.indexes.members.items i.indexes.aliases.items i.indexes.bases.items i.indexes.owners.items };
 }
 
 /// The place of the declaration of a name in a record, or in the block.
@@ -145,18 +170,8 @@ impl Interface {
         ensures { IfOk result (λ i. i ≡ seen) }
     {
         let Seen { rows } = seen;
-        let declarations = rows.declarations.as_slice();
-        let members = members_of(alloc, rows.text.as_slice(), declarations)?;
-        let aliases = aliases_of(alloc, rows.text.as_slice(), rows.imports.as_slice())?;
-        let bases = bases_of(alloc, rows.bases.as_slice())?;
-        let owners = owners_of(alloc, rows.parts.as_slice(), declarations)?;
-        Ok(Interface {
-            rows,
-            members,
-            aliases,
-            bases,
-            owners,
-        })
+        let indexes = indexes_of(alloc, &rows)?;
+        Ok(Interface { rows, indexes })
     }
 
     /// The module's name.
@@ -170,7 +185,7 @@ impl Interface {
     pub fn place_of(&self, record: Option<u32>, name: &[u8]) -> Option<u32>
         ensures { result ≡ place_of self.now «record» name.now }
     {
-        member_in(&self.rows, self.members.as_slice(), record, name)
+        member_in(&self.rows, self.indexes.members.as_slice(), record, name)
     }
 
     /// The declaration at a place.
@@ -208,14 +223,14 @@ impl Interface {
     pub fn module_of(&self, alias: &[u8]) -> Option<&[u8]>
         ensures { option_map (λ m. m.now) result ≡ module_named self.now alias.now }
     {
-        module_in(&self.rows, self.aliases.as_slice(), alias)
+        module_in(&self.rows, self.indexes.aliases.as_slice(), alias)
     }
 
     /// The base of a record.
     pub fn base(&self, record: u32) -> Option<Base<'_>>
         ensures { option_map base_told result ≡ base_named self.now «record» }
     {
-        based_in(&self.rows, self.bases.as_slice(), record)
+        based_in(&self.rows, self.indexes.bases.as_slice(), record)
     }
 
     /// The place of the declaration whose type holds a record, directly or through arrays and pointers. Of a list of identifiers it
@@ -223,6 +238,6 @@ impl Interface {
     pub fn owner(&self, record: u32) -> Option<u32>
         ensures { result ≡ owner_place self.now «record» }
     {
-        owner_in(&self.rows, self.owners.as_slice(), record)
+        owner_in(&self.rows, self.indexes.owners.as_slice(), record)
     }
 }

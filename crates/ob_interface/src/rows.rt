@@ -1,6 +1,7 @@
 //! Rows of numbers and spans over one buffer of text.
 
 use ob_decls::Sort;
+use std::alloc::Global;
 
 /// A part of the buffer: from one offset to another, in bytes.
 #[derive(Clone, Copy, Drop)]
@@ -89,4 +90,18 @@ pub(crate) struct Rows {
     pub(crate) parts: Vec<PartRow>,
     pub(crate) bases: Vec<BaseRow>,
     pub(crate) imports: Vec<ImportRow>,
+}
+
+impl Rows {
+    /// No rows.
+    pub(crate) fn new(alloc: Global) -> Rows {
+        Rows {
+            text: Vec::new(alloc),
+            name: Span { start: 0, end: 0 },
+            declarations: Vec::new(alloc),
+            parts: Vec::new(alloc),
+            bases: Vec::new(alloc),
+            imports: Vec::new(alloc),
+        }
+    }
 }

@@ -1,5 +1,5 @@
 //! What is seen of a module, in rows.
-ghost use Rattle.std.specs.Prelude.{◌≡◌, ℕ, nat_eq, IfOk, IsSome};
+ghost use Rattle.std.specs.Prelude.{◌≡◌, ℕ, nat_eq, IfOk, IsSome, OnOk};
 ghost use Rattle.std.specs.List.{filter};
 ghost use Rattle.std.specs.List.Sorted.{IsNonDecreasingBy};
 ghost use Rattle.indexmap.specs.IndexMap.{get};
@@ -19,36 +19,46 @@ use ob_scan::Token;
 use std::alloc::{AllocError, Global};
 use std::marker::Model;
 
-/// The rows of what the table of a module says of its block, by the constructs of that block and the parts of their forms. AllocError is
-/// answered where a growth of memory is refused, and where the texts come to 2^32 bytes.
-fn rows_with(
+/// Puts into empty rows what the table of a module says of its block, by the constructs of that block and the parts of their forms.
+/// AllocError is answered where a growth of memory is refused, and where the texts come to 2^32 bytes.
+fn fill_rows(
+    rows: &mut Rows,
     alloc: Global,
     table: &Table,
     source: &Source,
     outers: &IndexMap<u32, Declarer>,
     own: &[FormPart],
-) -> Result<Rows, AllocError>
+) -> Result<(), AllocError>
     requires in_text { AreInText source.now.bytes.now source.now.tokens.now }
     requires outer { (k : ℕ) → get nat_eq outers.now k ≡ outer_by (rows_in table.now).declarers k }
     requires together { IsNonDecreasingBy (λ p. p.declared_by) own.now }
     requires same { (k : ℕ) → IsSome (get nat_eq outers.now k) → filter (is_part_by k) own.now ≡ filter (is_part_by k) (rows_in table.now).parts }
+    ensures { OnOk result (interface_in rows.new ≡ interface_of source.now.bytes.now source.now.tokens.now (rows_in table.now)) }
+{
+    rows.name = add_text(&mut rows.text, source.text(1))?;
+    let declared = table.declared();
+    rows.declarations = add_declarations(alloc, &mut rows.text, source, outers, own, declared)?;
+    rows.bases = add_bases(alloc, &mut rows.text, source, outers, table.records())?;
+    rows.imports = add_imports(alloc, &mut rows.text, source, table.imports())?;
+    rows.parts = add_parts(alloc, &mut rows.text, source, own)?;
+    Ok(())
+}
+
+/// The rows of what the table of a module says of its block, by the constructs of that block.
+fn rows_by(
+    alloc: Global,
+    table: &Table,
+    source: &Source,
+    outers: &IndexMap<u32, Declarer>,
+) -> Result<Rows, AllocError>
+    requires in_text { AreInText source.now.bytes.now source.now.tokens.now }
+    requires outer { (k : ℕ) → get nat_eq outers.now k ≡ outer_by (rows_in table.now).declarers k }
     ensures { IfOk result (λ rows. interface_in rows ≡ interface_of source.now.bytes.now source.now.tokens.now (rows_in table.now)) }
 {
-    let mut text = Vec::new(alloc);
-    let name = add_text(&mut text, source.text(1))?;
-    let declared = table.declared();
-    let declarations = add_declarations(alloc, &mut text, source, outers, own, declared)?;
-    let bases = add_bases(alloc, &mut text, source, outers, table.records())?;
-    let imports = add_imports(alloc, &mut text, source, table.imports())?;
-    let parts = add_parts(alloc, &mut text, source, own)?;
-    Ok(Rows {
-        text,
-        name,
-        declarations,
-        parts,
-        bases,
-        imports,
-    })
+    let own = parts_of(alloc, outers, table.parts())?;
+    let mut rows = Rows::new(alloc);
+    fill_rows(&mut rows, alloc, table, source, outers, own.as_slice())?;
+    Ok(rows)
 }
 
 /// The rows of what the table of a module says of its block.
@@ -57,14 +67,7 @@ fn rows_of(alloc: Global, table: &Table, tokens: &[Token], bytes: &[u8]) -> Resu
     ensures { IfOk result (λ rows. interface_in rows ≡ interface_of bytes.now tokens.now (rows_in table.now)) }
 {
     let outers = outers_of(alloc, table.declarers())?;
-    let own = parts_of(alloc, &outers, table.parts())?;
-    rows_with(
-        alloc,
-        table,
-        &Source { bytes, tokens },
-        &outers,
-        own.as_slice(),
-    )
+    rows_by(alloc, table, &Source { bytes, tokens }, &outers)
 }
 
 /// What other modules see of a module, with its texts in one buffer. A contract sees it as the `ModuleInterface`.

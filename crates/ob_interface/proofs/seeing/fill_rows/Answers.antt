@@ -11,7 +11,7 @@ use Rattle.ob_decls.specs.declared.rows.Import.{Import}
 use Rattle.ob_interface.specs.declared.rows.Rows.{Rows}
 use Rattle.ob_interface.specs.Interfaces.{declaration_by, base_by, imported_of}
 use Rattle.ob_interface.proofs.Assembled.{assembled}
-use Rattle.ob_interface.proofs.seeing.rows_with.Goals as goal
+use Rattle.ob_interface.proofs.seeing.fill_rows.Goals as goal
 
 pub returns : goal.returns
 returns c =
@@ -21,16 +21,16 @@ returns c =
     let outers : ℕ → Option Declarer = get nat_eq c.args.outers.now in
     let rows : Rows = record {
       text = c.add_parts.new.text;
-      name = c.in_ok-name.name;
-      declarations = c.in_ok-declarations.declarations;
-      parts = c.in_ok-parts.parts;
-      bases = c.in_ok-bases.bases;
-      imports = c.in_ok-imports.imports;
+      name = c.in_ok-rows.field-0;
+      declarations = c.in_ok-rows-2.field-0;
+      parts = c.in_ok-rows-5.field-0;
+      bases = c.in_ok-rows-3.field-0;
+      imports = c.in_ok-rows-4.field-0;
     } in
     assembled bytes ts (rows_in c.args.table.now) ps outers rows c.add_text.new.text.items c.add_declarations.new.text.items c.add_bases.new.text.items c.add_imports.new.text.items (record {
       outer = c.requires.outer;
       same = c.requires.same;
-    }) (λ more. c.in_ok-name.ensures.tells more ∙ c.text.ensures) c.in_ok-declarations.ensures.grown
-    (λ more. c.in_ok-declarations.ensures.tell more ∙ ap (λ (xs : List Declared). filter_map (λ r. declaration_by bytes ts ps r (outers r.declared_by)) xs) c.declared-declared.ensures) c.in_ok-bases.ensures.grown
-    (λ more. c.in_ok-bases.ensures.tell more ∙ ap (λ (xs : List Record). filter_map (λ r. base_by bytes ts r (outers r.owner)) xs) c.records.ensures) c.in_ok-imports.ensures.grown
-    (λ more. c.in_ok-imports.ensures.tell more ∙ ap (λ (xs : List Import). map (imported_of bytes ts) xs) c.imports.ensures) c.in_ok-parts.ensures.grown c.in_ok-parts.ensures.tell
+    }) (λ more. c.in_ok-rows.ensures.tells more ∙ c.text.ensures) c.in_ok-rows-2.ensures.grown
+    (λ more. c.in_ok-rows-2.ensures.tell more ∙ ap (λ (xs : List Declared). filter_map (λ r. declaration_by bytes ts ps r (outers r.declared_by)) xs) c.declared-declared.ensures) c.in_ok-rows-3.ensures.grown
+    (λ more. c.in_ok-rows-3.ensures.tell more ∙ ap (λ (xs : List Record). filter_map (λ r. base_by bytes ts r (outers r.owner)) xs) c.records.ensures) c.in_ok-rows-4.ensures.grown
+    (λ more. c.in_ok-rows-4.ensures.tell more ∙ ap (λ (xs : List Import). map (imported_of bytes ts) xs) c.imports.ensures) c.in_ok-rows-5.ensures.grown c.in_ok-rows-5.ensures.tell
