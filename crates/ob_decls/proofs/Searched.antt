@@ -1,6 +1,6 @@
 -- What a binary search finds among elements whose numbers ascend.
 use Rattle.std.proofs.Common.{◌≡◌, ℕ, ◌<◌, inl, inr, List, [], ◌∷◌, length, get_or, Result, Ok, Err, sym, ap, ◌∙◌, arith}
-use Rattle.std.specs.Prelude.{IfSome, IfNone}
+use Rattle.std.specs.Prelude.{Contains, IfSome, IfNone, Some}
 use Rattle.std.specs.Result.{result_ok}
 use Rattle.std.specs.Ordering.{nat_cmp, ordering_index}
 use Rattle.std.specs.List.Sorted.{IsBinarySearchResult, IsSearchInRange, IsNonDecreasingBy}
@@ -38,3 +38,13 @@ module _ {X : Type 0} (n : X → ℕ) where
         | inl below ↦ (let e = ranked _ k _ (sym (parts.0 j x (omega arith) below)) in omega (arith, e))
         | inr above ↦ (let e = ranked _ k _ (sym (parts.1 j x above l)) in omega (arith, e))
       ]
+
+  -- what is found at its place is among the elements, and what is found at no place is not
+  pub placed_within : (xs : List X) (k i : ℕ) → IsPlaceBy n xs k i → i < length xs
+  placed_within xs k i p = slice_get_within xs i p.element p.there
+
+  pub placed_is : (xs : List X) (k i : ℕ) (x : X) → IsPlaceBy n xs k i → x ≡ get_or xs i x → Contains xs x × (n x ≡ k)
+  placed_is xs k i x p e = ((i, placed_within xs k i p, sym e), ap n (e ∙ get_or_from_slice_get xs i p.element x p.there) ∙ p.has)
+
+  pub none_among : (xs : List X) (k : ℕ) → HasNoneBy n xs k → (x : X) → Contains xs x → n x ≡ k → ⊥
+  none_among xs k none x (i, l, e) has = none i x (slice_get-get_or xs i x l ∙ ap Some e) has

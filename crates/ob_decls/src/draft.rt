@@ -1,6 +1,6 @@
 //! A table that is being made.
 
-ghost use Rattle.std.specs.Prelude.{◌≡◌, ◌+◌, ◌∷◌, [], false, length, IfOk};
+ghost use Rattle.std.specs.Prelude.{◌≡◌, ◌+◌, ◌++◌, ◌∷◌, [], false, length, IfOk};
 ghost use Rattle.ob_decls.specs.Parts.{declarer, declaring_at, in_block, one_block, one_declarer, one_declared, one_designator, one_end, one_import, one_part, one_record, one_used, record_for, these_selectors};
 ghost use Rattle.ob_decls.specs.Drafts.{added, closed, passed, settled, stage_of, start, Reaches};
 
@@ -40,6 +40,15 @@ pub(crate) struct Draft {
     pub(crate) ends: Vec<End>,
 }
 
+/// Adds a row behind the others, or keeps that memory was refused.
+fn add_row<T: Drop>(rows: &mut Vec<T>, row: T, refused: &mut bool)
+    ensures { refused.new ≡ false → (refused.old ≡ false) × (rows.new.items ≡ rows.old.items ++ row ∷ []) }
+{
+    if rows.push(row).is_err() {
+        *refused = true;
+    }
+}
+
 impl Draft {
     /// Passes a token, of which there are 2^32 - 1 at most.
     #[tactic(auto, using(crate::proofs::Steps::growing), unfolding(crate::specs::Drafts::stage_of, crate::specs::Drafts::passed, crate::specs::Drafts::added, crate::specs::Drafts::closed, crate::specs::Parts::joined))]
@@ -57,9 +66,7 @@ impl Draft {
     pub(crate) fn add_declared(&mut self, row: Declared)
         ensures { Reaches (added (one_declared row)) self.old self.new }
     {
-        if self.declared.push(row).is_err() {
-            self.refused = true;
-        }
+        add_row(&mut self.declared, row, &mut self.refused);
     }
 
     /// Adds an identifier that is looked up.
@@ -67,9 +74,7 @@ impl Draft {
     pub(crate) fn add_used(&mut self, row: Used)
         ensures { Reaches (added (one_used row)) self.old self.new }
     {
-        if self.uses.push(row).is_err() {
-            self.refused = true;
-        }
+        add_row(&mut self.uses, row, &mut self.refused);
     }
 
     /// Adds a block that begins with the next token.
@@ -77,9 +82,7 @@ impl Draft {
     pub(crate) fn add_block(&mut self, row: Block)
         ensures { Reaches (added (one_block row)) self.old self.new }
     {
-        if self.blocks.push(row).is_err() {
-            self.refused = true;
-        }
+        add_row(&mut self.blocks, row, &mut self.refused);
     }
 
     /// Adds an import item.
@@ -87,9 +90,7 @@ impl Draft {
     pub(crate) fn add_import(&mut self, row: Import)
         ensures { Reaches (added (one_import row)) self.old self.new }
     {
-        if self.imports.push(row).is_err() {
-            self.refused = true;
-        }
+        add_row(&mut self.imports, row, &mut self.refused);
     }
 
     /// Adds a part of a form.
@@ -97,9 +98,7 @@ impl Draft {
     pub(crate) fn add_part(&mut self, row: FormPart)
         ensures { Reaches (added (one_part row)) self.old self.new }
     {
-        if self.parts.push(row).is_err() {
-            self.refused = true;
-        }
+        add_row(&mut self.parts, row, &mut self.refused);
     }
 
     /// Adds a record.
@@ -107,9 +106,7 @@ impl Draft {
     pub(crate) fn add_record(&mut self, row: Record)
         ensures { Reaches (added (one_record row)) self.old self.new }
     {
-        if self.records.push(row).is_err() {
-            self.refused = true;
-        }
+        add_row(&mut self.records, row, &mut self.refused);
     }
 
     /// Adds a designator.
@@ -117,9 +114,7 @@ impl Draft {
     pub(crate) fn add_designator(&mut self, row: Designator)
         ensures { Reaches (added (one_designator row)) self.old self.new }
     {
-        if self.designators.push(row).is_err() {
-            self.refused = true;
-        }
+        add_row(&mut self.designators, row, &mut self.refused);
     }
 
     /// Adds a selector.
@@ -127,9 +122,7 @@ impl Draft {
     pub(crate) fn add_selector(&mut self, row: Selector)
         ensures { Reaches (added (these_selectors (row ∷ []))) self.old self.new }
     {
-        if self.selectors.push(row).is_err() {
-            self.refused = true;
-        }
+        add_row(&mut self.selectors, row, &mut self.refused);
     }
 
     /// Adds a name behind END.
@@ -137,9 +130,7 @@ impl Draft {
     pub(crate) fn add_end(&mut self, row: End)
         ensures { Reaches (added (one_end row)) self.old self.new }
     {
-        if self.ends.push(row).is_err() {
-            self.refused = true;
-        }
+        add_row(&mut self.ends, row, &mut self.refused);
     }
 
     /// Gives the row in this place, and answers the place behind it.
@@ -167,9 +158,7 @@ impl Draft {
         ensures place { result ≡ length self.old.declarers.items }
     {
         let at = self.declarers.len();
-        if self.declarers.push(row).is_err() {
-            self.refused = true;
-        }
+        add_row(&mut self.declarers, row, &mut self.refused);
         at
     }
 
