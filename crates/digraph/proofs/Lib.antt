@@ -1,6 +1,7 @@
 pub mod Ascending
 pub mod EdgeOrder
 pub mod LeastChains
+pub mod Predecessors
 pub mod Rounds
 pub mod Loops
 pub mod Members

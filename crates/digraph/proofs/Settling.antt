@@ -5,7 +5,7 @@ use Rattle.std.specs.declared.alloc.Global.{Global}
 use Rattle.std.proofs.lemmas.Bool.{cases_eq, cases_lt, false≢true}
 use Rattle.std.proofs.lemmas.Bool.Decides.{nat_tests}
 use Rattle.std.proofs.lemmas.List.{get_or_default, get_or-set_same, get_or-set_other, get_or-replicate, get_or-map, length-set}
-use Rattle.std.proofs.lemmas.List.Elements.{Contains-get_or, Contains-append_left, Contains-append_right, Contains-push, Contains-push_cases}
+use Rattle.std.proofs.lemmas.List.Elements.{Contains-get_or, Contains-append_left, Contains-append_right, Contains-push_cases}
 use Rattle.digraph.specs.declared.edge.Edge.{Edge}
 use Rattle.digraph.specs.Cycle.{EachLeadsToMember, IsNext}
 use Rattle.digraph.specs.Marks.{none_there, edge_at, marked, mark_count, lists, place_at, row_at, work_left, StartsFrom, ArePassed, LeadsToMarked, AreStarts, ArePredecessors, IsSettling}
@@ -89,36 +89,6 @@ above_more edges places p l here above k le inside = elim (cases_eq (edge_at edg
         | inr differs ↦ let old : place_at places (edge_at edges k).from ≤ k = above k (omega arith) inside in omega arith
       ]
 ]
-
--- one more node in the row of its edge
-pub predecessors_more : (edges : List Edge) (rows new : List (List ℕ)) (count : ℕ) → ArePredecessors edges rows count → (edge_at edges count).to < length rows
-    → new ≡ slice_set rows (edge_at edges count).to (row_at rows (edge_at edges count).to ++ (edge_at edges count).from ∷ []) → ArePredecessors edges new (count + 1)
-predecessors_more edges rows new count are within is =
-    let to = (edge_at edges count).to in
-    let from = (edge_at edges count).from in
-    let own : row_at new to ≡ row_at rows to ++ from ∷ [] = ap (λ (r : List (List ℕ)). row_at r to) is ∙ get_or-set_same rows to (row_at rows to ++ from ∷ []) [] within in
-    let other : (v : ℕ) → (v ≡ to → ⊥) → row_at new v ≡ row_at rows v = λ v ne. ap (λ (r : List (List ℕ)). row_at r v) is ∙ get_or-set_other rows to v (row_at rows to ++ from ∷ []) [] ne in
-    let keeps : (v w : ℕ) → Contains (row_at rows v) w → Contains (row_at new v) w = λ v w has. elim (cases_eq v to) [
-      | inl e ↦ subst (λ (r : List ℕ). Contains r w) (sym (ap (row_at new) e ∙ own)) (Contains-append_left (row_at rows to) (from ∷ []) w (subst (λ (u : ℕ). Contains (row_at rows u) w) e has))
-      | inr ne ↦ subst (λ (r : List ℕ). Contains r w) (sym (other v ne)) has
-    ] in
-    record {
-      all = λ k l. elim (cases_eq k count) [
-        | inl e ↦ rw e (subst (λ (r : List ℕ). Contains r from) (sym own) (Contains-push (row_at rows to) from))
-        | inr ne ↦ keeps (edge_at edges k).to (edge_at edges k).from (are.all k (omega arith))
-      ];
-      few = λ v. elim (cases_eq v to) [
-        | inl e ↦
-            let long : length (row_at new v) ≡ length (row_at rows to ++ from ∷ []) = ap length (ap (row_at new) e ∙ own) in
-            let push : length (row_at rows to ++ from ∷ []) ≡ length (row_at rows to) + 1 = length-append (row_at rows to) (from ∷ []) in
-            let old : length (row_at rows to) ≤ count = are.few to in
-            omega arith
-        | inr ne ↦
-            let same : length (row_at new v) ≡ length (row_at rows v) = ap length (other v ne) in
-            let old : length (row_at rows v) ≤ count = are.few v in
-            omega arith
-      ];
-    }
 
 -- a mark stands within the list
 pub marked_below : (marks : List Bool) (v : ℕ) → marked marks v ≡ true → v < length marks

@@ -1,11 +1,11 @@
 //! The greatest set of nodes each of which leads to a member.
-ghost use Rattle.std.specs.Prelude.{ℕ, ◌≡◌, ◌<◌, ◌≤◌, ◌+◌, ◌++◌, [], ◌∷◌, Contains, false, true, length, slice_set, vec_len, IfOk, IfSome, IfNone, OnOk};
+ghost use Rattle.std.specs.Prelude.{ℕ, ◌≡◌, ◌<◌, ◌≤◌, ◌+◌, ◌++◌, List, [], ◌∷◌, Contains, false, true, length, slice_set, vec_len, IfOk, IfSome, IfNone, OnOk};
 ghost use Rattle.digraph.specs.Cycle.{IsEndless, IsNext};
 ghost use Rattle.digraph.specs.Marks.{edge_at, marked, place_at, row_at, lists, work_left, StartsFrom, ArePassed, ArePredecessors, AreStarts, IsSettling, LeadsToMarked};
 ghost use Rattle.digraph.specs.Edges.{AreBetween, IsAscending, Leads};
 
 use crate::Edge;
-use crate::rows::{add, empty_rows};
+use crate::rows::rows_of;
 use std::alloc::{AllocError, Global};
 
 /// The nodes from which edges may still go on for ever, while they are sought, and in the end those from which they do.
@@ -39,19 +39,6 @@ fn starts_of(alloc: Global, edges: &[Edge], nodes: usize) -> Result<Vec<usize>, 
         places[edges[place].from as usize] = place;
     }
     Ok(places)
-}
-
-/// Per node those with an edge to it.
-fn predecessors_of(alloc: Global, edges: &[Edge], nodes: usize) -> Result<Vec<Vec<u32>>, AllocError>
-    requires between { AreBetween edges.now nodes }
-    ensures size { IfOk result (λ rows. vec_len rows ≡ nodes) }
-    ensures predecessors { IfOk result (λ rows. ArePredecessors edges.now (lists rows.items) (length edges.now)) }
-{
-    let mut predecessors = empty_rows(alloc, nodes)?;
-    for edge in edges {
-        add(&mut predecessors, *edge)?;
-    }
-    Ok(predecessors)
 }
 
 /// All nodes.
@@ -115,6 +102,22 @@ impl Endless {
         }
         Ok(())
     }
+
+    /// Looks at nodes, at first at all, until each that has a mark leads to one with a mark.
+    fn settle(&mut self, alloc: Global, edges: &[Edge], nodes: usize) -> Result<(), AllocError>
+        requires between { AreBetween edges.now nodes }
+        requires ascending { IsAscending edges.now }
+        requires few_nodes { nodes ≤ 8192 }
+        requires begun { (again : List ℕ) → ((v : ℕ) → v < nodes → Contains again v) → IsSettling edges.now nodes self.old.marks.items self.old.places.items again }
+        ensures { OnOk result (IsSettling edges.now nodes self.new.marks.items self.new.places.items []) }
+    {
+        let predecessors = rows_of(alloc, edges, nodes)?;
+        let mut again = each_node(alloc, nodes)?;
+        while let Some(node) = again.pop() {
+            self.look(edges, predecessors.as_slice(), node, &mut again)?;
+        }
+        Ok(())
+    }
 }
 
 /// Marks the greatest set of nodes each of which leads to a member.
@@ -129,13 +132,9 @@ pub(crate) fn endless_of(alloc: Global, edges: &[Edge], nodes: usize) -> Result<
     ensures next { IfOk result (λ endless. (v : ℕ) → marked endless.marks.items v ≡ true →
         IsNext (Leads edges.now) (marked endless.marks.items) v (edge_at edges.now (place_at endless.places.items v)).to) }
 {
-    let predecessors = predecessors_of(alloc, edges, nodes)?;
     let marks = vec![in alloc; true; nodes]?;
     let places = starts_of(alloc, edges, nodes)?;
     let mut endless = Endless { marks, places };
-    let mut again = each_node(alloc, nodes)?;
-    while let Some(node) = again.pop() {
-        endless.look(edges, predecessors.as_slice(), node, &mut again)?;
-    }
+    endless.settle(alloc, edges, nodes)?;
     Ok(endless)
 }

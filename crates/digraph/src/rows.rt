@@ -6,7 +6,7 @@ ghost use Rattle.digraph.specs.Marks.{lists, row_at};
 use crate::Edge;
 use std::alloc::{AllocError, Global};
 
-pub(crate) fn add(predecessors: &mut Vec<Vec<u32>>, edge: Edge) -> Result<(), AllocError>
+fn add(predecessors: &mut Vec<Vec<u32>>, edge: Edge) -> Result<(), AllocError>
     requires { edge.to < vec_len predecessors.old }
     ensures size { OnOk result (vec_len predecessors.new ≡ vec_len predecessors.old) }
     ensures rows { OnOk result (lists predecessors.new.items ≡ slice_set (lists predecessors.old.items) edge.to (row_at (lists predecessors.old.items) edge.to ++ edge.from ∷ [])) }
@@ -16,7 +16,7 @@ pub(crate) fn add(predecessors: &mut Vec<Vec<u32>>, edge: Edge) -> Result<(), Al
 }
 
 /// So many lists of nothing.
-pub(crate) fn empty_rows(alloc: Global, nodes: usize) -> Result<Vec<Vec<u32>>, AllocError>
+fn empty_rows(alloc: Global, nodes: usize) -> Result<Vec<Vec<u32>>, AllocError>
     ensures size { IfOk result (λ rows. vec_len rows ≡ nodes) }
     ensures none { IfOk result (λ rows. (v : ℕ) → row_at (lists rows.items) v ≡ []) }
 {

@@ -1,32 +1,42 @@
--- From all marks on, until no node is to be looked at again.
-use Rattle.std.proofs.Common.{◌≡◌, ℕ, [], ◌∷◌, List, length, refl, subst, arith}
-use Rattle.digraph.specs.Marks.{IsSettling}
-use Rattle.digraph.specs.Edges.{AreBetween}
-use Rattle.digraph.proofs.Settling.{settling_first, settled_next}
+-- From all marks on, until they are settled.
+use Rattle.std.proofs.Common.{arith}
+use Rattle.digraph.specs.Marks.{edge_at, place_at}
+use Rattle.digraph.proofs.Settling.{settling_first, settled_leads, settled_next}
 use Rattle.digraph.proofs.endless.endless_of.Goals as goal
 
-empty : (xs : List ℕ) → length xs ≡ 0 → xs ≡ []
-empty [] e = refl
-empty (x ∷ xs) e = absurd (omega arith)
-
-pub loop-node-init : goal.loop-node-init
-loop-node-init c =
+pub settle-requires-clause-begun : goal.settle-requires-clause-begun
+settle-requires-clause-begun c again all =
     let full = c.in_ok-marks.ensures.items_if_clones_equal (λ y e. e) in
     let ok = c.in_ok-marks.marks.ok in
     let len = c.in_ok-marks.ensures.len in
-    settling_first c.args.edges.now c.args.nodes c.in_ok-marks.marks.items c.in_ok-places.places.items c.in_ok-again.again.items c.requires.between full (omega arith) c.in_ok-places.ensures c.in_ok-again.ensures
+    settling_first c.args.edges.now c.args.nodes c.in_ok-marks.marks.items c.in_ok-places.places.items again c.requires.between full (omega arith) c.in_ok-places.ensures all
 
-pub look-requires-clause-between : goal.look-requires-clause-between
-look-requires-clause-between c =
-    let ok = c.in_ok-predecessors.predecessors.ok in
-    let size = c.in_ok-predecessors.ensures.size in
-    let len : c.args.nodes ≡ length c.as_slice.result.now = (let e = c.as_slice.ensures.len in omega arith) in
-    subst (λ (n : ℕ). AreBetween c.args.edges.now n) len c.requires.between
+pub returns-clause-endless : goal.returns-clause-endless
+returns-clause-endless c =
+    let edges = c.args.edges.now in
+    let endless = c.settle.new.self in
+    let places = endless.places.items in
+    record {
+      each = λ v on.
+          let next = settled_next edges c.args.nodes endless.marks.items places c.requires.ascending c.in_ok-settle.ensures v on in
+          ((edge_at edges (place_at places v)).to, next.leads, next.member);
+      greatest = c.in_ok-settle.ensures.greatest;
+    }
+
+pub returns-clause-size : goal.returns-clause-size
+returns-clause-size c =
+    let ok = c.settle.new.self.marks.ok in
+    let size = c.in_ok-settle.ensures.size in
+    omega arith
+
+pub returns-clause-placed : goal.returns-clause-placed
+returns-clause-placed c =
+    let ok = c.settle.new.self.places.ok in
+    let placed = c.in_ok-settle.ensures.placed in
+    omega arith
+
+pub returns-clause-within : goal.returns-clause-within
+returns-clause-within c v on = (settled_leads c.args.edges.now c.args.nodes c.settle.new.self.marks.items c.settle.new.self.places.items c.in_ok-settle.ensures v on).within
 
 pub returns-clause-next : goal.returns-clause-next
-returns-clause-next c =
-    let endless = c.loop-node.endless in
-    let none = rw c.in_default.is at c.pop.ensures.cases in
-    let items : c.loop-node.again.items ≡ [] = (let ok = c.loop-node.again.ok in empty c.loop-node.again.items (omega arith)) in
-    settled_next c.args.edges.now c.args.nodes endless.marks.items endless.places.items c.requires.ascending
-    (subst (λ (a : List ℕ). IsSettling c.args.edges.now c.args.nodes endless.marks.items endless.places.items a) items c.loop-node.invariant)
+returns-clause-next c = settled_next c.args.edges.now c.args.nodes c.settle.new.self.marks.items c.settle.new.self.places.items c.requires.ascending c.in_ok-settle.ensures

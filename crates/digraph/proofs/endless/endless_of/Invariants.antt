@@ -1,8 +1,0 @@
-use Rattle.digraph.specs.Marks.{IsSettling, work_left}
-use Rattle.digraph.proofs.endless.endless_of.Given as goal
-
-abbrev pub invariant-loop-node : goal.invariant-loop-node
-invariant-loop-node l = IsSettling l.edges l.nodes l.endless.marks.items l.endless.places.items l.again.items
-
-abbrev pub decreases-loop-node : goal.decreases-loop-node
-decreases-loop-node l = work_left l.edges l.endless.marks.items l.again.items
