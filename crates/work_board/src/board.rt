@@ -122,17 +122,24 @@ fn counts_of(alloc: Global, graph: &Graph) -> Result<Vec<u32>, AllocError>
     Ok(counts)
 }
 
+/// The state of a module of which so many imports aren't delivered.
+fn state_for(count: u32) -> State
+    ensures { result ≡ freed State.Waiting count }
+{
+    if count == 0 {
+        State::Free
+    } else {
+        State::Waiting
+    }
+}
+
 /// A module without imports is free.
 fn states_of(alloc: Global, counts: &[u32]) -> Result<Vec<State>, AllocError>
     ensures { IfOk result (λ states. states.items ≡ map (freed State.Waiting) counts.now) }
 {
     let mut states = Vec::with_capacity(alloc, counts.len())?;
     for count in counts {
-        states.push(if *count == 0 {
-            State::Free
-        } else {
-            State::Waiting
-        })?;
+        states.push(state_for(*count))?;
     }
     Ok(states)
 }

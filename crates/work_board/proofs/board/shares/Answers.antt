@@ -1,10 +1,9 @@
-use Rattle.std.proofs.Common.{◌++◌, [], ◌∷◌, true, false, map, take, get_or, refl, sym, ap, ◌∙◌, arith}
+use Rattle.std.proofs.Common.{◌≤◌, ◌++◌, [], ◌∷◌, true, false, length, map, take, take_all, get_or, refl, sym, ap, ap₂, ◌∙◌, arith}
 use Rattle.std.specs.Prelude.{None}
 use Rattle.std.specs.Arc.{arc_value}
 use Rattle.std.proofs.lemmas.List.{append-nil}
 use Rattle.work_board.specs.Cores.{shares_of}
 use Rattle.work_board.proofs.Opening.{shares_more}
-use Rattle.std.proofs.lemmas.Grind.{common_steps}
 use Rattle.work_board.proofs.board.shares.Goals as goal
 use Rattle.work_board.proofs.board.shares.Goals.{then-marks-place+in_ok-add_share, else-marks-place}
 
@@ -24,4 +23,7 @@ loop-place-preserved g c =
     ]
 
 pub returns : goal.returns
-returns g c = grind (arith, common_steps)
+returns g c =
+    let i = c.loop-place.place in
+    let le : length c.args.marks.now ≤ i = omega arith in
+    c.loop-place.invariant ∙ ap₂ (shares_of g.E.WorkEntry.shared_of) (take_all i c.args.marks.now le) (take_all i c.args.entries.now c.loop-place-test.false)

@@ -1,8 +1,8 @@
-use Rattle.std.proofs.Common.{◌≡◌, ◌<◌, ◌+◌, length, take, refl, sym, ◌∙◌, arith, inl, inr}
+use Rattle.std.proofs.Common.{◌≡◌, ◌<◌, ◌+◌, length, take, take_all, refl, sym, ap, ◌∙◌, arith, inl, inr}
 use Rattle.std.specs.Prelude.{slice_index}
 use Rattle.std.proofs.lemmas.Bool.{cases_eq}
 use Rattle.std.proofs.lemmas.List.{length-map}
-use Rattle.work_board.specs.Graphs.{lists, times}
+use Rattle.work_board.specs.Graphs.{lists, row_at, times}
 use Rattle.work_board.proofs.Counting.{times_yes, times_no}
 use Rattle.work_board.proofs.Turning.{pushed_same, pushed_away, pushed_other, pushed_within}
 use Rattle.work_board.proofs.graph.add_importer.Goals as goal
@@ -45,4 +45,15 @@ loop-imported-preserved c =
       ];
       others = λ n x other. pushed_other rows new at m lt is n x other ∙ before.others n x other;
       within = λ k below all. pushed_within rows new at m lt is k below (before.within k below all);
+    }
+
+pub returns : goal.returns
+returns c =
+    let after = c.loop-imported.invariant in
+    let all = take_all c.loop-imported.imported-index c.args.row.now c.loop-imported-test.false in
+    record {
+      size = after.size;
+      more = λ n. after.more n ∙ ap (λ row. times c.args.by (row_at (lists c.args.rows.now.items) n) + times n row) all;
+      others = after.others;
+      within = after.within;
     }

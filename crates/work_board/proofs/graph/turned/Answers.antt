@@ -45,3 +45,9 @@ returns-clause-turned c = λ m n.
           let none : row_at (lists c.args.imports.now) m ≡ [] = get_or_past (lists c.args.imports.now) m [] (omega arith) in
           c.loop-place.invariant.rest n m (let e = c.loop-place.auto.place-end in omega arith) ∙ sym (ap (times n) none)
     ]
+
+pub returns-clause-size : goal.returns-clause-size
+returns-clause-size c = c.loop-place.invariant.size
+
+pub returns-clause-within : goal.returns-clause-within
+returns-clause-within c = c.loop-place.invariant.within
