@@ -14,7 +14,7 @@ use std::alloc::Global;
 const MAX_FIELD: u64 = 536_870_911;
 
 /// The value of a record, by its wire type.
-#[derive(Clone, Copy, Debug, PartialEq, Eq)]
+#[derive(Clone, Copy)]
 pub enum WireValue {
     /// Type 0: a varint, without the bits beyond 64.
     Varint(u64),
@@ -28,7 +28,7 @@ pub enum WireValue {
 
 /// A record: its field number, its value, and the offsets of its key and of its payload (where it has none, of its value) in
 /// the whole input, in bytes from 0.
-#[derive(Clone, Copy, Debug, PartialEq, Eq)]
+#[derive(Clone, Copy)]
 pub struct WireRecord {
     /// The field number, from 1 to 536,870,911.
     pub field: u32,
