@@ -1,8 +1,9 @@
 //! The least of the chains with the fewest edges.
-ghost use Rattle.std.specs.Prelude.{◌≡◌, ◌<◌, ◌≤◌, ℕ, AllPairs, Contains, IfNone, IfOk, IfSome, Some, length};
+ghost use Rattle.std.specs.Prelude.{◌≡◌, ◌<◌, ◌≤◌, ℕ, AllPairs, Contains, IfNone, IfOk, IfSome, Some, length, vec_len};
 ghost use Rattle.digraph.specs.Chains.{Chain};
-ghost use Rattle.digraph.specs.Edges.{AreBetween, IsAscending, Leads};
+ghost use Rattle.digraph.specs.Edges.{successors, AreBetween, IsAscending, Leads};
 ghost use Rattle.digraph.specs.Levels.{level_of, AreLevels, IsLeastChain, IsLeastOn};
+ghost use Rattle.digraph.specs.Marks.{lists, row_at};
 
 use crate::Edge;
 use crate::levels::{level_at, levels_of};
@@ -23,6 +24,17 @@ fn least_on(levels: &[Option<u32>], nodes: &[u32], level: u32) -> Option<u32>
     None
 }
 
+/// Per node those to which it has an edge, in the order of the edges.
+fn successors_of(alloc: Global, edges: &[Edge], nodes: usize) -> Result<Vec<Vec<u32>>, AllocError>
+    requires between { AreBetween edges.now nodes }
+    ensures size { IfOk result (λ rows. vec_len rows ≡ nodes) }
+    ensures rows { IfOk result (λ rows. (v : ℕ) → row_at (lists rows.items) v ≡ successors edges.now v) }
+{
+    let turned = flipped(alloc, edges)?;
+    let rows = rows_of(alloc, turned.as_slice(), nodes)?;
+    Ok(rows)
+}
+
 /// The chain that goes down the levels from a node on this one, always to the least node that is led to.
 fn chain_down(
     alloc: Global,
@@ -39,8 +51,7 @@ fn chain_down(
     requires level { level_of levels.now from ≡ Some level }
     ensures { IfOk result (λ chain. (end : ℕ) → AreLevels edges.now end levels.now → IsLeastChain (Leads edges.now) from end chain.items) }
 {
-    let turned = flipped(alloc, edges)?;
-    let successors = rows_of(alloc, turned.as_slice(), nodes)?;
+    let successors = successors_of(alloc, edges, nodes)?;
     let mut chain = vec![in alloc; from; 1]?;
     let mut at = from;
     for below in (0..level).rev() {

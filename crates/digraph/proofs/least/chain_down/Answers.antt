@@ -1,27 +1,21 @@
 -- Step after step.
-use Rattle.std.proofs.Common.{◌≡◌, ℕ, ◌<◌, ◌≤◌, ◌+◌, ◌-◌, ◌∙◌, List, [], Some, length, get_or, map, sym, ap, subst, arith}
+use Rattle.std.proofs.Common.{◌≡◌, ℕ, ◌<◌, ◌≤◌, ◌+◌, ◌-◌, ◌∙◌, List, [], Some, length, get_or, sym, ap, subst, arith}
 use Rattle.std.specs.Prelude.{AllPairs, Contains}
 use Rattle.std.specs.Global.{Vec}
 use Rattle.std.proofs.lemmas.List.{get_or-map}
 use Rattle.digraph.specs.declared.edge.Edge.{Edge}
-use Rattle.digraph.specs.Edges.{flipped, predecessors, successors, AreBetween}
+use Rattle.digraph.specs.Edges.{successors}
 use Rattle.digraph.specs.Levels.{IsLeastOn}
 use Rattle.digraph.specs.Marks.{lists, row_at}
-use Rattle.digraph.proofs.ByNode.{flipped_between, predecessors_flipped}
 use Rattle.digraph.proofs.LeastChains.{down_all, down_more, leads_down, successor, successors_ascend, GoesDown}
 use Rattle.digraph.proofs.least.chain_down.Goals as goal
 
 -- the row of a node are its successors
-row_is : (edges turned : List Edge) (rows : List (Vec ℕ)) (at : ℕ) (row : Vec ℕ) (items : List ℕ) → items ≡ row.items → row ≡ get_or rows at row → at < length rows →
-    row_at (lists rows) at ≡ predecessors turned at → turned ≡ map flipped edges → items ≡ successors edges at
-row_is edges turned rows at row items value is in_rows same e =
+row_is : (edges : List Edge) (rows : List (Vec ℕ)) (at : ℕ) (row : Vec ℕ) (items : List ℕ) → items ≡ row.items → row ≡ get_or rows at row → at < length rows →
+    row_at (lists rows) at ≡ successors edges at → items ≡ successors edges at
+row_is edges rows at row items value is in_rows same =
     let of : Vec ℕ → List ℕ = λ r. r.items in
-    value ∙ ap of is ∙ sym (get_or-map of rows at row [] in_rows) ∙ same ∙ ap (λ (es : List Edge). predecessors es at) e ∙ predecessors_flipped edges at
-
-pub rows_of-requires : goal.rows_of-requires
-rows_of-requires c = record {
-  between = subst (λ (es : List Edge). AreBetween es c.args.nodes) (sym (c.as_slice.ensures.value ∙ c.in_ok-turned.ensures)) (flipped_between c.args.edges.now c.args.nodes c.requires.between);
-}
+    value ∙ ap of is ∙ sym (get_or-map of rows at row [] in_rows) ∙ same
 
 pub least_on-requires : goal.least_on-requires
 least_on-requires c =
@@ -29,8 +23,7 @@ least_on-requires c =
     let at = c.loop-below.at in
     let rows = c.in_ok-successors.successors.items in
     let in_rows : at < length rows = (let low = c.loop-below.invariant.low in let size = c.in_ok-successors.ensures.size in let ok = c.in_ok-successors.successors.ok in omega arith) in
-    let row = row_is edges c.as_slice.result.now rows at c.index.result.now c.as_slice-in-loop-below.result.now c.as_slice-in-loop-below.ensures.value c.index.ensures in_rows (c.in_ok-successors.ensures.rows at)
-    (c.as_slice.ensures.value ∙ c.in_ok-turned.ensures) in
+    let row = row_is edges rows at c.index.result.now c.as_slice.result.now c.as_slice.ensures.value c.index.ensures in_rows (c.in_ok-successors.ensures.rows at) in
     subst (AllPairs (λ (m n : ℕ). m ≤ n)) (sym row) (successors_ascend edges at c.requires.ascending)
 
 pub unreachable-requires : goal.unreachable-requires
@@ -39,8 +32,7 @@ unreachable-requires c =
     let at = c.loop-below.at in
     let rows = c.in_ok-successors.successors.items in
     let in_rows : at < length rows = (let low = c.loop-below.invariant.low in let size = c.in_ok-successors.ensures.size in let ok = c.in_ok-successors.successors.ok in omega arith) in
-    let row = row_is edges c.as_slice.result.now rows at c.index.result.now c.as_slice-in-loop-below.result.now c.as_slice-in-loop-below.ensures.value c.index.ensures in_rows (c.in_ok-successors.ensures.rows at)
-    (c.as_slice.ensures.value ∙ c.in_ok-turned.ensures) in
+    let row = row_is edges rows at c.index.result.now c.as_slice.result.now c.as_slice.ensures.value c.index.ensures in_rows (c.in_ok-successors.ensures.rows at) in
     let below = c.loop-below.below in
     let some = c.loop-below-test.true in
     let step : below ≡ (below - 1) + 1 = omega arith in
@@ -53,8 +45,7 @@ loop-below-preserved c =
     let at = c.loop-below.at in
     let rows = c.in_ok-successors.successors.items in
     let in_rows : at < length rows = (let low = c.loop-below.invariant.low in let size = c.in_ok-successors.ensures.size in let ok = c.in_ok-successors.successors.ok in omega arith) in
-    let row = row_is edges c.as_slice.result.now rows at c.index.result.now c.as_slice-in-loop-below.result.now c.as_slice-in-loop-below.ensures.value c.index.ensures in_rows (c.in_ok-successors.ensures.rows at)
-    (c.as_slice.ensures.value ∙ c.in_ok-turned.ensures) in
+    let row = row_is edges rows at c.index.result.now c.as_slice.result.now c.as_slice.ensures.value c.index.ensures in_rows (c.in_ok-successors.ensures.rows at) in
     let below = c.loop-below.below in
     let some = c.loop-below-test.true in
     let step : below ≡ (below - 1) + 1 = omega arith in

@@ -1,8 +1,10 @@
 -- One edge more.
-use Rattle.std.proofs.Common.{◌≡◌, ◌<◌, ◌∙◌, length, arith}
+use Rattle.std.proofs.Common.{◌≡◌, ◌<◌, ◌∙◌, List, length, ap, take_all, arith}
 use Rattle.std.specs.Prelude.{vec_len}
 use Rattle.std.proofs.lemmas.List.{length-map}
 use Rattle.std.proofs.lemmas.List.Elements.{Contains-get_or}
+use Rattle.digraph.specs.declared.edge.Edge.{Edge}
+use Rattle.digraph.specs.Edges.{predecessors}
 use Rattle.digraph.specs.Marks.{edge_at, lists, none_there}
 use Rattle.digraph.proofs.ByNode.{rows_more}
 use Rattle.digraph.proofs.rows.rows_of.Goals as goal
@@ -27,3 +29,10 @@ loop-edge-preserved c =
     let ok = c.loop-edge.rows.ok.0 in
     let len : length (lists old) ≡ length old = length-map old (λ v. v.items) in
     (c.in_ok-add.ensures.size ∙ size, rows_more edges (lists old) (lists c.add.new.predecessors.items) k c.loop-edge-test.true (omega arith) c.loop-edge.invariant.1 c.in_ok-add.ensures.rows)
+
+pub returns-clause-size : goal.returns-clause-size
+returns-clause-size c = c.loop-edge.invariant.0
+
+pub returns-clause-rows : goal.returns-clause-rows
+returns-clause-rows c v =
+    c.loop-edge.invariant.1 v ∙ ap (λ (es : List Edge). predecessors es v) (take_all c.loop-edge.edge-index c.args.edges.now c.loop-edge-test.false)
