@@ -4,15 +4,16 @@ use Rattle.std.specs.Prelude.{Contains, IfSome, IfNone, position, slice_get}
 use Rattle.std.specs.Option.{option_and_then, option_map}
 use Rattle.std.specs.Str.{bytes_eq}
 use Rattle.std.proofs.lemmas.Option.{slice_get-map}
+use Rattle.ob_interface.specs.declared.rows.DeclarationRow.{DeclarationRow}
 use Rattle.ob_interface.specs.declared.rows.ImportRow.{ImportRow}
 use Rattle.ob_interface.specs.declared.rows.NamePlace.{NamePlace}
 use Rattle.ob_interface.specs.declared.rows.Rows.{Rows}
 use Rattle.ob_interface.specs.Interfaces.{Base, Imported}
 use Rattle.ob_interface.specs.Orders.{Key, name_key, place_by_name, fits_alias, fits_base}
-use Rattle.ob_interface.specs.Placed.{base_named, module_named}
+use Rattle.ob_interface.specs.Placed.{base_named, declaration_at, module_named}
 use Rattle.ob_interface.specs.Places.{IsLeastPlace, Indexes}
-use Rattle.ob_interface.specs.Rowed.{interface_in}
-use Rattle.ob_interface.specs.Texts.{base_in, import_in, text_in}
+use Rattle.ob_interface.specs.Rowed.{form_in, interface_in}
+use Rattle.ob_interface.specs.Texts.{base_in, declaration_in, import_in, text_in}
 use Rattle.ob_interface.proofs.Ranks.{find_first, first_fit}
 
 -- the same over a buffer with other words for it
@@ -51,3 +52,9 @@ base_told_at rows k o e =
     ∙ ap (λ (v : Option ℕ). option_map (λ (b : Base). b) (option_and_then (slice_get (map (base_in rows.text.items) rows.bases.items)) v)) e
     ∙ map_itself _
     ∙ sym (find_first (fits_base k) (map (base_in rows.text.items) rows.bases.items))
+
+-- the declaration at a place
+pub declaration_told_at : (rows : Rows) (p : ℕ) (o : Option DeclarationRow) → o ≡ slice_get rows.declarations.items p → option_map (declaration_in (form_in rows.text.items rows.parts.items) rows.text.items) o ≡ declaration_at (interface_in rows) p
+declaration_told_at rows p o e =
+    let told = declaration_in (form_in rows.text.items rows.parts.items) rows.text.items in
+    ap (option_map told) e ∙ sym (slice_get-map told rows.declarations.items p)

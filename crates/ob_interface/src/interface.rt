@@ -13,7 +13,7 @@ ghost use Rattle.ob_interface.specs.declared.rows.ImportRow.{ImportRow as Import
 use crate::answers::{Base, Declaration, Part, base_of, declaration_of, part_of, parts_between};
 use crate::entries::{aliases_of, bases_of, members_of, owners_of};
 use crate::order::{first_by_name, first_by_record, text_of};
-use crate::rows::{NamePlace, RecordPlace, Rows};
+use crate::rows::{DeclarationRow, NamePlace, RecordPlace, Rows};
 use crate::seeing::Seen;
 use std::alloc::{AllocError, Global};
 use std::marker::Model;
@@ -109,11 +109,18 @@ fn owner_in(rows: &Rows, owners: &[RecordPlace], record: u32) -> Option<u32>
     first_by_record(owners, record)
 }
 
+/// The row of the declaration at a place.
+fn declaration_row(rows: &Rows, place: u32) -> Option<&DeclarationRow>
+    ensures { option_map (λ row. row.now) result ≡ slice_get rows.now.declarations.items place }
+{
+    rows.declarations.as_slice().get(place as usize)
+}
+
 /// The declaration at a place.
 fn declaration_in(rows: &Rows, place: u32) -> Option<Declaration<'_>>
     ensures { option_map declaration_told result ≡ declaration_at (interface_in rows.now) place }
 {
-    let row = rows.declarations.as_slice().get(place as usize)?;
+    let row = declaration_row(rows, place)?;
     Some(declaration_of(rows, row))
 }
 
@@ -122,7 +129,7 @@ fn part_in(rows: &Rows, place: u32, at: u32) -> Option<Part<'_>>
     ensures part { option_map part_told result ≡ form_part (interface_in rows.now) place at }
     ensures few { OnSome result (at + 1 < 2 ^ 32) }
 {
-    let row = rows.declarations.as_slice().get(place as usize)?;
+    let row = declaration_row(rows, place)?;
     let form = parts_between(rows.parts.as_slice(), row.first_part, row.parts_end);
     let part = form.get(at as usize)?;
     Some(part_of(rows.text.as_slice(), part.part))
