@@ -1,7 +1,8 @@
 -- The path is entered, and then one occurrence after another.
-use Rattle.std.proofs.Common.{◌++◌, ◌∷◌, [], List, map, take, subst}
+use Rattle.std.proofs.Common.{◌++◌, ◌∷◌, [], List, map, take, take_all, subst}
 use Rattle.std.specs.String.{string_bytes}
 use Rattle.std.proofs.lemmas.List.{append-nil}
+use Rattle.scip_index.specs.declared.index.Occurrence.{Occurrence}
 use Rattle.scip_index.specs.Plain.{plain_occurrence}
 use Rattle.index_store.specs.Queries.{Found, found_at}
 use Rattle.index_store.specs.Stores.{tables_of, Keeps}
@@ -37,3 +38,12 @@ loop-occurrence-preserved c =
       λ paths found kept. subst (λ (fs : List Found). Keeps (paths ++ name ∷ []) fs (tables_of c.add.new.self)) (some_more found name items k c.occurrence-item.result (rw c.deref-occurrence-items.ensures.value at c.loop-occurrence-test.true) (rw c.deref-occurrence-items.ensures.value at c.occurrence-item.is))
           (c.in_ok-add.ensures.kept (paths ++ name ∷ []) (found ++ map (found_at name) (map plain_occurrence (take k items))) name (c.loop-occurrence.invariant.2 paths found kept) at),
     )
+
+pub returns-clause-whole : goal.returns-clause-whole
+returns-clause-whole c = c.loop-occurrence.invariant.0
+
+pub returns-clause-kept : goal.returns-clause-kept
+returns-clause-kept c paths found kept =
+    let name = string_bytes c.args.document.now.relative_path in
+    let all = take_all c.loop-occurrence.occurrence-index c.args.document.now.occurrences.items (rw c.deref-occurrence-items.ensures.value at c.loop-occurrence-test.false) in
+    subst (λ (os : List Occurrence). Keeps (paths ++ name ∷ []) (found ++ map (found_at name) (map plain_occurrence os)) (tables_of c.loop-occurrence.self)) all (c.loop-occurrence.invariant.2 paths found kept)
