@@ -1,6 +1,7 @@
 -- Between the ranks, then in order.
-use Rattle.std.proofs.Common.{◌≡◌, ◌∙◌, ap, arith, map, subst, take, take_all}
+use Rattle.std.proofs.Common.{◌≡◌, ◌∙◌, ap, arith, map, subst, sym, take, take_all}
 use Rattle.std.specs.Prelude.{Contains, ◌↔◌, List}
+use Rattle.std.proofs.lemmas.List.{map_more}
 use Rattle.std.proofs.lemmas.List.Elements.{Contains-get_or}
 use Rattle.digraph.specs.declared.edge.Edge.{Edge as GraphEdge}
 use Rattle.digraph.specs.Ranks.{by_ranks}
@@ -25,3 +26,10 @@ returns-clause-same c p =
     let all : take c.loop-edge.edge-index edges ≡ edges = take_all c.loop-edge.edge-index edges (omega arith) in
     let whole : c.loop-edge.others.items ≡ map (by_ranks c.args.ranks.now) edges = c.loop-edge.invariant ∙ ap (map (by_ranks c.args.ranks.now)) all in
     subst (λ (others : List GraphEdge). Contains c.put_in_order.new.edges.items p ↔ Contains others p) whole (c.put_in_order.ensures.same p)
+
+pub loop-edge-preserved : goal.loop-edge-preserved
+loop-edge-preserved c =
+    rw (c.in_ok-push.ensures.items, c.loop-edge.invariant) (sym (map_more (by_ranks c.args.ranks.now) c.args.edges.now c.loop-edge.edge-index none_there c.loop-edge-test.true))
+
+pub returns-clause-ascending : goal.returns-clause-ascending
+returns-clause-ascending c = c.put_in_order.ensures.ascending
