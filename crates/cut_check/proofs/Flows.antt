@@ -10,7 +10,7 @@ use Rattle.cut_net.specs.Cuts.{entering, leaving}
 use Rattle.cut_net.specs.Pins.{is_pinned}
 use Rattle.cut_net.specs.WellFormed.{AreBetween}
 use Rattle.cut_net.proofs.ListSums.{sum_by-same}
-use Rattle.cut_check.specs.Verdicts.{AreKept, AreUnder, HasValue, IsFirstOff, IsFirstOver}
+use Rattle.cut_check.specs.Verdicts.{AreConserved, AreUnder, HasValue, IsFirstOff, IsFirstOver}
 use Rattle.cut_check.specs.Sums.{AreAmounts, AreSums, AreWithin, IsFirstAbove}
 
 -- beyond the last module nothing flows
@@ -72,7 +72,7 @@ module _ (net : Network) (modules a b : ℕ) (between : AreBetween net.imports m
       | inr out_m ↦ beyond net modules flow between m out_m
     ]
 
-    pub are_kept : AreKept net a b flow
+    pub are_kept : AreConserved net a b flow
     are_kept m off = off.2 (kept_all m off.0 off.1)
 
   pub value_from : (total : ℕ) → get_or into a 0 + total ≡ get_or out a 0 → HasValue net a flow total

@@ -8,7 +8,7 @@ use Rattle.cut_net.specs.declared.priced.Priced.{Priced}
 use Rattle.cut_net.specs.Network.{Network}
 use Rattle.cut_net.specs.Lines.{AreInOrder, flow_by}
 use Rattle.cut_net.specs.Pins.{IsRightWithPins}
-use Rattle.cut_check.specs.Verdicts.{AreKept, AreRead, AreUnder, IsFirstOff, IsFirstOver, IsFirstStray, IsStray, IsCutVerdict}
+use Rattle.cut_check.specs.Verdicts.{AreConserved, AreRead, AreUnder, IsFirstOff, IsFirstOver, IsFirstStray, IsStray, IsCutVerdict}
 use Rattle.cut_check.specs.declared.verdict.Verdict.{Verdict}
 use Rattle.cut_check.specs.declared.verdict.Verdict.TheVariants.{Yes, NoSuchImport, StillChain, WrongWeight, OverWeight, NotKept, WrongValue, NotPinned}
 use Rattle.cut_check.proofs.Parts.{front_in_order}
@@ -96,7 +96,7 @@ module _ (net : Network) (a b : ℕ) (printed : List Priced) (total : ℕ) (flow
   under_of : IsRightWithPins net a b printed total flow → AreUnder net (flow_by flow)
   under_of r i c free over = let le = r.is_flow.within i c free in absurd (omega arith)
 
-  kept_of : IsRightWithPins net a b printed total flow → AreKept net a b (flow_by flow)
+  kept_of : IsRightWithPins net a b printed total flow → AreConserved net a b (flow_by flow)
   kept_of r m off = off.2 (r.is_flow.kept m off.0 off.1)
 
   stray_only : (from to : ℕ) → Is (NoSuchImport from to) → (w : Verdict) → Is w → NoSuchImport from to ≡ w

@@ -14,7 +14,7 @@ use Rattle.cut_net.specs.WellFormed.{IsNetwork}
 use Rattle.cut_net.proofs.Chains.{chain_or_none, outside_or_in}
 use Rattle.cut_check.specs.Reaching.{any}
 use Rattle.cut_check.specs.Matched.{IsLineAt}
-use Rattle.cut_check.specs.Verdicts.{AreKept, AreRead, AreUnder, HasCut, HasVerdict, IsFirstStray, IsOff}
+use Rattle.cut_check.specs.Verdicts.{AreConserved, AreRead, AreUnder, HasCut, HasVerdict, IsFirstStray, IsOff}
 use Rattle.cut_check.specs.declared.verdict.Verdict.TheVariants.{Yes, NoSuchImport, StillChain, WrongWeight, OverWeight, NotKept, WrongValue}
 use Rattle.cut_check.proofs.Flows.{beyond}
 use Rattle.cut_check.proofs.Matching.{Matching, matching_start, matching_more, matching_end}
@@ -79,7 +79,7 @@ in_order_or_stray net lines ascending =
     ]
 
 module _ (net : Network) (a b : ℕ) (printed : List Priced) (total : ℕ) (flow : List Priced) (is_net : IsNetwork net) where
-  at_end : AreKept net a b (flow_by flow) → AreUnder net (flow_by flow) → AreWeightsWithPins net printed total → HasCut net a b printed flow → HasVerdict net a b (CutOf total printed flow)
+  at_end : AreConserved net a b (flow_by flow) → AreUnder net (flow_by flow) → AreWeightsWithPins net printed total → HasCut net a b printed flow → HasVerdict net a b (CutOf total printed flow)
   at_end kept under weigh cut = elim (cases_eq (entering net.imports (flow_by flow) a + total) (leaving net.imports (flow_by flow) a)) [
     | inr wrong ↦ (WrongValue, (cut, weigh, under, kept, wrong))
     | inl value ↦ (

@@ -6,7 +6,7 @@ use Rattle.cut_net.specs.Cuts.{entering, leaving}
 use Rattle.cut_net.specs.Pins.{is_pinned, IsFlowWithPins}
 use Rattle.cut_check.specs.declared.verdict.Verdict.{Verdict}
 use Rattle.cut_check.specs.declared.verdict.Verdict.TheVariants.{Yes, NoSuchImport, StillChain, WrongWeight, OverWeight, NotKept, WrongValue, NotPinned}
-use Rattle.cut_check.specs.Verdicts.{AreKept, AreUnder, HasValue, IsFirstOff, IsFirstOver}
+use Rattle.cut_check.specs.Verdicts.{AreConserved, AreUnder, HasValue, IsFirstOff, IsFirstOver}
 
 -- the amounts are those of a flow
 abbrev pub AreAmounts : List Priced → (Priced → ℕ) → List (Option ℕ) → Type 0
@@ -46,5 +46,5 @@ IsFlowVerdict net a b flow total StillChain = ⊥
 IsFlowVerdict net a b flow total WrongWeight = ⊥
 IsFlowVerdict net a b flow total (OverWeight from to) = IsFirstOver net flow from to
 IsFlowVerdict net a b flow total (NotKept m) = AreUnder net flow × IsFirstOff net a b flow m
-IsFlowVerdict net a b flow total WrongValue = AreUnder net flow × AreKept net a b flow × (HasValue net a flow total → ⊥)
+IsFlowVerdict net a b flow total WrongValue = AreUnder net flow × AreConserved net a b flow × (HasValue net a flow total → ⊥)
 IsFlowVerdict net a b flow total (NotPinned from to) = ⊥

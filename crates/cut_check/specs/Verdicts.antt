@@ -60,8 +60,8 @@ pub record IsFirstOff (net : Network) (a b : ℕ) (flow : Priced → ℕ) (m : �
   pub least : (n : ℕ) → n < m → IsOff net a b flow n → ⊥
 
 -- there is no such module
-abbrev pub AreKept : Network → ℕ → ℕ → (Priced → ℕ) → Type 0
-AreKept net a b flow = (m : ℕ) → IsOff net a b flow m → ⊥
+abbrev pub AreConserved : Network → ℕ → ℕ → (Priced → ℕ) → Type 0
+AreConserved net a b flow = (m : ℕ) → IsOff net a b flow m → ⊥
 
 -- what leaves a, less what enters it, is this value
 abbrev pub HasValue : Network → ℕ → (Priced → ℕ) → ℕ → Type 0
@@ -78,7 +78,7 @@ IsCutVerdict net a b printed total flow (OverWeight from to) =
 IsCutVerdict net a b printed total flow (NotKept m) =
     HasCut net a b printed flow × AreWeightsWithPins net printed total × AreUnder net (flow_by flow) × IsFirstOff net a b (flow_by flow) m
 IsCutVerdict net a b printed total flow WrongValue =
-    HasCut net a b printed flow × AreWeightsWithPins net printed total × AreUnder net (flow_by flow) × AreKept net a b (flow_by flow) × (HasValue net a (flow_by flow) total → ⊥)
+    HasCut net a b printed flow × AreWeightsWithPins net printed total × AreUnder net (flow_by flow) × AreConserved net a b (flow_by flow) × (HasValue net a (flow_by flow) total → ⊥)
 IsCutVerdict net a b printed total flow (NotPinned from to) = ⊥
 
 -- the first of these modules is a, and the last is b

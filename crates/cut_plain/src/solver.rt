@@ -6,7 +6,7 @@ ghost use Rattle.cut_solve.specs.Solving.{outcome_of, IsRefusal, IsSolveOutcome,
 
 use crate::maximum_flow::maximum_flow;
 use cut_net::{Answer, Cut, Net};
-use cut_solve::{SolveFault, as_answer, blocked, cut_by, flow_of, graph_of, module_of};
+use cut_solve::{SolveFault, as_answer, blocked, flow_of, graph_of, minimum_cut, module_of};
 use std::alloc::{AllocError, Global};
 
 /// A cheapest cut between two modules, with a flow that proves it.
@@ -22,7 +22,7 @@ fn solve(alloc: Global, net: &Net, from: u32, to: u32) -> Result<Cut, AllocError
     let near = maximum_flow(alloc, &mut graph, from, to)?;
     graph.keeps();
     let flow = flow_of(alloc, graph.arcs())?;
-    cut_by(alloc, net, &near.seen, flow, from, to)
+    minimum_cut(alloc, net, &near.seen, flow, from, to)
 }
 
 /// A cheapest cut between the modules of two names: the printed imports with their weights, the sum of these in qualified

@@ -2,7 +2,7 @@
 use Rattle.std.proofs.Common.{◌≡◌, ◌≢◌, ℕ, zero, suc, ◌+◌, ◌-◌, ◌*◌, ◌/◌, ◌%◌, ◌<◌, ◌≤◌, min, inl, inr, Bool, true, false, not, ◌&&◌, ◌==◌, if◌then◌else◌, nat_lt, nat_le, Option, Some, None, refl, sym, subst, arith}
 use Rattle.std.proofs.lemmas.Bool.{cases_lt, cases_eq}
 use Rattle.std.proofs.lemmas.Bool.Decides.{nat_tests}
-use Rattle.cut_preflow.specs.Preflow.{FlowNetwork, State, count, import_at, flow_at, label_at, inflow, outflow, excess, is_forward, tail, head, residual, is_active, can_push, smaller, least_head, raised_over, raised}
+use Rattle.cut_preflow.specs.Preflow.{FlowNetwork, State, count, import_at, flow_at, label_at, inflow, outflow, excess, is_forward, tail, head, residual, is_active, can_push, smaller, least_head, raised_over, relabel_target}
 use Rattle.cut_preflow.proofs.Choices.{pick_true, pick_false}
 
 pub lt_true : (a b : ℕ) → a < b → nat_lt a b ≡ true
@@ -214,7 +214,7 @@ pub record Raisable (net : FlowNetwork) (s : State) (v label : ℕ) : Type 0 whe
   pub none_lower : label_at s v ≤ least
   pub label_is : label ≡ least + 1
 
-pub raisable_from : (net : FlowNetwork) (s : State) (v label : ℕ) → raised net s v ≡ Some label → Raisable net s v label
+pub raisable_from : (net : FlowNetwork) (s : State) (v label : ℕ) → relabel_target net s v ≡ Some label → Raisable net s v label
 raisable_from net s v label e = go (is_active net s v) refl (least_head net s v (2 * count net)) refl e
   where
     over : (least : ℕ) → (t : Bool) → nat_le (label_at s v) least ≡ t → (if t then Some (least + 1) else None) ≡ Some label → (label_at s v ≤ least) × (label ≡ least + 1)
@@ -228,7 +228,7 @@ raisable_from net s v label e = go (is_active net s v) refl (least_head net s v 
         record { active = active_from net s v a; least = least; is_least = q; none_lower = both.0; label_is = both.1 }
     go false a o q e = cc
 
-pub raised_some : (net : FlowNetwork) (s : State) (v least : ℕ) → Active net s v → least_head net s v (2 * count net) ≡ Some least → label_at s v ≤ least → raised net s v ≡ Some (least + 1)
+pub raised_some : (net : FlowNetwork) (s : State) (v least : ℕ) → Active net s v → least_head net s v (2 * count net) ≡ Some least → label_at s v ≤ least → relabel_target net s v ≡ Some (least + 1)
 raised_some net s v least a q le =
     let on : is_active net s v ≡ true = active_true net s v a in
     let up : nat_le (label_at s v) least ≡ true = le_true (label_at s v) least le in

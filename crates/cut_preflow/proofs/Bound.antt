@@ -6,8 +6,8 @@ use Rattle.cut_preflow.specs.declared.event.Step.{Step}
 use Rattle.cut_preflow.specs.declared.event.Step.TheVariants.{Push, Relabel}
 use Rattle.cut_preflow.specs.declared.event.Event.{Event}
 use Rattle.cut_preflow.specs.Total.{total}
-use Rattle.cut_preflow.specs.Preflow.{FlowNetwork, State, count, import_at, flow_at, label_at, inflow, outflow, excess, is_forward, residual, is_active, moved, pushed, raised, relabelled, after, applies, run, opening, is_legal}
-use Rattle.cut_preflow.specs.Kept.{IsFlowNetwork, IsKept}
+use Rattle.cut_preflow.specs.Preflow.{FlowNetwork, State, count, import_at, flow_at, label_at, inflow, outflow, excess, is_forward, residual, is_active, push_amount, pushed, relabel_target, relabelled, after, applies, run, opening, is_legal}
+use Rattle.cut_preflow.specs.Kept.{IsFlowNetwork, IsValidPreflow}
 use Rattle.cut_preflow.specs.Bound.{changes, most_changes}
 use Rattle.cut_preflow.proofs.Choices.{choice_le, choice_same, choice_other, pick_true, pick_false, true_or_false}
 use Rattle.cut_preflow.proofs.Totals.{total-le, total-zero, total-at_most, total-change}
@@ -64,7 +64,7 @@ module _ (net : FlowNetwork) (most : ℕ) where
   spends : (a a' l l' u w d : ℕ) → a' + u ≤ a + w → u ≡ w + 1 → l' ≡ l → a' + most * l + 2 * d + 1 ≤ a + most * l' + 2 * d
   spends a a' l l' u w d h e same = omega (arith, h, e, ap (λ x. most * x) same)
 
-  along_falls : (s : State) (i amount : ℕ) → IsFlowNetwork net → IsKept net s → ((v : ℕ) → v < net.nodes → label_at s v ≤ most) → i < count net → Active net s (import_at net i).from → amount ≡ min (excess net s (import_at net i).from) ((import_at net i).amount - flow_at s i) → flow_at s i < (import_at net i).amount → label_at s (import_at net i).from ≡ label_at s (import_at net i).to + 1 → Falls s (record { flow = set s.flow i (flow_at s i + amount); label = s.label })
+  along_falls : (s : State) (i amount : ℕ) → IsFlowNetwork net → IsValidPreflow net s → ((v : ℕ) → v < net.nodes → label_at s v ≤ most) → i < count net → Active net s (import_at net i).from → amount ≡ min (excess net s (import_at net i).from) ((import_at net i).amount - flow_at s i) → flow_at s i < (import_at net i).amount → label_at s (import_at net i).from ≡ label_at s (import_at net i).to + 1 → Falls s (record { flow = set s.flow i (flow_at s i + amount); label = s.label })
   along_falls s i amount is kept bound il a is_amount room down =
       elim (cases_lt amount ((import_at net i).amount - flow_at s i)) [
         | inl lt ↦
@@ -123,7 +123,7 @@ module _ (net : FlowNetwork) (most : ℕ) where
       level_before : level (import_at net i).amount (flow_at s i) (label_at s u) (label_at s w) ≡ label_at s w
       level_before = level_ahead (import_at net i).amount (flow_at s i) (label_at s u) (label_at s w) room down
 
-  back_falls : (s : State) (i amount : ℕ) → IsFlowNetwork net → IsKept net s → ((v : ℕ) → v < net.nodes → label_at s v ≤ most) → i < count net → Active net s (import_at net i).to → amount ≡ min (excess net s (import_at net i).to) (flow_at s i) → 0 < flow_at s i → label_at s (import_at net i).to ≡ label_at s (import_at net i).from + 1 → Falls s (record { flow = set s.flow i (flow_at s i - amount); label = s.label })
+  back_falls : (s : State) (i amount : ℕ) → IsFlowNetwork net → IsValidPreflow net s → ((v : ℕ) → v < net.nodes → label_at s v ≤ most) → i < count net → Active net s (import_at net i).to → amount ≡ min (excess net s (import_at net i).to) (flow_at s i) → 0 < flow_at s i → label_at s (import_at net i).to ≡ label_at s (import_at net i).from + 1 → Falls s (record { flow = set s.flow i (flow_at s i - amount); label = s.label })
   back_falls s i amount is kept bound il a is_amount room down =
       elim (cases_lt amount (flow_at s i)) [
         | inl lt ↦
@@ -185,25 +185,25 @@ module _ (net : FlowNetwork) (most : ℕ) where
       level_before : level (import_at net i).amount (flow_at s i) (label_at s w) (label_at s u) ≡ label_at s w
       level_before = level_back (import_at net i).amount (flow_at s i) (label_at s w) (label_at s u) room down
 
-  push_falls : (s : State) (arc : ℕ) → IsFlowNetwork net → IsKept net s → ((v : ℕ) → v < net.nodes → label_at s v ≤ most) → Pushable net s arc → Falls s (record { flow = pushed net s arc; label = s.label })
+  push_falls : (s : State) (arc : ℕ) → IsFlowNetwork net → IsValidPreflow net s → ((v : ℕ) → v < net.nodes → label_at s v ≤ most) → Pushable net s arc → Falls s (record { flow = pushed net s arc; label = s.label })
   push_falls s arc is kept bound can = elim (true_or_false (is_forward arc)) [
     | inl e ↦
         (let way = ahead net s arc e in
-        let is_amount : moved net s arc ≡ min (excess net s (import_at net (arc / 2)).from) ((import_at net (arc / 2)).amount - flow_at s (arc / 2)) =
+        let is_amount : push_amount net s arc ≡ min (excess net s (import_at net (arc / 2)).from) ((import_at net (arc / 2)).amount - flow_at s (arc / 2)) =
         ap (λ x. min (excess net s x) (residual net s arc)) way.tail_is ∙ ap (λ x. min (excess net s (import_at net (arc / 2)).from) x) way.residual_is in
-        let flows : set s.flow (arc / 2) (flow_at s (arc / 2) + moved net s arc) ≡ pushed net s arc =
-        ap (λ y. set s.flow (arc / 2) y) (sym (pick_true (is_forward arc) (flow_at s (arc / 2) + moved net s arc) (flow_at s (arc / 2) - moved net s arc) e)) in
+        let flows : set s.flow (arc / 2) (flow_at s (arc / 2) + push_amount net s arc) ≡ pushed net s arc =
+        ap (λ y. set s.flow (arc / 2) y) (sym (pick_true (is_forward arc) (flow_at s (arc / 2) + push_amount net s arc) (flow_at s (arc / 2) - push_amount net s arc) e)) in
         let down = ap (label_at s) (sym way.tail_is) ∙ can.downhill ∙ ap (λ x. label_at s x + 1) way.head_is in
-        let falls = along_falls s (arc / 2) (moved net s arc) is kept bound can.below (subst (λ x. Active net s x) way.tail_is can.active) is_amount (omega (arith, can.room, way.residual_is)) down in
+        let falls = along_falls s (arc / 2) (push_amount net s arc) is kept bound can.below (subst (λ x. Active net s x) way.tail_is can.active) is_amount (omega (arith, can.room, way.residual_is)) down in
         subst (λ ys. Falls s (record { flow = ys; label = s.label })) flows falls)
     | inr e ↦
         (let way = back net s arc e in
-        let is_amount : moved net s arc ≡ min (excess net s (import_at net (arc / 2)).to) (flow_at s (arc / 2)) =
+        let is_amount : push_amount net s arc ≡ min (excess net s (import_at net (arc / 2)).to) (flow_at s (arc / 2)) =
         ap (λ x. min (excess net s x) (residual net s arc)) way.tail_is ∙ ap (λ x. min (excess net s (import_at net (arc / 2)).to) x) way.residual_is in
-        let flows : set s.flow (arc / 2) (flow_at s (arc / 2) - moved net s arc) ≡ pushed net s arc =
-        ap (λ y. set s.flow (arc / 2) y) (sym (pick_false (is_forward arc) (flow_at s (arc / 2) + moved net s arc) (flow_at s (arc / 2) - moved net s arc) e)) in
+        let flows : set s.flow (arc / 2) (flow_at s (arc / 2) - push_amount net s arc) ≡ pushed net s arc =
+        ap (λ y. set s.flow (arc / 2) y) (sym (pick_false (is_forward arc) (flow_at s (arc / 2) + push_amount net s arc) (flow_at s (arc / 2) - push_amount net s arc) e)) in
         let down = ap (label_at s) (sym way.tail_is) ∙ can.downhill ∙ ap (λ x. label_at s x + 1) way.head_is in
-        let falls = back_falls s (arc / 2) (moved net s arc) is kept bound can.below (subst (λ x. Active net s x) way.tail_is can.active) is_amount (omega (arith, can.room, way.residual_is)) down in
+        let falls = back_falls s (arc / 2) (push_amount net s arc) is kept bound can.below (subst (λ x. Active net s x) way.tail_is can.active) is_amount (omega (arith, can.room, way.residual_is)) down in
         subst (λ ys. Falls s (record { flow = ys; label = s.label })) flows falls)
   ]
 
@@ -211,7 +211,7 @@ module _ (net : FlowNetwork) (most : ℕ) where
   lifts : (a a' l l' d d' old new : ℕ) → a' + old ≡ a + new → d' + old ≡ d + new → old < new → most * l ≤ most * l' → a' + most * l + 2 * d + 1 ≤ a + most * l' + 2 * d'
   lifts a a' l l' d d' old new p q r le = omega arith
 
-  relabel_falls : (s : State) (v label : ℕ) → IsFlowNetwork net → IsKept net s → Raisable net s v label → Falls s (record { flow = s.flow; label = set s.label v label })
+  relabel_falls : (s : State) (v label : ℕ) → IsFlowNetwork net → IsValidPreflow net s → Raisable net s v label → Falls s (record { flow = s.flow; label = set s.label v label })
   relabel_falls s v label is kept can =
       lifts (active_labels net s) (active_labels net t) (levels net s) (levels net t) (labels net s) (labels net t) (label_at s v) label
       actives sums (omega (arith, can.none_lower, can.label_is)) (mul_le most (levels net s) (levels net t) risen)
@@ -249,13 +249,13 @@ module _ (net : FlowNetwork) (most : ℕ) where
           (λ j _. level_le (import_at net j).amount (flow_at s j) (label_at s (import_at net j).from) (label_at s (import_at net j).to) (label_at t (import_at net j).from) (label_at t (import_at net j).to) (up (import_at net j).from) (up (import_at net j).to))
 
   -- each event that applies makes the potential fall
-  pub step_falls : (s : State) (step : Step) → IsFlowNetwork net → IsKept net s → ((v : ℕ) → v < net.nodes → label_at s v ≤ most) → applies net s step ≡ true → Falls s (after net s step)
+  pub step_falls : (s : State) (step : Step) → IsFlowNetwork net → IsValidPreflow net s → ((v : ℕ) → v < net.nodes → label_at s v ≤ most) → applies net s step ≡ true → Falls s (after net s step)
   step_falls s (Push arc) is kept bound e =
       let falls = push_falls s arc is kept bound (pushable_from net s arc e) in
       subst (λ b. Falls s (if b then record { flow = pushed net s arc; label = s.label } else s)) (sym e) falls
-  step_falls s (Relabel v) is kept bound e = go (raised net s v) refl e
+  step_falls s (Relabel v) is kept bound e = go (relabel_target net s v) refl e
     where
-      go : (o : Option ℕ) → raised net s v ≡ o → is_some o ≡ true → Falls s (relabelled s v o)
+      go : (o : Option ℕ) → relabel_target net s v ≡ o → is_some o ≡ true → Falls s (relabelled s v o)
       go None q f = cc
       go (Some label) q f = relabel_falls s v label is kept (raisable_from net s v label q)
 
@@ -263,11 +263,11 @@ module _ (net : FlowNetwork) (most : ℕ) where
 abbrev pub top : FlowNetwork → ℕ
 top net = 2 * net.nodes - 1
 
-kept_top : (net : FlowNetwork) (s : State) → IsKept net s → (v : ℕ) → v < net.nodes → label_at s v ≤ top net
+kept_top : (net : FlowNetwork) (s : State) → IsValidPreflow net s → (v : ℕ) → v < net.nodes → label_at s v ≤ top net
 kept_top net s kept v l = omega (arith, kept.low v l)
 
 -- the events that change the state are paid for by what the levels and the labels gain
-pub changes_paid : (net : FlowNetwork) (s : State) (events : List Event) → IsFlowNetwork net → IsKept net s → changes net s events + active_labels net (run net s events) + top net * levels net s + 2 * labels net s ≤ active_labels net s + top net * levels net (run net s events) + 2 * labels net (run net s events)
+pub changes_paid : (net : FlowNetwork) (s : State) (events : List Event) → IsFlowNetwork net → IsValidPreflow net s → changes net s events + active_labels net (run net s events) + top net * levels net s + 2 * labels net s ≤ active_labels net s + top net * levels net (run net s events) + 2 * labels net (run net s events)
 changes_paid net s [] is kept = omega arith
 changes_paid net s (e ∷ es) is kept =
     let ih = changes_paid net (after net s e.step) es is (after_keeps net s e.step is kept) in
@@ -287,7 +287,7 @@ changes_paid net s (e ∷ es) is kept =
   where
     stale : (net : FlowNetwork) (s : State) (step : Step) → applies net s step ≡ false → after net s step ≡ s
     stale net s (Push arc) h = rw (h) refl
-    stale net s (Relabel v) h = go (raised net s v) h
+    stale net s (Relabel v) h = go (relabel_target net s v) h
       where
         go : (o : Option ℕ) → is_some o ≡ false → relabelled s v o ≡ s
         go None h = refl
@@ -316,10 +316,10 @@ changes_le net events is =
     t : State
     t = run net (opening net) events
 
-    kept : IsKept net s
+    kept : IsValidPreflow net s
     kept = opening_keeps net is
 
-    kept' : IsKept net t
+    kept' : IsValidPreflow net t
     kept' = run_keeps net s events is kept
 
     none_active : active_labels net s ≡ 0

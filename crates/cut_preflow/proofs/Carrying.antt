@@ -6,9 +6,9 @@ use Rattle.std.proofs.lemmas.List.{length-set}
 use Rattle.cut_net.specs.declared.priced.Priced.{Priced}
 use Rattle.cut_preflow.specs.declared.ends.Ends.{Ends}
 use Rattle.cut_preflow.specs.NodeArcs.{AreArcs}
-use Rattle.cut_preflow.specs.Preflow.{FlowNetwork, State, count, import_at, flow_at, inflow, outflow, excess, is_forward, tail, head, residual, is_active, moved, pushed}
-use Rattle.cut_preflow.specs.Kept.{IsKept}
-use Rattle.cut_preflow.specs.Played.{IsSound, IsWithinLimits, flow_network}
+use Rattle.cut_preflow.specs.Preflow.{FlowNetwork, State, count, import_at, flow_at, inflow, outflow, excess, is_forward, tail, head, residual, is_active, push_amount, pushed}
+use Rattle.cut_preflow.specs.Kept.{IsValidPreflow}
+use Rattle.cut_preflow.specs.Trace.{IsSound, IsWithinLimits, flow_network}
 use Rattle.cut_preflow.specs.Indexed.{AreActive, IsIndexed, brought, carried, is_active_by}
 use Rattle.cut_preflow.proofs.Choices.{choice_le, choice_same, choice_other, pick_true, pick_false, true_or_false}
 use Rattle.cut_preflow.proofs.Totals.{total-le}
@@ -20,39 +20,39 @@ use Rattle.cut_preflow.proofs.Sound.{head_low}
 abbrev pub after_push : FlowNetwork → State → ℕ → State
 after_push net s arc = record { flow = pushed net s arc; label = s.label }
 
-module _ (net : FlowNetwork) (s : State) (arc : ℕ) (kept : IsKept net s) (can : Pushable net s arc) where
+module _ (net : FlowNetwork) (s : State) (arc : ℕ) (kept : IsValidPreflow net s) (can : Pushable net s arc) where
   others : (j : ℕ) → j < count net → j ≢ arc / 2 → get_or (pushed net s arc) j 0 ≡ flow_at s j
-  others j l ne = get_or-set_other s.flow (arc / 2) j (if is_forward arc then flow_at s (arc / 2) + moved net s arc else flow_at s (arc / 2) - moved net s arc) 0 ne
+  others j l ne = get_or-set_other s.flow (arc / 2) j (if is_forward arc then flow_at s (arc / 2) + push_amount net s arc else flow_at s (arc / 2) - push_amount net s arc) 0 ne
 
-  here : get_or (pushed net s arc) (arc / 2) 0 ≡ (if is_forward arc then flow_at s (arc / 2) + moved net s arc else flow_at s (arc / 2) - moved net s arc)
-  here = get_or-set_same s.flow (arc / 2) (if is_forward arc then flow_at s (arc / 2) + moved net s arc else flow_at s (arc / 2) - moved net s arc) 0 (omega (arith, kept.flows, can.below))
+  here : get_or (pushed net s arc) (arc / 2) 0 ≡ (if is_forward arc then flow_at s (arc / 2) + push_amount net s arc else flow_at s (arc / 2) - push_amount net s arc)
+  here = get_or-set_same s.flow (arc / 2) (if is_forward arc then flow_at s (arc / 2) + push_amount net s arc else flow_at s (arc / 2) - push_amount net s arc) 0 (omega (arith, kept.flows, can.below))
 
   -- at each node what a push brings and takes
-  pub balance : (v : ℕ) → inflow net (after_push net s arc) v + outflow net s v + (if tail net arc == v then moved net s arc else 0) ≡ inflow net s v + outflow net (after_push net s arc) v + (if head net arc == v then moved net s arc else 0)
+  pub balance : (v : ℕ) → inflow net (after_push net s arc) v + outflow net s v + (if tail net arc == v then push_amount net s arc else 0) ≡ inflow net s v + outflow net (after_push net s arc) v + (if head net arc == v then push_amount net s arc else 0)
   balance v = elim (true_or_false (is_forward arc)) [
     | inl e ↦
         (let way = ahead net s arc e in
-        let up : get_or (pushed net s arc) (arc / 2) 0 ≡ flow_at s (arc / 2) + moved net s arc = here ∙ pick_true (is_forward arc) _ _ e in
-        let enters = by_key_raised (count net) (λ j. (import_at net j).to) (flow_at s) (λ j. get_or (pushed net s arc) j 0) (arc / 2) (moved net s arc) can.below up others v in
-        let leaves = by_key_raised (count net) (λ j. (import_at net j).from) (flow_at s) (λ j. get_or (pushed net s arc) j 0) (arc / 2) (moved net s arc) can.below up others v in
-        let from = ap (λ x. if x == v then moved net s arc else 0) way.tail_is in
-        let to = ap (λ x. if x == v then moved net s arc else 0) way.head_is in
+        let up : get_or (pushed net s arc) (arc / 2) 0 ≡ flow_at s (arc / 2) + push_amount net s arc = here ∙ pick_true (is_forward arc) _ _ e in
+        let enters = by_key_raised (count net) (λ j. (import_at net j).to) (flow_at s) (λ j. get_or (pushed net s arc) j 0) (arc / 2) (push_amount net s arc) can.below up others v in
+        let leaves = by_key_raised (count net) (λ j. (import_at net j).from) (flow_at s) (λ j. get_or (pushed net s arc) j 0) (arc / 2) (push_amount net s arc) can.below up others v in
+        let from = ap (λ x. if x == v then push_amount net s arc else 0) way.tail_is in
+        let to = ap (λ x. if x == v then push_amount net s arc else 0) way.head_is in
         omega (arith, enters, leaves, from, to))
     | inr e ↦
         (let way = back net s arc e in
-        let fits : moved net s arc ≤ residual net s arc = (moves net s arc can).fits in
-        let down : get_or (pushed net s arc) (arc / 2) 0 ≡ flow_at s (arc / 2) - moved net s arc = here ∙ pick_false (is_forward arc) _ _ e in
-        let up : flow_at s (arc / 2) ≡ get_or (pushed net s arc) (arc / 2) 0 + moved net s arc = omega (arith, down, fits, way.residual_is) in
-        let enters = by_key_raised (count net) (λ j. (import_at net j).to) (λ j. get_or (pushed net s arc) j 0) (flow_at s) (arc / 2) (moved net s arc) can.below up (λ j l ne. sym (others j l ne)) v in
-        let leaves = by_key_raised (count net) (λ j. (import_at net j).from) (λ j. get_or (pushed net s arc) j 0) (flow_at s) (arc / 2) (moved net s arc) can.below up (λ j l ne. sym (others j l ne)) v in
-        let from = ap (λ x. if x == v then moved net s arc else 0) way.tail_is in
-        let to = ap (λ x. if x == v then moved net s arc else 0) way.head_is in
+        let fits : push_amount net s arc ≤ residual net s arc = (moves net s arc can).fits in
+        let down : get_or (pushed net s arc) (arc / 2) 0 ≡ flow_at s (arc / 2) - push_amount net s arc = here ∙ pick_false (is_forward arc) _ _ e in
+        let up : flow_at s (arc / 2) ≡ get_or (pushed net s arc) (arc / 2) 0 + push_amount net s arc = omega (arith, down, fits, way.residual_is) in
+        let enters = by_key_raised (count net) (λ j. (import_at net j).to) (λ j. get_or (pushed net s arc) j 0) (flow_at s) (arc / 2) (push_amount net s arc) can.below up (λ j l ne. sym (others j l ne)) v in
+        let leaves = by_key_raised (count net) (λ j. (import_at net j).from) (λ j. get_or (pushed net s arc) j 0) (flow_at s) (arc / 2) (push_amount net s arc) can.below up (λ j l ne. sym (others j l ne)) v in
+        let from = ap (λ x. if x == v then push_amount net s arc else 0) way.tail_is in
+        let to = ap (λ x. if x == v then push_amount net s arc else 0) way.head_is in
         omega (arith, enters, leaves, from, to))
   ]
 
 -- and what that is to the excess
 pub push_carries : (net : FlowNetwork) (s : State) (arc : ℕ) → IsSound net s → Pushable net s arc → (v : ℕ) → v < net.nodes → v ≢ net.source →
-    excess net (after_push net s arc) v + (if tail net arc == v then moved net s arc else 0) ≡ excess net s v + (if head net arc == v then moved net s arc else 0)
+    excess net (after_push net s arc) v + (if tail net arc == v then push_amount net s arc else 0) ≡ excess net s v + (if head net arc == v then push_amount net s arc else 0)
 push_carries net s arc sound can v low ne =
     let kept = push_keeps net s arc sound.network sound.kept can in
     omega (arith, balance net s arc sound.kept can v, sound.kept.no_debt v low ne, kept.no_debt v low ne)
@@ -126,7 +126,7 @@ active_from_index ends imports s arcs xs active is = record {
   active_are = λ v. is.active_are v ∙ sym (by_excesses ends imports s xs is.excesses_are v);
 }
 
-inflow_fits : (net : FlowNetwork) (s : State) → IsWithinLimits net → IsKept net s → (v : ℕ) → inflow net s v < 2 ^ 64
+inflow_fits : (net : FlowNetwork) (s : State) → IsWithinLimits net → IsValidPreflow net s → (v : ℕ) → inflow net s v < 2 ^ 64
 inflow_fits net s limits kept v =
     let le = total-le (count net) (λ i. if (import_at net i).to == v then flow_at s i else 0) (λ i. (import_at net i).amount) (λ i l. omega (arith, choice_le ((import_at net i).to == v) (flow_at s i), kept.fits i l)) in
     omega (arith, le, limits.weights)
@@ -138,15 +138,15 @@ pub record Carries (net : FlowNetwork) (xs : List ℕ) (from to amount : ℕ) : 
   pub pays : amount ≤ get_or xs from 0
   pub fits : to ≢ net.source → get_or xs to 0 + amount < 2 ^ 64
 
-pub carries : (net : FlowNetwork) (s : State) (arcs : List (List ℕ)) (xs : List ℕ) (active : List Bool) (arc : ℕ) → IsSound net s → IsIndexed net s arcs xs active → Pushable net s arc → Carries net xs (tail net arc) (head net arc) (moved net s arc)
+pub carries : (net : FlowNetwork) (s : State) (arcs : List (List ℕ)) (xs : List ℕ) (active : List Bool) (arc : ℕ) → IsSound net s → IsIndexed net s arcs xs active → Pushable net s arc → Carries net xs (tail net arc) (head net arc) (push_amount net s arc)
 carries net s arcs xs active arc sound is can = record {
   from_low = can.active.low;
   to_low = to_low;
   pays = omega (arith, is.excesses_are (tail net arc) can.active.low can.active.not_source, (moves net s arc can).paid);
   fits = λ other.
       let carried = push_carries net s arc sound can (head net arc) to_low other in
-      let none = choice_other (tail net arc) (head net arc) (moved net s arc) 0 apart in
-      let some = choice_same (head net arc) (head net arc) (moved net s arc) 0 refl in
+      let none = choice_other (tail net arc) (head net arc) (push_amount net s arc) 0 apart in
+      let some = choice_same (head net arc) (head net arc) (push_amount net s arc) 0 refl in
       omega (arith, carried, none, some, inflow_fits net (after_push net s arc) sound.limits (push_keeps net s arc sound.network sound.kept can) (head net arc), is.excesses_are (head net arc) to_low other);
 }
   where
@@ -158,7 +158,7 @@ carries net s arcs xs active arc sound is can = record {
 
 -- after a push that applies they are those of the state after it
 pub pushed_indexed : (ends : Ends) (imports : List Priced) (s : State) (arcs : List (List ℕ)) (xs ys : List ℕ) (before after : List Bool) (arc : ℕ) → IsSound (flow_network ends imports) s → IsIndexed (flow_network ends imports) s arcs xs before → Pushable (flow_network ends imports) s arc →
-    ys ≡ carried ends.source xs (tail (flow_network ends imports) arc) (head (flow_network ends imports) arc) (moved (flow_network ends imports) s arc) → AreActive ends ys after →
+    ys ≡ carried ends.source xs (tail (flow_network ends imports) arc) (head (flow_network ends imports) arc) (push_amount (flow_network ends imports) s arc) → AreActive ends ys after →
     IsIndexed (flow_network ends imports) (after_push (flow_network ends imports) s arc) arcs ys after
 pushed_indexed ends imports s arcs xs ys before after arc sound is can same by =
     indexed_from ends imports (after_push net s arc) arcs ys after is.each_listed is.arcs_are are by
@@ -169,7 +169,7 @@ pushed_indexed ends imports s arcs xs ys before after arc sound is can same by =
     are : (v : ℕ) → v < ends.nodes → v ≢ ends.source → get_or ys v 0 ≡ excess (flow_network ends imports) (after_push net s arc) v
     are v low ne =
         let may = carries net s arcs xs before arc sound is can in
-        let at = carried_at ends.source xs (tail net arc) (head net arc) (moved net s arc) v (omega (arith, may.from_low, is.each_counted)) (omega (arith, may.to_low, is.each_counted)) may.pays ne in
+        let at = carried_at ends.source xs (tail net arc) (head net arc) (push_amount net s arc) v (omega (arith, may.from_low, is.each_counted)) (omega (arith, may.to_low, is.each_counted)) may.pays ne in
         let was = is.excesses_are v low ne in
         let now = ap (λ zs. get_or zs v 0) same in
         omega (arith, at, was, now, push_carries net s arc sound can v low ne)

@@ -2,7 +2,7 @@
 use Rattle.std.proofs.Common.{◌≡◌, sym, subst}
 use Rattle.cut_preflow.specs.declared.preflow_core.PreflowCore.TheInside.{Inside}
 use Rattle.cut_preflow.specs.Preflow.{FlowNetwork, State}
-use Rattle.cut_preflow.specs.Played.{Played, flow_network, state_of, IsPlayed, IsSound}
+use Rattle.cut_preflow.specs.Trace.{Trace, flow_network, state_of, IsTrace, IsSound}
 use Rattle.cut_preflow.proofs.Histories.{played_sound, played_state}
 
 abbrev pub net_of : Inside → FlowNetwork
@@ -11,11 +11,11 @@ net_of q = flow_network q.ends q.imports.items
 abbrev pub fields_of : Inside → State
 fields_of q = record { flow = q.flows.items; label = q.labels.items }
 
-module _ (q : Inside) (is : IsPlayed (net_of q) q.flows.items q.labels.items q.history.items) where
+module _ (q : Inside) (is : IsTrace (net_of q) q.flows.items q.labels.items q.history.items) where
   pub sound_fields : IsSound (net_of q) (fields_of q)
   sound_fields = played_sound (net_of q) (fields_of q) q.history.items is
 
-  module _ (p : Played) (view : record { net = net_of q; history = q.history.items } ≡ p) where
+  module _ (p : Trace) (view : record { net = net_of q; history = q.history.items } ≡ p) where
     pub seen : (P : FlowNetwork → State → Type 0) → P (net_of q) (fields_of q) → P p.net (state_of p)
     seen P h = subst (λ r. P r.net (state_of r)) view (subst (P (net_of q)) (played_state (net_of q) (fields_of q) q.history.items is) h)
 

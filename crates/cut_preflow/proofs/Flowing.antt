@@ -8,7 +8,7 @@ use Rattle.cut_net.specs.Cuts.{AreThose, IsClosed, IsFlow, Near, Reached}
 use Rattle.cut_net.proofs.NearSide.{is_near}
 use Rattle.cut_part.specs.Narrowing.{IsBarred}
 use Rattle.cut_preflow.specs.Preflow.{FlowNetwork, State, count, flow_at, import_at, inflow, outflow}
-use Rattle.cut_preflow.specs.Kept.{IsFlowNetwork, IsKept, IsQuiet}
+use Rattle.cut_preflow.specs.Kept.{IsFlowNetwork, IsValidPreflow, IsQuiet}
 use Rattle.cut_preflow.specs.Flows.{AreNear, AreReached, HasFlow, IsShutOff, flow_on, network_between, value_of}
 use Rattle.cut_preflow.specs.Side.{has, IsReach}
 use Rattle.cut_preflow.proofs.Choices.{choice_other}
@@ -49,7 +49,7 @@ module _ (net : Network) (a b : ℕ) (s : State) (is : IsFlowNetwork (network_be
     λ r. r (has marks) reach.starts (shut_closed (has marks) (closed_by_imports flow_net s (has marks) reach.closed)),
   )
 
-  module _ (kept : IsKept flow_net s) (quiet : IsQuiet flow_net s) where
+  module _ (kept : IsValidPreflow flow_net s) (quiet : IsQuiet flow_net s) where
     nothing_in : (m : ℕ) → length net.names ≤ m → inflow flow_net s m ≡ 0
     nothing_in m above =
         total-zero (count flow_net) (λ k. if (import_at flow_net k).to == m then flow_at s k else 0)
@@ -88,14 +88,14 @@ module _ (net : Network) (a b : ℕ) (s : State) (is : IsFlowNetwork (network_be
             false_from_ne_true _ (λ t. both_ways (some.0 b) some.2 ((those b).0 t some.0 some.1 (shut_closed some.0 some.3)))
 
 -- the same of a flow network that is this one
-pub quiet_has_flow : (flow_net : FlowNetwork) (s : State) → IsFlowNetwork flow_net → IsKept flow_net s → IsQuiet flow_net s → HasFlow flow_net s
+pub quiet_has_flow : (flow_net : FlowNetwork) (s : State) → IsFlowNetwork flow_net → IsValidPreflow flow_net s → IsQuiet flow_net s → HasFlow flow_net s
 quiet_has_flow flow_net s is kept quiet net of =
-    subst (λ f. IsFlowNetwork f → IsKept f s → IsQuiet f s → IsFlow net f.source f.sink (flow_on f s) (value_of f s)) (sym of)
+    subst (λ f. IsFlowNetwork f → IsValidPreflow f s → IsQuiet f s → IsFlow net f.source f.sink (flow_on f s) (value_of f s)) (sym of)
     (λ is' kept' quiet'. has_flow net flow_net.source flow_net.sink s is' kept'.flows kept' quiet') is kept quiet
 
-pub quiet_is_shut_off : (flow_net : FlowNetwork) (s : State) → IsFlowNetwork flow_net → IsKept flow_net s → IsQuiet flow_net s → IsShutOff flow_net s
+pub quiet_is_shut_off : (flow_net : FlowNetwork) (s : State) → IsFlowNetwork flow_net → IsValidPreflow flow_net s → IsQuiet flow_net s → IsShutOff flow_net s
 quiet_is_shut_off flow_net s is kept quiet net of =
-    subst (λ f. IsFlowNetwork f → IsKept f s → IsQuiet f s → IsBarred net (flow_on f s) f.source f.sink) (sym of)
+    subst (λ f. IsFlowNetwork f → IsValidPreflow f s → IsQuiet f s → IsBarred net (flow_on f s) f.source f.sink) (sym of)
     (λ is' kept' quiet'. shut_off net flow_net.source flow_net.sink s is' kept'.flows kept' quiet') is kept quiet
 
 pub marks_reached : (flow_net : FlowNetwork) (s : State) (marks : List Bool) → IsFlowNetwork flow_net → length s.flow ≡ count flow_net → IsReach flow_net.imports s.flow flow_net.source marks → AreReached flow_net s marks
@@ -103,13 +103,13 @@ marks_reached flow_net s marks is size reach net of =
     subst (λ f. IsFlowNetwork f → length s.flow ≡ count f → IsReach f.imports s.flow f.source marks → AreThose (has marks) (Reached net (flow_on f s) f.source)) (sym of)
     (λ is' size' reach'. reached net flow_net.source flow_net.sink s is' size' marks reach') is size reach
 
-pub marks_near : (flow_net : FlowNetwork) (s : State) (marks : List Bool) → IsFlowNetwork flow_net → IsKept flow_net s → IsQuiet flow_net s → AreReached flow_net s marks → AreNear flow_net marks
+pub marks_near : (flow_net : FlowNetwork) (s : State) (marks : List Bool) → IsFlowNetwork flow_net → IsValidPreflow flow_net s → IsQuiet flow_net s → AreReached flow_net s marks → AreNear flow_net marks
 marks_near flow_net s marks is kept quiet those net of =
-    subst (λ f. IsFlowNetwork f → IsKept f s → IsQuiet f s → AreReached f s marks → AreThose (has marks) (Near net f.source f.sink)) (sym of)
+    subst (λ f. IsFlowNetwork f → IsValidPreflow f s → IsQuiet f s → AreReached f s marks → AreThose (has marks) (Near net f.source f.sink)) (sym of)
     (λ is' kept' quiet' those'. near net flow_net.source flow_net.sink s is' kept'.flows kept' quiet' (has marks) (those' net refl)) is kept quiet those
 
 -- once quiet, the sink is not reached
-pub sink_outside : (flow_net : FlowNetwork) (s : State) (marks : List Bool) → IsFlowNetwork flow_net → IsKept flow_net s → IsQuiet flow_net s → IsReach flow_net.imports s.flow flow_net.source marks → has marks flow_net.sink ≡ false
+pub sink_outside : (flow_net : FlowNetwork) (s : State) (marks : List Bool) → IsFlowNetwork flow_net → IsValidPreflow flow_net s → IsQuiet flow_net s → IsReach flow_net.imports s.flow flow_net.source marks → has marks flow_net.sink ≡ false
 sink_outside flow_net s marks is kept quiet reach =
     let some = closed_side flow_net s is kept quiet in
     false_from_ne_true _ (λ t. both_ways (some.0 flow_net.sink) some.2 (reach.least some.0 some.1 (closed_by_arcs flow_net s some.0 some.3) flow_net.sink t))

@@ -4,7 +4,7 @@ use Rattle.cut_net.specs.declared.priced.Priced.{Priced}
 use Rattle.cut_preflow.specs.declared.ends.Ends.{Ends}
 use Rattle.cut_preflow.specs.declared.event.Event.{Event}
 use Rattle.cut_preflow.specs.Preflow.{FlowNetwork, State, after, applies, run, opening, is_legal}
-use Rattle.cut_preflow.specs.Played.{Played, flow_network, state_of, IsPlayed, IsSound}
+use Rattle.cut_preflow.specs.Trace.{Trace, flow_network, state_of, IsTrace, IsSound}
 use Rattle.cut_preflow.proofs.Arcs.{left_true, right_true}
 use Rattle.cut_preflow.proofs.Opening.{runs_keep}
 
@@ -20,20 +20,20 @@ legal-push net s (x ∷ xs) e h on =
     rw (first) rest
 
 -- the flows and labels of a preflow are the state of its history
-pub played_state : (net : FlowNetwork) (s : State) (history : List Event) → IsPlayed net s.flow s.label history → s ≡ run net (opening net) history
+pub played_state : (net : FlowNetwork) (s : State) (history : List Event) → IsTrace net s.flow s.label history → s ≡ run net (opening net) history
 played_state net s history p = λ i. record { flow = p.flows_are i; label = p.labels_are i }
 
-pub played_sound : (net : FlowNetwork) (s : State) (history : List Event) → IsPlayed net s.flow s.label history → IsSound net s
+pub played_sound : (net : FlowNetwork) (s : State) (history : List Event) → IsTrace net s.flow s.label history → IsSound net s
 played_sound net s history p =
     subst (λ t. IsSound net t) (sym (played_state net s history p)) (record { network = p.network; limits = p.limits; kept = runs_keep net history p.network })
 
 -- so what contracts see is a state that a run can reach
-pub played_keeps : (ends : Ends) (imports : List Priced) (flows labels : List ℕ) (history : List Event) (p : Played) → IsPlayed (flow_network ends imports) flows labels history → record { net = flow_network ends imports; history = history } ≡ p → IsSound p.net (state_of p)
+pub played_keeps : (ends : Ends) (imports : List Priced) (flows labels : List ℕ) (history : List Event) (p : Trace) → IsTrace (flow_network ends imports) flows labels history → record { net = flow_network ends imports; history = history } ≡ p → IsSound p.net (state_of p)
 played_keeps ends imports flows labels history p is view =
     subst (λ q. IsSound q.net (state_of q)) view (record { network = is.network; limits = is.limits; kept = runs_keep (flow_network ends imports) history is.network })
 
 -- one more event that applies
-pub played-push : (net : FlowNetwork) (s t : State) (history : List Event) (e : Event) → IsPlayed net s.flow s.label history → applies net s e.step ≡ true → t ≡ after net s e.step → IsPlayed net t.flow t.label (history ++ e ∷ [])
+pub played-push : (net : FlowNetwork) (s t : State) (history : List Event) (e : Event) → IsTrace net s.flow s.label history → applies net s e.step ≡ true → t ≡ after net s e.step → IsTrace net t.flow t.label (history ++ e ∷ [])
 played-push net s t history e p on is =
     let was = played_state net s history p in
     let now : t ≡ run net (opening net) (history ++ e ∷ []) = is ∙ ap (λ x. after net x e.step) was ∙ sym (run-push net (opening net) history e) in

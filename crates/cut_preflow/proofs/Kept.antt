@@ -5,17 +5,17 @@ use Rattle.std.proofs.lemmas.Bool.{cases_eq}
 use Rattle.cut_preflow.specs.declared.event.Step.{Step}
 use Rattle.cut_preflow.specs.declared.event.Step.TheVariants.{Push, Relabel}
 use Rattle.cut_preflow.specs.declared.event.Event.{Event}
-use Rattle.cut_preflow.specs.Preflow.{FlowNetwork, State, count, import_at, flow_at, label_at, inflow, outflow, is_forward, tail, head, residual, can_push, moved, pushed, raised, relabelled, after, run}
-use Rattle.cut_preflow.specs.Kept.{IsFlowNetwork, IsKept}
+use Rattle.cut_preflow.specs.Preflow.{FlowNetwork, State, count, import_at, flow_at, label_at, inflow, outflow, is_forward, tail, head, residual, can_push, push_amount, pushed, relabel_target, relabelled, after, run}
+use Rattle.cut_preflow.specs.Kept.{IsFlowNetwork, IsValidPreflow}
 use Rattle.cut_preflow.proofs.Choices.{pick_true, pick_false, true_or_false}
 use Rattle.cut_preflow.proofs.Pushes.{along_no_debt, back_no_debt, along_fits, back_fits, along_valid, back_valid, relabel_valid, active_low}
 use Rattle.cut_preflow.proofs.Arcs.{Pushable, pushable_from, ahead, back, ahead_of, back_of, least_some, Raisable, raisable_from}
 
 -- the amount that a push moves is above 0, within the excess of the arc's tail and within its residual
 pub record Moves (net : FlowNetwork) (s : State) (arc : ℕ) : Type 0 where
-  pub some : 0 < moved net s arc
-  pub paid : outflow net s (tail net arc) + moved net s arc ≤ inflow net s (tail net arc)
-  pub fits : moved net s arc ≤ residual net s arc
+  pub some : 0 < push_amount net s arc
+  pub paid : outflow net s (tail net arc) + push_amount net s arc ≤ inflow net s (tail net arc)
+  pub fits : push_amount net s arc ≤ residual net s arc
 
 pub moves : (net : FlowNetwork) (s : State) (arc : ℕ) → Pushable net s arc → Moves net s arc
 moves net s arc can =
@@ -24,7 +24,7 @@ moves net s arc can =
     record { some = omega arith; paid = omega arith; fits = omega arith }
 
 -- a push along import i, of an amount that the importer can pay and the import can take
-pub along_keeps : (net : FlowNetwork) (s : State) (i amount : ℕ) → IsFlowNetwork net → IsKept net s → i < count net → flow_at s i + amount ≤ (import_at net i).amount → 0 < amount → outflow net s (import_at net i).from + amount ≤ inflow net s (import_at net i).from → label_at s (import_at net i).from ≡ label_at s (import_at net i).to + 1 → IsKept net (record { flow = set s.flow i (flow_at s i + amount); label = s.label })
+pub along_keeps : (net : FlowNetwork) (s : State) (i amount : ℕ) → IsFlowNetwork net → IsValidPreflow net s → i < count net → flow_at s i + amount ≤ (import_at net i).amount → 0 < amount → outflow net s (import_at net i).from + amount ≤ inflow net s (import_at net i).from → label_at s (import_at net i).from ≡ label_at s (import_at net i).to + 1 → IsValidPreflow net (record { flow = set s.flow i (flow_at s i + amount); label = s.label })
 along_keeps net s i amount is kept il room some paid downhill =
     record {
       flows = length-set s.flow i (flow_at s i + amount) ∙ kept.flows;
@@ -65,7 +65,7 @@ along_keeps net s i amount is kept il room some paid downhill =
     others j l ne = get_or-set_other s.flow i j (flow_at s i + amount) 0 ne
 
 -- a push back along import i, of an amount that the imported node can pay and that is on the import
-pub back_keeps : (net : FlowNetwork) (s : State) (i amount : ℕ) → IsFlowNetwork net → IsKept net s → i < count net → amount ≤ flow_at s i → outflow net s (import_at net i).to + amount ≤ inflow net s (import_at net i).to → label_at s (import_at net i).to ≡ label_at s (import_at net i).from + 1 → IsKept net (record { flow = set s.flow i (flow_at s i - amount); label = s.label })
+pub back_keeps : (net : FlowNetwork) (s : State) (i amount : ℕ) → IsFlowNetwork net → IsValidPreflow net s → i < count net → amount ≤ flow_at s i → outflow net s (import_at net i).to + amount ≤ inflow net s (import_at net i).to → label_at s (import_at net i).to ≡ label_at s (import_at net i).from + 1 → IsValidPreflow net (record { flow = set s.flow i (flow_at s i - amount); label = s.label })
 back_keeps net s i amount is kept il room paid downhill =
     record {
       flows = length-set s.flow i (flow_at s i - amount) ∙ kept.flows;
@@ -107,7 +107,7 @@ back_keeps net s i amount is kept il room paid downhill =
     others : (j : ℕ) → j < m → j ≢ i → high j ≡ low j
     others j l ne = sym (get_or-set_other s.flow i j (flow_at s i - amount) 0 ne)
 
-pub push_keeps : (net : FlowNetwork) (s : State) (arc : ℕ) → IsFlowNetwork net → IsKept net s → Pushable net s arc → IsKept net (record { flow = pushed net s arc; label = s.label })
+pub push_keeps : (net : FlowNetwork) (s : State) (arc : ℕ) → IsFlowNetwork net → IsValidPreflow net s → Pushable net s arc → IsValidPreflow net (record { flow = pushed net s arc; label = s.label })
 push_keeps net s arc is kept can = elim (true_or_false (is_forward arc)) [
   | inl e ↦ forward e
   | inr e ↦ backward e
@@ -116,32 +116,32 @@ push_keeps net s arc is kept can = elim (true_or_false (is_forward arc)) [
     go : Moves net s arc
     go = moves net s arc can
 
-    forward : is_forward arc ≡ true → IsKept net (record { flow = pushed net s arc; label = s.label })
+    forward : is_forward arc ≡ true → IsValidPreflow net (record { flow = pushed net s arc; label = s.label })
     forward e =
         let way = ahead net s arc e in
         let within : flow_at s (arc / 2) ≤ (import_at net (arc / 2)).amount = kept.fits (arc / 2) can.below in
-        let room : moved net s arc ≤ residual net s arc = go.fits in
+        let room : push_amount net s arc ≤ residual net s arc = go.fits in
         let is_res : residual net s arc ≡ (import_at net (arc / 2)).amount - flow_at s (arc / 2) = way.residual_is in
-        let paid = subst (λ x. outflow net s x + moved net s arc ≤ inflow net s x) way.tail_is go.paid in
+        let paid = subst (λ x. outflow net s x + push_amount net s arc ≤ inflow net s x) way.tail_is go.paid in
         let down = ap (label_at s) (sym way.tail_is) ∙ can.downhill ∙ ap (λ x. label_at s x + 1) way.head_is in
-        let kept' = along_keeps net s (arc / 2) (moved net s arc) is kept can.below (omega (arith, is_res)) go.some paid down in
-        let flows : set s.flow (arc / 2) (flow_at s (arc / 2) + moved net s arc) ≡ pushed net s arc =
-        ap (λ y. set s.flow (arc / 2) y) (sym (pick_true (is_forward arc) (flow_at s (arc / 2) + moved net s arc) (flow_at s (arc / 2) - moved net s arc) e)) in
-        subst (λ ys. IsKept net (record { flow = ys; label = s.label })) flows kept'
+        let kept' = along_keeps net s (arc / 2) (push_amount net s arc) is kept can.below (omega (arith, is_res)) go.some paid down in
+        let flows : set s.flow (arc / 2) (flow_at s (arc / 2) + push_amount net s arc) ≡ pushed net s arc =
+        ap (λ y. set s.flow (arc / 2) y) (sym (pick_true (is_forward arc) (flow_at s (arc / 2) + push_amount net s arc) (flow_at s (arc / 2) - push_amount net s arc) e)) in
+        subst (λ ys. IsValidPreflow net (record { flow = ys; label = s.label })) flows kept'
 
-    backward : is_forward arc ≡ false → IsKept net (record { flow = pushed net s arc; label = s.label })
+    backward : is_forward arc ≡ false → IsValidPreflow net (record { flow = pushed net s arc; label = s.label })
     backward e =
         let way = back net s arc e in
-        let room : moved net s arc ≤ residual net s arc = go.fits in
+        let room : push_amount net s arc ≤ residual net s arc = go.fits in
         let is_res : residual net s arc ≡ flow_at s (arc / 2) = way.residual_is in
-        let paid = subst (λ x. outflow net s x + moved net s arc ≤ inflow net s x) way.tail_is go.paid in
+        let paid = subst (λ x. outflow net s x + push_amount net s arc ≤ inflow net s x) way.tail_is go.paid in
         let down = ap (label_at s) (sym way.tail_is) ∙ can.downhill ∙ ap (λ x. label_at s x + 1) way.head_is in
-        let kept' = back_keeps net s (arc / 2) (moved net s arc) is kept can.below (omega (arith, is_res)) paid down in
-        let flows : set s.flow (arc / 2) (flow_at s (arc / 2) - moved net s arc) ≡ pushed net s arc =
-        ap (λ y. set s.flow (arc / 2) y) (sym (pick_false (is_forward arc) (flow_at s (arc / 2) + moved net s arc) (flow_at s (arc / 2) - moved net s arc) e)) in
-        subst (λ ys. IsKept net (record { flow = ys; label = s.label })) flows kept'
+        let kept' = back_keeps net s (arc / 2) (push_amount net s arc) is kept can.below (omega (arith, is_res)) paid down in
+        let flows : set s.flow (arc / 2) (flow_at s (arc / 2) - push_amount net s arc) ≡ pushed net s arc =
+        ap (λ y. set s.flow (arc / 2) y) (sym (pick_false (is_forward arc) (flow_at s (arc / 2) + push_amount net s arc) (flow_at s (arc / 2) - push_amount net s arc) e)) in
+        subst (λ ys. IsValidPreflow net (record { flow = ys; label = s.label })) flows kept'
 
-pub relabel_keeps : (net : FlowNetwork) (s : State) (v label : ℕ) → IsFlowNetwork net → IsKept net s → Raisable net s v label → IsKept net (record { flow = s.flow; label = set s.label v label })
+pub relabel_keeps : (net : FlowNetwork) (s : State) (v label : ℕ) → IsFlowNetwork net → IsValidPreflow net s → Raisable net s v label → IsValidPreflow net (record { flow = s.flow; label = set s.label v label })
 relabel_keeps net s v label is kept can =
     record {
       flows = kept.flows;
@@ -190,17 +190,17 @@ relabel_keeps net s v label is kept can =
     ]
 
 -- each step keeps what a run keeps
-pub after_keeps : (net : FlowNetwork) (s : State) (step : Step) → IsFlowNetwork net → IsKept net s → IsKept net (after net s step)
+pub after_keeps : (net : FlowNetwork) (s : State) (step : Step) → IsFlowNetwork net → IsValidPreflow net s → IsValidPreflow net (after net s step)
 after_keeps net s (Push arc) is kept = elim (true_or_false (can_push net s arc)) [
   | inl e ↦ rw (e) (push_keeps net s arc is kept (pushable_from net s arc e))
   | inr e ↦ rw (e) kept
 ]
-after_keeps net s (Relabel v) is kept = go (raised net s v) refl
+after_keeps net s (Relabel v) is kept = go (relabel_target net s v) refl
   where
-    go : (o : Option ℕ) → raised net s v ≡ o → IsKept net (relabelled s v o)
+    go : (o : Option ℕ) → relabel_target net s v ≡ o → IsValidPreflow net (relabelled s v o)
     go None e = kept
     go (Some label) e = relabel_keeps net s v label is kept (raisable_from net s v label e)
 
-pub run_keeps : (net : FlowNetwork) (s : State) (events : List Event) → IsFlowNetwork net → IsKept net s → IsKept net (run net s events)
+pub run_keeps : (net : FlowNetwork) (s : State) (events : List Event) → IsFlowNetwork net → IsValidPreflow net s → IsValidPreflow net (run net s events)
 run_keeps net s [] is kept = kept
 run_keeps net s (e ∷ es) is kept = run_keeps net (after net s e.step) es is (after_keeps net s e.step is kept)

@@ -4,7 +4,7 @@ use Rattle.std.specs.Prelude.{Contains}
 use Rattle.std.proofs.lemmas.Bool.{cases_lt, cases_eq}
 use Rattle.std.proofs.lemmas.List.{get_or_default}
 use Rattle.std.proofs.lemmas.List.Elements.{Contains-get_or}
-use Rattle.cut_preflow.specs.Preflow.{FlowNetwork, State, count, head, is_active, label_at, least_head, raised, residual, smaller, tail}
+use Rattle.cut_preflow.specs.Preflow.{FlowNetwork, State, count, head, is_active, label_at, least_head, relabel_target, residual, smaller, tail}
 use Rattle.cut_preflow.specs.Relabels.{IsRaised, LeadsTo}
 use Rattle.cut_preflow.proofs.Arcs.{active_from, active_true, least_at, least_some, raisable_from, raised_some}
 
@@ -20,7 +20,7 @@ module _ (net : FlowNetwork) (s : State) (v : ℕ) where
       let same : least ≡ found.0 = cc (e, found.1) in
       omega (arith, found.2, leads.head_label)
 
-  pub raised_is : (label : ℕ) → (raised net s v ≡ Some label) ↔ IsRaised net s v label
+  pub raised_is : (label : ℕ) → (relabel_target net s v ≡ Some label) ↔ IsRaised net s v label
   raised_is label = (
     λ e.
         let r = raisable_from net s v label e in
@@ -39,25 +39,25 @@ module _ (net : FlowNetwork) (s : State) (v : ℕ) where
         let ge = r.is_least found.0 (leads_at found.0 found.1) in
         let same : found.0 + 1 ≡ label = omega (arith, le, ge, r.label_is) in
         let up = raised_some net s v found.0 (active_from net s v r.active) found.1 (omega (arith, le, ge, r.none_lower)) in
-        subst (λ l. raised net s v ≡ Some l) same up,
+        subst (λ l. relabel_target net s v ≡ Some l) same up,
   )
 
-  raised_none : ((label : ℕ) → IsRaised net s v label → ⊥) → raised net s v ≡ None
-  raised_none never = go (raised net s v) refl
+  raised_none : ((label : ℕ) → IsRaised net s v label → ⊥) → relabel_target net s v ≡ None
+  raised_none never = go (relabel_target net s v) refl
     where
-      go : (o : Option ℕ) → raised net s v ≡ o → o ≡ None
+      go : (o : Option ℕ) → relabel_target net s v ≡ o → o ≡ None
       go None e = refl
       go (Some label) e = absurd (never label ((raised_is label).0 e))
 
   -- by the least label that its arcs with residual lead to
-  pub raised_unled : ((label : ℕ) → LeadsTo net s v label → ⊥) → raised net s v ≡ None
+  pub raised_unled : ((label : ℕ) → LeadsTo net s v label → ⊥) → relabel_target net s v ≡ None
   raised_unled none = raised_none (λ label r. none r.least r.leads)
 
-  pub raised_over_least : (least : ℕ) → is_active net s v ≡ true → LeadsTo net s v least → ((other : ℕ) → LeadsTo net s v other → least ≤ other) → label_at s v ≤ least → raised net s v ≡ Some (least + 1)
+  pub raised_over_least : (least : ℕ) → is_active net s v ≡ true → LeadsTo net s v least → ((other : ℕ) → LeadsTo net s v other → least ≤ other) → label_at s v ≤ least → relabel_target net s v ≡ Some (least + 1)
   raised_over_least least on leads is_least up =
       (raised_is (least + 1)).1 (record { active = on; least = least; leads = leads; is_least = is_least; none_lower = up; label_is = refl })
 
-  pub raised_not_over : (least : ℕ) → LeadsTo net s v least → least < label_at s v → raised net s v ≡ None
+  pub raised_not_over : (least : ℕ) → LeadsTo net s v least → least < label_at s v → relabel_target net s v ≡ None
   raised_not_over least leads lower = raised_none (λ label r. omega (arith, r.is_least least leads, r.none_lower))
 
 -- the least label that the first of these arcs lead to, of those with residual above 0

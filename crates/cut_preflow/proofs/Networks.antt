@@ -5,7 +5,7 @@ use Rattle.cut_net.specs.Network.{Network, none_there}
 use Rattle.cut_net.specs.WellFormed.{IsNetwork}
 use Rattle.cut_part.proofs.Apart.{ascending_apart}
 use Rattle.cut_preflow.specs.Kept.{IsFlowNetwork}
-use Rattle.cut_preflow.specs.Played.{IsWithinLimits}
+use Rattle.cut_preflow.specs.Trace.{IsWithinLimits}
 use Rattle.cut_preflow.specs.Flows.{AreEnds, network_between}
 use Rattle.cut_preflow.proofs.Carried.{total-sum}
 

@@ -5,7 +5,7 @@ use Rattle.std.proofs.lemmas.Bool.{cases_eq}
 use Rattle.cut_net.specs.declared.priced.Priced.{Priced}
 use Rattle.cut_preflow.specs.declared.event.Event.{Event}
 use Rattle.cut_preflow.specs.Preflow.{FlowNetwork, count, import_at, flow_at, label_at, inflow, outflow, run, opening, opening_flows}
-use Rattle.cut_preflow.specs.Kept.{IsFlowNetwork, IsKept}
+use Rattle.cut_preflow.specs.Kept.{IsFlowNetwork, IsValidPreflow}
 use Rattle.cut_preflow.proofs.Choices.{choice_same, choice_other, same_either_way}
 use Rattle.cut_preflow.proofs.Totals.{total-zero}
 use Rattle.cut_preflow.proofs.Kept.{run_keeps}
@@ -45,7 +45,7 @@ opening_outflow net v ne = total-zero (count net) (λ i. if (import_at net i).fr
       | inr other ↦ choice_other (import_at net i).from v (flow_at (opening net) i) 0 other
     ]
 
-pub opening_keeps : (net : FlowNetwork) → IsFlowNetwork net → IsKept net (opening net)
+pub opening_keeps : (net : FlowNetwork) → IsFlowNetwork net → IsValidPreflow net (opening net)
 opening_keeps net is =
     record {
       flows = length-opening_flows net.source net.imports;
@@ -106,5 +106,5 @@ opening_keeps net is =
     low v l = omega (arith, label_le v)
 
 -- every list of events keeps it
-pub runs_keep : (net : FlowNetwork) (events : List Event) → IsFlowNetwork net → IsKept net (run net (opening net) events)
+pub runs_keep : (net : FlowNetwork) (events : List Event) → IsFlowNetwork net → IsValidPreflow net (run net (opening net) events)
 runs_keep net events is = run_keeps net (opening net) events is (opening_keeps net is)

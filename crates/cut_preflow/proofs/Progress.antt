@@ -2,8 +2,8 @@
 use Rattle.std.proofs.Common.{◌≡◌, ℕ, zero, suc, ◌+◌, ◌*◌, ◌/◌, ◌<◌, ◌≤◌, ◌⊎◌, inl, inr, true, ◌==◌, if◌then◌else◌, Some, sym, ap, ◌∙◌, subst, arith}
 use Rattle.std.proofs.lemmas.Bool.{cases_lt, cases_eq}
 use Rattle.cut_preflow.specs.Total.{total}
-use Rattle.cut_preflow.specs.Preflow.{FlowNetwork, State, count, import_at, flow_at, label_at, inflow, outflow, is_forward, tail, head, residual, can_push, least_head, raised}
-use Rattle.cut_preflow.specs.Kept.{IsKept}
+use Rattle.cut_preflow.specs.Preflow.{FlowNetwork, State, count, import_at, flow_at, label_at, inflow, outflow, is_forward, tail, head, residual, can_push, least_head, relabel_target}
+use Rattle.cut_preflow.specs.Kept.{IsValidPreflow}
 use Rattle.cut_preflow.proofs.Choices.{choice_same, choice_other, true_or_false}
 use Rattle.cut_preflow.proofs.Arcs.{Active, pushable_true, ahead, back, back_of, least_some, least_at, raised_some}
 
@@ -19,7 +19,7 @@ total_some (suc n) g h = elim (cases_eq (g n) 0) [
     later w = (w.0, (omega (arith, w.1)), w.2)
 
 -- over an arc with residual above 0 the label falls by one at most
-pub near_over : (net : FlowNetwork) (s : State) (arc : ℕ) → IsKept net s → arc < 2 * count net → 0 < residual net s arc → label_at s (tail net arc) ≤ label_at s (head net arc) + 1
+pub near_over : (net : FlowNetwork) (s : State) (arc : ℕ) → IsValidPreflow net s → arc < 2 * count net → 0 < residual net s arc → label_at s (tail net arc) ≤ label_at s (head net arc) + 1
 near_over net s arc kept l r = elim (true_or_false (is_forward arc)) [
   | inl e ↦
       (let way = ahead net s arc e in
@@ -50,10 +50,10 @@ active_arc net s v a =
     ]
 
 -- a push over an arc of an active node, or a relabel of the node, applies
-pub progress : (net : FlowNetwork) (s : State) (v : ℕ) → IsKept net s → Active net s v → ((arc : ℕ) × (arc < 2 * count net) × (tail net arc ≡ v) × (can_push net s arc ≡ true)) ⊎ ((label : ℕ) × (raised net s v ≡ Some label))
+pub progress : (net : FlowNetwork) (s : State) (v : ℕ) → IsValidPreflow net s → Active net s v → ((arc : ℕ) × (arc < 2 * count net) × (tail net arc ≡ v) × (can_push net s arc ≡ true)) ⊎ ((label : ℕ) × (relabel_target net s v ≡ Some label))
 progress net s v kept a = go (active_arc net s v a)
   where
-    over : (least : ℕ) → least_head net s v (2 * count net) ≡ Some least → ((arc : ℕ) × (arc < 2 * count net) × (tail net arc ≡ v) × (can_push net s arc ≡ true)) ⊎ ((label : ℕ) × (raised net s v ≡ Some label))
+    over : (least : ℕ) → least_head net s v (2 * count net) ≡ Some least → ((arc : ℕ) × (arc < 2 * count net) × (tail net arc ≡ v) × (can_push net s arc ≡ true)) ⊎ ((label : ℕ) × (relabel_target net s v ≡ Some label))
     over least is = elim (cases_lt least (label_at s v)) [
       | inl lower ↦ inl (down (least_at net s v (2 * count net) least is) lower)
       | inr le ↦ inr (least + 1, raised_some net s v least a is le)
@@ -65,7 +65,7 @@ progress net s v kept a = go (active_arc net s v a)
             let t = ap (label_at s) w.2 in
             (w.0, w.1, w.2, pushable_true net s w.0 (record { below = omega (arith, w.1); active = subst (λ x. Active net s x) (sym w.2) a; room = w.3; downhill = omega (arith, near, t, w.4) }))
 
-    go : (arc : ℕ) × (arc < 2 * count net) × (tail net arc ≡ v) × (0 < residual net s arc) → ((arc : ℕ) × (arc < 2 * count net) × (tail net arc ≡ v) × (can_push net s arc ≡ true)) ⊎ ((label : ℕ) × (raised net s v ≡ Some label))
+    go : (arc : ℕ) × (arc < 2 * count net) × (tail net arc ≡ v) × (0 < residual net s arc) → ((arc : ℕ) × (arc < 2 * count net) × (tail net arc ≡ v) × (can_push net s arc ≡ true)) ⊎ ((label : ℕ) × (relabel_target net s v ≡ Some label))
     go w =
         let found = least_some net s v (2 * count net) w.0 w.1 w.2 w.3 in
         over found.0 found.1

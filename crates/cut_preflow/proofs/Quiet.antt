@@ -3,7 +3,7 @@ use Rattle.std.proofs.Common.{◌≡◌, ◌≢◌, ℕ, ◌+◌, ◌<◌, ◌�
 use Rattle.std.proofs.lemmas.Bool.{cases_lt}
 use Rattle.std.proofs.lemmas.Bool.Decides.{nat_tests}
 use Rattle.cut_preflow.specs.Preflow.{FlowNetwork, State, count, import_at, flow_at, label_at, inflow, outflow, is_active}
-use Rattle.cut_preflow.specs.Kept.{IsFlowNetwork, IsKept, IsQuiet}
+use Rattle.cut_preflow.specs.Kept.{IsFlowNetwork, IsValidPreflow, IsQuiet}
 use Rattle.cut_preflow.proofs.Totals.{total-gap}
 use Rattle.cut_preflow.proofs.Cuts.{Closed, gap_closed, value_of_closed}
 use Rattle.cut_preflow.proofs.Arcs.{active_true, lt_true}
@@ -12,7 +12,7 @@ use Rattle.cut_preflow.proofs.Arcs.{active_true, lt_true}
 abbrev pub IsShut : FlowNetwork → State → (ℕ → Bool) → Type 0
 IsShut net s side = Closed (count net) (λ i. (import_at net i).from) (λ i. (import_at net i).to) (λ i. (import_at net i).amount) (flow_at s) side
 
-module _ (net : FlowNetwork) (s : State) (is : IsFlowNetwork net) (kept : IsKept net s) (quiet : IsQuiet net s) where
+module _ (net : FlowNetwork) (s : State) (is : IsFlowNetwork net) (kept : IsValidPreflow net s) (quiet : IsQuiet net s) where
   -- what leaves a node but the two ends is what enters it
   pub quiet_conserves : (v : ℕ) → v < net.nodes → v ≢ net.source → v ≢ net.sink → outflow net s v ≡ inflow net s v
   quiet_conserves v l not_source not_sink =

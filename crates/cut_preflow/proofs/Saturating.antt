@@ -5,7 +5,7 @@ use Rattle.cut_preflow.specs.declared.ends.Ends.{Ends}
 use Rattle.cut_preflow.specs.Total.{total}
 use Rattle.cut_preflow.specs.Preflow.{import_in, into, opening, opening_flows}
 use Rattle.cut_preflow.specs.NodeArcs.{AreArcs}
-use Rattle.cut_preflow.specs.Played.{flow_network}
+use Rattle.cut_preflow.specs.Trace.{flow_network}
 use Rattle.cut_preflow.specs.Indexed.{AreActive, IsIndexed, brought}
 use Rattle.cut_preflow.proofs.Choices.{choice_le, choice_same, choice_other}
 use Rattle.cut_preflow.proofs.Totals.{part_le-total}

@@ -3,7 +3,7 @@ use Rattle.std.proofs.Common.{◌≡◌, ◌≢◌, ℕ, ◌+◌, true, ◌==◌
 use Rattle.cut_preflow.specs.declared.event.Event.{Event}
 use Rattle.cut_preflow.specs.declared.event.Outcome.{Outcome}
 use Rattle.cut_preflow.specs.declared.event.Outcome.TheVariants.{Moved, Raised, Stale, Refused}
-use Rattle.cut_preflow.specs.Played.{history_after}
+use Rattle.cut_preflow.specs.Trace.{history_after}
 use Rattle.cut_preflow.specs.Settled.{are_by, Appends}
 use Rattle.cut_preflow.specs.Shares.{count_after}
 use Rattle.cut_preflow.proofs.Arcs.{left_true, right_true, both_true, eq_true}

@@ -2,7 +2,7 @@
 use Rattle.std.proofs.Common.{◌≡◌, ℕ, ◌/◌, ◌^◌, ◌<◌, inl, inr, length, slice_index, sym, ap, subst, arith}
 use Rattle.cut_preflow.specs.Total.{total}
 use Rattle.cut_preflow.specs.Preflow.{FlowNetwork, State, count, import_at, flow_at, head, is_forward}
-use Rattle.cut_preflow.specs.Played.{IsSound}
+use Rattle.cut_preflow.specs.Trace.{IsSound}
 use Rattle.cut_preflow.proofs.Choices.{true_or_false}
 use Rattle.cut_preflow.proofs.Totals.{total-le}
 use Rattle.cut_preflow.proofs.Arcs.{ahead, back}

@@ -13,7 +13,7 @@ pub record IsFlowNetwork (net : FlowNetwork) : Type 0 where
   pub apart_ends : AreApart net.imports
 
 -- what every run keeps
-pub record IsKept (net : FlowNetwork) (s : State) : Type 0 where
+pub record IsValidPreflow (net : FlowNetwork) (s : State) : Type 0 where
   pub flows : length s.flow ≡ count net
   pub labels : length s.label ≡ net.nodes
   -- each flow is at most its capacity

@@ -3,7 +3,7 @@ pub mod Preflow
 pub mod Relabels
 pub mod Kept
 pub mod Bound
-pub mod Played
+pub mod Trace
 pub mod Shares
 pub mod Settled
 pub mod Side

@@ -99,14 +99,14 @@ can_push net s arc =
     && label_at s (tail net arc) == label_at s (head net arc) + 1))
 
 -- what a push moves
-abbrev pub moved : FlowNetwork → State → ℕ → ℕ
-moved net s arc = min (excess net s (tail net arc)) (residual net s arc)
+abbrev pub push_amount : FlowNetwork → State → ℕ → ℕ
+push_amount net s arc = min (excess net s (tail net arc)) (residual net s arc)
 
 -- the flows after a push
 abbrev pub pushed : FlowNetwork → State → ℕ → List ℕ
 pushed net s arc =
     slice_set s.flow (arc / 2)
-    (if is_forward arc then flow_at s (arc / 2) + moved net s arc else flow_at s (arc / 2) - moved net s arc)
+    (if is_forward arc then flow_at s (arc / 2) + push_amount net s arc else flow_at s (arc / 2) - push_amount net s arc)
 
 -- the smaller of a number and what there was so far
 abbrev pub smaller : Option ℕ → ℕ → ℕ
@@ -129,8 +129,8 @@ abbrev pub raised_over : ℕ → Option ℕ → Option ℕ
 raised_over label None = None
 raised_over label (Some least) = if nat_le label least then Some (least + 1) else None
 
-abbrev pub raised : FlowNetwork → State → ℕ → Option ℕ
-raised net s v =
+abbrev pub relabel_target : FlowNetwork → State → ℕ → Option ℕ
+relabel_target net s v =
     if is_active net s v then raised_over (label_at s v) (least_head net s v (2 * count net)) else None
 
 abbrev pub relabelled : State → ℕ → Option ℕ → State
@@ -140,11 +140,11 @@ relabelled s v (Some label) = record { flow = s.flow; label = slice_set s.label 
 -- a step where it applies, and the state as it is where it does not
 abbrev pub after : FlowNetwork → State → Step → State
 after net s (Push arc) = if can_push net s arc then record { flow = pushed net s arc; label = s.label } else s
-after net s (Relabel node) = relabelled s node (raised net s node)
+after net s (Relabel node) = relabelled s node (relabel_target net s node)
 
 abbrev pub applies : FlowNetwork → State → Step → Bool
 applies net s (Push arc) = can_push net s arc
-applies net s (Relabel node) = is_some (raised net s node)
+applies net s (Relabel node) = is_some (relabel_target net s node)
 
 -- a whole list of events, from a state
 abbrev pub run : FlowNetwork → State → List Event → State

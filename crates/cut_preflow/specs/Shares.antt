@@ -2,7 +2,7 @@
 use Rattle.std.specs.Prelude.{ℕ, ◌+◌, Bool, true}
 use Rattle.cut_preflow.specs.declared.event.Outcome.{Outcome}
 use Rattle.cut_preflow.specs.declared.event.Outcome.TheVariants.{Moved, Raised, Stale, Refused}
-use Rattle.cut_preflow.specs.Played.{Played}
+use Rattle.cut_preflow.specs.Trace.{Trace}
 
 -- what a contract sees of a share: the steps that are counted in it, and its mark
 pub record Counted : Type 0 where
@@ -12,10 +12,10 @@ pub record Counted : Type 0 where
 -- what a contract sees of a preflow: its network and history, the steps in the book of its ledger, those that are counted in its own
 -- share, and how many shares are out
 pub record Shared : Type 0 where
-  pub play : Played
-  pub booked : ℕ
+  pub trace : Trace
+  pub counted : ℕ
   pub own : ℕ
-  pub out : ℕ
+  pub shares_out : ℕ
 
 -- a step that was applied is counted
 abbrev pub count_after : ℕ → Outcome → ℕ

@@ -1,9 +1,9 @@
 //! What a push or a relabel of a preflow would do.
 ghost use Rattle.std.specs.Prelude.{◌≡◌, ◌<◌, ◌≤◌, ◌↔◌, ℕ, Some, None, IfSome, IsNone, IsSome, true, length, if◌then◌else◌};
-ghost use Rattle.cut_preflow.specs.Preflow.{applies, can_push, moved, raised, smaller};
+ghost use Rattle.cut_preflow.specs.Preflow.{applies, can_push, push_amount, relabel_target, smaller};
 ghost use Rattle.cut_preflow.specs.Kept.{IsQuiet};
 ghost use Rattle.cut_preflow.specs.Bound.{most_changes};
-ghost use Rattle.cut_preflow.specs.Played.{state_of};
+ghost use Rattle.cut_preflow.specs.Trace.{state_of};
 ghost use Rattle.cut_preflow.specs.Relabels.{LeadsTo};
 
 use crate::Step;
@@ -22,7 +22,7 @@ fn smaller(least: Option<u32>, label: u32) -> u32
 impl PreflowCore {
     /// How much a push over the arc would move, where it applies.
     pub(crate) fn push_amount(&self, arc: u32) -> Option<u64>
-        ensures { result ≡ (if can_push self.now.net (state_of self.now) arc then Some (moved self.now.net (state_of self.now) arc) else None) }
+        ensures { result ≡ (if can_push self.now.net (state_of self.now) arc then Some (push_amount self.now.net (state_of self.now) arc) else None) }
     {
         if (arc / 2) as usize >= self.count() {
             return None;
@@ -56,7 +56,7 @@ impl PreflowCore {
 
     /// The label that a relabel of the node would give, where it applies.
     pub(crate) fn raised_label(&self, node: u32) -> Option<u32>
-        ensures { result ≡ raised self.now.net (state_of self.now) node }
+        ensures { result ≡ relabel_target self.now.net (state_of self.now) node }
     {
         if !self.is_active(node) {
             return None;

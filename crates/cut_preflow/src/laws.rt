@@ -6,8 +6,8 @@ ghost use Rattle.cut_net.specs.Pins.{ArePins, IsFlowWithPins, NearWithPins, PinC
 ghost use Rattle.cut_net.specs.WellFormed.{IsNetwork};
 ghost use Rattle.cut_net.specs.Cuts.{AreThose, IsFlow, Near, Reached};
 ghost use Rattle.cut_preflow.specs.declared.event.Event.{Event};
-ghost use Rattle.cut_preflow.specs.Preflow.{FlowNetwork, State, run, opening, is_legal, raised};
-ghost use Rattle.cut_preflow.specs.Kept.{IsKept, IsQuiet};
+ghost use Rattle.cut_preflow.specs.Preflow.{FlowNetwork, State, run, opening, is_legal, relabel_target};
+ghost use Rattle.cut_preflow.specs.Kept.{IsValidPreflow, IsQuiet};
 ghost use Rattle.cut_preflow.specs.Bound.{changes, most_changes};
 ghost use Rattle.cut_preflow.specs.Flows.{AreEnds, flow_on, network_between, value_of};
 ghost use Rattle.cut_preflow.specs.Relabels.{IsRaised};
@@ -18,7 +18,7 @@ use cut_net::laws::near_with_pins;
 /// valid, the ends keep their labels, and no label reaches twice the number of nodes.
 pub fn every_run_keeps()
     ensures { (net : Network) (a b : ℕ) (events : List Event) → IsNetwork net → AreEnds net a b →
-        IsKept (network_between net a b) (run (network_between net a b) (opening (network_between net a b)) events) }
+        IsValidPreflow (network_between net a b) (run (network_between net a b) (opening (network_between net a b)) events) }
 {}
 
 /// Once no module but the ends has excess, whatever events came: the flow is a flow of the network.
@@ -64,5 +64,5 @@ pub fn steps_are_bounded()
 /// A relabel applies to an active node none of whose arcs with residual above 0 leads to a lower label, where it has such an arc;
 /// the new label is one more than the least that these lead to.
 pub fn relabel_is_least()
-    ensures { (flow_net : FlowNetwork) (s : State) (v label : ℕ) → (raised flow_net s v ≡ Some label) ↔ IsRaised flow_net s v label }
+    ensures { (flow_net : FlowNetwork) (s : State) (v label : ℕ) → (relabel_target flow_net s v ≡ Some label) ↔ IsRaised flow_net s v label }
 {}

@@ -5,7 +5,7 @@ ghost use Rattle.cut_preflow.specs.Preflow.{count, import_at, flow_at, label_at,
 ghost use Rattle.cut_preflow.specs.Kept.{IsFlowNetwork, IsQuiet};
 ghost use Rattle.cut_preflow.specs.Bound.{most_changes};
 ghost use Rattle.cut_preflow.specs.Flows.{AreEnds, AreNear, AreReached, HasFlow, IsShutOff, network_between, network_on};
-ghost use Rattle.cut_preflow.specs.Played.{state_of, outcome_of, history_after, IsSound, IsWithinLimits};
+ghost use Rattle.cut_preflow.specs.Trace.{state_of, outcome_of, history_after, IsSound, IsWithinLimits};
 ghost use Rattle.cut_preflow.specs.Settled.{Appends, AppendsUpTo};
 ghost use Rattle.cut_preflow.specs.Shares.{count_after, mark_after};
 ghost use Rattle.cut_preflow.specs.Side.{has};
@@ -29,7 +29,7 @@ pub struct Preflow<L: NetworkLedger> {
     plain: PreflowCore,
     book: Book<L>,
     own: ledger::Share<L>,
-    out: u32,
+    shares_out: u32,
 }
 
 impl<L: NetworkLedger> Model for Preflow<L> {
@@ -38,9 +38,9 @@ impl<L: NetworkLedger> Model for Preflow<L> {
 
     ghost Value = { Shared };
 
-    ghost view = { λ p. record { play = p.plain; booked = p.book.total; own = p.own.amount; out = p.out } };
+    ghost view = { λ p. record { trace = p.plain; counted = p.book.total; own = p.own.amount; shares_out = p.shares_out } };
 
-    ghost invariant = { λ p. (p.book.total ≡ length p.plain.history) × (p.own.parts + p.out ≡ L.parts) × (L.parts ≡ 65) × (p.out ≤ 64) × (p.plain.net ≡ L.net) × (p.out ≡ 0 → p.own.amount ≡ p.book.total) };
+    ghost invariant = { λ p. (p.book.total ≡ length p.plain.history) × (p.own.parts + p.shares_out ≡ L.parts) × (L.parts ≡ 65) × (p.shares_out ≤ 64) × (p.plain.net ≡ L.net) × (p.shares_out ≡ 0 → p.own.amount ≡ p.book.total) };
 }
 
 impl<L: NetworkLedger> Preflow<L> {
@@ -59,7 +59,7 @@ impl<L: NetworkLedger> Preflow<L> {
         requires net { network_between net.now from to ≡ L.net }
         requires name { blank.name ≡ L.name }
         requires parts { (blank.parts ≡ 65) × (L.parts ≡ 65) }
-        ensures { IfOk result (λ p. p ≡ record { play = record { net = network_between net.now from to; history = [] }; booked = 0; own = 0; out = 0 }) }
+        ensures { IfOk result (λ p. p ≡ record { trace = record { net = network_between net.now from to; history = [] }; counted = 0; own = 0; shares_out = 0 }) }
     {
         let plain = PreflowCore::start(alloc, net, from, to)?;
         let (book, own) = blank.open::<L>();
@@ -67,7 +67,7 @@ impl<L: NetworkLedger> Preflow<L> {
             plain,
             book,
             own,
-            out: 0,
+            shares_out: 0,
         })
     }
 
@@ -85,7 +85,7 @@ impl<L: NetworkLedger> Preflow<L> {
         requires net { network_on nodes imports.items from to ≡ L.net }
         requires name { blank.name ≡ L.name }
         requires parts { (blank.parts ≡ 65) × (L.parts ≡ 65) }
-        ensures { IfOk result (λ p. p ≡ record { play = record { net = network_on nodes imports.items from to; history = [] }; booked = 0; own = 0; out = 0 }) }
+        ensures { IfOk result (λ p. p ≡ record { trace = record { net = network_on nodes imports.items from to; history = [] }; counted = 0; own = 0; shares_out = 0 }) }
     {
         let ends = Ends {
             nodes,
@@ -98,21 +98,21 @@ impl<L: NetworkLedger> Preflow<L> {
             plain,
             book,
             own,
-            out: 0,
+            shares_out: 0,
         })
     }
 
     /// An empty share, without a mark; none where 64 are out.
     pub fn share(&mut self) -> Option<Share<L>>
-        ensures some { IsSome result ↔ (self.old.out < 64) }
-        ensures empty { IfSome result (λ s. (s ≡ record { count = 0; marked = false }) × (self.new ≡ record self.old { out = self.old.out + 1 })) }
+        ensures some { IsSome result ↔ (self.old.shares_out < 64) }
+        ensures empty { IfSome result (λ s. (s ≡ record { count = 0; marked = false }) × (self.new ≡ record self.old { shares_out = self.old.shares_out + 1 })) }
         ensures none { IsNone result → self.new ≡ self.old }
     {
-        if self.out >= MOST_SHARES {
+        if self.shares_out >= MOST_SHARES {
             return None;
         }
         let part = self.own.split_off(1, 0);
-        self.out += 1;
+        self.shares_out += 1;
         Some(Share {
             part,
             count: 0,
@@ -124,11 +124,11 @@ impl<L: NetworkLedger> Preflow<L> {
     /// the step doesn't apply, and Refused where memory for the history was refused; then nothing changed. The step is counted in the
     /// preflow's own share.
     pub fn apply(&mut self, event: Event) -> Outcome
-        ensures stale { (result ≡ Outcome.Stale) ↔ (applies self.old.play.net (state_of self.old.play) event.step ≡ false) }
-        ensures outcome { result ≢ Outcome.Refused → result ≡ outcome_of self.old.play.net (state_of self.old.play) event.step }
-        ensures history { self.new.play ≡ record self.old.play { history = history_after self.old.play.history event result } }
-        ensures state { result ≢ Outcome.Refused → state_of self.new.play ≡ after self.old.play.net (state_of self.old.play) event.step }
-        ensures counted { self.new ≡ record self.old { play = self.new.play; booked = count_after self.old.booked result; own = count_after self.old.own result } }
+        ensures stale { (result ≡ Outcome.Stale) ↔ (applies self.old.trace.net (state_of self.old.trace) event.step ≡ false) }
+        ensures outcome { result ≢ Outcome.Refused → result ≡ outcome_of self.old.trace.net (state_of self.old.trace) event.step }
+        ensures history { self.new.trace ≡ record self.old.trace { history = history_after self.old.trace.history event result } }
+        ensures state { result ≢ Outcome.Refused → state_of self.new.trace ≡ after self.old.trace.net (state_of self.old.trace) event.step }
+        ensures counted { self.new ≡ record self.old { trace = self.new.trace; counted = count_after self.old.counted result; own = count_after self.old.own result } }
     {
         let tried = self.plain.apply(event);
         match tried {
@@ -140,11 +140,11 @@ impl<L: NetworkLedger> Preflow<L> {
 
     /// As `apply`, with the step counted in this share. A refused step marks the share.
     pub fn apply_as(&mut self, event: Event, share: &mut Share<L>) -> Outcome
-        ensures stale { (result ≡ Outcome.Stale) ↔ (applies self.old.play.net (state_of self.old.play) event.step ≡ false) }
-        ensures outcome { result ≢ Outcome.Refused → result ≡ outcome_of self.old.play.net (state_of self.old.play) event.step }
-        ensures history { self.new.play ≡ record self.old.play { history = history_after self.old.play.history event result } }
-        ensures state { result ≢ Outcome.Refused → state_of self.new.play ≡ after self.old.play.net (state_of self.old.play) event.step }
-        ensures counted { self.new ≡ record self.old { play = self.new.play; booked = count_after self.old.booked result } }
+        ensures stale { (result ≡ Outcome.Stale) ↔ (applies self.old.trace.net (state_of self.old.trace) event.step ≡ false) }
+        ensures outcome { result ≢ Outcome.Refused → result ≡ outcome_of self.old.trace.net (state_of self.old.trace) event.step }
+        ensures history { self.new.trace ≡ record self.old.trace { history = history_after self.old.trace.history event result } }
+        ensures state { result ≢ Outcome.Refused → state_of self.new.trace ≡ after self.old.trace.net (state_of self.old.trace) event.step }
+        ensures counted { self.new ≡ record self.old { trace = self.new.trace; counted = count_after self.old.counted result } }
         ensures share { share.new ≡ record { count = count_after share.old.count result; marked = mark_after share.old.marked result } }
     {
         let outcome = self.plain.apply(event);
@@ -166,7 +166,7 @@ impl<L: NetworkLedger> Preflow<L> {
 
     /// Whether the preflow is quiet. Where it is, the share is marked.
     pub fn note_quiet(&self, share: &mut Share<L>) -> bool
-        ensures quiet { IsTrue result ↔ IsQuiet self.now.play.net (state_of self.now.play) }
+        ensures quiet { IsTrue result ↔ IsQuiet self.now.trace.net (state_of self.now.trace) }
         ensures marked { share.new ≡ record share.old { marked = share.old.marked || result } }
     {
         let quiet = self.is_quiet();
@@ -178,10 +178,10 @@ impl<L: NetworkLedger> Preflow<L> {
 
     /// Adds a share to the preflow's own, and answers how many are still out. With none out, the own share counts all steps of the history.
     pub fn rejoin(&mut self, share: Share<L>) -> u32
-        ensures out { (result ≡ self.new.out) × (result + 1 ≡ self.old.out) }
+        ensures out { (result ≡ self.new.shares_out) × (result + 1 ≡ self.old.shares_out) }
         ensures own { self.new.own ≡ self.old.own + share.count }
-        ensures play { self.new.play ≡ self.old.play }
-        ensures whole { result ≡ 0 → self.new.own ≡ length self.new.play.history }
+        ensures trace { self.new.trace ≡ self.old.trace }
+        ensures whole { result ≡ 0 → self.new.own ≡ length self.new.trace.history }
     {
         let Share {
             part,
@@ -190,8 +190,8 @@ impl<L: NetworkLedger> Preflow<L> {
         } = share;
         self.own.merge(part);
         self.book.audit(&mut self.own);
-        self.out -= 1;
-        self.out
+        self.shares_out -= 1;
+        self.shares_out
     }
 }
 
@@ -201,13 +201,13 @@ impl<L: NetworkLedger> Preflow<L> {
     /// than enters it, the labelling is valid, and labels stay below twice the number of modules. And once quiet, the flow is a flow of
     /// the network.
     pub fn keeps(&self)
-        ensures net { self.now.play.net ≡ L.net }
-        ensures booked { self.now.booked ≡ length self.now.play.history }
-        ensures whole { self.now.out ≡ 0 → self.now.own ≡ length self.now.play.history }
-        ensures legal { is_legal self.now.play.net (opening self.now.play.net) self.now.play.history ≡ true }
-        ensures sound { IsSound self.now.play.net (state_of self.now.play) }
-        ensures flow { IsQuiet self.now.play.net (state_of self.now.play) → HasFlow self.now.play.net (state_of self.now.play) }
-        ensures shut { IsQuiet self.now.play.net (state_of self.now.play) → IsShutOff self.now.play.net (state_of self.now.play) }
+        ensures net { self.now.trace.net ≡ L.net }
+        ensures counted { self.now.counted ≡ length self.now.trace.history }
+        ensures whole { self.now.shares_out ≡ 0 → self.now.own ≡ length self.now.trace.history }
+        ensures legal { is_legal self.now.trace.net (opening self.now.trace.net) self.now.trace.history ≡ true }
+        ensures sound { IsSound self.now.trace.net (state_of self.now.trace) }
+        ensures flow { IsQuiet self.now.trace.net (state_of self.now.trace) → HasFlow self.now.trace.net (state_of self.now.trace) }
+        ensures shut { IsQuiet self.now.trace.net (state_of self.now.trace) → IsShutOff self.now.trace.net (state_of self.now.trace) }
     {
         // Its clause says that the history is legal.
         let _ = self.plain.history();
@@ -217,27 +217,27 @@ impl<L: NetworkLedger> Preflow<L> {
     /// The events that were applied, in order, each at a place where it applies. For n modules and m imports they are at most
     /// 4n²m + 2nm + 4n².
     pub fn history(&self) -> &[Event]
-        ensures events { result.now ≡ self.now.play.history }
-        ensures legal { is_legal self.now.play.net (opening self.now.play.net) self.now.play.history ≡ true }
-        ensures few { length self.now.play.history ≤ most_changes self.now.play.net }
+        ensures events { result.now ≡ self.now.trace.history }
+        ensures legal { is_legal self.now.trace.net (opening self.now.trace.net) self.now.trace.history ≡ true }
+        ensures few { length self.now.trace.history ≤ most_changes self.now.trace.net }
     {
         self.plain.history()
     }
 
     /// The label of a node, which is a module's number.
     pub fn label(&self, node: u32) -> u32
-        requires { node < self.now.play.net.nodes }
-        ensures value { result ≡ label_at (state_of self.now.play) node }
-        ensures low { result < 2 * self.now.play.net.nodes }
+        requires { node < self.now.trace.net.nodes }
+        ensures value { result ≡ label_at (state_of self.now.trace) node }
+        ensures low { result < 2 * self.now.trace.net.nodes }
     {
         self.plain.label(node)
     }
 
     /// The flow on the import of this number, in qualified references.
     pub fn flow(&self, import: u32) -> u64
-        requires { import < count self.now.play.net }
-        ensures value { result ≡ flow_at (state_of self.now.play) import }
-        ensures fits { result ≤ (import_at self.now.play.net import).amount }
+        requires { import < count self.now.trace.net }
+        ensures value { result ≡ flow_at (state_of self.now.trace) import }
+        ensures fits { result ≤ (import_at self.now.trace.net import).amount }
     {
         self.plain.flow(import)
     }
@@ -245,47 +245,47 @@ impl<L: NetworkLedger> Preflow<L> {
     /// The excess of a node, which is a module's number: what enters it less what leaves it, in qualified references. Of the source,
     /// 0 where more leaves it than enters it.
     pub fn excess(&self, node: u32) -> u64
-        requires { node < self.now.play.net.nodes }
-        ensures value { result ≡ excess self.now.play.net (state_of self.now.play) node }
-        ensures exact { node ≢ self.now.play.net.source → outflow self.now.play.net (state_of self.now.play) node + result ≡ inflow self.now.play.net (state_of self.now.play) node }
+        requires { node < self.now.trace.net.nodes }
+        ensures value { result ≡ excess self.now.trace.net (state_of self.now.trace) node }
+        ensures exact { node ≢ self.now.trace.net.source → outflow self.now.trace.net (state_of self.now.trace) node + result ≡ inflow self.now.trace.net (state_of self.now.trace) node }
     {
         self.plain.excess(node)
     }
 
     /// A node with excess that is neither end, if there is one.
     pub fn active(&self) -> Option<u32>
-        ensures some { IfSome result (λ v. is_active self.now.play.net (state_of self.now.play) v ≡ true) }
-        ensures none { IsNone result ↔ IsQuiet self.now.play.net (state_of self.now.play) }
+        ensures some { IfSome result (λ v. is_active self.now.trace.net (state_of self.now.trace) v ≡ true) }
+        ensures none { IsNone result ↔ IsQuiet self.now.trace.net (state_of self.now.trace) }
     {
         self.plain.active()
     }
 
     /// Whether no node but the two ends has excess.
     pub fn is_quiet(&self) -> bool
-        ensures { IsTrue result ↔ IsQuiet self.now.play.net (state_of self.now.play) }
+        ensures { IsTrue result ↔ IsQuiet self.now.trace.net (state_of self.now.trace) }
     {
         self.active().is_none()
     }
 
     /// A step that applies, unless the preflow is quiet.
     pub fn next_step(&self) -> Option<Step>
-        ensures some { IfSome result (λ step. applies self.now.play.net (state_of self.now.play) step ≡ true) }
-        ensures none { IsNone result ↔ IsQuiet self.now.play.net (state_of self.now.play) }
-        ensures few { IsSome result → length self.now.play.history < most_changes self.now.play.net }
+        ensures some { IfSome result (λ step. applies self.now.trace.net (state_of self.now.trace) step ≡ true) }
+        ensures none { IsNone result ↔ IsQuiet self.now.trace.net (state_of self.now.trace) }
+        ensures few { IsSome result → length self.now.trace.history < most_changes self.now.trace.net }
     {
         self.plain.next_step()
     }
 
     /// Applies at most `fuel` steps as worker 0, until the preflow is quiet.
     fn settle_within(&mut self, fuel: u64) -> Result<(), SettleFault>
-        ensures net { self.new.play.net ≡ self.old.play.net }
-        ensures appended { AppendsUpTo 0 fuel self.old.play.history self.new.play.history }
-        ensures own { self.new.own + length self.old.play.history ≡ self.old.own + length self.new.play.history }
-        ensures out { self.new.out ≡ self.old.out }
-        ensures ok { OnOk result (IsQuiet self.new.play.net (state_of self.new.play)) }
-        ensures enough { most_changes self.old.play.net ≤ fuel → result ≢ Err SettleFault.Unfinished }
-        ensures unfinished { result ≡ Err SettleFault.Unfinished → (IsQuiet self.new.play.net (state_of self.new.play) → ⊥) × Appends 0 fuel self.old.play.history self.new.play.history }
-        ensures memory { result ≡ Err SettleFault.Memory → (IsQuiet self.new.play.net (state_of self.new.play) → ⊥) × (length self.new.play.history < length self.old.play.history + fuel) }
+        ensures net { self.new.trace.net ≡ self.old.trace.net }
+        ensures appended { AppendsUpTo 0 fuel self.old.trace.history self.new.trace.history }
+        ensures own { self.new.own + length self.old.trace.history ≡ self.old.own + length self.new.trace.history }
+        ensures out { self.new.shares_out ≡ self.old.shares_out }
+        ensures ok { OnOk result (IsQuiet self.new.trace.net (state_of self.new.trace)) }
+        ensures enough { most_changes self.old.trace.net ≤ fuel → result ≢ Err SettleFault.Unfinished }
+        ensures unfinished { result ≡ Err SettleFault.Unfinished → (IsQuiet self.new.trace.net (state_of self.new.trace) → ⊥) × Appends 0 fuel self.old.trace.history self.new.trace.history }
+        ensures memory { result ≡ Err SettleFault.Memory → (IsQuiet self.new.trace.net (state_of self.new.trace) → ⊥) × (length self.new.trace.history < length self.old.trace.history + fuel) }
     {
         for _i in 0..fuel {
             let Some(step) = self.next_step() else {
@@ -306,12 +306,12 @@ impl<L: NetworkLedger> Preflow<L> {
     /// in the preflow's own share. AllocError is answered where the history couldn't grow; the steps that were applied stay, and the
     /// preflow isn't quiet.
     pub fn settle(&mut self) -> Result<(), AllocError>
-        ensures net { self.new.play.net ≡ self.old.play.net }
-        ensures appended { AppendsUpTo 0 (most_changes self.old.play.net) self.old.play.history self.new.play.history }
-        ensures own { self.new.own + length self.old.play.history ≡ self.old.own + length self.new.play.history }
-        ensures out { self.new.out ≡ self.old.out }
-        ensures ok { OnOk result (IsQuiet self.new.play.net (state_of self.new.play)) }
-        ensures memory { IsErr result → IsQuiet self.new.play.net (state_of self.new.play) → ⊥ }
+        ensures net { self.new.trace.net ≡ self.old.trace.net }
+        ensures appended { AppendsUpTo 0 (most_changes self.old.trace.net) self.old.trace.history self.new.trace.history }
+        ensures own { self.new.own + length self.old.trace.history ≡ self.old.own + length self.new.trace.history }
+        ensures out { self.new.shares_out ≡ self.old.shares_out }
+        ensures ok { OnOk result (IsQuiet self.new.trace.net (state_of self.new.trace)) }
+        ensures memory { IsErr result → IsQuiet self.new.trace.net (state_of self.new.trace) → ⊥ }
     {
         self.keeps();
         let most = self.plain.most_steps();
@@ -325,10 +325,10 @@ impl<L: NetworkLedger> Preflow<L> {
     /// Marks what the source reaches by arcs with residual above 0, by the modules' numbers. Once quiet, these are the near modules, and
     /// the sink is none of them. Fails where memory is refused.
     pub fn side(&self) -> Result<Vec<bool>, AllocError>
-        ensures size { IfOk result (λ m. length m.items ≡ self.now.play.net.nodes) }
-        ensures reached { IfOk result (λ m. AreReached self.now.play.net (state_of self.now.play) m.items) }
-        ensures near { IsQuiet self.now.play.net (state_of self.now.play) → IfOk result (λ m. AreNear self.now.play.net m.items) }
-        ensures end { IsQuiet self.now.play.net (state_of self.now.play) → IfOk result (λ m. has m.items self.now.play.net.sink ≡ false) }
+        ensures size { IfOk result (λ m. length m.items ≡ self.now.trace.net.nodes) }
+        ensures reached { IfOk result (λ m. AreReached self.now.trace.net (state_of self.now.trace) m.items) }
+        ensures near { IsQuiet self.now.trace.net (state_of self.now.trace) → IfOk result (λ m. AreNear self.now.trace.net m.items) }
+        ensures end { IsQuiet self.now.trace.net (state_of self.now.trace) → IfOk result (λ m. has m.items self.now.trace.net.sink ≡ false) }
     {
         self.plain.side()
     }

@@ -5,7 +5,7 @@ ghost use Rattle.cut_preflow.specs.Kept.{IsFlowNetwork, IsQuiet};
 ghost use Rattle.cut_preflow.specs.Bound.{most_changes};
 ghost use Rattle.cut_preflow.specs.Flows.{AreEnds, AreNear, AreReached, HasFlow, IsShutOff, network_between};
 ghost use Rattle.cut_preflow.specs.Side.{has};
-ghost use Rattle.cut_preflow.specs.Played.{state_of, outcome_of, history_after, IsSound, IsWithinLimits, flow_network};
+ghost use Rattle.cut_preflow.specs.Trace.{state_of, outcome_of, history_after, IsSound, IsWithinLimits, flow_network};
 
 use crate::ends::Ends;
 use crate::excesses::{move_excess, saturate};
@@ -38,13 +38,13 @@ pub(crate) struct PreflowCore {
 impl Model for PreflowCore {
     ghost use Rattle.cut_preflow.specs.Indexed.{IsIndexed};
     ghost use Rattle.cut_preflow.specs.NodeArcs.{lists};
-    ghost use Rattle.cut_preflow.specs.Played.{Played, flow_network, state_with, IsPlayed};
+    ghost use Rattle.cut_preflow.specs.Trace.{Trace, flow_network, state_with, IsTrace};
 
-    ghost Value = { Played };
+    ghost Value = { Trace };
 
     ghost view = { λ p. record { net = flow_network p.ends p.imports.items; history = p.history.items } };
 
-    ghost invariant = { λ p. IsPlayed (flow_network p.ends p.imports.items) p.flows.items p.labels.items p.history.items × IsIndexed (flow_network p.ends p.imports.items) (state_with p.flows.items p.labels.items) (lists p.arcs.items) p.excesses.items p.active };
+    ghost invariant = { λ p. IsTrace (flow_network p.ends p.imports.items) p.flows.items p.labels.items p.history.items × IsIndexed (flow_network p.ends p.imports.items) (state_with p.flows.items p.labels.items) (lists p.arcs.items) p.excesses.items p.active };
 }
 
 /// The flows of the opening: the imports out of the source are saturated.

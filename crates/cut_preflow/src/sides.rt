@@ -1,6 +1,6 @@
 //! What the source of a preflow reaches by arcs with residual above 0.
 ghost use Rattle.std.specs.Prelude.{◌≡◌, ◌+◌, ◌*◌, ◌/◌, ◌++◌, ◌∷◌, ◌<◌, ◌≤◌, ℕ, true, IfOk, IfSome, IsNone, OnOk, length, []};
-ghost use Rattle.cut_preflow.specs.Played.{state_of};
+ghost use Rattle.cut_preflow.specs.Trace.{state_of};
 ghost use Rattle.cut_preflow.specs.Preflow.{count, head, residual};
 ghost use Rattle.cut_preflow.specs.Side.{has, IsReach, IsReached, IsSearched, unmarked};
 

@@ -7,7 +7,7 @@ use Rattle.cut_residual.specs.declared.arc.Arc.{Arc}
 use Rattle.cut_residual.specs.declared.arc.ResidualArc.{ResidualArc}
 use Rattle.cut_residual.specs.Flows.{AreSameArcs, emptied}
 use Rattle.cut_residual.specs.Graphs.{no_arc, tail}
-use Rattle.cut_residual.specs.Groups.{AreKept, group_at, lists}
+use Rattle.cut_residual.specs.Groups.{AreGrouped, group_at, lists}
 
 pub group_is : (groups : List (Vec ResidualArc)) (u : ℕ) (g : Vec ResidualArc) → g ≡ get_or groups u g → u < length groups → group_at (lists groups) u ≡ g.items
 group_is groups u g e h = get_or-map (λ v. v.items) groups u g [] h ∙ ap (λ v. v.items) (sym e)
@@ -38,7 +38,7 @@ module _ (old new : List Arc) (same : AreSameArcs old new) where
       let was = all k d in_old in
       (subst (λ v. v < n) (sym f) was.0, subst (λ v. v < n) (sym t) was.1)
 
-  pub kept_on : (groups : List (Vec ResidualArc)) → All (λ r. r.flow ≤ r.capacity) new → AreKept old groups → AreKept new groups
+  pub kept_on : (groups : List (Vec ResidualArc)) → All (λ r. r.flow ≤ r.capacity) new → AreGrouped old groups → AreGrouped new groups
   kept_on groups within kept = record {
     graph = record { within = within; between = between_kept (length groups) kept.graph.between; few_nodes = kept.graph.few_nodes };
     grouped = record {

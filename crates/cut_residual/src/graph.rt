@@ -21,13 +21,13 @@ pub struct ResidualGraph {
 impl Model for ResidualGraph {
     ghost use Rattle.std.specs.Prelude.{length};
     ghost use Rattle.cut_residual.specs.Graphs.{Graph};
-    ghost use Rattle.cut_residual.specs.Groups.{AreKept};
+    ghost use Rattle.cut_residual.specs.Groups.{AreGrouped};
 
     ghost Value = { Graph };
 
     ghost view = { λ g. record { nodes = length g.residual_arcs.items; arcs = g.arcs.items } };
 
-    ghost invariant = { λ g. AreKept g.arcs.items g.residual_arcs.items };
+    ghost invariant = { λ g. AreGrouped g.arcs.items g.residual_arcs.items };
 }
 
 impl ResidualGraph {

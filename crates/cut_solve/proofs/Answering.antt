@@ -17,7 +17,7 @@ use Rattle.cut_part.proofs.Greatest.{end_unreached}
 use Rattle.cut_residual.specs.declared.arc.Arc.{Arc}
 use Rattle.cut_residual.specs.Flows.{IsBalanced}
 use Rattle.cut_residual.specs.Graphs.{is_seen, AreClosed, AreReached}
-use Rattle.cut_solve.specs.GreatestFlow.{IsGreatest}
+use Rattle.cut_solve.specs.GreatestFlow.{IsMaximumFlow}
 use Rattle.cut_solve.specs.Lines.{has_flow, import_on, is_printed, flow_line}
 use Rattle.cut_solve.proofs.Flowing.{flow_on, imports_of, is_flow, lines_ascend, net_of, reached}
 use Rattle.cut_solve.proofs.Listing.{each_kept, removed_is, weight_kept}
@@ -54,7 +54,7 @@ module _ (net : Network) (a b : ℕ) (near far : List Bool) (are : AreThose (is_
 
 -- the printed imports of a greatest flow
 module _ (net : Network) (a b : ℕ) (near far : List Bool) (flow : List Priced) (up : IsAscending net.imports) (between : AreBetween net.imports (length net.names)) (a_in : a < length net.names)
-    (greatest : IsGreatest net a b near flow) (chains : (m : ℕ) → (is_seen far m ≡ true) ↔ Chain net.imports (Outside (leaves (is_seen near))) m b) where
+    (greatest : IsMaximumFlow net a b near flow) (chains : (m : ℕ) → (is_seen far m ≡ true) ↔ Chain net.imports (Outside (leaves (is_seen near))) m b) where
   near_is : AreThose (is_seen near) (Near net a b)
   near_is = is_near net a b (flow_by flow) greatest.value between a_in greatest.is_flow (is_seen near) greatest.reached greatest.end
 
@@ -119,7 +119,7 @@ module _ (names : List (List ℕ)) (pins : List Priced) (arcs : List Arc) (a b v
       let (r, in_arcs, e) = from_map flow_line arcs line c in
       (import_on r, in_map import_on arcs r in_arcs, ap (λ (v : Priced). v.from) e, ap (λ (v : Priced). v.to) e, tt)
 
-  pub greatest_on : IsGreatest (net_of names pins arcs) a b near (filter has_flow (map flow_line arcs))
+  pub greatest_on : IsMaximumFlow (net_of names pins arcs) a b near (filter has_flow (map flow_line arcs))
   greatest_on = record {
     size = are.size;
     reached = reached names pins arcs up a near a_in are shut;
@@ -133,19 +133,19 @@ module _ (names : List (List ℕ)) (pins : List Priced) (arcs : List Arc) (a b v
 -- the same of a network whose imports are those of the arcs
 pub greatest_for : (net : Network) (arcs : List Arc) (a b value : ℕ) → imports_of arcs ≡ net.imports → IsAscending net.imports → a < length net.names →
     All (λ r. r.flow ≤ r.capacity) arcs → IsBalanced arcs a b value → (near : List Bool) → AreReached (record { nodes = length net.names; arcs = arcs }) a near → AreClosed arcs near →
-    is_seen near b ≡ false → IsGreatest net a b near (filter has_flow (map flow_line arcs))
+    is_seen near b ≡ false → IsMaximumFlow net a b near (filter has_flow (map flow_line arcs))
 greatest_for net arcs a b value same up a_in within balanced near are shut ends =
     let here = subst IsAscending (sym same) up in
-    subst (λ v. IsGreatest (record { names = net.names; imports = v; pins = net.pins }) a b near (filter has_flow (map flow_line arcs))) same
+    subst (λ v. IsMaximumFlow (record { names = net.names; imports = v; pins = net.pins }) a b near (filter has_flow (map flow_line arcs))) same
     (greatest_on net.names net.pins arcs a b value here a_in (is_flow net.names net.pins arcs here a b value within balanced) near are shut ends)
 
 -- and of a flow over the imports
 pub greatest_by : (net : Network) (arcs : List Arc) (a b value : ℕ) → imports_of arcs ≡ net.imports → IsAscending net.imports → a < length net.names →
     IsFlow net a b (flow_on arcs) value → (near : List Bool) → AreReached (record { nodes = length net.names; arcs = arcs }) a near → AreClosed arcs near →
-    is_seen near b ≡ false → IsGreatest net a b near (filter has_flow (map flow_line arcs))
+    is_seen near b ≡ false → IsMaximumFlow net a b near (filter has_flow (map flow_line arcs))
 greatest_by net arcs a b value same up a_in is near are shut ends =
     let here = subst IsAscending (sym same) up in
-    subst (λ v. IsGreatest (record { names = net.names; imports = v; pins = net.pins }) a b near (filter has_flow (map flow_line arcs))) same
+    subst (λ v. IsMaximumFlow (record { names = net.names; imports = v; pins = net.pins }) a b near (filter has_flow (map flow_line arcs))) same
     (greatest_on net.names net.pins arcs a b value here a_in (subst (λ v. IsFlow (record { names = net.names; imports = v; pins = net.pins }) a b (flow_on arcs) value) (sym same) is) near are shut ends)
 
 -- where the residual imports of the flow don't lead to the end, it isn't marked

@@ -21,7 +21,7 @@ use Rattle.cut_preflow.specs.Preflow.{State}
 use Rattle.cut_preflow.specs.Flows.{AreEnds, HasFlow, IsShutOff, network_on, value_of}
 use Rattle.cut_residual.specs.declared.arc.Arc.{Arc}
 use Rattle.cut_residual.specs.Graphs.{is_seen, no_arc, AreClosed, AreReached}
-use Rattle.cut_solve.specs.GreatestFlow.{IsGreatest}
+use Rattle.cut_solve.specs.GreatestFlow.{IsMaximumFlow}
 use Rattle.cut_solve.specs.Lines.{has_flow, flow_line, import_on}
 use Rattle.cut_solve.specs.Settling.{carrying}
 use Rattle.cut_solve.specs.Starts.{with_imports, IsBelow, IsStart}
@@ -228,7 +228,7 @@ module _ (net : Network) (a b : ℕ) (flow : List ℕ) (near : List Bool) (up : 
       ∙ sym (flow_is arcs (subst IsAscending (sym imports_are) up) k (omega arith)) ∙ ap (flow_on arcs) here)
 
   pub settled_greatest : (value : ℕ) → IsFlow net a b (flow_by (flow_lines net.imports flow)) value → is_seen near b ≡ false →
-      IsGreatest net a b near (filter has_flow (map flow_line (carrying net.imports flow)))
+      IsMaximumFlow net a b near (filter has_flow (map flow_line (carrying net.imports flow)))
   settled_greatest value is end = greatest_by net arcs a b value imports_are up a_in (same_flow net a b on (flow_on arcs) agree value is) near are shut end
 
   pub settled_end : IsBarred net (flow_by (flow_lines net.imports flow)) a b → is_seen near b ≡ false

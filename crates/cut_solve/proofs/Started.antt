@@ -19,7 +19,7 @@ use Rattle.cut_part.proofs.Narrowing.{same_pair, still_between}
 use Rattle.cut_part.proofs.Turning.{between_turned}
 use Rattle.cut_preflow.specs.Total.{total}
 use Rattle.cut_preflow.specs.Kept.{IsFlowNetwork}
-use Rattle.cut_preflow.specs.Played.{IsWithinLimits}
+use Rattle.cut_preflow.specs.Trace.{IsWithinLimits}
 use Rattle.cut_preflow.specs.Flows.{AreEnds, network_on}
 use Rattle.cut_preflow.proofs.Networks.{between_limits}
 use Rattle.cut_preflow.proofs.Totals.{total-le}

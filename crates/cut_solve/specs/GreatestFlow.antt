@@ -7,7 +7,7 @@ use Rattle.cut_net.specs.Lines.{flow_by, AreInOrder}
 use Rattle.cut_residual.specs.Graphs.{is_seen}
 
 -- the lines are a flow from a to b, and the marked modules are those that its residual imports reach from a, without b
-pub record IsGreatest (net : Network) (a b : ℕ) (near : List Bool) (flow : List Priced) : Type 0 where
+pub record IsMaximumFlow (net : Network) (a b : ℕ) (near : List Bool) (flow : List Priced) : Type 0 where
   pub size : length near ≡ length net.names
   pub reached : AreThose (is_seen near) (Reached net (flow_by flow) a)
   pub end : is_seen near b ≡ false

@@ -4,18 +4,18 @@ use Rattle.cut_preflow.specs.declared.event.Event.{Event}
 use Rattle.cut_preflow.specs.declared.event.Outcome.{Outcome}
 use Rattle.cut_preflow.specs.declared.event.Outcome.TheVariants.{Stale, Refused}
 use Rattle.cut_preflow.specs.Preflow.{applies}
-use Rattle.cut_preflow.specs.Played.{state_of, outcome_of, history_after}
+use Rattle.cut_preflow.specs.Trace.{state_of, outcome_of, history_after}
 use Rattle.cut_preflow.specs.Shares.{Shared, count_after}
 
 -- the event was tried, with one of its outcomes: the history has it where it applied, and the book and the worker's count are so much longer
 pub record IsTried (event : Event) (old new : Shared) (before after : ℕ) : Type 0 where
   pub outcome : Outcome
-  pub is : outcome ≢ Refused → outcome ≡ outcome_of old.play.net (state_of old.play) event.step
-  pub stale : (outcome ≡ Stale) ↔ (applies old.play.net (state_of old.play) event.step ≡ false)
-  pub left : new ≡ record old { play = record old.play { history = history_after old.play.history event outcome }; booked = count_after old.booked outcome }
+  pub is : outcome ≢ Refused → outcome ≡ outcome_of old.trace.net (state_of old.trace) event.step
+  pub stale : (outcome ≡ Stale) ↔ (applies old.trace.net (state_of old.trace) event.step ≡ false)
+  pub left : new ≡ record old { trace = record old.trace { history = history_after old.trace.history event outcome }; counted = count_after old.counted outcome }
   pub counted : after ≡ count_after before outcome
 
 -- the event is this worker's, and applies to the state
 pub record CanTry (shared : Shared) (worker : ℕ) (event : Event) : Type 0 where
   pub own : event.worker ≡ worker
-  pub applies_now : applies shared.play.net (state_of shared.play) event.step ≡ true
+  pub applies_now : applies shared.trace.net (state_of shared.trace) event.step ≡ true

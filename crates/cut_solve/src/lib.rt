@@ -21,7 +21,7 @@ pub mod workers;
 
 pub use arcs::{flow_of, graph_of};
 pub use blocking::{as_answer, blocked};
-pub use cutting::cut_by;
+pub use cutting::minimum_cut;
 pub use fault::SolveFault;
 pub use names::module_of;
 pub use open_gate::OpenGate;

@@ -4,13 +4,13 @@ ghost use Rattle.cut_net.specs.Answers.{said_by_cut};
 ghost use Rattle.cut_net.specs.Lines.{IsAnswer, IsCheapestSaid};
 ghost use Rattle.cut_preflow.specs.Flows.{AreEnds};
 ghost use Rattle.cut_preflow.specs.Kept.{IsQuiet};
-ghost use Rattle.cut_preflow.specs.Played.{state_of};
+ghost use Rattle.cut_preflow.specs.Trace.{state_of};
 ghost use Rattle.cut_preflow.specs.Preflow.{count};
 ghost use Rattle.cut_solve.specs.Settling.{carrying};
 ghost use Rattle.cut_solve.specs.Starts.{IsBelow, IsStart};
 
 use crate::arcs::flow_of;
-use crate::cutting::cut_by;
+use crate::cutting::minimum_cut;
 use cut_net::{Cut, Net, Priced};
 use cut_preflow::{NetworkLedger, Preflow};
 use cut_residual::{Arc, ResidualGraph, search};
@@ -23,8 +23,8 @@ fn carrying<L: NetworkLedger>(
     preflow: &Preflow<L>,
 ) -> Result<Vec<Arc>, AllocError>
     requires few { length imports.now ≤ 65536 }
-    requires imports { count preflow.now.play.net ≡ length imports.now }
-    ensures { IfOk result (λ arcs. arcs.items ≡ carrying imports.now (state_of preflow.now.play).flow) }
+    requires imports { count preflow.now.trace.net ≡ length imports.now }
+    ensures { IfOk result (λ arcs. arcs.items ≡ carrying imports.now (state_of preflow.now.trace).flow) }
 {
     preflow.keeps();
     let mut arcs = Vec::new(alloc);
@@ -51,12 +51,12 @@ fn quiet_cut<L: NetworkLedger>(
     to: u32,
 ) -> Result<Option<Cut>, AllocError>
     requires ends { AreEnds net.now from to }
-    requires nodes { preflow.now.play.net.nodes ≡ length net.now.names }
-    requires start { IsBelow net.now from to preflow.now.play.net.imports preflow.now.play.net.source preflow.now.play.net.sink }
-    requires quiet { IsQuiet preflow.now.play.net (state_of preflow.now.play) }
+    requires nodes { preflow.now.trace.net.nodes ≡ length net.now.names }
+    requires start { IsBelow net.now from to preflow.now.trace.net.imports preflow.now.trace.net.source preflow.now.trace.net.sink }
+    requires quiet { IsQuiet preflow.now.trace.net (state_of preflow.now.trace) }
     ensures answer { IfOk result (λ found. IfSome found (λ cut. IsAnswer net.now from to (said_by_cut cut))) }
     ensures cheapest { IfOk result (λ found. IfSome found (λ cut. IsCheapestSaid net.now from to (said_by_cut cut))) }
-    ensures found { IsStart net.now from to preflow.now.play.net.imports preflow.now.play.net.source preflow.now.play.net.sink → IfOk result (λ found. IsSome found) }
+    ensures found { IsStart net.now from to preflow.now.trace.net.imports preflow.now.trace.net.source preflow.now.trace.net.sink → IfOk result (λ found. IsSome found) }
 {
     net.keeps();
     preflow.keeps();
@@ -68,7 +68,7 @@ fn quiet_cut<L: NetworkLedger>(
         return Ok(None);
     }
     let flow = flow_of(alloc, graph.arcs())?;
-    let cut = cut_by(alloc, net, &near.seen, flow, from, to)?;
+    let cut = minimum_cut(alloc, net, &near.seen, flow, from, to)?;
     Ok(Some(cut))
 }
 
@@ -82,11 +82,11 @@ pub(crate) fn last_pass<L: NetworkLedger>(
     to: u32,
 ) -> Result<Option<Cut>, AllocError>
     requires ends { AreEnds net.now from to }
-    requires nodes { preflow.old.play.net.nodes ≡ length net.now.names }
-    requires start { IsBelow net.now from to preflow.old.play.net.imports preflow.old.play.net.source preflow.old.play.net.sink }
+    requires nodes { preflow.old.trace.net.nodes ≡ length net.now.names }
+    requires start { IsBelow net.now from to preflow.old.trace.net.imports preflow.old.trace.net.source preflow.old.trace.net.sink }
     ensures answer { IfOk result (λ found. IfSome found (λ cut. IsAnswer net.now from to (said_by_cut cut))) }
     ensures cheapest { IfOk result (λ found. IfSome found (λ cut. IsCheapestSaid net.now from to (said_by_cut cut))) }
-    ensures found { IsStart net.now from to preflow.old.play.net.imports preflow.old.play.net.source preflow.old.play.net.sink → IfOk result (λ found. IsSome found) }
+    ensures found { IsStart net.now from to preflow.old.trace.net.imports preflow.old.trace.net.source preflow.old.trace.net.sink → IfOk result (λ found. IsSome found) }
 {
     preflow.settle()?;
     quiet_cut(alloc, net, preflow, from, to)

@@ -2,7 +2,7 @@
 ghost use Rattle.std.specs.Prelude.{◌≡◌, ◌≤◌, ◌↔◌, true, false, IsNone, IfSome};
 ghost use Rattle.cut_preflow.specs.declared.event.Event.{Event as EventValue};
 ghost use Rattle.cut_preflow.specs.Kept.{IsQuiet};
-ghost use Rattle.cut_preflow.specs.Played.{state_of};
+ghost use Rattle.cut_preflow.specs.Trace.{state_of};
 ghost use Rattle.cut_solve.specs.Turns.{CanTry, IsTried};
 
 use crate::{Gate, Locked, Look};
@@ -39,7 +39,7 @@ fn aside<'a, L: NetworkLedger, R: Wait>(
 
 /// What a worker sees: an event of its own that applies to this preflow, or that no module but the two ends has excess.
 pub fn look<L: NetworkLedger>(preflow: &Preflow<L>, worker: u32) -> Look
-    ensures quiet { (result ≡ Look.Quiet) ↔ IsQuiet preflow.now.play.net (state_of preflow.now.play) }
+    ensures quiet { (result ≡ Look.Quiet) ↔ IsQuiet preflow.now.trace.net (state_of preflow.now.trace) }
     ensures event { (event : EventValue) → result ≡ Look.Try event → CanTry preflow.now worker event }
 {
     match preflow.next_step() {

@@ -53,7 +53,7 @@ fn flow_of<L: NetworkLedger>(
     _ends: (u32, u32),
     preflow: &Preflow<L>,
 ) -> Result<Vec<Priced>, AllocError>
-    requires { preflow.now.play.net ≡ network_between net.now _ends.0 _ends.1 }
+    requires { preflow.now.trace.net ≡ network_between net.now _ends.0 _ends.1 }
 {
     net.keeps();
     let mut flow = Vec::new(alloc);
@@ -74,7 +74,7 @@ fn tell_modules<L: NetworkLedger>(
     ends: (u32, u32),
     preflow: &Preflow<L>,
 ) -> Result<(), AllocError>
-    requires { preflow.now.play.net ≡ network_between net.now ends.0 ends.1 }
+    requires { preflow.now.trace.net ≡ network_between net.now ends.0 ends.1 }
 {
     let _ = ends;
     for node in 0..net.nodes() {
@@ -106,7 +106,7 @@ fn tell_state<L: NetworkLedger>(
     ends: (u32, u32),
     preflow: &Preflow<L>,
 ) -> Result<(), AllocError>
-    requires { preflow.now.play.net ≡ network_between net.now ends.0 ends.1 }
+    requires { preflow.now.trace.net ≡ network_between net.now ends.0 ends.1 }
 {
     tell_modules(text, net, ends, preflow)?;
     tell_lines(text, "flow", &flow_of(alloc, net, ends, preflow)?)?;
@@ -120,7 +120,7 @@ fn tell_steps<L: NetworkLedger>(
     preflow: &mut Preflow<L>,
     steps: &[Step],
 ) -> Result<(), AllocError>
-    ensures { preflow.new.play.net ≡ preflow.old.play.net }
+    ensures { preflow.new.trace.net ≡ preflow.old.trace.net }
 {
     for step in steps {
         let outcome = preflow.apply(Event {
@@ -148,7 +148,7 @@ fn step_of(number: u32, arcs: u32) -> Step {
 
 /// Tries all steps again and again, ten thousand in all.
 fn try_all<L: NetworkLedger>(preflow: &mut Preflow<L>, net: &Net, by: u32)
-    ensures { preflow.new.play.net ≡ preflow.old.play.net }
+    ensures { preflow.new.trace.net ≡ preflow.old.trace.net }
 {
     net.keeps();
     let arcs = (net.imports().len() as u32).saturating_mul(2);
@@ -166,7 +166,7 @@ fn tell_shares<L: NetworkLedger>(
     text: &mut String,
     preflow: &mut Preflow<L>,
 ) -> Result<(), AllocError>
-    ensures { preflow.new.play.net ≡ preflow.old.play.net }
+    ensures { preflow.new.trace.net ≡ preflow.old.trace.net }
 {
     let mut last = None;
     for call in 1..67u32 {
@@ -202,7 +202,7 @@ fn tell_counted<L: NetworkLedger>(
     preflow: &mut Preflow<L>,
     share: &mut Share<L>,
 ) -> Result<(), AllocError>
-    ensures { preflow.new.play.net ≡ preflow.old.play.net }
+    ensures { preflow.new.trace.net ≡ preflow.old.trace.net }
 {
     for (counted, step) in COUNTED {
         let event = Event {
@@ -229,7 +229,7 @@ fn tell_counts<L: NetworkLedger>(
     text: &mut String,
     preflow: &mut Preflow<L>,
 ) -> Result<(), AllocError>
-    ensures { preflow.new.play.net ≡ preflow.old.play.net }
+    ensures { preflow.new.trace.net ≡ preflow.old.trace.net }
 {
     let Some(mut share) = preflow.share() else {
         return Err(AllocError);
@@ -249,8 +249,8 @@ fn tell_trial<L: NetworkLedger>(
     preflow: &mut Preflow<L>,
     trial: Trial,
 ) -> Result<(), AllocError>
-    requires { preflow.old.play.net ≡ network_between net.now ends.0 ends.1 }
-    ensures { preflow.new.play.net ≡ preflow.old.play.net }
+    requires { preflow.old.trace.net ≡ network_between net.now ends.0 ends.1 }
+    ensures { preflow.new.trace.net ≡ preflow.old.trace.net }
 {
     match trial {
         Trial::Steps(steps) => {
@@ -280,7 +280,7 @@ fn tried<L: NetworkLedger>(
     preflow: &mut Preflow<L>,
     trial: Trial,
 ) -> Result<Settled, AllocError>
-    requires { preflow.old.play.net ≡ network_between net.now ends.0 ends.1 }
+    requires { preflow.old.trace.net ≡ network_between net.now ends.0 ends.1 }
 {
     let mut told = String::new(alloc);
     tell_trial(&mut told, alloc, net, ends, preflow, trial)?;

@@ -3,15 +3,15 @@
 //! Its contract: the table is exactly the rows that each production of the tree gives, in the order of the tokens.
 #![tactic(auto)]
 
+mod build;
 mod draft;
 pub mod laws;
-mod making;
 mod order;
 mod rows;
 mod table;
 mod walk;
 
-pub use making::table_of;
+pub use build::table_of;
 pub use rows::{
     Block, Declared, Declarer, Designator, End, FormPart, Import, Part, Record, Selector, Sort,
     Step, TypeName, Used,

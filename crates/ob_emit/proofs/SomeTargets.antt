@@ -30,7 +30,7 @@ use Rattle.ob_owners.proofs.Placed.{AreFields, EndsOne, HasConstruct, IsAlias, I
 use Rattle.ob_scope.proofs.Elements.{contains_slice, slice_contains, slice_there, some_one}
 use Rattle.ob_scope.specs.declared.members.Member.{Member}
 use Rattle.ob_scope.specs.Members.{declarer_at, member_by, members_of}
-use Rattle.ob_scope.specs.Scope.{Means, by_scope, as_target}
+use Rattle.ob_scope.specs.Scope.{ResolvesTo, by_scope, as_target}
 use Rattle.ob_scope.specs.Scoped.{AreScopes, Meaning, MeansBy}
 use Rattle.ob_scope.specs.Texts.{text_at}
 use Rattle.ob_targets.specs.declared.known.Known.{Known}
@@ -93,7 +93,7 @@ member_number : (x : Declared) (o : Option Declarer) (d : Member) → member_by 
 member_number x None d e = absurd (let f : None ≡ Some d = e in cc)
 member_number x (Some by) d e = ap (λ (v : Member). v.number) (some_one _ d e)
 
-means_among : (name : ℕ → List ℕ) (blocks : List BlockRow) (ds : List Member) (u : Used) (d : Member) → Means name blocks ds u d → Contains ds d
+means_among : (name : ℕ → List ℕ) (blocks : List BlockRow) (ds : List Member) (u : Used) (d : Member) → ResolvesTo name blocks ds u d → Contains ds d
 means_among name blocks ds u d (by_scope r) = (r.seen).declared
 means_among name blocks ds u d (as_target t n l) = l.declared
 

@@ -4,7 +4,7 @@ use Rattle.std.proofs.lemmas.List.{drop_all, drop_more, get_or-take, length-take
 use Rattle.ob_scan.specs.declared.token.Token.{Token}
 use Rattle.ob_tree.specs.declared.token.Leaf.{Leaf}
 use Rattle.ob_tree.specs.Leaves.{leaf_of, leaves}
-use Rattle.ob_parse.specs.declared.input.Input.{Input}
+use Rattle.ob_parse.specs.declared.cursor.Cursor.{Cursor}
 use Rattle.ob_parse.specs.Front.{uncons}
 use Rattle.ob_parse.specs.Gives.{ahead, kind_of}
 
@@ -14,15 +14,15 @@ front n ts = uncons (leaves n (map kind_of ts))
 none_left : (ts : List Token) (at : ℕ) → length (take 4294967295 ts) ≤ at → front at (drop at (take 4294967295 ts)) ≡ None
 none_left ts at h = ap (front at) (drop_all at (take 4294967295 ts) h)
 
-pub past_end : (ts : List Token) (i : Input) → length ts ≤ i.at → uncons (ahead ts i) ≡ None
+pub past_end : (ts : List Token) (i : Cursor) → length ts ≤ i.at → uncons (ahead ts i) ≡ None
 unfolding ahead
 past_end ts i h = none_left ts i.at (omega (arith, length-take 4294967295 ts, h))
 
-pub past_numbers : (ts : List Token) (i : Input) → 4294967295 ≤ i.at → uncons (ahead ts i) ≡ None
+pub past_numbers : (ts : List Token) (i : Cursor) → 4294967295 ≤ i.at → uncons (ahead ts i) ≡ None
 unfolding ahead
 past_numbers ts i h = none_left ts i.at (omega (arith, length-take 4294967295 ts, h))
 
-pub next_ahead : (ts : List Token) (i : Input) (t : Token) (n : ℕ) → i.at < length ts → t ≡ get_or ts i.at t → n ≡ i.at + 1 → n < 4294967296 →
+pub next_ahead : (ts : List Token) (i : Cursor) (t : Token) (n : ℕ) → i.at < length ts → t ≡ get_or ts i.at t → n ≡ i.at + 1 → n < 4294967296 →
     uncons (ahead ts i) ≡ Some (leaf_of i.at t.kind, ahead ts (record { at = n }))
 unfolding ahead
 next_ahead ts i t n placed e m lt =

@@ -6,7 +6,7 @@ use Rattle.ob_scan.specs.declared.token.Token.{Token}
 use Rattle.ob_tree.specs.declared.token.Leaf.{Leaf}
 use Rattle.ob_tree.specs.Leaves.{leaves}
 use Rattle.ob_tree.specs.Marks.{Out, word, times}
-use Rattle.ob_parse.specs.declared.input.Input.{Input}
+use Rattle.ob_parse.specs.declared.cursor.Cursor.{Cursor}
 use Rattle.ob_parse.specs.Forms.{Read, many, accept_at, expect_at}
 use Rattle.ob_parse.specs.Gives.{ahead, kind_of}
 use Rattle.ob_parse.proofs.Sound.{expect_sound}
@@ -42,7 +42,7 @@ length-leaves : (n : ℕ) (ts : List Token) → length (leaves n (map kind_of ts
 length-leaves n [] = refl
 length-leaves n (t ∷ ts) = ap suc (length-leaves (n + 1) ts)
 
-pub few_ahead : (ts : List Token) (i : Input) → length (ahead ts i) < 2 ^ 32
+pub few_ahead : (ts : List Token) (i : Cursor) → length (ahead ts i) < 2 ^ 32
 unfolding ahead
 few_ahead ts i =
     let some = take 4294967295 ts in

@@ -4,14 +4,14 @@ use Rattle.std.specs.Global.{Box}
 use Rattle.std.specs.Prelude.{IfErr, IfOk, Result}
 use Rattle.ob_scan.specs.declared.token.Token.{Token}
 use Rattle.ob_tree.specs.Marks.{Out}
-use Rattle.ob_parse.specs.declared.input.Input.{Input}
+use Rattle.ob_parse.specs.declared.cursor.Cursor.{Cursor}
 use Rattle.ob_parse.specs.declared.stop.Stop.{Stop}
 use Rattle.ob_parse.specs.declared.stop.Stop.TheVariants as stops
 use Rattle.ob_parse.specs.Forms.{Read}
 use Rattle.ob_parse.specs.Gives.{Gives, ahead}
 
 -- the box that is answered has the value, or memory ran out
-pub gives_boxed : {T : Type 0} (ts : List Token) (view : T → Out) (of : T) (rest : Input) (r : Result (Box T × Input) Stop) (read : Read)
+pub gives_boxed : {T : Type 0} (ts : List Token) (view : T → Out) (of : T) (rest : Cursor) (r : Result (Box T × Cursor) Stop) (read : Read)
     → IfOk r (λ b. (b.0.value ≡ of) × (b.1 ≡ rest)) → IfErr r (λ stop. stop ≡ stops.Memory) → read ≡ Ok (view of, ahead ts rest) → Gives ts (λ b. (view b.0.value, ahead ts b.1)) r read
 gives_boxed ts view of rest (Ok b) read is refused e = rw (is.0, is.1) e
 gives_boxed ts view of rest (Err stop) read is refused e = rw refused tt

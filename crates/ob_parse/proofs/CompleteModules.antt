@@ -34,7 +34,7 @@ use Rattle.ob_parse.specs.Forms.{Reader, expect_at, accept_at, name_at, identifi
 use Rattle.ob_parse.specs.ReadExpressions.{expr_at}
 use Rattle.ob_parse.specs.ReadStatements.{block_at}
 use Rattle.ob_parse.specs.ReadTypes.{type_at}
-use Rattle.ob_parse.specs.ReadModules.{is_name, const_with, type_decl_with, variable_with, ended, part_with, procedures_with, declarations_with, body_with, procedure_named, name_then, procedure_with, procedure_at, declarations_at, import_at, imports_at, module_named, module_at, all_of}
+use Rattle.ob_parse.specs.ReadModules.{is_identifier, const_with, type_decl_with, variable_with, ended, part_with, procedures_with, declarations_with, body_with, procedure_named, name_then, procedure_with, procedure_at, declarations_at, import_at, imports_at, module_named, module_at, all_of}
 use Rattle.ob_parse.proofs.Sound.{tokens_of-construct}
 use Rattle.ob_parse.proofs.SoundExpressions.{expr_at_sound}
 use Rattle.ob_parse.proofs.SoundTypes.{type_at_sound}
@@ -80,7 +80,7 @@ variable_opens v x = subst (λ (o : Out). OpensName (tokens_of o ++ x)) (sym (va
 
 -- ---- sections
 
-name_begun : (ls : List Leaf) → OpensName ls → begins is_name ls ≡ Some ([], ls)
+name_begun : (ls : List Leaf) → OpensName ls → begins is_identifier ls ≡ Some ([], ls)
 unfolding begins
 name_begun ls h = rw h.is refl
 
@@ -92,19 +92,19 @@ again_ended : {X : Type 0} (d : ℕ) (r : Reader) (f : X → Out) → ((x : X) (
     (x : X) (rest : List Leaf) → Again d (ended r) (ended_outline f x) rest
 again_ended d r f h x rest = again_seq (again_end d kinds.Semicolon rest) (h x rest)
 
-again_listed : {X : Type 0} (d : ℕ) (k : Kind) (r : Reader) (f : X → Out) → Advances (begins is_name) (ended r) →
+again_listed : {X : Type 0} (d : ℕ) (k : Kind) (r : Reader) (f : X → Out) → Advances (begins is_identifier) (ended r) →
     ((x : X) (rest : List Leaf) → Again d r (f x) (leafs.Word kinds.Semicolon ∷ rest)) → ((x : X) (ls : List Leaf) → OpensName (tokens_of (f x) ++ ls)) →
-    (o : Option (Vec X Global)) (rest : List Leaf) → accept_at k rest ≡ None → begins is_name rest ≡ None → Again d (part_with k r) (if_there (λ v. part k f v.items) o) rest
+    (o : Option (Vec X Global)) (rest : List Leaf) → accept_at k rest ≡ None → begins is_identifier rest ≡ None → Again d (part_with k r) (if_there (λ v. part k f v.items) o) rest
 unfolding part_with
 again_listed d k r f adv h opens o rest none no_name =
-    again_option d k (many (begins is_name) (ended r)) (λ v. each (ended_outline f) v.items) o rest none (λ v.
-    again_each (begins is_name) (ended r) (λ x. []) (ended_outline f) (λ ls. Unit {0}) d adv
+    again_option d k (many (begins is_identifier) (ended r)) (λ v. each (ended_outline f) v.items) o rest none (λ v.
+    again_each (begins is_identifier) (ended r) (λ x. []) (ended_outline f) (λ ls. Unit {0}) d adv
     (λ x ls. name_begun _ (opens_name_front (f x) (word kinds.Semicolon) ls (opens x))) (λ x ls. tt) (λ x ls good. again_ended d r f h x ls) v.items rest tt no_name)
 
 -- ---- what can't go on with declarations
 
 pub record EndsDeclarations (rest : List Leaf) : Type 0 where
-  pub name : begins is_name rest ≡ None
+  pub name : begins is_identifier rest ≡ None
   pub constants : accept_at kinds.Const rest ≡ None
   pub types : accept_at kinds.Type rest ≡ None
   pub variables : accept_at kinds.Var rest ≡ None
@@ -122,7 +122,7 @@ end_ends : (rest : List Leaf) → EndsDeclarations (leafs.Word kinds.End ∷ res
 unfolding begins accept_at
 end_ends rest = record { name = refl; constants = refl; types = refl; variables = refl; procedures = refl }
 
-no_name_at : (k : Kind) (ls : List Leaf) → begins is_name (leafs.Word k ∷ ls) ≡ None
+no_name_at : (k : Kind) (ls : List Leaf) → begins is_identifier (leafs.Word k ∷ ls) ≡ None
 unfolding begins
 no_name_at k ls = refl
 
@@ -206,10 +206,10 @@ again_declarations d h x rest end =
     let types : Out = types_outline y.types ++ variables in
     let past : (Good : List Leaf → Type 0) → ((ls : List Leaf) → Good (leafs.Word kinds.Procedure ∷ ls)) → Good rest → Good (tokens_of procedures ++ rest) =
     λ Good. past_procedures Good y.procedures.items rest in
-    let no_name : begins is_name (tokens_of procedures ++ rest) ≡ None = past (λ ls. begins is_name ls ≡ None) (no_name_at kinds.Procedure) end.name in
-    let no_name_next : begins is_name (tokens_of variables ++ rest) ≡ None =
-    past_variables (λ ls. begins is_name ls ≡ None) y.variables procedures rest (no_name_at kinds.Var) no_name in
-    let no_name_last : begins is_name (tokens_of types ++ rest) ≡ None = past_types (λ ls. begins is_name ls ≡ None) y.types variables rest (no_name_at kinds.Type) no_name_next in
+    let no_name : begins is_identifier (tokens_of procedures ++ rest) ≡ None = past (λ ls. begins is_identifier ls ≡ None) (no_name_at kinds.Procedure) end.name in
+    let no_name_next : begins is_identifier (tokens_of variables ++ rest) ≡ None =
+    past_variables (λ ls. begins is_identifier ls ≡ None) y.variables procedures rest (no_name_at kinds.Var) no_name in
+    let no_name_last : begins is_identifier (tokens_of types ++ rest) ≡ None = past_types (λ ls. begins is_identifier ls ≡ None) y.types variables rest (no_name_at kinds.Type) no_name_next in
     let no_variables : accept_at kinds.Var (tokens_of procedures ++ rest) ≡ None =
     past (λ ls. accept_at kinds.Var ls ≡ None) (λ ls. not_accepted kinds.Var kinds.Procedure ls refl) end.variables in
     let no_types : accept_at kinds.Type (tokens_of variables ++ rest) ≡ None =

@@ -7,13 +7,13 @@ use Rattle.ob_tree.specs.declared.token.Leaf.TheVariants as leafs
 use Rattle.ob_tree.specs.Constructs.{Construct}
 use Rattle.ob_tree.specs.Marks.{Out, construct, word, used}
 use Rattle.ob_parse.specs.Front.{uncons, front, is_word}
-use Rattle.ob_parse.specs.Forms.{Refusal, Wrong, Deep, ◌>>=◌, Read, Reader, Front, Start, expect_at, accept_at, identifier_at, begins, unless, nothing, seq, prefixed, node, if_found, optional, so_often, many, several, limit_at}
+use Rattle.ob_parse.specs.Forms.{Refusal, Unexpected, TooDeep, ◌>>=◌, Read, Reader, Front, Start, expect_at, accept_at, identifier_at, begins, unless, nothing, seq, prefixed, node, if_found, optional, so_often, many, several, limit_at}
 use Rattle.ob_parse.specs.ReadExpressions.{mul_start, add_start, relation_start, sign_start, sign_at, selector_first, factor_first, expr_first, term_with, sum_with, expr_with, element_with, selector_from, selector_with, designator_with, factor_from, factor_with, expr_at, negated_at}
 use Rattle.ob_parse.specs.ReadModules.{name_then}
 
 -- the first is too deep somewhere, or both are the same
 abbrev pub Agree : Read → Read → Type 0
-Agree a b = ((x : Leaf × List Leaf) × (a ≡ Err (Deep x))) ⊎ (a ≡ b)
+Agree a b = ((x : Leaf × List Leaf) × (a ≡ Err (TooDeep x))) ⊎ (a ≡ b)
 
 abbrev pub Extends : Reader → Reader → Type 0
 Extends r s = (ls : List Leaf) → Agree (r ls) (s ls)
@@ -70,7 +70,7 @@ name_then_extends role r s p ls = named_agree role r s p (identifier_at ls)
 
 -- what is wrong where no token of these stands in front
 abbrev pub Needs : (Leaf → Bool) → Reader → Type 0
-Needs p r = (ls : List Leaf) → front p (uncons ls) ≡ false → r ls ≡ Err (Wrong (uncons ls))
+Needs p r = (ls : List Leaf) → front p (uncons ls) ≡ false → r ls ≡ Err (Unexpected (uncons ls))
 
 pub seq_needs : (p : Leaf → Bool) (r s : Reader) → Needs p r → Needs p (seq r s)
 seq_needs p r s h ls e = rw (h ls e) refl
@@ -85,7 +85,7 @@ expect_needs k (leafs.Name n ∷ rest) e = refl
 expect_needs k (leafs.Value v n ∷ rest) e = refl
 expect_needs k (leafs.Word j ∷ rest) e = rw e refl
 
-limit_agrees : (b : Bool) (x : Leaf × List Leaf) (read : Read) → (b ≡ false → read ≡ Err (Wrong (Some x))) → Agree (cond b (Err (Deep x)) (Err (Wrong (Some x)))) read
+limit_agrees : (b : Bool) (x : Leaf × List Leaf) (read : Read) → (b ≡ false → read ≡ Err (Unexpected (Some x))) → Agree (cond b (Err (TooDeep x)) (Err (Unexpected (Some x)))) read
 limit_agrees true x read h = inl (x, refl)
 limit_agrees false x read h = inr (sym (h refl))
 

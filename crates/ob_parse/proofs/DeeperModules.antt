@@ -7,7 +7,7 @@ use Rattle.ob_parse.specs.Front.{is_word}
 use Rattle.ob_parse.specs.Forms.{Reader, expect_at, accept_at, name_at, begins, nothing, seq, optional}
 use Rattle.ob_parse.specs.ReadNames.{identdef_at}
 use Rattle.ob_parse.specs.ReadTypes.{some_parameters_at}
-use Rattle.ob_parse.specs.ReadModules.{is_name, const_with, type_decl_with, variable_with, ended, part_with, procedures_with, declarations_with, body_with, procedure_named, procedure_with, procedure_at, declarations_at, imports_at, module_named, module_at}
+use Rattle.ob_parse.specs.ReadModules.{is_identifier, const_with, type_decl_with, variable_with, ended, part_with, procedures_with, declarations_with, body_with, procedure_named, procedure_with, procedure_at, declarations_at, imports_at, module_named, module_at}
 use Rattle.ob_parse.proofs.Deeper.{Extends, Needs, same, seq_extends, node_extends, optional_extends, many_extends, name_then_extends, limit_extends, seq_needs, node_needs, expect_needs, expr_at_extends}
 use Rattle.ob_parse.proofs.DeeperStatements.{block_at_extends}
 use Rattle.ob_parse.proofs.DeeperTypes.{var_extends, type_at_extends}
@@ -29,7 +29,7 @@ ended_extends r s p = seq_extends _ _ _ _ p (same (expect_at kinds.Semicolon))
 
 section_extends : (k : Kind) (r s : Reader) → Extends r s → Extends (part_with k r) (part_with k s)
 unfolding part_with
-section_extends k r s p = optional_extends (accept_at k) _ _ (many_extends (begins is_name) _ _ (ended_extends r s p))
+section_extends k r s p = optional_extends (accept_at k) _ _ (many_extends (begins is_identifier) _ _ (ended_extends r s p))
 
 procedures_extends : (r s : Reader) → Extends r s → Extends (procedures_with r) (procedures_with s)
 unfolding procedures_with

@@ -7,7 +7,7 @@ use Rattle.ob_tree.specs.declared.token.Leaf.TheVariants as leafs
 use Rattle.ob_tree.specs.Constructs as constructs
 use Rattle.ob_tree.specs.Marks.{construct, word, used}
 use Rattle.ob_parse.specs.Front.{uncons, front}
-use Rattle.ob_parse.specs.Forms.{Deep, Read, Reader, expect_at, accept_at, name_at, begins, several}
+use Rattle.ob_parse.specs.Forms.{TooDeep, Read, Reader, expect_at, accept_at, name_at, begins, several}
 use Rattle.ob_parse.specs.ReadStatements.{label_first, statement_first, label_range_at, case_with, block_with, branch_with, if_with, cases_with, while_with, repeat_with, for_with, assign_with, statement_from, statement_with, empty_at, statement_at, block_at}
 use Rattle.ob_parse.proofs.Deeper.{Agree, Extends, same, seq_extends, prefixed_extends, node_extends, optional_extends, many_extends, several_extends, designator_extends, expr_at_extends}
 
@@ -82,7 +82,7 @@ no_statement r b (leafs.Word kinds.Repeat ∷ rest) e = absurd cc
 no_statement r b (leafs.Word kinds.For ∷ rest) e = absurd cc
 no_statement r b (l ∷ rest) e = refl
 
-empty_agrees : (b : Bool) (x : Leaf × List Leaf) (empty read : Read) → (b ≡ false → read ≡ empty) → Agree (cond b (Err (Deep x)) empty) read
+empty_agrees : (b : Bool) (x : Leaf × List Leaf) (empty read : Read) → (b ≡ false → read ≡ empty) → Agree (cond b (Err (TooDeep x)) empty) read
 empty_agrees true x empty read h = inl (x, refl)
 empty_agrees false x empty read h = inr (sym (h refl))
 

@@ -24,12 +24,12 @@ use Rattle.ob_tree.specs.Expressions.{relation_kind, sign_kind, add_kind, mul_ki
 use Rattle.ob_tree.specs.Derives.{endings_in}
 use Rattle.ob_tree.proofs.EndNames.{endings-append, endings-construct}
 use Rattle.ob_parse.specs.Front.{uncons, front, is_word}
-use Rattle.ob_parse.specs.Forms.{Refusal, Wrong, deep_at, Read, ◌>>=◌, Reader, Front, Start, expect_at, accept_at, identifier_at, name_at, begins, unless, nothing, seq, prefixed, node, if_found, optional, so_often, many, several, limit_at}
+use Rattle.ob_parse.specs.Forms.{Refusal, Unexpected, deep_at, Read, ◌>>=◌, Reader, Front, Start, expect_at, accept_at, identifier_at, name_at, begins, unless, nothing, seq, prefixed, node, if_found, optional, so_often, many, several, limit_at}
 use Rattle.ob_parse.specs.ReadNames.{qualident_after, qualident_at, identdef_at}
 use Rattle.ob_parse.specs.ReadExpressions.{after_relation, after_sign, after_add, after_mul, relation_at, sign_at, add_at, mul_at, marked, mul_start, add_start, relation_start, sign_start, selector_first, term_with, sum_with, expr_with, element_with, selector_from, selector_with, designator_with, factor_from, factor_with, expr_at, negated_at}
 use Rattle.ob_parse.specs.ReadStatements.{label_first, statement_first, label_from, label_at, label_range_at, case_with, block_with, branch_with, if_with, cases_with, while_with, repeat_with, for_with, assign_with, statement_from, statement_with, empty_at, statement_at, block_at}
 use Rattle.ob_parse.specs.ReadTypes.{section_at, parameters_at, some_parameters_at, var_with, behind_semicolon, next_field, field_start, fields_with, record_with, type_from, type_with, type_at}
-use Rattle.ob_parse.specs.ReadModules.{is_name, const_with, type_decl_with, variable_with, ended, part_with, procedures_with, declarations_with, body_with, procedure_named, name_then, procedure_with, procedure_at, declarations_at, import_at, imports_at, module_named, module_at, nothing_left, all_of}
+use Rattle.ob_parse.specs.ReadModules.{is_identifier, const_with, type_decl_with, variable_with, ended, part_with, procedures_with, declarations_with, body_with, procedure_named, name_then, procedure_with, procedure_at, declarations_at, import_at, imports_at, module_named, module_at, nothing_left, all_of}
 use Rattle.ob_parse.proofs.Sound.{bind_ok, done, ok_is, some_is}
 
 -- a leaf that is an identifier has a number below this one
@@ -176,7 +176,7 @@ unfolding expect_at
 expect_knows bound k [] x l e = absurd cc
 expect_knows bound k (leafs.Name n ∷ rest) x l e = absurd cc
 expect_knows bound k (leafs.Value v n ∷ rest) x l e = absurd cc
-expect_knows bound k (leafs.Word j ∷ rest) x l e = expected_knows bound k (same_kind j k) rest x (tail_below bound (leafs.Word j) rest l) (Wrong (Some (leafs.Word j, rest))) e
+expect_knows bound k (leafs.Word j ∷ rest) x l e = expected_knows bound k (same_kind j k) rest x (tail_below bound (leafs.Word j) rest l) (Unexpected (Some (leafs.Word j, rest))) e
 
 accepted_knows : (bound : ℕ) (k : Kind) (b : Bool) (rest : List Leaf) (x : Out × List Leaf) → LeavesBelow bound rest → cond b (Some (word k, rest)) None ≡ Some x → Known bound x.0 x.1
 accepted_knows bound k true rest x l e = start_at_once bound rest (word k) x (word_below bound k) l e
@@ -249,7 +249,7 @@ knows_several : (bound : ℕ) (k : Kind) (item : Reader) → Knows bound item �
 unfolding several
 knows_several bound k item h = knows_seq bound item (many (accept_at k) item) h (knows_many bound (accept_at k) item (accept_knows bound k) h)
 
-limited_knows : (bound : ℕ) (b : Bool) (o : Option (Leaf × List Leaf)) (x : Out × List Leaf) → cond b (Err (deep_at o)) (Err (Wrong o)) ≡ Ok x → Known bound x.0 x.1
+limited_knows : (bound : ℕ) (b : Bool) (o : Option (Leaf × List Leaf)) (x : Out × List Leaf) → cond b (Err (deep_at o)) (Err (Unexpected o)) ≡ Ok x → Known bound x.0 x.1
 limited_knows bound true o x e = absurd cc
 limited_knows bound false o x e = absurd cc
 
@@ -604,7 +604,7 @@ ended_knows bound r h = knows_seq bound _ _ h (expect_knows bound kinds.Semicolo
 
 part_with_knows : (bound : ℕ) (k : Kind) (r : Reader) → Knows bound r → Knows bound (part_with k r)
 unfolding part_with
-part_with_knows bound k r h = knows_accepted bound k _ (knows_many bound _ _ (begins_knows bound is_name) (ended_knows bound r h))
+part_with_knows bound k r h = knows_accepted bound k _ (knows_many bound _ _ (begins_knows bound is_identifier) (ended_knows bound r h))
 
 procedures_knows : (bound : ℕ) (p : Reader) → Knows bound p → Knows bound (procedures_with p)
 unfolding procedures_with

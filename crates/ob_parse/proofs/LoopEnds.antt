@@ -13,5 +13,5 @@ use Rattle.ob_parse.proofs.Loops.{Advances, with_front, many_step}
 pub ends : (start : Start) (r : Reader) → Advances start r → (ts : List Token) (x : Stop) (front : Out) (ls : List Leaf) (s : Out × List Leaf) (total : Read) → start ls ≡ Some s → Fails ts x (r s.1)
     → with_front front (many start r ls) ≡ total → Fails ts x total
 ends start r adv ts stops.Memory front ls s total e f h = tt
-ends start r adv ts (stops.Wrong i) front ls s total e f h = sym h ∙ rw (many_step start r adv ls, e, f) refl
-ends start r adv ts (stops.Deep i) front ls s total e f h = sym h ∙ rw (many_step start r adv ls, e, f) refl
+ends start r adv ts (stops.Unexpected i) front ls s total e f h = sym h ∙ rw (many_step start r adv ls, e, f) refl
+ends start r adv ts (stops.TooDeep i) front ls s total e f h = sym h ∙ rw (many_step start r adv ls, e, f) refl

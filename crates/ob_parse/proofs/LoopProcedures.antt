@@ -4,7 +4,7 @@ use Rattle.ob_scan.specs.declared.kind.Kind.TheVariants as kinds
 use Rattle.ob_tree.specs.declared.token.Leaf.{Leaf}
 use Rattle.ob_tree.specs.Marks.{Out}
 use Rattle.ob_parse.specs.Front.{uncons, front, is_word}
-use Rattle.ob_parse.specs.Forms.{Wrong, deep_at, Reader, begins, limit_at}
+use Rattle.ob_parse.specs.Forms.{Unexpected, deep_at, Reader, begins, limit_at}
 use Rattle.ob_parse.specs.ReadModules.{ended, procedure_with, procedure_at}
 use Rattle.ob_parse.proofs.Sound.{Sound, expect_sound}
 use Rattle.ob_parse.proofs.SoundExpressions.{expr_at_sound}
@@ -13,7 +13,7 @@ use Rattle.ob_parse.proofs.SoundModules.{procedure_name_sound, declarations_at_s
 use Rattle.ob_parse.proofs.Loops.{Advances, Shortens, sound_no_longer, shortens_seq, shortens_node, shortens_expect, begins_advances}
 
 -- nothing is read at the limit
-limited_shortens : (b : Bool) (o : Option (Leaf × List Leaf)) (ls : List Leaf) (x : Out × List Leaf) → cond b (Err (deep_at o)) (Err (Wrong o)) ≡ Ok x → length x.1 < length ls
+limited_shortens : (b : Bool) (o : Option (Leaf × List Leaf)) (ls : List Leaf) (x : Out × List Leaf) → cond b (Err (deep_at o)) (Err (Unexpected o)) ≡ Ok x → length x.1 < length ls
 limited_shortens true o ls x e = absurd cc
 limited_shortens false o ls x e = absurd cc
 

@@ -10,11 +10,11 @@ use Rattle.ob_tree.specs.Constructs.{Construct}
 use Rattle.ob_tree.specs.Marks.{Out, tokens_of, construct, word, declared, each, each_after}
 use Rattle.ob_tree.specs.Expressions.{mul_kind, add_kind}
 use Rattle.ob_parse.specs.Front.{uncons, front}
-use Rattle.ob_parse.specs.Forms.{Wrong, ◌>>=◌, Read, Reader, Front, Start, expect_at, accept_at, identifier_at, name_at, begins, seq, prefixed, node, if_found, so_often, many, several}
+use Rattle.ob_parse.specs.Forms.{Unexpected, ◌>>=◌, Read, Reader, Front, Start, expect_at, accept_at, identifier_at, name_at, begins, seq, prefixed, node, if_found, so_often, many, several}
 use Rattle.ob_parse.specs.ReadNames.{identdef_at}
 use Rattle.ob_parse.specs.ReadExpressions.{mul_start, add_start, mul_at, add_at, marked, selector_first, selector_from, selector_with}
 use Rattle.ob_parse.specs.ReadTypes.{var_with, behind_semicolon, next_field, field_start}
-use Rattle.ob_parse.specs.ReadModules.{is_name, ended, const_with, type_decl_with, variable_with}
+use Rattle.ob_parse.specs.ReadModules.{is_identifier, ended, const_with, type_decl_with, variable_with}
 use Rattle.ob_parse.proofs.Sound.{Sound, Takes, bind_ok, ok_is, done, some_is, identifier_spelt, expect_sound, accept_sound, sound_nothing, sound_optional, sound_seq, sound_many, sound_several}
 use Rattle.ob_parse.proofs.SoundExpressions.{Spelt, mul_spelt, add_spelt, named_sound, identdef_sound, closed_sound}
 
@@ -150,7 +150,7 @@ shortens_name role ls x e =
     let a = bind_ok (identifier_at ls) (λ a. Ok (role a.0, a.1)) x e in
     omega (arith, ap length (identifier_spelt ls a.0 a.1), ap length (left_same (role a.0.0) a.0.1 x a.2))
 
-expected_shortens : (k : Kind) (b : Bool) (rest : List Leaf) (j : Kind) (x : Out × List Leaf) → cond b (done (word k, rest)) (Err (Wrong (Some (leafs.Word j, rest)))) ≡ Ok x → length x.1 < length (leafs.Word j ∷ rest)
+expected_shortens : (k : Kind) (b : Bool) (rest : List Leaf) (j : Kind) (x : Out × List Leaf) → cond b (done (word k, rest)) (Err (Unexpected (Some (leafs.Word j, rest)))) ≡ Ok x → length x.1 < length (leafs.Word j ∷ rest)
 expected_shortens k true rest j x e = omega (arith, ap length (left_same (word k) rest x e))
 expected_shortens k false rest j x e = absurd cc
 
@@ -256,15 +256,15 @@ const_shortens : (d : ℕ) (r : Reader) → Sound d r → Shortens (const_with r
 unfolding const_with
 const_shortens d r h = shortens_node _ _ (shortens_seq _ _ identdef_shortens (sound_no_longer d _ (sound_seq d _ _ (expect_sound d kinds.Equals) h)))
 
-pub const_advances : (d : ℕ) (r : Reader) → Sound d r → Advances (begins is_name) (ended (const_with r))
-const_advances d r h = begins_advances is_name _ (shortens_seq _ _ (const_shortens d r h) ended_no_longer)
+pub const_advances : (d : ℕ) (r : Reader) → Sound d r → Advances (begins is_identifier) (ended (const_with r))
+const_advances d r h = begins_advances is_identifier _ (shortens_seq _ _ (const_shortens d r h) ended_no_longer)
 
 type_decl_shortens : (d : ℕ) (r : Reader) → Sound d r → Shortens (type_decl_with r)
 unfolding type_decl_with
 type_decl_shortens d r h = shortens_node _ _ (shortens_seq _ _ identdef_shortens (sound_no_longer d _ (sound_seq d _ _ (expect_sound d kinds.Equals) h)))
 
-pub type_decl_advances : (d : ℕ) (r : Reader) → Sound d r → Advances (begins is_name) (ended (type_decl_with r))
-type_decl_advances d r h = begins_advances is_name _ (shortens_seq _ _ (type_decl_shortens d r h) ended_no_longer)
+pub type_decl_advances : (d : ℕ) (r : Reader) → Sound d r → Advances (begins is_identifier) (ended (type_decl_with r))
+type_decl_advances d r h = begins_advances is_identifier _ (shortens_seq _ _ (type_decl_shortens d r h) ended_no_longer)
 
 var_shortens : (d : ℕ) (r : Reader) → Sound d r → Shortens (var_with r)
 unfolding var_with
@@ -274,5 +274,5 @@ variable_shortens : (d : ℕ) (r : Reader) → Sound d r → Shortens (variable_
 unfolding variable_with
 variable_shortens d r h = shortens_node _ _ (var_shortens d r h)
 
-pub variable_advances : (d : ℕ) (r : Reader) → Sound d r → Advances (begins is_name) (ended (variable_with r))
-variable_advances d r h = begins_advances is_name _ (shortens_seq _ _ (variable_shortens d r h) ended_no_longer)
+pub variable_advances : (d : ℕ) (r : Reader) → Sound d r → Advances (begins is_identifier) (ended (variable_with r))
+variable_advances d r h = begins_advances is_identifier _ (shortens_seq _ _ (variable_shortens d r h) ended_no_longer)

@@ -14,7 +14,7 @@ use Rattle.ob_parse.specs.declared.fault.ParseFault.{ParseFault}
 use Rattle.ob_parse.specs.declared.fault.ParseFault.TheVariants as faults
 use Rattle.ob_parse.specs.Front.{uncons}
 use Rattle.ob_parse.specs.Parsed.{IsEndFault, IsFaultOf, IsFirstWrong, IsRightEnd, IsPlace, IsStart, IsWrongEnd, from_token, kinds_of, start_or}
-use Rattle.ob_parse.specs.Forms.{Refusal, Wrong, Deep}
+use Rattle.ob_parse.specs.Forms.{Refusal, Unexpected, TooDeep}
 use Rattle.std.specs.Prelude.{Result}
 use Rattle.ob_parse.proofs.OneTree.{leaves_length, not_wrong, some_is}
 use Rattle.ob_parse.proofs.Whole.{never_deep}
@@ -42,10 +42,10 @@ one_start ts m n end e =
       | inr past ↦ rw (slice_get_past ts m past, slice_get_past ts n (omega (arith, same, past))) refl
     ]
 
-wrong_is : (r : Result Out Refusal) (o p : Option (Leaf × List Leaf)) → r ≡ Err (Wrong o) → r ≡ Err (Wrong p) → o ≡ p
+wrong_is : (r : Result Out Refusal) (o p : Option (Leaf × List Leaf)) → r ≡ Err (Unexpected o) → r ≡ Err (Unexpected p) → o ≡ p
 wrong_is r o p e f = cc
 
-deep_is : (r : Result Out Refusal) (x y : Leaf × List Leaf) → r ≡ Err (Deep x) → r ≡ Err (Deep y) → x ≡ y
+deep_is : (r : Result Out Refusal) (x y : Leaf × List Leaf) → r ≡ Err (TooDeep x) → r ≡ Err (TooDeep y) → x ≡ y
 deep_is r x y e f = cc
 
 -- ---- the first wrong name after END

@@ -17,9 +17,9 @@ use Rattle.ob_tree.specs.Marks.{Out}
 use Rattle.ob_parse.specs.declared.fault.ParseFault.{ParseFault}
 use Rattle.ob_parse.specs.declared.fault.ParseFault.TheVariants as faults
 use Rattle.ob_parse.specs.Front.{uncons}
-use Rattle.ob_parse.specs.Forms.{Refusal, Wrong, Deep, deep_at}
+use Rattle.ob_parse.specs.Forms.{Refusal, Unexpected, TooDeep, deep_at}
 use Rattle.ob_parse.specs.Gives.{Fails, ahead}
-use Rattle.ob_parse.specs.declared.input.Input.{Input}
+use Rattle.ob_parse.specs.declared.cursor.Cursor.{Cursor}
 use Rattle.ob_parse.specs.declared.stop.Stop.{Stop}
 use Rattle.ob_parse.specs.declared.stop.Stop.TheVariants as stops
 use Rattle.ob_parse.specs.Ends.{IsKnown, IsPlaced, deep_told, told}
@@ -52,19 +52,19 @@ one_tree ts m e =
       only = λ other h. ok_same (module_outline other) (module_outline m) (all_of (200 + depth other) (leaves 0 (kinds_of ts))) (again (kinds_of ts) (200 + depth other) other h (omega arith)) (still_ok 200 (200 + depth other) (leaves 0 (kinds_of ts)) (module_outline m) (omega arith) e);
     }
 
-no_tree : (ts : List Token) (o : Option (Leaf × List Leaf)) → read_left ts ≡ Err (Wrong o) → (other : Module) → Derives (kinds_of ts) other → ⊥
-no_tree ts o e other h = never (all_of (200 + depth other) (leaves 0 (kinds_of ts))) (module_outline other) (Wrong o) (again (kinds_of ts) (200 + depth other) other h (omega arith)) (still_wrong 200 (200 + depth other) (leaves 0 (kinds_of ts)) o (omega arith) e)
+no_tree : (ts : List Token) (o : Option (Leaf × List Leaf)) → read_left ts ≡ Err (Unexpected o) → (other : Module) → Derives (kinds_of ts) other → ⊥
+no_tree ts o e other h = never (all_of (200 + depth other) (leaves 0 (kinds_of ts))) (module_outline other) (Unexpected o) (again (kinds_of ts) (200 + depth other) other h (omega arith)) (still_wrong 200 (200 + depth other) (leaves 0 (kinds_of ts)) o (omega arith) e)
 
-no_low_tree : (ts : List Token) (x : Leaf × List Leaf) → read_left ts ≡ Err (Deep x) → (other : Module) → Derives (kinds_of ts) other → 200 < depth other
+no_low_tree : (ts : List Token) (x : Leaf × List Leaf) → read_left ts ≡ Err (TooDeep x) → (other : Module) → Derives (kinds_of ts) other → 200 < depth other
 no_low_tree ts x e other h = elim (cases_lt 200 (depth other)) [
   | inl lt ↦ lt
-  | inr le ↦ absurd (never (read_left ts) (module_outline other) (Deep x) (again (kinds_of ts) 200 other h le) e)
+  | inr le ↦ absurd (never (read_left ts) (module_outline other) (TooDeep x) (again (kinds_of ts) 200 other h le) e)
 ]
 
 -- ---- where the parser stops
 
 -- what is ahead is what stands from the token of that number on
-ahead_is : (ts : List Token) (i : Input) → length ts < 2 ^ 32 → uncons (ahead ts i) ≡ from_token ts i.at
+ahead_is : (ts : List Token) (i : Cursor) → length ts < 2 ^ 32 → uncons (ahead ts i) ≡ from_token ts i.at
 unfolding ahead
 ahead_is ts i few = ap (λ (us : List Token). uncons (leaves i.at (kinds_of (drop i.at us)))) (take_all 4294967295 ts (omega (arith, few)))
 
@@ -74,26 +74,26 @@ nothing_from ts n h = ap (λ (us : List Token). uncons (leaves n (kinds_of us)))
 token_from : (ts : List Token) (n : ℕ) (t : Token) → n < length ts → get_or ts n t ≡ t → from_token ts n ≡ Some (leaf_of n t.kind, leaves (n + 1) (kinds_of (drop (n + 1) ts)))
 token_from ts n t h e = ap (λ (us : List Token). uncons (leaves n (kinds_of us))) (drop_more ts n t h ∙ ap (λ (u : Token). u ∷ drop (n + 1) ts) e)
 
-wrong_fault : (bytes : List ℕ) (ts : List Token) (n : ℕ) → read_left ts ≡ Err (Wrong (from_token ts n)) → IsFaultOf bytes ts (faults.Syntax (start_or (length bytes) (slice_get ts n)))
+wrong_fault : (bytes : List ℕ) (ts : List Token) (n : ℕ) → read_left ts ≡ Err (Unexpected (from_token ts n)) → IsFaultOf bytes ts (faults.Syntax (start_or (length bytes) (slice_get ts n)))
 wrong_fault bytes ts n e = (record { number = n; begins = refl; stops = e }, no_tree ts (from_token ts n) e)
 
 deep_fault : (bytes : List ℕ) (ts : List Token) (n : ℕ) → read_left ts ≡ Err (deep_at (from_token ts n)) → IsFaultOf bytes ts (deep_told (length bytes) (slice_get ts n))
 deep_fault bytes ts n e = elim (slice_get_cases ts n).1 [
   | inl (t, within, there, at) ↦
       let is_ahead = token_from ts n t within at in
-      let stops : read_left ts ≡ Err (Deep (leaf_of n t.kind, leaves (n + 1) (kinds_of (drop (n + 1) ts)))) = e ∙ ap (λ (o : Option (Leaf × List Leaf)). refused (deep_at o)) is_ahead in
+      let stops : read_left ts ≡ Err (TooDeep (leaf_of n t.kind, leaves (n + 1) (kinds_of (drop (n + 1) ts)))) = e ∙ ap (λ (o : Option (Leaf × List Leaf)). refused (deep_at o)) is_ahead in
       subst (λ (o : Option Token). IsFaultOf bytes ts (deep_told (length bytes) o)) (sym there)
       (record { number = n; token = t; there = there; begins = refl; ahead = (leaf_of n t.kind, leaves (n + 1) (kinds_of (drop (n + 1) ts))); is_ahead = is_ahead; stops = stops }, no_low_tree ts _ stops)
   | inr (past, none) ↦
-      let stops : read_left ts ≡ Err (Wrong (from_token ts n)) = e ∙ ap (λ (o : Option (Leaf × List Leaf)). refused (deep_at o)) (nothing_from ts n past) ∙ ap (λ (o : Option (Leaf × List Leaf)). refused (Wrong o)) (sym (nothing_from ts n past)) in
+      let stops : read_left ts ≡ Err (Unexpected (from_token ts n)) = e ∙ ap (λ (o : Option (Leaf × List Leaf)). refused (deep_at o)) (nothing_from ts n past) ∙ ap (λ (o : Option (Leaf × List Leaf)). refused (Unexpected o)) (sym (nothing_from ts n past)) in
       subst (λ (o : Option Token). IsFaultOf bytes ts (deep_told (length bytes) o)) (sym none)
       (subst (λ (o : Option Token). IsFaultOf bytes ts (faults.Syntax (start_or (length bytes) o))) none (wrong_fault bytes ts n stops))
 ]
 
 pub why_none : (bytes : List ℕ) (ts : List Token) (stop : Stop) → length ts < 2 ^ 32 → Fails {Y = Out} ts stop (read_left ts) → IsFaultOf bytes ts (told (length bytes) ts stop)
 why_none bytes ts stops.Memory few e = tt
-why_none bytes ts (stops.Wrong i) few e = wrong_fault bytes ts i.at (e ∙ ap (λ (o : Option (Leaf × List Leaf)). refused (Wrong o)) (ahead_is ts i few))
-why_none bytes ts (stops.Deep i) few e = deep_fault bytes ts i.at (e ∙ ap (λ (o : Option (Leaf × List Leaf)). refused (deep_at o)) (ahead_is ts i few))
+why_none bytes ts (stops.Unexpected i) few e = wrong_fault bytes ts i.at (e ∙ ap (λ (o : Option (Leaf × List Leaf)). refused (Unexpected o)) (ahead_is ts i few))
+why_none bytes ts (stops.TooDeep i) few e = deep_fault bytes ts i.at (e ∙ ap (λ (o : Option (Leaf × List Leaf)). refused (deep_at o)) (ahead_is ts i few))
 
 -- both numbers of each ending are those of tokens
 pub endings_are_known : (ts : List Token) (o : Out) → all_of 200 (leaves 0 (kinds_of ts)) ≡ Ok o → All (IsKnown ts) (endings_in o)

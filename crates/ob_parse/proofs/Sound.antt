@@ -12,7 +12,7 @@ use Rattle.ob_tree.specs.Constructs.{Construct, is_level}
 use Rattle.ob_tree.specs.Marks.{Role, Begins, Ends, Identifier, Value, Word, Out, tokens_of, height, construct, word}
 use Rattle.ob_tree.proofs.Same.{same_is}
 use Rattle.ob_parse.specs.Front.{uncons, front, is_word}
-use Rattle.ob_parse.specs.Forms.{Refusal, Wrong, deep_at, ◌>>=◌, Reader, Front, Start, expect_at, accept_at, identifier_at, name_at, begins, unless, nothing, seq, prefixed, node, if_found, optional, so_often, many, several, limit_at}
+use Rattle.ob_parse.specs.Forms.{Refusal, Unexpected, deep_at, ◌>>=◌, Reader, Front, Start, expect_at, accept_at, identifier_at, name_at, begins, unless, nothing, seq, prefixed, node, if_found, optional, so_often, many, several, limit_at}
 use Rattle.ob_parse.specs.ReadModules.{name_then}
 
 -- the tokens are those of the outline, and the rest; the outline has at most so many levels
@@ -206,7 +206,7 @@ sound_many d start r hs hr ls x e = sound_so_often d start r (length ls) hs hr l
 
 -- ---- tokens
 
-expected_sound : (d : ℕ) (k : Kind) (b : Bool) (rest : List Leaf) (j : Kind) (x : Out × List Leaf) → same_kind j k ≡ b → cond b (done (word k, rest)) (Err (Wrong (Some (leafs.Word j, rest)))) ≡ Ok x
+expected_sound : (d : ℕ) (k : Kind) (b : Bool) (rest : List Leaf) (j : Kind) (x : Out × List Leaf) → same_kind j k ≡ b → cond b (done (word k, rest)) (Err (Unexpected (Some (leafs.Word j, rest)))) ≡ Ok x
     → Takes d (leafs.Word j ∷ rest) x.0 x.1
 expected_sound d k true rest j x h e = sound_at_once d (leafs.Word j ∷ rest) rest (word k) x (record { parts = ap (λ (i : Kind). leafs.Word i ∷ rest) (same_is j k h); low = omega arith }) e
 expected_sound d k false rest j x h e = absurd cc
@@ -271,7 +271,7 @@ pub sound_several : (d : ℕ) (k : Kind) (item : Reader) → Sound d item → So
 unfolding several
 sound_several d k item h = sound_seq d item (many (accept_at k) item) h (sound_many d (accept_at k) item (accept_sound d k) h)
 
-limited_sound : (d : ℕ) (b : Bool) (o : Option (Leaf × List Leaf)) (ls : List Leaf) (x : Out × List Leaf) → cond b (Err (deep_at o)) (Err (Wrong o)) ≡ Ok x → Takes d ls x.0 x.1
+limited_sound : (d : ℕ) (b : Bool) (o : Option (Leaf × List Leaf)) (ls : List Leaf) (x : Out × List Leaf) → cond b (Err (deep_at o)) (Err (Unexpected o)) ≡ Ok x → Takes d ls x.0 x.1
 limited_sound d true o ls x e = absurd cc
 limited_sound d false o ls x e = absurd cc
 

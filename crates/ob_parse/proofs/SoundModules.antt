@@ -7,7 +7,7 @@ use Rattle.ob_tree.specs.declared.token.Leaf.{Leaf}
 use Rattle.ob_tree.specs.Marks.{Out, Repeats, Declares, Names, tokens_of, height, declared, repeated}
 use Rattle.ob_parse.specs.Front.{uncons, is_word}
 use Rattle.ob_parse.specs.Forms.{Reader, name_at}
-use Rattle.ob_parse.specs.ReadModules.{is_name, const_with, type_decl_with, variable_with, ended, part_with, procedures_with, declarations_with, body_with, procedure_named, procedure_with, procedure_at, declarations_at, import_at, imports_at, name_then, module_named, module_at, nothing_left, all_of}
+use Rattle.ob_parse.specs.ReadModules.{is_identifier, const_with, type_decl_with, variable_with, ended, part_with, procedures_with, declarations_with, body_with, procedure_named, procedure_with, procedure_at, declarations_at, import_at, imports_at, name_then, module_named, module_at, nothing_left, all_of}
 use Rattle.ob_parse.proofs.Sound.{Sound, Takes, bind_ok, role_takes, sound_nothing, sound_seq, sound_flat, sound_level, sound_optional, sound_many, sound_several, sound_name_then, expect_sound, accept_sound, name_sound, begins_sound, limit_sound}
 use Rattle.ob_parse.proofs.SoundExpressions.{named_sound, declared_sound, identdef_sound, expr_at_sound}
 use Rattle.ob_parse.proofs.SoundStatements.{block_at_sound}
@@ -30,7 +30,7 @@ ended_sound d r h = sound_seq d _ _ h (expect_sound d kinds.Semicolon)
 
 pub part_with_sound : (d : ℕ) (k : Kind) (r : Reader) → Sound d r → Sound d (part_with k r)
 unfolding part_with
-part_with_sound d k r h = sound_optional d _ _ (accept_sound d k) (sound_many d _ _ (begins_sound d is_name) (ended_sound d r h))
+part_with_sound d k r h = sound_optional d _ _ (accept_sound d k) (sound_many d _ _ (begins_sound d is_identifier) (ended_sound d r h))
 
 pub procedures_sound : (d : ℕ) (procedure : Reader) → Sound d procedure → Sound d (procedures_with procedure)
 unfolding procedures_with

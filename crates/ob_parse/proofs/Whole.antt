@@ -3,18 +3,18 @@ use Rattle.std.proofs.Common.{◌≡◌, ℕ, ◌≤◌, List, Option, Result, O
 use Rattle.ob_tree.specs.declared.token.Leaf.{Leaf}
 use Rattle.ob_tree.specs.Marks.{Out}
 use Rattle.ob_parse.specs.Front.{uncons}
-use Rattle.ob_parse.specs.Forms.{Refusal, Wrong, Deep, ◌>>=◌, Read}
+use Rattle.ob_parse.specs.Forms.{Refusal, Unexpected, TooDeep, ◌>>=◌, Read}
 use Rattle.ob_parse.specs.ReadModules.{nothing_left, all_of}
 use Rattle.ob_parse.proofs.DeeperModules.{module_at_extends}
 
-pub never_deep : (r : Result Out Refusal) (x : Leaf × List Leaf) (o : Option (Leaf × List Leaf)) → r ≡ Err (Deep x) → r ≡ Err (Wrong o) → ⊥
+pub never_deep : (r : Result Out Refusal) (x : Leaf × List Leaf) (o : Option (Leaf × List Leaf)) → r ≡ Err (TooDeep x) → r ≡ Err (Unexpected o) → ⊥
 never_deep r x o d w = cc
 
-never_too_deep : (r : Result Out Refusal) (x : Leaf × List Leaf) (o : Out) → r ≡ Err (Deep x) → r ≡ Ok o → ⊥
+never_too_deep : (r : Result Out Refusal) (x : Leaf × List Leaf) (o : Out) → r ≡ Err (TooDeep x) → r ≡ Ok o → ⊥
 never_too_deep r x o d e = cc
 
 -- what is wrong at one depth is wrong at each greater one
-pub still_wrong : (d k : ℕ) (ls : List Leaf) (o : Option (Leaf × List Leaf)) → d ≤ k → all_of d ls ≡ Err (Wrong o) → all_of k ls ≡ Err (Wrong o)
+pub still_wrong : (d k : ℕ) (ls : List Leaf) (o : Option (Leaf × List Leaf)) → d ≤ k → all_of d ls ≡ Err (Unexpected o) → all_of k ls ≡ Err (Unexpected o)
 unfolding all_of
 still_wrong d k ls o le e =
     elim (module_at_extends d k le ls) [

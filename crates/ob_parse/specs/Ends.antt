@@ -33,6 +33,6 @@ deep_told end (Some t) = faults.TooDeep t.start
 
 -- the fault that is told of a stop
 abbrev pub told : ℕ → List Token → Stop → ParseFault
-told end ts (stops.Wrong i) = faults.Syntax (start_or end (slice_get ts i.at))
-told end ts (stops.Deep i) = deep_told end (slice_get ts i.at)
+told end ts (stops.Unexpected i) = faults.Syntax (start_or end (slice_get ts i.at))
+told end ts (stops.TooDeep i) = deep_told end (slice_get ts i.at)
 told end ts stops.Memory = faults.Memory

@@ -11,13 +11,13 @@ use Rattle.ob_parse.specs.Front.{uncons, front, is_word}
 -- why nothing is read: what stands next is wrong, or it begins a construct that is too deep. It is a token with those after it,
 -- or nothing where a token has to stand
 pub data Refusal : Type 0 where
-  Wrong : Option (Leaf × List Leaf) → Refusal
-  Deep : Leaf × List Leaf → Refusal
+  Unexpected : Option (Leaf × List Leaf) → Refusal
+  TooDeep : Leaf × List Leaf → Refusal
 
 -- what would begin here is too deep
 abbrev pub deep_at : Option (Leaf × List Leaf) → Refusal
-deep_at None = Wrong None
-deep_at (Some x) = Deep x
+deep_at None = Unexpected None
+deep_at (Some x) = TooDeep x
 
 infixl 10 ◌>>=◌
 abbrev pub ◌>>=◌ : {A B : Type 0} → Result A Refusal → (A → Result B Refusal) → Result B Refusal
@@ -41,8 +41,8 @@ Start = List Leaf → Front Out
 
 -- a token that must stand here
 abbrev pub expected : Kind → Option (Leaf × List Leaf) → Read
-expected k (Some (leafs.Word j, rest)) = if same_kind j k then Ok (word k, rest) else Err (Wrong (Some (leafs.Word j, rest)))
-expected k o = Err (Wrong o)
+expected k (Some (leafs.Word j, rest)) = if same_kind j k then Ok (word k, rest) else Err (Unexpected (Some (leafs.Word j, rest)))
+expected k o = Err (Unexpected o)
 
 unfoldable pub expect_at : Kind → Reader
 expect_at k ls = expected k (uncons ls)
@@ -58,7 +58,7 @@ accept_at k ls = accepted k (uncons ls)
 -- an identifier's number
 abbrev pub identified : Option (Leaf × List Leaf) → Result (ℕ × List Leaf) Refusal
 identified (Some (leafs.Name n, rest)) = Ok (n, rest)
-identified o = Err (Wrong o)
+identified o = Err (Unexpected o)
 
 unfoldable pub identifier_at : List Leaf → Result (ℕ × List Leaf) Refusal
 identifier_at ls = identified (uncons ls)
@@ -126,7 +126,7 @@ several k item = seq item (many (accept_at k) item)
 
 -- what would be too deep: where a token of these stands it is so, and any other is wrong
 abbrev pub limited : Bool → Option (Leaf × List Leaf) → Read
-limited begun o = if begun then Err (deep_at o) else Err (Wrong o)
+limited begun o = if begun then Err (deep_at o) else Err (Unexpected o)
 
 abbrev pub limit : (Leaf → Bool) → Option (Leaf × List Leaf) → Read
 limit p o = limited (front p o) o

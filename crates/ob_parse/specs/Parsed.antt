@@ -10,7 +10,7 @@ use Rattle.ob_tree.specs.declared.token.Leaf.{Leaf}
 use Rattle.ob_tree.specs.Leaves.{leaves}
 use Rattle.ob_tree.specs.Marks.{Out}
 use Rattle.ob_parse.specs.Front.{uncons}
-use Rattle.ob_parse.specs.Forms.{Refusal, Wrong, Deep}
+use Rattle.ob_parse.specs.Forms.{Refusal, Unexpected, TooDeep}
 use Rattle.ob_parse.specs.ReadModules.{all_of}
 use Rattle.ob_parse.specs.declared.fault.ParseFault.{ParseFault}
 use Rattle.ob_parse.specs.declared.fault.ParseFault.TheVariants as faults
@@ -94,7 +94,7 @@ read_left ts = all_of 200 (leaves 0 (kinds_of ts))
 pub record IsWrongToken (bytes : List ℕ) (ts : List Token) (at : ℕ) : Type 0 where
   pub number : ℕ
   pub begins : start_or (length bytes) (slice_get ts number) ≡ at
-  pub stops : read_left ts ≡ Err (Wrong (from_token ts number))
+  pub stops : read_left ts ≡ Err (Unexpected (from_token ts number))
 
 -- reading comes to the token that begins at this offset, which begins a construct that has no level left
 pub record IsDeepToken (ts : List Token) (at : ℕ) : Type 0 where
@@ -104,7 +104,7 @@ pub record IsDeepToken (ts : List Token) (at : ℕ) : Type 0 where
   pub begins : token.start ≡ at
   pub ahead : Leaf × List Leaf
   pub is_ahead : from_token ts number ≡ Some ahead
-  pub stops : read_left ts ≡ Err (Deep ahead)
+  pub stops : read_left ts ≡ Err (TooDeep ahead)
 
 -- Syntax: no tree derives the tokens, and reading them comes to a wrong one; TooDeep: none of at most 200 levels derives them, and
 -- reading comes to a construct that has no level left; EndName: the first wrong name after END

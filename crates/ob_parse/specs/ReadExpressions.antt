@@ -16,7 +16,7 @@ use Rattle.ob_tree.specs.Constructs as constructs
 use Rattle.ob_tree.specs.Marks.{Out, Value, word, used, named}
 use Rattle.ob_tree.specs.Expressions.{relation_kind, sign_kind, add_kind, mul_kind}
 use Rattle.ob_parse.specs.Front.{uncons}
-use Rattle.ob_parse.specs.Forms.{Wrong, Read, Reader, Front, Start, expect_at, accept_at, name_at, begins, unless, seq, prefixed, node, optional, many, several, limit_at, nothing}
+use Rattle.ob_parse.specs.Forms.{Unexpected, Read, Reader, Front, Start, expect_at, accept_at, name_at, begins, unless, seq, prefixed, node, optional, many, several, limit_at, nothing}
 
 -- ---- operators
 
@@ -128,7 +128,7 @@ selector_from expr (Some (leafs.Word kinds.Dot, rest)) = prefixed (word kinds.Do
 selector_from expr (Some (leafs.Word kinds.LeftBracket, rest)) = prefixed (word kinds.LeftBracket) (seq (several kinds.Comma expr) (expect_at kinds.RightBracket)) rest
 selector_from expr (Some (leafs.Word kinds.Caret, rest)) = Ok (word kinds.Caret, rest)
 selector_from expr (Some (leafs.Word kinds.LeftParen, rest)) = prefixed (word kinds.LeftParen) (seq (optional (unless kinds.RightParen) (several kinds.Comma expr)) (expect_at kinds.RightParen)) rest
-selector_from expr o = Err (Wrong o)
+selector_from expr o = Err (Unexpected o)
 
 unfoldable pub selector_with : Reader → Reader
 selector_with expr = node constructs.Selector (λ ls. selector_from expr (uncons ls))
@@ -147,7 +147,7 @@ factor_from expr negated (Some (leafs.Word kinds.False, rest)) = Ok (word kinds.
 factor_from expr negated (Some (leafs.Word kinds.LeftBrace, rest)) = prefixed (word kinds.LeftBrace) (seq (optional (unless kinds.RightBrace) (several kinds.Comma (element_with expr))) (expect_at kinds.RightBrace)) rest
 factor_from expr negated (Some (leafs.Word kinds.LeftParen, rest)) = prefixed (word kinds.LeftParen) (seq expr (expect_at kinds.RightParen)) rest
 factor_from expr negated (Some (leafs.Word kinds.Tilde, rest)) = prefixed (word kinds.Tilde) negated rest
-factor_from expr negated o = Err (Wrong o)
+factor_from expr negated o = Err (Unexpected o)
 
 -- a factor, where expr and negated read what is one level deeper
 unfoldable pub factor_with : Reader → Reader → Reader

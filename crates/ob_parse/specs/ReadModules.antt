@@ -7,16 +7,16 @@ use Rattle.ob_tree.specs.declared.token.Leaf.TheVariants as leafs
 use Rattle.ob_tree.specs.Constructs as constructs
 use Rattle.ob_tree.specs.Marks.{Out, declared, named, repeated}
 use Rattle.ob_parse.specs.Front.{uncons, is_word}
-use Rattle.ob_parse.specs.Forms.{Refusal, Wrong, ◌>>=◌, Reader, expect_at, accept_at, name_at, identifier_at, begins, nothing, seq, prefixed, node, optional, many, several, limit_at}
+use Rattle.ob_parse.specs.Forms.{Refusal, Unexpected, ◌>>=◌, Reader, expect_at, accept_at, name_at, identifier_at, begins, nothing, seq, prefixed, node, optional, many, several, limit_at}
 use Rattle.ob_parse.specs.ReadNames.{identdef_at}
 use Rattle.ob_parse.specs.ReadExpressions.{expr_at}
 use Rattle.ob_parse.specs.ReadStatements.{block_at}
 use Rattle.ob_parse.specs.ReadTypes.{some_parameters_at, var_with, type_at}
 
-abbrev pub is_name : Leaf → Bool
-is_name (leafs.Name n) = true
-is_name (leafs.Value k n) = false
-is_name (leafs.Word k) = false
+abbrev pub is_identifier : Leaf → Bool
+is_identifier (leafs.Name n) = true
+is_identifier (leafs.Value k n) = false
+is_identifier (leafs.Word k) = false
 
 -- ConstDeclaration = identdef "=" expression
 unfoldable pub const_with : Reader → Reader
@@ -36,7 +36,7 @@ ended r = seq r (expect_at kinds.Semicolon)
 
 -- a keyword, and declarations that a semicolon ends
 unfoldable pub part_with : Kind → Reader → Reader
-part_with k r = optional (accept_at k) (many (begins is_name) (ended r))
+part_with k r = optional (accept_at k) (many (begins is_identifier) (ended r))
 
 -- {ProcedureDeclaration ";"}
 unfoldable pub procedures_with : Reader → Reader
@@ -94,7 +94,7 @@ module_at d = node constructs.Module (seq (expect_at kinds.Module) (name_then na
 -- the outline, where nothing is left
 abbrev pub nothing_left : Out → Option (Leaf × List Leaf) → Result Out Refusal
 nothing_left o None = Ok o
-nothing_left o (Some x) = Err (Wrong (Some x))
+nothing_left o (Some x) = Err (Unexpected (Some x))
 
 -- all of the tokens
 unfoldable pub all_of : ℕ → List Leaf → Result Out Refusal

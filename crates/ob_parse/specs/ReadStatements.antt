@@ -8,7 +8,7 @@ use Rattle.ob_tree.specs.declared.token.Leaf.TheVariants as leafs
 use Rattle.ob_tree.specs.Constructs as constructs
 use Rattle.ob_tree.specs.Marks.{Value, construct, word, used}
 use Rattle.ob_parse.specs.Front.{uncons, front}
-use Rattle.ob_parse.specs.Forms.{Wrong, deep_at, Read, Reader, expect_at, accept_at, name_at, begins, seq, prefixed, node, optional, many, several}
+use Rattle.ob_parse.specs.Forms.{Unexpected, deep_at, Read, Reader, expect_at, accept_at, name_at, begins, seq, prefixed, node, optional, many, several}
 use Rattle.ob_parse.specs.ReadNames.{qualident_after}
 use Rattle.ob_parse.specs.ReadExpressions.{designator_with, expr_at}
 
@@ -36,7 +36,7 @@ abbrev pub label_from : Option (Leaf × List Leaf) → Read
 label_from (Some (leafs.Name n, rest)) = qualident_after n rest
 label_from (Some (leafs.Value literals.Integer n, rest)) = Ok (Value literals.Integer n ∷ [], rest)
 label_from (Some (leafs.Value literals.Text n, rest)) = Ok (Value literals.Text n ∷ [], rest)
-label_from o = Err (Wrong o)
+label_from o = Err (Unexpected o)
 
 unfoldable pub label_at : Reader
 label_at ls = label_from (uncons ls)

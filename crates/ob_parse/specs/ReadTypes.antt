@@ -6,7 +6,7 @@ use Rattle.ob_tree.specs.declared.token.Leaf.TheVariants as leafs
 use Rattle.ob_tree.specs.Constructs as constructs
 use Rattle.ob_tree.specs.Marks.{Out, word, declared}
 use Rattle.ob_parse.specs.Front.{uncons, is_word}
-use Rattle.ob_parse.specs.Forms.{Wrong, Read, Reader, Front, Start, expect_at, accept_at, name_at, begins, unless, nothing, seq, prefixed, node, optional, many, several, limit_at}
+use Rattle.ob_parse.specs.Forms.{Unexpected, Read, Reader, Front, Start, expect_at, accept_at, name_at, begins, unless, nothing, seq, prefixed, node, optional, many, several, limit_at}
 use Rattle.ob_parse.specs.ReadNames.{qualident_after, qualident_at, identdef_at}
 use Rattle.ob_parse.specs.ReadExpressions.{expr_at}
 
@@ -61,7 +61,7 @@ type_from expr type (Some (leafs.Word kinds.Array, rest)) = prefixed (word kinds
 type_from expr type (Some (leafs.Word kinds.Record, rest)) = prefixed (word kinds.Record) (record_with type) rest
 type_from expr type (Some (leafs.Word kinds.Pointer, rest)) = prefixed (word kinds.Pointer) (seq (expect_at kinds.To) type) rest
 type_from expr type (Some (leafs.Word kinds.Procedure, rest)) = prefixed (word kinds.Procedure) some_parameters_at rest
-type_from expr type o = Err (Wrong o)
+type_from expr type o = Err (Unexpected o)
 
 unfoldable pub type_with : Reader → Reader → Reader
 type_with expr type = node constructs.TypeForm (λ ls. type_from expr type (uncons ls))

@@ -11,16 +11,16 @@ ghost use Rattle.ob_parse.specs.Forms.{optional, accept_at, expect_at, name_at, 
 ghost use Rattle.ob_parse.specs.ReadExpressions.{expr_at};
 ghost use Rattle.ob_parse.specs.ReadStatements.{block_at};
 ghost use Rattle.ob_parse.specs.ReadTypes.{type_at};
-ghost use Rattle.ob_parse.specs.ReadModules.{is_name, ended, const_with, type_decl_with, variable_with, part_with, procedures_with, body_with, procedure_with, procedure_at, declarations_at};
+ghost use Rattle.ob_parse.specs.ReadModules.{is_identifier, ended, const_with, type_decl_with, variable_with, part_with, procedures_with, body_with, procedure_with, procedure_at, declarations_at};
 ghost use Rattle.ob_parse.specs.Gives.{Gives, ahead};
 
+use crate::cursor::Cursor;
 use crate::expressions::{expression, expression_behind};
-use crate::input::Input;
 use crate::names::identdef;
 use crate::parameters::some_parameters;
 use crate::statements::block_behind;
 use crate::stop::{Stop, boxed, keep, keep_boxed, some};
-use crate::symbols::{accept, beyond, expect, identifier, is_at, skip};
+use crate::tokens::{accept, beyond, expect, identifier, is_at, skip};
 use crate::types::{type_form, var_declaration};
 use ob_scan::{Kind, Token};
 use ob_tree::declaration::{ConstDecl, Declarations, ProcDecl, TypeDecl, VarDecl};
@@ -31,8 +31,8 @@ use ob_tree::token::Leaf;
 use std::alloc::Global;
 
 /// Whether a name stands here.
-fn begins_declaration(tokens: &[Token], input: Input) -> bool
-    ensures { result ≡ front is_name (uncons (ahead tokens.now input)) }
+fn begins_declaration(tokens: &[Token], input: Cursor) -> bool
+    ensures { result ≡ front is_identifier (uncons (ahead tokens.now input)) }
 {
     matches!(input.next(tokens), Some((Leaf::Name(_), _)))
 }
@@ -42,9 +42,9 @@ fn begins_declaration(tokens: &[Token], input: Input) -> bool
 fn ended_constant(
     alloc: Global,
     tokens: &[Token],
-    input: Input,
+    input: Cursor,
     depth: u32,
-) -> Result<(ConstDecl, Input), Stop>
+) -> Result<(ConstDecl, Cursor), Stop>
     ensures { Gives tokens.now (λ x. (const_outline x.0 ++ word kinds.Semicolon, ahead tokens.now x.1)) result (ended (const_with (expr_at depth)) (ahead tokens.now input)) }
 {
     let (name, here) = identdef(tokens, input)?;
@@ -59,11 +59,11 @@ fn ended_constant(
 fn constants(
     alloc: Global,
     tokens: &[Token],
-    input: Input,
+    input: Cursor,
     depth: u32,
-) -> Result<(Vec<ConstDecl>, Input), Stop>
+) -> Result<(Vec<ConstDecl>, Cursor), Stop>
     ensures { Gives tokens.now (λ x. (each (λ d. const_outline d ++ word kinds.Semicolon) x.0.items, ahead tokens.now x.1)) result
-        (many (begins is_name) (ended (const_with (expr_at depth))) (ahead tokens.now input)) }
+        (many (begins is_identifier) (ended (const_with (expr_at depth))) (ahead tokens.now input)) }
 {
     let mut declared = Vec::new(alloc);
     let mut here = input;
@@ -78,9 +78,9 @@ fn constants(
 fn constant_section(
     alloc: Global,
     tokens: &[Token],
-    input: Input,
+    input: Cursor,
     depth: u32,
-) -> Result<(Option<Vec<ConstDecl>>, Input), Stop>
+) -> Result<(Option<Vec<ConstDecl>>, Cursor), Stop>
     ensures { Gives tokens.now (λ x. (if_there (λ v. part kinds.Const const_outline v.items) x.0, ahead tokens.now x.1)) result (part_with kinds.Const (const_with (expr_at depth)) (ahead tokens.now input)) }
 {
     match accept(tokens, input, Kind::Const) {
@@ -94,9 +94,9 @@ fn constant_section(
 fn ended_named_type(
     alloc: Global,
     tokens: &[Token],
-    input: Input,
+    input: Cursor,
     depth: u32,
-) -> Result<(TypeDecl, Input), Stop>
+) -> Result<(TypeDecl, Cursor), Stop>
     ensures { Gives tokens.now (λ x. (type_decl_outline x.0 ++ word kinds.Semicolon, ahead tokens.now x.1)) result (ended (type_decl_with (type_at depth)) (ahead tokens.now input)) }
 {
     let (name, here) = identdef(tokens, input)?;
@@ -111,11 +111,11 @@ fn ended_named_type(
 fn named_types(
     alloc: Global,
     tokens: &[Token],
-    input: Input,
+    input: Cursor,
     depth: u32,
-) -> Result<(Vec<TypeDecl>, Input), Stop>
+) -> Result<(Vec<TypeDecl>, Cursor), Stop>
     ensures { Gives tokens.now (λ x. (each (λ d. type_decl_outline d ++ word kinds.Semicolon) x.0.items, ahead tokens.now x.1)) result
-        (many (begins is_name) (ended (type_decl_with (type_at depth))) (ahead tokens.now input)) }
+        (many (begins is_identifier) (ended (type_decl_with (type_at depth))) (ahead tokens.now input)) }
 {
     let mut declared = Vec::new(alloc);
     let mut here = input;
@@ -130,9 +130,9 @@ fn named_types(
 fn named_type_section(
     alloc: Global,
     tokens: &[Token],
-    input: Input,
+    input: Cursor,
     depth: u32,
-) -> Result<(Option<Vec<TypeDecl>>, Input), Stop>
+) -> Result<(Option<Vec<TypeDecl>>, Cursor), Stop>
     ensures { Gives tokens.now (λ x. (if_there (λ v. part kinds.Type type_decl_outline v.items) x.0, ahead tokens.now x.1)) result (part_with kinds.Type (type_decl_with (type_at depth)) (ahead tokens.now input)) }
 {
     match accept(tokens, input, Kind::Type) {
@@ -146,9 +146,9 @@ fn named_type_section(
 fn ended_variable(
     alloc: Global,
     tokens: &[Token],
-    input: Input,
+    input: Cursor,
     depth: u32,
-) -> Result<(Box<VarDecl>, Input), Stop>
+) -> Result<(Box<VarDecl>, Cursor), Stop>
     ensures { Gives tokens.now (λ x. (variable_outline x.0.value ++ word kinds.Semicolon, ahead tokens.now x.1)) result (ended (variable_with (type_at depth)) (ahead tokens.now input)) }
 {
     let (declaration, here) = var_declaration(alloc, tokens, input, depth)?;
@@ -160,11 +160,11 @@ fn ended_variable(
 fn variables(
     alloc: Global,
     tokens: &[Token],
-    input: Input,
+    input: Cursor,
     depth: u32,
-) -> Result<(Vec<VarDecl>, Input), Stop>
+) -> Result<(Vec<VarDecl>, Cursor), Stop>
     ensures { Gives tokens.now (λ x. (each (λ d. variable_outline d ++ word kinds.Semicolon) x.0.items, ahead tokens.now x.1)) result
-        (many (begins is_name) (ended (variable_with (type_at depth))) (ahead tokens.now input)) }
+        (many (begins is_identifier) (ended (variable_with (type_at depth))) (ahead tokens.now input)) }
 {
     let mut declared = Vec::new(alloc);
     let mut here = input;
@@ -179,9 +179,9 @@ fn variables(
 fn variable_section(
     alloc: Global,
     tokens: &[Token],
-    input: Input,
+    input: Cursor,
     depth: u32,
-) -> Result<(Option<Vec<VarDecl>>, Input), Stop>
+) -> Result<(Option<Vec<VarDecl>>, Cursor), Stop>
     ensures { Gives tokens.now (λ x. (if_there (λ v. part kinds.Var variable_outline v.items) x.0, ahead tokens.now x.1)) result (part_with kinds.Var (variable_with (type_at depth)) (ahead tokens.now input)) }
 {
     match accept(tokens, input, Kind::Var) {
@@ -195,9 +195,9 @@ fn variable_section(
 fn procedures(
     alloc: Global,
     tokens: &[Token],
-    input: Input,
+    input: Cursor,
     depth: u32,
-) -> Result<(Vec<ProcDecl>, Input), Stop>
+) -> Result<(Vec<ProcDecl>, Cursor), Stop>
     ensures { Gives tokens.now (λ x. (each (λ p. procedure_outline p ++ word kinds.Semicolon) x.0.items, ahead tokens.now x.1)) result
         (many (begins (is_word kinds.Procedure)) (ended (procedure_at depth)) (ahead tokens.now input)) }
 {
@@ -214,9 +214,9 @@ fn procedures(
 fn ended_procedure(
     alloc: Global,
     tokens: &[Token],
-    input: Input,
+    input: Cursor,
     depth: u32,
-) -> Result<(Box<ProcDecl>, Input), Stop>
+) -> Result<(Box<ProcDecl>, Cursor), Stop>
     ensures { Gives tokens.now (λ x. (procedure_outline x.0.value ++ word kinds.Semicolon, ahead tokens.now x.1)) result (ended (procedure_at depth) (ahead tokens.now input)) }
 {
     let (declaration, here) = procedure(alloc, tokens, input, depth)?;
@@ -230,9 +230,9 @@ fn ended_procedure(
 fn procedure(
     alloc: Global,
     tokens: &[Token],
-    input: Input,
+    input: Cursor,
     depth: u32,
-) -> Result<(Box<ProcDecl>, Input), Stop>
+) -> Result<(Box<ProcDecl>, Cursor), Stop>
     ensures { Gives tokens.now (λ x. (procedure_outline x.0.value, ahead tokens.now x.1)) result (procedure_at depth (ahead tokens.now input)) }
 {
     if depth == 0 {
@@ -247,9 +247,9 @@ fn procedure(
 fn procedure_within(
     alloc: Global,
     tokens: &[Token],
-    input: Input,
+    input: Cursor,
     depth: u32,
-) -> Result<(Box<ProcDecl>, Input), Stop>
+) -> Result<(Box<ProcDecl>, Cursor), Stop>
     ensures { Gives tokens.now (λ x. (procedure_outline x.0.value, ahead tokens.now x.1)) result (procedure_with (expr_at depth) (block_at depth) (declarations_at depth) (ahead tokens.now input)) }
 {
     let here = expect(tokens, input, Kind::Procedure)?;
@@ -276,10 +276,10 @@ fn procedure_within(
 fn inside(
     alloc: Global,
     tokens: &[Token],
-    input: Input,
+    input: Cursor,
     depth: u32,
     name: u32,
-) -> Result<((Box<Declarations>, Ending), Input), Stop>
+) -> Result<((Box<Declarations>, Ending), Cursor), Stop>
     ensures { Gives tokens.now (λ x. (
       declarations_outline x.0.0.value ++ (if_there (λ b. word kinds.Begin ++ block_outline b.value) x.0.1.0 ++
           (if_there (λ e. word kinds.Return ++ expr_outline e.value) x.0.1.1 ++ (word kinds.End ++ repeated name x.0.1.2))),
@@ -301,10 +301,10 @@ type Ending = (Option<Box<Block>>, Option<Box<Expr>>, u32);
 fn ending(
     alloc: Global,
     tokens: &[Token],
-    input: Input,
+    input: Cursor,
     depth: u32,
     name: u32,
-) -> Result<(Ending, Input), Stop>
+) -> Result<(Ending, Cursor), Stop>
     ensures { Gives tokens.now (λ x. (
       if_there (λ b. word kinds.Begin ++ block_outline b.value) x.0.0 ++
           (if_there (λ e. word kinds.Return ++ expr_outline e.value) x.0.1 ++ (word kinds.End ++ repeated name x.0.2)),
@@ -326,9 +326,9 @@ fn ending(
 pub(crate) fn declarations(
     alloc: Global,
     tokens: &[Token],
-    input: Input,
+    input: Cursor,
     depth: u32,
-) -> Result<(Box<Declarations>, Input), Stop>
+) -> Result<(Box<Declarations>, Cursor), Stop>
     ensures { Gives tokens.now (λ x. (declarations_outline x.0.value, ahead tokens.now x.1)) result (declarations_at depth (ahead tokens.now input)) }
 {
     let (constants, here) = constant_section(alloc, tokens, input, depth)?;

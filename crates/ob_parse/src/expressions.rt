@@ -10,12 +10,12 @@ ghost use Rattle.ob_parse.specs.Forms.{many, several, optional, unless, begins, 
 ghost use Rattle.ob_parse.specs.Gives.{Gives, ahead};
 ghost use Rattle.ob_parse.specs.ReadExpressions.{relation_start, mul_start, add_start, selector_first, element_with, selector_with, designator_with, factor_at, negated_at, term_at, sum_at, expr_at};
 
-use crate::input::Input;
+use crate::cursor::Cursor;
 use crate::operators::{
     add_operator, begins_expression, begins_factor, begins_selector, mul_operator, relation, sign,
 };
 use crate::stop::{Stop, boxed, keep, keep_boxed, some};
-use crate::symbols::{accept, beyond, expect, identifier, is_at};
+use crate::tokens::{accept, beyond, expect, identifier, is_at};
 use ob_scan::{Kind, Token};
 use ob_tree::expression::{
     AddOperator, Designator, Element, ElementList, Expr, ExprList, Factor, MulOperator, Relation,
@@ -30,9 +30,9 @@ use std::alloc::Global;
 pub(crate) fn expression(
     alloc: Global,
     tokens: &[Token],
-    input: Input,
+    input: Cursor,
     depth: u32,
-) -> Result<(Box<Expr>, Input), Stop>
+) -> Result<(Box<Expr>, Cursor), Stop>
     ensures { Gives tokens.now (λ x. (expr_outline x.0.value, ahead tokens.now x.1)) result (expr_at depth (ahead tokens.now input)) }
 {
     if depth == 0 {
@@ -49,10 +49,10 @@ pub(crate) fn expression(
 pub(crate) fn expression_behind(
     alloc: Global,
     tokens: &[Token],
-    input: Input,
+    input: Cursor,
     depth: u32,
     word: Kind,
-) -> Result<(Option<Box<Expr>>, Input), Stop>
+) -> Result<(Option<Box<Expr>>, Cursor), Stop>
     ensures { Gives tokens.now (λ x. (if_there (λ e. marks.word word ++ expr_outline e.value) x.0, ahead tokens.now x.1)) result (optional (accept_at word) (expr_at depth) (ahead tokens.now input)) }
 {
     match accept(tokens, input, word) {
@@ -66,9 +66,9 @@ pub(crate) fn expression_behind(
 fn compared(
     alloc: Global,
     tokens: &[Token],
-    input: Input,
+    input: Cursor,
     depth: u32,
-) -> Result<(Option<(Relation, Box<Sum>)>, Input), Stop>
+) -> Result<(Option<(Relation, Box<Sum>)>, Cursor), Stop>
     ensures { Gives tokens.now (λ x. (if_there (λ c. word (relation_kind c.0) ++ sum_outline c.1.value) x.0, ahead tokens.now x.1)) result (optional relation_start (sum_at depth) (ahead tokens.now input)) }
 {
     match relation(tokens, input) {
@@ -86,9 +86,9 @@ fn compared(
 pub(crate) fn expression_list(
     alloc: Global,
     tokens: &[Token],
-    input: Input,
+    input: Cursor,
     depth: u32,
-) -> Result<(Box<ExprList>, Input), Stop>
+) -> Result<(Box<ExprList>, Cursor), Stop>
     ensures { Gives tokens.now (λ x. (expr_list_outline x.0.value, ahead tokens.now x.1)) result (several kinds.Comma (expr_at depth) (ahead tokens.now input)) }
 {
     let (first, here) = expression(alloc, tokens, input, depth)?;
@@ -104,9 +104,9 @@ pub(crate) fn expression_list(
 fn more_expressions(
     alloc: Global,
     tokens: &[Token],
-    input: Input,
+    input: Cursor,
     depth: u32,
-) -> Result<(Vec<Expr>, Input), Stop>
+) -> Result<(Vec<Expr>, Cursor), Stop>
     ensures { Gives tokens.now (λ x. (each_after kinds.Comma expr_outline x.0.items, ahead tokens.now x.1)) result (many (accept_at kinds.Comma) (expr_at depth) (ahead tokens.now input)) }
 {
     let mut rest = Vec::new(alloc);
@@ -120,7 +120,12 @@ fn more_expressions(
 /// A simple expression.
 #[cycle(expressions)]
 #[tactic(auto, using(ob_tree::proofs::ExpressionLayers::expressions_made), unfolding(crate::specs::ReadExpressions::sum_with))]
-fn sum(alloc: Global, tokens: &[Token], input: Input, depth: u32) -> Result<(Box<Sum>, Input), Stop>
+fn sum(
+    alloc: Global,
+    tokens: &[Token],
+    input: Cursor,
+    depth: u32,
+) -> Result<(Box<Sum>, Cursor), Stop>
     ensures { Gives tokens.now (λ x. (sum_outline x.0.value, ahead tokens.now x.1)) result (sum_at depth (ahead tokens.now input)) }
 {
     let (sign, here) = sign(tokens, input);
@@ -133,9 +138,9 @@ fn sum(alloc: Global, tokens: &[Token], input: Input, depth: u32) -> Result<(Box
 fn more_terms(
     alloc: Global,
     tokens: &[Token],
-    input: Input,
+    input: Cursor,
     depth: u32,
-) -> Result<(Vec<(AddOperator, Term)>, Input), Stop>
+) -> Result<(Vec<(AddOperator, Term)>, Cursor), Stop>
     ensures { Gives tokens.now (λ x. (each (λ p. word (add_kind p.0) ++ term_outline p.1) x.0.items, ahead tokens.now x.1)) result (many add_start (term_at depth) (ahead tokens.now input)) }
 {
     let mut rest = Vec::new(alloc);
@@ -150,7 +155,7 @@ fn more_terms(
 
 #[cycle(expressions)]
 #[tactic(auto, using(ob_tree::proofs::ExpressionLayers::expressions_made), unfolding(crate::specs::ReadExpressions::term_with))]
-fn term(alloc: Global, tokens: &[Token], input: Input, depth: u32) -> Result<(Term, Input), Stop>
+fn term(alloc: Global, tokens: &[Token], input: Cursor, depth: u32) -> Result<(Term, Cursor), Stop>
     ensures { Gives tokens.now (λ x. (term_outline x.0, ahead tokens.now x.1)) result (term_at depth (ahead tokens.now input)) }
 {
     let (first, here) = factor(alloc, tokens, input, depth)?;
@@ -162,9 +167,9 @@ fn term(alloc: Global, tokens: &[Token], input: Input, depth: u32) -> Result<(Te
 fn more_factors(
     alloc: Global,
     tokens: &[Token],
-    input: Input,
+    input: Cursor,
     depth: u32,
-) -> Result<(Vec<(MulOperator, Factor)>, Input), Stop>
+) -> Result<(Vec<(MulOperator, Factor)>, Cursor), Stop>
     ensures { Gives tokens.now (λ x. (each (λ p. word (mul_kind p.0) ++ factor_outline p.1) x.0.items, ahead tokens.now x.1)) result (many mul_start (factor_at depth) (ahead tokens.now input)) }
 {
     let mut rest = Vec::new(alloc);
@@ -182,9 +187,9 @@ fn more_factors(
 fn factor(
     alloc: Global,
     tokens: &[Token],
-    input: Input,
+    input: Cursor,
     depth: u32,
-) -> Result<(Factor, Input), Stop>
+) -> Result<(Factor, Cursor), Stop>
     ensures { Gives tokens.now (λ x. (factor_outline x.0, ahead tokens.now x.1)) result (factor_at depth (ahead tokens.now input)) }
 {
     match input.next(tokens) {
@@ -196,7 +201,7 @@ fn factor(
         Some((Leaf::Word(Kind::LeftBrace), rest)) => set(alloc, tokens, rest, depth),
         Some((Leaf::Word(Kind::LeftParen), rest)) => group(alloc, tokens, rest, depth),
         Some((Leaf::Word(Kind::Tilde), rest)) => negated(alloc, tokens, rest, depth),
-        _ => Err(Stop::Wrong(input)),
+        _ => Err(Stop::Unexpected(input)),
     }
 }
 
@@ -207,9 +212,9 @@ fn named(
     alloc: Global,
     tokens: &[Token],
     number: u32,
-    input: Input,
+    input: Cursor,
     depth: u32,
-) -> Result<(Factor, Input), Stop>
+) -> Result<(Factor, Cursor), Stop>
     ensures { Gives tokens.now (λ x. (factor_outline x.0, ahead tokens.now x.1)) result (node constructs.Factor (designator_with (expr_at depth) number) (ahead tokens.now input)) }
 {
     let (designator, rest) = designator(alloc, tokens, number, input, depth)?;
@@ -219,7 +224,7 @@ fn named(
 /// What stands behind the brace that opens a set.
 #[cycle(expressions)]
 #[tactic(auto, using(ob_tree::proofs::ExpressionLayers::expressions_made))]
-fn set(alloc: Global, tokens: &[Token], input: Input, depth: u32) -> Result<(Factor, Input), Stop>
+fn set(alloc: Global, tokens: &[Token], input: Cursor, depth: u32) -> Result<(Factor, Cursor), Stop>
     ensures { Gives tokens.now (λ x. (factor_outline x.0, ahead tokens.now x.1)) result
         (node constructs.Factor (prefixed (word kinds.LeftBrace) (seq (optional (unless kinds.RightBrace) (several kinds.Comma (element_with (expr_at depth)))) (expect_at kinds.RightBrace))) (ahead tokens.now input)) }
 {
@@ -231,7 +236,12 @@ fn set(alloc: Global, tokens: &[Token], input: Input, depth: u32) -> Result<(Fac
 /// What stands behind a parenthesis.
 #[cycle(expressions)]
 #[tactic(auto, using(ob_tree::proofs::ExpressionLayers::expressions_made))]
-fn group(alloc: Global, tokens: &[Token], input: Input, depth: u32) -> Result<(Factor, Input), Stop>
+fn group(
+    alloc: Global,
+    tokens: &[Token],
+    input: Cursor,
+    depth: u32,
+) -> Result<(Factor, Cursor), Stop>
     ensures { Gives tokens.now (λ x. (factor_outline x.0, ahead tokens.now x.1)) result
         (node constructs.Factor (prefixed (word kinds.LeftParen) (seq (expr_at depth) (expect_at kinds.RightParen))) (ahead tokens.now input)) }
 {
@@ -246,9 +256,9 @@ fn group(alloc: Global, tokens: &[Token], input: Input, depth: u32) -> Result<(F
 fn negated(
     alloc: Global,
     tokens: &[Token],
-    input: Input,
+    input: Cursor,
     depth: u32,
-) -> Result<(Factor, Input), Stop>
+) -> Result<(Factor, Cursor), Stop>
     ensures { Gives tokens.now (λ x. (factor_outline x.0, ahead tokens.now x.1)) result
         (node constructs.Factor (prefixed (word kinds.Tilde) (negated_at depth)) (ahead tokens.now input)) }
 {
@@ -266,9 +276,9 @@ fn negated(
 fn elements(
     alloc: Global,
     tokens: &[Token],
-    input: Input,
+    input: Cursor,
     depth: u32,
-) -> Result<(Option<Box<ElementList>>, Input), Stop>
+) -> Result<(Option<Box<ElementList>>, Cursor), Stop>
     ensures { Gives tokens.now (λ x. (if_there (λ l. element_list_outline l.value) x.0, ahead tokens.now x.1)) result (optional (unless kinds.RightBrace) (several kinds.Comma (element_with (expr_at depth))) (ahead tokens.now input)) }
 {
     if is_at(tokens, input, Kind::RightBrace) {
@@ -282,9 +292,9 @@ fn elements(
 fn element_list(
     alloc: Global,
     tokens: &[Token],
-    input: Input,
+    input: Cursor,
     depth: u32,
-) -> Result<(Box<ElementList>, Input), Stop>
+) -> Result<(Box<ElementList>, Cursor), Stop>
     ensures { Gives tokens.now (λ x. (element_list_outline x.0.value, ahead tokens.now x.1)) result (several kinds.Comma (element_with (expr_at depth)) (ahead tokens.now input)) }
 {
     let (first, here) = element(alloc, tokens, input, depth)?;
@@ -300,9 +310,9 @@ fn element_list(
 fn more_elements(
     alloc: Global,
     tokens: &[Token],
-    input: Input,
+    input: Cursor,
     depth: u32,
-) -> Result<(Vec<Element>, Input), Stop>
+) -> Result<(Vec<Element>, Cursor), Stop>
     ensures { Gives tokens.now (λ x. (each_after kinds.Comma element_outline x.0.items, ahead tokens.now x.1)) result (many (accept_at kinds.Comma) (element_with (expr_at depth)) (ahead tokens.now input)) }
 {
     let mut rest = Vec::new(alloc);
@@ -318,9 +328,9 @@ fn more_elements(
 fn element(
     alloc: Global,
     tokens: &[Token],
-    input: Input,
+    input: Cursor,
     depth: u32,
-) -> Result<(Box<Element>, Input), Stop>
+) -> Result<(Box<Element>, Cursor), Stop>
     ensures { Gives tokens.now (λ x. (element_outline x.0.value, ahead tokens.now x.1)) result (element_with (expr_at depth) (ahead tokens.now input)) }
 {
     let (low, here) = expression(alloc, tokens, input, depth)?;
@@ -337,9 +347,9 @@ fn element(
 fn high(
     alloc: Global,
     tokens: &[Token],
-    input: Input,
+    input: Cursor,
     depth: u32,
-) -> Result<(Option<Expr>, Input), Stop>
+) -> Result<(Option<Expr>, Cursor), Stop>
     ensures { Gives tokens.now (λ x. (if_there (λ e. word kinds.DotDot ++ expr_outline e) x.0, ahead tokens.now x.1)) result (optional (accept_at kinds.DotDot) (expr_at depth) (ahead tokens.now input)) }
 {
     match accept(tokens, input, Kind::DotDot) {
@@ -358,9 +368,9 @@ pub(crate) fn designator(
     alloc: Global,
     tokens: &[Token],
     head: u32,
-    input: Input,
+    input: Cursor,
     depth: u32,
-) -> Result<(Designator, Input), Stop>
+) -> Result<(Designator, Cursor), Stop>
     ensures { Gives tokens.now (λ x. (designator_outline x.0, ahead tokens.now x.1)) result (designator_with (expr_at depth) head (ahead tokens.now input)) }
 {
     let (selectors, here) = more_selectors(alloc, tokens, input, depth)?;
@@ -371,9 +381,9 @@ pub(crate) fn designator(
 fn more_selectors(
     alloc: Global,
     tokens: &[Token],
-    input: Input,
+    input: Cursor,
     depth: u32,
-) -> Result<(Vec<Selector>, Input), Stop>
+) -> Result<(Vec<Selector>, Cursor), Stop>
     ensures { Gives tokens.now (λ x. (each selector_outline x.0.items, ahead tokens.now x.1)) result (many (begins selector_first) (selector_with (expr_at depth)) (ahead tokens.now input)) }
 {
     let mut selectors = Vec::new(alloc);
@@ -389,9 +399,9 @@ fn more_selectors(
 fn selector(
     alloc: Global,
     tokens: &[Token],
-    input: Input,
+    input: Cursor,
     depth: u32,
-) -> Result<(Selector, Input), Stop>
+) -> Result<(Selector, Cursor), Stop>
     ensures { Gives tokens.now (λ x. (selector_outline x.0, ahead tokens.now x.1)) result (selector_with (expr_at depth) (ahead tokens.now input)) }
 {
     match input.next(tokens) {
@@ -399,13 +409,13 @@ fn selector(
         Some((Leaf::Word(Kind::LeftBracket), rest)) => index(alloc, tokens, rest, depth),
         Some((Leaf::Word(Kind::Caret), rest)) => Ok((Selector::Target, rest)),
         Some((Leaf::Word(Kind::LeftParen), rest)) => call(alloc, tokens, rest, depth),
-        _ => Err(Stop::Wrong(input)),
+        _ => Err(Stop::Unexpected(input)),
     }
 }
 
 /// The name behind a dot.
 #[tactic(auto, using(ob_tree::proofs::ExpressionLayers::expressions_made), unfolding(crate::specs::Forms::name_at))]
-fn field(tokens: &[Token], input: Input) -> Result<(Selector, Input), Stop>
+fn field(tokens: &[Token], input: Cursor) -> Result<(Selector, Cursor), Stop>
     ensures { Gives tokens.now (λ x. (selector_outline x.0, ahead tokens.now x.1)) result (node constructs.Selector (prefixed (word kinds.Dot) (name_at marks.named)) (ahead tokens.now input)) }
 {
     let (field, rest) = identifier(tokens, input)?;
@@ -418,9 +428,9 @@ fn field(tokens: &[Token], input: Input) -> Result<(Selector, Input), Stop>
 fn index(
     alloc: Global,
     tokens: &[Token],
-    input: Input,
+    input: Cursor,
     depth: u32,
-) -> Result<(Selector, Input), Stop>
+) -> Result<(Selector, Cursor), Stop>
     ensures { Gives tokens.now (λ x. (selector_outline x.0, ahead tokens.now x.1)) result
         (node constructs.Selector (prefixed (word kinds.LeftBracket) (seq (several kinds.Comma (expr_at depth)) (expect_at kinds.RightBracket))) (ahead tokens.now input)) }
 {
@@ -435,9 +445,9 @@ fn index(
 fn call(
     alloc: Global,
     tokens: &[Token],
-    input: Input,
+    input: Cursor,
     depth: u32,
-) -> Result<(Selector, Input), Stop>
+) -> Result<(Selector, Cursor), Stop>
     ensures { Gives tokens.now (λ x. (selector_outline x.0, ahead tokens.now x.1)) result
         (node constructs.Selector (prefixed (word kinds.LeftParen) (seq (optional (unless kinds.RightParen) (several kinds.Comma (expr_at depth))) (expect_at kinds.RightParen))) (ahead tokens.now input)) }
 {
@@ -452,9 +462,9 @@ fn call(
 fn arguments(
     alloc: Global,
     tokens: &[Token],
-    input: Input,
+    input: Cursor,
     depth: u32,
-) -> Result<(Option<Box<ExprList>>, Input), Stop>
+) -> Result<(Option<Box<ExprList>>, Cursor), Stop>
     ensures { Gives tokens.now (λ x. (if_there (λ l. expr_list_outline l.value) x.0, ahead tokens.now x.1)) result (optional (unless kinds.RightParen) (several kinds.Comma (expr_at depth)) (ahead tokens.now input)) }
 {
     if is_at(tokens, input, Kind::RightParen) {

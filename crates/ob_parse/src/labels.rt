@@ -9,10 +9,10 @@ ghost use Rattle.ob_scan.specs.declared.kind.Kind.TheVariants as kinds;
 ghost use Rattle.ob_tree.specs.Marks.{each_after, listed};
 ghost use Rattle.ob_tree.specs.Statements.{label_outline, label_range_outline};
 
-use crate::input::Input;
+use crate::cursor::Cursor;
 use crate::names::qualident_after;
 use crate::stop::{Stop, keep};
-use crate::symbols::accept;
+use crate::tokens::accept;
 use ob_scan::{Kind, Token};
 use ob_tree::expression::Literal;
 use ob_tree::name::OneOrMore;
@@ -21,7 +21,7 @@ use ob_tree::token::Leaf;
 use std::alloc::Global;
 
 /// Whether a label begins here.
-pub(crate) fn begins_label(tokens: &[Token], input: Input) -> bool
+pub(crate) fn begins_label(tokens: &[Token], input: Cursor) -> bool
     ensures { result ≡ front label_first (uncons (ahead tokens.now input)) }
 {
     match input.next(tokens) {
@@ -34,7 +34,7 @@ pub(crate) fn begins_label(tokens: &[Token], input: Input) -> bool
 
 /// A label.
 #[tactic(auto, using(crate::proofs::StatementSteps::made), unfolding(crate::specs::ReadStatements::label_at))]
-fn label(tokens: &[Token], input: Input) -> Result<(Label, Input), Stop>
+fn label(tokens: &[Token], input: Cursor) -> Result<(Label, Cursor), Stop>
     ensures { Gives tokens.now (λ x. (label_outline x.0, ahead tokens.now x.1)) result (label_at (ahead tokens.now input)) }
 {
     match input.next(tokens) {
@@ -44,13 +44,13 @@ fn label(tokens: &[Token], input: Input) -> Result<(Label, Input), Stop>
         }
         Some((Leaf::Value(Literal::Integer, number), rest)) => Ok((Label::Integer(number), rest)),
         Some((Leaf::Value(Literal::Text, number), rest)) => Ok((Label::Text(number), rest)),
-        _ => Err(Stop::Wrong(input)),
+        _ => Err(Stop::Unexpected(input)),
     }
 }
 
 /// A label, or two with two dots between them.
 #[tactic(auto, using(crate::proofs::StatementSteps::made), unfolding(crate::specs::ReadStatements::label_range_at))]
-fn label_range(tokens: &[Token], input: Input) -> Result<(LabelRange, Input), Stop>
+fn label_range(tokens: &[Token], input: Cursor) -> Result<(LabelRange, Cursor), Stop>
     ensures { Gives tokens.now (λ x. (label_range_outline x.0, ahead tokens.now x.1)) result (label_range_at (ahead tokens.now input)) }
 {
     let (low, input) = label(tokens, input)?;
@@ -74,8 +74,8 @@ fn label_range(tokens: &[Token], input: Input) -> Result<(LabelRange, Input), St
 pub(crate) fn label_ranges(
     alloc: Global,
     tokens: &[Token],
-    input: Input,
-) -> Result<(OneOrMore<LabelRange>, Input), Stop>
+    input: Cursor,
+) -> Result<(OneOrMore<LabelRange>, Cursor), Stop>
     ensures { Gives tokens.now (λ x. (listed kinds.Comma label_range_outline x.0, ahead tokens.now x.1)) result (several kinds.Comma label_range_at (ahead tokens.now input)) }
 {
     let (first, here) = label_range(tokens, input)?;
@@ -86,8 +86,8 @@ pub(crate) fn label_ranges(
 fn more_label_ranges(
     alloc: Global,
     tokens: &[Token],
-    input: Input,
-) -> Result<(Vec<LabelRange>, Input), Stop>
+    input: Cursor,
+) -> Result<(Vec<LabelRange>, Cursor), Stop>
     ensures { Gives tokens.now (λ x. (each_after kinds.Comma label_range_outline x.0.items, ahead tokens.now x.1)) result (many (accept_at kinds.Comma) label_range_at (ahead tokens.now input)) }
 {
     let mut rest = Vec::new(alloc);

@@ -3,11 +3,11 @@
 //! Its contract: the one tree that derives the tokens, of at most 200 levels and with right END names, or why there is none.
 #![tactic(auto)]
 
+mod cursor;
 mod declarations;
 mod ends;
 mod expressions;
 mod fault;
-mod input;
 mod labels;
 pub mod laws;
 mod modules;
@@ -17,7 +17,7 @@ mod parameters;
 mod parser;
 mod statements;
 mod stop;
-mod symbols;
+mod tokens;
 mod types;
 
 pub use fault::ParseFault;

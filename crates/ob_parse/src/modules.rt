@@ -10,11 +10,11 @@ ghost use Rattle.ob_parse.specs.ReadStatements.{block_at};
 ghost use Rattle.ob_parse.specs.ReadModules.{import_at, imports_at, declarations_at, body_with, module_at, all_of};
 ghost use Rattle.ob_parse.specs.Gives.{Gives, ahead};
 
+use crate::cursor::Cursor;
 use crate::declarations::declarations;
-use crate::input::Input;
 use crate::statements::block_behind;
 use crate::stop::{Stop, boxed, keep};
-use crate::symbols::{accept, expect, identifier};
+use crate::tokens::{accept, expect, identifier};
 use ob_scan::{Kind, Token};
 use ob_tree::declaration::{Declarations, ImportItem, Module};
 use ob_tree::name::OneOrMore;
@@ -23,7 +23,7 @@ use std::alloc::Global;
 
 /// The name of a module that is imported under another, behind `:=`.
 #[tactic(auto, unfolding(crate::specs::Forms::name_at))]
-fn renamed(tokens: &[Token], input: Input) -> Result<(Option<u32>, Input), Stop>
+fn renamed(tokens: &[Token], input: Cursor) -> Result<(Option<u32>, Cursor), Stop>
     ensures { Gives tokens.now (λ x. (if_there (λ m. word kinds.Assign ++ named m) x.0, ahead tokens.now x.1)) result (optional (accept_at kinds.Assign) (name_at named) (ahead tokens.now input)) }
 {
     match accept(tokens, input, Kind::Assign) {
@@ -37,7 +37,7 @@ fn renamed(tokens: &[Token], input: Input) -> Result<(Option<u32>, Input), Stop>
 
 /// An imported module.
 #[tactic(auto, using(ob_tree::proofs::DeclarationLayers::declaring_made), unfolding(crate::specs::ReadModules::import_at, crate::specs::Forms::name_at))]
-fn import(tokens: &[Token], input: Input) -> Result<(ImportItem, Input), Stop>
+fn import(tokens: &[Token], input: Cursor) -> Result<(ImportItem, Cursor), Stop>
     ensures { Gives tokens.now (λ x. (import_outline x.0, ahead tokens.now x.1)) result (import_at (ahead tokens.now input)) }
 {
     let (name, here) = identifier(tokens, input)?;
@@ -49,8 +49,8 @@ fn import(tokens: &[Token], input: Input) -> Result<(ImportItem, Input), Stop>
 fn more_imports(
     alloc: Global,
     tokens: &[Token],
-    input: Input,
-) -> Result<(Vec<ImportItem>, Input), Stop>
+    input: Cursor,
+) -> Result<(Vec<ImportItem>, Cursor), Stop>
     ensures { Gives tokens.now (λ x. (each_after kinds.Comma import_outline x.0.items, ahead tokens.now x.1)) result (many (accept_at kinds.Comma) import_at (ahead tokens.now input)) }
 {
     let mut rest = Vec::new(alloc);
@@ -66,8 +66,8 @@ fn more_imports(
 fn import_list(
     alloc: Global,
     tokens: &[Token],
-    input: Input,
-) -> Result<(OneOrMore<ImportItem>, Input), Stop>
+    input: Cursor,
+) -> Result<(OneOrMore<ImportItem>, Cursor), Stop>
     ensures { Gives tokens.now (λ x. (listed kinds.Comma import_outline x.0, ahead tokens.now x.1)) result (several kinds.Comma import_at (ahead tokens.now input)) }
 {
     let (first, here) = import(tokens, input)?;
@@ -80,8 +80,8 @@ fn import_list(
 fn imports(
     alloc: Global,
     tokens: &[Token],
-    input: Input,
-) -> Result<(Option<OneOrMore<ImportItem>>, Input), Stop>
+    input: Cursor,
+) -> Result<(Option<OneOrMore<ImportItem>>, Cursor), Stop>
     ensures { Gives tokens.now (λ x. (if_there (λ l. word kinds.Import ++ (listed kinds.Comma import_outline l ++ word kinds.Semicolon)) x.0, ahead tokens.now x.1)) result (imports_at (ahead tokens.now input)) }
 {
     match accept(tokens, input, Kind::Import) {
@@ -109,9 +109,9 @@ fn unboxed(body: Option<Box<Block>>) -> Option<Block>
 pub(crate) fn module(
     alloc: Global,
     tokens: &[Token],
-    input: Input,
+    input: Cursor,
     depth: u32,
-) -> Result<(Box<Module>, Input), Stop>
+) -> Result<(Box<Module>, Cursor), Stop>
     ensures { Gives tokens.now (λ x. (module_outline x.0.value, ahead tokens.now x.1)) result (module_at depth (ahead tokens.now input)) }
 {
     let here = expect(tokens, input, Kind::Module)?;
@@ -134,10 +134,10 @@ pub(crate) fn module(
 fn inside(
     alloc: Global,
     tokens: &[Token],
-    input: Input,
+    input: Cursor,
     depth: u32,
     name: u32,
-) -> Result<((Box<Declarations>, Option<Box<Block>>, u32), Input), Stop>
+) -> Result<((Box<Declarations>, Option<Box<Block>>, u32), Cursor), Stop>
     ensures { Gives tokens.now (λ x. (
       declarations_outline x.0.0.value ++ (if_there (λ b. word kinds.Begin ++ block_outline b.value) x.0.1 ++
           (word kinds.End ++ (repeated name x.0.2 ++ word kinds.Dot))),
@@ -154,7 +154,7 @@ fn inside(
 
 /// What stands behind the statements of the module of this name.
 #[tactic(auto, unfolding(crate::specs::Forms::name_at))]
-fn ending(tokens: &[Token], input: Input, name: u32) -> Result<(u32, Input), Stop>
+fn ending(tokens: &[Token], input: Cursor, name: u32) -> Result<(u32, Cursor), Stop>
     ensures { Gives tokens.now (λ x. (word kinds.End ++ (repeated name x.0 ++ word kinds.Dot), ahead tokens.now x.1)) result
         (seq (expect_at kinds.End) (seq (name_at (repeated name)) (expect_at kinds.Dot)) (ahead tokens.now input)) }
 {
@@ -169,7 +169,7 @@ fn ending(tokens: &[Token], input: Input, name: u32) -> Result<(u32, Input), Sto
 pub(crate) fn whole(
     alloc: Global,
     tokens: &[Token],
-    input: Input,
+    input: Cursor,
     depth: u32,
 ) -> Result<Box<Module>, Stop>
     ensures { Gives tokens.now (λ m. module_outline m.value) result (all_of depth (ahead tokens.now input)) }
@@ -177,6 +177,6 @@ pub(crate) fn whole(
     let (module, here) = module(alloc, tokens, input, depth)?;
     match here.next(tokens) {
         None => Ok(module),
-        Some(_) => Err(Stop::Wrong(here)),
+        Some(_) => Err(Stop::Unexpected(here)),
     }
 }

@@ -4,9 +4,9 @@ ghost use Rattle.ob_tree.specs.Names.{qualident_outline, identdef_outline};
 ghost use Rattle.ob_parse.specs.Gives.{Gives, ahead};
 ghost use Rattle.ob_parse.specs.ReadNames as readers;
 
-use crate::input::Input;
+use crate::cursor::Cursor;
 use crate::stop::Stop;
-use crate::symbols::{accept, identifier, skip};
+use crate::tokens::{accept, identifier, skip};
 use ob_scan::{Kind, Token};
 use ob_tree::name::{Identdef, Qualident};
 
@@ -15,8 +15,8 @@ use ob_tree::name::{Identdef, Qualident};
 pub(crate) fn qualident_after(
     tokens: &[Token],
     head: u32,
-    input: Input,
-) -> Result<(Qualident, Input), Stop>
+    input: Cursor,
+) -> Result<(Qualident, Cursor), Stop>
     ensures { Gives tokens.now (λ x. (qualident_outline x.0, ahead tokens.now x.1)) result (readers.qualident_after head (ahead tokens.now input)) }
 {
     match accept(tokens, input, Kind::Dot) {
@@ -36,7 +36,7 @@ pub(crate) fn qualident_after(
 
 /// A qualified identifier.
 #[tactic(auto, unfolding(crate::specs::ReadNames::qualident_after, crate::specs::ReadNames::qualident_at, crate::specs::Forms::name_at))]
-pub(crate) fn qualident(tokens: &[Token], input: Input) -> Result<(Qualident, Input), Stop>
+pub(crate) fn qualident(tokens: &[Token], input: Cursor) -> Result<(Qualident, Cursor), Stop>
     ensures { Gives tokens.now (λ x. (qualident_outline x.0, ahead tokens.now x.1)) result (readers.qualident_at (ahead tokens.now input)) }
 {
     let (head, rest) = identifier(tokens, input)?;
@@ -45,7 +45,7 @@ pub(crate) fn qualident(tokens: &[Token], input: Input) -> Result<(Qualident, In
 
 /// A declaring identifier.
 #[tactic(auto, unfolding(ob_tree::specs::Names::identdef_outline, crate::specs::ReadNames::identdef_at, crate::specs::Forms::name_at))]
-pub(crate) fn identdef(tokens: &[Token], input: Input) -> Result<(Identdef, Input), Stop>
+pub(crate) fn identdef(tokens: &[Token], input: Cursor) -> Result<(Identdef, Cursor), Stop>
     ensures { Gives tokens.now (λ x. (identdef_outline x.0, ahead tokens.now x.1)) result (readers.identdef_at (ahead tokens.now input)) }
 {
     let (name, rest) = identifier(tokens, input)?;

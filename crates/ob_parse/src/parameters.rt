@@ -10,10 +10,10 @@ ghost use Rattle.ob_parse.specs.ReadNames.{qualident_at};
 ghost use Rattle.ob_parse.specs.ReadTypes.{section_at, parameters_at, some_parameters_at};
 ghost use Rattle.ob_parse.specs.Gives.{Gives, ahead};
 
-use crate::input::Input;
+use crate::cursor::Cursor;
 use crate::names::qualident;
 use crate::stop::{Stop, keep, some};
-use crate::symbols::{accept, expect, identifier, is_at, skip};
+use crate::tokens::{accept, expect, identifier, is_at, skip};
 use ob_scan::{Kind, Token};
 use ob_tree::declaration::{ParameterSection, Parameters};
 use ob_tree::name::{OneOrMore, Qualident};
@@ -21,14 +21,14 @@ use std::alloc::Global;
 
 /// The name of a parameter.
 #[tactic(auto, unfolding(crate::specs::Forms::name_at))]
-fn name(tokens: &[Token], input: Input) -> Result<(u32, Input), Stop>
+fn name(tokens: &[Token], input: Cursor) -> Result<(u32, Cursor), Stop>
     ensures { Gives tokens.now (λ x. (declared x.0, ahead tokens.now x.1)) result (name_at declared (ahead tokens.now input)) }
 {
     identifier(tokens, input)
 }
 
 /// The names of parameters behind the first: each after a comma.
-fn more_names(alloc: Global, tokens: &[Token], input: Input) -> Result<(Vec<u32>, Input), Stop>
+fn more_names(alloc: Global, tokens: &[Token], input: Cursor) -> Result<(Vec<u32>, Cursor), Stop>
     ensures { Gives tokens.now (λ x. (each_after kinds.Comma declared x.0.items, ahead tokens.now x.1)) result (many (accept_at kinds.Comma) (name_at declared) (ahead tokens.now input)) }
 {
     let mut rest = Vec::new(alloc);
@@ -41,7 +41,7 @@ fn more_names(alloc: Global, tokens: &[Token], input: Input) -> Result<(Vec<u32>
 
 /// The names of parameters.
 #[tactic(auto, unfolding(crate::specs::Forms::several))]
-fn names(alloc: Global, tokens: &[Token], input: Input) -> Result<(OneOrMore<u32>, Input), Stop>
+fn names(alloc: Global, tokens: &[Token], input: Cursor) -> Result<(OneOrMore<u32>, Cursor), Stop>
     ensures { Gives tokens.now (λ x. (listed kinds.Comma declared x.0, ahead tokens.now x.1)) result (several kinds.Comma (name_at declared) (ahead tokens.now input)) }
 {
     let (first, here) = name(tokens, input)?;
@@ -50,7 +50,7 @@ fn names(alloc: Global, tokens: &[Token], input: Input) -> Result<(OneOrMore<u32
 }
 
 /// How often ARRAY OF stands here.
-fn open_arrays(tokens: &[Token], input: Input) -> Result<(u32, Input), Stop>
+fn open_arrays(tokens: &[Token], input: Cursor) -> Result<(u32, Cursor), Stop>
     ensures { Gives tokens.now (λ x. (times x.0 (word kinds.Array ++ word kinds.Of), ahead tokens.now x.1)) result (many (accept_at kinds.Array) (expect_at kinds.Of) (ahead tokens.now input)) }
 {
     let mut count = 0;
@@ -64,7 +64,11 @@ fn open_arrays(tokens: &[Token], input: Input) -> Result<(u32, Input), Stop>
 
 /// Parameters of one formal type.
 #[tactic(auto, using(ob_tree::proofs::TypeLayers::types_made), unfolding(crate::specs::ReadTypes::section_at))]
-fn section(alloc: Global, tokens: &[Token], input: Input) -> Result<(ParameterSection, Input), Stop>
+fn section(
+    alloc: Global,
+    tokens: &[Token],
+    input: Cursor,
+) -> Result<(ParameterSection, Cursor), Stop>
     ensures { Gives tokens.now (λ x. (section_outline x.0, ahead tokens.now x.1)) result (section_at (ahead tokens.now input)) }
 {
     let (variable, here) = skip(tokens, input, Kind::Var);
@@ -87,8 +91,8 @@ fn section(alloc: Global, tokens: &[Token], input: Input) -> Result<(ParameterSe
 fn more_sections(
     alloc: Global,
     tokens: &[Token],
-    input: Input,
-) -> Result<(Vec<ParameterSection>, Input), Stop>
+    input: Cursor,
+) -> Result<(Vec<ParameterSection>, Cursor), Stop>
     ensures { Gives tokens.now (λ x. (each_after kinds.Semicolon section_outline x.0.items, ahead tokens.now x.1)) result (many (accept_at kinds.Semicolon) section_at (ahead tokens.now input)) }
 {
     let mut rest = Vec::new(alloc);
@@ -104,8 +108,8 @@ fn more_sections(
 fn sections(
     alloc: Global,
     tokens: &[Token],
-    input: Input,
-) -> Result<(Option<OneOrMore<ParameterSection>>, Input), Stop>
+    input: Cursor,
+) -> Result<(Option<OneOrMore<ParameterSection>>, Cursor), Stop>
     ensures { Gives tokens.now (λ x. (if_there (listed kinds.Semicolon section_outline) x.0, ahead tokens.now x.1)) result (optional (unless kinds.RightParen) (several kinds.Semicolon section_at) (ahead tokens.now input)) }
 {
     if is_at(tokens, input, Kind::RightParen) {
@@ -117,7 +121,7 @@ fn sections(
 }
 
 /// The type of a result.
-fn result_type(tokens: &[Token], input: Input) -> Result<(Option<Qualident>, Input), Stop>
+fn result_type(tokens: &[Token], input: Cursor) -> Result<(Option<Qualident>, Cursor), Stop>
     ensures { Gives tokens.now (λ x. (if_there (λ q. word kinds.Colon ++ qualident_outline q) x.0, ahead tokens.now x.1)) result (optional (accept_at kinds.Colon) qualident_at (ahead tokens.now input)) }
 {
     match accept(tokens, input, Kind::Colon) {
@@ -128,7 +132,7 @@ fn result_type(tokens: &[Token], input: Input) -> Result<(Option<Qualident>, Inp
 
 /// Formal parameters.
 #[tactic(auto, using(ob_tree::proofs::TypeLayers::types_made), unfolding(crate::specs::ReadTypes::parameters_at))]
-fn parameters(alloc: Global, tokens: &[Token], input: Input) -> Result<(Parameters, Input), Stop>
+fn parameters(alloc: Global, tokens: &[Token], input: Cursor) -> Result<(Parameters, Cursor), Stop>
     ensures { Gives tokens.now (λ x. (parameters_outline x.0, ahead tokens.now x.1)) result (parameters_at (ahead tokens.now input)) }
 {
     let here = expect(tokens, input, Kind::LeftParen)?;
@@ -143,8 +147,8 @@ fn parameters(alloc: Global, tokens: &[Token], input: Input) -> Result<(Paramete
 pub(crate) fn some_parameters(
     alloc: Global,
     tokens: &[Token],
-    input: Input,
-) -> Result<(Option<Parameters>, Input), Stop>
+    input: Cursor,
+) -> Result<(Option<Parameters>, Cursor), Stop>
     ensures { Gives tokens.now (λ x. (if_there parameters_outline x.0, ahead tokens.now x.1)) result (some_parameters_at (ahead tokens.now input)) }
 {
     if is_at(tokens, input, Kind::LeftParen) {

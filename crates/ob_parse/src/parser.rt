@@ -12,8 +12,8 @@ ghost use Rattle.ob_parse.specs.Parsed.{IsTheTree, IsFaultOf, kinds_of, start_or
 ghost use Rattle.ob_parse.specs.ReadModules.{all_of};
 
 use crate::ParseFault;
+use crate::cursor::Cursor;
 use crate::ends::wrong_end;
-use crate::input::Input;
 use crate::modules::whole;
 use crate::stop::Stop;
 use ob_scan::{Token, Tokens};
@@ -29,7 +29,7 @@ fn tree_of(alloc: Global, tokens: &[Token]) -> Result<Box<Module>, Stop>
     requires { length tokens.now < 2 ^ 32 }
     ensures { Gives tokens.now (λ m. module_outline m.value) result (all_of 200 (leaves 0 (kinds_of tokens.now))) }
 {
-    whole(alloc, tokens, Input::ALL, DEEPEST)
+    whole(alloc, tokens, Cursor::ALL, DEEPEST)
 }
 
 /// The offset of the token of this number, or the text's length where there is none.
@@ -46,10 +46,10 @@ fn fault_of(end: u32, tokens: &[Token], stop: Stop) -> ParseFault
     ensures { result ≡ told end tokens.now stop }
 {
     match stop {
-        Stop::Wrong(input) => ParseFault::Syntax {
+        Stop::Unexpected(input) => ParseFault::Syntax {
             offset: offset_of(end, tokens, input.number()),
         },
-        Stop::Deep(input) => match tokens.get(input.number() as usize) {
+        Stop::TooDeep(input) => match tokens.get(input.number() as usize) {
             None => ParseFault::Syntax { offset: end },
             Some(token) => ParseFault::TooDeep {
                 offset: token.start,

@@ -13,11 +13,11 @@ ghost use Rattle.ob_tree.specs.Marks as marks;
 ghost use Rattle.ob_tree.specs.Marks.{each_after, if_there, word};
 ghost use Rattle.ob_tree.specs.Statements.{block_outline, branch_outline, case_outline, stmt_outline};
 
+use crate::cursor::Cursor;
 use crate::expressions::{designator, expression, expression_behind};
-use crate::input::Input;
 use crate::labels::{begins_label, label_ranges};
 use crate::stop::{Stop, boxed, keep_boxed, some};
-use crate::symbols::{accept, expect, identifier};
+use crate::tokens::{accept, expect, identifier};
 use ob_scan::{Kind, Token};
 use ob_tree::expression::Expr;
 use ob_tree::statement::{Block, Branch, Case, For, Stmt};
@@ -25,7 +25,7 @@ use ob_tree::token::Leaf;
 use std::alloc::Global;
 
 /// Whether a statement that isn't empty begins here.
-fn begins_statement(tokens: &[Token], input: Input) -> bool
+fn begins_statement(tokens: &[Token], input: Cursor) -> bool
     ensures { result ≡ front statement_first (uncons (ahead tokens.now input)) }
 {
     match input.next(tokens) {
@@ -44,12 +44,12 @@ fn begins_statement(tokens: &[Token], input: Input) -> bool
 fn empty_statement(
     alloc: Global,
     tokens: &[Token],
-    input: Input,
-) -> Result<(Box<Stmt>, Input), Stop>
+    input: Cursor,
+) -> Result<(Box<Stmt>, Cursor), Stop>
     ensures { Gives tokens.now (λ x. (stmt_outline x.0.value, ahead tokens.now x.1)) result (statement_at 0 (ahead tokens.now input)) }
 {
     if begins_statement(tokens, input) {
-        return Err(Stop::Deep(input));
+        return Err(Stop::TooDeep(input));
     }
     boxed(alloc, Stmt::Empty, input)
 }
@@ -60,9 +60,9 @@ fn empty_statement(
 fn statement(
     alloc: Global,
     tokens: &[Token],
-    input: Input,
+    input: Cursor,
     depth: u32,
-) -> Result<(Box<Stmt>, Input), Stop>
+) -> Result<(Box<Stmt>, Cursor), Stop>
     ensures { Gives tokens.now (λ x. (stmt_outline x.0.value, ahead tokens.now x.1)) result (statement_at depth (ahead tokens.now input)) }
 {
     if depth == 0 {
@@ -78,9 +78,9 @@ fn statement(
 fn statement_within(
     alloc: Global,
     tokens: &[Token],
-    input: Input,
+    input: Cursor,
     depth: u32,
-) -> Result<(Stmt, Input), Stop>
+) -> Result<(Stmt, Cursor), Stop>
     ensures { Gives tokens.now (λ x. (stmt_outline x.0, ahead tokens.now x.1)) result (statement_with (expr_at depth) (block_at depth) (ahead tokens.now input)) }
 {
     match input.next(tokens) {
@@ -100,9 +100,9 @@ fn assignment(
     alloc: Global,
     tokens: &[Token],
     head: u32,
-    input: Input,
+    input: Cursor,
     depth: u32,
-) -> Result<(Stmt, Input), Stop>
+) -> Result<(Stmt, Cursor), Stop>
     ensures { Gives tokens.now (λ x. (stmt_outline x.0, ahead tokens.now x.1)) result (node constructs.Statement (assign_with (expr_at depth) head) (ahead tokens.now input)) }
 {
     let (target, input) = designator(alloc, tokens, head, input, depth)?;
@@ -121,9 +121,9 @@ fn assignment(
 pub(crate) fn block(
     alloc: Global,
     tokens: &[Token],
-    input: Input,
+    input: Cursor,
     depth: u32,
-) -> Result<(Box<Block>, Input), Stop>
+) -> Result<(Box<Block>, Cursor), Stop>
     ensures { Gives tokens.now (λ x. (block_outline x.0.value, ahead tokens.now x.1)) result (block_at depth (ahead tokens.now input)) }
 {
     let (first, here) = statement(alloc, tokens, input, depth)?;
@@ -139,9 +139,9 @@ pub(crate) fn block(
 fn more_statements(
     alloc: Global,
     tokens: &[Token],
-    input: Input,
+    input: Cursor,
     depth: u32,
-) -> Result<(Vec<Stmt>, Input), Stop>
+) -> Result<(Vec<Stmt>, Cursor), Stop>
     ensures { Gives tokens.now (λ x. (each_after kinds.Semicolon stmt_outline x.0.items, ahead tokens.now x.1)) result (many (accept_at kinds.Semicolon) (statement_at depth) (ahead tokens.now input)) }
 {
     let mut rest = Vec::new(alloc);
@@ -158,10 +158,10 @@ fn more_statements(
 fn branch(
     alloc: Global,
     tokens: &[Token],
-    input: Input,
+    input: Cursor,
     depth: u32,
     keyword: Kind,
-) -> Result<(Box<Branch>, Input), Stop>
+) -> Result<(Box<Branch>, Cursor), Stop>
     ensures { Gives tokens.now (λ x. (branch_outline x.0.value keyword, ahead tokens.now x.1)) result (branch_with (expr_at depth) (block_at depth) keyword (ahead tokens.now input)) }
 {
     let (condition, input) = expression(alloc, tokens, input, depth)?;
@@ -178,10 +178,10 @@ fn branch(
 fn more_branches(
     alloc: Global,
     tokens: &[Token],
-    input: Input,
+    input: Cursor,
     depth: u32,
     keyword: Kind,
-) -> Result<(Vec<Branch>, Input), Stop>
+) -> Result<(Vec<Branch>, Cursor), Stop>
     ensures { Gives tokens.now (λ x. (each_after kinds.Elsif (λ b. branch_outline b keyword) x.0.items, ahead tokens.now x.1)) result
         (many (accept_at kinds.Elsif) (branch_with (expr_at depth) (block_at depth) keyword) (ahead tokens.now input)) }
 {
@@ -198,10 +198,10 @@ fn more_branches(
 pub(crate) fn block_behind(
     alloc: Global,
     tokens: &[Token],
-    input: Input,
+    input: Cursor,
     depth: u32,
     word: Kind,
-) -> Result<(Option<Box<Block>>, Input), Stop>
+) -> Result<(Option<Box<Block>>, Cursor), Stop>
     ensures { Gives tokens.now (λ x. (if_there (λ b. marks.word word ++ block_outline b.value) x.0, ahead tokens.now x.1)) result (optional (accept_at word) (block_at depth) (ahead tokens.now input)) }
 {
     match accept(tokens, input, word) {
@@ -216,9 +216,9 @@ pub(crate) fn block_behind(
 fn if_statement(
     alloc: Global,
     tokens: &[Token],
-    input: Input,
+    input: Cursor,
     depth: u32,
-) -> Result<(Stmt, Input), Stop>
+) -> Result<(Stmt, Cursor), Stop>
     ensures { Gives tokens.now (λ x. (stmt_outline x.0, ahead tokens.now x.1)) result (node constructs.Statement (prefixed (word kinds.If) (if_with (expr_at depth) (block_at depth))) (ahead tokens.now input)) }
 {
     let (first, input) = branch(alloc, tokens, input, depth, Kind::Then)?;
@@ -234,9 +234,9 @@ fn if_statement(
 fn case_statement(
     alloc: Global,
     tokens: &[Token],
-    input: Input,
+    input: Cursor,
     depth: u32,
-) -> Result<(Stmt, Input), Stop>
+) -> Result<(Stmt, Cursor), Stop>
     ensures { Gives tokens.now (λ x. (stmt_outline x.0, ahead tokens.now x.1)) result (node constructs.Statement (prefixed (word kinds.Case) (cases_with (expr_at depth) (block_at depth))) (ahead tokens.now input)) }
 {
     let (value, input) = expression(alloc, tokens, input, depth)?;
@@ -250,9 +250,9 @@ fn case_statement(
 fn cases(
     alloc: Global,
     tokens: &[Token],
-    input: Input,
+    input: Cursor,
     depth: u32,
-) -> Result<((Box<Case>, Vec<Case>), Input), Stop>
+) -> Result<((Box<Case>, Vec<Case>), Cursor), Stop>
     ensures { Gives tokens.now (λ x. (case_outline x.0.0.value ++ (each_after kinds.Bar case_outline x.0.1.items ++ word kinds.End), ahead tokens.now x.1)) result
         (seq (case_with (block_at depth)) (seq (many (accept_at kinds.Bar) (case_with (block_at depth))) (expect_at kinds.End)) (ahead tokens.now input)) }
 {
@@ -268,9 +268,9 @@ fn cases(
 fn case(
     alloc: Global,
     tokens: &[Token],
-    input: Input,
+    input: Cursor,
     depth: u32,
-) -> Result<(Box<Case>, Input), Stop>
+) -> Result<(Box<Case>, Cursor), Stop>
     ensures { Gives tokens.now (λ x. (case_outline x.0.value, ahead tokens.now x.1)) result (case_with (block_at depth) (ahead tokens.now input)) }
 {
     if !begins_label(tokens, input) {
@@ -286,9 +286,9 @@ fn case(
 fn more_cases(
     alloc: Global,
     tokens: &[Token],
-    input: Input,
+    input: Cursor,
     depth: u32,
-) -> Result<(Vec<Case>, Input), Stop>
+) -> Result<(Vec<Case>, Cursor), Stop>
     ensures { Gives tokens.now (λ x. (each_after kinds.Bar case_outline x.0.items, ahead tokens.now x.1)) result (many (accept_at kinds.Bar) (case_with (block_at depth)) (ahead tokens.now input)) }
 {
     let mut rest = Vec::new(alloc);
@@ -305,9 +305,9 @@ fn more_cases(
 fn while_statement(
     alloc: Global,
     tokens: &[Token],
-    input: Input,
+    input: Cursor,
     depth: u32,
-) -> Result<(Stmt, Input), Stop>
+) -> Result<(Stmt, Cursor), Stop>
     ensures { Gives tokens.now (λ x. (stmt_outline x.0, ahead tokens.now x.1)) result (node constructs.Statement (prefixed (word kinds.While) (while_with (expr_at depth) (block_at depth))) (ahead tokens.now input)) }
 {
     let (first, input) = branch(alloc, tokens, input, depth, Kind::Do)?;
@@ -322,9 +322,9 @@ fn while_statement(
 fn repeat_statement(
     alloc: Global,
     tokens: &[Token],
-    input: Input,
+    input: Cursor,
     depth: u32,
-) -> Result<(Stmt, Input), Stop>
+) -> Result<(Stmt, Cursor), Stop>
     ensures { Gives tokens.now (λ x. (stmt_outline x.0, ahead tokens.now x.1)) result (node constructs.Statement (prefixed (word kinds.Repeat) (repeat_with (expr_at depth) (block_at depth))) (ahead tokens.now input)) }
 {
     let (body, input) = block(alloc, tokens, input, depth)?;
@@ -339,9 +339,9 @@ fn repeat_statement(
 fn for_statement(
     alloc: Global,
     tokens: &[Token],
-    input: Input,
+    input: Cursor,
     depth: u32,
-) -> Result<(Stmt, Input), Stop>
+) -> Result<(Stmt, Cursor), Stop>
     ensures { Gives tokens.now (λ x. (stmt_outline x.0, ahead tokens.now x.1)) result (node constructs.Statement (prefixed (word kinds.For) (for_with (expr_at depth) (block_at depth))) (ahead tokens.now input)) }
 {
     let (variable, input) = identifier(tokens, input)?;
@@ -364,9 +364,9 @@ fn for_statement(
 fn for_rest(
     alloc: Global,
     tokens: &[Token],
-    input: Input,
+    input: Cursor,
     depth: u32,
-) -> Result<((Box<Expr>, Option<Box<Expr>>, Box<Block>), Input), Stop>
+) -> Result<((Box<Expr>, Option<Box<Expr>>, Box<Block>), Cursor), Stop>
     ensures { Gives tokens.now (λ x. (
       word kinds.To ++ (expr_outline x.0.0.value ++ (if_there (λ e. word kinds.By ++ expr_outline e.value) x.0.1
           ++ (word kinds.Do ++ (block_outline x.0.2.value ++ word kinds.End)))),
@@ -387,9 +387,9 @@ fn for_rest(
 fn for_body(
     alloc: Global,
     tokens: &[Token],
-    input: Input,
+    input: Cursor,
     depth: u32,
-) -> Result<(Box<Block>, Input), Stop>
+) -> Result<(Box<Block>, Cursor), Stop>
     ensures { Gives tokens.now (λ x. (word kinds.Do ++ (block_outline x.0.value ++ word kinds.End), ahead tokens.now x.1)) result (seq (expect_at kinds.Do) (seq (block_at depth) (expect_at kinds.End)) (ahead tokens.now input)) }
 {
     let input = expect(tokens, input, Kind::Do)?;

@@ -4,16 +4,16 @@ ghost use Rattle.std.specs.Prelude.{◌≡◌, IfOk, IfErr};
 ghost use Rattle.ob_parse.specs.Gives.{some_of, Keeps};
 ghost use Rattle.ob_parse.specs.declared.stop.Stop.TheVariants.{Memory};
 
-use crate::input::Input;
+use crate::cursor::Cursor;
 use std::alloc::{AllocError, AllocFailed, Global};
 
 /// Why the parser stops before the end, with what is still to be read.
 #[derive(Clone, Copy)]
 pub(crate) enum Stop {
     /// The next token is wrong, or there is none.
-    Wrong(Input),
+    Unexpected(Cursor),
     /// A construct that begins with it is nested too deep.
-    Deep(Input),
+    TooDeep(Cursor),
     /// A growth of memory was refused.
     Memory,
 }
@@ -35,7 +35,11 @@ impl<T: Drop> From<AllocFailed<T>> for Stop {
 }
 
 /// A value in a box, and the tokens behind what it was read from.
-pub(crate) fn boxed<T: Drop>(alloc: Global, value: T, rest: Input) -> Result<(Box<T>, Input), Stop>
+pub(crate) fn boxed<T: Drop>(
+    alloc: Global,
+    value: T,
+    rest: Cursor,
+) -> Result<(Box<T>, Cursor), Stop>
     ensures of { IfOk result (λ b. (b.0.value ≡ value) × (b.1 ≡ rest)) }
     ensures refused { IfErr result (λ stop. stop ≡ Memory) }
 {
@@ -45,8 +49,8 @@ pub(crate) fn boxed<T: Drop>(alloc: Global, value: T, rest: Input) -> Result<(Bo
 /// One more at the end of a list, as it was read; and the tokens behind it.
 pub(crate) fn keep<T: Drop>(
     list: &mut Vec<T>,
-    read: Result<(T, Input), Stop>,
-) -> Result<Input, Stop>
+    read: Result<(T, Cursor), Stop>,
+) -> Result<Cursor, Stop>
     ensures { Keeps (λ x. x) list.old.items list.new.items read result }
 {
     let (item, rest) = read?;
@@ -57,8 +61,8 @@ pub(crate) fn keep<T: Drop>(
 /// The same, out of its box.
 pub(crate) fn keep_boxed<T: Drop>(
     list: &mut Vec<T>,
-    read: Result<(Box<T>, Input), Stop>,
-) -> Result<Input, Stop>
+    read: Result<(Box<T>, Cursor), Stop>,
+) -> Result<Cursor, Stop>
     ensures { Keeps (λ b. b.value) list.old.items list.new.items read result }
 {
     let (item, rest) = read?;
@@ -67,7 +71,7 @@ pub(crate) fn keep_boxed<T: Drop>(
 }
 
 /// What was read, where something may stand.
-pub(crate) fn some<T: Drop>(read: Result<(T, Input), Stop>) -> Result<(Option<T>, Input), Stop>
+pub(crate) fn some<T: Drop>(read: Result<(T, Cursor), Stop>) -> Result<(Option<T>, Cursor), Stop>
     ensures { result ≡ some_of read }
 {
     let (item, rest) = read?;

@@ -14,12 +14,12 @@ ghost use Rattle.ob_parse.specs.ReadNames.{qualident_at, identdef_at};
 ghost use Rattle.ob_parse.specs.ReadTypes.{some_parameters_at, type_first, var_with, field_start, fields_with, record_with, type_with, type_at};
 ghost use Rattle.ob_parse.specs.Gives.{Gives, ahead, skipped};
 
+use crate::cursor::Cursor;
 use crate::expressions::expression_list;
-use crate::input::Input;
 use crate::names::{identdef, qualident, qualident_after};
 use crate::parameters::some_parameters;
 use crate::stop::{Stop, boxed, keep, keep_boxed, some};
-use crate::symbols::{accept, beyond, expect, is_at, skip};
+use crate::tokens::{accept, beyond, expect, is_at, skip};
 use ob_scan::{Kind, Token};
 use ob_tree::declaration::{Fields, Record, TypeForm, VarDecl};
 use ob_tree::name::{Identdef, OneOrMore, Qualident};
@@ -27,7 +27,7 @@ use ob_tree::token::Leaf;
 use std::alloc::Global;
 
 /// Whether a type begins here.
-fn begins_type(tokens: &[Token], input: Input) -> bool
+fn begins_type(tokens: &[Token], input: Cursor) -> bool
     ensures { result ≡ front type_first (uncons (ahead tokens.now input)) }
 {
     match input.next(tokens) {
@@ -44,8 +44,8 @@ fn begins_type(tokens: &[Token], input: Input) -> bool
 fn more_identdefs(
     alloc: Global,
     tokens: &[Token],
-    input: Input,
-) -> Result<(Vec<Identdef>, Input), Stop>
+    input: Cursor,
+) -> Result<(Vec<Identdef>, Cursor), Stop>
     ensures { Gives tokens.now (λ x. (each_after kinds.Comma identdef_outline x.0.items, ahead tokens.now x.1)) result (many (accept_at kinds.Comma) identdef_at (ahead tokens.now input)) }
 {
     let mut rest = Vec::new(alloc);
@@ -61,8 +61,8 @@ fn more_identdefs(
 fn identdefs(
     alloc: Global,
     tokens: &[Token],
-    input: Input,
-) -> Result<(OneOrMore<Identdef>, Input), Stop>
+    input: Cursor,
+) -> Result<(OneOrMore<Identdef>, Cursor), Stop>
     ensures { Gives tokens.now (λ x. (listed kinds.Comma identdef_outline x.0, ahead tokens.now x.1)) result (several kinds.Comma identdef_at (ahead tokens.now input)) }
 {
     let (first, here) = identdef(tokens, input)?;
@@ -76,9 +76,9 @@ fn identdefs(
 pub(crate) fn var_declaration(
     alloc: Global,
     tokens: &[Token],
-    input: Input,
+    input: Cursor,
     depth: u32,
-) -> Result<(Box<VarDecl>, Input), Stop>
+) -> Result<(Box<VarDecl>, Cursor), Stop>
     ensures { Gives tokens.now (λ x. (var_outline x.0.value, ahead tokens.now x.1)) result (var_with (type_at depth) (ahead tokens.now input)) }
 {
     let (names, here) = identdefs(alloc, tokens, input)?;
@@ -90,7 +90,7 @@ pub(crate) fn var_declaration(
 
 /// What stands behind a semicolon, if a field list begins there.
 #[tactic(auto, unfolding(crate::specs::ReadTypes::field_start))]
-fn next_fields(tokens: &[Token], input: Input) -> Option<Input>
+fn next_fields(tokens: &[Token], input: Cursor) -> Option<Cursor>
     ensures { skipped tokens.now kinds.Semicolon result ≡ field_start (ahead tokens.now input) }
 {
     match input.next(tokens) {
@@ -107,9 +107,9 @@ fn next_fields(tokens: &[Token], input: Input) -> Option<Input>
 fn field_list(
     alloc: Global,
     tokens: &[Token],
-    input: Input,
+    input: Cursor,
     depth: u32,
-) -> Result<(Box<VarDecl>, Input), Stop>
+) -> Result<(Box<VarDecl>, Cursor), Stop>
     ensures { Gives tokens.now (λ x. (construct constructs.FieldList (var_outline x.0.value), ahead tokens.now x.1)) result (node constructs.FieldList (var_with (type_at depth)) (ahead tokens.now input)) }
 {
     var_declaration(alloc, tokens, input, depth)
@@ -120,9 +120,9 @@ fn field_list(
 fn more_fields(
     alloc: Global,
     tokens: &[Token],
-    input: Input,
+    input: Cursor,
     depth: u32,
-) -> Result<(Vec<VarDecl>, Input), Stop>
+) -> Result<(Vec<VarDecl>, Cursor), Stop>
     ensures { Gives tokens.now (λ x. (each_after kinds.Semicolon (λ v. construct constructs.FieldList (var_outline v)) x.0.items, ahead tokens.now x.1)) result
         (many field_start (node constructs.FieldList (var_with (type_at depth))) (ahead tokens.now input)) }
 {
@@ -140,9 +140,9 @@ fn more_fields(
 fn fields(
     alloc: Global,
     tokens: &[Token],
-    input: Input,
+    input: Cursor,
     depth: u32,
-) -> Result<(Box<Fields>, Input), Stop>
+) -> Result<(Box<Fields>, Cursor), Stop>
     ensures { Gives tokens.now (λ x. (fields_outline x.0.value, ahead tokens.now x.1)) result (fields_with (type_at depth) (ahead tokens.now input)) }
 {
     let (first, here) = field_list(alloc, tokens, input, depth)?;
@@ -157,7 +157,7 @@ fn fields(
 }
 
 /// The base of a record, in parentheses.
-fn base(tokens: &[Token], input: Input) -> Result<(Option<Qualident>, Input), Stop>
+fn base(tokens: &[Token], input: Cursor) -> Result<(Option<Qualident>, Cursor), Stop>
     ensures { Gives tokens.now (λ x. (if_there (λ q. word kinds.LeftParen ++ (qualident_outline q ++ word kinds.RightParen)) x.0, ahead tokens.now x.1)) result
         (optional (accept_at kinds.LeftParen) (seq qualident_at (expect_at kinds.RightParen)) (ahead tokens.now input)) }
 {
@@ -177,9 +177,9 @@ fn base(tokens: &[Token], input: Input) -> Result<(Option<Qualident>, Input), St
 fn some_fields(
     alloc: Global,
     tokens: &[Token],
-    input: Input,
+    input: Cursor,
     depth: u32,
-) -> Result<(Option<Box<Fields>>, Input), Stop>
+) -> Result<(Option<Box<Fields>>, Cursor), Stop>
     ensures { Gives tokens.now (λ x. (if_there (λ f. fields_outline f.value) x.0, ahead tokens.now x.1)) result (optional (unless kinds.End) (fields_with (type_at depth)) (ahead tokens.now input)) }
 {
     if is_at(tokens, input, Kind::End) {
@@ -194,9 +194,9 @@ fn some_fields(
 fn type_within(
     alloc: Global,
     tokens: &[Token],
-    input: Input,
+    input: Cursor,
     depth: u32,
-) -> Result<(TypeForm, Input), Stop>
+) -> Result<(TypeForm, Cursor), Stop>
     ensures { Gives tokens.now (λ x. (type_outline x.0, ahead tokens.now x.1)) result (type_with (expr_at depth) (type_at depth) (ahead tokens.now input)) }
 {
     match input.next(tokens) {
@@ -205,13 +205,13 @@ fn type_within(
         Some((Leaf::Word(Kind::Record), rest)) => record(alloc, tokens, rest, depth),
         Some((Leaf::Word(Kind::Pointer), rest)) => pointer(alloc, tokens, rest, depth),
         Some((Leaf::Word(Kind::Procedure), rest)) => procedure(alloc, tokens, rest),
-        _ => Err(Stop::Wrong(input)),
+        _ => Err(Stop::Unexpected(input)),
     }
 }
 
 /// A type by its name, behind the first identifier.
 #[tactic(auto, using(ob_tree::proofs::TypeLayers::types_made))]
-fn named(tokens: &[Token], head: u32, input: Input) -> Result<(TypeForm, Input), Stop>
+fn named(tokens: &[Token], head: u32, input: Cursor) -> Result<(TypeForm, Cursor), Stop>
     ensures { Gives tokens.now (λ x. (type_outline x.0, ahead tokens.now x.1)) result (node constructs.TypeForm (names.qualident_after head) (ahead tokens.now input)) }
 {
     let (name, rest) = qualident_after(tokens, head, input)?;
@@ -224,9 +224,9 @@ fn named(tokens: &[Token], head: u32, input: Input) -> Result<(TypeForm, Input),
 fn array(
     alloc: Global,
     tokens: &[Token],
-    input: Input,
+    input: Cursor,
     depth: u32,
-) -> Result<(TypeForm, Input), Stop>
+) -> Result<(TypeForm, Cursor), Stop>
     ensures { Gives tokens.now (λ x. (type_outline x.0, ahead tokens.now x.1)) result
         (node constructs.TypeForm (prefixed (word kinds.Array) (seq (several kinds.Comma (expr_at depth)) (seq (expect_at kinds.Of) (type_at depth)))) (ahead tokens.now input)) }
 {
@@ -242,9 +242,9 @@ fn array(
 fn record(
     alloc: Global,
     tokens: &[Token],
-    input: Input,
+    input: Cursor,
     depth: u32,
-) -> Result<(TypeForm, Input), Stop>
+) -> Result<(TypeForm, Cursor), Stop>
     ensures { Gives tokens.now (λ x. (type_outline x.0, ahead tokens.now x.1)) result
         (node constructs.TypeForm (prefixed (word kinds.Record) (record_with (type_at depth))) (ahead tokens.now input)) }
 {
@@ -260,9 +260,9 @@ fn record(
 fn pointer(
     alloc: Global,
     tokens: &[Token],
-    input: Input,
+    input: Cursor,
     depth: u32,
-) -> Result<(TypeForm, Input), Stop>
+) -> Result<(TypeForm, Cursor), Stop>
     ensures { Gives tokens.now (λ x. (type_outline x.0, ahead tokens.now x.1)) result
         (node constructs.TypeForm (prefixed (word kinds.Pointer) (seq (expect_at kinds.To) (type_at depth))) (ahead tokens.now input)) }
 {
@@ -273,7 +273,7 @@ fn pointer(
 
 /// What stands behind PROCEDURE.
 #[tactic(auto, using(ob_tree::proofs::TypeLayers::types_made))]
-fn procedure(alloc: Global, tokens: &[Token], input: Input) -> Result<(TypeForm, Input), Stop>
+fn procedure(alloc: Global, tokens: &[Token], input: Cursor) -> Result<(TypeForm, Cursor), Stop>
     ensures { Gives tokens.now (λ x. (type_outline x.0, ahead tokens.now x.1)) result
         (node constructs.TypeForm (prefixed (word kinds.Procedure) some_parameters_at) (ahead tokens.now input)) }
 {
@@ -287,9 +287,9 @@ fn procedure(alloc: Global, tokens: &[Token], input: Input) -> Result<(TypeForm,
 pub(crate) fn type_form(
     alloc: Global,
     tokens: &[Token],
-    input: Input,
+    input: Cursor,
     depth: u32,
-) -> Result<(Box<TypeForm>, Input), Stop>
+) -> Result<(Box<TypeForm>, Cursor), Stop>
     ensures { Gives tokens.now (λ x. (type_outline x.0.value, ahead tokens.now x.1)) result (type_at depth (ahead tokens.now input)) }
 {
     if depth == 0 {

@@ -8,7 +8,7 @@ use Rattle.ob_scan.specs.declared.token.Token.{Token}
 use Rattle.ob_decls.specs.declared.rows.Import.{Import}
 use Rattle.ob_decls.specs.declared.rows.Used.{Used}
 use Rattle.ob_decls.specs.Parts.{Rows}
-use Rattle.ob_scope.specs.declared.meaning.MeaningRow.{MeaningRow}
+use Rattle.ob_scope.specs.declared.meaning.Resolution.{Resolution}
 use Rattle.ob_scope.specs.declared.members.Member.{Member}
 use Rattle.ob_scope.specs.declared.module_scopes.Alias.{Alias}
 use Rattle.ob_scope.specs.Texts.{text_at, token_at}
@@ -47,7 +47,7 @@ module _ (name : ℕ → List ℕ) (r : Rows) where
   abbrev members : List Member
   members = members_of r
 
-  abbrev AreAllMeant : List MeaningRow → Type 0
+  abbrev AreAllMeant : List Resolution → Type 0
   AreAllMeant rows = AreMeant name r.blocks members r.uses (length r.uses) rows
 
   abbrev AreAllCounted : List ℕ → Type 0
@@ -121,20 +121,20 @@ module _ (name : ℕ → List ℕ) (r : Rows) where
         of_declared = m.of_declared;
       }
 
-  meaning_there : (rows : List MeaningRow) (used declared : ℕ) → AreAllMeant rows → Contains (map meaning_of rows) (record { used = used; declared = declared }) → MeansBy name r used declared
+  meaning_there : (rows : List Resolution) (used declared : ℕ) → AreAllMeant rows → Contains (map meaning_of rows) (record { used = used; declared = declared }) → MeansBy name r used declared
   meaning_there rows used declared a h =
       let p = of_contains meaning_of rows (record { used = used; declared = declared }) h in
       means_by used declared
       (subst (λ (n : ℕ). MeansBefore name r.blocks members r.uses (length r.uses) used n) (ap (λ (m : Meaning). m.declared) p.3)
       (subst (λ (n : ℕ). MeansBefore name r.blocks members r.uses (length r.uses) n p.1.declared) (ap (λ (m : Meaning). m.used) p.3) (a.sound p.0 p.1 p.2)))
 
-  there_meaning : (rows : List MeaningRow) (used declared : ℕ) → AreAllMeant rows → MeansBy name r used declared → Contains (map meaning_of rows) (record { used = used; declared = declared })
+  there_meaning : (rows : List Resolution) (used declared : ℕ) → AreAllMeant rows → MeansBy name r used declared → Contains (map meaning_of rows) (record { used = used; declared = declared })
   there_meaning rows used declared a h =
       let p = a.all used declared (before_by used declared h) in
       contains_of meaning_of rows p.0 (record { used = used; declared = declared }) p.1
 
 -- the scopes of rows
-pub are_scopes : (bytes : List ℕ) (ts : List Token) (r : Rows) (counts : List ℕ) (text : List ℕ) (rows : List MeaningRow) (aliases : List Alias) → AreInOrder r → AreNames (text_at bytes ts) r
+pub are_scopes : (bytes : List ℕ) (ts : List Token) (r : Rows) (counts : List ℕ) (text : List ℕ) (rows : List Resolution) (aliases : List Alias) → AreInOrder r → AreNames (text_at bytes ts) r
     → NoneTwice (text_at bytes ts) (members_of r) → AreAllMeant (text_at bytes ts) r rows → AreAllCounted (text_at bytes ts) r counts
     → AreAliasesOf (text_at bytes ts) (members_of r) counts r.imports (length r.imports) aliases → (IsUtf8 (text_at bytes ts 1) → text ≡ text_at bytes ts 1)
     → AreScopes bytes ts r (record { name = text; meanings = map meaning_of rows; aliases = map alias_of aliases })
@@ -161,7 +161,7 @@ are_kept bytes ts r s few a = record {
 }
 
 -- the same by the list of what the rows declare
-pub are_scopes_by : (bytes : List ℕ) (ts : List Token) (r : Rows) (ms : List Member) (counts : List ℕ) (text : List ℕ) (rows : List MeaningRow) (aliases : List Alias) → ms ≡ members_of r → AreInOrder r → AreNames (text_at bytes ts) r
+pub are_scopes_by : (bytes : List ℕ) (ts : List Token) (r : Rows) (ms : List Member) (counts : List ℕ) (text : List ℕ) (rows : List Resolution) (aliases : List Alias) → ms ≡ members_of r → AreInOrder r → AreNames (text_at bytes ts) r
     → NoneTwice (text_at bytes ts) ms → AreMeant (text_at bytes ts) r.blocks ms r.uses (length r.uses) rows → AreCounted (text_at bytes ts) r.blocks ms r.uses (length r.uses) counts
     → AreAliasesOf (text_at bytes ts) ms counts r.imports (length r.imports) aliases → (IsUtf8 (text_at bytes ts 1) → text ≡ text_at bytes ts 1)
     → AreScopes bytes ts r (record { name = text; meanings = map meaning_of rows; aliases = map alias_of aliases })

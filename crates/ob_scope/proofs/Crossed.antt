@@ -13,7 +13,7 @@ use Rattle.ob_scope.specs.declared.members.Member.{Member}
 use Rattle.ob_scope.specs.Counted.{Counts, Crosses, HasWeight, none, one_more, other}
 use Rattle.ob_scope.specs.Crossings.{no_use, crossing, other_use, AreCrossings, AreKnown, IsAliasFor, IsImportAt, IsOfUse}
 use Rattle.ob_scope.specs.Members.{members_of}
-use Rattle.ob_scope.specs.Scope.{Means}
+use Rattle.ob_scope.specs.Scope.{ResolvesTo}
 use Rattle.ob_scope.specs.Scoped.{AliasUses, IsAlias, ModuleScopes}
 use Rattle.ob_scope.specs.Texts.{text_at}
 use Rattle.ob_scope.proofs.Elements.{ascend_one, contains_slice, slice_contains, slice_there}
@@ -24,11 +24,11 @@ use Rattle.ob_scope.proofs.Placing.{members_ascend}
 
 module _ (bytes : List ℕ) (ts : List Token) (rows : Rows) (members : List Member) (s : ModuleScopes) (k : AreKnown bytes ts rows members s) (imported : List ℕ) (u : Used) (is_use : Contains rows.uses u) where
   -- what the scopes say that the use means
-  meant : (declared : ℕ) → Contains s.meanings (record { used = u.number; declared = declared }) → (d : Member) × Means (text_at bytes ts) rows.blocks (members_of rows) u d × (d.number ≡ declared)
+  meant : (declared : ℕ) → Contains s.meanings (record { used = u.number; declared = declared }) → (d : Member) × ResolvesTo (text_at bytes ts) rows.blocks (members_of rows) u d × (d.number ≡ declared)
   meant declared has =
       let m = (k.scopes.meanings u.number declared).0 has in
       let same : m.use_there ≡ u = ascend_one (λ (v : Used). v.number) rows.uses m.use_there u k.ordered.uses m.is_use is_use m.of_use in
-      (m.declared_there, subst (λ (v : Used). Means (text_at bytes ts) rows.blocks (members_of rows) v m.declared_there) same m.means, m.of_declared)
+      (m.declared_there, subst (λ (v : Used). ResolvesTo (text_at bytes ts) rows.blocks (members_of rows) v m.declared_there) same m.means, m.of_declared)
 
   -- the import item of an alias
   item_of : (row : AliasUses) → Contains s.aliases row → (item : Import) × Contains rows.imports item × IsAlias (text_at bytes ts) rows item row

@@ -5,13 +5,13 @@ use Rattle.std.proofs.lemmas.Bool.{cases_lt, cases_eq, false≢true}
 use Rattle.std.specs.Option.{is_some}
 use Rattle.std.proofs.lemmas.List.{get_or-set_same, get_or-set_other, length-set, take_more}
 use Rattle.std.proofs.lemmas.Option.{slice_get_within, get_or_from_slice_get}
-use Rattle.ob_scope.specs.declared.meaning.MeaningRow.{MeaningRow}
+use Rattle.ob_scope.specs.declared.meaning.Resolution.{Resolution}
 use Rattle.ob_decls.specs.declared.rows.Block.{Block}
 use Rattle.ob_decls.specs.declared.rows.Used.{Used}
 use Rattle.ob_decls.specs.declared.rows.Sort.{Sort}
 use Rattle.ob_decls.specs.declared.rows.Sort.TheVariants as sorts
 use Rattle.ob_scope.specs.declared.members.Member.{Member}
-use Rattle.ob_scope.specs.Scope.{Means, NoneTwice}
+use Rattle.ob_scope.specs.Scope.{ResolvesTo, NoneTwice}
 use Rattle.ob_scope.specs.Counted.{Counts, IsQualifiedBy, none, one_more, other}
 use Rattle.ob_decls.specs.Order.{AscendBy}
 use Rattle.ob_scope.specs.Looked.{MeansNothing}
@@ -80,14 +80,14 @@ module _ (name : ℕ → List ℕ) (blocks : List Block) (members : List Member)
 
   -- one of the uses before, or this one
   before_or_last : (k used declared : ℕ) (u : Used) → slice_get uses k ≡ Some u → (m : MeansBefore name blocks members uses (k + 1) used declared) →
-      MeansBefore name blocks members uses k used declared ⊎ ((u.number ≡ used) × ((d : Member) × Means name blocks members u d × (d.number ≡ declared)))
+      MeansBefore name blocks members uses k used declared ⊎ ((u.number ≡ used) × ((d : Member) × ResolvesTo name blocks members u d × (d.number ≡ declared)))
   before_or_last k used declared u at m = ⊎_elim
       (λ (old : m.place < k). inl (record { place = m.place; below = old; use_there = m.use_there; there = m.there; of_use = m.of_use; declared_there = m.declared_there; means = m.means; of_declared = m.of_declared }))
       (λ (now : k ≤ m.place).
       let l : m.place < k + 1 = m.below in
       let e : m.place ≡ k = omega arith in
       let same : m.use_there ≡ u = some_one m.use_there u (sym m.there ∙ ap (slice_get uses) e ∙ at) in
-      inr (sym (ap (λ (x : Used). x.number) same) ∙ m.of_use, (m.declared_there, subst (λ (x : Used). Means name blocks members x m.declared_there) same m.means, m.of_declared)))
+      inr (sym (ap (λ (x : Used). x.number) same) ∙ m.of_use, (m.declared_there, subst (λ (x : Used). ResolvesTo name blocks members x m.declared_there) same m.means, m.of_declared)))
       (cases_lt m.place k)
 
   pub meant_none : AreMeant name blocks members uses 0 []
@@ -97,7 +97,7 @@ module _ (name : ℕ → List ℕ) (blocks : List Block) (members : List Member)
     ordered = λ i j x y l e. absurd (let f : None ≡ Some x = e in cc);
   }
 
-  pub meant_other : (k : ℕ) (rows : List MeaningRow) (u : Used) → AreMeant name blocks members uses k rows → slice_get uses k ≡ Some u → MeansNothing name blocks members u → AreMeant name blocks members uses (k + 1) rows
+  pub meant_other : (k : ℕ) (rows : List Resolution) (u : Used) → AreMeant name blocks members uses k rows → slice_get uses k ≡ Some u → MeansNothing name blocks members u → AreMeant name blocks members uses (k + 1) rows
   meant_other k rows u a at nothing = record {
     sound = λ i row e. weaker k row.used row.declared (a.sound i row e);
     all = λ used declared m. elim (before_or_last k used declared u at m) [
@@ -112,14 +112,14 @@ module _ (name : ℕ → List ℕ) (blocks : List Block) (members : List Member)
   before_last k used declared u up at m =
       subst (λ (n : ℕ). n < u.number) m.of_use (up m.place k m.use_there u m.below m.there at)
 
-  pub meant_more : (k : ℕ) (rows : List MeaningRow) (u : Used) (m : Member) → AscendBy (λ (x : Used). x.number) uses → NoneTwice name members → AreMeant name blocks members uses k rows → slice_get uses k ≡ Some u
-      → Means name blocks members u m → AreMeant name blocks members uses (k + 1) (rows ++ record { used = u.number; declared = m.number } ∷ [])
+  pub meant_more : (k : ℕ) (rows : List Resolution) (u : Used) (m : Member) → AscendBy (λ (x : Used). x.number) uses → NoneTwice name members → AreMeant name blocks members uses k rows → slice_get uses k ≡ Some u
+      → ResolvesTo name blocks members u m → AreMeant name blocks members uses (k + 1) (rows ++ record { used = u.number; declared = m.number } ∷ [])
   meant_more k rows u m up once a at means =
-      let new : MeaningRow = record { used = u.number; declared = m.number } in
+      let new : Resolution = record { used = u.number; declared = m.number } in
       record {
         sound = λ j row e. elim (get_push rows new row j e) [
           | inl h ↦ weaker k row.used row.declared (a.sound j row h)
-          | inr h ↦ subst (λ (x : MeaningRow). MeansBefore name blocks members uses (k + 1) x.used x.declared) h.1
+          | inr h ↦ subst (λ (x : Resolution). MeansBefore name blocks members uses (k + 1) x.used x.declared) h.1
               (record { place = k; below = omega arith; use_there = u; there = at; of_use = refl; declared_there = m; means = means; of_declared = refl })
         ];
         all = λ used declared h. elim (before_or_last k used declared u at h) [
@@ -135,13 +135,13 @@ module _ (name : ℕ → List ℕ) (blocks : List Block) (members : List Member)
             | inr last ↦ absurd (let s : y < length rows = slice_get_within rows y q old in omega (arith, last.0))
           ]
           | inr last ↦ elim (get_push rows new p x e) [
-            | inl older ↦ subst (λ (v : MeaningRow). p.used < v.used) last.1 (before_last k p.used p.declared u up at (a.sound x p older))
+            | inl older ↦ subst (λ (v : Resolution). p.used < v.used) last.1 (before_last k p.used p.declared u up at (a.sound x p older))
             | inr also ↦ absurd (omega (arith, last.0, also.0))
           ]
         ];
       }
     where
-      row_is : (a b c d : ℕ) → a ≡ b → c ≡ d → (let x : MeaningRow = record { used = a; declared = c } in x) ≡ record { used = b; declared = d }
+      row_is : (a b c d : ℕ) → a ≡ b → c ≡ d → (let x : Resolution = record { used = a; declared = c } in x) ≡ record { used = b; declared = d }
       row_is a b c d e f = cc
 
   -- ---- how many
@@ -152,7 +152,7 @@ module _ (name : ℕ → List ℕ) (blocks : List Block) (members : List Member)
 
   -- what qualifies a use is what it means, and an import with a dot behind the use
   qualified_row : (i j : ℕ) (m n : Member) (u : Used) → AscendBy (λ (x : Member). x.number) members → NoneTwice name members → slice_get members i ≡ Some m → slice_get members j ≡ Some n
-      → Means name blocks members u m → IsQualifiedBy name blocks members n.number u → (j ≡ i) × (m.sort ≡ sorts.Import)
+      → ResolvesTo name blocks members u m → IsQualifiedBy name blocks members n.number u → (j ≡ i) × (m.sort ≡ sorts.Import)
   qualified_row i j m n u up once p q means by =
       let same : m ≡ by.declared = means_once name blocks members u m by.declared once means by.means in
       let number : m.number ≡ n.number = ap (λ (x : Member). x.number) same ∙ by.is_alias in
@@ -170,7 +170,7 @@ module _ (name : ℕ → List ℕ) (blocks : List Block) (members : List Member)
 
   -- how often the member that a use means is counted
   this_row : (k i : ℕ) (counts : List ℕ) (u : Used) (m n : Member) → AscendBy (λ (x : Member). x.number) members → NoneTwice name members → n ≡ m → AreCounted name blocks members uses k counts → slice_get members i ≡ Some m
-      → Means name blocks members u m → CountsOne (is_some u.member) m.sort
+      → ResolvesTo name blocks members u m → CountsOne (is_some u.member) m.sort
       → Counts (IsQualifiedBy name blocks members n.number) (take k uses ++ u ∷ []) (slice_index counts i + counted_for m u)
   this_row k i counts u m n up once is c there means (inl h) =
       let here : slice_get members i ≡ Some n = there ∙ ap Some (sym is) in
@@ -188,7 +188,7 @@ module _ (name : ℕ → List ℕ) (blocks : List Block) (members : List Member)
       (c.each i n here))
 
   pub counted_more : (k i : ℕ) (counts : List ℕ) (u : Used) (m : Member) → AscendBy (λ (x : Member). x.number) members → NoneTwice name members → AreCounted name blocks members uses k counts → slice_get uses k ≡ Some u
-      → slice_get members i ≡ Some m → Means name blocks members u m
+      → slice_get members i ≡ Some m → ResolvesTo name blocks members u m
       → AreCounted name blocks members uses (k + 1) (slice_set counts i (slice_index counts i + counted_for m u))
   counted_more k i counts u m up once c at there means =
       let more = counted_for m u in

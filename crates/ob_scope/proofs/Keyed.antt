@@ -18,7 +18,7 @@ use Rattle.ob_scope.specs.declared.members.Member.{Member}
 use Rattle.ob_scope.specs.declared.members.Place.{Place}
 use Rattle.ob_scope.specs.declared.members.Place.TheVariants as places
 use Rattle.ob_scope.specs.Scope.{AreTwice}
-use Rattle.ob_scope.specs.Places.{Entry, entry_of, entry_said, AreFirstTwice, HasNoEntry, IsEntryAt, IsIndex}
+use Rattle.ob_scope.specs.Places.{Seat, entry_of, entry_said, AreFirstTwice, HasNoEntry, IsEntryAt, IsIndex}
 use Rattle.ob_scope.proofs.Elements.{of_slice, slice_of, some_one}
 
 abbrev pub place_eq : Place → Place → Bool
@@ -48,7 +48,7 @@ and_right : (a b : Bool) → a && b ≡ true → b ≡ true
 and_right true b e = e
 and_right false b e = absurd (false≢true e)
 
-pub entry_is : (p q : Place) (m n : List ℕ) → p ≡ q → m ≡ n → (let e : Entry = record { place = p; name = m } in e) ≡ record { place = q; name = n }
+pub entry_is : (p q : Place) (m n : List ℕ) → p ≡ q → m ≡ n → (let e : Seat = record { place = p; name = m } in e) ≡ record { place = q; name = n }
 entry_is p q m n e f = cc
 
 -- equal keys say one thing
@@ -65,8 +65,8 @@ both_true a b e f = rw (e, f) refl
 pub key_same : (a b : Key) → entry_said a ≡ entry_said b → key_eq a b ≡ true
 key_same a b e =
     both_true (place_eq a.place b.place) (bytes_eq a.name.now b.name.now)
-    (subst (λ (p : Place). place_eq a.place p ≡ true) (ap (λ (x : Entry). x.place) e) (place_same a.place))
-    ((bytes_eq-Decides a.name.now b.name.now).1 (ap (λ (x : Entry). x.name) e))
+    (subst (λ (p : Place). place_eq a.place p ≡ true) (ap (λ (x : Seat). x.place) e) (place_same a.place))
+    ((bytes_eq-Decides a.name.now b.name.now).1 (ap (λ (x : Seat). x.name) e))
 
 -- ---- what a table has
 
@@ -100,14 +100,14 @@ module _ (name : ℕ → List ℕ) (members : List Member) where
 
   -- the key of a row that is in the table
   pub key_of_row : (keys : List Key) (front : List Member) (i : ℕ) (m : Member) → map entry_said keys ≡ map (entry_of name) front → slice_get front i ≡ Some m → (x : Key) × (slice_get keys i ≡ Some x) × (entry_said x ≡ entry_of name m)
-  key_of_row keys front i m e there = of_slice entry_said keys i (entry_of name m) (ap (λ (es : List Entry). slice_get es i) e ∙ slice_of (entry_of name) front i m there)
+  key_of_row keys front i m e there = of_slice entry_said keys i (entry_of name m) (ap (λ (es : List Seat). slice_get es i) e ∙ slice_of (entry_of name) front i m there)
 
   pub row_of_key : (keys : List Key) (front : List Member) (i : ℕ) (x : Key) → map entry_said keys ≡ map (entry_of name) front → slice_get keys i ≡ Some x → (m : Member) × (slice_get front i ≡ Some m) × (entry_of name m ≡ entry_said x)
-  row_of_key keys front i x e there = of_slice (entry_of name) front i (entry_said x) (ap (λ (es : List Entry). slice_get es i) (sym e) ∙ slice_of entry_said keys i x there)
+  row_of_key keys front i x e there = of_slice (entry_of name) front i (entry_said x) (ap (λ (es : List Seat). slice_get es i) (sym e) ∙ slice_of entry_said keys i x there)
 
   -- members of one entry are declared twice, and the other way round
   pub twice_of : (m n : Member) → entry_of name m ≡ entry_of name n → AreTwice name m n
-  twice_of m n e = (ap (λ (x : Entry). x.place) e, ap (λ (x : Entry). x.name) e)
+  twice_of m n e = (ap (λ (x : Seat). x.place) e, ap (λ (x : Seat). x.name) e)
 
   pub entries_of : (m n : Member) → AreTwice name m n → entry_of name m ≡ entry_of name n
   entries_of m n t = entry_is m.place n.place (name m.number) (name n.number) t.0 t.1
@@ -121,8 +121,8 @@ module _ (name : ℕ → List ℕ) (members : List Member) where
       record {
         entries =
             Rattle.std.proofs.lemmas.List.map-append entry_said keys (k ∷ [])
-            ∙ ap (λ (es : List Entry). es ++ entry_said k ∷ []) t.entries
-            ∙ ap (λ (x : Entry). map (entry_of name) (take i members) ++ x ∷ []) (says ∙ ap (entry_of name) (sym here))
+            ∙ ap (λ (es : List Seat). es ++ entry_said k ∷ []) t.entries
+            ∙ ap (λ (x : Seat). map (entry_of name) (take i members) ++ x ∷ []) (says ∙ ap (entry_of name) (sym here))
             ∙ sym (map_more (entry_of name) members i m l);
         once = λ a b x y below p q same.
             (let u = front_get (i + 1) a x p in

@@ -6,7 +6,7 @@ use Rattle.ob_decls.specs.declared.rows.Block.{Block as BlockRow}
 use Rattle.ob_decls.specs.declared.rows.Used.{Used}
 use Rattle.ob_scope.specs.declared.members.Member.{Member}
 use Rattle.ob_scope.specs.declared.members.Place.TheVariants.{Block}
-use Rattle.ob_scope.specs.Scope.{Means, by_scope, as_target, AreTwice, IsFirstTwice, NoneTwice}
+use Rattle.ob_scope.specs.Scope.{ResolvesTo, by_scope, as_target, AreTwice, IsFirstTwice, NoneTwice}
 use Rattle.ob_scope.proofs.Blocks.{around-both}
 
 -- a member has a place in its list
@@ -47,12 +47,12 @@ member_once name ds d e none c k t = go (at_from_contains ds d c) (at_from_conta
       | inr (inr h) ↦ absurd (none q.place p.place e d h q.there p.there (twice_back name d e t))
     ]
 
-pub means-member : (name : ℕ → List ℕ) (blocks : List BlockRow) (ds : List Member) (u : Used) (d : Member) → Means name blocks ds u d → Contains ds d
+pub means-member : (name : ℕ → List ℕ) (blocks : List BlockRow) (ds : List Member) (u : Used) (d : Member) → ResolvesTo name blocks ds u d → Contains ds d
 means-member name blocks ds u d (by_scope r) = r.seen.declared
 means-member name blocks ds u d (as_target t n l) = l.declared
 
 -- a use means one name in one place
-means-twice : (name : ℕ → List ℕ) (blocks : List BlockRow) (ds : List Member) (u : Used) (d e : Member) → Means name blocks ds u d → Means name blocks ds u e → AreTwice name d e
+means-twice : (name : ℕ → List ℕ) (blocks : List BlockRow) (ds : List Member) (u : Used) (d e : Member) → ResolvesTo name blocks ds u d → ResolvesTo name blocks ds u e → AreTwice name d e
 means-twice name blocks ds u d e (by_scope r) (by_scope q) =
     let same : r.block ≡ q.block = around-both blocks r.block q.block (q.innermost r.block d r.seen) (r.innermost q.block e q.seen) in
     (r.seen.placed ∙ ap (λ (b : ℕ). Block b) same ∙ sym q.seen.placed, r.seen.named ∙ sym q.seen.named)
@@ -60,13 +60,13 @@ means-twice name blocks ds u d e (by_scope r) (as_target t n l) = absurd (n r.bl
 means-twice name blocks ds u d e (as_target t n l) (by_scope q) = absurd (n q.block e q.seen)
 means-twice name blocks ds u d e (as_target t n l) (as_target s m k) = (l.placed ∙ sym k.placed, l.named ∙ sym k.named)
 
-pub means_once : (name : ℕ → List ℕ) (blocks : List BlockRow) (ds : List Member) (u : Used) (d e : Member) → NoneTwice name ds → Means name blocks ds u d → Means name blocks ds u e → d ≡ e
+pub means_once : (name : ℕ → List ℕ) (blocks : List BlockRow) (ds : List Member) (u : Used) (d e : Member) → NoneTwice name ds → ResolvesTo name blocks ds u d → ResolvesTo name blocks ds u e → d ≡ e
 means_once name blocks ds u d e none m n =
     member_once name ds d e none (means-member name blocks ds u d m) (means-member name blocks ds u e n) (means-twice name blocks ds u d e m n)
 
 -- what is one with what a use means
-pub means_as : (name : ℕ → List ℕ) (blocks : List BlockRow) (ds : List Member) (u : Used) (d e : Member) → d ≡ e → Means name blocks ds u d → Means name blocks ds u e
-means_as name blocks ds u d e same m = subst (λ (x : Member). Means name blocks ds u x) same m
+pub means_as : (name : ℕ → List ℕ) (blocks : List BlockRow) (ds : List Member) (u : Used) (d e : Member) → d ≡ e → ResolvesTo name blocks ds u d → ResolvesTo name blocks ds u e
+means_as name blocks ds u d e same m = subst (λ (x : Member). ResolvesTo name blocks ds u x) same m
 
 -- where nothing is declared twice, there is no first such pair
 pub no_first : (name : ℕ → List ℕ) (ds : List Member) (d e : Member) → NoneTwice name ds → IsFirstTwice name ds d e → ⊥

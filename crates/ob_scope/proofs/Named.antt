@@ -7,7 +7,7 @@ use Rattle.ob_scope.specs.declared.places.Key.{Key}
 use Rattle.ob_scope.specs.declared.members.Member.{Member}
 use Rattle.ob_scope.specs.declared.members.Place.TheVariants as places
 use Rattle.ob_scope.specs.Looked.{IsNamedIn}
-use Rattle.ob_scope.specs.Places.{Entry, entry_of, HasNoEntry, IsEntryAt, IsIndex}
+use Rattle.ob_scope.specs.Places.{Seat, entry_of, HasNoEntry, IsEntryAt, IsIndex}
 use Rattle.ob_scope.specs.Scope.{NoneTwice}
 use Rattle.ob_scope.proofs.Keyed.{entry_is, key_of_row, row_of_key, twice_of}
 
@@ -45,7 +45,7 @@ module _ (name : ℕ → List ℕ) (members : List Member) where
     named_found i e =
         let r = row_of_key name members keys members i e.key t.entries e.there in
         let same : entry_of name r.0 ≡ record { place = places.Block block; name = name number } = r.2 ∙ e.says in
-        (r.0, record { there = r.1; placed = ap (λ (x : Entry). x.place) same; named = ap (λ (x : Entry). x.name) same })
+        (r.0, record { there = r.1; placed = ap (λ (x : Seat). x.place) same; named = ap (λ (x : Seat). x.name) same })
 
     -- the member that is read at the row
     pub named_read : (i : ℕ) (d : Member) → IsEntryAt keys (places.Block block) (name number) i → IsNamedIn name members block number (i, slice_index_or members i d)

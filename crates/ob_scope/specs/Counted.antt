@@ -8,7 +8,7 @@ use Rattle.ob_decls.specs.declared.rows.Sort.TheVariants as sorts
 use Rattle.ob_decls.specs.Parts.{Rows}
 use Rattle.ob_scope.specs.declared.members.Member.{Member}
 use Rattle.ob_scope.specs.Members.{members_of}
-use Rattle.ob_scope.specs.Scope.{Means}
+use Rattle.ob_scope.specs.Scope.{ResolvesTo}
 
 -- so many of the list have the property
 pub data Counts {X : Type 0} (P : X → Type 0) : List X → ℕ → Type 0 where
@@ -20,7 +20,7 @@ pub data Counts {X : Type 0} (P : X → Type 0) : List X → ℕ → Type 0 wher
 pub record IsQualifiedBy (name : ℕ → List ℕ) (blocks : List Block) (ds : List Member) (alias : ℕ) (u : Used) : Type 0 where
   pub qualified : IsSome u.member
   pub declared : Member
-  pub means : Means name blocks ds u declared
+  pub means : ResolvesTo name blocks ds u declared
   pub is_alias : declared.number ≡ alias
   pub of_import : declared.sort ≡ sorts.Import
 

@@ -8,10 +8,10 @@ use Rattle.ob_decls.specs.declared.rows.Import.{Import}
 use Rattle.ob_decls.specs.declared.rows.Used.{Used}
 use Rattle.ob_decls.specs.declared.rows.Sort.{Sort}
 use Rattle.ob_decls.specs.declared.rows.Sort.TheVariants as sorts
-use Rattle.ob_scope.specs.declared.meaning.MeaningRow.{MeaningRow}
+use Rattle.ob_scope.specs.declared.meaning.Resolution.{Resolution}
 use Rattle.ob_scope.specs.declared.members.Member.{Member}
 use Rattle.ob_scope.specs.declared.module_scopes.Alias.{Alias}
-use Rattle.ob_scope.specs.Scope.{Means}
+use Rattle.ob_scope.specs.Scope.{ResolvesTo}
 use Rattle.ob_scope.specs.Counted.{Counts, IsQualifiedBy}
 use Rattle.ob_decls.specs.Order.{AscendBy}
 
@@ -23,14 +23,14 @@ pub record MeansBefore (name : ℕ → List ℕ) (blocks : List Block) (members 
   pub there : slice_get uses place ≡ Some use_there
   pub of_use : use_there.number ≡ used
   pub declared_there : Member
-  pub means : Means name blocks members use_there declared_there
+  pub means : ResolvesTo name blocks members use_there declared_there
   pub of_declared : declared_there.number ≡ declared
 
 -- the rows are what the first k uses mean, in order
-pub record AreMeant (name : ℕ → List ℕ) (blocks : List Block) (members : List Member) (uses : List Used) (k : ℕ) (rows : List MeaningRow) : Type 0 where
-  pub sound : (i : ℕ) (row : MeaningRow) → slice_get rows i ≡ Some row → MeansBefore name blocks members uses k row.used row.declared
+pub record AreMeant (name : ℕ → List ℕ) (blocks : List Block) (members : List Member) (uses : List Used) (k : ℕ) (rows : List Resolution) : Type 0 where
+  pub sound : (i : ℕ) (row : Resolution) → slice_get rows i ≡ Some row → MeansBefore name blocks members uses k row.used row.declared
   pub all : (used declared : ℕ) → MeansBefore name blocks members uses k used declared → (i : ℕ) × (slice_get rows i ≡ Some (record { used = used; declared = declared }))
-  pub ordered : AscendBy (λ (m : MeaningRow). m.used) rows
+  pub ordered : AscendBy (λ (m : Resolution). m.used) rows
 
 -- per member, how many of the first k uses it qualifies
 pub record AreCounted (name : ℕ → List ℕ) (blocks : List Block) (members : List Member) (uses : List Used) (k : ℕ) (counts : List ℕ) : Type 0 where

@@ -2,13 +2,13 @@
 use Rattle.std.specs.Prelude.{◌≤◌}
 use Rattle.std.specs.String.{string_bytes}
 use Rattle.ob_decls.specs.Order.{AscendBy}
-use Rattle.ob_scope.specs.declared.meaning.MeaningRow.{MeaningRow}
+use Rattle.ob_scope.specs.declared.meaning.Resolution.{Resolution}
 use Rattle.ob_scope.specs.declared.module_scopes.Alias.{Alias}
 use Rattle.ob_scope.specs.Weights.{uses_of_all}
 use Rattle.ob_scope.specs.Scoped.{Meaning, AliasUses, ModuleScopes}
 
 -- what a row says
-abbrev pub meaning_of : MeaningRow → Meaning
+abbrev pub meaning_of : Resolution → Meaning
 meaning_of row = record { used = row.used; declared = row.declared }
 
 abbrev pub alias_of : Alias → AliasUses

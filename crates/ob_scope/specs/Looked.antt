@@ -5,7 +5,7 @@ use Rattle.ob_decls.specs.declared.rows.Used.{Used}
 use Rattle.ob_decls.specs.declared.rows.Sort.TheVariants as sorts
 use Rattle.ob_scope.specs.declared.members.Member.{Member}
 use Rattle.ob_scope.specs.declared.members.Place.TheVariants.{Block}
-use Rattle.ob_scope.specs.Scope.{Means, Resolves}
+use Rattle.ob_scope.specs.Scope.{ResolvesTo, Resolves}
 
 -- Below, a name is the text of a token by the token's number.
 
@@ -36,8 +36,8 @@ pub record IsResolved (name : ℕ → List ℕ) (blocks : List BlockRow) (member
 pub record IsMeant (name : ℕ → List ℕ) (blocks : List BlockRow) (members : List Member) (u : Used) (i : ℕ) : Type 0 where
   pub member : Member
   pub there : slice_get members i ≡ Some member
-  pub means : Means name blocks members u member
+  pub means : ResolvesTo name blocks members u member
 
 -- a use means nothing
 abbrev pub MeansNothing : (ℕ → List ℕ) → List BlockRow → List Member → Used → Type 0
-MeansNothing name blocks members u = (d : Member) → Means name blocks members u d → ⊥
+MeansNothing name blocks members u = (d : Member) → ResolvesTo name blocks members u d → ⊥

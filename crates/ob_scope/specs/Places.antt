@@ -8,16 +8,16 @@ use Rattle.ob_scope.specs.declared.places.IndexFault.TheVariants as faults
 use Rattle.ob_scope.specs.Scope.{IsFirstTwice, NoneTwice}
 
 -- a place and a name in it
-pub record Entry : Type 0 where
+pub record Seat : Type 0 where
   pub place : Place
   pub name : List ℕ
 
 -- what a member declares, where a name is the text of a token
-abbrev pub entry_of : (ℕ → List ℕ) → Member → Entry
+abbrev pub entry_of : (ℕ → List ℕ) → Member → Seat
 entry_of name m = record { place = m.place; name = name m.number }
 
 -- what a key says
-abbrev pub entry_said : Key → Entry
+abbrev pub entry_said : Key → Seat
 entry_said k = record { place = k.place; name = k.name.now }
 
 -- the keys say what the members declare, one by one, and nothing is declared twice

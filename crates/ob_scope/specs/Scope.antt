@@ -50,9 +50,9 @@ pub record IsLaterType (name : ℕ → List ℕ) (ds : List Member) (u : Used) (
   pub a_type : d.sort ≡ sorts.Type
 
 -- what a use means: what it resolves to, and for a pointer's target that resolves to nothing the later type
-pub data Means (name : ℕ → List ℕ) (blocks : List BlockRow) (ds : List Member) (u : Used) : Member → Type 0 where
-  by_scope : {d : Member} → Resolves name blocks ds u d → Means name blocks ds u d
-  as_target : {d : Member} → IsTrue u.is_target → ResolvesToNothing name blocks ds u → IsLaterType name ds u d → Means name blocks ds u d
+pub data ResolvesTo (name : ℕ → List ℕ) (blocks : List BlockRow) (ds : List Member) (u : Used) : Member → Type 0 where
+  by_scope : {d : Member} → Resolves name blocks ds u d → ResolvesTo name blocks ds u d
+  as_target : {d : Member} → IsTrue u.is_target → ResolvesToNothing name blocks ds u → IsLaterType name ds u d → ResolvesTo name blocks ds u d
 
 -- two declarations of one name in one place
 abbrev pub AreTwice : (ℕ → List ℕ) → Member → Member → Type 0

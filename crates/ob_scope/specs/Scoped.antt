@@ -11,7 +11,7 @@ use Rattle.ob_scope.specs.declared.members.Member.{Member}
 use Rattle.ob_scope.specs.declared.members.Place.TheVariants.{Block, Record}
 use Rattle.ob_scope.specs.Texts.{text_at, token_at}
 use Rattle.ob_scope.specs.Members.{members_of}
-use Rattle.ob_scope.specs.Scope.{Means, IsFirstTwice, NoneTwice}
+use Rattle.ob_scope.specs.Scope.{ResolvesTo, IsFirstTwice, NoneTwice}
 use Rattle.ob_scope.specs.Counted.{HasUses}
 use Rattle.ob_scope.specs.Identified.{AreNames}
 
@@ -38,7 +38,7 @@ pub record MeansBy (name : ℕ → List ℕ) (rows : Rows) (used declared : ℕ)
   pub is_use : Contains rows.uses use_there
   pub of_use : use_there.number ≡ used
   pub declared_there : Member
-  pub means : Means name rows.blocks (members_of rows) use_there declared_there
+  pub means : ResolvesTo name rows.blocks (members_of rows) use_there declared_there
   pub of_declared : declared_there.number ≡ declared
 
 -- an alias with its module and its uses

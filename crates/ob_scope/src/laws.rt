@@ -11,7 +11,7 @@ ghost use Rattle.ob_scope.specs.Counted.{HasWeight};
 ghost use Rattle.ob_scope.specs.Crossings.{AreCrossings};
 ghost use Rattle.ob_decls.specs.Order.{AscendBy};
 ghost use Rattle.ob_scope.specs.Members.{members_of};
-ghost use Rattle.ob_scope.specs.Scope.{IsFirstTwice, Means, NoneTwice};
+ghost use Rattle.ob_scope.specs.Scope.{IsFirstTwice, ResolvesTo, NoneTwice};
 ghost use Rattle.ob_scope.specs.Scoped.{AliasUses, AreScopes, ModuleScopes};
 ghost use Rattle.ob_scope.specs.Texts.{text_at};
 ghost use Rattle.ob_scope.specs.Weights.{uses_across, uses_of_all};
@@ -19,7 +19,7 @@ ghost use Rattle.ob_scope.specs.Weights.{uses_across, uses_of_all};
 /// Where nothing is declared twice, a use means at most one declaration.
 pub fn one_meaning()
     ensures { (name : ℕ → List ℕ) (blocks : List Block) (ds : List Member) (u : Used) (d e : Member) →
-        NoneTwice name ds → Means name blocks ds u d → Means name blocks ds u e → d ≡ e }
+        NoneTwice name ds → ResolvesTo name blocks ds u d → ResolvesTo name blocks ds u e → d ≡ e }
 {}
 
 /// Where nothing is declared twice, there is no first pair that is; and there is at most one first pair.

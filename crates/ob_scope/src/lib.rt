@@ -4,25 +4,25 @@
 #![tactic(auto)]
 
 mod across;
+mod build;
+mod entry;
 mod fault;
 mod identified;
 pub mod laws;
-mod looking;
-mod making;
 mod meaning;
 mod members;
 mod module_scopes;
 mod numbering;
 mod opened;
 mod places;
-mod scoping;
+mod resolve;
 mod sight;
 mod text;
 mod uses;
 
 pub use across::{Crossing, crossings};
+pub use build::scopes_from;
+pub use entry::scopes;
 pub use fault::ScopeFault;
-pub use making::scopes_from;
 pub use members::{Member, Place};
 pub use module_scopes::{Alias, Scopes};
-pub use scoping::scopes;

@@ -2,7 +2,7 @@
 
 /// A use and the declaration that it means, by the numbers of their tokens.
 #[derive(Clone, Copy)]
-pub(crate) struct MeaningRow {
+pub(crate) struct Resolution {
     pub(crate) used: u32,
     pub(crate) declared: u32,
 }

@@ -3,11 +3,11 @@ ghost use Rattle.std.specs.Prelude.{◌≡◌, ℕ, true, Some, IfOk, IfSome, If
 ghost use Rattle.ob_decls.specs.Order.{AscendBy, HasNoneBy, IsPlaceBy};
 ghost use Rattle.ob_scope.specs.Crossings.{IsAliasFor};
 ghost use Rattle.ob_scope.specs.Kept.{alias_of, AreKept};
-ghost use Rattle.ob_scope.specs.declared.meaning.MeaningRow.{MeaningRow};
+ghost use Rattle.ob_scope.specs.declared.meaning.Resolution.{Resolution};
 ghost use Rattle.ob_scope.specs.declared.module_scopes.Alias.{Alias};
 ghost use Rattle.ob_scope.specs.Scoped.{AliasUses, Meaning};
 
-use crate::meaning::MeaningRow;
+use crate::meaning::Resolution;
 use std::marker::Model;
 
 /// An import: the identifier that stands for a module, and the module's own name.
@@ -25,7 +25,7 @@ pub struct Alias {
 #[derive(Drop)]
 pub struct Scopes {
     pub(crate) name: String,
-    pub(crate) meanings: Vec<MeaningRow>,
+    pub(crate) meanings: Vec<Resolution>,
     pub(crate) aliases: Vec<Alias>,
 }
 
@@ -43,10 +43,10 @@ impl Model for Scopes {
 }
 
 /// The place of the row of a use.
-fn place_of_use(rows: &[MeaningRow], used: u32) -> Option<usize>
-    requires { AscendBy (λ (m : MeaningRow). m.used) rows.now }
-    ensures found { IfSome result (IsPlaceBy (λ (m : MeaningRow). m.used) rows.now used) }
-    ensures none { IfNone result (HasNoneBy (λ (m : MeaningRow). m.used) rows.now used) }
+fn place_of_use(rows: &[Resolution], used: u32) -> Option<usize>
+    requires { AscendBy (λ (m : Resolution). m.used) rows.now }
+    ensures found { IfSome result (IsPlaceBy (λ (m : Resolution). m.used) rows.now used) }
+    ensures none { IfNone result (HasNoneBy (λ (m : Resolution). m.used) rows.now used) }
 {
     rows.binary_search_by_key(&used, |row| row.used).ok()
 }

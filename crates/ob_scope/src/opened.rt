@@ -4,8 +4,8 @@ ghost use Rattle.ob_decls.specs.declared.rows.Block.{Block};
 ghost use Rattle.ob_decls.specs.Order.{AscendBy, HasNoneBy, IsPlaceBy};
 ghost use Rattle.ob_scope.specs.Sights.{Enters, IsInnermost, IsOpen, IsOpenPlace};
 
-use crate::looking::outer_of;
 use crate::members::Place;
+use crate::resolve::outer_of;
 use ob_decls::Block;
 use std::alloc::AllocError;
 

@@ -11,11 +11,11 @@ ghost use Rattle.ob_scope.specs.Sights.{AreNumbered};
 ghost use Rattle.ob_scope.specs.Texts.{text_at};
 ghost use Rattle.ob_scope.specs.declared.members.Member.{Member};
 
-use crate::looking::meaning;
-use crate::meaning::MeaningRow;
+use crate::meaning::Resolution;
 use crate::members::Member;
 use crate::numbering::{Numbered, number_names};
 use crate::places::Key;
+use crate::resolve::meaning;
 use crate::sight::{Sight, no_sight};
 use crate::text::Text;
 use indexmap::IndexSet;
@@ -24,8 +24,8 @@ use std::alloc::{AllocError, Global};
 
 /// What the uses of a module mean, and per member how many uses it qualifies as an import.
 #[derive(Drop)]
-pub(crate) struct Found {
-    pub(crate) meanings: Vec<MeaningRow>,
+pub(crate) struct Resolved {
+    pub(crate) meanings: Vec<Resolution>,
     pub(crate) counts: Vec<u64>,
 }
 
@@ -64,7 +64,7 @@ fn find_each(
     named: &Numbered,
     sight: &mut Sight,
     uses: &[Used],
-    meanings: &mut Vec<MeaningRow>,
+    meanings: &mut Vec<Resolution>,
     counts: &mut [u64],
 ) -> Result<(), AllocError>
     requires in_text { AreInText text.now.bytes.now text.now.tokens.now }
@@ -85,7 +85,7 @@ fn find_each(
         let used = uses[k];
         if let Some(at) = meaning(text, index, blocks, members, named, sight, used)? {
             let member = members[at];
-            meanings.push(MeaningRow {
+            meanings.push(Resolution {
                 used: used.number,
                 declared: member.number,
             })?;
@@ -104,7 +104,7 @@ fn found_with(
     members: &[Member],
     named: &Numbered,
     uses: &[Used],
-) -> Result<Found, AllocError>
+) -> Result<Resolved, AllocError>
     requires in_text { AreInText text.now.bytes.now text.now.tokens.now }
     requires blocks { AscendBy (λ (b : Block). b.first) blocks.now }
     requires uses { AscendBy (λ (u : Used). u.number) uses.now }
@@ -128,7 +128,7 @@ fn found_with(
         &mut meanings,
         counts.as_mut_slice(),
     )?;
-    Ok(Found { meanings, counts })
+    Ok(Resolved { meanings, counts })
 }
 
 /// What the uses mean.
@@ -139,7 +139,7 @@ pub(crate) fn found_by(
     blocks: &[Block],
     members: &[Member],
     uses: &[Used],
-) -> Result<Found, AllocError>
+) -> Result<Resolved, AllocError>
     requires in_text { AreInText text.now.bytes.now text.now.tokens.now }
     requires blocks { AscendBy (λ (b : Block). b.first) blocks.now }
     requires uses { AscendBy (λ (u : Used). u.number) uses.now }

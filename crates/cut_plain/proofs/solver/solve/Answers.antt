@@ -2,7 +2,7 @@ use Rattle.std.proofs.Common.{◌≡◌, ◌∙◌, length, sym, ap, subst}
 use Rattle.std.specs.Prelude.{filter, map}
 use Rattle.cut_residual.specs.Flows.{AreSameArcs, IsBalanced}
 use Rattle.cut_residual.specs.Graphs.{Graph, AreReached}
-use Rattle.cut_solve.specs.GreatestFlow.{IsGreatest}
+use Rattle.cut_solve.specs.GreatestFlow.{IsMaximumFlow}
 use Rattle.cut_solve.specs.Lines.{empty_of, has_flow, flow_line}
 use Rattle.cut_solve.proofs.Answering.{greatest_for}
 use Rattle.cut_solve.proofs.Flowing.{empty_balanced, same_imports}
@@ -13,8 +13,8 @@ maximum_flow-requires-clause-balanced c =
     let graph_is = ap (λ (g : Graph). g.arcs) c.in_ok-graph.ensures in
     subst (λ v. IsBalanced v c.args.from c.args.to 0) (sym graph_is) (empty_balanced c.args.net.now.imports c.args.from c.args.to)
 
-pub cut_by-requires-clause-greatest : goal.cut_by-requires-clause-greatest
-cut_by-requires-clause-greatest c =
+pub minimum_cut-requires-clause-greatest : goal.minimum_cut-requires-clause-greatest
+minimum_cut-requires-clause-greatest c =
     let net = c.args.net.now in
     let arcs = c.maximum_flow.new.graph.arcs in
     let graph_is : c.in_ok-graph.graph.arcs ≡ map empty_of net.imports = ap (λ (g : Graph). g.arcs) c.in_ok-graph.ensures in
@@ -27,5 +27,5 @@ cut_by-requires-clause-greatest c =
     let whole =
     greatest_for net arcs c.args.from c.args.to c.in_ok-near.ensures.balanced.0 same c.keeps.ensures.network.imports_ascend c.requires.from
     c.keeps-2.ensures.within c.in_ok-near.ensures.balanced.1 near reached c.in_ok-near.ensures.closed c.in_ok-near.ensures.end in
-    subst (λ v. IsGreatest net c.args.from c.args.to v c.in_ok-flow.flow.items) (sym c.deref.ensures.value)
-    (subst (IsGreatest net c.args.from c.args.to near) (sym flow_is) whole)
+    subst (λ v. IsMaximumFlow net c.args.from c.args.to v c.in_ok-flow.flow.items) (sym c.deref.ensures.value)
+    (subst (IsMaximumFlow net c.args.from c.args.to near) (sym flow_is) whole)

@@ -3,7 +3,7 @@ use Rattle.std.proofs.lemmas.List.{length-map}
 use Rattle.cut_preflow.specs.NodeArcs.{AreArcs, lists}
 use Rattle.cut_preflow.specs.Indexed.{IsIndexed}
 use Rattle.cut_preflow.specs.Preflow.{into, opening, opening_flows}
-use Rattle.cut_preflow.specs.Played.{flow_network}
+use Rattle.cut_preflow.specs.Trace.{flow_network}
 use Rattle.cut_preflow.proofs.Saturating.{opening_indexed}
 use Rattle.std.proofs.lemmas.Grind.{common_steps}
 use Rattle.cut_preflow.proofs.preflow_core.before_turns.Goals as goal

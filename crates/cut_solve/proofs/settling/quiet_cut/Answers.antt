@@ -6,10 +6,10 @@ use Rattle.std.proofs.lemmas.List.Elements.{Contains-get_or}
 use Rattle.cut_net.specs.Network.{Network, none_there}
 use Rattle.cut_preflow.specs.Preflow.{FlowNetwork}
 use Rattle.cut_preflow.specs.Flows.{HasFlow, IsShutOff, network_on}
-use Rattle.cut_preflow.specs.Played.{state_of}
+use Rattle.cut_preflow.specs.Trace.{state_of}
 use Rattle.cut_residual.specs.declared.arc.Arc.{Arc}
 use Rattle.cut_residual.specs.Graphs.{is_seen, Graph, AreClosed, AreReached}
-use Rattle.cut_solve.specs.GreatestFlow.{IsGreatest}
+use Rattle.cut_solve.specs.GreatestFlow.{IsMaximumFlow}
 use Rattle.cut_solve.specs.Lines.{has_flow, flow_line}
 use Rattle.cut_solve.specs.Settling.{carrying}
 use Rattle.cut_solve.proofs.Settled.{below_flow, carrying_between, carrying_within, settled_end, settled_flow, settled_greatest}
@@ -23,14 +23,14 @@ module _ (net : Network) (a b : ℕ) (p : FlowNetwork) (nodes : p.nodes ≡ leng
 
 pub carrying-requires-clause-imports : goal.carrying-requires-clause-imports
 carrying-requires-clause-imports g c =
-    let p = c.args.preflow.now.play.net in
+    let p = c.args.preflow.now.trace.net in
     below_size c.args.net.now c.args.from c.args.to c.keeps.ensures.network c.requires.ends p.imports p.source p.sink c.requires.start ∙ ap length (sym c.imports.ensures)
 
 pub new-requires-clause-within : goal.new-requires-clause-within
 new-requires-clause-within g c =
     let net = c.args.net.now in
-    let p = c.args.preflow.now.play.net in
-    let s = state_of c.args.preflow.now.play in
+    let p = c.args.preflow.now.trace.net in
+    let s = state_of c.args.preflow.now.trace in
     let kept = c.keeps-2.ensures.sound.kept in
     let size = below_size net c.args.from c.args.to c.keeps.ensures.network c.requires.ends p.imports p.source p.sink c.requires.start in
     let arcs : c.in_ok-arcs.arcs.items ≡ carrying net.imports s.flow = c.in_ok-arcs.ensures ∙ ap (λ v. carrying v s.flow) c.imports.ensures in
@@ -42,8 +42,8 @@ new-requires-clause-within g c =
 pub new-requires-clause-between : goal.new-requires-clause-between
 new-requires-clause-between g c =
     let net = c.args.net.now in
-    let p = c.args.preflow.now.play.net in
-    let s = state_of c.args.preflow.now.play in
+    let p = c.args.preflow.now.trace.net in
+    let s = state_of c.args.preflow.now.trace in
     let kept = c.keeps-2.ensures.sound.kept in
     let size = below_size net c.args.from c.args.to c.keeps.ensures.network c.requires.ends p.imports p.source p.sink c.requires.start in
     let arcs : c.in_ok-arcs.arcs.items ≡ carrying net.imports s.flow = c.in_ok-arcs.ensures ∙ ap (λ v. carrying v s.flow) c.imports.ensures in
@@ -51,13 +51,13 @@ new-requires-clause-between g c =
     (subst (All (λ (r : Arc). (r.from < length net.names) × (r.to < length net.names))) (sym arcs)
     (carrying_between net.imports s.flow (length net.names) (kept.flows ∙ size) (λ k h. c.keeps.ensures.network.between _ (Contains-get_or net.imports k none_there h))))
 
-pub cut_by-requires-clause-greatest : goal.cut_by-requires-clause-greatest
-cut_by-requires-clause-greatest g c =
+pub minimum_cut-requires-clause-greatest : goal.minimum_cut-requires-clause-greatest
+minimum_cut-requires-clause-greatest g c =
     let net = c.args.net.now in
     let a = c.args.from in
     let b = c.args.to in
-    let p = c.args.preflow.now.play.net in
-    let s = state_of c.args.preflow.now.play in
+    let p = c.args.preflow.now.trace.net in
+    let s = state_of c.args.preflow.now.trace in
     let near = c.in_ok-near.near.seen.items in
     let whole = started net a b p c.requires.nodes in
     let size = below_size net a b c.keeps.ensures.network c.requires.ends p.imports p.source p.sink c.requires.start in
@@ -73,16 +73,16 @@ cut_by-requires-clause-greatest g c =
     reached (subst (λ (v : Graph). AreClosed v.arcs near) graph c.in_ok-near.ensures.closed) flow.0 flow.1 unmarked in
     let lines : c.in_ok-flow.flow.items ≡ filter has_flow (map flow_line (carrying net.imports s.flow)) =
     c.in_ok-flow.ensures ∙ ap (λ v. filter has_flow (map flow_line v)) (c.arcs.ensures ∙ ap (λ (v : Graph). v.arcs) graph) in
-    subst (λ v. IsGreatest net a b v c.in_ok-flow.flow.items) (sym c.deref.ensures.value)
-    (subst (IsGreatest net a b near) (sym lines) greatest)
+    subst (λ v. IsMaximumFlow net a b v c.in_ok-flow.flow.items) (sym c.deref.ensures.value)
+    (subst (IsMaximumFlow net a b near) (sym lines) greatest)
 
 pub returns-then-index-clause-found : goal.returns-then-index-clause-found
 returns-then-index-clause-found g c = λ start.
     let net = c.args.net.now in
     let a = c.args.from in
     let b = c.args.to in
-    let p = c.args.preflow.now.play.net in
-    let s = state_of c.args.preflow.now.play in
+    let p = c.args.preflow.now.trace.net in
+    let s = state_of c.args.preflow.now.trace in
     let near = c.in_ok-near.near.seen.items in
     let whole = started net a b p c.requires.nodes in
     let size = below_size net a b c.keeps.ensures.network c.requires.ends p.imports p.source p.sink c.requires.start in

@@ -1,6 +1,6 @@
 use Rattle.std.proofs.Common.{sym, subst}
 use Rattle.cut_preflow.specs.Kept.{IsFlowNetwork}
-use Rattle.cut_preflow.specs.Played.{IsWithinLimits}
+use Rattle.cut_preflow.specs.Trace.{IsWithinLimits}
 use Rattle.cut_preflow.specs.Flows.{network_on}
 use Rattle.cut_solve.proofs.Started.{below_is, below_limits}
 use Rattle.cut_solve.proofs.solving.in_ledger.Goals as goal

@@ -2,4 +2,4 @@ use Rattle.std.proofs.Common.{◌≡◌}
 use Rattle.cut_tests.proofs.preflows.tell_steps.Given as goal
 
 abbrev pub invariant-loop-step : goal.invariant-loop-step
-invariant-loop-step g l = l.preflow.play.net ≡ l.fn.preflow.play.net
+invariant-loop-step g l = l.preflow.trace.net ≡ l.fn.preflow.trace.net

@@ -9,12 +9,12 @@ pub loop-i-preserved : goal.loop-i-preserved
 loop-i-preserved g c =
     let on = c.in-Some.ensures.some in
     let fresh : c.apply.result ≢ Stale = (λ e. let off = c.apply.ensures.stale.0 e in cc (on, off)) in
-    let history = ap (λ p. p.history) c.apply.ensures.history ∙ history_after-applied c.loop-i.self.play.history _ c.apply.result fresh c.in_default-apply.not-Refused in
+    let history = ap (λ p. p.history) c.apply.ensures.history ∙ history_after-applied c.loop-i.self.trace.history _ c.apply.result fresh c.in_default-apply.not-Refused in
     record {
       same = ap (λ p. p.net) c.apply.ensures.history ∙ c.loop-i.invariant.same;
-      appends = subst (λ xs. Appends 0 (c.loop-i._i + 1) c.args.self.now.play.history xs) (sym history) (Appends-push 0 c.loop-i._i c.args.self.now.play.history c.loop-i.self.play.history _ c.loop-i.invariant.appends refl);
+      appends = subst (λ xs. Appends 0 (c.loop-i._i + 1) c.args.self.now.trace.history xs) (sym history) (Appends-push 0 c.loop-i._i c.args.self.now.trace.history c.loop-i.self.trace.history _ c.loop-i.invariant.appends refl);
       own = omega (arith, ap (λ p. p.own) c.apply.ensures.counted, count_after-applied c.loop-i.self.own c.apply.result fresh c.in_default-apply.not-Refused, c.loop-i.invariant.own);
-      out = ap (λ p. p.out) c.apply.ensures.counted ∙ c.loop-i.invariant.out;
+      out = ap (λ p. p.shares_out) c.apply.ensures.counted ∙ c.loop-i.invariant.out;
     }
 
 pub returns-in_default-clause-own : goal.returns-in_default-clause-own

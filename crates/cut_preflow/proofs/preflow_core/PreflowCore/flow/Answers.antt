@@ -4,11 +4,11 @@ use Rattle.cut_preflow.specs.declared.ends.Ends.{Ends}
 use Rattle.cut_net.specs.declared.priced.Priced.{Priced}
 use Rattle.cut_preflow.specs.declared.event.Event.{Event}
 use Rattle.cut_preflow.specs.Preflow.{count, import_at, flow_at}
-use Rattle.cut_preflow.specs.Played.{flow_network, state_of, IsPlayed, IsSound}
+use Rattle.cut_preflow.specs.Trace.{flow_network, state_of, IsTrace, IsSound}
 use Rattle.cut_preflow.proofs.Histories.{played_sound, played_state}
 use Rattle.cut_preflow.proofs.preflow_core.PreflowCore.flow.Goals as goal
 
-sound : (ends : Ends) (imports : List Priced) (flows labels : List ℕ) (history : List Event) → IsPlayed (flow_network ends imports) flows labels history → IsSound (flow_network ends imports) (record { flow = flows; label = labels })
+sound : (ends : Ends) (imports : List Priced) (flows labels : List ℕ) (history : List Event) → IsTrace (flow_network ends imports) flows labels history → IsSound (flow_network ends imports) (record { flow = flows; label = labels })
 sound ends imports flows labels history p = played_sound (flow_network ends imports) (record { flow = flows; label = labels }) history p
 
 pub index-requires : goal.index-requires

@@ -1,6 +1,6 @@
 use Rattle.std.proofs.Common.{◌≤◌, length, subst}
 use Rattle.cut_preflow.specs.Bound.{most_changes}
-use Rattle.cut_preflow.specs.Played.{flow_network}
+use Rattle.cut_preflow.specs.Trace.{flow_network}
 use Rattle.cut_preflow.proofs.Bound.{legal_le}
 use Rattle.cut_preflow.proofs.preflow_core.PreflowCore.history.Goals as goal
 

@@ -1,4 +1,4 @@
-use Rattle.cut_preflow.specs.Played.{state_of, IsSound}
+use Rattle.cut_preflow.specs.Trace.{state_of, IsSound}
 use Rattle.cut_preflow.proofs.Flowing.{quiet_has_flow, quiet_is_shut_off}
 use Rattle.cut_preflow.proofs.Histories.{played_keeps}
 use Rattle.cut_preflow.proofs.preflow_core.PreflowCore.keeps.Goals as goal

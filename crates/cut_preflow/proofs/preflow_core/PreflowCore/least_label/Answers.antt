@@ -1,6 +1,6 @@
 use Rattle.std.proofs.Common.{◌≡◌, ◌∙◌, length, sym, ap, subst, arith}
 use Rattle.cut_preflow.specs.Preflow.{label_at}
-use Rattle.cut_preflow.specs.Played.{state_of}
+use Rattle.cut_preflow.specs.Trace.{state_of}
 use Rattle.cut_preflow.proofs.Least.{Lowest, Lowest-more, Lowest-no, Lowest-none, Lowest-skip, Lowest-some}
 use Rattle.cut_preflow.proofs.preflow_core.PreflowCore.least_label.Goals as goal
 use Rattle.cut_preflow.proofs.preflow_core.PreflowCore.least_label.Goals.{After-loop-arc, then-residual-gt0, else-residual-gt0}

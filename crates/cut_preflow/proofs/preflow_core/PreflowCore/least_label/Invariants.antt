@@ -1,4 +1,4 @@
-use Rattle.cut_preflow.specs.Played.{state_of}
+use Rattle.cut_preflow.specs.Trace.{state_of}
 use Rattle.cut_preflow.proofs.Least.{Lowest}
 use Rattle.cut_preflow.proofs.preflow_core.PreflowCore.least_label.Given as goal
 

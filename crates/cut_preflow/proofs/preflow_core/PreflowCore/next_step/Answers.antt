@@ -1,8 +1,8 @@
 use Rattle.std.proofs.Common.{◌≡◌, ◌∙◌, ◌⊎◌, ◌*◌, ◌<◌, ℕ, inl, inr, Bool, true, false, Option, Some, None, is_some, if◌then◌else◌, get_or, sym, ap, subst, arith, below_more}
 use Rattle.std.proofs.lemmas.List.{get_or_default}
 use Rattle.cut_preflow.specs.declared.event.Step.TheVariants.{Push, Relabel}
-use Rattle.cut_preflow.specs.Preflow.{FlowNetwork, State, can_push, count, raised, tail}
-use Rattle.cut_preflow.specs.Played.{state_of}
+use Rattle.cut_preflow.specs.Preflow.{FlowNetwork, State, can_push, count, relabel_target, tail}
+use Rattle.cut_preflow.specs.Trace.{state_of}
 use Rattle.cut_preflow.proofs.Arcs.{active_from}
 use Rattle.cut_preflow.proofs.Longer.{shorter}
 use Rattle.cut_preflow.proofs.Progress.{progress}
@@ -25,7 +25,7 @@ returns-then-is_some-clause-few c = λ _.
     shorter c.args.self.now.net c.args.self.now.history (Push (get_or c.arcs_from-arc-items.result.now c.loop-arc.arc-index 0)) c.keeps.ensures.sound.network c.history.ensures.legal
     (sym (told _ _ c.push_amount.result c.push_amount.ensures) ∙ sym c.is_some.ensures ∙ c.if-is_some.true)
 
-relabels : (c : After-loop-arc) → is_some (raised c.args.self.now.net (state_of c.args.self.now) c.in_ok-node.node) ≡ true
+relabels : (c : After-loop-arc) → is_some (relabel_target c.args.self.now.net (state_of c.args.self.now) c.in_ok-node.node) ≡ true
 relabels c = go (progress net s c.in_ok-node.node c.keeps.ensures.sound.kept (active_from net s c.in_ok-node.node c.in_ok-node.ensures.some))
   where
     net : FlowNetwork
@@ -34,7 +34,7 @@ relabels c = go (progress net s c.in_ok-node.node c.keeps.ensures.sound.kept (ac
     s : State
     s = state_of c.args.self.now
 
-    go : ((arc : ℕ) × (arc < 2 * count net) × (tail net arc ≡ c.in_ok-node.node) × (can_push net s arc ≡ true)) ⊎ ((label : ℕ) × (raised net s c.in_ok-node.node ≡ Some label)) → is_some (raised net s c.in_ok-node.node) ≡ true
+    go : ((arc : ℕ) × (arc < 2 * count net) × (tail net arc ≡ c.in_ok-node.node) × (can_push net s arc ≡ true)) ⊎ ((label : ℕ) × (relabel_target net s c.in_ok-node.node ≡ Some label)) → is_some (relabel_target net s c.in_ok-node.node) ≡ true
     go (inl w) =
         let listed = (c.arcs_from-arc-items.ensures w.0).1 (w.1, w.2) in
         let at = get_or_default c.arcs_from-arc-items.result.now listed.0 w.0 0 listed.1 in

@@ -1,6 +1,6 @@
 use Rattle.std.proofs.Common.{◌≡◌, ◌<◌, ℕ, false, get_or}
 use Rattle.cut_preflow.specs.Preflow.{can_push}
-use Rattle.cut_preflow.specs.Played.{state_of}
+use Rattle.cut_preflow.specs.Trace.{state_of}
 use Rattle.cut_preflow.proofs.preflow_core.PreflowCore.next_step.Given as goal
 
 -- no arc that was looked at allows a push

@@ -3,8 +3,8 @@ use Rattle.std.proofs.lemmas.List.{get_or_read}
 use Rattle.cut_preflow.specs.declared.event.Outcome.TheVariants.{Moved, Stale}
 use Rattle.cut_preflow.specs.NodeArcs.{lists}
 use Rattle.cut_preflow.specs.Indexed.{IsIndexed, carried}
-use Rattle.cut_preflow.specs.Preflow.{can_push, head, moved, tail}
-use Rattle.cut_preflow.specs.Played.{outcome_of, state_of}
+use Rattle.cut_preflow.specs.Preflow.{can_push, head, push_amount, tail}
+use Rattle.cut_preflow.specs.Trace.{outcome_of, state_of}
 use Rattle.cut_preflow.proofs.Arcs.{pushable_from}
 use Rattle.cut_preflow.proofs.Carrying.{Carries, active_from_index, carries, pushed_indexed}
 use Rattle.cut_preflow.proofs.Fields.{fields_of, net_of, sound_fields, unseen}
@@ -15,7 +15,7 @@ use Rattle.cut_preflow.proofs.preflow_core.PreflowCore.push.Goals.{In-Ok, then-a
 fits_of : (c : In-Ok) → PushFits (net_of c.self.inside) (fields_of c.self.inside) c.args.arc c.in-Some.amount
 fits_of c =
     push_fits (net_of c.self.inside) (fields_of c.self.inside) c.args.arc c.in-Some.amount (sound_fields c.self.inside c.self.invariant.0)
-    (unseen c.self.inside c.self.invariant.0 c.args.self.now c.self.view_is (λ net s. Some c.in-Some.amount ≡ (if can_push net s c.args.arc then Some (moved net s c.args.arc) else None)) c.in-Some.ensures)
+    (unseen c.self.inside c.self.invariant.0 c.args.self.now c.self.view_is (λ net s. Some c.in-Some.amount ≡ (if can_push net s c.args.arc then Some (push_amount net s c.args.arc) else None)) c.in-Some.ensures)
 
 from_is : (c : In-Ok) → c.tail-from.result ≡ tail (net_of c.self.inside) c.args.arc
 from_is c = c.tail-from.ensures.value ∙ sym (ap (λ p. tail p.net c.args.arc) c.self.view_is)
@@ -78,7 +78,7 @@ invariant_of-self-2 c =
     let ahead : arc % 2 ≡ 0 → c.if-arc-eq0.next ≡ get_or q.flows.items (arc / 2) 0 + c.in-Some.amount = λ even. elim c.if-arc-eq0.branch [ then-arc-eq0 w ↦ omega (arith, is) | else-arc-eq0 w ↦ absurd (w.if-arc-eq0.false even) ] in
     let back : (arc % 2 ≡ 0 → ⊥) → c.if-arc-eq0.next ≡ get_or q.flows.items (arc / 2) 0 - c.in-Some.amount = λ odd. elim c.if-arc-eq0.branch [ then-arc-eq0 w ↦ absurd (odd w.if-arc-eq0.true) | else-arc-eq0 w ↦ omega (arith, is) ] in
     let flow = pushed_flow net s arc c.in-Some.amount c.if-arc-eq0.next fits ahead back in
-    let same : c.move_excess.new.excesses.items ≡ carried q.ends.source q.excesses.items (tail net arc) (head net arc) (moved net s arc) =
+    let same : c.move_excess.new.excesses.items ≡ carried q.ends.source q.excesses.items (tail net arc) (head net arc) (push_amount net s arc) =
     c.move_excess.ensures.excesses
     ∙ ap (λ x. carried q.ends.source q.excesses.items x c.head-to.result c.in-Some.amount) (from_is ok)
     ∙ ap (λ x. carried q.ends.source q.excesses.items (tail net arc) x c.in-Some.amount) (to_is ok)
@@ -93,5 +93,5 @@ pub returns-clause-outcome : goal.returns-clause-outcome
 returns-clause-outcome c = λ _.
     let net = c.args.self.now.net in
     let s = state_of c.args.self.now in
-    let got = some_from (can_push net s c.args.arc) (moved net s c.args.arc) c.in-Some.amount c.in-Some.ensures in
-    ap Moved got.1 ∙ sym (ap (λ b. if b then Moved (moved net s c.args.arc) else Stale) got.0) ∙ sym (ap (outcome_of net s) c.requires)
+    let got = some_from (can_push net s c.args.arc) (push_amount net s c.args.arc) c.in-Some.amount c.in-Some.ensures in
+    ap Moved got.1 ∙ sym (ap (λ b. if b then Moved (push_amount net s c.args.arc) else Stale) got.0) ∙ sym (ap (outcome_of net s) c.requires)

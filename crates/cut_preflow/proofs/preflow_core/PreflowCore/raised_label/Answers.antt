@@ -1,5 +1,5 @@
 use Rattle.std.proofs.Common.{◌∙◌, is_some, sym, ap, arith}
-use Rattle.cut_preflow.specs.Played.{state_of}
+use Rattle.cut_preflow.specs.Trace.{state_of}
 use Rattle.cut_preflow.proofs.Least.{raised_unled, raised_over_least, raised_not_over}
 use Rattle.cut_preflow.proofs.preflow_core.PreflowCore.raised_label.Goals as goal
 

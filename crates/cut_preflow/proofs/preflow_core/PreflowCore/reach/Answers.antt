@@ -1,7 +1,7 @@
 use Rattle.std.proofs.Common.{◌≡◌, ◌<◌, ◌∙◌, ◌++◌, [], ◌∷◌, false, true, replicate, set, length, ap, sym, subst, arith, length-set}
 use Rattle.std.proofs.lemmas.List.{length-replicate}
 use Rattle.std.specs.Prelude.{Contains}
-use Rattle.cut_preflow.specs.Played.{state_of}
+use Rattle.cut_preflow.specs.Trace.{state_of}
 use Rattle.cut_preflow.specs.Side.{IsSearched}
 use Rattle.std.proofs.lemmas.List.Elements.{Contains-push}
 use Rattle.cut_preflow.proofs.Searching.{has_low, searched-start}

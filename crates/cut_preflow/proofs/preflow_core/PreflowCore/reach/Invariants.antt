@@ -1,5 +1,5 @@
 use Rattle.std.proofs.Common.{◌≡◌, ◌+◌, ◌*◌, length}
-use Rattle.cut_preflow.specs.Played.{state_of}
+use Rattle.cut_preflow.specs.Trace.{state_of}
 use Rattle.cut_preflow.specs.Side.{unmarked, IsSearched}
 use Rattle.cut_preflow.proofs.preflow_core.PreflowCore.reach.Given as goal
 

@@ -1,14 +1,14 @@
 use Rattle.std.proofs.Common.{◌≡◌, Some, sym, arith, set}
 use Rattle.cut_preflow.specs.NodeArcs.{lists}
-use Rattle.cut_preflow.specs.Preflow.{raised}
+use Rattle.cut_preflow.specs.Preflow.{relabel_target}
 use Rattle.cut_preflow.proofs.Carrying.{relabelled_indexed}
 use Rattle.cut_preflow.proofs.Fields.{fields_of, net_of, sound_fields, unseen}
 use Rattle.cut_preflow.proofs.Playing.{relabel_played, raised_low}
 use Rattle.cut_preflow.proofs.preflow_core.PreflowCore.relabel.Goals as goal
 use Rattle.cut_preflow.proofs.preflow_core.PreflowCore.relabel.Goals.{In-Ok}
 
-raises : (c : In-Ok) → raised (net_of c.self.inside) (fields_of c.self.inside) c.args.node ≡ Some c.in-Some.label
-raises c = unseen c.self.inside c.self.invariant.0 c.args.self.now c.self.view_is (λ net s. raised net s c.args.node ≡ Some c.in-Some.label) (sym c.in-Some.ensures)
+raises : (c : In-Ok) → relabel_target (net_of c.self.inside) (fields_of c.self.inside) c.args.node ≡ Some c.in-Some.label
+raises c = unseen c.self.inside c.self.invariant.0 c.args.self.now c.self.view_is (λ net s. relabel_target net s c.args.node ≡ Some c.in-Some.label) (sym c.in-Some.ensures)
 
 pub index_mut-requires : goal.index_mut-requires
 index_mut-requires c =

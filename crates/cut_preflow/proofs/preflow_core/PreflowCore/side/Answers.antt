@@ -1,6 +1,6 @@
 use Rattle.std.proofs.Common.{◌≡◌, false}
 use Rattle.std.proofs.lemmas.Result.{IfOk-weaker}
-use Rattle.cut_preflow.specs.Played.{state_of}
+use Rattle.cut_preflow.specs.Trace.{state_of}
 use Rattle.cut_preflow.specs.Flows.{AreNear, AreReached}
 use Rattle.cut_preflow.specs.Side.{has, IsReach}
 use Rattle.cut_preflow.proofs.Flowing.{marks_near, marks_reached, sink_outside}

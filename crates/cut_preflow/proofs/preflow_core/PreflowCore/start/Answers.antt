@@ -2,7 +2,7 @@ use Rattle.std.proofs.Common.{◌∙◌, ℕ, List, sym, subst}
 use Rattle.cut_net.specs.declared.priced.Priced.{Priced}
 use Rattle.cut_preflow.specs.Preflow.{FlowNetwork}
 use Rattle.cut_preflow.specs.Kept.{IsFlowNetwork}
-use Rattle.cut_preflow.specs.Played.{IsWithinLimits}
+use Rattle.cut_preflow.specs.Trace.{IsWithinLimits}
 use Rattle.cut_preflow.proofs.Networks.{between_is, between_limits}
 use Rattle.cut_preflow.proofs.preflow_core.PreflowCore.start.Goals as goal
 

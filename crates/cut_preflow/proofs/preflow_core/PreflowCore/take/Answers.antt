@@ -1,5 +1,5 @@
 use Rattle.std.proofs.Common.{◌∙◌, ap}
-use Rattle.cut_preflow.specs.Played.{state_of}
+use Rattle.cut_preflow.specs.Trace.{state_of}
 use Rattle.cut_preflow.proofs.Playing.{state_after}
 use Rattle.cut_preflow.proofs.preflow_core.PreflowCore.take.Goals as goal
 

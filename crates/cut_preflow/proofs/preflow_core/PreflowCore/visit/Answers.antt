@@ -1,7 +1,7 @@
 use Rattle.std.proofs.Common.{◌≡◌, ◌∙◌, [], ◌∷◌, Bool, ℕ, true, get_or, length, refl, ap, subst, arith, length-append, length-set}
 use Rattle.std.specs.Global.{Vec}
 use Rattle.std.proofs.lemmas.List.Elements.{Contains-get_or}
-use Rattle.cut_preflow.specs.Played.{state_of}
+use Rattle.cut_preflow.specs.Trace.{state_of}
 use Rattle.cut_preflow.specs.Side.{has, IsReached}
 use Rattle.cut_preflow.specs.Preflow.{head_in}
 use Rattle.cut_preflow.proofs.Searching.{IsVisiting, unmarked-set, visiting-end, visiting-no, visiting-yes}

@@ -1,5 +1,5 @@
 use Rattle.std.proofs.Common.{◌≡◌, ◌≤◌, ◌+◌, ◌*◌, ◌++◌, [], ◌∷◌, ℕ, length}
-use Rattle.cut_preflow.specs.Played.{state_of}
+use Rattle.cut_preflow.specs.Trace.{state_of}
 use Rattle.cut_preflow.specs.Side.{unmarked, IsSearched}
 use Rattle.cut_preflow.proofs.Searching.{IsVisiting}
 use Rattle.cut_preflow.proofs.preflow_core.PreflowCore.visit.Given as goal

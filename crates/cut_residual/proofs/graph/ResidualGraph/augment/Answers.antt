@@ -3,7 +3,7 @@ use Rattle.std.proofs.Math.Seq.{take-append_seam}
 use Rattle.std.specs.Prelude.{All}
 use Rattle.cut_residual.specs.Flows.{AreSameArcs, RaisesBy}
 use Rattle.cut_residual.specs.Graphs.{residual, Graph, Leads}
-use Rattle.cut_residual.specs.Groups.{AreKept}
+use Rattle.cut_residual.specs.Groups.{AreGrouped}
 use Rattle.cut_residual.proofs.Keeping.{kept_on}
 use Rattle.cut_residual.proofs.graph.ResidualGraph.augment.Goals as goal
 
@@ -16,7 +16,7 @@ invariant_of-self c =
     let lent_len = c.deref_mut.ensures.len in
     let e : length new ≡ c.self.inside.arcs.len = omega arith in
     let taken : take c.self.inside.arcs.len (new ++ drop (length new) arcs) ≡ new = subst (λ n. take n (new ++ drop (length new) arcs) ≡ new) e (take-append_seam new (drop (length new) arcs)) in
-    subst (λ v. AreKept v c.self.inside.residual_arcs.items) (sym taken)
+    subst (λ v. AreGrouped v c.self.inside.residual_arcs.items) (sym taken)
     (kept_on arcs new (subst (λ v. AreSameArcs v new) c.deref_mut.ensures.value c.send.ensures.same) c.self.inside.residual_arcs.items c.send.ensures.within c.self.invariant)
 
 pub returns-clause-raises : goal.returns-clause-raises

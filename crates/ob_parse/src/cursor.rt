@@ -1,0 +1,37 @@
+//! The tokens that are still to be read.
+
+ghost use Rattle.std.specs.Prelude.{◌≡◌};
+
+use ob_scan::Token;
+use ob_tree::token::{Leaf, leaf_at};
+
+/// What is still to be read of a text's tokens: those from the one of this number on. It holds no token, and so has no lifetime.
+#[derive(Clone, Copy)]
+pub(crate) struct Cursor {
+    at: u32,
+}
+
+impl Cursor {
+    ghost use Rattle.ob_parse.specs.Front.{uncons};
+    ghost use Rattle.ob_parse.specs.Gives.{ahead, seen};
+
+    /// All tokens of a text.
+    pub(crate) const ALL: Cursor = Cursor { at: 0 };
+
+    /// The next of these tokens, and those after it.
+    #[tactic(auto, unfolding(crate::specs::Gives::ahead))]
+    pub(crate) fn next(self, tokens: &[Token]) -> Option<(Leaf, Cursor)>
+        ensures { seen tokens.now result ≡ uncons (ahead tokens.now self) }
+    {
+        let token = tokens.get(self.at as usize)?;
+        let at = self.at.checked_add(1)?;
+        Some((leaf_at(self.at, token.kind), Cursor { at }))
+    }
+
+    /// The number of the next token, or how many there are where there is none.
+    pub(crate) fn number(self) -> u32
+        ensures { result ≡ self.at }
+    {
+        self.at
+    }
+}

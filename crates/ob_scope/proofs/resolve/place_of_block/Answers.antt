@@ -1,0 +1,18 @@
+-- What the search finds.
+use Rattle.std.proofs.Common.{rules}
+use Rattle.std.proofs.lemmas.Fn.{always_returns_same}
+use Rattle.ob_decls.specs.declared.rows.Block.{Block}
+use Rattle.ob_scope.proofs.Searched.{searched_found, searched_none}
+use Rattle.ob_scope.proofs.resolve.place_of_block.Goals as goal
+
+pub returns-clause-found : goal.returns-clause-found
+returns-clause-found c =
+    rw c.ok.ensures.value
+    (searched_found (λ (b : Block). b.first) c.args.blocks.now c.args.block c.binary_search_by_key.result c.binary_search_by_key.ensures.bound
+    (c.binary_search_by_key.ensures.position (λ (b : Block). b.first) (always_returns_same _ _ _ (λ a r q k. search rules))))
+
+pub returns-clause-none : goal.returns-clause-none
+returns-clause-none c =
+    rw c.ok.ensures.value
+    (searched_none (λ (b : Block). b.first) c.args.blocks.now c.args.block c.binary_search_by_key.result c.requires
+    (c.binary_search_by_key.ensures.position (λ (b : Block). b.first) (always_returns_same _ _ _ (λ a r q k. search rules))))

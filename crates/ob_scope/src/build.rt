@@ -1,0 +1,202 @@
+//! Scopes from a table.
+ghost use Rattle.std.specs.Prelude.{◌≡◌, ◌≤◌, length, IfOk, IfErr};
+ghost use Rattle.ob_scan.specs.Spelling.{AreInText, Spells};
+ghost use Rattle.ob_decls.specs.Declaring.{rows_in};
+ghost use Rattle.ob_decls.specs.Parts.{Rows};
+ghost use Rattle.ob_scope.specs.Found.{AreAliasesOf, AreCounted, AreMeant, IsCountOf};
+ghost use Rattle.ob_scope.specs.Identified.{AreNames};
+ghost use Rattle.ob_decls.specs.Order.{AreInOrder, AscendBy};
+ghost use Rattle.ob_scope.specs.Members.{members_of};
+ghost use Rattle.ob_scope.specs.Places.{IsIndex, TellsTwice};
+ghost use Rattle.ob_scope.specs.Scope.{NoneTwice};
+ghost use Rattle.ob_scope.specs.Scoped.{AreScopes, IsScopeFault};
+ghost use Rattle.ob_scope.specs.Texts.{text_at};
+ghost use Rattle.ob_scope.specs.declared.members.Member.{Member};
+
+use crate::identified::are_identifiers;
+use crate::members::{Member, Place, members_by, place_of_member};
+use crate::places::{IndexFault, Key, index_of};
+use crate::text::Text;
+use crate::uses::{Resolved, found_by};
+use crate::{Alias, ScopeFault, Scopes};
+use indexmap::IndexSet;
+use ob_decls::{Import, Table};
+use ob_scan::Token;
+use std::alloc::{AllocError, Global};
+
+/// No text has more uses.
+const MOST_USES: usize = 16_777_216;
+
+/// How many uses the alias of this token qualifies, by how many each member does.
+fn uses_of(members: &[Member], counts: &[u64], alias: u32) -> u64
+    requires ascend { AscendBy (λ (m : Member). m.number) members.now }
+    requires as_many { length counts.now ≡ length members.now }
+    ensures { IsCountOf members.now counts.now alias result }
+{
+    match place_of_member(members, alias) {
+        Some(at) => counts[at],
+        None => 0,
+    }
+}
+
+/// The aliases of the import items, in order.
+fn aliases_of(
+    alloc: Global,
+    text: &Text,
+    members: &[Member],
+    counts: &[u64],
+    imports: &[Import],
+) -> Result<Vec<Alias>, AllocError>
+    requires in_text { AreInText text.now.bytes.now text.now.tokens.now }
+    requires ascend { AscendBy (λ (m : Member). m.number) members.now }
+    requires as_many { length counts.now ≡ length members.now }
+    ensures { IfOk result (λ v. AreAliasesOf (text_at text.now.bytes.now text.now.tokens.now) members.now counts.now imports.now (length imports.now) v.items) }
+{
+    let mut aliases = Vec::new(alloc);
+    for i in 0..imports.len() {
+        let item = imports[i];
+        aliases.push(Alias {
+            decl: item.alias,
+            module: text.string(alloc, item.imported)?,
+            uses: uses_of(members, counts, item.alias),
+        })?;
+    }
+    Ok(aliases)
+}
+
+/// The fault of two members of one name in one place.
+fn fault_of(
+    alloc: Global,
+    text: &Text,
+    members: &[Member],
+    fault: IndexFault,
+) -> Result<ScopeFault, AllocError>
+    requires in_text { AreInText text.now.bytes.now text.now.tokens.now }
+    requires twice { TellsTwice (text_at text.now.bytes.now text.now.tokens.now) members.now fault }
+    ensures { IfOk result (λ fault. (rows : Rows) → members.now ≡ members_of rows → AreNames (text_at text.now.bytes.now text.now.tokens.now) rows
+        → IsScopeFault text.now.bytes.now text.now.tokens.now rows fault) }
+{
+    let IndexFault::Twice(first, second) = fault else {
+        return Ok(ScopeFault::Memory);
+    };
+    let first = members[first];
+    let second = members[second];
+    let name = text.string(alloc, first.number)?;
+    let first = text.start(first.number);
+    let fault = match second.place {
+        Place::Block(_) => ScopeFault::Twice {
+            name,
+            first,
+            second: text.start(second.number),
+        },
+        Place::Record(_) => ScopeFault::TwiceField {
+            name,
+            first,
+            second: text.start(second.number),
+        },
+    };
+    Ok(fault)
+}
+
+/// The scopes of what was found.
+fn scopes_of(
+    alloc: Global,
+    text: &Text,
+    table: &Table,
+    members: &[Member],
+    found: Resolved,
+) -> Result<Scopes, AllocError>
+    requires in_text { AreInText text.now.bytes.now text.now.tokens.now }
+    requires ordered { AreInOrder (rows_in table.now) }
+    requires few { length (rows_in table.now).uses ≤ 16777216 }
+    requires members { members.now ≡ members_of (rows_in table.now) }
+    requires named { AreNames (text_at text.now.bytes.now text.now.tokens.now) (rows_in table.now) }
+    requires once { NoneTwice (text_at text.now.bytes.now text.now.tokens.now) members.now }
+    requires meant { AreMeant (text_at text.now.bytes.now text.now.tokens.now) (rows_in table.now).blocks members.now (rows_in table.now).uses (length (rows_in table.now).uses) found.meanings.items }
+    requires counted { AreCounted (text_at text.now.bytes.now text.now.tokens.now) (rows_in table.now).blocks members.now (rows_in table.now).uses (length (rows_in table.now).uses) found.counts.items }
+    ensures { IfOk result (AreScopes text.now.bytes.now text.now.tokens.now (rows_in table.now)) }
+{
+    let aliases = aliases_of(
+        alloc,
+        text,
+        members,
+        found.counts.as_slice(),
+        table.imports(),
+    )?;
+    let name = text.string(alloc, 1)?;
+    Ok(Scopes {
+        name,
+        meanings: found.meanings,
+        aliases,
+    })
+}
+
+/// The scopes of a module with this table, whose members have this index.
+fn scopes_with(
+    alloc: Global,
+    text: &Text,
+    table: &Table,
+    members: &[Member],
+    index: &IndexSet<Key>,
+) -> Result<Scopes, AllocError>
+    requires in_text { AreInText text.now.bytes.now text.now.tokens.now }
+    requires ordered { AreInOrder (rows_in table.now) }
+    requires few { length (rows_in table.now).uses ≤ 16777216 }
+    requires members { members.now ≡ members_of (rows_in table.now) }
+    requires named { AreNames (text_at text.now.bytes.now text.now.tokens.now) (rows_in table.now) }
+    requires once { NoneTwice (text_at text.now.bytes.now text.now.tokens.now) members.now }
+    requires index { IsIndex (text_at text.now.bytes.now text.now.tokens.now) members.now index.now.keys }
+    ensures { IfOk result (AreScopes text.now.bytes.now text.now.tokens.now (rows_in table.now)) }
+{
+    let found = found_by(alloc, text, index, table.blocks(), members, table.uses())?;
+    scopes_of(alloc, text, table, members, found)
+}
+
+/// The scopes of a module with this table, or the fault of two members of one name in one place.
+fn scopes_by(
+    alloc: Global,
+    text: &Text,
+    table: &Table,
+    members: &[Member],
+) -> Result<Scopes, ScopeFault>
+    requires in_text { AreInText text.now.bytes.now text.now.tokens.now }
+    requires ordered { AreInOrder (rows_in table.now) }
+    requires few { length (rows_in table.now).uses ≤ 16777216 }
+    requires members { members.now ≡ members_of (rows_in table.now) }
+    requires named { AreNames (text_at text.now.bytes.now text.now.tokens.now) (rows_in table.now) }
+    ensures scoped { IfOk result (AreScopes text.now.bytes.now text.now.tokens.now (rows_in table.now)) }
+    ensures fault { IfErr result (IsScopeFault text.now.bytes.now text.now.tokens.now (rows_in table.now)) }
+{
+    match index_of(alloc, text, members) {
+        Ok(index) => Ok(scopes_with(alloc, text, table, members, &index)?),
+        Err(fault) => Err(fault_of(alloc, text, members, fault)?),
+    }
+}
+
+/// The scopes of a module with this table, of these tokens: what `scopes` answers of the tree that the table is of, for a
+/// caller that keeps the table. Memory is also answered where what the table names are no identifiers, or where it has more
+/// uses than a text has bytes; the table of a tree of tokens is never so.
+pub fn scopes_from(
+    alloc: Global,
+    table: &Table,
+    tokens: &[Token],
+    bytes: &[u8],
+) -> Result<Scopes, ScopeFault>
+    // The tokens lie in the bytes.
+    requires in_text { AreInText bytes.now tokens.now }
+    // The bytes spell them.
+    requires spelled { Spells bytes.now tokens.now }
+    // The scopes are the table's, in which no name is declared twice.
+    ensures scoped { IfOk result (AreScopes bytes.now tokens.now (rows_in table.now)) }
+    // The fault is so.
+    ensures fault { IfErr result (IsScopeFault bytes.now tokens.now (rows_in table.now)) }
+{
+    table.keeps();
+    let text = Text { bytes, tokens };
+    let members = members_by(alloc, table.declarers(), table.declared())?;
+    let members = members.as_slice();
+    if table.uses().len() > MOST_USES || !are_identifiers(tokens, members, table.imports()) {
+        return Err(ScopeFault::Memory);
+    }
+    scopes_by(alloc, &text, table, members)
+}
