@@ -18,7 +18,7 @@ pub fn blocked(alloc: Global, net: &Net, from: u32, to: u32) -> Result<Option<An
     ensures none { IfOk result (λ found. IfNone found (PinChain net.now from to → ⊥)) }
 {
     no_cut_of_pins();
-    match net.pinned_chain(alloc, from, to)? {
+    match net.pinned_chain(from, to)? {
         Some(chain) => Ok(Some(Answer::Blocked { chain })),
         None => Ok(None),
     }

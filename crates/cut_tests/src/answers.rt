@@ -1,17 +1,20 @@
-//! Answers of the plain solver, each compared with the checker, and each cut with a preflow that nobody shares.
-ghost use Rattle.std.specs.Prelude.{◌<◌, length};
+//! Answers of the plain solver and of the solver, each compared with the checker, and each cut with a preflow that nobody shares.
+ghost use Rattle.std.specs.Prelude.{◌<◌, ◌≤◌, length};
 
 use crate::preflows::{Trial, try_on};
 use crate::told::is_told;
 use crate::worked::{
-    A_WAY_BACK, DIAMOND, THREE_IMPORTS, TWO_IMPORTS, TWO_WAYS, net_of, told_answer,
+    A_WAY_BACK, DIAMOND, THREE_IMPORTS, TWO_IMPORTS, TWO_WAYS, net_of, told_answer, told_removals,
 };
 use cut_check::{Verdict, check};
 use cut_net::{Answer, Net, Priced};
 use cut_plain::plain;
-use cut_solve::SolveFault;
+use cut_solve::{OpenGate, SolveFault, solve};
 use std::alloc::{AllocError, Global};
+use std::process::Abort;
+use std::sync::Wait;
 use std::test::Fail;
+use std::thread::Threads;
 
 /// Three ways from A to B. The modules are A to F.
 const WAYS: &[u8] =
@@ -231,11 +234,13 @@ fn stands(
     Ok(settled && matches!((found, again), (Verdict::Yes, Verdict::Yes)))
 }
 
+/// Tells an answer, whole or but for its flow, and whether it stands.
 fn told_answered(
     alloc: Global,
     net: &Net,
     names: (&str, &str),
     answer: Answer,
+    whole: bool,
 ) -> Result<String, AllocError> {
     let (Some(from), Some(to)) = (net.index_of(names.0), net.index_of(names.1)) else {
         return Err(AllocError);
@@ -243,28 +248,57 @@ fn told_answered(
     if from >= net.nodes() || to >= net.nodes() {
         return Err(AllocError);
     }
-    let mut told = told_answer(alloc, &answer)?;
+    let mut told = if whole {
+        told_answer(alloc, &answer)?
+    } else {
+        told_removals(alloc, &answer)?
+    };
     if !stands(alloc, net, (from, to), answer)? {
         told.push_str(", which doesn't stand")?;
     }
     Ok(told)
 }
 
-/// What is answered of these names. No answer may fall.
-fn told(alloc: Global, net: &Net, names: (&str, &str)) -> Result<String, AllocError> {
-    match plain(alloc, net, names.0, names.1) {
-        Ok(answer) => told_answered(alloc, net, names, answer),
+/// What is told of what was found of these names. No answer may fall.
+fn told(
+    alloc: Global,
+    net: &Net,
+    names: (&str, &str),
+    found: Result<Answer, SolveFault>,
+    whole: bool,
+) -> Result<String, AllocError> {
+    match found {
+        Ok(answer) => told_answered(alloc, net, names, answer, whole),
         Err(SolveFault::Memory) => Err(AllocError),
         Err(fault) => format!(in alloc; "{fault}"),
     }
+}
+
+/// Checks that the solver finds the same by so many workers, but for the flow, of which there may be several.
+fn is_solved<R: Abort + Threads + Wait + AllocGlobal + Sync>(
+    rt: &R,
+    net: &Net,
+    names: (&str, &str),
+    workers: u32,
+    want: &str,
+) -> Result<(), AllocError>
+    requires { (1 ≤ workers) × (workers ≤ 64) }
+{
+    let found = solve(rt, rt.alloc(), net, names.0, names.1, workers, &OpenGate);
+    let told = told(rt.alloc(), net, names, found, false)?;
+    assert!(rt; want.starts_with(told.as_str()), "{told}");
+    Ok(())
 }
 
 #[test]
 fn worked_networks_have_their_answers(rt: HostRuntime) -> Result<(), Fail> {
     for (net, prices, names, want) in ROWS {
         let net = net_of(rt.alloc(), net, prices)?;
-        let told = told(rt.alloc(), &net, *names)?;
+        let found = plain(rt.alloc(), &net, names.0, names.1);
+        let told = told(rt.alloc(), &net, *names, found, true)?;
         is_told(&rt, told.as_str(), want);
+        is_solved(&rt, &net, *names, 1, want)?;
+        is_solved(&rt, &net, *names, 2, want)?;
     }
     Ok(())
 }

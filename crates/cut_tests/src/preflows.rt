@@ -40,7 +40,7 @@ pub(crate) fn is_free(alloc: Global, net: &Net, from: u32, to: u32) -> Result<bo
     requires to { to < length net.now.names }
     ensures { IfOk result (λ yes. IsTrue yes → PinChain net.now from to → ⊥) }
 {
-    match net.pinned_chain(alloc, from, to)? {
+    match net.pinned_chain(from, to)? {
         Some(_) => Ok(false),
         None => Ok(true),
     }
@@ -114,6 +114,25 @@ fn tell_state<L: NetworkLedger>(
     tell_next(text, preflow)
 }
 
+/// Tries an event, and once more where memory was refused to it. Tells it where that changed something.
+fn try_again<L: NetworkLedger>(
+    text: &mut String,
+    preflow: &mut Preflow<L>,
+    event: Event,
+) -> Result<Outcome, AllocError>
+    ensures { preflow.new.trace.net ≡ preflow.old.trace.net }
+{
+    let before = (preflow.history().len(), preflow.active());
+    let outcome = preflow.apply(event);
+    if outcome != Outcome::Refused {
+        return Ok(outcome);
+    }
+    if (preflow.history().len(), preflow.active()) != before {
+        text.push_str("changed ")?;
+    }
+    Ok(preflow.apply(event))
+}
+
 /// Tries these steps in turn, and tells what became of each and which module has excess then.
 fn tell_steps<L: NetworkLedger>(
     text: &mut String,
@@ -123,13 +142,11 @@ fn tell_steps<L: NetworkLedger>(
     ensures { preflow.new.trace.net ≡ preflow.old.trace.net }
 {
     for step in steps {
-        let outcome = preflow.apply(Event {
+        let event = Event {
             worker: 4294967295,
             step: *step,
-        });
-        if outcome == Outcome::Refused {
-            return Err(AllocError);
-        }
+        };
+        let outcome = try_again(text, preflow, event)?;
         write!(text, "{outcome:?} {:?}; ", preflow.active())?;
     }
     Ok(())

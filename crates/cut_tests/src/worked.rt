@@ -50,15 +50,23 @@ pub(crate) fn tell_lines(
     Ok(())
 }
 
-/// What is answered of two modules: the weight, the imports to be removed, and the flow; or the chain of pins.
-pub(crate) fn told_answer(alloc: Global, answer: &Answer) -> Result<String, AllocError> {
+/// What is answered of two modules but for the flow: the weight and the imports to be removed, or the chain of pins.
+pub(crate) fn told_removals(alloc: Global, answer: &Answer) -> Result<String, AllocError> {
     match answer {
         Answer::Cut(cut) => {
             let mut text = format!(in alloc; "weight {}", cut.weight)?;
             tell_lines(&mut text, "remove", &cut.imports)?;
-            tell_lines(&mut text, "flow", &cut.flow)?;
             Ok(text)
         }
         Answer::Blocked { chain } => format!(in alloc; "blocked {:?}", chain.as_slice()),
     }
+}
+
+/// The same with the flow.
+pub(crate) fn told_answer(alloc: Global, answer: &Answer) -> Result<String, AllocError> {
+    let mut text = told_removals(alloc, answer)?;
+    if let Answer::Cut(cut) = answer {
+        tell_lines(&mut text, "flow", &cut.flow)?;
+    }
+    Ok(text)
 }
