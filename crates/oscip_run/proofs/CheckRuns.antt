@@ -145,5 +145,5 @@ no_net IsOf IsRefused report known run.Device h = absurd h
 no_net IsOf IsRefused report known run.Memory h = inl (Keeps-same known)
 
 -- a line of two names
-pub two_names : (cause from to a b ending : List ℕ) → from ≡ a → to ≡ b → cause ++ (from ++ (32 ∷ (to ++ ending))) ≡ cause ++ a ++ (32 ∷ []) ++ b ++ ending
-two_names cause from to a b ending e f = rw (e, f) (simp append_assoc)
+pub two_names : (cause word from to a b ending : List ℕ) → from ≡ a → to ≡ b → cause ++ (word ++ (32 ∷ (from ++ (32 ∷ (to ++ ending))))) ≡ cause ++ word ++ (32 ∷ []) ++ a ++ (32 ∷ []) ++ b ++ ending
+two_names cause word from to a b ending e f = rw (e, f) (simp append_assoc)

@@ -2,7 +2,7 @@
 use Rattle.std.specs.Prelude.{ℕ, ◌≤◌, ◌^◌, ◌+◌, List, length, All}
 use Rattle.oscip_tree.specs.declared.source.Source.{Source}
 
--- a network, a report or a prices file has at most 2^30 bytes
+-- a network, a report, a prices file or an index has at most 2^30 bytes
 abbrev pub IsFile : List ℕ → Type 0
 IsFile bytes = length bytes ≤ 2 ^ 30
 

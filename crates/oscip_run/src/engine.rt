@@ -1,5 +1,5 @@
 //! What each command does with the bytes of its files, over any sink.
-ghost use Rattle.std.specs.Prelude.{◌≡◌, ◌≤◌, All, IfOk, IsSome, option_copied};
+ghost use Rattle.std.specs.Prelude.{◌≡◌, ◌++◌, ◌≤◌, All, IfOk, IsSome, codes, option_copied};
 ghost use Rattle.std.specs.String.{string_bytes};
 ghost use Rattle.cut_dot.specs.Pictures.{flow_said};
 ghost use Rattle.cut_net.specs.Answers.{said_by};
@@ -39,33 +39,36 @@ fn name_or_none(net: &Net, node: u32) -> &str
     }
 }
 
+/// The line of a verdict on an import.
+fn import_line(
+    alloc: Global,
+    net: &Net,
+    word: &str,
+    from: u32,
+    to: u32,
+) -> Result<String, AllocError>
+    ensures { IfOk result (λ t. string_bytes t ≡ codes "no " ++ word.now ++ codes " " ++ name_of net.now from ++ codes " " ++ name_of net.now to ++ codes "\n") }
+{
+    let from = name_or_none(net, from);
+    let to = name_or_none(net, to);
+    format!(in alloc; "no {word} {from} {to}\n")
+}
+
 fn verdict_line(alloc: Global, net: &Net, verdict: Verdict) -> Result<String, AllocError>
     ensures { IfOk result (λ t. string_bytes t ≡ verdict_text net.now verdict) }
 {
     match verdict {
         Verdict::Yes => String::from_str(alloc, "yes\n"),
-        Verdict::NoSuchImport { from, to } => {
-            let from = name_or_none(net, from);
-            let to = name_or_none(net, to);
-            format!(in alloc; "no NoSuchImport {from} {to}\n")
-        }
+        Verdict::NoSuchImport { from, to } => import_line(alloc, net, "NoSuchImport", from, to),
         Verdict::StillChain => String::from_str(alloc, "no StillChain\n"),
         Verdict::WrongWeight => String::from_str(alloc, "no WrongWeight\n"),
-        Verdict::OverWeight { from, to } => {
-            let from = name_or_none(net, from);
-            let to = name_or_none(net, to);
-            format!(in alloc; "no OverWeight {from} {to}\n")
-        }
+        Verdict::OverWeight { from, to } => import_line(alloc, net, "OverWeight", from, to),
         Verdict::NotKept { module } => {
             let module = name_or_none(net, module);
             format!(in alloc; "no NotKept {module}\n")
         }
         Verdict::WrongValue => String::from_str(alloc, "no WrongValue\n"),
-        Verdict::NotPinned { from, to } => {
-            let from = name_or_none(net, from);
-            let to = name_or_none(net, to);
-            format!(in alloc; "no NotPinned {from} {to}\n")
-        }
+        Verdict::NotPinned { from, to } => import_line(alloc, net, "NotPinned", from, to),
     }
 }
 

@@ -9,7 +9,7 @@ use std::io::{ErrorKind, Read};
 use std::rt::Files;
 use std::{fs, io};
 
-/// The most bytes that a network, a report or a prices file may have.
+/// The most bytes that a network, a report, a prices file or an index may have.
 const FILE_LIMIT: u64 = 1 << 30;
 
 /// Why a file or a folder isn't read.
@@ -106,8 +106,8 @@ fn read_whole<R: Files + AllocGlobal>(rt: &R, path: &str) -> Result<Vec<u8>, Rea
     }
 }
 
-/// The bytes of a network, a report or a prices file, of which at most one beyond the limit of 2^30 is read. Refuses with `CannotRead`, also
-/// above the limit, or `Memory`.
+/// The bytes of a network, a report, a prices file or an index, of which at most one beyond the limit of 2^30 is read. Refuses with
+/// `CannotRead`, also above the limit, or `Memory`.
 pub fn read_file<R: Files + AllocGlobal>(rt: &R, path: &str) -> Result<Vec<u8>, RunFault>
     ensures most { IfOk result (λ bytes. IsFile bytes.items) }
     ensures fault { IfErr result IsReadFault }

@@ -184,6 +184,16 @@ fn paths_below<R: Files + AllocGlobal + Clone + Drop>(
     Ok(walk.files)
 }
 
+/// The paths of the modules below a folder, in order.
+fn ordered_paths_below<R: Files + AllocGlobal + Clone + Drop>(
+    rt: &R,
+    folder: &str,
+) -> Result<Vec<String>, ReadFault> {
+    let mut paths = paths_below(rt, folder)?;
+    paths.sort_unstable();
+    Ok(paths)
+}
+
 /// The bytes of the regular file at this path, of which at most one beyond the limit of a module is read.
 fn read_module<R: Files + AllocGlobal>(rt: &R, path: &str) -> Result<Vec<u8>, ReadFault>
     ensures { IfOk result (λ bytes. IsFrontOfModule bytes.items) }
@@ -230,8 +240,7 @@ fn sources_below<R: Files + AllocGlobal + Clone + Drop>(
     ensures order { IfOk result (λ sources. AreInOrder sources.items) }
     ensures most { IfOk result (λ sources. AreFronts sources.items) }
 {
-    let mut paths = paths_below(rt, folder)?;
-    paths.sort_unstable();
+    let paths = ordered_paths_below(rt, folder)?;
     let sources = read_all(rt, folder, paths)?;
     // They are, but where one name stood twice among those of a folder.
     if in_order(sources.as_slice()) {
