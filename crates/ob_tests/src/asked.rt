@@ -2,12 +2,11 @@
 use crate::boards::{Step, told_board};
 use crate::graphs::{File, told_files};
 use crate::interfaces::{told_found, told_seen};
-use crate::scopes::told_scopes;
+use crate::scopes::{told_by_tree, told_document, told_scopes};
 use crate::tables::{told_by_token, told_forms, told_names, told_steps};
 use crate::tokens::{told_place, told_tokens};
 use crate::trees::told_value;
 use crate::walks::told_walks;
-use ob_emit::EmitFault;
 use ob_scan::ScanFault;
 use std::alloc::Global;
 use std::process::Abort;
@@ -33,12 +32,14 @@ pub(crate) enum Asked {
     ByToken(&'static [u8], u32),
     /// The aliases of a text, and what each use means.
     Meanings(&'static [u8]),
+    /// The same by the tree of a text, which declares nothing twice.
+    ByTree(&'static [u8]),
     /// What other modules see.
     Seen(&'static [u8]),
     /// What a record and a name find in the interface.
     Found(&'static [u8], u32, &'static str),
-    /// What is told of a package that can't stand in a symbol.
-    BadPackage,
+    /// Whether a text that imports nothing has a document in a package, or why not.
+    Package(&'static [u8], &'static str),
     /// The graph of files, of which these modules are done.
     Files(&'static [File], &'static [bool]),
     /// Steps on a board.
@@ -60,9 +61,10 @@ fn told(alloc: Global, asked: &Asked) -> Result<String, Fail> {
         Asked::Steps(text) => told_steps(alloc, text),
         Asked::ByToken(text, token) => told_by_token(alloc, text, *token),
         Asked::Meanings(text) => told_scopes(alloc, text),
+        Asked::ByTree(text) => told_by_tree(alloc, text),
         Asked::Seen(text) => told_seen(alloc, text),
         Asked::Found(text, record, name) => told_found(alloc, text, *record, name.as_bytes()),
-        Asked::BadPackage => Ok(format!(in alloc; "{}", EmitFault::BadPackage)?),
+        Asked::Package(text, name) => told_document(alloc, text, name),
         Asked::Files(files, done) => told_files(alloc, files, done),
         Asked::Board(steps) => Ok(told_board(alloc, steps)?),
     }

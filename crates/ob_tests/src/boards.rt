@@ -89,6 +89,18 @@ const ROWS: &[Row] = &[
         ]),
         "Module { number: 3 }; abandoned; taken; Finished; ---D",
     ),
+    // No module has the number.
+    (
+        OnBoard(&[
+            Step::Claim,
+            Step::Deliver(4294967295, "D"),
+            Step::Abandon(4294967295),
+            Step::Parts(4294967295),
+            Step::Deliver(3, "D"),
+            Step::Claim,
+        ]),
+        "Module { number: 3 }; NotClaimed; abandoned; NotClaimed; taken; Module { number: 1 }; ---D",
+    ),
 ];
 
 fn lists(alloc: Global, lists: &[&[u32]]) -> Result<Vec<Vec<u32>>, AllocError> {

@@ -51,6 +51,10 @@ const ROWS: &[Row] = &[
     ),
     // A local record has no owner that is seen.
     (Found(EACH, 62, "w"), "None None None no base no module"),
+    (
+        Found(M, 4294967295, "f"),
+        "None None None no base no module",
+    ),
 ];
 
 fn interface_of(alloc: Global, text: &[u8]) -> Result<Interface, Fail> {

@@ -1,5 +1,6 @@
 //! From texts to trees and tables.
 ghost use Rattle.std.specs.Prelude.{◌<◌, ◌^◌, length, IfOk};
+ghost use Rattle.ob_parse.specs.Parsed.{IsTheTree};
 ghost use Rattle.ob_scan.specs.Spelling.{IsOutcome, Reads};
 ghost use Rattle.ob_tree.specs.Derives.{spelling};
 
@@ -13,7 +14,8 @@ use std::test::Fail;
 /// The tree of tokens.
 pub(crate) fn parsed(alloc: Global, text: &[u8], tokens: &Tokens) -> Result<Box<Module>, ParseFault>
     requires { IsOutcome text.now (Reads tokens.now) }
-    ensures { IfOk result (λ tree. length (spelling tree.value) < 2 ^ 32) }
+    ensures tree { IfOk result (λ tree. IsTheTree text.now tokens.now tree.value) }
+    ensures few { IfOk result (λ tree. length (spelling tree.value) < 2 ^ 32) }
 {
     let tree = parse(alloc, text, tokens)?;
     match Box::new(alloc, tree) {

@@ -1,10 +1,13 @@
-//! Texts, each with the scopes of its module, or the first two of one name.
-use crate::asked::Asked::{BadPackage, Meanings};
+//! Texts, each with the scopes of its module, or the first two of one name; and packages, in which a module has a document or none.
+use crate::asked::Asked::{ByTree, Meanings, Package};
 use crate::asked::{Row, are_told};
-use crate::readings::table_in;
+use crate::readings::{parsed, table_in};
+use ob_emit::document;
+use ob_emit::laws::names_of_scopes;
 use ob_scan::laws::tokens_in_text;
 use ob_scan::scan;
 use ob_scope::{Scopes, scopes_from};
+use ob_types::Types;
 use std::alloc::{AllocError, Global};
 use std::test::Fail;
 
@@ -111,8 +114,19 @@ const ROWS: &[Row] = &[
         "M, 4 Texts, 8 U; 4 qualifies 2; 8 qualifies 1; 15 means 4; 24 means 8; 33 means 11; 42 means 4; 47 means 11; \
          56 means 29; 60 means 50; 62 means 40",
     ),
-    // The names of symbols have a package.
-    (BadPackage, "the package is '.' or begins with a space"),
+    (
+        ByTree(b"MODULE M; IMPORT B; BEGIN B.x END M."),
+        "M, 4 B; 4 qualifies 1; 7 means 4",
+    ),
+    (Package(b"MODULE M; END M.", "x "), "a document"),
+    (
+        Package(b"MODULE M; END M.", " x"),
+        "the package is '.' or begins with a space",
+    ),
+    (
+        Package(b"MODULE M; END M.", "."),
+        "the package is '.' or begins with a space",
+    ),
 ];
 
 /// Tells what a token means, and how many names it qualifies.
@@ -134,6 +148,8 @@ fn told_of_scopes(alloc: Global, scopes: &Scopes, tokens: u32) -> Result<String,
     for token in 0..tokens {
         tell_token(&mut told, scopes, token)?;
     }
+    // No token has the number.
+    tell_token(&mut told, scopes, 4294967295)?;
     Ok(told)
 }
 
@@ -144,6 +160,30 @@ pub(crate) fn told_scopes(alloc: Global, text: &[u8]) -> Result<String, Fail> {
     match scopes_from(alloc, &table, tokens.as_slice(), text) {
         Ok(scopes) => Ok(told_of_scopes(alloc, &scopes, tokens.len() as u32)?),
         Err(fault) => Ok(format!(in alloc; "{fault:?}")?),
+    }
+}
+
+pub(crate) fn told_by_tree(alloc: Global, text: &[u8]) -> Result<String, Fail> {
+    let tokens = scan(alloc, text)?;
+    let tree = parsed(alloc, text, &tokens)?;
+    let scopes = ob_scope::scopes(alloc, &tree, &tokens, text)?;
+    Ok(told_of_scopes(alloc, &scopes, tokens.len() as u32)?)
+}
+
+pub(crate) fn told_document(
+    alloc: Global,
+    text: &[u8],
+    package_name: &str,
+) -> Result<String, Fail> {
+    tokens_in_text();
+    names_of_scopes();
+    let tokens = scan(alloc, text)?;
+    let table = table_in(alloc, text)?;
+    let scopes = scopes_from(alloc, &table, tokens.as_slice(), text)?;
+    let types = Types::new(alloc, text, tokens.as_slice(), &table, &scopes, &[])?;
+    match document(alloc, "M.Mod", &types, &[], package_name) {
+        Ok(_) => Ok(String::from_str(alloc, "a document")?),
+        Err(fault) => Ok(format!(in alloc; "{fault}")?),
     }
 }
 

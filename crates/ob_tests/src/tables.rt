@@ -96,6 +96,7 @@ const ROWS: &[Row] = &[
         ByToken(STEPS, 18),
         "None None None [] [Selector { of: 18, step: Field(20) }]",
     ),
+    (ByToken(STEPS, 4294967295), "None None None [] []"),
 ];
 
 pub(crate) fn told_names(alloc: Global, text: &[u8]) -> Result<String, Fail> {
