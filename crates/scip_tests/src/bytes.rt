@@ -1,6 +1,6 @@
 //! Bytes as records, as packed numbers and as indexes. They are worked by hand from the encoding, or stand in its description.
 use crate::told::is_told;
-use index_store::Store;
+use index_store::{Position, Store};
 use proto_wire::{WireFault, WireRecord, WireValue, packed_values, records};
 use scip_index::{Index, IndexReader, from_bytes, to_bytes};
 use std::alloc::{AllocError, Global};
@@ -17,7 +17,7 @@ enum As {
     Index,
     /// An index beside its documents: whether there is metadata, and how many external symbols there are.
     Rest,
-    /// An index that is put into a store.
+    /// An index that is put into a store: the symbol at the eighth column of the first line of its document `a`.
     Store,
 }
 
@@ -54,6 +54,11 @@ const ROWS: &[(As, &[u8], &str)] = &[
         As::Records,
         b"\x88\x80\x80\x80\x80\x80\x80\x80\x80\x02\x05",
         "1 varint 5 at 0, 10; ",
+    ),
+    (
+        As::Records,
+        b"\x08\xff\xff\xff\xff\xff\xff\xff\xff\xff\x01",
+        "1 varint 18446744073709551615 at 0, 1; ",
     ),
     (
         As::Records,
@@ -128,6 +133,11 @@ const ROWS: &[(As, &[u8], &str)] = &[
     ),
     (As::Packed, b"\xff\xff\xff\xff\x0f\x01", "[-1, 1]"),
     (As::Packed, b"\x80\x80\x80\x80\x10", "[0]"),
+    (
+        As::Packed,
+        b"\xff\xff\xff\xff\x07\x80\x80\x80\x80\xf8\xff\xff\xff\xff\x01\x80\x80\x80\x80\x08",
+        "[2147483647, -2147483648, -2147483648]",
+    ),
     (As::Packed, b"\x80", "the record at 5 is cut off"),
     (As::Packed, b"\x00\x07\xff", "the record at 5 is cut off"),
     (
@@ -179,6 +189,12 @@ const ROWS: &[(As, &[u8], &str)] = &[
         b"\x0a\x06\x20\xff\xff\xff\xff\x0f",
         "0a0b20ffffffffffffffffff01",
     ),
+    // So does the least of an int32, and the greatest takes five.
+    (
+        As::Index,
+        b"\x12\x13\x12\x11\x0a\x0f\xff\xff\xff\xff\x07\x80\x80\x80\x80\xf8\xff\xff\xff\xff\x01",
+        "121312110a0fffffffff0780808080f8ffffffff01",
+    ),
     // A range that is packed and unpacked, negative numbers, and the last of several texts and numbers.
     (
         As::Index,
@@ -205,7 +221,13 @@ const ROWS: &[(As, &[u8], &str)] = &[
         b"\x12\x05\x12\x03\x0a\x01\x80",
         "the record at 4 is cut off",
     ),
-    (As::Store, FOREIGN, "a store"),
+    (As::Store, FOREIGN, "local 0"),
+    // The range 0, -2147483648, 2147483647.
+    (
+        As::Store,
+        b"\x12\x1a\x0a\x01a\x12\x15\x0a\x10\x00\x80\x80\x80\x80\xf8\xff\xff\xff\xff\x01\xff\xff\xff\xff\x07\x12\x01s",
+        "no symbol",
+    ),
 ];
 
 fn told_fault(alloc: Global, fault: WireFault) -> Result<String, AllocError> {
@@ -261,9 +283,16 @@ fn told_rest(alloc: Global, bytes: &[u8]) -> Result<String, AllocError> {
     }
 }
 
+fn told_symbol(alloc: Global, store: &Store) -> Result<String, AllocError> {
+    match store.symbol_at("a", Position { line: 0, column: 7 }) {
+        Ok(symbol) => String::from_str(alloc, symbol.unwrap_or("no symbol")),
+        Err(_) => Err(AllocError),
+    }
+}
+
 fn told_store(alloc: Global, index: Index) -> Result<String, AllocError> {
     match Store::new(alloc, index) {
-        Ok(_) => String::from_str(alloc, "a store"),
+        Ok(store) => told_symbol(alloc, &store),
         Err(_) => Err(AllocError),
     }
 }

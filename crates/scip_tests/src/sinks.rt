@@ -58,6 +58,7 @@ fn put_records(alloc: Global, sink: &mut ByOne) -> Result<bool, AllocError> {
     is_put(writer.varint(alloc, 1, 150, sink))
 }
 
+/// Puts the parts of an index. Where its metadata is not put, none is put into the sink when it has room again.
 fn put_parts(
     alloc: Global,
     metadata: &Metadata,
@@ -65,8 +66,11 @@ fn put_parts(
     sink: &mut ByOne,
 ) -> Result<(), WireFault> {
     let mut writer = IndexWriter::new(alloc);
-    writer.metadata(metadata, sink)?;
-    writer.document(document, sink)?;
+    let Err(_) = writer.metadata(metadata, sink) else {
+        writer.document(document, sink)?;
+        return writer.end(&[], sink);
+    };
+    sink.puts = 100;
     writer.end(&[], sink)
 }
 
