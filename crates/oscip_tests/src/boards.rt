@@ -2,8 +2,9 @@
 use crate::inputs::{THREE, TWO, sources};
 use cut_solve::Gate;
 use ob_board::{BoardGate, IndexOptions};
-use oscip_run::index_to;
+use oscip_run::{RunFault, index_to};
 use oscip_tree::{Source, in_order};
+use std::alloc::AllocError;
 use std::process::Abort;
 use std::sync::Wait;
 use std::sync::atomic::{AtomicU64, Ordering};
@@ -53,26 +54,30 @@ impl<R: Clock> BoardGate for Waking<'_, R> {
     }
 }
 
-/// Whether an index by two workers, without package and root, is put.
+/// Whether an index by two workers, without package and root, is put. Want of memory is told.
 fn is_put<R: Abort + AllocGlobal + Threads + Wait + Sync, G: BoardGate + Sync>(
     rt: &R,
     sources: &[Source],
     gate: &G,
-) -> bool {
+) -> Result<bool, AllocError> {
     assert!(rt; in_order(sources));
     let options = IndexOptions {
         package: String::new(rt.alloc()),
         root: String::new(rt.alloc()),
     };
     let mut sink = ByOne::new(rt.alloc(), 10000);
-    index_to(rt, rt.alloc(), sources, &options, 2, gate, &mut sink).is_ok()
+    match index_to(rt, rt.alloc(), sources, &options, 2, gate, &mut sink) {
+        Ok(()) => Ok(true),
+        Err(RunFault::Memory) => Err(AllocError),
+        Err(_) => Ok(false),
+    }
 }
 
 #[test]
 fn two_workers_hold_a_module_at_once(rt: HostRuntime) -> Result<(), Fail> {
     let sources = sources(rt.alloc(), TWO)?;
     let gate = Meeting(AllCome::new(&rt, 2));
-    assert!(rt; is_put(&rt, sources.as_slice(), &gate));
+    assert!(rt; is_put(&rt, sources.as_slice(), &gate)?);
     assert_eq!(rt; gate.0.let_go.load(Ordering::SeqCst), 2);
     Ok(())
 }
@@ -81,7 +86,7 @@ fn two_workers_hold_a_module_at_once(rt: HostRuntime) -> Result<(), Fail> {
 fn a_worker_that_finds_no_module_ready_waits_for_one(rt: HostRuntime) -> Result<(), Fail> {
     let sources = sources(rt.alloc(), THREE)?;
     let gate = Waking::new(&rt);
-    assert!(rt; is_put(&rt, sources.as_slice(), &gate));
+    assert!(rt; is_put(&rt, sources.as_slice(), &gate)?);
     assert_eq!(rt; gate.later.let_go.load(Ordering::SeqCst), 2);
     Ok(())
 }

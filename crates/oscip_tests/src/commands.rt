@@ -5,11 +5,13 @@ ghost use Rattle.oscip_tree.specs.Sources.{AreInOrder};
 
 use crate::faults::fault_told;
 use crate::inputs::{
-    FOUR, FOUR_BLOCKED, FOUR_CUT, FOUR_PINS, ONE, ONE_INDEX, SIX, SIX_BLOCKED, SIX_CUT, SIX_DOT,
-    SIX_PINS, WRONG, WRONG_LINE, sources,
+    FOUR, FOUR_BLOCKED, FOUR_CROSSINGS, FOUR_CUT, FOUR_DOT, FOUR_PINS, ONE, ONE_HEX, ONE_INDEX,
+    SIX, SIX_BLOCKED, SIX_CUT, SIX_DOT, SIX_PINS, WRONG, WRONG_LINE, sources,
 };
 use oscip_job::{Job, JobFault, job_of};
-use oscip_run::{OpenBoard, RunFault, answer, answer_index, answer_tree, unresolved_to};
+use oscip_run::{
+    OpenBoard, RunFault, answer, answer_crossings, answer_index, answer_tree, unresolved_to,
+};
 use oscip_tree::{Source, in_order};
 use std::alloc::{AllocError, Global};
 use std::process::Abort;
@@ -55,11 +57,20 @@ const PUTS: &[Command] = &[
         Some(FOUR_PINS),
         FOUR_BLOCKED,
     ),
+    (&["check", "four", "four.cut"], FOUR, None, b"yes\n"),
+    (&["dot", "four", "four.cut"], FOUR, None, FOUR_DOT),
+    (&["crossings", "four", "B", "D"], FOUR, None, FOUR_CROSSINGS),
     (
         &["index", "one", "one.scip", "--workers", "1"],
         ONE,
         None,
         ONE_INDEX,
+    ),
+    (
+        &["index", "one", "--hex", "--workers", "1"],
+        ONE,
+        None,
+        ONE_HEX,
     ),
     (&["unresolved", "wrong"], WRONG, None, WRONG_LINE),
 ];
@@ -162,10 +173,13 @@ fn told<R: Threads + Wait + AllocGlobal + Clock + Sync>(
             alloc,
             &answer(rt, alloc, job, SIX, SIX_CUT, gate, prices, sink),
         ),
-        Job::Cut { .. } => answer_told(
+        Job::Cut { .. } | Job::Check { .. } | Job::Dot { .. } => answer_told(
             alloc,
-            &answer_tree(rt, alloc, job, sources, SIX_CUT, gate, prices, sink),
+            &answer_tree(rt, alloc, job, sources, FOUR_CUT, gate, prices, sink),
         ),
+        Job::Crossings { .. } => {
+            puts_told(alloc, &answer_crossings(rt, alloc, job, sources, sink))
+        }
         Job::Index(indexing) => puts_told(
             alloc,
             &answer_index(rt, alloc, indexing, sources, &OpenBoard, sink),

@@ -33,6 +33,13 @@ pub const FOUR: &[(&str, &str)] = &[
 pub const FOUR_CUT: &[u8] =
     b"cut A D\nweight 2\nremove A B 1\nremove C D 1\nflow A B 1\nflow A C 1\nflow B D 1\nflow C D 1\nend\n";
 
+/// The picture of it.
+pub const FOUR_DOT: &[u8] =
+    b"digraph cut {\n  rankdir=LR;\n  \"A\" [peripheries=2] [style=filled];\n  \"B\";\n  \"C\" [style=filled];\n  \"D\" [peripheries=2];\n  \"A\" -> \"B\" [label=\"1/1\"] [style=dashed, color=red];\n  \"A\" -> \"C\" [label=\"1/2\"];\n  \"B\" -> \"D\" [label=\"1/3\"];\n  \"C\" -> \"D\" [label=\"1/1\"] [style=dashed, color=red];\n}\n";
+
+/// Where B uses D.
+pub const FOUR_CROSSINGS: &[u8] = b"B.Mod:0:40-0:43\nB.Mod:0:45-0:48\nB.Mod:0:50-0:53\n";
+
 /// Prices with which A can't be cut from D, and the report of that.
 pub const FOUR_PINS: &[u8] = b"pin A B\npin B D\n";
 
@@ -43,6 +50,10 @@ pub const ONE: &[(&str, &str)] = &[("M.Mod", "MODULE M; END M.")];
 /// The index of that file, without package and root.
 pub const ONE_INDEX: &[u8] =
     b"\x0a\x0e\x12\x0a\x0a\x05oscip\x12\x011 \x01\x12m\x0a\x05M.Mod\x12\x22\x0a\x03\x00\x07\x08\x12\x14scip-oberon . . . M/\x18\x01:\x03\x00\x00\x10\x12\x1b\x0a\x03\x00\x0e\x0f\x12\x14scip-oberon . . . M/\x1a\x19\x0a\x14scip-oberon . . . M/2\x01M\x22\x06Oberon0\x01";
+
+/// Its line of hexadecimal digits.
+pub const ONE_HEX: &[u8] =
+    b"0a0e120a0a056f736369701201312001126d0a054d2e4d6f6412220a030007081214736369702d6f6265726f6e202e202e202e204d2f18013a03000010121b0a03000e0f1214736369702d6f6265726f6e202e202e202e204d2f1a190a14736369702d6f6265726f6e202e202e202e204d2f32014d22064f6265726f6e3001\n";
 
 /// A file with a name that stands for nothing, and the line of it.
 pub const WRONG: &[(&str, &str)] = &[("A.Mod", "MODULE A; BEGIN x := 1 END A.")];
