@@ -1,8 +1,9 @@
 #!/usr/bin/env python3
 """Gives the program files that shrink and grow while it reads them, and input that was made to do harm.
 
-Each run ends with a status that is documented, and with one line where it refuses. Of the harmful input it prints the greatest
-resident size over the bytes, and the time at twice the bytes over that at once.
+Each run has to end with a status that is documented, and with one line where it refuses. Of the harmful input it prints the greatest
+resident size over the bytes, the processor seconds, and the time at twice the bytes over that at once, each time the least of three.
+It fails where memory or that ratio is above what is wanted.
 
 Build the program first: (cd crates/oscip && rt run -- --help). Then: bench/hostile.py [PROGRAM [RUNS]]
 """
@@ -13,11 +14,12 @@ import subprocess
 import sys
 import tempfile
 import threading
-import time
 
 HERE = os.path.dirname(os.path.realpath(__file__))
-STATEMENT = b"x := x + 1;\n"
-ANSWERED, REFUSED, UNREAD = 0, 1, 3
+STATEMENT = b"N.x := N.x + 1;\n"
+ANSWERED, REFUSED, UNREAD, DENIED = 0, 1, 3, 5
+# The most times that twice the bytes may take, and how long a run takes at least whose time says something.
+RATIO, LEAST_SECONDS = 3.2, 0.05
 
 
 def varint(number):
@@ -38,19 +40,17 @@ def module(body):
 
 
 def ended(words, folder):
-    """The status, the line that is told, the seconds and the greatest resident size of a run."""
-    began = time.perf_counter()
+    """The status, the line that is told, the processor seconds and the greatest resident size of a run."""
     with tempfile.TemporaryFile() as told:
         ran = subprocess.Popen(words, cwd=folder, stdin=subprocess.DEVNULL, stdout=subprocess.DEVNULL, stderr=told)
         _, status, used = os.wait4(ran.pid, 0)
         ran.returncode = os.waitstatus_to_exitcode(status)
-        took = time.perf_counter() - began
         told.seek(0)
-        return ran.returncode, told.read(), took, used.ru_maxrss * 1024
+        return ran.returncode, told.read(), used.ru_utime + used.ru_stime, used.ru_maxrss * 1024
 
 
 def is_documented(status, told):
-    if status == ANSWERED:
+    if status in (ANSWERED, DENIED):
         return not told
     return status in (REFUSED, UNREAD) and told.startswith(b"oscip: ") and told.count(b"\n") == 1 and told.endswith(b"\n")
 
@@ -68,25 +68,35 @@ def change(path, text, stop):
 
 def changing(program, folder, runs):
     """Runs commands on files that change meanwhile, and returns how many runs ended in another way than they may."""
-    tree, network, index = f"{folder}/tree/M.Mod", f"{folder}/net", f"{folder}/scip"
+    imports = [b"M%04d M%04d" % (it, it + 1) for it in range(8_000)]
     texts = {
-        tree: module(100_000 * STATEMENT),
-        network: b"".join(b"import M%d M%d 1\n" % (it, it + 1) for it in range(8_000)),
-        index: document(100_000 * record(2, b"")),
+        "tree/M.Mod": b"MODULE M; IMPORT N; BEGIN " + 100_000 * STATEMENT + b" END M.",
+        "net": b"".join(b"import %s 1\n" % it for it in imports),
+        "report": b"cut M0000 M0009\nweight 1\n" + b"".join(b"flow %s 1\n" % it for it in imports) + b"end\n",
+        "prices": b"".join(b"price %s 2\n" % it for it in imports),
+        "scip": document(100_000 * record(2, b"")),
+        "cut": b"cut M N\nweight 200000\nremove M N 200000\nend\n",
     }
     os.makedirs(f"{folder}/tree")
     for path, text in texts.items():
-        with open(path, "wb") as it:
+        with open(f"{folder}/{path}", "wb") as it:
             it.write(text)
     stop = threading.Event()
-    writers = [threading.Thread(target=change, args=(path, text, stop)) for path, text in texts.items()]
+    writers = [threading.Thread(target=change, args=(f"{folder}/{path}", text, stop)) for path, text in texts.items()]
     for it in writers:
         it.start()
     commands = [
         ["index", "tree", "out", "--workers", "4"],
         ["unresolved", "tree"],
         ["cut", "tree", "M", "N"],
-        ["cut-net", "net", "M0", "M9"],
+        ["crossings", "tree", "M", "N"],
+        ["check", "tree", "cut"],
+        ["dot", "tree", "cut"],
+        ["cut-net", "net", "M0000", "M0009"],
+        ["cut-net", "net", "M0000", "M0009", "--prices", "prices"],
+        ["check-net", "net", "report"],
+        ["dot-net", "net", "report", "--prices", "prices"],
+        ["def", "scip", "a", "0", "0"],
         ["refs", "scip", "a", "0", "0"],
     ]
     wrong, ends = 0, {}
@@ -104,42 +114,100 @@ def changing(program, folder, runs):
     return wrong
 
 
+def lines_of(word, modules):
+    """A line with this word for each pair of the first so many of 2,000 modules with 1,000 of them."""
+    return b"".join(b"%s M%04d M%04d 1\n" % (word, it, other) for it in range(modules) for other in range(1_000))
+
+
+# The file, the command, the most memory over the bytes, and for each input its text, of which there is once or twice as much.
+HARMFUL = [
+    (
+        "index",
+        ["refs", "index", "a", "0", "0"],
+        42,
+        {
+            "empty occurrences": lambda k: document(25_000_000 * k * record(2, b"")),
+            "documents of one path": lambda k: 10_000_000 * k * record(2, b"\x0a\x01a"),
+            "occurrences, each with a symbol of one byte": lambda k: document(2_000_000 * k * record(2, b"\x12\x01s")),
+            "empty external symbols": lambda k: 2_000_000 * k * record(3, b""),
+        },
+    ),
+    (
+        "m/M.Mod",
+        ["index", "m", "--hex"],
+        175,
+        {
+            "semicolons": lambda k: module(4_000_000 * k * b";"),
+            "`^` behind a name": lambda k: module(b"x := x" + 4_000_000 * k * b"^"),
+            "`+ x`": lambda k: module(b"x := x" + 1_300_000 * k * b"+ x"),
+            "`()` behind a name": lambda k: module(b"x" + 2_000_000 * k * b"()"),
+            "import items of one name": lambda k: b"MODULE M; IMPORT " + b", ".join([b"A"] * (1_300_000 * k)) + b"; END M.",
+            "one name": lambda k: module(4_000_000 * k * b"x"),
+            "WHILE in one another": lambda k: module(400_000 * k * b"WHILE x DO "),
+            "procedure types": lambda k: b"MODULE M; TYPE T = " + 200_000 * k * b"PROCEDURE (): " + b"T; END M.",
+        },
+    ),
+    (
+        "net",
+        ["cut-net", "net", "A", "B"],
+        10,
+        {
+            "empty lines of a network": lambda k: 20_000_000 * k * b"\n",
+            "lines of one module": lambda k: 4_000_000 * k * b"module M\n",
+            "one name of a network": lambda k: b"module " + 40_000_000 * k * b"A",
+            "one weight": lambda k: b"import A B " + 40_000_000 * k * b"9",
+        },
+    ),
+    (
+        "report",
+        ["check-net", "modules.net", "report"],
+        20,
+        {
+            "remove lines": lambda k: b"cut M0000 M0001\nweight 1\n" + lines_of(b"remove", 500 * k) + b"end\n",
+            "flow lines": lambda k: b"cut M0000 M0001\nweight 1\n" + lines_of(b"flow", 500 * k) + b"end\n",
+            "names of a `blocked` line": lambda k: b"cut M0000 M0001\nblocked" + 4_000_000 * k * b" M0000" + b"\nend\n",
+            "one weight of a report": lambda k: b"cut M0000 M0001\nweight " + 40_000_000 * k * b"9",
+        },
+    ),
+    (
+        "prices",
+        ["cut-net", "one.net", "A", "B", "--prices", "prices"],
+        10,
+        {
+            "empty lines of prices": lambda k: b"pin A B" + 20_000_000 * k * b"\n",
+            "one price": lambda k: b"price A B " + 40_000_000 * k * b"9",
+        },
+    ),
+]
+
+
 def harmful(program, folder):
-    """Prints memory and times of input that was made to do harm, and returns how many runs ended in another way than they may."""
-    indexes = {
-        "empty occurrences": lambda k: document(25_000_000 * k * record(2, b"")),
-        "documents of one path": lambda k: 10_000_000 * k * record(2, b"\x0a\x01a"),
-        "occurrences, each with a symbol of one byte": lambda k: document(2_000_000 * k * record(2, b"\x12\x01s")),
-        "empty external symbols": lambda k: 2_000_000 * k * record(3, b""),
-    }
-    modules = {
-        "semicolons": lambda k: module(4_000_000 * k * b";"),
-        "`^` behind a name": lambda k: module(b"x := x" + 4_000_000 * k * b"^"),
-        "`+ x`": lambda k: module(b"x := x" + 1_300_000 * k * b"+ x"),
-        "`()` behind a name": lambda k: module(b"x" + 2_000_000 * k * b"()"),
-        "import items of one name": lambda k: b"MODULE M; IMPORT " + b", ".join([b"A"] * (1_300_000 * k)) + b"; END M.",
-        "one name": lambda k: module(4_000_000 * k * b"x"),
-        "WHILE in one another": lambda k: module(400_000 * k * b"WHILE x DO "),
-        "procedure types": lambda k: b"MODULE M; TYPE T = " + 200_000 * k * b"PROCEDURE (): " + b"T; END M.",
-    }
+    """Prints memory and times of input that was made to do harm, and returns how many are at fault."""
+    fixed = {"one.net": b"import A B 1\n", "modules.net": b"".join(b"module M%04d\n" % it for it in range(2_000))}
+    for name, text in fixed.items():
+        with open(f"{folder}/{name}", "wb") as it:
+            it.write(text)
     wrong = 0
-    print("| Input | Bytes | Memory | Time at twice the bytes |\n|---|---|---|---|")
-    for made, is_index in ((indexes, True), (modules, False)):
-        for name, text in made.items():
+    print("| Input | Bytes | Memory | Seconds | Time at twice the bytes |\n|---|---|---|---|---|")
+    for path, words, most, inputs in HARMFUL:
+        at = f"{folder}/{path}"
+        os.makedirs(os.path.dirname(at), exist_ok=True)
+        for name, text in inputs.items():
             took = []
             for times in (1, 2):
-                at = f"{folder}/index" if is_index else f"{folder}/m/M.Mod"
-                os.makedirs(os.path.dirname(at), exist_ok=True)
                 with open(at, "wb") as it:
                     it.write(text(times))
-                words = ["refs", "index", "a", "0", "0"] if is_index else ["index", "m", "--hex"]
-                status, told, seconds, memory = ended([program, *words], folder)
-                took.append(seconds)
+                ends = [ended([program, *words], folder) for _ in range(3)]
+                took.append(min(it[2] for it in ends))
+                status, told, _, memory = ends[0]
                 if not is_documented(status, told):
                     wrong += 1
                     print(f"{name}: status {status}, {told[:200]!r}")
-            size = os.path.getsize(at)
-            print(f"| {name} | {size:,} | {memory / size:.0f} | {took[1] / took[0]:.1f} |", flush=True)
+            size, ratio = os.path.getsize(at), took[1] / max(took[0], 0.001)
+            print(f"| {name} | {size:,} | {memory / size:.0f} | {took[1]:.2f} | {ratio:.1f} |", flush=True)
+            if memory > most * size or ratio > RATIO and took[1] > LEAST_SECONDS:
+                wrong += 1
+                print(f"{name}: more than {most} times the bytes, or {RATIO} times the time at twice the bytes")
     return wrong
 
 

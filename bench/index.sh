@@ -14,7 +14,16 @@ python3 "$here/index.py" "$oscip" "${2:-1}" "${3:-500}" "$work/editor"
 "$oscip" index "$work/editor" "$work/editor.out"
 if command -v protoc >/dev/null; then
   protoc --proto_path="$here" --decode=wire.Index "$here/index.proto" <"$work/editor.out" >"$work/editor.txt"
-  echo "protoc reads the editor's index: $(grep -c '^documents' "$work/editor.txt") documents, $(grep -c 'occurrences {' "$work/editor.txt") occurrences"
+  documents=$(grep -c '^documents' "$work/editor.txt")
+  echo "protoc reads the editor's index: $documents documents, $(grep -c 'occurrences {' "$work/editor.txt") occurrences"
+  if grep -E '^ *[0-9]+(:| \{)' "$work/editor.txt"; then
+    echo "these fields of the editor's index are unknown"
+    exit 1
+  fi
+  modules=$(find "$work/editor" -name '*.[Mm]od' | wc -l)
+  [ "$documents" = "$modules" ] || { echo "the editor has $modules modules"; exit 1; }
+else
+  echo "without protoc the editor's index isn't decoded"
 fi
 g++ -O2 -std=c++17 -pthread -o "$work/indexer" "$here/indexer.cpp"
 for shape in files graph large; do

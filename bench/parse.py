@@ -1,6 +1,6 @@
 # Runs the program of bench/timing on folders of generated modules, beside other programs, and prints rates and ratios.
 # Each time is the least of seven rounds, or of as many as begin within 20 seconds; what is compared takes turns.
-# Usage: parse.py PROGRAM scan|lines|parse|scopes|walk FOLDER SHAPE..
+# Usage: parse.py PROGRAM scan|lines|parse|scopes|emit|walk FOLDER SHAPE..
 import os, subprocess, sys, time
 
 program, step, folder = sys.argv[1:4]
@@ -75,6 +75,18 @@ if step == "scopes":
         ratios = ["%.2f" % (best[name] / best["scan"]) for name in ("table", "scopes", "parse")]
         size = (memory("table", files) - memory("parse", files)) / best["tokens"]
         print("| %s | %d | %s | %.0f |" % (shape, best["tokens"], " | ".join(ratios), size), flush=True)
+    sys.exit()
+
+if step == "emit":
+    names = ["scan", "parse", "table", "scopes", "references", "documents", "written"]
+    print("Milliseconds of each step, and bytes of documents a source byte")
+    print("| Shape | %s | Bytes |" % " | ".join(names))
+    print("|---" * (len(names) + 2) + "|")
+    for shape in shapes:
+        files = files_of(shape)
+        best = least(lambda: own_times(step, files))
+        times = ["%.0f" % (best[name] / 1e6) for name in names]
+        print("| %s | %s | %.1f |" % (shape, " | ".join(times), best["indexed"] / best["bytes"]), flush=True)
     sys.exit()
 
 source = files_of("c")

@@ -1,7 +1,8 @@
 #!/usr/bin/env bash
 # Refuses each allocation by malloc or realloc of a run, one in each of as many runs. Each has to end with its right answer,
 # or with Memory, status 4 and at most a front of the right answer on standard output, and no third. Of a cut's right answer the
-# flow may be another one of that value, since it hangs on the workers' turns; check-net and check have to say yes to it.
+# flow may be another one of that value, since it hangs on the workers' turns; check-net and check have to say yes to it. What a run
+# writes into the file out.scip counts as standard output.
 # Build the program first: (cd crates/oscip && rt run -- --help). Then: bench/refuse.sh [PATH OF THE PROGRAM]
 set -eu
 here=$(cd "$(dirname "$0")" && pwd)
@@ -53,13 +54,17 @@ is_right() {
 trial() {
   local wanted=$1 number=0 refusals=0 same=0 right status
   shift
+  : > out.scip
   "$oscip" "$@" > right 2> said && right=0 || right=$?
+  cat out.scip >> right
   [ $right = $wanted ] || { echo "$*: status $right, $(head -n 1 said)"; exit 1; }
   while :; do
     number=$((number + 1))
     rm -f refused
+    : > out.scip
     REFUSE_AT=$number REFUSE_NOTE=refused LD_PRELOAD="$work/refuse.so" "$oscip" "$@" > got 2> told && status=0 || status=$?
     [ -e refused ] || break
+    cat out.scip >> got
     if is_memory; then
       refusals=$((refusals + 1))
     elif [ $status = $right ] && is_right "$@" && cmp -s told said; then
@@ -126,6 +131,7 @@ trial 1 dot wrong four.cut
 trial 3 dot-net six.net absent.cut
 trial 2 dot-net six.net
 trial 0 index four --hex
+trial 0 index four out.scip
 trial 0 index --workers 1 editor --hex
 trial 0 unresolved four
 trial 0 unresolved editor

@@ -2,10 +2,12 @@
 """Refuses each allocation of each test, one in each of as many runs, until a run has no more.
 
 Each run has to pass, to end for want of memory, or to tell that in place of what it had to tell. Where a gate orders the turns of
-workers, a worker to which memory was refused ends alone, and so the turns that wait for it are missed. Where events are tried in
-turn, the one that was refused is tried again later, and so all ends in the same way after another number of steps.
+workers, a worker to which memory was refused ends alone, and so the turns that wait for it are missed. Where workers are counted, one
+that couldn't be started is missing. Where events are tried in turn, the one that was refused is tried again later, and so all ends in
+the same way after another number of steps.
 
-bench/refuse_tests.py PROGRAM ..: programs of tests, as `rt test` leaves them in crates/NAME/out/NAME_tests.
+bench/refuse_tests.py [MOST] PROGRAM ..: programs of tests, as `rt test` leaves them in crates/NAME/out/NAME_tests. With MOST at most so
+many allocations of each test are refused, spread evenly.
 """
 import os
 import re
@@ -18,8 +20,9 @@ HERE = os.path.dirname(os.path.realpath(__file__))
 WANTS = re.compile(rb"\b(Memory|AllocError|AllocFailed|Refused|memory ran out)\b")
 MISSED = b"were_passed()"
 COMPARED = re.compile(rb'left: (".*")\n right: (".*")')
+COUNTED = re.compile(rb"left: (\d+)\n right: (\d+)\n")
 STEPS = re.compile(rb"after \d+")
-PASSES, WANTS_MEMORY, MISSES, OTHER_STEPS, ANOTHER = "pass", "want memory", "miss turns", "take other steps", "end in another way"
+PASSES, WANTS_MEMORY, MISSES, FEWER, OTHER_STEPS, ANOTHER = "pass", "want memory", "miss turns", "miss a worker", "take other steps", "end in another way"
 
 
 def how_ended(status, said):
@@ -32,6 +35,9 @@ def how_ended(status, said):
         return WANTS_MEMORY
     if MISSED in said:
         return MISSES
+    counted = COUNTED.search(said)
+    if counted and int(counted[1]) < int(counted[2]):
+        return FEWER
     compared = COMPARED.search(said)
     if compared and STEPS.sub(b"", compared[1]) == STEPS.sub(b"", compared[2]):
         return OTHER_STEPS
@@ -53,25 +59,35 @@ def run(program, test, number, shim, folder):
     return how_ended(status, said), said, was_refused
 
 
-def tried(program, test, shim, folder):
+def tried(program, test, shim, folder, most):
     """Refuses one allocation after the other, and returns how many runs ended in another way than they may."""
-    counts, number, is_more = {}, 1, True
+
+    def refused(number):
+        return run(program, test, number, shim, folder)
+
+    counts, end = {}, 1
+    while refused(end)[2]:
+        end *= 2
+    numbers = range(1, end, -(-end // most) if most else 1)
     with ThreadPoolExecutor(os.cpu_count()) as pool:
-        while is_more:
-            numbers = range(number, number + 64)
-            for at, (how, said, was_refused) in zip(numbers, pool.map(lambda it: run(program, test, it, shim, folder), numbers)):
+        # a few at once, since up to a half of the numbers are too large
+        for begin in range(0, len(numbers), 64):
+            some = numbers[begin : begin + 64]
+            for number, (how, said, was_refused) in zip(some, pool.map(refused, some)):
                 if not was_refused:
-                    is_more = False
-                    break
+                    continue
                 counts[how] = counts.get(how, 0) + 1
                 if how == ANOTHER:
-                    print(f"{test}, allocation {at}: {said[-300:]!r}", flush=True)
-            number += 64
+                    print(f"{test}, allocation {number}: {said[-300:]!r}", flush=True)
+            if not was_refused:
+                break
     print(f"{os.path.basename(program)} {test}:", ", ".join(f"{count} {how}" for how, count in counts.items()), flush=True)
     return counts.get(ANOTHER, 0)
 
 
-def main(programs):
+def main(words):
+    most = int(words[0]) if words[0].isdigit() else 0
+    programs = words[1:] if most else words
     wrong = 0
     with tempfile.TemporaryDirectory() as folder:
         shim = f"{folder}/refuse.so"
@@ -79,7 +95,7 @@ def main(programs):
         for program in map(os.path.realpath, programs):
             listed = subprocess.run([program, "--list"], stdout=subprocess.PIPE, text=True, check=True).stdout
             for test in re.findall(r"^(\S+): test$", listed, re.MULTILINE):
-                wrong += tried(program, test, shim, folder)
+                wrong += tried(program, test, shim, folder, most)
     return 1 if wrong else 0
 
 
