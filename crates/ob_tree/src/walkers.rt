@@ -1,5 +1,5 @@
-//! What stands in a module's tree, by the numbers of its tokens. The walkers recurse a few calls for each level of
-//! nesting; lists are loops. Each call answers AllocError where a growth of memory is refused.
+//! What stands in a module's tree, by the numbers of its tokens. The walkers recurse a few calls for each level of nesting, so a
+//! tree of `parse` needs a stack of 2 MiB; lists are loops. Each call answers AllocError where a growth of memory is refused.
 
 ghost use Rattle.std.specs.Prelude.{◌≡◌, ◌<◌, ◌^◌, List, length, IfOk};
 ghost use Rattle.std.specs.List.{range_with_len};
