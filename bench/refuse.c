@@ -1,32 +1,104 @@
-/* Refuses the allocation of the number REFUSE_AT by malloc or realloc, for refuse.sh: loaded before the C library.
-   Where it does, it makes the file REFUSE_NOTE. */
+/* Refuses allocations by malloc or realloc, for refuse.sh and refuse_tests.py: loaded before the C library.
+
+   With REFUSE_AT the one of that number; where it does, it makes the file REFUSE_NOTE.
+   With REFUSE_EACH every REFUSE_STEPth one, each in a child process that goes on from there, so that what comes before isn't run
+   again. How each ended is written into the file REFUSE_EACH: a line with its number, its status as of wait and how many bytes it
+   said, and then these bytes. While threads run no child can go on; the line then has the number alone. */
 #define _GNU_SOURCE
 #include <dlfcn.h>
 #include <errno.h>
 #include <fcntl.h>
+#include <pthread.h>
+#include <stdatomic.h>
+#include <stdio.h>
 #include <stdlib.h>
+#include <sys/mman.h>
+#include <sys/wait.h>
 #include <unistd.h>
 
-static long count, at = -1;
+enum { SECONDS = 60, MOST_SAID = 1 << 16 };
+
+static atomic_long count, threads;
+static long at = -1, step;
 static const char *note;
+static int ends = -1, said = -1, is_child;
 
 __attribute__((constructor)) static void begin(void) {
-    const char *text = getenv("REFUSE_AT");
+    const char *text = getenv("REFUSE_AT"), *each = getenv("REFUSE_EACH"), *steps = getenv("REFUSE_STEP");
     note = getenv("REFUSE_NOTE");
     if (text) at = atol(text);
+    if (each) {
+        ends = open(each, O_CREAT | O_WRONLY | O_TRUNC | O_CLOEXEC, 0600);
+        said = memfd_create("said", MFD_CLOEXEC);
+        step = steps ? atol(steps) : 1;
+    }
     count = 0;
 }
 
+static void put(const char *bytes, ssize_t length) {
+    while (length > 0) {
+        ssize_t took = write(ends, bytes, length);
+        if (took < 0) _exit(99);
+        bytes += took;
+        length -= took;
+    }
+}
+
+/* Tells how a child ended. */
+static void tell(long number, int status) {
+    static char bytes[MOST_SAID];
+    char line[64];
+    ssize_t length = pread(said, bytes, sizeof bytes, 0);
+    put(line, snprintf(line, sizeof line, "%ld %d %zd\n", number, status, length));
+    put(bytes, length);
+}
+
+/* Whether this process is the child that goes on without this allocation. */
+static int refused_in_child(long number) {
+    if (is_child || number % step) return 0;
+    if (threads) {
+        char line[64];
+        put(line, snprintf(line, sizeof line, "%ld\n", number));
+        return 0;
+    }
+    if (ftruncate(said, 0)) _exit(99);
+    pid_t child = fork();
+    if (child < 0) _exit(99);
+    if (child == 0) {
+        is_child = 1;
+        lseek(said, 0, SEEK_SET);
+        dup2(said, 1);
+        dup2(said, 2);
+        alarm(SECONDS);
+        return 1;
+    }
+    int status;
+    while (waitpid(child, &status, 0) < 0)
+        if (errno != EINTR) _exit(99);
+    tell(number, status);
+    return 0;
+}
+
 static int refused(void) {
-    if (++count != at) return 0;
-    if (note) close(open(note, O_CREAT | O_WRONLY, 0600));
+    long number = ++count;
+    if (ends >= 0) {
+        if (!refused_in_child(number)) return 0;
+    } else {
+        if (number != at) return 0;
+        if (note) close(open(note, O_CREAT | O_WRONLY, 0600));
+    }
     errno = ENOMEM;
     return 1;
 }
 
-void *malloc(size_t size) {
+static void *(*next_malloc(void))(size_t) {
     static void *(*next)(size_t);
     if (!next) next = (void *(*)(size_t))dlsym(RTLD_NEXT, "malloc");
+    return next;
+}
+
+void *malloc(size_t size) {
+    void *(*next)(size_t) = next_malloc();
     return refused() ? NULL : next(size);
 }
 
@@ -34,4 +106,41 @@ void *realloc(void *old, size_t size) {
     static void *(*next)(void *, size_t);
     if (!next) next = (void *(*)(void *, size_t))dlsym(RTLD_NEXT, "realloc");
     return refused() ? NULL : next(old, size);
+}
+
+struct thread {
+    void *(*body)(void *);
+    void *given;
+};
+
+static void end(void *unused) {
+    (void)unused;
+    --threads;
+}
+
+static void *run(void *it) {
+    struct thread thread = *(struct thread *)it;
+    free(it);
+    void *result;
+    pthread_cleanup_push(end, NULL);
+    result = thread.body(thread.given);
+    pthread_cleanup_pop(1);
+    return result;
+}
+
+/* Counts the threads that run. */
+int pthread_create(pthread_t *id, const pthread_attr_t *how, void *(*body)(void *), void *given) {
+    static int (*next)(pthread_t *, const pthread_attr_t *, void *(*)(void *), void *);
+    if (!next) next = (int (*)(pthread_t *, const pthread_attr_t *, void *(*)(void *), void *))dlsym(RTLD_NEXT, "pthread_create");
+    struct thread *it = next_malloc()(sizeof *it);
+    if (!it) return EAGAIN;
+    it->body = body;
+    it->given = given;
+    ++threads;
+    int status = next(id, how, run, it);
+    if (status) {
+        --threads;
+        free(it);
+    }
+    return status;
 }

@@ -1,7 +1,8 @@
 #!/usr/bin/env python3
-"""Refuses each allocation of each test, one in each of as many runs, until a run has no more.
+"""Refuses each allocation of each test, until there is none more: each in a child of one run that goes on without it, and while
+threads run in a run of its own.
 
-Each run has to pass, to end for want of memory, or to tell that in place of what it had to tell. Where a gate orders the turns of
+Each has to pass, to end for want of memory, or to tell that in place of what it had to tell. Where a gate orders the turns of
 workers, a worker to which memory was refused ends alone, and so the turns that wait for it are missed. Where workers are counted, one
 that couldn't be started is missing. Where events are tried in turn, the one that was refused is tried again later, and so all ends in
 the same way after another number of steps.
@@ -11,6 +12,7 @@ many allocations of each test are refused, spread evenly.
 """
 import os
 import re
+import signal
 import subprocess
 import sys
 import tempfile
@@ -44,7 +46,7 @@ def how_ended(status, said):
     return ANOTHER
 
 
-def run(program, test, number, shim, folder):
+def refused(program, test, number, shim, folder):
     """How the test ended with this allocation refused, what it said, and whether there was such an allocation."""
     note = f"{folder}/{number}"
     env = {**os.environ, "LD_PRELOAD": shim, "REFUSE_AT": str(number), "REFUSE_NOTE": note}
@@ -59,28 +61,48 @@ def run(program, test, number, shim, folder):
     return how_ended(status, said), said, was_refused
 
 
+def each(program, test, step, shim, folder):
+    """Goes on in a child without every allocation of so many, in one run: gives the number of each, and how it ended and what it said,
+    or none where threads ran."""
+    ends = f"{folder}/ends"
+    env = {**os.environ, "LD_PRELOAD": shim, "REFUSE_EACH": ends, "REFUSE_STEP": str(step)}
+    subprocess.run([program, test], env=env, stdin=subprocess.DEVNULL, stdout=subprocess.DEVNULL, stderr=subprocess.DEVNULL, check=True)
+    with open(ends, "rb") as told:
+        for line in told:
+            number, *rest = map(int, line.split())
+            if rest:
+                status, length = rest
+                how = None if os.WIFSIGNALED(status) and os.WTERMSIG(status) == signal.SIGALRM else status
+                said = told.read(length)
+                yield number, (how_ended(how, said), said)
+            else:
+                yield number, None
+
+
 def tried(program, test, shim, folder, most):
     """Refuses one allocation after the other, and returns how many runs ended in another way than they may."""
+    step = 1
+    if most:
+        end = 1
+        while refused(program, test, end, shim, folder)[2]:
+            end *= 2
+        step = -(-end // most)
+    counts, left = {}, []
 
-    def refused(number):
-        return run(program, test, number, shim, folder)
+    def note(number, how, said):
+        counts[how] = counts.get(how, 0) + 1
+        if how == ANOTHER:
+            print(f"{test}, allocation {number}: {said[-300:]!r}", flush=True)
 
-    counts, end = {}, 1
-    while refused(end)[2]:
-        end *= 2
-    numbers = range(1, end, -(-end // most) if most else 1)
+    for number, ended in each(program, test, step, shim, folder):
+        if ended:
+            note(number, *ended)
+        else:
+            left.append(number)
     with ThreadPoolExecutor(os.cpu_count()) as pool:
-        # a few at once, since up to a half of the numbers are too large
-        for begin in range(0, len(numbers), 64):
-            some = numbers[begin : begin + 64]
-            for number, (how, said, was_refused) in zip(some, pool.map(refused, some)):
-                if not was_refused:
-                    continue
-                counts[how] = counts.get(how, 0) + 1
-                if how == ANOTHER:
-                    print(f"{test}, allocation {number}: {said[-300:]!r}", flush=True)
-            if not was_refused:
-                break
+        for number, (how, said, was_refused) in zip(left, pool.map(lambda it: refused(program, test, it, shim, folder), left)):
+            if was_refused:
+                note(number, how, said)
     print(f"{os.path.basename(program)} {test}:", ", ".join(f"{count} {how}" for how, count in counts.items()), flush=True)
     return counts.get(ANOTHER, 0)
 
