@@ -1,7 +1,6 @@
 pub mod Counting
 pub mod Ascending
 pub mod Elements
-pub mod Searched
 pub mod Blocks
 pub mod Meanings
 pub mod Keyed

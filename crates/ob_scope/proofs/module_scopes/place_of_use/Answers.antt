@@ -2,7 +2,7 @@
 use Rattle.std.proofs.Common.{rules}
 use Rattle.std.proofs.lemmas.Fn.{always_returns_same}
 use Rattle.ob_scope.specs.declared.meaning.Resolution.{Resolution}
-use Rattle.ob_scope.proofs.Searched.{searched_found, searched_none}
+use Rattle.ob_decls.proofs.Searched.{searched_found, searched_none}
 use Rattle.ob_scope.proofs.module_scopes.place_of_use.Goals as goal
 
 pub returns-clause-found : goal.returns-clause-found
