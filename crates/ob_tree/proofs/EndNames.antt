@@ -13,53 +13,48 @@ use Rattle.ob_tree.specs.declared.declaration.ImportItem.{ImportItem}
 use Rattle.ob_tree.specs.declared.declaration.Module.{Module}
 use Rattle.ob_tree.specs.declared.declaration.Declarations.{Declarations, out-Declarations}
 use Rattle.ob_tree.specs.declared.declaration.ProcDecl.{ProcDecl, out-ProcDecl}
-use Rattle.ob_tree.specs.Marks.{Out, Begins, Ends, Identifier, Value, Word, Declares, Uses, Names, Repeats, construct, word, named, declared, each, listed}
+use Rattle.ob_tree.specs.Marks.{Out, Mark, Begins, Ends, Identifier, Value, Word, Declares, Uses, Names, Repeats, construct, word, named, declared, each, listed}
 use Rattle.ob_tree.specs.Expressions.{expr_outline}
 use Rattle.ob_tree.specs.Statements.{block_outline}
 use Rattle.ob_tree.specs.Types.{parameters_outline}
 use Rattle.ob_tree.specs.Declaring.{const_outline, type_decl_outline, variable_outline, part, declarations_outline, procedure_outline, import_outline, module_outline}
 use Rattle.ob_tree.specs.Derives.{endings_in}
 use Rattle.ob_tree.proofs.DeclarationLayers.{procedure_shown, declarations_out, procedure_out}
-use Rattle.ob_tree.proofs.Walks.{each_push}
+use Rattle.ob_tree.proofs.Gathers.{Gathers, Without, without, gathered-append, gathered-past, gathered-construct, gathered-each_push}
 use Rattle.ob_tree.proofs.Closed.{IsClosed, closed-both, closed-construct, closed-there, closed-each, closed-listed}
 use Rattle.ob_tree.proofs.ClosedExpressions.{closed-expr}
 use Rattle.ob_tree.proofs.ClosedStatements.{closed-block}
 use Rattle.ob_tree.proofs.ClosedTypes.{closed-identdef, closed-parameters, closed-type, closed-var}
 
-pub endings-append : (a b : Out) → endings_in (a ++ b) ≡ endings_in a ++ endings_in b
-endings-append [] b = refl
-endings-append (Begins c n ∷ a) b = endings-append a b
-endings-append (Ends c ∷ a) b = endings-append a b
-endings-append (Identifier Declares n ∷ a) b = endings-append a b
-endings-append (Identifier Uses n ∷ a) b = endings-append a b
-endings-append (Identifier Names n ∷ a) b = endings-append a b
-endings-append (Identifier (Repeats m) n ∷ a) b = ap (λ (es : List (ℕ × ℕ)). (m, n) ∷ es) (endings-append a b)
-endings-append (Value k n ∷ a) b = endings-append a b
-endings-append (Word k ∷ a) b = endings-append a b
+one_more : (m : Mark) (ms : Out) → endings_in (m ∷ ms) ≡ endings_in (m ∷ []) ++ endings_in ms
+one_more (Begins c n) ms = refl
+one_more (Ends c) ms = refl
+one_more (Identifier Declares n) ms = refl
+one_more (Identifier Uses n) ms = refl
+one_more (Identifier Names n) ms = refl
+one_more (Identifier (Repeats m) n) ms = refl
+one_more (Value k n) ms = refl
+one_more (Word k) ms = refl
 
-pub endings-construct : (c : Construct) (o : Out) → endings_in (construct c o) ≡ endings_in o
-unfolding construct
-endings-construct c o = endings-append o (Ends c ∷ []) ∙ append-nil (endings_in o)
+gathers : Gathers endings_in
+gathers = record {
+  nothing = refl;
+  more = one_more;
+  of_begin = λ c n. refl;
+  of_end = λ c. refl;
+  of_word = λ k. refl;
+  of_value = λ k n. refl;
+  of_use = λ n. refl;
+  of_name = λ n. refl;
+}
 
 -- ---- what has none
 
--- no name after END is in it
-pub record NoEnd (o : Out) : Type 0 where
-  pub none : endings_in o ≡ []
-
-both_none : (a b : Out) → NoEnd a → NoEnd b → NoEnd (a ++ b)
-both_none a b p q = record { none = endings-append a b ∙ rw (p.none, q.none) refl }
+abbrev NoEnd : Out → Type 0
+NoEnd = Without endings_in
 
 no_end : IsClosed NoEnd
-no_end = record {
-  nothing = record { none = refl };
-  one_after = both_none;
-  a_word = λ k. record { none = refl };
-  a_value = λ k n. record { none = refl };
-  a_use = λ n. record { none = refl };
-  a_name = λ n. record { none = refl };
-  held = λ c o p. record { none = endings-construct c o ∙ p.none };
-}
+no_end = without endings_in gathers
 
 declares : (n : ℕ) → NoEnd (declared n)
 declares n = record { none = refl }
@@ -89,31 +84,26 @@ part_none k f xs w = closed-both NoEnd no_end (no_end.a_word k) (closed-each NoE
 
 -- what stands behind a part that has none
 past : (a b : Out) → NoEnd a → endings_in (a ++ b) ≡ endings_in b
-past a b p = endings-append a b ∙ ap (λ (es : List (ℕ × ℕ)). es ++ endings_in b) p.none
+past = gathered-past endings_in gathers
 
--- the semicolons between them have none
-after_each : {X : Type 0} (k : Kind) (f : X → Out) (xs : List X) → endings_in (each (λ x. f x ++ word k) xs) ≡ endings_in (each f xs)
-after_each k f [] = refl
-after_each k f (x ∷ xs) =
-    endings-append (f x ++ word k) (each (λ y. f y ++ word k) xs) ∙ ap (λ (es : List (ℕ × ℕ)). es ++ endings_in (each (λ y. f y ++ word k) xs)) (endings-append (f x) (word k) ∙ append-nil (endings_in (f x)))
-    ∙ ap (λ (es : List (ℕ × ℕ)). endings_in (f x) ++ es) (after_each k f xs) ∙ rw (endings-append (f x) (each f xs)) refl
+pub endings-append : (a b : Out) → endings_in (a ++ b) ≡ endings_in a ++ endings_in b
+endings-append = gathered-append endings_in gathers
 
 pub endings-each_push : {X : Type 0} (f : X → Out) (xs : List X) (x : X) → endings_in (each f (xs ++ x ∷ [])) ≡ endings_in (each f xs) ++ endings_in (f x)
-endings-each_push f xs x = rw (each_push, endings-append) refl
+endings-each_push f xs x = gathered-each_push endings_in gathers f xs x
 
 -- the procedures' alone
-pub declarations_ends : (d : Declarations) → endings_in (declarations_outline d) ≡ endings_in (each procedure_outline (out-Declarations d).procedures.items)
+pub declarations_ends : (d : Declarations) → endings_in (declarations_outline d) ≡ endings_in (each (λ p. procedure_outline p ++ word kinds.Semicolon) (out-Declarations d).procedures.items)
 declarations_ends d =
     ap endings_in (declarations_out d)
     ∙ past _ _ (closed-there NoEnd no_end (λ v. part kinds.Const const_outline v.items) (out-Declarations d).constants (λ v. part_none kinds.Const const_outline v.items const_none))
     ∙ past _ _ (closed-there NoEnd no_end (λ v. part kinds.Type type_decl_outline v.items) (out-Declarations d).types (λ v. part_none kinds.Type type_decl_outline v.items type_decl_none))
     ∙ past _ _ (closed-there NoEnd no_end (λ v. part kinds.Var variable_outline v.items) (out-Declarations d).variables (λ v. part_none kinds.Var variable_outline v.items variable_none))
-    ∙ after_each kinds.Semicolon procedure_outline (out-Declarations d).procedures.items
 
 -- those of the procedures inside, and its own behind them
 pub procedure_ends : (p : ProcDecl) → endings_in (procedure_outline p) ≡ endings_in (declarations_outline (out-ProcDecl p).declarations) ++ ((out-ProcDecl p).name.name, (out-ProcDecl p).end_name) ∷ []
 procedure_ends p =
-    ap endings_in (procedure_out p) ∙ endings-construct constructs.ProcedureDeclaration (procedure_shown (out-ProcDecl p))
+    ap endings_in (procedure_out p) ∙ gathered-construct endings_in gathers constructs.ProcedureDeclaration (procedure_shown (out-ProcDecl p))
     ∙ past _ _ (closed-identdef NoEnd no_end declares (out-ProcDecl p).name)
     ∙ past _ _ (closed-there NoEnd no_end parameters_outline (out-ProcDecl p).parameters (closed-parameters NoEnd no_end declares))
     ∙ endings-append (declarations_outline (out-ProcDecl p).declarations) _
@@ -124,11 +114,11 @@ procedure_ends p =
 pub module_ends : (m : Module) → endings_in (module_outline m) ≡ endings_in (declarations_outline m.declarations) ++ (m.name, m.end_name) ∷ []
 unfolding module_outline
 module_ends m =
-    endings-construct constructs.Module _
+    gathered-construct endings_in gathers constructs.Module _
     ∙ past _ _ (closed-there NoEnd no_end (λ l. word kinds.Import ++ (listed kinds.Comma import_outline l ++ word kinds.Semicolon)) m.imports
     (λ l. closed-both NoEnd no_end (no_end.a_word kinds.Import) (closed-both NoEnd no_end (closed-listed NoEnd no_end kinds.Comma import_outline l import_none) (no_end.a_word kinds.Semicolon))))
     ∙ endings-append (declarations_outline m.declarations) _
     ∙ ap (λ (es : List (ℕ × ℕ)). endings_in (declarations_outline m.declarations) ++ es)
     (past _ _ (closed-there NoEnd no_end (λ b. word kinds.Begin ++ block_outline b) m.body (λ b. closed-both NoEnd no_end (no_end.a_word kinds.Begin) (closed-block NoEnd no_end b))))
 
-pub ruleset end_walks = (append_assoc, append-nil, endings-each_push, take_at_read, take_all, declarations_ends, procedure_ends, module_ends)
+pub ruleset end_walks = (append_assoc, append-nil, endings-append, endings-each_push, take_at_read, take_all, declarations_ends, procedure_ends, module_ends)

@@ -4,10 +4,12 @@ pub mod ClosedStatements
 pub mod ClosedTypes
 pub mod DeclarationLayers
 pub mod DeclarationWalks
+pub mod DeclaredNames
 pub mod Eaches
 pub mod EndNames
 pub mod ExpressionLayers
 pub mod ExpressionWalks
+pub mod Gathers
 pub mod KindLeaves
 pub mod NameLayers
 pub mod NameWalks

@@ -11,10 +11,10 @@ use Rattle.ob_tree.specs.declared.token.Leaf.{Leaf}
 use Rattle.ob_tree.specs.declared.token.Leaf.TheVariants as leafs
 use Rattle.ob_tree.specs.declared.item.Item.{Item}
 use Rattle.ob_tree.specs.Declaring.{module_outline}
-use Rattle.ob_tree.specs.Items.{items_of, number_at, declared_by, used_by}
+use Rattle.ob_tree.specs.Items.{items_of, number_at, used_by}
 use Rattle.ob_tree.specs.Leaves.{leaf_of, leaves}
 use Rattle.ob_tree.specs.Marks.{Out, Begins, Ends, Identifier, Value, Word, Declares, Uses, Names, Repeats, tokens_of}
-use Rattle.ob_tree.specs.Derives.{Derives, declared_in, numbers_from, used_in, yields}
+use Rattle.ob_tree.specs.Derives.{Derives, numbers_from, used_in, yields}
 
 -- ---- the numbers of tokens
 
@@ -93,17 +93,6 @@ numbers-more is at d h =
 
 -- ---- the items of one sort
 
-pub declared-items : (ms : Out) → filter_map declared_by (items_of ms) ≡ declared_in ms
-declared-items [] = refl
-declared-items (Begins c n ∷ ms) = declared-items ms
-declared-items (Ends c ∷ ms) = declared-items ms
-declared-items (Identifier Declares n ∷ ms) = ap (λ (ns : List ℕ). n ∷ ns) (declared-items ms)
-declared-items (Identifier Uses n ∷ ms) = declared-items ms
-declared-items (Identifier Names n ∷ ms) = declared-items ms
-declared-items (Identifier (Repeats name) n ∷ ms) = declared-items ms
-declared-items (Value k n ∷ ms) = declared-items ms
-declared-items (Word k ∷ ms) = declared-items ms
-
 pub used-items : (ms : Out) → filter_map used_by (items_of ms) ≡ used_in ms
 used-items [] = refl
 used-items (Begins c n ∷ ms) = used-items ms
@@ -115,4 +104,4 @@ used-items (Identifier (Repeats name) n ∷ ms) = used-items ms
 used-items (Value k n ∷ ms) = used-items ms
 used-items (Word k ∷ ms) = used-items ms
 
-pub ruleset passes = (all_numbers, filter_map-append, take_at_read, take_all, declared-items, used-items, item_numbers, append-nil)
+pub ruleset passes = (all_numbers, filter_map-append, take_at_read, take_all, used-items, item_numbers, append-nil)

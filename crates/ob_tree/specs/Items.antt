@@ -22,12 +22,6 @@ number_at at (items.Used n) = n
 number_at at (items.Other n) = n
 number_at at items.Word = at
 
-abbrev pub declared_by : Item → Option ℕ
-declared_by (items.Declared n) = Some n
-declared_by (items.Used n) = None
-declared_by (items.Other n) = None
-declared_by items.Word = None
-
 abbrev pub used_by : Item → Option ℕ
 used_by (items.Declared n) = None
 used_by (items.Used n) = Some n

@@ -12,6 +12,7 @@ use crate::declaration::Module;
 use crate::item::Item;
 use crate::items::Items;
 use crate::walk::declarations::walk_module;
+use crate::walk::declared::module_names;
 use crate::walk::ends::module_ends;
 use std::alloc::{AllocError, Global};
 
@@ -59,18 +60,11 @@ pub fn yield_of(alloc: Global, module: &Module) -> Result<Vec<u32>, AllocError>
 
 /// The numbers of the identifiers that a module declares, in order: those of its imports, constants, types, variables,
 /// fields, procedures and parameters, at every depth.
-#[tactic(auto, using(crate::proofs::Passes::passes))]
 pub fn declarations(alloc: Global, module: &Module) -> Result<Vec<u32>, AllocError>
     ensures { IfOk result (λ v. v.items ≡ declared_in (module_outline «module».now)) }
 {
-    let items = items(alloc, module)?;
     let mut numbers = Vec::new(alloc);
-    for item in &items {
-        match *item {
-            Item::Declared(number) => numbers.push(number)?,
-            Item::Used(_) | Item::Other(_) | Item::Word => {}
-        }
-    }
+    module_names(&mut numbers, module)?;
     Ok(numbers)
 }
 

@@ -1,7 +1,0 @@
-use Rattle.std.proofs.Common.{◌≡◌, take}
-use Rattle.std.specs.List.{filter_map}
-use Rattle.ob_tree.specs.Items.{declared_by}
-use Rattle.ob_tree.proofs.walkers.declarations.Given as goal
-
-abbrev pub invariant-loop-item : goal.invariant-loop-item
-invariant-loop-item l = l.numbers.items ≡ filter_map declared_by (take l.item-index l.item-items)
