@@ -25,19 +25,22 @@ fn section_names(out: &mut Vec<u32>, section: &ParameterSection) -> Result<(), A
 }
 
 #[tactic(auto, using(crate::proofs::DeclaredNames::type_names))]
-fn parameters_names(out: &mut Vec<u32>, parameters: &Parameters) -> Result<(), AllocError>
-    ensures { IfOk result (λ _. out.new.items ≡ out.old.items ++ declared_in (parameters_outline parameters.now)) }
+fn parameters_names(out: &mut Vec<u32>, parameters: &Option<Parameters>) -> Result<(), AllocError>
+    ensures { IfOk result (λ _. out.new.items ≡ out.old.items ++ declared_in (if_there parameters_outline parameters.now)) }
 {
-    match &parameters.sections {
-        None => return Ok(()),
-        Some(sections) => {
-            section_names(out, &sections.first)?;
-            for section in &sections.rest {
-                section_names(out, section)?;
+    match parameters {
+        None => Ok(()),
+        Some(parameters) => match &parameters.sections {
+            None => Ok(()),
+            Some(sections) => {
+                section_names(out, &sections.first)?;
+                for section in &sections.rest {
+                    section_names(out, section)?;
+                }
+                Ok(())
             }
-        }
+        },
     }
-    Ok(())
 }
 
 #[tactic(auto, using(crate::proofs::DeclaredNames::type_names))]
@@ -57,11 +60,11 @@ fn form_names(out: &mut Vec<u32>, form: &TypeForm) -> Result<(), AllocError>
     ensures { IfOk result (λ _. out.new.items ≡ out.old.items ++ declared_in (type_outline form.now)) }
 {
     match form {
-        TypeForm::Named(_) | TypeForm::ProcOf(None) => Ok(()),
+        TypeForm::Named(_) => Ok(()),
         TypeForm::ArrayOf(_, of) => form_names(out, of),
         TypeForm::RecordOf(record) => record_names(out, record),
         TypeForm::PointerTo(target) => form_names(out, target),
-        TypeForm::ProcOf(Some(parameters)) => parameters_names(out, parameters),
+        TypeForm::ProcOf(parameters) => parameters_names(out, parameters),
     }
 }
 
@@ -98,34 +101,49 @@ fn typed_names(out: &mut Vec<u32>, variables: &VarDecl) -> Result<(), AllocError
 }
 
 #[tactic(auto, using(crate::proofs::DeclaredNames::declaration_names))]
-fn constants_names(out: &mut Vec<u32>, constants: &[ConstDecl]) -> Result<(), AllocError>
-    ensures { IfOk result (λ _. out.new.items ≡ out.old.items ++ declared_in (part kinds.Const const_outline constants.now)) }
+fn constants_names(out: &mut Vec<u32>, constants: &Option<Vec<ConstDecl>>) -> Result<(), AllocError>
+    ensures { IfOk result (λ _. out.new.items ≡ out.old.items ++ declared_in (if_there (λ v. part kinds.Const const_outline v.items) constants.now)) }
 {
-    for constant in constants {
-        out.push(constant.name.name)?;
+    match constants {
+        None => Ok(()),
+        Some(constants) => {
+            for constant in constants {
+                out.push(constant.name.name)?;
+            }
+            Ok(())
+        }
     }
-    Ok(())
 }
 
 #[tactic(auto, using(crate::proofs::DeclaredNames::declaration_names))]
-fn types_names(out: &mut Vec<u32>, types: &[TypeDecl]) -> Result<(), AllocError>
-    ensures { IfOk result (λ _. out.new.items ≡ out.old.items ++ declared_in (part kinds.Type type_decl_outline types.now)) }
+fn types_names(out: &mut Vec<u32>, types: &Option<Vec<TypeDecl>>) -> Result<(), AllocError>
+    ensures { IfOk result (λ _. out.new.items ≡ out.old.items ++ declared_in (if_there (λ v. part kinds.Type type_decl_outline v.items) types.now)) }
 {
-    for declared in types {
-        out.push(declared.name.name)?;
-        form_names(out, &declared.form)?;
+    match types {
+        None => Ok(()),
+        Some(types) => {
+            for declared in types {
+                out.push(declared.name.name)?;
+                form_names(out, &declared.form)?;
+            }
+            Ok(())
+        }
     }
-    Ok(())
 }
 
 #[tactic(auto, using(crate::proofs::DeclaredNames::declaration_names))]
-fn variables_names(out: &mut Vec<u32>, variables: &[VarDecl]) -> Result<(), AllocError>
-    ensures { IfOk result (λ _. out.new.items ≡ out.old.items ++ declared_in (part kinds.Var variable_outline variables.now)) }
+fn variables_names(out: &mut Vec<u32>, variables: &Option<Vec<VarDecl>>) -> Result<(), AllocError>
+    ensures { IfOk result (λ _. out.new.items ≡ out.old.items ++ declared_in (if_there (λ v. part kinds.Var variable_outline v.items) variables.now)) }
 {
-    for declared in variables {
-        typed_names(out, declared)?;
+    match variables {
+        None => Ok(()),
+        Some(variables) => {
+            for declared in variables {
+                typed_names(out, declared)?;
+            }
+            Ok(())
+        }
     }
-    Ok(())
 }
 
 #[cycle(declarations)]
@@ -133,15 +151,9 @@ fn variables_names(out: &mut Vec<u32>, variables: &[VarDecl]) -> Result<(), Allo
 fn declarations_names(out: &mut Vec<u32>, declarations: &Declarations) -> Result<(), AllocError>
     ensures { IfOk result (λ _. out.new.items ≡ out.old.items ++ declared_in (declarations_outline declarations.now)) }
 {
-    if let Some(constants) = &declarations.constants {
-        constants_names(out, constants)?;
-    }
-    if let Some(types) = &declarations.types {
-        types_names(out, types)?;
-    }
-    if let Some(variables) = &declarations.variables {
-        variables_names(out, variables)?;
-    }
+    constants_names(out, &declarations.constants)?;
+    types_names(out, &declarations.types)?;
+    variables_names(out, &declarations.variables)?;
     for procedure in &declarations.procedures {
         procedure_names(out, procedure)?;
     }
@@ -154,30 +166,33 @@ fn procedure_names(out: &mut Vec<u32>, procedure: &ProcDecl) -> Result<(), Alloc
     ensures { IfOk result (λ _. out.new.items ≡ out.old.items ++ declared_in (procedure_outline procedure.now)) }
 {
     out.push(procedure.name.name)?;
-    if let Some(parameters) = &procedure.parameters {
-        parameters_names(out, parameters)?;
-    }
+    parameters_names(out, &procedure.parameters)?;
     declarations_names(out, &procedure.declarations)
 }
 
-/// The names of import items.
 #[tactic(auto, using(crate::proofs::DeclaredNames::declaration_names))]
-fn imports_names(out: &mut Vec<u32>, imports: &OneOrMore<ImportItem>) -> Result<(), AllocError>
-    ensures { IfOk result (λ _. out.new.items ≡ out.old.items ++ declared_in (listed kinds.Comma import_outline imports.now)) }
+fn imports_names(
+    out: &mut Vec<u32>,
+    imports: &Option<OneOrMore<ImportItem>>,
+) -> Result<(), AllocError>
+    ensures { IfOk result (λ _. out.new.items ≡ out.old.items ++ declared_in (if_there (λ l. word kinds.Import ++ (listed kinds.Comma import_outline l ++ word kinds.Semicolon)) imports.now)) }
 {
-    out.push(imports.first.name)?;
-    for import in &imports.rest {
-        out.push(import.name)?;
+    match imports {
+        None => Ok(()),
+        Some(imports) => {
+            out.push(imports.first.name)?;
+            for import in &imports.rest {
+                out.push(import.name)?;
+            }
+            Ok(())
+        }
     }
-    Ok(())
 }
 
 #[tactic(auto, using(crate::proofs::DeclaredNames::declaration_names))]
 pub(crate) fn module_names(out: &mut Vec<u32>, module: &Module) -> Result<(), AllocError>
     ensures { IfOk result (λ _. out.new.items ≡ out.old.items ++ declared_in (module_outline «module».now)) }
 {
-    if let Some(imports) = &module.imports {
-        imports_names(out, imports)?;
-    }
+    imports_names(out, &module.imports)?;
     declarations_names(out, &module.declarations)
 }

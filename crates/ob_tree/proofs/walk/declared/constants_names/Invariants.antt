@@ -6,4 +6,4 @@ use Rattle.ob_tree.specs.Declaring.{const_outline}
 use Rattle.ob_tree.proofs.walk.declared.constants_names.Given as goal
 
 abbrev pub invariant-loop-constant : goal.invariant-loop-constant
-invariant-loop-constant l = l.out.items ≡ l.initial.out.items ++ declared_in (each (λ x. const_outline x ++ word kinds.Semicolon) (take l.constant-index l.constants))
+invariant-loop-constant l = l.out.items ≡ l.initial.out.items ++ declared_in (each (λ x. const_outline x ++ word kinds.Semicolon) (take l.constant-index l.constant-items))

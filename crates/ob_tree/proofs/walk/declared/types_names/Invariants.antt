@@ -6,4 +6,4 @@ use Rattle.ob_tree.specs.Declaring.{type_decl_outline}
 use Rattle.ob_tree.proofs.walk.declared.types_names.Given as goal
 
 abbrev pub invariant-loop-declared : goal.invariant-loop-declared
-invariant-loop-declared l = l.out.items ≡ l.initial.out.items ++ declared_in (each (λ x. type_decl_outline x ++ word kinds.Semicolon) (take l.declared-index l.types))
+invariant-loop-declared l = l.out.items ≡ l.initial.out.items ++ declared_in (each (λ x. type_decl_outline x ++ word kinds.Semicolon) (take l.declared-index l.declared-items))

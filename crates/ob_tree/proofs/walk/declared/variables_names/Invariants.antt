@@ -6,4 +6,4 @@ use Rattle.ob_tree.specs.Declaring.{variable_outline}
 use Rattle.ob_tree.proofs.walk.declared.variables_names.Given as goal
 
 abbrev pub invariant-loop-declared : goal.invariant-loop-declared
-invariant-loop-declared l = l.out.items ≡ l.initial.out.items ++ declared_in (each (λ x. variable_outline x ++ word kinds.Semicolon) (take l.declared-index l.variables))
+invariant-loop-declared l = l.out.items ≡ l.initial.out.items ++ declared_in (each (λ x. variable_outline x ++ word kinds.Semicolon) (take l.declared-index l.declared-items))
