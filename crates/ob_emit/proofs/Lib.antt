@@ -2,6 +2,7 @@ pub mod KeptTexts
 pub mod Declarers
 pub mod ExternalOrder
 pub mod ExternalTexts
+pub mod FirstUses
 pub mod NamesGiven
 pub mod Naming
 pub mod Numbered

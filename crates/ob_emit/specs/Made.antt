@@ -1,7 +1,7 @@
 -- What the texts of symbols are made from.
-use Rattle.std.specs.Prelude.{◌≡◌, ◌<◌, ℕ, List, [], ◌∷◌, ◌++◌, length, map, Option, Some, None, Bool, true, false, slice_get, nat_eq, ◌&&◌, String}
+use Rattle.std.specs.Prelude.{◌≡◌, ◌<◌, ℕ, List, [], ◌∷◌, ◌++◌, length, map, Option, Some, None, Bool, true, false, slice_get, nat_eq, ◌&&◌, String, Contains}
 use Rattle.std.specs.List.{flat_map}
-use Rattle.std.specs.Option.{option_map}
+use Rattle.std.specs.Option.{option_map, option_eq}
 use Rattle.std.specs.String.{string_bytes}
 use Rattle.std.specs.Str.{bytes_eq}
 use Rattle.std.specs.Borrow.{Bor}
@@ -11,6 +11,8 @@ use Rattle.ob_decls.specs.declared.rows.Declared.{Declared}
 use Rattle.ob_decls.specs.declared.rows.Import.{Import}
 use Rattle.ob_decls.specs.Declaring.{own_name}
 use Rattle.ob_types.specs.World.{World, text}
+use Rattle.ob_targets.specs.declared.target.Reference.{Reference}
+use Rattle.scip_index.specs.Plain.{PlainSymbol as SymbolRow}
 use Rattle.scip_symbol.specs.SymbolTexts.{PlainDescriptor, PlainSymbol, parts_text, plain_descriptor_text, plain_text}
 use Rattle.scip_symbol.specs.declared.kind.DescriptorKind.TheVariants.{Term}
 use Rattle.ob_emit.specs.declared.steps.StepRow.{StepRow}
@@ -18,6 +20,7 @@ use Rattle.ob_emit.specs.declared.fronts.Fronts.{Fronts}
 use Rattle.ob_emit.specs.declared.outer_texts.Outer.{Outer}
 use Rattle.ob_emit.specs.declared.own_texts.Texts.{Texts}
 use Rattle.ob_emit.specs.Symbols.{Step, descriptor, global, imported_symbol, module_path, module_symbol, scheme, symbol_at}
+use Rattle.ob_emit.specs.Externals.{external_module, external_row, externals_in, shown}
 use Rattle.ob_emit.specs.Named.{IsName}
 
 -- a step as clauses see it
@@ -100,3 +103,22 @@ pub record AreTexts (w : World) (package_name : List ℕ) (t : Texts) : Type 0 w
   pub own : string_bytes t.own ≡ plain_text (global package_name (module_path (text w own_name)))
   pub declared : AreMade w package_name (length w.rows.declared) (map (option_map string_bytes) (t.declared).items)
   pub outer : AreOuter w package_name (t.outer).value
+
+-- ---- what stands outside, each once
+
+-- the place of an import item, with a name of its module, or with none for the module itself
+abbrev pub OutsideKey : Type 0
+OutsideKey = ℕ × Option (Bor (List ℕ))
+
+abbrev pub same_outside : OutsideKey → OutsideKey → Bool
+same_outside a b = nat_eq a.0 b.0 && option_eq (λ (m n : Bor (List ℕ)). bytes_eq m.now n.now) a.1 b.1
+
+-- the row of what has this key
+abbrev pub outside_row : World → OutsideKey → Option SymbolRow
+outside_row w (item, None) = external_module w item
+outside_row w (item, Some name) = option_map (shown name.now) (named_symbol w item name.now)
+
+-- some of the references, whose rows are those of all
+pub record AreEnough (w : World) (refs some : List Reference) : Type 0 where
+  pub among : (r : Reference) → Contains some r → Contains refs r
+  pub each : (r : Reference) (x : SymbolRow) → Contains refs r → external_row w r.target ≡ Some x → Contains (externals_in w some) x

@@ -1,14 +1,14 @@
 //! The symbols that are declared outside of a tree.
 ghost use Rattle.std.specs.Prelude.{◌≡◌, IfOk, map, Some, None, []};
 ghost use Rattle.std.specs.List.{filter_map};
-ghost use Rattle.std.specs.Option.{option_map};
+ghost use Rattle.std.specs.Option.{option_and_then, option_map};
 ghost use Rattle.std.specs.String.{string_bytes};
 ghost use Rattle.ob_targets.specs.declared.target.Reference.{Reference as ReferenceValue};
 ghost use Rattle.ob_targets.specs.declared.target.Target.TheVariants.{External};
 ghost use Rattle.ob_types.specs.World.{text};
 ghost use Rattle.scip_index.specs.Plain.{plain_symbol};
 ghost use Rattle.ob_emit.specs.Externals.{AreExternalRows, AreExternals, external_module, external_row, externals_in};
-ghost use Rattle.ob_emit.specs.Made.{front_text};
+ghost use Rattle.ob_emit.specs.Made.{front_text, outside_row, AreEnough};
 ghost use Rattle.ob_emit.specs.Named.{AreNamed, AreOfNames, IsName};
 ghost use Rattle.std.specs.Prelude.{List, ℕ};
 
@@ -16,6 +16,7 @@ use crate::fronts::front_text;
 use crate::module_texts::{external_text, module_text};
 use crate::own::import_at;
 use crate::path::name_of;
+use indexmap::IndexSet;
 use ob_targets::{Reference, Target};
 use ob_types::Types;
 use scip_index::SymbolInfo;
@@ -97,6 +98,41 @@ fn external_row(
     }
 }
 
+/// What tells apart what stands outside: the place of an import item, with a name of its module, or without one for the module itself.
+fn outside_key<'a>(types: &Types<'a>, target: Target) -> Option<(u32, Option<&'a [u8]>)>
+    ensures { option_and_then (outside_row types.now) result ≡ external_row types.now target }
+{
+    match target {
+        Target::External { item, name } => Some((item, Some(types.text(name)))),
+        Target::Module(item) => Some((item, None)),
+        Target::Declared(_) => None,
+        Target::Imported { .. } => None,
+        Target::Own => None,
+        Target::Predeclared => None,
+        Target::Unresolved => None,
+    }
+}
+
+/// The first reference to each module that is imported, and to each name of one that isn't in the tree.
+fn first_uses(
+    alloc: Global,
+    types: &Types<'_>,
+    refs: &[Reference],
+) -> Result<Vec<Reference>, AllocError>
+    ensures { IfOk result (λ v. AreEnough types.now refs.now v.items) }
+{
+    let mut seen = IndexSet::new(alloc);
+    let mut found = Vec::new(alloc);
+    for reference in refs {
+        if let Some(key) = outside_key(types, reference.target) {
+            if seen.insert(key)? {
+                found.push(*reference)?;
+            }
+        }
+    }
+    Ok(found)
+}
+
 /// What stands for something outside, in the order of the references.
 fn external_rows(
     alloc: Global,
@@ -141,7 +177,8 @@ pub fn externals(
     // Each is a module or a name of one.
     ensures rows { IfOk result (λ v. AreExternalRows (map plain_symbol v.items)) }
 {
-    let mut rows = external_rows(alloc, types, refs)?;
+    let uses = first_uses(alloc, types, refs)?;
+    let mut rows = external_rows(alloc, types, uses.as_slice())?;
     put_in_order(&mut rows);
     Ok(rows)
 }
