@@ -50,6 +50,7 @@ gathers = record {
 
 -- ---- what has none
 
+-- no name after END is in it
 abbrev NoEnd : Out → Type 0
 NoEnd = Without endings_in
 
