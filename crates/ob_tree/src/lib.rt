@@ -9,6 +9,7 @@ mod item;
 mod items;
 pub mod laws;
 pub mod name;
+mod numbers;
 pub mod statement;
 pub mod token;
 mod walk;

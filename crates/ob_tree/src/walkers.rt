@@ -11,6 +11,7 @@ ghost use Rattle.ob_tree.specs.Items.{items_of, number_at};
 use crate::declaration::Module;
 use crate::item::Item;
 use crate::items::Items;
+use crate::numbers::Numbers;
 use crate::walk::declarations::walk_module;
 use crate::walk::declared::module_names;
 use crate::walk::ends::module_ends;
@@ -63,9 +64,9 @@ pub fn yield_of(alloc: Global, module: &Module) -> Result<Vec<u32>, AllocError>
 pub fn declarations(alloc: Global, module: &Module) -> Result<Vec<u32>, AllocError>
     ensures { IfOk result (λ v. v.items ≡ declared_in (module_outline «module».now)) }
 {
-    let mut numbers = Vec::new(alloc);
-    module_names(&mut numbers, module)?;
-    Ok(numbers)
+    let mut numbers = Numbers::new(alloc);
+    module_names(&mut numbers, module);
+    numbers.list()
 }
 
 /// The numbers of the identifiers that are looked up in a module, in order: the heads of designators and of qualified

@@ -1,9 +1,10 @@
 //! The identifiers that are declared. They stand in declarations and types, and in no statement and no expression.
 
-ghost use Rattle.std.specs.Prelude.{◌≡◌, ◌++◌, IfOk};
+ghost use Rattle.std.specs.Prelude.{◌++◌};
 ghost use Rattle.ob_scan.specs.declared.kind.Kind.TheVariants as kinds;
 ghost use Rattle.ob_tree.specs.Declaring.{part, const_outline, type_decl_outline, variable_outline, declarations_outline, procedure_outline, import_outline, module_outline};
 ghost use Rattle.ob_tree.specs.Derives.{declared_in};
+ghost use Rattle.ob_tree.specs.Gathered.{Adds};
 ghost use Rattle.ob_tree.specs.Marks.{word, if_there, listed};
 ghost use Rattle.ob_tree.specs.Names.{identdef_outline};
 ghost use Rattle.ob_tree.specs.Types.{section_outline, parameters_outline, type_outline, fields_outline, record_outline, var_outline};
@@ -13,54 +14,53 @@ use crate::declaration::{
     Record, TypeDecl, TypeForm, VarDecl,
 };
 use crate::name::{Identdef, OneOrMore};
-use std::alloc::AllocError;
+use crate::numbers::Numbers;
 
 #[tactic(auto, using(crate::proofs::DeclaredNames::type_names))]
-fn section_names(out: &mut Vec<u32>, section: &ParameterSection) -> Result<(), AllocError>
-    ensures { IfOk result (λ _. out.new.items ≡ out.old.items ++ declared_in (section_outline section.now)) }
+fn section_names(out: &mut Numbers, section: &ParameterSection)
+    ensures { Adds (declared_in (section_outline section.now)) out.old out.new }
 {
-    out.push(section.names.first)?;
-    out.extend_from_slice(&section.names.rest)?;
-    Ok(())
+    out.put(section.names.first);
+    for name in &section.names.rest {
+        out.put(*name);
+    }
 }
 
 #[tactic(auto, using(crate::proofs::DeclaredNames::type_names))]
-fn parameters_names(out: &mut Vec<u32>, parameters: &Option<Parameters>) -> Result<(), AllocError>
-    ensures { IfOk result (λ _. out.new.items ≡ out.old.items ++ declared_in (if_there parameters_outline parameters.now)) }
+fn parameters_names(out: &mut Numbers, parameters: &Option<Parameters>)
+    ensures { Adds (declared_in (if_there parameters_outline parameters.now)) out.old out.new }
 {
     match parameters {
-        None => Ok(()),
+        None => {}
         Some(parameters) => match &parameters.sections {
-            None => Ok(()),
+            None => {}
             Some(sections) => {
-                section_names(out, &sections.first)?;
+                section_names(out, &sections.first);
                 for section in &sections.rest {
-                    section_names(out, section)?;
+                    section_names(out, section);
                 }
-                Ok(())
             }
         },
     }
 }
 
 #[tactic(auto, using(crate::proofs::DeclaredNames::type_names))]
-fn list_names(out: &mut Vec<u32>, names: &OneOrMore<Identdef>) -> Result<(), AllocError>
-    ensures { IfOk result (λ _. out.new.items ≡ out.old.items ++ declared_in (listed kinds.Comma identdef_outline names.now)) }
+fn list_names(out: &mut Numbers, names: &OneOrMore<Identdef>)
+    ensures { Adds (declared_in (listed kinds.Comma identdef_outline names.now)) out.old out.new }
 {
-    out.push(names.first.name)?;
+    out.put(names.first.name);
     for name in &names.rest {
-        out.push(name.name)?;
+        out.put(name.name);
     }
-    Ok(())
 }
 
 #[cycle(types)]
 #[tactic(auto, using(crate::proofs::DeclaredNames::type_names))]
-fn form_names(out: &mut Vec<u32>, form: &TypeForm) -> Result<(), AllocError>
-    ensures { IfOk result (λ _. out.new.items ≡ out.old.items ++ declared_in (type_outline form.now)) }
+fn form_names(out: &mut Numbers, form: &TypeForm)
+    ensures { Adds (declared_in (type_outline form.now)) out.old out.new }
 {
     match form {
-        TypeForm::Named(_) => Ok(()),
+        TypeForm::Named(_) => {}
         TypeForm::ArrayOf(_, of) => form_names(out, of),
         TypeForm::RecordOf(record) => record_names(out, record),
         TypeForm::PointerTo(target) => form_names(out, target),
@@ -70,129 +70,120 @@ fn form_names(out: &mut Vec<u32>, form: &TypeForm) -> Result<(), AllocError>
 
 #[cycle(types)]
 #[tactic(auto, using(crate::proofs::DeclaredNames::type_names))]
-fn record_names(out: &mut Vec<u32>, record: &Record) -> Result<(), AllocError>
-    ensures { IfOk result (λ _. out.new.items ≡ out.old.items ++ declared_in (record_outline record.now)) }
+fn record_names(out: &mut Numbers, record: &Record)
+    ensures { Adds (declared_in (record_outline record.now)) out.old out.new }
 {
     match &record.fields {
-        None => Ok(()),
+        None => {}
         Some(fields) => fields_names(out, fields),
     }
 }
 
 #[cycle(types)]
 #[tactic(auto, using(crate::proofs::DeclaredNames::type_names))]
-fn fields_names(out: &mut Vec<u32>, fields: &Fields) -> Result<(), AllocError>
-    ensures { IfOk result (λ _. out.new.items ≡ out.old.items ++ declared_in (fields_outline fields.now)) }
+fn fields_names(out: &mut Numbers, fields: &Fields)
+    ensures { Adds (declared_in (fields_outline fields.now)) out.old out.new }
 {
-    typed_names(out, &fields.first)?;
+    typed_names(out, &fields.first);
     for field in &fields.rest {
-        typed_names(out, field)?;
+        typed_names(out, field);
     }
-    Ok(())
 }
 
 #[cycle(types)]
 #[tactic(auto, using(crate::proofs::DeclaredNames::type_names))]
-fn typed_names(out: &mut Vec<u32>, variables: &VarDecl) -> Result<(), AllocError>
-    ensures { IfOk result (λ _. out.new.items ≡ out.old.items ++ declared_in (var_outline variables.now)) }
+fn typed_names(out: &mut Numbers, variables: &VarDecl)
+    ensures { Adds (declared_in (var_outline variables.now)) out.old out.new }
 {
-    list_names(out, &variables.names)?;
+    list_names(out, &variables.names);
     form_names(out, &variables.form)
 }
 
 #[tactic(auto, using(crate::proofs::DeclaredNames::declaration_names))]
-fn constants_names(out: &mut Vec<u32>, constants: &Option<Vec<ConstDecl>>) -> Result<(), AllocError>
-    ensures { IfOk result (λ _. out.new.items ≡ out.old.items ++ declared_in (if_there (λ v. part kinds.Const const_outline v.items) constants.now)) }
+fn constants_names(out: &mut Numbers, constants: &Option<Vec<ConstDecl>>)
+    ensures { Adds (declared_in (if_there (λ v. part kinds.Const const_outline v.items) constants.now)) out.old out.new }
 {
     match constants {
-        None => Ok(()),
+        None => {}
         Some(constants) => {
             for constant in constants {
-                out.push(constant.name.name)?;
+                out.put(constant.name.name);
             }
-            Ok(())
         }
     }
 }
 
 #[tactic(auto, using(crate::proofs::DeclaredNames::declaration_names))]
-fn types_names(out: &mut Vec<u32>, types: &Option<Vec<TypeDecl>>) -> Result<(), AllocError>
-    ensures { IfOk result (λ _. out.new.items ≡ out.old.items ++ declared_in (if_there (λ v. part kinds.Type type_decl_outline v.items) types.now)) }
+fn types_names(out: &mut Numbers, types: &Option<Vec<TypeDecl>>)
+    ensures { Adds (declared_in (if_there (λ v. part kinds.Type type_decl_outline v.items) types.now)) out.old out.new }
 {
     match types {
-        None => Ok(()),
+        None => {}
         Some(types) => {
             for declared in types {
-                out.push(declared.name.name)?;
-                form_names(out, &declared.form)?;
+                out.put(declared.name.name);
+                form_names(out, &declared.form);
             }
-            Ok(())
         }
     }
 }
 
 #[tactic(auto, using(crate::proofs::DeclaredNames::declaration_names))]
-fn variables_names(out: &mut Vec<u32>, variables: &Option<Vec<VarDecl>>) -> Result<(), AllocError>
-    ensures { IfOk result (λ _. out.new.items ≡ out.old.items ++ declared_in (if_there (λ v. part kinds.Var variable_outline v.items) variables.now)) }
+fn variables_names(out: &mut Numbers, variables: &Option<Vec<VarDecl>>)
+    ensures { Adds (declared_in (if_there (λ v. part kinds.Var variable_outline v.items) variables.now)) out.old out.new }
 {
     match variables {
-        None => Ok(()),
+        None => {}
         Some(variables) => {
             for declared in variables {
-                typed_names(out, declared)?;
+                typed_names(out, declared);
             }
-            Ok(())
         }
     }
 }
 
 #[cycle(declarations)]
 #[tactic(auto, using(crate::proofs::DeclaredNames::declaration_names))]
-fn declarations_names(out: &mut Vec<u32>, declarations: &Declarations) -> Result<(), AllocError>
-    ensures { IfOk result (λ _. out.new.items ≡ out.old.items ++ declared_in (declarations_outline declarations.now)) }
+fn declarations_names(out: &mut Numbers, declarations: &Declarations)
+    ensures { Adds (declared_in (declarations_outline declarations.now)) out.old out.new }
 {
-    constants_names(out, &declarations.constants)?;
-    types_names(out, &declarations.types)?;
-    variables_names(out, &declarations.variables)?;
+    constants_names(out, &declarations.constants);
+    types_names(out, &declarations.types);
+    variables_names(out, &declarations.variables);
     for procedure in &declarations.procedures {
-        procedure_names(out, procedure)?;
+        procedure_names(out, procedure);
     }
-    Ok(())
 }
 
 #[cycle(declarations)]
 #[tactic(auto, using(crate::proofs::DeclaredNames::declaration_names))]
-fn procedure_names(out: &mut Vec<u32>, procedure: &ProcDecl) -> Result<(), AllocError>
-    ensures { IfOk result (λ _. out.new.items ≡ out.old.items ++ declared_in (procedure_outline procedure.now)) }
+fn procedure_names(out: &mut Numbers, procedure: &ProcDecl)
+    ensures { Adds (declared_in (procedure_outline procedure.now)) out.old out.new }
 {
-    out.push(procedure.name.name)?;
-    parameters_names(out, &procedure.parameters)?;
+    out.put(procedure.name.name);
+    parameters_names(out, &procedure.parameters);
     declarations_names(out, &procedure.declarations)
 }
 
 #[tactic(auto, using(crate::proofs::DeclaredNames::declaration_names))]
-fn imports_names(
-    out: &mut Vec<u32>,
-    imports: &Option<OneOrMore<ImportItem>>,
-) -> Result<(), AllocError>
-    ensures { IfOk result (λ _. out.new.items ≡ out.old.items ++ declared_in (if_there (λ l. word kinds.Import ++ (listed kinds.Comma import_outline l ++ word kinds.Semicolon)) imports.now)) }
+fn imports_names(out: &mut Numbers, imports: &Option<OneOrMore<ImportItem>>)
+    ensures { Adds (declared_in (if_there (λ l. word kinds.Import ++ (listed kinds.Comma import_outline l ++ word kinds.Semicolon)) imports.now)) out.old out.new }
 {
     match imports {
-        None => Ok(()),
+        None => {}
         Some(imports) => {
-            out.push(imports.first.name)?;
+            out.put(imports.first.name);
             for import in &imports.rest {
-                out.push(import.name)?;
+                out.put(import.name);
             }
-            Ok(())
         }
     }
 }
 
 #[tactic(auto, using(crate::proofs::DeclaredNames::declaration_names))]
-pub(crate) fn module_names(out: &mut Vec<u32>, module: &Module) -> Result<(), AllocError>
-    ensures { IfOk result (λ _. out.new.items ≡ out.old.items ++ declared_in (module_outline «module».now)) }
+pub(crate) fn module_names(out: &mut Numbers, module: &Module)
+    ensures { Adds (declared_in (module_outline «module».now)) out.old out.new }
 {
-    imports_names(out, &module.imports)?;
+    imports_names(out, &module.imports);
     declarations_names(out, &module.declarations)
 }
