@@ -5,12 +5,13 @@ use Rattle.ob_scan.specs.declared.kind.Kind.{Kind}
 use Rattle.ob_scan.specs.declared.kind.Kind.TheVariants as kinds
 use Rattle.ob_tree.specs.declared.declaration.Module.{Module}
 use Rattle.ob_tree.specs.declared.expression.Literal.{Literal}
+use Rattle.ob_tree.specs.declared.role.Role.TheVariants.{Declares, Aliases, Imports, Uses, Completes, Selects, Names, Repeats}
 use Rattle.ob_tree.specs.declared.token.Leaf.{Leaf}
 use Rattle.ob_tree.specs.declared.token.Leaf.TheVariants as leafs
 use Rattle.ob_tree.specs.Declaring.{module_outline}
 use Rattle.ob_tree.specs.Derives.{Derives, declared_in, used_in, spelling}
 use Rattle.ob_tree.specs.Leaves.{leaf_of, leaves}
-use Rattle.ob_tree.specs.Marks.{Out, Begins, Ends, Identifier, Value, Word, Declares, Uses, Names, Repeats, construct, tokens_of}
+use Rattle.ob_tree.specs.Marks.{Out, Begins, Ends, Identifier, Value, Word, construct, tokens_of}
 use Rattle.ob_decls.specs.declared.rows.Declared.{Declared}
 use Rattle.ob_decls.specs.declared.rows.Used.{Used}
 use Rattle.ob_decls.specs.Declaring.{own_name, rows_of, outermost}
@@ -41,10 +42,16 @@ declares_derived : (k : ℕ) (ks : List Kind) (o : Out) → leaves k ks ≡ toke
 declares_derived k ks [] e = refl
 declares_derived k ks (Begins c m ∷ ms) e = declares_derived k ks ms e
 declares_derived k ks (Ends c ∷ ms) e = declares_derived k ks ms e
-declares_derived k ks (Identifier Declares m ∷ ms) e =
+declares_derived k ks (Identifier (Declares starred) m ∷ ms) e =
     let s = step k ks (leafs.Name m) (tokens_of ms) e in
     ap₂ (λ (n : ℕ) (ns : List ℕ). n ∷ ns) (number_of k m s.kind s.head) (declares_derived (suc k) s.rest ms s.tail)
+declares_derived k ks (Identifier Aliases m ∷ ms) e =
+    let s = step k ks (leafs.Name m) (tokens_of ms) e in
+    ap₂ (λ (n : ℕ) (ns : List ℕ). n ∷ ns) (number_of k m s.kind s.head) (declares_derived (suc k) s.rest ms s.tail)
+declares_derived k ks (Identifier Imports m ∷ ms) e = let s = step k ks (leafs.Name m) (tokens_of ms) e in declares_derived (suc k) s.rest ms s.tail
 declares_derived k ks (Identifier Uses m ∷ ms) e = let s = step k ks (leafs.Name m) (tokens_of ms) e in declares_derived (suc k) s.rest ms s.tail
+declares_derived k ks (Identifier Completes m ∷ ms) e = let s = step k ks (leafs.Name m) (tokens_of ms) e in declares_derived (suc k) s.rest ms s.tail
+declares_derived k ks (Identifier Selects m ∷ ms) e = let s = step k ks (leafs.Name m) (tokens_of ms) e in declares_derived (suc k) s.rest ms s.tail
 declares_derived k ks (Identifier Names m ∷ ms) e = let s = step k ks (leafs.Name m) (tokens_of ms) e in declares_derived (suc k) s.rest ms s.tail
 declares_derived k ks (Identifier (Repeats r) m ∷ ms) e = let s = step k ks (leafs.Name m) (tokens_of ms) e in declares_derived (suc k) s.rest ms s.tail
 declares_derived k ks (Value l m ∷ ms) e = let s = step k ks (leafs.Value l m) (tokens_of ms) e in declares_derived (suc k) s.rest ms s.tail
@@ -57,7 +64,11 @@ uses_derived k ks (Ends c ∷ ms) e = uses_derived k ks ms e
 uses_derived k ks (Identifier Uses m ∷ ms) e =
     let s = step k ks (leafs.Name m) (tokens_of ms) e in
     ap₂ (λ (n : ℕ) (ns : List ℕ). n ∷ ns) (number_of k m s.kind s.head) (uses_derived (suc k) s.rest ms s.tail)
-uses_derived k ks (Identifier Declares m ∷ ms) e = let s = step k ks (leafs.Name m) (tokens_of ms) e in uses_derived (suc k) s.rest ms s.tail
+uses_derived k ks (Identifier (Declares starred) m ∷ ms) e = let s = step k ks (leafs.Name m) (tokens_of ms) e in uses_derived (suc k) s.rest ms s.tail
+uses_derived k ks (Identifier Aliases m ∷ ms) e = let s = step k ks (leafs.Name m) (tokens_of ms) e in uses_derived (suc k) s.rest ms s.tail
+uses_derived k ks (Identifier Imports m ∷ ms) e = let s = step k ks (leafs.Name m) (tokens_of ms) e in uses_derived (suc k) s.rest ms s.tail
+uses_derived k ks (Identifier Completes m ∷ ms) e = let s = step k ks (leafs.Name m) (tokens_of ms) e in uses_derived (suc k) s.rest ms s.tail
+uses_derived k ks (Identifier Selects m ∷ ms) e = let s = step k ks (leafs.Name m) (tokens_of ms) e in uses_derived (suc k) s.rest ms s.tail
 uses_derived k ks (Identifier Names m ∷ ms) e = let s = step k ks (leafs.Name m) (tokens_of ms) e in uses_derived (suc k) s.rest ms s.tail
 uses_derived k ks (Identifier (Repeats r) m ∷ ms) e = let s = step k ks (leafs.Name m) (tokens_of ms) e in uses_derived (suc k) s.rest ms s.tail
 uses_derived k ks (Value l m ∷ ms) e = let s = step k ks (leafs.Value l m) (tokens_of ms) e in uses_derived (suc k) s.rest ms s.tail
@@ -110,8 +121,12 @@ declares_idents : (k : ℕ) (ks : List Kind) (o : Out) (n : ℕ) → leaves k ks
 declares_idents k ks [] n e (i, l, h) = absurd (omega arith)
 declares_idents k ks (Begins c m ∷ ms) n e h = declares_idents k ks ms n e h
 declares_idents k ks (Ends c ∷ ms) n e h = declares_idents k ks ms n e h
-declares_idents k ks (Identifier Declares m ∷ ms) n e h = found k ks m (tokens_of ms) (declares_at (suc k) ms) n e h (λ rest t g. declares_idents (suc k) rest ms n t g)
+declares_idents k ks (Identifier (Declares starred) m ∷ ms) n e h = found k ks m (tokens_of ms) (declares_at (suc k) ms) n e h (λ rest t g. declares_idents (suc k) rest ms n t g)
+declares_idents k ks (Identifier Aliases m ∷ ms) n e h = found k ks m (tokens_of ms) (declares_at (suc k) ms) n e h (λ rest t g. declares_idents (suc k) rest ms n t g)
+declares_idents k ks (Identifier Imports m ∷ ms) n e h = behind k ks (leafs.Name m) (tokens_of ms) n e (λ rest t. declares_idents (suc k) rest ms n t h)
 declares_idents k ks (Identifier Uses m ∷ ms) n e h = behind k ks (leafs.Name m) (tokens_of ms) n e (λ rest t. declares_idents (suc k) rest ms n t h)
+declares_idents k ks (Identifier Completes m ∷ ms) n e h = behind k ks (leafs.Name m) (tokens_of ms) n e (λ rest t. declares_idents (suc k) rest ms n t h)
+declares_idents k ks (Identifier Selects m ∷ ms) n e h = behind k ks (leafs.Name m) (tokens_of ms) n e (λ rest t. declares_idents (suc k) rest ms n t h)
 declares_idents k ks (Identifier Names m ∷ ms) n e h = behind k ks (leafs.Name m) (tokens_of ms) n e (λ rest t. declares_idents (suc k) rest ms n t h)
 declares_idents k ks (Identifier (Repeats r) m ∷ ms) n e h = behind k ks (leafs.Name m) (tokens_of ms) n e (λ rest t. declares_idents (suc k) rest ms n t h)
 declares_idents k ks (Value l m ∷ ms) n e h = behind k ks (leafs.Value l m) (tokens_of ms) n e (λ rest t. declares_idents (suc k) rest ms n t h)
@@ -122,7 +137,11 @@ uses_idents k ks [] n e (i, l, h) = absurd (omega arith)
 uses_idents k ks (Begins c m ∷ ms) n e h = uses_idents k ks ms n e h
 uses_idents k ks (Ends c ∷ ms) n e h = uses_idents k ks ms n e h
 uses_idents k ks (Identifier Uses m ∷ ms) n e h = found k ks m (tokens_of ms) (uses_at (suc k) ms) n e h (λ rest t g. uses_idents (suc k) rest ms n t g)
-uses_idents k ks (Identifier Declares m ∷ ms) n e h = behind k ks (leafs.Name m) (tokens_of ms) n e (λ rest t. uses_idents (suc k) rest ms n t h)
+uses_idents k ks (Identifier (Declares starred) m ∷ ms) n e h = behind k ks (leafs.Name m) (tokens_of ms) n e (λ rest t. uses_idents (suc k) rest ms n t h)
+uses_idents k ks (Identifier Aliases m ∷ ms) n e h = behind k ks (leafs.Name m) (tokens_of ms) n e (λ rest t. uses_idents (suc k) rest ms n t h)
+uses_idents k ks (Identifier Imports m ∷ ms) n e h = behind k ks (leafs.Name m) (tokens_of ms) n e (λ rest t. uses_idents (suc k) rest ms n t h)
+uses_idents k ks (Identifier Completes m ∷ ms) n e h = behind k ks (leafs.Name m) (tokens_of ms) n e (λ rest t. uses_idents (suc k) rest ms n t h)
+uses_idents k ks (Identifier Selects m ∷ ms) n e h = behind k ks (leafs.Name m) (tokens_of ms) n e (λ rest t. uses_idents (suc k) rest ms n t h)
 uses_idents k ks (Identifier Names m ∷ ms) n e h = behind k ks (leafs.Name m) (tokens_of ms) n e (λ rest t. uses_idents (suc k) rest ms n t h)
 uses_idents k ks (Identifier (Repeats r) m ∷ ms) n e h = behind k ks (leafs.Name m) (tokens_of ms) n e (λ rest t. uses_idents (suc k) rest ms n t h)
 uses_idents k ks (Value l m ∷ ms) n e h = behind k ks (leafs.Value l m) (tokens_of ms) n e (λ rest t. uses_idents (suc k) rest ms n t h)

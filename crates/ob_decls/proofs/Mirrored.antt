@@ -4,7 +4,9 @@ use Rattle.std.proofs.lemmas.List.{map-append}
 use Rattle.ob_scan.specs.declared.kind.Kind.{Kind}
 use Rattle.ob_tree.specs.Constructs.{Construct}
 use Rattle.ob_tree.specs.declared.expression.Literal.{Literal}
-use Rattle.ob_tree.specs.Marks.{Out, Begins, Ends, Identifier, Value, Word, Declares, Uses, Names, Repeats, construct, word}
+use Rattle.ob_tree.specs.declared.role.Role.{Role}
+use Rattle.ob_tree.specs.declared.role.Role.TheVariants.{Declares, Aliases, Imports, Uses, Completes, Selects, Names, Repeats}
+use Rattle.ob_tree.specs.Marks.{Out, Begins, Ends, Identifier, Value, Word, construct, word}
 use Rattle.ob_decls.specs.declared.rows.Declared.{Declared}
 use Rattle.ob_decls.specs.declared.rows.Used.{Used}
 use Rattle.ob_decls.specs.declared.rows.Sort.{Sort}
@@ -27,10 +29,14 @@ abbrev pub declares_at : ℕ → Out → List ℕ
 declares_at k [] = []
 declares_at k (Begins c n ∷ ms) = declares_at k ms
 declares_at k (Ends c ∷ ms) = declares_at k ms
-declares_at k (Identifier Declares n ∷ ms) = k ∷ declares_at (suc k) ms
+declares_at k (Identifier (Declares starred) n ∷ ms) = k ∷ declares_at (suc k) ms
+declares_at k (Identifier Aliases n ∷ ms) = k ∷ declares_at (suc k) ms
+declares_at k (Identifier Imports n ∷ ms) = declares_at (suc k) ms
 declares_at k (Identifier Uses n ∷ ms) = declares_at (suc k) ms
+declares_at k (Identifier Completes n ∷ ms) = declares_at (suc k) ms
+declares_at k (Identifier Selects n ∷ ms) = declares_at (suc k) ms
 declares_at k (Identifier Names n ∷ ms) = declares_at (suc k) ms
-declares_at k (Identifier (Repeats m) n ∷ ms) = declares_at (suc k) ms
+declares_at k (Identifier (Repeats r) n ∷ ms) = declares_at (suc k) ms
 declares_at k (Value l n ∷ ms) = declares_at (suc k) ms
 declares_at k (Word w ∷ ms) = declares_at (suc k) ms
 
@@ -39,9 +45,13 @@ uses_at k [] = []
 uses_at k (Begins c n ∷ ms) = uses_at k ms
 uses_at k (Ends c ∷ ms) = uses_at k ms
 uses_at k (Identifier Uses n ∷ ms) = k ∷ uses_at (suc k) ms
-uses_at k (Identifier Declares n ∷ ms) = uses_at (suc k) ms
+uses_at k (Identifier (Declares starred) n ∷ ms) = uses_at (suc k) ms
+uses_at k (Identifier Aliases n ∷ ms) = uses_at (suc k) ms
+uses_at k (Identifier Imports n ∷ ms) = uses_at (suc k) ms
+uses_at k (Identifier Completes n ∷ ms) = uses_at (suc k) ms
+uses_at k (Identifier Selects n ∷ ms) = uses_at (suc k) ms
 uses_at k (Identifier Names n ∷ ms) = uses_at (suc k) ms
-uses_at k (Identifier (Repeats m) n ∷ ms) = uses_at (suc k) ms
+uses_at k (Identifier (Repeats r) n ∷ ms) = uses_at (suc k) ms
 uses_at k (Value l n ∷ ms) = uses_at (suc k) ms
 uses_at k (Word w ∷ ms) = uses_at (suc k) ms
 
@@ -62,10 +72,14 @@ declares_both : (k : ℕ) (a b : Out) → declares_at k (a ++ b) ≡ declares_at
 declares_both k [] b = ap (λ (n : ℕ). declares_at n b) (omega arith)
 declares_both k (Begins c n ∷ ms) b = declares_both k ms b
 declares_both k (Ends c ∷ ms) b = declares_both k ms b
-declares_both k (Identifier Declares n ∷ ms) b = ap (λ (ns : List ℕ). k ∷ ns) (declares_both (suc k) ms b ∙ ap (λ (ns : List ℕ). declares_at (suc k) ms ++ ns) (moved (λ n. declares_at n b) k (width_of ms)))
+declares_both k (Identifier (Declares starred) n ∷ ms) b = ap (λ (ns : List ℕ). k ∷ ns) (declares_both (suc k) ms b ∙ ap (λ (ns : List ℕ). declares_at (suc k) ms ++ ns) (moved (λ n. declares_at n b) k (width_of ms)))
+declares_both k (Identifier Aliases n ∷ ms) b = ap (λ (ns : List ℕ). k ∷ ns) (declares_both (suc k) ms b ∙ ap (λ (ns : List ℕ). declares_at (suc k) ms ++ ns) (moved (λ n. declares_at n b) k (width_of ms)))
+declares_both k (Identifier Imports n ∷ ms) b = declares_both (suc k) ms b ∙ ap (λ (ns : List ℕ). declares_at (suc k) ms ++ ns) (moved (λ n. declares_at n b) k (width_of ms))
 declares_both k (Identifier Uses n ∷ ms) b = declares_both (suc k) ms b ∙ ap (λ (ns : List ℕ). declares_at (suc k) ms ++ ns) (moved (λ n. declares_at n b) k (width_of ms))
+declares_both k (Identifier Completes n ∷ ms) b = declares_both (suc k) ms b ∙ ap (λ (ns : List ℕ). declares_at (suc k) ms ++ ns) (moved (λ n. declares_at n b) k (width_of ms))
+declares_both k (Identifier Selects n ∷ ms) b = declares_both (suc k) ms b ∙ ap (λ (ns : List ℕ). declares_at (suc k) ms ++ ns) (moved (λ n. declares_at n b) k (width_of ms))
 declares_both k (Identifier Names n ∷ ms) b = declares_both (suc k) ms b ∙ ap (λ (ns : List ℕ). declares_at (suc k) ms ++ ns) (moved (λ n. declares_at n b) k (width_of ms))
-declares_both k (Identifier (Repeats m) n ∷ ms) b = declares_both (suc k) ms b ∙ ap (λ (ns : List ℕ). declares_at (suc k) ms ++ ns) (moved (λ n. declares_at n b) k (width_of ms))
+declares_both k (Identifier (Repeats r) n ∷ ms) b = declares_both (suc k) ms b ∙ ap (λ (ns : List ℕ). declares_at (suc k) ms ++ ns) (moved (λ n. declares_at n b) k (width_of ms))
 declares_both k (Value l n ∷ ms) b = declares_both (suc k) ms b ∙ ap (λ (ns : List ℕ). declares_at (suc k) ms ++ ns) (moved (λ n. declares_at n b) k (width_of ms))
 declares_both k (Word w ∷ ms) b = declares_both (suc k) ms b ∙ ap (λ (ns : List ℕ). declares_at (suc k) ms ++ ns) (moved (λ n. declares_at n b) k (width_of ms))
 
@@ -74,9 +88,13 @@ uses_both k [] b = ap (λ (n : ℕ). uses_at n b) (omega arith)
 uses_both k (Begins c n ∷ ms) b = uses_both k ms b
 uses_both k (Ends c ∷ ms) b = uses_both k ms b
 uses_both k (Identifier Uses n ∷ ms) b = ap (λ (ns : List ℕ). k ∷ ns) (uses_both (suc k) ms b ∙ ap (λ (ns : List ℕ). uses_at (suc k) ms ++ ns) (moved (λ n. uses_at n b) k (width_of ms)))
-uses_both k (Identifier Declares n ∷ ms) b = uses_both (suc k) ms b ∙ ap (λ (ns : List ℕ). uses_at (suc k) ms ++ ns) (moved (λ n. uses_at n b) k (width_of ms))
+uses_both k (Identifier (Declares starred) n ∷ ms) b = uses_both (suc k) ms b ∙ ap (λ (ns : List ℕ). uses_at (suc k) ms ++ ns) (moved (λ n. uses_at n b) k (width_of ms))
+uses_both k (Identifier Aliases n ∷ ms) b = uses_both (suc k) ms b ∙ ap (λ (ns : List ℕ). uses_at (suc k) ms ++ ns) (moved (λ n. uses_at n b) k (width_of ms))
+uses_both k (Identifier Imports n ∷ ms) b = uses_both (suc k) ms b ∙ ap (λ (ns : List ℕ). uses_at (suc k) ms ++ ns) (moved (λ n. uses_at n b) k (width_of ms))
+uses_both k (Identifier Completes n ∷ ms) b = uses_both (suc k) ms b ∙ ap (λ (ns : List ℕ). uses_at (suc k) ms ++ ns) (moved (λ n. uses_at n b) k (width_of ms))
+uses_both k (Identifier Selects n ∷ ms) b = uses_both (suc k) ms b ∙ ap (λ (ns : List ℕ). uses_at (suc k) ms ++ ns) (moved (λ n. uses_at n b) k (width_of ms))
 uses_both k (Identifier Names n ∷ ms) b = uses_both (suc k) ms b ∙ ap (λ (ns : List ℕ). uses_at (suc k) ms ++ ns) (moved (λ n. uses_at n b) k (width_of ms))
-uses_both k (Identifier (Repeats m) n ∷ ms) b = uses_both (suc k) ms b ∙ ap (λ (ns : List ℕ). uses_at (suc k) ms ++ ns) (moved (λ n. uses_at n b) k (width_of ms))
+uses_both k (Identifier (Repeats r) n ∷ ms) b = uses_both (suc k) ms b ∙ ap (λ (ns : List ℕ). uses_at (suc k) ms ++ ns) (moved (λ n. uses_at n b) k (width_of ms))
 uses_both k (Value l n ∷ ms) b = uses_both (suc k) ms b ∙ ap (λ (ns : List ℕ). uses_at (suc k) ms ++ ns) (moved (λ n. uses_at n b) k (width_of ms))
 uses_both k (Word w ∷ ms) b = uses_both (suc k) ms b ∙ ap (λ (ns : List ℕ). uses_at (suc k) ms ++ ns) (moved (λ n. uses_at n b) k (width_of ms))
 
@@ -105,13 +123,10 @@ pub m-value : (l : Literal) (n : ℕ) → Mirrors token (Value l n ∷ [])
 unfolding token no_rows
 m-value l n = record { width = refl; declares = λ c k. refl; uses = λ c k. refl }
 
-pub m-name : (n : ℕ) → Mirrors token (Identifier Names n ∷ [])
+-- an identifier that neither declares nor uses
+pub m-name : (r : Role) (n : ℕ) → ((k : ℕ) → [] ≡ declares_at k (Identifier r n ∷ [])) → ((k : ℕ) → [] ≡ uses_at k (Identifier r n ∷ [])) → Mirrors token (Identifier r n ∷ [])
 unfolding token no_rows
-m-name n = record { width = refl; declares = λ c k. refl; uses = λ c k. refl }
-
-pub m-repeat : (m n : ℕ) → Mirrors token (Identifier (Repeats m) n ∷ [])
-unfolding token no_rows
-m-repeat m n = record { width = refl; declares = λ c k. refl; uses = λ c k. refl }
+m-name r n d u = record { width = refl; declares = λ c k. d k; uses = λ c k. u k }
 
 pub m-both : {p q : Piece} {a b : Out} → Mirrors p a → Mirrors q b → Mirrors (both p q) (a ++ b)
 unfolding both joined
@@ -158,23 +173,34 @@ pub m-use : (member : Option ℕ) (n : ℕ) → Mirrors (used member) (Identifie
 unfolding tells token joined no_rows
 m-use member n = record { width = refl; declares = λ c k. refl; uses = λ c k. refl }
 
-pub m-declared : (starred : Bool) (n : ℕ) → Mirrors (tells (declared_row starred) token) (Identifier Declares n ∷ [])
+pub m-declared : (starred : Bool) (n : ℕ) → Mirrors (tells (declared_row starred) token) (Identifier (Declares starred) n ∷ [])
 unfolding tells token joined no_rows
 m-declared starred n = record { width = refl; declares = λ c k. refl; uses = λ c k. refl }
 
 later : (f : ℕ → List ℕ) (k : ℕ) → f (k + 1) ≡ f (suc k)
 later f k = ap f (omega arith)
 
+-- what an identifier of this role declares is itself, and it uses nothing
+pub record IsDeclaring (r : Role) : Type 0 where
+  pub itself : (k n : ℕ) (o : Out) → k ∷ declares_at (suc k) o ≡ declares_at k (Identifier r n ∷ o)
+  pub no_use : (k n : ℕ) (o : Out) → uses_at (suc k) o ≡ uses_at k (Identifier r n ∷ o)
+
+pub declares_it : (starred : Bool) → IsDeclaring (Declares starred)
+declares_it starred = record { itself = λ k n o. refl; no_use = λ k n o. refl }
+
+pub aliases_it : IsDeclaring Aliases
+aliases_it = record { itself = λ k n o. refl; no_use = λ k n o. refl }
+
 -- a first token with rows of its own, which declares an identifier, or looks one up
-pub m-first_declares : (own : Context → ℕ → Rows) {p : Piece} {o : Out} (n : ℕ) → ((c : Context) (k : ℕ) → declared_numbers (own c k) ≡ k ∷ []) → ((c : Context) (k : ℕ) → used_numbers (own c k) ≡ []) →
-    Mirrors p o → Mirrors (tells own (both token p)) (Identifier Declares n ∷ o)
+pub m-first_declares : (own : Context → ℕ → Rows) {p : Piece} {o : Out} {r : Role} → IsDeclaring r → (n : ℕ) → ((c : Context) (k : ℕ) → declared_numbers (own c k) ≡ k ∷ []) → ((c : Context) (k : ℕ) → used_numbers (own c k) ≡ []) →
+    Mirrors p o → Mirrors (tells own (both token p)) (Identifier r n ∷ o)
 unfolding tells both token joined no_rows
-m-first_declares own {p} {o} n d u f = record {
+m-first_declares own {p} {o} {r} role n d u f = record {
   width = let w = f.width in omega (arith, w);
   declares = λ c k. map-append (λ (d : Declared). d.number) (own c k).declared (p.rows c (k + 1)).declared
-      ∙ ap₂ (λ (xs ys : List ℕ). xs ++ ys) (d c k) (f.declares c (k + 1) ∙ later (λ (n : ℕ). declares_at n o) k);
+      ∙ ap₂ (λ (xs ys : List ℕ). xs ++ ys) (d c k) (f.declares c (k + 1) ∙ later (λ (n : ℕ). declares_at n o) k) ∙ role.itself k n o;
   uses = λ c k. map-append (λ (u : Used). u.number) (own c k).uses (p.rows c (k + 1)).uses
-      ∙ ap₂ (λ (xs ys : List ℕ). xs ++ ys) (u c k) (f.uses c (k + 1) ∙ later (λ (n : ℕ). uses_at n o) k);
+      ∙ ap₂ (λ (xs ys : List ℕ). xs ++ ys) (u c k) (f.uses c (k + 1) ∙ later (λ (n : ℕ). uses_at n o) k) ∙ role.no_use k n o;
 }
 
 pub m-first_uses : (own : Context → ℕ → Rows) {p : Piece} {o : Out} (n : ℕ) → ((c : Context) (k : ℕ) → declared_numbers (own c k) ≡ []) → ((c : Context) (k : ℕ) → used_numbers (own c k) ≡ k ∷ []) →

@@ -8,7 +8,9 @@ use Rattle.ob_tree.specs.Constructs.{Construct}
 use Rattle.ob_tree.specs.Constructs as constructs
 use Rattle.ob_tree.specs.declared.expression.Literal.{Literal}
 use Rattle.ob_tree.specs.declared.name.OneOrMore.{OneOrMore}
-use Rattle.ob_tree.specs.Marks.{Out, Begins, Ends, Identifier, Value, Word, Declares, Uses, Names, Repeats, construct, word, named, listed}
+use Rattle.ob_tree.specs.declared.role.Role.{Role}
+use Rattle.ob_tree.specs.declared.role.Role.TheVariants.{Declares, Aliases, Imports, Uses, Completes, Selects, Names, Repeats}
+use Rattle.ob_tree.specs.Marks.{Out, Begins, Ends, Identifier, Value, Word, construct, word, completed, imported, listed}
 use Rattle.ob_tree.specs.Marks.{if_there as outline_there, if_so as outline_so, each as outline_each}
 use Rattle.ob_decls.specs.declared.rows.Declared.{Declared}
 use Rattle.ob_decls.specs.declared.rows.End.{End}
@@ -24,7 +26,7 @@ use Rattle.ob_decls.specs.Naming.{IsNamed}
 use Rattle.ob_decls.specs.Naming as names
 use Rattle.ob_decls.specs.Parts.{Piece, Rows, no_rows, joined, nothing, token, both, tells, within, if_there, if_so, each, declaring, opening, one_declarer, one_end, one_import, one_used, these_selectors, declarer, declaring_at}
 use Rattle.ob_decls.specs.Types.{declared_row}
-use Rattle.ob_decls.proofs.Mirrored.{Mirrors, declared_numbers, m-both, m-declared, m-declaring, m-first_declares, m-first_uses, m-held, m-name, m-nothing, m-repeat, m-tells, m-use, m-value, m-within, m-word, used_numbers, width_of}
+use Rattle.ob_decls.proofs.Mirrored.{IsDeclaring, Mirrors, aliases_it, declared_numbers, m-both, m-declared, m-declaring, m-first_declares, m-first_uses, m-held, m-name, m-nothing, m-tells, m-use, m-value, m-within, m-word, used_numbers, width_of}
 
 -- this holds of the place of each identifier of an outline, where its first token has this one
 unfoldable pub AtNames : (ℕ → Type 0) → ℕ → Out → Type 0
@@ -208,25 +210,25 @@ pub n-use : (member : Option ℕ) (n : ℕ) → Named (used member) (Identifier 
 unfolding AtNames tells token joined no_rows
 n-use member n = record { mirrors = m-use member n; has_row = λ c k. (names.used _ (at_front _ []) refl, tt) }
 
-pub n-declared : (starred : Bool) (n : ℕ) → Named (tells (declared_row starred) token) (Identifier Declares n ∷ [])
+pub n-declared : (starred : Bool) (n : ℕ) → Named (tells (declared_row starred) token) (Identifier (Declares starred) n ∷ [])
 unfolding AtNames tells token joined no_rows
 n-declared starred n = record { mirrors = m-declared starred n; has_row = λ c k. (names.declared _ (at_front _ []) refl, tt) }
 
 -- the name behind END
 pub n-ends : (of : Context → ℕ → Option ℕ) (m n : ℕ) → Named (tells (λ c k. one_end (record { number = k; of = of c k })) token) (Identifier (Repeats m) n ∷ [])
 unfolding AtNames tells token joined no_rows
-n-ends of m n = record { mirrors = m-tells (λ c k. one_end (record { number = k; of = of c k })) (λ c k. refl) (λ c k. refl) (m-repeat m n); has_row = λ c k. (names.ended _ (at_front _ []) refl, tt) }
+n-ends of m n = record { mirrors = m-tells (λ c k. one_end (record { number = k; of = of c k })) (λ c k. refl) (λ c k. refl) (m-name (Repeats m) n (λ k. refl) (λ k. refl)); has_row = λ c k. (names.ended _ (at_front _ []) refl, tt) }
 
 -- a row that declares this alone
 declares_here : (xs : List Declared) (k : ℕ) → map (λ (d : Declared). d.number) xs ≡ k ∷ [] → (x : Declared) × Contains xs x × (x.number ≡ k)
 declares_here [] k e = absurd cc
 declares_here (x ∷ xs) k e = (x, at_front x xs, cc)
 
-pub n-first_declares : (own : Context → ℕ → Rows) {p : Piece} {o : Out} (n : ℕ) → ((c : Context) (k : ℕ) → declared_numbers (own c k) ≡ k ∷ []) → ((c : Context) (k : ℕ) → used_numbers (own c k) ≡ []) →
-    Named p o → Named (tells own (both token p)) (Identifier Declares n ∷ o)
+pub n-first_declares : (own : Context → ℕ → Rows) {p : Piece} {o : Out} {r : Role} → IsDeclaring r → (n : ℕ) → ((c : Context) (k : ℕ) → declared_numbers (own c k) ≡ k ∷ []) → ((c : Context) (k : ℕ) → used_numbers (own c k) ≡ []) →
+    Named p o → Named (tells own (both token p)) (Identifier r n ∷ o)
 unfolding AtNames tells both token
-n-first_declares own {p} {o} n d u f = record {
-  mirrors = m-first_declares own n d u f.mirrors;
+n-first_declares own {p} {o} {r} role n d u f = record {
+  mirrors = m-first_declares own role n d u f.mirrors;
   has_row = λ c k.
       let rest = p.rows c (k + 1) in
       let R = joined (own c k) (joined no_rows rest) in
@@ -238,33 +240,33 @@ n-first_declares own {p} {o} n d u f = record {
 }
 
 -- the second name of a qualident
-pub n-qualified : (member : Option ℕ) (n : ℕ) → Named (both (used member) (if_there (λ m. both token token) member)) (Identifier Uses n ∷ outline_there (λ m. word kinds.Dot ++ named m) member)
+pub n-qualified : (member : Option ℕ) (n : ℕ) → Named (both (used member) (if_there (λ m. both token token) member)) (Identifier Uses n ∷ outline_there (λ m. word kinds.Dot ++ completed m) member)
 unfolding AtNames tells both token joined no_rows
 n-qualified None n = n-both (n-use None n) n-nothing
 n-qualified (Some m) n = record {
-  mirrors = m-both (m-use (Some m) n) (m-both (m-word kinds.Dot) (m-name m));
+  mirrors = m-both (m-use (Some m) n) (m-both (m-word kinds.Dot) (m-name Completes m (λ k. refl) (λ k. refl)));
   has_row = λ c k. (names.used _ (at_front _ []) refl, (names.second _ (at_front _ []) (ap Some (omega arith)), tt));
 }
 
 -- a name as a type, with what makes its use a target or not
 pub n-type_use : (is_target : Option ℕ → Context → Bool) (member : Option ℕ) (n : ℕ) →
     Named (tells (λ c k. one_used (record { number = k; block = c.block; is_target = is_target member c; member = behind_dot member k })) (both token (if_there (λ m. both token token) member)))
-    (Identifier Uses n ∷ outline_there (λ m. word kinds.Dot ++ named m) member)
+    (Identifier Uses n ∷ outline_there (λ m. word kinds.Dot ++ completed m) member)
 unfolding AtNames nothing tells both token joined no_rows
 n-type_use t None n = record { mirrors = m-first_uses (λ c k. one_used (record { number = k; block = c.block; is_target = t None c; member = behind_dot None k })) n (λ c k. refl) (λ c k. refl) m-nothing; has_row = λ c k. (names.used _ (at_front _ []) refl, tt) }
 n-type_use t (Some m) n = record {
-  mirrors = m-first_uses (λ c k. one_used (record { number = k; block = c.block; is_target = t (Some m) c; member = behind_dot (Some m) k })) n (λ c k. refl) (λ c k. refl) (m-both (m-word kinds.Dot) (m-name m));
+  mirrors = m-first_uses (λ c k. one_used (record { number = k; block = c.block; is_target = t (Some m) c; member = behind_dot (Some m) k })) n (λ c k. refl) (λ c k. refl) (m-both (m-word kinds.Dot) (m-name Completes m (λ k. refl) (λ k. refl)));
   has_row = λ c k. (names.used _ (at_front _ []) refl, (names.second _ (at_front _ []) (ap Some (omega arith)), tt));
 }
 
 -- an import item: its alias, and the module that it names
 pub n-item : (of : Option ℕ) (n : ℕ) →
     Named (tells (λ c k. one_import (record { alias = k; imported = named_by of k })) (tells (declared_row false) (both token (if_there (λ m. both token token) of))))
-    (Identifier Declares n ∷ outline_there (λ m. word kinds.Assign ++ named m) of)
+    (Identifier Aliases n ∷ outline_there (λ m. word kinds.Assign ++ imported m) of)
 unfolding AtNames nothing tells both token joined no_rows
-n-item None n = n-tells (λ c k. one_import (record { alias = k; imported = named_by None k })) (λ c k. refl) (λ c k. refl) (n-first_declares (declared_row false) n (λ c k. refl) (λ c k. refl) n-nothing)
+n-item None n = n-tells (λ c k. one_import (record { alias = k; imported = named_by None k })) (λ c k. refl) (λ c k. refl) (n-first_declares (declared_row false) aliases_it n (λ c k. refl) (λ c k. refl) n-nothing)
 n-item (Some m) n = record {
-  mirrors = m-tells (λ c k. one_import (record { alias = k; imported = named_by (Some m) k })) (λ c k. refl) (λ c k. refl) (m-first_declares (declared_row false) n (λ c k. refl) (λ c k. refl) (m-both (m-word kinds.Assign) (m-name m)));
+  mirrors = m-tells (λ c k. one_import (record { alias = k; imported = named_by (Some m) k })) (λ c k. refl) (λ c k. refl) (m-first_declares (declared_row false) aliases_it n (λ c k. refl) (λ c k. refl) (m-both (m-word kinds.Assign) (m-name Imports m (λ k. refl) (λ k. refl))));
   has_row = λ c k. (names.declared _ (at_front _ []) refl, (names.imported _ (at_front _ []) (omega arith), tt));
 }
 
@@ -280,10 +282,10 @@ abbrev pieces_of : List Selected → Piece
 pieces_of ss = each (λ (s : Selected). s.piece) ss
 
 -- a dot and a name
-pub n-field : (head n : ℕ) → Named (tells (λ c k. these_selectors (record { of = head; step = steps.Field (k + 1) } ∷ [])) (both token token)) (Word kinds.Dot ∷ Identifier Names n ∷ [])
+pub n-field : (head n : ℕ) → Named (tells (λ c k. these_selectors (record { of = head; step = steps.Field (k + 1) } ∷ [])) (both token token)) (Word kinds.Dot ∷ Identifier Selects n ∷ [])
 unfolding AtNames tells both token joined no_rows
 n-field head n = record {
-  mirrors = m-tells (λ c k. these_selectors (record { of = head; step = steps.Field (k + 1) } ∷ [])) (λ c k. refl) (λ c k. refl) (m-both (m-word kinds.Dot) (m-name n));
+  mirrors = m-tells (λ c k. these_selectors (record { of = head; step = steps.Field (k + 1) } ∷ [])) (λ c k. refl) (λ c k. refl) (m-both (m-word kinds.Dot) (m-name Selects n (λ k. refl) (λ k. refl)));
   has_row = λ c k. (names.selected _ (at_front _ []) (ap steps.Field (omega arith)), tt);
 }
 

@@ -1,5 +1,5 @@
 -- The piece of a module and its outline have the same tokens, and its rows name each identifier.
-use Rattle.std.proofs.Common.{◌≡◌, ◌+◌, List, Some, None, ◌++◌, sym, ap, ◌∙◌}
+use Rattle.std.proofs.Common.{◌≡◌, ◌+◌, List, Some, None, ◌++◌, refl, sym, ap, ◌∙◌}
 use Rattle.ob_scan.specs.declared.kind.Kind.{Kind}
 use Rattle.ob_scan.specs.declared.kind.Kind.TheVariants as kinds
 use Rattle.ob_tree.specs.declared.name.OneOrMore.{OneOrMore}
@@ -11,6 +11,7 @@ use Rattle.ob_tree.specs.declared.declaration.Module.{Module}
 use Rattle.ob_tree.specs.declared.declaration.Declarations.{Declarations, Declarations-F, roll-Declarations, out-roll-Declarations, ind-Declarations, map-Declarations}
 use Rattle.ob_tree.specs.declared.declaration.ProcDecl.{ProcDecl, ProcDecl-F, roll-ProcDecl, out-roll-ProcDecl, map-ProcDecl}
 use Rattle.ob_tree.specs.Constructs as constructs
+use Rattle.ob_tree.specs.declared.role.Role.TheVariants.{Names}
 use Rattle.ob_tree.specs.Marks.{Out, construct, if_there, word, repeated, listed}
 use Rattle.ob_tree.specs.Expressions.{expr_outline}
 use Rattle.ob_tree.specs.Statements.{block_outline}
@@ -145,7 +146,7 @@ n-behind m = n-both (n-word kinds.Semicolon)
 
 pub m-module : (m : Module) → Mirrors (module_piece m) (module_outline m)
 unfolding module_piece module_outline behind_name behind_outline
-m-module m = m-held constructs.Module (m-both (m-word kinds.Module) (m-both (m-name m.name) (n-behind m).mirrors))
+m-module m = m-held constructs.Module (m-both (m-word kinds.Module) (m-both (m-name Names m.name (λ k. refl) (λ k. refl)) (n-behind m).mirrors))
 
 -- and its own name is where every module has it
 pub module_named : (m : Module) → AtNames (IsNamed (rows_of m)) 0 (module_outline m)

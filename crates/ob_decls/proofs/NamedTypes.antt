@@ -30,6 +30,7 @@ use Rattle.ob_decls.specs.Expressions.{each_after, expr_piece}
 use Rattle.ob_decls.specs.Statements.{qualident_piece}
 use Rattle.ob_decls.specs.Types.{is_lone, part_here, record_row, in_record, open_arrays, section_inner, section_piece, identdef_piece, parameter_piece, parameters_piece, type_name_piece, lengths_piece, type_piece, fields_piece, record_piece, var_piece}
 use Rattle.ob_decls.proofs.TypeLayers as told
+use Rattle.ob_decls.proofs.Mirrored.{declares_it}
 use Rattle.ob_decls.proofs.Named.{Named, named_as, n-nothing, n-word, n-declared, n-both, n-three, n-first_declares, n-type_use, n-held, n-tells, n-within, n-declaring, n-opening, n-there, n-so, n-each, n-map, n-listed}
 use Rattle.ob_decls.proofs.NamedExpressions.{n-expr}
 use Rattle.ob_decls.proofs.NamedStatements.{n-qualident}
@@ -38,9 +39,9 @@ use Rattle.ob_decls.proofs.NamedStatements.{n-qualident}
 
 pub n-identdef : (i : Identdef) → Named (identdef_piece i) (identdef_outline i)
 unfolding identdef_piece identdef_outline
-n-identdef i = n-first_declares _ i.name (λ c k. refl) (λ c k. refl) (n-so i.starred (n-word kinds.Star))
+n-identdef i = n-first_declares _ (declares_it i.starred) i.name (λ c k. refl) (λ c k. refl) (n-so i.starred (n-word kinds.Star))
 
-n-parameter : (n : ℕ) → Named parameter_piece (declared n)
+n-parameter : (n : ℕ) → Named parameter_piece (declared false n)
 unfolding parameter_piece
 n-parameter n = n-declared false n
 
@@ -55,7 +56,7 @@ n-arrays (suc n) = n-both (n-tells _ (λ c k. refl) (λ c k. refl) (n-both (n-wo
 n-section : (s : ParameterSection) → Named (section_piece s) (section_outline s)
 unfolding section_piece section_inner section_outline
 n-section s = n-held constructs.FPSection (n-declaring sorts.Parameter (n-both (n-so s.variable (n-word kinds.Var)) (n-three (n-parameter s.names.first)
-    (n-each (λ n. both token parameter_piece) (λ n. word kinds.Comma ++ declared n) s.names.rest.items (λ n. n-both (n-word kinds.Comma) (n-parameter n)))
+    (n-each (λ n. both token parameter_piece) (λ n. word kinds.Comma ++ declared false n) s.names.rest.items (λ n. n-both (n-word kinds.Comma) (n-parameter n)))
     (n-both (n-word kinds.Colon) (n-both (n-arrays s.open_arrays) (n-tells _ (λ c k. refl) (λ c k. refl) (n-qualident s.of)))))))
 
 pub n-parameters : (p : Parameters) → Named (parameters_piece p) (parameters_outline p)
@@ -115,12 +116,12 @@ fields_there None = n-nothing
 fields_there (Some f) = f.value.1
 
 type_held : (y : WithTypeForm) → Named (told.type_shown (type_of y)) (type_shown (type_of y))
-type_held (layers.Named q) = n-type_name q
-type_held (layers.ArrayOf lengths of) = n-tells _ (λ c k. refl) (λ c k. refl)
-    (n-both (n-word kinds.Array) (n-both (n-lengths lengths.value) (n-both (n-word kinds.Of) (n-within _ of.value.1))))
-type_held (layers.RecordOf r) = n-tells _ (λ c k. refl) (λ c k. refl) r.1
-type_held (layers.PointerTo t) = n-tells _ (λ c k. refl) (λ c k. refl) (n-both (n-word kinds.Pointer) (n-both (n-word kinds.To) (n-within _ t.value.1)))
-type_held (layers.ProcOf p) = n-tells _ (λ c k. refl) (λ c k. refl) (n-opening (n-both (n-word kinds.Procedure) (n-there parameters_piece parameters_outline p n-parameters)))
+type_held (layers.Named q) = n-held constructs.NamedType (n-type_name q)
+type_held (layers.ArrayOf lengths of) = n-held constructs.ArrayType (n-tells _ (λ c k. refl) (λ c k. refl)
+    (n-both (n-word kinds.Array) (n-both (n-lengths lengths.value) (n-both (n-word kinds.Of) (n-within _ of.value.1)))))
+type_held (layers.RecordOf r) = n-held constructs.RecordType (n-tells _ (λ c k. refl) (λ c k. refl) r.1)
+type_held (layers.PointerTo t) = n-held constructs.PointerType (n-tells _ (λ c k. refl) (λ c k. refl) (n-both (n-word kinds.Pointer) (n-both (n-word kinds.To) (n-within _ t.value.1))))
+type_held (layers.ProcOf p) = n-held constructs.ProcedureType (n-tells _ (λ c k. refl) (λ c k. refl) (n-opening (n-both (n-word kinds.Procedure) (n-there parameters_piece parameters_outline p n-parameters))))
 
 abbrev fields_told : Fields-F TypeForm Fields Record VarDecl → Piece
 fields_told f = both (declaring sorts.Field (var_piece f.first)) (both (each_after (λ v. declaring sorts.Field (var_piece v)) f.rest.items) (if_so f.closing_semicolon token))
@@ -156,8 +157,8 @@ type_step : (x : TypeForm-F TypeForm Fields Record VarDecl) (y : WithTypeForm) �
 type_step x y is =
     named_as
     (told.type_told (roll-TypeForm x) ∙ ap (λ (z : TypeForm-F TypeForm Fields Record VarDecl). told.type_shown z) (out-roll-TypeForm x ∙ sym is))
-    (type_out (roll-TypeForm x) ∙ ap (λ (z : TypeForm-F TypeForm Fields Record VarDecl). construct constructs.TypeForm (type_shown z)) (out-roll-TypeForm x ∙ sym is))
-    (n-held constructs.TypeForm (type_held y))
+    (type_out (roll-TypeForm x) ∙ ap (λ (z : TypeForm-F TypeForm Fields Record VarDecl). type_shown z) (out-roll-TypeForm x ∙ sym is))
+    (type_held y)
 
 fields_step : (x : Fields-F TypeForm Fields Record VarDecl) (y : WithFields) → fields_of y ≡ x → HeldFields (roll-Fields x)
 fields_step x y is =

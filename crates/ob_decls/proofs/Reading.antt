@@ -2,8 +2,10 @@
 use Rattle.std.proofs.Common.{◌≡◌, ℕ, Bool, true, false, [], ◌∷◌, ◌++◌, Option, Some, None, refl, sym, ap, ap₂, ◌∙◌, append_assoc}
 use Rattle.ob_scan.specs.declared.kind.Kind.{Kind}
 use Rattle.ob_tree.specs.Constructs.{Construct}
+use Rattle.ob_tree.specs.declared.role.Role.{Role}
+use Rattle.ob_tree.specs.declared.role.Role.TheVariants.{Declares, Uses}
 use Rattle.ob_tree.specs.Leaves.{same_kind}
-use Rattle.ob_tree.specs.Marks.{Out, Mark, Begins, Ends, Identifier, Value, Word, Declares, Uses, Names, construct, word, declared, used, named, if_there}
+use Rattle.ob_tree.specs.Marks.{Out, Mark, Begins, Ends, Identifier, Value, Word, construct, word, declared, used, if_there}
 
 -- ---- whether an outline goes on with a part that may stand there
 
@@ -64,23 +66,26 @@ tail_is x y r s e = cc
 pub r-word : {Z : Type 0} (k : Kind) → Reads {Z = Z} {A = Kind} (λ z. k) (λ z. word k) never k (word k)
 r-word k = record { same = λ z r s i j e. (refl, tail_is _ _ r s e) }
 
-used_is : (m n : ℕ) (r s : Out) → Identifier Uses m ∷ r ≡ Identifier Uses n ∷ s → m ≡ n
-used_is m n r s e = cc
+name_is : (role : Role) (m n : ℕ) (r s : Out) → Identifier role m ∷ r ≡ Identifier role n ∷ s → m ≡ n
+name_is role m n r s e = cc
 
-named_is : (m n : ℕ) (r s : Out) → Identifier Names m ∷ r ≡ Identifier Names n ∷ s → m ≡ n
-named_is m n r s e = cc
+declared_is : (a b : Bool) (m n : ℕ) (r s : Out) → Identifier (Declares a) m ∷ r ≡ Identifier (Declares b) n ∷ s → (m ≡ n) × (a ≡ b)
+declared_is a b m n r s e = (cc, cc)
 
-declared_is : (m n : ℕ) (r s : Out) → Identifier Declares m ∷ r ≡ Identifier Declares n ∷ s → m ≡ n
-declared_is m n r s e = cc
+-- a name of this role
+pub r-name : {Z : Type 0} (role : Role) (h : Z → ℕ) (n : ℕ) → Reads h (λ z. Identifier role (h z) ∷ []) never n (Identifier role n ∷ [])
+r-name role h n = record { same = λ z r s i j e. (name_is role _ _ r s e, tail_is _ _ r s e) }
 
 pub r-use : {Z : Type 0} (h : Z → ℕ) (n : ℕ) → Reads h (λ z. used (h z)) never n (used n)
-r-use h n = record { same = λ z r s i j e. (used_is _ _ r s e, tail_is _ _ r s e) }
+r-use h n = r-name Uses h n
 
-pub r-name : {Z : Type 0} (h : Z → ℕ) (n : ℕ) → Reads h (λ z. named (h z)) never n (named n)
-r-name h n = record { same = λ z r s i j e. (named_is _ _ r s e, tail_is _ _ r s e) }
-
-pub r-declared : {Z : Type 0} (h : Z → ℕ) (n : ℕ) → Reads h (λ z. declared (h z)) never n (declared n)
-r-declared h n = record { same = λ z r s i j e. (declared_is _ _ r s e, tail_is _ _ r s e) }
+-- a name that is declared, with a star behind it or without
+pub r-declared : {Z : Type 0} (starred : Z → Bool) (h : Z → ℕ) (b : Bool) (n : ℕ) → Reads {A = ℕ × Bool} (λ z. (h z, starred z)) (λ z. declared (starred z) (h z)) never (n, b) (declared b n)
+r-declared starred h b n = record {
+  same = λ z r s i j e.
+      let p = declared_is _ _ _ _ r s e in
+      (ap₂ (λ (m : ℕ) (c : Bool). (m, c)) p.0 p.1, tail_is _ _ r s e);
+}
 
 -- ---- one part behind the other
 

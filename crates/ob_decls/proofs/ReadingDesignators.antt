@@ -15,7 +15,8 @@ use Rattle.ob_tree.specs.declared.expression.ExprList.{ExprList, ExprList-F, fol
 use Rattle.ob_tree.specs.declared.expression.Sum.{Sum}
 use Rattle.ob_tree.specs.declared.expression.Term.{Term}
 use Rattle.ob_tree.specs.Constructs as constructs
-use Rattle.ob_tree.specs.Marks.{Out, construct, word, used, named, if_there, each}
+use Rattle.ob_tree.specs.Marks.{Out, construct, word, used, if_there, each}
+use Rattle.ob_tree.specs.Marks.{selected as selected_name}
 use Rattle.ob_tree.specs.Expressions.{selector_outline, element_outline, expr_outline, expr_list_outline}
 use Rattle.ob_tree.proofs.ExpressionLayers.{selector_shown, element_shown, element_list_shown, expr_list_shown, selector_out, designator_out, element_out, element_list_out, expr_out, expr_list_out}
 use Rattle.ob_tree.proofs.Closed.{With}
@@ -154,13 +155,13 @@ expr_list_begins l s =
     ap (λ (o : Out). on_list kinds.Comma (o ++ s)) (expr_list_out l) ∙
     ap (λ (o : Out). on_list kinds.Comma ((o ++ each (λ e. word kinds.Comma ++ expr_outline e) (out-ExprList l).rest.items) ++ s)) (expr_out (out-ExprList l).first)
 
-field_is : (m n : ℕ) (r s : Out) → (word kinds.Dot ++ named m) ++ r ≡ (word kinds.Dot ++ named n) ++ s → m ≡ n
+field_is : (m n : ℕ) (r s : Out) → (word kinds.Dot ++ selected_name m) ++ r ≡ (word kinds.Dot ++ selected_name n) ++ s → m ≡ n
 field_is m n r s e = cc
 
-field_tail : (m n : ℕ) (r s : Out) → (word kinds.Dot ++ named m) ++ r ≡ (word kinds.Dot ++ named n) ++ s → r ≡ s
+field_tail : (m n : ℕ) (r s : Out) → (word kinds.Dot ++ selected_name m) ++ r ≡ (word kinds.Dot ++ selected_name n) ++ s → r ≡ s
 field_tail m n r s e = cc
 
-field_same : (m : ℕ) (z : Selector-F Factor Selector Designator Element ElementList Expr ExprList Sum Term) (r s : Out) → (word kinds.Dot ++ named m) ++ r ≡ selector_shown z ++ s → (told.selector_shown (layers.Field m) ≡ told.selector_shown z) × (r ≡ s)
+field_same : (m : ℕ) (z : Selector-F Factor Selector Designator Element ElementList Expr ExprList Sum Term) (r s : Out) → (word kinds.Dot ++ selected_name m) ++ r ≡ selector_shown z ++ s → (told.selector_shown (layers.Field m) ≡ told.selector_shown z) × (r ≡ s)
 unfolding expr_list_piece
 field_same m (layers.Field n) r s e = (ap (λ (k : ℕ). told.selector_shown (layers.Field k)) (field_is m n r s e), field_tail m n r s e)
 field_same m (layers.Index l) r s e = absurd cc

@@ -13,7 +13,8 @@ use Rattle.ob_tree.specs.declared.declaration.Declarations.{Declarations, out-De
 use Rattle.ob_tree.specs.declared.declaration.ImportItem.{ImportItem}
 use Rattle.ob_tree.specs.declared.declaration.Module.{Module}
 use Rattle.ob_tree.specs.Constructs as constructs
-use Rattle.ob_tree.specs.Marks.{Out, construct, word, declared, named, repeated, if_there, listed}
+use Rattle.ob_tree.specs.declared.role.Role.TheVariants as roles
+use Rattle.ob_tree.specs.Marks.{Out, construct, word, aliased, imported, named, repeated, if_there, listed}
 use Rattle.ob_tree.specs.Statements.{block_outline}
 use Rattle.ob_tree.specs.Declaring.{const_outline, part, declarations_outline, procedure_outline, import_outline, module_outline}
 use Rattle.ob_tree.proofs.DeclarationLayers.{import_out, module_out, declarations_out, procedure_out}
@@ -25,7 +26,7 @@ use Rattle.ob_decls.specs.Statements.{block_piece}
 use Rattle.ob_decls.specs.Types.{declared_row}
 use Rattle.ob_decls.specs.Declaring.{module_end, named_by, import_piece, imports_piece, declarations_piece, module_piece, outermost, rows_of}
 use Rattle.ob_decls.proofs.DeclarationLayers as told
-use Rattle.ob_decls.proofs.Reading.{Reads, never, on_word, maybe, r-name, r-declared, r-until, r-both, r-past, r-then, r-held, r-at, r-made}
+use Rattle.ob_decls.proofs.Reading.{Reads, never, on_word, maybe, r-name, r-until, r-both, r-past, r-then, r-held, r-at, r-made}
 use Rattle.ob_decls.proofs.ReadingLists.{r-there, each_told, there_told}
 use Rattle.ob_decls.proofs.ReadingNames.{itself, on_words}
 use Rattle.ob_decls.proofs.ReadingStatements.{r-block}
@@ -51,13 +52,13 @@ import_tells i =
     ap (λ (o : Option ℕ). declaring sorts.Import (import_inner_told o)) (sym (itself i.of))
 
 abbrev import_shown : ImportItem → Out
-import_shown i = declared i.name ++ if_there (λ m. word kinds.Assign ++ named m) i.of
+import_shown i = aliased i.name ++ if_there (λ m. word kinds.Assign ++ imported m) i.of
 
-r-own_name : (m : ℕ) → Reads {A = ℕ} (λ z. z) (λ z. word kinds.Assign ++ named z) never m (word kinds.Assign ++ named m)
-r-own_name m = r-past kinds.Assign (r-name (λ z. z) m)
+r-own_name : (m : ℕ) → Reads {A = ℕ} (λ z. z) (λ z. word kinds.Assign ++ imported z) never m (word kinds.Assign ++ imported m)
+r-own_name m = r-past kinds.Assign (r-name roles.Imports (λ z. z) m)
 
 import_held : (i : ImportItem) → Reads import_parts import_shown (on_word kinds.Assign) (import_parts i) (import_shown i)
-import_held i = r-both (r-declared (λ z. z.name) i.name) (r-there (on_word kinds.Assign) (λ z. z.of) i.of r-own_name (λ s j. refl) (λ m s. refl))
+import_held i = r-both (r-name roles.Aliases (λ z. z.name) i.name) (r-there (on_word kinds.Assign) (λ z. z.of) i.of r-own_name (λ s j. refl) (λ m s. refl))
 
 r-import : (i : ImportItem) → Reads import_piece import_outline never (import_piece i) (import_outline i)
 r-import i = r-made import_told (λ z. z) import_tells import_out (import_tells i) (import_out i) (r-held constructs.Import (import_held i) (λ s. refl))
@@ -137,7 +138,7 @@ r-body b = r-past kinds.Begin (r-block b)
 
 module_held : (m : Module) → Reads module_parts module_shown never (module_parts m) (module_shown m)
 module_held m =
-    r-past kinds.Module (r-both (r-name (λ z. z.name) m.name) (r-past kinds.Semicolon
+    r-past kinds.Module (r-both (r-name roles.Names (λ z. z.name) m.name) (r-past kinds.Semicolon
     (r-until (r-there (on_word kinds.Import) (λ z. z.imports) m.imports r-imports (λ s i. refl) (λ l s. refl)) (λ s i. no_import m.declarations m.body _ s) (λ z s i. no_import z.declarations z.body _ s)
     (r-until (r-at (λ z. z.declarations) (r-declarations m.declarations)) (λ s i. no_declarations m.body _ s) (λ z s i. no_declarations z.body _ s)
     (r-until (r-there (on_words in_body) (λ z. z.body) m.body r-body body_ends (λ b s. refl)) (λ s i. refl) (λ z s i. refl)

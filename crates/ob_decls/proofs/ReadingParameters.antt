@@ -8,6 +8,7 @@ use Rattle.ob_tree.specs.declared.name.Qualident.{Qualident}
 use Rattle.ob_tree.specs.declared.declaration.ParameterSection.{ParameterSection}
 use Rattle.ob_tree.specs.declared.declaration.Parameters.{Parameters}
 use Rattle.ob_tree.specs.Constructs as constructs
+use Rattle.ob_tree.specs.declared.role.Role.TheVariants as roles
 use Rattle.ob_tree.specs.Marks.{Out, Word, construct, word, declared, if_there, if_so, each, listed, times}
 use Rattle.ob_tree.specs.Names.{qualident_outline, identdef_outline}
 use Rattle.ob_tree.specs.Types.{section_outline, parameters_outline}
@@ -19,7 +20,7 @@ use Rattle.ob_decls.specs.Statements.{qualident_piece}
 use Rattle.ob_decls.specs.Types.{parameter_piece, name_part, section_piece, parameters_piece}
 use Rattle.ob_decls.specs.Types.{open_arrays as arrays_piece}
 use Rattle.ob_decls.proofs.TypeLayers as told
-use Rattle.ob_decls.proofs.Reading.{Reads, never, on_word, on_list, no_word, clash, maybe, r-declared, r-until, r-both, r-past, r-held, r-at, r-made}
+use Rattle.ob_decls.proofs.Reading.{Reads, never, on_word, on_list, no_word, clash, maybe, r-name, r-declared, r-until, r-both, r-past, r-held, r-at, r-made}
 use Rattle.ob_decls.proofs.ReadingLists.{r-there, r-each, r-so, apart_from, each_told, there_told}
 use Rattle.ob_decls.proofs.ReadingNames.{on_words, not_the_first, none_behind, r-qualident}
 
@@ -34,14 +35,14 @@ r-listed {X} {A} {f} {g} {part} k more x front apart ends l = r-until (r-at (λ 
 
 -- ---- names that are declared
 
-abbrev identdef_parts : Identdef → ℕ × Bool
-identdef_parts i = (i.name, i.starred)
+abbrev identdef_parts : Identdef → (ℕ × Bool) × Bool
+identdef_parts i = ((i.name, i.starred), i.starred)
 
-abbrev identdef_told : ℕ × Bool → Identdef
-identdef_told p = record { name = p.0; starred = p.1 }
+abbrev identdef_told : (ℕ × Bool) × Bool → Identdef
+identdef_told p = record { name = p.0.0; starred = p.0.1 }
 
-identdef_held : (i : Identdef) → Reads identdef_parts (λ z. declared z.name ++ if_so z.starred (word kinds.Star)) (on_word kinds.Star) (identdef_parts i) (declared i.name ++ if_so i.starred (word kinds.Star))
-identdef_held i = r-both (r-declared (λ z. z.name) i.name) (r-so kinds.Star (on_word kinds.Star) (λ s. refl) (λ z. z.starred) i.starred)
+identdef_held : (i : Identdef) → Reads identdef_parts (λ z. declared z.starred z.name ++ if_so z.starred (word kinds.Star)) (on_word kinds.Star) (identdef_parts i) (declared i.starred i.name ++ if_so i.starred (word kinds.Star))
+identdef_held i = r-both (r-declared (λ z. z.starred) (λ z. z.name) i.starred i.name) (r-so kinds.Star (on_word kinds.Star) (λ s. refl) (λ z. z.starred) i.starred)
 
 -- the name itself
 pub r-identdef : (i : Identdef) → Reads {A = Identdef} (λ z. z) identdef_outline (on_word kinds.Star) i (identdef_outline i)
@@ -84,14 +85,14 @@ section_tells s =
     (both (arrays_piece s.open_arrays) (tells (name_part s.of) (qualident_piece s.of)))))))) (each_told (λ (n : ℕ). n) (λ n. both token parameter_piece) s.names.rest.items)
 
 abbrev section_shown : ParameterSection → Out
-section_shown s = if_so s.variable (word kinds.Var) ++ (listed kinds.Comma declared s.names ++ (word kinds.Colon ++ (arrays s.open_arrays ++ qualident_outline s.of)))
+section_shown s = if_so s.variable (word kinds.Var) ++ (listed kinds.Comma (declared false) s.names ++ (word kinds.Colon ++ (arrays s.open_arrays ++ qualident_outline s.of)))
 
 no_array : (q : Qualident) (s : Out) → on_word kinds.Array (qualident_outline q ++ s) ≡ false
 unfolding qualident_outline
 no_array q s = refl
 
-r-parameter : (n : ℕ) → Reads {A = ℕ} (λ z. z) declared never n (declared n)
-r-parameter n = r-declared (λ z. z) n
+r-parameter : (n : ℕ) → Reads {A = ℕ} (λ z. z) (declared false) never n (declared false n)
+r-parameter n = r-name (roles.Declares false) (λ z. z) n
 
 section_held : (s : ParameterSection) → Reads section_parts section_shown (on_word kinds.Dot) (section_parts s) (section_shown s)
 section_held s = r-until (r-so kinds.Var (on_word kinds.Var) (λ t. refl) (λ z. z.variable) s.variable) (λ t i. refl) (λ z t i. refl)

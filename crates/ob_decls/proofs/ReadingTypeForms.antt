@@ -1,5 +1,5 @@
 -- What a type of each form tells is known from its outline.
-use Rattle.std.proofs.Common.{◌≡◌, true, false, List, [], ◌∷◌, ◌++◌, map, Option, refl, sym, ap, ◌∙◌}
+use Rattle.std.proofs.Common.{◌≡◌, List, ◌++◌, map, Option, refl, sym, ap, ◌∙◌}
 use Rattle.std.specs.declared.boxed.Box.{Box}
 use Rattle.std.specs.declared.alloc.Global.{Global}
 use Rattle.ob_scan.specs.declared.kind.Kind.TheVariants as kinds
@@ -11,23 +11,24 @@ use Rattle.ob_tree.specs.declared.declaration.TypeForm.{TypeForm, TypeForm-F}
 use Rattle.ob_tree.specs.declared.declaration.Fields.{Fields}
 use Rattle.ob_tree.specs.declared.declaration.Record.{Record}
 use Rattle.ob_tree.specs.declared.declaration.VarDecl.{VarDecl}
-use Rattle.ob_tree.specs.Marks.{Out, word, if_there}
+use Rattle.ob_tree.specs.Constructs as constructs
+use Rattle.ob_tree.specs.Marks.{Out, construct, word, if_there}
 use Rattle.ob_tree.specs.Names.{qualident_outline}
 use Rattle.ob_tree.specs.Expressions.{expr_outline, expr_list_outline}
 use Rattle.ob_tree.specs.Types.{parameters_outline, type_outline, record_outline}
 use Rattle.ob_tree.proofs.ExpressionLayers.{expr_list_shown, expr_list_out}
-use Rattle.ob_tree.proofs.TypeLayers.{type_shown, record_out}
+use Rattle.ob_tree.proofs.TypeLayers.{type_shown}
 use Rattle.ob_decls.specs.declared.rows.Part.TheVariants as parts
 use Rattle.ob_decls.specs.Parts.{Piece, token, both, tells, within, opening}
 use Rattle.ob_decls.specs.Parts.{if_there as there, each as pieces}
 use Rattle.ob_decls.specs.Expressions.{Phrase, expr_piece, expr_phrase}
 use Rattle.ob_decls.specs.Types.{part_here, targeted, untargeted, parameters_piece, type_name_piece, lengths_piece, type_piece, record_piece}
 use Rattle.ob_decls.proofs.TypeLayers as told
-use Rattle.ob_decls.proofs.Reading.{Reads, never, on_word, on_any_word, clash, maybe, r-until, r-both, r-past, r-at, r-made}
+use Rattle.ob_decls.proofs.Reading.{Reads, never, on_word, maybe, r-until, r-both, r-past, r-held, r-at, r-made}
 use Rattle.ob_decls.proofs.ReadingLists.{r-each, each_told, there_told}
-use Rattle.ob_decls.proofs.ReadingNames.{on_words, not_the_first, none_behind, r-qualident}
+use Rattle.ob_decls.proofs.ReadingNames.{r-qualident}
 use Rattle.ob_decls.proofs.ReadingExpressions.{r-expr}
-use Rattle.ob_decls.proofs.ReadingParameters.{r-heading, in_heading, behind_list}
+use Rattle.ob_decls.proofs.ReadingParameters.{r-heading}
 
 -- ---- the lengths of an array
 
@@ -51,64 +52,56 @@ r-lengths l = r-made lengths_told (λ z. z) lengths_tells expr_list_out (lengths
 
 -- ---- types
 
-record_begins : (x : Record) (s : Out) → on_word kinds.Record (record_outline x ++ s) ≡ true
-record_begins x s = ap (λ (o : Out). on_word kinds.Record (o ++ s)) (record_out x)
+abbrev Form : Type 0
+Form = TypeForm-F TypeForm Fields Record VarDecl
 
-no_record_here : (x : Record) (r t : Out) → on_word kinds.Record t ≡ false → record_outline x ++ r ≡ t → ⊥
-no_record_here x r t i e = clash (on_word kinds.Record t) true (ap (on_word kinds.Record) (sym e) ∙ record_begins x r) i
-
-no_name_here : (p : Qualident) (r t : Out) → on_any_word t ≡ true → qualident_outline p ++ r ≡ t → ⊥
-unfolding qualident_outline
-no_name_here p r t i e = clash (on_any_word t) true i (ap on_any_word (sym e))
-
-record_is_word : (x : Record) (s : Out) → on_any_word (record_outline x ++ s) ≡ true
-record_is_word x s = ap (λ (o : Out). on_any_word (o ++ s)) (record_out x)
-
-name_ends : (s : Out) → on_words in_heading s ≡ false → on_word kinds.Dot s ≡ false
-name_ends s i = not_the_first kinds.Dot [] s (none_behind kinds.Colon (kinds.Dot ∷ []) s (none_behind kinds.LeftParen behind_list s i))
-
-pub named_same : (p : Qualident) (z : TypeForm-F TypeForm Fields Record VarDecl) (r s : Out) → on_words in_heading r ≡ false → on_words in_heading s ≡ false → qualident_outline p ++ r ≡ type_shown z ++ s → (type_name_piece p ≡ told.type_shown z) × (r ≡ s)
-named_same p (layers.Named q) r s i j e = let h = (r-qualident p).same q r s (name_ends r i) (name_ends s j) e in (ap type_name_piece h.0, h.1)
-named_same p (layers.ArrayOf l t) r s i j e = absurd (no_name_here p r _ refl e)
-named_same p (layers.RecordOf x) r s i j e = absurd (no_name_here p r _ (record_is_word x s) e)
-named_same p (layers.PointerTo t) r s i j e = absurd (no_name_here p r _ refl e)
-named_same p (layers.ProcOf q) r s i j e = absurd (no_name_here p r _ refl e)
+pub named_same : (p : Qualident) (z : Form) (r s : Out) → construct constructs.NamedType (qualident_outline p) ++ r ≡ type_shown z ++ s → (type_name_piece p ≡ told.type_shown z) × (r ≡ s)
+unfolding construct
+named_same p (layers.Named q) r s e = let h = (r-held constructs.NamedType (r-qualident p) (λ t. refl)).same q r s refl refl e in (ap type_name_piece h.0, h.1)
+named_same p (layers.ArrayOf l t) r s e = absurd cc
+named_same p (layers.RecordOf x) r s e = absurd cc
+named_same p (layers.PointerTo t) r s e = absurd cc
+named_same p (layers.ProcOf q) r s e = absurd cc
 
 abbrev pub array_told : Piece × Piece → Piece
 array_told p = tells (part_here parts.Array) (both token (both p.0 (both token (within untargeted p.1))))
 
 array_held : {a b : Piece} {o q : Out} → Reads lengths_piece expr_list_outline (on_word kinds.Comma) a o → Reads type_piece type_outline never b q →
-    Reads {Z = Box ExprList Global × Box TypeForm Global} {A = Piece × Piece} (λ w. (lengths_piece w.0.value, type_piece w.1.value)) (λ w. word kinds.Array ++ (expr_list_outline w.0.value ++ (word kinds.Of ++ type_outline w.1.value))) never (a, b) (word kinds.Array ++ (o ++ (word kinds.Of ++ q)))
-array_held x y = r-past kinds.Array (r-until (r-at (λ w. w.0.value) x) (λ s i. refl) (λ z s i. refl) (r-past kinds.Of (r-at (λ w. w.1.value) y)))
+    Reads {Z = Box ExprList Global × Box TypeForm Global} {A = Piece × Piece} (λ w. (lengths_piece w.0.value, type_piece w.1.value)) (λ w. construct constructs.ArrayType (word kinds.Array ++ (expr_list_outline w.0.value ++ (word kinds.Of ++ type_outline w.1.value)))) never (a, b)
+    (construct constructs.ArrayType (word kinds.Array ++ (o ++ (word kinds.Of ++ q))))
+array_held x y = r-held constructs.ArrayType (r-past kinds.Array (r-until (r-at (λ w. w.0.value) x) (λ s i. refl) (λ z s i. refl) (r-past kinds.Of (r-at (λ w. w.1.value) y)))) (λ s. refl)
 
-pub array_same : (a b : Piece) (o q : Out) → Reads lengths_piece expr_list_outline (on_word kinds.Comma) a o → Reads type_piece type_outline never b q → (z : TypeForm-F TypeForm Fields Record VarDecl) (r s : Out) → (word kinds.Array ++ (o ++ (word kinds.Of ++ q))) ++ r ≡ type_shown z ++ s → (array_told (a, b) ≡ told.type_shown z) × (r ≡ s)
-array_same a b o q x y (layers.Named p) r s e = absurd (no_name_here p s _ refl (sym e))
+pub array_same : (a b : Piece) (o q : Out) → Reads lengths_piece expr_list_outline (on_word kinds.Comma) a o → Reads type_piece type_outline never b q → (z : Form) (r s : Out) → construct constructs.ArrayType (word kinds.Array ++ (o ++ (word kinds.Of ++ q))) ++ r ≡ type_shown z ++ s → (array_told (a, b) ≡ told.type_shown z) × (r ≡ s)
+unfolding construct
+array_same a b o q x y (layers.Named p) r s e = absurd cc
 array_same a b o q x y (layers.ArrayOf l t) r s e = let h = (array_held x y).same (l, t) r s refl refl e in (ap array_told h.0, h.1)
-array_same a b o q x y (layers.RecordOf w) r s e = absurd (no_record_here w s _ refl (sym e))
+array_same a b o q x y (layers.RecordOf w) r s e = absurd cc
 array_same a b o q x y (layers.PointerTo t) r s e = absurd cc
 array_same a b o q x y (layers.ProcOf p) r s e = absurd cc
 
 abbrev pub record_form_told : Piece → Piece
 record_form_told p = tells (part_here parts.Record) p
 
-pub record_same : (x : Record) → Reads record_piece record_outline never (record_piece x) (record_outline x) → (z : TypeForm-F TypeForm Fields Record VarDecl) (r s : Out) → record_outline x ++ r ≡ type_shown z ++ s → (record_form_told (record_piece x) ≡ told.type_shown z) × (r ≡ s)
-record_same x y (layers.Named p) r s e = absurd (no_name_here p s _ (record_is_word x r) (sym e))
-record_same x y (layers.ArrayOf l t) r s e = absurd (no_record_here x r _ refl e)
-record_same x y (layers.RecordOf w) r s e = let h = y.same w r s refl refl e in (ap record_form_told h.0, h.1)
-record_same x y (layers.PointerTo t) r s e = absurd (no_record_here x r _ refl e)
-record_same x y (layers.ProcOf p) r s e = absurd (no_record_here x r _ refl e)
+pub record_same : (x : Record) → Reads record_piece record_outline never (record_piece x) (record_outline x) → (z : Form) (r s : Out) → construct constructs.RecordType (record_outline x) ++ r ≡ type_shown z ++ s → (record_form_told (record_piece x) ≡ told.type_shown z) × (r ≡ s)
+unfolding construct
+record_same x y (layers.Named p) r s e = absurd cc
+record_same x y (layers.ArrayOf l t) r s e = absurd cc
+record_same x y (layers.RecordOf w) r s e = let h = (r-held constructs.RecordType y (λ t. refl)).same w r s refl refl e in (ap record_form_told h.0, h.1)
+record_same x y (layers.PointerTo t) r s e = absurd cc
+record_same x y (layers.ProcOf p) r s e = absurd cc
 
 abbrev pub pointer_told : Piece → Piece
 pointer_told p = tells (part_here parts.Pointer) (both token (both token (within targeted p)))
 
 pointer_held : {b : Piece} {q : Out} → Reads type_piece type_outline never b q →
-    Reads {Z = Box TypeForm Global} (λ w. type_piece w.value) (λ w. word kinds.Pointer ++ (word kinds.To ++ type_outline w.value)) never b (word kinds.Pointer ++ (word kinds.To ++ q))
-pointer_held y = r-past kinds.Pointer (r-past kinds.To (r-at (λ w. w.value) y))
+    Reads {Z = Box TypeForm Global} (λ w. type_piece w.value) (λ w. construct constructs.PointerType (word kinds.Pointer ++ (word kinds.To ++ type_outline w.value))) never b (construct constructs.PointerType (word kinds.Pointer ++ (word kinds.To ++ q)))
+pointer_held y = r-held constructs.PointerType (r-past kinds.Pointer (r-past kinds.To (r-at (λ w. w.value) y))) (λ s. refl)
 
-pub pointer_same : (b : Piece) (q : Out) → Reads type_piece type_outline never b q → (z : TypeForm-F TypeForm Fields Record VarDecl) (r s : Out) → (word kinds.Pointer ++ (word kinds.To ++ q)) ++ r ≡ type_shown z ++ s → (pointer_told b ≡ told.type_shown z) × (r ≡ s)
-pointer_same b q y (layers.Named p) r s e = absurd (no_name_here p s _ refl (sym e))
+pub pointer_same : (b : Piece) (q : Out) → Reads type_piece type_outline never b q → (z : Form) (r s : Out) → construct constructs.PointerType (word kinds.Pointer ++ (word kinds.To ++ q)) ++ r ≡ type_shown z ++ s → (pointer_told b ≡ told.type_shown z) × (r ≡ s)
+unfolding construct
+pointer_same b q y (layers.Named p) r s e = absurd cc
 pointer_same b q y (layers.ArrayOf l t) r s e = absurd cc
-pointer_same b q y (layers.RecordOf w) r s e = absurd (no_record_here w s _ refl (sym e))
+pointer_same b q y (layers.RecordOf w) r s e = absurd cc
 pointer_same b q y (layers.PointerTo t) r s e = let h = (pointer_held y).same t r s refl refl e in (ap pointer_told h.0, h.1)
 pointer_same b q y (layers.ProcOf p) r s e = absurd cc
 
@@ -118,12 +111,13 @@ procedure_told o = tells (part_here parts.Procedure) (opening (both token (there
 procedure_seen : (o : Option Parameters) → told.type_shown (layers.ProcOf o) ≡ procedure_told (maybe parameters_piece o)
 procedure_seen o = ap (λ (p : Piece). tells (part_here parts.Procedure) (opening (both token p))) (there_told parameters_piece (λ p. p) o)
 
-procedure_held : (o : Option Parameters) → Reads {Z = Option Parameters} (maybe parameters_piece) (λ w. word kinds.Procedure ++ if_there parameters_outline w) (on_words in_heading) (maybe parameters_piece o) (word kinds.Procedure ++ if_there parameters_outline o)
-procedure_held o = r-past kinds.Procedure (r-heading (λ w. w) o)
+procedure_held : (o : Option Parameters) → Reads {Z = Option Parameters} (maybe parameters_piece) (λ w. construct constructs.ProcedureType (word kinds.Procedure ++ if_there parameters_outline w)) never (maybe parameters_piece o) (construct constructs.ProcedureType (word kinds.Procedure ++ if_there parameters_outline o))
+procedure_held o = r-held constructs.ProcedureType (r-past kinds.Procedure (r-heading (λ w. w) o)) (λ s. refl)
 
-pub procedure_same : (o : Option Parameters) (z : TypeForm-F TypeForm Fields Record VarDecl) (r s : Out) → on_words in_heading r ≡ false → on_words in_heading s ≡ false → (word kinds.Procedure ++ if_there parameters_outline o) ++ r ≡ type_shown z ++ s → (told.type_shown (layers.ProcOf o) ≡ told.type_shown z) × (r ≡ s)
-procedure_same o (layers.Named p) r s i j e = absurd (no_name_here p s _ refl (sym e))
-procedure_same o (layers.ArrayOf l t) r s i j e = absurd cc
-procedure_same o (layers.RecordOf w) r s i j e = absurd (no_record_here w s _ refl (sym e))
-procedure_same o (layers.PointerTo t) r s i j e = absurd cc
-procedure_same o (layers.ProcOf p) r s i j e = let h = (procedure_held o).same p r s i j e in (procedure_seen o ∙ ap procedure_told h.0 ∙ sym (procedure_seen p), h.1)
+pub procedure_same : (o : Option Parameters) (z : Form) (r s : Out) → construct constructs.ProcedureType (word kinds.Procedure ++ if_there parameters_outline o) ++ r ≡ type_shown z ++ s → (told.type_shown (layers.ProcOf o) ≡ told.type_shown z) × (r ≡ s)
+unfolding construct
+procedure_same o (layers.Named p) r s e = absurd cc
+procedure_same o (layers.ArrayOf l t) r s e = absurd cc
+procedure_same o (layers.RecordOf w) r s e = absurd cc
+procedure_same o (layers.PointerTo t) r s e = absurd cc
+procedure_same o (layers.ProcOf p) r s e = let h = (procedure_held o).same p r s refl refl e in (procedure_seen o ∙ ap procedure_told h.0 ∙ sym (procedure_seen p), h.1)

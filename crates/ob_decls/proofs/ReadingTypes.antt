@@ -28,7 +28,7 @@ use Rattle.ob_decls.proofs.TypeLayers as told
 use Rattle.ob_decls.proofs.Reading.{Reads, never, on_word, on_construct, on_list, maybe, r-until, r-both, r-past, r-then, r-held, r-at, r-layer, r-none, r-some}
 use Rattle.ob_decls.proofs.ReadingLists.{r-there, r-map, r-so, each_told, there_told}
 use Rattle.ob_decls.proofs.ReadingNames.{itself, on_words, not_the_first, none_behind, r-qualident}
-use Rattle.ob_decls.proofs.ReadingParameters.{r-listed, r-identdef, in_heading}
+use Rattle.ob_decls.proofs.ReadingParameters.{r-listed, r-identdef}
 use Rattle.ob_decls.proofs.ReadingTypeForms.{r-lengths, named_same, array_same, record_same, pointer_same, procedure_same}
 
 -- each part can be read
@@ -73,15 +73,15 @@ var_of = map-VarDecl (With HeldTypeForm) (With HeldFields) (With HeldRecord) (Wi
 
 -- ---- types
 
-type_held : (y : WithTypeForm) → Reads told.type_shown type_shown (on_words in_heading) (told.type_shown (type_of y)) (type_shown (type_of y))
-type_held (layers.Named q) = record { same = λ z r s i j e. named_same q z r s i j e }
+type_held : (y : WithTypeForm) → Reads told.type_shown type_shown never (told.type_shown (type_of y)) (type_shown (type_of y))
+type_held (layers.Named q) = record { same = λ z r s i j e. named_same q z r s e }
 type_held (layers.ArrayOf l t) = record { same = λ z r s i j e. array_same _ _ _ _ (r-lengths l.value) t.value.1 z r s e }
 type_held (layers.RecordOf x) = record { same = λ z r s i j e. record_same x.0 x.1 z r s e }
 type_held (layers.PointerTo t) = record { same = λ z r s i j e. pointer_same _ _ t.value.1 z r s e }
-type_held (layers.ProcOf o) = record { same = λ z r s i j e. procedure_same o z r s i j e }
+type_held (layers.ProcOf o) = record { same = λ z r s i j e. procedure_same o z r s e }
 
 type_layer : (x : TypeForm-F TypeForm Fields Record VarDecl) (y : WithTypeForm) → type_of y ≡ x → HeldTypeForm (roll-TypeForm x)
-type_layer x y is = r-layer out-TypeForm told.type_shown (λ z. construct constructs.TypeForm (type_shown z)) (λ a. a) told.type_told type_out (roll-TypeForm x) (type_of y) (out-roll-TypeForm x ∙ sym is) (r-held constructs.TypeForm (type_held y) (λ s. refl))
+type_layer x y is = r-layer out-TypeForm told.type_shown type_shown (λ a. a) told.type_told type_out (roll-TypeForm x) (type_of y) (out-roll-TypeForm x ∙ sym is) (type_held y)
 
 -- ---- fields
 

@@ -6,7 +6,7 @@ use Rattle.ob_tree.specs.declared.token.Leaf.TheVariants as leafs
 use Rattle.ob_tree.specs.Constructs.{Construct, is_level}
 use Rattle.ob_tree.specs.Leaves.{same_kind}
 use Rattle.ob_tree.specs.Marks.{Out, construct, word, if_there, if_so, each, each_after, tokens_of, height}
-use Rattle.ob_parse.specs.Forms.{Reader, Start, expect_at, accept_at, name_at, unless, nothing, seq, prefixed, node, optional, many, several}
+use Rattle.ob_parse.specs.Forms.{Reader, Start, expect_at, accept_at, name_at, unless, nothing, seq, node, optional, many, several}
 use Rattle.ob_parse.proofs.Sound.{tokens_of-construct}
 use Rattle.ob_parse.proofs.Loops.{Advances}
 use Rattle.ob_parse.proofs.ReadsBack.{Reads, low_left, low_right, low_level, low_within, reads_seq, reads_node, reads_nothing, reads_something, split, closed_there, reads_word, reads_name, accepts_word, reads_each, reads_several}
@@ -47,11 +47,6 @@ again_level {d} {r} {o} {rest} c e p =
 -- no level is in none
 pub too_high : (r : Reader) (o : Out) (rest : List Leaf) (c : Construct) → is_level c ≡ true → Again zero r (construct c o) rest
 too_high r o rest c e = record { reads = λ le. let low : suc (height o) ≤ zero = low_level c o zero e le in absurd (omega (arith, low)) }
-
--- behind a word that a reader looks at
-pub again_led : {d : ℕ} {r : Reader} {o : Out} {rest : List Leaf} (s : Reader) (k : Kind) → ((ls : List Leaf) → s (leafs.Word k ∷ ls) ≡ prefixed (word k) r ls) →
-    Again d r o rest → Again d s (word k ++ o) rest
-again_led {d} {r} {o} {rest} s k e p = record { reads = λ le. record { is = e (tokens_of o ++ rest) ∙ rw (p.reads le).is refl } }
 
 -- ---- what may be absent
 

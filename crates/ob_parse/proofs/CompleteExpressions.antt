@@ -24,7 +24,7 @@ use Rattle.ob_tree.specs.declared.expression.ExprList.{ExprList, out-ExprList}
 use Rattle.ob_tree.specs.declared.expression.Sum.{Sum, out-Sum}
 use Rattle.ob_tree.specs.declared.expression.Term.{Term}
 use Rattle.ob_tree.specs.Constructs as constructs
-use Rattle.ob_tree.specs.Marks.{Out, construct, word, used, named, if_there, each, each_after, tokens_of, height}
+use Rattle.ob_tree.specs.Marks.{Out, construct, word, used, selected, if_there, each, each_after, tokens_of, height}
 use Rattle.ob_tree.specs.Expressions.{relation_kind, sign_kind, add_kind, mul_kind, factor_outline, selector_outline, designator_outline, element_outline, element_list_outline, expr_outline, expr_list_outline, sum_outline, term_outline}
 use Rattle.ob_tree.proofs.ExpressionLayers.{factor_shown, selector_shown, element_shown, expr_shown, sum_shown, expr_out, sum_out, term_out, element_out, element_list_out, expr_list_out, designator_out, factor_out, selector_out}
 use Rattle.ob_parse.specs.Front.{uncons, is_word}
@@ -374,7 +374,7 @@ record Loops (r : Reader) : Type 0 where
 
 selector_layer_again : (r : Reader) (d : ℕ) → Loops r → ReadsExprs r d → (x : SelectorLayer) (rest : List Leaf) → height (selector_shown x) ≤ d →
     Reads (λ ls. selector_from r (uncons ls)) (selector_shown x) rest
-selector_layer_again r d adv h (layers.Field n) rest le = record { is = reads_after (word kinds.Dot) (name_at named) (named n) rest (reads_name named n rest refl) }
+selector_layer_again r d adv h (layers.Field n) rest le = record { is = reads_after (word kinds.Dot) (name_at selected) (selected n) rest (reads_name selected n rest refl) }
 selector_layer_again r d adv h (layers.Index b) rest le =
     let list : Out = expr_list_outline b.value in
     let inner : Reads (several kinds.Comma r) list (leafs.Word kinds.RightBracket ∷ rest) =

@@ -22,7 +22,9 @@ use Rattle.ob_tree.specs.declared.declaration.Declarations.{Declarations, out-De
 use Rattle.ob_tree.specs.declared.declaration.ProcDecl.{ProcDecl, ProcDecl-F, out-ProcDecl}
 use Rattle.ob_tree.specs.Constructs as constructs
 use Rattle.ob_tree.specs.Constructs.{Construct}
-use Rattle.ob_tree.specs.Marks.{Out, Role, Declares, Names, Identifier, construct, word, declared, named, repeated, if_there, each, listed, tokens_of, height}
+use Rattle.ob_tree.specs.declared.role.Role.{Role}
+use Rattle.ob_tree.specs.declared.role.Role.TheVariants.{Names}
+use Rattle.ob_tree.specs.Marks.{Out, Identifier, construct, word, aliased, imported, repeated, if_there, each, listed, tokens_of, height}
 use Rattle.ob_tree.specs.Names.{identdef_outline}
 use Rattle.ob_tree.specs.Expressions.{expr_outline}
 use Rattle.ob_tree.specs.Statements.{block_outline}
@@ -30,10 +32,11 @@ use Rattle.ob_tree.specs.Types.{parameters_outline}
 use Rattle.ob_tree.specs.Declaring.{part, const_outline, type_decl_outline, variable_outline, declarations_outline, procedure_outline, import_outline, module_outline}
 use Rattle.ob_tree.proofs.DeclarationLayers.{procedure_shown, const_out, type_decl_out, variable_out, import_out, module_out, declarations_out, procedure_out}
 use Rattle.ob_parse.specs.Front.{is_word}
-use Rattle.ob_parse.specs.Forms.{Reader, expect_at, accept_at, name_at, identifier_at, begins, seq, many, several}
+use Rattle.ob_parse.specs.Forms.{Reader, expect_at, accept_at, name_at, identifier_at, behind_name, begins, seq, optional, many, several}
+use Rattle.ob_parse.specs.ReadNames.{identdef_after}
 use Rattle.ob_parse.specs.ReadExpressions.{expr_at}
 use Rattle.ob_parse.specs.ReadStatements.{block_at}
-use Rattle.ob_parse.specs.ReadTypes.{type_at}
+use Rattle.ob_parse.specs.ReadTypes.{some_parameters_at, type_at}
 use Rattle.ob_parse.specs.ReadModules.{is_identifier, const_with, type_decl_with, variable_with, ended, part_with, procedures_with, declarations_with, body_with, procedure_named, name_then, procedure_with, procedure_at, declarations_at, import_at, imports_at, module_named, module_at, all_of}
 use Rattle.ob_parse.proofs.Sound.{tokens_of-construct}
 use Rattle.ob_parse.proofs.SoundExpressions.{expr_at_sound}
@@ -41,11 +44,12 @@ use Rattle.ob_parse.proofs.SoundTypes.{type_at_sound}
 use Rattle.ob_parse.proofs.SoundModules.{import_sound}
 use Rattle.ob_parse.proofs.Loops.{Advances, accept_advances, const_advances, type_decl_advances, variable_advances}
 use Rattle.ob_parse.proofs.LoopProcedures.{procedure_advances}
-use Rattle.ob_parse.proofs.ReadsBack.{Reads, split}
+use Rattle.ob_parse.proofs.ReadsBack.{Reads, low_right, split}
+use Rattle.ob_parse.proofs.CompleteNames.{identdef_after_again}
 use Rattle.ob_parse.proofs.CompleteExpressions.{EndsExpr}
 use Rattle.ob_parse.proofs.CompleteStatements.{EndsBlock, expr_ends, block_ends, again_expr, again_blocks}
 use Rattle.ob_parse.proofs.CompleteTypes.{EndsType, semicolon_ends_type, again_identdef, identdef_opens, again_some_parameters, again_var, var_opens, again_type}
-use Rattle.ob_parse.proofs.Bounded.{Again, again_is, again_seq, again_end, again_word, again_name, again_node, again_level, too_high, again_option, again_if_so, past_there, again_each, again_several, not_accepted, OpensName, opens_name_node, opens_name_front}
+use Rattle.ob_parse.proofs.Bounded.{Again, again_is, again_seq, again_end, again_word, again_name, again_node, again_level, too_high, again_option, past_there, again_each, again_several, not_accepted, OpensName, opens_name_node, opens_name_front}
 
 -- ---- one declaration
 
@@ -237,6 +241,16 @@ again_name_then : {d : ℕ} {o : Out} {rest : List Leaf} (role : Role) (r : ℕ 
 unfolding identifier_at
 again_name_then role r n p = record { reads = λ le. record { is = rw (p.reads le).is refl } }
 
+-- behind a name that is declared, with a star or without
+again_identdef_then : {d : ℕ} {o : Out} {rest : List Leaf} (r : ℕ → Reader) (i : Identdef) → accept_at kinds.Star (tokens_of o ++ rest) ≡ None → Again d (r i.name) o rest →
+    Again d (behind_name (λ n. seq (identdef_after n) (r n))) (identdef_outline i ++ o) rest
+unfolding identdef_outline identifier_at
+again_identdef_then {d} {o} {rest} r i end p = record {
+  reads = λ le.
+      let it = p.reads (low_right (identdef_outline i) o d le) in
+      record { is = ap (behind_name (λ n. seq (identdef_after n) (r n))) (split (identdef_outline i) o rest) ∙ rw (identdef_after_again i.starred i.name (tokens_of o ++ rest) end, it.is) refl };
+}
+
 abbrev answer_outline : Option (Box Expr Global) → Out
 answer_outline = if_there (λ e. word kinds.Return ++ expr_outline e.value)
 
@@ -250,11 +264,11 @@ no_star None more rest = refl
 no_star (Some p) more rest = refl
 
 again_named : (d : ℕ) → AgainProcedures d → (x : ProcDecl-F Declarations ProcDecl) (rest : List Leaf) →
-    Again d (name_then declared (procedure_named (expr_at d) (block_at d) (declarations_at d)))
+    Again d (behind_name (procedure_named (expr_at d) (block_at d) (declarations_at d)))
     (identdef_outline x.name ++ (if_there parameters_outline x.parameters ++
     (word kinds.Semicolon ++ (declarations_outline x.declarations ++
     (body_outline x.body ++ (answer_outline x.returned ++ (word kinds.End ++ repeated x.name.name x.end_name))))))) rest
-unfolding procedure_named body_with identdef_outline
+unfolding procedure_named body_with
 again_named d h x rest =
     let last : Out = word kinds.End ++ repeated x.name.name x.end_name in
     let end = again_word kinds.End (again_name d (repeated x.name.name) x.end_name rest refl) in
@@ -272,8 +286,8 @@ again_named d h x rest =
     (past EndsDeclarations return_ends (end_ends _)) in
     let declarations = again_word kinds.Semicolon (again_seq body (again_declarations d h x.declarations _ declared_end)) in
     let parameters = again_seq declarations (again_some_parameters d x.parameters _ (semicolon_ends_type _)) in
-    again_name_then Declares (procedure_named (expr_at d) (block_at d) (declarations_at d)) x.name.name
-    (again_seq parameters (again_if_so d kinds.Star x.name.starred _ (no_star x.parameters _ rest)))
+    again_identdef_then (λ n. seq some_parameters_at (seq (expect_at kinds.Semicolon) (seq (declarations_at d) (seq (body_with (block_at d)) (seq (optional (accept_at kinds.Return) (expr_at d)) (seq (expect_at kinds.End) (name_at (repeated n))))))))
+    x.name (no_star x.parameters _ rest) parameters
 
 again_no_procedure : AgainProcedures zero
 again_no_procedure p rest = again_is (procedure_out p) (too_high _ _ rest constructs.ProcedureDeclaration refl)
@@ -294,7 +308,7 @@ again_import : (d : ℕ) (i : ImportItem) (rest : List Leaf) → accept_at kinds
 unfolding import_at
 again_import d i rest none =
     again_is (import_out i) (again_node constructs.Import
-    (again_seq (again_option d kinds.Assign (name_at named) named i.of rest none (λ m. again_name d named m rest refl)) (again_name d declared i.name _ refl)))
+    (again_seq (again_option d kinds.Assign (name_at imported) imported i.of rest none (λ m. again_name d imported m rest refl)) (again_name d aliased i.name _ refl)))
 
 again_imports : (d : ℕ) (o : Option (OneOrMore ImportItem)) (rest : List Leaf) → accept_at kinds.Import rest ≡ None →
     Again d imports_at (if_there (λ l. word kinds.Import ++ (listed kinds.Comma import_outline l ++ word kinds.Semicolon)) o) rest

@@ -1,7 +1,8 @@
 -- What a type spells is read as that type, whatever follows that can't go on with it.
-use Rattle.std.proofs.Common.{◌≡◌, ℕ, zero, suc, Bool, true, false, List, [], ◌∷◌, ◌++◌, Option, Some, None, refl, sym, subst}
+use Rattle.std.proofs.Common.{◌≡◌, ℕ, zero, suc, ◌≤◌, Bool, true, false, List, [], ◌∷◌, ◌++◌, Option, Some, None, refl, sym, ap, subst, ◌∙◌, arith}
 use Rattle.std.specs.declared.boxed.Box.{Box}
 use Rattle.std.specs.declared.alloc.Global.{Global}
+use Rattle.ob_scan.specs.declared.kind.Kind.{Kind}
 use Rattle.ob_scan.specs.declared.kind.Kind.TheVariants as kinds
 use Rattle.ob_tree.specs.declared.token.Leaf.{Leaf}
 use Rattle.ob_tree.specs.declared.token.Leaf.TheVariants as leafs
@@ -15,26 +16,27 @@ use Rattle.ob_tree.specs.declared.declaration.TypeForm.TheOpen as layers
 use Rattle.ob_tree.specs.declared.declaration.Fields.{Fields, out-Fields}
 use Rattle.ob_tree.specs.declared.declaration.Record.{Record, Record-F, out-Record}
 use Rattle.ob_tree.specs.declared.declaration.VarDecl.{VarDecl, out-VarDecl}
+use Rattle.ob_tree.specs.Constructs.{Construct, is_level}
 use Rattle.ob_tree.specs.Constructs as constructs
-use Rattle.ob_tree.specs.Marks.{Out, construct, word, declared, if_there, if_so, each_after, listed, times, tokens_of}
+use Rattle.ob_tree.specs.Marks.{Out, construct, word, declared, if_there, if_so, each_after, listed, times, tokens_of, height}
 use Rattle.ob_tree.specs.Names.{qualident_outline, identdef_outline}
 use Rattle.ob_tree.specs.Expressions.{expr_list_outline}
 use Rattle.ob_tree.specs.Types.{section_outline, parameters_outline, type_outline, fields_outline, var_outline}
 use Rattle.ob_tree.proofs.TypeLayers.{type_shown, section_out, parameters_out, type_out, fields_out, record_out, var_out}
-use Rattle.ob_parse.specs.Front.{uncons, is_word}
-use Rattle.ob_parse.specs.Forms.{Reader, expect_at, accept_at, name_at, identifier_at, begins, unless, seq, node, many, several}
+use Rattle.ob_parse.specs.Front.{is_word}
+use Rattle.ob_parse.specs.Forms.{Reader, expect_at, accept_at, name_at, identifier_at, begins, unless, seq, prefixed, node, many, several}
 use Rattle.ob_parse.specs.ReadNames.{qualident_after, qualident_at, identdef_at}
 use Rattle.ob_parse.specs.ReadExpressions.{expr_at}
-use Rattle.ob_parse.specs.ReadTypes.{section_at, parameters_at, some_parameters_at, var_with, field_start, fields_with, record_with, type_from, type_with, type_at}
-use Rattle.ob_parse.proofs.Sound.{expect_sound, sound_flat}
+use Rattle.ob_parse.specs.ReadTypes.{section_at, parameters_at, some_parameters_at, var_with, field_start, fields_with, record_with, type_with, type_at}
+use Rattle.ob_parse.proofs.Sound.{expect_sound, sound_flat, tokens_of-construct}
 use Rattle.ob_parse.proofs.SoundExpressions.{declared_sound, identdef_sound}
 use Rattle.ob_parse.proofs.SoundTypes.{section_sound, var_sound, type_at_sound}
 use Rattle.ob_parse.proofs.Loops.{accept_advances, field_advances, has_begun}
-use Rattle.ob_parse.proofs.ReadsBack.{Reads, Opens, opens_node, open_there, opens_front, accepts_word, reads_none, reads_more, reads_word}
-use Rattle.ob_parse.proofs.CompleteNames.{qualident_again, qualident_spelled, identdef_again}
+use Rattle.ob_parse.proofs.ReadsBack.{Reads, low_level, Opens, opens_node, open_there, opens_front, accepts_word, reads_none, reads_more, reads_word}
+use Rattle.ob_parse.proofs.CompleteNames.{member_shown, qualident_again, qualident_spelled, identdef_again}
 use Rattle.ob_parse.proofs.CompleteExpressions.{expr_lists_again}
 use Rattle.ob_parse.proofs.CompleteStatements.{expr_ends}
-use Rattle.ob_parse.proofs.Bounded.{Again, again_is, again_seq, again_end, again_word, again_name, again_node, again_level, again_led, too_high, again_nothing, again_something, again_option, again_unless, again_if_so, past_if_so, again_each, past_each, again_several, not_accepted, OpensName, opens_name_node, opens_name_front, name_not_accepted, name_not_closed}
+use Rattle.ob_parse.proofs.Bounded.{Again, again_as, again_is, again_seq, again_end, again_word, again_name, again_node, again_level, too_high, again_nothing, again_something, again_option, again_unless, again_if_so, past_if_so, again_each, past_each, again_several, not_accepted, OpensName, opens_name_node, opens_name_front, name_not_accepted, name_not_closed}
 
 -- ---- names, within a height
 
@@ -66,8 +68,8 @@ again_section d s rest dot =
     let arrays : Again d (many (accept_at kinds.Array) (expect_at kinds.Of)) (times s.open_arrays (word kinds.Array ++ word kinds.Of))
     (tokens_of (qualident_outline s.of) ++ rest) = record { reads = λ le. times_read s.open_arrays _ (name_not_accepted kinds.Array _ (qualident_opens s.of rest)) } in
     let form = again_word kinds.Colon (again_seq (again_qualident d s.of rest dot) arrays) in
-    let names = again_several kinds.Comma (name_at declared) declared (λ ls. Unit {0}) d (accept_advances d kinds.Comma (name_at declared) (declared_sound d)) (λ ls. tt)
-    (λ n ls good. again_name d declared n ls refl) s.names.first s.names.rest.items _ tt (not_accepted kinds.Comma kinds.Colon _ refl) in
+    let names = again_several kinds.Comma (name_at (declared false)) (declared false) (λ ls. Unit {0}) d (accept_advances d kinds.Comma (name_at (declared false)) (declared_sound d)) (λ ls. tt)
+    (λ n ls good. again_name d (declared false) n ls refl) s.names.first s.names.rest.items _ tt (not_accepted kinds.Comma kinds.Colon _ refl) in
     let all = again_seq form names in
     again_is (section_out s) (again_node constructs.FPSection
     (again_seq all (again_if_so d kinds.Var s.variable _ (name_not_accepted kinds.Var _ (record { number = s.names.first; tail = _; is = refl })))))
@@ -85,14 +87,14 @@ no_paren (leafs.Value k n) e = refl
 no_paren (leafs.Word kinds.RightParen) e = absurd cc
 no_paren (leafs.Word k) e = refl
 
-section_parts_open : (b : Bool) (n : ℕ) (o more : Out) (x : List Leaf) → Opens section_first (tokens_of (if_so b (word kinds.Var) ++ ((declared n ++ o) ++ more)) ++ x)
+section_parts_open : (b : Bool) (n : ℕ) (o more : Out) (x : List Leaf) → Opens section_first (tokens_of (if_so b (word kinds.Var) ++ ((declared false n ++ o) ++ more)) ++ x)
 section_parts_open false n o more x = record { leaf = leafs.Name n; tail = _; is = refl; good = refl }
 section_parts_open true n o more x = record { leaf = leafs.Word kinds.Var; tail = _; is = refl; good = refl }
 
 section_opens : (s : ParameterSection) (x : List Leaf) → Opens section_first (tokens_of (section_outline s) ++ x)
 section_opens s x = subst (λ (o : Out). Opens section_first (tokens_of o ++ x)) (sym (section_out s))
     (opens_node section_first constructs.FPSection _ x
-    (section_parts_open s.variable s.names.first (each_after kinds.Comma declared s.names.rest.items)
+    (section_parts_open s.variable s.names.first (each_after kinds.Comma (declared false) s.names.rest.items)
     (word kinds.Colon ++ (times s.open_arrays (word kinds.Array ++ word kinds.Of) ++ qualident_outline s.of)) x))
 
 sections_free : (l : OneOrMore ParameterSection) (x : List Leaf) → unless kinds.RightParen (tokens_of (listed kinds.Semicolon section_outline l) ++ x) ≡
@@ -212,32 +214,59 @@ again_record d h x rest =
     again_seq fields (again_option d kinds.LeftParen (seq qualident_at (expect_at kinds.RightParen)) (λ q. qualident_outline q ++ word kinds.RightParen) x.base _
     (no_base x.fields rest) (λ q. again_seq (again_end d kinds.RightParen _) (again_qualident d q _ (not_accepted kinds.Dot kinds.RightParen _ refl))))
 
-again_named : (d : ℕ) (expr type : Reader) (q : Qualident) (rest : List Leaf) → accept_at kinds.Dot rest ≡ None →
-    Again d (λ ls. type_from expr type (uncons ls)) (qualident_outline q) rest
-unfolding qualident_outline qualident_at qualident_after name_at identifier_at
-again_named d expr type q rest e = record { reads = λ le. record { is = (qualident_again q rest e).is } }
+-- a type by its name, and one that a word begins
+
+again_named : (d : ℕ) (q : Qualident) (rest : List Leaf) → accept_at kinds.Dot rest ≡ None →
+    Again (suc d) (type_with (expr_at d) (type_at d)) (construct constructs.NamedType (qualident_outline q)) rest
+unfolding type_with qualident_at qualident_after name_at identifier_at
+again_named d q rest e =
+    let whole : tokens_of (construct constructs.NamedType (qualident_outline q)) ++ rest ≡ leafs.Name q.head ∷ (tokens_of (member_shown q.member) ++ rest) =
+    ap (λ (t : List Leaf). t ++ rest) (tokens_of-construct constructs.NamedType (qualident_outline q)) ∙ qualident_spelled q rest in
+    again_as (type_with (expr_at d) (type_at d)) (rw whole refl) (again_level constructs.NamedType refl (again_qualident d q rest e))
+
+keyword_again : (d : ℕ) (c : Construct) (k : Kind) (r : Reader) (o : Out) (rest : List Leaf) → is_level c ≡ true →
+    ((ls : List Leaf) → type_with (expr_at d) (type_at d) (leafs.Word k ∷ ls) ≡ node c (prefixed (word k) r) ls) → Again d r o rest →
+    Again (suc d) (type_with (expr_at d) (type_at d)) (construct c (word k ++ o)) rest
+keyword_again d c k r o rest level e p = record {
+  reads = λ le.
+      let low : suc (height o) ≤ suc d = low_level c (word k ++ o) (suc d) level le in
+      let it : Reads r o rest = p.reads (omega (arith, low)) in
+      record {
+        is = ap (λ (t : List Leaf). type_with (expr_at d) (type_at d) (t ++ rest)) (tokens_of-construct c (word k ++ o)) ∙
+            e (tokens_of o ++ rest) ∙ rw it.is refl;
+      };
+}
 
 abbrev Layer : Type 0
 Layer = TypeForm-F TypeForm Fields Record VarDecl
 
-again_layer : (d : ℕ) → AgainTypes d → (x : Layer) (rest : List Leaf) → EndsType rest → Again d (λ ls. type_from (expr_at d) (type_at d) (uncons ls)) (type_shown x) rest
-again_layer d h (layers.Named q) rest end = again_named d (expr_at d) (type_at d) q rest end.dot
+again_layer : (d : ℕ) → AgainTypes d → (x : Layer) (rest : List Leaf) → EndsType rest → Again (suc d) (type_with (expr_at d) (type_at d)) (type_shown x) rest
+unfolding type_with
+again_layer d h (layers.Named q) rest end = again_named d q rest end.dot
 again_layer d h (layers.ArrayOf lengths of) rest end =
     let list : Again d (several kinds.Comma (expr_at d)) (expr_list_outline lengths.value) (leafs.Word kinds.Of ∷ (tokens_of (type_outline of.value) ++ rest)) =
     record { reads = λ le. expr_lists_again d lengths.value _ le (expr_ends kinds.Of _ refl) (not_accepted kinds.Comma kinds.Of _ refl) } in
-    again_led _ kinds.Array (λ ls. refl) (again_seq (again_word kinds.Of (h of.value rest end)) list)
-again_layer d h (layers.RecordOf r) rest end = again_is (record_out r) (again_led _ kinds.Record (λ ls. refl) (again_record d h (out-Record r) rest))
-again_layer d h (layers.PointerTo t) rest end = again_led _ kinds.Pointer (λ ls. refl) (again_word kinds.To (h t.value rest end))
-again_layer d h (layers.ProcOf p) rest end = again_led _ kinds.Procedure (λ ls. refl) (again_some_parameters d p rest end)
+    keyword_again d constructs.ArrayType kinds.Array _ _ rest refl (λ ls. refl) (again_seq (again_word kinds.Of (h of.value rest end)) list)
+again_layer d h (layers.RecordOf r) rest end = again_is (ap (construct constructs.RecordType) (record_out r))
+    (keyword_again d constructs.RecordType kinds.Record _ _ rest refl (λ ls. refl) (again_record d h (out-Record r) rest))
+again_layer d h (layers.PointerTo t) rest end = keyword_again d constructs.PointerType kinds.Pointer _ _ rest refl (λ ls. refl) (again_word kinds.To (h t.value rest end))
+again_layer d h (layers.ProcOf p) rest end = keyword_again d constructs.ProcedureType kinds.Procedure _ _ rest refl (λ ls. refl) (again_some_parameters d p rest end)
+
+-- at depth zero there is none
+no_layer : (r : Reader) (x : Layer) (rest : List Leaf) → Again zero r (type_shown x) rest
+no_layer r (layers.Named q) rest = too_high _ _ rest constructs.NamedType refl
+no_layer r (layers.ArrayOf lengths of) rest = too_high _ _ rest constructs.ArrayType refl
+no_layer r (layers.RecordOf x) rest = too_high _ _ rest constructs.RecordType refl
+no_layer r (layers.PointerTo t) rest = too_high _ _ rest constructs.PointerType refl
+no_layer r (layers.ProcOf p) rest = too_high _ _ rest constructs.ProcedureType refl
 
 -- ---- every depth
 
 again_none : AgainTypes zero
-again_none t rest end = again_is (type_out t) (too_high _ _ rest constructs.TypeForm refl)
+again_none t rest end = again_is (type_out t) (no_layer _ (out-TypeForm t) rest)
 
 again_next : (d : ℕ) → AgainTypes d → (t : TypeForm) (rest : List Leaf) → EndsType rest → Again (suc d) (type_with (expr_at d) (type_at d)) (type_outline t) rest
-unfolding type_with
-again_next d h t rest end = again_is (type_out t) (again_level constructs.TypeForm refl (again_layer d h (out-TypeForm t) rest end))
+again_next d h t rest end = again_is (type_out t) (again_layer d h (out-TypeForm t) rest end)
 
 pub again_type : (d : ℕ) → AgainTypes d
 unfolding type_at

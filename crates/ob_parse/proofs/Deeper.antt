@@ -7,7 +7,7 @@ use Rattle.ob_tree.specs.declared.token.Leaf.TheVariants as leafs
 use Rattle.ob_tree.specs.Constructs.{Construct}
 use Rattle.ob_tree.specs.Marks.{Out, construct, word, used}
 use Rattle.ob_parse.specs.Front.{uncons, front, is_word}
-use Rattle.ob_parse.specs.Forms.{Refusal, Unexpected, TooDeep, ◌>>=◌, Read, Reader, Front, Start, expect_at, accept_at, identifier_at, begins, unless, nothing, seq, prefixed, node, if_found, optional, so_often, many, several, limit_at}
+use Rattle.ob_parse.specs.Forms.{Refusal, Unexpected, TooDeep, ◌>>=◌, Read, Reader, Front, Start, expect_at, accept_at, identifier_at, behind_name, begins, unless, nothing, seq, prefixed, node, if_found, optional, so_often, many, several, limit_at}
 use Rattle.ob_parse.specs.ReadExpressions.{mul_start, add_start, relation_start, sign_start, sign_at, selector_first, factor_first, expr_first, term_with, sum_with, expr_with, element_with, selector_from, selector_with, designator_with, factor_from, factor_with, expr_at, negated_at}
 use Rattle.ob_parse.specs.ReadModules.{name_then}
 
@@ -62,6 +62,13 @@ named_agree : (role : ℕ → Out) (r s : ℕ → Reader) → ((n : ℕ) → Ext
     → Agree (i >>= λ a. prefixed (role a.0) (r a.0) a.1) (i >>= λ a. prefixed (role a.0) (s a.0) a.1)
 named_agree role r s p (Ok a) = prefixed_extends (role a.0) (r a.0) (s a.0) (p a.0) a.1
 named_agree role r s p (Err e) = inr refl
+
+behind_agree : (r s : ℕ → Reader) → ((n : ℕ) → Extends (r n) (s n)) → (i : Result (ℕ × List Leaf) Refusal) → Agree (i >>= λ a. r a.0 a.1) (i >>= λ a. s a.0 a.1)
+behind_agree r s p (Ok a) = p a.0 a.1
+behind_agree r s p (Err e) = inr refl
+
+pub behind_name_extends : (r s : ℕ → Reader) → ((n : ℕ) → Extends (r n) (s n)) → Extends (behind_name r) (behind_name s)
+behind_name_extends r s p ls = behind_agree r s p (identifier_at ls)
 
 pub name_then_extends : (role : ℕ → Out) (r s : ℕ → Reader) → ((n : ℕ) → Extends (r n) (s n)) → Extends (name_then role r) (name_then role s)
 name_then_extends role r s p ls = named_agree role r s p (identifier_at ls)

@@ -2,13 +2,13 @@
 use Rattle.std.proofs.Common.{ℕ, zero, suc, ◌≤◌, arith}
 use Rattle.ob_scan.specs.declared.kind.Kind.{Kind}
 use Rattle.ob_scan.specs.declared.kind.Kind.TheVariants as kinds
-use Rattle.ob_tree.specs.Marks.{declared, named, repeated}
+use Rattle.ob_tree.specs.Marks.{named, repeated}
 use Rattle.ob_parse.specs.Front.{is_word}
-use Rattle.ob_parse.specs.Forms.{Reader, expect_at, accept_at, name_at, begins, nothing, seq, optional}
-use Rattle.ob_parse.specs.ReadNames.{identdef_at}
+use Rattle.ob_parse.specs.Forms.{Reader, expect_at, accept_at, name_at, begins, seq}
+use Rattle.ob_parse.specs.ReadNames.{identdef_after, identdef_at}
 use Rattle.ob_parse.specs.ReadTypes.{some_parameters_at}
 use Rattle.ob_parse.specs.ReadModules.{is_identifier, const_with, type_decl_with, variable_with, ended, part_with, procedures_with, declarations_with, body_with, procedure_named, procedure_with, procedure_at, declarations_at, imports_at, module_named, module_at}
-use Rattle.ob_parse.proofs.Deeper.{Extends, Needs, same, seq_extends, node_extends, optional_extends, many_extends, name_then_extends, limit_extends, seq_needs, node_needs, expect_needs, expr_at_extends}
+use Rattle.ob_parse.proofs.Deeper.{Extends, Needs, same, seq_extends, node_extends, optional_extends, many_extends, behind_name_extends, name_then_extends, limit_extends, seq_needs, node_needs, expect_needs, expr_at_extends}
 use Rattle.ob_parse.proofs.DeeperStatements.{block_at_extends}
 use Rattle.ob_parse.proofs.DeeperTypes.{var_extends, type_at_extends}
 
@@ -48,14 +48,14 @@ body_extends b c x = optional_extends (accept_at kinds.Begin) b c x
 procedure_named_extends : (e f b c r s : Reader) → Extends e f → Extends b c → Extends r s → (n : ℕ) → Extends (procedure_named e b r n) (procedure_named f c s n)
 unfolding procedure_named
 procedure_named_extends e f b c r s x y z n =
-    seq_extends _ _ _ _ (same (optional (accept_at kinds.Star) nothing))
+    seq_extends _ _ _ _ (same (identdef_after n))
     (seq_extends _ _ _ _ (same some_parameters_at) (seq_extends _ _ _ _ (same (expect_at kinds.Semicolon))
     (seq_extends _ _ _ _ z (seq_extends _ _ _ _ (body_extends b c y)
     (seq_extends _ _ _ _ (optional_extends (accept_at kinds.Return) e f x) (same (seq (expect_at kinds.End) (name_at (repeated n)))))))))
 
 procedure_extends : (e f b c r s : Reader) → Extends e f → Extends b c → Extends r s → Extends (procedure_with e b r) (procedure_with f c s)
 unfolding procedure_with
-procedure_extends e f b c r s x y z = node_extends _ _ _ (seq_extends _ _ _ _ (same (expect_at kinds.Procedure)) (name_then_extends declared _ _ (procedure_named_extends e f b c r s x y z)))
+procedure_extends e f b c r s x y z = node_extends _ _ _ (seq_extends _ _ _ _ (same (expect_at kinds.Procedure)) (behind_name_extends _ _ (procedure_named_extends e f b c r s x y z)))
 
 procedure_needs : (e b r : Reader) → Needs (is_word kinds.Procedure) (procedure_with e b r)
 unfolding procedure_with

@@ -8,7 +8,7 @@ use Rattle.ob_parse.specs.Front.{uncons}
 use Rattle.ob_parse.specs.Forms.{Reader, expect_at, accept_at, unless, nothing, seq, optional, several}
 use Rattle.ob_parse.specs.ReadNames.{qualident_at, identdef_at}
 use Rattle.ob_parse.specs.ReadTypes.{type_first, var_with, field_start, fields_with, record_with, type_from, type_with, type_at}
-use Rattle.ob_parse.proofs.Deeper.{Agree, Extends, Needs, same, seq_extends, prefixed_extends, node_extends, optional_extends, many_extends, several_extends, limit_extends, node_needs, expr_at_extends}
+use Rattle.ob_parse.proofs.Deeper.{Agree, Extends, Needs, same, seq_extends, prefixed_extends, node_extends, optional_extends, many_extends, several_extends, limit_extends, expr_at_extends}
 
 pub var_extends : (t u : Reader) → Extends t u → Extends (var_with t) (var_with u)
 unfolding var_with
@@ -28,14 +28,14 @@ record_extends t u q =
 
 type_from_extends : (r s t u : Reader) → Extends r s → Extends t u → (o : Option (Leaf × List Leaf)) → Agree (type_from r t o) (type_from s u o)
 type_from_extends r s t u p q (Some (leafs.Word kinds.Array, rest)) =
-    prefixed_extends (word kinds.Array) _ _ (seq_extends _ _ _ _ (several_extends kinds.Comma r s p) (seq_extends _ _ _ _ (same (expect_at kinds.Of)) q)) rest
-type_from_extends r s t u p q (Some (leafs.Word kinds.Record, rest)) = prefixed_extends (word kinds.Record) _ _ (record_extends t u q) rest
-type_from_extends r s t u p q (Some (leafs.Word kinds.Pointer, rest)) = prefixed_extends (word kinds.Pointer) _ _ (seq_extends _ _ _ _ (same (expect_at kinds.To)) q) rest
+    node_extends _ _ _ (prefixed_extends (word kinds.Array) _ _ (seq_extends _ _ _ _ (several_extends kinds.Comma r s p) (seq_extends _ _ _ _ (same (expect_at kinds.Of)) q))) rest
+type_from_extends r s t u p q (Some (leafs.Word kinds.Record, rest)) = node_extends _ _ _ (prefixed_extends (word kinds.Record) _ _ (record_extends t u q)) rest
+type_from_extends r s t u p q (Some (leafs.Word kinds.Pointer, rest)) = node_extends _ _ _ (prefixed_extends (word kinds.Pointer) _ _ (seq_extends _ _ _ _ (same (expect_at kinds.To)) q)) rest
 type_from_extends r s t u p q o = inr refl
 
 type_extends : (r s t u : Reader) → Extends r s → Extends t u → Extends (type_with r t) (type_with s u)
 unfolding type_with
-type_extends r s t u p q = node_extends _ _ _ (λ ls. type_from_extends r s t u p q (uncons ls))
+type_extends r s t u p q ls = type_from_extends r s t u p q (uncons ls)
 
 type_from_needs : (r t : Reader) → Needs type_first (λ ls. type_from r t (uncons ls))
 type_from_needs r t [] e = refl
@@ -48,7 +48,7 @@ type_from_needs r t (l ∷ rest) e = refl
 
 type_needs : (r t : Reader) → Needs type_first (type_with r t)
 unfolding type_with
-type_needs r t = node_needs _ _ _ (type_from_needs r t)
+type_needs r t = type_from_needs r t
 
 pub type_at_extends : (d k : ℕ) → d ≤ k → Extends (type_at d) (type_at k)
 unfolding type_at

@@ -19,13 +19,13 @@ use Rattle.ob_tree.specs.declared.token.Leaf.TheVariants as leafs
 use Rattle.ob_tree.specs.Constructs as constructs
 use Rattle.ob_tree.specs.Constructs.{Construct}
 use Rattle.ob_tree.specs.Leaves.{same_kind, leaf_of, leaves}
-use Rattle.ob_tree.specs.Marks.{Value, Out, construct, word, declared, used, named, repeated}
+use Rattle.ob_tree.specs.Marks.{Value, Out, construct, word, declared, aliased, imported, used, completed, selected, named, repeated}
 use Rattle.ob_tree.specs.Expressions.{relation_kind, sign_kind, add_kind, mul_kind}
 use Rattle.ob_tree.specs.Derives.{endings_in}
 use Rattle.ob_tree.proofs.EndNames.{endings-append, endings-construct}
 use Rattle.ob_parse.specs.Front.{uncons, front, is_word}
-use Rattle.ob_parse.specs.Forms.{Refusal, Unexpected, deep_at, Read, ◌>>=◌, Reader, Front, Start, expect_at, accept_at, identifier_at, name_at, begins, unless, nothing, seq, prefixed, node, if_found, optional, so_often, many, several, limit_at}
-use Rattle.ob_parse.specs.ReadNames.{qualident_after, qualident_at, identdef_at}
+use Rattle.ob_parse.specs.Forms.{Refusal, Unexpected, deep_at, Read, ◌>>=◌, Reader, Front, Start, expect_at, accept_at, identifier_at, name_at, behind_name, is_something, led_by, begins, unless, nothing, seq, prefixed, node, if_found, optional, so_often, many, several, limit_at}
+use Rattle.ob_parse.specs.ReadNames.{qualident_after, qualident_at, identdef_after, identdef_at}
 use Rattle.ob_parse.specs.ReadExpressions.{after_relation, after_sign, after_add, after_mul, relation_at, sign_at, add_at, mul_at, marked, mul_start, add_start, relation_start, sign_start, selector_first, term_with, sum_with, expr_with, element_with, selector_from, selector_with, designator_with, factor_from, factor_with, expr_at, negated_at}
 use Rattle.ob_parse.specs.ReadStatements.{label_first, statement_first, label_from, label_at, label_range_at, case_with, block_with, branch_with, if_with, cases_with, while_with, repeat_with, for_with, assign_with, statement_from, statement_with, empty_at, statement_at, block_at}
 use Rattle.ob_parse.specs.ReadTypes.{section_at, parameters_at, some_parameters_at, var_with, behind_semicolon, next_field, field_start, fields_with, record_with, type_from, type_with, type_at}
@@ -78,8 +78,8 @@ word_below bound k = record { each_one = All-nil (AreBelow bound) }
 value_below : (bound : ℕ) (k : Literal) (n : ℕ) → EndingsBelow bound (Value k n ∷ [])
 value_below bound k n = record { each_one = All-nil (AreBelow bound) }
 
-declared_below : (bound n : ℕ) → n < bound → EndingsBelow bound (declared n)
-declared_below bound n h = record { each_one = All-nil (AreBelow bound) }
+declared_below : (bound : ℕ) (starred : Bool) (n : ℕ) → EndingsBelow bound (declared starred n)
+declared_below bound starred n = record { each_one = All-nil (AreBelow bound) }
 
 used_below : (bound n : ℕ) → EndingsBelow bound (used n)
 used_below bound n = record { each_one = All-nil (AreBelow bound) }
@@ -142,6 +142,12 @@ knows_prefixed bound ms r h hr ls x l e =
     let a = bind_ok (r ls) (λ a. Ok (ms ++ a.0, a.1)) x e in
     let p = hr ls a.0 l a.1 in
     known_at_once bound a.0.1 (ms ++ a.0.0) x (both_below bound ms a.0.0 h p.in_outline) p.in_rest a.2
+
+knows_led : (bound : ℕ) (ms : Out → Out) (r : Reader) → ((o : Out) → EndingsBelow bound (ms o)) → Knows bound r → Knows bound (led_by ms r)
+knows_led bound ms r h hr ls x l e =
+    let a = bind_ok (r ls) (λ a. Ok (ms a.0 ++ a.0, a.1)) x e in
+    let p = hr ls a.0 l a.1 in
+    known_at_once bound a.0.1 (ms a.0.0 ++ a.0.0) x (both_below bound (ms a.0.0) a.0.0 (h a.0.0) p.in_outline) p.in_rest a.2
 
 -- a word, and what is read behind it
 knows_word : (bound : ℕ) (k : Kind) (r : Reader) → Knows bound r → Knows bound (prefixed (word k) r)
@@ -209,6 +215,12 @@ knows_name_then bound role r h hr ls x l e =
     let p = identifier_known bound ls a.0 l a.1 in
     knows_prefixed bound (role a.0.0) (r a.0.0) (h a.0.0 p.is_below) (hr a.0.0 p.is_below) a.0.1 x p.in_rest a.2
 
+knows_behind_name : (bound : ℕ) (r : ℕ → Reader) → ((n : ℕ) → n < bound → Knows bound (r n)) → Knows bound (behind_name r)
+knows_behind_name bound r hr ls x l e =
+    let a = bind_ok (identifier_at ls) (λ a. r a.0 a.1) x e in
+    let p = identifier_known bound ls a.0 l a.1 in
+    hr a.0.0 p.is_below a.0.1 x p.in_rest a.2
+
 name_knows : (bound : ℕ) (role : ℕ → Out) → ((n : ℕ) → n < bound → EndingsBelow bound (role n)) → Knows bound (name_at role)
 unfolding name_at
 name_knows bound role h ls x l e =
@@ -216,14 +228,15 @@ name_knows bound role h ls x l e =
     let p = identifier_known bound ls a.0 l a.1 in
     known_at_once bound a.0.1 (role a.0.0) x (h a.0.0 p.is_below) p.in_rest a.2
 
-declared_knows : (bound : ℕ) → Knows bound (name_at declared)
-declared_knows bound = name_knows bound declared (declared_below bound)
+declared_knows : (bound : ℕ) → Knows bound (name_at (declared false))
+declared_knows bound = name_knows bound (declared false) (λ n h. declared_below bound false n)
+
+-- a name that is no end of anything
+silent_knows : (bound : ℕ) (role : ℕ → Out) → ((n : ℕ) → [] ≡ endings_in (role n)) → Knows bound (name_at role)
+silent_knows bound role none = name_knows bound role (λ n h. record { each_one = subst (All (AreBelow bound)) (none n) (All-nil (AreBelow bound)) })
 
 used_knows : (bound : ℕ) → Knows bound (name_at used)
 used_knows bound = name_knows bound used (λ n h. used_below bound n)
-
-named_knows : (bound : ℕ) → Knows bound (name_at named)
-named_knows bound = name_knows bound named (named_below bound)
 
 repeated_knows : (bound n : ℕ) → n < bound → Knows bound (name_at (repeated n))
 repeated_knows bound n h = name_knows bound (repeated n) (repeated_below bound n h)
@@ -280,15 +293,19 @@ knows_value_only bound k n ls x l e = known_at_once bound ls (Value k n ∷ []) 
 
 qualident_after_knows : (bound n : ℕ) → Knows bound (qualident_after n)
 unfolding qualident_after
-qualident_after_knows bound n = knows_prefixed bound (used n) _ (used_below bound n) (knows_accepted bound kinds.Dot _ (named_knows bound))
+qualident_after_knows bound n = knows_prefixed bound (used n) _ (used_below bound n) (knows_accepted bound kinds.Dot _ (silent_knows bound completed (λ m. refl)))
 
 qualident_knows : (bound : ℕ) → Knows bound qualident_at
 unfolding qualident_at
-qualident_knows bound = knows_seq bound _ _ (used_knows bound) (knows_accepted bound kinds.Dot _ (named_knows bound))
+qualident_knows bound = knows_seq bound _ _ (used_knows bound) (knows_accepted bound kinds.Dot _ (silent_knows bound completed (λ m. refl)))
+
+identdef_after_knows : (bound n : ℕ) → Knows bound (identdef_after n)
+unfolding identdef_after
+identdef_after_knows bound n = knows_led bound _ _ (λ star. declared_below bound (is_something star) n) (knows_accepted bound kinds.Star _ (knows_nothing bound))
 
 identdef_knows : (bound : ℕ) → Knows bound identdef_at
 unfolding identdef_at
-identdef_knows bound = knows_seq bound _ _ (declared_knows bound) (knows_accepted bound kinds.Star _ (knows_nothing bound))
+identdef_knows bound = knows_behind_name bound _ (λ n h. identdef_after_knows bound n)
 
 -- ---- expressions
 
@@ -375,7 +392,7 @@ closed_knows : (bound : ℕ) (k : Kind) (r : Reader) → Knows bound r → Knows
 closed_knows bound k r h = knows_seq bound _ _ (knows_optional bound _ _ (unless_knows bound k) (knows_several bound kinds.Comma _ h)) (expect_knows bound k)
 
 selector_from_knows : (bound : ℕ) (r : Reader) → Knows bound r → (l : Leaf) → Knows bound (λ ls. selector_from r (Some (l, ls)))
-selector_from_knows bound r h (leafs.Word kinds.Dot) = knows_word bound kinds.Dot _ (named_knows bound)
+selector_from_knows bound r h (leafs.Word kinds.Dot) = knows_word bound kinds.Dot _ (silent_knows bound selected (λ m. refl))
 selector_from_knows bound r h (leafs.Word kinds.LeftBracket) = knows_word bound kinds.LeftBracket _ (knows_seq bound _ _ (knows_several bound kinds.Comma _ h) (expect_knows bound kinds.RightBracket))
 selector_from_knows bound r h (leafs.Word kinds.Caret) = knows_word_only bound kinds.Caret
 selector_from_knows bound r h (leafs.Word kinds.LeftParen) = knows_word bound kinds.LeftParen _ (closed_knows bound kinds.RightParen r h)
@@ -569,16 +586,16 @@ record_knows bound t h =
     knows_seq bound _ _ base (knows_seq bound _ _ (knows_optional bound _ _ (unless_knows bound kinds.End) (fields_knows bound t h)) (expect_knows bound kinds.End))
 
 type_from_knows : (bound : ℕ) (r t : Reader) → Knows bound r → Knows bound t → (l : Leaf) → Knows bound (λ ls. type_from r t (Some (l, ls)))
-type_from_knows bound r t h g (leafs.Name n) = qualident_after_knows bound n
-type_from_knows bound r t h g (leafs.Word kinds.Array) = knows_word bound kinds.Array _ (knows_seq bound _ _ (knows_several bound kinds.Comma _ h) (knows_expected bound kinds.Of _ g))
-type_from_knows bound r t h g (leafs.Word kinds.Record) = knows_word bound kinds.Record _ (record_knows bound t g)
-type_from_knows bound r t h g (leafs.Word kinds.Pointer) = knows_word bound kinds.Pointer _ (knows_expected bound kinds.To _ g)
-type_from_knows bound r t h g (leafs.Word kinds.Procedure) = knows_word bound kinds.Procedure _ (some_parameters_knows bound)
+type_from_knows bound r t h g (leafs.Name n) = knows_node bound _ _ (qualident_after_knows bound n)
+type_from_knows bound r t h g (leafs.Word kinds.Array) = knows_node bound _ _ (knows_word bound kinds.Array _ (knows_seq bound _ _ (knows_several bound kinds.Comma _ h) (knows_expected bound kinds.Of _ g)))
+type_from_knows bound r t h g (leafs.Word kinds.Record) = knows_node bound _ _ (knows_word bound kinds.Record _ (record_knows bound t g))
+type_from_knows bound r t h g (leafs.Word kinds.Pointer) = knows_node bound _ _ (knows_word bound kinds.Pointer _ (knows_expected bound kinds.To _ g))
+type_from_knows bound r t h g (leafs.Word kinds.Procedure) = knows_node bound _ _ (knows_word bound kinds.Procedure _ (some_parameters_knows bound))
 type_from_knows bound r t h g l = λ ls x b e. absurd cc
 
 type_knows : (bound : ℕ) (r t : Reader) → Knows bound r → Knows bound t → Knows bound (type_with r t)
 unfolding type_with
-type_knows bound r t h g = knows_node bound _ _ (knows_from bound (type_from r t) (λ x e. cc) (type_from_knows bound r t h g))
+type_knows bound r t h g = knows_from bound (type_from r t) (λ x e. cc) (type_from_knows bound r t h g)
 
 type_at_knows : (bound d : ℕ) → Knows bound (type_at d)
 unfolding type_at
@@ -628,13 +645,13 @@ procedure_named_knows bound r b p hr hb hp n h =
     let end = knows_expected bound kinds.End _ (repeated_knows bound n h) in
     let body = knows_seq bound _ _ (body_knows bound b hb) (knows_seq bound _ _ (knows_accepted bound kinds.Return _ hr) end) in
     let inner = knows_expected bound kinds.Semicolon _ (knows_seq bound _ _ hp body) in
-    knows_seq bound _ _ (knows_accepted bound kinds.Star _ (knows_nothing bound)) (knows_seq bound _ _ (some_parameters_knows bound) inner)
+    knows_seq bound _ _ (identdef_after_knows bound n) (knows_seq bound _ _ (some_parameters_knows bound) inner)
 
 procedure_knows : (bound : ℕ) (r b p : Reader) → Knows bound r → Knows bound b → Knows bound p → Knows bound (procedure_with r b p)
 unfolding procedure_with
 procedure_knows bound r b p hr hb hp =
     let behind = procedure_named_knows bound r b p hr hb hp in
-    knows_node bound _ _ (knows_expected bound kinds.Procedure _ (knows_name_then bound declared (procedure_named r b p) (declared_below bound) behind))
+    knows_node bound _ _ (knows_expected bound kinds.Procedure _ (knows_behind_name bound (procedure_named r b p) behind))
 
 procedure_at_knows : (bound d : ℕ) → Knows bound (procedure_at d)
 unfolding procedure_at
@@ -650,7 +667,7 @@ declarations_at_knows bound d = declarations_knows bound _ _ _ (expr_at_knows bo
 
 import_knows : (bound : ℕ) → Knows bound import_at
 unfolding import_at
-import_knows bound = knows_node bound _ _ (knows_seq bound _ _ (declared_knows bound) (knows_accepted bound kinds.Assign _ (named_knows bound)))
+import_knows bound = knows_node bound _ _ (knows_seq bound _ _ (silent_knows bound aliased (λ n. refl)) (knows_accepted bound kinds.Assign _ (silent_knows bound imported (λ n. refl))))
 
 imports_knows : (bound : ℕ) → Knows bound imports_at
 unfolding imports_at

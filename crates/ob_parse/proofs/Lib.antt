@@ -26,5 +26,6 @@ pub mod SoundExpressions
 pub mod SoundModules
 pub mod SoundStatements
 pub mod SoundTypes
+pub mod Stars
 pub mod StatementSteps
 pub mod Whole

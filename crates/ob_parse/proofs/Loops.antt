@@ -7,16 +7,17 @@ use Rattle.ob_tree.specs.declared.token.Leaf.{Leaf}
 use Rattle.ob_tree.specs.declared.token.Leaf.TheVariants as leafs
 use Rattle.ob_tree.specs.Leaves.{same_kind}
 use Rattle.ob_tree.specs.Constructs.{Construct}
+use Rattle.ob_tree.specs.declared.role.Role.TheVariants.{Selects}
 use Rattle.ob_tree.specs.Marks.{Out, tokens_of, construct, word, declared, each, each_after}
 use Rattle.ob_tree.specs.Expressions.{mul_kind, add_kind}
 use Rattle.ob_parse.specs.Front.{uncons, front}
-use Rattle.ob_parse.specs.Forms.{Unexpected, ◌>>=◌, Read, Reader, Front, Start, expect_at, accept_at, identifier_at, name_at, begins, seq, prefixed, node, if_found, so_often, many, several}
-use Rattle.ob_parse.specs.ReadNames.{identdef_at}
+use Rattle.ob_parse.specs.Forms.{Unexpected, ◌>>=◌, Read, Reader, Front, Start, expect_at, accept_at, identifier_at, behind_name, is_something, led_by, begins, seq, prefixed, node, if_found, so_often, many, several}
+use Rattle.ob_parse.specs.ReadNames.{identdef_after, identdef_at}
 use Rattle.ob_parse.specs.ReadExpressions.{mul_start, add_start, mul_at, add_at, marked, selector_first, selector_from, selector_with}
 use Rattle.ob_parse.specs.ReadTypes.{var_with, behind_semicolon, next_field, field_start}
 use Rattle.ob_parse.specs.ReadModules.{is_identifier, ended, const_with, type_decl_with, variable_with}
 use Rattle.ob_parse.proofs.Sound.{Sound, Takes, bind_ok, ok_is, done, some_is, identifier_spelt, expect_sound, accept_sound, sound_nothing, sound_optional, sound_seq, sound_many, sound_several}
-use Rattle.ob_parse.proofs.SoundExpressions.{Spelt, mul_spelt, add_spelt, named_sound, identdef_sound, closed_sound}
+use Rattle.ob_parse.proofs.SoundExpressions.{Spelt, mul_spelt, add_spelt, role_sound, identdef_sound, closed_sound}
 
 -- what was read before, and what is still read
 abbrev pub with_front : Out → Read → Read
@@ -140,15 +141,21 @@ no_longer_prefixed ms r hr ls x e =
     let no_more : length a.0.1 ≤ length ls = hr ls a.0 a.1 in
     omega (arith, ap length (left_same (ms ++ a.0.0) a.0.1 x a.2))
 
+no_longer_led : (ms : Out → Out) (r : Reader) → NoLonger r → NoLonger (led_by ms r)
+no_longer_led ms r hr ls x e =
+    let a = bind_ok (r ls) (λ a. Ok (ms a.0 ++ a.0, a.1)) x e in
+    let no_more : length a.0.1 ≤ length ls = hr ls a.0 a.1 in
+    omega (arith, ap length (left_same (ms a.0.0 ++ a.0.0) a.0.1 x a.2))
+
 pub shortens_several : (d : ℕ) (k : Kind) (item : Reader) → Sound d item → Shortens item → Shortens (several k item)
 unfolding several
 shortens_several d k item h s = shortens_seq item (many (accept_at k) item) s (sound_no_longer d (many (accept_at k) item) (sound_many d (accept_at k) item (accept_sound d k) h))
 
-pub shortens_name : (role : ℕ → Out) → Shortens (name_at role)
-unfolding name_at
-shortens_name role ls x e =
-    let a = bind_ok (identifier_at ls) (λ a. Ok (role a.0, a.1)) x e in
-    omega (arith, ap length (identifier_spelt ls a.0 a.1), ap length (left_same (role a.0.0) a.0.1 x a.2))
+shortens_behind_name : (r : ℕ → Reader) → ((n : ℕ) → NoLonger (r n)) → Shortens (behind_name r)
+shortens_behind_name r hr ls x e =
+    let a = bind_ok (identifier_at ls) (λ a. r a.0 a.1) x e in
+    let no_more : length x.1 ≤ length a.0.1 = hr a.0.0 a.0.1 x a.2 in
+    omega (arith, ap length (identifier_spelt ls a.0 a.1))
 
 expected_shortens : (k : Kind) (b : Bool) (rest : List Leaf) (j : Kind) (x : Out × List Leaf) → cond b (done (word k, rest)) (Err (Unexpected (Some (leafs.Word j, rest)))) ≡ Ok x → length x.1 < length (leafs.Word j ∷ rest)
 expected_shortens k true rest j x e = omega (arith, ap length (left_same (word k) rest x e))
@@ -230,7 +237,7 @@ shortens_behind l ms r h rest x e = let no_more : length x.1 ≤ length rest = n
 
 selector_from_shortens : (d : ℕ) (r : Reader) → Sound d r → Shortens (λ ls. selector_from r (uncons ls))
 selector_from_shortens d r h [] x e = absurd cc
-selector_from_shortens d r h (leafs.Word kinds.Dot ∷ rest) x e = shortens_behind (leafs.Word kinds.Dot) (word kinds.Dot) _ (sound_no_longer d _ (named_sound d)) rest x e
+selector_from_shortens d r h (leafs.Word kinds.Dot ∷ rest) x e = shortens_behind (leafs.Word kinds.Dot) (word kinds.Dot) _ (sound_no_longer d _ (role_sound d Selects)) rest x e
 selector_from_shortens d r h (leafs.Word kinds.LeftBracket ∷ rest) x e =
     shortens_behind (leafs.Word kinds.LeftBracket) (word kinds.LeftBracket) _ (sound_no_longer d _ (sound_seq d _ _ (sound_several d kinds.Comma r h) (expect_sound d kinds.RightBracket))) rest x e
 selector_from_shortens d r h (leafs.Word kinds.Caret ∷ rest) x e = omega (arith, ap length (left_same (word kinds.Caret) rest x e))
@@ -246,8 +253,8 @@ pub selector_advances : (d : ℕ) (r : Reader) → Sound d r → Advances (begin
 selector_advances d r h = begins_advances selector_first _ (selector_shortens d r h)
 
 identdef_shortens : Shortens identdef_at
-unfolding identdef_at
-identdef_shortens = shortens_seq _ _ (shortens_name declared) (sound_no_longer zero _ (sound_optional zero _ _ (accept_sound zero kinds.Star) (sound_nothing zero)))
+unfolding identdef_at identdef_after
+identdef_shortens = shortens_behind_name _ (λ n. no_longer_led (λ star. declared (is_something star) n) _ (sound_no_longer zero _ (sound_optional zero _ _ (accept_sound zero kinds.Star) (sound_nothing zero))))
 
 ended_no_longer : NoLonger (expect_at kinds.Semicolon)
 ended_no_longer = sound_no_longer zero _ (expect_sound zero kinds.Semicolon)

@@ -5,14 +5,15 @@ use Rattle.std.proofs.Math.Nat.{max-zero, zero-max}
 use Rattle.std.proofs.lemmas.List.{append-nil}
 use Rattle.ob_scan.specs.declared.kind.Kind.{Kind}
 use Rattle.ob_tree.specs.declared.expression.Literal.{Literal}
+use Rattle.ob_tree.specs.declared.role.Role.{Role}
 use Rattle.ob_tree.specs.declared.token.Leaf.{Leaf}
 use Rattle.ob_tree.specs.declared.token.Leaf.TheVariants as leafs
 use Rattle.ob_tree.specs.Leaves.{same_kind}
 use Rattle.ob_tree.specs.Constructs.{Construct, is_level}
-use Rattle.ob_tree.specs.Marks.{Role, Begins, Ends, Identifier, Value, Word, Out, tokens_of, height, construct, word}
+use Rattle.ob_tree.specs.Marks.{Begins, Ends, Identifier, Value, Word, Out, tokens_of, height, construct, word}
 use Rattle.ob_tree.proofs.Same.{same_is}
 use Rattle.ob_parse.specs.Front.{uncons, front, is_word}
-use Rattle.ob_parse.specs.Forms.{Refusal, Unexpected, deep_at, ◌>>=◌, Reader, Front, Start, expect_at, accept_at, identifier_at, name_at, begins, unless, nothing, seq, prefixed, node, if_found, optional, so_often, many, several, limit_at}
+use Rattle.ob_parse.specs.Forms.{Refusal, Unexpected, deep_at, ◌>>=◌, Reader, Front, Start, expect_at, accept_at, identifier_at, name_at, begins, unless, nothing, seq, prefixed, node, behind_name, led_by, if_found, optional, so_often, many, several, limit_at}
 use Rattle.ob_parse.specs.ReadModules.{name_then}
 
 -- the tokens are those of the outline, and the rest; the outline has at most so many levels
@@ -185,6 +186,12 @@ sound_after d r hr ls rest ms x t e =
 pub behind_prefixed : (d : ℕ) (l : Leaf) (ms : Out) (r : Reader) → OneToken d l ms → Sound d r → SoundBehind d l (prefixed ms r)
 behind_prefixed d l ms r t hr ls x e = sound_after d r hr (l ∷ ls) ls ms x (t ls) e
 
+-- the same behind marks that go by what is read
+pub behind_led : (d : ℕ) (l : Leaf) (ms : Out → Out) (r : Reader) → ((o : Out) → OneToken d l (ms o)) → Sound d r → SoundBehind d l (led_by ms r)
+behind_led d l ms r t hr ls x e =
+    let a = bind_ok (r ls) (λ a. Ok (ms a.0 ++ a.0, a.1)) x e in
+    subst (TakesIt d (l ∷ ls)) (ok_is (ms a.0.0 ++ a.0.0, a.0.1) x a.2) (takes_then d (l ∷ ls) ls a.0.1 (ms a.0.0) a.0.0 (t a.0.0 ls) (hr ls a.0 a.1))
+
 pub behind_at_once : (d : ℕ) (l : Leaf) (ms : Out) → OneToken d l ms → SoundBehind d l (λ ls. Ok (ms, ls))
 behind_at_once d l ms t ls x e = sound_at_once d (l ∷ ls) ls ms x (t ls) e
 
@@ -243,6 +250,11 @@ pub sound_name_then : (d : ℕ) (role : ℕ → Out) (r : ℕ → Reader) → ((
 sound_name_then d role r t hr ls x e =
     let a = bind_ok (identifier_at ls) (λ a. prefixed (role a.0) (r a.0) a.1) x e in
     subst (λ (z : List Leaf). Takes d z x.0 x.1) (sym (identifier_spelt ls a.0 a.1)) (behind_prefixed d (leafs.Name a.0.0) (role a.0.0) (r a.0.0) (t a.0.0) (hr a.0.0) a.0.1 x a.2)
+
+pub sound_behind_name : (d : ℕ) (r : ℕ → Reader) → ((n : ℕ) → SoundBehind d (leafs.Name n) (r n)) → Sound d (behind_name r)
+sound_behind_name d r hr ls x e =
+    let a = bind_ok (identifier_at ls) (λ a. r a.0 a.1) x e in
+    subst (λ (z : List Leaf). Takes d z x.0 x.1) (sym (identifier_spelt ls a.0 a.1)) (hr a.0.0 a.0.1 x a.2)
 
 pub name_sound : (d : ℕ) (role : ℕ → Out) → ((n : ℕ) → OneToken d (leafs.Name n) (role n)) → Sound d (name_at role)
 unfolding name_at

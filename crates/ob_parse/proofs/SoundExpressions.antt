@@ -1,5 +1,5 @@
 -- Names and expressions that are read are spelled so.
-use Rattle.std.proofs.Common.{◌≡◌, ℕ, zero, suc, List, [], ◌∷◌, Some, None, refl, subst, arith}
+use Rattle.std.proofs.Common.{◌≡◌, ℕ, zero, suc, false, List, [], ◌∷◌, Some, None, refl, subst, arith}
 use Rattle.ob_scan.specs.declared.kind.Kind.{Kind}
 use Rattle.ob_scan.specs.declared.kind.Kind.TheVariants as kinds
 use Rattle.ob_tree.specs.declared.token.Leaf.{Leaf}
@@ -12,36 +12,43 @@ use Rattle.ob_tree.specs.declared.expression.AddOperator.{AddOperator}
 use Rattle.ob_tree.specs.declared.expression.AddOperator.TheVariants as sums
 use Rattle.ob_tree.specs.declared.expression.MulOperator.{MulOperator}
 use Rattle.ob_tree.specs.declared.expression.MulOperator.TheVariants as products
-use Rattle.ob_tree.specs.Marks.{Out, Uses, Names, Declares, word, used, named, declared}
+use Rattle.ob_tree.specs.declared.role.Role.{Role}
+use Rattle.ob_tree.specs.declared.role.Role.TheVariants.{Declares, Uses, Completes, Selects}
+use Rattle.ob_tree.specs.Marks.{Out, Identifier, word, used, declared}
 use Rattle.ob_tree.specs.Expressions.{relation_kind, sign_kind, add_kind, mul_kind}
 use Rattle.ob_parse.specs.Front.{uncons}
-use Rattle.ob_parse.specs.Forms.{Reader, Front, expect_at, name_at, unless, seq, optional, several}
-use Rattle.ob_parse.specs.ReadNames.{qualident_after, qualident_at, identdef_at}
+use Rattle.ob_parse.specs.Forms.{Reader, Front, expect_at, name_at, is_something, unless, seq, optional, several}
+use Rattle.ob_parse.specs.ReadNames.{qualident_after, qualident_at, identdef_after, identdef_at}
 use Rattle.ob_parse.specs.ReadExpressions.{after_relation, after_sign, after_add, after_mul, relation_at, sign_at, add_at, mul_at, marked, mul_start, add_start, relation_start, sign_start, selector_first, term_with, sum_with, expr_with, element_with, selector_from, selector_with, designator_with, factor_from, factor_with, expr_at, negated_at, factor_at, term_at}
-use Rattle.ob_parse.proofs.Sound.{Sound, SoundStart, SoundBehind, Takes, TakesIt, some_is, word_takes, role_takes, value_takes, sound_nothing, sound_seq, sound_flat, sound_level, sound_optional, sound_many, sound_several, behind_flat, behind_prefixed, behind_at_once, expect_sound, accept_sound, name_sound, begins_sound, unless_sound, limit_sound}
+use Rattle.ob_parse.proofs.Sound.{Sound, SoundStart, SoundBehind, Takes, TakesIt, some_is, word_takes, role_takes, value_takes, sound_nothing, sound_seq, sound_flat, sound_level, sound_optional, sound_many, sound_several, behind_flat, behind_led, behind_prefixed, behind_at_once, sound_behind_name, expect_sound, accept_sound, name_sound, begins_sound, unless_sound, limit_sound}
 
 -- ---- names
 
-pub named_sound : (d : ℕ) → Sound d (name_at named)
-named_sound d = name_sound d named (role_takes d Names)
+-- a name of this role
+pub role_sound : (d : ℕ) (r : Role) → Sound d (name_at (λ n. Identifier r n ∷ []))
+role_sound d r = name_sound d (λ n. Identifier r n ∷ []) (role_takes d r)
 
 pub used_sound : (d : ℕ) → Sound d (name_at used)
-used_sound d = name_sound d used (role_takes d Uses)
+used_sound d = role_sound d Uses
 
-pub declared_sound : (d : ℕ) → Sound d (name_at declared)
-declared_sound d = name_sound d declared (role_takes d Declares)
+pub declared_sound : (d : ℕ) → Sound d (name_at (declared false))
+declared_sound d = role_sound d (Declares false)
 
 pub qualident_after_sound : (d n : ℕ) → SoundBehind d (leafs.Name n) (qualident_after n)
 unfolding qualident_after
-qualident_after_sound d n = behind_prefixed d _ _ _ (role_takes d Uses n) (sound_optional d _ _ (accept_sound d kinds.Dot) (named_sound d))
+qualident_after_sound d n = behind_prefixed d _ _ _ (role_takes d Uses n) (sound_optional d _ _ (accept_sound d kinds.Dot) (role_sound d Completes))
 
 pub qualident_at_sound : (d : ℕ) → Sound d qualident_at
 unfolding qualident_at
-qualident_at_sound d = sound_seq d _ _ (used_sound d) (sound_optional d _ _ (accept_sound d kinds.Dot) (named_sound d))
+qualident_at_sound d = sound_seq d _ _ (used_sound d) (sound_optional d _ _ (accept_sound d kinds.Dot) (role_sound d Completes))
+
+pub identdef_after_sound : (d n : ℕ) → SoundBehind d (leafs.Name n) (identdef_after n)
+unfolding identdef_after
+identdef_after_sound d n = behind_led d _ _ _ (λ star. role_takes d (Declares (is_something star)) n) (sound_optional d _ _ (accept_sound d kinds.Star) (sound_nothing d))
 
 pub identdef_sound : (d : ℕ) → Sound d identdef_at
 unfolding identdef_at
-identdef_sound d = sound_seq d _ _ (declared_sound d) (sound_optional d _ _ (accept_sound d kinds.Star) (sound_nothing d))
+identdef_sound d = sound_behind_name d _ (identdef_after_sound d)
 
 -- ---- operators
 
@@ -128,7 +135,7 @@ closed_sound d k r h = sound_seq d _ _ (sound_optional d _ _ (unless_sound d k) 
 
 pub selector_from_sound : (d : ℕ) (r : Reader) → Sound d r → Sound d (λ ls. selector_from r (uncons ls))
 selector_from_sound d r h [] x e = absurd cc
-selector_from_sound d r h (leafs.Word kinds.Dot ∷ rest) x e = behind_prefixed d _ _ _ (word_takes d kinds.Dot) (named_sound d) rest x e
+selector_from_sound d r h (leafs.Word kinds.Dot ∷ rest) x e = behind_prefixed d _ _ _ (word_takes d kinds.Dot) (role_sound d Selects) rest x e
 selector_from_sound d r h (leafs.Word kinds.LeftBracket ∷ rest) x e =
     behind_prefixed d _ _ _ (word_takes d kinds.LeftBracket) (sound_seq d _ _ (sound_several d kinds.Comma r h) (expect_sound d kinds.RightBracket)) rest x e
 selector_from_sound d r h (leafs.Word kinds.Caret ∷ rest) x e = behind_at_once d _ _ (word_takes d kinds.Caret) rest x e

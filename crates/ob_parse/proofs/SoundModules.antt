@@ -4,12 +4,14 @@ use Rattle.std.proofs.lemmas.List.{append-nil}
 use Rattle.ob_scan.specs.declared.kind.Kind.{Kind}
 use Rattle.ob_scan.specs.declared.kind.Kind.TheVariants as kinds
 use Rattle.ob_tree.specs.declared.token.Leaf.{Leaf}
-use Rattle.ob_tree.specs.Marks.{Out, Repeats, Declares, Names, tokens_of, height, declared, repeated}
+use Rattle.ob_tree.specs.declared.token.Leaf.TheVariants as leafs
+use Rattle.ob_tree.specs.declared.role.Role.TheVariants.{Aliases, Imports, Names, Repeats}
+use Rattle.ob_tree.specs.Marks.{Out, tokens_of, height, repeated}
 use Rattle.ob_parse.specs.Front.{uncons, is_word}
-use Rattle.ob_parse.specs.Forms.{Reader, name_at}
-use Rattle.ob_parse.specs.ReadModules.{is_identifier, const_with, type_decl_with, variable_with, ended, part_with, procedures_with, declarations_with, body_with, procedure_named, procedure_with, procedure_at, declarations_at, import_at, imports_at, name_then, module_named, module_at, nothing_left, all_of}
-use Rattle.ob_parse.proofs.Sound.{Sound, Takes, bind_ok, role_takes, sound_nothing, sound_seq, sound_flat, sound_level, sound_optional, sound_many, sound_several, sound_name_then, expect_sound, accept_sound, name_sound, begins_sound, limit_sound}
-use Rattle.ob_parse.proofs.SoundExpressions.{named_sound, declared_sound, identdef_sound, expr_at_sound}
+use Rattle.ob_parse.specs.Forms.{Reader, behind_name, name_at}
+use Rattle.ob_parse.specs.ReadModules.{is_identifier, const_with, type_decl_with, variable_with, ended, part_with, procedures_with, declarations_with, body_with, procedure_named, procedure_with, procedure_at, declarations_at, import_at, imports_at, module_named, module_at, nothing_left, all_of}
+use Rattle.ob_parse.proofs.Sound.{Sound, SoundBehind, Takes, behind_seq, bind_ok, role_takes, sound_behind_name, sound_seq, sound_flat, sound_level, sound_optional, sound_many, sound_several, sound_name_then, expect_sound, accept_sound, name_sound, begins_sound, limit_sound}
+use Rattle.ob_parse.proofs.SoundExpressions.{role_sound, identdef_after_sound, identdef_sound, expr_at_sound}
 use Rattle.ob_parse.proofs.SoundStatements.{block_at_sound}
 use Rattle.ob_parse.proofs.SoundTypes.{some_parameters_sound, var_sound, type_at_sound}
 
@@ -50,17 +52,17 @@ body_sound d block h = sound_optional d _ _ (accept_sound d kinds.Begin) h
 pub repeated_sound : (d n : ℕ) → Sound d (name_at (repeated n))
 repeated_sound d n = name_sound d (repeated n) (role_takes d (Repeats n))
 
-procedure_named_sound : (d : ℕ) (expr block declarations : Reader) → Sound d expr → Sound d block → Sound d declarations → (n : ℕ) → Sound d (procedure_named expr block declarations n)
+procedure_named_sound : (d : ℕ) (expr block declarations : Reader) → Sound d expr → Sound d block → Sound d declarations → (n : ℕ) → SoundBehind d (leafs.Name n) (procedure_named expr block declarations n)
 unfolding procedure_named
 procedure_named_sound d expr block declarations he hb hd n =
-    sound_seq d _ _ (sound_optional d _ _ (accept_sound d kinds.Star) (sound_nothing d))
+    behind_seq d _ _ _ (identdef_after_sound d n)
     (sound_seq d _ _ (some_parameters_sound d) (sound_seq d _ _ (expect_sound d kinds.Semicolon)
     (sound_seq d _ _ hd (sound_seq d _ _ (body_sound d block hb)
     (sound_seq d _ _ (sound_optional d _ _ (accept_sound d kinds.Return) he) (sound_seq d _ _ (expect_sound d kinds.End) (repeated_sound d n)))))))
 
 -- the name of a procedure, and what stands behind it
-pub procedure_name_sound : (d : ℕ) (expr block declarations : Reader) → Sound d expr → Sound d block → Sound d declarations → Sound d (name_then declared (procedure_named expr block declarations))
-procedure_name_sound d expr block declarations he hb hd = sound_name_then d _ _ (role_takes d Declares) (procedure_named_sound d expr block declarations he hb hd)
+pub procedure_name_sound : (d : ℕ) (expr block declarations : Reader) → Sound d expr → Sound d block → Sound d declarations → Sound d (behind_name (procedure_named expr block declarations))
+procedure_name_sound d expr block declarations he hb hd = sound_behind_name d _ (procedure_named_sound d expr block declarations he hb hd)
 
 procedure_with_sound : (d : ℕ) (expr block declarations : Reader) → Sound d expr → Sound d block → Sound d declarations → Sound (suc d) (procedure_with expr block declarations)
 unfolding procedure_with
@@ -76,7 +78,7 @@ declarations_at_sound d = declarations_sound d _ _ _ (expr_at_sound d) (type_at_
 
 pub import_sound : (d : ℕ) → Sound d import_at
 unfolding import_at
-import_sound d = sound_flat d _ _ refl (sound_seq d _ _ (declared_sound d) (sound_optional d _ _ (accept_sound d kinds.Assign) (named_sound d)))
+import_sound d = sound_flat d _ _ refl (sound_seq d _ _ (role_sound d Aliases) (sound_optional d _ _ (accept_sound d kinds.Assign) (role_sound d Imports)))
 
 pub imports_sound : (d : ℕ) → Sound d imports_at
 unfolding imports_at

@@ -7,7 +7,7 @@ use Rattle.ob_tree.specs.Marks.{Out, word}
 use Rattle.ob_parse.specs.Front.{uncons, is_word}
 use Rattle.ob_parse.specs.Forms.{Reader}
 use Rattle.ob_parse.specs.ReadTypes.{section_at, parameters_at, some_parameters_at, var_with, behind_semicolon, next_field, field_start, fields_with, record_with, type_from, type_with, type_at}
-use Rattle.ob_parse.proofs.Sound.{Sound, SoundStart, Takes, TakesIt, some_is, word_takes, sound_nothing, sound_seq, sound_flat, sound_level, sound_optional, sound_many, sound_several, behind_prefixed, expect_sound, accept_sound, begins_sound, unless_sound, limit_sound}
+use Rattle.ob_parse.proofs.Sound.{Sound, SoundStart, Takes, TakesIt, some_is, word_takes, sound_nothing, sound_seq, sound_flat, sound_optional, sound_many, sound_several, behind_level, behind_prefixed, expect_sound, accept_sound, begins_sound, unless_sound, limit_sound}
 use Rattle.ob_parse.proofs.SoundExpressions.{declared_sound, qualident_after_sound, qualident_at_sound, identdef_sound, expr_at_sound}
 
 pub section_sound : (d : ℕ) → Sound d section_at
@@ -58,19 +58,19 @@ record_sound d type h =
     sound_seq d _ _ (sound_optional d _ _ (accept_sound d kinds.LeftParen) (sound_seq d _ _ (qualident_at_sound d) (expect_sound d kinds.RightParen)))
     (sound_seq d _ _ (sound_optional d _ _ (unless_sound d kinds.End) (fields_sound d type h)) (expect_sound d kinds.End))
 
-type_from_sound : (d : ℕ) (expr type : Reader) → Sound d expr → Sound d type → Sound d (λ ls. type_from expr type (uncons ls))
+type_from_sound : (d : ℕ) (expr type : Reader) → Sound d expr → Sound d type → Sound (suc d) (λ ls. type_from expr type (uncons ls))
 type_from_sound d expr type he h [] x e = absurd cc
-type_from_sound d expr type he h (leafs.Name n ∷ rest) x e = qualident_after_sound d n rest x e
+type_from_sound d expr type he h (leafs.Name n ∷ rest) x e = behind_level d _ _ _ refl (qualident_after_sound d n) rest x e
 type_from_sound d expr type he h (leafs.Word kinds.Array ∷ rest) x e =
-    behind_prefixed d _ _ _ (word_takes d kinds.Array) (sound_seq d _ _ (sound_several d kinds.Comma expr he) (sound_seq d _ _ (expect_sound d kinds.Of) h)) rest x e
-type_from_sound d expr type he h (leafs.Word kinds.Record ∷ rest) x e = behind_prefixed d _ _ _ (word_takes d kinds.Record) (record_sound d type h) rest x e
-type_from_sound d expr type he h (leafs.Word kinds.Pointer ∷ rest) x e = behind_prefixed d _ _ _ (word_takes d kinds.Pointer) (sound_seq d _ _ (expect_sound d kinds.To) h) rest x e
-type_from_sound d expr type he h (leafs.Word kinds.Procedure ∷ rest) x e = behind_prefixed d _ _ _ (word_takes d kinds.Procedure) (some_parameters_sound d) rest x e
+    behind_level d _ _ _ refl (behind_prefixed d _ _ _ (word_takes d kinds.Array) (sound_seq d _ _ (sound_several d kinds.Comma expr he) (sound_seq d _ _ (expect_sound d kinds.Of) h))) rest x e
+type_from_sound d expr type he h (leafs.Word kinds.Record ∷ rest) x e = behind_level d _ _ _ refl (behind_prefixed d _ _ _ (word_takes d kinds.Record) (record_sound d type h)) rest x e
+type_from_sound d expr type he h (leafs.Word kinds.Pointer ∷ rest) x e = behind_level d _ _ _ refl (behind_prefixed d _ _ _ (word_takes d kinds.Pointer) (sound_seq d _ _ (expect_sound d kinds.To) h)) rest x e
+type_from_sound d expr type he h (leafs.Word kinds.Procedure ∷ rest) x e = behind_level d _ _ _ refl (behind_prefixed d _ _ _ (word_takes d kinds.Procedure) (some_parameters_sound d)) rest x e
 type_from_sound d expr type he h (l ∷ rest) x e = absurd cc
 
 type_with_sound : (d : ℕ) (expr type : Reader) → Sound d expr → Sound d type → Sound (suc d) (type_with expr type)
 unfolding type_with
-type_with_sound d expr type he h = sound_level d _ _ refl (type_from_sound d expr type he h)
+type_with_sound d expr type he h = type_from_sound d expr type he h
 
 pub type_at_sound : (d : ℕ) → Sound d (type_at d)
 unfolding type_at

@@ -1,5 +1,5 @@
 -- Reading from left to right: the outline of what stands in front, and the tokens after it. The forms that grammars are made of.
-use Rattle.std.specs.Prelude.{ℕ, zero, suc, List, [], ◌++◌, length, Option, Some, None, Result, Ok, Err, Bool, if◌then◌else◌}
+use Rattle.std.specs.Prelude.{ℕ, zero, suc, List, [], ◌∷◌, ◌++◌, length, Option, Some, None, Result, Ok, Err, Bool, true, false, if◌then◌else◌}
 use Rattle.ob_scan.specs.declared.kind.Kind.{Kind}
 use Rattle.ob_tree.specs.declared.token.Leaf.{Leaf}
 use Rattle.ob_tree.specs.declared.token.Leaf.TheVariants as leafs
@@ -95,6 +95,22 @@ abbrev pub prefixed : Out → Reader → Reader
 prefixed ms r ls = do
   a ← r ls
   Ok (ms ++ a.0, a.1)
+
+-- what r reads behind marks that go by it
+abbrev pub led_by : (Out → Out) → Reader → Reader
+led_by ms r ls = do
+  a ← r ls
+  Ok (ms a.0 ++ a.0, a.1)
+
+abbrev pub is_something : Out → Bool
+is_something [] = false
+is_something (m ∷ ms) = true
+
+-- what is read behind an identifier, by its number
+abbrev pub behind_name : (ℕ → Reader) → Reader
+behind_name r ls = do
+  a ← identifier_at ls
+  r a.0 a.1
 
 -- a construct of what r reads
 abbrev pub node : Construct → Reader → Reader

@@ -13,7 +13,7 @@ use Rattle.ob_tree.specs.declared.expression.AddOperator.TheVariants as sums
 use Rattle.ob_tree.specs.declared.expression.MulOperator.{MulOperator}
 use Rattle.ob_tree.specs.declared.expression.MulOperator.TheVariants as products
 use Rattle.ob_tree.specs.Constructs as constructs
-use Rattle.ob_tree.specs.Marks.{Out, Value, word, used, named}
+use Rattle.ob_tree.specs.Marks.{Out, Value, word, used, selected}
 use Rattle.ob_tree.specs.Expressions.{relation_kind, sign_kind, add_kind, mul_kind}
 use Rattle.ob_parse.specs.Front.{uncons}
 use Rattle.ob_parse.specs.Forms.{Unexpected, Read, Reader, Front, Start, expect_at, accept_at, name_at, begins, unless, seq, prefixed, node, optional, many, several, limit_at, nothing}
@@ -124,7 +124,7 @@ element_with expr = node constructs.Element (seq expr (optional (accept_at kinds
 
 -- selector = "." ident | "[" list "]" | "^" | "(" [list] ")"
 abbrev pub selector_from : Reader → Option (Leaf × List Leaf) → Read
-selector_from expr (Some (leafs.Word kinds.Dot, rest)) = prefixed (word kinds.Dot) (name_at named) rest
+selector_from expr (Some (leafs.Word kinds.Dot, rest)) = prefixed (word kinds.Dot) (name_at selected) rest
 selector_from expr (Some (leafs.Word kinds.LeftBracket, rest)) = prefixed (word kinds.LeftBracket) (seq (several kinds.Comma expr) (expect_at kinds.RightBracket)) rest
 selector_from expr (Some (leafs.Word kinds.Caret, rest)) = Ok (word kinds.Caret, rest)
 selector_from expr (Some (leafs.Word kinds.LeftParen, rest)) = prefixed (word kinds.LeftParen) (seq (optional (unless kinds.RightParen) (several kinds.Comma expr)) (expect_at kinds.RightParen)) rest

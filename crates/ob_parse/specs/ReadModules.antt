@@ -5,10 +5,10 @@ use Rattle.ob_scan.specs.declared.kind.Kind.TheVariants as kinds
 use Rattle.ob_tree.specs.declared.token.Leaf.{Leaf}
 use Rattle.ob_tree.specs.declared.token.Leaf.TheVariants as leafs
 use Rattle.ob_tree.specs.Constructs as constructs
-use Rattle.ob_tree.specs.Marks.{Out, declared, named, repeated}
+use Rattle.ob_tree.specs.Marks.{Out, aliased, imported, named, repeated}
 use Rattle.ob_parse.specs.Front.{uncons, is_word}
-use Rattle.ob_parse.specs.Forms.{Refusal, Unexpected, ◌>>=◌, Reader, expect_at, accept_at, name_at, identifier_at, begins, nothing, seq, prefixed, node, optional, many, several, limit_at}
-use Rattle.ob_parse.specs.ReadNames.{identdef_at}
+use Rattle.ob_parse.specs.Forms.{Refusal, Unexpected, ◌>>=◌, Reader, expect_at, accept_at, name_at, identifier_at, behind_name, begins, seq, prefixed, node, optional, many, several, limit_at}
+use Rattle.ob_parse.specs.ReadNames.{identdef_after, identdef_at}
 use Rattle.ob_parse.specs.ReadExpressions.{expr_at}
 use Rattle.ob_parse.specs.ReadStatements.{block_at}
 use Rattle.ob_parse.specs.ReadTypes.{some_parameters_at, var_with, type_at}
@@ -53,7 +53,7 @@ body_with block = optional (accept_at kinds.Begin) block
 
 -- what stands behind PROCEDURE and the name of this number
 unfoldable pub procedure_named : Reader → Reader → Reader → ℕ → Reader
-procedure_named expr block declarations n = seq (optional (accept_at kinds.Star) nothing) (seq some_parameters_at (seq (expect_at kinds.Semicolon) (seq declarations (seq (body_with block) (seq (optional (accept_at kinds.Return) expr) (seq (expect_at kinds.End) (name_at (repeated n))))))))
+procedure_named expr block declarations n = seq (identdef_after n) (seq some_parameters_at (seq (expect_at kinds.Semicolon) (seq declarations (seq (body_with block) (seq (optional (accept_at kinds.Return) expr) (seq (expect_at kinds.End) (name_at (repeated n))))))))
 
 -- an identifier, and what is read behind it
 abbrev pub name_then : (ℕ → Out) → (ℕ → Reader) → Reader
@@ -64,7 +64,7 @@ name_then role r ls = do
 -- ProcedureDeclaration = PROCEDURE identdef [FormalParameters] ";" DeclarationSequence [BEGIN StatementSequence]
 --   [RETURN expression] END ident
 unfoldable pub procedure_with : Reader → Reader → Reader → Reader
-procedure_with expr block declarations = node constructs.ProcedureDeclaration (seq (expect_at kinds.Procedure) (name_then declared (procedure_named expr block declarations)))
+procedure_with expr block declarations = node constructs.ProcedureDeclaration (seq (expect_at kinds.Procedure) (behind_name (procedure_named expr block declarations)))
 
 -- a procedure of at most so many levels, itself one of them
 unfoldable pub procedure_at : ℕ → Reader
@@ -77,7 +77,7 @@ declarations_at d = declarations_with (expr_at d) (type_at d) (procedure_at d)
 
 -- import = ident [":=" ident]
 unfoldable pub import_at : Reader
-import_at = node constructs.Import (seq (name_at declared) (optional (accept_at kinds.Assign) (name_at named)))
+import_at = node constructs.Import (seq (name_at aliased) (optional (accept_at kinds.Assign) (name_at imported)))
 
 -- [IMPORT import {"," import} ";"]
 unfoldable pub imports_at : Reader

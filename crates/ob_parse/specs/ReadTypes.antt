@@ -20,7 +20,7 @@ type_first l = false
 
 -- FPSection = [VAR] ident {"," ident} ":" {ARRAY OF} qualident
 unfoldable pub section_at : Reader
-section_at = node constructs.FPSection (seq (optional (accept_at kinds.Var) nothing) (seq (several kinds.Comma (name_at declared)) (seq (expect_at kinds.Colon) (seq (many (accept_at kinds.Array) (expect_at kinds.Of)) qualident_at))))
+section_at = node constructs.FPSection (seq (optional (accept_at kinds.Var) nothing) (seq (several kinds.Comma (name_at (declared false))) (seq (expect_at kinds.Colon) (seq (many (accept_at kinds.Array) (expect_at kinds.Of)) qualident_at))))
 
 -- FormalParameters = "(" [FPSection {";" FPSection}] ")" [":" qualident]
 unfoldable pub parameters_at : Reader
@@ -56,15 +56,15 @@ record_with type = seq (optional (accept_at kinds.LeftParen) (seq qualident_at (
 
 -- type = qualident | ARRAY expression {"," expression} OF type | RECORD .. END | POINTER TO type | PROCEDURE [FormalParameters]
 abbrev pub type_from : Reader → Reader → Option (Leaf × List Leaf) → Read
-type_from expr type (Some (leafs.Name n, rest)) = qualident_after n rest
-type_from expr type (Some (leafs.Word kinds.Array, rest)) = prefixed (word kinds.Array) (seq (several kinds.Comma expr) (seq (expect_at kinds.Of) type)) rest
-type_from expr type (Some (leafs.Word kinds.Record, rest)) = prefixed (word kinds.Record) (record_with type) rest
-type_from expr type (Some (leafs.Word kinds.Pointer, rest)) = prefixed (word kinds.Pointer) (seq (expect_at kinds.To) type) rest
-type_from expr type (Some (leafs.Word kinds.Procedure, rest)) = prefixed (word kinds.Procedure) some_parameters_at rest
+type_from expr type (Some (leafs.Name n, rest)) = node constructs.NamedType (qualident_after n) rest
+type_from expr type (Some (leafs.Word kinds.Array, rest)) = node constructs.ArrayType (prefixed (word kinds.Array) (seq (several kinds.Comma expr) (seq (expect_at kinds.Of) type))) rest
+type_from expr type (Some (leafs.Word kinds.Record, rest)) = node constructs.RecordType (prefixed (word kinds.Record) (record_with type)) rest
+type_from expr type (Some (leafs.Word kinds.Pointer, rest)) = node constructs.PointerType (prefixed (word kinds.Pointer) (seq (expect_at kinds.To) type)) rest
+type_from expr type (Some (leafs.Word kinds.Procedure, rest)) = node constructs.ProcedureType (prefixed (word kinds.Procedure) some_parameters_at) rest
 type_from expr type o = Err (Unexpected o)
 
 unfoldable pub type_with : Reader → Reader → Reader
-type_with expr type = node constructs.TypeForm (λ ls. type_from expr type (uncons ls))
+type_with expr type ls = type_from expr type (uncons ls)
 
 -- a type of at most so many levels, itself one of them
 unfoldable pub type_at : ℕ → Reader

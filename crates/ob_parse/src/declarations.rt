@@ -243,7 +243,7 @@ fn procedure(
 
 /// A procedure, with at most so many levels in its parts.
 #[cycle(declarations)]
-#[tactic(auto, using(ob_tree::proofs::DeclarationLayers::declaring_made, ob_tree::proofs::NameLayers::names_made), unfolding(crate::specs::ReadModules::procedure_with, crate::specs::ReadModules::procedure_named, crate::specs::Forms::name_at))]
+#[tactic(auto, using(ob_tree::proofs::DeclarationLayers::declaring_made, ob_tree::proofs::NameLayers::names_made, crate::proofs::Stars::star_read), unfolding(crate::specs::ReadModules::procedure_with, crate::specs::ReadModules::procedure_named, crate::specs::ReadNames::identdef_after))]
 fn procedure_within(
     alloc: Global,
     tokens: &[Token],

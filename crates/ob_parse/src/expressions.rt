@@ -416,7 +416,7 @@ fn selector(
 /// The name behind a dot.
 #[tactic(auto, using(ob_tree::proofs::ExpressionLayers::expressions_made), unfolding(crate::specs::Forms::name_at))]
 fn field(tokens: &[Token], input: Cursor) -> Result<(Selector, Cursor), Stop>
-    ensures { Gives tokens.now (λ x. (selector_outline x.0, ahead tokens.now x.1)) result (node constructs.Selector (prefixed (word kinds.Dot) (name_at marks.named)) (ahead tokens.now input)) }
+    ensures { Gives tokens.now (λ x. (selector_outline x.0, ahead tokens.now x.1)) result (node constructs.Selector (prefixed (word kinds.Dot) (name_at marks.selected)) (ahead tokens.now input)) }
 {
     let (field, rest) = identifier(tokens, input)?;
     Ok((Selector::Field(field), rest))

@@ -2,7 +2,7 @@
 
 ghost use Rattle.std.specs.Prelude.{◌≡◌, ◌++◌};
 ghost use Rattle.ob_scan.specs.declared.kind.Kind.TheVariants as kinds;
-ghost use Rattle.ob_tree.specs.Marks.{word, each_after, listed, if_there, named, repeated};
+ghost use Rattle.ob_tree.specs.Marks.{word, each_after, listed, if_there, imported, repeated};
 ghost use Rattle.ob_tree.specs.Statements.{block_outline};
 ghost use Rattle.ob_tree.specs.Declaring.{declarations_outline, import_outline, module_outline};
 ghost use Rattle.ob_parse.specs.Forms.{optional, accept_at, expect_at, name_at, several, many, seq};
@@ -24,7 +24,7 @@ use std::alloc::Global;
 /// The name of a module that is imported under another, behind `:=`.
 #[tactic(auto, unfolding(crate::specs::Forms::name_at))]
 fn renamed(tokens: &[Token], input: Cursor) -> Result<(Option<u32>, Cursor), Stop>
-    ensures { Gives tokens.now (λ x. (if_there (λ m. word kinds.Assign ++ named m) x.0, ahead tokens.now x.1)) result (optional (accept_at kinds.Assign) (name_at named) (ahead tokens.now input)) }
+    ensures { Gives tokens.now (λ x. (if_there (λ m. word kinds.Assign ++ imported m) x.0, ahead tokens.now x.1)) result (optional (accept_at kinds.Assign) (name_at imported) (ahead tokens.now input)) }
 {
     match accept(tokens, input, Kind::Assign) {
         Some(rest) => {

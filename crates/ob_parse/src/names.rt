@@ -44,7 +44,7 @@ pub(crate) fn qualident(tokens: &[Token], input: Cursor) -> Result<(Qualident, C
 }
 
 /// A declaring identifier.
-#[tactic(auto, unfolding(ob_tree::specs::Names::identdef_outline, crate::specs::ReadNames::identdef_at, crate::specs::Forms::name_at))]
+#[tactic(auto, using(crate::proofs::Stars::star_read), unfolding(ob_tree::specs::Names::identdef_outline, crate::specs::ReadNames::identdef_at, crate::specs::ReadNames::identdef_after))]
 pub(crate) fn identdef(tokens: &[Token], input: Cursor) -> Result<(Identdef, Cursor), Stop>
     ensures { Gives tokens.now (λ x. (identdef_outline x.0, ahead tokens.now x.1)) result (readers.identdef_at (ahead tokens.now input)) }
 {

@@ -1,6 +1,6 @@
 //! Formal parameters (Oberon-07 report, section 10.1).
 
-ghost use Rattle.std.specs.Prelude.{◌++◌};
+ghost use Rattle.std.specs.Prelude.{◌++◌, false};
 ghost use Rattle.ob_scan.specs.declared.kind.Kind.TheVariants as kinds;
 ghost use Rattle.ob_tree.specs.Marks.{word, declared, if_there, each_after, listed, times};
 ghost use Rattle.ob_tree.specs.Names.{qualident_outline};
@@ -22,14 +22,14 @@ use std::alloc::Global;
 /// The name of a parameter.
 #[tactic(auto, unfolding(crate::specs::Forms::name_at))]
 fn name(tokens: &[Token], input: Cursor) -> Result<(u32, Cursor), Stop>
-    ensures { Gives tokens.now (λ x. (declared x.0, ahead tokens.now x.1)) result (name_at declared (ahead tokens.now input)) }
+    ensures { Gives tokens.now (λ x. (declared false x.0, ahead tokens.now x.1)) result (name_at (declared false) (ahead tokens.now input)) }
 {
     identifier(tokens, input)
 }
 
 /// The names of parameters behind the first: each after a comma.
 fn more_names(alloc: Global, tokens: &[Token], input: Cursor) -> Result<(Vec<u32>, Cursor), Stop>
-    ensures { Gives tokens.now (λ x. (each_after kinds.Comma declared x.0.items, ahead tokens.now x.1)) result (many (accept_at kinds.Comma) (name_at declared) (ahead tokens.now input)) }
+    ensures { Gives tokens.now (λ x. (each_after kinds.Comma (declared false) x.0.items, ahead tokens.now x.1)) result (many (accept_at kinds.Comma) (name_at (declared false)) (ahead tokens.now input)) }
 {
     let mut rest = Vec::new(alloc);
     let mut here = input;
@@ -42,7 +42,7 @@ fn more_names(alloc: Global, tokens: &[Token], input: Cursor) -> Result<(Vec<u32
 /// The names of parameters.
 #[tactic(auto, unfolding(crate::specs::Forms::several))]
 fn names(alloc: Global, tokens: &[Token], input: Cursor) -> Result<(OneOrMore<u32>, Cursor), Stop>
-    ensures { Gives tokens.now (λ x. (listed kinds.Comma declared x.0, ahead tokens.now x.1)) result (several kinds.Comma (name_at declared) (ahead tokens.now input)) }
+    ensures { Gives tokens.now (λ x. (listed kinds.Comma (declared false) x.0, ahead tokens.now x.1)) result (several kinds.Comma (name_at (declared false)) (ahead tokens.now input)) }
 {
     let (first, here) = name(tokens, input)?;
     let (rest, here) = more_names(alloc, tokens, here)?;

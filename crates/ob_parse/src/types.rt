@@ -212,7 +212,7 @@ fn type_within(
 /// A type by its name, behind the first identifier.
 #[tactic(auto, using(ob_tree::proofs::TypeLayers::types_made))]
 fn named(tokens: &[Token], head: u32, input: Cursor) -> Result<(TypeForm, Cursor), Stop>
-    ensures { Gives tokens.now (λ x. (type_outline x.0, ahead tokens.now x.1)) result (node constructs.TypeForm (names.qualident_after head) (ahead tokens.now input)) }
+    ensures { Gives tokens.now (λ x. (type_outline x.0, ahead tokens.now x.1)) result (node constructs.NamedType (names.qualident_after head) (ahead tokens.now input)) }
 {
     let (name, rest) = qualident_after(tokens, head, input)?;
     Ok((TypeForm::Named(name), rest))
@@ -228,7 +228,7 @@ fn array(
     depth: u32,
 ) -> Result<(TypeForm, Cursor), Stop>
     ensures { Gives tokens.now (λ x. (type_outline x.0, ahead tokens.now x.1)) result
-        (node constructs.TypeForm (prefixed (word kinds.Array) (seq (several kinds.Comma (expr_at depth)) (seq (expect_at kinds.Of) (type_at depth)))) (ahead tokens.now input)) }
+        (node constructs.ArrayType (prefixed (word kinds.Array) (seq (several kinds.Comma (expr_at depth)) (seq (expect_at kinds.Of) (type_at depth)))) (ahead tokens.now input)) }
 {
     let (lengths, rest) = expression_list(alloc, tokens, input, depth)?;
     let rest = expect(tokens, rest, Kind::Of)?;
@@ -246,7 +246,7 @@ fn record(
     depth: u32,
 ) -> Result<(TypeForm, Cursor), Stop>
     ensures { Gives tokens.now (λ x. (type_outline x.0, ahead tokens.now x.1)) result
-        (node constructs.TypeForm (prefixed (word kinds.Record) (record_with (type_at depth))) (ahead tokens.now input)) }
+        (node constructs.RecordType (prefixed (word kinds.Record) (record_with (type_at depth))) (ahead tokens.now input)) }
 {
     let (base, here) = base(tokens, input)?;
     let (fields, here) = some_fields(alloc, tokens, here, depth)?;
@@ -264,7 +264,7 @@ fn pointer(
     depth: u32,
 ) -> Result<(TypeForm, Cursor), Stop>
     ensures { Gives tokens.now (λ x. (type_outline x.0, ahead tokens.now x.1)) result
-        (node constructs.TypeForm (prefixed (word kinds.Pointer) (seq (expect_at kinds.To) (type_at depth))) (ahead tokens.now input)) }
+        (node constructs.PointerType (prefixed (word kinds.Pointer) (seq (expect_at kinds.To) (type_at depth))) (ahead tokens.now input)) }
 {
     let rest = expect(tokens, input, Kind::To)?;
     let (to, rest) = type_form(alloc, tokens, rest, depth)?;
@@ -275,7 +275,7 @@ fn pointer(
 #[tactic(auto, using(ob_tree::proofs::TypeLayers::types_made))]
 fn procedure(alloc: Global, tokens: &[Token], input: Cursor) -> Result<(TypeForm, Cursor), Stop>
     ensures { Gives tokens.now (λ x. (type_outline x.0, ahead tokens.now x.1)) result
-        (node constructs.TypeForm (prefixed (word kinds.Procedure) some_parameters_at) (ahead tokens.now input)) }
+        (node constructs.ProcedureType (prefixed (word kinds.Procedure) some_parameters_at) (ahead tokens.now input)) }
 {
     let (parameters, rest) = some_parameters(alloc, tokens, input)?;
     Ok((TypeForm::ProcOf(parameters), rest))

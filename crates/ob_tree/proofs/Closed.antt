@@ -4,7 +4,7 @@ use Rattle.ob_scan.specs.declared.kind.Kind.{Kind}
 use Rattle.ob_tree.specs.Constructs.{Construct}
 use Rattle.ob_tree.specs.declared.expression.Literal.{Literal}
 use Rattle.ob_tree.specs.declared.name.OneOrMore.{OneOrMore}
-use Rattle.ob_tree.specs.Marks.{Out, Value, construct, word, used, named, if_there, if_so, each, listed, times}
+use Rattle.ob_tree.specs.Marks.{Out, Value, construct, word, used, completed, selected, if_there, if_so, each, listed, times}
 
 -- it holds of nothing, of one after the other, of a token that neither declares nor repeats a name, and of a construct
 pub record IsClosed (P : Out → Type 0) : Type 0 where
@@ -13,7 +13,8 @@ pub record IsClosed (P : Out → Type 0) : Type 0 where
   pub a_word : (k : Kind) → P (word k)
   pub a_value : (k : Literal) (n : ℕ) → P (Value k n ∷ [])
   pub a_use : (n : ℕ) → P (used n)
-  pub a_name : (n : ℕ) → P (named n)
+  pub a_completion : (n : ℕ) → P (completed n)
+  pub a_selection : (n : ℕ) → P (selected n)
   pub held : (c : Construct) (o : Out) → P o → P (construct c o)
 
 -- a part with the fact that it holds of it

@@ -119,7 +119,7 @@ module _ (P : Out → Type 0) (closed : IsClosed P) where
   factor_held (layers.Not f) = closed-both P closed (closed.a_word kinds.Tilde) (closed-construct P closed constructs.Negated f.value.1)
 
   selector_held : (y : WithSelector) → P (selector_shown (selector_of y))
-  selector_held (layers.Field n) = closed-both P closed (closed.a_word kinds.Dot) (closed.a_name n)
+  selector_held (layers.Field n) = closed-both P closed (closed.a_word kinds.Dot) (closed.a_selection n)
   selector_held (layers.Index l) = closed-both P closed (closed.a_word kinds.LeftBracket) (closed-both P closed l.value.1 (closed.a_word kinds.RightBracket))
   selector_held layers.Target = closed.a_word kinds.Caret
   selector_held (layers.Arguments None) = closed-both P closed (closed.a_word kinds.LeftParen) (closed.a_word kinds.RightParen)

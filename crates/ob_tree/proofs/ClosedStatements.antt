@@ -17,7 +17,7 @@ use Rattle.ob_tree.specs.declared.statement.Block.{Block, Block-F, roll-Block, o
 use Rattle.ob_tree.specs.declared.statement.Branch.{Branch, Branch-F, roll-Branch, out-roll-Branch, map-Branch}
 use Rattle.ob_tree.specs.declared.statement.For.{For, For-F, roll-For, out-roll-For, map-For}
 use Rattle.ob_tree.specs.Constructs as constructs
-use Rattle.ob_tree.specs.Marks.{Out, construct, word, named, if_there}
+use Rattle.ob_tree.specs.Marks.{Out, construct, word, completed, if_there}
 use Rattle.ob_tree.specs.Names.{qualident_outline}
 use Rattle.ob_tree.specs.Expressions.{expr_outline}
 use Rattle.ob_tree.specs.Statements.{label_outline, label_range_outline, case_outline, stmt_outline, block_outline, branch_outline, for_outline}
@@ -30,7 +30,7 @@ module _ (P : Out → Type 0) (closed : IsClosed P) where
 
   pub closed-qualident : (q : Qualident) → P (qualident_outline q)
   unfolding qualident_outline
-  closed-qualident q = closed-both P closed (closed.a_use q.head) (closed-there P closed (λ m. word kinds.Dot ++ named m) q.member (λ m. closed-both P closed (closed.a_word kinds.Dot) (closed.a_name m)))
+  closed-qualident q = closed-both P closed (closed.a_use q.head) (closed-there P closed (λ m. word kinds.Dot ++ completed m) q.member (λ m. closed-both P closed (closed.a_word kinds.Dot) (closed.a_completion m)))
 
   label_held : (l : Label) → P (label_outline l)
   unfolding label_outline

@@ -1,5 +1,5 @@
 -- What holds of an outline by its marks, those of declared names too, holds of types.
-use Rattle.std.proofs.Common.{◌≡◌, ℕ, ◌++◌, Option, Some, None, sym, ap, ◌∙◌, subst}
+use Rattle.std.proofs.Common.{◌≡◌, ℕ, Bool, false, ◌++◌, Option, Some, None, sym, ap, ◌∙◌, subst}
 use Rattle.std.specs.declared.boxed.Box.{Box}
 use Rattle.std.specs.declared.alloc.Global.{Global}
 use Rattle.ob_scan.specs.declared.kind.Kind.TheVariants as kinds
@@ -21,16 +21,16 @@ use Rattle.ob_tree.proofs.Closed.{IsClosed, With, closed-both, closed-construct,
 use Rattle.ob_tree.proofs.ClosedExpressions.{closed-expr_list}
 use Rattle.ob_tree.proofs.ClosedStatements.{closed-qualident}
 
-module _ (P : Out → Type 0) (closed : IsClosed P) (declares : (n : ℕ) → P (declared n)) where
+module _ (P : Out → Type 0) (closed : IsClosed P) (declares : (starred : Bool) (n : ℕ) → P (declared starred n)) where
   -- ---- parameters
 
   pub closed-identdef : (i : Identdef) → P (identdef_outline i)
   unfolding identdef_outline
-  closed-identdef i = closed-both P closed (declares i.name) (closed-so P closed i.starred (closed.a_word kinds.Star))
+  closed-identdef i = closed-both P closed (declares i.starred i.name) (closed-so P closed i.starred (closed.a_word kinds.Star))
 
   section_held : (s : ParameterSection) → P (section_outline s)
   unfolding section_outline
-  section_held s = closed-construct P closed constructs.FPSection (closed-both P closed (closed-so P closed s.variable (closed.a_word kinds.Var)) (closed-both P closed (closed-listed P closed kinds.Comma declared s.names declares)
+  section_held s = closed-construct P closed constructs.FPSection (closed-both P closed (closed-so P closed s.variable (closed.a_word kinds.Var)) (closed-both P closed (closed-listed P closed kinds.Comma (declared false) s.names (declares false))
       (closed-both P closed (closed.a_word kinds.Colon) (closed-both P closed (closed-times P closed s.open_arrays (closed-both P closed (closed.a_word kinds.Array) (closed.a_word kinds.Of))) (closed-qualident P closed s.of)))))
 
   pub closed-parameters : (p : Parameters) → P (parameters_outline p)
@@ -84,11 +84,11 @@ module _ (P : Out → Type 0) (closed : IsClosed P) (declares : (n : ℕ) → P 
   fields_there (Some f) = f.value.1
 
   type_held : (y : WithTypeForm) → P (type_shown (type_of y))
-  type_held (layers.Named q) = closed-qualident P closed q
-  type_held (layers.ArrayOf lengths of) = closed-both P closed (closed.a_word kinds.Array) (closed-both P closed (closed-expr_list P closed lengths.value) (closed-both P closed (closed.a_word kinds.Of) of.value.1))
-  type_held (layers.RecordOf r) = r.1
-  type_held (layers.PointerTo t) = closed-both P closed (closed.a_word kinds.Pointer) (closed-both P closed (closed.a_word kinds.To) t.value.1)
-  type_held (layers.ProcOf p) = closed-both P closed (closed.a_word kinds.Procedure) (closed-there P closed parameters_outline p closed-parameters)
+  type_held (layers.Named q) = closed-construct P closed constructs.NamedType (closed-qualident P closed q)
+  type_held (layers.ArrayOf lengths of) = closed-construct P closed constructs.ArrayType (closed-both P closed (closed.a_word kinds.Array) (closed-both P closed (closed-expr_list P closed lengths.value) (closed-both P closed (closed.a_word kinds.Of) of.value.1)))
+  type_held (layers.RecordOf r) = closed-construct P closed constructs.RecordType r.1
+  type_held (layers.PointerTo t) = closed-construct P closed constructs.PointerType (closed-both P closed (closed.a_word kinds.Pointer) (closed-both P closed (closed.a_word kinds.To) t.value.1))
+  type_held (layers.ProcOf p) = closed-construct P closed constructs.ProcedureType (closed-both P closed (closed.a_word kinds.Procedure) (closed-there P closed parameters_outline p closed-parameters))
 
   fields_held : (y : WithFields) → P (fields_shown (fields_of y))
   fields_held y =
@@ -108,7 +108,7 @@ module _ (P : Out → Type 0) (closed : IsClosed P) (declares : (n : ℕ) → P 
   -- ---- layer by layer
 
   type_step : (x : TypeForm-F TypeForm Fields Record VarDecl) (y : WithTypeForm) → type_of y ≡ x → HeldTypeForm (roll-TypeForm x)
-  type_step x y is = subst P (sym (type_out (roll-TypeForm x) ∙ ap (λ (z : TypeForm-F TypeForm Fields Record VarDecl). construct constructs.TypeForm (type_shown z)) (out-roll-TypeForm x ∙ sym is))) (closed-construct P closed constructs.TypeForm (type_held y))
+  type_step x y is = subst P (sym (type_out (roll-TypeForm x) ∙ ap (λ (z : TypeForm-F TypeForm Fields Record VarDecl). type_shown z) (out-roll-TypeForm x ∙ sym is))) (type_held y)
 
   fields_step : (x : Fields-F TypeForm Fields Record VarDecl) (y : WithFields) → fields_of y ≡ x → HeldFields (roll-Fields x)
   fields_step x y is = subst P (sym (fields_out (roll-Fields x) ∙ ap (λ (z : Fields-F TypeForm Fields Record VarDecl). fields_shown z) (out-roll-Fields x ∙ sym is))) (fields_held y)

@@ -9,7 +9,7 @@ use Rattle.ob_tree.specs.declared.declaration.Module.{Module}
 use Rattle.ob_tree.specs.declared.declaration.Declarations.{Declarations, Declarations-F, fold_out-Declarations, roll-Declarations, out-Declarations, out-roll-Declarations}
 use Rattle.ob_tree.specs.declared.declaration.ProcDecl.{ProcDecl, ProcDecl-F, fold_out-ProcDecl, roll-ProcDecl, out-ProcDecl, out-roll-ProcDecl}
 use Rattle.ob_tree.specs.Constructs as constructs
-use Rattle.ob_tree.specs.Marks.{Out, construct, word, declared, named, repeated, if_there, each, listed}
+use Rattle.ob_tree.specs.Marks.{Out, construct, word, aliased, imported, named, repeated, if_there, each, listed}
 use Rattle.ob_tree.specs.Names.{identdef_outline}
 use Rattle.ob_tree.specs.Expressions.{expr_outline}
 use Rattle.ob_tree.specs.Statements.{block_outline}
@@ -32,7 +32,7 @@ unfolding variable_outline
 variable_out v = refl
 
 pub import_out : (i : ImportItem) →
-    import_outline i ≡ construct constructs.Import (declared i.name ++ if_there (λ m. word kinds.Assign ++ named m) i.of)
+    import_outline i ≡ construct constructs.Import (aliased i.name ++ if_there (λ m. word kinds.Assign ++ imported m) i.of)
 unfolding import_outline
 import_out i = refl
 

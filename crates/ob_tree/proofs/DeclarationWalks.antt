@@ -2,6 +2,7 @@
 use Rattle.std.proofs.Common.{◌≡◌, [], ◌∷◌, ◌++◌, append_assoc}
 use Rattle.ob_scan.specs.declared.kind.Kind.TheVariants as kinds
 use Rattle.ob_tree.specs.declared.item.Item.TheVariants as items
+use Rattle.ob_tree.specs.declared.role.Role.TheVariants as roles
 use Rattle.ob_tree.specs.declared.declaration.ConstDecl.{ConstDecl}
 use Rattle.ob_tree.specs.declared.declaration.TypeDecl.{TypeDecl}
 use Rattle.ob_tree.specs.declared.declaration.VarDecl.{VarDecl}
@@ -9,7 +10,7 @@ use Rattle.ob_tree.specs.declared.declaration.ImportItem.{ImportItem}
 use Rattle.ob_tree.specs.declared.declaration.Module.{Module}
 use Rattle.ob_tree.specs.declared.declaration.Declarations.{Declarations, out-Declarations}
 use Rattle.ob_tree.specs.declared.declaration.ProcDecl.{ProcDecl, out-ProcDecl}
-use Rattle.ob_tree.specs.Marks.{word, named, if_there, each, listed}
+use Rattle.ob_tree.specs.Marks.{word, imported, if_there, each, listed}
 use Rattle.ob_tree.specs.Items.{items_of}
 use Rattle.ob_tree.specs.Names.{identdef_outline}
 use Rattle.ob_tree.specs.Expressions.{expr_outline}
@@ -31,14 +32,14 @@ pub variable_items : (v : VarDecl) → items_of (variable_outline v) ≡ items_o
 variable_items v = simp (variable_out v, items-construct)
 
 pub import_items : (i : ImportItem) → items_of (import_outline i) ≡
-    items.Declared i.name ∷ items_of (if_there (λ m. word kinds.Assign ++ named m) i.of)
+    items.Identifier roles.Aliases i.name ∷ items_of (if_there (λ m. word kinds.Assign ++ imported m) i.of)
 import_items i = simp (import_out i, items-construct)
 
 pub module_items : (m : Module) → items_of (module_outline m) ≡
-    items.Word ∷ (items.Other m.name ∷ (items.Word ∷
+    items.Word ∷ (items.Identifier roles.Names m.name ∷ (items.Word ∷
     (items_of (if_there (λ l. word kinds.Import ++ (listed kinds.Comma import_outline l ++ word kinds.Semicolon)) m.imports) ++
     (items_of (declarations_outline m.declarations) ++ (items_of (if_there (λ b. word kinds.Begin ++ block_outline b) m.body) ++
-    (items.Word ∷ (items.Other m.end_name ∷ (items.Word ∷ []))))))))
+    (items.Word ∷ (items.Identifier (roles.Repeats m.name) m.end_name ∷ (items.Word ∷ []))))))))
 module_items m = simp (module_out m, items-construct, items-append)
 
 pub declarations_items : (d : Declarations) → items_of (declarations_outline d) ≡
@@ -52,7 +53,7 @@ pub procedure_items : (p : ProcDecl) → items_of (procedure_outline p) ≡
     items.Word ∷ (items_of (identdef_outline (out-ProcDecl p).name) ++ (items_of (if_there parameters_outline (out-ProcDecl p).parameters) ++ (items.Word ∷
     (items_of (declarations_outline (out-ProcDecl p).declarations) ++ (items_of (if_there (λ b. word kinds.Begin ++ block_outline b.value) (out-ProcDecl p).body) ++
     (items_of (if_there (λ e. word kinds.Return ++ expr_outline e.value) (out-ProcDecl p).returned) ++
-    (items.Word ∷ (items.Other (out-ProcDecl p).end_name ∷ []))))))))
+    (items.Word ∷ (items.Identifier (roles.Repeats (out-ProcDecl p).name.name) (out-ProcDecl p).end_name ∷ []))))))))
 procedure_items p = simp (procedure_out p, items-construct, items-append, append_assoc)
 
 pub ruleset section_walks = (walks, items-append, const_items, type_decl_items, variable_items)

@@ -1,5 +1,5 @@
 -- The identifiers that are declared stand in declarations and types alone.
-use Rattle.std.proofs.Common.{◌≡◌, ℕ, List, [], ◌∷◌, ◌++◌, Option, refl, ap, ◌∙◌, append_assoc}
+use Rattle.std.proofs.Common.{◌≡◌, ℕ, false, List, [], ◌∷◌, ◌++◌, Option, refl, ap, ◌∙◌, append_assoc}
 use Rattle.std.specs.declared.boxed.Box.{Box}
 use Rattle.std.specs.declared.alloc.Global.{Global}
 use Rattle.std.proofs.lemmas.List.{append-nil, take_all}
@@ -23,7 +23,8 @@ use Rattle.ob_tree.specs.declared.declaration.ImportItem.{ImportItem}
 use Rattle.ob_tree.specs.declared.declaration.Module.{Module}
 use Rattle.ob_tree.specs.declared.declaration.Declarations.{Declarations, out-Declarations}
 use Rattle.ob_tree.specs.declared.declaration.ProcDecl.{ProcDecl, out-ProcDecl}
-use Rattle.ob_tree.specs.Marks.{Out, Mark, Begins, Ends, Identifier, Value, Word, Declares, Uses, Names, Repeats, construct, word, named, declared, if_there, each, each_after, listed}
+use Rattle.ob_tree.specs.declared.role.Role.TheVariants.{Declares, Aliases, Imports, Uses, Completes, Selects, Names, Repeats}
+use Rattle.ob_tree.specs.Marks.{Out, Mark, Begins, Ends, Identifier, Value, Word, construct, word, declared, aliased, imported, if_there, each, each_after, listed}
 use Rattle.ob_tree.specs.Names.{qualident_outline, identdef_outline}
 use Rattle.ob_tree.specs.Expressions.{expr_outline}
 use Rattle.ob_tree.specs.Statements.{block_outline}
@@ -40,8 +41,12 @@ use Rattle.ob_tree.proofs.Gathers.{Gathers, Without, without, gathered-append, g
 one_more : (m : Mark) (ms : Out) → declared_in (m ∷ ms) ≡ declared_in (m ∷ []) ++ declared_in ms
 one_more (Begins c n) ms = refl
 one_more (Ends c) ms = refl
-one_more (Identifier Declares n) ms = refl
+one_more (Identifier (Declares starred) n) ms = refl
+one_more (Identifier Aliases n) ms = refl
+one_more (Identifier Imports n) ms = refl
 one_more (Identifier Uses n) ms = refl
+one_more (Identifier Completes n) ms = refl
+one_more (Identifier Selects n) ms = refl
 one_more (Identifier Names n) ms = refl
 one_more (Identifier (Repeats m) n) ms = refl
 one_more (Value k n) ms = refl
@@ -56,7 +61,8 @@ gathers = record {
   of_word = λ k. refl;
   of_value = λ k n. refl;
   of_use = λ n. refl;
-  of_name = λ n. refl;
+  of_completion = λ n. refl;
+  of_selection = λ n. refl;
 }
 
 -- no declared identifier is in it
@@ -87,9 +93,9 @@ before = gathered-before declared_in gathers
 
 pub identdef_names : (i : Identdef) → declared_in (identdef_outline i) ≡ i.name ∷ []
 unfolding identdef_outline
-identdef_names i = before (declared i.name) _ (closed-so NoName no_name i.starred (no_name.a_word kinds.Star))
+identdef_names i = before (declared i.starred i.name) _ (closed-so NoName no_name i.starred (no_name.a_word kinds.Star))
 
-listed_numbers : (ns : List ℕ) → declared_in (each_after kinds.Comma declared ns) ≡ ns
+listed_numbers : (ns : List ℕ) → declared_in (each_after kinds.Comma (declared false) ns) ≡ ns
 listed_numbers [] = refl
 listed_numbers (n ∷ ns) = ap (λ (ms : List ℕ). n ∷ ms) (listed_numbers ns)
 
@@ -98,7 +104,7 @@ unfolding section_outline
 section_names s =
     declared-construct constructs.FPSection _
     ∙ past _ _ (closed-so NoName no_name s.variable (no_name.a_word kinds.Var))
-    ∙ before (listed kinds.Comma declared s.names) _ (closed-both NoName no_name (no_name.a_word kinds.Colon) (closed-both NoName no_name
+    ∙ before (listed kinds.Comma (declared false) s.names) _ (closed-both NoName no_name (no_name.a_word kinds.Colon) (closed-both NoName no_name
     (closed-times NoName no_name s.open_arrays (closed-both NoName no_name (no_name.a_word kinds.Array) (no_name.a_word kinds.Of))) (closed-qualident NoName no_name s.of)))
     ∙ ap (λ (ns : List ℕ). s.names.first ∷ ns) (listed_numbers s.names.rest.items)
 
@@ -128,19 +134,19 @@ pub var_names : (v : VarDecl) → declared_in (var_outline v) ≡ declared_in (l
 var_names v = ap declared_in (var_out v) ∙ declared-append (listed kinds.Comma identdef_outline (out-VarDecl v).names) _
 
 pub named_names : (q : Qualident) → declared_in (type_outline (forms.Named q)) ≡ []
-named_names q = ap declared_in (named_made q) ∙ declared-construct constructs.TypeForm _ ∙ (closed-qualident NoName no_name q).none
+named_names q = ap declared_in (named_made q) ∙ declared-construct constructs.NamedType _ ∙ (closed-qualident NoName no_name q).none
 
 pub array_names : (l : Box ExprList Global) (t : Box TypeForm Global) → declared_in (type_outline (forms.ArrayOf l t)) ≡ declared_in (type_outline t.value)
-array_names l t = ap declared_in (array_made l t) ∙ declared-construct constructs.TypeForm _ ∙ past _ _ (closed-expr_list NoName no_name l.value)
+array_names l t = ap declared_in (array_made l t) ∙ declared-construct constructs.ArrayType _ ∙ past _ _ (closed-expr_list NoName no_name l.value)
 
 pub record_of_names : (r : Record) → declared_in (type_outline (forms.RecordOf r)) ≡ declared_in (record_outline r)
-record_of_names r = ap declared_in (record_of_made r) ∙ declared-construct constructs.TypeForm _
+record_of_names r = ap declared_in (record_of_made r) ∙ declared-construct constructs.RecordType _
 
 pub pointer_names : (t : Box TypeForm Global) → declared_in (type_outline (forms.PointerTo t)) ≡ declared_in (type_outline t.value)
-pointer_names t = ap declared_in (pointer_made t) ∙ declared-construct constructs.TypeForm _
+pointer_names t = ap declared_in (pointer_made t) ∙ declared-construct constructs.PointerType _
 
 pub procedure_type_names : (p : Option Parameters) → declared_in (type_outline (forms.ProcOf p)) ≡ declared_in (if_there parameters_outline p)
-procedure_type_names p = ap declared_in (procedure_type_made p) ∙ declared-construct constructs.TypeForm _
+procedure_type_names p = ap declared_in (procedure_type_made p) ∙ declared-construct constructs.ProcedureType _
 
 -- ---- declarations and modules
 
@@ -162,7 +168,7 @@ pub import_names : (i : ImportItem) → declared_in (import_outline i) ≡ i.nam
 unfolding import_outline
 import_names i =
     declared-construct constructs.Import _
-    ∙ before (declared i.name) _ (closed-there NoName no_name (λ m. word kinds.Assign ++ named m) i.of (λ m. closed-both NoName no_name (no_name.a_word kinds.Assign) (no_name.a_name m)))
+    ∙ before (aliased i.name) _ (closed-there NoName no_name (λ m. word kinds.Assign ++ imported m) i.of (λ m. closed-both NoName no_name (no_name.a_word kinds.Assign) (record { none = refl })))
 
 pub declarations_names : (d : Declarations) → declared_in (declarations_outline d) ≡
     declared_in (if_there (λ v. part kinds.Const const_outline v.items) (out-Declarations d).constants) ++

@@ -1,5 +1,5 @@
 -- The names after END stand in declarations of procedures and modules alone.
-use Rattle.std.proofs.Common.{◌≡◌, ℕ, List, [], ◌∷◌, ◌++◌, refl, ap, ◌∙◌, append_assoc}
+use Rattle.std.proofs.Common.{◌≡◌, ℕ, Bool, List, [], ◌∷◌, ◌++◌, refl, ap, ◌∙◌, append_assoc}
 use Rattle.std.proofs.lemmas.List.{append-nil, take_all}
 use Rattle.std.proofs.lemmas.Grind.{take_at_read}
 use Rattle.ob_scan.specs.declared.kind.Kind.{Kind}
@@ -13,7 +13,8 @@ use Rattle.ob_tree.specs.declared.declaration.ImportItem.{ImportItem}
 use Rattle.ob_tree.specs.declared.declaration.Module.{Module}
 use Rattle.ob_tree.specs.declared.declaration.Declarations.{Declarations, out-Declarations}
 use Rattle.ob_tree.specs.declared.declaration.ProcDecl.{ProcDecl, out-ProcDecl}
-use Rattle.ob_tree.specs.Marks.{Out, Mark, Begins, Ends, Identifier, Value, Word, Declares, Uses, Names, Repeats, word, named, declared, each, listed}
+use Rattle.ob_tree.specs.declared.role.Role.TheVariants.{Declares, Aliases, Imports, Uses, Completes, Selects, Names, Repeats}
+use Rattle.ob_tree.specs.Marks.{Out, Mark, Begins, Ends, Identifier, Value, Word, word, declared, aliased, imported, each, listed}
 use Rattle.ob_tree.specs.Expressions.{expr_outline}
 use Rattle.ob_tree.specs.Statements.{block_outline}
 use Rattle.ob_tree.specs.Types.{parameters_outline}
@@ -29,8 +30,12 @@ use Rattle.ob_tree.proofs.ClosedTypes.{closed-identdef, closed-parameters, close
 one_more : (m : Mark) (ms : Out) → endings_in (m ∷ ms) ≡ endings_in (m ∷ []) ++ endings_in ms
 one_more (Begins c n) ms = refl
 one_more (Ends c) ms = refl
-one_more (Identifier Declares n) ms = refl
+one_more (Identifier (Declares starred) n) ms = refl
+one_more (Identifier Aliases n) ms = refl
+one_more (Identifier Imports n) ms = refl
 one_more (Identifier Uses n) ms = refl
+one_more (Identifier Completes n) ms = refl
+one_more (Identifier Selects n) ms = refl
 one_more (Identifier Names n) ms = refl
 one_more (Identifier (Repeats m) n) ms = refl
 one_more (Value k n) ms = refl
@@ -45,7 +50,8 @@ gathers = record {
   of_word = λ k. refl;
   of_value = λ k n. refl;
   of_use = λ n. refl;
-  of_name = λ n. refl;
+  of_completion = λ n. refl;
+  of_selection = λ n. refl;
 }
 
 -- ---- what has none
@@ -57,8 +63,14 @@ NoEnd = Without endings_in
 no_end : IsClosed NoEnd
 no_end = without endings_in gathers
 
-declares : (n : ℕ) → NoEnd (declared n)
-declares n = record { none = refl }
+declares : (starred : Bool) (n : ℕ) → NoEnd (declared starred n)
+declares starred n = record { none = refl }
+
+aliases : (n : ℕ) → NoEnd (aliased n)
+aliases n = record { none = refl }
+
+imports : (n : ℕ) → NoEnd (imported n)
+imports n = record { none = refl }
 
 const_none : (c : ConstDecl) → NoEnd (const_outline c)
 unfolding const_outline
@@ -75,8 +87,8 @@ variable_none v = closed-construct NoEnd no_end constructs.VariableDeclaration (
 import_none : (i : ImportItem) → NoEnd (import_outline i)
 unfolding import_outline
 import_none i =
-    closed-construct NoEnd no_end constructs.Import (closed-both NoEnd no_end (declares i.name)
-    (closed-there NoEnd no_end (λ m. word kinds.Assign ++ named m) i.of (λ m. closed-both NoEnd no_end (no_end.a_word kinds.Assign) (no_end.a_name m))))
+    closed-construct NoEnd no_end constructs.Import (closed-both NoEnd no_end (aliases i.name)
+    (closed-there NoEnd no_end (λ m. word kinds.Assign ++ imported m) i.of (λ m. closed-both NoEnd no_end (no_end.a_word kinds.Assign) (imports m))))
 
 part_none : {X : Type 0} (k : Kind) (f : X → Out) (xs : List X) → ((x : X) → NoEnd (f x)) → NoEnd (part k f xs)
 part_none k f xs w = closed-both NoEnd no_end (no_end.a_word k) (closed-each NoEnd no_end (λ x. f x ++ word kinds.Semicolon) xs (λ x. closed-both NoEnd no_end (w x) (no_end.a_word kinds.Semicolon)))

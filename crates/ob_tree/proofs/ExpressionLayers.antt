@@ -21,7 +21,7 @@ use Rattle.ob_tree.specs.declared.expression.ExprList.{ExprList, ExprList-F, fol
 use Rattle.ob_tree.specs.declared.expression.Sum.{Sum, Sum-F, fold_out-Sum, roll-Sum, out-Sum, out-roll-Sum}
 use Rattle.ob_tree.specs.declared.expression.Term.{Term, fold_out-Term}
 use Rattle.ob_tree.specs.Constructs as constructs
-use Rattle.ob_tree.specs.Marks.{Out, Value, construct, word, used, named, if_there, each, each_after}
+use Rattle.ob_tree.specs.Marks.{Out, Value, construct, word, used, selected, if_there, each, each_after}
 use Rattle.ob_tree.specs.Expressions.{relation_kind, sign_kind, add_kind, mul_kind, factor_outline, selector_outline, designator_outline, element_outline, element_list_outline, expr_outline, expr_list_outline, sum_outline, term_outline, factor_step, selector_step, designator_step, element_step, element_list_step, expr_step, expr_list_step, sum_step, term_step}
 use Rattle.ob_tree.proofs.Eaches.{each-map}
 
@@ -50,7 +50,7 @@ factor_shown (layers.Group e) = word kinds.LeftParen ++ (expr_outline e.value ++
 factor_shown (layers.Not f) = word kinds.Tilde ++ construct constructs.Negated (factor_outline f.value)
 
 abbrev pub selector_shown : Selector-F Factor Selector Designator Element ElementList Expr ExprList Sum Term → Out
-selector_shown (layers.Field n) = word kinds.Dot ++ named n
+selector_shown (layers.Field n) = word kinds.Dot ++ selected n
 selector_shown (layers.Index list) = word kinds.LeftBracket ++ (expr_list_outline list.value ++ word kinds.RightBracket)
 selector_shown layers.Target = word kinds.Caret
 selector_shown (layers.Arguments list) = word kinds.LeftParen ++ (if_there (λ l. expr_list_outline l.value) list ++ word kinds.RightParen)
@@ -214,7 +214,7 @@ selector_of : (s : Selector) (x : Selector-F Factor Selector Designator Element 
     selector_outline s ≡ construct constructs.Selector (selector_shown x)
 selector_of s x e = selector_out s ∙ ap (λ y. construct constructs.Selector (selector_shown y)) e
 
-pub field_made : (n : ℕ) → selector_outline (selectors.Field n) ≡ construct constructs.Selector (word kinds.Dot ++ named n)
+pub field_made : (n : ℕ) → selector_outline (selectors.Field n) ≡ construct constructs.Selector (word kinds.Dot ++ selected n)
 field_made n = selector_of _ _ (selectors.outs-Field n)
 
 pub index_made : (b : Box ExprList Global) →

@@ -4,6 +4,7 @@ use Rattle.std.specs.declared.boxed.Box.{Box}
 use Rattle.std.specs.declared.alloc.Global.{Global}
 use Rattle.ob_scan.specs.declared.kind.Kind.TheVariants as kinds
 use Rattle.ob_tree.specs.declared.item.Item.TheVariants as items
+use Rattle.ob_tree.specs.declared.role.Role.TheVariants as roles
 use Rattle.ob_tree.specs.declared.expression.Literal.{Literal}
 use Rattle.ob_tree.specs.declared.expression.Factor.{Factor}
 use Rattle.ob_tree.specs.declared.expression.Factor.TheVariants as factors
@@ -45,10 +46,10 @@ pub expr_list_items : (l : ExprList) → items_of (expr_list_outline l) ≡
     items_of (expr_outline (out-ExprList l).first) ++ items_of (each_after kinds.Comma expr_outline (out-ExprList l).rest.items)
 expr_list_items l = rw (expr_list_out l, items-append) refl
 
-pub designator_items : (d : Designator) → items_of (designator_outline d) ≡ items.Used d.head ∷ items_of (each selector_outline d.selectors.items)
+pub designator_items : (d : Designator) → items_of (designator_outline d) ≡ items.Identifier roles.Uses d.head ∷ items_of (each selector_outline d.selectors.items)
 designator_items d = rw (designator_out d, items-construct) refl
 
-pub value_items : (k : Literal) (n : ℕ) → items_of (factor_outline (factors.Value k n)) ≡ items.Other n ∷ []
+pub value_items : (k : Literal) (n : ℕ) → items_of (factor_outline (factors.Value k n)) ≡ items.Value n ∷ []
 value_items k n = rw (value_made k n, items-construct) refl
 
 pub nil_items : items_of (factor_outline factors.Nil) ≡ items.Word ∷ []
@@ -74,7 +75,7 @@ group_items b = simp (group_made b, items-construct, items-append)
 pub not_items : (b : Box Factor Global) → items_of (factor_outline (factors.Not b)) ≡ items.Word ∷ items_of (factor_outline b.value)
 not_items b = simp (not_made b, items-construct)
 
-pub field_items : (n : ℕ) → items_of (selector_outline (selectors.Field n)) ≡ items.Word ∷ items.Other n ∷ []
+pub field_items : (n : ℕ) → items_of (selector_outline (selectors.Field n)) ≡ items.Word ∷ items.Identifier roles.Selects n ∷ []
 field_items n = rw (field_made n, items-construct) refl
 
 pub index_items : (b : Box ExprList Global) →

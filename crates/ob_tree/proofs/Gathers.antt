@@ -4,7 +4,7 @@ use Rattle.std.proofs.lemmas.List.{append-nil}
 use Rattle.ob_scan.specs.declared.kind.Kind.{Kind}
 use Rattle.ob_tree.specs.Constructs.{Construct}
 use Rattle.ob_tree.specs.declared.expression.Literal.{Literal}
-use Rattle.ob_tree.specs.Marks.{Out, Mark, Begins, Ends, Value, construct, word, used, named, each}
+use Rattle.ob_tree.specs.Marks.{Out, Mark, Begins, Ends, Value, construct, word, used, completed, selected, each}
 use Rattle.ob_tree.proofs.Closed.{IsClosed}
 use Rattle.ob_tree.proofs.Walks.{each_push}
 
@@ -17,7 +17,8 @@ pub record Gathers {A : Type 0} (f : Out → List A) : Type 0 where
   pub of_word : (k : Kind) → f (word k) ≡ []
   pub of_value : (k : Literal) (n : ℕ) → f (Value k n ∷ []) ≡ []
   pub of_use : (n : ℕ) → f (used n) ≡ []
-  pub of_name : (n : ℕ) → f (named n) ≡ []
+  pub of_completion : (n : ℕ) → f (completed n) ≡ []
+  pub of_selection : (n : ℕ) → f (selected n) ≡ []
 
 -- nothing is gathered of it
 pub record Without {A : Type 0} (f : Out → List A) (o : Out) : Type 0 where
@@ -51,7 +52,8 @@ module _ {A : Type 0} (f : Out → List A) (gathers : Gathers f) where
     a_word = λ k. record { none = gathers.of_word k };
     a_value = λ k n. record { none = gathers.of_value k n };
     a_use = λ n. record { none = gathers.of_use n };
-    a_name = λ n. record { none = gathers.of_name n };
+    a_completion = λ n. record { none = gathers.of_completion n };
+    a_selection = λ n. record { none = gathers.of_selection n };
     held = λ c o p. record { none = gathered-construct c o ∙ p.none };
   }
 

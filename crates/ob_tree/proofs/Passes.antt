@@ -13,7 +13,8 @@ use Rattle.ob_tree.specs.declared.item.Item.{Item}
 use Rattle.ob_tree.specs.Declaring.{module_outline}
 use Rattle.ob_tree.specs.Items.{items_of, number_at, used_by}
 use Rattle.ob_tree.specs.Leaves.{leaf_of, leaves}
-use Rattle.ob_tree.specs.Marks.{Out, Begins, Ends, Identifier, Value, Word, Declares, Uses, Names, Repeats, tokens_of}
+use Rattle.ob_tree.specs.declared.role.Role.TheVariants.{Declares, Aliases, Imports, Uses, Completes, Selects, Names, Repeats}
+use Rattle.ob_tree.specs.Marks.{Out, Begins, Ends, Identifier, Value, Word, tokens_of}
 use Rattle.ob_tree.specs.Derives.{Derives, numbers_from, used_in, yields}
 
 -- ---- the numbers of tokens
@@ -61,10 +62,7 @@ pub item_numbers : (at : ℕ) (ms : Out) → numbers_at at (items_of ms) ≡ num
 item_numbers at [] = refl
 item_numbers at (Begins c n ∷ ms) = item_numbers at ms
 item_numbers at (Ends c ∷ ms) = item_numbers at ms
-item_numbers at (Identifier Declares n ∷ ms) = ap (λ (ns : List ℕ). n ∷ ns) (item_numbers (at + 1) ms)
-item_numbers at (Identifier Uses n ∷ ms) = ap (λ (ns : List ℕ). n ∷ ns) (item_numbers (at + 1) ms)
-item_numbers at (Identifier Names n ∷ ms) = ap (λ (ns : List ℕ). n ∷ ns) (item_numbers (at + 1) ms)
-item_numbers at (Identifier (Repeats name) n ∷ ms) = ap (λ (ns : List ℕ). n ∷ ns) (item_numbers (at + 1) ms)
+item_numbers at (Identifier r n ∷ ms) = ap (λ (ns : List ℕ). n ∷ ns) (item_numbers (at + 1) ms)
 item_numbers at (Value k n ∷ ms) = ap (λ (ns : List ℕ). n ∷ ns) (item_numbers (at + 1) ms)
 item_numbers at (Word k ∷ ms) = ap (λ (ns : List ℕ). at ∷ ns) (item_numbers (at + 1) ms)
 
@@ -73,10 +71,7 @@ pub items-length : (ms : Out) → length (items_of ms) ≡ length (tokens_of ms)
 items-length [] = refl
 items-length (Begins c n ∷ ms) = items-length ms
 items-length (Ends c ∷ ms) = items-length ms
-items-length (Identifier Declares n ∷ ms) = ap suc (items-length ms)
-items-length (Identifier Uses n ∷ ms) = ap suc (items-length ms)
-items-length (Identifier Names n ∷ ms) = ap suc (items-length ms)
-items-length (Identifier (Repeats name) n ∷ ms) = ap suc (items-length ms)
+items-length (Identifier r n ∷ ms) = ap suc (items-length ms)
 items-length (Value k n ∷ ms) = ap suc (items-length ms)
 items-length (Word k ∷ ms) = ap suc (items-length ms)
 
@@ -97,8 +92,12 @@ pub used-items : (ms : Out) → filter_map used_by (items_of ms) ≡ used_in ms
 used-items [] = refl
 used-items (Begins c n ∷ ms) = used-items ms
 used-items (Ends c ∷ ms) = used-items ms
-used-items (Identifier Declares n ∷ ms) = used-items ms
+used-items (Identifier (Declares starred) n ∷ ms) = used-items ms
+used-items (Identifier Aliases n ∷ ms) = used-items ms
+used-items (Identifier Imports n ∷ ms) = used-items ms
 used-items (Identifier Uses n ∷ ms) = ap (λ (ns : List ℕ). n ∷ ns) (used-items ms)
+used-items (Identifier Completes n ∷ ms) = used-items ms
+used-items (Identifier Selects n ∷ ms) = used-items ms
 used-items (Identifier Names n ∷ ms) = used-items ms
 used-items (Identifier (Repeats name) n ∷ ms) = used-items ms
 used-items (Value k n ∷ ms) = used-items ms

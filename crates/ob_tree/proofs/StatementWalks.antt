@@ -6,6 +6,7 @@ use Rattle.std.specs.declared.alloc.Global.{Global}
 use Rattle.ob_scan.specs.declared.kind.Kind.{Kind}
 use Rattle.ob_scan.specs.declared.kind.Kind.TheVariants as kinds
 use Rattle.ob_tree.specs.declared.item.Item.TheVariants as items
+use Rattle.ob_tree.specs.declared.role.Role.TheVariants as roles
 use Rattle.ob_tree.specs.declared.expression.Designator.{Designator}
 use Rattle.ob_tree.specs.declared.expression.Expr.{Expr}
 use Rattle.ob_tree.specs.declared.name.OneOrMore.{OneOrMore}
@@ -26,10 +27,10 @@ use Rattle.ob_tree.specs.Statements.{label_outline, label_range_outline, case_ou
 use Rattle.ob_tree.proofs.StatementLayers.{integer_label, text_label, name_label, label_range_out, block_out, branch_out, for_out, nothing_made, labelled_made, empty_made, assign_made, call_made, if_made, case_made, while_made, repeat_made, for_stmt_made}
 use Rattle.ob_tree.proofs.Walks.{items-append, items-construct, walks}
 
-pub integer_items : (n : ℕ) → items_of (label_outline (labels.Integer n)) ≡ items.Other n ∷ []
+pub integer_items : (n : ℕ) → items_of (label_outline (labels.Integer n)) ≡ items.Value n ∷ []
 integer_items n = rw (integer_label n) refl
 
-pub text_items : (n : ℕ) → items_of (label_outline (labels.Text n)) ≡ items.Other n ∷ []
+pub text_items : (n : ℕ) → items_of (label_outline (labels.Text n)) ≡ items.Value n ∷ []
 text_items n = rw (text_label n) refl
 
 pub name_label_items : (q : Qualident) → items_of (label_outline (labels.Name q)) ≡ items_of (qualident_outline q)
@@ -48,7 +49,7 @@ pub branch_items : (b : Branch) (k : Kind) → items_of (branch_outline b k) ≡
 branch_items b k = rw (branch_out b k, items-append) refl
 
 pub for_items : (f : For) → items_of (for_outline f) ≡
-    items.Word ∷ (items.Used (out-For f).variable ∷ (items.Word ∷ (items_of (expr_outline (out-For f).from) ++ (items.Word ∷ (items_of (expr_outline (out-For f).to) ++
+    items.Word ∷ (items.Identifier roles.Uses (out-For f).variable ∷ (items.Word ∷ (items_of (expr_outline (out-For f).from) ++ (items.Word ∷ (items_of (expr_outline (out-For f).to) ++
     (items_of (if_there (λ e. word kinds.By ++ expr_outline e) (out-For f).by) ++ (items.Word ∷ (items_of (block_outline (out-For f).body) ++ items.Word ∷ []))))))))
 for_items f = simp (for_out f, items-append)
 

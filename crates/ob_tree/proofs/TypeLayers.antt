@@ -1,6 +1,6 @@
 -- The equations of outlines of types, layer by layer.
 use Rattle.std.proofs.Common.{◌≡◌, ◌++◌, Option, Some, None, refl, ap, ◌∙◌}
-use Rattle.std.specs.Prelude.{Bool, Vec}
+use Rattle.std.specs.Prelude.{Bool, false, Vec}
 use Rattle.std.specs.declared.boxed.Box.{Box}
 use Rattle.std.specs.declared.alloc.Global.{Global}
 use Rattle.ob_scan.specs.declared.kind.Kind.TheVariants as kinds
@@ -32,7 +32,7 @@ fields_there f (Some x) = refl
 -- ---- parameters
 
 pub section_out : (s : ParameterSection) → section_outline s
-    ≡ construct constructs.FPSection (if_so s.variable (word kinds.Var) ++ (listed kinds.Comma declared s.names ++ (word kinds.Colon ++ (times s.open_arrays (word kinds.Array ++ word kinds.Of) ++ qualident_outline s.of))))
+    ≡ construct constructs.FPSection (if_so s.variable (word kinds.Var) ++ (listed kinds.Comma (declared false) s.names ++ (word kinds.Colon ++ (times s.open_arrays (word kinds.Array ++ word kinds.Of) ++ qualident_outline s.of))))
 unfolding section_outline
 section_out s = refl
 
@@ -44,11 +44,11 @@ parameters_out p = refl
 -- ---- the outline of a layer's parts
 
 abbrev pub type_shown : TypeForm-F TypeForm Fields Record VarDecl → Out
-type_shown (layers.Named q) = qualident_outline q
-type_shown (layers.ArrayOf lengths of) = word kinds.Array ++ (expr_list_outline lengths.value ++ (word kinds.Of ++ type_outline of.value))
-type_shown (layers.RecordOf r) = record_outline r
-type_shown (layers.PointerTo t) = word kinds.Pointer ++ (word kinds.To ++ type_outline t.value)
-type_shown (layers.ProcOf p) = word kinds.Procedure ++ if_there parameters_outline p
+type_shown (layers.Named q) = construct constructs.NamedType (qualident_outline q)
+type_shown (layers.ArrayOf lengths of) = construct constructs.ArrayType (word kinds.Array ++ (expr_list_outline lengths.value ++ (word kinds.Of ++ type_outline of.value)))
+type_shown (layers.RecordOf r) = construct constructs.RecordType (record_outline r)
+type_shown (layers.PointerTo t) = construct constructs.PointerType (word kinds.Pointer ++ (word kinds.To ++ type_outline t.value))
+type_shown (layers.ProcOf p) = construct constructs.ProcedureType (word kinds.Procedure ++ if_there parameters_outline p)
 
 abbrev pub fields_shown : Fields-F TypeForm Fields Record VarDecl → Out
 fields_shown f = construct constructs.FieldList (var_outline f.first) ++ (each_after kinds.Semicolon (λ v. construct constructs.FieldList (var_outline v)) f.rest.items ++ if_so f.closing_semicolon (word kinds.Semicolon))
@@ -60,14 +60,14 @@ abbrev pub var_shown : VarDecl-F TypeForm Fields Record VarDecl → Out
 var_shown v = listed kinds.Comma identdef_outline v.names ++ (word kinds.Colon ++ type_outline v.form)
 
 type_seen : (x : TypeForm-F TypeForm Fields Record VarDecl) → type_step (map-TypeForm TypeForm Fields Record VarDecl Out Out Out Out type_outline fields_outline record_outline var_outline x)
-    ≡ construct constructs.TypeForm (type_shown x)
+    ≡ type_shown x
 type_seen (layers.Named q) = refl
 type_seen (layers.ArrayOf lengths of) = refl
 type_seen (layers.RecordOf r) = refl
 type_seen (layers.PointerTo t) = refl
 type_seen (layers.ProcOf p) = refl
 
-pub type_out : (t : TypeForm) → type_outline t ≡ construct constructs.TypeForm (type_shown (out-TypeForm t))
+pub type_out : (t : TypeForm) → type_outline t ≡ type_shown (out-TypeForm t)
 unfolding type_outline fields_outline record_outline var_outline
 type_out t = fold_out-TypeForm Out Out Out Out type_step fields_step record_step var_step t ∙ type_seen (out-TypeForm t)
 
@@ -111,25 +111,25 @@ pub var_made : (l : OneOrMore Identdef) (t : TypeForm) → var_outline (roll-Var
 var_made l t = var_rolled _
 
 formed : (t : TypeForm) (x : TypeForm-F TypeForm Fields Record VarDecl) → out-TypeForm t ≡ x → type_outline t
-    ≡ construct constructs.TypeForm (type_shown x)
-formed t x e = type_out t ∙ ap (λ y. construct constructs.TypeForm (type_shown y)) e
+    ≡ type_shown x
+formed t x e = type_out t ∙ ap (λ y. type_shown y) e
 
-pub named_made : (q : Qualident) → type_outline (forms.Named q) ≡ construct constructs.TypeForm (qualident_outline q)
+pub named_made : (q : Qualident) → type_outline (forms.Named q) ≡ construct constructs.NamedType (qualident_outline q)
 named_made q = formed _ _ (forms.outs-Named q)
 
 pub array_made : (l : Box ExprList Global) (t : Box TypeForm Global) → type_outline (forms.ArrayOf l t)
-    ≡ construct constructs.TypeForm (word kinds.Array ++ (expr_list_outline l.value ++ (word kinds.Of ++ type_outline t.value)))
+    ≡ construct constructs.ArrayType (word kinds.Array ++ (expr_list_outline l.value ++ (word kinds.Of ++ type_outline t.value)))
 array_made l t = formed _ _ (forms.outs-ArrayOf l t)
 
-pub record_of_made : (r : Record) → type_outline (forms.RecordOf r) ≡ construct constructs.TypeForm (record_outline r)
+pub record_of_made : (r : Record) → type_outline (forms.RecordOf r) ≡ construct constructs.RecordType (record_outline r)
 record_of_made r = formed _ _ (forms.outs-RecordOf r)
 
 pub pointer_made : (t : Box TypeForm Global) → type_outline (forms.PointerTo t)
-    ≡ construct constructs.TypeForm (word kinds.Pointer ++ (word kinds.To ++ type_outline t.value))
+    ≡ construct constructs.PointerType (word kinds.Pointer ++ (word kinds.To ++ type_outline t.value))
 pointer_made t = formed _ _ (forms.outs-PointerTo t)
 
 pub procedure_type_made : (p : Option Parameters) → type_outline (forms.ProcOf p)
-    ≡ construct constructs.TypeForm (word kinds.Procedure ++ if_there parameters_outline p)
+    ≡ construct constructs.ProcedureType (word kinds.Procedure ++ if_there parameters_outline p)
 procedure_type_made p = formed _ _ (forms.outs-ProcOf p)
 
 pub ruleset types_made = (section_out, parameters_out, fields_made, record_made, var_made, named_made, array_made, record_of_made, pointer_made, procedure_type_made)

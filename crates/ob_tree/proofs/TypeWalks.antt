@@ -1,9 +1,10 @@
 -- The items of types, by their parts.
-use Rattle.std.proofs.Common.{◌≡◌, [], ◌∷◌, ◌++◌, Option, append_assoc}
+use Rattle.std.proofs.Common.{◌≡◌, false, [], ◌∷◌, ◌++◌, Option, append_assoc}
 use Rattle.std.specs.declared.boxed.Box.{Box}
 use Rattle.std.specs.declared.alloc.Global.{Global}
 use Rattle.ob_scan.specs.declared.kind.Kind.TheVariants as kinds
 use Rattle.ob_tree.specs.declared.item.Item.TheVariants as items
+use Rattle.ob_tree.specs.declared.role.Role.TheVariants as roles
 use Rattle.ob_tree.specs.declared.expression.ExprList.{ExprList}
 use Rattle.ob_tree.specs.declared.name.Qualident.{Qualident}
 use Rattle.ob_tree.specs.declared.declaration.ParameterSection.{ParameterSection}
@@ -23,7 +24,7 @@ use Rattle.ob_tree.proofs.TypeLayers.{section_out, parameters_out, fields_out, r
 use Rattle.ob_tree.proofs.Walks.{items-append, items-construct, items-times, walks}
 
 pub section_items : (s : ParameterSection) → items_of (section_outline s) ≡
-    items_of (if_so s.variable (word kinds.Var)) ++ (items.Declared s.names.first ∷ (items_of (each_after kinds.Comma declared s.names.rest.items) ++
+    items_of (if_so s.variable (word kinds.Var)) ++ (items.Identifier (roles.Declares false) s.names.first ∷ (items_of (each_after kinds.Comma (declared false) s.names.rest.items) ++
     (items.Word ∷ (items_of (times s.open_arrays (word kinds.Array ++ word kinds.Of)) ++ items_of (qualident_outline s.of)))))
 section_items s = simp (section_out s, items-construct, items-append, append_assoc)
 

@@ -3,7 +3,7 @@ use Rattle.std.proofs.Common.{◌≡◌, Bool, true, false, if◌then◌else◌,
 use Rattle.ob_tree.specs.Constructs.{Construct}
 use Rattle.ob_tree.specs.declared.item.Item.{Item}
 use Rattle.ob_tree.specs.declared.item.Item.TheVariants as items
-use Rattle.ob_tree.specs.Marks.{Out, Begins, Ends, Identifier, Value, Word, Declares, Uses, Names, Repeats, construct, each, times}
+use Rattle.ob_tree.specs.Marks.{Out, Begins, Ends, Identifier, Value, Word, construct, each, times}
 use Rattle.ob_tree.specs.Items.{items_of, more, with_item}
 use Rattle.std.proofs.lemmas.List.{append-nil, take_all}
 use Rattle.std.proofs.lemmas.Grind.{take_at_read}
@@ -13,11 +13,8 @@ pub items-append : (a b : Out) → items_of (a ++ b) ≡ items_of a ++ items_of 
 items-append [] b = refl
 items-append (Begins c n ∷ ms) b = items-append ms b
 items-append (Ends c ∷ ms) b = items-append ms b
-items-append (Identifier Declares n ∷ ms) b = ap (λ (o : List Item). items.Declared n ∷ o) (items-append ms b)
-items-append (Identifier Uses n ∷ ms) b = ap (λ (o : List Item). items.Used n ∷ o) (items-append ms b)
-items-append (Identifier Names n ∷ ms) b = ap (λ (o : List Item). items.Other n ∷ o) (items-append ms b)
-items-append (Identifier (Repeats name) n ∷ ms) b = ap (λ (o : List Item). items.Other n ∷ o) (items-append ms b)
-items-append (Value k n ∷ ms) b = ap (λ (o : List Item). items.Other n ∷ o) (items-append ms b)
+items-append (Identifier r n ∷ ms) b = ap (λ (o : List Item). items.Identifier r n ∷ o) (items-append ms b)
+items-append (Value k n ∷ ms) b = ap (λ (o : List Item). items.Value n ∷ o) (items-append ms b)
 items-append (Word k ∷ ms) b = ap (λ (o : List Item). items.Word ∷ o) (items-append ms b)
 
 -- where a construct begins and ends is no item

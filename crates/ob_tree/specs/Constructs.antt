@@ -8,7 +8,11 @@ pub data Construct : Type 0 where
   TypeDeclaration : Construct
   VariableDeclaration : Construct
   ProcedureDeclaration : Construct
-  TypeForm : Construct
+  NamedType : Construct  -- a qualident as a type
+  ArrayType : Construct
+  RecordType : Construct
+  PointerType : Construct
+  ProcedureType : Construct
   FieldList : Construct
   FPSection : Construct
   EmptyStatement : Construct
@@ -31,7 +35,11 @@ is_level ConstDeclaration = false
 is_level TypeDeclaration = false
 is_level VariableDeclaration = false
 is_level ProcedureDeclaration = true
-is_level TypeForm = true
+is_level NamedType = true
+is_level ArrayType = true
+is_level RecordType = true
+is_level PointerType = true
+is_level ProcedureType = true
 is_level FieldList = false
 is_level FPSection = false
 is_level EmptyStatement = false

@@ -10,7 +10,7 @@ use Rattle.ob_tree.specs.declared.declaration.Module.{Module}
 use Rattle.ob_tree.specs.declared.declaration.Declarations.{Declarations, Declarations-F, fold-Declarations}
 use Rattle.ob_tree.specs.declared.declaration.ProcDecl.{ProcDecl, ProcDecl-F, fold-ProcDecl}
 use Rattle.ob_tree.specs.Constructs as constructs
-use Rattle.ob_tree.specs.Marks.{Out, construct, word, declared, named, repeated, if_there, each, listed}
+use Rattle.ob_tree.specs.Marks.{Out, construct, word, aliased, imported, named, repeated, if_there, each, listed}
 use Rattle.ob_tree.specs.Names.{identdef_outline}
 use Rattle.ob_tree.specs.Expressions.{expr_outline}
 use Rattle.ob_tree.specs.Statements.{block_outline}
@@ -59,7 +59,7 @@ procedure_outline = fold-ProcDecl Out Out declarations_step procedure_step
 
 -- import = ident [":=" ident]
 unfoldable pub import_outline : ImportItem → Out
-import_outline i = construct constructs.Import (declared i.name ++ if_there (λ m. word kinds.Assign ++ named m) i.of)
+import_outline i = construct constructs.Import (aliased i.name ++ if_there (λ m. word kinds.Assign ++ imported m) i.of)
 
 -- module = MODULE ident ";" [IMPORT import {"," import} ";"] DeclarationSequence [BEGIN StatementSequence] END ident "."
 unfoldable pub module_outline : Module → Out

@@ -2,10 +2,11 @@
 use Rattle.std.specs.Prelude.{◌≡◌, ◌+◌, ℕ, List, [], ◌∷◌}
 use Rattle.ob_scan.specs.declared.kind.Kind.{Kind}
 use Rattle.ob_tree.specs.declared.declaration.Module.{Module}
+use Rattle.ob_tree.specs.declared.role.Role.TheVariants.{Declares, Aliases, Imports, Uses, Completes, Selects, Names, Repeats}
 use Rattle.ob_tree.specs.declared.token.Leaf.{Leaf}
 use Rattle.ob_tree.specs.Declaring.{module_outline}
 use Rattle.ob_tree.specs.Leaves.{leaves}
-use Rattle.ob_tree.specs.Marks.{Out, Begins, Ends, Identifier, Value, Word, Declares, Uses, Names, Repeats, tokens_of, height}
+use Rattle.ob_tree.specs.Marks.{Out, Begins, Ends, Identifier, Value, Word, tokens_of, height}
 
 -- the tokens of a module's tree, in order
 abbrev pub spelling : Module → List Leaf
@@ -35,8 +36,12 @@ yields m = numbers_from 0 (module_outline m)
 -- the numbers of the identifiers that an outline declares, in order
 abbrev pub declared_in : Out → List ℕ
 declared_in [] = []
-declared_in (Identifier Declares n ∷ ms) = n ∷ declared_in ms
+declared_in (Identifier (Declares starred) n ∷ ms) = n ∷ declared_in ms
+declared_in (Identifier Aliases n ∷ ms) = n ∷ declared_in ms
+declared_in (Identifier Imports n ∷ ms) = declared_in ms
 declared_in (Identifier Uses n ∷ ms) = declared_in ms
+declared_in (Identifier Completes n ∷ ms) = declared_in ms
+declared_in (Identifier Selects n ∷ ms) = declared_in ms
 declared_in (Identifier Names n ∷ ms) = declared_in ms
 declared_in (Identifier (Repeats name) n ∷ ms) = declared_in ms
 declared_in (Begins c n ∷ ms) = declared_in ms
@@ -48,7 +53,11 @@ declared_in (Word k ∷ ms) = declared_in ms
 abbrev pub used_in : Out → List ℕ
 used_in [] = []
 used_in (Identifier Uses n ∷ ms) = n ∷ used_in ms
-used_in (Identifier Declares n ∷ ms) = used_in ms
+used_in (Identifier (Declares starred) n ∷ ms) = used_in ms
+used_in (Identifier Aliases n ∷ ms) = used_in ms
+used_in (Identifier Imports n ∷ ms) = used_in ms
+used_in (Identifier Completes n ∷ ms) = used_in ms
+used_in (Identifier Selects n ∷ ms) = used_in ms
 used_in (Identifier Names n ∷ ms) = used_in ms
 used_in (Identifier (Repeats name) n ∷ ms) = used_in ms
 used_in (Begins c n ∷ ms) = used_in ms
@@ -60,8 +69,12 @@ used_in (Word k ∷ ms) = used_in ms
 abbrev pub endings_in : Out → List (ℕ × ℕ)
 endings_in [] = []
 endings_in (Identifier (Repeats name) n ∷ ms) = (name, n) ∷ endings_in ms
-endings_in (Identifier Declares n ∷ ms) = endings_in ms
+endings_in (Identifier (Declares starred) n ∷ ms) = endings_in ms
+endings_in (Identifier Aliases n ∷ ms) = endings_in ms
+endings_in (Identifier Imports n ∷ ms) = endings_in ms
 endings_in (Identifier Uses n ∷ ms) = endings_in ms
+endings_in (Identifier Completes n ∷ ms) = endings_in ms
+endings_in (Identifier Selects n ∷ ms) = endings_in ms
 endings_in (Identifier Names n ∷ ms) = endings_in ms
 endings_in (Begins c n ∷ ms) = endings_in ms
 endings_in (Ends c ∷ ms) = endings_in ms

@@ -21,7 +21,7 @@ use Rattle.ob_tree.specs.declared.expression.ExprList.{ExprList, ExprList-F, fol
 use Rattle.ob_tree.specs.declared.expression.Sum.{Sum, Sum-F, fold-Sum}
 use Rattle.ob_tree.specs.declared.expression.Term.{Term, Term-F, fold-Term}
 use Rattle.ob_tree.specs.Constructs as constructs
-use Rattle.ob_tree.specs.Marks.{Out, Value, construct, word, used, named, if_there, each, each_after}
+use Rattle.ob_tree.specs.Marks.{Out, Value, construct, word, used, selected, if_there, each, each_after}
 
 -- relation = "=" | "#" | "<" | "<=" | ">" | ">=" | IN | IS
 abbrev pub relation_kind : Relation → Kind
@@ -72,7 +72,7 @@ factor_step f = construct constructs.Factor (factor_parts f)
 
 -- selector = "." ident | "[" list "]" | "^" | "(" [list] ")"
 abbrev pub selector_parts : Selector-F Out Out Out Out Out Out Out Out Out → Out
-selector_parts (layers.Field n) = word kinds.Dot ++ named n
+selector_parts (layers.Field n) = word kinds.Dot ++ selected n
 selector_parts (layers.Index list) = word kinds.LeftBracket ++ (list.value ++ word kinds.RightBracket)
 selector_parts layers.Target = word kinds.Caret
 selector_parts (layers.Arguments list) = word kinds.LeftParen ++ (if_there (λ l. l.value) list ++ word kinds.RightParen)

@@ -2,30 +2,33 @@
 use Rattle.std.specs.Prelude.{ℕ, ◌+◌, min, List, [], ◌∷◌, Option, Some, None, slice_set}
 use Rattle.ob_tree.specs.declared.item.Item.{Item}
 use Rattle.ob_tree.specs.declared.item.Item.TheVariants as items
-use Rattle.ob_tree.specs.Marks.{Out, Begins, Ends, Identifier, Value, Word, Declares, Uses, Names, Repeats}
+use Rattle.ob_tree.specs.declared.role.Role.TheVariants.{Declares, Aliases, Imports, Uses, Completes, Selects, Names, Repeats}
+use Rattle.ob_tree.specs.Marks.{Out, Begins, Ends, Identifier, Value, Word}
 
 abbrev pub items_of : Out → List Item
 items_of [] = []
 items_of (Begins c n ∷ ms) = items_of ms
 items_of (Ends c ∷ ms) = items_of ms
-items_of (Identifier Declares n ∷ ms) = items.Declared n ∷ items_of ms
-items_of (Identifier Uses n ∷ ms) = items.Used n ∷ items_of ms
-items_of (Identifier Names n ∷ ms) = items.Other n ∷ items_of ms
-items_of (Identifier (Repeats name) n ∷ ms) = items.Other n ∷ items_of ms
-items_of (Value k n ∷ ms) = items.Other n ∷ items_of ms
+items_of (Identifier r n ∷ ms) = items.Identifier r n ∷ items_of ms
+items_of (Value k n ∷ ms) = items.Value n ∷ items_of ms
 items_of (Word k ∷ ms) = items.Word ∷ items_of ms
 
 -- the number of a token: a word's is that of its place
 abbrev pub number_at : ℕ → Item → ℕ
-number_at at (items.Declared n) = n
-number_at at (items.Used n) = n
-number_at at (items.Other n) = n
+number_at at (items.Identifier r n) = n
+number_at at (items.Value n) = n
 number_at at items.Word = at
 
 abbrev pub used_by : Item → Option ℕ
-used_by (items.Declared n) = None
-used_by (items.Used n) = Some n
-used_by (items.Other n) = None
+used_by (items.Identifier (Declares starred) n) = None
+used_by (items.Identifier Aliases n) = None
+used_by (items.Identifier Imports n) = None
+used_by (items.Identifier Uses n) = Some n
+used_by (items.Identifier Completes n) = None
+used_by (items.Identifier Selects n) = None
+used_by (items.Identifier Names n) = None
+used_by (items.Identifier (Repeats name) n) = None
+used_by (items.Value n) = None
 used_by items.Word = None
 
 -- places in order, and how many items came: one more stands in the next place, if there is one

@@ -3,21 +3,16 @@ use Rattle.std.specs.Prelude.{ℕ, zero, suc, max, Bool, if◌then◌else◌, Li
 use Rattle.ob_scan.specs.declared.kind.Kind.{Kind}
 use Rattle.ob_tree.specs.declared.expression.Literal.{Literal}
 use Rattle.ob_tree.specs.declared.name.OneOrMore.{OneOrMore}
+use Rattle.ob_tree.specs.declared.role.Role.{Role}
+use Rattle.ob_tree.specs.declared.role.Role.TheVariants.{Declares, Aliases, Imports, Uses, Completes, Selects, Names, Repeats}
 use Rattle.ob_tree.specs.declared.token.Leaf.{Leaf}
 use Rattle.ob_tree.specs.declared.token.Leaf.TheVariants as leafs
 use Rattle.ob_tree.specs.Constructs.{Construct, is_level}
 
--- what an identifier does where it stands
-pub data Role : Type 0 where
-  Declares : Role
-  Uses : Role  -- a name that is looked up: a head, a label's name, the variable of a FOR
-  Names : Role  -- any other name: of a module, or behind a dot
-  Repeats : ℕ → Role  -- the name after END, which has to be that of this identifier
-
 pub data Mark : Type 0 where
   Begins : Construct → ℕ → Mark  -- a construct of so many levels
   Ends : Construct → Mark
-  Identifier : Role → ℕ → Mark
+  Identifier : Role → ℕ → Mark  -- what it does, and its number
   Value : Literal → ℕ → Mark
   Word : Kind → Mark
 
@@ -51,11 +46,24 @@ construct c parts = Begins c (if is_level c then suc (height parts) else height 
 abbrev pub word : Kind → Out
 word k = Word k ∷ []
 
-abbrev pub declared : ℕ → Out
-declared n = Identifier Declares n ∷ []
+-- a name that is declared, with a star behind it or without
+abbrev pub declared : Bool → ℕ → Out
+declared starred n = Identifier (Declares starred) n ∷ []
+
+abbrev pub aliased : ℕ → Out
+aliased n = Identifier Aliases n ∷ []
+
+abbrev pub imported : ℕ → Out
+imported n = Identifier Imports n ∷ []
 
 abbrev pub used : ℕ → Out
 used n = Identifier Uses n ∷ []
+
+abbrev pub completed : ℕ → Out
+completed n = Identifier Completes n ∷ []
+
+abbrev pub selected : ℕ → Out
+selected n = Identifier Selects n ∷ []
 
 abbrev pub named : ℕ → Out
 named n = Identifier Names n ∷ []

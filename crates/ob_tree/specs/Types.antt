@@ -1,5 +1,5 @@
 -- The outlines of types, a step for each production (Oberon-07 report, sections 6 and 10.1).
-use Rattle.std.specs.Prelude.{◌++◌}
+use Rattle.std.specs.Prelude.{◌++◌, false}
 use Rattle.ob_scan.specs.declared.kind.Kind.TheVariants as kinds
 use Rattle.ob_tree.specs.declared.declaration.ParameterSection.{ParameterSection}
 use Rattle.ob_tree.specs.declared.declaration.Parameters.{Parameters}
@@ -16,7 +16,7 @@ use Rattle.ob_tree.specs.Expressions.{expr_list_outline}
 -- FPSection = [VAR] ident {"," ident} ":" {ARRAY OF} qualident
 unfoldable pub section_outline : ParameterSection → Out
 section_outline s = construct constructs.FPSection (
-    if_so s.variable (word kinds.Var) ++ (listed kinds.Comma declared s.names ++ (word kinds.Colon ++
+    if_so s.variable (word kinds.Var) ++ (listed kinds.Comma (declared false) s.names ++ (word kinds.Colon ++
     (times s.open_arrays (word kinds.Array ++ word kinds.Of) ++ qualident_outline s.of))))
 
 -- FormalParameters = "(" [FPSection {";" FPSection}] ")" [":" qualident]
@@ -31,15 +31,12 @@ parameters_outline p =
 -- ArrayType = ARRAY expression {"," expression} OF type
 -- PointerType = POINTER TO type
 -- ProcedureType = PROCEDURE [FormalParameters]
-abbrev pub type_parts : TypeForm-F Out Out Out Out → Out
-type_parts (layers.Named q) = qualident_outline q
-type_parts (layers.ArrayOf lengths of) = word kinds.Array ++ (expr_list_outline lengths.value ++ (word kinds.Of ++ of.value))
-type_parts (layers.RecordOf r) = r
-type_parts (layers.PointerTo t) = word kinds.Pointer ++ (word kinds.To ++ t.value)
-type_parts (layers.ProcOf p) = word kinds.Procedure ++ if_there parameters_outline p
-
 abbrev pub type_step : TypeForm-F Out Out Out Out → Out
-type_step t = construct constructs.TypeForm (type_parts t)
+type_step (layers.Named q) = construct constructs.NamedType (qualident_outline q)
+type_step (layers.ArrayOf lengths of) = construct constructs.ArrayType (word kinds.Array ++ (expr_list_outline lengths.value ++ (word kinds.Of ++ of.value)))
+type_step (layers.RecordOf r) = construct constructs.RecordType r
+type_step (layers.PointerTo t) = construct constructs.PointerType (word kinds.Pointer ++ (word kinds.To ++ t.value))
+type_step (layers.ProcOf p) = construct constructs.ProcedureType (word kinds.Procedure ++ if_there parameters_outline p)
 
 -- FieldList {";" FieldList} [";"]; the report has not the last semicolon
 abbrev pub fields_step : Fields-F Out Out Out Out → Out

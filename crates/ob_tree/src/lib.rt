@@ -10,6 +10,7 @@ mod items;
 pub mod laws;
 pub mod name;
 mod numbers;
+pub mod role;
 pub mod statement;
 pub mod token;
 mod walk;

@@ -12,6 +12,7 @@ use crate::declaration::Module;
 use crate::item::Item;
 use crate::items::Items;
 use crate::numbers::Numbers;
+use crate::role::Role;
 use crate::walk::declarations::walk_module;
 use crate::walk::declared::module_names;
 use crate::walk::ends::module_ends;
@@ -37,7 +38,7 @@ fn number_of(item: Item, place: u32) -> u32
     ensures { result ≡ number_at place item }
 {
     match item {
-        Item::Declared(number) | Item::Used(number) | Item::Other(number) => number,
+        Item::Identifier(_, number) | Item::Value(number) => number,
         Item::Word => place,
     }
 }
@@ -79,8 +80,8 @@ pub fn uses(alloc: Global, module: &Module) -> Result<Vec<u32>, AllocError>
     let mut numbers = Vec::new(alloc);
     for item in &items {
         match *item {
-            Item::Used(number) => numbers.push(number)?,
-            Item::Declared(_) | Item::Other(_) | Item::Word => {}
+            Item::Identifier(Role::Uses, number) => numbers.push(number)?,
+            Item::Identifier(_, _) | Item::Value(_) | Item::Word => {}
         }
     }
     Ok(numbers)

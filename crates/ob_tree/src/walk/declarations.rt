@@ -17,6 +17,7 @@ use crate::expression::Expr;
 use crate::item::Item;
 use crate::items::Items;
 use crate::name::{Identdef, OneOrMore};
+use crate::role::Role;
 use crate::statement::Block;
 use crate::walk::expressions::walk_expr;
 use crate::walk::names::walk_identdef;
@@ -96,7 +97,7 @@ fn walk_procedure(out: &mut Items, procedure: &ProcDecl)
     walk_procedure_body(out, &procedure.body);
     walk_answer(out, &procedure.returned);
     out.put(Item::Word);
-    out.put(Item::Other(procedure.end_name));
+    out.put(Item::Identifier(Role::Repeats(procedure.name.name), procedure.end_name));
 }
 
 /// PROCEDURE up to the semicolon before the declarations.
@@ -145,12 +146,12 @@ fn walk_answer(out: &mut Items, answer: &Option<Box<Expr>>)
 fn walk_import(out: &mut Items, import: ImportItem)
     ensures { out.new ≡ more out.old (items_of (import_outline import)) }
 {
-    out.put(Item::Declared(import.name));
+    out.put(Item::Identifier(Role::Aliases, import.name));
     match import.of {
         None => {}
         Some(number) => {
             out.put(Item::Word);
-            out.put(Item::Other(number));
+            out.put(Item::Identifier(Role::Imports, number));
         }
     }
 }
@@ -193,12 +194,12 @@ pub(crate) fn walk_module(out: &mut Items, module: &Module)
     ensures { out.new ≡ more out.old (items_of (module_outline «module».now)) }
 {
     out.put(Item::Word);
-    out.put(Item::Other(module.name));
+    out.put(Item::Identifier(Role::Names, module.name));
     out.put(Item::Word);
     walk_imports(out, &module.imports);
     walk_declarations(out, &module.declarations);
     walk_module_body(out, &module.body);
     out.put(Item::Word);
-    out.put(Item::Other(module.end_name));
+    out.put(Item::Identifier(Role::Repeats(module.name), module.end_name));
     out.put(Item::Word);
 }

@@ -9,6 +9,7 @@ use crate::expression::{
 };
 use crate::item::Item;
 use crate::items::Items;
+use crate::role::Role;
 
 #[cycle(expressions)]
 #[tactic(auto, using(crate::proofs::ExpressionWalks::expr_walk))]
@@ -59,7 +60,7 @@ fn walk_factor(out: &mut Items, factor: &Factor)
     ensures { out.new ≡ more out.old (items_of (factor_outline factor.now)) }
 {
     match factor {
-        Factor::Value(_, number) => out.put(Item::Other(*number)),
+        Factor::Value(_, number) => out.put(Item::Value(*number)),
         Factor::Nil => out.put(Item::Word),
         Factor::True => out.put(Item::Word),
         Factor::False => out.put(Item::Word),
@@ -116,7 +117,7 @@ fn walk_element(out: &mut Items, element: &Element)
 pub(crate) fn walk_designator(out: &mut Items, designator: &Designator)
     ensures { out.new ≡ more out.old (items_of (designator_outline designator.now)) }
 {
-    out.put(Item::Used(designator.head));
+    out.put(Item::Identifier(Role::Uses, designator.head));
     for selector in &designator.selectors {
         walk_selector(out, selector);
     }
@@ -130,7 +131,7 @@ fn walk_selector(out: &mut Items, selector: &Selector)
     match selector {
         Selector::Field(number) => {
             out.put(Item::Word);
-            out.put(Item::Other(*number));
+            out.put(Item::Identifier(Role::Selects, *number));
         }
         Selector::Index(list) => {
             out.put(Item::Word);

@@ -7,17 +7,18 @@ ghost use Rattle.ob_tree.specs.Names.{qualident_outline, identdef_outline};
 use crate::item::Item;
 use crate::items::Items;
 use crate::name::{Identdef, Qualident};
+use crate::role::Role;
 
 #[tactic(auto, using(crate::proofs::NameWalks::name_items))]
 pub(crate) fn walk_qualident(out: &mut Items, name: Qualident)
     ensures { out.new ≡ more out.old (items_of (qualident_outline name)) }
 {
-    out.put(Item::Used(name.head));
+    out.put(Item::Identifier(Role::Uses, name.head));
     match name.member {
         None => {}
         Some(number) => {
             out.put(Item::Word);
-            out.put(Item::Other(number));
+            out.put(Item::Identifier(Role::Completes, number));
         }
     }
 }
@@ -26,7 +27,10 @@ pub(crate) fn walk_qualident(out: &mut Items, name: Qualident)
 pub(crate) fn walk_identdef(out: &mut Items, name: Identdef)
     ensures { out.new ≡ more out.old (items_of (identdef_outline name)) }
 {
-    out.put(Item::Declared(name.name));
+    let role = Role::Declares {
+        starred: name.starred,
+    };
+    out.put(Item::Identifier(role, name.name));
     if name.starred {
         out.put(Item::Word);
     }

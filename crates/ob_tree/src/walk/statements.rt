@@ -8,6 +8,7 @@ ghost use Rattle.ob_tree.specs.Statements.{label_outline, label_range_outline, c
 
 use crate::item::Item;
 use crate::items::Items;
+use crate::role::Role;
 use crate::statement::{Block, Branch, Case, For, Label, LabelRange, Stmt};
 use crate::walk::expressions::{walk_designator, walk_expr};
 use crate::walk::names::walk_qualident;
@@ -17,8 +18,8 @@ fn walk_label(out: &mut Items, label: Label)
     ensures { out.new ≡ more out.old (items_of (label_outline label)) }
 {
     match label {
-        Label::Integer(number) => out.put(Item::Other(number)),
-        Label::Text(number) => out.put(Item::Other(number)),
+        Label::Integer(number) => out.put(Item::Value(number)),
+        Label::Text(number) => out.put(Item::Value(number)),
         Label::Name(name) => walk_qualident(out, name),
     }
 }
@@ -168,7 +169,7 @@ fn walk_for(out: &mut Items, for_loop: &For)
     ensures { out.new ≡ more out.old (items_of (for_outline for_loop.now)) }
 {
     out.put(Item::Word);
-    out.put(Item::Used(for_loop.variable));
+    out.put(Item::Identifier(Role::Uses, for_loop.variable));
     out.put(Item::Word);
     walk_expr(out, &for_loop.from);
     out.put(Item::Word);

@@ -1,6 +1,6 @@
 //! The items of types.
 
-ghost use Rattle.std.specs.Prelude.{◌≡◌, ◌++◌};
+ghost use Rattle.std.specs.Prelude.{◌≡◌, ◌++◌, false};
 ghost use Rattle.ob_scan.specs.declared.kind.Kind.TheVariants as kinds;
 ghost use Rattle.ob_tree.specs.Items.{items_of, more};
 ghost use Rattle.ob_tree.specs.Marks.{declared, if_so, listed, word, times};
@@ -9,6 +9,7 @@ ghost use Rattle.ob_tree.specs.Types.{section_outline, parameters_outline, type_
 use crate::declaration::{Fields, ParameterSection, Parameters, Record, TypeForm, VarDecl};
 use crate::item::Item;
 use crate::items::Items;
+use crate::role::Role;
 use crate::walk::expressions::walk_expr_list;
 use crate::walk::names::{walk_identdef, walk_qualident};
 
@@ -26,15 +27,15 @@ fn walk_open_arrays(out: &mut Items, count: u32)
 /// The names of a section, with VAR if it stands before them.
 #[tactic(auto, using(crate::proofs::TypeWalks::section_walks))]
 fn walk_section_names(out: &mut Items, section: &ParameterSection)
-    ensures { out.new ≡ more out.old (items_of (if_so section.now.variable (word kinds.Var) ++ listed kinds.Comma declared section.now.names)) }
+    ensures { out.new ≡ more out.old (items_of (if_so section.now.variable (word kinds.Var) ++ listed kinds.Comma (declared false) section.now.names)) }
 {
     if section.variable {
         out.put(Item::Word);
     }
-    out.put(Item::Declared(section.names.first));
+    out.put(Item::Identifier(Role::Declares { starred: false }, section.names.first));
     for name in &section.names.rest {
         out.put(Item::Word);
-        out.put(Item::Declared(*name));
+        out.put(Item::Identifier(Role::Declares { starred: false }, *name));
     }
 }
 

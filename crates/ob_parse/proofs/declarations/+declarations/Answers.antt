@@ -5,8 +5,9 @@ use Rattle.ob_tree.specs.declared.declaration.ProcDecl.{ProcDecl}
 use Rattle.ob_tree.specs.Marks.{Out, word, each}
 use Rattle.ob_tree.specs.Declaring.{procedure_outline, declarations_outline}
 use Rattle.ob_parse.specs.Front.{is_word}
-use Rattle.ob_parse.specs.Forms.{Reader, many, begins, limit_at, name_at}
+use Rattle.ob_parse.specs.Forms.{Reader, many, begins, limit_at}
 use Rattle.ob_parse.specs.Gives.{ahead}
+use Rattle.ob_parse.specs.ReadNames.{identdef_after}
 use Rattle.ob_parse.specs.ReadModules.{ended, procedure_at, declarations_with, procedure_named, procedure_with, procedures_with}
 use Rattle.ob_parse.proofs.Kept.{kept, unkept}
 use Rattle.ob_parse.proofs.Loops.{pushed, smaller, is_done, has_begun, has_not_begun}
@@ -14,6 +15,7 @@ use Rattle.ob_parse.proofs.LoopEnds.{ends}
 use Rattle.ob_parse.proofs.LoopProcedures.{procedure_advances}
 use Rattle.ob_tree.proofs.DeclarationLayers.{declaring_made}
 use Rattle.ob_tree.proofs.NameLayers.{names_made}
+use Rattle.ob_parse.proofs.Stars.{star_read}
 use Rattle.ob_parse.proofs.Boxes.{gives_boxed}
 use Rattle.ob_parse.proofs.declarations.+declarations.Goals as goal
 
@@ -61,5 +63,5 @@ unfolding procedure_at limit_at
 procedure-returns-then-depth-eq0 t c = grind arith
 
 pub procedure_within-returns : goal.procedure_within-returns
-unfolding procedure_with procedure_named name_at
-procedure_within-returns t c = gives_boxed c.args.tokens.now procedure_outline _ _ c.boxed.result _ c.boxed.ensures.of c.boxed.ensures.refused (grind (arith, declaring_made, names_made))
+unfolding procedure_with procedure_named identdef_after
+procedure_within-returns t c = gives_boxed c.args.tokens.now procedure_outline _ _ c.boxed.result _ c.boxed.ensures.of c.boxed.ensures.refused (grind (arith, declaring_made, names_made, star_read))
