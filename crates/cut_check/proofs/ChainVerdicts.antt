@@ -4,14 +4,14 @@ use Rattle.std.proofs.lemmas.Bool.{cases_eq, cases_lt, cases_order}
 use Rattle.cut_net.specs.Network.{Network}
 use Rattle.cut_net.specs.Pins.{ByPin, IsPinChain}
 use Rattle.cut_net.specs.Said.{BlockedBy}
-use Rattle.cut_check.specs.Verdicts.{AreEnds, HasVerdict, IsChainVerdict, IsFirstUnpinned, IsPinnedAt}
+use Rattle.cut_check.specs.Verdicts.{AreChainEnds, HasVerdict, IsChainVerdict, IsFirstUnpinned, IsPinnedAt}
 use Rattle.cut_check.specs.declared.verdict.Verdict.{Verdict}
 use Rattle.cut_check.specs.declared.verdict.Verdict.TheVariants.{Yes, NoSuchImport, StillChain, WrongWeight, OverWeight, NotKept, WrongValue, NotPinned}
 use Rattle.cut_check.proofs.PinChains.{ends_of, import_or_none, pinned_of, pinned_or_not, to_chain}
 use Rattle.cut_check.proofs.SomeVerdict.{below, everywhere, first_not}
 
 module _ (net : Network) (a b : ℕ) (chain : List ℕ) where
-  after_ends : AreEnds a b chain → HasVerdict net a b (BlockedBy chain)
+  after_ends : AreChainEnds a b chain → HasVerdict net a b (BlockedBy chain)
   after_ends ends =
       let lt = ends.0 in
       elim (below (IsPinnedAt net chain) (λ k. import_or_none net.imports (ByPin net) (pinned_or_not net) (get_or chain k 0) (get_or chain (k + 1) 0)) (length chain - 1)) [

@@ -6,7 +6,7 @@ use Rattle.std.proofs.lemmas.List.{get_or-take, length-take-le}
 use Rattle.std.proofs.lemmas.Option.{slice_get_within, get_or_from_slice_get}
 use Rattle.cut_net.specs.declared.priced.Priced.{Priced}
 use Rattle.cut_net.specs.Network.{Network}
-use Rattle.cut_net.specs.Lines.{AreInOrder, flow_by}
+use Rattle.cut_net.specs.Lines.{AreImportsInOrder, flow_by}
 use Rattle.cut_net.specs.Pins.{IsRightWithPins}
 use Rattle.cut_check.specs.Verdicts.{AreConserved, AreRead, AreUnder, IsFirstOff, IsFirstOver, IsFirstStray, IsStray, IsCutVerdict}
 use Rattle.cut_check.specs.declared.verdict.Verdict.{Verdict}
@@ -41,7 +41,7 @@ module _ (net : Network) (lines : List Priced) where
   later_stray from to f t s r lt =
       let in_lines = slice_get_within lines r.place r.line r.at_place in
       let len : length (take r.place lines) ≡ r.place = length-take-le r.place lines (omega arith) in
-      s.stray (subst (AreInOrder net) (take-take (s.place + 1) r.place lines (omega arith)) (front_in_order net (take r.place lines) (s.place + 1) (omega arith) r.before))
+      s.stray (subst (AreImportsInOrder net) (take-take (s.place + 1) r.place lines (omega arith)) (front_in_order net (take r.place lines) (s.place + 1) (omega arith) r.before))
 
   stray_same : (from to f t : ℕ) → IsFirstStray net lines from to → IsFirstStray net lines f t → Ends from to f t
   stray_same from to f t s r = elim (cases_order s.place r.place) [
@@ -49,7 +49,7 @@ module _ (net : Network) (lines : List Priced) where
     | inr h ↦ elim h [ inl lt ↦ absurd (later_stray from to f t s r lt) | inr lt ↦ absurd (later_stray f t from to r s lt) ]
   ]
 
-  not_stray : (from to : ℕ) → AreInOrder net lines → IsFirstStray net lines from to → ⊥
+  not_stray : (from to : ℕ) → AreImportsInOrder net lines → IsFirstStray net lines from to → ⊥
   not_stray from to o s = let in_lines = slice_get_within lines s.place s.line s.at_place in s.stray (front_in_order net lines (s.place + 1) (omega arith) o)
 
 module _ (net : Network) (flow : Priced → ℕ) where

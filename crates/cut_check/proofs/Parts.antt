@@ -8,7 +8,7 @@ use Rattle.std.proofs.lemmas.Option.{slice_get_within, slice_get-get_or}
 use Rattle.cut_net.specs.declared.priced.Priced.{Priced}
 use Rattle.cut_net.specs.Network.{Network}
 use Rattle.cut_net.specs.Cuts.{Chain, Outside, weight, same_ends}
-use Rattle.cut_net.specs.Lines.{AreInOrder, IsImport, amount_in, removed_by, flow_by}
+use Rattle.cut_net.specs.Lines.{AreImportsInOrder, IsImport, amount_in, removed_by, flow_by}
 use Rattle.cut_net.specs.Pins.{AreWeightsWithPins, IsRemovable}
 use Rattle.cut_net.proofs.Chains.{widened}
 use Rattle.cut_check.specs.Matched.{AreMatched}
@@ -19,7 +19,7 @@ use Rattle.cut_check.specs.Verdicts.{HasCut, IsFirstStray, IsCutVerdict}
 use Rattle.cut_check.specs.declared.verdict.Verdict.{Verdict}
 use Rattle.cut_check.specs.declared.verdict.Verdict.TheVariants.{Yes, NoSuchImport, StillChain, WrongWeight, OverWeight, NotKept, WrongValue, NotPinned}
 
-pub front_in_order : (net : Network) (lines : List Priced) (n : ℕ) → n ≤ length lines → AreInOrder net lines → AreInOrder net (take n lines)
+pub front_in_order : (net : Network) (lines : List Priced) (n : ℕ) → n ≤ length lines → AreImportsInOrder net lines → AreImportsInOrder net (take n lines)
 front_in_order net lines n short o =
     let len : length (take n lines) ≡ n = length-take-le n lines short in
     record {
@@ -32,7 +32,7 @@ front_in_order net lines n short o =
 
 -- all lines are in order, and the amounts stand at their imports
 pub record AllMatched (net : Network) (lines : List Priced) (amounts : List (Option ℕ)) : Type 0 where
-  pub in_order : AreInOrder net lines
+  pub in_order : AreImportsInOrder net lines
   pub size : length amounts ≡ length net.imports
   pub each : (k : ℕ) (d : Priced) → k < length net.imports → get_or amounts k None ≡ option_map (λ (l : Priced). l.amount) (find (same_ends (get_or net.imports k d)) lines)
 
@@ -40,7 +40,7 @@ pub all_read : (net : Network) (lines : List Priced) (count : ℕ) (amounts : Li
 all_read net lines count amounts m h =
     let whole = take_all count lines h in
     record {
-      in_order = subst (AreInOrder net) whole m.in_order;
+      in_order = subst (AreImportsInOrder net) whole m.in_order;
       size = m.size;
       each = λ k d in_k. subst (λ v. get_or amounts k None ≡ option_map (λ (l : Priced). l.amount) (find (same_ends (get_or net.imports k d)) v)) whole (m.each k d None in_k);
     }

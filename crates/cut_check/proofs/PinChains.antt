@@ -10,7 +10,7 @@ use Rattle.cut_net.specs.Lines.{IsImport}
 use Rattle.cut_net.specs.Pins.{is_pinned, ArePins, ByPin, IsPinChain, PinChain}
 use Rattle.cut_net.proofs.Ends.{same_from}
 use Rattle.cut_net.proofs.ListSums.{here, there}
-use Rattle.cut_check.specs.Verdicts.{AreEnds, IsFirstUnpinned, IsPinnedAt}
+use Rattle.cut_check.specs.Verdicts.{AreChainEnds, IsFirstUnpinned, IsPinnedAt}
 
 found_member : (p : Priced → Bool) (xs : List Priced) → is_some (find p xs) ≡ true → (x : Priced) × Contains xs x × (p x ≡ true)
 found_member p [] e = absurd cc
@@ -91,11 +91,11 @@ module _ (net : Network) where
   chain_pinned m (n ∷ more) b (s, rest) zero lt = s
   chain_pinned m (n ∷ more) b (s, rest) (suc k) lt = with_first m (n ∷ more) k (chain_pinned n more b rest k (omega arith))
 
-  pub to_chain : (a b : ℕ) (chain : List ℕ) → AreEnds a b chain → ArePinned net chain → IsPinChain net a b chain
+  pub to_chain : (a b : ℕ) (chain : List ℕ) → AreChainEnds a b chain → ArePinned net chain → IsPinChain net a b chain
   to_chain a b [] ends pinned = let lt = ends.0 in absurd (omega arith)
   to_chain a b (m ∷ more) ends pinned = (ends.1, chain_from m more b pinned (ap (λ k. get_or (m ∷ more) k 0) (omega arith) ∙ ends.2))
 
-  pub ends_of : (a b : ℕ) (chain : List ℕ) → IsPinChain net a b chain → AreEnds a b chain
+  pub ends_of : (a b : ℕ) (chain : List ℕ) → IsPinChain net a b chain → AreChainEnds a b chain
   ends_of a b [] h = absurd h
   ends_of a b (m ∷ more) h = (omega arith, h.0, ap (λ k. get_or (m ∷ more) k 0) (omega arith) ∙ chain_last m more b h.1)
 

@@ -8,7 +8,7 @@ use Rattle.cut_net.specs.declared.priced.Priced.{Priced}
 use Rattle.cut_net.specs.Network.{Network}
 use Rattle.cut_net.specs.Said.{CutOf}
 use Rattle.cut_net.specs.Cuts.{Outside, entering, leaving, same_ends, weight}
-use Rattle.cut_net.specs.Lines.{AreInOrder, IsAscending, removed_by, flow_by}
+use Rattle.cut_net.specs.Lines.{AreImportsInOrder, IsAscending, removed_by, flow_by}
 use Rattle.cut_net.specs.Pins.{is_pinned, AreWeightsWithPins, IsRemovable}
 use Rattle.cut_net.specs.WellFormed.{IsNetwork}
 use Rattle.cut_net.proofs.Chains.{chain_or_none, outside_or_in}
@@ -67,7 +67,7 @@ passed imports lines ascending (suc k) le =
     }
 
 -- the lines are in order, or the first stray one
-in_order_or_stray : (net : Network) (lines : List Priced) → IsAscending net.imports → (AreInOrder net lines) ⊎ ((from : ℕ) × (to : ℕ) × IsFirstStray net lines from to)
+in_order_or_stray : (net : Network) (lines : List Priced) → IsAscending net.imports → (AreImportsInOrder net lines) ⊎ ((from : ℕ) × (to : ℕ) × IsFirstStray net lines from to)
 in_order_or_stray net lines ascending =
     let p = passed net.imports lines ascending (length net.imports) (omega arith) in
     let matched = matching_end net lines p.next p.found p.done in

@@ -3,13 +3,13 @@ use Rattle.std.specs.Prelude.{◌≡◌, ℕ, true, false, ◌+◌, ◌≤◌, �
 use Rattle.cut_net.specs.declared.priced.Priced.{Priced}
 use Rattle.cut_net.specs.Network.{Network}
 use Rattle.cut_net.specs.Cuts.{same_ends}
-use Rattle.cut_net.specs.Lines.{AreInOrder}
+use Rattle.cut_net.specs.Lines.{AreImportsInOrder}
 
 -- the first count lines are in order, and no more; each import has the amount of its line among them
 pub record AreMatched (net : Network) (lines : List Priced) (count : ℕ) (amounts : List (Option ℕ)) : Type 0 where
   pub within : count ≤ length lines
-  pub in_order : AreInOrder net (take count lines)
-  pub no_more : count < length lines → AreInOrder net (take (count + 1) lines) → ⊥
+  pub in_order : AreImportsInOrder net (take count lines)
+  pub no_more : count < length lines → AreImportsInOrder net (take (count + 1) lines) → ⊥
   pub size : length amounts ≡ length net.imports
   pub each : (k : ℕ) (d : Priced) (e : Option ℕ) → k < length net.imports →
       slice_index_or amounts k e ≡ option_map (λ (l : Priced). l.amount) (find (same_ends (slice_index_or net.imports k d)) (take count lines))

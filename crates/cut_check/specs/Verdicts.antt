@@ -4,7 +4,7 @@ use Rattle.cut_net.specs.declared.priced.Priced.{Priced}
 use Rattle.cut_net.specs.Network.{Network}
 use Rattle.cut_net.specs.Said.{Said, CutOf, BlockedBy}
 use Rattle.cut_net.specs.Cuts.{Chain, Imports, Outside, entering, leaving}
-use Rattle.cut_net.specs.Lines.{AreInOrder, removed_by, flow_by}
+use Rattle.cut_net.specs.Lines.{AreImportsInOrder, removed_by, flow_by}
 use Rattle.cut_net.specs.Pins.{is_pinned, AreWeightsWithPins, ByPin, IsPinChain, IsRightWithPins}
 use Rattle.cut_check.specs.declared.verdict.Verdict.{Verdict}
 use Rattle.cut_check.specs.declared.verdict.Verdict.TheVariants.{Yes, NoSuchImport, StillChain, WrongWeight, OverWeight, NotKept, WrongValue, NotPinned}
@@ -15,26 +15,26 @@ pub record IsFirstStray (net : Network) (lines : List Priced) (from to : ℕ) : 
   pub line : Priced
   pub at_place : slice_get lines place ≡ Some line
   pub ends : (line.from ≡ from) × (line.to ≡ to)
-  pub before : AreInOrder net (take place lines)
-  pub stray : AreInOrder net (take (place + 1) lines) → ⊥
+  pub before : AreImportsInOrder net (take place lines)
+  pub stray : AreImportsInOrder net (take (place + 1) lines) → ⊥
 
 -- the first stray line of both lists, that of the printed imports before that of the flow
 abbrev pub IsStray : Network → List Priced → List Priced → ℕ → ℕ → Type 0
-IsStray net printed flow from to = IsFirstStray net printed from to ⊎ (AreInOrder net printed × IsFirstStray net flow from to)
+IsStray net printed flow from to = IsFirstStray net printed from to ⊎ (AreImportsInOrder net printed × IsFirstStray net flow from to)
 
 -- no line is stray
 pub record AreRead (net : Network) (printed flow : List Priced) : Type 0 where
-  pub printed_in_order : AreInOrder net printed
-  pub flow_in_order : AreInOrder net flow
+  pub printed_in_order : AreImportsInOrder net printed
+  pub flow_in_order : AreImportsInOrder net flow
 
 -- a chain avoids the printed imports
-abbrev pub HasChain : Network → ℕ → ℕ → List Priced → Type 0
-HasChain net a b printed = Chain net.imports (Outside (removed_by printed)) a b
+abbrev pub HasChainLeft : Network → ℕ → ℕ → List Priced → Type 0
+HasChainLeft net a b printed = Chain net.imports (Outside (removed_by printed)) a b
 
 -- no line is stray, and no chain avoids the printed imports
 pub record HasCut (net : Network) (a b : ℕ) (printed flow : List Priced) : Type 0 where
   pub read : AreRead net printed flow
-  pub no_chain : HasChain net a b printed → ⊥
+  pub no_chain : HasChainLeft net a b printed → ⊥
 
 -- the first import without a pin whose flow is above its weight has these ends
 pub record IsFirstOver (net : Network) (flow : Priced → ℕ) (from to : ℕ) : Type 0 where
@@ -71,7 +71,7 @@ HasValue net a flow value = entering net.imports flow a + value ≡ leaving net.
 abbrev pub IsCutVerdict : Network → ℕ → ℕ → List Priced → ℕ → List Priced → Verdict → Type 0
 IsCutVerdict net a b printed total flow Yes = IsRightWithPins net a b printed total flow
 IsCutVerdict net a b printed total flow (NoSuchImport from to) = IsStray net printed flow from to
-IsCutVerdict net a b printed total flow StillChain = AreRead net printed flow × HasChain net a b printed
+IsCutVerdict net a b printed total flow StillChain = AreRead net printed flow × HasChainLeft net a b printed
 IsCutVerdict net a b printed total flow WrongWeight = HasCut net a b printed flow × (AreWeightsWithPins net printed total → ⊥)
 IsCutVerdict net a b printed total flow (OverWeight from to) =
     HasCut net a b printed flow × AreWeightsWithPins net printed total × IsFirstOver net (flow_by flow) from to
@@ -82,8 +82,8 @@ IsCutVerdict net a b printed total flow WrongValue =
 IsCutVerdict net a b printed total flow (NotPinned from to) = ⊥
 
 -- the first of these modules is a, and the last is b
-abbrev pub AreEnds : ℕ → ℕ → List ℕ → Type 0
-AreEnds a b chain = (0 < length chain) × (slice_index chain 0 ≡ a) × (slice_index chain (length chain - 1) ≡ b)
+abbrev pub AreChainEnds : ℕ → ℕ → List ℕ → Type 0
+AreChainEnds a b chain = (0 < length chain) × (slice_index chain 0 ≡ a) × (slice_index chain (length chain - 1) ≡ b)
 
 -- the module at this place imports the next one by a pinned import
 abbrev pub IsPinnedAt : Network → List ℕ → ℕ → Type 0
@@ -101,12 +101,12 @@ pub record IsFirstUnpinned (net : Network) (chain : List ℕ) (from to : ℕ) : 
 abbrev pub IsChainVerdict : Network → ℕ → ℕ → List ℕ → Verdict → Type 0
 IsChainVerdict net a b chain Yes = IsPinChain net a b chain
 IsChainVerdict net a b chain (NoSuchImport from to) = ⊥
-IsChainVerdict net a b chain StillChain = AreEnds a b chain → ⊥
+IsChainVerdict net a b chain StillChain = AreChainEnds a b chain → ⊥
 IsChainVerdict net a b chain WrongWeight = ⊥
 IsChainVerdict net a b chain (OverWeight from to) = ⊥
 IsChainVerdict net a b chain (NotKept m) = ⊥
 IsChainVerdict net a b chain WrongValue = ⊥
-IsChainVerdict net a b chain (NotPinned from to) = AreEnds a b chain × IsFirstUnpinned net chain from to
+IsChainVerdict net a b chain (NotPinned from to) = AreChainEnds a b chain × IsFirstUnpinned net chain from to
 
 -- the verdict on what is said of two modules
 abbrev pub IsVerdict : Network → ℕ → ℕ → Said → Verdict → Type 0

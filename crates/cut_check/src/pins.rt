@@ -1,7 +1,7 @@
 //! Pinned imports, and chains of them.
 ghost use Rattle.std.specs.Prelude.{ℕ, ◌≡◌, ◌+◌, ◌<◌, ◌↔◌, IsTrue, MatchOption, length};
 ghost use Rattle.cut_net.specs.Pins.{is_pinned};
-ghost use Rattle.cut_check.specs.Verdicts.{AreEnds, IsChainVerdict, IsFirstUnpinned, IsPinnedAt};
+ghost use Rattle.cut_check.specs.Verdicts.{AreChainEnds, IsChainVerdict, IsFirstUnpinned, IsPinnedAt};
 
 use crate::Verdict;
 use cut_net::{Net, Priced, line_of};
@@ -35,7 +35,7 @@ fn first_unpinned(net: &Net, chain: &[u32]) -> Option<Priced>
 }
 
 fn are_ends(chain: &[u32], from: u32, to: u32) -> bool
-    ensures { IsTrue result ↔ AreEnds from to chain.now }
+    ensures { IsTrue result ↔ AreChainEnds from to chain.now }
 {
     !chain.is_empty() && chain[0] == from && chain[chain.len() - 1] == to
 }

@@ -44,17 +44,17 @@ abbrev pub import_line : List ℕ → List ℕ → ℕ → ℕ → Bool → Bool
 import_line from to flow weight removed pinned = ends_text from to ++ (if pinned then pin_text flow removed else label_text flow weight removed)
 
 -- the line of the module of this number, between the ends a and b
-abbrev pub module_at : Network → ℕ → ℕ → (ℕ → Bool) → ℕ → List ℕ
-module_at net a b reached m = module_line (name_of net m) (is_end a b m) (reached m)
+abbrev pub line_of_module : Network → ℕ → ℕ → (ℕ → Bool) → ℕ → List ℕ
+line_of_module net a b reached m = module_line (name_of net m) (is_end a b m) (reached m)
 
 -- the line of this import, by the lines of the removed imports and of the flow, and by whether it is pinned
-abbrev pub import_at : Network → List Priced → List Priced → Priced → List ℕ
-import_at net printed flow i = import_line (name_of net i.from) (name_of net i.to) (flow_by flow i) i.amount (removed_by printed i) (is_pinned net i)
+abbrev pub line_of_import : Network → List Priced → List Priced → Priced → List ℕ
+line_of_import net printed flow i = import_line (name_of net i.from) (name_of net i.to) (flow_by flow i) i.amount (removed_by printed i) (is_pinned net i)
 
 -- the graph with these modules and these imports
 abbrev pub picture_text : Network → ℕ → ℕ → List Priced → List Priced → (ℕ → Bool) → List ℕ → List Priced → List ℕ
 picture_text net a b printed flow reached modules imports =
-    codes "digraph cut {\n  rankdir=LR;\n" ++ flat_map (module_at net a b reached) modules ++ flat_map (import_at net printed flow) imports ++ codes "}\n"
+    codes "digraph cut {\n  rankdir=LR;\n" ++ flat_map (line_of_module net a b reached) modules ++ flat_map (line_of_import net printed flow) imports ++ codes "}\n"
 
 -- no byte is a quotation mark or a backslash
 abbrev pub NeedsNoEscape : List ℕ → Type 0

@@ -7,7 +7,7 @@ ghost use Rattle.cut_part.specs.Inside.{inside};
 ghost use Rattle.cut_residual.specs.Graphs.{is_seen};
 ghost use Rattle.cut_dot.specs.Ends.{is_end};
 ghost use Rattle.cut_dot.specs.Pictures.{drawn_imports, drawn_modules, is_drawn};
-ghost use Rattle.cut_dot.specs.Texts.{end_mark, ends_text, import_at, label_text, module_at, module_line, picture_text, pin_text, reached_mark, removed_mark};
+ghost use Rattle.cut_dot.specs.Texts.{end_mark, ends_text, line_of_import, label_text, line_of_module, module_line, picture_text, pin_text, reached_mark, removed_mark};
 
 use crate::lines::{flow_on, is_pinned, is_removed};
 use cut_net::{Cut, Net, Priced};
@@ -96,7 +96,7 @@ fn push_drawn(
     requires reached { length reached.now ≡ length net.now.names }
     requires node { node < length net.now.names }
     ensures { OnOk result (string_bytes text.new ≡ string_bytes text.old ++
-        (if is_drawn from to (is_seen between.now) node then module_at net.now from to (is_seen reached.now) node else [])) }
+        (if is_drawn from to (is_seen between.now) node then line_of_module net.now from to (is_seen reached.now) node else [])) }
 {
     let is_end = is_end(from, to, node);
     if between[node as usize] | is_end {
@@ -117,7 +117,7 @@ fn push_modules(
     requires between { length between.now ≡ length net.now.names }
     requires reached { length reached.now ≡ length net.now.names }
     ensures { OnOk result (string_bytes text.new ≡ string_bytes text.old ++
-        flat_map (module_at net.now from to (is_seen reached.now)) (drawn_modules net.now from to (is_seen between.now))) }
+        flat_map (line_of_module net.now from to (is_seen reached.now)) (drawn_modules net.now from to (is_seen between.now))) }
 {
     for node in 0..net.nodes() {
         push_drawn(text, net, from, to, between, reached, node)?;
@@ -140,7 +140,7 @@ fn push_inside(
     requires from { import.from < length net.now.names }
     requires to { import.to < length net.now.names }
     ensures { OnOk result (string_bytes text.new ≡ string_bytes text.old ++
-        (if inside (is_seen between.now) import then import_at net.now removed.now flow.now import else [])) }
+        (if inside (is_seen between.now) import then line_of_import net.now removed.now flow.now import else [])) }
 {
     if between[import.from as usize] & between[import.to as usize] {
         let carried = flow_on(flow, import);
@@ -168,7 +168,7 @@ fn push_imports(
     requires removed { IsAscending removed.now }
     requires flow { IsAscending flow.now }
     ensures { OnOk result (string_bytes text.new ≡ string_bytes text.old ++
-        flat_map (import_at net.now removed.now flow.now) (drawn_imports net.now (is_seen between.now))) }
+        flat_map (line_of_import net.now removed.now flow.now) (drawn_imports net.now (is_seen between.now))) }
 {
     net.keeps();
     let imports = net.imports();

@@ -11,8 +11,8 @@ use Rattle.std.proofs.lemmas.List.Sums.{sum_by-cons}
 use Rattle.digraph.proofs.Members.{from_map, in_map, no_member, one_member}
 use Rattle.digraph.proofs.SameGraphs.{AreSame, acyclic_as}
 use Rattle.cut_net.specs.declared.priced.Priced.{Priced}
-use Rattle.cut_net.specs.declared.standing.Standing.{Standing}
-use Rattle.cut_net.specs.declared.standing.Standing.TheVariants.{Weighs, Stays}
+use Rattle.cut_net.specs.declared.standing.PinState.{PinState}
+use Rattle.cut_net.specs.declared.standing.PinState.TheVariants.{Weighs, Stays}
 use Rattle.cut_net.specs.Lines.{IsAscending, comes_before}
 use Rattle.cut_net.specs.Network.{Network, none_there}
 use Rattle.cut_net.specs.Pins.{ArePins, is_pinned, most_weight, unpinned_weight}
@@ -27,32 +27,32 @@ use Rattle.cut_net.proofs.PinChains.{found_one, one_found}
 -- ---- an import
 
 -- however it stands, an import leads where it led
-same_as : (i : Priced) (s : Standing) → Same (import_as i s) i
+same_as : (i : Priced) (s : PinState) → Same (import_as i s) i
 same_as i (Weighs w) = record { from = refl; to = refl }
 same_as i (Stays w) = record { from = refl; to = refl }
 
 -- it is pinned
-abbrev stays : Standing → Bool
+abbrev stays : PinState → Bool
 stays (Weighs w) = false
 stays (Stays w) = true
 
-pin_from : (i : Priced) (s : Standing) (p : Priced) → Contains (pin_as i s) p → Same i p × (stays s ≡ true)
+pin_from : (i : Priced) (s : PinState) (p : Priced) → Contains (pin_as i s) p → Same i p × (stays s ≡ true)
 pin_from i (Weighs w) p h = no_member p h
 pin_from i (Stays w) p h = (subst (Same i) (one_member (record { from = i.from; to = i.to; amount = w }) p h) (record { from = refl; to = refl }), refl)
 
-pin_there : (i : Priced) (s : Standing) → stays s ≡ true → (p : Priced) × Contains (pin_as i s) p
+pin_there : (i : Priced) (s : PinState) → stays s ≡ true → (p : Priced) × Contains (pin_as i s) p
 pin_there i (Weighs w) e = absurd cc
 pin_there i (Stays w) e = (record { from = i.from; to = i.to; amount = w }, (0, omega arith, refl))
 
-heavy_as : (i : Priced) (s : Standing) → stays s ≡ true → (import_as i s).amount ≡ most_weight + 1
+heavy_as : (i : Priced) (s : PinState) → stays s ≡ true → (import_as i s).amount ≡ most_weight + 1
 heavy_as i (Weighs w) e = absurd cc
 heavy_as i (Stays w) e = refl
 
-light_as : (i : Priced) (s : Standing) → cond (stays s) 0 (import_as i s).amount ≡ unpinned_part s
+light_as : (i : Priced) (s : PinState) → cond (stays s) 0 (import_as i s).amount ≡ unpinned_part s
 light_as i (Weighs w) = refl
 light_as i (Stays w) = refl
 
-within_as : (i : Priced) (s : Standing) → (import_as i s).amount ≤ unpinned_part s + (most_weight + 1)
+within_as : (i : Priced) (s : PinState) → (import_as i s).amount ≤ unpinned_part s + (most_weight + 1)
 within_as i (Weighs w) = omega arith
 within_as i (Stays w) = omega arith
 
@@ -76,7 +76,7 @@ later_up i imports up j k d lt l = up (suc j) (suc k) d (omega arith) (omega ari
 first_before : (i : Priced) (imports : List Priced) → IsAscending (i ∷ imports) → (j : Priced) → Contains imports j → Before i j
 first_before i imports up j (k, lt, at) = before_from i j (subst (λ (x : Priced). comes_before i x ≡ true) at (up 0 (suc k) j (omega arith) (omega arith)))
 
-pin_ahead : (i : Priced) (s : Standing) (pins : List Priced) → ((p : Priced) → Contains pins p → Before i p) → IsAscending pins → IsAscending (pin_as i s ++ pins)
+pin_ahead : (i : Priced) (s : PinState) (pins : List Priced) → ((p : Priced) → Contains pins p → Before i p) → IsAscending pins → IsAscending (pin_as i s ++ pins)
 pin_ahead i (Weighs w) pins before up = up
 pin_ahead i (Stays w) pins before up =
     let pin : Priced = record { from = i.from; to = i.to; amount = w } in
@@ -99,7 +99,7 @@ sum_by-within f g b (x ∷ xs) within =
 
 -- ---- a network
 
-module _ (net : Network) (standing : Priced → Standing) where
+module _ (net : Network) (standing : Priced → PinState) where
   abbrev moved : Priced → Priced
   moved i = import_as i (standing i)
 
@@ -204,15 +204,15 @@ module _ (net : Network) (standing : Priced → Standing) where
 
 -- ---- its lists
 
-pub counted : (standing : Priced → Standing) (imports : List Priced) (standings : List Standing) → standings ≡ map standing imports → sum_by unpinned_part standings ≡ sum_by (λ i. unpinned_part (standing i)) imports
+pub counted : (standing : Priced → PinState) (imports : List Priced) (standings : List PinState) → standings ≡ map standing imports → sum_by unpinned_part standings ≡ sum_by (λ i. unpinned_part (standing i)) imports
 counted standing imports standings same = ap (sum_by unpinned_part) same ∙ sum_by-moved unpinned_part standing imports
 
 abbrev pub net_so : List (List ℕ) → List Priced → List Priced → Network
 net_so names imports pins = record { names = names; imports = imports; pins = pins }
 
-pub same_net : (net : Network) (standing : Priced → Standing) (standings : List Standing) (names : List (List ℕ)) (one two imports pins : List Priced) → standings ≡ map standing net.imports
+pub same_net : (net : Network) (standing : Priced → PinState) (standings : List PinState) (names : List (List ℕ)) (one two imports pins : List Priced) → standings ≡ map standing net.imports
     → names ≡ net.names → one ≡ net.imports → two ≡ net.imports
-    → ((s : Priced → Standing) → standings ≡ map s one → imports ≡ map (λ i. import_as i (s i)) one) → ((s : Priced → Standing) → standings ≡ map s two → pins ≡ flat_map (λ i. pin_as i (s i)) two)
+    → ((s : Priced → PinState) → standings ≡ map s one → imports ≡ map (λ i. import_as i (s i)) one) → ((s : Priced → PinState) → standings ≡ map s two → pins ≡ flat_map (λ i. pin_as i (s i)) two)
     → net_so names imports pins ≡ standing_so net standing
 same_net net standing standings names one two imports pins same named first second are_imports are_pins =
     let i = are_imports standing (same ∙ ap (map standing) (sym first)) ∙ ap (map (λ x. import_as x (standing x))) first in
@@ -221,7 +221,7 @@ same_net net standing standings names one two imports pins same named first seco
 
 -- ---- how heavy it is
 
-module _ (net : Network) (standing : Priced → Standing) (is : IsNetwork net) (standings : List Standing) (same : standings ≡ map standing net.imports) (answer : Bool) (says : IsTrue answer ↔ (sum_by unpinned_part standings ≤ most_weight)) where
+module _ (net : Network) (standing : Priced → PinState) (is : IsNetwork net) (standings : List PinState) (same : standings ≡ map standing net.imports) (answer : Bool) (says : IsTrue answer ↔ (sum_by unpinned_part standings ≤ most_weight)) where
   weighed : unpinned_weight (standing_so net standing) ≡ sum_by unpinned_part standings
   weighed = unpinned_is net standing is.imports_ascend ∙ sym (counted standing net.imports standings same)
 

@@ -6,8 +6,8 @@ use Rattle.std.proofs.lemmas.Grind.{flat_map-append}
 use Rattle.std.proofs.lemmas.List.{append-nil, get_or-map, map_push, take_more}
 use Rattle.cut_net.specs.declared.priced.Priced.{Priced}
 use Rattle.cut_net.specs.declared.standing.Change.{Change}
-use Rattle.cut_net.specs.declared.standing.Standing.{Standing}
-use Rattle.cut_net.specs.declared.standing.Standing.TheVariants.{Weighs, Stays}
+use Rattle.cut_net.specs.declared.standing.PinState.{PinState}
+use Rattle.cut_net.specs.declared.standing.PinState.TheVariants.{Weighs, Stays}
 use Rattle.cut_net.specs.Network.{Network, none_there}
 use Rattle.cut_net.specs.Cuts.{same_ends}
 use Rattle.cut_net.specs.Prices.{pin_as, standing_of, stands_after, stands_by}
@@ -25,12 +25,12 @@ pub given_next : {X Y : Type 0} (f : X → List Y) (xs : List X) (ys more : List
 given_next f xs ys more k d same lt e = rw (take_more xs k d lt, flat_map-append f (take k xs) (get_or xs k d ∷ []), same, e, append-nil (f (get_or xs k d))) refl
 
 -- an import that isn't pinned gives no pin
-pub no_pin : (i : Priced) (s : Standing) → ((w : ℕ) → s ≡ Stays w → ⊥) → [] ≡ pin_as i s
+pub no_pin : (i : Priced) (s : PinState) → ((w : ℕ) → s ≡ Stays w → ⊥) → [] ≡ pin_as i s
 no_pin i (Weighs w) none = refl
 no_pin i (Stays w) none = absurd (none w refl)
 
 -- how an import stands, as it was found
-pub stood : (net : Network) (said : Priced → Option Change) (imports pins : List Priced) (told : List (Option Change)) (k : ℕ) (pin : Option Priced) (now : Standing) → imports ≡ net.imports → pins ≡ net.pins
+pub stood : (net : Network) (said : Priced → Option Change) (imports pins : List Priced) (told : List (Option Change)) (k : ℕ) (pin : Option Priced) (now : PinState) → imports ≡ net.imports → pins ≡ net.pins
     → pin ≡ find (same_ends (get_or imports k none_there)) pins → get_or told k None ≡ said (get_or net.imports k none_there) → now ≡ stands_after (stands_by (get_or imports k none_there) pin) (get_or told k None)
     → now ≡ stands_after (standing_of net (get_or net.imports k none_there)) (said (get_or net.imports k none_there))
 stood net said imports pins told k pin now e f found tells is = rw (is, found, tells, e, f) refl

@@ -29,7 +29,7 @@ abbrev pub IsImport : Network → Priced → Type 0
 IsImport net line = Imports net.imports Any line.from line.to
 
 -- the lines are of imports of the network, in order and once each
-pub record AreInOrder (net : Network) (lines : List Priced) : Type 0 where
+pub record AreImportsInOrder (net : Network) (lines : List Priced) : Type 0 where
   pub known : All (IsImport net) lines
   pub ascending : IsAscending lines
 
@@ -53,8 +53,8 @@ pub record AreWeights (net : Network) (printed : List Priced) (total : ℕ) : Ty
 
 -- the printed imports, with a weight and a flow, are what a checker says yes to
 pub record IsRight (net : Network) (a b : ℕ) (printed : List Priced) (total : ℕ) (flow : List Priced) : Type 0 where
-  pub printed_in_order : AreInOrder net printed
-  pub flow_in_order : AreInOrder net flow
+  pub printed_in_order : AreImportsInOrder net printed
+  pub flow_in_order : AreImportsInOrder net flow
   pub cut : IsCut net a b (removed_by printed)
   pub weights : AreWeights net printed total
   pub is_flow : IsFlow net a b (flow_by flow) total

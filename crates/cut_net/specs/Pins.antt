@@ -8,7 +8,7 @@ use Rattle.cut_net.specs.declared.priced.Priced.{Priced}
 use Rattle.cut_net.specs.Network.{Network}
 use Rattle.cut_net.specs.Said.{Said, CutOf, BlockedBy}
 use Rattle.cut_net.specs.Cuts.{Chain, IsChain, IsCut, IsSide, entering, leaves, leaving, same_ends, weight}
-use Rattle.cut_net.specs.Lines.{flow_by, removed_by, AreInOrder}
+use Rattle.cut_net.specs.Lines.{flow_by, removed_by, AreImportsInOrder}
 
 -- the import is pinned
 abbrev pub is_pinned : Network → Priced → Bool
@@ -96,8 +96,8 @@ pub record AreWeightsWithPins (net : Network) (printed : List Priced) (total : �
 
 -- the printed imports, with a weight and a flow, are what a checker says yes to
 pub record IsRightWithPins (net : Network) (a b : ℕ) (printed : List Priced) (total : ℕ) (flow : List Priced) : Type 0 where
-  pub printed_in_order : AreInOrder net printed
-  pub flow_in_order : AreInOrder net flow
+  pub printed_in_order : AreImportsInOrder net printed
+  pub flow_in_order : AreImportsInOrder net flow
   pub cut : IsCut net a b (removed_by printed)
   pub weights : AreWeightsWithPins net printed total
   pub is_flow : IsFlowWithPins net a b (flow_by flow) total
@@ -132,6 +132,6 @@ unpinned_weight net = sum_by (λ i. if is_pinned net i then 0 else i.amount) net
 -- the pins are of imports of the network, in order and once each; where there is one, the others weigh at most 2 ^ 40 in sum. In place of a weight a
 -- pinned import has one more, which is more than every cut weighs
 pub record ArePins (net : Network) : Type 0 where
-  pub in_order : AreInOrder net net.pins
+  pub in_order : AreImportsInOrder net net.pins
   pub heavy : (i : Priced) → Contains net.imports i → is_pinned net i ≡ true → i.amount ≡ most_weight + 1
   pub light : 0 < length net.pins → unpinned_weight net ≤ most_weight

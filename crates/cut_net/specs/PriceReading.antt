@@ -12,8 +12,8 @@ use Rattle.cut_net.specs.declared.price_fault.PriceFault.{PriceFault}
 use Rattle.cut_net.specs.declared.price_fault.PriceFault.TheVariants as faults
 use Rattle.cut_net.specs.declared.standing.Change.{Change}
 use Rattle.cut_net.specs.declared.standing.Change.TheVariants.{Price, Pin}
-use Rattle.cut_net.specs.declared.standing.Standing.{Standing}
-use Rattle.cut_net.specs.declared.standing.Standing.TheVariants.{Weighs, Stays}
+use Rattle.cut_net.specs.declared.standing.PinState.{PinState}
+use Rattle.cut_net.specs.declared.standing.PinState.TheVariants.{Weighs, Stays}
 use Rattle.cut_net.specs.declared.price_lines.PriceLine as lines
 
 -- ---- a line
@@ -60,7 +60,7 @@ abbrev pub IsToldOf : Network → List ℕ → List (Option Change) → Type 0
 IsToldOf net bytes told = (lines : List PriceLine) × SpellPrices (pieces_of bytes) lines × IsTold net lines told
 
 -- what is counted of its weight: nothing where it is pinned
-abbrev pub unpinned_part : Standing → ℕ
+abbrev pub unpinned_part : PinState → ℕ
 unpinned_part (Weighs w) = w
 unpinned_part (Stays w) = 0
 

@@ -6,8 +6,8 @@ use Rattle.std.specs.Fmt.{decimal}
 use Rattle.cut_net.specs.declared.priced.Priced.{Priced}
 use Rattle.cut_net.specs.declared.standing.Change.{Change}
 use Rattle.cut_net.specs.declared.standing.Change.TheVariants.{Price, Pin}
-use Rattle.cut_net.specs.declared.standing.Standing.{Standing}
-use Rattle.cut_net.specs.declared.standing.Standing.TheVariants.{Weighs, Stays}
+use Rattle.cut_net.specs.declared.standing.PinState.{PinState}
+use Rattle.cut_net.specs.declared.standing.PinState.TheVariants.{Weighs, Stays}
 use Rattle.texts.specs.Fields.{is_name, line_of}
 use Rattle.cut_net.specs.Network.{Network, name_of}
 use Rattle.cut_net.specs.Cuts.{same_ends}
@@ -104,15 +104,15 @@ pub record IsTwicePrice (net : Network) (bytes : List ℕ) (k : ℕ) : Type 0 wh
 abbrev pub pin_of : Network → Priced → Option Priced
 pin_of net i = find (same_ends i) net.pins
 
-abbrev pub stands_by : Priced → Option Priced → Standing
+abbrev pub stands_by : Priced → Option Priced → PinState
 stands_by i None = Weighs i.amount
 stands_by i (Some pin) = Stays pin.amount
 
 -- how an import of the network stands
-abbrev pub standing_of : Network → Priced → Standing
+abbrev pub standing_of : Network → Priced → PinState
 standing_of net i = stands_by i (pin_of net i)
 
-abbrev pub weight_in : Standing → ℕ
+abbrev pub weight_in : PinState → ℕ
 weight_in (Weighs w) = w
 weight_in (Stays w) = w
 
@@ -121,7 +121,7 @@ abbrev pub as_weighed : Network → Priced → Priced
 as_weighed net i = record { from = i.from; to = i.to; amount = weight_in (standing_of net i) }
 
 -- how it stands after what its line says, if it has one. A price ends a pin
-abbrev pub stands_after : Standing → Option Change → Standing
+abbrev pub stands_after : PinState → Option Change → PinState
 stands_after s None = s
 stands_after s (Some (Price w)) = Weighs w
 stands_after s (Some Pin) = Stays (weight_in s)
@@ -131,21 +131,21 @@ abbrev pub said_of : Network → List PriceLine → Priced → Option Change
 said_of net lines i = option_map (λ (line : PriceLine). line.change) (find (is_of net i) lines)
 
 -- how an import of the network stands after these lines
-abbrev pub standing_by : Network → List PriceLine → Priced → Standing
+abbrev pub standing_by : Network → List PriceLine → Priced → PinState
 standing_by net lines i = stands_after (standing_of net i) (said_of net lines i)
 
 -- the import, as it stands
-abbrev pub import_as : Priced → Standing → Priced
+abbrev pub import_as : Priced → PinState → Priced
 import_as i (Weighs w) = record { from = i.from; to = i.to; amount = w }
 import_as i (Stays w) = record { from = i.from; to = i.to; amount = most_weight + 1 }
 
 -- its pin, where it is pinned
-abbrev pub pin_as : Priced → Standing → List Priced
+abbrev pub pin_as : Priced → PinState → List Priced
 pin_as i (Weighs w) = []
 pin_as i (Stays w) = record { from = i.from; to = i.to; amount = w } ∷ []
 
 -- the network whose imports stand so
-abbrev pub standing_so : Network → (Priced → Standing) → Network
+abbrev pub standing_so : Network → (Priced → PinState) → Network
 standing_so net standing = record {
   names = net.names;
   imports = map (λ i. import_as i (standing i)) net.imports;

@@ -3,7 +3,7 @@ ghost use Rattle.std.specs.Prelude.{ℕ, ◌≡◌, ◌<◌, ◌≤◌, ◌↔�
 ghost use Rattle.std.specs.List.{flat_map};
 ghost use Rattle.cut_net.specs.declared.priced.Priced.{Priced};
 ghost use Rattle.cut_net.specs.declared.standing.Change.{Change};
-ghost use Rattle.cut_net.specs.declared.standing.Standing.{Standing};
+ghost use Rattle.cut_net.specs.declared.standing.PinState.{PinState};
 ghost use Rattle.cut_net.specs.Network.{none_there};
 ghost use Rattle.cut_net.specs.Pins.{most_weight};
 ghost use Rattle.cut_net.specs.Prices.{import_as, is_named, pin_as, standing_of, standing_so, stands_after, stands_by, IsPriceOutcome, PriceLine, PriceOutcome};
@@ -13,7 +13,7 @@ use crate::found::{line_of, place_in};
 use crate::numbering::copied;
 use crate::price_fault::PriceLineFault;
 use crate::price_lines::price_line_in;
-use crate::standing::{Change, Standing};
+use crate::standing::{Change, PinState};
 use crate::{Net, PriceFault, Priced};
 use std::alloc::{AllocError, Global};
 
@@ -77,7 +77,7 @@ fn told_by(alloc: Global, net: &Net, bytes: &[u8]) -> Result<Vec<Option<Change>>
 }
 
 /// How an import stands with what is told of it, where it stood so with its pin before.
-fn standing_after(import: Priced, pin: Option<Priced>, told: Option<Change>) -> Standing
+fn standing_after(import: Priced, pin: Option<Priced>, told: Option<Change>) -> PinState
     ensures { result ≡ stands_after (stands_by import pin) told }
 {
     let before = match pin {
@@ -85,13 +85,13 @@ fn standing_after(import: Priced, pin: Option<Priced>, told: Option<Change>) -> 
         None => import.amount,
     };
     match told {
-        Some(Change::Price(weight)) => Standing::Weighs(weight),
-        Some(Change::Pin) => Standing::Stays(before),
+        Some(Change::Price(weight)) => PinState::Weighs(weight),
+        Some(Change::Pin) => PinState::Stays(before),
         None => {
             if pin.is_some() {
-                Standing::Stays(before)
+                PinState::Stays(before)
             } else {
-                Standing::Weighs(before)
+                PinState::Weighs(before)
             }
         }
     }
@@ -102,7 +102,7 @@ fn standings_of(
     alloc: Global,
     net: &Net,
     told: &[Option<Change>],
-) -> Result<Vec<Standing>, AllocError>
+) -> Result<Vec<PinState>, AllocError>
     requires { length told.now ≡ length net.now.imports }
     ensures { IfOk result (λ standings. (said : Priced → Option Change) → told.now ≡ map said net.now.imports →
         standings.items ≡ map (λ i. stands_after (standing_of net.now i) (said i)) net.now.imports) }
@@ -118,12 +118,12 @@ fn standings_of(
 }
 
 /// Whether the weights of the imports without a pin sum to at most 2^40.
-fn is_light(standings: &[Standing]) -> bool
+fn is_light(standings: &[PinState]) -> bool
     ensures { IsTrue result ↔ (sum_by unpinned_part standings.now ≤ most_weight) }
 {
     let mut total: u64 = 0;
     for standing in standings {
-        if let Standing::Weighs(weight) = standing {
+        if let PinState::Weighs(weight) = standing {
             if *weight > MOST_WEIGHT - total {
                 return false;
             }
@@ -134,12 +134,12 @@ fn is_light(standings: &[Standing]) -> bool
 }
 
 /// An import, as it stands.
-fn import_as(import: Priced, standing: Standing) -> Priced
+fn import_as(import: Priced, standing: PinState) -> Priced
     ensures { result ≡ import_as import standing }
 {
     let amount = match standing {
-        Standing::Weighs(weight) => weight,
-        Standing::Stays(_) => MOST_WEIGHT + 1,
+        PinState::Weighs(weight) => weight,
+        PinState::Stays(_) => MOST_WEIGHT + 1,
     };
     Priced {
         from: import.from,
@@ -152,10 +152,10 @@ fn import_as(import: Priced, standing: Standing) -> Priced
 fn imports_as(
     alloc: Global,
     imports: &[Priced],
-    standings: &[Standing],
+    standings: &[PinState],
 ) -> Result<Vec<Priced>, AllocError>
     requires { length standings.now ≡ length imports.now }
-    ensures { IfOk result (λ changed. (standing : Priced → Standing) → standings.now ≡ map standing imports.now → changed.items ≡ map (λ i. import_as i (standing i)) imports.now) }
+    ensures { IfOk result (λ changed. (standing : Priced → PinState) → standings.now ≡ map standing imports.now → changed.items ≡ map (λ i. import_as i (standing i)) imports.now) }
 {
     let mut changed = Vec::new(alloc);
     for number in 0..imports.len() {
@@ -168,14 +168,14 @@ fn imports_as(
 fn pins_as(
     alloc: Global,
     imports: &[Priced],
-    standings: &[Standing],
+    standings: &[PinState],
 ) -> Result<Vec<Priced>, AllocError>
     requires { length standings.now ≡ length imports.now }
-    ensures { IfOk result (λ pins. (standing : Priced → Standing) → standings.now ≡ map standing imports.now → pins.items ≡ flat_map (λ i. pin_as i (standing i)) imports.now) }
+    ensures { IfOk result (λ pins. (standing : Priced → PinState) → standings.now ≡ map standing imports.now → pins.items ≡ flat_map (λ i. pin_as i (standing i)) imports.now) }
 {
     let mut pins = Vec::new(alloc);
     for number in 0..imports.len() {
-        if let Standing::Stays(amount) = standings[number] {
+        if let PinState::Stays(amount) = standings[number] {
             pins.push(Priced {
                 from: imports[number].from,
                 to: imports[number].to,
@@ -187,10 +187,10 @@ fn pins_as(
 }
 
 /// The network whose imports stand so.
-fn standing_so(alloc: Global, net: &Net, standings: &[Standing]) -> Result<Net, AllocError>
-    requires standing { (standing : Priced → Standing) × (standings.now ≡ map standing net.now.imports) }
+fn standing_so(alloc: Global, net: &Net, standings: &[PinState]) -> Result<Net, AllocError>
+    requires standing { (standing : Priced → PinState) × (standings.now ≡ map standing net.now.imports) }
     requires light { sum_by unpinned_part standings.now ≤ most_weight }
-    ensures { IfOk result (λ changed. (standing : Priced → Standing) → standings.now ≡ map standing net.now.imports → changed ≡ standing_so net.now standing) }
+    ensures { IfOk result (λ changed. (standing : Priced → PinState) → standings.now ≡ map standing net.now.imports → changed ≡ standing_so net.now standing) }
 {
     net.keeps();
     let names = copied(alloc, net.names.as_slice())?;

@@ -2,7 +2,7 @@
 
 /// How an import stands: it has this weight, or it is pinned and had this weight before.
 #[derive(Clone, Copy)]
-pub(crate) enum Standing {
+pub(crate) enum PinState {
     Weighs(u64),
     Stays(u64),
 }

@@ -9,7 +9,7 @@ use Rattle.cut_net.specs.declared.priced.Priced.{Priced}
 use Rattle.cut_net.specs.Network.{Network, none_there}
 use Rattle.cut_net.specs.WellFormed.{AreBetween}
 use Rattle.cut_net.specs.Cuts.{Any, Chain, IsChain, IsCheapest, IsCut, Outside, same_ends, weight}
-use Rattle.cut_net.specs.Lines.{amount_in, comes_before, flow_by, removed_by, AreInOrder, IsAnswer, IsCheapestSaid, IsCutAnswer, IsImport}
+use Rattle.cut_net.specs.Lines.{amount_in, comes_before, flow_by, removed_by, AreImportsInOrder, IsAnswer, IsCheapestSaid, IsCutAnswer, IsImport}
 use Rattle.cut_net.specs.Said.{Said, CutOf, BlockedBy}
 use Rattle.cut_net.proofs.Chains.{step, widened}
 use Rattle.cut_net.proofs.Ends.{before_from, before_true, same_from}
@@ -111,7 +111,7 @@ module _ (net : Network) (a b : ℕ) (a_in : a < length net.names) (b_in : b < l
       let count = part.count in
       (omega arith, omega arith)
 
-  pub lines_low : (lines : List Priced) → AreInOrder small lines → AreBetween lines (length numbers)
+  pub lines_low : (lines : List Priced) → AreImportsInOrder small lines → AreBetween lines (length numbers)
   lines_low lines order line c = line_low line (All-contains (IsImport small) lines line order.known c)
 
   line_inside : (line : Priced) → IsImport small line → inside (is_seen marks) (up line) ≡ true
@@ -185,7 +185,7 @@ module _ (net : Network) (a b : ℕ) (a_in : a < length net.names) (b_in : b < l
         | inr (e, less) ↦ record { by = inr (ap (λ m. get_or numbers m 0) e, part.numbered.ascend i.to j.to less j_low.1) }
       ])
 
-  in_order_up : (lines : List Priced) → AreInOrder small lines → AreInOrder net (map up lines)
+  in_order_up : (lines : List Priced) → AreImportsInOrder small lines → AreImportsInOrder net (map up lines)
   in_order_up lines order = record {
     known = λ k d h.
         let long = length-map lines up in

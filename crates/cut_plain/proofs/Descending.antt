@@ -5,7 +5,7 @@ use Rattle.std.proofs.lemmas.List.{length_push, get_or_append_left, reverse-appe
 use Rattle.cut_residual.specs.declared.arc.Arc.{Arc}
 use Rattle.cut_residual.specs.declared.arc.ResidualArc.{ResidualArc}
 use Rattle.cut_residual.specs.Flows.{IsBalanced}
-use Rattle.cut_residual.specs.Graphs.{tail, head, Leads}
+use Rattle.cut_residual.specs.Graphs.{tail, head, IsResidualWalk}
 use Rattle.cut_residual.proofs.Walking.{AllPairs-reverse, same_arc}
 use Rattle.cut_plain.specs.Levels.{opposite, Climbs, LeadsBack, RaisesOrKeeps}
 
@@ -70,15 +70,15 @@ leads_off arcs b [] s at (e, rest) = sym e
 leads_off arcs b (t ∷ more) s at (e, rest) = (e, leads_off arcs (tail arcs t) more s at rest)
 
 -- from the beginning on it is a path to the end
-longer : (arcs : List Arc) (a : ℕ) (path : List ResidualArc) (at : ℕ) (s : ResidualArc) → Leads arcs a path at → tail arcs s ≡ at → Leads arcs a (path ++ s ∷ []) (head arcs s)
+longer : (arcs : List Arc) (a : ℕ) (path : List ResidualArc) (at : ℕ) (s : ResidualArc) → IsResidualWalk arcs a path at → tail arcs s ≡ at → IsResidualWalk arcs a (path ++ s ∷ []) (head arcs s)
 longer arcs a [] at s e is = (is ∙ sym e, refl)
 longer arcs a (t ∷ more) at s (e, rest) is = (e, longer arcs (head arcs t) more at s rest is)
 
-pub leads_forth : (arcs : List Arc) (b : ℕ) (path : List ResidualArc) (a : ℕ) → LeadsBack arcs b path a → Leads arcs a (reverse path) b
+pub leads_forth : (arcs : List Arc) (b : ℕ) (path : List ResidualArc) (a : ℕ) → LeadsBack arcs b path a → IsResidualWalk arcs a (reverse path) b
 leads_forth arcs b [] a e = sym e
 leads_forth arcs b (s ∷ more) a (e, rest) =
     let grown : reverse (s ∷ more) ≡ reverse more ++ s ∷ [] = reverse-append (s ∷ []) more in
-    subst (λ v. Leads arcs a v b) (sym grown) (subst (Leads arcs a (reverse more ++ s ∷ [])) e (longer arcs a (reverse more) (tail arcs s) s (leads_forth arcs (tail arcs s) more a rest) refl))
+    subst (λ v. IsResidualWalk arcs a v b) (sym grown) (subst (IsResidualWalk arcs a (reverse more ++ s ∷ [])) e (longer arcs a (reverse more) (tail arcs s) s (leads_forth arcs (tail arcs s) more a rest) refl))
 
 -- a flow that rises twice
 pub raises_more : (xs ys zs : List Arc) (a b : ℕ) → RaisesOrKeeps xs ys a b → RaisesOrKeeps ys zs a b → RaisesOrKeeps xs zs a b

@@ -7,14 +7,14 @@ ghost use Rattle.cut_residual.specs.Searches.{IsSearchOf};
 ghost use Rattle.cut_plain.specs.Levels.{Raises};
 
 use crate::blocking::blocking_flow;
-use cut_residual::{Found, ResidualGraph, order_of, path_to, places_of, search};
+use cut_residual::{ResidualGraph, Searched, order_of, path_to, places_of, search};
 use std::alloc::{AllocError, Global};
 
 /// Raises the flow, where the search has come to the end.
 fn raise(
     alloc: Global,
     graph: &mut ResidualGraph,
-    found: &Found,
+    found: &Searched,
     from: u32,
     to: u32,
 ) -> Result<(), AllocError>
@@ -39,7 +39,7 @@ pub(crate) fn maximum_flow(
     graph: &mut ResidualGraph,
     from: u32,
     to: u32,
-) -> Result<Found, AllocError>
+) -> Result<Searched, AllocError>
     requires apart { from ≢ to }
     requires from { from < graph.old.nodes }
     requires to { to < graph.old.nodes }

@@ -6,7 +6,7 @@ use Rattle.cut_preflow.specs.declared.event.Event.{Event}
 use Rattle.cut_preflow.specs.declared.event.Outcome.{Outcome}
 use Rattle.cut_preflow.specs.declared.event.Outcome.TheVariants.{Moved, Stale}
 use Rattle.cut_preflow.specs.Preflow.{FlowNetwork, State, count, import_at, flow_at, is_forward, can_push, push_amount, pushed, relabel_target, relabelled, after, applies, run, opening, residual}
-use Rattle.cut_preflow.specs.Trace.{IsSound, IsTrace, outcome_of, raised_outcome, history_after}
+use Rattle.cut_preflow.specs.Trace.{IsSound, IsTrace, step_outcome, raised_outcome, history_after}
 use Rattle.cut_preflow.proofs.Choices.{true_or_false, pick_true, pick_false}
 use Rattle.cut_preflow.proofs.Totals.{term-le-total}
 use Rattle.cut_preflow.proofs.Arcs.{Pushable, pushable_from, ahead, back, raisable_from, eq_true, eq_from}
@@ -93,14 +93,14 @@ pub raised_low : (net : FlowNetwork) (s : State) (v label : ℕ) → relabel_tar
 raised_low net s v label on = (raisable_from net s v label on).active.low
 
 -- the state of the history after an event, by its outcome
-pub state_after : (net : FlowNetwork) (history : List Event) (e : Event) (outcome : Outcome) → outcome ≡ outcome_of net (run net (opening net) history) e.step → run net (opening net) (history_after history e outcome) ≡ after net (run net (opening net) history) e.step
+pub state_after : (net : FlowNetwork) (history : List Event) (e : Event) (outcome : Outcome) → outcome ≡ step_outcome net (run net (opening net) history) e.step → run net (opening net) (history_after history e outcome) ≡ after net (run net (opening net) history) e.step
 state_after net history e outcome is =
     ap (λ o. run net (opening net) (history_after history e o)) is ∙ go (run net (opening net) history) refl e.step refl
   where
     appended : (step : Step) → e.step ≡ step → (s : State) → run net (opening net) history ≡ s → run net (opening net) (history ++ e ∷ []) ≡ after net s step
     appended step q s p = run-push net (opening net) history e ∙ ap (λ x. after net (run net (opening net) history) x) q ∙ ap (λ t. after net t step) p
 
-    go : (s : State) → run net (opening net) history ≡ s → (step : Step) → e.step ≡ step → run net (opening net) (history_after history e (outcome_of net s step)) ≡ after net s step
+    go : (s : State) → run net (opening net) history ≡ s → (step : Step) → e.step ≡ step → run net (opening net) (history_after history e (step_outcome net s step)) ≡ after net s step
     go s p (Push arc) q = elim (true_or_false (can_push net s arc)) [
       | inl on ↦
           ap (λ b. run net (opening net) (history_after history e (if b then Moved (push_amount net s arc) else Stale))) on ∙ appended (Push arc) q s p

@@ -54,9 +54,9 @@ raised_outcome None = Stale
 raised_outcome (Some label) = Raised label
 
 -- what a step answers, where memory is not refused
-abbrev pub outcome_of : FlowNetwork → State → Step → Outcome
-outcome_of net s (Push arc) = if can_push net s arc then Moved (push_amount net s arc) else Stale
-outcome_of net s (Relabel node) = raised_outcome (relabel_target net s node)
+abbrev pub step_outcome : FlowNetwork → State → Step → Outcome
+step_outcome net s (Push arc) = if can_push net s arc then Moved (push_amount net s arc) else Stale
+step_outcome net s (Relabel node) = raised_outcome (relabel_target net s node)
 
 -- the history after an event with this outcome
 abbrev pub history_after : List Event → Event → Outcome → List Event

@@ -5,7 +5,7 @@ ghost use Rattle.cut_preflow.specs.Preflow.{count, import_at, flow_at, label_at,
 ghost use Rattle.cut_preflow.specs.Kept.{IsFlowNetwork, IsQuiet};
 ghost use Rattle.cut_preflow.specs.Bound.{most_changes};
 ghost use Rattle.cut_preflow.specs.Flows.{AreEnds, AreNear, AreReached, HasFlow, IsShutOff, network_between, network_on};
-ghost use Rattle.cut_preflow.specs.Trace.{state_of, outcome_of, history_after, IsSound, IsWithinLimits};
+ghost use Rattle.cut_preflow.specs.Trace.{state_of, step_outcome, history_after, IsSound, IsWithinLimits};
 ghost use Rattle.cut_preflow.specs.Settled.{Appends, AppendsUpTo};
 ghost use Rattle.cut_preflow.specs.Shares.{count_after, mark_after};
 ghost use Rattle.cut_preflow.specs.Side.{has};
@@ -125,7 +125,7 @@ impl<L: NetworkLedger> Preflow<L> {
     /// preflow's own share.
     pub fn apply(&mut self, event: Event) -> Outcome
         ensures stale { (result ≡ Outcome.Stale) ↔ (applies self.old.trace.net (state_of self.old.trace) event.step ≡ false) }
-        ensures outcome { result ≢ Outcome.Refused → result ≡ outcome_of self.old.trace.net (state_of self.old.trace) event.step }
+        ensures outcome { result ≢ Outcome.Refused → result ≡ step_outcome self.old.trace.net (state_of self.old.trace) event.step }
         ensures history { self.new.trace ≡ record self.old.trace { history = history_after self.old.trace.history event result } }
         ensures state { result ≢ Outcome.Refused → state_of self.new.trace ≡ after self.old.trace.net (state_of self.old.trace) event.step }
         ensures counted { self.new ≡ record self.old { trace = self.new.trace; counted = count_after self.old.counted result; own = count_after self.old.own result } }
@@ -141,7 +141,7 @@ impl<L: NetworkLedger> Preflow<L> {
     /// As `apply`, with the step counted in this share. A refused step marks the share.
     pub fn apply_as(&mut self, event: Event, share: &mut Share<L>) -> Outcome
         ensures stale { (result ≡ Outcome.Stale) ↔ (applies self.old.trace.net (state_of self.old.trace) event.step ≡ false) }
-        ensures outcome { result ≢ Outcome.Refused → result ≡ outcome_of self.old.trace.net (state_of self.old.trace) event.step }
+        ensures outcome { result ≢ Outcome.Refused → result ≡ step_outcome self.old.trace.net (state_of self.old.trace) event.step }
         ensures history { self.new.trace ≡ record self.old.trace { history = history_after self.old.trace.history event result } }
         ensures state { result ≢ Outcome.Refused → state_of self.new.trace ≡ after self.old.trace.net (state_of self.old.trace) event.step }
         ensures counted { self.new ≡ record self.old { trace = self.new.trace; counted = count_after self.old.counted result } }

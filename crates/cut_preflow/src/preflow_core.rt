@@ -5,7 +5,7 @@ ghost use Rattle.cut_preflow.specs.Kept.{IsFlowNetwork, IsQuiet};
 ghost use Rattle.cut_preflow.specs.Bound.{most_changes};
 ghost use Rattle.cut_preflow.specs.Flows.{AreEnds, AreNear, AreReached, HasFlow, IsShutOff, network_between};
 ghost use Rattle.cut_preflow.specs.Side.{has};
-ghost use Rattle.cut_preflow.specs.Trace.{state_of, outcome_of, history_after, IsSound, IsWithinLimits, flow_network};
+ghost use Rattle.cut_preflow.specs.Trace.{state_of, step_outcome, history_after, IsSound, IsWithinLimits, flow_network};
 
 use crate::ends::Ends;
 use crate::excesses::{move_excess, saturate};
@@ -134,7 +134,7 @@ impl PreflowCore {
     /// the step doesn't apply, and Refused where memory for the history was refused; then nothing changed.
     pub(crate) fn apply(&mut self, event: Event) -> Outcome
         ensures stale { (result ≡ Outcome.Stale) ↔ (applies self.old.net (state_of self.old) event.step ≡ false) }
-        ensures outcome { result ≢ Outcome.Refused → result ≡ outcome_of self.old.net (state_of self.old) event.step }
+        ensures outcome { result ≢ Outcome.Refused → result ≡ step_outcome self.old.net (state_of self.old) event.step }
         ensures history { self.new ≡ record self.old { history = history_after self.old.history event result } }
         ensures state { result ≢ Outcome.Refused → state_of self.new ≡ after self.old.net (state_of self.old) event.step }
     {
@@ -146,7 +146,7 @@ impl PreflowCore {
     /// The same, with the turn left as it is.
     fn take(&mut self, event: Event) -> Outcome
         ensures stale { (result ≡ Outcome.Stale) ↔ (applies self.old.net (state_of self.old) event.step ≡ false) }
-        ensures outcome { result ≢ Outcome.Refused → result ≡ outcome_of self.old.net (state_of self.old) event.step }
+        ensures outcome { result ≢ Outcome.Refused → result ≡ step_outcome self.old.net (state_of self.old) event.step }
         ensures history { self.new ≡ record self.old { history = history_after self.old.history event result } }
         ensures state { result ≢ Outcome.Refused → state_of self.new ≡ after self.old.net (state_of self.old) event.step }
     {
@@ -338,7 +338,7 @@ impl PreflowCore {
     /// Pushes over an arc, where that applies.
     fn push(&mut self, event: Event, arc: u32) -> Outcome
         requires { event.step ≡ Step.Push arc }
-        ensures outcome { result ≢ Outcome.Refused → result ≡ outcome_of self.old.net (state_of self.old) event.step }
+        ensures outcome { result ≢ Outcome.Refused → result ≡ step_outcome self.old.net (state_of self.old) event.step }
         ensures refused { result ≡ Outcome.Refused → applies self.old.net (state_of self.old) event.step ≡ true }
         ensures history { self.new ≡ record self.old { history = history_after self.old.history event result } }
     {
@@ -372,7 +372,7 @@ impl PreflowCore {
     /// Raises the label of a node, where that applies.
     fn relabel(&mut self, event: Event, node: u32) -> Outcome
         requires { event.step ≡ Step.Relabel node }
-        ensures outcome { result ≢ Outcome.Refused → result ≡ outcome_of self.old.net (state_of self.old) event.step }
+        ensures outcome { result ≢ Outcome.Refused → result ≡ step_outcome self.old.net (state_of self.old) event.step }
         ensures refused { result ≡ Outcome.Refused → applies self.old.net (state_of self.old) event.step ≡ true }
         ensures history { self.new ≡ record self.old { history = history_after self.old.history event result } }
     {

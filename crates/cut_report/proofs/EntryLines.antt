@@ -9,7 +9,7 @@ use Rattle.cut_net.specs.declared.priced.Priced.{Priced}
 use Rattle.cut_net.specs.Network.{Network, name_of, index_of}
 use Rattle.cut_net.specs.WellFormed.{IsNetwork}
 use Rattle.cut_net.specs.Said.{Said, CutOf, BlockedBy}
-use Rattle.cut_report.specs.Entry.{Entry}
+use Rattle.cut_report.specs.ReportClaim.{ReportClaim}
 use Rattle.cut_report.specs.ReportText.{IsReport, IsSayable, MaySay}
 use Rattle.cut_report.specs.ReportLine.{ReportLine, Ends, Weighs, Removes, Flows, Blocks, Last}
 use Rattle.texts.specs.Fields.{is_name}
@@ -105,7 +105,7 @@ said_good net s (Flows m n k) w f may = absurd cc
 said_good net s (Blocks names) w f may = absurd cc
 said_good net s Last w f may = absurd cc
 
-pub report_good : (net : Network) (e : Entry) → IsNetwork net → IsReport net e → AreGoodAfter net None (entry_lines net e)
+pub report_good : (net : Network) (e : ReportClaim) → IsNetwork net → IsReport net e → AreGoodAfter net None (entry_lines net e)
 report_good net e w r = (
   record { form = (name_is net e.from w r.from, name_is net e.to w r.to); follows = refl; known = (name_known net e.from r.from, name_known net e.to r.to); above = refl },
   said_good net e.said (Ends (name_of net e.from) (name_of net e.to)) w refl r.says,
@@ -132,7 +132,7 @@ good_said net (BlockedBy chain) last w g =
     let some = g.0.form.0 in
     (omega arith, named_chain net chain g.0.form.1)
 
-pub good_report : (net : Network) (e : Entry) → IsNetwork net → AreGoodAfter net None (front_lines net e) → IsReport net e
+pub good_report : (net : Network) (e : ReportClaim) → IsNetwork net → AreGoodAfter net None (front_lines net e) → IsReport net e
 good_report net e w g = record {
   from = named_in net e.from g.0.form.0;
   to = named_in net e.to g.0.form.1;
@@ -188,7 +188,7 @@ first_in net (Flows m n k ∷ lines) = (0, 0)
 first_in net (Blocks names ∷ lines) = (0, 0)
 first_in net (Last ∷ lines) = (0, 0)
 
-abbrev pub entry_in : Network → List ReportLine → Entry
+abbrev pub entry_in : Network → List ReportLine → ReportClaim
 entry_in net lines = record { from = (first_in net lines).0; to = (first_in net lines).1; said = said_in net (behind_first lines) }
 
 place_again : (net : Network) (i : ℕ) → IsNetwork net → i < length net.names → place net (name_of net i) ≡ i
@@ -232,5 +232,5 @@ said_again net (CutOf total printed flow) w s =
     ) refl
 said_again net (BlockedBy chain) w s = rw (chain_again net chain w s.1) refl
 
-pub entry_again : (net : Network) (e : Entry) → IsNetwork net → IsReport net e → entry_in net (entry_lines net e) ≡ e
+pub entry_again : (net : Network) (e : ReportClaim) → IsNetwork net → IsReport net e → entry_in net (entry_lines net e) ≡ e
 entry_again net e w r = rw (place_again net e.from w r.from, place_again net e.to w r.to, said_again net e.said w r.says) refl

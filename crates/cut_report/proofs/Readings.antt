@@ -4,7 +4,7 @@ use Rattle.std.specs.Prelude.{IfSome}
 use Rattle.std.proofs.lemmas.List.{append-nil}
 use Rattle.cut_net.specs.Network.{Network}
 use Rattle.cut_net.specs.WellFormed.{IsNetwork}
-use Rattle.cut_report.specs.Entry.{Entry}
+use Rattle.cut_report.specs.ReportClaim.{ReportClaim}
 use Rattle.cut_report.specs.ReportLine.{ReportLine, Last, written}
 use Rattle.cut_report.specs.ReportLines.{last_of, IsFront, ReportOutcome, Reads, BadLine, UnknownName, Order, NoEnd, IsReportOutcome}
 use Rattle.cut_report.specs.declared.fault.ReportFault.{ReportFault}
@@ -31,7 +31,7 @@ record IsStop (net : Network) (bytes : List ℕ) (o : ReportOutcome) : Type 0 wh
   stops : rest_kind net (last_of None before) rest ≢ Good
   is : o ≡ outcome_at net before (rest_kind net (last_of None before) rest)
 
-last_line : (net : Network) (e : Entry) → last_of None (entry_lines net e) ≡ Some Last
+last_line : (net : Network) (e : ReportClaim) → last_of None (entry_lines net e) ≡ Some Last
 last_line net e = last_of-append None (front_lines net e) (Last ∷ [])
 
 stop : (net : Network) (bytes : List ℕ) (before : List ReportLine) (rest : List ℕ) (k : Kind) (o : ReportOutcome) → IsFront net bytes before rest → rest_kind net (last_of None before) rest ≡ k → k ≢ Good → o ≡ outcome_at net before k
@@ -48,7 +48,7 @@ stop_of : (net : Network) (bytes : List ℕ) (o : ReportOutcome) → IsNetwork n
 stop_of net bytes (Reads e) w h =
     let whole : bytes ≡ written (entry_lines net e) ++ [] = h.spelled ∙ sym (append-nil (written (entry_lines net e))) in
     stop net bytes (entry_lines net e) [] Over (Reads e) (record { good = report_good net e w h.report; whole = whole }) (kind_over net (last_of None (entry_lines net e)) (last_line net e)) (λ bad. cc)
-    (ap (λ (x : Entry). Reads x) (sym (entry_again net e w h.report)))
+    (ap (λ (x : ReportClaim). Reads x) (sym (entry_again net e w h.report)))
 stop_of net bytes (BadLine line) w h =
     let b = h.2 in
     stop net bytes b.before b.rest Bad (BadLine line) b.front (kind_bad net (last_of None b.before) b.rest b.wrong) (λ bad. cc) (ap (λ (n : ℕ). BadLine n) (h.1 ∙ ap (λ (n : ℕ). n + 1) (sym b.count)))

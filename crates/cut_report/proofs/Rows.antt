@@ -7,7 +7,7 @@ use Rattle.cut_net.specs.declared.priced.Priced.{Priced}
 use Rattle.texts.specs.Fields.{ended}
 use Rattle.cut_net.specs.Network.{Network}
 use Rattle.cut_net.specs.Said.{CutOf, BlockedBy}
-use Rattle.cut_report.specs.Entry.{Entry}
+use Rattle.cut_report.specs.ReportClaim.{ReportClaim}
 use Rattle.cut_report.specs.ReportText.{report_text}
 
 one : decimal 1 ≡ codes "1"
@@ -26,7 +26,7 @@ m_to_b = record { from = 2; to = 1; amount = 2 }
 row_net : Network
 row_net = record { names = codes "A" ∷ codes "B" ∷ codes "M" ∷ []; imports = a_to_m ∷ m_to_b ∷ []; pins = [] }
 
-row_entry : Entry
+row_entry : ReportClaim
 row_entry = record { from = 0; to = 1; said = CutOf 2 (a_to_m ∷ []) (a_to_m ∷ m_to_b ∷ []) }
 
 row : report_text row_net row_entry ≡
@@ -35,14 +35,14 @@ unfolding row_net row_entry a_to_m m_to_b
 row = simp two
 
 -- a chain of pins, and one of a single module
-blocked_entry : Entry
+blocked_entry : ReportClaim
 blocked_entry = record { from = 0; to = 1; said = BlockedBy (0 ∷ 2 ∷ 1 ∷ []) }
 
 blocked_row : report_text row_net blocked_entry ≡ ended (codes "cut A B") ++ ended (codes "blocked A M B") ++ ended (codes "end")
 unfolding row_net blocked_entry
 blocked_row = refl
 
-itself_entry : Entry
+itself_entry : ReportClaim
 itself_entry = record { from = 0; to = 0; said = BlockedBy (0 ∷ []) }
 
 itself_row : report_text row_net itself_entry ≡ ended (codes "cut A A") ++ ended (codes "blocked A") ++ ended (codes "end")
@@ -65,7 +65,7 @@ v_to_u = record { from = 3; to = 2; amount = 3 }
 two_ways : Network
 two_ways = record { names = codes "A" ∷ codes "D" ∷ codes "U" ∷ codes "V" ∷ []; imports = a_to_u ∷ a_to_v ∷ u_to_d ∷ v_to_u ∷ []; pins = [] }
 
-two_ways_entry : Entry
+two_ways_entry : ReportClaim
 two_ways_entry = record {
   from = 0;
   to = 1;

@@ -8,31 +8,31 @@ use Rattle.cut_net.specs.Network.{Network, name_of, index_of}
 use Rattle.cut_net.specs.WellFormed.{IsNetwork}
 use Rattle.std.specs.Prelude.{All}
 use Rattle.std.proofs.lemmas.List.Elements.{All-cons, All-head, All-nil, All-tail}
-use Rattle.cut_report.specs.Entry.{Entry}
+use Rattle.cut_report.specs.ReportClaim.{ReportClaim}
 use Rattle.cut_report.specs.ReportLine.{ReportLine, Ends, Weighs, Removes, Flows, Blocks, Last}
 use Rattle.cut_report.specs.ReportLines.{HasForm, may_follow, is_above, IsKnown, IsKnownName, IsGoodAfter, AreGoodAfter, IsNextLine, last_of}
 use Rattle.cut_net.proofs.Places.{index_takes}
 use Rattle.cut_report.specs.declared.fault.ReportLineFault.{ReportLineFault}
 use Rattle.cut_report.specs.declared.fault.ReportLineFault.TheVariants as faults
 use Rattle.cut_report.specs.ReportLine.{removes, flows, front_lines, entry_lines}
-use Rattle.cut_report.specs.Drafts.{◌>>=◌, Standing, Start, Named, Open, Shut, Ended, Part, blocked_entry, chain_of, entry_of_part, going_on, import_of, is_after, last_import, named_by, opened_by, shut_by, step, with_removed}
+use Rattle.cut_report.specs.Drafts.{◌>>=◌, ReadSoFar, Start, Named, Open, Shut, Ended, Part, blocked_entry, chain_of, entry_of_part, going_on, import_of, is_after, last_import, named_by, opened_by, shut_by, step, with_removed}
 use Rattle.cut_report.proofs.NameOrder.{AreIn, index_from_known, known_from_index}
 use Rattle.cut_report.proofs.ImportLines.{AreLines, FitsWord, FitsFlow, IsRun, flow_lines, remove_lines, good_run, good_after}
 use Rattle.cut_report.proofs.EntryLines.{last_of-append, last_follows}
 use Rattle.cut_report.proofs.RestKinds.{ended_follows}
 
-abbrev pub standing_lines : Network → Standing → List ReportLine
+abbrev pub standing_lines : Network → ReadSoFar → List ReportLine
 standing_lines net Start = []
 standing_lines net (Named a b) = Ends (name_of net a) (name_of net b) ∷ []
 standing_lines net (Open p) = front_lines net (entry_of_part p)
 standing_lines net (Shut a b chain) = front_lines net (blocked_entry a b chain)
 standing_lines net (Ended e) = entry_lines net e
 
-abbrev pub last_line : Network → Standing → Option ReportLine
+abbrev pub last_line : Network → ReadSoFar → Option ReportLine
 last_line net s = last_of None (standing_lines net s)
 
 -- what a step is, by what it gives
-abbrev pub StepIs : Network → Standing → ReportLine → Result Standing ReportLineFault → Type 0
+abbrev pub StepIs : Network → ReadSoFar → ReportLine → Result ReadSoFar ReportLineFault → Type 0
 StepIs net s line (Ok t) = IsGoodAfter net (last_line net s) line × (standing_lines net t ≡ standing_lines net s ++ line ∷ [])
 StepIs net s line (Err faults.BadLine) = may_follow (last_line net s) line ≡ false
 StepIs net s line (Err faults.UnknownName) = IsNextLine (last_line net s) line × (IsKnown net line → ⊥)
@@ -78,7 +78,7 @@ pub record IsFound (net : Network) (m n : List ℕ) (amount : ℕ) (q : Priced) 
   pub to : name_of net q.to ≡ n
   pub amount_is : q.amount ≡ amount
 
-by_import : (P : Result Standing ReportLineFault → Type 0) (net : Network) (last : Option Priced) (m n : List ℕ) (amount : ℕ) (f : Priced → Result Standing ReportLineFault) → IsNetwork net
+by_import : (P : Result ReadSoFar ReportLineFault → Type 0) (net : Network) (last : Option Priced) (m n : List ℕ) (amount : ℕ) (f : Priced → Result ReadSoFar ReportLineFault) → IsNetwork net
     → ((IsKnownName net m × IsKnownName net n → ⊥) → P (Err faults.UnknownName))
     → ((q : Priced) → IsKnownName net m × IsKnownName net n → IsFound net m n amount q → is_after last q ≡ false → P (Err faults.Order))
     → ((q : Priced) → IsKnownName net m × IsKnownName net n → IsFound net m n amount q → is_after last q ≡ true → P (f q))
@@ -94,11 +94,11 @@ by_import P net last m n amount f w lacks low good =
       | inr e ↦ rw e (low q (km, kn) found e)
     ]))
 
-by_chain : (P : Result Standing ReportLineFault → Type 0) (net : Network) (names : List (List ℕ)) (f : List ℕ → Result Standing ReportLineFault) → IsNetwork net
+by_chain : (P : Result ReadSoFar ReportLineFault → Type 0) (net : Network) (names : List (List ℕ)) (f : List ℕ → Result ReadSoFar ReportLineFault) → IsNetwork net
     → ((All (IsKnownName net) names → ⊥) → P (Err faults.UnknownName))
     → ((chain : List ℕ) → All (IsKnownName net) names → map (name_of net) chain ≡ names → P (f chain))
     → P (chain_of net names >>= f)
-by_chain P net names f w lacks has = go {T = Standing} P names f lacks has
+by_chain P net names f w lacks has = go {T = ReadSoFar} P names f lacks has
   where
     go : {T : Type 0} (P : Result T ReportLineFault → Type 0) (names : List (List ℕ)) (f : List ℕ → Result T ReportLineFault)
         → ((All (IsKnownName net) names → ⊥) → P (Err faults.UnknownName))
@@ -204,10 +204,10 @@ go_on_is_step net p (Blocks names) w g h = inner net (λ x. may_follow x (Blocks
 go_on_is_step net p Last w g h = (record { form = tt; follows = last_follows net p.weight p.printed p.flow; known = tt; above = refl }, refl)
 
 -- the last of all lines
-pub last_is_end : (net : Network) (e : Entry) → last_line net (Ended e) ≡ Some Last
+pub last_is_end : (net : Network) (e : ReportClaim) → last_line net (Ended e) ≡ Some Last
 last_is_end net e = last_of-append None (front_lines net e) (Last ∷ [])
 
-pub step_is : (net : Network) (s : Standing) (line : ReportLine) → IsNetwork net → AreGoodAfter net None (standing_lines net s) → HasForm line → StepIs net s line (step net s line)
+pub step_is : (net : Network) (s : ReadSoFar) (line : ReportLine) → IsNetwork net → AreGoodAfter net None (standing_lines net s) → HasForm line → StepIs net s line (step net s line)
 unfolding step
 step_is net Start line w g h = name_is_step net line w h
 step_is net (Named a b) line w g h = open_is_step net a b line w h

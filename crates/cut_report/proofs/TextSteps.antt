@@ -17,7 +17,7 @@ use Rattle.cut_report.specs.ReportLine.{front_lines, entry_lines}
 use Rattle.cut_report.specs.Lines.{line_of_text}
 use Rattle.cut_report.specs.declared.fault.ReportFault.{ReportFault}
 use Rattle.cut_report.specs.declared.draft.ReportDraft.{ReportDraft}
-use Rattle.cut_report.specs.Drafts.{◌>>=◌, Fails, GivesAt, Standing, Start, Named, Open, Shut, Ended, fault_at, finish_of, standing_of, step, text_step}
+use Rattle.cut_report.specs.Drafts.{◌>>=◌, Fails, GivesAt, ReadSoFar, Start, Named, Open, Shut, Ended, fault_at, finish_of, standing_of, step, text_step}
 use Rattle.cut_report.specs.Reading.{outcome_of}
 use Rattle.cut_report.proofs.LineLaws.{line_again, line_once, line_takes}
 use Rattle.cut_report.proofs.TextFronts.{end_without}
@@ -62,7 +62,7 @@ begins rest text after e = record {
 }
 
 -- what a step over a line is, by what it gives
-abbrev pub TextIs : Network → List ℕ → Standing → List ℕ → Result Standing ReportLineFault → Type 0
+abbrev pub TextIs : Network → List ℕ → ReadSoFar → List ℕ → Result ReadSoFar ReportLineFault → Type 0
 TextIs net bytes s after (Ok t) = IsFront net bytes (standing_lines net t) after × (length (standing_lines net t) ≡ length (standing_lines net s) + 1)
 TextIs net bytes s after (Err faults.BadLine) = IsBadLine net bytes (length (standing_lines net s))
 TextIs net bytes s after (Err faults.UnknownName) = IsUnknownName net bytes (length (standing_lines net s))
@@ -76,7 +76,7 @@ nonempty rest text b e =
     absurd (omega (arith, length-append (ended text) b.more, length_push text 10, n))
 
 -- no line that may follow is spelled so
-wrong : (net : Network) (s : Standing) (rest text : List ℕ) → BeginsWith rest text → ((line : ReportLine) → IsNextLine (last_line net s) line → report_line line ≢ text) → IsWrong (last_line net s) rest
+wrong : (net : Network) (s : ReadSoFar) (rest text : List ℕ) → BeginsWith rest text → ((line : ReportLine) → IsNextLine (last_line net s) line → report_line line ≢ text) → IsWrong (last_line net s) rest
 wrong net Start rest text b h = inr (λ e. absurd cc, (text, b, h))
 wrong net (Named x y) rest text b h = inr (λ e. absurd cc, (text, b, h))
 wrong net (Open p) rest text b h = inr (not_ended net p, (text, b, h))
@@ -92,7 +92,7 @@ next_front net bytes lines line rest after e f g =
       whole = f.whole ∙ ap (λ (t : List ℕ). written lines ++ t) e ∙ sym (append_assoc (written lines) (ended (report_line line)) after) ∙ ap (λ (t : List ℕ). t ++ after) (sym more);
     }
 
-by_line : (net : Network) (bytes : List ℕ) (s : Standing) (rest after : List ℕ) (line : ReportLine) (r : Result Standing ReportLineFault) → IsFront net bytes (standing_lines net s) rest → HasForm line
+by_line : (net : Network) (bytes : List ℕ) (s : ReadSoFar) (rest after : List ℕ) (line : ReportLine) (r : Result ReadSoFar ReportLineFault) → IsFront net bytes (standing_lines net s) rest → HasForm line
     → rest ≡ ended (report_line line) ++ after → has_line_end (report_line line) ≡ false → StepIs net s line r → TextIs net bytes s after r
 by_line net bytes s rest after line (Ok t) f h e one is = (
   rw is.1 (next_front net bytes (standing_lines net s) line rest after e f is.0),
@@ -131,7 +131,7 @@ by_line net bytes s rest after line (Err faults.Order) f h e one is = record {
 }
 by_line net bytes s rest after line (Err faults.Memory) f h e one is = tt
 
-pub text_is : (net : Network) (bytes : List ℕ) (s : Standing) (rest text after : List ℕ) → IsNetwork net → IsFront net bytes (standing_lines net s) rest → cut_at 10 rest ≡ Some (text, after) → TextIs net bytes s after (text_step net s text)
+pub text_is : (net : Network) (bytes : List ℕ) (s : ReadSoFar) (rest text after : List ℕ) → IsNetwork net → IsFront net bytes (standing_lines net s) rest → cut_at 10 rest ≡ Some (text, after) → TextIs net bytes s after (text_step net s text)
 unfolding text_step
 text_is net bytes s rest text after w f e = go (line_of_text text) refl
   where
@@ -153,7 +153,7 @@ text_is net bytes s rest text after w f e = go (line_of_text text) refl
         by_line net bytes s rest after line (step net s line) f is.form whole one (step_is net s line w f.good is.form)
 
 -- what a text is that has no whole line more
-pub rest_is : (net : Network) (bytes : List ℕ) (s : Standing) (rest : List ℕ) → IsNetwork net → IsFront net bytes (standing_lines net s) rest → cut_at 10 rest ≡ None
+pub rest_is : (net : Network) (bytes : List ℕ) (s : ReadSoFar) (rest : List ℕ) → IsNetwork net → IsFront net bytes (standing_lines net s) rest → cut_at 10 rest ≡ None
     → IsReportOutcome net bytes (finish_of s (length (standing_lines net s)) rest)
 rest_is net bytes Start rest w f e = record { before = []; rest = rest; front = f; unended = end_without rest (cut_none_without 10 rest e); not_last = λ same. absurd cc }
 rest_is net bytes (Named a b) rest w f e = record { before = standing_lines net (Named a b); rest = rest; front = f; unended = end_without rest (cut_none_without 10 rest e); not_last = λ same. absurd cc }
@@ -167,12 +167,12 @@ rest_is net bytes (Ended entry) (b ∷ rest) w f e =
     (length (standing_lines net (Ended entry)), refl, record { before = standing_lines net (Ended entry); rest = b ∷ rest; front = f; count = refl; wrong = inl (last_is_end net entry, λ same. absurd cc) })
 
 -- a good line, and the lines go on after it
-pub goes_on : (net : Network) (bytes : List ℕ) (s t : Standing) (rest text after : List ℕ) → IsNetwork net → IsFront net bytes (standing_lines net s) rest → cut_at 10 rest ≡ Some (text, after) → text_step net s text ≡ Ok t
+pub goes_on : (net : Network) (bytes : List ℕ) (s t : ReadSoFar) (rest text after : List ℕ) → IsNetwork net → IsFront net bytes (standing_lines net s) rest → cut_at 10 rest ≡ Some (text, after) → text_step net s text ≡ Ok t
     → IsFront net bytes (standing_lines net t) after × (length (standing_lines net t) ≡ length (standing_lines net s) + 1)
 goes_on net bytes s t rest text after w f e is = rw is at (text_is net bytes s rest text after w f e)
 
 -- the fault of a line is that of the text
-pub fails : (net : Network) (bytes : List ℕ) (s : Standing) (rest text after : List ℕ) (line : ℕ) (fault : ReportFault) → IsNetwork net → IsFront net bytes (standing_lines net s) rest → cut_at 10 rest ≡ Some (text, after)
+pub fails : (net : Network) (bytes : List ℕ) (s : ReadSoFar) (rest text after : List ℕ) (line : ℕ) (fault : ReportFault) → IsNetwork net → IsFront net bytes (standing_lines net s) rest → cut_at 10 rest ≡ Some (text, after)
     → line ≡ length (standing_lines net s) + 1 → GivesAt {X = ReportDraft} line standing_of (Err fault) (text_step net s text) → IfSome (outcome_of (Err fault)) (IsReportOutcome net bytes)
 fails net bytes s rest text after line fault w f e n given = rw given.1 (by_fault given.0 given.2)
   where

@@ -6,7 +6,7 @@ use Rattle.cut_net.specs.Network.{Network, index_of}
 use Rattle.cut_net.specs.Lines.{comes_before}
 use Rattle.cut_net.specs.declared.cut.Cut.{Cut}
 use Rattle.cut_net.specs.Said.{CutOf, BlockedBy}
-use Rattle.cut_report.specs.Entry.{Entry}
+use Rattle.cut_report.specs.ReportClaim.{ReportClaim}
 use Rattle.cut_report.specs.ReportLine.{ReportLine, Ends, Weighs, Removes, Flows, Blocks, Last}
 use Rattle.cut_report.specs.ReportLines.{ReportOutcome, Reads, BadLine, NoEnd}
 use Rattle.cut_report.specs.declared.fault.ReportLineFault.{ReportLineFault}
@@ -31,25 +31,25 @@ pub record Part : Type 0 where
   pub printed : List Priced
   pub flow : List Priced
 
-abbrev pub entry_of_part : Part → Entry
+abbrev pub entry_of_part : Part → ReportClaim
 entry_of_part p = record { from = p.from; to = p.to; said = CutOf p.weight p.printed p.flow }
 
 -- a chain of pins between two modules
-abbrev pub blocked_entry : ℕ → ℕ → List ℕ → Entry
+abbrev pub blocked_entry : ℕ → ℕ → List ℕ → ReportClaim
 blocked_entry a b chain = record { from = a; to = b; said = BlockedBy chain }
 
 -- what is read so far: nothing, the first line, more lines of a cut, a chain of pins, all lines
-pub data Standing : Type 0 where
-  Start : Standing
-  Named : ℕ → ℕ → Standing
-  Open : Part → Standing
-  Shut : ℕ → ℕ → List ℕ → Standing
-  Ended : Entry → Standing
+pub data ReadSoFar : Type 0 where
+  Start : ReadSoFar
+  Named : ℕ → ℕ → ReadSoFar
+  Open : Part → ReadSoFar
+  Shut : ℕ → ℕ → List ℕ → ReadSoFar
+  Ended : ReportClaim → ReadSoFar
 
 abbrev pub part_of : ℕ → ℕ → Cut → Part
 part_of a b cut = record { from = a; to = b; weight = cut.weight; printed = cut.imports.items; flow = cut.flow.items }
 
-abbrev pub standing_of : ReportDraft → Standing
+abbrev pub standing_of : ReportDraft → ReadSoFar
 standing_of drafts.Start = Start
 standing_of (drafts.Named a b) = Named a b
 standing_of (drafts.Open a b cut) = Open (part_of a b cut)
@@ -72,7 +72,7 @@ import_of net last m n amount = do
   y ← ok_or (index_of net n) faults.UnknownName
   if is_after last (record { from = x; to = y; amount = amount }) then Ok (record { from = x; to = y; amount = amount }) else Err faults.Order
 
-unfoldable pub named_by : Network → ReportLine → Result Standing ReportLineFault
+unfoldable pub named_by : Network → ReportLine → Result ReadSoFar ReportLineFault
 named_by net (Ends m n) = do
   x ← ok_or (index_of net m) faults.UnknownName
   y ← ok_or (index_of net n) faults.UnknownName
@@ -91,7 +91,7 @@ chain_of net (name ∷ names) = do
   more ← chain_of net names
   Ok (m ∷ more)
 
-unfoldable pub opened_by : Network → ℕ → ℕ → ReportLine → Result Standing ReportLineFault
+unfoldable pub opened_by : Network → ℕ → ℕ → ReportLine → Result ReadSoFar ReportLineFault
 opened_by net a b (Ends m n) = Err faults.BadLine
 opened_by net a b (Weighs w) = Ok (Open (record { from = a; to = b; weight = w; printed = []; flow = [] }))
 opened_by net a b (Removes m n w) = Err faults.BadLine
@@ -100,11 +100,11 @@ opened_by net a b (Blocks names) = chain_of net names >>= λ chain. Ok (Shut a b
 opened_by net a b Last = Err faults.BadLine
 
 -- with one more import to be removed, if no flow is there yet
-abbrev pub with_removed : Network → Part → List Priced → List ℕ → List ℕ → ℕ → Result Standing ReportLineFault
+abbrev pub with_removed : Network → Part → List Priced → List ℕ → List ℕ → ℕ → Result ReadSoFar ReportLineFault
 with_removed net p [] m n w = import_of net (last_import None p.printed) m n w >>= λ next. Ok (Open (record p { printed = p.printed ++ next ∷ [] }))
 with_removed net p (_ ∷ _) m n w = Err faults.BadLine
 
-unfoldable pub going_on : Network → Part → ReportLine → Result Standing ReportLineFault
+unfoldable pub going_on : Network → Part → ReportLine → Result ReadSoFar ReportLineFault
 going_on net p (Ends m n) = Err faults.BadLine
 going_on net p (Weighs w) = Err faults.BadLine
 going_on net p (Removes m n w) = with_removed net p p.flow m n w
@@ -112,7 +112,7 @@ going_on net p (Flows m n f) = import_of net (last_import None p.flow) m n f >>=
 going_on net p (Blocks names) = Err faults.BadLine
 going_on net p Last = Ok (Ended (entry_of_part p))
 
-unfoldable pub shut_by : ℕ → ℕ → List ℕ → ReportLine → Result Standing ReportLineFault
+unfoldable pub shut_by : ℕ → ℕ → List ℕ → ReportLine → Result ReadSoFar ReportLineFault
 shut_by a b chain (Ends m n) = Err faults.BadLine
 shut_by a b chain (Weighs w) = Err faults.BadLine
 shut_by a b chain (Removes m n w) = Err faults.BadLine
@@ -120,7 +120,7 @@ shut_by a b chain (Flows m n f) = Err faults.BadLine
 shut_by a b chain (Blocks names) = Err faults.BadLine
 shut_by a b chain Last = Ok (Ended (blocked_entry a b chain))
 
-unfoldable pub step : Network → Standing → ReportLine → Result Standing ReportLineFault
+unfoldable pub step : Network → ReadSoFar → ReportLine → Result ReadSoFar ReportLineFault
 step net Start line = named_by net line
 step net (Named a b) line = opened_by net a b line
 step net (Open p) line = going_on net p line
@@ -128,11 +128,11 @@ step net (Shut a b chain) line = shut_by a b chain line
 step net (Ended e) line = Err faults.BadLine
 
 -- with the line of this text
-unfoldable pub text_step : Network → Standing → List ℕ → Result Standing ReportLineFault
+unfoldable pub text_step : Network → ReadSoFar → List ℕ → Result ReadSoFar ReportLineFault
 text_step net standing text = ok_or (line_of_text text) faults.BadLine >>= λ line. step net standing line
 
 -- what the bytes after the last line end make of it, after this many lines
-abbrev pub finish_of : Standing → ℕ → List ℕ → ReportOutcome
+abbrev pub finish_of : ReadSoFar → ℕ → List ℕ → ReportOutcome
 finish_of Start before rest = NoEnd
 finish_of (Named a b) before rest = NoEnd
 finish_of (Open p) before rest = NoEnd

@@ -1,4 +1,4 @@
-pub mod Entry
+pub mod ReportClaim
 pub mod ReportLine
 pub mod ReportText
 pub mod ReportLines

@@ -2,19 +2,19 @@
 use Rattle.std.specs.Prelude.{◌≢◌, ℕ, Option, Some, None, Result, Ok, Err, IfErr}
 use Rattle.cut_net.specs.declared.answer.Answer.{Answer}
 use Rattle.cut_net.specs.Answers.{said_by}
-use Rattle.cut_report.specs.Entry.{Entry}
+use Rattle.cut_report.specs.ReportClaim.{ReportClaim}
 use Rattle.cut_report.specs.ReportLines.{ReportOutcome, Reads, BadLine, UnknownName, Order, NoEnd}
 use Rattle.cut_report.specs.declared.fault.ReportFault.{ReportFault}
 use Rattle.cut_report.specs.declared.fault.ReportFault.TheVariants as faults
 use Rattle.cut_report.specs.declared.report.Report.{Report}
 
 -- what is said by an answer of two modules, without where its lists lie in memory
-abbrev pub said_of : ℕ → ℕ → Answer → Entry
-said_of from to answer = record { from = from; to = to; said = said_by answer }
+abbrev pub claim_of : ℕ → ℕ → Answer → ReportClaim
+claim_of from to answer = record { from = from; to = to; said = said_by answer }
 
 -- what the report says
-abbrev pub entry_of : Report → Entry
-entry_of report = said_of report.from report.to report.answer
+abbrev pub entry_of : Report → ReportClaim
+entry_of report = claim_of report.from report.to report.answer
 
 -- the outcome that was answered; there is none where memory ran out or a device failed
 abbrev pub outcome_of : Result Report ReportFault → Option ReportOutcome

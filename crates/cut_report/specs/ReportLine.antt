@@ -6,7 +6,7 @@ use Rattle.cut_net.specs.declared.priced.Priced.{Priced}
 use Rattle.texts.specs.Fields.{ended, line_of}
 use Rattle.cut_net.specs.Network.{Network, name_of}
 use Rattle.cut_net.specs.Said.{Said, CutOf, BlockedBy}
-use Rattle.cut_report.specs.Entry.{Entry}
+use Rattle.cut_report.specs.ReportClaim.{ReportClaim}
 
 -- what a line says: the two modules, the weight, an import to be removed with its weight, one with its flow, the names of a chain of pins,
 -- the end
@@ -45,9 +45,9 @@ said_lines net (CutOf total printed flow) = Weighs total ∷ (map (removes net) 
 said_lines net (BlockedBy chain) = Blocks (map (name_of net) chain) ∷ []
 
 -- the lines before the last
-abbrev pub front_lines : Network → Entry → List ReportLine
+abbrev pub front_lines : Network → ReportClaim → List ReportLine
 front_lines net entry = Ends (name_of net entry.from) (name_of net entry.to) ∷ said_lines net entry.said
 
 -- all lines
-abbrev pub entry_lines : Network → Entry → List ReportLine
+abbrev pub entry_lines : Network → ReportClaim → List ReportLine
 entry_lines net entry = front_lines net entry ++ Last ∷ []

@@ -6,7 +6,7 @@ use Rattle.std.specs.Ordering.{nat_cmp, is_lt}
 use Rattle.std.specs.Cmp.Lexicographic.{slice_cmp}
 use Rattle.texts.specs.Fields.{ended, is_name}
 use Rattle.cut_net.specs.Network.{Network}
-use Rattle.cut_report.specs.Entry.{Entry}
+use Rattle.cut_report.specs.ReportClaim.{ReportClaim}
 use Rattle.cut_report.specs.ReportLine.{ReportLine, Ends, Weighs, Removes, Flows, Blocks, Last, report_line, written}
 use Rattle.cut_report.specs.ReportText.{ReportText}
 
@@ -195,7 +195,7 @@ pub record HasNoEnd (net : Network) (bytes : List ℕ) : Type 0 where
 
 -- what a text of a report says, or its first fault
 pub data ReportOutcome : Type 0 where
-  Reads : Entry → ReportOutcome
+  Reads : ReportClaim → ReportOutcome
   BadLine : ℕ → ReportOutcome
   UnknownName : ℕ → ReportOutcome
   Order : ℕ → ReportOutcome

@@ -5,11 +5,11 @@ use Rattle.cut_net.specs.Network.{Network}
 use Rattle.cut_net.specs.Lines.{IsAscending}
 use Rattle.cut_net.specs.WellFormed.{AreBetween}
 use Rattle.cut_net.specs.Said.{Said, CutOf, BlockedBy}
-use Rattle.cut_report.specs.Entry.{Entry}
+use Rattle.cut_report.specs.ReportClaim.{ReportClaim}
 use Rattle.cut_report.specs.ReportLine.{entry_lines, written}
 
 -- the one text of a report
-abbrev pub report_text : Network → Entry → List ℕ
+abbrev pub report_text : Network → ReportClaim → List ℕ
 report_text net entry = written (entry_lines net entry)
 
 -- what a cut may be said to be: lines of modules that there are, in order and once each, and no flow of 0
@@ -29,12 +29,12 @@ MaySay net (CutOf total printed flow) = IsSayable net total printed flow
 MaySay net (BlockedBy chain) = (0 < length chain) × All (λ m. m < length net.names) chain
 
 -- the report is of modules that there are, and may say what it says
-pub record IsReport (net : Network) (entry : Entry) : Type 0 where
+pub record IsReport (net : Network) (entry : ReportClaim) : Type 0 where
   pub from : entry.from < length net.names
   pub to : entry.to < length net.names
   pub says : MaySay net entry.said
 
 -- the bytes are the text of this report
-pub record ReportText (net : Network) (bytes : List ℕ) (entry : Entry) : Type 0 where
+pub record ReportText (net : Network) (bytes : List ℕ) (entry : ReportClaim) : Type 0 where
   pub report : IsReport net entry
   pub spelled : bytes ≡ report_text net entry

@@ -10,7 +10,7 @@ ghost use Rattle.cut_report.specs.ReportText.{report_text, IsReport, MaySay};
 ghost use Rattle.cut_net.specs.WellFormed.{AreBetween};
 ghost use Rattle.cut_report.specs.Faults.{is_failure, is_of_sink};
 ghost use Rattle.cut_report.specs.Lines.{line_seen, with_next};
-ghost use Rattle.cut_report.specs.Reading.{said_of};
+ghost use Rattle.cut_report.specs.Reading.{claim_of};
 ghost use Rattle.byte_sink.specs.Sinks.{failures_by, PutsBy};
 
 use crate::line::Line;
@@ -100,8 +100,8 @@ fn text_of(
     to: u32,
     answer: &Answer,
 ) -> Result<String, AllocError>
-    requires { IsReport net.now (said_of from to answer.now) }
-    ensures { IfOk result (λ t. string_bytes t ≡ report_text net.now (said_of from to answer.now)) }
+    requires { IsReport net.now (claim_of from to answer.now) }
+    ensures { IfOk result (λ t. string_bytes t ≡ report_text net.now (claim_of from to answer.now)) }
 {
     let mut text = String::new(alloc);
     push_line(&mut text, Line::Ends(net.name(from), net.name(to)))?;
@@ -124,9 +124,9 @@ pub fn write<S: Sink>(
     answer: &Answer,
     sink: &mut S,
 ) -> Result<(), ReportFault>
-    requires { IsReport net.now (said_of from to answer.now) }
+    requires { IsReport net.now (claim_of from to answer.now) }
     // All of the text at Ok, and a front of it after a refusal.
-    ensures puts { PutsBy is_of_sink (S.taken sink.old) (S.taken sink.new) result (report_text net.now (said_of from to answer.now)) }
+    ensures puts { PutsBy is_of_sink (S.taken sink.old) (S.taken sink.new) result (report_text net.now (claim_of from to answer.now)) }
     // Device is answered where the sink counted a failure, and nowhere else.
     ensures failures { S.failures sink.new ≡ failures_by is_failure result (S.failures sink.old) }
     // No fault of a text is answered.

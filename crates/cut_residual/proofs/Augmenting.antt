@@ -8,7 +8,7 @@ use Rattle.std.proofs.lemmas.List.Elements.{All-set}
 use Rattle.cut_residual.specs.declared.arc.Arc.{Arc}
 use Rattle.cut_residual.specs.declared.arc.ResidualArc.{ResidualArc}
 use Rattle.cut_residual.specs.Flows.{IsBalanced, RaisesBy, entering, leaving, pushed}
-use Rattle.cut_residual.specs.Graphs.{no_residual_arc, HasArc, Leads, head, no_arc, residual, room, tail}
+use Rattle.cut_residual.specs.Graphs.{no_residual_arc, HasArc, IsResidualWalk, head, no_arc, residual, room, tail}
 
 -- a flow of this value, but that this amount has come to the node u and not gone on
 pub record Carries (arcs : List Arc) (a b value u amount : ℕ) : Type 0 where
@@ -104,7 +104,7 @@ pushed_within arc false amount h r = omega arith
 pub record Augmenting (first now : List Arc) (path : List ResidualArc) (amount j : ℕ) : Type 0 where
   pub within : All (λ r. r.flow ≤ r.capacity) now
   pub untouched : (p : ℕ) → j ≤ p → p < length path → get_or now (get_or path p no_residual_arc).arc no_arc ≡ get_or first (get_or path p no_residual_arc).arc no_arc
-  pub carried : (a b value : ℕ) → a ≢ b → IsBalanced first a b value → Leads first a path b → (u : ℕ) × Carries now a b value u amount × Leads first u (drop j path) b
+  pub carried : (a b value : ℕ) → a ≢ b → IsBalanced first a b value → IsResidualWalk first a path b → (u : ℕ) × Carries now a b value u amount × IsResidualWalk first u (drop j path) b
 
 pub augmenting_start : (first : List Arc) (path : List ResidualArc) (amount : ℕ) → All (λ r. r.flow ≤ r.capacity) first → Augmenting first first path amount 0
 augmenting_start first path amount within = record {
@@ -114,11 +114,11 @@ augmenting_start first path amount within = record {
 }
 
 pub augmenting_end : (first now : List Arc) (path : List ResidualArc) (amount j : ℕ) → Augmenting first now path amount j → length path ≤ j →
-    (a b : ℕ) → a ≢ b → Leads first a path b → RaisesBy first now a b amount
+    (a b : ℕ) → a ≢ b → IsResidualWalk first a path b → RaisesBy first now a b amount
 augmenting_end first now path amount j m past a b apart leads value f =
     let (u, c, rest) = m.carried a b value apart f leads in
     let none : drop j path ≡ [] = drop_all j path past in
-    let e : u ≡ b = subst (λ v. Leads first u v b) none rest in
+    let e : u ≡ b = subst (λ v. IsResidualWalk first u v b) none rest in
     carries_end now a b value amount apart (subst (λ v. Carries now a b value v amount) e c)
 
 module _ (first now : List Arc) (path : List ResidualArc) (amount j : ℕ) (m : Augmenting first now path amount j) (in_j : j < length path)
@@ -142,8 +142,8 @@ module _ (first now : List Arc) (path : List ResidualArc) (amount j : ℕ) (m : 
             get_or-set_other now k (get_or path p no_residual_arc).arc (pushed arc s.forward amount) no_arc differs ∙ m.untouched p (omega arith) i;
         carried = λ a b value apart f leads.
             let (u, c, rest) = m.carried a b value apart f leads in
-            let more : (tail first s ≡ u) × Leads first (head first s) (drop (j + 1) path) b =
-            subst (λ v. Leads first u v b) (drop_more path j no_residual_arc in_j) rest in
+            let more : (tail first s ≡ u) × IsResidualWalk first (head first s) (drop (j + 1) path) b =
+            subst (λ v. IsResidualWalk first u v b) (drop_more path j no_residual_arc in_j) rest in
             let tail_is : cond s.forward arc.from arc.to ≡ u = rw now_is more.0 in (
               head first s,
               subst (λ (r : Arc). Carries (set now k (pushed arc s.forward amount)) a b value (cond s.forward r.to r.from) amount) now_is

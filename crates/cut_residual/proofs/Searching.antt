@@ -6,11 +6,11 @@ use Rattle.std.proofs.lemmas.List.{get_or-replicate, get_or_default, get_or_past
 use Rattle.std.proofs.lemmas.List.Folds.{sum_by-replicate}
 use Rattle.std.proofs.lemmas.List.Sums.{sum_by-set}
 use Rattle.cut_residual.specs.declared.arc.ResidualArc.{ResidualArc}
-use Rattle.cut_residual.specs.declared.found.Place.{Place}
+use Rattle.cut_residual.specs.declared.found.Visit.{Visit}
 use Rattle.cut_residual.specs.Graphs.{no_residual_arc, AreClosed, Graph, HasResidual, HasArc, head, is_seen, tail}
 use Rattle.cut_residual.specs.Trees.{LeadsOn, Searching, no_place}
 
-module _ (g : Graph) (start : ℕ) (seen : List Bool) (places : List Place) (place : ℕ) (group : List ResidualArc) (k : ℕ) (z : Searching g start seen places place group k) where
+module _ (g : Graph) (start : ℕ) (seen : List Bool) (places : List Visit) (place : ℕ) (group : List ResidualArc) (k : ℕ) (z : Searching g start seen places place group k) where
   pub searching_no : (LeadsOn g.arcs (get_or group k no_residual_arc) seen → ⊥) → Searching g start seen places place group (k + 1)
   searching_no off = record {
     tree = z.tree;
@@ -33,7 +33,7 @@ module _ (g : Graph) (start : ℕ) (seen : List Bool) (places : List Place) (pla
   searching_yes in_place known leaves in_to on =
       let s = get_or group k no_residual_arc in
       let to = head g.arcs s in
-      let new : Place = record { node = head g.arcs (get_or group k no_residual_arc); step = get_or group k no_residual_arc; parent = place } in
+      let new : Visit = record { node = head g.arcs (get_or group k no_residual_arc); step = get_or group k no_residual_arc; parent = place } in
       let size = z.tree.size in
       let in_seen : to < length seen = omega arith in
       let marked : get_or (set seen to true) to false ≡ true = get_or-set_same seen to true false in_seen in
@@ -130,7 +130,7 @@ module _ (g : Graph) (start : ℕ) (seen : List Bool) (places : List Place) (pla
       let (p, in_places, at_p) = z.tree.placed (tail g.arcs s) t in
       z.before p s (omega arith) in_places known (sym at_p) left
 
-pub searching_at : (g : Graph) (start : ℕ) (seen : List Bool) (places : List Place) (place : ℕ) (group : List ResidualArc) → Searching g start seen places place [] 0 →
+pub searching_at : (g : Graph) (start : ℕ) (seen : List Bool) (places : List Visit) (place : ℕ) (group : List ResidualArc) → Searching g start seen places place [] 0 →
     Searching g start seen places place group 0
 searching_at g start seen places place group z = record {
   tree = z.tree;

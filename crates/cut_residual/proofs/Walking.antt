@@ -7,8 +7,8 @@ use Rattle.std.proofs.lemmas.List.Elements.{All-push}
 use Rattle.std.proofs.lemmas.List.Quantifiers.{all_pairs_push}
 use Rattle.cut_residual.specs.declared.arc.Arc.{Arc}
 use Rattle.cut_residual.specs.declared.arc.ResidualArc.{ResidualArc}
-use Rattle.cut_residual.specs.declared.found.Place.{Place}
-use Rattle.cut_residual.specs.Graphs.{AreClosed, AreReached, Graph, HasResidual, IsAugmenting, HasArc, Leads, Reaches, head, is_seen, tail}
+use Rattle.cut_residual.specs.declared.found.Visit.{Visit}
+use Rattle.cut_residual.specs.Graphs.{AreClosed, AreReached, Graph, HasResidual, IsAugmenting, HasArc, IsResidualWalk, Reaches, head, is_seen, tail}
 use Rattle.cut_residual.specs.Trees.{IsTree, no_place}
 
 -- two steps over one arc leave from one node, or each leaves from where the other comes to
@@ -24,15 +24,15 @@ same_arc arcs s t e =
     (ends arcs s.arc s.forward t.forward)
 
 -- the steps so far lead from the place to the end, and were found at later places
-pub record Walking (g : Graph) (places : List Place) (end at : ℕ) (back : List ResidualArc) : Type 0 where
+pub record Walking (g : Graph) (places : List Visit) (end at : ℕ) (back : List ResidualArc) : Type 0 where
   pub at_in : at < length places
-  pub leads : Leads g.arcs (get_or places at no_place).node (reverse back) (get_or places end no_place).node
+  pub leads : IsResidualWalk g.arcs (get_or places at no_place).node (reverse back) (get_or places end no_place).node
   pub known : All (HasArc g.arcs) back
   pub left : All (HasResidual g.arcs) back
   pub later : (n : ℕ) (d : ResidualArc) → n < length back → (q : ℕ) × (at < q) × (q < length places) × ((get_or places q no_place).step ≡ get_or back n d)
   pub once : AllPairs (λ s t. s.arc ≢ t.arc) back
 
-pub walking_start : (g : Graph) (places : List Place) (end : ℕ) → end < length places → Walking g places end end []
+pub walking_start : (g : Graph) (places : List Visit) (end : ℕ) → end < length places → Walking g places end end []
 walking_start g places end h = record {
   at_in = h;
   leads = refl;
@@ -42,7 +42,7 @@ walking_start g places end h = record {
   once = λ i j d h k. absurd (omega arith);
 }
 
-module _ (g : Graph) (start : ℕ) (seen : List Bool) (places : List Place) (tree : IsTree g start seen places) (end : ℕ) where
+module _ (g : Graph) (start : ℕ) (seen : List Bool) (places : List Visit) (tree : IsTree g start seen places) (end : ℕ) where
   pub walking_more : (at : ℕ) (back : List ResidualArc) → Walking g places end at back → 0 < at →
       Walking g places end (get_or places at no_place).parent (back ++ (get_or places at no_place).step ∷ [])
   walking_more at back w positive =
@@ -54,8 +54,8 @@ module _ (g : Graph) (start : ℕ) (seen : List Bool) (places : List Place) (tre
         at_in = omega arith;
         leads =
             let grown : reverse (back ++ p.step ∷ []) ≡ p.step ∷ reverse back = reverse-append back (p.step ∷ []) in
-            let rest = subst (λ v. Leads g.arcs v (reverse back) (get_or places end no_place).node) (sym f.comes) w.leads in
-            subst (λ v. Leads g.arcs (get_or places p.parent no_place).node v (get_or places end no_place).node) (sym grown) (f.leaves, rest);
+            let rest = subst (λ v. IsResidualWalk g.arcs v (reverse back) (get_or places end no_place).node) (sym f.comes) w.leads in
+            subst (λ v. IsResidualWalk g.arcs (get_or places p.parent no_place).node v (get_or places end no_place).node) (sym grown) (f.leaves, rest);
         known = All-push (HasArc g.arcs) back p.step w.known f.known;
         left = All-push (HasResidual g.arcs) back p.step w.left f.left;
         later = λ n d h. elim (cases_eq n (length back)) [
@@ -97,11 +97,11 @@ AllPairs-reverse xs all i j d h in_j e =
     all (length xs - 1 - j) (length xs - 1 - i) d (omega arith) (omega arith)
     (ap (λ (s : ResidualArc). s.arc) (sym (get_or-reverse xs j d in_xs)) ∙ sym e ∙ ap (λ (s : ResidualArc). s.arc) (get_or-reverse xs i d (omega arith)))
 
-pub walking_end : (g : Graph) (start : ℕ) (seen : List Bool) (places : List Place) → IsTree g start seen places → (end : ℕ) (back : List ResidualArc) → Walking g places end 0 back →
+pub walking_end : (g : Graph) (start : ℕ) (seen : List Bool) (places : List Visit) → IsTree g start seen places → (end : ℕ) (back : List ResidualArc) → Walking g places end 0 back →
     IsAugmenting g.arcs start (reverse back) (get_or places end no_place).node
 walking_end g start seen places tree end back w = record {
   is_path = record {
-    leads = subst (λ v. Leads g.arcs v (reverse back) (get_or places end no_place).node) tree.first w.leads;
+    leads = subst (λ v. IsResidualWalk g.arcs v (reverse back) (get_or places end no_place).node) tree.first w.leads;
     known = All-reverse (HasArc g.arcs) back w.known;
     once = AllPairs-reverse back w.once;
   };
@@ -113,14 +113,14 @@ All-rest P s more all k d h = all (suc k) d (omega arith)
 
 -- what holds at the start of a path and goes on over each step with something left holds at its end
 pub along : (P : ℕ → Type 0) (arcs : List Arc) → ((s : ResidualArc) → HasArc arcs s → HasResidual arcs s → P (tail arcs s) → P (head arcs s)) →
-    (a : ℕ) (path : List ResidualArc) (b : ℕ) → Leads arcs a path b → All (HasArc arcs) path → All (HasResidual arcs) path → P a → P b
+    (a : ℕ) (path : List ResidualArc) (b : ℕ) → IsResidualWalk arcs a path b → All (HasArc arcs) path → All (HasResidual arcs) path → P a → P b
 along P arcs on a [] b e known left h = subst P e h
 along P arcs on a (s ∷ more) b (e, rest) known left h =
     along P arcs on (head arcs s) more b rest (All-rest (HasArc arcs) s more known) (All-rest (HasResidual arcs) s more left)
     (on s (known 0 s (omega arith)) (left 0 s (omega arith)) (subst P (sym e) h))
 
 -- the marked nodes are those that augmenting paths lead to
-pub reached : (g : Graph) (start : ℕ) (seen : List Bool) (places : List Place) → IsTree g start seen places → AreClosed g.arcs seen → AreReached g start seen
+pub reached : (g : Graph) (start : ℕ) (seen : List Bool) (places : List Visit) → IsTree g start seen places → AreClosed g.arcs seen → AreReached g start seen
 reached g start seen places t closed =
     record {
       size = t.size;

@@ -48,13 +48,13 @@ abbrev pub HasResidual : List Arc → ResidualArc → Type 0
 HasResidual arcs s = 0 < residual arcs s
 
 -- each step begins where the one before it ends
-abbrev pub Leads : List Arc → ℕ → List ResidualArc → ℕ → Type 0
-Leads arcs u [] b = u ≡ b
-Leads arcs u (s ∷ more) b = (tail arcs s ≡ u) × Leads arcs (head arcs s) more b
+abbrev pub IsResidualWalk : List Arc → ℕ → List ResidualArc → ℕ → Type 0
+IsResidualWalk arcs u [] b = u ≡ b
+IsResidualWalk arcs u (s ∷ more) b = (tail arcs s ≡ u) × IsResidualWalk arcs (head arcs s) more b
 
 -- the steps lead over arcs that there are from the one node to the other, and no arc is on them twice
 pub record IsPath (arcs : List Arc) (a : ℕ) (path : List ResidualArc) (b : ℕ) : Type 0 where
-  pub leads : Leads arcs a path b
+  pub leads : IsResidualWalk arcs a path b
   pub known : All (HasArc arcs) path
   pub once : AllPairs (λ s t. s.arc ≢ t.arc) path
 

@@ -2,21 +2,21 @@
 use Rattle.std.specs.Prelude.{◌≡◌, ◌≢◌, ℕ, ◌<◌, Bool, true, false, count_by, List, length, slice_index_or}
 use Rattle.cut_residual.specs.declared.arc.Arc.{Arc}
 use Rattle.cut_residual.specs.declared.arc.ResidualArc.{ResidualArc}
-use Rattle.cut_residual.specs.declared.found.Place.{Place}
+use Rattle.cut_residual.specs.declared.found.Visit.{Visit}
 use Rattle.cut_residual.specs.Graphs.{no_residual_arc, Graph, HasResidual, HasArc, head, is_seen, tail}
 
-abbrev pub no_place : Place
+abbrev pub no_place : Visit
 no_place = record { node = 0; step = record { arc = 0; forward = false }; parent = 0 }
 
-abbrev pub place_at : List Place → ℕ → Place
+abbrev pub place_at : List Visit → ℕ → Visit
 place_at places p = slice_index_or places p no_place
 
 -- the places but the first have earlier ones before them
-abbrev pub HaveParents : List Place → Type 0
+abbrev pub HaveParents : List Visit → Type 0
 HaveParents places = (p : ℕ) → 0 < p → p < length places → (place_at places p).parent < p
 
 -- the place was found from an earlier one by its step, over which something can go
-pub record IsFound (arcs : List Arc) (places : List Place) (p : ℕ) : Type 0 where
+pub record IsFound (arcs : List Arc) (places : List Visit) (p : ℕ) : Type 0 where
   pub earlier : (place_at places p).parent < p
   pub known : HasArc arcs (place_at places p).step
   pub left : HasResidual arcs (place_at places p).step
@@ -24,7 +24,7 @@ pub record IsFound (arcs : List Arc) (places : List Place) (p : ℕ) : Type 0 wh
   pub comes : head arcs (place_at places p).step ≡ (place_at places p).node
 
 -- the first place is the start, and each marked node has one place, found from an earlier one
-pub record IsTree (g : Graph) (start : ℕ) (seen : List Bool) (places : List Place) : Type 0 where
+pub record IsTree (g : Graph) (start : ℕ) (seen : List Bool) (places : List Visit) : Type 0 where
   pub size : length seen ≡ g.nodes
   pub first : (place_at places 0).node ≡ start
   pub found : (p : ℕ) → 0 < p → p < length places → IsFound g.arcs places p
@@ -38,7 +38,7 @@ abbrev pub LeadsOn : List Arc → ResidualArc → List Bool → Type 0
 LeadsOn arcs s seen = HasResidual arcs s × (is_seen seen (head arcs s) ≡ false)
 
 -- the search has followed the steps of the places before this one, and of this one's group the first k
-pub record Searching (g : Graph) (start : ℕ) (seen : List Bool) (places : List Place) (place : ℕ) (group : List ResidualArc) (k : ℕ) : Type 0 where
+pub record Searching (g : Graph) (start : ℕ) (seen : List Bool) (places : List Visit) (place : ℕ) (group : List ResidualArc) (k : ℕ) : Type 0 where
   pub tree : IsTree g start seen places
   pub counted : count_by (λ s. s) seen ≡ length places
   pub before : (p : ℕ) (s : ResidualArc) → p < place → p < length places → HasArc g.arcs s → tail g.arcs s ≡ (place_at places p).node →

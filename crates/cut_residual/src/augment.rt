@@ -1,7 +1,7 @@
 //! More flow along a path.
 ghost use Rattle.std.specs.Prelude.{ℕ, ◌≡◌, ◌≢◌, ◌<◌, ◌≤◌, ◌^◌, All, AllPairs};
 ghost use Rattle.cut_residual.specs.Flows.{AreSameArcs, RaisesBy, pushed};
-ghost use Rattle.cut_residual.specs.Graphs.{HasArc, Leads, residual, room};
+ghost use Rattle.cut_residual.specs.Graphs.{HasArc, IsResidualWalk, residual, room};
 
 use crate::{Arc, ResidualArc};
 
@@ -63,7 +63,7 @@ pub(crate) fn send(arcs: &mut [Arc], path: &[ResidualArc], amount: u64)
     requires once { AllPairs (λ s t. s.arc ≢ t.arc) path.now }
     ensures same { AreSameArcs arcs.old arcs.new }
     ensures within { All (λ r. r.flow ≤ r.capacity) arcs.new }
-    ensures raises { (a b : ℕ) → a ≢ b → Leads arcs.old a path.now b → RaisesBy arcs.old arcs.new a b amount }
+    ensures raises { (a b : ℕ) → a ≢ b → IsResidualWalk arcs.old a path.now b → RaisesBy arcs.old arcs.new a b amount }
 {
     for step in path {
         arcs[step.arc] = push(arcs[step.arc], step.forward, amount);

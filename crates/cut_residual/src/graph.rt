@@ -2,7 +2,7 @@
 ghost use Rattle.std.specs.Prelude.{ℕ, ◌≡◌, ◌≢◌, ◌<◌, ◌≤◌, ◌^◌, ◌↔◌, All, AllPairs, Contains, IfOk, slice_set};
 ghost use Rattle.cut_residual.specs.declared.arc.ResidualArc.{ResidualArc};
 ghost use Rattle.cut_residual.specs.Flows.{pushed, AreSameArcs, RaisesBy};
-ghost use Rattle.cut_residual.specs.Graphs.{arc_of, head, residual, tail, HasArc, IsGraph, Leads};
+ghost use Rattle.cut_residual.specs.Graphs.{arc_of, head, residual, tail, HasArc, IsGraph, IsResidualWalk};
 
 use crate::augment::{least_residual, push, residual_of, send};
 use crate::groups::groups_of;
@@ -123,7 +123,7 @@ impl ResidualGraph {
         ensures same { AreSameArcs self.old.arcs self.new.arcs }
         ensures left { All (λ s. result ≤ residual self.old.arcs s) path.now }
         ensures most { (m : ℕ) → m < 2 ^ 64 → All (λ s. m ≤ residual self.old.arcs s) path.now → m ≤ result }
-        ensures raises { (a b : ℕ) → a ≢ b → Leads self.old.arcs a path.now b → RaisesBy self.old.arcs self.new.arcs a b result }
+        ensures raises { (a b : ℕ) → a ≢ b → IsResidualWalk self.old.arcs a path.now b → RaisesBy self.old.arcs self.new.arcs a b result }
     {
         let amount = least_residual(&self.arcs, path);
         send(&mut self.arcs, path, amount);

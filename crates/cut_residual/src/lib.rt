@@ -13,7 +13,7 @@ mod paths;
 mod searches;
 
 pub use arc::{Arc, ResidualArc};
-pub use found::Found;
+pub use found::Searched;
 pub use graph::ResidualGraph;
 pub use order::{order_of, places_of};
 pub use paths::path_to;

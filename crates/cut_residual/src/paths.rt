@@ -4,12 +4,12 @@ ghost use Rattle.cut_residual.specs.Graphs.{IsAugmenting, is_seen};
 ghost use Rattle.cut_residual.specs.Searches.{IsSearchOf};
 ghost use Rattle.cut_residual.specs.Trees.{place_at};
 
-use crate::found::Place;
-use crate::{Found, ResidualArc, ResidualGraph};
+use crate::found::Visit;
+use crate::{ResidualArc, ResidualGraph, Searched};
 use std::alloc::{AllocError, Global};
 
 /// The place of the node.
-fn place_of(places: &[Place], node: u32) -> usize
+fn place_of(places: &[Visit], node: u32) -> usize
     ensures within { 0 < result → result < length places.now }
     ensures found { (p : ℕ) → p < length places.now → (place_at places.now p).node ≡ node →
         (result < length places.now) × ((place_at places.now result).node ≡ node) }
@@ -28,7 +28,7 @@ fn place_of(places: &[Place], node: u32) -> usize
 pub fn path_to(
     alloc: Global,
     graph: &ResidualGraph,
-    found: &Found,
+    found: &Searched,
     node: u32,
 ) -> Result<Vec<ResidualArc>, AllocError>
     requires seen { is_seen found.now.seen.items node ≡ true }

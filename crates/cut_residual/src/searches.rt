@@ -4,8 +4,8 @@ ghost use Rattle.cut_residual.specs.Graphs.{AreClosed, AreReached, HasArc, head}
 ghost use Rattle.cut_residual.specs.Searches.{IsSearchOf};
 ghost use Rattle.cut_residual.specs.Trees.{LeadsOn, Searching, place_at};
 
-use crate::found::Place;
-use crate::{Found, ResidualArc, ResidualGraph};
+use crate::found::Visit;
+use crate::{ResidualArc, ResidualGraph, Searched};
 use std::alloc::{AllocError, Global};
 
 /// Whether the search goes on by this step: something can go over it, to a node that isn't marked.
@@ -24,7 +24,7 @@ fn visit(
     place: usize,
     seen: &mut Vec<bool>,
     levels: &mut Vec<u32>,
-    places: &mut Vec<Place>,
+    places: &mut Vec<Visit>,
 ) -> Result<(), AllocError>
     requires seen { vec_len seen.old ≡ graph.now.nodes }
     requires levels { vec_len levels.old ≡ graph.now.nodes }
@@ -43,7 +43,7 @@ fn visit(
         if leads_on(graph, *step, next, seen) {
             seen[next as usize] = true;
             levels[next as usize] = level;
-            places.push(Place {
+            places.push(Visit {
                 node: next,
                 step: *step,
                 parent: place,
@@ -55,7 +55,7 @@ fn visit(
 
 /// Marks the nodes that augmenting paths lead to from the start, which is below `nodes`.
 /// By its code it takes time in proportion to nodes and arcs. Fails where memory is refused.
-pub fn search(alloc: Global, graph: &ResidualGraph, start: u32) -> Result<Found, AllocError>
+pub fn search(alloc: Global, graph: &ResidualGraph, start: u32) -> Result<Searched, AllocError>
     requires { start < graph.now.nodes }
     ensures reached { IfOk result (λ found. AreReached graph.now start found.seen.items) }
     ensures closed { IfOk result (λ found. AreClosed graph.now.arcs found.seen.items) }
@@ -67,7 +67,7 @@ pub fn search(alloc: Global, graph: &ResidualGraph, start: u32) -> Result<Found,
     let mut places = Vec::new(alloc);
     seen[start as usize] = true;
     levels[start as usize] = 0;
-    places.push(Place {
+    places.push(Visit {
         node: start,
         step: ResidualArc {
             arc: 0,
@@ -80,7 +80,7 @@ pub fn search(alloc: Global, graph: &ResidualGraph, start: u32) -> Result<Found,
         visit(graph, place, &mut seen, &mut levels, &mut places)?;
         place += 1;
     }
-    Ok(Found {
+    Ok(Searched {
         seen,
         levels,
         places,

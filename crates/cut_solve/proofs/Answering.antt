@@ -7,7 +7,7 @@ use Rattle.std.proofs.lemmas.List.Kept.{AllPairs-filter}
 use Rattle.cut_net.specs.declared.priced.Priced.{Priced}
 use Rattle.cut_net.specs.Network.{Network}
 use Rattle.cut_net.specs.Cuts.{leaves, weight, AreThose, ArePrinted, Chain, IsCheapest, IsFlow, IsPrintedOne, LeavesNear, Near, Outside, Reached}
-use Rattle.cut_net.specs.Lines.{comes_before, flow_by, removed_by, AreInOrder, IsAscending, IsCutAnswer, IsImport}
+use Rattle.cut_net.specs.Lines.{comes_before, flow_by, removed_by, AreImportsInOrder, IsAscending, IsCutAnswer, IsImport}
 use Rattle.cut_net.specs.WellFormed.{AreBetween}
 use Rattle.cut_net.proofs.Chains.{widened}
 use Rattle.cut_net.proofs.Members.{from_filter, from_map, in_map}
@@ -101,7 +101,7 @@ module _ (net : Network) (a b : ℕ) (near far : List Bool) (flow : List Priced)
   }
 
 -- lines with an amount, of imports of the network in order
-pub kept_lines : (net : Network) (lines : List Priced) → IsAscending lines → ((line : Priced) → Contains lines line → IsImport net line) → AreInOrder net (filter has_flow lines)
+pub kept_lines : (net : Network) (lines : List Priced) → IsAscending lines → ((line : Priced) → Contains lines line → IsImport net line) → AreImportsInOrder net (filter has_flow lines)
 kept_lines net lines up known = record {
   known = λ k d h. known (get_or (filter has_flow lines) k d) (from_filter has_flow lines (get_or (filter has_flow lines) k d) (Contains-get_or (filter has_flow lines) k d h));
   ascending = AllPairs-filter (λ i j. IsTrue (comes_before i j)) has_flow lines up;

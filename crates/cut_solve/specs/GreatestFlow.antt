@@ -3,7 +3,7 @@ use Rattle.std.specs.Prelude.{◌≡◌, ℕ, ◌<◌, Bool, false, List, length
 use Rattle.cut_net.specs.declared.priced.Priced.{Priced}
 use Rattle.cut_net.specs.Network.{Network}
 use Rattle.cut_net.specs.Cuts.{AreThose, IsFlow, Reached}
-use Rattle.cut_net.specs.Lines.{flow_by, AreInOrder}
+use Rattle.cut_net.specs.Lines.{flow_by, AreImportsInOrder}
 use Rattle.cut_residual.specs.Graphs.{is_seen}
 
 -- the lines are a flow from a to b, and the marked modules are those that its residual imports reach from a, without b
@@ -11,7 +11,7 @@ pub record IsMaximumFlow (net : Network) (a b : ℕ) (near : List Bool) (flow : 
   pub size : length near ≡ length net.names
   pub reached : AreThose (is_seen near) (Reached net (flow_by flow) a)
   pub end : is_seen near b ≡ false
-  pub in_order : AreInOrder net flow
+  pub in_order : AreImportsInOrder net flow
   pub above_zero : All (λ line. 0 < line.amount) flow
   pub value : ℕ
   pub is_flow : IsFlow net a b (flow_by flow) value

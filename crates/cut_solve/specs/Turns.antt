@@ -4,13 +4,13 @@ use Rattle.cut_preflow.specs.declared.event.Event.{Event}
 use Rattle.cut_preflow.specs.declared.event.Outcome.{Outcome}
 use Rattle.cut_preflow.specs.declared.event.Outcome.TheVariants.{Stale, Refused}
 use Rattle.cut_preflow.specs.Preflow.{applies}
-use Rattle.cut_preflow.specs.Trace.{state_of, outcome_of, history_after}
+use Rattle.cut_preflow.specs.Trace.{state_of, step_outcome, history_after}
 use Rattle.cut_preflow.specs.Shares.{Shared, count_after}
 
 -- the event was tried, with one of its outcomes: the history has it where it applied, and the book and the worker's count are so much longer
 pub record IsTried (event : Event) (old new : Shared) (before after : ℕ) : Type 0 where
   pub outcome : Outcome
-  pub is : outcome ≢ Refused → outcome ≡ outcome_of old.trace.net (state_of old.trace) event.step
+  pub is : outcome ≢ Refused → outcome ≡ step_outcome old.trace.net (state_of old.trace) event.step
   pub stale : (outcome ≡ Stale) ↔ (applies old.trace.net (state_of old.trace) event.step ≡ false)
   pub left : new ≡ record old { trace = record old.trace { history = history_after old.trace.history event outcome }; counted = count_after old.counted outcome }
   pub counted : after ≡ count_after before outcome

@@ -6,7 +6,7 @@ ghost use Rattle.cut_residual.specs.Graphs.{is_seen};
 ghost use Rattle.cut_solve.specs.Lines.{is_printed, reversed_of};
 
 use cut_net::Priced;
-use cut_residual::{Arc, Found, ResidualGraph, search};
+use cut_residual::{Arc, ResidualGraph, Searched, search};
 use std::alloc::{AllocError, Global};
 
 /// Whether the import leads out of the near modules.
@@ -43,7 +43,7 @@ pub(crate) fn far_from(
     near: &[bool],
     nodes: u32,
     to: u32,
-) -> Result<Found, AllocError>
+) -> Result<Searched, AllocError>
     requires between { AreBetween imports.now nodes }
     requires near { length near.now ≡ nodes }
     requires to { to < nodes }
@@ -57,7 +57,7 @@ pub(crate) fn far_from(
 }
 
 /// Whether the import is printed: it leaves the near modules, and the module that it leads to has a chain to the end.
-fn is_printed(i: Priced, near: &[bool], far: &Found) -> bool
+fn is_printed(i: Priced, near: &[bool], far: &Searched) -> bool
     requires from { i.from < length near.now }
     requires to { i.to < length near.now }
     requires far { i.to < length far.now.seen.items }
@@ -71,7 +71,7 @@ pub(crate) fn printed_of(
     alloc: Global,
     imports: &[Priced],
     near: &[bool],
-    far: &Found,
+    far: &Searched,
 ) -> Result<Vec<Priced>, AllocError>
     requires near { AreBetween imports.now (length near.now) }
     requires far { AreBetween imports.now (length far.now.seen.items) }

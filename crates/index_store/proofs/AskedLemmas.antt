@@ -14,7 +14,7 @@ use Rattle.index_store.specs.declared.place.Position.{Position}
 use Rattle.index_store.specs.declared.row.Covering.{Covering}
 use Rattle.index_store.specs.declared.span.Span.{Span}
 use Rattle.index_store.specs.Asked.{covering_span, nearer, nearer_of, nearest, place_asked, places_wanted}
-use Rattle.index_store.specs.Queries.{Covers, Found, HasPath, IsNearest, IsSymbolAt, NoneCovers, PlainPlace, all_found, is_definition, is_local, is_sought, place_given, place_of, places_of}
+use Rattle.index_store.specs.Queries.{Covers, PlacedOccurrence, HasPath, IsNearest, IsSymbolAt, NoneCovers, PlainPlace, all_found, is_definition, is_local, is_sought, place_given, place_of, places_of}
 use Rattle.index_store.specs.Spans.{is_before, is_in, is_nearer, span_of}
 use Rattle.index_store.specs.Stores.{AreWhole, IsStoreOf, Tables, covering_in, coverings_under, mention_given, mention_of, mentions_under, said_covering, said_mention}
 use Rattle.index_store.specs.Tables.{number_of, rows_at, rows_under, text_at}
@@ -82,32 +82,32 @@ nearer_trans a b c e f = nearer_between a b c e (nearer_asym b c f)
 
 -- ---- the nearest occurrence
 
-one_span : (path : List ℕ) (at : Position) (f : Found) (a b : Span) → Covers path at f a → Covers path at f b → a ≡ b
+one_span : (path : List ℕ) (at : Position) (f : PlacedOccurrence) (a b : Span) → Covers path at f a → Covers path at f b → a ≡ b
 one_span path at f a b p q = same_Some a b (sym p.placed ∙ q.placed)
 
 -- the nearest of these occurrences, as its span and its symbol
-abbrev IsBest : List ℕ → Position → List Found → Option (Span × List ℕ) → Type 0
+abbrev IsBest : List ℕ → Position → List PlacedOccurrence → Option (Span × List ℕ) → Type 0
 IsBest path at found None = NoneCovers found path at
-IsBest path at found (Some x) = (f : Found) × IsNearest found path at f x.0 × (f.occurrence.symbol ≡ x.1)
+IsBest path at found (Some x) = (f : PlacedOccurrence) × IsNearest found path at f x.0 × (f.occurrence.symbol ≡ x.1)
 
 -- one that doesn't cover the position
-best_skips : (path : List ℕ) (at : Position) (found : List Found) (best : Option (Span × List ℕ)) (f : Found) → IsBest path at found best → ((span : Span) → Covers path at f span → ⊥) → IsBest path at (found ++ f ∷ []) best
-best_skips path at found None f none never = λ g other has covers. ⊎_elim (λ (old : Contains found g). none g other old covers) (λ (is : f ≡ g). never other (subst (λ (x : Found). Covers path at x other) (sym is) covers)) (Contains-push_cases found f g has)
+best_skips : (path : List ℕ) (at : Position) (found : List PlacedOccurrence) (best : Option (Span × List ℕ)) (f : PlacedOccurrence) → IsBest path at found best → ((span : Span) → Covers path at f span → ⊥) → IsBest path at (found ++ f ∷ []) best
+best_skips path at found None f none never = λ g other has covers. ⊎_elim (λ (old : Contains found g). none g other old covers) (λ (is : f ≡ g). never other (subst (λ (x : PlacedOccurrence). Covers path at x other) (sym is) covers)) (Contains-push_cases found f g has)
 best_skips path at found (Some x) f (g, n, is) never = (
   g,
   record {
     before = n.before;
     after = n.after ++ f ∷ [];
-    among = ap (λ (fs : List Found). fs ++ f ∷ []) n.among ∙ append_assoc n.before (g ∷ n.after) (f ∷ []);
+    among = ap (λ (fs : List PlacedOccurrence). fs ++ f ∷ []) n.among ∙ append_assoc n.before (g ∷ n.after) (f ∷ []);
     covers = n.covers;
     first = n.first;
-    latest = λ h other has covers. ⊎_elim (λ (old : Contains n.after h). n.latest h other old covers) (λ (same : f ≡ h). absurd (never other (subst (λ (y : Found). Covers path at y other) (sym same) covers))) (Contains-push_cases n.after f h has);
+    latest = λ h other has covers. ⊎_elim (λ (old : Contains n.after h). n.latest h other old covers) (λ (same : f ≡ h). absurd (never other (subst (λ (y : PlacedOccurrence). Covers path at y other) (sym same) covers))) (Contains-push_cases n.after f h has);
   },
   is,
 )
 
 -- the new one is nearer than all before it
-newest : (path : List ℕ) (at : Position) (found : List Found) (f : Found) (span : Span) → Covers path at f span → ((g : Found) (other : Span) → Contains found g → Covers path at g other → is_nearer span other ≡ true) → IsNearest (found ++ f ∷ []) path at f span
+newest : (path : List ℕ) (at : Position) (found : List PlacedOccurrence) (f : PlacedOccurrence) (span : Span) → Covers path at f span → ((g : PlacedOccurrence) (other : Span) → Contains found g → Covers path at g other → is_nearer span other ≡ true) → IsNearest (found ++ f ∷ []) path at f span
 newest path at found f span covers nearer_than = record {
   before = found;
   after = [];
@@ -118,20 +118,20 @@ newest path at found f span covers nearer_than = record {
 }
 
 -- nearer than the nearest is nearer than each
-than_each : (path : List ℕ) (at : Position) (found : List Found) (g : Found) (near span : Span) → IsNearest found path at g near → is_nearer span near ≡ true → (h : Found) (other : Span) → Contains found h → Covers path at h other → is_nearer span other ≡ true
+than_each : (path : List ℕ) (at : Position) (found : List PlacedOccurrence) (g : PlacedOccurrence) (near span : Span) → IsNearest found path at g near → is_nearer span near ≡ true → (h : PlacedOccurrence) (other : Span) → Contains found h → Covers path at h other → is_nearer span other ≡ true
 than_each path at found g near span n e h other has covers =
     ⊎_elim (λ (early : Contains n.before h). nearer_trans span near other e (n.first h other early covers))
     (λ (late : Contains (g ∷ n.after) h). rest late)
-    (Contains-append_cases n.before (g ∷ n.after) h (subst (λ (fs : List Found). Contains fs h) n.among has))
+    (Contains-append_cases n.before (g ∷ n.after) h (subst (λ (fs : List PlacedOccurrence). Contains fs h) n.among has))
   where
     rest : Contains (g ∷ n.after) h → is_nearer span other ≡ true
-    rest (zero, l, is) = let same : other ≡ near = one_span path at h other near covers (subst (λ (x : Found). Covers path at x near) is n.covers) in subst (λ (x : Span). is_nearer span x ≡ true) (sym same) e
+    rest (zero, l, is) = let same : other ≡ near = one_span path at h other near covers (subst (λ (x : PlacedOccurrence). Covers path at x near) is n.covers) in subst (λ (x : Span). is_nearer span x ≡ true) (sym same) e
     rest (suc k, l, is) = nearer_between span near other e (n.latest h other (k, omega (arith, l), is) covers)
 
 abbrev pair_span : Span × List ℕ → Span
 pair_span x = x.0
 
-best_takes : (path : List ℕ) (at : Position) (found : List Found) (best : Option (Span × List ℕ)) (f : Found) (span : Span) → IsBest path at found best → Covers path at f span
+best_takes : (path : List ℕ) (at : Position) (found : List PlacedOccurrence) (best : Option (Span × List ℕ)) (f : PlacedOccurrence) (span : Span) → IsBest path at found best → Covers path at f span
     → IsBest path at (found ++ f ∷ []) (Some (nearer_of pair_span best (span, f.occurrence.symbol)))
 best_takes path at found None f span none covers = (f, newest path at found f span covers (λ g other has h. absurd (none g other has h)), refl)
 best_takes path at found (Some x) f span (g, n, is) covers = elim (cases_Bool (is_nearer span x.0)) [
@@ -141,11 +141,11 @@ best_takes path at found (Some x) f span (g, n, is) covers = elim (cases_Bool (i
     record {
       before = n.before;
       after = n.after ++ f ∷ [];
-      among = ap (λ (fs : List Found). fs ++ f ∷ []) n.among ∙ append_assoc n.before (g ∷ n.after) (f ∷ []);
+      among = ap (λ (fs : List PlacedOccurrence). fs ++ f ∷ []) n.among ∙ append_assoc n.before (g ∷ n.after) (f ∷ []);
       covers = n.covers;
       first = n.first;
       latest = λ h other has c. ⊎_elim (λ (old : Contains n.after h). n.latest h other old c)
-          (λ (same : f ≡ h). let one : span ≡ other = one_span path at h span other (subst (λ (y : Found). Covers path at y span) same covers) c in subst (λ (y : Span). is_nearer y x.0 ≡ false) one far)
+          (λ (same : f ≡ h). let one : span ≡ other = one_span path at h span other (subst (λ (y : PlacedOccurrence). Covers path at y span) same covers) c in subst (λ (y : Span). is_nearer y x.0 ≡ false) one far)
           (Contains-push_cases n.after f h has);
     },
     is,
@@ -153,7 +153,7 @@ best_takes path at found (Some x) f span (g, n, is) covers = elim (cases_Bool (i
 ]
 
 -- what is kept of an occurrence under a path: nothing, where it covers nothing there, or its span and its symbol
-kept_of : (path : List ℕ) (at : Position) (f : Found) → ((covering_in path f ≡ []) × ((span : Span) → Covers path at f span → ⊥))
+kept_of : (path : List ℕ) (at : Position) (f : PlacedOccurrence) → ((covering_in path f ≡ []) × ((span : Span) → Covers path at f span → ⊥))
     ⊎ ((span : Span) × (covering_in path f ≡ (span, f.occurrence.symbol) ∷ []) × (is_in at span ≡ true → Covers path at f span) × (is_in at span ≡ false → (other : Span) → Covers path at f other → ⊥))
 kept_of path at f = elim (cases_Bool (bytes_eq path f.path)) [
   | inr apart ↦ inl (rw apart refl, λ span covers. false≢true (sym apart ∙ bytes_same path f.path (sym covers.here)))
@@ -175,22 +175,22 @@ kept_of path at f = elim (cases_Bool (bytes_eq path f.path)) [
     spanned None placed here = inl (rw (here, placed) refl, λ span covers. none-some span (sym placed ∙ covers.placed))
     spanned (Some span) placed here = symbolled span f.occurrence.symbol placed refl here
 
-best_more : (path : List ℕ) (at : Position) (done : List Found) (best : Option (Span × List ℕ)) (f : Found) (span : Span) → IsBest path at done best → (is_in at span ≡ true → Covers path at f span)
+best_more : (path : List ℕ) (at : Position) (done : List PlacedOccurrence) (best : Option (Span × List ℕ)) (f : PlacedOccurrence) (span : Span) → IsBest path at done best → (is_in at span ≡ true → Covers path at f span)
     → (is_in at span ≡ false → (other : Span) → Covers path at f other → ⊥) → IsBest path at (done ++ f ∷ []) (nearer pair_span at best (span, f.occurrence.symbol))
 best_more path at done best f span h covers never = elim (cases_Bool (is_in at span)) [
   | inl inside ↦ rw inside (best_takes path at done best f span h (covers inside))
   | inr outside ↦ rw outside (best_skips path at done best f h (never outside))
 ]
 
-best_of_all : (path : List ℕ) (at : Position) (done found : List Found) (best : Option (Span × List ℕ)) → IsBest path at done best → IsBest path at (done ++ found) (fold (nearer pair_span at) best (flat_map (covering_in path) found))
-best_of_all path at done [] best h = subst (λ (fs : List Found). IsBest path at fs best) (sym (append-nil done)) h
+best_of_all : (path : List ℕ) (at : Position) (done found : List PlacedOccurrence) (best : Option (Span × List ℕ)) → IsBest path at done best → IsBest path at (done ++ found) (fold (nearer pair_span at) best (flat_map (covering_in path) found))
+best_of_all path at done [] best h = subst (λ (fs : List PlacedOccurrence). IsBest path at fs best) (sym (append-nil done)) h
 best_of_all path at done (f ∷ found) best h =
     let rest = flat_map (covering_in path) found in
     let whole : (done ++ f ∷ []) ++ found ≡ done ++ f ∷ found = append_assoc done (f ∷ []) found in
     elim (kept_of path at f) [
-      | inl nothing ↦ rw nothing.0 (subst (λ (fs : List Found). IsBest path at fs (fold (nearer pair_span at) best rest)) whole (best_of_all path at (done ++ f ∷ []) found best (best_skips path at done best f h nothing.1)))
+      | inl nothing ↦ rw nothing.0 (subst (λ (fs : List PlacedOccurrence). IsBest path at fs (fold (nearer pair_span at) best rest)) whole (best_of_all path at (done ++ f ∷ []) found best (best_skips path at done best f h nothing.1)))
       | inr kept ↦ let next : Option (Span × List ℕ) = nearer pair_span at best (kept.0, f.occurrence.symbol) in
-          rw kept.1 (subst (λ (fs : List Found). IsBest path at fs (fold (nearer pair_span at) next rest)) whole (best_of_all path at (done ++ f ∷ []) found next (best_more path at done best f kept.0 h kept.2 kept.3)))
+          rw kept.1 (subst (λ (fs : List PlacedOccurrence). IsBest path at fs (fold (nearer pair_span at) next rest)) whole (best_of_all path at (done ++ f ∷ []) found next (best_more path at done best f kept.0 h kept.2 kept.3)))
     ]
 
 -- ---- rows as what they say
@@ -213,12 +213,12 @@ fold_said symbols at best [] = refl
 fold_said symbols at best (c ∷ rows) =
     fold_said symbols at (nearer covering_span at best c) rows ∙ ap (λ (o : Option (Span × List ℕ)). fold (nearer pair_span at) o (map (said_covering symbols) rows)) (step_said symbols at best c)
 
-symbol_of : (path : List ℕ) (at : Position) (found : List Found) (best : Option (Span × List ℕ)) → IsBest path at found best → IsSymbolAt found path at (option_map (λ x. x.1) best)
+symbol_of : (path : List ℕ) (at : Position) (found : List PlacedOccurrence) (best : Option (Span × List ℕ)) → IsBest path at found best → IsSymbolAt found path at (option_map (λ x. x.1) best)
 symbol_of path at found None h = h
 symbol_of path at found (Some x) (f, n, is) = (f, x.0, n, is)
 
 -- the symbol of the nearest row is that at the position
-pub nearest_symbol : (path : List ℕ) (at : Position) (found : List Found) (symbols : List (List ℕ)) (rows : List Covering) → map (said_covering symbols) rows ≡ flat_map (covering_in path) found
+pub nearest_symbol : (path : List ℕ) (at : Position) (found : List PlacedOccurrence) (symbols : List (List ℕ)) (rows : List Covering) → map (said_covering symbols) rows ≡ flat_map (covering_in path) found
     → IsSymbolAt found path at (option_map (λ c. text_at symbols c.symbol) (nearest rows at))
 nearest_symbol path at found symbols rows e =
     let best = symbol_of path at found (fold (nearer pair_span at) None (flat_map (covering_in path) found)) (best_of_all path at [] found None none_yet) in
@@ -269,7 +269,7 @@ eq_flip a b = elim (cases_Bool (bytes_eq b a)) [
 ]
 
 -- whether an occurrence is wanted
-abbrev is_wanted : Bool → List ℕ → List ℕ → Found → Bool
+abbrev is_wanted : Bool → List ℕ → List ℕ → PlacedOccurrence → Bool
 is_wanted defines path symbol f = is_sought path symbol f && (if defines then is_definition f.occurrence else not (is_definition f.occurrence))
 
 swap : (a b : Bool) → (a && b) ≡ (b && a)
@@ -289,7 +289,7 @@ given_asked defines local path (Some span) here d = elim (cases_Bool ((if define
   | inr other ↦ rw other refl
 ]
 
-one_asked : (defines : Bool) (path symbol : List ℕ) (f : Found) → flat_map (place_asked defines (is_local symbol) path) (mention_of symbol f) ≡ (if is_wanted defines path symbol f then place_of f else [])
+one_asked : (defines : Bool) (path symbol : List ℕ) (f : PlacedOccurrence) → flat_map (place_asked defines (is_local symbol) path) (mention_of symbol f) ≡ (if is_wanted defines path symbol f then place_of f else [])
 one_asked defines path symbol f = elim (cases_Bool (bytes_eq symbol f.occurrence.symbol)) [
   | inr apart ↦ let other : bytes_eq f.occurrence.symbol symbol ≡ false = eq_flip f.occurrence.symbol symbol ∙ apart in
       rw (apart, other) refl
@@ -298,11 +298,11 @@ one_asked defines path symbol f = elim (cases_Bool (bytes_eq symbol f.occurrence
       ∙ ap (λ (b : Bool). if b then place_of f else []) (swap (if defines then is_definition f.occurrence else not (is_definition f.occurrence)) (not (is_local symbol) || bytes_eq f.path path)))
 ]
 
-if_first : (b : Bool) (f : Found) (rest : List Found) → places_of (if b then f ∷ rest else rest) ≡ (if b then place_of f else []) ++ places_of rest
+if_first : (b : Bool) (f : PlacedOccurrence) (rest : List PlacedOccurrence) → places_of (if b then f ∷ rest else rest) ≡ (if b then place_of f else []) ++ places_of rest
 if_first true f rest = refl
 if_first false f rest = refl
 
-all_asked : (defines : Bool) (path symbol : List ℕ) (found : List Found) → flat_map (place_asked defines (is_local symbol) path) (flat_map (mention_of symbol) found) ≡ places_of (filter (is_wanted defines path symbol) found)
+all_asked : (defines : Bool) (path symbol : List ℕ) (found : List PlacedOccurrence) → flat_map (place_asked defines (is_local symbol) path) (flat_map (mention_of symbol) found) ≡ places_of (filter (is_wanted defines path symbol) found)
 all_asked defines path symbol [] = refl
 all_asked defines path symbol (f ∷ found) =
     flat_map-append (place_asked defines (is_local symbol) path) (mention_of symbol f) (flat_map (mention_of symbol) found)

@@ -5,7 +5,7 @@ use Rattle.std.proofs.lemmas.Bool.{false≢true}
 use Rattle.std.proofs.lemmas.List.Elements.{Contains-append_right}
 use Rattle.index_store.specs.declared.place.Position.{Position}
 use Rattle.index_store.specs.declared.span.Span.{Span}
-use Rattle.index_store.specs.Queries.{Found, IsNearest, IsSymbolAt, NoneCovers}
+use Rattle.index_store.specs.Queries.{PlacedOccurrence, IsNearest, IsSymbolAt, NoneCovers}
 
 module _ {X : Type 0} where
   abbrev first_of : X → List X → X
@@ -36,19 +36,19 @@ module _ {X : Type 0} where
     | inr (inr both) ↦ inr (inr (later_in g x xs both.0, both.1))
   ]
 
-module _ (found : List Found) (path : List ℕ) (at : Position) where
-  one_nearest : (f g : Found) (a b : Span) → IsNearest found path at f a → IsNearest found path at g b → f ≡ g
+module _ (found : List PlacedOccurrence) (path : List ℕ) (at : Position) where
+  one_nearest : (f g : PlacedOccurrence) (a b : Span) → IsNearest found path at f a → IsNearest found path at g b → f ≡ g
   one_nearest f g a b m n = elim (places m.before n.before m.after n.after f g (sym m.among ∙ n.among)) [
     | inl same ↦ same
     | inr (inl both) ↦ absurd (false≢true (sym (m.latest g b both.1 n.covers) ∙ n.first f a both.0 m.covers))
     | inr (inr both) ↦ absurd (false≢true (sym (n.latest f a both.1 m.covers) ∙ m.first g b both.0 n.covers))
   ]
 
-  covered : (f : Found) (a : Span) → IsNearest found path at f a → NoneCovers found path at → ⊥
-  covered f a n none = none f a (subst (λ (fs : List Found). Contains fs f) (sym n.among) (among_rest n.before n.after f)) n.covers
+  covered : (f : PlacedOccurrence) (a : Span) → IsNearest found path at f a → NoneCovers found path at → ⊥
+  covered f a n none = none f a (subst (λ (fs : List PlacedOccurrence). Contains fs f) (sym n.among) (among_rest n.before n.after f)) n.covers
 
   pub one_symbol : (a b : Option (List ℕ)) → IsSymbolAt found path at a → IsSymbolAt found path at b → a ≡ b
   one_symbol None None p q = refl
   one_symbol None (Some s) p (g, b, n, is) = absurd (covered g b n p)
   one_symbol (Some s) None (f, a, m, is) q = absurd (covered f a m q)
-  one_symbol (Some s) (Some t) (f, a, m, is) (g, b, n, was) = ap (λ (x : List ℕ). Some x) (sym is ∙ ap (λ (x : Found). x.occurrence.symbol) (one_nearest f g a b m n) ∙ was)
+  one_symbol (Some s) (Some t) (f, a, m, is) (g, b, n, was) = ap (λ (x : List ℕ). Some x) (sym is ∙ ap (λ (x : PlacedOccurrence). x.occurrence.symbol) (one_nearest f g a b m n) ∙ was)

@@ -13,7 +13,7 @@ use Rattle.index_store.specs.declared.span.Span.{Span}
 use Rattle.scip_index.specs.declared.index.Document.{Document}
 use Rattle.scip_index.specs.declared.index.Occurrence.{Occurrence}
 use Rattle.scip_index.specs.Plain.{PlainDocument, plain_document, plain_occurrence}
-use Rattle.index_store.specs.Queries.{Found, found_at, found_in, is_definition}
+use Rattle.index_store.specs.Queries.{PlacedOccurrence, found_at, found_in, is_definition}
 use Rattle.index_store.specs.Spans.{span_of}
 use Rattle.index_store.specs.Stores.{AreWhole, IsMentionOf, Keeps, Mentioned, Tables, covering_given, covering_in, coverings_under, mention_of, mentions_under, paths_of, said_covering, said_mention}
 use Rattle.index_store.specs.Tables.{IsEntered, number_of, rows_at, rows_under, text_at}
@@ -51,7 +51,7 @@ named_more texts paths path h p = (
   λ has. ⊎_elim (λ (old : Contains paths p). Contains-append_left texts (path ∷ []) p ((h p).1 old)) (λ (is : path ≡ p). subst (Contains (texts ++ path ∷ [])) is (Contains-push texts path)) (Contains-push_cases paths path p has),
 )
 
-pub path_entered : (paths : List (List ℕ)) (found : List Found) (t : Tables) (path : List ℕ) (ps : List (List ℕ)) (cs : List (List Covering)) (n : ℕ) → AreWhole t → Keeps paths found t → IsEntered t.paths t.coverings path ps cs n
+pub path_entered : (paths : List (List ℕ)) (found : List PlacedOccurrence) (t : Tables) (path : List ℕ) (ps : List (List ℕ)) (cs : List (List Covering)) (n : ℕ) → AreWhole t → Keeps paths found t → IsEntered t.paths t.coverings path ps cs n
     → Keeps (paths ++ path ∷ []) found (record { paths = ps; coverings = cs; symbols = t.symbols; mentions = t.mentions })
 path_entered paths found t path ps cs n whole k (inl (at, same_texts, same_rows)) =
     rw (same_texts, same_rows) (record {
@@ -72,7 +72,7 @@ path_entered paths found t path ps cs n whole k (inr (new, one_text, one_row, la
 
 -- ---- a symbol more
 
-pub symbol_entered : (paths : List (List ℕ)) (found : List Found) (t : Tables) (symbol : List ℕ) (ss : List (List ℕ)) (ms : List (List Mention)) (n : ℕ) → AreWhole t → Keeps paths found t → IsEntered t.symbols t.mentions symbol ss ms n
+pub symbol_entered : (paths : List (List ℕ)) (found : List PlacedOccurrence) (t : Tables) (symbol : List ℕ) (ss : List (List ℕ)) (ms : List (List Mention)) (n : ℕ) → AreWhole t → Keeps paths found t → IsEntered t.symbols t.mentions symbol ss ms n
     → Keeps paths found (record { paths = t.paths; coverings = t.coverings; symbols = ss; mentions = ms })
 symbol_entered paths found t symbol ss ms n whole k (inl (at, same_texts, same_rows)) =
     rw (same_texts, same_rows) (record { named = k.named; coverings = k.coverings; mentions = k.mentions; symbols_there = k.symbols_there; paths_there = k.paths_there })
@@ -88,7 +88,7 @@ symbol_entered paths found t symbol ss ms n whole k (inr (new, one_text, one_row
 -- ---- an occurrence more
 
 -- what one more gives stands behind the others
-more_rows : {A B : Type 0} (said : A → B) (gives : Found → List B) (found : List Found) (f : Found) (old one new : List A) → new ≡ old ++ one → map said old ≡ flat_map gives found → map said one ≡ gives f → map said new ≡ flat_map gives (found ++ f ∷ [])
+more_rows : {A B : Type 0} (said : A → B) (gives : PlacedOccurrence → List B) (found : List PlacedOccurrence) (f : PlacedOccurrence) (old one new : List A) → new ≡ old ++ one → map said old ≡ flat_map gives found → map said one ≡ gives f → map said new ≡ flat_map gives (found ++ f ∷ [])
 more_rows said gives found f old one new e h g =
     ap (map said) e ∙ map-append said old one ∙ ap₂ (λ xs ys. xs ++ ys) h (g ∙ sym (append-nil (gives f))) ∙ sym (flat_map-append gives found (f ∷ []))
 
@@ -103,34 +103,34 @@ all_if : {A : Type 0} (P : A → Type 0) (there : Bool) (row : A) → P row → 
 all_if P true row h = λ k d l. (let z : k ≡ 0 = omega (arith, l) in rw z h)
 all_if P false row h = λ k d l. absurd (omega (arith, l))
 
-covering_one : (symbols : List (List ℕ)) (p : List ℕ) (f : Found) (c : Covering) → span_of f.occurrence.range ≡ Some c.span → text_at symbols c.symbol ≡ f.occurrence.symbol → (b : ℕ) (more : List ℕ) → f.occurrence.symbol ≡ b ∷ more
+covering_one : (symbols : List (List ℕ)) (p : List ℕ) (f : PlacedOccurrence) (c : Covering) → span_of f.occurrence.range ≡ Some c.span → text_at symbols c.symbol ≡ f.occurrence.symbol → (b : ℕ) (more : List ℕ) → f.occurrence.symbol ≡ b ∷ more
     → map (said_covering symbols) (row_if (bytes_eq p f.path) c) ≡ covering_in p f
 covering_one symbols p f c placed text b more is = elim (cases_Bool (bytes_eq p f.path)) [
   | inl here ↦ rw (here, placed, is) (ap (λ (t : List ℕ). (c.span, t) ∷ []) (text ∙ is))
   | inr apart ↦ rw apart refl
 ]
 
-covering_none : (p : List ℕ) (f : Found) → covering_given (span_of f.occurrence.range) f.occurrence.symbol ≡ [] → [] ≡ covering_in p f
+covering_none : (p : List ℕ) (f : PlacedOccurrence) → covering_given (span_of f.occurrence.range) f.occurrence.symbol ≡ [] → [] ≡ covering_in p f
 covering_none p f none = elim (cases_Bool (bytes_eq p f.path)) [
   | inl here ↦ rw here (sym none)
   | inr apart ↦ rw apart refl
 ]
 
-mention_one : (paths : List (List ℕ)) (s : List ℕ) (f : Found) (m : Mention) → span_of f.occurrence.range ≡ Some m.span → text_at paths m.path ≡ f.path → m.defines ≡ is_definition f.occurrence
+mention_one : (paths : List (List ℕ)) (s : List ℕ) (f : PlacedOccurrence) (m : Mention) → span_of f.occurrence.range ≡ Some m.span → text_at paths m.path ≡ f.path → m.defines ≡ is_definition f.occurrence
     → map (said_mention paths) (row_if (bytes_eq s f.occurrence.symbol) m) ≡ mention_of s f
 mention_one paths s f m placed text defines = elim (cases_Bool (bytes_eq s f.occurrence.symbol)) [
   | inl here ↦ rw (here, placed) (ap₂ (λ (t : List ℕ) (b : Bool). (let x : Mentioned = record { path = t; span = m.span; defines = b } in x) ∷ []) text defines)
   | inr apart ↦ rw apart refl
 ]
 
-mention_none : (s : List ℕ) (f : Found) → span_of f.occurrence.range ≡ None → [] ≡ mention_of s f
+mention_none : (s : List ℕ) (f : PlacedOccurrence) → span_of f.occurrence.range ≡ None → [] ≡ mention_of s f
 mention_none s f none = elim (cases_Bool (bytes_eq s f.occurrence.symbol)) [
   | inl here ↦ rw (here, none) refl
   | inr apart ↦ rw apart refl
 ]
 
 -- an occurrence that is no place
-pub passed_over : (paths : List (List ℕ)) (found : List Found) (t : Tables) (f : Found) → Keeps paths found t → span_of f.occurrence.range ≡ None → Keeps paths (found ++ f ∷ []) t
+pub passed_over : (paths : List (List ℕ)) (found : List PlacedOccurrence) (t : Tables) (f : PlacedOccurrence) → Keeps paths found t → span_of f.occurrence.range ≡ None → Keeps paths (found ++ f ∷ []) t
 passed_over paths found t f k none = record {
   named = k.named;
   coverings = λ p. more_rows (said_covering t.symbols) (covering_in p) found f (coverings_under t p) [] (coverings_under t p) (sym (append-nil (coverings_under t p))) (k.coverings p) (covering_none p f (rw none refl));
@@ -145,7 +145,7 @@ mentions_with t n m = set t.mentions n (rows_at t.mentions n ++ m ∷ [])
 abbrev pub coverings_with : Tables → ℕ → Covering → List (List Covering)
 coverings_with t n c = set t.coverings n (rows_at t.coverings n ++ c ∷ [])
 
-module _ (paths : List (List ℕ)) (found : List Found) (t : Tables) (f : Found) (m : Mention) (symbol : ℕ) (whole : AreWhole t) (k : Keeps paths found t) (at_path : number_of t.paths f.path ≡ Some m.path) (at_symbol : number_of t.symbols f.occurrence.symbol ≡ Some symbol)
+module _ (paths : List (List ℕ)) (found : List PlacedOccurrence) (t : Tables) (f : PlacedOccurrence) (m : Mention) (symbol : ℕ) (whole : AreWhole t) (k : Keeps paths found t) (at_path : number_of t.paths f.path ≡ Some m.path) (at_symbol : number_of t.symbols f.occurrence.symbol ≡ Some symbol)
     (placed : span_of f.occurrence.range ≡ Some m.span) (defines : m.defines ≡ is_definition f.occurrence) where
   mentions_more : (s : List ℕ) → map (said_mention t.paths) (rows_under t.symbols (mentions_with t symbol m) s) ≡ flat_map (mention_of s) (found ++ f ∷ [])
   mentions_more s =
@@ -220,7 +220,7 @@ module _ (t : Tables) (symbol : List ℕ) (ss : List (List ℕ)) (ms : List (Lis
   pub covered_whole : (c : Covering) → AreWhole (record { paths = t.paths; coverings = set t.coverings m.path (rows_at t.coverings m.path ++ c ∷ []); symbols = ss; mentions = set ms n (rows_at ms n ++ m ∷ []) })
   covered_whole c = record { of_paths = whole.of_paths ∙ sym (length-set t.coverings m.path (rows_at t.coverings m.path ++ c ∷ [])); of_symbols = bare_whole.of_symbols }
 
-  module _ (paths : List (List ℕ)) (found : List Found) (f : Found) (k : Keeps paths found t) (at : number_of t.paths f.path ≡ Some m.path) (is : IsMentionOf f symbol m) where
+  module _ (paths : List (List ℕ)) (found : List PlacedOccurrence) (f : PlacedOccurrence) (k : Keeps paths found t) (at : number_of t.paths f.path ≡ Some m.path) (is : IsMentionOf f symbol m) where
     kept_entered : Keeps paths found (record { paths = t.paths; coverings = t.coverings; symbols = ss; mentions = ms })
     kept_entered = symbol_entered paths found t symbol ss ms n whole k entered
 
@@ -240,11 +240,11 @@ module _ (t : Tables) (symbol : List ℕ) (ss : List (List ℕ)) (ms : List (Lis
 -- ---- loops
 
 -- the occurrences up to one, and that one
-pub some_more : (found : List Found) (name : List ℕ) (items : List Occurrence) (k : ℕ) (o : Occurrence) → k < length items → o ≡ get_or items k o
+pub some_more : (found : List PlacedOccurrence) (name : List ℕ) (items : List Occurrence) (k : ℕ) (o : Occurrence) → k < length items → o ≡ get_or items k o
     → (found ++ map (found_at name) (map plain_occurrence (take k items))) ++ found_at name (plain_occurrence o) ∷ [] ≡ found ++ map (found_at name) (map plain_occurrence (take (k + 1) items))
 some_more found name items k o l is =
     append_assoc found (map (found_at name) (map plain_occurrence (take k items))) (found_at name (plain_occurrence o) ∷ [])
-    ∙ ap (λ (fs : List Found). found ++ fs)
+    ∙ ap (λ (fs : List PlacedOccurrence). found ++ fs)
     (ap (λ (x : Occurrence). map (found_at name) (map plain_occurrence (take k items)) ++ found_at name (plain_occurrence x) ∷ []) is
     ∙ sym (ap (map (found_at name)) (map_more plain_occurrence items k o l) ∙ map-append (found_at name) (map plain_occurrence (take k items)) (plain_occurrence (get_or items k o) ∷ [])))
 
@@ -255,7 +255,7 @@ documents_more items k d l is =
     let more : map plain_document (take (k + 1) items) ≡ map plain_document (take k items) ++ plain_document d ∷ [] =
     map_more plain_document items k d l ∙ ap (λ (x : Document). map plain_document (take k items) ++ plain_document x ∷ []) (sym is) in (
       sym (ap paths_of more ∙ map-append (λ (x : PlainDocument). x.relative_path) (map plain_document (take k items)) (plain_document d ∷ [])),
-      sym (ap (flat_map found_in) more ∙ flat_map-append found_in (map plain_document (take k items)) (plain_document d ∷ []) ∙ ap (λ (fs : List Found). flat_map found_in (map plain_document (take k items)) ++ fs) (append-nil (found_in (plain_document d)))),
+      sym (ap (flat_map found_in) more ∙ flat_map-append found_in (map plain_document (take k items)) (plain_document d ∷ []) ∙ ap (λ (fs : List PlacedOccurrence). flat_map found_in (map plain_document (take k items)) ++ fs) (append-nil (found_in (plain_document d)))),
     )
 
 pub nothing_kept : let t : Tables = record { paths = []; coverings = []; symbols = []; mentions = [] } in AreWhole t × Keeps [] [] t
@@ -274,5 +274,5 @@ nothing_kept = (
 pub kept_more : (old new : List PlainDocument) (d : PlainDocument) (t : Tables) → new ≡ old ++ d ∷ [] → Keeps (paths_of old ++ d.relative_path ∷ []) (flat_map found_in old ++ found_in d) t → Keeps (paths_of new) (flat_map found_in new) t
 kept_more old new d t is k =
     let paths : paths_of new ≡ paths_of old ++ d.relative_path ∷ [] = ap paths_of is ∙ map-append (λ (x : PlainDocument). x.relative_path) old (d ∷ []) in
-    let found : flat_map found_in new ≡ flat_map found_in old ++ found_in d = ap (flat_map found_in) is ∙ flat_map-append found_in old (d ∷ []) ∙ ap (λ (fs : List Found). flat_map found_in old ++ fs) (append-nil (found_in d)) in
+    let found : flat_map found_in new ≡ flat_map found_in old ++ found_in d = ap (flat_map found_in) is ∙ flat_map-append found_in old (d ∷ []) ∙ ap (λ (fs : List PlacedOccurrence). flat_map found_in old ++ fs) (append-nil (found_in d)) in
     rw (paths, found) k

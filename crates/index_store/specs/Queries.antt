@@ -12,18 +12,18 @@ use Rattle.index_store.specs.declared.span.Span.{Span}
 use Rattle.index_store.specs.Spans.{is_in, is_nearer, span_of}
 
 -- an occurrence with its document's path
-pub record Found : Type 0 where
+pub record PlacedOccurrence : Type 0 where
   pub path : List ℕ
   pub occurrence : PlainOccurrence
 
-abbrev pub found_at : List ℕ → PlainOccurrence → Found
+abbrev pub found_at : List ℕ → PlainOccurrence → PlacedOccurrence
 found_at path occurrence = record { path = path; occurrence = occurrence }
 
-abbrev pub found_in : PlainDocument → List Found
+abbrev pub found_in : PlainDocument → List PlacedOccurrence
 found_in document = map (found_at document.relative_path) document.occurrences
 
 -- all occurrences of all documents
-abbrev pub all_found : PlainIndex → List Found
+abbrev pub all_found : PlainIndex → List PlacedOccurrence
 all_found index = flat_map found_in index.documents
 
 -- some document has this path
@@ -38,29 +38,29 @@ answered seen (Err e) = Err e
 -- ---- what stands at a position
 
 -- the occurrence has a symbol, is in this document, and the position is in its span
-pub record Covers (path : List ℕ) (at : Position) (f : Found) (span : Span) : Type 0 where
+pub record Covers (path : List ℕ) (at : Position) (f : PlacedOccurrence) (span : Span) : Type 0 where
   pub here : f.path ≡ path
   pub some : f.occurrence.symbol ≢ []
   pub placed : span_of f.occurrence.range ≡ Some span
   pub inside : is_in at span ≡ true
 
 -- of the covering ones the one that no other is nearer than, and the first of those
-pub record IsNearest (found : List Found) (path : List ℕ) (at : Position) (f : Found) (span : Span) : Type 0 where
-  pub before : List Found
-  pub after : List Found
+pub record IsNearest (found : List PlacedOccurrence) (path : List ℕ) (at : Position) (f : PlacedOccurrence) (span : Span) : Type 0 where
+  pub before : List PlacedOccurrence
+  pub after : List PlacedOccurrence
   pub among : found ≡ before ++ f ∷ after
   pub covers : Covers path at f span
-  pub first : (g : Found) (other : Span) → Contains before g → Covers path at g other → is_nearer span other ≡ true
-  pub latest : (g : Found) (other : Span) → Contains after g → Covers path at g other → is_nearer other span ≡ false
+  pub first : (g : PlacedOccurrence) (other : Span) → Contains before g → Covers path at g other → is_nearer span other ≡ true
+  pub latest : (g : PlacedOccurrence) (other : Span) → Contains after g → Covers path at g other → is_nearer other span ≡ false
 
 -- none covers the position
-abbrev pub NoneCovers : List Found → List ℕ → Position → Type 0
-NoneCovers found path at = (g : Found) (other : Span) → Contains found g → Covers path at g other → ⊥
+abbrev pub NoneCovers : List PlacedOccurrence → List ℕ → Position → Type 0
+NoneCovers found path at = (g : PlacedOccurrence) (other : Span) → Contains found g → Covers path at g other → ⊥
 
 -- the symbol of the nearest one, or none where none covers
-abbrev pub IsSymbolAt : List Found → List ℕ → Position → Option (List ℕ) → Type 0
+abbrev pub IsSymbolAt : List PlacedOccurrence → List ℕ → Position → Option (List ℕ) → Type 0
 IsSymbolAt found path at None = NoneCovers found path at
-IsSymbolAt found path at (Some symbol) = (f : Found) × (span : Span) × IsNearest found path at f span × (f.occurrence.symbol ≡ symbol)
+IsSymbolAt found path at (Some symbol) = (f : PlacedOccurrence) × (span : Span) × IsNearest found path at f span × (f.occurrence.symbol ≡ symbol)
 
 -- what a store answers, which no refusal of memory keeps from it
 abbrev pub IsSymbolAnswer : PlainIndex → List ℕ → Position → Result (Option (List ℕ)) StoreFault → Type 0
@@ -78,7 +78,7 @@ abbrev pub is_local : List ℕ → Bool
 is_local symbol = starts_with nat_eq symbol local_front
 
 -- a local symbol is sought in the documents of its path alone
-abbrev pub is_sought : List ℕ → List ℕ → Found → Bool
+abbrev pub is_sought : List ℕ → List ℕ → PlacedOccurrence → Bool
 is_sought path symbol f = bytes_eq f.occurrence.symbol symbol && (not (is_local symbol) || bytes_eq f.path path)
 
 -- the lowest bit of the roles is set
@@ -98,10 +98,10 @@ abbrev pub place_given : List ℕ → Option Span → List PlainPlace
 place_given path None = []
 place_given path (Some span) = record { path = path; span = span } ∷ []
 
-abbrev pub place_of : Found → List PlainPlace
+abbrev pub place_of : PlacedOccurrence → List PlainPlace
 place_of f = place_given f.path (span_of f.occurrence.range)
 
-abbrev pub places_of : List Found → List PlainPlace
+abbrev pub places_of : List PlacedOccurrence → List PlainPlace
 places_of found = flat_map place_of found
 
 -- the places where the symbol is defined, in the index's order

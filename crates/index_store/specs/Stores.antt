@@ -9,7 +9,7 @@ use Rattle.index_store.specs.declared.row.Mention.{Mention}
 use Rattle.index_store.specs.declared.span.Span.{Span}
 use Rattle.index_store.specs.declared.table.Table.{Table}
 use Rattle.index_store.specs.declared.draft.Draft.{Draft}
-use Rattle.index_store.specs.Queries.{Found, all_found, is_definition}
+use Rattle.index_store.specs.Queries.{PlacedOccurrence, all_found, is_definition}
 use Rattle.index_store.specs.Spans.{span_of}
 use Rattle.index_store.specs.Tables.{rows_in, rows_under, text_at, texts_in}
 
@@ -22,7 +22,7 @@ covering_given (Some span) [] = []
 covering_given (Some span) (b ∷ symbol) = (span, b ∷ symbol) ∷ []
 
 -- in a document of this path
-abbrev pub covering_in : List ℕ → Found → List (Span × List ℕ)
+abbrev pub covering_in : List ℕ → PlacedOccurrence → List (Span × List ℕ)
 covering_in path f = if bytes_eq path f.path then covering_given (span_of f.occurrence.range) f.occurrence.symbol else []
 
 -- where a symbol stands, and whether it is defined there
@@ -36,7 +36,7 @@ mention_given None path defines = []
 mention_given (Some span) path defines = record { path = path; span = span; defines = defines } ∷ []
 
 -- of this symbol
-abbrev pub mention_of : List ℕ → Found → List Mentioned
+abbrev pub mention_of : List ℕ → PlacedOccurrence → List Mentioned
 mention_of symbol f = if bytes_eq symbol f.occurrence.symbol then mention_given (span_of f.occurrence.range) f.path (is_definition f.occurrence) else []
 
 -- ---- tables
@@ -72,7 +72,7 @@ abbrev pub mentions_under : Tables → List ℕ → List Mention
 mentions_under t symbol = rows_under t.symbols t.mentions symbol
 
 -- the paths are those of the documents, under a path stand the spans that have a symbol there, and under a symbol its places
-pub record Keeps (paths : List (List ℕ)) (found : List Found) (t : Tables) : Type 0 where
+pub record Keeps (paths : List (List ℕ)) (found : List PlacedOccurrence) (t : Tables) : Type 0 where
   pub named : (path : List ℕ) → Contains t.paths path ↔ Contains paths path
   pub coverings : (path : List ℕ) → map (said_covering t.symbols) (coverings_under t path) ≡ flat_map (covering_in path) found
   pub mentions : (symbol : List ℕ) → map (said_mention t.paths) (mentions_under t symbol) ≡ flat_map (mention_of symbol) found
@@ -80,7 +80,7 @@ pub record Keeps (paths : List (List ℕ)) (found : List Found) (t : Tables) : T
   pub paths_there : (symbol : List ℕ) → All (λ m. m.path < length t.paths) (mentions_under t symbol)
 
 -- the mention is that of what is found, whose symbol this is
-pub record IsMentionOf (f : Found) (symbol : List ℕ) (m : Mention) : Type 0 where
+pub record IsMentionOf (f : PlacedOccurrence) (symbol : List ℕ) (m : Mention) : Type 0 where
   pub placed : span_of f.occurrence.range ≡ Some m.span
   pub defines : m.defines ≡ is_definition f.occurrence
   pub named : f.occurrence.symbol ≡ symbol
@@ -100,5 +100,5 @@ IsStoreOfBytes bytes t = (index : PlainIndex) × Means bytes index × IsStoreOf 
 pub record IsSound (t : Tables) : Type 0 where
   pub whole : AreWhole t
   pub paths : List (List ℕ)
-  pub found : List Found
+  pub found : List PlacedOccurrence
   pub keeps : Keeps paths found t

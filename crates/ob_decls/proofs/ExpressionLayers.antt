@@ -17,7 +17,7 @@ use Rattle.ob_tree.specs.declared.expression.Element.{Element, fold_out-Element,
 use Rattle.ob_tree.specs.declared.expression.ElementList.{ElementList, fold_out-ElementList, out-ElementList}
 use Rattle.ob_tree.specs.declared.expression.Expr.{Expr, fold_out-Expr, out-Expr}
 use Rattle.ob_tree.specs.declared.expression.ExprList.{ExprList, fold_out-ExprList, out-ExprList}
-use Rattle.ob_tree.specs.declared.expression.Sum.{Sum, fold_out-Sum, out-Sum}
+use Rattle.ob_tree.specs.declared.expression.SimpleExpression.{SimpleExpression, fold_out-SimpleExpression, out-SimpleExpression}
 use Rattle.ob_tree.specs.declared.expression.Term.{Term, fold_out-Term}
 use Rattle.ob_decls.specs.declared.rows.Step.TheVariants as steps_of
 use Rattle.ob_decls.specs.Parts.{Piece, token, both, tells, if_there, each}
@@ -25,13 +25,13 @@ use Rattle.ob_decls.specs.Expressions.{Phrase, Listed, Selected, Denoted, Lone, 
 use Rattle.ob_decls.specs.Expressions.{factor_phrase, selected, denoted, expr_phrase, listed, sum_phrase, term_phrase, factor_step, selector_step, designator_step, element_step, element_list_step, expr_step, expr_list_step, sum_step, term_step}
 use Rattle.ob_decls.proofs.Steps.{each-map, steps}
 
-there : (o : Option (Relation × Box Sum Global)) →
-    if_there (λ c. both token c.1.value.piece) ((shapes.former-Expr-compared).map Sum Phrase sum_phrase o) ≡ if_there (λ c. both token (sum_piece c.1.value)) o
+there : (o : Option (Relation × Box SimpleExpression Global)) →
+    if_there (λ c. both token c.1.value.piece) ((shapes.former-Expr-compared).map SimpleExpression Phrase sum_phrase o) ≡ if_there (λ c. both token (sum_piece c.1.value)) o
 unfolding sum_piece
 there None = refl
 there (Some c) = refl
 
-bare : (f : Sum → Phrase) (o : Option (Relation × Box Sum Global)) (n : Lone) → if_bare ((shapes.former-Expr-compared).map Sum Phrase f o) n ≡ if_bare o n
+bare : (f : SimpleExpression → Phrase) (o : Option (Relation × Box SimpleExpression Global)) (n : Lone) → if_bare ((shapes.former-Expr-compared).map SimpleExpression Phrase f o) n ≡ if_bare o n
 bare f None n = refl
 bare f (Some c) n = refl
 
@@ -51,7 +51,7 @@ length_map f (x ∷ xs) = ap suc (length_map f xs)
 
 -- each layer, with what each part tells in its place
 
-abbrev pub factor_shown : Factor-F Factor Selector Designator Element ElementList Expr ExprList Sum Term → Phrase
+abbrev pub factor_shown : Factor-F Factor Selector Designator Element ElementList Expr ExprList SimpleExpression Term → Phrase
 factor_shown (layers.Value k n) = record { piece = token; name = no_name }
 factor_shown layers.Nil = record { piece = token; name = no_name }
 factor_shown layers.True = record { piece = token; name = no_name }
@@ -61,7 +61,7 @@ factor_shown (layers.Name d) = record { piece = designator_piece false d; name =
 factor_shown (layers.Group e) = record { piece = both token (both (expr_piece e.value) token); name = no_name }
 factor_shown (layers.Not f) = record { piece = both token (factor_piece f.value); name = no_name }
 
-abbrev pub selector_shown : Selector-F Factor Selector Designator Element ElementList Expr ExprList Sum Term → Selected
+abbrev pub selector_shown : Selector-F Factor Selector Designator Element ElementList Expr ExprList SimpleExpression Term → Selected
 selector_shown (layers.Field n) = record { name = Some n; step = λ k. steps_of.Field (k + 1); piece = both token token }
 selector_shown (layers.Index list) = record { name = None; step = λ k. steps_of.Elements (listed list.value).count; piece = both token (both (expr_list_piece list.value) token) }
 selector_shown layers.Target = record { name = None; step = λ k. steps_of.Target; piece = token }
@@ -83,17 +83,17 @@ expr_name e k =
     ap (λ (p : Phrase). p.name k) (fold_out-Expr Phrase Selected Denoted Piece Piece Phrase Listed Phrase Phrase factor_step selector_step designator_step element_step element_list_step expr_step expr_list_step sum_step term_step e) ∙
     ap (λ (n : Lone). n k) (bare sum_phrase (out-Expr e).compared (sum_phrase (out-Expr e).left).name)
 
-pub sum_out : (s : Sum) → sum_piece s ≡ both (if_there (λ x. token) (out-Sum s).sign) (both (term_piece (out-Sum s).first) (each (λ p. both token (term_piece p.1)) (out-Sum s).rest.items))
+pub sum_out : (s : SimpleExpression) → sum_piece s ≡ both (if_there (λ x. token) (out-SimpleExpression s).sign) (both (term_piece (out-SimpleExpression s).first) (each (λ p. both token (term_piece p.1)) (out-SimpleExpression s).rest.items))
 unfolding sum_piece term_piece sum_phrase term_phrase
 sum_out s =
-    ap (λ (p : Phrase). p.piece) (fold_out-Sum Phrase Selected Denoted Piece Piece Phrase Listed Phrase Phrase factor_step selector_step designator_step element_step element_list_step expr_step expr_list_step sum_step term_step s) ∙
-    ap (λ (o : Piece). both (if_there (λ x. token) (out-Sum s).sign) (both (term_piece (out-Sum s).first) o)) (each-map (λ (p : AddOperator × Phrase). both token p.1.piece) _ (out-Sum s).rest.items)
+    ap (λ (p : Phrase). p.piece) (fold_out-SimpleExpression Phrase Selected Denoted Piece Piece Phrase Listed Phrase Phrase factor_step selector_step designator_step element_step element_list_step expr_step expr_list_step sum_step term_step s) ∙
+    ap (λ (o : Piece). both (if_there (λ x. token) (out-SimpleExpression s).sign) (both (term_piece (out-SimpleExpression s).first) o)) (each-map (λ (p : AddOperator × Phrase). both token p.1.piece) _ (out-SimpleExpression s).rest.items)
 
-pub sum_name : (s : Sum) (k : ℕ) → (sum_phrase s).name k ≡ if_bare (out-Sum s).sign (if_alone (out-Sum s).rest.items (term_phrase (out-Sum s).first).name) k
+pub sum_name : (s : SimpleExpression) (k : ℕ) → (sum_phrase s).name k ≡ if_bare (out-SimpleExpression s).sign (if_alone (out-SimpleExpression s).rest.items (term_phrase (out-SimpleExpression s).first).name) k
 unfolding sum_phrase term_phrase
 sum_name s k =
-    ap (λ (p : Phrase). p.name k) (fold_out-Sum Phrase Selected Denoted Piece Piece Phrase Listed Phrase Phrase factor_step selector_step designator_step element_step element_list_step expr_step expr_list_step sum_step term_step s) ∙
-    ap (λ (n : Lone). if_bare (out-Sum s).sign n k) (alone _ (out-Sum s).rest.items (term_phrase (out-Sum s).first).name)
+    ap (λ (p : Phrase). p.name k) (fold_out-SimpleExpression Phrase Selected Denoted Piece Piece Phrase Listed Phrase Phrase factor_step selector_step designator_step element_step element_list_step expr_step expr_list_step sum_step term_step s) ∙
+    ap (λ (n : Lone). if_bare (out-SimpleExpression s).sign n k) (alone _ (out-SimpleExpression s).rest.items (term_phrase (out-SimpleExpression s).first).name)
 
 pub term_out : (t : Term) → term_piece t ≡ both (factor_piece t.first) (each (λ p. both token (factor_piece p.1)) t.rest.items)
 unfolding term_piece factor_piece term_phrase factor_phrase
@@ -146,8 +146,8 @@ pub designator_name : (d : Designator) (k : ℕ) → (denoted d).name k ≡ name
 unfolding denoted selected
 designator_name d k = ap (λ (p : Denoted). p.name k) (fold_out-Designator Phrase Selected Denoted Piece Piece Phrase Listed Phrase Phrase factor_step selector_step designator_step element_step element_list_step expr_step expr_list_step sum_step term_step d)
 
-factor_seen : (x : Factor-F Factor Selector Designator Element ElementList Expr ExprList Sum Term) →
-    factor_step (map-Factor Factor Selector Designator Element ElementList Expr ExprList Sum Term Phrase Selected Denoted Piece Piece Phrase Listed Phrase Phrase factor_phrase selected denoted element_piece element_list_piece expr_phrase listed sum_phrase term_phrase x) ≡ factor_shown x
+factor_seen : (x : Factor-F Factor Selector Designator Element ElementList Expr ExprList SimpleExpression Term) →
+    factor_step (map-Factor Factor Selector Designator Element ElementList Expr ExprList SimpleExpression Term Phrase Selected Denoted Piece Piece Phrase Listed Phrase Phrase factor_phrase selected denoted element_piece element_list_piece expr_phrase listed sum_phrase term_phrase x) ≡ factor_shown x
 unfolding factor_piece designator_piece expr_piece expr_list_piece sum_piece term_piece
 factor_seen (layers.Value k n) = refl
 factor_seen layers.Nil = refl
@@ -163,8 +163,8 @@ pub factor_out : (f : Factor) → factor_phrase f ≡ factor_shown (out-Factor f
 unfolding factor_phrase selected denoted element_piece element_list_piece expr_phrase listed sum_phrase term_phrase
 factor_out f = fold_out-Factor Phrase Selected Denoted Piece Piece Phrase Listed Phrase Phrase factor_step selector_step designator_step element_step element_list_step expr_step expr_list_step sum_step term_step f ∙ factor_seen (out-Factor f)
 
-selector_seen : (x : Selector-F Factor Selector Designator Element ElementList Expr ExprList Sum Term) →
-    selector_step (map-Selector Factor Selector Designator Element ElementList Expr ExprList Sum Term Phrase Selected Denoted Piece Piece Phrase Listed Phrase Phrase factor_phrase selected denoted element_piece element_list_piece expr_phrase listed sum_phrase term_phrase x) ≡ selector_shown x
+selector_seen : (x : Selector-F Factor Selector Designator Element ElementList Expr ExprList SimpleExpression Term) →
+    selector_step (map-Selector Factor Selector Designator Element ElementList Expr ExprList SimpleExpression Term Phrase Selected Denoted Piece Piece Phrase Listed Phrase Phrase factor_phrase selected denoted element_piece element_list_piece expr_phrase listed sum_phrase term_phrase x) ≡ selector_shown x
 unfolding factor_piece designator_piece expr_piece expr_list_piece sum_piece term_piece
 selector_seen (layers.Field n) = refl
 selector_seen (layers.Index list) = refl
@@ -178,11 +178,11 @@ selector_out s = fold_out-Selector Phrase Selected Denoted Piece Piece Phrase Li
 
 -- the same at a value that is made
 
-factor_of : (f : Factor) (x : Factor-F Factor Selector Designator Element ElementList Expr ExprList Sum Term) → out-Factor f ≡ x → factor_piece f ≡ (factor_shown x).piece
+factor_of : (f : Factor) (x : Factor-F Factor Selector Designator Element ElementList Expr ExprList SimpleExpression Term) → out-Factor f ≡ x → factor_piece f ≡ (factor_shown x).piece
 unfolding factor_piece
 factor_of f x e = ap (λ (p : Phrase). p.piece) (factor_out f) ∙ ap (λ y. (factor_shown y).piece) e
 
-named_of : (f : Factor) (x : Factor-F Factor Selector Designator Element ElementList Expr ExprList Sum Term) (n : ℕ) → out-Factor f ≡ x → (factor_phrase f).name n ≡ (factor_shown x).name n
+named_of : (f : Factor) (x : Factor-F Factor Selector Designator Element ElementList Expr ExprList SimpleExpression Term) (n : ℕ) → out-Factor f ≡ x → (factor_phrase f).name n ≡ (factor_shown x).name n
 named_of f x n e = ap (λ (p : Phrase). p.name n) (factor_out f) ∙ ap (λ y. (factor_shown y).name n) e
 
 pub value_made : (k : Literal) (n : ℕ) → factor_piece (factors.Value k n) ≡ token
@@ -209,7 +209,7 @@ group_made b = factor_of _ _ (factors.outs-Group b)
 pub not_made : (b : Box Factor Global) → factor_piece (factors.Not b) ≡ both token (factor_piece b.value)
 not_made b = factor_of _ _ (factors.outs-Not b)
 
-selector_of : (s : Selector) (x : Selector-F Factor Selector Designator Element ElementList Expr ExprList Sum Term) → out-Selector s ≡ x → selected s ≡ selector_shown x
+selector_of : (s : Selector) (x : Selector-F Factor Selector Designator Element ElementList Expr ExprList SimpleExpression Term) → out-Selector s ≡ x → selected s ≡ selector_shown x
 selector_of s x e = selector_out s ∙ ap (λ y. selector_shown y) e
 
 pub field_made : (n : ℕ) → selected (selectors.Field n) ≡ selector_shown (layers.Field n)

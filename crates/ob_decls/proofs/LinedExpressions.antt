@@ -12,7 +12,7 @@ use Rattle.ob_tree.specs.declared.expression.Element.{Element, Element-F, roll-E
 use Rattle.ob_tree.specs.declared.expression.ElementList.{ElementList, ElementList-F, roll-ElementList, out-roll-ElementList, map-ElementList}
 use Rattle.ob_tree.specs.declared.expression.Expr.{Expr, Expr-F, roll-Expr, out-roll-Expr, ind-Expr, map-Expr}
 use Rattle.ob_tree.specs.declared.expression.ExprList.{ExprList, ExprList-F, roll-ExprList, out-roll-ExprList, ind-ExprList, map-ExprList}
-use Rattle.ob_tree.specs.declared.expression.Sum.{Sum, Sum-F, roll-Sum, out-roll-Sum, map-Sum}
+use Rattle.ob_tree.specs.declared.expression.SimpleExpression.{SimpleExpression, SimpleExpression-F, roll-SimpleExpression, out-roll-SimpleExpression, map-SimpleExpression}
 use Rattle.ob_tree.specs.declared.expression.Term.{Term, Term-F, roll-Term, out-roll-Term, map-Term}
 use Rattle.ob_tree.proofs.Closed.{With}
 use Rattle.ob_decls.specs.Parts.{Piece, token, both, tells}
@@ -47,7 +47,7 @@ module _ {X : Type 0} (K : Kind X) where
   abbrev HeldExprList : ExprList → Type 0
   HeldExprList t = Ordered K (expr_list_piece t)
 
-  abbrev HeldSum : Sum → Type 0
+  abbrev HeldSum : SimpleExpression → Type 0
   HeldSum t = Ordered K (sum_piece t)
 
   abbrev HeldTerm : Term → Type 0
@@ -58,56 +58,56 @@ module _ {X : Type 0} (K : Kind X) where
   abbrev WithFactor : Type 0
   WithFactor = Factor-F (With HeldFactor) (With HeldSelector) (With HeldDesignator) (With HeldElement) (With HeldElementList) (With HeldExpr) (With HeldExprList) (With HeldSum) (With HeldTerm)
 
-  abbrev factor_of : WithFactor → Factor-F Factor Selector Designator Element ElementList Expr ExprList Sum Term
-  factor_of = map-Factor (With HeldFactor) (With HeldSelector) (With HeldDesignator) (With HeldElement) (With HeldElementList) (With HeldExpr) (With HeldExprList) (With HeldSum) (With HeldTerm) Factor Selector Designator Element ElementList Expr ExprList Sum Term (λ e. e.0) (λ e. e.0) (λ e. e.0) (λ e. e.0) (λ e. e.0) (λ e. e.0) (λ e. e.0) (λ e. e.0) (λ e. e.0)
+  abbrev factor_of : WithFactor → Factor-F Factor Selector Designator Element ElementList Expr ExprList SimpleExpression Term
+  factor_of = map-Factor (With HeldFactor) (With HeldSelector) (With HeldDesignator) (With HeldElement) (With HeldElementList) (With HeldExpr) (With HeldExprList) (With HeldSum) (With HeldTerm) Factor Selector Designator Element ElementList Expr ExprList SimpleExpression Term (λ e. e.0) (λ e. e.0) (λ e. e.0) (λ e. e.0) (λ e. e.0) (λ e. e.0) (λ e. e.0) (λ e. e.0) (λ e. e.0)
 
   abbrev WithSelector : Type 0
   WithSelector = Selector-F (With HeldFactor) (With HeldSelector) (With HeldDesignator) (With HeldElement) (With HeldElementList) (With HeldExpr) (With HeldExprList) (With HeldSum) (With HeldTerm)
 
-  abbrev selector_of : WithSelector → Selector-F Factor Selector Designator Element ElementList Expr ExprList Sum Term
-  selector_of = map-Selector (With HeldFactor) (With HeldSelector) (With HeldDesignator) (With HeldElement) (With HeldElementList) (With HeldExpr) (With HeldExprList) (With HeldSum) (With HeldTerm) Factor Selector Designator Element ElementList Expr ExprList Sum Term (λ e. e.0) (λ e. e.0) (λ e. e.0) (λ e. e.0) (λ e. e.0) (λ e. e.0) (λ e. e.0) (λ e. e.0) (λ e. e.0)
+  abbrev selector_of : WithSelector → Selector-F Factor Selector Designator Element ElementList Expr ExprList SimpleExpression Term
+  selector_of = map-Selector (With HeldFactor) (With HeldSelector) (With HeldDesignator) (With HeldElement) (With HeldElementList) (With HeldExpr) (With HeldExprList) (With HeldSum) (With HeldTerm) Factor Selector Designator Element ElementList Expr ExprList SimpleExpression Term (λ e. e.0) (λ e. e.0) (λ e. e.0) (λ e. e.0) (λ e. e.0) (λ e. e.0) (λ e. e.0) (λ e. e.0) (λ e. e.0)
 
   abbrev WithDesignator : Type 0
   WithDesignator = Designator-F (With HeldFactor) (With HeldSelector) (With HeldDesignator) (With HeldElement) (With HeldElementList) (With HeldExpr) (With HeldExprList) (With HeldSum) (With HeldTerm)
 
-  abbrev designator_of : WithDesignator → Designator-F Factor Selector Designator Element ElementList Expr ExprList Sum Term
-  designator_of = map-Designator (With HeldFactor) (With HeldSelector) (With HeldDesignator) (With HeldElement) (With HeldElementList) (With HeldExpr) (With HeldExprList) (With HeldSum) (With HeldTerm) Factor Selector Designator Element ElementList Expr ExprList Sum Term (λ e. e.0) (λ e. e.0) (λ e. e.0) (λ e. e.0) (λ e. e.0) (λ e. e.0) (λ e. e.0) (λ e. e.0) (λ e. e.0)
+  abbrev designator_of : WithDesignator → Designator-F Factor Selector Designator Element ElementList Expr ExprList SimpleExpression Term
+  designator_of = map-Designator (With HeldFactor) (With HeldSelector) (With HeldDesignator) (With HeldElement) (With HeldElementList) (With HeldExpr) (With HeldExprList) (With HeldSum) (With HeldTerm) Factor Selector Designator Element ElementList Expr ExprList SimpleExpression Term (λ e. e.0) (λ e. e.0) (λ e. e.0) (λ e. e.0) (λ e. e.0) (λ e. e.0) (λ e. e.0) (λ e. e.0) (λ e. e.0)
 
   abbrev WithElement : Type 0
   WithElement = Element-F (With HeldFactor) (With HeldSelector) (With HeldDesignator) (With HeldElement) (With HeldElementList) (With HeldExpr) (With HeldExprList) (With HeldSum) (With HeldTerm)
 
-  abbrev element_of : WithElement → Element-F Factor Selector Designator Element ElementList Expr ExprList Sum Term
-  element_of = map-Element (With HeldFactor) (With HeldSelector) (With HeldDesignator) (With HeldElement) (With HeldElementList) (With HeldExpr) (With HeldExprList) (With HeldSum) (With HeldTerm) Factor Selector Designator Element ElementList Expr ExprList Sum Term (λ e. e.0) (λ e. e.0) (λ e. e.0) (λ e. e.0) (λ e. e.0) (λ e. e.0) (λ e. e.0) (λ e. e.0) (λ e. e.0)
+  abbrev element_of : WithElement → Element-F Factor Selector Designator Element ElementList Expr ExprList SimpleExpression Term
+  element_of = map-Element (With HeldFactor) (With HeldSelector) (With HeldDesignator) (With HeldElement) (With HeldElementList) (With HeldExpr) (With HeldExprList) (With HeldSum) (With HeldTerm) Factor Selector Designator Element ElementList Expr ExprList SimpleExpression Term (λ e. e.0) (λ e. e.0) (λ e. e.0) (λ e. e.0) (λ e. e.0) (λ e. e.0) (λ e. e.0) (λ e. e.0) (λ e. e.0)
 
   abbrev WithElementList : Type 0
   WithElementList = ElementList-F (With HeldFactor) (With HeldSelector) (With HeldDesignator) (With HeldElement) (With HeldElementList) (With HeldExpr) (With HeldExprList) (With HeldSum) (With HeldTerm)
 
-  abbrev element_list_of : WithElementList → ElementList-F Factor Selector Designator Element ElementList Expr ExprList Sum Term
-  element_list_of = map-ElementList (With HeldFactor) (With HeldSelector) (With HeldDesignator) (With HeldElement) (With HeldElementList) (With HeldExpr) (With HeldExprList) (With HeldSum) (With HeldTerm) Factor Selector Designator Element ElementList Expr ExprList Sum Term (λ e. e.0) (λ e. e.0) (λ e. e.0) (λ e. e.0) (λ e. e.0) (λ e. e.0) (λ e. e.0) (λ e. e.0) (λ e. e.0)
+  abbrev element_list_of : WithElementList → ElementList-F Factor Selector Designator Element ElementList Expr ExprList SimpleExpression Term
+  element_list_of = map-ElementList (With HeldFactor) (With HeldSelector) (With HeldDesignator) (With HeldElement) (With HeldElementList) (With HeldExpr) (With HeldExprList) (With HeldSum) (With HeldTerm) Factor Selector Designator Element ElementList Expr ExprList SimpleExpression Term (λ e. e.0) (λ e. e.0) (λ e. e.0) (λ e. e.0) (λ e. e.0) (λ e. e.0) (λ e. e.0) (λ e. e.0) (λ e. e.0)
 
   abbrev WithExpr : Type 0
   WithExpr = Expr-F (With HeldFactor) (With HeldSelector) (With HeldDesignator) (With HeldElement) (With HeldElementList) (With HeldExpr) (With HeldExprList) (With HeldSum) (With HeldTerm)
 
-  abbrev expr_of : WithExpr → Expr-F Factor Selector Designator Element ElementList Expr ExprList Sum Term
-  expr_of = map-Expr (With HeldFactor) (With HeldSelector) (With HeldDesignator) (With HeldElement) (With HeldElementList) (With HeldExpr) (With HeldExprList) (With HeldSum) (With HeldTerm) Factor Selector Designator Element ElementList Expr ExprList Sum Term (λ e. e.0) (λ e. e.0) (λ e. e.0) (λ e. e.0) (λ e. e.0) (λ e. e.0) (λ e. e.0) (λ e. e.0) (λ e. e.0)
+  abbrev expr_of : WithExpr → Expr-F Factor Selector Designator Element ElementList Expr ExprList SimpleExpression Term
+  expr_of = map-Expr (With HeldFactor) (With HeldSelector) (With HeldDesignator) (With HeldElement) (With HeldElementList) (With HeldExpr) (With HeldExprList) (With HeldSum) (With HeldTerm) Factor Selector Designator Element ElementList Expr ExprList SimpleExpression Term (λ e. e.0) (λ e. e.0) (λ e. e.0) (λ e. e.0) (λ e. e.0) (λ e. e.0) (λ e. e.0) (λ e. e.0) (λ e. e.0)
 
   abbrev WithExprList : Type 0
   WithExprList = ExprList-F (With HeldFactor) (With HeldSelector) (With HeldDesignator) (With HeldElement) (With HeldElementList) (With HeldExpr) (With HeldExprList) (With HeldSum) (With HeldTerm)
 
-  abbrev expr_list_of : WithExprList → ExprList-F Factor Selector Designator Element ElementList Expr ExprList Sum Term
-  expr_list_of = map-ExprList (With HeldFactor) (With HeldSelector) (With HeldDesignator) (With HeldElement) (With HeldElementList) (With HeldExpr) (With HeldExprList) (With HeldSum) (With HeldTerm) Factor Selector Designator Element ElementList Expr ExprList Sum Term (λ e. e.0) (λ e. e.0) (λ e. e.0) (λ e. e.0) (λ e. e.0) (λ e. e.0) (λ e. e.0) (λ e. e.0) (λ e. e.0)
+  abbrev expr_list_of : WithExprList → ExprList-F Factor Selector Designator Element ElementList Expr ExprList SimpleExpression Term
+  expr_list_of = map-ExprList (With HeldFactor) (With HeldSelector) (With HeldDesignator) (With HeldElement) (With HeldElementList) (With HeldExpr) (With HeldExprList) (With HeldSum) (With HeldTerm) Factor Selector Designator Element ElementList Expr ExprList SimpleExpression Term (λ e. e.0) (λ e. e.0) (λ e. e.0) (λ e. e.0) (λ e. e.0) (λ e. e.0) (λ e. e.0) (λ e. e.0) (λ e. e.0)
 
   abbrev WithSum : Type 0
-  WithSum = Sum-F (With HeldFactor) (With HeldSelector) (With HeldDesignator) (With HeldElement) (With HeldElementList) (With HeldExpr) (With HeldExprList) (With HeldSum) (With HeldTerm)
+  WithSum = SimpleExpression-F (With HeldFactor) (With HeldSelector) (With HeldDesignator) (With HeldElement) (With HeldElementList) (With HeldExpr) (With HeldExprList) (With HeldSum) (With HeldTerm)
 
-  abbrev sum_of : WithSum → Sum-F Factor Selector Designator Element ElementList Expr ExprList Sum Term
-  sum_of = map-Sum (With HeldFactor) (With HeldSelector) (With HeldDesignator) (With HeldElement) (With HeldElementList) (With HeldExpr) (With HeldExprList) (With HeldSum) (With HeldTerm) Factor Selector Designator Element ElementList Expr ExprList Sum Term (λ e. e.0) (λ e. e.0) (λ e. e.0) (λ e. e.0) (λ e. e.0) (λ e. e.0) (λ e. e.0) (λ e. e.0) (λ e. e.0)
+  abbrev sum_of : WithSum → SimpleExpression-F Factor Selector Designator Element ElementList Expr ExprList SimpleExpression Term
+  sum_of = map-SimpleExpression (With HeldFactor) (With HeldSelector) (With HeldDesignator) (With HeldElement) (With HeldElementList) (With HeldExpr) (With HeldExprList) (With HeldSum) (With HeldTerm) Factor Selector Designator Element ElementList Expr ExprList SimpleExpression Term (λ e. e.0) (λ e. e.0) (λ e. e.0) (λ e. e.0) (λ e. e.0) (λ e. e.0) (λ e. e.0) (λ e. e.0) (λ e. e.0)
 
   abbrev WithTerm : Type 0
   WithTerm = Term-F (With HeldFactor) (With HeldSelector) (With HeldDesignator) (With HeldElement) (With HeldElementList) (With HeldExpr) (With HeldExprList) (With HeldSum) (With HeldTerm)
 
-  abbrev term_of : WithTerm → Term-F Factor Selector Designator Element ElementList Expr ExprList Sum Term
-  term_of = map-Term (With HeldFactor) (With HeldSelector) (With HeldDesignator) (With HeldElement) (With HeldElementList) (With HeldExpr) (With HeldExprList) (With HeldSum) (With HeldTerm) Factor Selector Designator Element ElementList Expr ExprList Sum Term (λ e. e.0) (λ e. e.0) (λ e. e.0) (λ e. e.0) (λ e. e.0) (λ e. e.0) (λ e. e.0) (λ e. e.0) (λ e. e.0)
+  abbrev term_of : WithTerm → Term-F Factor Selector Designator Element ElementList Expr ExprList SimpleExpression Term
+  term_of = map-Term (With HeldFactor) (With HeldSelector) (With HeldDesignator) (With HeldElement) (With HeldElementList) (With HeldExpr) (With HeldExprList) (With HeldSum) (With HeldTerm) Factor Selector Designator Element ElementList Expr ExprList SimpleExpression Term (λ e. e.0) (λ e. e.0) (λ e. e.0) (λ e. e.0) (λ e. e.0) (λ e. e.0) (λ e. e.0) (λ e. e.0) (λ e. e.0)
 
   factor_held : (y : WithFactor) → Ordered K (told.factor_shown (factor_of y)).piece
   factor_held (layers.Value k n) = (o-token K)
@@ -131,48 +131,48 @@ module _ {X : Type 0} (K : Kind X) where
   high_held None = (o-nothing K)
   high_held (Some e) = o-both K (o-token K) e.1
 
-  compared_held : (o : Option (Relation × Box (With HeldSum) Global)) → Ordered K (there (λ c. both token (sum_piece c.1.value)) ((shapes.former-Expr-compared).map (With HeldSum) Sum (λ e. e.0) o))
+  compared_held : (o : Option (Relation × Box (With HeldSum) Global)) → Ordered K (there (λ c. both token (sum_piece c.1.value)) ((shapes.former-Expr-compared).map (With HeldSum) SimpleExpression (λ e. e.0) o))
   compared_held None = (o-nothing K)
   compared_held (Some c) = o-both K (o-token K) c.1.value.1
 
-  abbrev element_told : Element-F Factor Selector Designator Element ElementList Expr ExprList Sum Term → Piece
+  abbrev element_told : Element-F Factor Selector Designator Element ElementList Expr ExprList SimpleExpression Term → Piece
   element_told e = both (expr_piece e.low) (there (λ h. both token (expr_piece h)) e.high)
 
   element_held : (y : WithElement) → Ordered K (element_told (element_of y))
   element_held y = o-both K y.low.1 (high_held y.high)
 
-  abbrev expr_told : Expr-F Factor Selector Designator Element ElementList Expr ExprList Sum Term → Piece
+  abbrev expr_told : Expr-F Factor Selector Designator Element ElementList Expr ExprList SimpleExpression Term → Piece
   expr_told e = both (sum_piece e.left) (there (λ c. both token (sum_piece c.1.value)) e.compared)
 
   expr_held : (y : WithExpr) → Ordered K (expr_told (expr_of y))
   expr_held y = o-both K y.left.1 (compared_held y.compared)
 
-  abbrev element_list_told : ElementList-F Factor Selector Designator Element ElementList Expr ExprList Sum Term → Piece
+  abbrev element_list_told : ElementList-F Factor Selector Designator Element ElementList Expr ExprList SimpleExpression Term → Piece
   element_list_told l = both (element_piece l.first) (each_after element_piece l.rest.items)
 
   element_list_held : (y : WithElementList) → Ordered K (element_list_told (element_list_of y))
   element_list_held y = o-both K y.first.1 (o-map K (λ e. both token (element_piece e)) _ y.rest.items (λ e. o-both K (o-token K) e.1))
 
-  abbrev expr_list_told : ExprList-F Factor Selector Designator Element ElementList Expr ExprList Sum Term → Piece
+  abbrev expr_list_told : ExprList-F Factor Selector Designator Element ElementList Expr ExprList SimpleExpression Term → Piece
   expr_list_told l = both (expr_piece l.first) (each_after expr_piece l.rest.items)
 
   expr_list_held : (y : WithExprList) → Ordered K (expr_list_told (expr_list_of y))
   expr_list_held y = o-both K y.first.1 (o-map K (λ e. both token (expr_piece e)) _ y.rest.items (λ e. o-both K (o-token K) e.1))
 
-  abbrev sum_told : Sum-F Factor Selector Designator Element ElementList Expr ExprList Sum Term → Piece
+  abbrev sum_told : SimpleExpression-F Factor Selector Designator Element ElementList Expr ExprList SimpleExpression Term → Piece
   sum_told s = both (there (λ x. token) s.sign) (both (term_piece s.first) (pieces (λ p. both token (term_piece p.1)) s.rest.items))
 
   sum_held : (y : WithSum) → Ordered K (sum_told (sum_of y))
   sum_held y =
       o-both K (o-there K (λ x. token) y.sign (λ x. (o-token K))) (o-both K y.first.1 (o-map K (λ p. both token (term_piece p.1)) _ y.rest.items (λ p. o-both K (o-token K) p.1.1)))
 
-  abbrev term_told : Term-F Factor Selector Designator Element ElementList Expr ExprList Sum Term → Piece
+  abbrev term_told : Term-F Factor Selector Designator Element ElementList Expr ExprList SimpleExpression Term → Piece
   term_told t = both (factor_piece t.first) (pieces (λ p. both token (factor_piece p.1)) t.rest.items)
 
   term_held : (y : WithTerm) → Ordered K (term_told (term_of y))
   term_held y = o-both K y.first.1 (o-map K (λ p. both token (factor_piece p.1)) _ y.rest.items (λ p. o-both K (o-token K) p.1.1))
 
-  abbrev designator_told : Bool → Designator-F Factor Selector Designator Element ElementList Expr ExprList Sum Term → Piece
+  abbrev designator_told : Bool → Designator-F Factor Selector Designator Element ElementList Expr ExprList SimpleExpression Term → Piece
   designator_told w d = tells (designator_row w) (tells (its_selectors (map selected d.selectors.items))
       (both (uses (first_name (map selected d.selectors.items))) (pieces (λ s. s.piece) (map selected d.selectors.items))))
 
@@ -191,41 +191,41 @@ module _ {X : Type 0} (K : Kind X) where
 
   -- ---- layer by layer
 
-  factor_step : (x : Factor-F Factor Selector Designator Element ElementList Expr ExprList Sum Term) (y : WithFactor) → factor_of y ≡ x → HeldFactor (roll-Factor x)
+  factor_step : (x : Factor-F Factor Selector Designator Element ElementList Expr ExprList SimpleExpression Term) (y : WithFactor) → factor_of y ≡ x → HeldFactor (roll-Factor x)
   factor_step x y is =
-      o-is K (told.factor_told (roll-Factor x) ∙ ap (λ (z : Factor-F Factor Selector Designator Element ElementList Expr ExprList Sum Term). (told.factor_shown z).piece) (out-roll-Factor x ∙ sym is)) ((factor_held y))
+      o-is K (told.factor_told (roll-Factor x) ∙ ap (λ (z : Factor-F Factor Selector Designator Element ElementList Expr ExprList SimpleExpression Term). (told.factor_shown z).piece) (out-roll-Factor x ∙ sym is)) ((factor_held y))
 
-  selector_step : (x : Selector-F Factor Selector Designator Element ElementList Expr ExprList Sum Term) (y : WithSelector) → selector_of y ≡ x → HeldSelector (roll-Selector x)
+  selector_step : (x : Selector-F Factor Selector Designator Element ElementList Expr ExprList SimpleExpression Term) (y : WithSelector) → selector_of y ≡ x → HeldSelector (roll-Selector x)
   selector_step x y is =
-      o-is K (told.selector_told (roll-Selector x) ∙ ap (λ (z : Selector-F Factor Selector Designator Element ElementList Expr ExprList Sum Term). (told.selector_shown z).piece) (out-roll-Selector x ∙ sym is)) ((selector_held y))
+      o-is K (told.selector_told (roll-Selector x) ∙ ap (λ (z : Selector-F Factor Selector Designator Element ElementList Expr ExprList SimpleExpression Term). (told.selector_shown z).piece) (out-roll-Selector x ∙ sym is)) ((selector_held y))
 
-  designator_step : (x : Designator-F Factor Selector Designator Element ElementList Expr ExprList Sum Term) (y : WithDesignator) → designator_of y ≡ x → HeldDesignator (roll-Designator x)
+  designator_step : (x : Designator-F Factor Selector Designator Element ElementList Expr ExprList SimpleExpression Term) (y : WithDesignator) → designator_of y ≡ x → HeldDesignator (roll-Designator x)
   designator_step x y is w =
-      o-is K (told.designator_out w (roll-Designator x) ∙ ap (λ (z : Designator-F Factor Selector Designator Element ElementList Expr ExprList Sum Term). designator_told w z) (out-roll-Designator x ∙ sym is)) ((designator_held w y))
+      o-is K (told.designator_out w (roll-Designator x) ∙ ap (λ (z : Designator-F Factor Selector Designator Element ElementList Expr ExprList SimpleExpression Term). designator_told w z) (out-roll-Designator x ∙ sym is)) ((designator_held w y))
 
-  element_step : (x : Element-F Factor Selector Designator Element ElementList Expr ExprList Sum Term) (y : WithElement) → element_of y ≡ x → HeldElement (roll-Element x)
+  element_step : (x : Element-F Factor Selector Designator Element ElementList Expr ExprList SimpleExpression Term) (y : WithElement) → element_of y ≡ x → HeldElement (roll-Element x)
   element_step x y is =
-      o-is K (told.element_out (roll-Element x) ∙ ap (λ (z : Element-F Factor Selector Designator Element ElementList Expr ExprList Sum Term). element_told z) (out-roll-Element x ∙ sym is)) ((element_held y))
+      o-is K (told.element_out (roll-Element x) ∙ ap (λ (z : Element-F Factor Selector Designator Element ElementList Expr ExprList SimpleExpression Term). element_told z) (out-roll-Element x ∙ sym is)) ((element_held y))
 
-  element_list_step : (x : ElementList-F Factor Selector Designator Element ElementList Expr ExprList Sum Term) (y : WithElementList) → element_list_of y ≡ x → HeldElementList (roll-ElementList x)
+  element_list_step : (x : ElementList-F Factor Selector Designator Element ElementList Expr ExprList SimpleExpression Term) (y : WithElementList) → element_list_of y ≡ x → HeldElementList (roll-ElementList x)
   element_list_step x y is =
-      o-is K (told.element_list_out (roll-ElementList x) ∙ ap (λ (z : ElementList-F Factor Selector Designator Element ElementList Expr ExprList Sum Term). element_list_told z) (out-roll-ElementList x ∙ sym is)) (element_list_held y)
+      o-is K (told.element_list_out (roll-ElementList x) ∙ ap (λ (z : ElementList-F Factor Selector Designator Element ElementList Expr ExprList SimpleExpression Term). element_list_told z) (out-roll-ElementList x ∙ sym is)) (element_list_held y)
 
-  expr_step : (x : Expr-F Factor Selector Designator Element ElementList Expr ExprList Sum Term) (y : WithExpr) → expr_of y ≡ x → HeldExpr (roll-Expr x)
+  expr_step : (x : Expr-F Factor Selector Designator Element ElementList Expr ExprList SimpleExpression Term) (y : WithExpr) → expr_of y ≡ x → HeldExpr (roll-Expr x)
   expr_step x y is =
-      o-is K (told.expr_out (roll-Expr x) ∙ ap (λ (z : Expr-F Factor Selector Designator Element ElementList Expr ExprList Sum Term). expr_told z) (out-roll-Expr x ∙ sym is)) ((expr_held y))
+      o-is K (told.expr_out (roll-Expr x) ∙ ap (λ (z : Expr-F Factor Selector Designator Element ElementList Expr ExprList SimpleExpression Term). expr_told z) (out-roll-Expr x ∙ sym is)) ((expr_held y))
 
-  expr_list_step : (x : ExprList-F Factor Selector Designator Element ElementList Expr ExprList Sum Term) (y : WithExprList) → expr_list_of y ≡ x → HeldExprList (roll-ExprList x)
+  expr_list_step : (x : ExprList-F Factor Selector Designator Element ElementList Expr ExprList SimpleExpression Term) (y : WithExprList) → expr_list_of y ≡ x → HeldExprList (roll-ExprList x)
   expr_list_step x y is =
-      o-is K (told.expr_list_out (roll-ExprList x) ∙ ap (λ (z : ExprList-F Factor Selector Designator Element ElementList Expr ExprList Sum Term). expr_list_told z) (out-roll-ExprList x ∙ sym is)) (expr_list_held y)
+      o-is K (told.expr_list_out (roll-ExprList x) ∙ ap (λ (z : ExprList-F Factor Selector Designator Element ElementList Expr ExprList SimpleExpression Term). expr_list_told z) (out-roll-ExprList x ∙ sym is)) (expr_list_held y)
 
-  sum_step : (x : Sum-F Factor Selector Designator Element ElementList Expr ExprList Sum Term) (y : WithSum) → sum_of y ≡ x → HeldSum (roll-Sum x)
+  sum_step : (x : SimpleExpression-F Factor Selector Designator Element ElementList Expr ExprList SimpleExpression Term) (y : WithSum) → sum_of y ≡ x → HeldSum (roll-SimpleExpression x)
   sum_step x y is =
-      o-is K (told.sum_out (roll-Sum x) ∙ ap (λ (z : Sum-F Factor Selector Designator Element ElementList Expr ExprList Sum Term). sum_told z) (out-roll-Sum x ∙ sym is)) ((sum_held y))
+      o-is K (told.sum_out (roll-SimpleExpression x) ∙ ap (λ (z : SimpleExpression-F Factor Selector Designator Element ElementList Expr ExprList SimpleExpression Term). sum_told z) (out-roll-SimpleExpression x ∙ sym is)) ((sum_held y))
 
-  term_step : (x : Term-F Factor Selector Designator Element ElementList Expr ExprList Sum Term) (y : WithTerm) → term_of y ≡ x → HeldTerm (roll-Term x)
+  term_step : (x : Term-F Factor Selector Designator Element ElementList Expr ExprList SimpleExpression Term) (y : WithTerm) → term_of y ≡ x → HeldTerm (roll-Term x)
   term_step x y is =
-      o-is K (told.term_out (roll-Term x) ∙ ap (λ (z : Term-F Factor Selector Designator Element ElementList Expr ExprList Sum Term). term_told z) (out-roll-Term x ∙ sym is)) ((term_held y))
+      o-is K (told.term_out (roll-Term x) ∙ ap (λ (z : Term-F Factor Selector Designator Element ElementList Expr ExprList SimpleExpression Term). term_told z) (out-roll-Term x ∙ sym is)) ((term_held y))
 
   pub o-expr : (t : Expr) → Ordered K (expr_piece t)
   o-expr = ind-Expr HeldFactor HeldSelector HeldDesignator HeldElement HeldElementList HeldExpr HeldExprList HeldSum HeldTerm factor_step selector_step designator_step element_step element_list_step expr_step expr_list_step sum_step term_step

@@ -20,7 +20,7 @@ use Rattle.ob_decls.specs.Declaring.{const_piece, type_decl_piece, variable_piec
 use Rattle.ob_decls.specs.Declaring.{part as told_part}
 use Rattle.ob_decls.proofs.DeclarationLayers as told
 use Rattle.ob_decls.specs.Declaring.{module_end, rows_of, outermost}
-use Rattle.ob_decls.specs.Order.{AreInOrder, AscendBy, RiseBy}
+use Rattle.ob_decls.specs.Order.{AreRowsInOrder, AscendBy, RiseBy}
 use Rattle.ob_decls.proofs.Lined.{Lined, ascends, rises}
 use Rattle.ob_decls.proofs.LinedKinds.{Kind, declarers_kind, declared_kind, uses_kind, blocks_kind, imports_kind, parts_kind, records_kind, designators_kind, ends_kind, selectors_kind}
 use Rattle.ob_decls.proofs.LinedPieces.{Ordered, h-before, h-both, h-tells, l-both, l-token, l-within, n-headed, o-both, o-declaring, o-each, o-headed, o-is, o-map, o-there, o-token}
@@ -159,7 +159,7 @@ rows_lined m = record {
 }
 
 -- and so is a draft that has them, whose forms stand together
-pub all_in_order : (m : Module) (r : Rows) → r ≡ rows_of m → RiseBy (λ (x : FormPartRow). x.declared_by) r.parts → AreInOrder r
+pub all_in_order : (m : Module) (r : Rows) → r ≡ rows_of m → RiseBy (λ (x : FormPartRow). x.declared_by) r.parts → AreRowsInOrder r
 all_in_order m r is forms =
     let h : AreLined r = subst AreLined (sym is) (rows_lined m) in
     record {

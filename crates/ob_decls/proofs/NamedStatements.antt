@@ -13,7 +13,7 @@ use Rattle.ob_tree.specs.declared.statement.Case.TheOpen as layers
 use Rattle.ob_tree.specs.declared.statement.Case.TheShapes as shapes
 use Rattle.ob_tree.specs.declared.statement.Case.{Case, Case-F, roll-Case, out-roll-Case, map-Case}
 use Rattle.ob_tree.specs.declared.statement.Stmt.{Stmt, Stmt-F, roll-Stmt, out-roll-Stmt, map-Stmt}
-use Rattle.ob_tree.specs.declared.statement.Block.{Block, Block-F, roll-Block, out-roll-Block, ind-Block, map-Block}
+use Rattle.ob_tree.specs.declared.statement.StatementSequence.{StatementSequence, StatementSequence-F, roll-StatementSequence, out-roll-StatementSequence, ind-StatementSequence, map-StatementSequence}
 use Rattle.ob_tree.specs.declared.statement.Branch.{Branch, Branch-F, roll-Branch, out-roll-Branch, map-Branch}
 use Rattle.ob_tree.specs.declared.statement.For.{For, For-F, roll-For, out-roll-For, map-For}
 use Rattle.ob_tree.specs.Constructs as constructs
@@ -57,7 +57,7 @@ HeldCase t = Named (case_piece t) (case_outline t)
 abbrev HeldStmt : Stmt → Type 0
 HeldStmt t = Named (stmt_piece t) (stmt_outline t)
 
-abbrev HeldBlock : Block → Type 0
+abbrev HeldBlock : StatementSequence → Type 0
 HeldBlock t = Named (block_piece t) (block_outline t)
 
 -- a branch with any word in it
@@ -70,37 +70,37 @@ HeldFor t = Named (for_piece t) (for_outline t)
 -- a layer whose parts do, and the layer itself
 
 abbrev WithCase : Type 0
-WithCase = Case-F (With HeldCase) (With HeldStmt) (With HeldBlock) (With HeldBranch) (With HeldFor)
+WithCase = Case-F (With HeldCase) (With HeldStmt) (With HeldBranch) (With HeldFor) (With HeldBlock)
 
-abbrev case_of : WithCase → Case-F Case Stmt Block Branch For
-case_of = map-Case (With HeldCase) (With HeldStmt) (With HeldBlock) (With HeldBranch) (With HeldFor) Case Stmt Block Branch For (λ e. e.0) (λ e. e.0) (λ e. e.0) (λ e. e.0) (λ e. e.0)
+abbrev case_of : WithCase → Case-F Case Stmt Branch For StatementSequence
+case_of = map-Case (With HeldCase) (With HeldStmt) (With HeldBranch) (With HeldFor) (With HeldBlock) Case Stmt Branch For StatementSequence (λ e. e.0) (λ e. e.0) (λ e. e.0) (λ e. e.0) (λ e. e.0)
 
 abbrev WithStmt : Type 0
-WithStmt = Stmt-F (With HeldCase) (With HeldStmt) (With HeldBlock) (With HeldBranch) (With HeldFor)
+WithStmt = Stmt-F (With HeldCase) (With HeldStmt) (With HeldBranch) (With HeldFor) (With HeldBlock)
 
-abbrev stmt_of : WithStmt → Stmt-F Case Stmt Block Branch For
-stmt_of = map-Stmt (With HeldCase) (With HeldStmt) (With HeldBlock) (With HeldBranch) (With HeldFor) Case Stmt Block Branch For (λ e. e.0) (λ e. e.0) (λ e. e.0) (λ e. e.0) (λ e. e.0)
+abbrev stmt_of : WithStmt → Stmt-F Case Stmt Branch For StatementSequence
+stmt_of = map-Stmt (With HeldCase) (With HeldStmt) (With HeldBranch) (With HeldFor) (With HeldBlock) Case Stmt Branch For StatementSequence (λ e. e.0) (λ e. e.0) (λ e. e.0) (λ e. e.0) (λ e. e.0)
 
 abbrev WithBlock : Type 0
-WithBlock = Block-F (With HeldCase) (With HeldStmt) (With HeldBlock) (With HeldBranch) (With HeldFor)
+WithBlock = StatementSequence-F (With HeldCase) (With HeldStmt) (With HeldBranch) (With HeldFor) (With HeldBlock)
 
-abbrev block_of : WithBlock → Block-F Case Stmt Block Branch For
-block_of = map-Block (With HeldCase) (With HeldStmt) (With HeldBlock) (With HeldBranch) (With HeldFor) Case Stmt Block Branch For (λ e. e.0) (λ e. e.0) (λ e. e.0) (λ e. e.0) (λ e. e.0)
+abbrev block_of : WithBlock → StatementSequence-F Case Stmt Branch For StatementSequence
+block_of = map-StatementSequence (With HeldCase) (With HeldStmt) (With HeldBranch) (With HeldFor) (With HeldBlock) Case Stmt Branch For StatementSequence (λ e. e.0) (λ e. e.0) (λ e. e.0) (λ e. e.0) (λ e. e.0)
 
 abbrev WithBranch : Type 0
-WithBranch = Branch-F (With HeldCase) (With HeldStmt) (With HeldBlock) (With HeldBranch) (With HeldFor)
+WithBranch = Branch-F (With HeldCase) (With HeldStmt) (With HeldBranch) (With HeldFor) (With HeldBlock)
 
-abbrev branch_of : WithBranch → Branch-F Case Stmt Block Branch For
-branch_of = map-Branch (With HeldCase) (With HeldStmt) (With HeldBlock) (With HeldBranch) (With HeldFor) Case Stmt Block Branch For (λ e. e.0) (λ e. e.0) (λ e. e.0) (λ e. e.0) (λ e. e.0)
+abbrev branch_of : WithBranch → Branch-F Case Stmt Branch For StatementSequence
+branch_of = map-Branch (With HeldCase) (With HeldStmt) (With HeldBranch) (With HeldFor) (With HeldBlock) Case Stmt Branch For StatementSequence (λ e. e.0) (λ e. e.0) (λ e. e.0) (λ e. e.0) (λ e. e.0)
 
 abbrev WithFor : Type 0
-WithFor = For-F (With HeldCase) (With HeldStmt) (With HeldBlock) (With HeldBranch) (With HeldFor)
+WithFor = For-F (With HeldCase) (With HeldStmt) (With HeldBranch) (With HeldFor) (With HeldBlock)
 
-abbrev for_of : WithFor → For-F Case Stmt Block Branch For
-for_of = map-For (With HeldCase) (With HeldStmt) (With HeldBlock) (With HeldBranch) (With HeldFor) Case Stmt Block Branch For (λ e. e.0) (λ e. e.0) (λ e. e.0) (λ e. e.0) (λ e. e.0)
+abbrev for_of : WithFor → For-F Case Stmt Branch For StatementSequence
+for_of = map-For (With HeldCase) (With HeldStmt) (With HeldBranch) (With HeldFor) (With HeldBlock) Case Stmt Branch For StatementSequence (λ e. e.0) (λ e. e.0) (λ e. e.0) (λ e. e.0) (λ e. e.0)
 
-else_held : (o : Option (Box (With HeldBlock) Global)) → Named (there (λ b. both token (block_piece b.value)) ((shapes.former-Stmt-If-2).map (With HeldBlock) Block (λ e. e.0) o))
-    (if_there (λ b. word kinds.Else ++ block_outline b.value) ((shapes.former-Stmt-If-2).map (With HeldBlock) Block (λ e. e.0) o))
+else_held : (o : Option (Box (With HeldBlock) Global)) → Named (there (λ b. both token (block_piece b.value)) ((shapes.former-Stmt-If-2).map (With HeldBlock) StatementSequence (λ e. e.0) o))
+    (if_there (λ b. word kinds.Else ++ block_outline b.value) ((shapes.former-Stmt-If-2).map (With HeldBlock) StatementSequence (λ e. e.0) o))
 else_held None = n-nothing
 else_held (Some b) = n-both (n-word kinds.Else) b.value.1
 
@@ -132,19 +132,19 @@ stmt_held (layers.Repeat body e) =
     n-held constructs.Statement (n-both (n-word kinds.Repeat) (n-both body.value.1 (n-both (n-word kinds.Until) (n-expr e))))
 stmt_held (layers.For f) = n-held constructs.Statement f.value.1
 
-abbrev block_told : Block-F Case Stmt Block Branch For → Piece
+abbrev block_told : StatementSequence-F Case Stmt Branch For StatementSequence → Piece
 block_told b = both (stmt_piece b.first) (each_after stmt_piece b.rest.items)
 
 block_held : (y : WithBlock) → Named (block_told (block_of y)) (block_shown (block_of y))
 block_held y = n-both y.first.1 (n-map (λ s. both token (stmt_piece s)) (λ s. word kinds.Semicolon ++ stmt_outline s) _ y.rest.items (λ s. n-both (n-word kinds.Semicolon) s.1))
 
-abbrev branch_told : Branch-F Case Stmt Block Branch For → Piece
+abbrev branch_told : Branch-F Case Stmt Branch For StatementSequence → Piece
 branch_told b = both (expr_piece b.condition) (both token (block_piece b.body))
 
 branch_held : (y : WithBranch) (k : Kind) → Named (branch_told (branch_of y)) (branch_shown (branch_of y) k)
 branch_held y k = n-both (n-expr y.condition) (n-both (n-word k) y.body.1)
 
-abbrev for_told : For-F Case Stmt Block Branch For → Piece
+abbrev for_told : For-F Case Stmt Branch For StatementSequence → Piece
 for_told f =
     both token (both variable_piece (both token (both (expr_piece f.from) (both token (both (expr_piece f.to)
     (both (there (λ e. both token (expr_piece e)) f.by) (both token (both (block_piece f.body) token))))))))
@@ -157,40 +157,40 @@ for_held y =
 
 -- ---- layer by layer
 
-case_step : (x : Case-F Case Stmt Block Branch For) (y : WithCase) → case_of y ≡ x → HeldCase (roll-Case x)
+case_step : (x : Case-F Case Stmt Branch For StatementSequence) (y : WithCase) → case_of y ≡ x → HeldCase (roll-Case x)
 case_step x y is =
     named_as
-    (told.case_told (roll-Case x) ∙ ap (λ (z : Case-F Case Stmt Block Branch For). told.case_shown z) (out-roll-Case x ∙ sym is))
-    (case_out (roll-Case x) ∙ ap (λ (z : Case-F Case Stmt Block Branch For). construct constructs.Case (case_shown z)) (out-roll-Case x ∙ sym is))
+    (told.case_told (roll-Case x) ∙ ap (λ (z : Case-F Case Stmt Branch For StatementSequence). told.case_shown z) (out-roll-Case x ∙ sym is))
+    (case_out (roll-Case x) ∙ ap (λ (z : Case-F Case Stmt Branch For StatementSequence). construct constructs.Case (case_shown z)) (out-roll-Case x ∙ sym is))
     (n-held constructs.Case (case_held y))
 
-stmt_step : (x : Stmt-F Case Stmt Block Branch For) (y : WithStmt) → stmt_of y ≡ x → HeldStmt (roll-Stmt x)
+stmt_step : (x : Stmt-F Case Stmt Branch For StatementSequence) (y : WithStmt) → stmt_of y ≡ x → HeldStmt (roll-Stmt x)
 stmt_step x y is =
     named_as
-    (told.stmt_told (roll-Stmt x) ∙ ap (λ (z : Stmt-F Case Stmt Block Branch For). told.stmt_shown z) (out-roll-Stmt x ∙ sym is))
-    (stmt_out (roll-Stmt x) ∙ ap (λ (z : Stmt-F Case Stmt Block Branch For). stmt_shown z) (out-roll-Stmt x ∙ sym is))
+    (told.stmt_told (roll-Stmt x) ∙ ap (λ (z : Stmt-F Case Stmt Branch For StatementSequence). told.stmt_shown z) (out-roll-Stmt x ∙ sym is))
+    (stmt_out (roll-Stmt x) ∙ ap (λ (z : Stmt-F Case Stmt Branch For StatementSequence). stmt_shown z) (out-roll-Stmt x ∙ sym is))
     (stmt_held y)
 
-block_step : (x : Block-F Case Stmt Block Branch For) (y : WithBlock) → block_of y ≡ x → HeldBlock (roll-Block x)
+block_step : (x : StatementSequence-F Case Stmt Branch For StatementSequence) (y : WithBlock) → block_of y ≡ x → HeldBlock (roll-StatementSequence x)
 block_step x y is =
     named_as
-    (told.block_out (roll-Block x) ∙ ap (λ (z : Block-F Case Stmt Block Branch For). block_told z) (out-roll-Block x ∙ sym is))
-    (block_out (roll-Block x) ∙ ap (λ (z : Block-F Case Stmt Block Branch For). block_shown z) (out-roll-Block x ∙ sym is))
+    (told.block_out (roll-StatementSequence x) ∙ ap (λ (z : StatementSequence-F Case Stmt Branch For StatementSequence). block_told z) (out-roll-StatementSequence x ∙ sym is))
+    (block_out (roll-StatementSequence x) ∙ ap (λ (z : StatementSequence-F Case Stmt Branch For StatementSequence). block_shown z) (out-roll-StatementSequence x ∙ sym is))
     (block_held y)
 
-branch_step : (x : Branch-F Case Stmt Block Branch For) (y : WithBranch) → branch_of y ≡ x → HeldBranch (roll-Branch x)
+branch_step : (x : Branch-F Case Stmt Branch For StatementSequence) (y : WithBranch) → branch_of y ≡ x → HeldBranch (roll-Branch x)
 branch_step x y is k =
     named_as
-    (told.branch_out (roll-Branch x) ∙ ap (λ (z : Branch-F Case Stmt Block Branch For). branch_told z) (out-roll-Branch x ∙ sym is))
-    (branch_out (roll-Branch x) k ∙ ap (λ (z : Branch-F Case Stmt Block Branch For). branch_shown z k) (out-roll-Branch x ∙ sym is))
+    (told.branch_out (roll-Branch x) ∙ ap (λ (z : Branch-F Case Stmt Branch For StatementSequence). branch_told z) (out-roll-Branch x ∙ sym is))
+    (branch_out (roll-Branch x) k ∙ ap (λ (z : Branch-F Case Stmt Branch For StatementSequence). branch_shown z k) (out-roll-Branch x ∙ sym is))
     (branch_held y k)
 
-for_step : (x : For-F Case Stmt Block Branch For) (y : WithFor) → for_of y ≡ x → HeldFor (roll-For x)
+for_step : (x : For-F Case Stmt Branch For StatementSequence) (y : WithFor) → for_of y ≡ x → HeldFor (roll-For x)
 for_step x y is =
     named_as
-    (told.for_out (roll-For x) ∙ ap (λ (z : For-F Case Stmt Block Branch For). for_told z) (out-roll-For x ∙ sym is))
-    (for_out (roll-For x) ∙ ap (λ (z : For-F Case Stmt Block Branch For). for_shown z) (out-roll-For x ∙ sym is))
+    (told.for_out (roll-For x) ∙ ap (λ (z : For-F Case Stmt Branch For StatementSequence). for_told z) (out-roll-For x ∙ sym is))
+    (for_out (roll-For x) ∙ ap (λ (z : For-F Case Stmt Branch For StatementSequence). for_shown z) (out-roll-For x ∙ sym is))
     (for_held y)
 
-pub n-block : (b : Block) → Named (block_piece b) (block_outline b)
-n-block = ind-Block HeldCase HeldStmt HeldBlock HeldBranch HeldFor case_step stmt_step block_step branch_step for_step
+pub n-block : (b : StatementSequence) → Named (block_piece b) (block_outline b)
+n-block = ind-StatementSequence HeldCase HeldStmt HeldBranch HeldFor HeldBlock case_step stmt_step branch_step for_step block_step

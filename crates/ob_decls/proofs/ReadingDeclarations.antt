@@ -6,7 +6,7 @@ use Rattle.ob_scan.specs.declared.kind.Kind.{Kind}
 use Rattle.ob_scan.specs.declared.kind.Kind.TheVariants as kinds
 use Rattle.ob_tree.specs.declared.name.Identdef.{Identdef}
 use Rattle.ob_tree.specs.declared.expression.Expr.{Expr}
-use Rattle.ob_tree.specs.declared.statement.Block.{Block}
+use Rattle.ob_tree.specs.declared.statement.StatementSequence.{StatementSequence}
 use Rattle.ob_tree.specs.declared.declaration.Parameters.{Parameters}
 use Rattle.ob_tree.specs.declared.declaration.Declarations.{Declarations, Declarations-F, roll-Declarations, out-Declarations, out-roll-Declarations, ind-Declarations, map-Declarations}
 use Rattle.ob_tree.specs.declared.declaration.ProcDecl.{ProcDecl, ProcDecl-F, roll-ProcDecl, out-ProcDecl, out-roll-ProcDecl, map-ProcDecl}
@@ -113,7 +113,7 @@ unfolding expr_piece
 procedure_tells p = told.procedure_told p ∙
     ap₂ (λ (a : Piece) (q : Piece × Piece). procedure_with (out-ProcDecl p).name (declarations_piece (out-ProcDecl p).declarations) a q.0 q.1)
     (there_told parameters_piece (λ x. x) (out-ProcDecl p).parameters)
-    (ap₂ (λ (b : Piece) (c : Piece). (b, c)) (there_told (λ (b : Box Block Global). block_piece b.value) (λ b. both token b) (out-ProcDecl p).body)
+    (ap₂ (λ (b : Piece) (c : Piece). (b, c)) (there_told (λ (b : Box StatementSequence Global). block_piece b.value) (λ b. both token b) (out-ProcDecl p).body)
     (there_told (λ (e : Box Expr Global). expr_phrase e.value) (λ e. both token e.piece) (out-ProcDecl p).returned))
 
 pub r-repeated : {Z : Type 0} (h g : Z → ℕ) (m n : ℕ) → Reads {Z = Z} {A = Bool} (λ z. true) (λ z. repeated (h z) (g z)) never true (repeated m n)
@@ -124,13 +124,13 @@ unfolding parameters_outline
 no_star None r s = refl
 no_star (Some p) r s = refl
 
-abbrev body_shown : Option (Box Block Global) → Out
+abbrev body_shown : Option (Box StatementSequence Global) → Out
 body_shown o = if_there (λ b. word kinds.Begin ++ block_outline b.value) o
 
 abbrev returned_shown : Option (Box Expr Global) → Out
 returned_shown o = if_there (λ e. word kinds.Return ++ expr_outline e.value) o
 
-no_declarations : (b : Option (Box Block Global)) (e : Option (Box Expr Global)) (r s : Out) → on_declarations ((body_shown b ++ (returned_shown e ++ (word kinds.End ++ r))) ++ s) ≡ false
+no_declarations : (b : Option (Box StatementSequence Global)) (e : Option (Box Expr Global)) (r s : Out) → on_declarations ((body_shown b ++ (returned_shown e ++ (word kinds.End ++ r))) ++ s) ≡ false
 no_declarations None None r s = refl
 no_declarations None (Some e) r s = refl
 no_declarations (Some b) e r s = refl
@@ -145,7 +145,7 @@ no_body (Some e) r s = refl
 pub body_ends : (s : Out) → on_words in_body s ≡ false → on_word kinds.Semicolon s ≡ false
 body_ends s i = not_the_first kinds.Semicolon [] s (none_behind kinds.Begin (kinds.Semicolon ∷ []) s i)
 
-r-body : (b : Box Block Global) → Reads {Z = Box Block Global} (λ z. block_piece z.value) (λ z. word kinds.Begin ++ block_outline z.value) (on_word kinds.Semicolon) (block_piece b.value) (word kinds.Begin ++ block_outline b.value)
+r-body : (b : Box StatementSequence Global) → Reads {Z = Box StatementSequence Global} (λ z. block_piece z.value) (λ z. word kinds.Begin ++ block_outline z.value) (on_word kinds.Semicolon) (block_piece b.value) (word kinds.Begin ++ block_outline b.value)
 r-body b = r-past kinds.Begin (r-at (λ z. z.value) (r-block b.value))
 
 r-returned : (e : Box Expr Global) → Reads {Z = Box Expr Global} (λ z. expr_phrase z.value) (λ z. word kinds.Return ++ expr_outline z.value) never (expr_phrase e.value) (word kinds.Return ++ expr_outline e.value)

@@ -12,7 +12,7 @@ use Rattle.ob_tree.specs.declared.expression.Element.{Element}
 use Rattle.ob_tree.specs.declared.expression.ElementList.{ElementList, out-ElementList}
 use Rattle.ob_tree.specs.declared.expression.Expr.{Expr}
 use Rattle.ob_tree.specs.declared.expression.ExprList.{ExprList}
-use Rattle.ob_tree.specs.declared.expression.Sum.{Sum}
+use Rattle.ob_tree.specs.declared.expression.SimpleExpression.{SimpleExpression}
 use Rattle.ob_tree.specs.declared.expression.Term.{Term}
 use Rattle.ob_tree.specs.Constructs as constructs
 use Rattle.ob_tree.specs.Marks.{Out, Value, construct, word, if_there, each}
@@ -64,7 +64,7 @@ designator_begins d s = ap (λ (o : Out). on_construct (o ++ s)) (designator_out
 pub no_name_here : (d : Designator) (r s : Out) → on_construct r ≡ false → r ≡ designator_outline d ++ s → ⊥
 no_name_here d r s i e = clash (on_construct r) true (ap on_construct e ∙ designator_begins d s) i
 
-value_same : (m : Literal) (a : ℕ) (z : Factor-F Factor Selector Designator Element ElementList Expr ExprList Sum Term) (r s : Out) → (Value m a ∷ []) ++ r ≡ factor_shown z ++ s → (told.factor_shown (layers.Value m a) ≡ told.factor_shown z) × (r ≡ s)
+value_same : (m : Literal) (a : ℕ) (z : Factor-F Factor Selector Designator Element ElementList Expr ExprList SimpleExpression Term) (r s : Out) → (Value m a ∷ []) ++ r ≡ factor_shown z ++ s → (told.factor_shown (layers.Value m a) ≡ told.factor_shown z) × (r ≡ s)
 unfolding factor_piece designator_piece expr_piece
 value_same m a (layers.Value k n) r s e = (refl, tail_is _ _ r s e)
 value_same m a layers.Nil r s e = absurd cc
@@ -75,7 +75,7 @@ value_same m a (layers.Name d) r s e = absurd (no_name_here d _ s refl e)
 value_same m a (layers.Group g) r s e = absurd cc
 value_same m a (layers.Not f) r s e = absurd cc
 
-nil_same : (z : Factor-F Factor Selector Designator Element ElementList Expr ExprList Sum Term) (r s : Out) → word kinds.Nil ++ r ≡ factor_shown z ++ s → (told.factor_shown layers.Nil ≡ told.factor_shown z) × (r ≡ s)
+nil_same : (z : Factor-F Factor Selector Designator Element ElementList Expr ExprList SimpleExpression Term) (r s : Out) → word kinds.Nil ++ r ≡ factor_shown z ++ s → (told.factor_shown layers.Nil ≡ told.factor_shown z) × (r ≡ s)
 unfolding factor_piece designator_piece expr_piece
 nil_same (layers.Value k n) r s e = absurd cc
 nil_same layers.Nil r s e = (refl, tail_is _ _ r s e)
@@ -86,7 +86,7 @@ nil_same (layers.Name d) r s e = absurd (no_name_here d _ s refl e)
 nil_same (layers.Group g) r s e = absurd cc
 nil_same (layers.Not f) r s e = absurd cc
 
-true_same : (z : Factor-F Factor Selector Designator Element ElementList Expr ExprList Sum Term) (r s : Out) → word kinds.True ++ r ≡ factor_shown z ++ s → (told.factor_shown layers.True ≡ told.factor_shown z) × (r ≡ s)
+true_same : (z : Factor-F Factor Selector Designator Element ElementList Expr ExprList SimpleExpression Term) (r s : Out) → word kinds.True ++ r ≡ factor_shown z ++ s → (told.factor_shown layers.True ≡ told.factor_shown z) × (r ≡ s)
 unfolding factor_piece designator_piece expr_piece
 true_same (layers.Value k n) r s e = absurd cc
 true_same layers.Nil r s e = absurd cc
@@ -97,7 +97,7 @@ true_same (layers.Name d) r s e = absurd (no_name_here d _ s refl e)
 true_same (layers.Group g) r s e = absurd cc
 true_same (layers.Not f) r s e = absurd cc
 
-false_same : (z : Factor-F Factor Selector Designator Element ElementList Expr ExprList Sum Term) (r s : Out) → word kinds.False ++ r ≡ factor_shown z ++ s → (told.factor_shown layers.False ≡ told.factor_shown z) × (r ≡ s)
+false_same : (z : Factor-F Factor Selector Designator Element ElementList Expr ExprList SimpleExpression Term) (r s : Out) → word kinds.False ++ r ≡ factor_shown z ++ s → (told.factor_shown layers.False ≡ told.factor_shown z) × (r ≡ s)
 unfolding factor_piece designator_piece expr_piece
 false_same (layers.Value k n) r s e = absurd cc
 false_same layers.Nil r s e = absurd cc
@@ -108,7 +108,7 @@ false_same (layers.Name d) r s e = absurd (no_name_here d _ s refl e)
 false_same (layers.Group g) r s e = absurd cc
 false_same (layers.Not f) r s e = absurd cc
 
-set_same : (a : Option Piece) (o : Out) → Reads set_parts set_shown (on_list kinds.Comma) a o → (z : Factor-F Factor Selector Designator Element ElementList Expr ExprList Sum Term) (r s : Out) → (word kinds.LeftBrace ++ (o ++ word kinds.RightBrace)) ++ r ≡ factor_shown z ++ s → (set_told a ≡ told.factor_shown z) × (r ≡ s)
+set_same : (a : Option Piece) (o : Out) → Reads set_parts set_shown (on_list kinds.Comma) a o → (z : Factor-F Factor Selector Designator Element ElementList Expr ExprList SimpleExpression Term) (r s : Out) → (word kinds.LeftBrace ++ (o ++ word kinds.RightBrace)) ++ r ≡ factor_shown z ++ s → (set_told a ≡ told.factor_shown z) × (r ≡ s)
 unfolding factor_piece designator_piece expr_piece
 set_same a o x (layers.Value k n) r s e = absurd cc
 set_same a o x layers.Nil r s e = absurd cc
@@ -119,7 +119,7 @@ set_same a o x (layers.Name d) r s e = absurd (no_name_here d _ s refl e)
 set_same a o x (layers.Group g) r s e = absurd cc
 set_same a o x (layers.Not f) r s e = absurd cc
 
-name_same : (b : Designator) → HeldDesignator b → (z : Factor-F Factor Selector Designator Element ElementList Expr ExprList Sum Term) (r s : Out) → designator_outline b ++ r ≡ factor_shown z ++ s → (name_told (denoted b) ≡ told.factor_shown z) × (r ≡ s)
+name_same : (b : Designator) → HeldDesignator b → (z : Factor-F Factor Selector Designator Element ElementList Expr ExprList SimpleExpression Term) (r s : Out) → designator_outline b ++ r ≡ factor_shown z ++ s → (name_told (denoted b) ≡ told.factor_shown z) × (r ≡ s)
 unfolding factor_piece designator_piece expr_piece
 name_same b x (layers.Value k n) r s e = absurd (no_name_here b (factor_shown (layers.Value k n) ++ s) r refl (sym e))
 name_same b x layers.Nil r s e = absurd (no_name_here b (factor_shown layers.Nil ++ s) r refl (sym e))
@@ -130,7 +130,7 @@ name_same b x (layers.Name d) r s e = (let h = x.same d r s refl refl e in (ap n
 name_same b x (layers.Group g) r s e = absurd (no_name_here b (factor_shown (layers.Group g) ++ s) r refl (sym e))
 name_same b x (layers.Not f) r s e = absurd (no_name_here b (factor_shown (layers.Not f) ++ s) r refl (sym e))
 
-group_same : (a : Phrase) (o : Out) → Reads expr_phrase expr_outline never a o → (z : Factor-F Factor Selector Designator Element ElementList Expr ExprList Sum Term) (r s : Out) → (word kinds.LeftParen ++ (o ++ word kinds.RightParen)) ++ r ≡ factor_shown z ++ s → (group_told a ≡ told.factor_shown z) × (r ≡ s)
+group_same : (a : Phrase) (o : Out) → Reads expr_phrase expr_outline never a o → (z : Factor-F Factor Selector Designator Element ElementList Expr ExprList SimpleExpression Term) (r s : Out) → (word kinds.LeftParen ++ (o ++ word kinds.RightParen)) ++ r ≡ factor_shown z ++ s → (group_told a ≡ told.factor_shown z) × (r ≡ s)
 unfolding factor_piece designator_piece expr_piece
 group_same a o x (layers.Value k n) r s e = absurd cc
 group_same a o x layers.Nil r s e = absurd cc
@@ -141,7 +141,7 @@ group_same a o x (layers.Name d) r s e = absurd (no_name_here d _ s refl e)
 group_same a o x (layers.Group g) r s e = (let h = (r-past kinds.LeftParen (r-then kinds.RightParen (r-at (λ (b : Box Expr Global). b.value) x) (λ s. refl))).same g r s refl refl e in (ap group_told h.0, h.1))
 group_same a o x (layers.Not f) r s e = absurd cc
 
-not_same : (a : Phrase) (o : Out) → Reads factor_phrase factor_outline never a o → (z : Factor-F Factor Selector Designator Element ElementList Expr ExprList Sum Term) (r s : Out) → (word kinds.Tilde ++ construct constructs.Negated o) ++ r ≡ factor_shown z ++ s → (not_told a ≡ told.factor_shown z) × (r ≡ s)
+not_same : (a : Phrase) (o : Out) → Reads factor_phrase factor_outline never a o → (z : Factor-F Factor Selector Designator Element ElementList Expr ExprList SimpleExpression Term) (r s : Out) → (word kinds.Tilde ++ construct constructs.Negated o) ++ r ≡ factor_shown z ++ s → (not_told a ≡ told.factor_shown z) × (r ≡ s)
 unfolding factor_piece designator_piece expr_piece
 not_same a o x (layers.Value k n) r s e = absurd cc
 not_same a o x layers.Nil r s e = absurd cc
@@ -167,5 +167,5 @@ factor_held (layers.Not f) = record { same = λ z r s i j e. not_same _ _ f.valu
 factor_tells : (x : Factor) → factor_phrase x ≡ told.factor_shown (out-Factor x)
 factor_tells x = told.factor_out x
 
-pub factor_layer : (x : Factor-F Factor Selector Designator Element ElementList Expr ExprList Sum Term) (y : WithFactor) → factor_of y ≡ x → HeldFactor (roll-Factor x)
+pub factor_layer : (x : Factor-F Factor Selector Designator Element ElementList Expr ExprList SimpleExpression Term) (y : WithFactor) → factor_of y ≡ x → HeldFactor (roll-Factor x)
 factor_layer x y is = r-layer out-Factor told.factor_shown (λ z. construct constructs.Factor (factor_shown z)) (λ a. a) factor_tells factor_out (roll-Factor x) (factor_of y) (out-roll-Factor x ∙ sym is) (r-held constructs.Factor (factor_held y) (λ s. refl))

@@ -4,7 +4,7 @@ use Rattle.std.specs.Prelude.{Vec}
 use Rattle.std.specs.declared.alloc.Global.{Global}
 use Rattle.ob_scan.specs.declared.kind.Kind.TheVariants as kinds
 use Rattle.ob_tree.specs.declared.name.OneOrMore.{OneOrMore}
-use Rattle.ob_tree.specs.declared.statement.Block.{Block}
+use Rattle.ob_tree.specs.declared.statement.StatementSequence.{StatementSequence}
 use Rattle.ob_tree.specs.declared.declaration.ConstDecl.{ConstDecl}
 use Rattle.ob_tree.specs.declared.declaration.TypeDecl.{TypeDecl}
 use Rattle.ob_tree.specs.declared.declaration.VarDecl.{VarDecl}
@@ -98,7 +98,7 @@ module_tells : (m : Module) → module_piece m ≡ module_told (module_parts m)
 module_tells m = told.module_out m ∙
     ap₂ (λ (a : Piece) (b : Piece). module_with a (declarations_piece m.declarations) b) (imports_seen m.imports) (there_told block_piece (λ b. both token b) m.body)
 
-abbrev body_shown : Option Block → Out
+abbrev body_shown : Option StatementSequence → Out
 body_shown o = if_there (λ b. word kinds.Begin ++ block_outline b) o
 
 abbrev module_shown : Module → Out
@@ -115,7 +115,7 @@ procedure_apart : (p : ProcDecl) (q r s : Out) → on_word kinds.Import ((((proc
 unfolding construct
 procedure_apart p q r s = ap (λ (o : Out). on_word kinds.Import ((((o ++ word kinds.Semicolon) ++ q) ++ r) ++ s)) (procedure_out p)
 
-sections_apart : (c : Option (Vec ConstDecl Global)) (t : Option (Vec TypeDecl Global)) (v : Option (Vec VarDecl Global)) (ps : List ProcDecl) (b : Option Block) (r s : Out) →
+sections_apart : (c : Option (Vec ConstDecl Global)) (t : Option (Vec TypeDecl Global)) (v : Option (Vec VarDecl Global)) (ps : List ProcDecl) (b : Option StatementSequence) (r s : Out) →
     on_word kinds.Import (((constants_shown c ++ (types_shown t ++ (variables_shown v ++ procedures_shown ps))) ++ (body_shown b ++ (word kinds.End ++ r))) ++ s) ≡ false
 sections_apart (Some c) t v ps b r s = refl
 sections_apart None (Some t) v ps b r s = refl
@@ -124,16 +124,16 @@ sections_apart None None None (p ∷ ps) b r s = procedure_apart p (procedures_s
 sections_apart None None None [] (Some b) r s = refl
 sections_apart None None None [] None r s = refl
 
-no_import : (d : Declarations) (b : Option Block) (r s : Out) → on_word kinds.Import ((declarations_outline d ++ (body_shown b ++ (word kinds.End ++ r))) ++ s) ≡ false
+no_import : (d : Declarations) (b : Option StatementSequence) (r s : Out) → on_word kinds.Import ((declarations_outline d ++ (body_shown b ++ (word kinds.End ++ r))) ++ s) ≡ false
 no_import d b r s =
     ap (λ (o : Out). on_word kinds.Import ((o ++ (body_shown b ++ (word kinds.End ++ r))) ++ s)) (declarations_out d) ∙
     sections_apart (out-Declarations d).constants (out-Declarations d).types (out-Declarations d).variables (out-Declarations d).procedures.items b r s
 
-no_declarations : (b : Option Block) (r s : Out) → on_declarations ((body_shown b ++ (word kinds.End ++ r)) ++ s) ≡ false
+no_declarations : (b : Option StatementSequence) (r s : Out) → on_declarations ((body_shown b ++ (word kinds.End ++ r)) ++ s) ≡ false
 no_declarations None r s = refl
 no_declarations (Some b) r s = refl
 
-r-body : (b : Block) → Reads block_piece (λ z. word kinds.Begin ++ block_outline z) (on_word kinds.Semicolon) (block_piece b) (word kinds.Begin ++ block_outline b)
+r-body : (b : StatementSequence) → Reads block_piece (λ z. word kinds.Begin ++ block_outline z) (on_word kinds.Semicolon) (block_piece b) (word kinds.Begin ++ block_outline b)
 r-body b = r-past kinds.Begin (r-block b)
 
 module_held : (m : Module) → Reads module_parts module_shown never (module_parts m) (module_shown m)

@@ -10,7 +10,7 @@ use Rattle.ob_tree.specs.declared.expression.Expr.{Expr}
 use Rattle.ob_tree.specs.declared.statement.Case.{Case}
 use Rattle.ob_tree.specs.declared.statement.Case.TheOpen as layers
 use Rattle.ob_tree.specs.declared.statement.Stmt.{Stmt, Stmt-F}
-use Rattle.ob_tree.specs.declared.statement.Block.{Block}
+use Rattle.ob_tree.specs.declared.statement.StatementSequence.{StatementSequence}
 use Rattle.ob_tree.specs.declared.statement.Branch.{Branch}
 use Rattle.ob_tree.specs.declared.statement.For.{For}
 use Rattle.ob_tree.specs.Constructs.{Construct}
@@ -31,7 +31,7 @@ use Rattle.ob_decls.proofs.ReadingFactors.{no_name_here}
 use Rattle.ob_decls.proofs.ReadingExpressions.{r-expr, r-designator}
 
 abbrev pub Layer : Type 0
-Layer = Stmt-F Case Stmt Block Branch For
+Layer = Stmt-F Case Stmt Branch For StatementSequence
 
 -- ---- what the parts of each form tell, and their outlines
 
@@ -45,7 +45,7 @@ abbrev pub assign_outline : AssignForm → Out
 assign_outline z = designator_outline z.0 ++ (word kinds.Assign ++ expr_outline z.1)
 
 abbrev pub IfForm : Type 0
-IfForm = Box Branch Global × (Vec Branch Global × Option (Box Block Global))
+IfForm = Box Branch Global × (Vec Branch Global × Option (Box StatementSequence Global))
 
 abbrev pub if_parts : IfForm → Piece × (List Piece × Option Piece)
 if_parts z = (branch_piece z.0.value, (map branch_piece z.1.0.items, maybe (λ b. block_piece b.value) z.1.1))
@@ -72,7 +72,7 @@ abbrev pub while_outline : WhileForm → Out
 while_outline z = word kinds.While ++ (branch_outline z.0.value kinds.Do ++ (each_after kinds.Elsif (λ b. branch_outline b kinds.Do) z.1.items ++ word kinds.End))
 
 abbrev pub RepeatForm : Type 0
-RepeatForm = Box Block Global × Expr
+RepeatForm = Box StatementSequence Global × Expr
 
 abbrev pub repeat_parts : RepeatForm → Piece × Phrase
 repeat_parts z = (block_piece z.0.value, expr_phrase z.1)
@@ -100,7 +100,7 @@ abbrev if_told : Piece × (List Piece × Option Piece) → Piece
 if_told p = both token (both p.0 (both (pieces (λ b. both token b) p.1.0) (both (there (λ b. both token b) p.1.1) token)))
 
 if_seen : (z : IfForm) → told.stmt_shown (layers.If z.0 z.1.0 z.1.1) ≡ if_told (if_parts z)
-if_seen z = ap₂ (λ (o p : Piece). told.if_shown z.0 o p) (each_told branch_piece (λ b. both token b) z.1.0.items) (there_told (λ (b : Box Block Global). block_piece b.value) (λ b. both token b) z.1.1)
+if_seen z = ap₂ (λ (o p : Piece). told.if_shown z.0 o p) (each_told branch_piece (λ b. both token b) z.1.0.items) (there_told (λ (b : Box StatementSequence Global). block_piece b.value) (λ b. both token b) z.1.1)
 
 abbrev case_told : Phrase × (Piece × List Piece) → Piece
 case_told p = both token (both p.0.piece (both token (both p.1.0 (both (pieces (λ c. both token c) p.1.1) token))))
@@ -171,7 +171,7 @@ empty_same (layers.While f v) r s e = absurd (empty_unlike [] _ r s e)
 empty_same (layers.Repeat m a) r s e = absurd (empty_unlike [] _ r s e)
 empty_same (layers.For f) r s e = absurd (empty_unlike [] _ r s e)
 
-pub if_same : (f : Box Branch Global) (v : Vec Branch Global) (o : Option (Box Block Global)) → Reads if_parts if_outline never (if_parts (f, (v, o))) (if_outline (f, (v, o))) → (z : Layer) (r s : Out) → construct constructs.Statement (if_outline (f, (v, o))) ++ r ≡ stmt_shown z ++ s → Agrees (layers.If f v o) z r s
+pub if_same : (f : Box Branch Global) (v : Vec Branch Global) (o : Option (Box StatementSequence Global)) → Reads if_parts if_outline never (if_parts (f, (v, o))) (if_outline (f, (v, o))) → (z : Layer) (r s : Out) → construct constructs.Statement (if_outline (f, (v, o))) ++ r ≡ stmt_shown z ++ s → Agrees (layers.If f v o) z r s
 if_same f v o x layers.Empty r s e = absurd (empty_unlike [] _ s r (sym e))
 if_same f v o x (layers.Assign d u) r s e = absurd (no_assign d _ _ _ refl (inside constructs.Statement _ _ r s e))
 if_same f v o x (layers.Call d) r s e = absurd (no_name_here d _ _ refl (inside constructs.Statement _ _ r s e))
@@ -201,7 +201,7 @@ while_same f v x (layers.While g w) r s e = let h = (r-held constructs.Statement
 while_same f v x (layers.Repeat n u) r s e = absurd (other kinds.While kinds.Repeat _ _ refl refl (inside constructs.Statement _ _ r s e))
 while_same f v x (layers.For g) r s e = absurd (no_for g _ _ refl (inside constructs.Statement _ _ r s e))
 
-pub repeat_same : (m : Box Block Global) (a : Expr) → Reads repeat_parts repeat_outline never (repeat_parts (m, a)) (repeat_outline (m, a)) → (z : Layer) (r s : Out) → construct constructs.Statement (repeat_outline (m, a)) ++ r ≡ stmt_shown z ++ s → Agrees (layers.Repeat m a) z r s
+pub repeat_same : (m : Box StatementSequence Global) (a : Expr) → Reads repeat_parts repeat_outline never (repeat_parts (m, a)) (repeat_outline (m, a)) → (z : Layer) (r s : Out) → construct constructs.Statement (repeat_outline (m, a)) ++ r ≡ stmt_shown z ++ s → Agrees (layers.Repeat m a) z r s
 repeat_same m a x layers.Empty r s e = absurd (empty_unlike [] _ s r (sym e))
 repeat_same m a x (layers.Assign d u) r s e = absurd (no_assign d _ _ _ refl (inside constructs.Statement _ _ r s e))
 repeat_same m a x (layers.Call d) r s e = absurd (no_name_here d _ _ refl (inside constructs.Statement _ _ r s e))

@@ -13,7 +13,7 @@ use Rattle.ob_tree.specs.declared.statement.Case.TheOpen as layers
 use Rattle.ob_tree.specs.declared.statement.Case.TheShapes as shapes
 use Rattle.ob_tree.specs.declared.statement.Case.{Case, Case-F, roll-Case, out-Case, out-roll-Case, map-Case}
 use Rattle.ob_tree.specs.declared.statement.Stmt.{Stmt, Stmt-F, roll-Stmt, out-Stmt, out-roll-Stmt, map-Stmt}
-use Rattle.ob_tree.specs.declared.statement.Block.{Block, Block-F, roll-Block, out-Block, out-roll-Block, ind-Block, map-Block}
+use Rattle.ob_tree.specs.declared.statement.StatementSequence.{StatementSequence, StatementSequence-F, roll-StatementSequence, out-StatementSequence, out-roll-StatementSequence, ind-StatementSequence, map-StatementSequence}
 use Rattle.ob_tree.specs.declared.statement.Branch.{Branch, Branch-F, roll-Branch, out-Branch, out-roll-Branch, map-Branch}
 use Rattle.ob_tree.specs.declared.statement.For.{For, For-F, roll-For, out-For, out-roll-For, map-For}
 use Rattle.ob_tree.specs.Constructs as constructs
@@ -42,7 +42,7 @@ HeldCase t = Reads case_piece case_outline never (case_piece t) (case_outline t)
 abbrev HeldStmt : Stmt → Type 0
 HeldStmt t = Reads stmt_piece stmt_outline never (stmt_piece t) (stmt_outline t)
 
-abbrev HeldBlock : Block → Type 0
+abbrev HeldBlock : StatementSequence → Type 0
 HeldBlock t = Reads block_piece block_outline (on_word kinds.Semicolon) (block_piece t) (block_outline t)
 
 -- a branch with any word in it
@@ -55,39 +55,39 @@ HeldFor t = Reads for_piece for_outline never (for_piece t) (for_outline t)
 -- a layer whose parts can be read, and the layer itself
 
 abbrev WithCase : Type 0
-WithCase = Case-F (With HeldCase) (With HeldStmt) (With HeldBlock) (With HeldBranch) (With HeldFor)
+WithCase = Case-F (With HeldCase) (With HeldStmt) (With HeldBranch) (With HeldFor) (With HeldBlock)
 
-abbrev case_of : WithCase → Case-F Case Stmt Block Branch For
-case_of = map-Case (With HeldCase) (With HeldStmt) (With HeldBlock) (With HeldBranch) (With HeldFor) Case Stmt Block Branch For (λ e. e.0) (λ e. e.0) (λ e. e.0) (λ e. e.0) (λ e. e.0)
+abbrev case_of : WithCase → Case-F Case Stmt Branch For StatementSequence
+case_of = map-Case (With HeldCase) (With HeldStmt) (With HeldBranch) (With HeldFor) (With HeldBlock) Case Stmt Branch For StatementSequence (λ e. e.0) (λ e. e.0) (λ e. e.0) (λ e. e.0) (λ e. e.0)
 
 abbrev WithStmt : Type 0
-WithStmt = Stmt-F (With HeldCase) (With HeldStmt) (With HeldBlock) (With HeldBranch) (With HeldFor)
+WithStmt = Stmt-F (With HeldCase) (With HeldStmt) (With HeldBranch) (With HeldFor) (With HeldBlock)
 
-abbrev stmt_of : WithStmt → Stmt-F Case Stmt Block Branch For
-stmt_of = map-Stmt (With HeldCase) (With HeldStmt) (With HeldBlock) (With HeldBranch) (With HeldFor) Case Stmt Block Branch For (λ e. e.0) (λ e. e.0) (λ e. e.0) (λ e. e.0) (λ e. e.0)
+abbrev stmt_of : WithStmt → Stmt-F Case Stmt Branch For StatementSequence
+stmt_of = map-Stmt (With HeldCase) (With HeldStmt) (With HeldBranch) (With HeldFor) (With HeldBlock) Case Stmt Branch For StatementSequence (λ e. e.0) (λ e. e.0) (λ e. e.0) (λ e. e.0) (λ e. e.0)
 
 abbrev WithBlock : Type 0
-WithBlock = Block-F (With HeldCase) (With HeldStmt) (With HeldBlock) (With HeldBranch) (With HeldFor)
+WithBlock = StatementSequence-F (With HeldCase) (With HeldStmt) (With HeldBranch) (With HeldFor) (With HeldBlock)
 
-abbrev block_of : WithBlock → Block-F Case Stmt Block Branch For
-block_of = map-Block (With HeldCase) (With HeldStmt) (With HeldBlock) (With HeldBranch) (With HeldFor) Case Stmt Block Branch For (λ e. e.0) (λ e. e.0) (λ e. e.0) (λ e. e.0) (λ e. e.0)
+abbrev block_of : WithBlock → StatementSequence-F Case Stmt Branch For StatementSequence
+block_of = map-StatementSequence (With HeldCase) (With HeldStmt) (With HeldBranch) (With HeldFor) (With HeldBlock) Case Stmt Branch For StatementSequence (λ e. e.0) (λ e. e.0) (λ e. e.0) (λ e. e.0) (λ e. e.0)
 
 abbrev WithBranch : Type 0
-WithBranch = Branch-F (With HeldCase) (With HeldStmt) (With HeldBlock) (With HeldBranch) (With HeldFor)
+WithBranch = Branch-F (With HeldCase) (With HeldStmt) (With HeldBranch) (With HeldFor) (With HeldBlock)
 
-abbrev branch_of : WithBranch → Branch-F Case Stmt Block Branch For
-branch_of = map-Branch (With HeldCase) (With HeldStmt) (With HeldBlock) (With HeldBranch) (With HeldFor) Case Stmt Block Branch For (λ e. e.0) (λ e. e.0) (λ e. e.0) (λ e. e.0) (λ e. e.0)
+abbrev branch_of : WithBranch → Branch-F Case Stmt Branch For StatementSequence
+branch_of = map-Branch (With HeldCase) (With HeldStmt) (With HeldBranch) (With HeldFor) (With HeldBlock) Case Stmt Branch For StatementSequence (λ e. e.0) (λ e. e.0) (λ e. e.0) (λ e. e.0) (λ e. e.0)
 
 abbrev WithFor : Type 0
-WithFor = For-F (With HeldCase) (With HeldStmt) (With HeldBlock) (With HeldBranch) (With HeldFor)
+WithFor = For-F (With HeldCase) (With HeldStmt) (With HeldBranch) (With HeldFor) (With HeldBlock)
 
-abbrev for_of : WithFor → For-F Case Stmt Block Branch For
-for_of = map-For (With HeldCase) (With HeldStmt) (With HeldBlock) (With HeldBranch) (With HeldFor) Case Stmt Block Branch For (λ e. e.0) (λ e. e.0) (λ e. e.0) (λ e. e.0) (λ e. e.0)
+abbrev for_of : WithFor → For-F Case Stmt Branch For StatementSequence
+for_of = map-For (With HeldCase) (With HeldStmt) (With HeldBranch) (With HeldFor) (With HeldBlock) Case Stmt Branch For StatementSequence (λ e. e.0) (λ e. e.0) (λ e. e.0) (λ e. e.0) (λ e. e.0)
 
 -- the parts behind boxes and in lists
 
-abbrev block_in : Box (With HeldBlock) Global → Box Block Global
-block_in = (shapes.former-Case-Labelled-1).map (With HeldBlock) Block (λ e. e.0)
+abbrev block_in : Box (With HeldBlock) Global → Box StatementSequence Global
+block_in = (shapes.former-Case-Labelled-1).map (With HeldBlock) StatementSequence (λ e. e.0)
 
 abbrev branch_in : Box (With HeldBranch) Global → Box Branch Global
 branch_in = (shapes.former-Stmt-If-0).map (With HeldBranch) Branch (λ e. e.0)
@@ -107,7 +107,7 @@ for_in = (shapes.former-Stmt-For-0).map (With HeldFor) For (λ e. e.0)
 -- ---- cases
 
 abbrev Labelled : Type 0
-Labelled = OneOrMore LabelRange × Box Block Global
+Labelled = OneOrMore LabelRange × Box StatementSequence Global
 
 abbrev labelled_parts : Labelled → (Piece × List Piece) × Piece
 labelled_parts z = ((label_range_piece z.0.first, map label_range_piece z.0.rest.items), block_piece z.1.value)
@@ -149,23 +149,23 @@ range_there r o p s e = label_there r.low _ (o ++ p) s (sym (append_assoc (label
 labelled_there : (z : Labelled) (r s : Out) → labelled_outline z ++ r ≡ Ends constructs.Case ∷ s → ⊥
 labelled_there z r s e = range_there z.0.first _ _ s (sym (append_assoc (listed kinds.Comma label_range_outline z.0) (word kinds.Colon ++ block_outline z.1.value) r) ∙ e)
 
-none_same : (z : Case-F Case Stmt Block Branch For) (r s : Out) → Ends constructs.Case ∷ r ≡ case_shown z ++ Ends constructs.Case ∷ s → (told.case_shown layers.Nothing ≡ told.case_shown z) × (r ≡ s)
+none_same : (z : Case-F Case Stmt Branch For StatementSequence) (r s : Out) → Ends constructs.Case ∷ r ≡ case_shown z ++ Ends constructs.Case ∷ s → (told.case_shown layers.Nothing ≡ told.case_shown z) × (r ≡ s)
 none_same layers.Nothing r s e = (refl, tail_is _ _ r s e)
 none_same (layers.Labelled l b) r s e = absurd (labelled_there (l, b) _ r (sym e))
 
-labelled_same : (m : OneOrMore LabelRange) (b : Box Block Global) → Reads labelled_parts labelled_outline (on_word kinds.Semicolon) (labelled_parts (m, b)) (labelled_outline (m, b)) →
-    (z : Case-F Case Stmt Block Branch For) (r s : Out) → labelled_outline (m, b) ++ Ends constructs.Case ∷ r ≡ case_shown z ++ Ends constructs.Case ∷ s → (told.case_shown (layers.Labelled m b) ≡ told.case_shown z) × (r ≡ s)
+labelled_same : (m : OneOrMore LabelRange) (b : Box StatementSequence Global) → Reads labelled_parts labelled_outline (on_word kinds.Semicolon) (labelled_parts (m, b)) (labelled_outline (m, b)) →
+    (z : Case-F Case Stmt Branch For StatementSequence) (r s : Out) → labelled_outline (m, b) ++ Ends constructs.Case ∷ r ≡ case_shown z ++ Ends constructs.Case ∷ s → (told.case_shown (layers.Labelled m b) ≡ told.case_shown z) × (r ≡ s)
 labelled_same m b x layers.Nothing r s e = absurd (labelled_there (m, b) _ s e)
 labelled_same m b x (layers.Labelled l c) r s e = let h = x.same (l, c) (Ends constructs.Case ∷ r) (Ends constructs.Case ∷ s) refl refl e in (labelled_seen (m, b) ∙ ap labelled_told h.0 ∙ sym (labelled_seen (l, c)), tail_is _ _ r s h.1)
 
-case_inside : (y : WithCase) (z : Case-F Case Stmt Block Branch For) (r s : Out) → case_shown (case_of y) ++ Ends constructs.Case ∷ r ≡ case_shown z ++ Ends constructs.Case ∷ s → (told.case_shown (case_of y) ≡ told.case_shown z) × (r ≡ s)
+case_inside : (y : WithCase) (z : Case-F Case Stmt Branch For StatementSequence) (r s : Out) → case_shown (case_of y) ++ Ends constructs.Case ∷ r ≡ case_shown z ++ Ends constructs.Case ∷ s → (told.case_shown (case_of y) ≡ told.case_shown z) × (r ≡ s)
 case_inside layers.Nothing z r s e = none_same z r s e
 case_inside (layers.Labelled l b) z r s e = labelled_same l (block_in b) (r-until (r-at (λ q. q.0) (ranges_held l)) (λ p i. refl) (λ q p i. refl) (r-past kinds.Colon (r-at (λ q. q.1.value) b.value.1))) z r s e
 
 case_held : (y : WithCase) → Reads told.case_shown (λ z. construct constructs.Case (case_shown z)) never (told.case_shown (case_of y)) (construct constructs.Case (case_shown (case_of y)))
 case_held y = record { same = λ z r s i j e. case_inside y z r s (inside constructs.Case _ _ r s e) }
 
-case_layer : (x : Case-F Case Stmt Block Branch For) (y : WithCase) → case_of y ≡ x → HeldCase (roll-Case x)
+case_layer : (x : Case-F Case Stmt Branch For StatementSequence) (y : WithCase) → case_of y ≡ x → HeldCase (roll-Case x)
 case_layer x y is = r-layer out-Case told.case_shown (λ z. construct constructs.Case (case_shown z)) (λ a. a) told.case_told case_out (roll-Case x) (case_of y) (out-roll-Case x ∙ sym is) (case_held y)
 
 -- ---- statements
@@ -180,14 +180,14 @@ ends_else = kinds.Else ∷ kinds.Semicolon ∷ []
 no_semicolon : (k : Kind) (s : Out) → on_words (k ∷ kinds.Semicolon ∷ []) s ≡ false → on_word kinds.Semicolon s ≡ false
 no_semicolon k s i = not_the_first kinds.Semicolon [] s (none_behind k (kinds.Semicolon ∷ []) s i)
 
-abbrev else_outline : Option (Box Block Global) → Out
+abbrev else_outline : Option (Box StatementSequence Global) → Out
 else_outline o = if_there (λ b. word kinds.Else ++ block_outline b.value) o
 
-abbrev else_of : Option (Box (With HeldBlock) Global) → Option (Box Block Global)
-else_of = (shapes.former-Stmt-If-2).map (With HeldBlock) Block (λ e. e.0)
+abbrev else_of : Option (Box (With HeldBlock) Global) → Option (Box StatementSequence Global)
+else_of = (shapes.former-Stmt-If-2).map (With HeldBlock) StatementSequence (λ e. e.0)
 
 else_held : (o : Option (Box (With HeldBlock) Global)) →
-    Reads {Z = Option (Box Block Global)} (λ z. maybe (λ b. block_piece b.value) z) else_outline (on_words ends_else) (maybe (λ b. block_piece b.value) (else_of o)) (else_outline (else_of o))
+    Reads {Z = Option (Box StatementSequence Global)} (λ z. maybe (λ b. block_piece b.value) z) else_outline (on_words ends_else) (maybe (λ b. block_piece b.value) (else_of o)) (else_outline (else_of o))
 else_held None = r-none (λ b. block_piece b.value) (λ b. word kinds.Else ++ block_outline b.value) (on_words ends_else) (λ b s. refl) (λ z. z)
 else_held (Some b) = r-some (r-past kinds.Else (r-at (λ c. c.value) b.value.1)) (λ s i. no_semicolon kinds.Else s i) (λ s. refl) (λ z. z)
 
@@ -198,11 +198,11 @@ branches_held : {X : Type 0} (k : Kind) (h : X → Branch) (xs : List X) → ((x
     Reads (map branch_piece) (branches_outline k) (on_words ends_if) (map branch_piece (map h xs)) (branches_outline k (map h xs))
 branches_held k h xs w = r-map branch_piece (λ b. word kinds.Elsif ++ branch_outline b k) (on_word kinds.Semicolon) (on_words ends_if) (λ b s. refl) (λ s i. no_semicolon kinds.Elsif s i) (λ b s. refl) h xs (λ x. r-past kinds.Elsif (w x k))
 
-behind_branches : (o : Option (Box Block Global)) (s : Out) → on_words ends_if ((else_outline o ++ word kinds.End) ++ s) ≡ false
+behind_branches : (o : Option (Box StatementSequence Global)) (s : Out) → on_words ends_if ((else_outline o ++ word kinds.End) ++ s) ≡ false
 behind_branches None s = refl
 behind_branches (Some b) s = refl
 
-behind_branch : (k : Kind) (bs : List Branch) (o : Option (Box Block Global)) (s : Out) → on_word kinds.Semicolon ((branches_outline k bs ++ (else_outline o ++ word kinds.End)) ++ s) ≡ false
+behind_branch : (k : Kind) (bs : List Branch) (o : Option (Box StatementSequence Global)) (s : Out) → on_word kinds.Semicolon ((branches_outline k bs ++ (else_outline o ++ word kinds.End)) ++ s) ≡ false
 behind_branch k [] None s = refl
 behind_branch k [] (Some b) s = refl
 behind_branch k (b ∷ bs) o s = refl
@@ -231,27 +231,27 @@ stmt_held (layers.While f v) = record {
 stmt_held (layers.Repeat b a) = record { same = λ z r s i j e. repeat_same (block_in b) a (r-past kinds.Repeat (r-until (r-at (λ q. q.0.value) b.value.1) (λ s i. refl) (λ q s i. refl) (r-past kinds.Until (r-at (λ q. q.1) (r-expr a))))) z r s e }
 stmt_held (layers.For f) = record { same = λ z r s i j e. for_same (for_in f) f.value.1 z r s e }
 
-stmt_layer : (x : Stmt-F Case Stmt Block Branch For) (y : WithStmt) → stmt_of y ≡ x → HeldStmt (roll-Stmt x)
+stmt_layer : (x : Stmt-F Case Stmt Branch For StatementSequence) (y : WithStmt) → stmt_of y ≡ x → HeldStmt (roll-Stmt x)
 stmt_layer x y is = r-layer out-Stmt told.stmt_shown stmt_shown (λ a. a) told.stmt_told stmt_out (roll-Stmt x) (stmt_of y) (out-roll-Stmt x ∙ sym is) (stmt_held y)
 
 -- ---- blocks, branches and FOR
 
-abbrev block_parts : Block-F Case Stmt Block Branch For → Piece × List Piece
+abbrev block_parts : StatementSequence-F Case Stmt Branch For StatementSequence → Piece × List Piece
 block_parts z = (stmt_piece z.first, map stmt_piece z.rest.items)
 
 abbrev block_told : Piece × List Piece → Piece
 block_told p = both p.0 (pieces (λ s. both token s) p.1)
 
-block_tells : (b : Block) → block_piece b ≡ block_told (block_parts (out-Block b))
-block_tells b = told.block_out b ∙ ap (λ (o : Piece). both (stmt_piece (out-Block b).first) o) (each_told stmt_piece (λ s. both token s) (out-Block b).rest.items)
+block_tells : (b : StatementSequence) → block_piece b ≡ block_told (block_parts (out-StatementSequence b))
+block_tells b = told.block_out b ∙ ap (λ (o : Piece). both (stmt_piece (out-StatementSequence b).first) o) (each_told stmt_piece (λ s. both token s) (out-StatementSequence b).rest.items)
 
 block_held : (y : WithBlock) → Reads block_parts block_shown (on_word kinds.Semicolon) (block_parts (block_of y)) (block_shown (block_of y))
 block_held y = r-both (r-at (λ z. z.first) y.first.1) (r-at (λ z. z.rest.items) (r-map stmt_piece (λ s. word kinds.Semicolon ++ stmt_outline s) never (on_word kinds.Semicolon) (λ p s. refl) (λ s i. refl) (λ p s. refl) _ y.rest.items (λ s. r-past kinds.Semicolon s.1)))
 
-block_layer : (x : Block-F Case Stmt Block Branch For) (y : WithBlock) → block_of y ≡ x → HeldBlock (roll-Block x)
-block_layer x y is = r-layer out-Block block_parts block_shown block_told block_tells block_out (roll-Block x) (block_of y) (out-roll-Block x ∙ sym is) (block_held y)
+block_layer : (x : StatementSequence-F Case Stmt Branch For StatementSequence) (y : WithBlock) → block_of y ≡ x → HeldBlock (roll-StatementSequence x)
+block_layer x y is = r-layer out-StatementSequence block_parts block_shown block_told block_tells block_out (roll-StatementSequence x) (block_of y) (out-roll-StatementSequence x ∙ sym is) (block_held y)
 
-abbrev branch_parts : Branch-F Case Stmt Block Branch For → Phrase × Piece
+abbrev branch_parts : Branch-F Case Stmt Branch For StatementSequence → Phrase × Piece
 branch_parts z = (expr_phrase z.condition, block_piece z.body)
 
 abbrev branch_told : Phrase × Piece → Piece
@@ -264,10 +264,10 @@ branch_tells b = told.branch_out b
 branch_held : (y : WithBranch) (k : Kind) → Reads branch_parts (λ z. branch_shown z k) (on_word kinds.Semicolon) (branch_parts (branch_of y)) (branch_shown (branch_of y) k)
 branch_held y k = r-both (r-at (λ z. z.condition) (r-expr y.condition)) (r-past k (r-at (λ z. z.body) y.body.1))
 
-branch_layer : (x : Branch-F Case Stmt Block Branch For) (y : WithBranch) → branch_of y ≡ x → HeldBranch (roll-Branch x)
+branch_layer : (x : Branch-F Case Stmt Branch For StatementSequence) (y : WithBranch) → branch_of y ≡ x → HeldBranch (roll-Branch x)
 branch_layer x y is k = r-layer out-Branch branch_parts (λ z. branch_shown z k) branch_told branch_tells (λ b. branch_out b k) (roll-Branch x) (branch_of y) (out-roll-Branch x ∙ sym is) (branch_held y k)
 
-abbrev for_parts : For-F Case Stmt Block Branch For → ℕ × (Phrase × (Phrase × (Option Phrase × Piece)))
+abbrev for_parts : For-F Case Stmt Branch For StatementSequence → ℕ × (Phrase × (Phrase × (Option Phrase × Piece)))
 for_parts z = (z.variable, (expr_phrase z.from, (expr_phrase z.to, (maybe expr_phrase z.by, block_piece z.body))))
 
 abbrev for_told : ℕ × (Phrase × (Phrase × (Option Phrase × Piece))) → Piece
@@ -284,10 +284,10 @@ for_held y = r-past kinds.For (r-both (r-use (λ z. z.variable) y.variable) (r-p
     (r-until (r-there {f = expr_phrase} {g = λ e. word kinds.By ++ expr_outline e} {part = never} (on_word kinds.By) (λ z. z.by) y.by (λ e. r-past kinds.By (r-expr e)) (λ s i. refl) (λ e s. refl)) (λ s i. refl) (λ z s i. refl)
     (r-past kinds.Do (r-then kinds.End (r-at (λ z. z.body) y.body.1) (λ s. refl)))))))))
 
-for_layer : (x : For-F Case Stmt Block Branch For) (y : WithFor) → for_of y ≡ x → HeldFor (roll-For x)
+for_layer : (x : For-F Case Stmt Branch For StatementSequence) (y : WithFor) → for_of y ≡ x → HeldFor (roll-For x)
 for_layer x y is = r-layer out-For for_parts for_shown for_told for_tells for_out (roll-For x) (for_of y) (out-roll-For x ∙ sym is) (for_held y)
 
 -- ---- every tree can be read
 
-pub r-block : (b : Block) → Reads block_piece block_outline (on_word kinds.Semicolon) (block_piece b) (block_outline b)
-r-block = ind-Block HeldCase HeldStmt HeldBlock HeldBranch HeldFor case_layer stmt_layer block_layer branch_layer for_layer
+pub r-block : (b : StatementSequence) → Reads block_piece block_outline (on_word kinds.Semicolon) (block_piece b) (block_outline b)
+r-block = ind-StatementSequence HeldCase HeldStmt HeldBranch HeldFor HeldBlock case_layer stmt_layer branch_layer for_layer block_layer

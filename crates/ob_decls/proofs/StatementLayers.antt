@@ -15,7 +15,7 @@ use Rattle.ob_tree.specs.declared.statement.Case.TheShapes as shapes
 use Rattle.ob_tree.specs.declared.statement.Case.TheVariants as cases
 use Rattle.ob_tree.specs.declared.statement.Stmt.{Stmt, Stmt-F, fold_out-Stmt, out-Stmt, map-Stmt}
 use Rattle.ob_tree.specs.declared.statement.Stmt.TheVariants as statements
-use Rattle.ob_tree.specs.declared.statement.Block.{Block, fold_out-Block, out-Block}
+use Rattle.ob_tree.specs.declared.statement.StatementSequence.{StatementSequence, fold_out-StatementSequence, out-StatementSequence}
 use Rattle.ob_tree.specs.declared.statement.Branch.{Branch, fold_out-Branch, out-Branch}
 use Rattle.ob_tree.specs.declared.statement.For.{For, fold_out-For, out-For}
 use Rattle.ob_decls.specs.declared.draft.Context.{Context}
@@ -25,7 +25,7 @@ use Rattle.ob_decls.specs.Expressions.{used, designator_row, each_after, expr_pi
 use Rattle.ob_decls.specs.Statements.{variable_piece, qualident_piece, label_piece, label_range_piece, case_step, stmt_step, block_step, branch_step, for_step, case_piece, stmt_piece, block_piece, branch_piece, for_piece}
 use Rattle.ob_decls.proofs.Steps.{each-map, after_both, after_token, steps}
 
-else_there : (f : Block → Piece) (o : Option (Box Block Global)) → if_there (λ b. both token b.value) ((shapes.former-Stmt-If-2).map Block Piece f o)
+else_there : (f : StatementSequence → Piece) (o : Option (Box StatementSequence Global)) → if_there (λ b. both token b.value) ((shapes.former-Stmt-If-2).map StatementSequence Piece f o)
     ≡ if_there (λ b. both token (f b.value)) o
 else_there f None = refl
 else_there f (Some b) = refl
@@ -54,14 +54,14 @@ pub label_range_out : (r : LabelRange) → label_range_piece r ≡ both (label_p
 unfolding label_range_piece
 label_range_out r = refl
 
-abbrev pub case_shown : Case-F Case Stmt Block Branch For → Piece
+abbrev pub case_shown : Case-F Case Stmt Branch For StatementSequence → Piece
 case_shown layers.Nothing = nothing
 case_shown (layers.Labelled ranges body) = both (label_range_piece ranges.first) (both (each_after label_range_piece ranges.rest.items) (both token (block_piece body.value)))
 
 abbrev pub if_shown : Box Branch Global → Piece → Piece → Piece
 if_shown first rest otherwise = both token (both (branch_piece first.value) (both rest (both otherwise token)))
 
-abbrev pub stmt_shown : Stmt-F Case Stmt Block Branch For → Piece
+abbrev pub stmt_shown : Stmt-F Case Stmt Branch For StatementSequence → Piece
 stmt_shown layers.Empty = nothing
 stmt_shown (layers.Assign d e) = both (designator_piece true d) (both token (expr_piece e))
 stmt_shown (layers.Call d) = designator_piece false d
@@ -71,20 +71,20 @@ stmt_shown (layers.While first rest) = both token (both (branch_piece first.valu
 stmt_shown (layers.Repeat body e) = both token (both (block_piece body.value) (both token (expr_piece e)))
 stmt_shown (layers.For f) = for_piece f.value
 
-case_seen : (x : Case-F Case Stmt Block Branch For) → case_step (map-Case Case Stmt Block Branch For Piece Piece Piece Piece Piece case_piece stmt_piece block_piece branch_piece for_piece x) ≡ case_shown x
+case_seen : (x : Case-F Case Stmt Branch For StatementSequence) → case_step (map-Case Case Stmt Branch For StatementSequence Piece Piece Piece Piece Piece case_piece stmt_piece branch_piece for_piece block_piece x) ≡ case_shown x
 case_seen layers.Nothing = refl
 case_seen (layers.Labelled ranges body) = refl
 
 case_out : (c : Case) → case_piece c ≡ case_shown (out-Case c)
-unfolding case_piece stmt_piece block_piece branch_piece for_piece
-case_out c = fold_out-Case Piece Piece Piece Piece Piece case_step stmt_step block_step branch_step for_step c ∙ case_seen (out-Case c)
+unfolding case_piece stmt_piece branch_piece for_piece block_piece
+case_out c = fold_out-Case Piece Piece Piece Piece Piece case_step stmt_step branch_step for_step block_step c ∙ case_seen (out-Case c)
 
-stmt_seen : (x : Stmt-F Case Stmt Block Branch For) → stmt_step (map-Stmt Case Stmt Block Branch For Piece Piece Piece Piece Piece case_piece stmt_piece block_piece branch_piece for_piece x) ≡ stmt_shown x
+stmt_seen : (x : Stmt-F Case Stmt Branch For StatementSequence) → stmt_step (map-Stmt Case Stmt Branch For StatementSequence Piece Piece Piece Piece Piece case_piece stmt_piece branch_piece for_piece block_piece x) ≡ stmt_shown x
 stmt_seen layers.Empty = refl
 stmt_seen (layers.Assign d e) = refl
 stmt_seen (layers.Call d) = refl
 stmt_seen (layers.If first rest otherwise) =
-    ap (λ (o : Piece). if_shown first o (if_there (λ b. both token b.value) ((shapes.former-Stmt-If-2).map Block Piece block_piece otherwise))) (each-map (λ (b : Piece). both token b) branch_piece rest.items)
+    ap (λ (o : Piece). if_shown first o (if_there (λ b. both token b.value) ((shapes.former-Stmt-If-2).map StatementSequence Piece block_piece otherwise))) (each-map (λ (b : Piece). both token b) branch_piece rest.items)
     ∙ ap (λ (o : Piece). if_shown first (each_after branch_piece rest.items) o) (else_there block_piece otherwise)
 stmt_seen (layers.Case e first rest) = ap (λ (o : Piece). both token (both (expr_piece e) (both token (both (case_piece first.value) (both o token))))) (each-map (λ (c : Piece). both token c) case_piece rest.items)
 stmt_seen (layers.While first rest) = ap (λ (o : Piece). both token (both (branch_piece first.value) (both o token))) (each-map (λ (b : Piece). both token b) branch_piece rest.items)
@@ -92,38 +92,38 @@ stmt_seen (layers.Repeat body e) = refl
 stmt_seen (layers.For f) = refl
 
 stmt_out : (s : Stmt) → stmt_piece s ≡ stmt_shown (out-Stmt s)
-unfolding case_piece stmt_piece block_piece branch_piece for_piece
-stmt_out s = fold_out-Stmt Piece Piece Piece Piece Piece case_step stmt_step block_step branch_step for_step s ∙ stmt_seen (out-Stmt s)
+unfolding case_piece stmt_piece branch_piece for_piece block_piece
+stmt_out s = fold_out-Stmt Piece Piece Piece Piece Piece case_step stmt_step branch_step for_step block_step s ∙ stmt_seen (out-Stmt s)
 
-pub block_out : (b : Block) → block_piece b ≡ both (stmt_piece (out-Block b).first) (each_after stmt_piece (out-Block b).rest.items)
+pub block_out : (b : StatementSequence) → block_piece b ≡ both (stmt_piece (out-StatementSequence b).first) (each_after stmt_piece (out-StatementSequence b).rest.items)
 unfolding block_piece stmt_piece
 block_out b =
-    fold_out-Block Piece Piece Piece Piece Piece case_step stmt_step block_step branch_step for_step b
-    ∙ ap (λ (o : Piece). both (stmt_piece (out-Block b).first) o) (each-map (λ (s : Piece). both token s) _ (out-Block b).rest.items)
+    fold_out-StatementSequence Piece Piece Piece Piece Piece case_step stmt_step branch_step for_step block_step b
+    ∙ ap (λ (o : Piece). both (stmt_piece (out-StatementSequence b).first) o) (each-map (λ (s : Piece). both token s) _ (out-StatementSequence b).rest.items)
 
 pub branch_out : (b : Branch) → branch_piece b ≡ both (expr_piece (out-Branch b).condition) (both token (block_piece (out-Branch b).body))
 unfolding branch_piece block_piece
-branch_out b = fold_out-Branch Piece Piece Piece Piece Piece case_step stmt_step block_step branch_step for_step b
+branch_out b = fold_out-Branch Piece Piece Piece Piece Piece case_step stmt_step branch_step for_step block_step b
 
 pub for_out : (f : For) → for_piece f ≡
     both token (both variable_piece (both token (both (expr_piece (out-For f).from) (both token (both (expr_piece (out-For f).to)
     (both (if_there (λ e. both token (expr_piece e)) (out-For f).by) (both token (both (block_piece (out-For f).body) token))))))))
 unfolding for_piece block_piece
-for_out f = fold_out-For Piece Piece Piece Piece Piece case_step stmt_step block_step branch_step for_step f
+for_out f = fold_out-For Piece Piece Piece Piece Piece case_step stmt_step branch_step for_step block_step f
 
 -- the same at a value that is made
 
-cased : (c : Case) (x : Case-F Case Stmt Block Branch For) → out-Case c ≡ x → case_piece c ≡ case_shown x
+cased : (c : Case) (x : Case-F Case Stmt Branch For StatementSequence) → out-Case c ≡ x → case_piece c ≡ case_shown x
 cased c x e = case_out c ∙ ap (λ y. case_shown y) e
 
 pub nothing_made : case_piece cases.Nothing ≡ nothing
 nothing_made = cased _ _ cases.outs-Nothing
 
-pub labelled_made : (l : OneOrMore LabelRange) (b : Box Block Global) → case_piece (cases.Labelled l b)
+pub labelled_made : (l : OneOrMore LabelRange) (b : Box StatementSequence Global) → case_piece (cases.Labelled l b)
     ≡ both (label_range_piece l.first) (both (each_after label_range_piece l.rest.items) (both token (block_piece b.value)))
 labelled_made l b = cased _ _ (cases.outs-Labelled l b)
 
-stated : (s : Stmt) (x : Stmt-F Case Stmt Block Branch For) → out-Stmt s ≡ x → stmt_piece s ≡ stmt_shown x
+stated : (s : Stmt) (x : Stmt-F Case Stmt Branch For StatementSequence) → out-Stmt s ≡ x → stmt_piece s ≡ stmt_shown x
 stated s x e = stmt_out s ∙ ap (λ y. stmt_shown y) e
 
 pub empty_made : stmt_piece statements.Empty ≡ nothing
@@ -135,7 +135,7 @@ assign_made d e = stated _ _ (statements.outs-Assign d e)
 pub call_made : (d : Designator) → stmt_piece (statements.Call d) ≡ designator_piece false d
 call_made d = stated _ _ (statements.outs-Call d)
 
-pub if_made : (b : Box Branch Global) (v : Vec Branch Global) (o : Option (Box Block Global)) → stmt_piece (statements.If b v o)
+pub if_made : (b : Box Branch Global) (v : Vec Branch Global) (o : Option (Box StatementSequence Global)) → stmt_piece (statements.If b v o)
     ≡ both token (both (branch_piece b.value) (both (each_after branch_piece v.items) (both (if_there (λ x. both token (block_piece x.value)) o) token)))
 if_made b v o = stated _ _ (statements.outs-If b v o)
 
@@ -147,7 +147,7 @@ pub while_made : (b : Box Branch Global) (v : Vec Branch Global) → stmt_piece 
     ≡ both token (both (branch_piece b.value) (both (each_after branch_piece v.items) token))
 while_made b v = stated _ _ (statements.outs-While b v)
 
-pub repeat_made : (b : Box Block Global) (e : Expr) → stmt_piece (statements.Repeat b e) ≡ both token (both (block_piece b.value) (both token (expr_piece e)))
+pub repeat_made : (b : Box StatementSequence Global) (e : Expr) → stmt_piece (statements.Repeat b e) ≡ both token (both (block_piece b.value) (both token (expr_piece e)))
 repeat_made b e = stated _ _ (statements.outs-Repeat b e)
 
 pub for_stmt_made : (b : Box For Global) → stmt_piece (statements.For b) ≡ for_piece b.value
@@ -155,7 +155,7 @@ for_stmt_made b = stated _ _ (statements.outs-For b)
 
 -- the longest of them, one step behind the other
 
-pub if_after : (b : Box Branch Global) (v : Vec Branch Global) (o : Option (Box Block Global)) (c : Context) (s : Stage) → after (stmt_piece (statements.If b v o)) c s
+pub if_after : (b : Box Branch Global) (v : Vec Branch Global) (o : Option (Box StatementSequence Global)) (c : Context) (s : Stage) → after (stmt_piece (statements.If b v o)) c s
     ≡ passed (after (if_there (λ x. both token (block_piece x.value)) o) c (after (each_after branch_piece v.items) c (after (branch_piece b.value) c (passed s))))
 if_after b v o c s = simp (if_made b v o, after_both, after_token)
 

@@ -10,7 +10,7 @@ use Rattle.ob_tree.specs.declared.expression.Element.{Element, Element-F, fold-E
 use Rattle.ob_tree.specs.declared.expression.ElementList.{ElementList, ElementList-F, fold-ElementList}
 use Rattle.ob_tree.specs.declared.expression.Expr.{Expr, Expr-F, fold-Expr}
 use Rattle.ob_tree.specs.declared.expression.ExprList.{ExprList, ExprList-F, fold-ExprList}
-use Rattle.ob_tree.specs.declared.expression.Sum.{Sum, Sum-F, fold-Sum}
+use Rattle.ob_tree.specs.declared.expression.SimpleExpression.{SimpleExpression, SimpleExpression-F, fold-SimpleExpression}
 use Rattle.ob_tree.specs.declared.expression.Term.{Term, Term-F, fold-Term}
 use Rattle.ob_decls.specs.declared.rows.Selector.{Selector as SelectorRow}
 use Rattle.ob_decls.specs.declared.rows.Step.{Step}
@@ -158,7 +158,7 @@ expr_list_step l = record {
 }
 
 -- SimpleExpression = ["+" | "-"] term {("+" | "-" | OR) term}
-abbrev pub sum_step : Sum-F Phrase Selected Denoted Piece Piece Phrase Listed Phrase Phrase → Phrase
+abbrev pub sum_step : SimpleExpression-F Phrase Selected Denoted Piece Piece Phrase Listed Phrase Phrase → Phrase
 sum_step s = record {
   piece = both (if_there (λ x. token) s.sign) (both s.first.piece (each (λ p. both token p.1.piece) s.rest.items));
   name = if_bare s.sign (if_alone s.rest.items s.first.name);
@@ -189,8 +189,8 @@ expr_phrase = fold-Expr Phrase Selected Denoted Piece Piece Phrase Listed Phrase
 unfoldable pub listed : ExprList → Listed
 listed = fold-ExprList Phrase Selected Denoted Piece Piece Phrase Listed Phrase Phrase factor_step selector_step designator_step element_step element_list_step expr_step expr_list_step sum_step term_step
 
-unfoldable pub sum_phrase : Sum → Phrase
-sum_phrase = fold-Sum Phrase Selected Denoted Piece Piece Phrase Listed Phrase Phrase factor_step selector_step designator_step element_step element_list_step expr_step expr_list_step sum_step term_step
+unfoldable pub sum_phrase : SimpleExpression → Phrase
+sum_phrase = fold-SimpleExpression Phrase Selected Denoted Piece Piece Phrase Listed Phrase Phrase factor_step selector_step designator_step element_step element_list_step expr_step expr_list_step sum_step term_step
 
 unfoldable pub term_phrase : Term → Phrase
 term_phrase = fold-Term Phrase Selected Denoted Piece Piece Phrase Listed Phrase Phrase factor_step selector_step designator_step element_step element_list_step expr_step expr_list_step sum_step term_step
@@ -206,7 +206,7 @@ expr_piece x = (expr_phrase x).piece
 unfoldable pub expr_list_piece : ExprList → Piece
 expr_list_piece x = (listed x).piece
 
-unfoldable pub sum_piece : Sum → Piece
+unfoldable pub sum_piece : SimpleExpression → Piece
 sum_piece x = (sum_phrase x).piece
 
 unfoldable pub term_piece : Term → Piece

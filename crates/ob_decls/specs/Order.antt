@@ -31,7 +31,7 @@ abbrev pub HasNoneBy : {X : Type 0} → (X → ℕ) → List X → ℕ → Type 
 HasNoneBy {X} n xs k = (i : ℕ) (x : X) → slice_get xs i ≡ Some x → n x ≡ k → ⊥
 
 -- each list is in the order of its tokens; the parts of one declaration stand together, and the selectors of one designator
-pub record AreInOrder (r : Rows) : Type 0 where
+pub record AreRowsInOrder (r : Rows) : Type 0 where
   pub declarers : AscendBy (λ (x : Declarer). x.first) r.declarers
   pub declared : AscendBy (λ (x : Declared). x.number) r.declared
   pub uses : AscendBy (λ (x : Used). x.number) r.uses

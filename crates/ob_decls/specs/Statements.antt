@@ -7,7 +7,7 @@ use Rattle.ob_tree.specs.declared.statement.LabelRange.{LabelRange}
 use Rattle.ob_tree.specs.declared.statement.Case.{Case, Case-F, fold-Case}
 use Rattle.ob_tree.specs.declared.statement.Case.TheOpen as layers
 use Rattle.ob_tree.specs.declared.statement.Stmt.{Stmt, Stmt-F, fold-Stmt}
-use Rattle.ob_tree.specs.declared.statement.Block.{Block, Block-F, fold-Block}
+use Rattle.ob_tree.specs.declared.statement.StatementSequence.{StatementSequence, StatementSequence-F, fold-StatementSequence}
 use Rattle.ob_tree.specs.declared.statement.Branch.{Branch, Branch-F, fold-Branch}
 use Rattle.ob_tree.specs.declared.statement.For.{For, For-F, fold-For}
 use Rattle.ob_decls.specs.Parts.{Piece, nothing, token, both, tells, if_there}
@@ -52,7 +52,7 @@ stmt_step (layers.Repeat body e) = both token (both body.value (both token (expr
 stmt_step (layers.For f) = f.value
 
 -- StatementSequence = statement {";" statement}
-abbrev pub block_step : Block-F Piece Piece Piece Piece Piece → Piece
+abbrev pub block_step : StatementSequence-F Piece Piece Piece Piece Piece → Piece
 block_step b = both b.first (each_after (λ s. s) b.rest.items)
 
 -- expression THEN StatementSequence, or with DO
@@ -70,16 +70,16 @@ for_step f =
     (both (if_there (λ e. both token (expr_piece e)) f.by) (both token (both f.body token))))))))
 
 unfoldable pub case_piece : Case → Piece
-case_piece = fold-Case Piece Piece Piece Piece Piece case_step stmt_step block_step branch_step for_step
+case_piece = fold-Case Piece Piece Piece Piece Piece case_step stmt_step branch_step for_step block_step
 
 unfoldable pub stmt_piece : Stmt → Piece
-stmt_piece = fold-Stmt Piece Piece Piece Piece Piece case_step stmt_step block_step branch_step for_step
+stmt_piece = fold-Stmt Piece Piece Piece Piece Piece case_step stmt_step branch_step for_step block_step
 
-unfoldable pub block_piece : Block → Piece
-block_piece = fold-Block Piece Piece Piece Piece Piece case_step stmt_step block_step branch_step for_step
+unfoldable pub block_piece : StatementSequence → Piece
+block_piece = fold-StatementSequence Piece Piece Piece Piece Piece case_step stmt_step branch_step for_step block_step
 
 unfoldable pub branch_piece : Branch → Piece
-branch_piece = fold-Branch Piece Piece Piece Piece Piece case_step stmt_step block_step branch_step for_step
+branch_piece = fold-Branch Piece Piece Piece Piece Piece case_step stmt_step branch_step for_step block_step
 
 unfoldable pub for_piece : For → Piece
-for_piece = fold-For Piece Piece Piece Piece Piece case_step stmt_step block_step branch_step for_step
+for_piece = fold-For Piece Piece Piece Piece Piece case_step stmt_step branch_step for_step block_step

@@ -2,7 +2,7 @@
 
 ghost use Rattle.std.specs.Prelude.{◌≡◌, Contains, IfSome, IfNone, nat_eq};
 ghost use Rattle.std.specs.List.{filter};
-ghost use Rattle.ob_decls.specs.Order.{AreInOrder};
+ghost use Rattle.ob_decls.specs.Order.{AreRowsInOrder};
 ghost use Rattle.ob_decls.specs.declared.rows.Declared.{Declared};
 ghost use Rattle.ob_decls.specs.declared.rows.Declarer.{Declarer};
 ghost use Rattle.ob_decls.specs.declared.rows.FormPart.{FormPart};
@@ -27,7 +27,7 @@ pub struct Table {
     pub(crate) designators: Vec<Designator>,
     pub(crate) selectors: Vec<Selector>,
     pub(crate) ends: Vec<End>,
-    ghost in_order: { AreInOrder (record { declarers = declarers.items; declared = declared.items; uses = uses.items; blocks = blocks.items; imports = imports.items; parts = parts.items; records = records.items; designators = designators.items; selectors = selectors.items; ends = ends.items }) },
+    ghost in_order: { AreRowsInOrder (record { declarers = declarers.items; declared = declared.items; uses = uses.items; blocks = blocks.items; imports = imports.items; parts = parts.items; records = records.items; designators = designators.items; selectors = selectors.items; ends = ends.items }) },
 }
 
 impl Table {
@@ -36,7 +36,7 @@ impl Table {
     /// What every value keeps: the rows of each list ascend by their numbers, those of one declaration's form stand
     /// together, and so do the selectors of one designator.
     pub fn keeps(&self)
-        ensures { AreInOrder (rows_in self.now) }
+        ensures { AreRowsInOrder (rows_in self.now) }
     {
         // Using a field makes the facts of the type known here.
         let _ = &self.ends;

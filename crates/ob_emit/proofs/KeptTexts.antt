@@ -8,11 +8,11 @@ use Rattle.std.proofs.lemmas.Slice.Eq.{bytes_eq-Decides}
 use Rattle.indexmap.specs.IndexMap.{get, IndexMap}
 use Rattle.ob_types.specs.World.{World}
 use Rattle.scip_symbol.specs.SymbolTexts.{plain_text}
-use Rattle.ob_emit.specs.Made.{same_name, same_place, named_symbol, AreExternal, AreImported, AreKept, AreModules, NameKey}
+use Rattle.ob_emit.specs.Made.{same_name, same_place, named_symbol, AreExternal, AreImported, AreTextsByKey, AreModules, NameKey}
 use Rattle.ob_emit.specs.Symbols.{imported_symbol, module_symbol}
 
 module _ {K S : Type 0} (same : K → K → Bool) (text_of : K → Option (List ℕ)) (one : (a b : K) → same a b ≡ true → text_of a ≡ text_of b) (old new : IndexMap K (Option (String Global)) S) (k : K) (v : Option (String Global)) where
-  kept_more : AreKept same text_of old → ((q : K) → get same new q ≡ cond (same k q) (Some v) (get same old q)) → option_map string_bytes v ≡ text_of k → AreKept same text_of new
+  kept_more : AreTextsByKey same text_of old → ((q : K) → get same new q ≡ cond (same k q) (Some v) (get same old q)) → option_map string_bytes v ≡ text_of k → AreTextsByKey same text_of new
   kept_more before more is q text e = at (same k q) refl (sym (more q) ∙ e)
     where
       at : (b : Bool) → same k q ≡ b → cond b (Some v) (get same old q) ≡ Some text → option_map string_bytes text ≡ text_of q

@@ -12,8 +12,8 @@ use Rattle.std.specs.Str.Parse.{digits_value}
 use Rattle.ob_decls.specs.declared.rows.Declared.{Declared}
 use Rattle.ob_decls.specs.declared.rows.Declarer.{Declarer}
 use Rattle.ob_decls.specs.Declaring.{own_name}
-use Rattle.ob_scope.specs.declared.members.Place.{Place}
-use Rattle.ob_scope.specs.declared.members.Place.TheVariants.{Block, Record}
+use Rattle.ob_scope.specs.declared.members.Scope.{Scope}
+use Rattle.ob_scope.specs.declared.members.Scope.TheVariants.{Block, Record}
 use Rattle.ob_scope.specs.Members.{members_of, place_of}
 use Rattle.ob_scope.specs.Texts.{text_at}
 use Rattle.ob_types.specs.World.{World, text, declarer_of, owner_at}
@@ -92,7 +92,7 @@ module _ (w : World) (once : DeclaresOnce w) where
       ∙ g.number
 
   -- the place of a construct by its record
-  place_by : Declarer → Option ℕ → Place
+  place_by : Declarer → Option ℕ → Scope
   place_by a None = Block a.block
   place_by a (Some r) = Record r
 

@@ -13,7 +13,7 @@ use Rattle.ob_decls.specs.declared.rows.Record.{Record as RecordRow}
 use Rattle.ob_decls.specs.declared.rows.Sort.{Sort}
 use Rattle.ob_decls.specs.declared.rows.Sort.TheVariants as sorts
 use Rattle.ob_decls.specs.Declaring.{rows_of}
-use Rattle.ob_decls.specs.Order.{AreInOrder}
+use Rattle.ob_decls.specs.Order.{AreRowsInOrder}
 use Rattle.ob_decls.specs.Parts.{Rows}
 use Rattle.ob_interface.specs.Interfaces.{declaration, declaration_of, form_by, interface_of, is_outer, is_part_by, is_seen, outer_by, part_at, part_of, Declaration}
 use Rattle.ob_interface.specs.Placed.{holds, is_record, owner_place}
@@ -56,7 +56,7 @@ pub record OwnerSeen (v : World) (r first : ℕ) : Type 0 where
   pub number : slice_get (seen_tokens v) place ≡ Some owner
   pub before : owner < first
 
-module _ (v : World) (m : Module) (same : v.rows ≡ rows_of m) (order : AreInOrder v.rows) where
+module _ (v : World) (m : Module) (same : v.rows ≡ rows_of m) (order : AreRowsInOrder v.rows) where
   abbrev told : Declared → Declarer → Declaration
   told d by = declaration v.bytes v.tokens v.rows.parts d by
 

@@ -7,7 +7,7 @@ use Rattle.ob_tree.specs.declared.declaration.Module.{Module}
 use Rattle.ob_decls.specs.declared.rows.Declared.{Declared}
 use Rattle.ob_decls.specs.declared.rows.Sort.{Sort}
 use Rattle.ob_decls.specs.Declaring.{own_name, rows_of}
-use Rattle.ob_decls.specs.Order.{AreInOrder}
+use Rattle.ob_decls.specs.Order.{AreRowsInOrder}
 use Rattle.ob_interface.specs.Interfaces.{declaration_of, interface_of, outer_by, Declaration, ModuleInterface}
 use Rattle.ob_interface.specs.Placed.{owner_place}
 use Rattle.ob_scope.proofs.Elements.{contains_slice, some_one}
@@ -55,7 +55,7 @@ own_named v = refl
 
 -- ---- paths there and here
 
-module _ (v : World) (m : Module) (same : v.rows ≡ rows_of m) (order : AreInOrder v.rows) where
+module _ (v : World) (m : Module) (same : v.rows ≡ rows_of m) (order : AreRowsInOrder v.rows) where
   abbrev there : ModuleInterface
   there = interface_of v.bytes v.tokens v.rows
 
@@ -136,7 +136,7 @@ module _ (v : World) (m : Module) (same : v.rows ≡ rows_of m) (order : AreInOr
 pub elsewhere : (w : World) (m : ModuleInterface) (p : List ℕ) (i d : ℕ) → slice_get w.reached i ≡ Some m → imported_symbol w p i d ≡ option_map (global p) (path_there m d)
 elsewhere w m p i d there = rw there refl
 
-pub one_symbol : (w v : World) (m : Module) (p : List ℕ) (i d k : ℕ) (it : Declaration) → v.rows ≡ rows_of m → AreInOrder v.rows → slice_get w.reached i ≡ Some (interface_of v.bytes v.tokens v.rows)
+pub one_symbol : (w v : World) (m : Module) (p : List ℕ) (i d k : ℕ) (it : Declaration) → v.rows ≡ rows_of m → AreRowsInOrder v.rows → slice_get w.reached i ≡ Some (interface_of v.bytes v.tokens v.rows)
     → slice_get (seen_tokens v) d ≡ Some k → declaration_there w i d ≡ Some it → imported_symbol w p i d ≡ declared_symbol v p k
 one_symbol w v m p i d k it same order reached number is =
     let at : slice_get (interface_of v.bytes v.tokens v.rows).declarations d ≡ Some it = seen_at w (interface_of v.bytes v.tokens v.rows) i d it reached is in

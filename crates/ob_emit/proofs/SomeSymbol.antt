@@ -11,7 +11,7 @@ use Rattle.ob_decls.specs.declared.rows.Record.{Record as RecordRow}
 use Rattle.ob_decls.specs.declared.rows.Sort.{Sort}
 use Rattle.ob_decls.specs.declared.rows.Sort.TheVariants as sorts
 use Rattle.ob_decls.specs.Declaring.{own_name, rows_of}
-use Rattle.ob_decls.specs.Order.{AreInOrder}
+use Rattle.ob_decls.specs.Order.{AreRowsInOrder}
 use Rattle.ob_decls.specs.Parts.{Rows}
 use Rattle.ob_owners.proofs.Placed.{AreFields, HasConstruct, HasRecord, Holds, IsAlias, IsNamed, IsNoImport, IsOwner}
 use Rattle.ob_owners.proofs.PlacedModules.{module_holds}
@@ -43,7 +43,7 @@ path_of : (name : List ℕ) (steps : ℕ → Option Step) (n k : ℕ) (s : Step)
 unfolding path_within
 path_of name steps n k s e ds up = rw e (rw up refl)
 
-module _ (w : World) (m : Module) (same : w.rows ≡ rows_of m) (order : AreInOrder w.rows) where
+module _ (w : World) (m : Module) (same : w.rows ≡ rows_of m) (order : AreRowsInOrder w.rows) where
   pub holds : Holds w.rows w.rows
   holds = subst (λ (r : Rows). Holds r r) (sym same) (module_holds m)
 

@@ -23,7 +23,7 @@ use Rattle.ob_decls.specs.declared.rows.Sort.TheVariants as sorts
 use Rattle.ob_decls.specs.declared.rows.Step.{Step}
 use Rattle.ob_decls.specs.declared.rows.TypeName.{TypeName as NameRow}
 use Rattle.ob_decls.specs.Declaring.{own_name, rows_of}
-use Rattle.ob_decls.specs.Order.{AreInOrder}
+use Rattle.ob_decls.specs.Order.{AreRowsInOrder}
 use Rattle.ob_interface.specs.Interfaces.{declaration as seen_as, declaration_by, declaration_of, interface_of, is_seen, outer_by, Declaration, ModuleInterface}
 use Rattle.ob_interface.specs.Placed.{declaration_at, place_of}
 use Rattle.ob_owners.proofs.Placed.{AreFields, EndsOne, HasConstruct, IsAlias, IsField, IsNoImport}
@@ -43,7 +43,7 @@ use Rattle.ob_targets.specs.declared.target.Target.TheVariants as targets
 use Rattle.ob_targets.specs.Predeclared.{is_predeclared}
 use Rattle.ob_targets.specs.Refers.{AreReferences, Refers, own_name as at_own_name, item, declaration, end, used, selected, second, nowhere}
 use Rattle.ob_targets.specs.Standing.{first, is_alias, is_declared, is_end, is_imported, is_second, is_selected, is_use, standing}
-use Rattle.ob_targets.specs.Steps.{Follows, Knows, Leads, Levels, Selects, guard_of, there, nowhere as leads_nowhere, of_module, of_nothing, exported as by_module, field as by_field, no_field, unknown, none, one, to_field, to_elements, to_target, by_guard, at_head, behind}
+use Rattle.ob_targets.specs.Steps.{Follows, Knows, StepsTo, Levels, Selects, guard_of, there, nowhere as leads_nowhere, of_module, of_nothing, exported as by_module, field as by_field, no_field, unknown, none, one, to_field, to_elements, to_target, by_guard, at_head, behind}
 use Rattle.ob_targets.specs.Targets.{declared_target, end_target, field_target, holds_value, known_of, second_target, typed, used_target}
 use Rattle.ob_types.specs.declared.nodes.Field.{Field}
 use Rattle.ob_types.specs.declared.nodes.Field.TheVariants as fields
@@ -130,7 +130,7 @@ same_record : (o : Option ℕ) (r : ℕ) → option_eq nat_eq o (Some r) ≡ tru
 same_record None r e = absurd (let f : false ≡ true = e in cc)
 same_record (Some k) r e = ap Some (eqb-true k r e)
 
-module _ (w : World) (m : Module) (is_tree : w.rows ≡ rows_of m) (order : AreInOrder w.rows) (scopes : AreScopes w.bytes w.tokens w.rows w.scopes) (p : List ℕ) where
+module _ (w : World) (m : Module) (is_tree : w.rows ≡ rows_of m) (order : AreRowsInOrder w.rows) (scopes : AreScopes w.bytes w.tokens w.rows w.scopes) (p : List ℕ) where
   IsItem : ℕ → Type 0
   IsItem at = IsThere (slice_get w.rows.imports at)
 
@@ -395,7 +395,7 @@ module _ (w : World) (m : Module) (is_tree : w.rows ≡ rows_of m) (order : AreI
   guard_known None = tt
   guard_known (Some t) = guard_shape t (named_here w t.head t.member)
 
-  leads_known : (o : Known) (s : Step) (next : Known) → IsKnown o → Leads w o s next → IsKnown next
+  leads_known : (o : Known) (s : Step) (next : Known) → IsKnown o → StepsTo w o s next → IsKnown next
   leads_known o s next i (to_field {k = k} {t = t} e) = known_valid t (selects_valid o k t i e)
   leads_known o s next i (to_elements {c = c} l) = levels_known c o next i l
   leads_known o s next i (to_target f) = follows_known (HasTarget same (shape w)) o next f
@@ -465,7 +465,7 @@ module _ (w : World) (m : Module) (is_tree : w.rows ≡ rows_of m) (order : AreI
   is_there i d t e v = subst Valid e v
 
   -- what such a module has at a place has a symbol, as it has there
-  seen_there : (v : World) (n : Module) (i d : ℕ) (it : Declaration) → v.rows ≡ rows_of n → AreInOrder v.rows → slice_get w.reached i ≡ Some (interface_of v.bytes v.tokens v.rows) → declaration_there w i d ≡ Some it
+  seen_there : (v : World) (n : Module) (i d : ℕ) (it : Declaration) → v.rows ≡ rows_of n → AreRowsInOrder v.rows → slice_get w.reached i ≡ Some (interface_of v.bytes v.tokens v.rows) → declaration_there w i d ≡ Some it
       → is_some (imported_symbol w p i d) ≡ true
   seen_there v n i d it tree ascending at there_at =
       let placed_at = seen_at w (interface_of v.bytes v.tokens v.rows) i d it at there_at in
@@ -479,7 +479,7 @@ module _ (w : World) (m : Module) (is_tree : w.rows ≡ rows_of m) (order : AreI
       ap is_some (one_symbol w v n p i d k.0 it tree ascending at k.1 there_at ∙ ap (declared_symbol v p) (sym r.has)) ∙ there_is (declared_symbol v p r.row.number) has
 
   -- and has a symbol
-  pub seen_symbol : (v : World) (n : Module) (refs : List Reference) (r : Reference) (i d : ℕ) → v.rows ≡ rows_of n → AreInOrder v.rows → AreReferences w refs → Contains refs r → r.target ≡ targets.Imported i d
+  pub seen_symbol : (v : World) (n : Module) (refs : List Reference) (r : Reference) (i d : ℕ) → v.rows ≡ rows_of n → AreRowsInOrder v.rows → AreReferences w refs → Contains refs r → r.target ≡ targets.Imported i d
       → slice_get w.reached i ≡ Some (interface_of v.bytes v.tokens v.rows) → (it : Declaration) × (declaration_there w i d ≡ Some it) × (is_some (symbol_of w p r.target) ≡ true)
   unfolding IsThere
   seen_symbol v n refs r i d tree ascending are h e at =

@@ -61,8 +61,8 @@ pub record AreFronts (package_name : List ℕ) (f : Fronts) : Type 0 where
 -- ---- texts by what they stand for
 
 -- each text is the one that its key has
-abbrev pub AreKept : {K S : Type 0} → (K → K → Bool) → (K → Option (List ℕ)) → IndexMap K (Option (String Global)) S → Type 0
-AreKept same text_of texts = (key : _) (text : Option (String Global)) → get same texts key ≡ Some text → option_map string_bytes text ≡ text_of key
+abbrev pub AreTextsByKey : {K S : Type 0} → (K → K → Bool) → (K → Option (List ℕ)) → IndexMap K (Option (String Global)) S → Type 0
+AreTextsByKey same text_of texts = (key : _) (text : Option (String Global)) → get same texts key ≡ Some text → option_map string_bytes text ≡ text_of key
 
 -- places of modules, with places of declarations in them, that are one
 abbrev pub same_place : ℕ × ℕ → ℕ × ℕ → Bool
@@ -70,11 +70,11 @@ same_place a b = nat_eq a.0 b.0 && nat_eq a.1 b.1
 
 -- texts of what other modules declare, by the places of the module and of the declaration
 abbrev pub AreImported : {S : Type 0} → World → List ℕ → IndexMap (ℕ × ℕ) (Option (String Global)) S → Type 0
-AreImported w package_name texts = AreKept same_place (λ (key : ℕ × ℕ). option_map plain_text (imported_symbol w package_name key.0 key.1)) texts
+AreImported w package_name texts = AreTextsByKey same_place (λ (key : ℕ × ℕ). option_map plain_text (imported_symbol w package_name key.0 key.1)) texts
 
 -- texts of modules, by the places of the import items that name them
 abbrev pub AreModules : {S : Type 0} → World → List ℕ → IndexMap ℕ (Option (String Global)) S → Type 0
-AreModules w package_name texts = AreKept nat_eq (λ (item : ℕ). option_map plain_text (module_symbol w package_name item)) texts
+AreModules w package_name texts = AreTextsByKey nat_eq (λ (item : ℕ). option_map plain_text (module_symbol w package_name item)) texts
 
 -- the symbol of a name of a module that isn't in the tree, by the import item that names the module and the name's text
 abbrev pub named_symbol : World → ℕ → List ℕ → Option PlainSymbol
@@ -89,7 +89,7 @@ same_name a b = nat_eq a.0 b.0 && bytes_eq a.1.now b.1.now
 
 -- texts of names of modules that aren't in the tree, by the places of the import items and by the names
 abbrev pub AreExternal : {S : Type 0} → World → IndexMap NameKey (Option (String Global)) S → Type 0
-AreExternal w texts = AreKept same_name (λ (key : NameKey). option_map plain_text (named_symbol w key.0 key.1.now)) texts
+AreExternal w texts = AreTextsByKey same_name (λ (key : NameKey). option_map plain_text (named_symbol w key.0 key.1.now)) texts
 
 -- the texts of what stands outside of a module, in this package
 pub record AreOuter (w : World) (package_name : List ℕ) (t : Outer) : Type 0 where

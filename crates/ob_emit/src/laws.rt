@@ -5,7 +5,7 @@ ghost use Rattle.ob_scan.specs.declared.token.Token.{Token};
 ghost use Rattle.ob_scan.specs.Spelling.{Spells};
 ghost use Rattle.ob_tree.specs.declared.declaration.Module.{Module};
 ghost use Rattle.ob_decls.specs.Declaring.{own_name, rows_of};
-ghost use Rattle.ob_decls.specs.Order.{AreInOrder};
+ghost use Rattle.ob_decls.specs.Order.{AreRowsInOrder};
 ghost use Rattle.ob_decls.specs.Parts.{Rows};
 ghost use Rattle.ob_interface.specs.Interfaces.{interface_of, Declaration, ModuleInterface};
 ghost use Rattle.ob_scope.specs.Scoped.{AreScopes, ModuleScopes};
@@ -45,7 +45,7 @@ pub fn one_declaration()
 /// What other modules see of a module, fields too, has there the symbol that it has in its own module: so what one file defines is found
 /// from any other. The rows of that module are those of its tree, in order.
 pub fn one_symbol()
-    ensures { (w v : World) (m : Module) (package_name : List ℕ) (i d k : ℕ) (it : Declaration) → v.rows ≡ rows_of m → AreInOrder v.rows → slice_get w.reached i ≡ Some (interface_of v.bytes v.tokens v.rows)
+    ensures { (w v : World) (m : Module) (package_name : List ℕ) (i d k : ℕ) (it : Declaration) → v.rows ≡ rows_of m → AreRowsInOrder v.rows → slice_get w.reached i ≡ Some (interface_of v.bytes v.tokens v.rows)
         → slice_get (seen_tokens v) d ≡ Some k → declaration_there w i d ≡ Some it → imported_symbol w package_name i d ≡ declared_symbol v package_name k }
 {}
 
@@ -53,9 +53,9 @@ pub fn one_symbol()
 /// out what has none, leaves out no other identifier. What another module of the tree declares, fields too, is there, by the places of both,
 /// and has a symbol. The rows of both are those of their trees, in order.
 pub fn some_symbol()
-    ensures here { (w : World) (m : Module) (refs : List Reference) (package_name : List ℕ) (r : Reference) → w.rows ≡ rows_of m → AreInOrder w.rows → AreScopes w.bytes w.tokens w.rows w.scopes
+    ensures here { (w : World) (m : Module) (refs : List Reference) (package_name : List ℕ) (r : Reference) → w.rows ≡ rows_of m → AreRowsInOrder w.rows → AreScopes w.bytes w.tokens w.rows w.scopes
         → AreReferences w refs → Contains refs r → is_imported r.target ≡ false → is_some (symbol_of w package_name r.target) ≡ stands_for_something r.target }
-    ensures there { (w v : World) (m n : Module) (refs : List Reference) (package_name : List ℕ) (r : Reference) (i d : ℕ) → w.rows ≡ rows_of m → AreInOrder w.rows → AreScopes w.bytes w.tokens w.rows w.scopes
-        → v.rows ≡ rows_of n → AreInOrder v.rows → AreReferences w refs → Contains refs r → r.target ≡ Imported i d → slice_get w.reached i ≡ Some (interface_of v.bytes v.tokens v.rows)
+    ensures there { (w v : World) (m n : Module) (refs : List Reference) (package_name : List ℕ) (r : Reference) (i d : ℕ) → w.rows ≡ rows_of m → AreRowsInOrder w.rows → AreScopes w.bytes w.tokens w.rows w.scopes
+        → v.rows ≡ rows_of n → AreRowsInOrder v.rows → AreReferences w refs → Contains refs r → r.target ≡ Imported i d → slice_get w.reached i ≡ Some (interface_of v.bytes v.tokens v.rows)
         → (it : Declaration) × (declaration_there w i d ≡ Some it) × (is_some (symbol_of w package_name r.target) ≡ true) }
 {}

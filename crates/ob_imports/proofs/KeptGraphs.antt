@@ -9,7 +9,7 @@ use Rattle.digraph.specs.Chains.{IsAcyclic}
 use Rattle.ob_imports.specs.Files.{AreNodes, File, Imports, names_of}
 use Rattle.ob_imports.specs.Graphs.{ImportGraph, IsGraph}
 use Rattle.ob_imports.specs.Names.{LeadsBy}
-use Rattle.ob_imports.specs.Outcomes.{AreKept}
+use Rattle.ob_imports.specs.Outcomes.{AreFilesOfGraph}
 use Rattle.digraph.specs.Edges.{Leads}
 use Rattle.ob_imports.proofs.ByName.{acyclic_over, between_names}
 use Rattle.digraph.proofs.Members.{in_map}
@@ -36,7 +36,7 @@ of_tree files names once nodes v m n at (f, has, is, imports) =
     let same : k ≡ v = sym (place_is names m k once there) ∙ place_is names m v once at in
     omega arith
 
-pub kept_graph : (files : List File) (g : ImportGraph) → AreKept files g → IsAcyclic (Imports files) → IsGraph g
+pub kept_graph : (files : List File) (g : ImportGraph) → AreFilesOfGraph files g → IsAcyclic (Imports files) → IsGraph g
 kept_graph files g kept none =
     let is = kept.is_graph in
     let once : IsDistinct bytes_eq g.names = nodes_apart files g.names kept.are_files.differ is.nodes in

@@ -10,7 +10,7 @@ use Rattle.std.proofs.lemmas.List.MinMax.{ranks_by}
 use Rattle.std.proofs.lemmas.List.Sorted.{sorted_far}
 use Rattle.std.proofs.lemmas.Map.Text.{is_eq-slice_cmp}
 use Rattle.std.proofs.lemmas.Slice.Eq.{bytes_eq-Decides}
-use Rattle.ob_imports.specs.Names.{AreInOrder}
+use Rattle.ob_imports.specs.Names.{AreNamesSorted}
 use Rattle.ob_imports.proofs.SameNames.{times, times_moved}
 
 -- neither is below the other
@@ -33,7 +33,7 @@ place_from (x ∷ xs) name l = elim (cases_Bool (bytes_eq x name)) [
 ]
 
 -- the first is below none of a list in order
-first_least : (x : List ℕ) (xs : List (List ℕ)) (name : List ℕ) → AreInOrder (x ∷ xs) → 1 ≤ times (x ∷ xs) name → slice_cmp nat_cmp name x ≡ Less → ⊥
+first_least : (x : List ℕ) (xs : List (List ℕ)) (name : List ℕ) → AreNamesSorted (x ∷ xs) → 1 ≤ times (x ∷ xs) name → slice_cmp nat_cmp name x ≡ Less → ⊥
 first_least x xs name sorted some =
     let (k, within, is) = place_from (x ∷ xs) name some in
     let far : is_lt (slice_cmp nat_cmp (get_or (x ∷ xs) k name) x) ≡ false = sorted_far (λ a b. is_lt (slice_cmp nat_cmp a b)) (ranks_by nat_list_cmp_total (λ a. a)) (x ∷ xs) sorted 0 k name (omega arith) within in
@@ -48,12 +48,12 @@ times_rest x xs ys name e = elim (cases_Bool (bytes_eq x name)) [
   | inr f ↦ rw f at e
 ]
 
-rest_in_order : (x : List ℕ) (xs : List (List ℕ)) → AreInOrder (x ∷ xs) → AreInOrder xs
+rest_in_order : (x : List ℕ) (xs : List (List ℕ)) → AreNamesSorted (x ∷ xs) → AreNamesSorted xs
 rest_in_order x xs a k d low l =
     let e : suc k + 1 ≡ suc (k + 1) = omega arith in
     subst (λ (n : ℕ). is_lt (slice_cmp nat_cmp (get_or (x ∷ xs) n d) (get_or xs k d)) ≡ false) e (a (suc k) d (omega arith) (omega arith))
 
-one_order : (xs ys : List (List ℕ)) → AreInOrder xs → AreInOrder ys → ((n : List ℕ) → times xs n ≡ times ys n) → xs ≡ ys
+one_order : (xs ys : List (List ℕ)) → AreNamesSorted xs → AreNamesSorted ys → ((n : List ℕ) → times xs n ≡ times ys n) → xs ≡ ys
 one_order [] [] a b same = refl
 one_order [] (y ∷ ys) a b same = absurd (let e = same y in let l = times_own y ys in omega arith)
 one_order (x ∷ xs) [] a b same = absurd (let e = same x in let l = times_own x xs in omega arith)
@@ -67,5 +67,5 @@ one_order (x ∷ xs) (y ∷ ys) a b same =
     (λ n. times_rest x xs ys n (same n ∙ ap (λ (z : List ℕ). times (z ∷ ys) n) (sym e))) in
     ap (λ (z : List ℕ). z ∷ xs) e ∙ ap (λ (zs : List (List ℕ)). y ∷ zs) rest
 
-pub one_sorting : (old xs ys : List (List ℕ)) → IsPermutation old xs → IsPermutation old ys → AreInOrder xs → AreInOrder ys → xs ≡ ys
+pub one_sorting : (old xs ys : List (List ℕ)) → IsPermutation old xs → IsPermutation old ys → AreNamesSorted xs → AreNamesSorted ys → xs ≡ ys
 one_sorting old xs ys p q a b = one_order xs ys a b (λ n. times_moved old xs n p ∙ sym (times_moved old ys n q))

@@ -13,7 +13,7 @@ use Rattle.digraph.specs.Cycle.{NamesCycle}
 use Rattle.ob_imports.specs.Files.{AreNodes, DifferInName, File, Imports, names_of, paths_of}
 use Rattle.ob_imports.specs.Graphs.{ImportGraph, IsGraphOf}
 use Rattle.ob_imports.specs.Names.{LeadsBy}
-use Rattle.ob_imports.specs.Outcomes.{AreKept, Cycle, GraphOutcome, IsCycle, IsCycleOf, IsGraphOutcome, IsTwoModules, Makes, TooMany, TwoModules}
+use Rattle.ob_imports.specs.Outcomes.{AreFilesOfGraph, Cycle, GraphOutcome, IsCycle, IsCycleOf, IsGraphOutcome, IsTwoModules, Makes, TooMany, TwoModules}
 use Rattle.digraph.proofs.Ascending.{same_edges, same_names}
 use Rattle.ob_imports.proofs.KeptGraphs.{acyclic_places}
 use Rattle.digraph.proofs.OneCycle.{cyclic, one_cycle}
@@ -87,7 +87,7 @@ not_two_many files n a b t (inl more) = (let few : length files ≤ 4096 = t.few
 not_two_many files n a b t (inr (inl nodes)) = not_differ files n a b t nodes.are_files.differ
 not_two_many files n a b t (inr (inr pairs)) = not_differ files n a b t pairs.are_files.differ
 
-not_kept_many : (files : List File) (g : ImportGraph) → AreKept files g → IsGraphOutcome files TooMany → ⊥
+not_kept_many : (files : List File) (g : ImportGraph) → AreFilesOfGraph files g → IsGraphOutcome files TooMany → ⊥
 not_kept_many files g kept (inl more) = (let few : length files ≤ 4096 = kept.are_files.few_modules in absurd (omega arith))
 not_kept_many files g kept (inr (inl h)) =
     let same : h.names ≡ g.names = one_nodes files h.names g.names h.nodes kept.is_graph.nodes in

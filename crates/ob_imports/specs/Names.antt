@@ -16,8 +16,8 @@ abbrev pub AreAscending : List (List ℕ) → Type 0
 AreAscending names = IsStrictlySortedBy (slice_cmp nat_cmp) names
 
 -- in ascending order of their bytes, repeats allowed
-abbrev pub AreInOrder : List (List ℕ) → Type 0
-AreInOrder names = IsSorted (slice_cmp nat_cmp) names
+abbrev pub AreNamesSorted : List (List ℕ) → Type 0
+AreNamesSorted names = IsSorted (slice_cmp nat_cmp) names
 
 -- the name at this place is the next one too
 abbrev pub AreAlike : List (List ℕ) → ℕ → Type 0

@@ -11,7 +11,7 @@ use Rattle.digraph.specs.Chains.{IsAcyclic}
 use Rattle.digraph.specs.Cycle.{NamesCycle}
 use Rattle.ob_imports.specs.Files.{File, AreNodes, DifferInName, Imports, paths_of}
 use Rattle.ob_imports.specs.Graphs.{ImportGraph, IsGraphOf}
-use Rattle.ob_imports.specs.Names.{AreAscending, AreInOrder, LeadsBy, texts}
+use Rattle.ob_imports.specs.Names.{AreAscending, AreNamesSorted, LeadsBy, texts}
 
 pub data GraphOutcome : Type 0 where
   Makes : ImportGraph → GraphOutcome
@@ -24,7 +24,7 @@ pub record IsTwoModules (files : List File) (name first second : List ℕ) : Typ
   pub few_modules : length files ≤ 4096
   pub rest : List (List ℕ)
   pub paths : IsPermutation (paths_of files name) (first ∷ second ∷ rest)
-  pub in_order : AreInOrder (first ∷ second ∷ rest)
+  pub in_order : AreNamesSorted (first ∷ second ∷ rest)
   pub least : (other : List ℕ) → 2 ≤ length (paths_of files other) → slice_cmp nat_cmp other name ≢ Less
 
 -- at most 4096 files, and no two with modules of one name
@@ -48,7 +48,7 @@ pub record HasManyPairs (files : List File) : Type 0 where
   pub many : 65536 < length graph.pairs
 
 -- the files keep the limits and have this graph
-pub record AreKept (files : List File) (g : ImportGraph) : Type 0 where
+pub record AreFilesOfGraph (files : List File) (g : ImportGraph) : Type 0 where
   pub are_files : AreFiles files
   pub is_graph : IsGraphOf files g
   pub few_names : length g.names ≤ 8192
@@ -66,12 +66,12 @@ pub record IsCycleOf (files : List File) (nodes names : List (List ℕ)) : Type 
 -- the named cycle of files that keep the limits
 pub record IsCycle (files : List File) (names : List (List ℕ)) : Type 0 where
   pub graph : ImportGraph
-  pub kept : AreKept files graph
+  pub kept : AreFilesOfGraph files graph
   pub is_cycle : IsCycleOf files graph.names names
 
 -- the files make this
 abbrev pub IsGraphOutcome : List File → GraphOutcome → Type 0
-IsGraphOutcome files (Makes g) = AreKept files g × IsAcyclic (Imports files)
+IsGraphOutcome files (Makes g) = AreFilesOfGraph files g × IsAcyclic (Imports files)
 IsGraphOutcome files (TwoModules name first second) = IsTwoModules files name first second
 IsGraphOutcome files (Cycle names) = IsCycle files names
 IsGraphOutcome files TooMany = (4096 < length files) ⊎ HasManyNodes files ⊎ HasManyPairs files

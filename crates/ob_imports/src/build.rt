@@ -8,13 +8,13 @@ ghost use Rattle.ob_imports.specs.Files.{files_of, File};
 ghost use Rattle.ob_imports.specs.Graphs.{graph_with};
 ghost use Rattle.ob_imports.specs.Names.{names_by, texts, IsByName};
 ghost use Rattle.ob_imports.specs.Numbering.{AreLed};
-ghost use Rattle.ob_imports.specs.Outcomes.{outcome_of, AreFiles, AreKept, GraphOutcome, IsCycleOf, IsGraphOutcome};
+ghost use Rattle.ob_imports.specs.Outcomes.{outcome_of, AreFiles, AreFilesOfGraph, GraphOutcome, IsCycleOf, IsGraphOutcome};
 
 use crate::duplicates::no_two_alike;
 use crate::edges::pairs_of;
 use crate::names::nodes_of;
 use crate::order::order_of;
-use crate::{Graph, GraphFault, Pair, Parsed};
+use crate::{Edge, Graph, GraphFault, Parsed};
 use digraph::{cycle, ranks_of, renumbered};
 use indexmap::IndexSet;
 use std::alloc::{AllocError, Global};
@@ -47,7 +47,7 @@ fn names_at(
 /// The names of the cycle that is named by the order of the names, or none where no chain of imports comes back.
 fn cycle_in(
     alloc: Global,
-    pairs: &[Pair],
+    pairs: &[Edge],
     names: &[String],
     order: &[u32],
 ) -> Result<Option<Vec<String>>, AllocError>
@@ -71,9 +71,9 @@ fn from_names(
     alloc: Global,
     parsed: &[Parsed],
     names: IndexSet<String>,
-    pairs: Vec<Pair>,
+    pairs: Vec<Edge>,
 ) -> Result<Graph, GraphFault>
-    requires { AreKept (files_of parsed.now) (graph_with names.keys (length parsed.now) pairs.items) }
+    requires { AreFilesOfGraph (files_of parsed.now) (graph_with names.keys (length parsed.now) pairs.items) }
     ensures { IfSome (outcome_of result) (IsGraphOutcome (files_of parsed.now)) }
 {
     let order = order_of(alloc, names.as_slice())?;

@@ -1,7 +1,7 @@
 //! Files whose modules have one name.
 ghost use Rattle.std.specs.Prelude.{◌≡◌, ◌≤◌, ◌<◌, ◌+◌, IfErr, IfNone, IfOk, IfSome, IsPermutation, length, OnOk, ℕ};
 ghost use Rattle.ob_imports.specs.Files.{files_of, names_of, paths_of, DifferInName};
-ghost use Rattle.ob_imports.specs.Names.{texts, AreAlike, AreInOrder, IsFirstAlike};
+ghost use Rattle.ob_imports.specs.Names.{texts, AreAlike, AreNamesSorted, IsFirstAlike};
 ghost use Rattle.ob_imports.specs.Outcomes.{fault_said, IsGraphOutcome};
 
 use crate::names::module_names;
@@ -10,7 +10,7 @@ use std::alloc::{AllocError, Global};
 
 fn put_in_order(names: &mut Vec<String>)
     ensures same { IsPermutation (texts names.old.items) (texts names.new.items) }
-    ensures in_order { AreInOrder (texts names.new.items) }
+    ensures in_order { AreNamesSorted (texts names.new.items) }
 {
     names.sort_unstable();
 }

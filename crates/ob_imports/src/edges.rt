@@ -9,13 +9,13 @@ ghost use Rattle.ob_imports.specs.Numbering.{all_pairs, pairs_from};
 ghost use Rattle.digraph.specs.Edges.{AreBetween, IsAscending, Leads};
 
 use crate::names::number_of;
-use crate::{Pair, Parsed};
+use crate::{Edge, Parsed};
 use digraph::put_in_order;
 use indexmap::IndexSet;
 use std::alloc::{AllocError, Global};
 
 fn add_pairs(
-    pairs: &mut Vec<Pair>,
+    pairs: &mut Vec<Edge>,
     file: &Parsed,
     table: &IndexSet<String>,
 ) -> Result<(), AllocError>
@@ -26,7 +26,7 @@ fn add_pairs(
     for import in &file.imports {
         let from = number_of(table, file.name.as_str());
         let to = number_of(table, import.as_str());
-        pairs.push(Pair { from, to })?;
+        pairs.push(Edge { from, to })?;
     }
     Ok(())
 }
@@ -35,7 +35,7 @@ fn all_of(
     alloc: Global,
     parsed: &[Parsed],
     table: &IndexSet<String>,
-) -> Result<Vec<Pair>, AllocError>
+) -> Result<Vec<Edge>, AllocError>
     requires few { length table.now.keys ≤ 8192 }
     requires known { (n : List ℕ) → IsNode (files_of parsed.now) n → Contains (texts table.now.keys) n }
     ensures { IfOk result (λ pairs. pairs.items ≡ all_pairs (texts table.now.keys) (files_of parsed.now)) }
@@ -52,7 +52,7 @@ pub(crate) fn pairs_of(
     alloc: Global,
     parsed: &[Parsed],
     table: &IndexSet<String>,
-) -> Result<Vec<Pair>, AllocError>
+) -> Result<Vec<Edge>, AllocError>
     requires few { length table.now.keys ≤ 8192 }
     requires once { IsDistinct bytes_eq (texts table.now.keys) }
     requires known { (n : List ℕ) → IsNode (files_of parsed.now) n → Contains (texts table.now.keys) n }

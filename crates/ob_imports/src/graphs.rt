@@ -5,7 +5,7 @@ ghost use Rattle.digraph.specs.Marks.{lists, row_at};
 ghost use Rattle.ob_imports.specs.Graphs.{graph_with, imported, importing, name_of, IsGraph, IsListOf, IsReady};
 ghost use Rattle.ob_imports.specs.Names.{place_in, texts, IsByName};
 
-use crate::Pair;
+use crate::Edge;
 use crate::ready::ready_in;
 use digraph::{flipped, rows_of};
 use indexmap::IndexSet;
@@ -18,7 +18,7 @@ use std::marker::Model;
 pub struct Graph {
     pub(crate) names: IndexSet<String>,
     pub(crate) modules: u32,
-    pub(crate) pairs: Vec<Pair>,
+    pub(crate) pairs: Vec<Edge>,
     /// The numbers of the modules by ascending name.
     pub(crate) order: Vec<u32>,
     /// Per module those that it imports.
@@ -30,7 +30,7 @@ pub struct Graph {
 /// Per module those that it imports, and those that import it.
 fn rows_both(
     alloc: Global,
-    pairs: &[Pair],
+    pairs: &[Edge],
     nodes: usize,
 ) -> Result<(Vec<Vec<u32>>, Vec<Vec<u32>>), AllocError>
     requires between { AreBetween pairs.now nodes }
@@ -68,7 +68,7 @@ impl Graph {
         alloc: Global,
         names: IndexSet<String>,
         modules: u32,
-        pairs: Vec<Pair>,
+        pairs: Vec<Edge>,
         order: Vec<u32>,
     ) -> Result<Graph, AllocError>
         requires graph { IsGraph (graph_with names.keys modules pairs.items) }

@@ -15,7 +15,7 @@ mod parsed;
 mod ready;
 
 pub use build::graph;
-pub use digraph::{Edge as Pair, cycle};
+pub use digraph::{Edge, cycle};
 pub use fault::GraphFault;
 pub use graphs::Graph;
 pub use parsed::Parsed;

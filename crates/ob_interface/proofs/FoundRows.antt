@@ -10,7 +10,7 @@ use Rattle.std.proofs.lemmas.Slice.Eq.{bytes_eq-Decides}
 use Rattle.ob_scan.specs.declared.token.Token.{Token}
 use Rattle.ob_decls.specs.declared.rows.Declarer.{Declarer}
 use Rattle.ob_decls.specs.declared.rows.Declared.{Declared}
-use Rattle.ob_decls.specs.Order.{AreInOrder, AscendBy}
+use Rattle.ob_decls.specs.Order.{AreRowsInOrder, AscendBy}
 use Rattle.ob_decls.specs.Parts.{Rows}
 use Rattle.ob_interface.specs.Interfaces.{declaration, declaration_by, declaration_of, interface_of, is_outer, is_seen, outer_by, text_at, Declaration}
 use Rattle.ob_interface.specs.OwnTable.{Declares, IsFirstDeclared}
@@ -123,7 +123,7 @@ module _ {X Y : Type 0} (h : X → Option Y) (p : Y → Bool) where
 
 -- ---- the rows that declare a name
 
-module _ (bytes : List ℕ) (ts : List Token) (rows : Rows) (of_record : Option ℕ) (name : List ℕ) (ordered : AreInOrder rows) where
+module _ (bytes : List ℕ) (ts : List Token) (rows : Rows) (of_record : Option ℕ) (name : List ℕ) (ordered : AreRowsInOrder rows) where
   abbrev told_of : Declared → Option Declaration
   told_of row = declaration_of bytes ts rows row
 

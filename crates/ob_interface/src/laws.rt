@@ -4,7 +4,7 @@ ghost use Rattle.std.specs.Option.{option_and_then};
 ghost use Rattle.ob_scan.specs.declared.token.Token.{Token};
 ghost use Rattle.ob_decls.specs.declared.rows.Declared.{Declared};
 ghost use Rattle.ob_decls.specs.declared.rows.Declarer.{Declarer};
-ghost use Rattle.ob_decls.specs.Order.{AreInOrder};
+ghost use Rattle.ob_decls.specs.Order.{AreRowsInOrder};
 ghost use Rattle.ob_decls.specs.Parts.{Rows};
 ghost use Rattle.ob_interface.specs.Interfaces.{interface_of, Declaration};
 ghost use Rattle.ob_interface.specs.OwnTable.{Declares, IsFirstDeclared};
@@ -14,10 +14,10 @@ ghost use Rattle.ob_interface.specs.Placed.{declaration_at, place_of};
 /// are, are looked up so.
 pub fn found_is_declared()
     // A declaration is found exactly where the first row of the name, in the record or in the block, tells it.
-    ensures found { (bytes : List ℕ) (ts : List Token) (rows : Rows) (of_record : Option ℕ) (name : List ℕ) (d : Declaration) → AreInOrder rows →
+    ensures found { (bytes : List ℕ) (ts : List Token) (rows : Rows) (of_record : Option ℕ) (name : List ℕ) (d : Declaration) → AreRowsInOrder rows →
         option_and_then (declaration_at (interface_of bytes ts rows)) (place_of (interface_of bytes ts rows) of_record name) ≡ Some d ↔ IsFirstDeclared bytes ts rows of_record name d }
     // None is found exactly where no row declares the name.
-    ensures none { (bytes : List ℕ) (ts : List Token) (rows : Rows) (of_record : Option ℕ) (name : List ℕ) → AreInOrder rows →
+    ensures none { (bytes : List ℕ) (ts : List Token) (rows : Rows) (of_record : Option ℕ) (name : List ℕ) → AreRowsInOrder rows →
         option_and_then (declaration_at (interface_of bytes ts rows)) (place_of (interface_of bytes ts rows) of_record name) ≡ None ↔
         ((row : Declared) (by : Declarer) → Declares bytes ts rows of_record name row by → ⊥) }
 {}

@@ -12,7 +12,7 @@ use Rattle.ob_tree.specs.declared.statement.Case.TheOpen as layers
 use Rattle.ob_tree.specs.declared.statement.Case.TheShapes as shapes
 use Rattle.ob_tree.specs.declared.statement.Case.{Case, Case-F, roll-Case, out-roll-Case, map-Case}
 use Rattle.ob_tree.specs.declared.statement.Stmt.{Stmt, Stmt-F, roll-Stmt, out-roll-Stmt, map-Stmt}
-use Rattle.ob_tree.specs.declared.statement.Block.{Block, Block-F, roll-Block, out-roll-Block, ind-Block, map-Block}
+use Rattle.ob_tree.specs.declared.statement.StatementSequence.{StatementSequence, StatementSequence-F, roll-StatementSequence, out-roll-StatementSequence, ind-StatementSequence, map-StatementSequence}
 use Rattle.ob_tree.specs.declared.statement.Branch.{Branch, Branch-F, roll-Branch, out-roll-Branch, map-Branch}
 use Rattle.ob_tree.specs.declared.statement.For.{For, For-F, roll-For, out-roll-For, map-For}
 use Rattle.ob_tree.proofs.Closed.{With}
@@ -51,7 +51,7 @@ HeldCase t = Quiet (case_piece t)
 abbrev HeldStmt : Stmt → Type 0
 HeldStmt t = Quiet (stmt_piece t)
 
-abbrev HeldBlock : Block → Type 0
+abbrev HeldBlock : StatementSequence → Type 0
 HeldBlock t = Quiet (block_piece t)
 
 -- a branch with any word in it
@@ -64,36 +64,36 @@ HeldFor t = Quiet (for_piece t)
 -- a layer whose parts only use, and the layer itself
 
 abbrev WithCase : Type 0
-WithCase = Case-F (With HeldCase) (With HeldStmt) (With HeldBlock) (With HeldBranch) (With HeldFor)
+WithCase = Case-F (With HeldCase) (With HeldStmt) (With HeldBranch) (With HeldFor) (With HeldBlock)
 
-abbrev case_of : WithCase → Case-F Case Stmt Block Branch For
-case_of = map-Case (With HeldCase) (With HeldStmt) (With HeldBlock) (With HeldBranch) (With HeldFor) Case Stmt Block Branch For (λ e. e.0) (λ e. e.0) (λ e. e.0) (λ e. e.0) (λ e. e.0)
+abbrev case_of : WithCase → Case-F Case Stmt Branch For StatementSequence
+case_of = map-Case (With HeldCase) (With HeldStmt) (With HeldBranch) (With HeldFor) (With HeldBlock) Case Stmt Branch For StatementSequence (λ e. e.0) (λ e. e.0) (λ e. e.0) (λ e. e.0) (λ e. e.0)
 
 abbrev WithStmt : Type 0
-WithStmt = Stmt-F (With HeldCase) (With HeldStmt) (With HeldBlock) (With HeldBranch) (With HeldFor)
+WithStmt = Stmt-F (With HeldCase) (With HeldStmt) (With HeldBranch) (With HeldFor) (With HeldBlock)
 
-abbrev stmt_of : WithStmt → Stmt-F Case Stmt Block Branch For
-stmt_of = map-Stmt (With HeldCase) (With HeldStmt) (With HeldBlock) (With HeldBranch) (With HeldFor) Case Stmt Block Branch For (λ e. e.0) (λ e. e.0) (λ e. e.0) (λ e. e.0) (λ e. e.0)
+abbrev stmt_of : WithStmt → Stmt-F Case Stmt Branch For StatementSequence
+stmt_of = map-Stmt (With HeldCase) (With HeldStmt) (With HeldBranch) (With HeldFor) (With HeldBlock) Case Stmt Branch For StatementSequence (λ e. e.0) (λ e. e.0) (λ e. e.0) (λ e. e.0) (λ e. e.0)
 
 abbrev WithBlock : Type 0
-WithBlock = Block-F (With HeldCase) (With HeldStmt) (With HeldBlock) (With HeldBranch) (With HeldFor)
+WithBlock = StatementSequence-F (With HeldCase) (With HeldStmt) (With HeldBranch) (With HeldFor) (With HeldBlock)
 
-abbrev block_of : WithBlock → Block-F Case Stmt Block Branch For
-block_of = map-Block (With HeldCase) (With HeldStmt) (With HeldBlock) (With HeldBranch) (With HeldFor) Case Stmt Block Branch For (λ e. e.0) (λ e. e.0) (λ e. e.0) (λ e. e.0) (λ e. e.0)
+abbrev block_of : WithBlock → StatementSequence-F Case Stmt Branch For StatementSequence
+block_of = map-StatementSequence (With HeldCase) (With HeldStmt) (With HeldBranch) (With HeldFor) (With HeldBlock) Case Stmt Branch For StatementSequence (λ e. e.0) (λ e. e.0) (λ e. e.0) (λ e. e.0) (λ e. e.0)
 
 abbrev WithBranch : Type 0
-WithBranch = Branch-F (With HeldCase) (With HeldStmt) (With HeldBlock) (With HeldBranch) (With HeldFor)
+WithBranch = Branch-F (With HeldCase) (With HeldStmt) (With HeldBranch) (With HeldFor) (With HeldBlock)
 
-abbrev branch_of : WithBranch → Branch-F Case Stmt Block Branch For
-branch_of = map-Branch (With HeldCase) (With HeldStmt) (With HeldBlock) (With HeldBranch) (With HeldFor) Case Stmt Block Branch For (λ e. e.0) (λ e. e.0) (λ e. e.0) (λ e. e.0) (λ e. e.0)
+abbrev branch_of : WithBranch → Branch-F Case Stmt Branch For StatementSequence
+branch_of = map-Branch (With HeldCase) (With HeldStmt) (With HeldBranch) (With HeldFor) (With HeldBlock) Case Stmt Branch For StatementSequence (λ e. e.0) (λ e. e.0) (λ e. e.0) (λ e. e.0) (λ e. e.0)
 
 abbrev WithFor : Type 0
-WithFor = For-F (With HeldCase) (With HeldStmt) (With HeldBlock) (With HeldBranch) (With HeldFor)
+WithFor = For-F (With HeldCase) (With HeldStmt) (With HeldBranch) (With HeldFor) (With HeldBlock)
 
-abbrev for_of : WithFor → For-F Case Stmt Block Branch For
-for_of = map-For (With HeldCase) (With HeldStmt) (With HeldBlock) (With HeldBranch) (With HeldFor) Case Stmt Block Branch For (λ e. e.0) (λ e. e.0) (λ e. e.0) (λ e. e.0) (λ e. e.0)
+abbrev for_of : WithFor → For-F Case Stmt Branch For StatementSequence
+for_of = map-For (With HeldCase) (With HeldStmt) (With HeldBranch) (With HeldFor) (With HeldBlock) Case Stmt Branch For StatementSequence (λ e. e.0) (λ e. e.0) (λ e. e.0) (λ e. e.0) (λ e. e.0)
 
-else_held : (o : Option (Box (With HeldBlock) Global)) → Quiet (there (λ b. both token (block_piece b.value)) ((shapes.former-Stmt-If-2).map (With HeldBlock) Block (λ e. e.0) o))
+else_held : (o : Option (Box (With HeldBlock) Global)) → Quiet (there (λ b. both token (block_piece b.value)) ((shapes.former-Stmt-If-2).map (With HeldBlock) StatementSequence (λ e. e.0) o))
 else_held None = q-nothing
 else_held (Some b) = q-both q-token b.value.1
 
@@ -119,19 +119,19 @@ stmt_held (layers.Repeat body e) =
     (q-both q-token (q-both body.value.1 (q-both q-token (q-expr e))))
 stmt_held (layers.For f) = f.value.1
 
-abbrev block_told : Block-F Case Stmt Block Branch For → Piece
+abbrev block_told : StatementSequence-F Case Stmt Branch For StatementSequence → Piece
 block_told b = both (stmt_piece b.first) (each_after stmt_piece b.rest.items)
 
 block_held : (y : WithBlock) → Quiet (block_told (block_of y))
 block_held y = q-both y.first.1 (q-map (λ s. both token (stmt_piece s)) _ y.rest.items (λ s. q-both q-token s.1))
 
-abbrev branch_told : Branch-F Case Stmt Block Branch For → Piece
+abbrev branch_told : Branch-F Case Stmt Branch For StatementSequence → Piece
 branch_told b = both (expr_piece b.condition) (both token (block_piece b.body))
 
 branch_held : (y : WithBranch) (k : Kind) → Quiet (branch_told (branch_of y))
 branch_held y k = q-both (q-expr y.condition) (q-both q-token y.body.1)
 
-abbrev for_told : For-F Case Stmt Block Branch For → Piece
+abbrev for_told : For-F Case Stmt Branch For StatementSequence → Piece
 for_told f =
     both token (both variable_piece (both token (both (expr_piece f.from) (both token (both (expr_piece f.to)
     (both (there (λ e. both token (expr_piece e)) f.by) (both token (both (block_piece f.body) token))))))))
@@ -142,31 +142,31 @@ for_held y =
 
 -- ---- layer by layer
 
-case_step : (x : Case-F Case Stmt Block Branch For) (y : WithCase) → case_of y ≡ x → HeldCase (roll-Case x)
+case_step : (x : Case-F Case Stmt Branch For StatementSequence) (y : WithCase) → case_of y ≡ x → HeldCase (roll-Case x)
 case_step x y is =
-    q-is (told.case_told (roll-Case x) ∙ ap (λ (z : Case-F Case Stmt Block Branch For). told.case_shown z) (out-roll-Case x ∙ sym is)) ((case_held y))
+    q-is (told.case_told (roll-Case x) ∙ ap (λ (z : Case-F Case Stmt Branch For StatementSequence). told.case_shown z) (out-roll-Case x ∙ sym is)) ((case_held y))
 
-stmt_step : (x : Stmt-F Case Stmt Block Branch For) (y : WithStmt) → stmt_of y ≡ x → HeldStmt (roll-Stmt x)
+stmt_step : (x : Stmt-F Case Stmt Branch For StatementSequence) (y : WithStmt) → stmt_of y ≡ x → HeldStmt (roll-Stmt x)
 stmt_step x y is =
-    q-is (told.stmt_told (roll-Stmt x) ∙ ap (λ (z : Stmt-F Case Stmt Block Branch For). told.stmt_shown z) (out-roll-Stmt x ∙ sym is)) (stmt_held y)
+    q-is (told.stmt_told (roll-Stmt x) ∙ ap (λ (z : Stmt-F Case Stmt Branch For StatementSequence). told.stmt_shown z) (out-roll-Stmt x ∙ sym is)) (stmt_held y)
 
-block_step : (x : Block-F Case Stmt Block Branch For) (y : WithBlock) → block_of y ≡ x → HeldBlock (roll-Block x)
+block_step : (x : StatementSequence-F Case Stmt Branch For StatementSequence) (y : WithBlock) → block_of y ≡ x → HeldBlock (roll-StatementSequence x)
 block_step x y is =
-    q-is (told.block_out (roll-Block x) ∙ ap (λ (z : Block-F Case Stmt Block Branch For). block_told z) (out-roll-Block x ∙ sym is)) (block_held y)
+    q-is (told.block_out (roll-StatementSequence x) ∙ ap (λ (z : StatementSequence-F Case Stmt Branch For StatementSequence). block_told z) (out-roll-StatementSequence x ∙ sym is)) (block_held y)
 
-branch_step : (x : Branch-F Case Stmt Block Branch For) (y : WithBranch) → branch_of y ≡ x → HeldBranch (roll-Branch x)
+branch_step : (x : Branch-F Case Stmt Branch For StatementSequence) (y : WithBranch) → branch_of y ≡ x → HeldBranch (roll-Branch x)
 branch_step x y is k =
-    q-is (told.branch_out (roll-Branch x) ∙ ap (λ (z : Branch-F Case Stmt Block Branch For). branch_told z) (out-roll-Branch x ∙ sym is)) (branch_held y k)
+    q-is (told.branch_out (roll-Branch x) ∙ ap (λ (z : Branch-F Case Stmt Branch For StatementSequence). branch_told z) (out-roll-Branch x ∙ sym is)) (branch_held y k)
 
-for_step : (x : For-F Case Stmt Block Branch For) (y : WithFor) → for_of y ≡ x → HeldFor (roll-For x)
+for_step : (x : For-F Case Stmt Branch For StatementSequence) (y : WithFor) → for_of y ≡ x → HeldFor (roll-For x)
 for_step x y is =
-    q-is (told.for_out (roll-For x) ∙ ap (λ (z : For-F Case Stmt Block Branch For). for_told z) (out-roll-For x ∙ sym is)) (for_held y)
+    q-is (told.for_out (roll-For x) ∙ ap (λ (z : For-F Case Stmt Branch For StatementSequence). for_told z) (out-roll-For x ∙ sym is)) (for_held y)
 
-pub q-block : (b : Block) → Quiet (block_piece b)
-q-block = ind-Block HeldCase HeldStmt HeldBlock HeldBranch HeldFor case_step stmt_step block_step branch_step for_step
+pub q-block : (b : StatementSequence) → Quiet (block_piece b)
+q-block = ind-StatementSequence HeldCase HeldStmt HeldBranch HeldFor HeldBlock case_step stmt_step branch_step for_step block_step
 
 pub b-qualident : (q : Qualident) → Bare (qualident_piece q)
 b-qualident q = bare (q-qualident q)
 
-pub b-block : (b : Block) → Bare (block_piece b)
+pub b-block : (b : StatementSequence) → Bare (block_piece b)
 b-block b = bare (q-block b)

@@ -21,7 +21,7 @@ use Rattle.ob_tree.specs.declared.expression.Element.{Element, out-Element}
 use Rattle.ob_tree.specs.declared.expression.ElementList.{ElementList, out-ElementList}
 use Rattle.ob_tree.specs.declared.expression.Expr.{Expr, out-Expr}
 use Rattle.ob_tree.specs.declared.expression.ExprList.{ExprList, out-ExprList}
-use Rattle.ob_tree.specs.declared.expression.Sum.{Sum, out-Sum}
+use Rattle.ob_tree.specs.declared.expression.SimpleExpression.{SimpleExpression, out-SimpleExpression}
 use Rattle.ob_tree.specs.declared.expression.Term.{Term}
 use Rattle.ob_tree.specs.Constructs as constructs
 use Rattle.ob_tree.specs.Marks.{Out, construct, word, used, selected, if_there, each, each_after, tokens_of, height}
@@ -126,10 +126,10 @@ brace_ends rest = (record { expr = ends_expr _ refl refl refl refl; range = refl
 -- ---- what a factor or an expression begins with
 
 abbrev Layer : Type 0
-Layer = Factor-F Factor Selector Designator Element ElementList Expr ExprList Sum Term
+Layer = Factor-F Factor Selector Designator Element ElementList Expr ExprList SimpleExpression Term
 
 abbrev SelectorLayer : Type 0
-SelectorLayer = Selector-F Factor Selector Designator Element ElementList Expr ExprList Sum Term
+SelectorLayer = Selector-F Factor Selector Designator Element ElementList Expr ExprList SimpleExpression Term
 
 abbrev factor_part : MulOperator × Factor → Out
 factor_part p = word (mul_kind p.0) ++ factor_outline p.1
@@ -137,7 +137,7 @@ factor_part p = word (mul_kind p.0) ++ factor_outline p.1
 abbrev term_part : AddOperator × Term → Out
 term_part p = word (add_kind p.0) ++ term_outline p.1
 
-abbrev compared_part : Relation × Box Sum Global → Out
+abbrev compared_part : Relation × Box SimpleExpression Global → Out
 compared_part c = word (relation_kind c.0) ++ sum_outline c.1.value
 
 abbrev high_part : Expr → Out
@@ -189,15 +189,15 @@ signed_opens (Some signs.Plus) b x h = record { leaf = leafs.Word kinds.Plus; ta
 signed_opens (Some signs.Minus) b x h = record { leaf = leafs.Word kinds.Minus; tail = tokens_of b ++ x; is = refl; good = refl }
 
 -- the terms of a sum, behind its sign
-abbrev terms_shown : Sum → Out
-terms_shown s = term_outline (out-Sum s).first ++ each term_part (out-Sum s).rest.items
+abbrev terms_shown : SimpleExpression → Out
+terms_shown s = term_outline (out-SimpleExpression s).first ++ each term_part (out-SimpleExpression s).rest.items
 
-terms_open : (s : Sum) (x : List Leaf) → Opens factor_first (tokens_of (terms_shown s) ++ x)
-terms_open s x = opens_front factor_first (term_outline (out-Sum s).first) (each term_part (out-Sum s).rest.items) x (term_opens (out-Sum s).first)
+terms_open : (s : SimpleExpression) (x : List Leaf) → Opens factor_first (tokens_of (terms_shown s) ++ x)
+terms_open s x = opens_front factor_first (term_outline (out-SimpleExpression s).first) (each term_part (out-SimpleExpression s).rest.items) x (term_opens (out-SimpleExpression s).first)
 
-sum_opens : (s : Sum) (x : List Leaf) → Opens expr_first (tokens_of (sum_outline s) ++ x)
-sum_opens s x = opens_same _ _ _ x (sum_out s) (opens_node expr_first constructs.SimpleExpression (sum_shown (out-Sum s)) x
-    (signed_opens (out-Sum s).sign (terms_shown s) x (terms_open s)))
+sum_opens : (s : SimpleExpression) (x : List Leaf) → Opens expr_first (tokens_of (sum_outline s) ++ x)
+sum_opens s x = opens_same _ _ _ x (sum_out s) (opens_node expr_first constructs.SimpleExpression (sum_shown (out-SimpleExpression s)) x
+    (signed_opens (out-SimpleExpression s).sign (terms_shown s) x (terms_open s)))
 
 pub expr_opens : (e : Expr) (x : List Leaf) → Opens expr_first (tokens_of (expr_outline e) ++ x)
 expr_opens e x =
@@ -265,7 +265,7 @@ abbrev ReadsTerms : Reader → ℕ → Type 0
 ReadsTerms r d = (t : Term) (rest : List Leaf) → height (term_outline t) ≤ d → EndsTerm rest → Reads r (term_outline t) rest
 
 abbrev ReadsSums : Reader → ℕ → Type 0
-ReadsSums r d = (s : Sum) (rest : List Leaf) → height (sum_outline s) ≤ d → EndsSum rest → Reads r (sum_outline s) rest
+ReadsSums r d = (s : SimpleExpression) (rest : List Leaf) → height (sum_outline s) ≤ d → EndsSum rest → Reads r (sum_outline s) rest
 
 abbrev pub ReadsNegated : Reader → ℕ → Type 0
 ReadsNegated r d = (f : Factor) (rest : List Leaf) → height (construct constructs.Negated (factor_outline f)) ≤ d → EndsFactor rest →
@@ -293,7 +293,7 @@ sign_again (Some s) ls first = reads_something sign_start nothing (word (sign_ki
 sum_again : (r : Reader) (d : ℕ) → Advances add_start r → ReadsTerms r d → ReadsSums (sum_with r) d
 unfolding sum_with
 sum_again r d adv h s rest le end =
-    let x = out-Sum s in
+    let x = out-SimpleExpression s in
     let sign : Out = if_there (λ y. word (sign_kind y)) x.sign in
     let first : Out = term_outline x.first in
     let others : Out = each term_part x.rest.items in
@@ -307,7 +307,7 @@ sum_again r d adv h s rest le end =
     let it = reads_seq (optional sign_start nothing) (seq r (many add_start r)) sign (first ++ others) rest (sign_again x.sign _ (terms_open s rest)) inner in
     reads_same _ _ _ rest (sum_out s) (reads_node constructs.SimpleExpression (seq (optional sign_start nothing) (seq r (many add_start r))) (sign ++ (first ++ others)) rest it)
 
-compared_again : (r : Reader) (d : ℕ) → ReadsSums r d → (o : Option (Relation × Box Sum Global)) (rest : List Leaf) → height (if_there compared_part o) ≤ d →
+compared_again : (r : Reader) (d : ℕ) → ReadsSums r d → (o : Option (Relation × Box SimpleExpression Global)) (rest : List Leaf) → height (if_there compared_part o) ≤ d →
     EndsExpr rest → Reads (optional relation_start r) (if_there compared_part o) rest × EndsSum (tokens_of (if_there compared_part o) ++ rest)
 compared_again r d h None rest le end = (reads_nothing relation_start r rest end.relation, end.sum)
 compared_again r d h (Some c) rest le end = (

@@ -11,7 +11,7 @@ use Rattle.ob_tree.specs.declared.token.Leaf.TheVariants as leafs
 use Rattle.ob_tree.specs.declared.name.OneOrMore.{OneOrMore}
 use Rattle.ob_tree.specs.declared.name.Identdef.{Identdef}
 use Rattle.ob_tree.specs.declared.expression.Expr.{Expr}
-use Rattle.ob_tree.specs.declared.statement.Block.{Block}
+use Rattle.ob_tree.specs.declared.statement.StatementSequence.{StatementSequence}
 use Rattle.ob_tree.specs.declared.declaration.Parameters.{Parameters}
 use Rattle.ob_tree.specs.declared.declaration.ConstDecl.{ConstDecl}
 use Rattle.ob_tree.specs.declared.declaration.TypeDecl.{TypeDecl}
@@ -254,7 +254,7 @@ again_identdef_then {d} {o} {rest} r i end p = record {
 abbrev answer_outline : Option (Box Expr Global) → Out
 answer_outline = if_there (λ e. word kinds.Return ++ expr_outline e.value)
 
-abbrev body_outline : Option (Box Block Global) → Out
+abbrev body_outline : Option (Box StatementSequence Global) → Out
 body_outline = if_there (λ b. word kinds.Begin ++ block_outline b.value)
 
 no_star : (o : Option Parameters) (more : Out) (rest : List Leaf) →
@@ -279,10 +279,10 @@ again_named d h x rest =
     let block_end : EndsBlock (tokens_of (answer_outline x.returned ++ last) ++ rest) = past EndsBlock (λ ls. block_ends kinds.Return ls refl) (block_ends kinds.End _ refl) in
     let no_body : accept_at kinds.Begin (tokens_of (answer_outline x.returned ++ last) ++ rest) ≡ None =
     past (λ ls. accept_at kinds.Begin ls ≡ None) (λ ls. not_accepted kinds.Begin kinds.Return ls refl) (not_accepted kinds.Begin kinds.End _ refl) in
-    let body = again_seq answer (again_option d kinds.Begin (block_at d) (λ (b : Box Block Global). block_outline b.value) x.body _ no_body
+    let body = again_seq answer (again_option d kinds.Begin (block_at d) (λ (b : Box StatementSequence Global). block_outline b.value) x.body _ no_body
     (λ b. again_blocks d b.value _ block_end)) in
     let declared_end : EndsDeclarations (tokens_of (body_outline x.body ++ (answer_outline x.returned ++ last)) ++ rest) =
-    past_there EndsDeclarations kinds.Begin (λ (b : Box Block Global). block_outline b.value) x.body (answer_outline x.returned ++ last) rest begin_ends
+    past_there EndsDeclarations kinds.Begin (λ (b : Box StatementSequence Global). block_outline b.value) x.body (answer_outline x.returned ++ last) rest begin_ends
     (past EndsDeclarations return_ends (end_ends _)) in
     let declarations = again_word kinds.Semicolon (again_seq body (again_declarations d h x.declarations _ declared_end)) in
     let parameters = again_seq declarations (again_some_parameters d x.parameters _ (semicolon_ends_type _)) in
@@ -321,7 +321,7 @@ again_imports d o rest none =
     (λ ls. not_accepted kinds.Assign kinds.Comma ls refl) (again_import d) l.first l.rest.items _ (not_accepted kinds.Assign kinds.Semicolon _ refl)
     (not_accepted kinds.Comma kinds.Semicolon _ refl)))
 
-abbrev statements_outline : Option Block → Out
+abbrev statements_outline : Option StatementSequence → Out
 statements_outline = if_there (λ b. word kinds.Begin ++ block_outline b)
 
 again_module : (d : ℕ) (m : Module) (rest : List Leaf) → Again d (module_at d) (module_outline m) rest

@@ -16,7 +16,7 @@ use Rattle.ob_tree.specs.declared.statement.LabelRange.{LabelRange}
 use Rattle.ob_tree.specs.declared.statement.Case.{Case, Case-F, out-Case}
 use Rattle.ob_tree.specs.declared.statement.Case.TheOpen as layers
 use Rattle.ob_tree.specs.declared.statement.Stmt.{Stmt, Stmt-F, out-Stmt}
-use Rattle.ob_tree.specs.declared.statement.Block.{Block, out-Block}
+use Rattle.ob_tree.specs.declared.statement.StatementSequence.{StatementSequence, out-StatementSequence}
 use Rattle.ob_tree.specs.declared.statement.Branch.{Branch, out-Branch}
 use Rattle.ob_tree.specs.declared.statement.For.{For, For-F, out-For}
 use Rattle.ob_tree.specs.Constructs as constructs
@@ -182,12 +182,12 @@ abbrev pub AgainStatements : ℕ → Type 0
 AgainStatements d = (s : Stmt) (rest : List Leaf) → EndsStatement rest → Again d (statement_at d) (stmt_outline s) rest
 
 abbrev pub AgainBlocks : ℕ → Type 0
-AgainBlocks d = (b : Block) (rest : List Leaf) → EndsBlock rest → Again d (block_at d) (block_outline b) rest
+AgainBlocks d = (b : StatementSequence) (rest : List Leaf) → EndsBlock rest → Again d (block_at d) (block_outline b) rest
 
 again_block : (d : ℕ) → AgainStatements d → AgainBlocks d
 unfolding block_with
 again_block d h b rest end =
-    let x = out-Block b in
+    let x = out-StatementSequence b in
     again_is (block_out b) (again_several kinds.Semicolon (statement_at d) stmt_outline EndsStatement d
     (accept_advances d kinds.Semicolon (statement_at d) (statement_at_sound d)) semicolon_ends h x.first x.rest.items rest end.statement end.semicolon)
 
@@ -210,7 +210,7 @@ ranges_opens : (x : LabelRange) (xs : List LabelRange) (o : Out) (y : List Leaf)
 ranges_opens x xs o y = opens_front label_first (label_range_outline x ++ each_after kinds.Comma label_range_outline xs) o y
     (λ z. opens_front label_first (label_range_outline x) (each_after kinds.Comma label_range_outline xs) z (range_opens x))
 
-again_case_layer : (d : ℕ) → AgainBlocks d → (x : Case-F Case Stmt Block Branch For) (rest : List Leaf) → EndsCase rest →
+again_case_layer : (d : ℕ) → AgainBlocks d → (x : Case-F Case Stmt Branch For StatementSequence) (rest : List Leaf) → EndsCase rest →
     Again d (optional (begins label_first) (seq (several kinds.Comma label_range_at) (seq (expect_at kinds.Colon) (block_at d)))) (case_shown x) rest
 again_case_layer d h layers.Nothing rest end = again_nothing d (begins label_first) _ rest end.label
 again_case_layer d h (layers.Labelled ranges body) rest end =
@@ -266,19 +266,19 @@ named_again d x o rest end p =
     } in
     again_as (statement_with (expr_at d) (block_at d)) (rw whole refl) (again_level constructs.Statement refl (again_seq p head))
 
-again_if : (d : ℕ) → AgainBlocks d → (first : Branch) (bs : List Branch) (o : Option (Box Block Global)) (rest : List Leaf) →
+again_if : (d : ℕ) → AgainBlocks d → (first : Branch) (bs : List Branch) (o : Option (Box StatementSequence Global)) (rest : List Leaf) →
     Again d (if_with (expr_at d) (block_at d))
     (branch_outline first kinds.Then ++
     (each_after kinds.Elsif (λ b. branch_outline b kinds.Then) bs ++ (if_there (λ b. word kinds.Else ++ block_outline b.value) o ++ word kinds.End))) rest
 unfolding if_with
 again_if d h first bs o rest =
     let otherwise = again_seq (again_end d kinds.End rest)
-    (again_option d kinds.Else (block_at d) (λ (b : Box Block Global). block_outline b.value) o (leafs.Word kinds.End ∷ rest)
+    (again_option d kinds.Else (block_at d) (λ (b : Box StatementSequence Global). block_outline b.value) o (leafs.Word kinds.End ∷ rest)
     (not_accepted kinds.Else kinds.End rest refl) (λ b. h b.value _ (block_ends kinds.End rest refl))) in
     let end : EndsBlock (tokens_of (if_there (λ b. word kinds.Else ++ block_outline b.value) o ++ word kinds.End) ++ rest) =
-    past_there EndsBlock kinds.Else (λ (b : Box Block Global). block_outline b.value) o (word kinds.End) rest (λ ls. block_ends kinds.Else ls refl)
+    past_there EndsBlock kinds.Else (λ (b : Box StatementSequence Global). block_outline b.value) o (word kinds.End) rest (λ ls. block_ends kinds.Else ls refl)
     (block_ends kinds.End rest refl) in
-    let none = past_there (λ ls. accept_at kinds.Elsif ls ≡ None) kinds.Else (λ (b : Box Block Global). block_outline b.value) o (word kinds.End) rest
+    let none = past_there (λ ls. accept_at kinds.Elsif ls ≡ None) kinds.Else (λ (b : Box StatementSequence Global). block_outline b.value) o (word kinds.End) rest
     (λ ls. not_accepted kinds.Elsif kinds.Else ls refl) (not_accepted kinds.Elsif kinds.End rest refl) in
     let others = again_seq otherwise (again_branches d h kinds.Then refl bs _ end none) in
     again_seq others (again_branch d h kinds.Then refl first _
@@ -302,12 +302,12 @@ again_while d h first bs rest =
     again_seq others (again_branch d h kinds.Do refl first _
     (past_each EndsBlock kinds.Elsif (λ b. branch_outline b kinds.Do) bs (word kinds.End) rest (λ ls. block_ends kinds.Elsif ls refl) end))
 
-again_repeat : (d : ℕ) → AgainBlocks d → (b : Block) (e : Expr) (rest : List Leaf) → EndsExpr rest →
+again_repeat : (d : ℕ) → AgainBlocks d → (b : StatementSequence) (e : Expr) (rest : List Leaf) → EndsExpr rest →
     Again d (repeat_with (expr_at d) (block_at d)) (block_outline b ++ (word kinds.Until ++ expr_outline e)) rest
 unfolding repeat_with
 again_repeat d h b e rest end = again_seq (again_word kinds.Until (again_expr d e rest end)) (h b _ (block_ends kinds.Until _ refl))
 
-again_for : (d : ℕ) → AgainBlocks d → (x : For-F Case Stmt Block Branch For) (rest : List Leaf) →
+again_for : (d : ℕ) → AgainBlocks d → (x : For-F Case Stmt Branch For StatementSequence) (rest : List Leaf) →
     Again d (for_with (expr_at d) (block_at d))
     (used x.variable ++ (word kinds.Assign ++
     (expr_outline x.from ++ (word kinds.To ++
@@ -343,7 +343,7 @@ empty_again : (r : Reader) (d : ℕ) (rest : List Leaf) → r rest ≡ Ok (const
 empty_again r d rest e = record { reads = λ le. record { is = ap (λ (t : List Leaf). r (t ++ rest)) empty_tokens ∙ e } }
 
 abbrev Layer : Type 0
-Layer = Stmt-F Case Stmt Block Branch For
+Layer = Stmt-F Case Stmt Branch For StatementSequence
 
 again_layer : (d : ℕ) → AgainBlocks d → (x : Layer) (rest : List Leaf) → EndsStatement rest → Again (suc d) (statement_with (expr_at d) (block_at d)) (stmt_shown x) rest
 unfolding statement_with

@@ -26,7 +26,7 @@ use ob_scan::{Kind, Token};
 use ob_tree::declaration::{ConstDecl, Declarations, ProcDecl, TypeDecl, VarDecl};
 use ob_tree::expression::Expr;
 use ob_tree::name::Identdef;
-use ob_tree::statement::Block;
+use ob_tree::statement::StatementSequence;
 use ob_tree::token::Leaf;
 use std::alloc::Global;
 
@@ -294,7 +294,7 @@ fn inside(
 }
 
 /// The statements of a procedure, what stands after RETURN, and the number of the name after END.
-type Ending = (Option<Box<Block>>, Option<Box<Expr>>, u32);
+type Ending = (Option<Box<StatementSequence>>, Option<Box<Expr>>, u32);
 
 /// What stands behind the declarations in the procedure of this name.
 #[tactic(auto, unfolding(crate::specs::Forms::name_at, crate::specs::ReadModules::body_with))]

@@ -19,7 +19,7 @@ use crate::tokens::{accept, beyond, expect, identifier, is_at};
 use ob_scan::{Kind, Token};
 use ob_tree::expression::{
     AddOperator, Designator, Element, ElementList, Expr, ExprList, Factor, MulOperator, Relation,
-    Selector, Sum, Term,
+    Selector, SimpleExpression, Term,
 };
 use ob_tree::token::Leaf;
 use std::alloc::Global;
@@ -68,7 +68,7 @@ fn compared(
     tokens: &[Token],
     input: Cursor,
     depth: u32,
-) -> Result<(Option<(Relation, Box<Sum>)>, Cursor), Stop>
+) -> Result<(Option<(Relation, Box<SimpleExpression>)>, Cursor), Stop>
     ensures { Gives tokens.now (λ x. (if_there (λ c. word (relation_kind c.0) ++ sum_outline c.1.value) x.0, ahead tokens.now x.1)) result (optional relation_start (sum_at depth) (ahead tokens.now input)) }
 {
     match relation(tokens, input) {
@@ -125,13 +125,13 @@ fn sum(
     tokens: &[Token],
     input: Cursor,
     depth: u32,
-) -> Result<(Box<Sum>, Cursor), Stop>
+) -> Result<(Box<SimpleExpression>, Cursor), Stop>
     ensures { Gives tokens.now (λ x. (sum_outline x.0.value, ahead tokens.now x.1)) result (sum_at depth (ahead tokens.now input)) }
 {
     let (sign, here) = sign(tokens, input);
     let (first, here) = term(alloc, tokens, here, depth)?;
     let (rest, here) = more_terms(alloc, tokens, here, depth)?;
-    boxed(alloc, Sum { sign, first, rest }, here)
+    boxed(alloc, SimpleExpression { sign, first, rest }, here)
 }
 
 #[cycle(expressions)]

@@ -18,7 +18,7 @@ use crate::tokens::{accept, expect, identifier};
 use ob_scan::{Kind, Token};
 use ob_tree::declaration::{Declarations, ImportItem, Module};
 use ob_tree::name::OneOrMore;
-use ob_tree::statement::Block;
+use ob_tree::statement::StatementSequence;
 use std::alloc::Global;
 
 /// The name of a module that is imported under another, behind `:=`.
@@ -95,7 +95,7 @@ fn imports(
 }
 
 /// The statements of a module, out of their box.
-fn unboxed(body: Option<Box<Block>>) -> Option<Block>
+fn unboxed(body: Option<Box<StatementSequence>>) -> Option<StatementSequence>
     ensures { if_there (λ b. word kinds.Begin ++ block_outline b) result ≡ if_there (λ b. word kinds.Begin ++ block_outline b.value) body }
 {
     match body {
@@ -137,7 +137,13 @@ fn inside(
     input: Cursor,
     depth: u32,
     name: u32,
-) -> Result<((Box<Declarations>, Option<Box<Block>>, u32), Cursor), Stop>
+) -> Result<
+    (
+        (Box<Declarations>, Option<Box<StatementSequence>>, u32),
+        Cursor,
+    ),
+    Stop,
+>
     ensures { Gives tokens.now (λ x. (
       declarations_outline x.0.0.value ++ (if_there (λ b. word kinds.Begin ++ block_outline b.value) x.0.1 ++
           (word kinds.End ++ (repeated name x.0.2 ++ word kinds.Dot))),

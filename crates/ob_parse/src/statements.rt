@@ -20,7 +20,7 @@ use crate::stop::{Stop, boxed, keep_boxed, some};
 use crate::tokens::{accept, expect, identifier};
 use ob_scan::{Kind, Token};
 use ob_tree::expression::Expr;
-use ob_tree::statement::{Block, Branch, Case, For, Stmt};
+use ob_tree::statement::{Branch, Case, For, StatementSequence, Stmt};
 use ob_tree::token::Leaf;
 use std::alloc::Global;
 
@@ -123,12 +123,12 @@ pub(crate) fn block(
     tokens: &[Token],
     input: Cursor,
     depth: u32,
-) -> Result<(Box<Block>, Cursor), Stop>
+) -> Result<(Box<StatementSequence>, Cursor), Stop>
     ensures { Gives tokens.now (λ x. (block_outline x.0.value, ahead tokens.now x.1)) result (block_at depth (ahead tokens.now input)) }
 {
     let (first, here) = statement(alloc, tokens, input, depth)?;
     let (rest, here) = more_statements(alloc, tokens, here, depth)?;
-    let block = Block {
+    let block = StatementSequence {
         first: Box::into_inner(first),
         rest,
     };
@@ -201,7 +201,7 @@ pub(crate) fn block_behind(
     input: Cursor,
     depth: u32,
     word: Kind,
-) -> Result<(Option<Box<Block>>, Cursor), Stop>
+) -> Result<(Option<Box<StatementSequence>>, Cursor), Stop>
     ensures { Gives tokens.now (λ x. (if_there (λ b. marks.word word ++ block_outline b.value) x.0, ahead tokens.now x.1)) result (optional (accept_at word) (block_at depth) (ahead tokens.now input)) }
 {
     match accept(tokens, input, word) {
@@ -366,7 +366,13 @@ fn for_rest(
     tokens: &[Token],
     input: Cursor,
     depth: u32,
-) -> Result<((Box<Expr>, Option<Box<Expr>>, Box<Block>), Cursor), Stop>
+) -> Result<
+    (
+        (Box<Expr>, Option<Box<Expr>>, Box<StatementSequence>),
+        Cursor,
+    ),
+    Stop,
+>
     ensures { Gives tokens.now (λ x. (
       word kinds.To ++ (expr_outline x.0.0.value ++ (if_there (λ e. word kinds.By ++ expr_outline e.value) x.0.1
           ++ (word kinds.Do ++ (block_outline x.0.2.value ++ word kinds.End)))),
@@ -389,7 +395,7 @@ fn for_body(
     tokens: &[Token],
     input: Cursor,
     depth: u32,
-) -> Result<(Box<Block>, Cursor), Stop>
+) -> Result<(Box<StatementSequence>, Cursor), Stop>
     ensures { Gives tokens.now (λ x. (word kinds.Do ++ (block_outline x.0.value ++ word kinds.End), ahead tokens.now x.1)) result (seq (expect_at kinds.Do) (seq (block_at depth) (expect_at kinds.End)) (ahead tokens.now input)) }
 {
     let input = expect(tokens, input, Kind::Do)?;

@@ -6,7 +6,7 @@ use Rattle.ob_decls.specs.declared.rows.Step.TheVariants as steps
 use Rattle.ob_types.specs.World.{World}
 use Rattle.ob_targets.specs.declared.known.Known.{Known}
 use Rattle.ob_targets.specs.declared.target.Target.{Target}
-use Rattle.ob_targets.specs.Steps.{Knows, Leads, Selects}
+use Rattle.ob_targets.specs.Steps.{Knows, StepsTo, Selects}
 use Rattle.ob_resolve.specs.declared.selectors.Led.{Led}
 
 -- the name that a selector selects, if any, stands for this
@@ -19,7 +19,7 @@ Names w o (steps.Arguments g) t = Unit {0}
 -- a selector leads from what is known before it to this
 pub record IsLed (w : World) (o : Known) (s : Step) (led : Led) : Type 0 where
   pub names : Names w o s led.target
-  pub leads : Leads w o s led.known
+  pub leads : StepsTo w o s led.known
 
 -- the name of the selector at this place stands for this
 pub record IsNamed (w : World) (i : ℕ) (s : Step) (t : Target) : Type 0 where
@@ -38,7 +38,7 @@ pub record IsBehindOne (w : World) (i : ℕ) (o : Known) : Type 0 where
   pub there : slice_get w.rows.selectors i ≡ Some selector
   pub before : Known
   pub knows : Knows w i before
-  pub leads : Leads w before selector.step o
+  pub leads : StepsTo w before selector.step o
 
 -- this is known behind the selector before this place, if there is one
 abbrev pub IsBehind : World → ℕ → Known → Type 0

@@ -16,8 +16,8 @@ use Rattle.ob_scope.specs.Members.{members_of}
 use Rattle.ob_scope.specs.Scope.{IsFirstTwice, NoneTwice}
 use Rattle.ob_scope.specs.Counted.{Counts, HasUses, IsQualifiedBy}
 use Rattle.ob_scope.specs.Identified.{AreNames}
-use Rattle.ob_decls.specs.Order.{AreInOrder, AscendBy}
-use Rattle.ob_scope.specs.Kept.{alias_of, meaning_of, AreKept}
+use Rattle.ob_decls.specs.Order.{AreRowsInOrder, AscendBy}
+use Rattle.ob_scope.specs.Kept.{alias_of, meaning_of, AreValidScopes}
 use Rattle.ob_scope.specs.Places.{AreFirstTwice}
 use Rattle.ob_scope.specs.Found.{AreAliasesOf, AreCounted, AreMeant, AreTexts, IsAliasOf, IsCountOf, MeansBefore}
 use Rattle.ob_scope.specs.Weights.{uses_of_all}
@@ -134,7 +134,7 @@ module _ (name : ℕ → List ℕ) (r : Rows) where
       contains_of meaning_of rows p.0 (record { used = used; declared = declared }) p.1
 
 -- the scopes of rows
-pub are_scopes : (bytes : List ℕ) (ts : List Token) (r : Rows) (counts : List ℕ) (text : List ℕ) (rows : List Resolution) (aliases : List Alias) → AreInOrder r → AreNames (text_at bytes ts) r
+pub are_scopes : (bytes : List ℕ) (ts : List Token) (r : Rows) (counts : List ℕ) (text : List ℕ) (rows : List Resolution) (aliases : List Alias) → AreRowsInOrder r → AreNames (text_at bytes ts) r
     → NoneTwice (text_at bytes ts) (members_of r) → AreAllMeant (text_at bytes ts) r rows → AreAllCounted (text_at bytes ts) r counts
     → AreAliasesOf (text_at bytes ts) (members_of r) counts r.imports (length r.imports) aliases → (IsUtf8 (text_at bytes ts 1) → text ≡ text_at bytes ts 1)
     → AreScopes bytes ts r (record { name = text; meanings = map meaning_of rows; aliases = map alias_of aliases })
@@ -153,7 +153,7 @@ are_scopes bytes ts r counts text rows aliases ordered named once meant c are is
     }
 
 -- and keep what all scopes keep
-pub are_kept : (bytes : List ℕ) (ts : List Token) (r : Rows) (s : ModuleScopes) → length r.uses ≤ 16777216 → AreScopes bytes ts r s → AreKept s
+pub are_kept : (bytes : List ℕ) (ts : List Token) (r : Rows) (s : ModuleScopes) → length r.uses ≤ 16777216 → AreScopes bytes ts r s → AreValidScopes s
 are_kept bytes ts r s few a = record {
   meanings_ascend = a.ordered;
   aliases_ascend = a.aliases_ordered;
@@ -161,7 +161,7 @@ are_kept bytes ts r s few a = record {
 }
 
 -- the same by the list of what the rows declare
-pub are_scopes_by : (bytes : List ℕ) (ts : List Token) (r : Rows) (ms : List Member) (counts : List ℕ) (text : List ℕ) (rows : List Resolution) (aliases : List Alias) → ms ≡ members_of r → AreInOrder r → AreNames (text_at bytes ts) r
+pub are_scopes_by : (bytes : List ℕ) (ts : List Token) (r : Rows) (ms : List Member) (counts : List ℕ) (text : List ℕ) (rows : List Resolution) (aliases : List Alias) → ms ≡ members_of r → AreRowsInOrder r → AreNames (text_at bytes ts) r
     → NoneTwice (text_at bytes ts) ms → AreMeant (text_at bytes ts) r.blocks ms r.uses (length r.uses) rows → AreCounted (text_at bytes ts) r.blocks ms r.uses (length r.uses) counts
     → AreAliasesOf (text_at bytes ts) ms counts r.imports (length r.imports) aliases → (IsUtf8 (text_at bytes ts 1) → text ≡ text_at bytes ts 1)
     → AreScopes bytes ts r (record { name = text; meanings = map meaning_of rows; aliases = map alias_of aliases })

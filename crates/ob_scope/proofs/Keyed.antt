@@ -12,22 +12,22 @@ use Rattle.std.proofs.lemmas.Option.{slice_get_within, slice_get-get_or, get_or_
 use Rattle.std.proofs.lemmas.Slice.Eq.{bytes_eq-Decides}
 use Rattle.std.proofs.lemmas.Grind.{common_steps}
 use Rattle.ob_scope.specs.contracts.places.KeyPartialEq as keyed
-use Rattle.ob_scope.specs.contracts.members.PlacePartialEq as placed
+use Rattle.ob_scope.specs.contracts.members.ScopePartialEq as placed
 use Rattle.ob_scope.specs.declared.places.Key.{Key}
 use Rattle.ob_scope.specs.declared.members.Member.{Member}
-use Rattle.ob_scope.specs.declared.members.Place.{Place}
-use Rattle.ob_scope.specs.declared.members.Place.TheVariants as places
+use Rattle.ob_scope.specs.declared.members.Scope.{Scope}
+use Rattle.ob_scope.specs.declared.members.Scope.TheVariants as places
 use Rattle.ob_scope.specs.Scope.{AreTwice}
 use Rattle.ob_scope.specs.Places.{Seat, entry_of, entry_said, AreFirstTwice, HasNoEntry, IsEntryAt, IsIndex}
 use Rattle.ob_scope.proofs.Elements.{of_slice, slice_of, some_one}
 
-abbrev pub place_eq : Place → Place → Bool
+abbrev pub place_eq : Scope → Scope → Bool
 place_eq = (placed.TheImpl.eq-value).it
 
 abbrev pub key_eq : Key → Key → Bool
 key_eq = (keyed.TheImpl.eq-value).it
 
-place_one : (a b : Place) → place_eq a b ≡ true → a ≡ b
+place_one : (a b : Scope) → place_eq a b ≡ true → a ≡ b
 place_one (places.Block a) (places.Block b) e = ap (λ (n : ℕ). places.Block n) (eqb-true a b e)
 place_one (places.Block a) (places.Record b) e = absurd (false≢true e)
 place_one (places.Record a) (places.Block b) e = absurd (false≢true e)
@@ -36,7 +36,7 @@ place_one (places.Record a) (places.Record b) e = ap (λ (n : ℕ). places.Recor
 eqb-same : (a : ℕ) → (placed.TheImpl.eq-value).it (places.Block a) (places.Block a) ≡ true
 eqb-same a = grind (arith, common_steps)
 
-place_same : (a : Place) → place_eq a a ≡ true
+place_same : (a : Scope) → place_eq a a ≡ true
 place_same (places.Block a) = eqb-same a
 place_same (places.Record a) = eqb-same a
 
@@ -48,7 +48,7 @@ and_right : (a b : Bool) → a && b ≡ true → b ≡ true
 and_right true b e = e
 and_right false b e = absurd (false≢true e)
 
-pub entry_is : (p q : Place) (m n : List ℕ) → p ≡ q → m ≡ n → (let e : Seat = record { place = p; name = m } in e) ≡ record { place = q; name = n }
+pub entry_is : (p q : Scope) (m n : List ℕ) → p ≡ q → m ≡ n → (let e : Seat = record { place = p; name = m } in e) ≡ record { place = q; name = n }
 entry_is p q m n e f = cc
 
 -- equal keys say one thing
@@ -65,7 +65,7 @@ both_true a b e f = rw (e, f) refl
 pub key_same : (a b : Key) → entry_said a ≡ entry_said b → key_eq a b ≡ true
 key_same a b e =
     both_true (place_eq a.place b.place) (bytes_eq a.name.now b.name.now)
-    (subst (λ (p : Place). place_eq a.place p ≡ true) (ap (λ (x : Seat). x.place) e) (place_same a.place))
+    (subst (λ (p : Scope). place_eq a.place p ≡ true) (ap (λ (x : Seat). x.place) e) (place_same a.place))
     ((bytes_eq-Decides a.name.now b.name.now).1 (ap (λ (x : Seat). x.name) e))
 
 -- ---- what a table has

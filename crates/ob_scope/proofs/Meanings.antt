@@ -5,7 +5,7 @@ use Rattle.std.proofs.lemmas.Option.{slice_get-get_or}
 use Rattle.ob_decls.specs.declared.rows.Block.{Block as BlockRow}
 use Rattle.ob_decls.specs.declared.rows.Used.{Used}
 use Rattle.ob_scope.specs.declared.members.Member.{Member}
-use Rattle.ob_scope.specs.declared.members.Place.TheVariants.{Block}
+use Rattle.ob_scope.specs.declared.members.Scope.TheVariants.{Block}
 use Rattle.ob_scope.specs.Scope.{ResolvesTo, by_scope, as_target, AreTwice, IsFirstTwice, NoneTwice}
 use Rattle.ob_scope.proofs.Blocks.{around-both}
 

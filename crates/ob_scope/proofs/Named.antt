@@ -5,7 +5,7 @@ use Rattle.std.proofs.lemmas.Bool.{cases_lt}
 use Rattle.std.proofs.lemmas.Option.{get_or_from_slice_get}
 use Rattle.ob_scope.specs.declared.places.Key.{Key}
 use Rattle.ob_scope.specs.declared.members.Member.{Member}
-use Rattle.ob_scope.specs.declared.members.Place.TheVariants as places
+use Rattle.ob_scope.specs.declared.members.Scope.TheVariants as places
 use Rattle.ob_scope.specs.Looked.{IsNamedIn}
 use Rattle.ob_scope.specs.Places.{Seat, entry_of, HasNoEntry, IsEntryAt, IsIndex}
 use Rattle.ob_scope.specs.Scope.{NoneTwice}

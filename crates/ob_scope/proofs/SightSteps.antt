@@ -6,13 +6,13 @@ use Rattle.std.proofs.lemmas.Option.{slice_get-get_or, get_or_from_slice_get}
 use Rattle.ob_decls.specs.declared.rows.Block.{Block}
 use Rattle.ob_decls.specs.Order.{AscendBy}
 use Rattle.ob_scope.specs.declared.members.Member.{Member}
-use Rattle.ob_scope.specs.declared.members.Place.TheVariants as places
+use Rattle.ob_scope.specs.declared.members.Scope.TheVariants as places
 use Rattle.ob_scope.specs.declared.opened.Open.{Open}
 use Rattle.ob_scope.specs.declared.sight.Sight.{Sight}
 use Rattle.ob_scope.specs.Looked.{use_in, IsResolved}
 use Rattle.ob_scope.specs.Scope.{ResolvesToNothing}
 use Rattle.ob_scope.specs.Sighted.{IsFrontBefore, IsSight}
-use Rattle.ob_scope.specs.Sights.{number_of, AreNumbered, AreSeen, Enters, IsIn, IsNamedAt, IsOpen, IsOpenPlace, IsStart}
+use Rattle.ob_scope.specs.Sights.{number_of, AreNumbered, AreSeen, Enters, IsIn, IsNamedAt, IsOpen, IsOpenScope, IsStart}
 use Rattle.ob_scope.proofs.Opening.{open_ascend, open_none}
 use Rattle.ob_scope.proofs.Sighting.{resolved_found, resolved_none, resolved_unnamed, seen_bind, seen_enter, seen_field, seen_none, seen_start}
 
@@ -137,7 +137,7 @@ module _ (name : ℕ → List ℕ) (blocks : List Block) (members : List Member)
       (seen_start blocks members numbers opened.stack.items opened.fresh s.next s.latest.items s.earlier.items seen n at (let long = h.named in omega arith) start)
 
   pub look_found : (n : ℕ) (at : Option ℕ) → n ≡ number_of names (name token) → IsStart members numbers opened.stack.items s.next n at
-      → IfSome at (λ i. (m : Member) × (slice_get members i ≡ Some m) × IsOpenPlace opened.stack.items m.place) → IfSome at (IsResolved name blocks members block token)
+      → IfSome at (λ i. (m : Member) × (slice_get members i ≡ Some m) × IsOpenScope opened.stack.items m.place) → IfSome at (IsResolved name blocks members block token)
   look_found n None is start shown = tt
   look_found n (Some i) is start shown =
       resolved_found name blocks members names numbers numbered opened.stack.items opened.fresh s.next s.latest.items s.earlier.items seen ascend e.opened block token e.innermost front i

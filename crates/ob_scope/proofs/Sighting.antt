@@ -9,12 +9,12 @@ use Rattle.std.proofs.lemmas.Slice.Eq.{bytes_eq-Decides}
 use Rattle.ob_decls.specs.declared.rows.Block.{Block}
 use Rattle.ob_decls.specs.Order.{AscendBy}
 use Rattle.ob_scope.specs.declared.members.Member.{Member}
-use Rattle.ob_scope.specs.declared.members.Place.{Place}
-use Rattle.ob_scope.specs.declared.members.Place.TheVariants as places
+use Rattle.ob_scope.specs.declared.members.Scope.{Scope}
+use Rattle.ob_scope.specs.declared.members.Scope.TheVariants as places
 use Rattle.ob_scope.specs.Looked.{use_in, IsResolved}
 use Rattle.ob_scope.specs.Scope.{IsAround, IsSeen, ResolvesToNothing, itself}
 use Rattle.ob_scope.specs.Sighted.{IsFrontBefore}
-use Rattle.ob_scope.specs.Sights.{number_of, AreNumbered, AreSeen, IsIn, IsInnermost, IsLimit, IsNamedAt, IsOpen, IsOpenPlace, IsSeenAt, IsStart}
+use Rattle.ob_scope.specs.Sights.{number_of, AreNumbered, AreSeen, IsIn, IsInnermost, IsLimit, IsNamedAt, IsOpen, IsOpenScope, IsSeenAt, IsStart}
 use Rattle.ob_scope.proofs.Elements.{contains_slice, slice_contains, slice_there, some_one}
 use Rattle.ob_scope.proofs.Opening.{around_open, open_around}
 
@@ -236,12 +236,12 @@ module _ (name : ℕ → List ℕ) (blocks : List Block) (members : List Member)
       let same : slice_index numbers p.0 ≡ number_of names (name token) = numbered.each p.0 e p.1 ∙ ap (number_of names) t.named in
       omega arith
 
-  open_in : (i c : ℕ) (m : Member) → slice_get members i ≡ Some m → IsOpenPlace stack m.place → IsIn members i c → Contains stack c
+  open_in : (i c : ℕ) (m : Member) → slice_get members i ≡ Some m → IsOpenScope stack m.place → IsIn members i c → Contains stack c
   open_in i c m there is p =
       let same : m ≡ p.member = some_one m p.member (sym there ∙ p.there) in
-      subst (λ (x : Place). IsOpenPlace stack x) (ap (λ (y : Member). y.place) same ∙ p.placed) is
+      subst (λ (x : Scope). IsOpenScope stack x) (ap (λ (y : Member). y.place) same ∙ p.placed) is
 
-  pub resolved_found : (i : ℕ) → IsStart members numbers stack j (number_of names (name token)) (Some i) → (m : Member) × (slice_get members i ≡ Some m) × IsOpenPlace stack m.place → IsResolved name blocks members block token i
+  pub resolved_found : (i : ℕ) → IsStart members numbers stack j (number_of names (name token)) (Some i) → (m : Member) × (slice_get members i ≡ Some m) × IsOpenScope stack m.place → IsResolved name blocks members block token i
   unfolding seen_here
   resolved_found i start (m, there, is) =
       let here = start.some i refl in

@@ -3,7 +3,7 @@ use Rattle.std.specs.Prelude.{◌≡◌, ℕ, List, [], ◌∷◌, Some, Contain
 use Rattle.ob_scan.specs.declared.token.Token.{Token}
 use Rattle.ob_decls.specs.declared.rows.Used.{Used}
 use Rattle.ob_decls.specs.declared.rows.Sort.TheVariants as sorts
-use Rattle.ob_decls.specs.Order.{AreInOrder}
+use Rattle.ob_decls.specs.Order.{AreRowsInOrder}
 use Rattle.ob_decls.specs.Parts.{Rows}
 use Rattle.ob_scope.specs.declared.across.Crossing.{Crossing}
 use Rattle.ob_scope.specs.declared.members.Member.{Member}
@@ -41,5 +41,5 @@ pub record IsImportAt (members : List Member) (number : ℕ) : Type 0 where
 -- the scopes of rows that are in order, with the members that they declare
 pub record AreKnown (bytes : List ℕ) (ts : List Token) (rows : Rows) (members : List Member) (s : ModuleScopes) : Type 0 where
   pub scopes : AreScopes bytes ts rows s
-  pub ordered : AreInOrder rows
+  pub ordered : AreRowsInOrder rows
   pub declared : members ≡ members_of rows

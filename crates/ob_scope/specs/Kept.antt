@@ -15,7 +15,7 @@ abbrev pub alias_of : Alias → AliasUses
 alias_of a = record { alias = a.decl; imported = string_bytes a.«module»; uses = a.uses }
 
 -- uses and aliases ascend, and no more uses are qualified than a text has bytes
-pub record AreKept (s : ModuleScopes) : Type 0 where
+pub record AreValidScopes (s : ModuleScopes) : Type 0 where
   pub meanings_ascend : AscendBy (λ (m : Meaning). m.used) s.meanings
   pub aliases_ascend : AscendBy (λ (a : AliasUses). a.alias) s.aliases
   pub few : uses_of_all s.aliases ≤ 16777216

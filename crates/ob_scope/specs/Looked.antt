@@ -4,7 +4,7 @@ use Rattle.ob_decls.specs.declared.rows.Block.{Block as BlockRow}
 use Rattle.ob_decls.specs.declared.rows.Used.{Used}
 use Rattle.ob_decls.specs.declared.rows.Sort.TheVariants as sorts
 use Rattle.ob_scope.specs.declared.members.Member.{Member}
-use Rattle.ob_scope.specs.declared.members.Place.TheVariants.{Block}
+use Rattle.ob_scope.specs.declared.members.Scope.TheVariants.{Block}
 use Rattle.ob_scope.specs.Scope.{ResolvesTo, Resolves}
 
 -- Below, a name is the text of a token by the token's number.

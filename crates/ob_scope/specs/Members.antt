@@ -5,14 +5,14 @@ use Rattle.ob_decls.specs.declared.rows.Declarer.{Declarer}
 use Rattle.ob_decls.specs.declared.rows.Declared.{Declared}
 use Rattle.ob_decls.specs.Parts.{Rows}
 use Rattle.ob_scope.specs.declared.members.Member.{Member}
-use Rattle.ob_scope.specs.declared.members.Place.{Place}
-use Rattle.ob_scope.specs.declared.members.Place.TheVariants.{Block, Record}
+use Rattle.ob_scope.specs.declared.members.Scope.{Scope}
+use Rattle.ob_scope.specs.declared.members.Scope.TheVariants.{Block, Record}
 
 -- where a construct declares: fields in their record, all else in the block around it
-abbrev pub place_of : Declarer → Place
+abbrev pub place_of : Declarer → Scope
 place_of by = place by.of_record
   where
-    place : Option ℕ → Place
+    place : Option ℕ → Scope
     place None = Block by.block
     place (Some r) = Record r
 

@@ -1,6 +1,6 @@
 -- An index of what is declared, by place and name.
 use Rattle.std.specs.Prelude.{◌≡◌, ℕ, List, map, slice_get, Some}
-use Rattle.ob_scope.specs.declared.members.Place.{Place}
+use Rattle.ob_scope.specs.declared.members.Scope.{Scope}
 use Rattle.ob_scope.specs.declared.members.Member.{Member}
 use Rattle.ob_scope.specs.declared.places.Key.{Key}
 use Rattle.ob_scope.specs.declared.places.IndexFault.{IndexFault}
@@ -9,7 +9,7 @@ use Rattle.ob_scope.specs.Scope.{IsFirstTwice, NoneTwice}
 
 -- a place and a name in it
 pub record Seat : Type 0 where
-  pub place : Place
+  pub place : Scope
   pub name : List ℕ
 
 -- what a member declares, where a name is the text of a token
@@ -39,11 +39,11 @@ TellsTwice name members (faults.Twice f s) = AreFirstTwice name members f s
 TellsTwice name members faults.Memory = Unit {0}
 
 -- the key at this place says this
-pub record IsEntryAt (keys : List Key) (place : Place) (name : List ℕ) (i : ℕ) : Type 0 where
+pub record IsEntryAt (keys : List Key) (place : Scope) (name : List ℕ) (i : ℕ) : Type 0 where
   pub key : Key
   pub there : slice_get keys i ≡ Some key
   pub says : entry_said key ≡ record { place = place; name = name }
 
 -- no key says it
-abbrev pub HasNoEntry : List Key → Place → List ℕ → Type 0
+abbrev pub HasNoEntry : List Key → Scope → List ℕ → Type 0
 HasNoEntry keys place name = (i : ℕ) (k : Key) → slice_get keys i ≡ Some k → entry_said k ≡ record { place = place; name = name } → ⊥

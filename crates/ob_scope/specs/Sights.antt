@@ -5,8 +5,8 @@ use Rattle.std.specs.List.{position_or_len}
 use Rattle.std.specs.Str.{bytes_eq}
 use Rattle.ob_decls.specs.declared.rows.Block.{Block as BlockRow}
 use Rattle.ob_scope.specs.declared.members.Member.{Member}
-use Rattle.ob_scope.specs.declared.members.Place.{Place}
-use Rattle.ob_scope.specs.declared.members.Place.TheVariants.{Block, Record}
+use Rattle.ob_scope.specs.declared.members.Scope.{Scope}
+use Rattle.ob_scope.specs.declared.members.Scope.TheVariants.{Block, Record}
 use Rattle.ob_scope.specs.Scope.{IsAround, IsDirectlyIn}
 
 -- ---- names
@@ -83,6 +83,6 @@ pub record AreSeen (blocks : List BlockRow) (members : List Member) (numbers sta
   pub older : (i h : ℕ) → slice_index_or earlier i None ≡ Some h → IsNamedAt members numbers i (slice_index numbers i) h
 
 -- a place is an open block
-abbrev pub IsOpenPlace : List ℕ → Place → Type 0
-IsOpenPlace stack (Block b) = Contains stack b
-IsOpenPlace stack (Record r) = ⊥
+abbrev pub IsOpenScope : List ℕ → Scope → Type 0
+IsOpenScope stack (Block b) = Contains stack b
+IsOpenScope stack (Record r) = ⊥

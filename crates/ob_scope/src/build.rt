@@ -5,7 +5,7 @@ ghost use Rattle.ob_decls.specs.Declaring.{rows_in};
 ghost use Rattle.ob_decls.specs.Parts.{Rows};
 ghost use Rattle.ob_scope.specs.Found.{AreAliasesOf, AreCounted, AreMeant, IsCountOf};
 ghost use Rattle.ob_scope.specs.Identified.{AreNames};
-ghost use Rattle.ob_decls.specs.Order.{AreInOrder, AscendBy};
+ghost use Rattle.ob_decls.specs.Order.{AreRowsInOrder, AscendBy};
 ghost use Rattle.ob_scope.specs.Members.{members_of};
 ghost use Rattle.ob_scope.specs.Places.{IsIndex, TellsTwice};
 ghost use Rattle.ob_scope.specs.Scope.{NoneTwice};
@@ -14,7 +14,7 @@ ghost use Rattle.ob_scope.specs.Texts.{text_at};
 ghost use Rattle.ob_scope.specs.declared.members.Member.{Member};
 
 use crate::identified::are_identifiers;
-use crate::members::{Member, Place, members_by, place_of_member};
+use crate::members::{Member, Scope, members_by, place_of_member};
 use crate::places::{IndexFault, Key, index_of};
 use crate::text::Text;
 use crate::uses::{Resolved, found_by};
@@ -84,12 +84,12 @@ fn fault_of(
     let name = text.string(alloc, first.number)?;
     let first = text.start(first.number);
     let fault = match second.place {
-        Place::Block(_) => ScopeFault::Twice {
+        Scope::Block(_) => ScopeFault::Twice {
             name,
             first,
             second: text.start(second.number),
         },
-        Place::Record(_) => ScopeFault::TwiceField {
+        Scope::Record(_) => ScopeFault::TwiceField {
             name,
             first,
             second: text.start(second.number),
@@ -107,7 +107,7 @@ fn scopes_of(
     found: Resolved,
 ) -> Result<Scopes, AllocError>
     requires in_text { AreInText text.now.bytes.now text.now.tokens.now }
-    requires ordered { AreInOrder (rows_in table.now) }
+    requires ordered { AreRowsInOrder (rows_in table.now) }
     requires few { length (rows_in table.now).uses ≤ 16777216 }
     requires members { members.now ≡ members_of (rows_in table.now) }
     requires named { AreNames (text_at text.now.bytes.now text.now.tokens.now) (rows_in table.now) }
@@ -140,7 +140,7 @@ fn scopes_with(
     index: &IndexSet<Key>,
 ) -> Result<Scopes, AllocError>
     requires in_text { AreInText text.now.bytes.now text.now.tokens.now }
-    requires ordered { AreInOrder (rows_in table.now) }
+    requires ordered { AreRowsInOrder (rows_in table.now) }
     requires few { length (rows_in table.now).uses ≤ 16777216 }
     requires members { members.now ≡ members_of (rows_in table.now) }
     requires named { AreNames (text_at text.now.bytes.now text.now.tokens.now) (rows_in table.now) }
@@ -160,7 +160,7 @@ fn scopes_by(
     members: &[Member],
 ) -> Result<Scopes, ScopeFault>
     requires in_text { AreInText text.now.bytes.now text.now.tokens.now }
-    requires ordered { AreInOrder (rows_in table.now) }
+    requires ordered { AreRowsInOrder (rows_in table.now) }
     requires few { length (rows_in table.now).uses ≤ 16777216 }
     requires members { members.now ≡ members_of (rows_in table.now) }
     requires named { AreNames (text_at text.now.bytes.now text.now.tokens.now) (rows_in table.now) }

@@ -24,5 +24,5 @@ pub use across::{Crossing, crossings};
 pub use build::scopes_from;
 pub use entry::scopes;
 pub use fault::ScopeFault;
-pub use members::{Member, Place};
+pub use members::{Member, Scope};
 pub use module_scopes::{Alias, Scopes};

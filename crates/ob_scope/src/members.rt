@@ -10,7 +10,7 @@ use std::alloc::{AllocError, Global};
 
 /// Where an identifier is declared.
 #[derive(Clone, Copy, PartialEq, Eq, Hash)]
-pub enum Place {
+pub enum Scope {
     /// In the block with this first token.
     Block(u32),
     /// In the record of this RECORD.
@@ -20,18 +20,18 @@ pub enum Place {
 /// A declared identifier, by the number of its token.
 #[derive(Clone, Copy)]
 pub struct Member {
-    pub place: Place,
+    pub place: Scope,
     pub number: u32,
     pub sort: Sort,
 }
 
 /// Where a construct declares its identifiers.
-fn place_of(by: Declarer) -> Place
+fn place_of(by: Declarer) -> Scope
     ensures { result ≡ place_of by }
 {
     match by.of_record {
-        None => Place::Block(by.block),
-        Some(record) => Place::Record(record),
+        None => Scope::Block(by.block),
+        Some(record) => Scope::Record(record),
     }
 }
 

@@ -2,7 +2,7 @@
 ghost use Rattle.std.specs.Prelude.{◌≡◌, ℕ, true, Some, IfOk, IfSome, IfNone, Contains, map};
 ghost use Rattle.ob_decls.specs.Order.{AscendBy, HasNoneBy, IsPlaceBy};
 ghost use Rattle.ob_scope.specs.Crossings.{IsAliasFor};
-ghost use Rattle.ob_scope.specs.Kept.{alias_of, AreKept};
+ghost use Rattle.ob_scope.specs.Kept.{alias_of, AreValidScopes};
 ghost use Rattle.ob_scope.specs.declared.meaning.Resolution.{Resolution};
 ghost use Rattle.ob_scope.specs.declared.module_scopes.Alias.{Alias};
 ghost use Rattle.ob_scope.specs.Scoped.{AliasUses, Meaning};
@@ -32,14 +32,14 @@ pub struct Scopes {
 impl Model for Scopes {
     ghost use Rattle.std.specs.Prelude.{map};
     ghost use Rattle.std.specs.String.{string_bytes};
-    ghost use Rattle.ob_scope.specs.Kept.{alias_of, meaning_of, AreKept};
+    ghost use Rattle.ob_scope.specs.Kept.{alias_of, meaning_of, AreValidScopes};
     ghost use Rattle.ob_scope.specs.Scoped.{ModuleScopes};
 
     ghost Value = { ModuleScopes };
 
     ghost view = { λ s. record { name = string_bytes s.name; meanings = map meaning_of s.meanings.items; aliases = map alias_of s.aliases.items } };
 
-    ghost invariant = { λ s. AreKept (record { name = string_bytes s.name; meanings = map meaning_of s.meanings.items; aliases = map alias_of s.aliases.items }) };
+    ghost invariant = { λ s. AreValidScopes (record { name = string_bytes s.name; meanings = map meaning_of s.meanings.items; aliases = map alias_of s.aliases.items }) };
 }
 
 /// The place of the row of a use.
@@ -64,7 +64,7 @@ impl Scopes {
     /// What every value keeps: uses and aliases ascend by their numbers, and all aliases together qualify at most
     /// 16,777,216 uses.
     pub fn keeps(&self)
-        ensures { AreKept self.now }
+        ensures { AreValidScopes self.now }
     {
         // Using a field makes the facts of the type known here.
         let _ = &self.name;

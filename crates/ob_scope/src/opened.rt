@@ -2,9 +2,9 @@
 ghost use Rattle.std.specs.Prelude.{◌≡◌, ◌++◌, ◌∷◌, ◌+◌, ◌≤◌, ℕ, List, [], OnOk, IfSome, IfNone, true};
 ghost use Rattle.ob_decls.specs.declared.rows.Block.{Block};
 ghost use Rattle.ob_decls.specs.Order.{AscendBy, HasNoneBy, IsPlaceBy};
-ghost use Rattle.ob_scope.specs.Sights.{Enters, IsInnermost, IsOpen, IsOpenPlace};
+ghost use Rattle.ob_scope.specs.Sights.{Enters, IsInnermost, IsOpen, IsOpenScope};
 
-use crate::members::Place;
+use crate::members::Scope;
 use crate::resolve::outer_of;
 use ob_decls::Block;
 use std::alloc::AllocError;
@@ -77,13 +77,13 @@ fn place_of_open(stack: &[u32], block: u32) -> Option<usize>
 }
 
 /// Whether a place is an open block.
-pub(crate) fn is_open(stack: &[u32], place: Place) -> bool
+pub(crate) fn is_open(stack: &[u32], place: Scope) -> bool
     requires { AscendBy (λ (b : ℕ). b) stack.now }
-    ensures yes { result ≡ true → IsOpenPlace stack.now place }
-    ensures no { IsOpenPlace stack.now place → result ≡ true }
+    ensures yes { result ≡ true → IsOpenScope stack.now place }
+    ensures no { IsOpenScope stack.now place → result ≡ true }
 {
     match place {
-        Place::Block(block) => place_of_open(stack, block).is_some(),
-        Place::Record(_) => false,
+        Scope::Block(block) => place_of_open(stack, block).is_some(),
+        Scope::Record(_) => false,
     }
 }

@@ -4,7 +4,7 @@ ghost use Rattle.ob_scan.specs.Spelling.{AreInText};
 ghost use Rattle.ob_scope.specs.Texts.{text_at};
 ghost use Rattle.ob_scope.specs.Places.{entry_of, entry_said, HasNoEntry, IsEntryAt, IsIndex, TellsTwice};
 
-use crate::members::{Member, Place};
+use crate::members::{Member, Scope};
 use crate::text::Text;
 use indexmap::IndexSet;
 use std::alloc::Global;
@@ -12,7 +12,7 @@ use std::alloc::Global;
 /// A place and a name in it.
 #[derive(Clone, Copy, PartialEq, Eq, Hash)]
 pub(crate) struct Key<'a> {
-    pub(crate) place: Place,
+    pub(crate) place: Scope,
     pub(crate) name: &'a [u8],
 }
 
@@ -57,7 +57,7 @@ pub(crate) fn index_of<'a>(
 }
 
 /// The place of the member of this name that is declared here.
-pub(crate) fn member_in(index: &IndexSet<Key>, place: Place, name: &[u8]) -> Option<usize>
+pub(crate) fn member_in(index: &IndexSet<Key>, place: Scope, name: &[u8]) -> Option<usize>
     ensures found { IfSome result (IsEntryAt index.now.keys place name.now) }
     ensures none { IfNone result (HasNoEntry index.now.keys place name.now) }
 {

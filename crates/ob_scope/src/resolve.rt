@@ -12,7 +12,7 @@ ghost use Rattle.ob_scope.specs.Sighted.{IsFrontBefore, IsSight};
 ghost use Rattle.ob_scope.specs.Sights.{AreNumbered};
 ghost use Rattle.ob_scope.specs.Texts.{text_at};
 
-use crate::members::{Member, Place};
+use crate::members::{Member, Scope};
 use crate::numbering::Numbered;
 use crate::places::{Key, member_in};
 use crate::sight::{Sight, resolved};
@@ -35,7 +35,7 @@ fn named_in(
     ensures only { IfSome result (λ r. (i : ℕ) (m : Member) → IsNamedIn (text_at text.now.bytes.now text.now.tokens.now) members.now block number (i, m) → i ≡ r.0) }
     ensures none { IfNone result ((i : ℕ) (m : Member) → IsNamedIn (text_at text.now.bytes.now text.now.tokens.now) members.now block number (i, m) → ⊥) }
 {
-    let at = member_in(index, Place::Block(block), text.of(number))?;
+    let at = member_in(index, Scope::Block(block), text.of(number))?;
     Some((at, members[at]))
 }
 

@@ -10,10 +10,10 @@ ghost use Rattle.ob_scan.specs.Spelling.{AreInText};
 ghost use Rattle.ob_scope.specs.Looked.{use_in, IsResolved};
 ghost use Rattle.ob_scope.specs.Scope.{ResolvesToNothing};
 ghost use Rattle.ob_scope.specs.Sighted.{IsFrontBefore, IsSight};
-ghost use Rattle.ob_scope.specs.Sights.{AreNumbered, AreSeen, IsOpenPlace, IsStart};
+ghost use Rattle.ob_scope.specs.Sights.{AreNumbered, AreSeen, IsOpenScope, IsStart};
 ghost use Rattle.ob_scope.specs.Texts.{text_at};
 
-use crate::members::{Member, Place};
+use crate::members::{Member, Scope};
 use crate::numbering::{Numbered, number_of};
 use crate::opened::{Open, enter, is_open};
 use crate::text::Text;
@@ -71,7 +71,7 @@ fn last_open(
     requires as_many { length earlier.now ≡ length members.now }
     requires within { IfSome from (λ i. i < length members.now) }
     requires falls { (i h : ℕ) → slice_index_or earlier.now i None ≡ Some h → h < i }
-    ensures open { IfSome result (λ i. (m : Member) × (slice_get members.now i ≡ Some m) × IsOpenPlace stack.now m.place) }
+    ensures open { IfSome result (λ i. (m : Member) × (slice_get members.now i ≡ Some m) × IsOpenScope stack.now m.place) }
     ensures start { (blocks : List Block) (numbers : List ℕ) (fresh j n : ℕ) (latest : List (Option ℕ)) → AreSeen blocks members.now numbers stack.now fresh j latest earlier.now
         → IsStart members.now numbers stack.now j n from → IsStart members.now numbers stack.now j n result }
 {
@@ -114,7 +114,7 @@ fn declare_next(
     ensures sight { OnOk result (IsSight blocks.now members.now numbers.now (length sight.old.latest.items) sight.new) }
 {
     let at = sight.next;
-    if let Place::Block(block) = members[at].place {
+    if let Scope::Block(block) = members[at].place {
         enter(&mut sight.open, blocks, block)?;
         bind(sight, numbers[at], at);
     }

@@ -15,7 +15,7 @@ use Rattle.ob_targets.specs.declared.known.Known.{Known}
 use Rattle.ob_targets.specs.declared.known.Known.TheVariants as knowns
 use Rattle.ob_targets.specs.declared.target.Target.{Target}
 use Rattle.ob_targets.specs.Targets.{field_target, known_of, used_target}
-use Rattle.ob_targets.specs.Steps.{begins, FindsField, Follows, Knows, Leads, Levels, Selects, there, nowhere, of_module, of_nothing, exported, field, no_field, unknown, none, one, to_field, to_elements, to_target, by_guard, at_head, behind}
+use Rattle.ob_targets.specs.Steps.{begins, FindsField, Follows, Knows, StepsTo, Levels, Selects, there, nowhere, of_module, of_nothing, exported, field, no_field, unknown, none, one, to_field, to_elements, to_target, by_guard, at_head, behind}
 
 follows_once : (Leads : Node → Node → Type 0) → ((n x y : Node) → Leads n x → Leads n y → x ≡ y) → (o a b : Known) → Follows Leads o a → Follows Leads o b → a ≡ b
 follows_once Leads once o a b (there {n = n} {m = x} p) (there {m = y} q) = ap knowns.Typed (once n x y p q)
@@ -43,7 +43,7 @@ module _ (w : World) where
       let before : x ≡ y = levels_once d o x y p q in
       follows_once (HasElement same (shape w)) (element_once same (shape w)) x a b f (subst (λ (v : Known). Follows (HasElement same (shape w)) v b) (sym before) g)
 
-  leads_once : (o : Known) (s : Step) (a b : Known) → Leads w o s a → Leads w o s b → a ≡ b
+  leads_once : (o : Known) (s : Step) (a b : Known) → StepsTo w o s a → StepsTo w o s b → a ≡ b
   leads_once o s a b (to_field {k = k} {t = t} p) (to_field {t = u} q) = ap (known_of w) (selects_once o k t u p q)
   leads_once o s a b (to_elements {c = c} p) (to_elements q) = levels_once c o a b p q
   leads_once o s a b (to_target p) (to_target q) = follows_once (HasTarget same (shape w)) (target_once same (shape w)) o a b p q
@@ -67,4 +67,4 @@ module _ (w : World) where
   knows_once i a b (behind {i = j} {s = s} {o = o} at_s p first known leads) (behind {s = t} {o = u} at_t q other knows led) =
       let is : t ≡ s = one_selector j t s at_t at_s in
       let before : o ≡ u = knows_once j o u known knows in
-      leads_once o s.step a b leads (subst (λ (v : Known). Leads w v s.step b) (sym before) (subst (λ (v : Selector). Leads w u v.step b) is led))
+      leads_once o s.step a b leads (subst (λ (v : Known). StepsTo w v s.step b) (sym before) (subst (λ (v : Selector). StepsTo w u v.step b) is led))

@@ -60,14 +60,14 @@ module _ (w : World) where
     one : {c : ℕ} {o next last : Known} → Levels c o next → Follows (HasElement same (shape w)) next last → Levels (suc c) o last
 
   -- what is known behind a selector, by what is known before it
-  pub data Leads (o : Known) : Step → Known → Type 0 where
-    to_field : {k : ℕ} {t : Target} → Selects o k t → Leads o (steps.Field k) (known_of w t)
-    to_elements : {c : ℕ} {next : Known} → Levels c o next → Leads o (steps.Elements c) next
-    to_target : {next : Known} → Follows (HasTarget same (shape w)) o next → Leads o steps.Target next
-    by_guard : {t : Option TypeName} → Leads o (steps.Arguments t) (guard_of w t)
+  pub data StepsTo (o : Known) : Step → Known → Type 0 where
+    to_field : {k : ℕ} {t : Target} → Selects o k t → StepsTo o (steps.Field k) (known_of w t)
+    to_elements : {c : ℕ} {next : Known} → Levels c o next → StepsTo o (steps.Elements c) next
+    to_target : {next : Known} → Follows (HasTarget same (shape w)) o next → StepsTo o steps.Target next
+    by_guard : {t : Option TypeName} → StepsTo o (steps.Arguments t) (guard_of w t)
 
   -- what is known before the selector at this place
   pub data Knows : ℕ → Known → Type 0 where
     at_head : {i : ℕ} {s : Selector} → slice_get w.rows.selectors i ≡ Some s → begins w.rows.selectors i s ≡ true → Knows i (known_of w (used_target w s.of))
     behind : {i : ℕ} {s t : Selector} {o next : Known} → slice_get w.rows.selectors i ≡ Some s → slice_get w.rows.selectors (suc i) ≡ Some t →
-        begins w.rows.selectors (suc i) t ≡ false → Knows i o → Leads o s.step next → Knows (suc i) next
+        begins w.rows.selectors (suc i) t ≡ false → Knows i o → StepsTo o s.step next → Knows (suc i) next

@@ -4,7 +4,7 @@ use crate::asked::{Row, are_told};
 use crate::readings::parsed;
 use ob_scan::scan;
 use ob_tree::declaration::Module;
-use ob_tree::expression::{Expr, Factor, Sum, Term};
+use ob_tree::expression::{Expr, Factor, SimpleExpression, Term};
 use ob_tree::statement::Stmt;
 use std::alloc::{AllocError, Global};
 use std::test::Fail;
@@ -45,7 +45,7 @@ fn tell_term(told: &mut String, term: &Term) -> Result<(), AllocError> {
 }
 
 /// Tells the terms with their operators, each in parentheses.
-fn tell_sum(told: &mut String, sum: &Sum) -> Result<(), AllocError> {
+fn tell_sum(told: &mut String, sum: &SimpleExpression) -> Result<(), AllocError> {
     told.push_str("(")?;
     tell_term(told, &sum.first)?;
     for (operator, term) in &sum.rest {

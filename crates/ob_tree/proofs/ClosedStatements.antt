@@ -13,7 +13,7 @@ use Rattle.ob_tree.specs.declared.statement.Case.TheOpen as layers
 use Rattle.ob_tree.specs.declared.statement.Case.TheShapes as shapes
 use Rattle.ob_tree.specs.declared.statement.Case.{Case, Case-F, roll-Case, out-roll-Case, map-Case}
 use Rattle.ob_tree.specs.declared.statement.Stmt.{Stmt, Stmt-F, roll-Stmt, out-roll-Stmt, map-Stmt}
-use Rattle.ob_tree.specs.declared.statement.Block.{Block, Block-F, roll-Block, out-roll-Block, ind-Block, map-Block}
+use Rattle.ob_tree.specs.declared.statement.StatementSequence.{StatementSequence, StatementSequence-F, roll-StatementSequence, out-roll-StatementSequence, ind-StatementSequence, map-StatementSequence}
 use Rattle.ob_tree.specs.declared.statement.Branch.{Branch, Branch-F, roll-Branch, out-roll-Branch, map-Branch}
 use Rattle.ob_tree.specs.declared.statement.For.{For, For-F, roll-For, out-roll-For, map-For}
 use Rattle.ob_tree.specs.Constructs as constructs
@@ -50,7 +50,7 @@ module _ (P : Out → Type 0) (closed : IsClosed P) where
   abbrev HeldStmt : Stmt → Type 0
   HeldStmt t = P (stmt_outline t)
 
-  abbrev HeldBlock : Block → Type 0
+  abbrev HeldBlock : StatementSequence → Type 0
   HeldBlock t = P (block_outline t)
 
   -- a branch with any word in it
@@ -63,36 +63,36 @@ module _ (P : Out → Type 0) (closed : IsClosed P) where
   -- a layer whose parts have it, and the layer itself
 
   abbrev WithCase : Type 0
-  WithCase = Case-F (With HeldCase) (With HeldStmt) (With HeldBlock) (With HeldBranch) (With HeldFor)
+  WithCase = Case-F (With HeldCase) (With HeldStmt) (With HeldBranch) (With HeldFor) (With HeldBlock)
 
-  abbrev case_of : WithCase → Case-F Case Stmt Block Branch For
-  case_of = map-Case (With HeldCase) (With HeldStmt) (With HeldBlock) (With HeldBranch) (With HeldFor) Case Stmt Block Branch For (λ e. e.0) (λ e. e.0) (λ e. e.0) (λ e. e.0) (λ e. e.0)
+  abbrev case_of : WithCase → Case-F Case Stmt Branch For StatementSequence
+  case_of = map-Case (With HeldCase) (With HeldStmt) (With HeldBranch) (With HeldFor) (With HeldBlock) Case Stmt Branch For StatementSequence (λ e. e.0) (λ e. e.0) (λ e. e.0) (λ e. e.0) (λ e. e.0)
 
   abbrev WithStmt : Type 0
-  WithStmt = Stmt-F (With HeldCase) (With HeldStmt) (With HeldBlock) (With HeldBranch) (With HeldFor)
+  WithStmt = Stmt-F (With HeldCase) (With HeldStmt) (With HeldBranch) (With HeldFor) (With HeldBlock)
 
-  abbrev stmt_of : WithStmt → Stmt-F Case Stmt Block Branch For
-  stmt_of = map-Stmt (With HeldCase) (With HeldStmt) (With HeldBlock) (With HeldBranch) (With HeldFor) Case Stmt Block Branch For (λ e. e.0) (λ e. e.0) (λ e. e.0) (λ e. e.0) (λ e. e.0)
+  abbrev stmt_of : WithStmt → Stmt-F Case Stmt Branch For StatementSequence
+  stmt_of = map-Stmt (With HeldCase) (With HeldStmt) (With HeldBranch) (With HeldFor) (With HeldBlock) Case Stmt Branch For StatementSequence (λ e. e.0) (λ e. e.0) (λ e. e.0) (λ e. e.0) (λ e. e.0)
 
   abbrev WithBlock : Type 0
-  WithBlock = Block-F (With HeldCase) (With HeldStmt) (With HeldBlock) (With HeldBranch) (With HeldFor)
+  WithBlock = StatementSequence-F (With HeldCase) (With HeldStmt) (With HeldBranch) (With HeldFor) (With HeldBlock)
 
-  abbrev block_of : WithBlock → Block-F Case Stmt Block Branch For
-  block_of = map-Block (With HeldCase) (With HeldStmt) (With HeldBlock) (With HeldBranch) (With HeldFor) Case Stmt Block Branch For (λ e. e.0) (λ e. e.0) (λ e. e.0) (λ e. e.0) (λ e. e.0)
+  abbrev block_of : WithBlock → StatementSequence-F Case Stmt Branch For StatementSequence
+  block_of = map-StatementSequence (With HeldCase) (With HeldStmt) (With HeldBranch) (With HeldFor) (With HeldBlock) Case Stmt Branch For StatementSequence (λ e. e.0) (λ e. e.0) (λ e. e.0) (λ e. e.0) (λ e. e.0)
 
   abbrev WithBranch : Type 0
-  WithBranch = Branch-F (With HeldCase) (With HeldStmt) (With HeldBlock) (With HeldBranch) (With HeldFor)
+  WithBranch = Branch-F (With HeldCase) (With HeldStmt) (With HeldBranch) (With HeldFor) (With HeldBlock)
 
-  abbrev branch_of : WithBranch → Branch-F Case Stmt Block Branch For
-  branch_of = map-Branch (With HeldCase) (With HeldStmt) (With HeldBlock) (With HeldBranch) (With HeldFor) Case Stmt Block Branch For (λ e. e.0) (λ e. e.0) (λ e. e.0) (λ e. e.0) (λ e. e.0)
+  abbrev branch_of : WithBranch → Branch-F Case Stmt Branch For StatementSequence
+  branch_of = map-Branch (With HeldCase) (With HeldStmt) (With HeldBranch) (With HeldFor) (With HeldBlock) Case Stmt Branch For StatementSequence (λ e. e.0) (λ e. e.0) (λ e. e.0) (λ e. e.0) (λ e. e.0)
 
   abbrev WithFor : Type 0
-  WithFor = For-F (With HeldCase) (With HeldStmt) (With HeldBlock) (With HeldBranch) (With HeldFor)
+  WithFor = For-F (With HeldCase) (With HeldStmt) (With HeldBranch) (With HeldFor) (With HeldBlock)
 
-  abbrev for_of : WithFor → For-F Case Stmt Block Branch For
-  for_of = map-For (With HeldCase) (With HeldStmt) (With HeldBlock) (With HeldBranch) (With HeldFor) Case Stmt Block Branch For (λ e. e.0) (λ e. e.0) (λ e. e.0) (λ e. e.0) (λ e. e.0)
+  abbrev for_of : WithFor → For-F Case Stmt Branch For StatementSequence
+  for_of = map-For (With HeldCase) (With HeldStmt) (With HeldBranch) (With HeldFor) (With HeldBlock) Case Stmt Branch For StatementSequence (λ e. e.0) (λ e. e.0) (λ e. e.0) (λ e. e.0) (λ e. e.0)
 
-  else_held : (o : Option (Box (With HeldBlock) Global)) → P (if_there (λ b. word kinds.Else ++ block_outline b.value) ((shapes.former-Stmt-If-2).map (With HeldBlock) Block (λ e. e.0) o))
+  else_held : (o : Option (Box (With HeldBlock) Global)) → P (if_there (λ b. word kinds.Else ++ block_outline b.value) ((shapes.former-Stmt-If-2).map (With HeldBlock) StatementSequence (λ e. e.0) o))
   else_held None = closed.nothing
   else_held (Some b) = closed-both P closed (closed.a_word kinds.Else) b.value.1
 
@@ -132,20 +132,20 @@ module _ (P : Out → Type 0) (closed : IsClosed P) where
 
   -- ---- layer by layer
 
-  case_step : (x : Case-F Case Stmt Block Branch For) (y : WithCase) → case_of y ≡ x → HeldCase (roll-Case x)
-  case_step x y is = subst P (sym (case_out (roll-Case x) ∙ ap (λ (z : Case-F Case Stmt Block Branch For). construct constructs.Case (case_shown z)) (out-roll-Case x ∙ sym is))) (closed-construct P closed constructs.Case (case_held y))
+  case_step : (x : Case-F Case Stmt Branch For StatementSequence) (y : WithCase) → case_of y ≡ x → HeldCase (roll-Case x)
+  case_step x y is = subst P (sym (case_out (roll-Case x) ∙ ap (λ (z : Case-F Case Stmt Branch For StatementSequence). construct constructs.Case (case_shown z)) (out-roll-Case x ∙ sym is))) (closed-construct P closed constructs.Case (case_held y))
 
-  stmt_step : (x : Stmt-F Case Stmt Block Branch For) (y : WithStmt) → stmt_of y ≡ x → HeldStmt (roll-Stmt x)
-  stmt_step x y is = subst P (sym (stmt_out (roll-Stmt x) ∙ ap (λ (z : Stmt-F Case Stmt Block Branch For). stmt_shown z) (out-roll-Stmt x ∙ sym is))) (stmt_held y)
+  stmt_step : (x : Stmt-F Case Stmt Branch For StatementSequence) (y : WithStmt) → stmt_of y ≡ x → HeldStmt (roll-Stmt x)
+  stmt_step x y is = subst P (sym (stmt_out (roll-Stmt x) ∙ ap (λ (z : Stmt-F Case Stmt Branch For StatementSequence). stmt_shown z) (out-roll-Stmt x ∙ sym is))) (stmt_held y)
 
-  block_step : (x : Block-F Case Stmt Block Branch For) (y : WithBlock) → block_of y ≡ x → HeldBlock (roll-Block x)
-  block_step x y is = subst P (sym (block_out (roll-Block x) ∙ ap (λ (z : Block-F Case Stmt Block Branch For). block_shown z) (out-roll-Block x ∙ sym is))) (block_held y)
+  block_step : (x : StatementSequence-F Case Stmt Branch For StatementSequence) (y : WithBlock) → block_of y ≡ x → HeldBlock (roll-StatementSequence x)
+  block_step x y is = subst P (sym (block_out (roll-StatementSequence x) ∙ ap (λ (z : StatementSequence-F Case Stmt Branch For StatementSequence). block_shown z) (out-roll-StatementSequence x ∙ sym is))) (block_held y)
 
-  branch_step : (x : Branch-F Case Stmt Block Branch For) (y : WithBranch) → branch_of y ≡ x → HeldBranch (roll-Branch x)
-  branch_step x y is k = subst P (sym (branch_out (roll-Branch x) k ∙ ap (λ (z : Branch-F Case Stmt Block Branch For). branch_shown z k) (out-roll-Branch x ∙ sym is))) (branch_held y k)
+  branch_step : (x : Branch-F Case Stmt Branch For StatementSequence) (y : WithBranch) → branch_of y ≡ x → HeldBranch (roll-Branch x)
+  branch_step x y is k = subst P (sym (branch_out (roll-Branch x) k ∙ ap (λ (z : Branch-F Case Stmt Branch For StatementSequence). branch_shown z k) (out-roll-Branch x ∙ sym is))) (branch_held y k)
 
-  for_step : (x : For-F Case Stmt Block Branch For) (y : WithFor) → for_of y ≡ x → HeldFor (roll-For x)
-  for_step x y is = subst P (sym (for_out (roll-For x) ∙ ap (λ (z : For-F Case Stmt Block Branch For). for_shown z) (out-roll-For x ∙ sym is))) (for_held y)
+  for_step : (x : For-F Case Stmt Branch For StatementSequence) (y : WithFor) → for_of y ≡ x → HeldFor (roll-For x)
+  for_step x y is = subst P (sym (for_out (roll-For x) ∙ ap (λ (z : For-F Case Stmt Branch For StatementSequence). for_shown z) (out-roll-For x ∙ sym is))) (for_held y)
 
-  pub closed-block : (b : Block) → P (block_outline b)
-  closed-block = ind-Block HeldCase HeldStmt HeldBlock HeldBranch HeldFor case_step stmt_step block_step branch_step for_step
+  pub closed-block : (b : StatementSequence) → P (block_outline b)
+  closed-block = ind-StatementSequence HeldCase HeldStmt HeldBranch HeldFor HeldBlock case_step stmt_step branch_step for_step block_step

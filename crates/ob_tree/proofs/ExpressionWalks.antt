@@ -14,7 +14,7 @@ use Rattle.ob_tree.specs.declared.expression.Element.{Element, out-Element}
 use Rattle.ob_tree.specs.declared.expression.ElementList.{ElementList, out-ElementList}
 use Rattle.ob_tree.specs.declared.expression.Expr.{Expr, out-Expr}
 use Rattle.ob_tree.specs.declared.expression.ExprList.{ExprList, out-ExprList}
-use Rattle.ob_tree.specs.declared.expression.Sum.{Sum, out-Sum}
+use Rattle.ob_tree.specs.declared.expression.SimpleExpression.{SimpleExpression, out-SimpleExpression}
 use Rattle.ob_tree.specs.declared.expression.Term.{Term}
 use Rattle.ob_tree.specs.Marks.{word, if_there, each, each_after}
 use Rattle.ob_tree.specs.Items.{items_of}
@@ -26,8 +26,8 @@ pub expr_items : (e : Expr) → items_of (expr_outline e) ≡
     items_of (sum_outline (out-Expr e).left) ++ items_of (if_there (λ c. word (relation_kind c.0) ++ sum_outline c.1.value) (out-Expr e).compared)
 expr_items e = simp (expr_out e, items-construct, items-append)
 
-pub sum_items : (s : Sum) → items_of (sum_outline s) ≡
-    items_of (if_there (λ x. word (sign_kind x)) (out-Sum s).sign) ++ (items_of (term_outline (out-Sum s).first) ++ items_of (each (λ p. word (add_kind p.0) ++ term_outline p.1) (out-Sum s).rest.items))
+pub sum_items : (s : SimpleExpression) → items_of (sum_outline s) ≡
+    items_of (if_there (λ x. word (sign_kind x)) (out-SimpleExpression s).sign) ++ (items_of (term_outline (out-SimpleExpression s).first) ++ items_of (each (λ p. word (add_kind p.0) ++ term_outline p.1) (out-SimpleExpression s).rest.items))
 sum_items s = simp (sum_out s, items-construct, items-append)
 
 pub term_items : (t : Term) → items_of (term_outline t) ≡

@@ -18,7 +18,7 @@ use Rattle.ob_tree.specs.declared.statement.Case.TheShapes as shapes
 use Rattle.ob_tree.specs.declared.statement.Case.TheVariants as cases
 use Rattle.ob_tree.specs.declared.statement.Stmt.{Stmt, Stmt-F, fold_out-Stmt, out-Stmt, map-Stmt}
 use Rattle.ob_tree.specs.declared.statement.Stmt.TheVariants as statements
-use Rattle.ob_tree.specs.declared.statement.Block.{Block, Block-F, fold_out-Block, roll-Block, out-Block, out-roll-Block}
+use Rattle.ob_tree.specs.declared.statement.StatementSequence.{StatementSequence, StatementSequence-F, fold_out-StatementSequence, roll-StatementSequence, out-StatementSequence, out-roll-StatementSequence}
 use Rattle.ob_tree.specs.declared.statement.Branch.{Branch, Branch-F, fold_out-Branch, roll-Branch, out-Branch, out-roll-Branch}
 use Rattle.ob_tree.specs.declared.statement.For.{For, For-F, fold_out-For, roll-For, out-For, out-roll-For}
 use Rattle.ob_tree.specs.Constructs as constructs
@@ -28,7 +28,7 @@ use Rattle.ob_tree.specs.Expressions.{expr_outline, designator_outline}
 use Rattle.ob_tree.specs.Statements.{Waits, label_outline, label_range_outline, case_step, stmt_step, block_step, branch_step, for_step, case_outline, stmt_outline, block_outline, branch_outline, for_outline}
 use Rattle.ob_tree.proofs.Eaches.{each-map}
 
-else_there : (f : Block → Out) (o : Option (Box Block Global)) → if_there (λ b. word kinds.Else ++ b.value) ((shapes.former-Stmt-If-2).map Block Out f o)
+else_there : (f : StatementSequence → Out) (o : Option (Box StatementSequence Global)) → if_there (λ b. word kinds.Else ++ b.value) ((shapes.former-Stmt-If-2).map StatementSequence Out f o)
     ≡ if_there (λ b. word kinds.Else ++ f b.value) o
 else_there f None = refl
 else_there f (Some b) = refl
@@ -53,7 +53,7 @@ label_range_out r = refl
 
 -- ---- the outline of a layer's parts
 
-abbrev pub case_shown : Case-F Case Stmt Block Branch For → Out
+abbrev pub case_shown : Case-F Case Stmt Branch For StatementSequence → Out
 case_shown layers.Nothing = []
 case_shown (layers.Labelled ranges body) = listed kinds.Comma label_range_outline ranges ++ (word kinds.Colon ++ block_outline body.value)
 
@@ -61,7 +61,7 @@ abbrev pub if_shown : Box Branch Global → Out → Out → Out
 if_shown first rest otherwise = word kinds.If ++ (branch_outline first.value kinds.Then ++ (rest ++ (otherwise ++ word kinds.End)))
 
 -- a statement with its construct, since the empty one has a construct of its own
-abbrev pub stmt_shown : Stmt-F Case Stmt Block Branch For → Out
+abbrev pub stmt_shown : Stmt-F Case Stmt Branch For StatementSequence → Out
 stmt_shown layers.Empty = construct constructs.EmptyStatement []
 stmt_shown (layers.Assign d e) = construct constructs.Statement (designator_outline d ++ (word kinds.Assign ++ expr_outline e))
 stmt_shown (layers.Call d) = construct constructs.Statement (designator_outline d)
@@ -71,31 +71,31 @@ stmt_shown (layers.While first rest) = construct constructs.Statement (word kind
 stmt_shown (layers.Repeat body e) = construct constructs.Statement (word kinds.Repeat ++ (block_outline body.value ++ (word kinds.Until ++ expr_outline e)))
 stmt_shown (layers.For f) = construct constructs.Statement (for_outline f.value)
 
-abbrev pub block_shown : Block-F Case Stmt Block Branch For → Out
+abbrev pub block_shown : StatementSequence-F Case Stmt Branch For StatementSequence → Out
 block_shown b = stmt_outline b.first ++ each_after kinds.Semicolon stmt_outline b.rest.items
 
-abbrev pub branch_shown : Branch-F Case Stmt Block Branch For → Kind → Out
+abbrev pub branch_shown : Branch-F Case Stmt Branch For StatementSequence → Kind → Out
 branch_shown b k = expr_outline b.condition ++ (word k ++ block_outline b.body)
 
-abbrev pub for_shown : For-F Case Stmt Block Branch For → Out
+abbrev pub for_shown : For-F Case Stmt Branch For StatementSequence → Out
 for_shown f = word kinds.For ++ (used f.variable ++ (word kinds.Assign ++ (expr_outline f.from ++ (word kinds.To ++ (expr_outline f.to ++ (if_there (λ e. word kinds.By ++ expr_outline e) f.by ++ (word kinds.Do ++ (block_outline f.body ++ word kinds.End))))))))
 
-case_seen : (x : Case-F Case Stmt Block Branch For) → case_step (map-Case Case Stmt Block Branch For Out Out Out Waits Out case_outline stmt_outline block_outline branch_outline for_outline x)
+case_seen : (x : Case-F Case Stmt Branch For StatementSequence) → case_step (map-Case Case Stmt Branch For StatementSequence Out Out Waits Out Out case_outline stmt_outline branch_outline for_outline block_outline x)
     ≡ construct constructs.Case (case_shown x)
 case_seen layers.Nothing = refl
 case_seen (layers.Labelled ranges body) = refl
 
 pub case_out : (c : Case) → case_outline c ≡ construct constructs.Case (case_shown (out-Case c))
-unfolding case_outline stmt_outline block_outline branch_outline for_outline
-case_out c = fold_out-Case Out Out Out Waits Out case_step stmt_step block_step branch_step for_step c ∙ case_seen (out-Case c)
+unfolding case_outline stmt_outline branch_outline for_outline block_outline
+case_out c = fold_out-Case Out Out Waits Out Out case_step stmt_step branch_step for_step block_step c ∙ case_seen (out-Case c)
 
-stmt_seen : (x : Stmt-F Case Stmt Block Branch For) → stmt_step (map-Stmt Case Stmt Block Branch For Out Out Out Waits Out case_outline stmt_outline block_outline branch_outline for_outline x)
+stmt_seen : (x : Stmt-F Case Stmt Branch For StatementSequence) → stmt_step (map-Stmt Case Stmt Branch For StatementSequence Out Out Waits Out Out case_outline stmt_outline branch_outline for_outline block_outline x)
     ≡ stmt_shown x
 stmt_seen layers.Empty = refl
 stmt_seen (layers.Assign d e) = refl
 stmt_seen (layers.Call d) = refl
 stmt_seen (layers.If first rest otherwise) =
-    ap (λ (o : Out). construct constructs.Statement (if_shown first o (if_there (λ b. word kinds.Else ++ b.value) ((shapes.former-Stmt-If-2).map Block Out block_outline otherwise)))) (each-map (λ (b : Waits). word kinds.Elsif ++ b kinds.Then) branch_outline rest.items)
+    ap (λ (o : Out). construct constructs.Statement (if_shown first o (if_there (λ b. word kinds.Else ++ b.value) ((shapes.former-Stmt-If-2).map StatementSequence Out block_outline otherwise)))) (each-map (λ (b : Waits). word kinds.Elsif ++ b kinds.Then) branch_outline rest.items)
     ∙ ap (λ (o : Out). construct constructs.Statement (if_shown first (each_after kinds.Elsif (λ b. branch_outline b kinds.Then) rest.items) o)) (else_there block_outline otherwise)
 stmt_seen (layers.Case e first rest) = ap (λ (o : Out). construct constructs.Statement (word kinds.Case ++ (expr_outline e ++ (word kinds.Of ++ (case_outline first.value ++ (o ++ word kinds.End)))))) (each-map (λ (c : Out). word kinds.Bar ++ c) case_outline rest.items)
 stmt_seen (layers.While first rest) = ap (λ (o : Out). construct constructs.Statement (word kinds.While ++ (branch_outline first.value kinds.Do ++ (o ++ word kinds.End)))) (each-map (λ (b : Waits). word kinds.Elsif ++ b kinds.Do) branch_outline rest.items)
@@ -103,57 +103,57 @@ stmt_seen (layers.Repeat body e) = refl
 stmt_seen (layers.For f) = refl
 
 pub stmt_out : (s : Stmt) → stmt_outline s ≡ stmt_shown (out-Stmt s)
-unfolding case_outline stmt_outline block_outline branch_outline for_outline
-stmt_out s = fold_out-Stmt Out Out Out Waits Out case_step stmt_step block_step branch_step for_step s ∙ stmt_seen (out-Stmt s)
+unfolding case_outline stmt_outline branch_outline for_outline block_outline
+stmt_out s = fold_out-Stmt Out Out Waits Out Out case_step stmt_step branch_step for_step block_step s ∙ stmt_seen (out-Stmt s)
 
-pub block_out : (b : Block) → block_outline b ≡ block_shown (out-Block b)
+pub block_out : (b : StatementSequence) → block_outline b ≡ block_shown (out-StatementSequence b)
 unfolding block_outline stmt_outline
 block_out b =
-    fold_out-Block Out Out Out Waits Out case_step stmt_step block_step branch_step for_step b
-    ∙ ap (λ (o : Out). stmt_outline (out-Block b).first ++ o) (each-map (λ (s : Out). word kinds.Semicolon ++ s) _ (out-Block b).rest.items)
+    fold_out-StatementSequence Out Out Waits Out Out case_step stmt_step branch_step for_step block_step b
+    ∙ ap (λ (o : Out). stmt_outline (out-StatementSequence b).first ++ o) (each-map (λ (s : Out). word kinds.Semicolon ++ s) _ (out-StatementSequence b).rest.items)
 
 pub branch_out : (b : Branch) (k : Kind) → branch_outline b k ≡ branch_shown (out-Branch b) k
 unfolding branch_outline block_outline
-branch_out b k = ap (λ (w : Waits). w k) (fold_out-Branch Out Out Out Waits Out case_step stmt_step block_step branch_step for_step b)
+branch_out b k = ap (λ (w : Waits). w k) (fold_out-Branch Out Out Waits Out Out case_step stmt_step branch_step for_step block_step b)
 
 pub for_out : (f : For) → for_outline f ≡ for_shown (out-For f)
 unfolding for_outline block_outline
-for_out f = fold_out-For Out Out Out Waits Out case_step stmt_step block_step branch_step for_step f
+for_out f = fold_out-For Out Out Waits Out Out case_step stmt_step branch_step for_step block_step f
 
 -- ---- the same at a value that is made
 
-pub block_rolled : (x : Block-F Case Stmt Block Branch For) → block_outline (roll-Block x) ≡ block_shown x
-block_rolled x = block_out (roll-Block x) ∙ ap (λ y. block_shown y) (out-roll-Block x)
+pub block_rolled : (x : StatementSequence-F Case Stmt Branch For StatementSequence) → block_outline (roll-StatementSequence x) ≡ block_shown x
+block_rolled x = block_out (roll-StatementSequence x) ∙ ap (λ y. block_shown y) (out-roll-StatementSequence x)
 
-pub branch_rolled : (x : Branch-F Case Stmt Block Branch For) (k : Kind) → branch_outline (roll-Branch x) k ≡ branch_shown x k
+pub branch_rolled : (x : Branch-F Case Stmt Branch For StatementSequence) (k : Kind) → branch_outline (roll-Branch x) k ≡ branch_shown x k
 branch_rolled x k = branch_out (roll-Branch x) k ∙ ap (λ y. branch_shown y k) (out-roll-Branch x)
 
-pub for_rolled : (x : For-F Case Stmt Block Branch For) → for_outline (roll-For x) ≡ for_shown x
+pub for_rolled : (x : For-F Case Stmt Branch For StatementSequence) → for_outline (roll-For x) ≡ for_shown x
 for_rolled x = for_out (roll-For x) ∙ ap (λ y. for_shown y) (out-roll-For x)
 
-pub block_made : (s : Stmt) (v : Vec Stmt Global) → block_outline (roll-Block (record { first = s; rest = v }))
+pub block_made : (s : Stmt) (v : Vec Stmt Global) → block_outline (roll-StatementSequence (record { first = s; rest = v }))
     ≡ stmt_outline s ++ each_after kinds.Semicolon stmt_outline v.items
 block_made s v = block_rolled _
 
-pub branch_made : (e : Expr) (b : Block) (k : Kind) → branch_outline (roll-Branch (record { condition = e; body = b })) k
+pub branch_made : (e : Expr) (b : StatementSequence) (k : Kind) → branch_outline (roll-Branch (record { condition = e; body = b })) k
     ≡ expr_outline e ++ (word k ++ block_outline b)
 branch_made e b k = branch_rolled _ k
 
-pub for_made : (n : ℕ) (low high : Expr) (step : Option Expr) (b : Block) → for_outline (roll-For (record { variable = n; from = low; to = high; by = step; body = b }))
+pub for_made : (n : ℕ) (low high : Expr) (step : Option Expr) (b : StatementSequence) → for_outline (roll-For (record { variable = n; from = low; to = high; by = step; body = b }))
     ≡ word kinds.For ++ (used n ++ (word kinds.Assign ++ (expr_outline low ++ (word kinds.To ++ (expr_outline high ++ (if_there (λ e. word kinds.By ++ expr_outline e) step ++ (word kinds.Do ++ (block_outline b ++ word kinds.End))))))))
 for_made n low high step b = for_rolled _
 
-cased : (c : Case) (x : Case-F Case Stmt Block Branch For) → out-Case c ≡ x → case_outline c ≡ construct constructs.Case (case_shown x)
+cased : (c : Case) (x : Case-F Case Stmt Branch For StatementSequence) → out-Case c ≡ x → case_outline c ≡ construct constructs.Case (case_shown x)
 cased c x e = case_out c ∙ ap (λ y. construct constructs.Case (case_shown y)) e
 
 pub nothing_made : case_outline cases.Nothing ≡ construct constructs.Case []
 nothing_made = cased _ _ cases.outs-Nothing
 
-pub labelled_made : (l : OneOrMore LabelRange) (b : Box Block Global) → case_outline (cases.Labelled l b)
+pub labelled_made : (l : OneOrMore LabelRange) (b : Box StatementSequence Global) → case_outline (cases.Labelled l b)
     ≡ construct constructs.Case (listed kinds.Comma label_range_outline l ++ (word kinds.Colon ++ block_outline b.value))
 labelled_made l b = cased _ _ (cases.outs-Labelled l b)
 
-stated : (s : Stmt) (x : Stmt-F Case Stmt Block Branch For) → out-Stmt s ≡ x → stmt_outline s ≡ stmt_shown x
+stated : (s : Stmt) (x : Stmt-F Case Stmt Branch For StatementSequence) → out-Stmt s ≡ x → stmt_outline s ≡ stmt_shown x
 stated s x e = stmt_out s ∙ ap (λ y. stmt_shown y) e
 
 pub empty_made : stmt_outline statements.Empty ≡ construct constructs.EmptyStatement []
@@ -166,7 +166,7 @@ assign_made d e = stated _ _ (statements.outs-Assign d e)
 pub call_made : (d : Designator) → stmt_outline (statements.Call d) ≡ construct constructs.Statement (designator_outline d)
 call_made d = stated _ _ (statements.outs-Call d)
 
-pub if_made : (b : Box Branch Global) (v : Vec Branch Global) (o : Option (Box Block Global)) → stmt_outline (statements.If b v o)
+pub if_made : (b : Box Branch Global) (v : Vec Branch Global) (o : Option (Box StatementSequence Global)) → stmt_outline (statements.If b v o)
     ≡ construct constructs.Statement (word kinds.If ++ (branch_outline b.value kinds.Then ++ (each_after kinds.Elsif (λ x. branch_outline x kinds.Then) v.items ++ (if_there (λ x. word kinds.Else ++ block_outline x.value) o ++ word kinds.End))))
 if_made b v o = stated _ _ (statements.outs-If b v o)
 
@@ -178,7 +178,7 @@ pub while_made : (b : Box Branch Global) (v : Vec Branch Global) → stmt_outlin
     ≡ construct constructs.Statement (word kinds.While ++ (branch_outline b.value kinds.Do ++ (each_after kinds.Elsif (λ x. branch_outline x kinds.Do) v.items ++ word kinds.End)))
 while_made b v = stated _ _ (statements.outs-While b v)
 
-pub repeat_made : (b : Box Block Global) (e : Expr) → stmt_outline (statements.Repeat b e)
+pub repeat_made : (b : Box StatementSequence Global) (e : Expr) → stmt_outline (statements.Repeat b e)
     ≡ construct constructs.Statement (word kinds.Repeat ++ (block_outline b.value ++ (word kinds.Until ++ expr_outline e)))
 repeat_made b e = stated _ _ (statements.outs-Repeat b e)
 

@@ -16,7 +16,7 @@ use Rattle.ob_tree.specs.declared.statement.LabelRange.{LabelRange}
 use Rattle.ob_tree.specs.declared.statement.Case.{Case}
 use Rattle.ob_tree.specs.declared.statement.Case.TheVariants as cases
 use Rattle.ob_tree.specs.declared.statement.Stmt.TheVariants as statements
-use Rattle.ob_tree.specs.declared.statement.Block.{Block, out-Block}
+use Rattle.ob_tree.specs.declared.statement.StatementSequence.{StatementSequence, out-StatementSequence}
 use Rattle.ob_tree.specs.declared.statement.Branch.{Branch, out-Branch}
 use Rattle.ob_tree.specs.declared.statement.For.{For, out-For}
 use Rattle.ob_tree.specs.Marks.{word, if_there, each_after}
@@ -40,8 +40,8 @@ pub label_range_items : (r : LabelRange) → items_of (label_range_outline r) �
     items_of (label_outline r.low) ++ items_of (if_there (λ l. word kinds.DotDot ++ label_outline l) r.high)
 label_range_items r = rw (label_range_out r, items-append) refl
 
-pub block_items : (b : Block) → items_of (block_outline b) ≡
-    items_of (stmt_outline (out-Block b).first) ++ items_of (each_after kinds.Semicolon stmt_outline (out-Block b).rest.items)
+pub block_items : (b : StatementSequence) → items_of (block_outline b) ≡
+    items_of (stmt_outline (out-StatementSequence b).first) ++ items_of (each_after kinds.Semicolon stmt_outline (out-StatementSequence b).rest.items)
 block_items b = rw (block_out b, items-append) refl
 
 pub branch_items : (b : Branch) (k : Kind) → items_of (branch_outline b k) ≡
@@ -56,7 +56,7 @@ for_items f = simp (for_out f, items-append)
 pub nothing_items : items_of (case_outline cases.Nothing) ≡ []
 nothing_items = rw (nothing_made, items-construct) refl
 
-pub labelled_items : (l : OneOrMore LabelRange) (b : Box Block Global) → items_of (case_outline (cases.Labelled l b)) ≡
+pub labelled_items : (l : OneOrMore LabelRange) (b : Box StatementSequence Global) → items_of (case_outline (cases.Labelled l b)) ≡
     items_of (label_range_outline l.first) ++ (items_of (each_after kinds.Comma label_range_outline l.rest.items) ++ (items.Word ∷ items_of (block_outline b.value)))
 labelled_items l b = simp (labelled_made l b, items-construct, items-append, append_assoc)
 
@@ -70,7 +70,7 @@ assign_items d e = simp (assign_made d e, items-construct, items-append)
 pub call_items : (d : Designator) → items_of (stmt_outline (statements.Call d)) ≡ items_of (designator_outline d)
 call_items d = simp (call_made d, items-construct)
 
-pub if_items : (b : Box Branch Global) (v : Vec Branch Global) (o : Option (Box Block Global)) → items_of (stmt_outline (statements.If b v o)) ≡
+pub if_items : (b : Box Branch Global) (v : Vec Branch Global) (o : Option (Box StatementSequence Global)) → items_of (stmt_outline (statements.If b v o)) ≡
     items.Word ∷ (items_of (branch_outline b.value kinds.Then) ++ (items_of (each_after kinds.Elsif (λ x. branch_outline x kinds.Then) v.items) ++
     (items_of (if_there (λ x. word kinds.Else ++ block_outline x.value) o) ++ items.Word ∷ [])))
 if_items b v o = simp (if_made b v o, items-construct, items-append)
@@ -89,7 +89,7 @@ pub while_items : (b : Box Branch Global) (v : Vec Branch Global) → items_of (
     items.Word ∷ (items_of (branch_outline b.value kinds.Then) ++ (items_of (each_after kinds.Elsif (λ x. branch_outline x kinds.Then) v.items) ++ items.Word ∷ []))
 while_items b v = simp (while_made b v, items-construct, items-append, branch_items b.value kinds.Do, branch_items b.value kinds.Then, branches_alike kinds.Do kinds.Then v.items)
 
-pub repeat_items : (b : Box Block Global) (e : Expr) →
+pub repeat_items : (b : Box StatementSequence Global) (e : Expr) →
     items_of (stmt_outline (statements.Repeat b e)) ≡ items.Word ∷ (items_of (block_outline b.value) ++ (items.Word ∷ items_of (expr_outline e)))
 repeat_items b e = simp (repeat_made b e, items-construct, items-append)
 

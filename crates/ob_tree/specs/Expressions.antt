@@ -18,7 +18,7 @@ use Rattle.ob_tree.specs.declared.expression.Element.{Element, Element-F, fold-E
 use Rattle.ob_tree.specs.declared.expression.ElementList.{ElementList, ElementList-F, fold-ElementList}
 use Rattle.ob_tree.specs.declared.expression.Expr.{Expr, Expr-F, fold-Expr}
 use Rattle.ob_tree.specs.declared.expression.ExprList.{ExprList, ExprList-F, fold-ExprList}
-use Rattle.ob_tree.specs.declared.expression.Sum.{Sum, Sum-F, fold-Sum}
+use Rattle.ob_tree.specs.declared.expression.SimpleExpression.{SimpleExpression, SimpleExpression-F, fold-SimpleExpression}
 use Rattle.ob_tree.specs.declared.expression.Term.{Term, Term-F, fold-Term}
 use Rattle.ob_tree.specs.Constructs as constructs
 use Rattle.ob_tree.specs.Marks.{Out, Value, construct, word, used, selected, if_there, each, each_after}
@@ -101,7 +101,7 @@ abbrev pub expr_list_step : ExprList-F Out Out Out Out Out Out Out Out Out → O
 expr_list_step l = l.first ++ each_after kinds.Comma (λ e. e) l.rest.items
 
 -- SimpleExpression = ["+" | "-"] term {("+" | "-" | OR) term}
-abbrev pub sum_step : Sum-F Out Out Out Out Out Out Out Out Out → Out
+abbrev pub sum_step : SimpleExpression-F Out Out Out Out Out Out Out Out Out → Out
 sum_step s = construct constructs.SimpleExpression (if_there (λ x. word (sign_kind x)) s.sign ++ (s.first ++ each (λ p. word (add_kind p.0) ++ p.1) s.rest.items))
 
 -- term = factor {("*" | "/" | DIV | MOD | "&") factor}
@@ -129,8 +129,8 @@ expr_outline = fold-Expr Out Out Out Out Out Out Out Out Out factor_step selecto
 unfoldable pub expr_list_outline : ExprList → Out
 expr_list_outline = fold-ExprList Out Out Out Out Out Out Out Out Out factor_step selector_step designator_step element_step element_list_step expr_step expr_list_step sum_step term_step
 
-unfoldable pub sum_outline : Sum → Out
-sum_outline = fold-Sum Out Out Out Out Out Out Out Out Out factor_step selector_step designator_step element_step element_list_step expr_step expr_list_step sum_step term_step
+unfoldable pub sum_outline : SimpleExpression → Out
+sum_outline = fold-SimpleExpression Out Out Out Out Out Out Out Out Out factor_step selector_step designator_step element_step element_list_step expr_step expr_list_step sum_step term_step
 
 unfoldable pub term_outline : Term → Out
 term_outline = fold-Term Out Out Out Out Out Out Out Out Out factor_step selector_step designator_step element_step element_list_step expr_step expr_list_step sum_step term_step

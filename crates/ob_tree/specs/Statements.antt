@@ -9,7 +9,7 @@ use Rattle.ob_tree.specs.declared.statement.LabelRange.{LabelRange}
 use Rattle.ob_tree.specs.declared.statement.Case.{Case, Case-F, fold-Case}
 use Rattle.ob_tree.specs.declared.statement.Case.TheOpen as layers
 use Rattle.ob_tree.specs.declared.statement.Stmt.{Stmt, Stmt-F, fold-Stmt}
-use Rattle.ob_tree.specs.declared.statement.Block.{Block, Block-F, fold-Block}
+use Rattle.ob_tree.specs.declared.statement.StatementSequence.{StatementSequence, StatementSequence-F, fold-StatementSequence}
 use Rattle.ob_tree.specs.declared.statement.Branch.{Branch, Branch-F, fold-Branch}
 use Rattle.ob_tree.specs.declared.statement.For.{For, For-F, fold-For}
 use Rattle.ob_tree.specs.Constructs as constructs
@@ -33,11 +33,11 @@ abbrev pub Waits : Type 0
 Waits = Kind → Out
 
 -- case = [LabelRange {"," LabelRange} ":" StatementSequence]
-abbrev pub case_parts : Case-F Out Out Out Waits Out → Out
+abbrev pub case_parts : Case-F Out Out Waits Out Out → Out
 case_parts layers.Nothing = []
 case_parts (layers.Labelled ranges body) = listed kinds.Comma label_range_outline ranges ++ (word kinds.Colon ++ body.value)
 
-abbrev pub case_step : Case-F Out Out Out Waits Out → Out
+abbrev pub case_step : Case-F Out Out Waits Out Out → Out
 case_step c = construct constructs.Case (case_parts c)
 
 -- statement = [designator [":=" expression] | IfStatement | CaseStatement | WhileStatement | RepeatStatement | ForStatement]
@@ -45,7 +45,7 @@ case_step c = construct constructs.Case (case_parts c)
 -- CaseStatement = CASE expression OF case {"|" case} END
 -- WhileStatement = WHILE expression DO StatementSequence {ELSIF expression DO StatementSequence} END
 -- RepeatStatement = REPEAT StatementSequence UNTIL expression
-abbrev pub stmt_step : Stmt-F Out Out Out Waits Out → Out
+abbrev pub stmt_step : Stmt-F Out Out Waits Out Out → Out
 stmt_step layers.Empty = construct constructs.EmptyStatement []
 stmt_step (layers.Assign d e) = construct constructs.Statement (designator_outline d ++ (word kinds.Assign ++ expr_outline e))
 stmt_step (layers.Call d) = construct constructs.Statement (designator_outline d)
@@ -61,30 +61,30 @@ stmt_step (layers.Repeat body e) = construct constructs.Statement (word kinds.Re
 stmt_step (layers.For f) = construct constructs.Statement f.value
 
 -- StatementSequence = statement {";" statement}
-abbrev pub block_step : Block-F Out Out Out Waits Out → Out
+abbrev pub block_step : StatementSequence-F Out Out Waits Out Out → Out
 block_step b = b.first ++ each_after kinds.Semicolon (λ s. s) b.rest.items
 
 -- expression THEN StatementSequence, or with DO
-abbrev pub branch_step : Branch-F Out Out Out Waits Out → Waits
+abbrev pub branch_step : Branch-F Out Out Waits Out Out → Waits
 branch_step b = λ k. expr_outline b.condition ++ (word k ++ b.body)
 
 -- ForStatement = FOR ident ":=" expression TO expression [BY expression] DO StatementSequence END
-abbrev pub for_step : For-F Out Out Out Waits Out → Out
+abbrev pub for_step : For-F Out Out Waits Out Out → Out
 for_step f =
     word kinds.For ++ (used f.variable ++ (word kinds.Assign ++ (expr_outline f.from ++ (word kinds.To ++ (expr_outline f.to ++
     (if_there (λ e. word kinds.By ++ expr_outline e) f.by ++ (word kinds.Do ++ (f.body ++ word kinds.End))))))))
 
 unfoldable pub case_outline : Case → Out
-case_outline = fold-Case Out Out Out Waits Out case_step stmt_step block_step branch_step for_step
+case_outline = fold-Case Out Out Waits Out Out case_step stmt_step branch_step for_step block_step
 
 unfoldable pub stmt_outline : Stmt → Out
-stmt_outline = fold-Stmt Out Out Out Waits Out case_step stmt_step block_step branch_step for_step
+stmt_outline = fold-Stmt Out Out Waits Out Out case_step stmt_step branch_step for_step block_step
 
-unfoldable pub block_outline : Block → Out
-block_outline = fold-Block Out Out Out Waits Out case_step stmt_step block_step branch_step for_step
+unfoldable pub block_outline : StatementSequence → Out
+block_outline = fold-StatementSequence Out Out Waits Out Out case_step stmt_step branch_step for_step block_step
 
 unfoldable pub branch_outline : Branch → Kind → Out
-branch_outline = fold-Branch Out Out Out Waits Out case_step stmt_step block_step branch_step for_step
+branch_outline = fold-Branch Out Out Waits Out Out case_step stmt_step branch_step for_step block_step
 
 unfoldable pub for_outline : For → Out
-for_outline = fold-For Out Out Out Waits Out case_step stmt_step block_step branch_step for_step
+for_outline = fold-For Out Out Waits Out Out case_step stmt_step branch_step for_step block_step

@@ -2,7 +2,7 @@
 
 use crate::expression::{Expr, ExprList};
 use crate::name::{Identdef, OneOrMore, Qualident};
-use crate::statement::Block;
+use crate::statement::StatementSequence;
 
 /// A module. `name` and `end_name` are the numbers of the tokens after MODULE and after END.
 #[derive(Drop)]
@@ -10,7 +10,7 @@ pub struct Module {
     pub name: u32,
     pub imports: Option<OneOrMore<ImportItem>>,
     pub declarations: Declarations,
-    pub body: Option<Block>,
+    pub body: Option<StatementSequence>,
     pub end_name: u32,
 }
 
@@ -60,7 +60,7 @@ pub struct ProcDecl {
     pub name: Identdef,
     pub parameters: Option<Parameters>,
     pub declarations: Declarations,
-    pub body: Option<Box<Block>>,
+    pub body: Option<Box<StatementSequence>>,
     /// What stands after RETURN.
     pub returned: Option<Box<Expr>>,
     pub end_name: u32,

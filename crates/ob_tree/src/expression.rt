@@ -50,14 +50,14 @@ pub enum Literal {
 #[derive(Drop)]
 #[cycle(expressions)]
 pub struct Expr {
-    pub left: Sum,
-    pub compared: Option<(Relation, Box<Sum>)>,
+    pub left: SimpleExpression,
+    pub compared: Option<(Relation, Box<SimpleExpression>)>,
 }
 
 /// A simple expression: terms with operators between them.
 #[derive(Drop)]
 #[cycle(expressions)]
-pub struct Sum {
+pub struct SimpleExpression {
     pub sign: Option<Sign>,
     pub first: Term,
     pub rest: Vec<(AddOperator, Term)>,

@@ -6,7 +6,7 @@ use crate::name::{OneOrMore, Qualident};
 /// A statement sequence: one statement or more, with semicolons between them.
 #[derive(Drop)]
 #[cycle(statements)]
-pub struct Block {
+pub struct StatementSequence {
     pub first: Stmt,
     pub rest: Vec<Stmt>,
 }
@@ -22,13 +22,13 @@ pub enum Stmt {
     /// A designator alone: a call of a procedure.
     Call(Designator),
     /// IF, with the branches after ELSIF and what stands after ELSE.
-    If(Box<Branch>, Vec<Branch>, Option<Box<Block>>),
+    If(Box<Branch>, Vec<Branch>, Option<Box<StatementSequence>>),
     /// CASE, with what it looks at, and one case or more.
     Case(Expr, Box<Case>, Vec<Case>),
     /// WHILE, with the branches after ELSIF.
     While(Box<Branch>, Vec<Branch>),
     /// REPEAT, with the condition after UNTIL.
-    Repeat(Box<Block>, Expr),
+    Repeat(Box<StatementSequence>, Expr),
     /// FOR.
     For(Box<For>),
 }
@@ -38,7 +38,7 @@ pub enum Stmt {
 #[cycle(statements)]
 pub struct Branch {
     pub condition: Expr,
-    pub body: Block,
+    pub body: StatementSequence,
 }
 
 /// One case of a CASE statement, which may be empty.
@@ -48,7 +48,7 @@ pub enum Case {
     /// No token at all.
     Nothing,
     /// Labels, and the statements after their colon.
-    Labelled(OneOrMore<LabelRange>, Box<Block>),
+    Labelled(OneOrMore<LabelRange>, Box<StatementSequence>),
 }
 
 /// A FOR statement.
@@ -60,7 +60,7 @@ pub struct For {
     pub from: Expr,
     pub to: Expr,
     pub by: Option<Expr>,
-    pub body: Block,
+    pub body: StatementSequence,
 }
 
 /// One label, or a range of them.

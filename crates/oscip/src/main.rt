@@ -5,7 +5,7 @@
 
 ghost use Rattle.std.specs.Prelude.{◌≡◌, true};
 ghost use Rattle.std.specs.String.{string_bytes};
-ghost use Rattle.oscip_tree.specs.Sources.{AreInOrder};
+ghost use Rattle.oscip_tree.specs.Sources.{ArePathsInOrder};
 ghost use Rattle.oscip_job.specs.Jobs.{is_crossings_job, is_net_job, is_query_job, is_tree_job, HasPackage, HasWorkers, IsPackage, MayWork};
 
 use byte_sink::ToWrite;
@@ -169,7 +169,7 @@ fn index_to_file<R: Files + AllocGlobal + Threads + Wait + Sync>(
     sources: &[Source],
     path: &str,
 ) -> Result<(), RunFault>
-    requires in_order { AreInOrder sources.now }
+    requires in_order { ArePathsInOrder sources.now }
     requires package { IsPackage (string_bytes indexing.now.package) }
     requires workers { MayWork indexing.now.workers }
 {

@@ -8,7 +8,7 @@ use Rattle.proto_wire.specs.declared.fault.WireFault.TheVariants.{BadText, Devic
 use Rattle.proto_wire.specs.declared.record.WireRecord.{WireRecord}
 use Rattle.proto_wire.specs.declared.record.WireValue.{WireValue}
 use Rattle.proto_wire.specs.declared.record.WireValue.TheVariants.{Varint, Eight, Bytes, Four}
-use Rattle.proto_wire.specs.Messages.{fault_at, first_of, message_fault, message_fault_given, numbers_fault, numbers_fault_given, text_fault, text_fault_given, IsFaultBehind, IsFirstFault, in_record, of_record}
+use Rattle.proto_wire.specs.Messages.{field_fault, first_of, message_fault, message_fault_given, numbers_fault, numbers_fault_given, text_fault, text_fault_given, IsFaultBehind, IsFirstFault, in_record, of_record}
 use Rattle.proto_wire.specs.Packed.{packed, IsPackedOutcome}
 use Rattle.proto_wire.specs.Records.{Piece}
 use Rattle.proto_wire.specs.Varints.{IsNoVarint}
@@ -55,8 +55,8 @@ message_given inside never (Bytes count) body payload e = first_never inside nev
 message_given inside never Four body payload e = absurd cc
 
 -- in a field
-field : (k : ℕ) (wire : WireRecord) (fault : Option WireFault) → (fault ≡ Some Device → ⊥) → fault_at k wire fault ≡ Some Device → ⊥
-unfolding fault_at
+field : (k : ℕ) (wire : WireRecord) (fault : Option WireFault) → (fault ≡ Some Device → ⊥) → field_fault k wire fault ≡ Some Device → ⊥
+unfolding field_fault
 field k wire fault never e = go (wire.field == k) e
   where
     go : (b : Bool) → cond b fault None ≡ Some Device → ⊥
@@ -68,13 +68,13 @@ either : (a b : Option WireFault) → (a ≡ Some Device → ⊥) → (b ≡ Som
 either None b first later e = later e
 either (Some fault) b first later e = first e
 
-text : (k : ℕ) (p : Piece) → fault_at k p.wire (text_fault p) ≡ Some Device → ⊥
+text : (k : ℕ) (p : Piece) → field_fault k p.wire (text_fault p) ≡ Some Device → ⊥
 text k p = field k p.wire (text_fault p) (text_given p.wire.value p.wire.at p.payload)
 
-numbers : (k : ℕ) (p : Piece) → fault_at k p.wire (numbers_fault p) ≡ Some Device → ⊥
+numbers : (k : ℕ) (p : Piece) → field_fault k p.wire (numbers_fault p) ≡ Some Device → ⊥
 numbers k p = field k p.wire (numbers_fault p) (numbers_given p.wire.value p.wire.at p.payload)
 
-message : (inside : Piece → Option WireFault) → IsNever inside → (k : ℕ) (p : Piece) → fault_at k p.wire (message_fault inside p) ≡ Some Device → ⊥
+message : (inside : Piece → Option WireFault) → IsNever inside → (k : ℕ) (p : Piece) → field_fault k p.wire (message_fault inside p) ≡ Some Device → ⊥
 message inside never k p = field k p.wire (message_fault inside p) (message_given inside never p.wire.value p.wire.body p.payload)
 
 -- ---- the messages of an index

@@ -11,7 +11,7 @@ use Rattle.cut_net.specs.declared.fault.NetFault.{NetFault}
 use Rattle.cut_net.specs.declared.price_fault.PriceFault.{PriceFault}
 use Rattle.cut_net.specs.declared.price_fault.PriceFault.TheVariants as price
 use Rattle.oscip_run.specs.Faults.{of_net, of_price, of_tree}
-use Rattle.oscip_run.specs.PricedInputs.{IsPriced, IsRefusedOr, IsRefusedPriced, IsRefusedPricedText, IsRefusedPricedTree}
+use Rattle.oscip_run.specs.PricedInputs.{IsPricedInput, IsRefusedOr, IsRefusedPriced, IsRefusedPricedText, IsRefusedPricedTree}
 use Rattle.oscip_run.specs.Runs.{IsNetOfText, IsNeverRefused, IsRefusedText, IsRefusedTree, IsThis}
 use Rattle.oscip_run.specs.declared.fault.RunFault.{RunFault}
 use Rattle.oscip_run.specs.declared.fault.RunFault.TheVariants as run
@@ -30,7 +30,7 @@ refused_price n text price.PriceOverflow h = inr (n, refl, prices.PriceOverflow,
 refused_price n text price.Memory h = tt
 
 -- with its prices a network is that of the input that has it
-pub priced_of : (IsOf : Network → Type 0) (n : Network) → IsOf n → (text : Option (List ℕ)) (r : Network) → IsPriced (IsThis n) text r → IsPriced IsOf text r
+pub priced_of : (IsOf : Network → Type 0) (n : Network) → IsOf n → (text : Option (List ℕ)) (r : Network) → IsPricedInput (IsThis n) text r → IsPricedInput IsOf text r
 priced_of IsOf n is None r h = subst IsOf (sym h) is
 priced_of IsOf n is (Some text) r h = (h.0, subst IsOf (sym h.1) is, h.2)
 

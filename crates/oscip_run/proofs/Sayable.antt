@@ -14,11 +14,11 @@ use Rattle.cut_net.specs.Answers.{said_by}
 use Rattle.cut_net.specs.declared.priced.Priced.{Priced}
 use Rattle.cut_net.specs.Network.{Network, index_of}
 use Rattle.cut_net.specs.Cuts.{same_ends, IsChain}
-use Rattle.cut_net.specs.Lines.{removed_by, AreInOrder, IsAscending, IsImport}
+use Rattle.cut_net.specs.Lines.{removed_by, AreImportsInOrder, IsAscending, IsImport}
 use Rattle.cut_net.specs.Pins.{ByPin, IsAnswerWithPins, IsPinChain}
 use Rattle.cut_report.specs.ReportText.{IsReport, MaySay}
 use Rattle.cut_net.specs.Said.{Said, CutOf, BlockedBy}
-use Rattle.cut_report.specs.Entry.{Entry}
+use Rattle.cut_report.specs.ReportClaim.{ReportClaim}
 use Rattle.cut_net.specs.WellFormed.{total_weight, AreBetween, IsNetwork}
 use Rattle.cut_net.proofs.Certificate.{weight-mono}
 use Rattle.cut_net.proofs.Places.{index_takes}
@@ -46,7 +46,7 @@ lines_between net lines keeps known i c =
     (rw (← import_of.2) ends.0, rw (← import_of.3) ends.1)
 
 -- each line's amount is within the weights of the network
-lines_fit : (net : Network) (lines : List Priced) → IsNetwork net → AreInOrder net lines →
+lines_fit : (net : Network) (lines : List Priced) → IsNetwork net → AreImportsInOrder net lines →
     ((i line : Priced) → Contains net.imports i → find (same_ends i) lines ≡ Some line → line.amount ≤ i.amount) → All (λ line. line.amount < 2 ^ 64) lines
 lines_fit net lines keeps h within k d lt =
     let import_of = h.known k d lt in
@@ -108,7 +108,7 @@ may_say net a b (CutOf total printed flow) keeps a_within answer flow_fits =
     }
 
 -- an answer to two names is a report
-pub is_report : (net : Network) (first second : List ℕ) (entry : Entry) → IsNetwork net → Some entry.from ≡ index_of net first → Some entry.to ≡ index_of net second →
+pub is_report : (net : Network) (first second : List ℕ) (entry : ReportClaim) → IsNetwork net → Some entry.from ≡ index_of net first → Some entry.to ≡ index_of net second →
     IsSolved net first second entry.said → FlowFits entry.said → IsReport net entry
 is_report net first second entry keeps from_is to_is solved flow_fits = record {
   from = (index_takes net first entry.from (sym from_is)).0;

@@ -9,7 +9,7 @@ use Rattle.cut_net.specs.Lines.{flow_by, removed_by}
 use Rattle.cut_net.specs.Pins.{is_pinned, IsPinChain}
 use Rattle.cut_net.specs.Said.{Said, CutOf, BlockedBy}
 use Rattle.cut_net.proofs.Pinned.{same_cheapest, same_flow, same_printed}
-use Rattle.oscip_run.specs.CutRuns.{IsCutText, IsPlain, IsPlainCutText, IsPrinted}
+use Rattle.oscip_run.specs.CutRuns.{IsCutText, IsPlainCutSaid, IsPlainCutText, IsPrinted}
 
 -- no import is one of none
 not_pinned : (net : Network) (i : Priced) → net.pins ≡ [] → is_pinned net i ≡ true → ⊥
@@ -20,7 +20,7 @@ no_chain net a b [] e apart h = h
 no_chain net a b (m ∷ []) e apart (start, end) = apart (sym start ∙ end)
 no_chain net a b (m ∷ n ∷ more) e apart (start, ((i, c, from, to, pin), rest)) = not_pinned net i e pin
 
-plain_of : (net : Network) (a b : ℕ) (said : Said) → net.pins ≡ [] → a ≢ b → IsPrinted net a b said → IsPlain net a b said
+plain_of : (net : Network) (a b : ℕ) (said : Said) → net.pins ≡ [] → a ≢ b → IsPrinted net a b said → IsPlainCutSaid net a b said
 plain_of net a b (CutOf total printed flow) e apart h = record {
   printed_in_order = h.printed_in_order;
   flow_in_order = h.flow_in_order;

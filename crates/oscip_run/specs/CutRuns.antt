@@ -4,7 +4,7 @@ use Rattle.std.specs.Io.KnownBytes.{Appends, Keeps}
 use Rattle.cut_net.specs.declared.priced.Priced.{Priced}
 use Rattle.cut_net.specs.Network.{Network, index_of}
 use Rattle.cut_net.specs.Cuts.{ArePrinted, IsCheapest, IsFlow}
-use Rattle.cut_net.specs.Lines.{flow_by, removed_by, AreInOrder, AreWeights}
+use Rattle.cut_net.specs.Lines.{flow_by, removed_by, AreImportsInOrder, AreWeights}
 use Rattle.cut_net.specs.Pins.{ArePrintedWithPins, AreWeightsWithPins, IsCheapestWithPins, IsCutWithPins, IsFlowWithPins, IsLeastPinChain, PinChain}
 use Rattle.cut_net.specs.Said.{Said, CutOf, BlockedBy}
 use Rattle.cut_report.specs.ReportText.{ReportText}
@@ -18,9 +18,9 @@ pub record IsPrintedCut (net : Network) (a b total : ℕ) (printed flow : List P
   -- no chain of pins leads from a to b
   pub free : PinChain net a b → ⊥
   -- the printed imports are imports of the network, in order
-  pub printed_in_order : AreInOrder net printed
+  pub printed_in_order : AreImportsInOrder net printed
   -- and so are those with flow
-  pub flow_in_order : AreInOrder net flow
+  pub flow_in_order : AreImportsInOrder net flow
   -- removing the printed imports, none of which is pinned, leaves no chain from a to b, and every set of imports without a pin
   -- whose removal leaves none weighs at least as much
   pub cheapest : IsCheapestWithPins net a b (removed_by printed)
@@ -109,9 +109,9 @@ IsCutRun IsOf IsRefused first second old new (Err Memory) = Keeps old new ⊎ Pu
 -- a cheapest cut between a and b, with its weight and a flow that shows it, in the words of networks without pins
 pub record IsPlainCut (net : Network) (a b total : ℕ) (printed flow : List Priced) : Type 0 where
   -- the printed imports are imports of the network, in order
-  pub printed_in_order : AreInOrder net printed
+  pub printed_in_order : AreImportsInOrder net printed
   -- and so are those with flow
-  pub flow_in_order : AreInOrder net flow
+  pub flow_in_order : AreImportsInOrder net flow
   -- removing the printed imports leaves no chain from a to b, and every set of imports whose removal leaves none weighs
   -- at least as much
   pub cheapest : IsCheapest net a b (removed_by printed)
@@ -123,10 +123,10 @@ pub record IsPlainCut (net : Network) (a b total : ℕ) (printed flow : List Pri
   pub are_printed : ArePrinted net a b (removed_by printed)
 
 -- what is said of two modules is such a cut
-abbrev pub IsPlain : Network → ℕ → ℕ → Said → Type 0
-IsPlain net a b (CutOf total printed flow) = IsPlainCut net a b total printed flow
-IsPlain net a b (BlockedBy chain) = ⊥
+abbrev pub IsPlainCutSaid : Network → ℕ → ℕ → Said → Type 0
+IsPlainCutSaid net a b (CutOf total printed flow) = IsPlainCut net a b total printed flow
+IsPlainCutSaid net a b (BlockedBy chain) = ⊥
 
 -- the headline in these words
 abbrev pub IsPlainCutText : (Network → Type 0) → List ℕ → List ℕ → List ℕ → Type 0
-IsPlainCutText IsOf = IsTextOf IsOf IsPlain
+IsPlainCutText IsOf = IsTextOf IsOf IsPlainCutSaid

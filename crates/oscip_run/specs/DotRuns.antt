@@ -4,7 +4,7 @@ use Rattle.std.specs.Io.KnownBytes.{Appends, Keeps}
 use Rattle.byte_sink.specs.Sinks.{AppendsFront}
 use Rattle.cut_net.specs.Network.{Network}
 use Rattle.cut_net.specs.Said.{Said, CutOf, BlockedBy}
-use Rattle.cut_report.specs.Entry.{Entry}
+use Rattle.cut_report.specs.ReportClaim.{ReportClaim}
 use Rattle.cut_report.specs.ReportLines.{IsReportOutcome}
 use Rattle.cut_report.specs.ReportLines as reports
 use Rattle.cut_report.specs.Reading.{outcome_of as report_outcome_of}
@@ -22,7 +22,7 @@ IsPictureOf net a b (BlockedBy chain) text = IsPicture net a b [] [] text
 pub record IsDrawn (IsOf : Network → Type 0) (report text : List ℕ) : Type 0 where
   pub net : Network
   pub reads : IsOf net
-  pub entry : Entry
+  pub entry : ReportClaim
   pub says : IsReportOutcome net report (reports.Reads entry)
   pub picture : IsPictureOf net entry.from entry.to entry.said text
 

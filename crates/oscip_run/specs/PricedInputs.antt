@@ -16,9 +16,9 @@ abbrev pub IsPricedBy : (Network → Type 0) → List ℕ → Network → Type 0
 IsPricedBy IsOf text net = (before : Network) × IsOf before × IsPriceOutcome before text (prices.Prices net)
 
 -- the network of the input, with its prices where they are given
-abbrev pub IsPriced : (Network → Type 0) → Option (List ℕ) → Network → Type 0
-IsPriced IsOf None = IsOf
-IsPriced IsOf (Some text) = IsPricedBy IsOf text
+abbrev pub IsPricedInput : (Network → Type 0) → Option (List ℕ) → Network → Type 0
+IsPricedInput IsOf None = IsOf
+IsPricedInput IsOf (Some text) = IsPricedBy IsOf text
 
 -- the prices say this of the input's network: they are refused with this fault
 abbrev pub IsPriceRefusal : (Network → Type 0) → List ℕ → PriceFault → Type 0
@@ -46,7 +46,7 @@ IsRefusedPriced IsOf IsRefused (Some text) = λ fault. IsRefused fault ⊎ IsRef
 
 -- the network that a text says, with its prices
 abbrev pub IsNetOfPricedText : List ℕ → Option (List ℕ) → Network → Type 0
-IsNetOfPricedText text = IsPriced (IsNetOfText text)
+IsNetOfPricedText text = IsPricedInput (IsNetOfText text)
 
 -- the text or its prices are refused
 abbrev pub IsRefusedPricedText : List ℕ → Option (List ℕ) → RunFault → Type 0
@@ -56,7 +56,7 @@ IsRefusedPricedText text = IsRefusedPriced (IsNetOfText text) (IsRefusedText tex
 
 -- the network of a tree, with its prices
 abbrev pub IsNetOfPricedTree : List Source → Option (List ℕ) → Network → Type 0
-IsNetOfPricedTree sources = IsPriced (IsNetOfTree sources)
+IsNetOfPricedTree sources = IsPricedInput (IsNetOfTree sources)
 
 -- the tree or its prices are refused
 abbrev pub IsRefusedPricedTree : List Source → Option (List ℕ) → RunFault → Type 0

@@ -6,7 +6,7 @@ use Rattle.cut_net.specs.Pins.{IsCheapestSaidWithPins}
 use Rattle.cut_net.specs.NetText.{IsNetOutcome}
 use Rattle.cut_net.specs.NetText as nets
 use Rattle.cut_net.specs.NetReading.{outcome_of as net_outcome_of}
-use Rattle.cut_report.specs.Entry.{Entry}
+use Rattle.cut_report.specs.ReportClaim.{ReportClaim}
 use Rattle.cut_report.specs.ReportLines.{IsReportOutcome}
 use Rattle.cut_report.specs.ReportLines as reports
 use Rattle.cut_report.specs.Reading.{outcome_of as report_outcome_of}
@@ -86,7 +86,7 @@ is_yes (NotPinned from to) = false
 pub record IsChecked (IsOf : Network → Type 0) (report line : List ℕ) (agrees : Bool) : Type 0 where
   pub net : Network
   pub reads : IsOf net
-  pub entry : Entry
+  pub entry : ReportClaim
   pub says : IsReportOutcome net report (reports.Reads entry)
   pub verdict : Verdict
   pub holds : IsVerdict net entry.from entry.to entry.said verdict

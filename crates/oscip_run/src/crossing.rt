@@ -6,7 +6,7 @@ ghost use Rattle.oscip_job.specs.Jobs.{is_crossings_job};
 ghost use Rattle.oscip_run.specs.CrossingRuns.{place_at, IsCrossingsJob, IsCrossingsRun, IsNoName};
 ghost use Rattle.oscip_run.specs.Faults.{is_device};
 ghost use Rattle.oscip_tree.specs.Crossings.{AreUses};
-ghost use Rattle.oscip_tree.specs.Sources.{AreInOrder};
+ghost use Rattle.oscip_tree.specs.Sources.{ArePathsInOrder};
 ghost use Rattle.oscip_tree.specs.declared.source.Source.{Source};
 
 use crate::RunFault;
@@ -87,7 +87,7 @@ pub fn crossings_tree<R: Threads + Sync, S: Sink>(
     sink: &mut S,
 ) -> Result<(), RunFault>
     // The files stand in the order of their paths.
-    requires { AreInOrder sources.now }
+    requires { ArePathsInOrder sources.now }
     // What was read, and the lines that the sink took; after a refusal of the input it took nothing.
     ensures run { IsCrossingsRun sources.now from.now to.now (S.taken sink.old) (S.taken sink.new) result }
     // Device is answered where the sink counted a failure, and nowhere else.
@@ -109,7 +109,7 @@ pub fn answer_crossings<R: Threads + Sync, S: Sink>(
     sink: &mut S,
 ) -> Result<(), RunFault>
     requires crossings { is_crossings_job job.now ≡ true }
-    requires in_order { AreInOrder sources.now }
+    requires in_order { ArePathsInOrder sources.now }
     // What was read, and the lines that the sink took; after a refusal of the input it took nothing.
     ensures run { IsCrossingsJob sources.now job.now (S.taken sink.old) (S.taken sink.new) result }
     // Device is answered where the sink counted a failure, and nowhere else.

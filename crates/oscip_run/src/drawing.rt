@@ -5,7 +5,7 @@ ghost use Rattle.oscip_run.specs.DotRuns.{IsDotRun};
 ghost use Rattle.oscip_run.specs.Faults.{is_device};
 ghost use Rattle.oscip_run.specs.PricedInputs.{IsNetOfPricedText, IsNetOfPricedTree, IsRefusedPricedText, IsRefusedPricedTree};
 ghost use Rattle.oscip_run.specs.Runs.{IsNeverRefused, IsThis};
-ghost use Rattle.oscip_tree.specs.Sources.{AreInOrder};
+ghost use Rattle.oscip_tree.specs.Sources.{ArePathsInOrder};
 
 use crate::RunFault;
 use crate::engine::READERS;
@@ -57,7 +57,7 @@ pub fn dot_tree<R: Threads + Sync, S: Sink>(
     sink: &mut S,
 ) -> Result<(), RunFault>
     // The files stand in the order of their paths.
-    requires { AreInOrder sources.now }
+    requires { ArePathsInOrder sources.now }
     // What was read, and the picture that the sink took; after a refusal of the input it took nothing.
     ensures run { IsDotRun (IsNetOfPricedTree sources.now (option_copied prices.entry)) (IsRefusedPricedTree sources.now (option_copied prices.entry)) report.now (S.taken sink.old) (S.taken sink.new) result }
     // Device is answered where the sink counted a failure, and nowhere else.

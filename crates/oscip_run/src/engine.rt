@@ -11,7 +11,7 @@ ghost use Rattle.oscip_run.specs.CutRuns.{IsCutRun};
 ghost use Rattle.oscip_job.specs.Jobs.{MayWork};
 ghost use Rattle.oscip_run.specs.PricedInputs.{IsNetOfPricedText, IsNetOfPricedTree, IsRefusedPricedText, IsRefusedPricedTree};
 ghost use Rattle.oscip_run.specs.Runs.{is_yes, verdict_text, IsCheckRun, IsNeverRefused, IsThis};
-ghost use Rattle.oscip_tree.specs.Sources.{AreInOrder};
+ghost use Rattle.oscip_tree.specs.Sources.{ArePathsInOrder};
 
 use crate::RunFault;
 use crate::priced::{net_of_text, net_of_tree};
@@ -127,7 +127,7 @@ pub fn check_tree<R: Threads + Sync, S: Sink>(
     sink: &mut S,
 ) -> Result<bool, RunFault>
     // The files stand in the order of their paths.
-    requires { AreInOrder sources.now }
+    requires { ArePathsInOrder sources.now }
     // What was read, what the verdict is, and what the sink took; after a refusal of the input it took nothing.
     ensures run { IsCheckRun (IsNetOfPricedTree sources.now (option_copied prices.entry)) (IsRefusedPricedTree sources.now (option_copied prices.entry)) report.now (S.taken sink.old) (S.taken sink.new) result }
     // Device is answered where the sink counted a failure, and nowhere else.
@@ -273,7 +273,7 @@ pub fn cut_tree<R: Threads + Wait + Sync, G: Gate + Sync, S: Sink>(
     sink: &mut S,
 ) -> Result<(), RunFault>
     // The files stand in the order of their paths.
-    requires in_order { AreInOrder sources.now }
+    requires in_order { ArePathsInOrder sources.now }
     requires workers { MayWork workers }
     // What was read, and the report that the sink took; after a refusal of the input it took nothing.
     ensures run { IsCutRun (IsNetOfPricedTree sources.now (option_copied prices.entry)) (IsRefusedPricedTree sources.now (option_copied prices.entry)) a.now b.now (S.taken sink.old) (S.taken sink.new) result }

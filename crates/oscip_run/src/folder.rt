@@ -2,7 +2,7 @@
 ghost use Rattle.std.specs.Prelude.{◌≤◌, IfErr, IfOk};
 ghost use Rattle.oscip_run.specs.Faults.{IsReadFault};
 ghost use Rattle.oscip_run.specs.Files.{AreFronts, IsFrontOfModule};
-ghost use Rattle.oscip_tree.specs.Sources.{AreInOrder};
+ghost use Rattle.oscip_tree.specs.Sources.{ArePathsInOrder};
 
 use crate::RunFault;
 use crate::files::{ReadFault, cannot_read, fault_at, read_front};
@@ -21,7 +21,7 @@ const MODULE_LIMIT: u64 = 1 << 24;
 
 /// A name that the walk came to.
 #[derive(Drop)]
-struct Place {
+struct PendingPath {
     /// Its path below the folder that is walked, which is empty for that folder.
     path: String,
     /// How many levels it lies below that folder.
@@ -31,7 +31,7 @@ struct Place {
 /// What a walk has yet to look at, the next place last, and the files that it found.
 #[derive(Drop)]
 struct Walk {
-    pending: Vec<Place>,
+    pending: Vec<PendingPath>,
     files: Vec<String>,
 }
 
@@ -104,16 +104,16 @@ fn names_in<R: Files + AllocGlobal + Clone + Drop>(
 /// Puts the names of a folder among the places that are looked at next.
 fn add_names(
     alloc: Global,
-    folder: &Place,
+    folder: &PendingPath,
     names: &[String],
-    pending: &mut Vec<Place>,
+    pending: &mut Vec<PendingPath>,
 ) -> Result<(), AllocError>
     requires { folder.now.level ≤ 32 }
 {
     for name in names {
         let path = joined(alloc, folder.path.as_str(), name.as_str())?;
         let level = folder.level + 1;
-        pending.push(Place { path, level })?;
+        pending.push(PendingPath { path, level })?;
     }
     Ok(())
 }
@@ -122,8 +122,8 @@ fn add_names(
 fn enter<R: Files + AllocGlobal + Clone + Drop>(
     rt: &R,
     opened: &str,
-    place: &Place,
-    pending: &mut Vec<Place>,
+    place: &PendingPath,
+    pending: &mut Vec<PendingPath>,
 ) -> Result<(), ReadFault> {
     if place.level > LEVELS {
         return Err(cannot_read(rt.alloc(), opened));
@@ -137,7 +137,7 @@ fn enter<R: Files + AllocGlobal + Clone + Drop>(
 fn visit<R: Files + AllocGlobal + Clone + Drop>(
     rt: &R,
     folder: &str,
-    place: Place,
+    place: PendingPath,
     walk: &mut Walk,
 ) -> Result<(), ReadFault> {
     let opened = joined(rt.alloc(), folder, place.path.as_str())?;
@@ -175,7 +175,7 @@ fn paths_below<R: Files + AllocGlobal + Clone + Drop>(
         files: Vec::new(rt.alloc()),
     };
     let names = names_in(rt, folder)?;
-    let top = Place {
+    let top = PendingPath {
         path: String::new(rt.alloc()),
         level: 0,
     };
@@ -237,7 +237,7 @@ fn sources_below<R: Files + AllocGlobal + Clone + Drop>(
     rt: &R,
     folder: &str,
 ) -> Result<Vec<Source>, ReadFault>
-    ensures order { IfOk result (λ sources. AreInOrder sources.items) }
+    ensures order { IfOk result (λ sources. ArePathsInOrder sources.items) }
     ensures most { IfOk result (λ sources. AreFronts sources.items) }
 {
     let paths = ordered_paths_below(rt, folder)?;
@@ -258,7 +258,7 @@ pub fn sources_of<R: Files + AllocGlobal + Clone + Drop>(
     rt: &R,
     folder: &str,
 ) -> Result<Vec<Source>, RunFault>
-    ensures order { IfOk result (λ sources. AreInOrder sources.items) }
+    ensures order { IfOk result (λ sources. ArePathsInOrder sources.items) }
     // Of each file one byte beyond a module's limit is taken at most.
     ensures most { IfOk result (λ sources. AreFronts sources.items) }
     ensures fault { IfErr result IsReadFault }

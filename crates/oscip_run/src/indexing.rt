@@ -6,7 +6,7 @@ ghost use Rattle.ob_board.specs.Unresolved.{plain_unresolved};
 ghost use Rattle.oscip_job.specs.Jobs.{IsPackage, MayWork};
 ghost use Rattle.oscip_run.specs.Faults.{is_device};
 ghost use Rattle.oscip_run.specs.IndexRuns.{unresolved_line, unresolved_lines, IsHexRun, IsIndexingRun, IsIndexRun, IsUnresolvedRun};
-ghost use Rattle.oscip_tree.specs.Sources.{AreInOrder};
+ghost use Rattle.oscip_tree.specs.Sources.{ArePathsInOrder};
 ghost use Rattle.scip_symbol.specs.Outcomes.{is_wrong_part};
 
 use crate::RunFault;
@@ -41,7 +41,7 @@ pub fn index_to<R: Threads + Wait + Sync, G: BoardGate + Sync, S: Sink>(
     sink: &mut S,
 ) -> Result<(), RunFault>
     // The files stand in the order of their paths.
-    requires in_order { AreInOrder sources.now }
+    requires in_order { ArePathsInOrder sources.now }
     // The package isn't `.` and doesn't begin with a space.
     requires package { is_wrong_part (string_bytes options.now.package) ≡ false }
     requires workers { MayWork workers }
@@ -66,7 +66,7 @@ pub fn index_hex_to<R: Threads + Wait + Sync, G: BoardGate + Sync, S: Sink>(
     sink: &mut S,
 ) -> Result<(), RunFault>
     // The files stand in the order of their paths.
-    requires in_order { AreInOrder sources.now }
+    requires in_order { ArePathsInOrder sources.now }
     // The package isn't `.` and doesn't begin with a space.
     requires package { is_wrong_part (string_bytes options.now.package) ≡ false }
     requires workers { MayWork workers }
@@ -104,7 +104,7 @@ pub fn answer_index<R: Threads + Wait + Sync, G: BoardGate + Sync, S: Sink>(
     gate: &G,
     sink: &mut S,
 ) -> Result<(), RunFault>
-    requires in_order { AreInOrder sources.now }
+    requires in_order { ArePathsInOrder sources.now }
     requires package { IsPackage (string_bytes indexing.now.package) }
     requires workers { MayWork indexing.now.workers }
     // What was read, and what the sink took; after a refusal of the input it took nothing.
@@ -147,7 +147,7 @@ pub fn unresolved_to<R: Threads + Sync, S: Sink>(
     sink: &mut S,
 ) -> Result<(), RunFault>
     // The files stand in the order of their paths.
-    requires { AreInOrder sources.now }
+    requires { ArePathsInOrder sources.now }
     // What was read, and the lines that the sink took; after a refusal of the input it took nothing.
     ensures run { IsUnresolvedRun sources.now (S.taken sink.old) (S.taken sink.new) result }
     // Device is answered where the sink counted a failure, and nowhere else.

@@ -1,6 +1,6 @@
 //! The network of a run: that of its input, with the prices that are given.
 ghost use Rattle.std.specs.Prelude.{IfErr, IfOk, option_copied};
-ghost use Rattle.oscip_run.specs.PricedInputs.{IsNetOfPricedText, IsNetOfPricedTree, IsPriced, IsRefusedOr, IsRefusedPriced, IsRefusedPricedText, IsRefusedPricedTree};
+ghost use Rattle.oscip_run.specs.PricedInputs.{IsNetOfPricedText, IsNetOfPricedTree, IsPricedInput, IsRefusedOr, IsRefusedPriced, IsRefusedPricedText, IsRefusedPricedTree};
 ghost use Rattle.oscip_run.specs.Runs.{IsNeverRefused, IsThis};
 
 use crate::RunFault;
@@ -11,7 +11,7 @@ use std::thread::Threads;
 
 /// The network with its prices, where they are given. Refuses with `Price` or `Memory`.
 fn with_prices(net: Net, prices: Option<&[u8]>) -> Result<Net, RunFault>
-    ensures net { IfOk result (IsPriced (IsThis net) (option_copied prices.entry)) }
+    ensures net { IfOk result (IsPricedInput (IsThis net) (option_copied prices.entry)) }
     ensures fault { IfErr result (IsRefusedOr (IsRefusedPriced (IsThis net) IsNeverRefused (option_copied prices.entry))) }
 {
     match prices {

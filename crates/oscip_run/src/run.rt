@@ -5,7 +5,7 @@ ghost use Rattle.oscip_run.specs.Faults.{is_device};
 ghost use Rattle.oscip_run.specs.JobRuns.{IsJobRun};
 ghost use Rattle.oscip_job.specs.Jobs.{is_net_job, is_tree_job, HasWorkers};
 ghost use Rattle.oscip_run.specs.PricedInputs.{IsNetOfPricedText, IsNetOfPricedTree, IsRefusedPricedText, IsRefusedPricedTree};
-ghost use Rattle.oscip_tree.specs.Sources.{AreInOrder};
+ghost use Rattle.oscip_tree.specs.Sources.{ArePathsInOrder};
 
 use crate::{
     RunFault, check_net_bytes, check_tree, cut_net_bytes, cut_tree, dot_net_bytes, dot_tree,
@@ -77,7 +77,7 @@ pub fn answer_tree<R: Threads + Wait + Sync, G: Gate + Sync, S: Sink>(
     sink: &mut S,
 ) -> Result<bool, RunFault>
     requires tree { is_tree_job job.now ≡ true }
-    requires in_order { AreInOrder sources.now }
+    requires in_order { ArePathsInOrder sources.now }
     requires workers { HasWorkers job.now }
     // What the job's engine reads and puts, with the job's own names.
     ensures run { IsJobRun (IsNetOfPricedTree sources.now (option_copied prices.entry)) (IsRefusedPricedTree sources.now (option_copied prices.entry)) job.now report.now (S.taken sink.old) (S.taken sink.new) result }

@@ -1,7 +1,7 @@
 //! Commands, each from its words to what it puts: with a sink that fails at each put, and with a gate at which all workers meet.
 ghost use Rattle.std.specs.Prelude.{IfOk};
 ghost use Rattle.oscip_job.specs.Jobs.{HasPackage, HasWorkers};
-ghost use Rattle.oscip_tree.specs.Sources.{AreInOrder};
+ghost use Rattle.oscip_tree.specs.Sources.{ArePathsInOrder};
 
 use crate::faults::fault_told;
 use crate::inputs::{
@@ -165,7 +165,7 @@ fn told<R: Threads + Wait + AllocGlobal + Clock + Sync>(
 ) -> Result<String, AllocError>
     requires workers { HasWorkers job.now }
     requires package { HasPackage job.now }
-    requires in_order { AreInOrder sources.now }
+    requires in_order { ArePathsInOrder sources.now }
 {
     let alloc = rt.alloc();
     match job {

@@ -8,7 +8,7 @@ use std::alloc::{AllocError, Global};
 use std::test::Fail;
 
 /// What fails, or wants memory.
-enum Place {
+enum Failing {
     Sink,
     Run,
     Tokens,
@@ -17,28 +17,28 @@ enum Place {
     Prices,
 }
 
-const FAULTS: &[(Place, &str)] = &[
-    (Place::Sink, "3 oscip: cannot write\n"),
-    (Place::Run, "4 oscip: Memory\n"),
-    (Place::Tokens, "4 oscip: Memory\n"),
-    (Place::Tree, "4 oscip: Memory\n"),
-    (Place::Graph, "4 oscip: Memory\n"),
-    (Place::Prices, "4 oscip: Memory\n"),
+const FAULTS: &[(Failing, &str)] = &[
+    (Failing::Sink, "3 oscip: cannot write\n"),
+    (Failing::Run, "4 oscip: Memory\n"),
+    (Failing::Tokens, "4 oscip: Memory\n"),
+    (Failing::Tree, "4 oscip: Memory\n"),
+    (Failing::Graph, "4 oscip: Memory\n"),
+    (Failing::Prices, "4 oscip: Memory\n"),
 ];
 
 /// The fault of a place, with this path where it has one.
-fn fault_at(place: &Place, path: String) -> RunFault {
+fn fault_at(place: &Failing, path: String) -> RunFault {
     match place {
-        Place::Sink => RunFault::Device,
-        Place::Run => RunFault::Memory,
-        Place::Tokens => RunFault::from(TreeFault::Scan {
+        Failing::Sink => RunFault::Device,
+        Failing::Run => RunFault::Memory,
+        Failing::Tokens => RunFault::from(TreeFault::Scan {
             path,
             at: Position { line: 0, column: 0 },
             fault: ScanFault::Memory,
         }),
-        Place::Tree => RunFault::from(TreeFault::Memory),
-        Place::Graph => RunFault::from(TreeFault::Graph(GraphFault::Memory)),
-        Place::Prices => RunFault::from(PriceFault::Memory),
+        Failing::Tree => RunFault::from(TreeFault::Memory),
+        Failing::Graph => RunFault::from(TreeFault::Graph(GraphFault::Memory)),
+        Failing::Prices => RunFault::from(PriceFault::Memory),
     }
 }
 

@@ -16,7 +16,7 @@ use Rattle.ob_decls.specs.Parts.{Rows}
 use Rattle.ob_imports.specs.Files.{DifferInName, File, IsNode, names_of}
 use Rattle.ob_imports.specs.Graphs.{ImportGraph}
 use Rattle.ob_imports.specs.Names.{place_in}
-use Rattle.ob_imports.specs.Outcomes.{AreKept}
+use Rattle.ob_imports.specs.Outcomes.{AreFilesOfGraph}
 use Rattle.ob_imports.proofs.Nodes.{nodes_known}
 use Rattle.ob_imports.proofs.Places.{place_found, place_is}
 use Rattle.ob_parse.specs.Parsed.{IsTheTree}
@@ -104,7 +104,7 @@ own_names [] v file e = absurd (let f : None ≡ Some file = e in cc)
 own_names (f ∷ fs) zero file e = let same : f ≡ file = cc in ap (λ (x : ModuleFile). Some (names x 1)) same
 own_names (f ∷ fs) (suc v) file e = own_names fs v file e
 
-module _ (files : List ModuleFile) (g : ImportGraph) (kept : AreKept (files_of files) g) where
+module _ (files : List ModuleFile) (g : ImportGraph) (kept : AreFilesOfGraph (files_of files) g) where
   modules_are : g.modules ≡ length files
   modules_are = kept.is_graph.modules ∙ length-map files file_of
 
@@ -160,13 +160,13 @@ tree_is : (sources : List Source) (tree : Tree) (of : IsTreeOf sources tree) →
 tree_is sources tree of = record { accepted = of.read.accepted; graph = tree.graph; kept = of.kept; acyclic = of.acyclic }
 
 module _ (sources : List Source) (tree : Tree) (of : IsTreeOf sources tree) (m n : List ℕ) where
-  pub crossed_no_importer : ((files : List ModuleFile) → AreKept (files_of files) tree.graph → Contains (names_of (files_of files)) m → ⊥) → IsNoModule sources m
+  pub crossed_no_importer : ((files : List ModuleFile) → AreFilesOfGraph (files_of files) tree.graph → Contains (names_of (files_of files)) m → ⊥) → IsNoModule sources m
   crossed_no_importer none = record { files = of.files; is_tree = tree_is sources tree of; absent = none of.files of.kept }
 
-  importer_of : (v : ℕ) → ((files : List ModuleFile) → AreKept (files_of files) tree.graph → (file : ModuleFile) × (slice_get files v ≡ Some file) × (names file 1 ≡ m)) → (file : ModuleFile) × (slice_get of.files v ≡ Some file) × (names file 1 ≡ m)
+  importer_of : (v : ℕ) → ((files : List ModuleFile) → AreFilesOfGraph (files_of files) tree.graph → (file : ModuleFile) × (slice_get files v ≡ Some file) × (names file 1 ≡ m)) → (file : ModuleFile) × (slice_get of.files v ≡ Some file) × (names file 1 ≡ m)
   importer_of v found = found of.files of.kept
 
-  pub crossed_no_imported : (v : ℕ) → ((files : List ModuleFile) → AreKept (files_of files) tree.graph → (file : ModuleFile) × (slice_get files v ≡ Some file) × (names file 1 ≡ m))
+  pub crossed_no_imported : (v : ℕ) → ((files : List ModuleFile) → AreFilesOfGraph (files_of files) tree.graph → (file : ModuleFile) × (slice_get files v ≡ Some file) × (names file 1 ≡ m))
       → None ≡ place_in tree.graph.names n → IsNoNode sources m n
   crossed_no_imported v found e =
       let (file, at, named) = importer_of v found in
@@ -178,21 +178,21 @@ module _ (sources : List Source) (tree : Tree) (of : IsTreeOf sources tree) (m n
       }
 
   -- the file and its scopes at a module's number
-  pub within_sources : (v : ℕ) → ((files : List ModuleFile) → AreKept (files_of files) tree.graph → (file : ModuleFile) × (slice_get files v ≡ Some file) × (names file 1 ≡ m)) → v < length sources
+  pub within_sources : (v : ℕ) → ((files : List ModuleFile) → AreFilesOfGraph (files_of files) tree.graph → (file : ModuleFile) × (slice_get files v ≡ Some file) × (names file 1 ≡ m)) → v < length sources
   within_sources v found =
       let (file, at, named) = importer_of v found in
       let within = slice_get_within of.files v file at in
       let many = of.read.accepted.as_many in
       omega arith
 
-  pub within_scopes : (v : ℕ) → ((files : List ModuleFile) → AreKept (files_of files) tree.graph → (file : ModuleFile) × (slice_get files v ≡ Some file) × (names file 1 ≡ m)) → v < length tree.scopes.items
+  pub within_scopes : (v : ℕ) → ((files : List ModuleFile) → AreFilesOfGraph (files_of files) tree.graph → (file : ModuleFile) × (slice_get files v ≡ Some file) × (names file 1 ≡ m)) → v < length tree.scopes.items
   within_scopes v found =
       let (file, at, named) = importer_of v found in
       let within = slice_get_within of.files v file at in
       let many = of.read.as_many in
       omega arith
 
-  pub crossed_at : (v w : ℕ) (source : Source) (s : ModuleScopes) (crossed : Crossed) → ((files : List ModuleFile) → AreKept (files_of files) tree.graph → (file : ModuleFile) × (slice_get files v ≡ Some file) × (names file 1 ≡ m))
+  pub crossed_at : (v w : ℕ) (source : Source) (s : ModuleScopes) (crossed : Crossed) → ((files : List ModuleFile) → AreFilesOfGraph (files_of files) tree.graph → (file : ModuleFile) × (slice_get files v ≡ Some file) × (names file 1 ≡ m))
       → Some w ≡ place_in tree.graph.names n → slice_get sources v ≡ Some source → slice_get tree.scopes.items v ≡ Some s → IsCrossedIn source s n crossed → IsCrossed sources m n crossed
   crossed_at v w source s (Places path spans) found node at_source at_scopes (same_path, places) =
       let (file, at, named) = importer_of v found in

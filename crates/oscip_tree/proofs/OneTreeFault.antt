@@ -27,8 +27,8 @@ use Rattle.ob_scope.specs.declared.fault.ScopeFault.TheVariants as scopes
 use Rattle.ob_decls.specs.Declaring.{rows_of}
 use Rattle.ob_decls.specs.Parts.{Rows}
 use Rattle.ob_scope.specs.declared.members.Member.{Member}
-use Rattle.ob_scope.specs.declared.members.Place.{Place}
-use Rattle.ob_scope.specs.declared.members.Place.TheVariants.{Block, Record}
+use Rattle.ob_scope.specs.declared.members.Scope.{Scope}
+use Rattle.ob_scope.specs.declared.members.Scope.TheVariants.{Block, Record}
 use Rattle.ob_scope.specs.Members.{members_of}
 use Rattle.ob_scope.specs.Scope.{IsFirstTwice}
 use Rattle.ob_scope.specs.Scoped.{IsScopeFault}
@@ -149,7 +149,7 @@ one_parse_fault bytes f g some other (ts, reads, h) (us, spells, k) =
 -- ---- the names
 
 -- what is told of a name of a place that is declared twice
-abbrev told_of : Place → List ℕ → List ℕ
+abbrev told_of : Scope → List ℕ → List ℕ
 told_of (Block block) name = codes "Twice " ++ name
 told_of (Record token) name = codes "TwiceField " ++ name
 
@@ -167,14 +167,14 @@ told_pair bytes ts r (scopes.Twice name first second) known (d, e, block, placed
   e = e;
   is_first = h.is_first;
   offset = h.second_at;
-  text = ap (λ (n : List ℕ). codes "Twice " ++ n) h.named ∙ ap (λ (p : Place). told_of p (text_at bytes ts d.number)) (sym placed);
+  text = ap (λ (n : List ℕ). codes "Twice " ++ n) h.named ∙ ap (λ (p : Scope). told_of p (text_at bytes ts d.number)) (sym placed);
 }
 told_pair bytes ts r (scopes.TwiceField name first second) known (d, e, token, placed, h) = record {
   d = d;
   e = e;
   is_first = h.is_first;
   offset = h.second_at;
-  text = ap (λ (n : List ℕ). codes "TwiceField " ++ n) h.named ∙ ap (λ (p : Place). told_of p (text_at bytes ts d.number)) (sym placed);
+  text = ap (λ (n : List ℕ). codes "TwiceField " ++ n) h.named ∙ ap (λ (p : Scope). told_of p (text_at bytes ts d.number)) (sym placed);
 }
 told_pair bytes ts r scopes.Memory known h = absurd (known refl)
 

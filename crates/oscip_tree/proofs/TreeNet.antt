@@ -19,7 +19,7 @@ use Rattle.digraph.specs.Chains.{IsAcyclic}
 use Rattle.ob_imports.specs.Files.{DifferInName, File, Imports, IsNode, names_of}
 use Rattle.ob_imports.specs.Graphs.{ImportGraph, IsGraph}
 use Rattle.ob_imports.specs.Graphs as graphs
-use Rattle.ob_imports.specs.Outcomes.{AreKept}
+use Rattle.ob_imports.specs.Outcomes.{AreFilesOfGraph}
 use Rattle.digraph.proofs.Members.{from_map, in_map}
 use Rattle.ob_imports.proofs.Nodes.{nodes_known}
 use Rattle.ob_scan.specs.declared.token.Token.{Token}
@@ -85,7 +85,7 @@ one_file fs f h differ (i, li, is_f) (j, lj, is_h) e = elim (cases_lt i j) [
         false≢true (sym (apart_from_distinct bytes_eq (names_of fs) i j [] differ less (omega arith))
         ∙ (bytes_eq-Decides (get_or (names_of fs) i []) (get_or (names_of fs) j [])).1 (at_f ∙ e ∙ sym at_h))
 
-module _ (sources : List Source) (files : List ModuleFile) (g : ImportGraph) (kept : AreKept (files_of files) g) where
+module _ (sources : List Source) (files : List ModuleFile) (g : ImportGraph) (kept : AreFilesOfGraph (files_of files) g) where
   -- ---- nodes
 
   node_of : (n : List ℕ) → Contains g.names n → IsNode (files_of files) n

@@ -5,7 +5,7 @@ use Rattle.std.specs.Arc.{arc_value}
 use Rattle.digraph.specs.Chains.{IsAcyclic}
 use Rattle.ob_decls.specs.Declaring.{rows_in}
 use Rattle.ob_imports.specs.Files.{Imports}
-use Rattle.ob_imports.specs.Outcomes.{AreKept}
+use Rattle.ob_imports.specs.Outcomes.{AreFilesOfGraph}
 use Rattle.ob_interface.specs.Interfaces.{interface_of}
 use Rattle.oscip_tree.specs.Files.{AreAllOf, HasKept}
 use Rattle.oscip_tree.specs.Trees.{ModuleFile, files_of, rows}
@@ -36,5 +36,5 @@ AreAllParts sources files all = AreAllOf ArePartsIn sources files all
 -- the graph is that of the files, and there are the parts of each
 pub record ArePartsOfTree (sources : List Source) (files : List ModuleFile) (tree : TreeParts) : Type 0 where
   pub all : AreAllParts sources files tree.modules.items
-  pub kept : AreKept (files_of files) tree.graph
+  pub kept : AreFilesOfGraph (files_of files) tree.graph
   pub acyclic : IsAcyclic (Imports (files_of files))

@@ -11,5 +11,5 @@ abbrev pub paths_of : List Source → List (List ℕ)
 paths_of sources = map (λ s. string_bytes s.path) sources
 
 -- the paths ascend by their bytes, each once
-abbrev pub AreInOrder : List Source → Type 0
-AreInOrder sources = IsStrictlySortedBy (slice_cmp nat_cmp) (paths_of sources)
+abbrev pub ArePathsInOrder : List Source → Type 0
+ArePathsInOrder sources = IsStrictlySortedBy (slice_cmp nat_cmp) (paths_of sources)

@@ -4,7 +4,7 @@ use Rattle.ob_imports.specs.declared.fault.GraphFault.{GraphFault}
 use Rattle.ob_imports.specs.declared.fault.GraphFault.TheVariants as graphs
 use Rattle.digraph.specs.Chains.{IsAcyclic}
 use Rattle.ob_imports.specs.Files.{Imports}
-use Rattle.ob_imports.specs.Outcomes.{AreKept}
+use Rattle.ob_imports.specs.Outcomes.{AreFilesOfGraph}
 use Rattle.ob_scope.specs.Scoped.{AreScopes, ModuleScopes}
 use Rattle.oscip_tree.specs.Files.{AreAllOf, HasKept}
 use Rattle.oscip_tree.specs.Trees.{ModuleFile, files_of, rows}
@@ -36,5 +36,5 @@ AreRead sources files ss = AreAllOf AreScopesOf sources files ss
 pub record IsTreeOf (sources : List Source) (tree : Tree) : Type 0 where
   pub files : List ModuleFile
   pub read : AreRead sources files tree.scopes.items
-  pub kept : AreKept (files_of files) tree.graph
+  pub kept : AreFilesOfGraph (files_of files) tree.graph
   pub acyclic : IsAcyclic (Imports (files_of files))

@@ -24,7 +24,7 @@ use Rattle.ob_imports.specs.declared.fault.GraphFault.{GraphFault}
 use Rattle.digraph.specs.Chains.{IsAcyclic}
 use Rattle.ob_imports.specs.Files.{File, Imports, IsNode}
 use Rattle.ob_imports.specs.Graphs.{ImportGraph}
-use Rattle.ob_imports.specs.Outcomes.{AreKept, GraphOutcome, IsGraphOutcome, fault_said}
+use Rattle.ob_imports.specs.Outcomes.{AreFilesOfGraph, GraphOutcome, IsGraphOutcome, fault_said}
 use Rattle.cut_net.specs.declared.priced.Priced.{Priced}
 use Rattle.cut_net.specs.Lines.{IsAscending}
 use Rattle.cut_net.specs.Network.{Network, name_of}
@@ -72,7 +72,7 @@ pub record AreAccepted (sources : List Source) (files : List ModuleFile) : Type 
 pub record IsTree (sources : List Source) (files : List ModuleFile) : Type 0 where
   pub accepted : AreAccepted sources files
   pub graph : ImportGraph
-  pub kept : AreKept (files_of files) graph
+  pub kept : AreFilesOfGraph (files_of files) graph
   pub acyclic : IsAcyclic (Imports (files_of files))
 
 -- a module of the one name imports the other, and so many qualified uses cross that import

@@ -2,7 +2,7 @@
 ghost use Rattle.std.specs.Prelude.{◌≡◌, ℕ, List, Some, Contains, IfErr, IfNone, IfOk, IfSome, slice_get};
 ghost use Rattle.ob_decls.specs.Declaring.{rows_in, rows_of};
 ghost use Rattle.ob_imports.specs.Files.{names_of};
-ghost use Rattle.ob_imports.specs.Outcomes.{AreKept};
+ghost use Rattle.ob_imports.specs.Outcomes.{AreFilesOfGraph};
 ghost use Rattle.ob_parse.specs.Parsed.{IsTheTree};
 ghost use Rattle.ob_scan.specs.Position.{line_starts};
 ghost use Rattle.ob_scan.specs.Spelling.{AreInText, IsOutcome, Reads};
@@ -164,8 +164,8 @@ fn crossed_in(
 
 /// The number of the tree's module of this name, or none where the tree has none.
 fn importer_of(graph: &Graph, name: &str) -> Option<u32>
-    ensures found { IfSome result (λ v. (files : List ModuleFile) → AreKept (files_of files) graph.now → (file : ModuleFile) × (slice_get files v ≡ Some file) × (names file 1 ≡ name.now)) }
-    ensures none { IfNone result ((files : List ModuleFile) → AreKept (files_of files) graph.now → Contains (names_of (files_of files)) name.now → ⊥) }
+    ensures found { IfSome result (λ v. (files : List ModuleFile) → AreFilesOfGraph (files_of files) graph.now → (file : ModuleFile) × (slice_get files v ≡ Some file) × (names file 1 ≡ name.now)) }
+    ensures none { IfNone result ((files : List ModuleFile) → AreFilesOfGraph (files_of files) graph.now → Contains (names_of (files_of files)) name.now → ⊥) }
 {
     let node = graph.node_of(name)?;
     if node < graph.modules() {

@@ -1,6 +1,6 @@
 //! A file of a tree, and the order of files.
 ghost use Rattle.std.specs.Prelude.{◌↔◌, IsTrue};
-ghost use Rattle.oscip_tree.specs.Sources.{AreInOrder};
+ghost use Rattle.oscip_tree.specs.Sources.{ArePathsInOrder};
 
 /// A file of a tree.
 #[derive(Drop)]
@@ -13,7 +13,7 @@ pub struct Source {
 
 /// Whether the files stand in the order of their paths, compared by bytes, and no path stands twice.
 pub fn in_order(sources: &[Source]) -> bool
-    ensures { IsTrue result ↔ AreInOrder sources.now }
+    ensures { IsTrue result ↔ ArePathsInOrder sources.now }
 {
     sources.is_sorted_by(|first, second| first.path < second.path)
 }

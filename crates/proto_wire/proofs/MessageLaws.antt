@@ -61,11 +61,11 @@ first_fault-none inside (p ∷ pieces) end e =
     ((both.0, others.0), others.1)
 
 -- where the first fault is
-abbrev Place : (Piece → Option WireFault) → List Piece → Option WireFault → WireFault → Type 0
-Place inside pieces end fault =
+abbrev FaultPlace : (Piece → Option WireFault) → List Piece → Option WireFault → WireFault → Type 0
+FaultPlace inside pieces end fault =
     ((front : List Piece) × (p : Piece) × (others : List Piece) × (pieces ≡ front ++ p ∷ others) × IsClean inside front × (inside p ≡ Some fault)) ⊎ (IsClean inside pieces × (end ≡ Some fault))
 
-first_fault-some : (inside : Piece → Option WireFault) (pieces : List Piece) (end : Option WireFault) (fault : WireFault) → first_fault inside pieces end ≡ Some fault → Place inside pieces end fault
+first_fault-some : (inside : Piece → Option WireFault) (pieces : List Piece) (end : Option WireFault) (fault : WireFault) → first_fault inside pieces end ≡ Some fault → FaultPlace inside pieces end fault
 unfolding first_fault
 first_fault-some inside [] end fault e = inr (tt, e)
 first_fault-some inside (p ∷ pieces) end fault e =
@@ -112,7 +112,7 @@ no_fault_iff inside start bytes = (λ e. told (pieces_of start bytes).0 (pieces_
 pub first_fault_iff : (inside : Piece → Option WireFault) (start : ℕ) (bytes : List ℕ) (fault : WireFault) → (fault_of inside start bytes ≡ Some fault) ↔ IsFirstFault inside start bytes fault
 first_fault_iff inside start bytes fault = (λ e. told (pieces_of start bytes).0 (pieces_of start bytes).1 (pieces_read start bytes) e, found)
   where
-    placed : (pieces : List Piece) (end : Option WireFault) → PiecesRead start bytes pieces end → Place inside pieces end fault → IsFirstFault inside start bytes fault
+    placed : (pieces : List Piece) (end : Option WireFault) → PiecesRead start bytes pieces end → FaultPlace inside pieces end fault → IsFirstFault inside start bytes fault
     placed pieces end read (inl h) =
         let split = subst (λ (ps : List Piece). PiecesRead start bytes ps end) (h.3 ∙ sym (append_assoc h.0 (h.1 ∷ []) h.2)) read in
         let so_far = reached start bytes (h.0 ++ h.1 ∷ []) h.2 end split in

@@ -49,8 +49,8 @@ unfoldable pub if_field : {X : Type 0} → ℕ → WireRecord → List X → Lis
 if_field k wire xs = if wire.field == k then xs else []
 
 -- the fault in a record, if it has this field number
-unfoldable pub fault_at : ℕ → WireRecord → Option WireFault → Option WireFault
-fault_at k wire fault = if wire.field == k then fault else None
+unfoldable pub field_fault : ℕ → WireRecord → Option WireFault → Option WireFault
+field_fault k wire fault = if wire.field == k then fault else None
 
 -- what the records of a field give, in a row
 unfoldable pub each_of : {X : Type 0} → ℕ → (Piece → List X) → List Piece → List X

@@ -5,7 +5,7 @@ ghost use Rattle.std.specs.Result.{result_err, result_unwrap_or};
 ghost use Rattle.std.specs.String.{string_bytes};
 ghost use Rattle.proto_wire.specs.Faults.{Stops, Tells};
 ghost use Rattle.proto_wire.specs.Packed.{int32, packed, IsPackedOutcome};
-ghost use Rattle.proto_wire.specs.Messages.{piece_of, latest, if_field, fault_at, number_given, numbers_in, numbers_fault, bytes_in, text_fault};
+ghost use Rattle.proto_wire.specs.Messages.{piece_of, latest, if_field, field_fault, number_given, numbers_in, numbers_fault, bytes_in, text_fault};
 
 use crate::fault::WireFault;
 use crate::record::{WireRecord, WireValue};
@@ -49,16 +49,16 @@ pub fn packed_values(alloc: Global, payload: &[u8], at: usize) -> Result<Vec<i32
 
 /// Adds the numbers of the record, packed or not, if it is of this repeated field.
 /// Refuses with `Truncated` and `LongVarint`, with the offset of the record's key, and with `Memory`; some are then added.
-#[tactic(auto, unfolding(crate::specs::Messages::if_field, crate::specs::Messages::fault_at))]
+#[tactic(auto, unfolding(crate::specs::Messages::if_field, crate::specs::Messages::field_fault))]
 pub fn take_numbers(
     field: u32,
     numbers: &mut Vec<i32>,
     wire: &WireRecord,
     payload: &[u8],
 ) -> Result<(), WireFault>
-    ensures clean { let p = piece_of wire.now payload.now in OnOk result (fault_at field wire.now (numbers_fault p) ≡ None) }
+    ensures clean { let p = piece_of wire.now payload.now in OnOk result (field_fault field wire.now (numbers_fault p) ≡ None) }
     ensures numbers { let p = piece_of wire.now payload.now in OnOk result (numbers.new.items ≡ numbers.old.items ++ if_field field wire.now (numbers_in p)) }
-    ensures err { let p = piece_of wire.now payload.now in IfErr result (λ e. Stops e (fault_at field wire.now (numbers_fault p))) }
+    ensures err { let p = piece_of wire.now payload.now in IfErr result (λ e. Stops e (field_fault field wire.now (numbers_fault p))) }
 {
     if wire.field != field {
         return Ok(());
@@ -88,7 +88,7 @@ pub fn take_number(field: u32, number: &mut i32, wire: &WireRecord)
 
 /// Takes the text of the record, if it is of this field.
 /// Refuses with `BadText`, with the offset of the record's key, and with `Memory`; the text is then as it was.
-#[tactic(auto, unfolding(crate::specs::Messages::if_field, crate::specs::Messages::fault_at))]
+#[tactic(auto, unfolding(crate::specs::Messages::if_field, crate::specs::Messages::field_fault))]
 pub fn take_text(
     alloc: Global,
     field: u32,
@@ -96,9 +96,9 @@ pub fn take_text(
     wire: &WireRecord,
     payload: &[u8],
 ) -> Result<(), WireFault>
-    ensures clean { let p = piece_of wire.now payload.now in OnOk result (fault_at field wire.now (text_fault p) ≡ None) }
+    ensures clean { let p = piece_of wire.now payload.now in OnOk result (field_fault field wire.now (text_fault p) ≡ None) }
     ensures text { let p = piece_of wire.now payload.now in OnOk result (string_bytes text.new ≡ latest (string_bytes text.old) (if_field field wire.now (bytes_in p))) }
-    ensures err { let p = piece_of wire.now payload.now in IfErr result (λ e. Stops e (fault_at field wire.now (text_fault p))) }
+    ensures err { let p = piece_of wire.now payload.now in IfErr result (λ e. Stops e (field_fault field wire.now (text_fault p))) }
     ensures kept { OnErr result (string_bytes text.new ≡ string_bytes text.old) }
 {
     if wire.field != field {
@@ -115,7 +115,7 @@ pub fn take_text(
 
 /// Adds the text of the record, if it is of this repeated field.
 /// Refuses with `BadText`, with the offset of the record's key, and with `Memory`; the texts are then as they were.
-#[tactic(auto, unfolding(crate::specs::Messages::if_field, crate::specs::Messages::fault_at))]
+#[tactic(auto, unfolding(crate::specs::Messages::if_field, crate::specs::Messages::field_fault))]
 pub fn take_texts(
     alloc: Global,
     field: u32,
@@ -123,9 +123,9 @@ pub fn take_texts(
     wire: &WireRecord,
     payload: &[u8],
 ) -> Result<(), WireFault>
-    ensures clean { let p = piece_of wire.now payload.now in OnOk result (fault_at field wire.now (text_fault p) ≡ None) }
+    ensures clean { let p = piece_of wire.now payload.now in OnOk result (field_fault field wire.now (text_fault p) ≡ None) }
     ensures texts { let p = piece_of wire.now payload.now in OnOk result (map string_bytes texts.new.items ≡ map string_bytes texts.old.items ++ if_field field wire.now (bytes_in p)) }
-    ensures err { let p = piece_of wire.now payload.now in IfErr result (λ e. Stops e (fault_at field wire.now (text_fault p))) }
+    ensures err { let p = piece_of wire.now payload.now in IfErr result (λ e. Stops e (field_fault field wire.now (text_fault p))) }
     ensures kept { OnErr result (texts.new.items ≡ texts.old.items) }
 {
     if wire.field != field {

@@ -4,7 +4,7 @@ ghost use Rattle.proto_wire.specs.declared.fault.WireFault.{WireFault};
 ghost use Rattle.proto_wire.specs.Faults.{Stops};
 ghost use Rattle.proto_wire.specs.Records.{Piece};
 ghost use Rattle.proto_wire.specs.Readings.{pieces_of};
-ghost use Rattle.proto_wire.specs.Messages.{AddsMessages, IsMerged, if_field, fault_at, fault_of, message_fault, records_inside, piece_of};
+ghost use Rattle.proto_wire.specs.Messages.{AddsMessages, IsMerged, if_field, field_fault, fault_of, message_fault, records_inside, piece_of};
 
 use crate::fault::WireFault;
 use crate::record::{WireRecord, WireValue, record_at_front};
@@ -74,7 +74,7 @@ pub fn read_message<M: Message + Drop>(
 
 /// Adds the message that the record carries, if it is of this repeated field. A record of another field or wire type adds none.
 /// Refuses with the first fault of the message, and with `Memory`; the messages are then as they were.
-#[tactic(auto, unfolding(crate::specs::Messages::if_field, crate::specs::Messages::fault_at))]
+#[tactic(auto, unfolding(crate::specs::Messages::if_field, crate::specs::Messages::field_fault))]
 pub fn take_messages<M: Message + Drop>(
     alloc: Global,
     field: u32,
@@ -83,9 +83,9 @@ pub fn take_messages<M: Message + Drop>(
     payload: &[u8],
 ) -> Result<(), WireFault>
     requires { wire.now.body + length payload.now < 2 ^ 64 }
-    ensures clean { let p = piece_of wire.now payload.now in OnOk result (fault_at field wire.now (message_fault M.fault_in p) ≡ None) }
+    ensures clean { let p = piece_of wire.now payload.now in OnOk result (field_fault field wire.now (message_fault M.fault_in p) ≡ None) }
     ensures means { let p = piece_of wire.now payload.now in OnOk result (AddsMessages M.means (if_field field wire.now (records_inside p)) messages.old.items messages.new.items) }
-    ensures err { let p = piece_of wire.now payload.now in IfErr result (λ e. Stops e (fault_at field wire.now (message_fault M.fault_in p))) }
+    ensures err { let p = piece_of wire.now payload.now in IfErr result (λ e. Stops e (field_fault field wire.now (message_fault M.fault_in p))) }
     ensures kept { OnErr result (messages.new.items ≡ messages.old.items) }
 {
     if wire.field != field {
@@ -101,7 +101,7 @@ pub fn take_messages<M: Message + Drop>(
 /// Merges the message that the record carries, if it is of this singular field, into the one that there was. A record of
 /// another field or wire type changes nothing. Refuses with the first fault of the message, and with `Memory`; there is then
 /// no message.
-#[tactic(auto, unfolding(crate::specs::Messages::if_field, crate::specs::Messages::fault_at))]
+#[tactic(auto, unfolding(crate::specs::Messages::if_field, crate::specs::Messages::field_fault))]
 pub fn merge_message<M: Message + Drop>(
     alloc: Global,
     field: u32,
@@ -110,9 +110,9 @@ pub fn merge_message<M: Message + Drop>(
     payload: &[u8],
 ) -> Result<(), WireFault>
     requires { wire.now.body + length payload.now < 2 ^ 64 }
-    ensures clean { let p = piece_of wire.now payload.now in OnOk result (fault_at field wire.now (message_fault M.fault_in p) ≡ None) }
+    ensures clean { let p = piece_of wire.now payload.now in OnOk result (field_fault field wire.now (message_fault M.fault_in p) ≡ None) }
     ensures means { let p = piece_of wire.now payload.now in OnOk result ((front : List (List Piece)) → IsMerged M.means message.old front → IsMerged M.means message.new (front ++ if_field field wire.now (records_inside p))) }
-    ensures err { let p = piece_of wire.now payload.now in IfErr result (λ e. Stops e (fault_at field wire.now (message_fault M.fault_in p))) }
+    ensures err { let p = piece_of wire.now payload.now in IfErr result (λ e. Stops e (field_fault field wire.now (message_fault M.fault_in p))) }
 {
     if wire.field != field {
         return Ok(());

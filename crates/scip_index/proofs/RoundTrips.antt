@@ -2,7 +2,7 @@
 use Rattle.std.proofs.Common.{◌≡◌, ℕ, ◌^◌, ◌<◌, pos, List, [], ◌++◌, length, map, None, refl, sym, subst, arith}
 use Rattle.std.specs.Option.{option_to_list}
 use Rattle.proto_wire.specs.Records.{Piece}
-use Rattle.proto_wire.specs.Messages.{each_of, fault_at, latest, number_in, numbers_in, numbers_fault, bytes_in, text_fault, message_fault, records_inside}
+use Rattle.proto_wire.specs.Messages.{each_of, field_fault, latest, number_in, numbers_in, numbers_fault, bytes_in, text_fault, message_fault, records_inside}
 use Rattle.proto_wire.specs.Writing.{CarryAll, number_fields, text_fields, packed_fields, payload_fields}
 use Rattle.proto_wire.proofs.GivenLaws.{text-given, number-given, packed-given, payloads-given}
 use Rattle.proto_wire.proofs.MessageSteps.{messages-given}
@@ -17,19 +17,19 @@ use Rattle.scip_index.proofs.Again.{text_number, number_number, packed_number, P
 -- ---- occurrences
 
 occurrence_range_passes : Passes occurrence_fault 1 numbers_fault
-unfolding fault_at
+unfolding field_fault
 occurrence_range_passes p e h = rw (e, h) refl
 
 occurrence_symbol_passes : Passes occurrence_fault 2 text_fault
-unfolding fault_at
+unfolding field_fault
 occurrence_symbol_passes p e h = rw (e, h) refl
 
 occurrence_roles_pass : (p : Piece) → p.wire.field ≡ 3 → occurrence_fault p ≡ None
-unfolding fault_at
+unfolding field_fault
 occurrence_roles_pass p e = rw e refl
 
 occurrence_enclosing_passes : Passes occurrence_fault 7 numbers_fault
-unfolding fault_at
+unfolding field_fault
 occurrence_enclosing_passes p e h = rw (e, h) refl
 
 occurrence_good : (o : PlainOccurrence) → OccurrenceFits o → AreGood occurrence_fault (occurrence_fields o)
@@ -83,11 +83,11 @@ occurrence_again o fits short = again_from occurrence_fault occurrence_of o (occ
 -- ---- symbols
 
 symbol_text_passes : Passes symbol_fault 1 text_fault
-unfolding fault_at
+unfolding field_fault
 symbol_text_passes p e h = rw (e, h) refl
 
 symbol_name_passes : Passes symbol_fault 6 text_fault
-unfolding fault_at
+unfolding field_fault
 symbol_name_passes p e h = rw (e, h) refl
 
 symbol_said : (s : PlainSymbol) (ps : List Piece) → CarryAll ps (symbol_fields s) → symbol_of ps ≡ s
@@ -111,23 +111,23 @@ symbol_again s fits short =
 -- ---- documents
 
 document_path_passes : Passes document_fault 1 text_fault
-unfolding fault_at
+unfolding field_fault
 document_path_passes p e h = rw (e, h) refl
 
 document_occurrences_pass : Passes document_fault 2 (message_fault occurrence_fault)
-unfolding fault_at
+unfolding field_fault
 document_occurrences_pass p e h = rw (e, h) refl
 
 document_symbols_pass : Passes document_fault 3 (message_fault symbol_fault)
-unfolding fault_at
+unfolding field_fault
 document_symbols_pass p e h = rw (e, h) refl
 
 document_language_passes : Passes document_fault 4 text_fault
-unfolding fault_at
+unfolding field_fault
 document_language_passes p e h = rw (e, h) refl
 
 document_encoding_passes : (p : Piece) → p.wire.field ≡ 6 → document_fault p ≡ None
-unfolding fault_at
+unfolding field_fault
 document_encoding_passes p e = rw e refl
 
 pub document_again : (d : PlainDocument) → DocumentFits d → length (written_document d) < 2 ^ 64 → IsAgain document_fault document_of d (written_document d)
@@ -185,15 +185,15 @@ document_again d fits short =
 -- ---- the tool
 
 tool_name_passes : Passes tool_fault 1 text_fault
-unfolding fault_at
+unfolding field_fault
 tool_name_passes p e h = rw (e, h) refl
 
 tool_version_passes : Passes tool_fault 2 text_fault
-unfolding fault_at
+unfolding field_fault
 tool_version_passes p e h = rw (e, h) refl
 
 tool_arguments_pass : Passes tool_fault 3 text_fault
-unfolding fault_at
+unfolding field_fault
 tool_arguments_pass p e h = rw (e, h) refl
 
 tool_said : (t : PlainTool) (ps : List Piece) → CarryAll ps (tool_fields t) → tool_of ps ≡ t
@@ -225,19 +225,19 @@ tool_again t fits short =
 -- ---- metadata
 
 metadata_version_passes : (p : Piece) → p.wire.field ≡ 1 → metadata_fault p ≡ None
-unfolding fault_at
+unfolding field_fault
 metadata_version_passes p e = rw e refl
 
 metadata_tool_passes : Passes metadata_fault 2 (message_fault tool_fault)
-unfolding fault_at
+unfolding field_fault
 metadata_tool_passes p e h = rw (e, h) refl
 
 metadata_root_passes : Passes metadata_fault 3 text_fault
-unfolding fault_at
+unfolding field_fault
 metadata_root_passes p e h = rw (e, h) refl
 
 metadata_encoding_passes : (p : Piece) → p.wire.field ≡ 4 → metadata_fault p ≡ None
-unfolding fault_at
+unfolding field_fault
 metadata_encoding_passes p e = rw e refl
 
 pub metadata_again : (m : PlainMetadata) → MetadataFits m → length (written_metadata m) < 2 ^ 64 → IsAgain metadata_fault metadata_of m (written_metadata m)
@@ -286,15 +286,15 @@ metadata_again m fits short =
 -- ---- the index
 
 index_metadata_passes : Passes index_fault 1 (message_fault metadata_fault)
-unfolding fault_at
+unfolding field_fault
 index_metadata_passes p e h = rw (e, h) refl
 
 index_documents_pass : Passes index_fault 2 (message_fault document_fault)
-unfolding fault_at
+unfolding field_fault
 index_documents_pass p e h = rw (e, h) refl
 
 index_symbols_pass : Passes index_fault 3 (message_fault symbol_fault)
-unfolding fault_at
+unfolding field_fault
 index_symbols_pass p e h = rw (e, h) refl
 
 pub index_again : (i : PlainIndex) → IndexFits i → length (written i) < 2 ^ 64 → IsAgain index_fault index_of i (written i)

@@ -4,7 +4,7 @@ use Rattle.std.specs.Prelude.{◌≡◌, ℕ, pos, List, [], ◌∷◌, map, Opt
 use Rattle.std.specs.List.{flat_map}
 use Rattle.proto_wire.specs.declared.fault.WireFault.{WireFault}
 use Rattle.proto_wire.specs.Records.{Piece, AreRecords}
-use Rattle.proto_wire.specs.Messages.{each_of, fault_at, first_of, latest, number_in, numbers_in, numbers_fault, bytes_in, text_fault, records_inside, message_fault, IsClean, IsFirstFault}
+use Rattle.proto_wire.specs.Messages.{each_of, field_fault, first_of, latest, number_in, numbers_in, numbers_fault, bytes_in, text_fault, records_inside, message_fault, IsClean, IsFirstFault}
 use Rattle.scip_index.specs.Plain.{PlainOccurrence, PlainSymbol, PlainDocument, PlainTool, PlainMetadata, PlainIndex}
 
 -- the numbers of field 1, the last text of field 2, the last number of field 3, the numbers of field 7
@@ -17,7 +17,7 @@ occurrence_of pieces = record {
 }
 
 abbrev pub occurrence_fault : Piece → Option WireFault
-occurrence_fault p = first_of (fault_at 1 p.wire (numbers_fault p)) (first_of (fault_at 2 p.wire (text_fault p)) (fault_at 7 p.wire (numbers_fault p)))
+occurrence_fault p = first_of (field_fault 1 p.wire (numbers_fault p)) (first_of (field_fault 2 p.wire (text_fault p)) (field_fault 7 p.wire (numbers_fault p)))
 
 abbrev pub symbol_of : List Piece → PlainSymbol
 symbol_of pieces = record {
@@ -26,7 +26,7 @@ symbol_of pieces = record {
 }
 
 abbrev pub symbol_fault : Piece → Option WireFault
-symbol_fault p = first_of (fault_at 1 p.wire (text_fault p)) (fault_at 6 p.wire (text_fault p))
+symbol_fault p = first_of (field_fault 1 p.wire (text_fault p)) (field_fault 6 p.wire (text_fault p))
 
 abbrev pub document_of : List Piece → PlainDocument
 document_of pieces = record {
@@ -39,8 +39,8 @@ document_of pieces = record {
 
 abbrev pub document_fault : Piece → Option WireFault
 document_fault p =
-    first_of (fault_at 1 p.wire (text_fault p)) (first_of (fault_at 2 p.wire (message_fault occurrence_fault p))
-    (first_of (fault_at 3 p.wire (message_fault symbol_fault p)) (fault_at 4 p.wire (text_fault p))))
+    first_of (field_fault 1 p.wire (text_fault p)) (first_of (field_fault 2 p.wire (message_fault occurrence_fault p))
+    (first_of (field_fault 3 p.wire (message_fault symbol_fault p)) (field_fault 4 p.wire (text_fault p))))
 
 abbrev pub tool_of : List Piece → PlainTool
 tool_of pieces = record {
@@ -50,7 +50,7 @@ tool_of pieces = record {
 }
 
 abbrev pub tool_fault : Piece → Option WireFault
-tool_fault p = first_of (fault_at 1 p.wire (text_fault p)) (first_of (fault_at 2 p.wire (text_fault p)) (fault_at 3 p.wire (text_fault p)))
+tool_fault p = first_of (field_fault 1 p.wire (text_fault p)) (first_of (field_fault 2 p.wire (text_fault p)) (field_fault 3 p.wire (text_fault p)))
 
 -- none where there is no record for it, else what all of them say together
 abbrev pub merged : {V : Type 0} → (List Piece → V) → List (List Piece) → Option V
@@ -66,7 +66,7 @@ metadata_of pieces = record {
 }
 
 abbrev pub metadata_fault : Piece → Option WireFault
-metadata_fault p = first_of (fault_at 2 p.wire (message_fault tool_fault p)) (fault_at 3 p.wire (text_fault p))
+metadata_fault p = first_of (field_fault 2 p.wire (message_fault tool_fault p)) (field_fault 3 p.wire (text_fault p))
 
 abbrev pub index_of : List Piece → PlainIndex
 index_of pieces = record {
@@ -77,8 +77,8 @@ index_of pieces = record {
 
 abbrev pub index_fault : Piece → Option WireFault
 index_fault p =
-    first_of (fault_at 1 p.wire (message_fault metadata_fault p))
-    (first_of (fault_at 2 p.wire (message_fault document_fault p)) (fault_at 3 p.wire (message_fault symbol_fault p)))
+    first_of (field_fault 1 p.wire (message_fault metadata_fault p))
+    (first_of (field_fault 2 p.wire (message_fault document_fault p)) (field_fault 3 p.wire (message_fault symbol_fault p)))
 
 -- the bytes are records in a row, none of them with a fault inside, and they say this index
 pub record Means (bytes : List ℕ) (index : PlainIndex) : Type 0 where

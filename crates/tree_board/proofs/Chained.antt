@@ -9,7 +9,7 @@ use Rattle.digraph.proofs.Members.{in_map}
 use Rattle.ob_imports.specs.Files.{names_of, File, Imports}
 use Rattle.ob_imports.specs.Graphs.{ImportGraph, IsGraphOf}
 use Rattle.ob_imports.specs.Numbering.{place_of}
-use Rattle.ob_imports.specs.Outcomes.{AreKept}
+use Rattle.ob_imports.specs.Outcomes.{AreFilesOfGraph}
 use Rattle.ob_imports.proofs.Places.{name_at, place_within}
 use Rattle.work_board.specs.Graphs.{IsAcyclic, IsChain, Leads as RowLeads, Reaches}
 use Rattle.tree_board.specs.Boards.{rows_below}
@@ -32,7 +32,7 @@ acyclic_board g none v back =
     let (n, leads, chain) = reaches_to (rows_below g g.modules) (Leads g.pairs) (λ (x : ℕ). x) (λ x y h. (leads_on g x y h).2) v v back in
     none v n leads chain
 
-module _ (files : List SeenFile) (g : ImportGraph) (kept : AreKept (files_of files) g) where
+module _ (files : List SeenFile) (g : ImportGraph) (kept : AreFilesOfGraph (files_of files) g) where
   abbrev is_graph : IsGraphOf (files_of files) g
   is_graph = kept.is_graph
 

@@ -6,7 +6,7 @@ use Rattle.std.specs.declared.alloc.Global.{Global}
 use Rattle.std.proofs.lemmas.Option.{slice_get_within}
 use Rattle.ob_imports.specs.Files.{File}
 use Rattle.ob_imports.specs.Graphs.{ImportGraph}
-use Rattle.ob_imports.specs.Outcomes.{AreKept}
+use Rattle.ob_imports.specs.Outcomes.{AreFilesOfGraph}
 use Rattle.ob_interface.specs.Interfaces.{interface_of}
 use Rattle.ob_scan.specs.Spelling.{IsOutcome, Reads}
 use Rattle.ob_scope.specs.Scoped.{AreScopes}
@@ -42,7 +42,7 @@ module _ (sources : List Source) (files : List ModuleFile) (modules : List (Box 
   pub seen_are : all_seen sources modules ≡ map seen_of files
   seen_are = seen_files sources modules files all.accepted.as_many all.as_many (λ k s file m at_s at_f at_m. is_seen s file m.value (all.accepted.each k s file at_s at_f) (all.each k file m at_f at_m))
 
-  pub parts_seen : (g : ImportGraph) → AreKept (files_told files) g → AreSeen sources modules g
+  pub parts_seen : (g : ImportGraph) → AreFilesOfGraph (files_told files) g → AreSeen sources modules g
   parts_seen g kept = record {
     as_many = all.as_many ∙ all.accepted.as_many;
     each = λ k s m at_s at_m.
@@ -60,5 +60,5 @@ module _ (sources : List Source) (files : List ModuleFile) (modules : List (Box 
           scopes = subst Q (sym same) are.scopes_are;
           interface = subst R (sym same) are.interface_is;
         };
-    kept = subst (λ (fs : List File). AreKept fs g) (sym (ap files_of seen_are ∙ told_seen files)) kept;
+    kept = subst (λ (fs : List File). AreFilesOfGraph fs g) (sym (ap files_of seen_are ∙ told_seen files)) kept;
   }

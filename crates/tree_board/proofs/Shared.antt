@@ -6,7 +6,7 @@ use Rattle.std.proofs.lemmas.Option.{get_or_from_slice_get, slice_get-get_or, sl
 use Rattle.ob_imports.specs.Files.{names_of, File}
 use Rattle.ob_imports.specs.Graphs.{ImportGraph}
 use Rattle.ob_imports.specs.Numbering.{place_of}
-use Rattle.ob_imports.specs.Outcomes.{AreKept}
+use Rattle.ob_imports.specs.Outcomes.{AreFilesOfGraph}
 use Rattle.ob_imports.proofs.Places.{place_is}
 use Rattle.ob_interface.specs.Interfaces.{ModuleInterface}
 use Rattle.work_board.specs.Cores.{entry_at, shares_of}
@@ -40,7 +40,7 @@ some_of : {E : Type 0} (o : Option E) → is_some o ≡ true → (e : E) × (o �
 some_of None there = absurd cc
 some_of (Some e) there = (e, refl)
 
-module _ (files : List SeenFile) (g : ImportGraph) (kept : AreKept (files_of files) g) where
+module _ (files : List SeenFile) (g : ImportGraph) (kept : AreFilesOfGraph (files_of files) g) where
   name_in_files : (k : ℕ) (file : SeenFile) → slice_get files k ≡ Some file → slice_get (names_of (files_of files)) k ≡ Some (names file 1)
   name_in_files k file at =
       slice_get-map (λ (f : File). f.name) (files_of files) k ∙ ap (option_map (λ (f : File). f.name)) (slice_get-map file_of files k ∙ ap (option_map file_of) at)
@@ -56,7 +56,7 @@ module _ (files : List SeenFile) (g : ImportGraph) (kept : AreKept (files_of fil
       let both : Some other ≡ Some file = sym at_j ∙ ap (slice_get files) place ∙ at in
       cc
 
-module _ {E : Type 0} (is_of : List ℕ → E → Type 0) (shared_of : E → ModuleInterface) (files : List SeenFile) (g : ImportGraph) (kept : AreKept (files_of files) g)
+module _ {E : Type 0} (is_of : List ℕ → E → Type 0) (shared_of : E → ModuleInterface) (files : List SeenFile) (g : ImportGraph) (kept : AreFilesOfGraph (files_of files) g)
     (tells : (n : List ℕ) (e : E) → is_of n e → (file : SeenFile) × Contains files file × (names file 1 ≡ n) × (shared_of e ≡ interface_in file)) where
   pub parts_reached : (n : ℕ) (parts : List ModuleInterface) (m : SeenFile) → slice_get files n ≡ Some m → IsJob is_of shared_of (modules_of g) n parts → AreReached files (names m 1) parts
   parts_reached n parts m at_n (within, (c, size, own, shares)) =

@@ -5,7 +5,7 @@ use Rattle.std.specs.String.{string_bytes}
 use Rattle.std.specs.declared.alloc.Global.{Global}
 use Rattle.ob_decls.specs.Declaring.{rows_in}
 use Rattle.ob_imports.specs.Graphs.{ImportGraph}
-use Rattle.ob_imports.specs.Outcomes.{AreKept}
+use Rattle.ob_imports.specs.Outcomes.{AreFilesOfGraph}
 use Rattle.ob_scan.specs.Spelling.{IsOutcome, Reads}
 use Rattle.ob_scope.specs.Scoped.{AreScopes}
 use Rattle.oscip_tree.specs.declared.parts.ModuleParts.{ModuleParts}
@@ -32,4 +32,4 @@ pub record IsSeen (s : Source) (parts : ModuleParts) : Type 0 where
 pub record AreSeen (sources : List Source) (modules : List (Box ModuleParts Global)) (graph : ImportGraph) : Type 0 where
   pub as_many : length modules ≡ length sources
   pub each : (k : ℕ) (s : Source) (m : Box ModuleParts Global) → slice_get sources k ≡ Some s → slice_get modules k ≡ Some m → IsSeen s m.value
-  pub kept : AreKept (files_of (all_seen sources modules)) graph
+  pub kept : AreFilesOfGraph (files_of (all_seen sources modules)) graph

@@ -10,43 +10,43 @@ use Rattle.work_board.specs.declared.claim.Claim.{Claim}
 use Rattle.work_board.specs.declared.claim.Claim.TheVariants.{Finished, Module, Later}
 use Rattle.work_board.specs.Graphs.{row_at, Modules}
 use Rattle.work_board.specs.Cores.{has_entry, is_claimed, Core, IsClaim, IsOver, IsReady}
-use Rattle.work_board.specs.Keeping.{open_of, state_at, taken, IsKept, IsLook, IsTold}
+use Rattle.work_board.specs.Keeping.{open_of, state_at, taken, IsValidBoard, IsLook, IsStateOf}
 use Rattle.work_board.proofs.Counting.{open_zero, open_none}
 
 abbrev pub core_of : {E : Type 0} → List (Option E) → List State → Bool → Core E
 core_of entries states abandoned = record { entries = entries; claimed = map taken states; abandoned = abandoned }
 
-pub told_free : (s : State) (k : ℕ) (there : Bool) → IsTold s k there → taken s ≡ false → k ≡ 0 → s ≡ Free
+pub told_free : (s : State) (k : ℕ) (there : Bool) → IsStateOf s k there → taken s ≡ false → k ≡ 0 → s ≡ Free
 told_free Waiting k there told is_not zero = absurd (omega arith)
 told_free Free k there told is_not zero = refl
 told_free Claimed k there told is_not zero = cc
 told_free Delivered k there told is_not zero = cc
 
-pub told_delivered : (s : State) (k : ℕ) (there : Bool) → IsTold s k there → there ≡ true → s ≡ Delivered
+pub told_delivered : (s : State) (k : ℕ) (there : Bool) → IsStateOf s k there → there ≡ true → s ≡ Delivered
 told_delivered Waiting k there told is_so = cc
 told_delivered Free k there told is_so = cc
 told_delivered Claimed k there told is_so = cc
 told_delivered Delivered k there told is_so = refl
 
-pub told_there : (s : State) (k : ℕ) (there : Bool) → IsTold s k there → s ≡ Delivered → there ≡ true
+pub told_there : (s : State) (k : ℕ) (there : Bool) → IsStateOf s k there → s ≡ Delivered → there ≡ true
 told_there Waiting k there told is_so = cc
 told_there Free k there told is_so = cc
 told_there Claimed k there told is_so = cc
 told_there Delivered k there told is_so = told.1
 
-pub told_none : (s : State) (k : ℕ) (there : Bool) → IsTold s k there → (s ≡ Delivered → ⊥) → there ≡ false
+pub told_none : (s : State) (k : ℕ) (there : Bool) → IsStateOf s k there → (s ≡ Delivered → ⊥) → there ≡ false
 told_none Waiting k there told is_not = told.1
 told_none Free k there told is_not = told.1
 told_none Claimed k there told is_not = told.1
 told_none Delivered k there told is_not = absurd (is_not refl)
 
-pub told_zero : (s : State) (k : ℕ) (there : Bool) → IsTold s k there → (s ≡ Waiting → ⊥) → k ≡ 0
+pub told_zero : (s : State) (k : ℕ) (there : Bool) → IsStateOf s k there → (s ≡ Waiting → ⊥) → k ≡ 0
 told_zero Waiting k there told is_not = absurd (is_not refl)
 told_zero Free k there told is_not = told.0
 told_zero Claimed k there told is_not = told.0
 told_zero Delivered k there told is_not = told.0
 
-pub told_claimed : (s : State) (k : ℕ) (there : Bool) → IsTold s k there → taken s ≡ true → there ≡ false → s ≡ Claimed
+pub told_claimed : (s : State) (k : ℕ) (there : Bool) → IsStateOf s k there → taken s ≡ true → there ≡ false → s ≡ Claimed
 told_claimed Waiting k there told is_so is_not = cc
 told_claimed Free k there told is_so is_not = cc
 told_claimed Claimed k there told is_so is_not = refl
@@ -55,7 +55,7 @@ told_claimed Delivered k there told is_so is_not = cc
 pub stated_within : (states : List State) (n : ℕ) → (state_at states n ≡ Waiting → ⊥) → n < length states
 stated_within states n is_not = elim (cases_lt n (length states)) [ inl lt ↦ lt | inr le ↦ absurd (is_not (get_or_past states n Waiting le)) ]
 
-module _ {E : Type 0} (is_of : List ℕ → E → Type 0) (g : Modules) (waiting : List ℕ) (states : List State) (reached : List (List Bool)) (spare : List Bool) (entries : List (Option E)) (kept : IsKept is_of g waiting states reached spare entries) where
+module _ {E : Type 0} (is_of : List ℕ → E → Type 0) (g : Modules) (waiting : List ℕ) (states : List State) (reached : List (List Bool)) (spare : List Bool) (entries : List (Option E)) (kept : IsValidBoard is_of g waiting states reached spare entries) where
   pub claimed_is : (abandoned : Bool) (n : ℕ) → is_claimed (core_of entries states abandoned) n ≡ taken (state_at states n)
   claimed_is abandoned n = get_or-map taken states n Waiting
 

@@ -8,18 +8,18 @@ use Rattle.work_board.specs.declared.state.State.{State}
 use Rattle.work_board.specs.declared.state.State.TheVariants.{Waiting, Free, Claimed, Delivered}
 use Rattle.work_board.specs.Graphs.{row_at, times, IsGraph, Leads, Modules}
 use Rattle.work_board.specs.Cores.{entry_at, has_entry}
-use Rattle.work_board.specs.Keeping.{freed, state_at, taken, IsFit, IsKept, IsTold}
+use Rattle.work_board.specs.Keeping.{freed, state_at, taken, IsFit, IsValidBoard, IsStateOf}
 use Rattle.work_board.proofs.Claiming.{told_zero, told_none}
 use Rattle.work_board.proofs.Counting.{open_delivered}
 
-pub told_freed : (s : State) (k less : ℕ) (there : Bool) → IsTold s k there → less ≤ k → IsTold (freed s less) less there
+pub told_freed : (s : State) (k less : ℕ) (there : Bool) → IsStateOf s k there → less ≤ k → IsStateOf (freed s less) less there
 told_freed Waiting k zero there told le = (refl, told.1)
 told_freed Waiting k (suc less) there told le = (omega arith, told.1)
 told_freed Free k less there told le = let z = told.0 in (omega arith, told.1)
 told_freed Claimed k less there told le = let z = told.0 in (omega arith, told.1)
 told_freed Delivered k less there told le = let z = told.0 in (omega arith, told.1)
 
-pub told_fit : (s : State) (k : ℕ) (there : Bool) → IsTold s k there → IsFit s k
+pub told_fit : (s : State) (k : ℕ) (there : Bool) → IsStateOf s k there → IsFit s k
 told_fit Waiting k there told = told.0
 told_fit Free k there told = told.0
 told_fit Claimed k there told = told.0
@@ -35,7 +35,7 @@ taken_freed Delivered k = refl
 pub member_below : (g : Modules) → IsGraph g → (m w : ℕ) → Leads g.imports m w → w < length g.names
 member_below g graph m w (k, lt, e) = let P : ℕ → Type 0 = λ x. x < length g.names in subst P e (graph.within m k w lt)
 
-module _ {E : Type 0} (is_of : List ℕ → E → Type 0) (g : Modules) (waiting : List ℕ) (states : List State) (reached : List (List Bool)) (spare : List Bool) (entries : List (Option E)) (kept : IsKept is_of g waiting states reached spare entries) (n : ℕ) (e : E) (within : n < length states) (at_n : state_at states n ≡ Claimed) where
+module _ {E : Type 0} (is_of : List ℕ → E → Type 0) (g : Modules) (waiting : List ℕ) (states : List State) (reached : List (List Bool)) (spare : List Bool) (entries : List (Option E)) (kept : IsValidBoard is_of g waiting states reached spare entries) (n : ℕ) (e : E) (within : n < length states) (at_n : state_at states n ≡ Claimed) where
   below : n < length g.names
   below = let size = kept.states_size in omega arith
 
@@ -79,7 +79,7 @@ module _ {E : Type 0} (is_of : List ℕ → E → Type 0) (g : Modules) (waiting
       → ((m : ℕ) → m < length waiting → slice_index waiting' m + times m importers ≡ slice_index waiting m)
       → ((m : ℕ) → m < length waiting → state_at states' m ≡ freed (state_at (set states n Delivered) m) (slice_index waiting' m))
       → is_of (row_at g.names n) e
-      → IsKept is_of g waiting' states' reached spare (set entries n (Some e))
+      → IsValidBoard is_of g waiting' states' reached spare (set entries n (Some e))
   delivered_kept waiting' states' importers w_size s_size turned counts tells own = record {
     entries_size = length-set entries n (Some e) ∙ kept.entries_size;
     waiting_size = w_size ∙ kept.waiting_size;

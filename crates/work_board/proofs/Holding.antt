@@ -7,20 +7,20 @@ use Rattle.work_board.specs.declared.state.State.{State}
 use Rattle.work_board.specs.declared.state.State.TheVariants.{Waiting, Free, Claimed}
 use Rattle.work_board.specs.Graphs.{row_at, IsGraph, Modules}
 use Rattle.work_board.specs.Cores.{has_entry}
-use Rattle.work_board.specs.Marks.{marked, IsMet}
-use Rattle.work_board.specs.Keeping.{state_at, taken, IsKept, IsTold}
+use Rattle.work_board.specs.Marks.{marked, IsReachedBy}
+use Rattle.work_board.specs.Keeping.{state_at, taken, IsValidBoard, IsStateOf}
 use Rattle.work_board.proofs.Claiming.{told_zero}
 use Rattle.work_board.proofs.Reaching.{meets}
 
-module _ {E : Type 0} (is_of : List ℕ → E → Type 0) (g : Modules) (waiting : List ℕ) (states : List State) (reached : List (List Bool)) (spare : List Bool) (entries : List (Option E)) (kept : IsKept is_of g waiting states reached spare entries) (n : ℕ) (within : n < length states) (free : state_at states n ≡ Free) where
+module _ {E : Type 0} (is_of : List ℕ → E → Type 0) (g : Modules) (waiting : List ℕ) (states : List State) (reached : List (List Bool)) (spare : List Bool) (entries : List (Option E)) (kept : IsValidBoard is_of g waiting states reached spare entries) (n : ℕ) (within : n < length states) (free : state_at states n ≡ Free) where
   below : n < length g.names
   below = let size = kept.states_size in omega arith
 
   none_open : slice_index waiting n ≡ 0
   none_open = told_zero (state_at states n) (slice_index waiting n) (has_entry entries n) (kept.told n below) (λ (f : state_at states n ≡ Waiting). cc)
 
-  told_held : IsTold Claimed (slice_index waiting n) (has_entry entries n)
-  told_held = subst (λ (s : State). IsTold s (slice_index waiting n) (has_entry entries n)) free (kept.told n below)
+  told_held : IsStateOf Claimed (slice_index waiting n) (has_entry entries n)
+  told_held = subst (λ (s : State). IsStateOf s (slice_index waiting n) (has_entry entries n)) free (kept.told n below)
 
   held_here : state_at (set states n Claimed) n ≡ Claimed
   held_here = get_or-set_same states n Claimed Waiting within
@@ -31,9 +31,9 @@ module _ {E : Type 0} (is_of : List ℕ → E → Type 0) (g : Modules) (waiting
   pub held_kept : IsGraph g → (reached' : List (List Bool)) (spare' : List Bool)
       → length reached' ≡ length reached → length spare' ≡ length spare
       → ((m : ℕ) → (m ≡ n → ⊥) → row_at reached' m ≡ row_at reached m)
-      → ((v : ℕ) → v < length spare → (marked (row_at reached' n) v ≡ true) ↔ IsMet reached (row_at g.imports n) v)
+      → ((v : ℕ) → v < length spare → (marked (row_at reached' n) v ≡ true) ↔ IsReachedBy reached (row_at g.imports n) v)
       → length (row_at reached' n) ≡ length spare
-      → IsKept is_of g waiting (set states n Claimed) reached' spare' entries
+      → IsValidBoard is_of g waiting (set states n Claimed) reached' spare' entries
   held_kept graph reached' spare' r_size p_size others filled long = record {
     entries_size = kept.entries_size;
     waiting_size = kept.waiting_size;

@@ -6,7 +6,7 @@ use Rattle.std.proofs.lemmas.Bool.{cases_eq}
 use Rattle.std.proofs.lemmas.List.{append-nil, drop_all, get_or-map, get_or-set_same, get_or-set_other, take_all, take_more}
 use Rattle.std.proofs.lemmas.List.Elements.{Contains-append_cases, Contains-append_left, Contains-append_right}
 use Rattle.work_board.specs.Graphs.{lists, row_at}
-use Rattle.work_board.specs.Marks.{marked, IsMet}
+use Rattle.work_board.specs.Marks.{marked, IsReachedBy}
 use Rattle.work_board.proofs.Members.{one_member}
 
 pub row_of : {X : Type 0} (rows : List (Vec X Global)) (n : ℕ) (d : Vec X Global) → n < length rows → row_at (lists rows) n ≡ (get_or rows n d).items
@@ -19,7 +19,7 @@ restored len new old same long =
 
 -- one more is met
 pub met_more : (reached : List (List Bool)) (row : List ℕ) (i : ℕ) → i < length row → (w : ℕ) → get_or row i 0 ≡ w → (v : ℕ)
-    → IsMet reached (take (i + 1) row) v ↔ (IsMet reached (take i row) v ⊎ ((w ≡ v) ⊎ (marked (row_at reached w) v ≡ true)))
+    → IsReachedBy reached (take (i + 1) row) v ↔ (IsReachedBy reached (take i row) v ⊎ ((w ≡ v) ⊎ (marked (row_at reached w) v ≡ true)))
 met_more reached row i lt w is v =
     let more : take (i + 1) row ≡ take i row ++ w ∷ [] = take_more row i 0 lt ∙ ap (λ x. take i row ++ x ∷ []) is in
     rw more (

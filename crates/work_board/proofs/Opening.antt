@@ -6,7 +6,7 @@ use Rattle.std.proofs.lemmas.List.{length-take, take_more, get_or-replicate, get
 use Rattle.work_board.specs.declared.state.State.TheVariants.{Waiting}
 use Rattle.work_board.specs.Graphs.{row_at, Modules}
 use Rattle.work_board.specs.Cores.{entry_at, has_entry, shares_of, Core}
-use Rattle.work_board.specs.Keeping.{freed, open_of, state_at, taken, IsKept, IsTold}
+use Rattle.work_board.specs.Keeping.{freed, open_of, state_at, taken, IsValidBoard, IsStateOf}
 
 pub constant : {X : Type 0} (count i : ℕ) (x : X) → get_or (replicate count x) i x ≡ x
 constant count i x =
@@ -25,7 +25,7 @@ pub all_open : (E : Type 0) (count : ℕ) (row : List ℕ) → open_of {E = E} (
 all_open E count [] = refl
 all_open E count (w ∷ row) = let rest = all_open E count row in let e = none_yet E count w in rw e (omega arith)
 
-pub first_told : (k : ℕ) → IsTold (freed Waiting k) k false
+pub first_told : (k : ℕ) → IsStateOf (freed Waiting k) k false
 first_told zero = (refl, refl)
 first_told (suc k) = (omega arith, refl)
 
@@ -62,7 +62,7 @@ shares_more f ms es i size lt b m' at_b x d at_x =
 
 pub opened : {E : Type 0} (is_of : List ℕ → E → Type 0) (g : Modules) (counts : List ℕ) → length counts ≡ length g.names
     → ((m : ℕ) → m < length g.names → slice_index counts m ≡ length (row_at g.imports m)) → length g.imports ≡ length g.names
-    → IsKept is_of g counts (map (freed Waiting) counts) (replicate (length g.names) (replicate (length g.names) false)) (replicate (length g.names) false) (replicate (length g.names) None)
+    → IsValidBoard is_of g counts (map (freed Waiting) counts) (replicate (length g.names) (replicate (length g.names) false)) (replicate (length g.names) false) (replicate (length g.names) None)
 opened {E = E} is_of g counts size counted rows =
     let n = length g.names in
     let at : (m : ℕ) → m < n → state_at (map (freed Waiting) counts) m ≡ freed Waiting (slice_index counts m) = λ m lt. get_or-map (freed Waiting) counts m 0 Waiting (omega arith) in

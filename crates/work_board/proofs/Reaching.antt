@@ -5,13 +5,13 @@ use Rattle.work_board.specs.declared.state.State.{State}
 use Rattle.work_board.specs.declared.state.State.TheVariants.{Waiting}
 use Rattle.work_board.specs.Graphs.{row_at, IsChain, IsGraph, Leads, Modules, Reaches}
 use Rattle.work_board.specs.Cores.{has_entry, is_claimed, shares_of, AreShares}
-use Rattle.work_board.specs.Marks.{marked, IsMet}
-use Rattle.work_board.specs.Keeping.{state_at, taken, IsKept}
+use Rattle.work_board.specs.Marks.{marked, IsReachedBy}
+use Rattle.work_board.specs.Keeping.{state_at, taken, IsValidBoard}
 use Rattle.work_board.proofs.Claiming.{claimed_is, core_of, stated_within, told_delivered, told_zero}
 use Rattle.work_board.proofs.Counting.{open_zero}
 use Rattle.work_board.proofs.Delivering.{member_below}
 
-module _ {E : Type 0} (is_of : List ℕ → E → Type 0) (g : Modules) (waiting : List ℕ) (states : List State) (reached : List (List Bool)) (spare : List Bool) (entries : List (Option E)) (kept : IsKept is_of g waiting states reached spare entries) where
+module _ {E : Type 0} (is_of : List ℕ → E → Type 0) (g : Modules) (waiting : List ℕ) (states : List State) (reached : List (List Bool)) (spare : List Bool) (entries : List (Option E)) (kept : IsValidBoard is_of g waiting states reached spare entries) where
   pub taken_zero : (n : ℕ) → taken (state_at states n) ≡ true → (n < length g.names) × (slice_index waiting n ≡ 0)
   taken_zero n is_taken =
       let waits : (state_at states n ≡ Waiting) → ⊥ = λ (e : state_at states n ≡ Waiting). let f : taken (state_at states n) ≡ false = ap taken e in cc in
@@ -42,12 +42,12 @@ module _ {E : Type 0} (is_of : List ℕ → E → Type 0) (g : Modules) (waiting
   import_marks graph n below zero w leads v lt =
       kept.marks w v (member_below g graph n w leads) lt (entry_taken graph n w leads (imports_of n below zero w leads))
 
-  from_chain : IsGraph g → (n : ℕ) → n < length g.names → slice_index waiting n ≡ 0 → (v : ℕ) → v < length g.names → (more : List ℕ) → IsChain g.imports n more v → IsMet reached (row_at g.imports n) v
+  from_chain : IsGraph g → (n : ℕ) → n < length g.names → slice_index waiting n ≡ 0 → (v : ℕ) → v < length g.names → (more : List ℕ) → IsChain g.imports n more v → IsReachedBy reached (row_at g.imports n) v
   from_chain graph n below zero v lt [] leads = (v, leads, inl refl)
   from_chain graph n below zero v lt (w ∷ more) chain = (w, chain.0, inr ((import_marks graph n below zero w chain.0 v lt).1 (more, chain.1)))
 
   -- of a module without open imports
-  pub meets : IsGraph g → (n : ℕ) → n < length g.names → slice_index waiting n ≡ 0 → (v : ℕ) → v < length g.names → IsMet reached (row_at g.imports n) v ↔ Reaches g.imports n v
+  pub meets : IsGraph g → (n : ℕ) → n < length g.names → slice_index waiting n ≡ 0 → (v : ℕ) → v < length g.names → IsReachedBy reached (row_at g.imports n) v ↔ Reaches g.imports n v
   meets graph n below zero v lt = (
     (λ met. elim met.2 [
       | inl same ↦ let P : ℕ → Type 0 = Leads g.imports n in ([], subst P same met.1)

@@ -7,15 +7,15 @@ use Rattle.work_board.specs.declared.state.State.{State}
 use Rattle.work_board.specs.declared.state.State.TheVariants.{Waiting, Free, Claimed, Delivered}
 use Rattle.work_board.specs.Graphs.{Modules}
 use Rattle.work_board.specs.Cores.{has_entry, taken_back, Core, IsIdle}
-use Rattle.work_board.specs.Keeping.{let_go, state_at, taken, IsKept, IsTold}
+use Rattle.work_board.specs.Keeping.{let_go, state_at, taken, IsValidBoard, IsStateOf}
 
-pub told_let_go : (s : State) (k : ℕ) (there : Bool) → IsTold s k there → IsTold (let_go s) k there
+pub told_let_go : (s : State) (k : ℕ) (there : Bool) → IsStateOf s k there → IsStateOf (let_go s) k there
 told_let_go Waiting k there told = told
 told_let_go Free k there told = told
 told_let_go Claimed k there told = told
 told_let_go Delivered k there told = told
 
-taken_let_go : (s : State) (k : ℕ) (there : Bool) → IsTold s k there → taken (let_go s) ≡ there
+taken_let_go : (s : State) (k : ℕ) (there : Bool) → IsStateOf s k there → taken (let_go s) ≡ there
 taken_let_go Waiting k there told = sym told.1
 taken_let_go Free k there told = sym told.1
 taken_let_go Claimed k there told = sym told.1
@@ -35,8 +35,8 @@ state_let_go states n = get_or-map let_go states n Waiting
 pub back_idle : {E : Type 0} (c : Core E) → IsIdle (taken_back c)
 back_idle c n claimed = sym (get_or-map is_some c.entries n None) ∙ claimed
 
-module _ {E : Type 0} (is_of : List ℕ → E → Type 0) (g : Modules) (waiting : List ℕ) (states : List State) (reached : List (List Bool)) (spare : List Bool) (entries : List (Option E)) (kept : IsKept is_of g waiting states reached spare entries) where
-  pub back_kept : IsKept is_of g waiting (map let_go states) reached spare entries
+module _ {E : Type 0} (is_of : List ℕ → E → Type 0) (g : Modules) (waiting : List ℕ) (states : List State) (reached : List (List Bool)) (spare : List Bool) (entries : List (Option E)) (kept : IsValidBoard is_of g waiting states reached spare entries) where
+  pub back_kept : IsValidBoard is_of g waiting (map let_go states) reached spare entries
   back_kept = record {
     entries_size = kept.entries_size;
     waiting_size = kept.waiting_size;

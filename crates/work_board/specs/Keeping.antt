@@ -26,11 +26,11 @@ let_go Claimed = Free
 let_go Delivered = Delivered
 
 -- what a state says of the count of open imports and of the entry
-abbrev pub IsTold : State → ℕ → Bool → Type 0
-IsTold Waiting count there = (0 < count) × (there ≡ false)
-IsTold Free count there = (count ≡ 0) × (there ≡ false)
-IsTold Claimed count there = (count ≡ 0) × (there ≡ false)
-IsTold Delivered count there = (count ≡ 0) × (there ≡ true)
+abbrev pub IsStateOf : State → ℕ → Bool → Type 0
+IsStateOf Waiting count there = (0 < count) × (there ≡ false)
+IsStateOf Free count there = (count ≡ 0) × (there ≡ false)
+IsStateOf Claimed count there = (count ≡ 0) × (there ≡ false)
+IsStateOf Delivered count there = (count ≡ 0) × (there ≡ true)
 
 -- how many imports of a row aren't delivered
 abbrev pub open_of : {E : Type 0} → List (Option E) → List ℕ → ℕ
@@ -44,7 +44,7 @@ IsLook states (Module n) = (n < length states) × (state_at states n ≡ Free) �
 IsLook states Later = ((k : ℕ) → k < length states → state_at states k ≡ Free → ⊥) × ((k : ℕ) × (k < length states) × (state_at states k ≡ Delivered → ⊥))
 
 module _ {E : Type 0} (is_of : List ℕ → E → Type 0) (g : Modules) where
-  pub record IsKept (waiting : List ℕ) (states : List State) (reached : List (List Bool)) (spare : List Bool) (entries : List (Option E)) : Type 0 where
+  pub record IsValidBoard (waiting : List ℕ) (states : List State) (reached : List (List Bool)) (spare : List Bool) (entries : List (Option E)) : Type 0 where
     pub entries_size : length entries ≡ length g.names
     pub waiting_size : length waiting ≡ length g.names
     pub states_size : length states ≡ length g.names
@@ -52,7 +52,7 @@ module _ {E : Type 0} (is_of : List ℕ → E → Type 0) (g : Modules) where
     pub spare_size : length spare ≡ length g.names
     pub width : (n : ℕ) → n < length g.names → length (row_at reached n) ≡ length g.names
     pub count_open : (m : ℕ) → m < length g.names → slice_index waiting m ≡ open_of entries (row_at g.imports m)
-    pub told : (m : ℕ) → m < length g.names → IsTold (state_at states m) (slice_index waiting m) (has_entry entries m)
+    pub told : (m : ℕ) → m < length g.names → IsStateOf (state_at states m) (slice_index waiting m) (has_entry entries m)
     pub own : AreOf is_of g.names entries
     pub marks : (m v : ℕ) → m < length g.names → v < length g.names → taken (state_at states m) ≡ true → (marked (row_at reached m) v ≡ true) ↔ Reaches g.imports m v
 

@@ -6,5 +6,5 @@ abbrev pub marked : List Bool → ℕ → Bool
 marked marks v = slice_index_or marks v false
 
 -- the row has v, or one whose row of marks has it
-abbrev pub IsMet : List (List Bool) → List ℕ → ℕ → Type 0
-IsMet reached row v = (w : ℕ) × Contains row w × ((w ≡ v) ⊎ (marked (row_at reached w) v ≡ true))
+abbrev pub IsReachedBy : List (List Bool) → List ℕ → ℕ → Type 0
+IsReachedBy reached row v = (w : ℕ) × Contains row w × ((w ≡ v) ⊎ (marked (row_at reached w) v ≡ true))

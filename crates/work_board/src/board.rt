@@ -35,13 +35,13 @@ impl<'g, T: NamedTree, E: WorkEntry> Model for Board<'g, T, E> {
     ghost use Rattle.std.specs.Prelude.{◌≡◌, map};
     ghost use Rattle.work_board.specs.Graphs.{lists};
     ghost use Rattle.work_board.specs.Cores.{Core};
-    ghost use Rattle.work_board.specs.Keeping.{taken, IsKept};
+    ghost use Rattle.work_board.specs.Keeping.{taken, IsValidBoard};
 
     ghost Value = { Core E };
 
     ghost view = { λ b. record { entries = b.entries.items; claimed = map taken b.states.items; abandoned = b.abandoned } };
 
-    ghost invariant = { λ b. (b.graph.now ≡ T.graph) × IsKept E.is_of T.graph b.waiting.items b.states.items (lists b.reached.items) b.spare.items b.entries.items };
+    ghost invariant = { λ b. (b.graph.now ≡ T.graph) × IsValidBoard E.is_of T.graph b.waiting.items b.states.items (lists b.reached.items) b.spare.items b.entries.items };
 }
 
 /// The least free module; with none, whether all are delivered.

@@ -9,7 +9,7 @@ ghost use Rattle.ob_decls.specs.Statements.{block_piece};
 ghost use Rattle.ob_decls.specs.Types.{parameters_piece};
 
 use crate::draft::{Context, Draft, block_from, declarer_at, declaring_from};
-use crate::rows::{Block as BlockRow, Declared, End, Import, Sort};
+use crate::rows::{Block, Declared, End, Import, Sort};
 use crate::walk::expressions::walk_expr;
 use crate::walk::statements::walk_block;
 use crate::walk::types::{walk_identdef, walk_parameters, walk_type, walk_var};
@@ -18,7 +18,7 @@ use ob_tree::declaration::{
 };
 use ob_tree::expression::Expr;
 use ob_tree::name::OneOrMore;
-use ob_tree::statement::Block;
+use ob_tree::statement::StatementSequence;
 
 /// The declaration of a constant.
 #[tactic(auto, using(crate::proofs::DeclarationLayers::sections_made))]
@@ -171,7 +171,7 @@ fn walk_procedure(draft: &mut Draft, inside: Context, procedure: &ProcDecl)
     let first = draft.number;
     let row = declarer_at(Sort::Procedure, inside, first);
     let at = draft.open(row);
-    draft.add_block(BlockRow {
+    draft.add_block(Block {
         first,
         outer: inside.block,
     });
@@ -182,7 +182,7 @@ fn walk_procedure(draft: &mut Draft, inside: Context, procedure: &ProcDecl)
 
 /// BEGIN and the statements of a procedure.
 #[tactic(auto, using(crate::proofs::DeclarationLayers::sections_made))]
-fn walk_procedure_body(draft: &mut Draft, inside: Context, body: &Option<Box<Block>>)
+fn walk_procedure_body(draft: &mut Draft, inside: Context, body: &Option<Box<StatementSequence>>)
     ensures { Reaches (after (if_there (λ b. both token (block_piece b.value)) body.now) inside) draft.old draft.new }
 {
     match body {
@@ -277,7 +277,7 @@ fn walk_imports(draft: &mut Draft, inside: Context, imports: &Option<OneOrMore<I
 
 /// BEGIN and the statements of a module.
 #[tactic(auto, using(crate::proofs::DeclarationLayers::sections_made))]
-fn walk_module_body(draft: &mut Draft, inside: Context, body: &Option<Block>)
+fn walk_module_body(draft: &mut Draft, inside: Context, body: &Option<StatementSequence>)
     ensures { Reaches (after (if_there (λ b. both token (block_piece b)) body.now) inside) draft.old draft.new }
 {
     match body {

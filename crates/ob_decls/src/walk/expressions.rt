@@ -9,7 +9,7 @@ ghost use Rattle.ob_decls.specs.Settling.{blanks, row_at, settling};
 use crate::draft::{Context, Draft, behind};
 use crate::rows::{Designator as DesignatorRow, Selector as SelectorRow, Step, TypeName, Used};
 use ob_tree::expression::{
-    Designator, Element, ElementList, Expr, ExprList, Factor, Selector, Sum, Term,
+    Designator, Element, ElementList, Expr, ExprList, Factor, Selector, SimpleExpression, Term,
 };
 use std::alloc::AllocError;
 
@@ -118,7 +118,7 @@ fn name_of_term(term: &Term, number: u32) -> Result<Option<TypeName>, AllocError
 }
 
 #[tactic(auto, using(crate::proofs::ExpressionLayers::names_alone))]
-fn name_of_sum(sum: &Sum, number: u32) -> Result<Option<TypeName>, AllocError>
+fn name_of_sum(sum: &SimpleExpression, number: u32) -> Result<Option<TypeName>, AllocError>
     ensures { IfOk result (λ n. n ≡ (sum_phrase sum.now).name number) }
 {
     if sum.sign.is_some() {
@@ -217,7 +217,7 @@ pub(crate) fn walk_expr(draft: &mut Draft, inside: Context, expr: &Expr)
 
 #[cycle(expressions)]
 #[tactic(auto, using(crate::proofs::ExpressionLayers::expressions_made))]
-fn walk_sum(draft: &mut Draft, inside: Context, sum: &Sum)
+fn walk_sum(draft: &mut Draft, inside: Context, sum: &SimpleExpression)
     ensures { Reaches (after (sum_piece sum.now) inside) draft.old draft.new }
 {
     match sum.sign {

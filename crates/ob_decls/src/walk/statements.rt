@@ -10,7 +10,7 @@ use crate::rows::Designator;
 use crate::walk::expressions::{walk_designator, walk_expr, walk_used};
 use ob_tree::expression::Expr;
 use ob_tree::name::Qualident;
-use ob_tree::statement::{Block, Branch, Case, For, Label, LabelRange, Stmt};
+use ob_tree::statement::{Branch, Case, For, Label, LabelRange, StatementSequence, Stmt};
 
 #[tactic(auto, using(crate::proofs::StatementLayers::labels_made))]
 pub(crate) fn walk_qualident(draft: &mut Draft, inside: Context, name: Qualident)
@@ -81,7 +81,7 @@ fn walk_for_variable(draft: &mut Draft, inside: Context)
 
 #[cycle(statements)]
 #[tactic(auto, using(crate::proofs::StatementLayers::statements_made))]
-pub(crate) fn walk_block(draft: &mut Draft, inside: Context, block: &Block)
+pub(crate) fn walk_block(draft: &mut Draft, inside: Context, block: &StatementSequence)
     ensures { Reaches (after (block_piece block.now) inside) draft.old draft.new }
 {
     walk_stmt(draft, inside, &block.first);
@@ -138,7 +138,7 @@ fn walk_stmt(draft: &mut Draft, inside: Context, stmt: &Stmt)
 /// ELSE and what stands after it.
 #[cycle(statements)]
 #[tactic(auto, using(crate::proofs::StatementLayers::statements_made))]
-fn walk_otherwise(draft: &mut Draft, inside: Context, otherwise: &Option<Box<Block>>)
+fn walk_otherwise(draft: &mut Draft, inside: Context, otherwise: &Option<Box<StatementSequence>>)
     ensures { Reaches (after (if_there (λ b. both token (block_piece b.value)) otherwise.now) inside) draft.old draft.new }
 {
     match otherwise {

@@ -18,7 +18,7 @@ use crate::item::Item;
 use crate::items::Items;
 use crate::name::{Identdef, OneOrMore};
 use crate::role::Role;
-use crate::statement::Block;
+use crate::statement::StatementSequence;
 use crate::walk::expressions::walk_expr;
 use crate::walk::names::walk_identdef;
 use crate::walk::statements::walk_block;
@@ -116,7 +116,7 @@ fn walk_heading(out: &mut Items, name: Identdef, parameters: &Option<Parameters>
 
 /// BEGIN and the statements of a procedure.
 #[tactic(auto, using(crate::proofs::DeclarationWalks::section_walks))]
-fn walk_procedure_body(out: &mut Items, body: &Option<Box<Block>>)
+fn walk_procedure_body(out: &mut Items, body: &Option<Box<StatementSequence>>)
     ensures { out.new ≡ more out.old (items_of (if_there (λ b. word kinds.Begin ++ block_outline b.value) body.now)) }
 {
     match body {
@@ -177,7 +177,7 @@ fn walk_imports(out: &mut Items, imports: &Option<OneOrMore<ImportItem>>)
 
 /// BEGIN and the statements of a module.
 #[tactic(auto, using(crate::proofs::DeclarationWalks::section_walks))]
-fn walk_module_body(out: &mut Items, body: &Option<Block>)
+fn walk_module_body(out: &mut Items, body: &Option<StatementSequence>)
     ensures { out.new ≡ more out.old (items_of (if_there (λ b. word kinds.Begin ++ block_outline b) body.now)) }
 {
     match body {

@@ -5,7 +5,7 @@ ghost use Rattle.ob_tree.specs.Items.{items_of, more};
 ghost use Rattle.ob_tree.specs.Expressions.{factor_outline, selector_outline, designator_outline, element_outline, element_list_outline, expr_outline, expr_list_outline, sum_outline, term_outline};
 
 use crate::expression::{
-    Designator, Element, ElementList, Expr, ExprList, Factor, Selector, Sum, Term,
+    Designator, Element, ElementList, Expr, ExprList, Factor, Selector, SimpleExpression, Term,
 };
 use crate::item::Item;
 use crate::items::Items;
@@ -28,7 +28,7 @@ pub(crate) fn walk_expr(out: &mut Items, expr: &Expr)
 
 #[cycle(expressions)]
 #[tactic(auto, using(crate::proofs::ExpressionWalks::sum_walk))]
-fn walk_sum(out: &mut Items, sum: &Sum)
+fn walk_sum(out: &mut Items, sum: &SimpleExpression)
     ensures { out.new ≡ more out.old (items_of (sum_outline sum.now)) }
 {
     match sum.sign {

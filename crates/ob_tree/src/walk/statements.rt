@@ -9,7 +9,7 @@ ghost use Rattle.ob_tree.specs.Statements.{label_outline, label_range_outline, c
 use crate::item::Item;
 use crate::items::Items;
 use crate::role::Role;
-use crate::statement::{Block, Branch, Case, For, Label, LabelRange, Stmt};
+use crate::statement::{Branch, Case, For, Label, LabelRange, StatementSequence, Stmt};
 use crate::walk::expressions::{walk_designator, walk_expr};
 use crate::walk::names::walk_qualident;
 
@@ -40,7 +40,7 @@ fn walk_label_range(out: &mut Items, range: LabelRange)
 
 #[cycle(statements)]
 #[tactic(auto, using(crate::proofs::StatementWalks::statement_items))]
-pub(crate) fn walk_block(out: &mut Items, block: &Block)
+pub(crate) fn walk_block(out: &mut Items, block: &StatementSequence)
     ensures { out.new ≡ more out.old (items_of (block_outline block.now)) }
 {
     walk_stmt(out, &block.first);
@@ -97,7 +97,7 @@ fn walk_stmt(out: &mut Items, stmt: &Stmt)
 /// ELSE and what stands after it.
 #[cycle(statements)]
 #[tactic(auto, using(crate::proofs::StatementWalks::statement_items))]
-fn walk_otherwise(out: &mut Items, otherwise: &Option<Box<Block>>)
+fn walk_otherwise(out: &mut Items, otherwise: &Option<Box<StatementSequence>>)
     ensures { out.new ≡ more out.old (items_of (if_there (λ b. word kinds.Else ++ block_outline b.value) otherwise.now)) }
 {
     match otherwise {

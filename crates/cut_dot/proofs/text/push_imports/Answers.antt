@@ -4,7 +4,7 @@ use Rattle.cut_net.specs.WellFormed.{AreBetween}
 use Rattle.cut_part.specs.Inside.{inside}
 use Rattle.cut_part.proofs.Adding.{from_in, to_in}
 use Rattle.cut_residual.specs.Graphs.{is_seen}
-use Rattle.cut_dot.specs.Texts.{import_at}
+use Rattle.cut_dot.specs.Texts.{line_of_import}
 use Rattle.cut_dot.proofs.Passing.{behind, one_taken}
 use Rattle.cut_dot.proofs.text.push_imports.Goals as goal
 
@@ -21,4 +21,4 @@ push_inside-requires-clause-to c =
 pub loop-import-preserved : goal.loop-import-preserved
 loop-import-preserved c =
     behind _ _ _ _ _ _ c.loop-import.invariant c.in_ok-push_inside.ensures
-    (one_taken (import_at c.args.net.now c.args.removed.now c.args.flow.now) (inside (is_seen c.args.between.now)) c.imports-imports.result.now c.loop-import.import-index _ c.loop-import-test.true)
+    (one_taken (line_of_import c.args.net.now c.args.removed.now c.args.flow.now) (inside (is_seen c.args.between.now)) c.imports-imports.result.now c.loop-import.import-index _ c.loop-import-test.true)

@@ -2,10 +2,10 @@ use Rattle.std.proofs.Common.{◌≡◌, ◌++◌, take}
 use Rattle.std.specs.String.{string_bytes}
 use Rattle.cut_part.specs.Inside.{inside}
 use Rattle.cut_residual.specs.Graphs.{is_seen}
-use Rattle.cut_dot.specs.Texts.{import_at}
+use Rattle.cut_dot.specs.Texts.{line_of_import}
 use Rattle.cut_dot.proofs.Passing.{lines}
 use Rattle.cut_dot.proofs.text.push_imports.Given as goal
 
 abbrev pub invariant-loop-import : goal.invariant-loop-import
 invariant-loop-import l =
-    string_bytes l.text ≡ string_bytes l.initial.text ++ lines (import_at l.net l.removed l.flow) (inside (is_seen l.between)) (take l.import-index l.imports)
+    string_bytes l.text ≡ string_bytes l.initial.text ++ lines (line_of_import l.net l.removed l.flow) (inside (is_seen l.between)) (take l.import-index l.imports)

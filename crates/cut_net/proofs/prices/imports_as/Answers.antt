@@ -1,5 +1,5 @@
 use Rattle.std.proofs.Common.{◌∙◌, ap, get_or}
-use Rattle.cut_net.specs.declared.standing.Standing.TheVariants.{Weighs}
+use Rattle.cut_net.specs.declared.standing.PinState.TheVariants.{Weighs}
 use Rattle.cut_net.specs.Network.{none_there}
 use Rattle.cut_net.specs.Prices.{import_as}
 use Rattle.cut_net.proofs.Standings.{mapped_at, mapped_next}

@@ -1,6 +1,6 @@
 use Rattle.std.proofs.Common.{◌≡◌, [], get_or, ◌∙◌, ap, sym}
 use Rattle.std.proofs.lemmas.List.{append-nil}
-use Rattle.cut_net.specs.declared.standing.Standing.TheVariants.{Weighs, Stays}
+use Rattle.cut_net.specs.declared.standing.PinState.TheVariants.{Weighs, Stays}
 use Rattle.cut_net.specs.Network.{none_there}
 use Rattle.cut_net.specs.Prices.{pin_as}
 use Rattle.cut_net.proofs.Standings.{mapped_at, given_next, no_pin}

@@ -2,7 +2,7 @@ use Rattle.std.proofs.Common.{◌≡◌, ◌≢◌, ◌∙◌, ◌++◌, [], ◌
 use Rattle.std.specs.Prelude.{All, AllPairs}
 use Rattle.std.proofs.lemmas.List.Elements.{All-push, Contains-get_or}
 use Rattle.cut_residual.specs.declared.arc.ResidualArc.{ResidualArc}
-use Rattle.cut_residual.specs.Graphs.{no_residual_arc, head, HasArc, Leads}
+use Rattle.cut_residual.specs.Graphs.{no_residual_arc, head, HasArc, IsResidualWalk}
 use Rattle.cut_plain.specs.Levels.{Climbs, LeadsBack}
 use Rattle.cut_plain.proofs.Descending.{All-front, head_opposite, leads_forth, leads_off, leads_on, once_reversed}
 use Rattle.cut_plain.proofs.blocking.make_move.Goals as goal
@@ -18,7 +18,7 @@ returns-then-at-from-clause-rises c =
     let arcs = c.args.graph.now.arcs in
     let path = c.args.descent.now.path.items in
     let back = subst (LeadsBack arcs c.args.to path) c.if-at-from.true c.requires.descent.leads in
-    let leads = subst (λ v. Leads arcs c.args.from v c.args.to) (sym (c.deref.ensures.value ∙ c.reverse.ensures.items)) (leads_forth arcs c.args.to path c.args.from back) in
+    let leads = subst (λ v. IsResidualWalk arcs c.args.from v c.args.to) (sym (c.deref.ensures.value ∙ c.reverse.ensures.items)) (leads_forth arcs c.args.to path c.args.from back) in
     (c.augment.result, c.augment.ensures.raises c.args.from c.args.to c.requires.apart leads)
 
 pub climbs-requires-clause-known : goal.climbs-requires-clause-known

@@ -2,7 +2,7 @@ use Rattle.std.proofs.Common.{◌≡◌, ◌≢◌, ◌+◌, sym, subst, arith}
 use Rattle.std.specs.Prelude.{All, AllPairs}
 use Rattle.cut_residual.specs.declared.arc.ResidualArc.{ResidualArc}
 use Rattle.cut_residual.specs.Flows.{IsBalanced}
-use Rattle.cut_residual.specs.Graphs.{HasResidual, HasArc, Leads}
+use Rattle.cut_residual.specs.Graphs.{HasResidual, HasArc, IsResidualWalk}
 use Rattle.cut_plain.proofs.maximum_flow.raise.Goals as goal
 
 pub augment-requires-clause-known : goal.augment-requires-clause-known
@@ -19,7 +19,7 @@ pub returns-clause-raises : goal.returns-clause-raises
 returns-clause-raises c =
     let arcs = c.args.graph.now.arcs in
     let found = c.in_ok-path.ensures c.args.from c.requires.tree in
-    let leads = subst (λ v. Leads arcs c.args.from v c.args.to) (sym c.deref.ensures.value) found.is_path.leads in
+    let leads = subst (λ v. IsResidualWalk arcs c.args.from v c.args.to) (sym c.deref.ensures.value) found.is_path.leads in
     let some = c.augment.ensures.most 1 (omega arith) (subst (All (HasResidual arcs)) (sym c.deref.ensures.value) found.left) in
     let once = c.augment.ensures.raises c.args.from c.args.to c.requires.apart leads in
     let rises = c.in_ok-blocking_flow.ensures.rises in (

@@ -1,6 +1,6 @@
 use Rattle.std.proofs.Common.{◌≡◌, ◌<◌, ◌∙◌, length, ap, sym, subst, arith, reverse}
 use Rattle.std.proofs.lemmas.List.{get_or_default}
-use Rattle.cut_residual.specs.declared.found.Place.{Place}
+use Rattle.cut_residual.specs.declared.found.Visit.{Visit}
 use Rattle.cut_residual.specs.Graphs.{IsAugmenting}
 use Rattle.cut_residual.specs.Trees.{no_place, place_at}
 use Rattle.cut_residual.proofs.Walking.{Walking, walking_more, walking_end}
@@ -15,7 +15,7 @@ loop-at-preserved c =
     let positive : 0 < at = omega arith in
     let in_places = c.loop-at.invariant.within positive in
     let is : c.index-place.result.now ≡ place_at places at = c.index-place.ensures ∙ get_or_default places at c.index-place.result.now no_place in_places in
-    let parent_is : c.index-place.result.now.parent ≡ (place_at places at).parent = ap (λ (p : Place). p.parent) is in
+    let parent_is : c.index-place.result.now.parent ≡ (place_at places at).parent = ap (λ (p : Visit). p.parent) is in
     let earlier = found.have_parents at positive in_places in
     record {
       within = λ _. omega arith;

@@ -1,7 +1,7 @@
 use Rattle.std.proofs.Common.{◌≡◌, ◌∙◌, Bool, false, List, [], ◌∷◌, ◌++◌, replicate, ap, arith}
 use Rattle.std.proofs.lemmas.List.Sums.{count_by-le-length}
 use Rattle.cut_residual.specs.declared.arc.ResidualArc.{ResidualArc}
-use Rattle.cut_residual.specs.declared.found.Place.{Place}
+use Rattle.cut_residual.specs.declared.found.Visit.{Visit}
 use Rattle.cut_residual.proofs.Searching.{searching_end, searching_start}
 use Rattle.cut_residual.proofs.Walking.{reached}
 use Rattle.cut_residual.proofs.searches.search.Goals as goal
@@ -60,7 +60,7 @@ loop-place-init c =
     let step : ResidualArc = record { arc = 0; forward = false } in
     let unseen : c.in_ok-seen.seen.items ≡ replicate g.nodes false = c.in_ok-seen.ensures.items_if_clones_equal (λ y same. same) ∙ ap (λ n. replicate n false) c.nodes.ensures in
     let placed : c.push.new.self.items ≡ (record { node = start; step = step; parent = 0 }) ∷ [] =
-    c.in_ok-push.ensures.items ∙ ap (λ (v : List Place). v ++ (record { node = start; step = step; parent = 0 }) ∷ []) c.new-places.ensures.items in
+    c.in_ok-push.ensures.items ∙ ap (λ (v : List Visit). v ++ (record { node = start; step = step; parent = 0 }) ∷ []) c.new-places.ensures.items in
     record {
       seen_size = c.in_ok-seen.ensures.len ∙ c.nodes.ensures;
       levels_size = c.in_ok-levels.ensures.len ∙ c.nodes-2.ensures;

@@ -4,7 +4,7 @@ use Rattle.std.specs.Prelude.{Contains}
 use Rattle.std.proofs.lemmas.Bool.{both_ways}
 use Rattle.std.proofs.lemmas.List.{get_or_default, get_or_append_left}
 use Rattle.std.proofs.lemmas.List.Elements.{Contains-get_or}
-use Rattle.cut_residual.specs.declared.found.Place.{Place}
+use Rattle.cut_residual.specs.declared.found.Visit.{Visit}
 use Rattle.cut_residual.specs.Graphs.{no_residual_arc, HasArc, tail}
 use Rattle.cut_residual.specs.Trees.{LeadsOn, no_place, place_at}
 use Rattle.cut_residual.proofs.Searching.{searching_at, searching_no, searching_yes, searching_next}
@@ -18,8 +18,8 @@ head-next-requires c =
     ((c.residual_arcs-step-items.ensures (get_or group k no_residual_arc)).0 (Contains-get_or group k no_residual_arc c.loop-step-test.true)).0
 
 -- the node that is read is the place's
-read : (places : List Place) (place : ℕ) (it : Place) → place < length places → it ≡ get_or places place it → it.node ≡ (place_at places place).node
-read places place it in_places is = ap (λ (p : Place). p.node) (is ∙ get_or_default places place it no_place in_places)
+read : (places : List Visit) (place : ℕ) (it : Visit) → place < length places → it ≡ get_or places place it → it.node ≡ (place_at places place).node
+read places place it in_places is = ap (λ (p : Visit). p.node) (is ∙ get_or_default places place it no_place in_places)
 
 pub loop-step-init : goal.loop-step-init
 loop-step-init c = record {
@@ -53,9 +53,9 @@ loop-step-preserved c =
     let of_group = (c.residual_arcs-step-items.ensures s).0 (Contains-get_or group k no_residual_arc c.loop-step-test.true) in
     elim c.if-leads_on.branch [
       | then-leads_on+in_ok-push w ↦
-          let new : Place = record { node = c.head-next.result; step = s; parent = place } in
+          let new : Visit = record { node = c.head-next.result; step = s; parent = place } in
           let seen_is = ap (λ (v : Vec Bool). v.items) w.seen-is in
-          let places_is = ap (λ (v : Vec Place). v.items) w.places-is ∙ w.in_ok-push.ensures.items in
+          let places_is = ap (λ (v : Vec Visit). v.items) w.places-is ∙ w.in_ok-push.ensures.items in
           let places_len = ap vec_len w.places-is in
           let pushed_len = w.in_ok-push.ensures.len in
           let is_on : LeadsOn graph.arcs s seen = subst (LeadsOn graph.arcs s) was (on.0 w.if-leads_on.true) in
@@ -65,11 +65,11 @@ loop-step-preserved c =
             longer = omega arith;
             same_place = ap (λ v. place_at v place) places_is ∙ get_or_append_left places (new ∷ []) no_place place in_place ∙ same_place;
             search = λ start z. rw (seen_is, places_is, next_is)
-                (searching_yes graph start seen places place group k (c.loop-step.invariant.search start z) in_place of_group.0 (of_group.1 ∙ node_is ∙ ap (λ (p : Place). p.node) (sym same_place)) (subst (λ n. n < graph.nodes) next_is c.head-next.ensures.node) is_on);
+                (searching_yes graph start seen places place group k (c.loop-step.invariant.search start z) in_place of_group.0 (of_group.1 ∙ node_is ∙ ap (λ (p : Visit). p.node) (sym same_place)) (subst (λ n. n < graph.nodes) next_is c.head-next.ensures.node) is_on);
           }
       | else-leads_on w ↦
           let seen_is = ap (λ (v : Vec Bool). v.items) w.seen-is in
-          let places_is = ap (λ (v : Vec Place). v.items) w.places-is in
+          let places_is = ap (λ (v : Vec Visit). v.items) w.places-is in
           let places_len = ap vec_len w.places-is in
           record {
             seen_size = ap vec_len w.seen-is ∙ c.loop-step.invariant.seen_size;
@@ -91,6 +91,6 @@ returns-clause-search c start z =
     let asked = c.requires.place in
     let first_ok = c.args.places.now.ok.0 in
     let in_first : place < length c.args.places.now.items = omega arith in
-    let node_is = read c.args.places.now.items place c.index.result.now in_first c.index.ensures ∙ ap (λ (p : Place). p.node) (sym c.loop-step.invariant.same_place) in
+    let node_is = read c.args.places.now.items place c.index.result.now in_first c.index.ensures ∙ ap (λ (p : Visit). p.node) (sym c.loop-step.invariant.same_place) in
     searching_next graph start c.loop-step.seen.items places place group c.loop-step.step-index (c.loop-step.invariant.search start z)
     (λ s. subst (λ n. Contains group s ↔ (HasArc graph.arcs s × (tail graph.arcs s ≡ n))) node_is (c.residual_arcs-step-items.ensures s)) c.loop-step-test.false

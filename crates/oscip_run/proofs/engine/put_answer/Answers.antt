@@ -1,7 +1,7 @@
 use Rattle.std.proofs.Common.{refl}
 use Rattle.std.proofs.lemmas.Result.{err_from_is_err_and}
 use Rattle.cut_net.specs.Answers.{said_by}
-use Rattle.cut_report.specs.Reading.{said_of}
+use Rattle.cut_report.specs.Reading.{claim_of}
 use Rattle.oscip_run.specs.Runs.{IsNeverRefused, IsThis}
 use Rattle.oscip_run.proofs.CutRuns.{broken, cut_text}
 use Rattle.oscip_run.proofs.Sayable.{fits_said, is_report}
@@ -9,7 +9,7 @@ use Rattle.oscip_run.proofs.engine.put_answer.Goals as goal
 
 pub write-requires : goal.write-requires
 write-requires g c =
-    is_report _ c.args.a.now c.args.b.now (said_of c.module_of-from.result c.module_of-to.result c.args.answer.now) c.keeps.ensures.network c.module_of-from.ensures c.module_of-to.ensures c.requires
+    is_report _ c.args.a.now c.args.b.now (claim_of c.module_of-from.result c.module_of-to.result c.args.answer.now) c.keeps.ensures.network c.module_of-from.ensures c.module_of-to.ensures c.requires
     (fits_said c.args.answer.now _ c.most_of-most.result c.flow_of.ensures c.most_of-most.type_inv c.most_of-most.ensures)
 
 pub returns-in_err-write-clause-run : goal.returns-in_err-write-clause-run

@@ -1,7 +1,7 @@
 use Rattle.std.proofs.Common.{◌≡◌, ◌∙◌, List, ap, subst, sym}
 use Rattle.digraph.specs.Chains.{IsAcyclic}
 use Rattle.ob_imports.specs.Files.{files_of as parsed_files, File, Imports}
-use Rattle.ob_imports.specs.Outcomes.{AreKept}
+use Rattle.ob_imports.specs.Outcomes.{AreFilesOfGraph}
 use Rattle.oscip_tree.specs.Trees.{files_of}
 use Rattle.oscip_tree.specs.TreeReading.{AreRead, IsTreeOf}
 use Rattle.oscip_tree.proofs.tree_reading.read_tree.Goals as goal
@@ -15,6 +15,6 @@ returns-clause-tree g c =
     subst (IsTreeOf c.args.sources.now) (sym c.in_ok-new.ensures.ok) (record {
       files = files;
       read = read;
-      kept = subst (λ (fs : List File). AreKept fs c.in_ok-graph.graph) whole kept;
+      kept = subst (λ (fs : List File). AreFilesOfGraph fs c.in_ok-graph.graph) whole kept;
       acyclic = subst (λ (fs : List File). IsAcyclic (Imports fs)) whole acyclic;
     })

@@ -3,7 +3,7 @@ use Rattle.std.proofs.lemmas.Result.{err_from_is_err_and}
 use Rattle.proto_wire.specs.declared.fault.WireFault.{WireFault}
 use Rattle.proto_wire.specs.Faults.{Stops, UnlessMemory}
 use Rattle.proto_wire.specs.Records.{Piece, IsFirst}
-use Rattle.proto_wire.specs.Messages.{piece_of, each_of, if_field, fault_at, message_fault, records_inside, in_record, of_record, IsFaultBehind}
+use Rattle.proto_wire.specs.Messages.{piece_of, each_of, if_field, field_fault, message_fault, records_inside, in_record, of_record, IsFaultBehind}
 use Rattle.proto_wire.proofs.FaultLaws.{UnlessMemory-from, UnlessMemory-then}
 use Rattle.proto_wire.proofs.MessageSteps.{each_of-push}
 use Rattle.proto_wire.proofs.RowLaws.{Reaches-step, Reaches-fault}
@@ -35,7 +35,7 @@ returns-in_err-merge_message-clause-err c =
     let here = c.in_ok-wire in
     let p = piece_of here.wire here.payload.now in
     rw (q.1, q.2)
-    (λ bytes front s. stops_inside c.in_err-merge_message.field-0.0 bytes front c.args.at c.args.rest.now _ _ p here.after.now (fault_at 1 p.wire (message_fault metadata_fault p)) s here.ensures.exact c.in_err-merge_message.ensures.err
+    (λ bytes front s. stops_inside c.in_err-merge_message.field-0.0 bytes front c.args.at c.args.rest.now _ _ p here.after.now (field_fault 1 p.wire (message_fault metadata_fault p)) s here.ensures.exact c.in_err-merge_message.ensures.err
     (λ e. rw e refl))
 
 pub returns-in_err-take_messages-clause-err : goal.returns-in_err-take_messages-clause-err
@@ -44,7 +44,7 @@ returns-in_err-take_messages-clause-err c =
     let here = c.in_ok-wire in
     let p = piece_of here.wire here.payload.now in
     rw (q.1, q.2)
-    (λ bytes front s. stops_inside c.in_err-take_messages.field-0.0 bytes front c.args.at c.args.rest.now _ _ p here.after.now (fault_at 2 p.wire (message_fault document_fault p)) s here.ensures.exact c.in_err-take_messages.ensures.err
+    (λ bytes front s. stops_inside c.in_err-take_messages.field-0.0 bytes front c.args.at c.args.rest.now _ _ p here.after.now (field_fault 2 p.wire (message_fault document_fault p)) s here.ensures.exact c.in_err-take_messages.ensures.err
     (λ e. rw (c.in_ok-merge_message.ensures.clean, e) refl))
 
 pub returns-in_err-take_messages-2-clause-err : goal.returns-in_err-take_messages-2-clause-err
@@ -53,7 +53,7 @@ returns-in_err-take_messages-2-clause-err c =
     let here = c.in_ok-wire in
     let p = piece_of here.wire here.payload.now in
     rw (q.1, q.2)
-    (λ bytes front s. stops_inside c.in_err-take_messages-2.field-0.0 bytes front c.args.at c.args.rest.now _ _ p here.after.now (fault_at 3 p.wire (message_fault symbol_fault p)) s here.ensures.exact c.in_err-take_messages-2.ensures.err
+    (λ bytes front s. stops_inside c.in_err-take_messages-2.field-0.0 bytes front c.args.at c.args.rest.now _ _ p here.after.now (field_fault 3 p.wire (message_fault symbol_fault p)) s here.ensures.exact c.in_err-take_messages-2.ensures.err
     (λ e. rw (c.in_ok-merge_message.ensures.clean, c.in_ok-take_messages.ensures.clean, e) refl))
 
 pub returns-clause-taken : goal.returns-clause-taken

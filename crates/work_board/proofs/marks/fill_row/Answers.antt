@@ -3,7 +3,7 @@ use Rattle.std.specs.Prelude.{Vec, ◌↔◌}
 use Rattle.std.specs.declared.alloc.Global.{Global}
 use Rattle.std.proofs.lemmas.List.{get_or-set_same, get_or-set_other, length-map, map-set}
 use Rattle.work_board.specs.Graphs.{lists, row_at}
-use Rattle.work_board.specs.Marks.{marked, IsMet}
+use Rattle.work_board.specs.Marks.{marked, IsReachedBy}
 use Rattle.work_board.proofs.Marking.{restored, row_of}
 use Rattle.work_board.proofs.marks.fill_row.Goals as goal
 
@@ -34,11 +34,11 @@ pub returns-clause-others : goal.returns-clause-others
 returns-clause-others c = λ n other. ap (λ rs. row_at rs n) (rows c) ∙ get_or-set_other (lists c.args.reached.now.items) c.args.place n c.unite.new.marks _ other
 
 filled : (c : goal.After-reached-1) (v : ℕ) → v < length c.as_mut_slice.result.now
-    → (marked (row_at (lists (set c.args.reached.now.items c.args.place c.swap.new.y)) c.args.place) v ≡ true) ↔ IsMet (lists c.args.reached.now.items) c.args.row.now v
+    → (marked (row_at (lists (set c.args.reached.now.items c.args.place c.swap.new.y)) c.args.place) v ≡ true) ↔ IsReachedBy (lists c.args.reached.now.items) c.args.row.now v
 filled c v lt =
-    let P : List (Vec Bool Global) → Type 0 = λ rs. (marked c.unite.new.marks v ≡ true) ↔ IsMet (lists rs) c.args.row.now v in
+    let P : List (Vec Bool Global) → Type 0 = λ rs. (marked c.unite.new.marks v ≡ true) ↔ IsReachedBy (lists rs) c.args.row.now v in
     let met : P c.args.reached.now.items = subst P c.as_slice.ensures.value (c.unite.ensures v lt) in
-    let Q : List Bool → Type 0 = λ r. (marked r v ≡ true) ↔ IsMet (lists c.args.reached.now.items) c.args.row.now v in
+    let Q : List Bool → Type 0 = λ r. (marked r v ≡ true) ↔ IsReachedBy (lists c.args.reached.now.items) c.args.row.now v in
     subst Q (sym (here c)) met
 
 pub returns-clause-filled : goal.returns-clause-filled

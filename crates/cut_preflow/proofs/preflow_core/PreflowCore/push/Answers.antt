@@ -4,7 +4,7 @@ use Rattle.cut_preflow.specs.declared.event.Outcome.TheVariants.{Moved, Stale}
 use Rattle.cut_preflow.specs.NodeArcs.{lists}
 use Rattle.cut_preflow.specs.Indexed.{IsIndexed, carried}
 use Rattle.cut_preflow.specs.Preflow.{can_push, head, push_amount, tail}
-use Rattle.cut_preflow.specs.Trace.{outcome_of, state_of}
+use Rattle.cut_preflow.specs.Trace.{step_outcome, state_of}
 use Rattle.cut_preflow.proofs.Arcs.{pushable_from}
 use Rattle.cut_preflow.proofs.Carrying.{Carries, active_from_index, carries, pushed_indexed}
 use Rattle.cut_preflow.proofs.Fields.{fields_of, net_of, sound_fields, unseen}
@@ -94,4 +94,4 @@ returns-clause-outcome c = λ _.
     let net = c.args.self.now.net in
     let s = state_of c.args.self.now in
     let got = some_from (can_push net s c.args.arc) (push_amount net s c.args.arc) c.in-Some.amount c.in-Some.ensures in
-    ap Moved got.1 ∙ sym (ap (λ b. if b then Moved (push_amount net s c.args.arc) else Stale) got.0) ∙ sym (ap (outcome_of net s) c.requires)
+    ap Moved got.1 ∙ sym (ap (λ b. if b then Moved (push_amount net s c.args.arc) else Stale) got.0) ∙ sym (ap (step_outcome net s) c.requires)

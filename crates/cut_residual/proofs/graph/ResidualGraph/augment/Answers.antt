@@ -2,7 +2,7 @@ use Rattle.std.proofs.Common.{◌≡◌, ◌≤◌, ◌∙◌, length, take, dro
 use Rattle.std.proofs.Math.Seq.{take-append_seam}
 use Rattle.std.specs.Prelude.{All}
 use Rattle.cut_residual.specs.Flows.{AreSameArcs, RaisesBy}
-use Rattle.cut_residual.specs.Graphs.{residual, Graph, Leads}
+use Rattle.cut_residual.specs.Graphs.{residual, Graph, IsResidualWalk}
 use Rattle.cut_residual.specs.Groups.{AreGrouped}
 use Rattle.cut_residual.proofs.Keeping.{kept_on}
 use Rattle.cut_residual.proofs.graph.ResidualGraph.augment.Goals as goal
@@ -29,7 +29,7 @@ returns-clause-raises c a b apart leads =
     let e : length new ≡ c.self.inside.arcs.len = omega arith in
     let taken : take c.self.inside.arcs.len (new ++ drop (length new) arcs) ≡ new = subst (λ n. take n (new ++ drop (length new) arcs) ≡ new) e (take-append_seam new (drop (length new) arcs)) in
     let lent_is : c.deref_mut.result.now ≡ c.args.self.now.arcs = c.deref_mut.ensures.value ∙ ap (λ (g : Graph). g.arcs) c.self.view_is in
-    let raised = c.send.ensures.raises a b apart (subst (λ v. Leads v a c.args.path.now b) (sym lent_is) leads) in
+    let raised = c.send.ensures.raises a b apart (subst (λ v. IsResidualWalk v a c.args.path.now b) (sym lent_is) leads) in
     subst (λ v. RaisesBy c.args.self.now.arcs v a b c.least_residual-amount.result) (sym taken)
     (subst (λ v. RaisesBy v new a b c.least_residual-amount.result) lent_is raised)
 

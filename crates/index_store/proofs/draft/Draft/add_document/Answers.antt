@@ -4,7 +4,7 @@ use Rattle.std.specs.String.{string_bytes}
 use Rattle.std.proofs.lemmas.List.{append-nil}
 use Rattle.scip_index.specs.declared.index.Occurrence.{Occurrence}
 use Rattle.scip_index.specs.Plain.{plain_occurrence}
-use Rattle.index_store.specs.Queries.{Found, found_at}
+use Rattle.index_store.specs.Queries.{PlacedOccurrence, found_at}
 use Rattle.index_store.specs.Stores.{tables_of, Keeps}
 use Rattle.index_store.specs.Tables.{rows_in, texts_in}
 use Rattle.index_store.proofs.StoreLemmas.{entered_number, entered_whole, path_entered, some_more}
@@ -35,7 +35,7 @@ loop-occurrence-preserved c =
     let at = c.loop-occurrence.invariant.1 in (
       c.in_ok-add.ensures.whole,
       rw c.in_ok-add.ensures.paths at,
-      λ paths found kept. subst (λ (fs : List Found). Keeps (paths ++ name ∷ []) fs (tables_of c.add.new.self)) (some_more found name items k c.occurrence-item.result (rw c.deref-occurrence-items.ensures.value at c.loop-occurrence-test.true) (rw c.deref-occurrence-items.ensures.value at c.occurrence-item.is))
+      λ paths found kept. subst (λ (fs : List PlacedOccurrence). Keeps (paths ++ name ∷ []) fs (tables_of c.add.new.self)) (some_more found name items k c.occurrence-item.result (rw c.deref-occurrence-items.ensures.value at c.loop-occurrence-test.true) (rw c.deref-occurrence-items.ensures.value at c.occurrence-item.is))
           (c.in_ok-add.ensures.kept (paths ++ name ∷ []) (found ++ map (found_at name) (map plain_occurrence (take k items))) name (c.loop-occurrence.invariant.2 paths found kept) at),
     )
 

@@ -2,7 +2,7 @@ use Rattle.std.proofs.Common.{ℕ, false, length, map, ap, ◌∙◌, subst}
 use Rattle.std.specs.Prelude.{None, replicate}
 use Rattle.work_board.specs.declared.state.State.TheVariants.{Waiting}
 use Rattle.work_board.specs.Graphs.{lists, Modules}
-use Rattle.work_board.specs.Keeping.{freed, taken, IsKept}
+use Rattle.work_board.specs.Keeping.{freed, taken, IsValidBoard}
 use Rattle.work_board.proofs.Opening.{core_same, first_claimed, opened}
 use Rattle.work_board.proofs.board.Board.new.Goals as goal
 
@@ -12,7 +12,7 @@ invariant_of-result g c =
     let counts = c.in_ok-waiting.waiting.items in
     let start = opened g.E.WorkEntry.is_of t counts c.in_ok-waiting.ensures.size c.in_ok-waiting.ensures.counts c.keeps.ensures.size in (
       c.requires,
-      subst (λ (u : Modules). IsKept g.E.WorkEntry.is_of u counts c.in_ok-states.states.items (lists c.in_ok-reached.reached.items) c.in_ok-spare.spare.items c.in_ok-entries.entries.items) c.requires
+      subst (λ (u : Modules). IsValidBoard g.E.WorkEntry.is_of u counts c.in_ok-states.states.items (lists c.in_ok-reached.reached.items) c.in_ok-spare.spare.items c.in_ok-entries.entries.items) c.requires
           (rw (c.in_ok-states.ensures, c.as_slice.ensures.value, c.in_ok-reached.ensures, c.in_ok-spare.ensures, c.in_ok-entries.ensures, c.modules-count.ensures) start),
     )
 

@@ -4,7 +4,7 @@ use Rattle.std.proofs.lemmas.List.{length-set}
 use Rattle.work_board.specs.declared.state.State.TheVariants.{Claimed, Delivered}
 use Rattle.work_board.specs.Graphs.{lists, row_at, times, Modules}
 use Rattle.work_board.specs.Cores.{has_entry, is_claimed}
-use Rattle.work_board.specs.Keeping.{freed, state_at, taken, IsFit, IsKept}
+use Rattle.work_board.specs.Keeping.{freed, state_at, taken, IsFit, IsValidBoard}
 use Rattle.work_board.proofs.Claiming.{claimed_state}
 use Rattle.work_board.proofs.Delivering.{claimed_same, counted, delivered_kept, fits}
 use Rattle.work_board.proofs.Marking.{restored}
@@ -75,7 +75,7 @@ new_states g c =
     (old.ok.0 ∙ sym (length-set old.items c.args.number Delivered))
 
 kept : (g : _) (c : goal.After-self-4-1 g)
-    → IsKept g.E.WorkEntry.is_of g.T.NamedTree.graph c.release.new.waiting c.release.new.states (lists c.self.inside.reached.items) c.self.inside.spare.items (set c.self.inside.entries.items c.args.number (Some c.args.entry))
+    → IsValidBoard g.E.WorkEntry.is_of g.T.NamedTree.graph c.release.new.waiting c.release.new.states (lists c.self.inside.reached.items) c.self.inside.spare.items (set c.self.inside.entries.items c.args.number (Some c.args.entry))
 kept g c =
     let b = c.self.inside in
     let at = at_end g c in
