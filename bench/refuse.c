@@ -2,8 +2,9 @@
 
    With REFUSE_AT the one of that number; where it does, it makes the file REFUSE_NOTE.
    With REFUSE_EACH every REFUSE_STEPth one, each in a child process that goes on from there, so that what comes before isn't run
-   again. How each ended is written into the file REFUSE_EACH: a line with its number, its status as of wait and how many bytes it
-   said, and then these bytes. While threads run no child can go on; the line then has the number alone. */
+   again; while threads run, from where the first of them started. A child that has started threads STARTS times since has told what
+   it had to tell of the call to which memory was refused, and ends well. How each ended is written into the file REFUSE_EACH: a line with
+   its number, its status as of wait and how many bytes it said, and then these bytes. */
 #define _GNU_SOURCE
 #include <dlfcn.h>
 #include <errno.h>
@@ -16,12 +17,12 @@
 #include <sys/wait.h>
 #include <unistd.h>
 
-enum { SECONDS = 60, MOST_SAID = 1 << 16 };
+enum { SECONDS = 60, MOST_SAID = 1 << 16, STARTS = 64, PAST = 98, BROKEN = 99 };
 
 static atomic_long count, threads;
 static long at = -1, step;
 static const char *note;
-static int ends = -1, said = -1, is_child;
+static int ends = -1, said = -1, is_child, was_refused, starts;
 
 __attribute__((constructor)) static void begin(void) {
     const char *text = getenv("REFUSE_AT"), *each = getenv("REFUSE_EACH"), *steps = getenv("REFUSE_STEP");
@@ -38,7 +39,7 @@ __attribute__((constructor)) static void begin(void) {
 static void put(const char *bytes, ssize_t length) {
     while (length > 0) {
         ssize_t took = write(ends, bytes, length);
-        if (took < 0) _exit(99);
+        if (took < 0) _exit(BROKEN);
         bytes += took;
         length -= took;
     }
@@ -53,17 +54,11 @@ static void tell(long number, int status) {
     put(bytes, length);
 }
 
-/* Whether this process is the child that goes on without this allocation. */
-static int refused_in_child(long number) {
-    if (is_child || number % step) return 0;
-    if (threads) {
-        char line[64];
-        put(line, snprintf(line, sizeof line, "%ld\n", number));
-        return 0;
-    }
-    if (ftruncate(said, 0)) _exit(99);
+/* Whether this process is a new child; the other waits for it, and tells how it ended, but where it came past the threads. */
+static int goes_on(long number, int *status) {
+    if (ftruncate(said, 0)) _exit(BROKEN);
     pid_t child = fork();
-    if (child < 0) _exit(99);
+    if (child < 0) _exit(BROKEN);
     if (child == 0) {
         is_child = 1;
         lseek(said, 0, SEEK_SET);
@@ -72,23 +67,35 @@ static int refused_in_child(long number) {
         alarm(SECONDS);
         return 1;
     }
-    int status;
-    while (waitpid(child, &status, 0) < 0)
-        if (errno != EINTR) _exit(99);
-    tell(number, status);
+    while (waitpid(child, status, 0) < 0)
+        if (errno != EINTR) _exit(BROKEN);
+    if (!WIFEXITED(*status) || WEXITSTATUS(*status) != PAST) tell(number, *status);
     return 0;
 }
 
 static int refused(void) {
+    int status;
     long number = ++count;
-    if (ends >= 0) {
-        if (!refused_in_child(number)) return 0;
-    } else {
-        if (number != at) return 0;
+    if (number == at) {
         if (note) close(open(note, O_CREAT | O_WRONLY, 0600));
+    } else if (ends < 0 || is_child || threads || number % step || !goes_on(number, &status)) {
+        return 0;
     }
+    was_refused = 1;
     errno = ENOMEM;
     return 1;
+}
+
+/* Before the first thread starts: for each allocation until no thread runs any more a child to which it is refused. */
+static void refuse_in_threads(void) {
+    int status = 0;
+    for (long number = count + step - count % step;; number += step) {
+        if (goes_on(number, &status)) {
+            at = number;
+            return;
+        }
+        if (WIFEXITED(status) && WEXITSTATUS(status) == PAST) return;
+    }
 }
 
 static void *(*next_malloc(void))(size_t) {
@@ -115,7 +122,7 @@ struct thread {
 
 static void end(void *unused) {
     (void)unused;
-    --threads;
+    if (--threads == 0 && is_child && count < at) _exit(PAST);
 }
 
 static void *run(void *it) {
@@ -132,6 +139,8 @@ static void *run(void *it) {
 int pthread_create(pthread_t *id, const pthread_attr_t *how, void *(*body)(void *), void *given) {
     static int (*next)(pthread_t *, const pthread_attr_t *, void *(*)(void *), void *);
     if (!next) next = (int (*)(pthread_t *, const pthread_attr_t *, void *(*)(void *), void *))dlsym(RTLD_NEXT, "pthread_create");
+    if (ends >= 0 && !is_child && !threads) refuse_in_threads();
+    if (is_child && was_refused && ++starts == STARTS) _exit(0);
     struct thread *it = next_malloc()(sizeof *it);
     if (!it) return EAGAIN;
     it->body = body;

@@ -1,6 +1,5 @@
 #!/usr/bin/env python3
-"""Refuses each allocation of each test, until there is none more: each in a child of one run that goes on without it, and while
-threads run in a run of its own.
+"""Refuses each allocation of each test, until there is none more: each in a child of one run that goes on without it.
 
 Each has to pass, to end for want of memory, or to tell that in place of what it had to tell. Where a gate orders the turns of
 workers, a worker to which memory was refused ends alone, and so the turns that wait for it are missed. Where workers are counted, one
@@ -16,7 +15,6 @@ import signal
 import subprocess
 import sys
 import tempfile
-from concurrent.futures import ThreadPoolExecutor
 
 HERE = os.path.dirname(os.path.realpath(__file__))
 WANTS = re.compile(rb"\b(Memory|AllocError|AllocFailed|Refused|memory ran out)\b")
@@ -46,63 +44,39 @@ def how_ended(status, said):
     return ANOTHER
 
 
-def refused(program, test, number, shim, folder):
-    """How the test ended with this allocation refused, what it said, and whether there was such an allocation."""
-    note = f"{folder}/{number}"
-    env = {**os.environ, "LD_PRELOAD": shim, "REFUSE_AT": str(number), "REFUSE_NOTE": note}
-    try:
-        ran = subprocess.run([program, test], env=env, stdin=subprocess.DEVNULL, stdout=subprocess.PIPE, stderr=subprocess.STDOUT, timeout=60)
-        status, said = ran.returncode, ran.stdout
-    except subprocess.TimeoutExpired:
-        status, said = None, b"it takes more than a minute"
-    was_refused = os.path.exists(note)
-    if was_refused:
-        os.remove(note)
-    return how_ended(status, said), said, was_refused
-
-
 def each(program, test, step, shim, folder):
-    """Goes on in a child without every allocation of so many, in one run: gives the number of each, and how it ended and what it said,
-    or none where threads ran."""
+    """Refuses every allocation of so many, and gives the number of each, how the test ended without it, and what it said."""
     ends = f"{folder}/ends"
     env = {**os.environ, "LD_PRELOAD": shim, "REFUSE_EACH": ends, "REFUSE_STEP": str(step)}
     subprocess.run([program, test], env=env, stdin=subprocess.DEVNULL, stdout=subprocess.DEVNULL, stderr=subprocess.DEVNULL, check=True)
     with open(ends, "rb") as told:
         for line in told:
-            number, *rest = map(int, line.split())
-            if rest:
-                status, length = rest
-                how = None if os.WIFSIGNALED(status) and os.WTERMSIG(status) == signal.SIGALRM else status
-                said = told.read(length)
-                yield number, (how_ended(how, said), said)
-            else:
-                yield number, None
+            number, status, length = map(int, line.split())
+            said = told.read(length)
+            is_late = os.WIFSIGNALED(status) and os.WTERMSIG(status) == signal.SIGALRM
+            yield number, how_ended(None if is_late else status, said), said
+
+
+def allocations(program, test, shim, folder):
+    """How many allocations the test makes, or up to twice as many."""
+    note, number = f"{folder}/note", 1
+    while True:
+        env = {**os.environ, "LD_PRELOAD": shim, "REFUSE_AT": str(number), "REFUSE_NOTE": note}
+        subprocess.run([program, test], env=env, stdin=subprocess.DEVNULL, stdout=subprocess.DEVNULL, stderr=subprocess.DEVNULL)
+        if not os.path.exists(note):
+            return number
+        os.remove(note)
+        number *= 2
 
 
 def tried(program, test, shim, folder, most):
     """Refuses one allocation after the other, and returns how many runs ended in another way than they may."""
-    step = 1
-    if most:
-        end = 1
-        while refused(program, test, end, shim, folder)[2]:
-            end *= 2
-        step = -(-end // most)
-    counts, left = {}, []
-
-    def note(number, how, said):
+    step = -(-allocations(program, test, shim, folder) // most) if most else 1
+    counts = {}
+    for number, how, said in each(program, test, step, shim, folder):
         counts[how] = counts.get(how, 0) + 1
         if how == ANOTHER:
             print(f"{test}, allocation {number}: {said[-300:]!r}", flush=True)
-
-    for number, ended in each(program, test, step, shim, folder):
-        if ended:
-            note(number, *ended)
-        else:
-            left.append(number)
-    with ThreadPoolExecutor(os.cpu_count()) as pool:
-        for number, (how, said, was_refused) in zip(left, pool.map(lambda it: refused(program, test, it, shim, folder), left)):
-            if was_refused:
-                note(number, how, said)
     print(f"{os.path.basename(program)} {test}:", ", ".join(f"{count} {how}" for how, count in counts.items()), flush=True)
     return counts.get(ANOTHER, 0)
 

@@ -1,6 +1,7 @@
 -- The names after END in what is read, and the identifiers that they repeat, are tokens of the list that is read.
 use Rattle.std.proofs.Common.{◌≡◌, ℕ, zero, suc, ◌+◌, ◌<◌, ◌≤◌, Bool, true, false, cond, List, [], ◌∷◌, ◌++◌, length, Option, Some, None, Ok, Err, refl, subst, arith}
 use Rattle.std.specs.List.{All}
+use Rattle.std.proofs.lemmas.List.{append-nil}
 use Rattle.std.proofs.lemmas.List.Elements.{All-nil, All-cons, All-head, All-tail, All-append}
 use Rattle.ob_scan.specs.declared.kind.Kind.{Kind}
 use Rattle.ob_scan.specs.declared.kind.Kind.TheVariants as kinds
@@ -19,10 +20,10 @@ use Rattle.ob_tree.specs.declared.token.Leaf.TheVariants as leafs
 use Rattle.ob_tree.specs.Constructs as constructs
 use Rattle.ob_tree.specs.Constructs.{Construct}
 use Rattle.ob_tree.specs.Leaves.{same_kind, leaf_of, leaves}
-use Rattle.ob_tree.specs.Marks.{Value, Out, construct, word, declared, aliased, imported, used, completed, selected, named, repeated}
+use Rattle.ob_tree.specs.Marks.{Value, Ends, Out, construct, word, declared, aliased, imported, used, completed, selected, named, repeated}
 use Rattle.ob_tree.specs.Expressions.{relation_kind, sign_kind, add_kind, mul_kind}
 use Rattle.ob_tree.specs.Derives.{endings_in}
-use Rattle.ob_tree.proofs.EndNames.{endings-append, endings-construct}
+use Rattle.ob_tree.proofs.EndNames.{endings-append}
 use Rattle.ob_parse.specs.Front.{uncons, front, is_word}
 use Rattle.ob_parse.specs.Forms.{Refusal, Unexpected, deep_at, Read, ◌>>=◌, Reader, Front, Start, expect_at, accept_at, identifier_at, name_at, behind_name, is_something, led_by, begins, unless, nothing, seq, prefixed, node, if_found, optional, so_often, many, several, limit_at}
 use Rattle.ob_parse.specs.ReadNames.{qualident_after, qualident_at, identdef_after, identdef_at}
@@ -67,7 +68,8 @@ both_below : (bound : ℕ) (a b : Out) → EndingsBelow bound a → EndingsBelow
 both_below bound a b p q = record { each_one = rw (endings-append a b) (All-append (AreBelow bound) (endings_in a) (endings_in b) p.each_one q.each_one) }
 
 construct_below : (bound : ℕ) (c : Construct) (o : Out) → EndingsBelow bound o → EndingsBelow bound (construct c o)
-construct_below bound c o p = record { each_one = rw (endings-construct c o) p.each_one }
+unfolding construct
+construct_below bound c o p = record { each_one = rw (endings-append o (Ends c ∷ []), append-nil (endings_in o)) p.each_one }
 
 nothing_below : (bound : ℕ) → EndingsBelow bound []
 nothing_below bound = record { each_one = All-nil (AreBelow bound) }
