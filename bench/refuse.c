@@ -17,7 +17,7 @@
 #include <sys/wait.h>
 #include <unistd.h>
 
-enum { SECONDS = 60, MOST_SAID = 1 << 16, STARTS = 64, PAST = 98, BROKEN = 99 };
+enum { SECONDS = 60, MOST_SAID = 1 << 16, STARTS = 256, PAST = 98, BROKEN = 99 };
 
 static atomic_long count, threads;
 static long at = -1, step;
