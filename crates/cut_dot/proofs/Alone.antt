@@ -6,7 +6,7 @@ use Rattle.cut_net.specs.Cuts.{Any, Chain}
 use Rattle.cut_net.specs.Network.{Network}
 use Rattle.cut_net.proofs.Chains.{joined}
 use Rattle.cut_part.specs.Inside.{inside}
-use Rattle.cut_dot.specs.Ends.{is_end}
+use Rattle.cut_dot.specs.Ends.{is_chain_end}
 use Rattle.cut_dot.specs.Pictures.{drawn_imports, drawn_modules, is_drawn, numbers, AreStillReached, IsPicture}
 use Rattle.cut_dot.specs.Texts.{picture_text}
 
@@ -22,9 +22,9 @@ no_members p none [] = refl
 no_members p none (x ∷ xs) = rw (none x) (no_members p none xs)
 
 pub alone : (net : Network) (a b : ℕ) (printed flow : List Priced) (text : List ℕ) → IsPicture net a b printed flow text → (Chain net.imports Any a b → ⊥)
-    → (reached : ℕ → Bool) × AreStillReached net a printed reached × (text ≡ picture_text net a b printed flow reached (filter (is_end a b) (numbers net)) [])
+    → (reached : ℕ → Bool) × AreStillReached net a printed reached × (text ≡ picture_text net a b printed flow reached (filter (is_chain_end a b) (numbers net)) [])
 alone net a b printed flow text is no_chain =
     let none : (m : ℕ) → is.between m ≡ false = λ m. false_from_ne_true _ (λ t. let on = (is.are_between m).0 t in no_chain (joined net.imports Any a m b on.0 on.1)) in
-    let modules : drawn_modules net a b is.between ≡ filter (is_end a b) (numbers net) = same_members (is_drawn a b is.between) (is_end a b) (λ m. ap (λ (t : Bool). t || is_end a b m) (none m)) (numbers net) in
+    let modules : drawn_modules net a b is.between ≡ filter (is_chain_end a b) (numbers net) = same_members (is_drawn a b is.between) (is_chain_end a b) (λ m. ap (λ (t : Bool). t || is_chain_end a b m) (none m)) (numbers net) in
     let imports : drawn_imports net is.between ≡ [] = no_members (inside is.between) (λ i. ap (λ (t : Bool). t && is.between i.to) (none i.from)) net.imports in
     (is.reached, is.are_reached, is.text_is ∙ ap₂ (λ (ms : List ℕ) (some : List Priced). picture_text net a b printed flow is.reached ms some) modules imports)

@@ -2,5 +2,5 @@
 use Rattle.std.specs.Prelude.{ℕ, Bool, ◌==◌, ◌||◌}
 
 -- the module is a or b
-abbrev pub is_end : ℕ → ℕ → ℕ → Bool
-is_end a b m = (m == a) || (m == b)
+abbrev pub is_chain_end : ℕ → ℕ → ℕ → Bool
+is_chain_end a b m = (m == a) || (m == b)

@@ -8,7 +8,7 @@ use Rattle.cut_net.specs.Network.{Network}
 use Rattle.cut_net.specs.Cuts.{AreThose, Chain, Outside}
 use Rattle.cut_net.specs.Lines.{removed_by}
 use Rattle.cut_part.specs.Inside.{inside, IsBetween}
-use Rattle.cut_dot.specs.Ends.{is_end}
+use Rattle.cut_dot.specs.Ends.{is_chain_end}
 use Rattle.cut_dot.specs.Texts.{picture_text}
 
 -- all modules, in order
@@ -17,7 +17,7 @@ numbers net = range_with_len 0 (length net.names)
 
 -- the module is in the picture: it is between, or one of the two ends
 abbrev pub is_drawn : ℕ → ℕ → (ℕ → Bool) → ℕ → Bool
-is_drawn a b between m = between m || is_end a b m
+is_drawn a b between m = between m || is_chain_end a b m
 
 -- the modules of the picture, in order
 abbrev pub drawn_modules : Network → ℕ → ℕ → (ℕ → Bool) → List ℕ

@@ -6,7 +6,7 @@ use Rattle.cut_net.specs.declared.priced.Priced.{Priced}
 use Rattle.cut_net.specs.Lines.{flow_by, removed_by}
 use Rattle.cut_net.specs.Network.{Network, name_of}
 use Rattle.cut_net.specs.Pins.{is_pinned}
-use Rattle.cut_dot.specs.Ends.{is_end}
+use Rattle.cut_dot.specs.Ends.{is_chain_end}
 
 -- A and B have a double border
 abbrev pub end_mark : Bool → List ℕ
@@ -45,7 +45,7 @@ import_line from to flow weight removed pinned = ends_text from to ++ (if pinned
 
 -- the line of the module of this number, between the ends a and b
 abbrev pub line_of_module : Network → ℕ → ℕ → (ℕ → Bool) → ℕ → List ℕ
-line_of_module net a b reached m = module_line (name_of net m) (is_end a b m) (reached m)
+line_of_module net a b reached m = module_line (name_of net m) (is_chain_end a b m) (reached m)
 
 -- the line of this import, by the lines of the removed imports and of the flow, and by whether it is pinned
 abbrev pub line_of_import : Network → List Priced → List Priced → Priced → List ℕ

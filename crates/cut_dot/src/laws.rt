@@ -4,7 +4,7 @@ ghost use Rattle.cut_net.specs.declared.priced.Priced.{Priced};
 ghost use Rattle.cut_net.specs.Cuts.{Any, Chain};
 ghost use Rattle.cut_net.specs.Network.{Network};
 ghost use Rattle.cut_net.specs.WellFormed.{IsNetwork};
-ghost use Rattle.cut_dot.specs.Ends.{is_end};
+ghost use Rattle.cut_dot.specs.Ends.{is_chain_end};
 ghost use Rattle.cut_dot.specs.Pictures.{numbers, AreStillReached, IsPicture};
 ghost use Rattle.cut_dot.specs.Texts.{picture_text, NeedsNoEscape};
 
@@ -12,7 +12,7 @@ ghost use Rattle.cut_dot.specs.Texts.{picture_text, NeedsNoEscape};
 pub fn alone_without_chain()
     ensures { (net : Network) (a b : ℕ) (printed flow : List Priced) (text : List ℕ) → IsPicture net a b printed flow text →
         (Chain net.imports Any a b → ⊥) →
-        (reached : ℕ → Bool) × AreStillReached net a printed reached × (text ≡ picture_text net a b printed flow reached (filter (is_end a b) (numbers net)) []) }
+        (reached : ℕ → Bool) × AreStillReached net a printed reached × (text ≡ picture_text net a b printed flow reached (filter (is_chain_end a b) (numbers net)) []) }
 {}
 
 /// Between quotation marks each name of a network stands for itself: it has no quotation mark, and no backslash.

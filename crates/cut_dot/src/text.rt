@@ -5,7 +5,7 @@ ghost use Rattle.std.specs.String.{string_bytes};
 ghost use Rattle.cut_net.specs.Lines.{IsAscending};
 ghost use Rattle.cut_part.specs.Inside.{inside};
 ghost use Rattle.cut_residual.specs.Graphs.{is_seen};
-ghost use Rattle.cut_dot.specs.Ends.{is_end};
+ghost use Rattle.cut_dot.specs.Ends.{is_chain_end};
 ghost use Rattle.cut_dot.specs.Pictures.{drawn_imports, drawn_modules, is_drawn};
 ghost use Rattle.cut_dot.specs.Texts.{end_mark, ends_text, line_of_import, label_text, line_of_module, module_line, picture_text, pin_text, reached_mark, removed_mark};
 
@@ -14,10 +14,10 @@ use cut_net::{Cut, Net, Priced};
 use std::alloc::{AllocError, Global};
 
 /// What the line of A or B has behind the name.
-fn end_mark(is_end: bool) -> &'static str
-    ensures { result.now ≡ end_mark is_end }
+fn end_mark(is_chain_end: bool) -> &'static str
+    ensures { result.now ≡ end_mark is_chain_end }
 {
-    if is_end { " [peripheries=2]" } else { "" }
+    if is_chain_end { " [peripheries=2]" } else { "" }
 }
 
 /// What the line of a module that is still reached has behind the name.
@@ -42,12 +42,12 @@ fn removed_mark(is_removed: bool) -> &'static str
 fn push_module(
     text: &mut String,
     name: &str,
-    is_end: bool,
+    is_chain_end: bool,
     is_reached: bool,
 ) -> Result<(), AllocError>
-    ensures { OnOk result (string_bytes text.new ≡ string_bytes text.old ++ module_line name.now is_end is_reached) }
+    ensures { OnOk result (string_bytes text.new ≡ string_bytes text.old ++ module_line name.now is_chain_end is_reached) }
 {
-    let end = end_mark(is_end);
+    let end = end_mark(is_chain_end);
     let reached = reached_mark(is_reached);
     writeln!(text, "  \"{name}\"{end}{reached};")
 }
@@ -76,8 +76,8 @@ fn push_pin(text: &mut String, flow: u64, is_removed: bool) -> Result<(), AllocE
 }
 
 /// Whether the module is A or B.
-fn is_end(from: u32, to: u32, node: u32) -> bool
-    ensures { result ≡ is_end from to node }
+fn is_chain_end(from: u32, to: u32, node: u32) -> bool
+    ensures { result ≡ is_chain_end from to node }
 {
     (node == from) | (node == to)
 }
@@ -98,9 +98,9 @@ fn push_drawn(
     ensures { OnOk result (string_bytes text.new ≡ string_bytes text.old ++
         (if is_drawn from to (is_seen between.now) node then line_of_module net.now from to (is_seen reached.now) node else [])) }
 {
-    let is_end = is_end(from, to, node);
-    if between[node as usize] | is_end {
-        push_module(text, net.name(node), is_end, reached[node as usize])?;
+    let is_chain_end = is_chain_end(from, to, node);
+    if between[node as usize] | is_chain_end {
+        push_module(text, net.name(node), is_chain_end, reached[node as usize])?;
     }
     Ok(())
 }

@@ -6,30 +6,30 @@ use Rattle.digraph.specs.declared.edge.Edge.{Edge}
 use Rattle.digraph.specs.Edges as edges
 use Rattle.digraph.proofs.SameGraphs.{AreSame}
 use Rattle.cut_net.specs.declared.priced.Priced.{Priced}
-use Rattle.cut_net.specs.Lines.{IsAscending, pair_of}
+use Rattle.cut_net.specs.Lines.{IsAscending, edge_of}
 use Rattle.cut_net.specs.Network.{none_there}
 use Rattle.cut_net.specs.WellFormed.{AreBetween, Leads}
 use Rattle.digraph.proofs.Members.{from_map, in_map}
 
-pub same_graph : (imports : List Priced) → AreSame (edges.Leads (map pair_of imports)) (Leads imports)
+pub same_graph : (imports : List Priced) → AreSame (edges.Leads (map edge_of imports)) (Leads imports)
 same_graph imports m n = (
-  λ h. let i = from_map pair_of imports (record { from = m; to = n }) h in (i.0, i.1, ap (λ (p : Edge). p.from) i.2, ap (λ (p : Edge). p.to) i.2, tt),
+  λ h. let i = from_map edge_of imports (record { from = m; to = n }) h in (i.0, i.1, ap (λ (p : Edge). p.from) i.2, ap (λ (p : Edge). p.to) i.2, tt),
   λ (i, has, from, to, _). (
       let f : i.from ≡ m = from in
       let t : i.to ≡ n = to in
-      let e : pair_of i ≡ record { from = m; to = n } = ap (λ (x : ℕ). record { from = x; to = i.to }) f ∙ ap (λ (x : ℕ). record { from = m; to = x }) t in
-      subst (λ (p : Edge). Contains (map pair_of imports) p) e (in_map pair_of imports i has)),
+      let e : edge_of i ≡ record { from = m; to = n } = ap (λ (x : ℕ). record { from = x; to = i.to }) f ∙ ap (λ (x : ℕ). record { from = m; to = x }) t in
+      subst (λ (p : Edge). Contains (map edge_of imports) p) e (in_map edge_of imports i has)),
 )
 
-pub pairs_between : (imports : List Priced) (count : ℕ) → AreBetween imports count → edges.AreBetween (map pair_of imports) count
+pub pairs_between : (imports : List Priced) (count : ℕ) → AreBetween imports count → edges.AreBetween (map edge_of imports) count
 pairs_between imports count between p h =
-    let i = from_map pair_of imports p h in
+    let i = from_map edge_of imports p h in
     subst (λ (q : Edge). (q.from < count) × (q.to < count)) i.2 (between i.0 i.1)
 
-pub pairs_ascend : (imports : List Priced) → IsAscending imports → edges.IsAscending (map pair_of imports)
+pub pairs_ascend : (imports : List Priced) → IsAscending imports → edges.IsAscending (map edge_of imports)
 pairs_ascend imports up j k d lt l =
-    let long : length (map pair_of imports) ≡ length imports = length-map imports pair_of in
-    rw (get_or-map pair_of imports j none_there d (omega arith), get_or-map pair_of imports k none_there d (omega arith)) (up j k none_there lt (omega arith))
+    let long : length (map edge_of imports) ≡ length imports = length-map imports edge_of in
+    rw (get_or-map edge_of imports j none_there d (omega arith), get_or-map edge_of imports k none_there d (omega arith)) (up j k none_there lt (omega arith))
 
 -- what follows from what a clause says of a None
 pub IfNone_then : {X : Type 0} (o : Option X) {P Q : Type 0} → (P → Q) → IfNone o P → IfNone o Q

@@ -5,8 +5,8 @@ use Rattle.std.proofs.lemmas.List.{map-append, map_push}
 use Rattle.std.proofs.lemmas.List.Elements.{filter-append}
 use Rattle.std.proofs.lemmas.List.Sums.{length-filter}
 use Rattle.std.proofs.lemmas.List.{length-map}
-use Rattle.cut_net.specs.NetText.{NetLine, net_line, is_import, is_written, pieces_of, AreGood, IsNetOutcome, Spell}
-use Rattle.cut_net.specs.NetReading.{entry_line, fault_at, fault_said, AreTablesOf, IsDraft, Takes}
+use Rattle.cut_net.specs.NetText.{NetLine, net_line, is_import, is_nonempty, pieces_of, AreGood, IsNetOutcome, Spell}
+use Rattle.cut_net.specs.NetReading.{entry_line, fault_at, fault_said, AreTablesOf, IsDraft, TakesPiece}
 use Rattle.cut_net.specs.declared.draft.NetDraft.{NetDraft}
 use Rattle.cut_net.specs.declared.draft.NetLineFault.{NetLineFault}
 use Rattle.cut_net.specs.declared.draft.NetLineFault.TheVariants as fault
@@ -26,13 +26,13 @@ good_lines lines names es h =
 
 spell_more : (pieces : List (List ℕ)) (piece : List ℕ) (lines more : List NetLine) → Spell pieces lines → Spell (piece ∷ []) more → Spell (pieces ++ piece ∷ []) (lines ++ more)
 spell_more pieces piece lines more h g =
-    filter-append is_written pieces (piece ∷ []) ∙ ap (λ (t : List (List ℕ)). t ++ filter is_written (piece ∷ [])) h ∙ ap (λ (t : List (List ℕ)). map net_line lines ++ t) g ∙ sym (map-append net_line lines more)
+    filter-append is_nonempty pieces (piece ∷ []) ∙ ap (λ (t : List (List ℕ)). t ++ filter is_nonempty (piece ∷ [])) h ∙ ap (λ (t : List (List ℕ)). map net_line lines ++ t) g ∙ sym (map-append net_line lines more)
 
 pub spell_next : {A : Type 0} (v : A → List ℕ) (items : List A) (item : A) (lines more : List NetLine) → Spell (map v items) lines → Spell (v item ∷ []) more → Spell (map v (items ++ item ∷ [])) (lines ++ more)
 spell_next v items item lines more h g = rw (map_push v items item) (spell_more (map v items) (v item) lines more h g)
 
 pub fault_is : (bytes : List ℕ) (k : ℕ) (before : List NetLine) (piece : List ℕ) (e : NetLineFault) (old new : NetDraft) → Spell (take k (pieces_of bytes)) before → IsDraft before old
-    → slice_get (pieces_of bytes) k ≡ Some piece → Takes before piece (Err e) new → IfSome (fault_said (fault_at (k + 1) e)) (IsNetOutcome bytes)
+    → slice_get (pieces_of bytes) k ≡ Some piece → TakesPiece before piece (Err e) new → IfSome (fault_said (fault_at (k + 1) e)) (IsNetOutcome bytes)
 fault_is bytes k before piece fault.BadLine old new spelled h there t = (
   k,
   refl,

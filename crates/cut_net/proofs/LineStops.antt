@@ -4,13 +4,13 @@ use Rattle.std.specs.Prelude.{All, filter, slice_get}
 use Rattle.std.proofs.lemmas.Bool.{cases_order}
 use Rattle.std.proofs.lemmas.List.{append-nil, take-append-drop}
 use Rattle.std.proofs.lemmas.List.Elements.{All-head, All-tail, filter-append}
-use Rattle.cut_net.specs.NetText.{is_written}
+use Rattle.cut_net.specs.NetText.{is_nonempty}
 use Rattle.cut_net.proofs.ListFronts.{cons_parts, get_in, rest_at, take_in}
 
 module _ {L : Type 0} (spelled_of : L → List ℕ) (IsLine : L → Type 0) (once : (l k : L) → IsLine l → IsLine k → spelled_of l ≡ spelled_of k → l ≡ k) where
   -- the pieces that aren't empty are these lines
   abbrev pub Spelled : List (List ℕ) → List L → Type 0
-  Spelled pieces lines = filter is_written pieces ≡ map spelled_of lines
+  Spelled pieces lines = filter is_nonempty pieces ≡ map spelled_of lines
 
   -- good lines that are spelled alike are the same, as far as the one list goes
   record SameStart (before lines : List L) (rest : List (List ℕ)) : Type 0 where
@@ -52,16 +52,16 @@ module _ {L : Type 0} (spelled_of : L → List ℕ) (IsLine : L → Type 0) (onc
     pub spelled : spelled_of line ≡ piece
 
   next_line : (pieces : List (List ℕ)) (lines before : List L) (k : ℕ) (piece : List ℕ) → Spelled pieces lines → All IsLine lines → Spelled (take k pieces) before → All IsLine before
-      → slice_get pieces k ≡ Some piece → is_written piece ≡ true → NextLine lines before piece
+      → slice_get pieces k ≡ Some piece → is_nonempty piece ≡ true → NextLine lines before piece
   next_line pieces lines before k piece spelled well front good there written =
       let rest = rest_at pieces k piece there in
-      let shown : filter is_written (piece ∷ rest.0) ≡ piece ∷ filter is_written rest.0 = rw written refl in
-      let cut : filter is_written pieces ≡ filter is_written (take k pieces) ++ filter is_written (drop k pieces) =
-      ap (filter is_written) (sym (take-append-drop k pieces)) ∙ filter-append is_written (take k pieces) (drop k pieces) in
-      let e : map spelled_of lines ≡ map spelled_of before ++ piece ∷ filter is_written rest.0 =
-      sym spelled ∙ cut ∙ ap (λ (t : List (List ℕ)). t ++ filter is_written (drop k pieces)) front
-      ∙ ap (λ (t : List (List ℕ)). map spelled_of before ++ t) (ap (filter is_written) rest.1 ∙ shown) in
-      let s = same_start before lines (piece ∷ filter is_written rest.0) good well e in
+      let shown : filter is_nonempty (piece ∷ rest.0) ≡ piece ∷ filter is_nonempty rest.0 = rw written refl in
+      let cut : filter is_nonempty pieces ≡ filter is_nonempty (take k pieces) ++ filter is_nonempty (drop k pieces) =
+      ap (filter is_nonempty) (sym (take-append-drop k pieces)) ∙ filter-append is_nonempty (take k pieces) (drop k pieces) in
+      let e : map spelled_of lines ≡ map spelled_of before ++ piece ∷ filter is_nonempty rest.0 =
+      sym spelled ∙ cut ∙ ap (λ (t : List (List ℕ)). t ++ filter is_nonempty (drop k pieces)) front
+      ∙ ap (λ (t : List (List ℕ)). map spelled_of before ++ t) (ap (filter is_nonempty) rest.1 ∙ shown) in
+      let s = same_start before lines (piece ∷ filter is_nonempty rest.0) good well e in
       by s.tail s.whole s.spelled
     where
       by : {more : List (List ℕ)} (tail : List L) → lines ≡ before ++ tail → map spelled_of tail ≡ piece ∷ more → NextLine lines before piece
@@ -76,7 +76,7 @@ module _ {L : Type 0} (spelled_of : L → List ℕ) (IsLine : L → Type 0) (onc
       pub spelled : Spelled (take k pieces) before
       pub good : Good before
       pub there : slice_get pieces k ≡ Some piece
-      pub written : is_written piece ≡ true
+      pub written : is_nonempty piece ≡ true
       pub bad : (line : L) → spelled_of line ≡ piece → Good (before ++ line ∷ []) → ⊥
 
     -- pieces that are good lines don't stop being good

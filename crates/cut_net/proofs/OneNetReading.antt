@@ -5,7 +5,7 @@ use Rattle.std.proofs.lemmas.List.Elements.{All-contains, Contains-push}
 use Rattle.digraph.specs.Cycle.{NamesCycle}
 use Rattle.cut_net.specs.Network.{Network, name_of}
 use Rattle.cut_net.specs.WellFormed.{IsAcyclic, Leads, total_weight}
-use Rattle.cut_net.specs.NetText.{NetLine, Module, Import, net_line, IsNetLine, is_written, pieces_of, AreApart, AreFew, AreGood, IsBadLine, IsTwiceImport, IsTooMany, IsNetOf, NetText, IsOverflow, IsCycle, IsNetOutcome, NetOutcome, Reads, BadLine, TwiceImport, Cycle, WeightOverflow, TooMany}
+use Rattle.cut_net.specs.NetText.{NetLine, Module, Import, net_line, IsNetLine, is_nonempty, pieces_of, AreOfTwoImports, AreFew, AreGood, IsBadLine, IsTwiceImport, IsTooMany, IsNetOf, NetText, IsOverflow, IsCycle, IsNetOutcome, NetOutcome, Reads, BadLine, TwiceImport, Cycle, WeightOverflow, TooMany}
 use Rattle.texts.proofs.FieldCuts.{some_is}
 use Rattle.cut_net.proofs.NetLines.{line_once}
 use Rattle.digraph.proofs.OneCycle.{one_cycle, cyclic}
@@ -13,7 +13,7 @@ use Rattle.cut_net.proofs.OneNetwork.{one_network}
 use Rattle.cut_net.proofs.Stops.{Stops, one_stop, no_stop, same_lines}
 
 -- a line isn't empty
-line_written : (line : NetLine) → is_written (net_line line) ≡ true
+line_written : (line : NetLine) → is_nonempty (net_line line) ≡ true
 line_written (Module m) = refl
 line_written (Import m n w) = refl
 
@@ -43,7 +43,7 @@ twice_stops bytes k t = record {
   good = t.front.good;
   there = t.front.there;
   written = line_written t.line;
-  bad = λ line e good. t.twice (subst (λ (l : NetLine). AllPairs AreApart (t.before ++ l ∷ [])) (same_line t.before line t.line t.form e good) good.apart);
+  bad = λ line e good. t.twice (subst (λ (l : NetLine). AllPairs AreOfTwoImports (t.before ++ l ∷ [])) (same_line t.before line t.line t.form e good) good.apart);
 }
 
 many_stops : (bytes : List ℕ) (k : ℕ) → IsTooMany bytes k → Stops (pieces_of bytes) k
@@ -81,7 +81,7 @@ twice_not_many_at : (bytes : List ℕ) (k : ℕ) → IsTwiceImport bytes k → I
 twice_not_many_at bytes k t m =
     let before : m.before ≡ t.before = same_lines (take k (pieces_of bytes)) m.before t.before m.front.spelled t.front.spelled m.front.good.each t.front.good.each in
     let line : m.line ≡ t.line = line_once m.line t.line m.form t.form (same_piece bytes k (net_line m.line) (net_line t.line) m.front.there t.front.there) in
-    t.twice (subst (λ (l : NetLine). AllPairs AreApart (t.before ++ l ∷ [])) line (subst (λ (ls : List NetLine). AllPairs AreApart (ls ++ m.line ∷ [])) before m.apart))
+    t.twice (subst (λ (l : NetLine). AllPairs AreOfTwoImports (t.before ++ l ∷ [])) line (subst (λ (ls : List NetLine). AllPairs AreOfTwoImports (ls ++ m.line ∷ [])) before m.apart))
 
 twice_not_many : (bytes : List ℕ) (j k : ℕ) → IsTwiceImport bytes j → IsTooMany bytes k → ⊥
 twice_not_many bytes j k t m =

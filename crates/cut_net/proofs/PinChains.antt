@@ -13,7 +13,7 @@ use Rattle.cut_net.specs.declared.priced.Priced.{Priced}
 use Rattle.cut_net.specs.Network.{Network}
 use Rattle.cut_net.specs.WellFormed.{AreBetween}
 use Rattle.cut_net.specs.Cuts.{same_ends, Imports}
-use Rattle.cut_net.specs.Lines.{pair_of, IsImport}
+use Rattle.cut_net.specs.Lines.{edge_of, IsImport}
 use Rattle.cut_net.specs.Pins.{ArePins, ByPin, IsLeastPinChain, IsPinChain, PinChain}
 use Rattle.cut_net.proofs.Ends.{same_from, same_true}
 
@@ -48,10 +48,10 @@ pins_between net n between pins p c =
 
 module _ (net : Network) (pins : ArePins net) where
   -- the edges of the pins lead where pinned imports do
-  pub same_pins : AreSame (edges.Leads (map pair_of net.pins)) (Imports net.imports (ByPin net))
+  pub same_pins : AreSame (edges.Leads (map edge_of net.pins)) (Imports net.imports (ByPin net))
   same_pins m n = (
     λ leads.
-        let (p, there, e) = from_map pair_of net.pins (record { from = m; to = n }) leads in
+        let (p, there, e) = from_map edge_of net.pins (record { from = m; to = n }) leads in
         let (i, known, from, to, any) = All-contains (IsImport net) net.pins p pins.in_order.known there in
         let from_is : i.from ≡ m = from ∙ ap (λ (q : Edge). q.from) e in
         let to_is : i.to ≡ n = to ∙ ap (λ (q : Edge). q.to) e in
@@ -61,29 +61,29 @@ module _ (net : Network) (pins : ArePins net) where
         let ends = same_from i p t in
         let from_is : p.from ≡ m = sym ends.from ∙ from in
         let to_is : p.to ≡ n = sym ends.to ∙ to in
-        let e : pair_of p ≡ record { from = m; to = n } = ap (λ (x : ℕ). record { from = x; to = p.to }) from_is ∙ ap (λ (x : ℕ). record { from = m; to = x }) to_is in
-        subst (λ (q : Edge). Contains (map pair_of net.pins) q) e (in_map pair_of net.pins p there),
+        let e : edge_of p ≡ record { from = m; to = n } = ap (λ (x : ℕ). record { from = x; to = p.to }) from_is ∙ ap (λ (x : ℕ). record { from = m; to = x }) to_is in
+        subst (λ (q : Edge). Contains (map edge_of net.pins) q) e (in_map edge_of net.pins p there),
   )
 
-  same_back : AreSame (Imports net.imports (ByPin net)) (edges.Leads (map pair_of net.pins))
+  same_back : AreSame (Imports net.imports (ByPin net)) (edges.Leads (map edge_of net.pins))
   same_back m n = ((same_pins m n).1, (same_pins m n).0)
 
   module _ (a b : ℕ) where
-    chain_of_pins : (chain : List ℕ) → AreChain (edges.Leads (map pair_of net.pins)) a b chain → IsPinChain net a b chain
+    chain_of_pins : (chain : List ℕ) → AreChain (edges.Leads (map edge_of net.pins)) a b chain → IsPinChain net a b chain
     chain_of_pins [] none = none
-    chain_of_pins (m ∷ more) (e, chain) = (e, chain_as (Imports net.imports (ByPin net)) (edges.Leads (map pair_of net.pins)) same_back m more b chain)
+    chain_of_pins (m ∷ more) (e, chain) = (e, chain_as (Imports net.imports (ByPin net)) (edges.Leads (map edge_of net.pins)) same_back m more b chain)
 
-    chain_of_edges : (chain : List ℕ) → IsPinChain net a b chain → AreChain (edges.Leads (map pair_of net.pins)) a b chain
+    chain_of_edges : (chain : List ℕ) → IsPinChain net a b chain → AreChain (edges.Leads (map edge_of net.pins)) a b chain
     chain_of_edges [] none = none
-    chain_of_edges (m ∷ more) (e, chain) = (e, chain_as (edges.Leads (map pair_of net.pins)) (Imports net.imports (ByPin net)) same_pins m more b chain)
+    chain_of_edges (m ∷ more) (e, chain) = (e, chain_as (edges.Leads (map edge_of net.pins)) (Imports net.imports (ByPin net)) same_pins m more b chain)
 
     -- the least chain of the edges is the least chain of pins
-    pub least_of_pins : (chain : List ℕ) → IsLeastChain (edges.Leads (map pair_of net.pins)) a b chain → IsLeastPinChain net a b chain
+    pub least_of_pins : (chain : List ℕ) → IsLeastChain (edges.Leads (map edge_of net.pins)) a b chain → IsLeastPinChain net a b chain
     least_of_pins chain is = record {
       is_chain = chain_of_pins chain is.is_chain;
       fewest = λ other pinned. is.fewest other (chain_of_edges other pinned);
       least = λ other pinned long. is.least other (chain_of_edges other pinned) long;
     }
 
-    pub no_pin_chain : (Chain (edges.Leads (map pair_of net.pins)) a b → ⊥) → PinChain net a b → ⊥
-    no_pin_chain none (more, chain) = none (more, chain_as (edges.Leads (map pair_of net.pins)) (Imports net.imports (ByPin net)) same_pins a more b chain)
+    pub no_pin_chain : (Chain (edges.Leads (map edge_of net.pins)) a b → ⊥) → PinChain net a b → ⊥
+    no_pin_chain none (more, chain) = none (more, chain_as (edges.Leads (map edge_of net.pins)) (Imports net.imports (ByPin net)) same_pins a more b chain)

@@ -8,13 +8,13 @@ use Rattle.cut_net.specs.declared.price_fault.PriceLineFault.{PriceLineFault}
 use Rattle.cut_net.specs.declared.price_fault.PriceLineFault.TheVariants as fault
 use Rattle.cut_net.specs.declared.standing.Change.{Change}
 use Rattle.cut_net.specs.Network.{Network}
-use Rattle.cut_net.specs.NetText.{is_written, pieces_of}
+use Rattle.cut_net.specs.NetText.{is_nonempty, pieces_of}
 use Rattle.cut_net.specs.Prices.{PriceLine, AreGoodPrices, IsPriceOutcome, SpellPrices, price_line}
 use Rattle.cut_net.specs.PriceReading.{Notes, fault_at, fault_said}
 
 spell_more : (pieces : List (List ℕ)) (piece : List ℕ) (lines more : List PriceLine) → SpellPrices pieces lines → SpellPrices (piece ∷ []) more → SpellPrices (pieces ++ piece ∷ []) (lines ++ more)
 spell_more pieces piece lines more h g =
-    filter-append is_written pieces (piece ∷ []) ∙ ap (λ (t : List (List ℕ)). t ++ filter is_written (piece ∷ [])) h ∙ ap (λ (t : List (List ℕ)). map price_line lines ++ t) g ∙ sym (map-append price_line lines more)
+    filter-append is_nonempty pieces (piece ∷ []) ∙ ap (λ (t : List (List ℕ)). t ++ filter is_nonempty (piece ∷ [])) h ∙ ap (λ (t : List (List ℕ)). map price_line lines ++ t) g ∙ sym (map-append price_line lines more)
 
 pub spell_next : {A : Type 0} (v : A → List ℕ) (items : List A) (item : A) (lines more : List PriceLine) → SpellPrices (map v items) lines → SpellPrices (v item ∷ []) more → SpellPrices (map v (items ++ item ∷ [])) (lines ++ more)
 spell_next v items item lines more h g = rw (map_push v items item) (spell_more (map v items) (v item) lines more h g)

@@ -11,7 +11,7 @@ use Rattle.texts.proofs.FieldNumbers.{number_takes, number_again}
 use Rattle.cut_net.specs.declared.standing.Change.{Change}
 use Rattle.cut_net.specs.declared.standing.Change.TheVariants.{Price, Pin}
 use Rattle.cut_net.specs.NetReading.{after_word}
-use Rattle.cut_net.specs.NetText.{is_written}
+use Rattle.cut_net.specs.NetText.{is_nonempty}
 use Rattle.cut_net.specs.Prices.{PriceLine, IsChange, IsPriceLine, price_line, spelled_so}
 use Rattle.cut_net.specs.PriceReading.{pin_of_fields, price_of_fields, price_line_of, saying}
 use Rattle.cut_net.proofs.NetLines.{map_some, word_takes, word_again}
@@ -103,11 +103,11 @@ no_line piece none l good e =
     absurd cc
 
 -- a line isn't empty
-written : (m n : List ℕ) (change : Change) → is_written (spelled_so m n change) ≡ true
+written : (m n : List ℕ) (change : Change) → is_nonempty (spelled_so m n change) ≡ true
 written m n (Price w) = refl
 written m n Pin = refl
 
-pub line_written : (line : PriceLine) → is_written (price_line line) ≡ true
+pub line_written : (line : PriceLine) → is_nonempty (price_line line) ≡ true
 line_written line = written line.importer line.imported line.change
 
 pub not_read : {X Y : Type 0} (f : X → Y) (o : Option X) (r : Option Y) → option_map f o ≡ r → ((x : X) → o ≡ Some x → ⊥) → r ≡ None

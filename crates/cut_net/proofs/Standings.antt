@@ -10,7 +10,7 @@ use Rattle.cut_net.specs.declared.standing.PinState.{PinState}
 use Rattle.cut_net.specs.declared.standing.PinState.TheVariants.{Weighs, Stays}
 use Rattle.cut_net.specs.Network.{Network, none_there}
 use Rattle.cut_net.specs.Cuts.{same_ends}
-use Rattle.cut_net.specs.Prices.{pin_as, standing_of, stands_after, stands_by}
+use Rattle.cut_net.specs.Prices.{pin_as, pin_state_of, stands_after, stands_by}
 
 -- an element of a list that is mapped
 pub mapped_at : {X Y : Type 0} (f : X → Y) (xs : List X) (ys : List Y) (k : ℕ) (d : X) (e : Y) → ys ≡ map f xs → k < length xs → get_or ys k e ≡ f (get_or xs k d)
@@ -32,5 +32,5 @@ no_pin i (Stays w) none = absurd (none w refl)
 -- how an import stands, as it was found
 pub stood : (net : Network) (said : Priced → Option Change) (imports pins : List Priced) (told : List (Option Change)) (k : ℕ) (pin : Option Priced) (now : PinState) → imports ≡ net.imports → pins ≡ net.pins
     → pin ≡ find (same_ends (get_or imports k none_there)) pins → get_or told k None ≡ said (get_or net.imports k none_there) → now ≡ stands_after (stands_by (get_or imports k none_there) pin) (get_or told k None)
-    → now ≡ stands_after (standing_of net (get_or net.imports k none_there)) (said (get_or net.imports k none_there))
+    → now ≡ stands_after (pin_state_of net (get_or net.imports k none_there)) (said (get_or net.imports k none_there))
 stood net said imports pins told k pin now e f found tells is = rw (is, found, tells, e, f) refl

@@ -5,7 +5,7 @@ use Rattle.std.specs.List.{list_any}
 use Rattle.std.specs.Str.{bytes_eq}
 use Rattle.std.proofs.lemmas.Bool.{or_cases, or_left, or_right}
 use Rattle.std.proofs.lemmas.Slice.Eq.{bytes_eq-Decides}
-use Rattle.cut_net.specs.NetText.{NetLine, Module, Import, net_line, IsNetLine, is_import, Spell, Mentions, AreMentioning, AreNamesOf, AreApart, AreFew, AreGood}
+use Rattle.cut_net.specs.NetText.{NetLine, Module, Import, net_line, IsNetLine, is_import, Spell, Mentions, AreMentioning, AreNamesOf, AreOfTwoImports, AreFew, AreGood}
 use Rattle.cut_net.proofs.LineStops as stops
 use Rattle.cut_net.proofs.ListFronts.{all_front, contains_front, deeper, distinct_kept, fewer_front, fewer_kept, kept, pairs_front, passes_kept}
 use Rattle.cut_net.proofs.NetLines.{line_once}
@@ -65,7 +65,7 @@ few_front xs ys few = record {
 pub good_front : (xs ys : List NetLine) → AreGood (xs ++ ys) → AreGood xs
 good_front xs ys good = record {
   each = all_front IsNetLine xs ys good.each;
-  apart = pairs_front AreApart xs ys good.apart;
+  apart = pairs_front AreOfTwoImports xs ys good.apart;
   few = few_front xs ys good.few;
 }
 

@@ -14,8 +14,8 @@ use Rattle.std.proofs.lemmas.Map.Keys.{IsDistinct-push, apart_from_distinct}
 use Rattle.std.proofs.lemmas.Map.Made.{is_member-Decides, length-from_same_keys}
 use Rattle.std.proofs.lemmas.Slice.Eq.{bytes_eq-Decides}
 use Rattle.texts.specs.Fields.{is_name}
-use Rattle.cut_net.specs.NetText.{NetLine, Module, Import, net_line, is_import, is_written, AreApart, AreMentioning, AreNamesOf, IsNetLine, Mentions}
-use Rattle.cut_net.specs.NetReading.{entry_line, noted, Adds, AreTablesOf, IsMore, IsTwice, Takes, line_said}
+use Rattle.cut_net.specs.NetText.{NetLine, Module, Import, net_line, is_import, is_nonempty, AreOfTwoImports, AreMentioning, AreNamesOf, IsNetLine, Mentions}
+use Rattle.cut_net.specs.NetReading.{entry_line, noted, AddsLine, AreTablesOf, IsMore, IsTwice, TakesPiece, line_said}
 use Rattle.cut_net.specs.declared.lines.Line.{Line}
 use Rattle.cut_net.specs.declared.draft.NetDraft.{NetDraft}
 use Rattle.cut_net.specs.declared.draft.NetLineFault.{NetLineFault}
@@ -168,10 +168,10 @@ filter_module lines m = filter-append is_import lines (Module m ∷ []) ∙ appe
 filter_import : (lines : List NetLine) (m n : List ℕ) (w : ℕ) → filter is_import (lines ++ Import m n w ∷ []) ≡ filter is_import lines ++ Import m n w ∷ []
 filter_import lines m n w = filter-append is_import lines (Import m n w ∷ [])
 
-pub apart_module : (lines : List NetLine) (m : List ℕ) → AllPairs AreApart lines → AllPairs AreApart (lines ++ Module m ∷ [])
-apart_module lines m h = all_pairs_push AreApart lines (Module m) h (λ k d lt. by (get_or lines k d))
+pub apart_module : (lines : List NetLine) (m : List ℕ) → AllPairs AreOfTwoImports lines → AllPairs AreOfTwoImports (lines ++ Module m ∷ [])
+apart_module lines m h = all_pairs_push AreOfTwoImports lines (Module m) h (λ k d lt. by (get_or lines k d))
   where
-    by : (l : NetLine) → AreApart l (Module m)
+    by : (l : NetLine) → AreOfTwoImports l (Module m)
     by (Module _) = tt
     by (Import _ _ _) = tt
 
@@ -235,10 +235,10 @@ module _ (lines : List NetLine) (names : List (List ℕ)) (es : List ((ℕ × �
             ]
 
     -- a key that no entry has is of an import that no line has
-    pub apart_import : (Contains (keys_of es) (i, j) → ⊥) → AllPairs AreApart (lines ++ Import m n w ∷ [])
-    apart_import absent = all_pairs_push AreApart lines (Import m n w) h.apart (λ k d lt. by (get_or lines k d) (Contains-get_or lines k d lt))
+    pub apart_import : (Contains (keys_of es) (i, j) → ⊥) → AllPairs AreOfTwoImports (lines ++ Import m n w ∷ [])
+    apart_import absent = all_pairs_push AreOfTwoImports lines (Import m n w) h.apart (λ k d lt. by (get_or lines k d) (Contains-get_or lines k d lt))
       where
-        by : (l : NetLine) → Contains lines l → AreApart l (Import m n w)
+        by : (l : NetLine) → Contains lines l → AreOfTwoImports l (Import m n w)
         by (Module _) there = tt
         by (Import k l x) there = λ e1 e2.
             let (e, within, is) = entry_of k l x there in
@@ -346,10 +346,10 @@ module _ (lines : List NetLine) (names middle more : List (List ℕ)) (es : List
 
 -- ---- what came of a piece
 
-pub takes_from_adds : (before : List NetLine) (piece : List ℕ) (line : NetLine) (r : Result (Unit {0}) NetLineFault) (draft : NetDraft) → is_written piece ≡ true → net_line line ≡ piece → IsNetLine line
-    → Adds before line r draft → Takes before piece r draft
+pub takes_from_adds : (before : List NetLine) (piece : List ℕ) (line : NetLine) (r : Result (Unit {0}) NetLineFault) (draft : NetDraft) → is_nonempty piece ≡ true → net_line line ≡ piece → IsNetLine line
+    → AddsLine before line r draft → TakesPiece before piece r draft
 takes_from_adds before piece line (Ok _) draft written e good h =
-    let spelled : filter is_written (piece ∷ []) ≡ net_line line ∷ [] = rw (written, e) refl in
+    let spelled : filter is_nonempty (piece ∷ []) ≡ net_line line ∷ [] = rw (written, e) refl in
     (line ∷ [], spelled, h)
 takes_from_adds before piece line (Err fault.BadLine) draft written e good h = absurd h
 takes_from_adds before piece line (Err fault.TwiceImport) draft written e good h = (line, e, good, h)
@@ -360,6 +360,6 @@ pub not_read : (o : Option Line) (r : Option NetLine) → option_map line_said o
 not_read None r e none = sym e
 not_read (Some x) r e none = absurd (none x refl)
 
-pub written_is : (piece : List ℕ) (b : Bool) → b ≡ eqb (length piece) 0 → b ≡ false → is_written piece ≡ true
+pub written_is : (piece : List ℕ) (b : Bool) → b ≡ eqb (length piece) 0 → b ≡ false → is_nonempty piece ≡ true
 written_is [] b e h = absurd cc
 written_is (_ ∷ _) b e h = refl

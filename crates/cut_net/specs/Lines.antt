@@ -17,8 +17,8 @@ abbrev pub by_ends : Priced → Priced → Ordering
 by_ends i j = ordering_then (nat_cmp i.from j.from) (nat_cmp i.to j.to)
 
 -- an import without what it carries
-abbrev pub pair_of : Priced → Edge
-pair_of i = record { from = i.from; to = i.to }
+abbrev pub edge_of : Priced → Edge
+edge_of i = record { from = i.from; to = i.to }
 
 -- each comes before all later ones
 abbrev pub IsAscending : List Priced → Type 0

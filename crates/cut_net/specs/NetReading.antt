@@ -5,7 +5,7 @@ use Rattle.std.specs.Option.{option_map_or}
 use Rattle.std.specs.Str.{bytes_eq}
 use Rattle.texts.specs.Fields.{cut_at, named, number_of}
 use Rattle.cut_net.specs.Network.{Network, texts, unpinned}
-use Rattle.cut_net.specs.NetText.{NetLine, Module, Import, NetOutcome, Reads, BadLine, TwiceImport, Cycle, WeightOverflow, TooMany, net_line, is_import, is_written, pieces_of, AreApart, AreFew, AreNamesOf, IsNetLine, Spell}
+use Rattle.cut_net.specs.NetText.{NetLine, Module, Import, NetOutcome, Reads, BadLine, TwiceImport, Cycle, WeightOverflow, TooMany, net_line, is_import, is_nonempty, pieces_of, AreOfTwoImports, AreFew, AreNamesOf, IsNetLine, Spell}
 use Rattle.cut_net.specs.declared.draft.NetDraft.{NetDraft}
 use Rattle.cut_net.specs.declared.draft.NetLineFault.{NetLineFault}
 use Rattle.cut_net.specs.declared.draft.NetLineFault.TheVariants as fault
@@ -52,7 +52,7 @@ entry_line names entry = Import (slice_index_or names entry.0.0 []) (slice_index
 -- the lines are good, and the tables are theirs: the names that they have, and their imports by the places of the names
 pub record AreTablesOf (lines : List NetLine) (names : List (List ℕ)) (imports : List ((ℕ × ℕ) × ℕ)) : Type 0 where
   pub each : All IsNetLine lines
-  pub apart : AllPairs AreApart lines
+  pub apart : AllPairs AreOfTwoImports lines
   pub are_names : AreNamesOf lines names
   pub few_names : length names ≤ 8192
   pub few_imports : length imports ≤ 65536
@@ -64,28 +64,28 @@ IsDraft lines draft = AreTablesOf lines (texts draft.names.keys) draft.imports.e
 
 -- with one more line there is an import twice
 abbrev pub IsTwice : List NetLine → NetLine → Type 0
-IsTwice before line = AllPairs AreApart (before ++ line ∷ []) → ⊥
+IsTwice before line = AllPairs AreOfTwoImports (before ++ line ∷ []) → ⊥
 
 -- with one more line there is none twice, but one name or one import too many
 pub record IsMore (before : List NetLine) (line : NetLine) : Type 0 where
-  pub apart : AllPairs AreApart (before ++ line ∷ [])
+  pub apart : AllPairs AreOfTwoImports (before ++ line ∷ [])
   pub many : AreFew (before ++ line ∷ []) → ⊥
 
 -- what came of one more line
-abbrev pub Adds : List NetLine → NetLine → Result (Unit {0}) NetLineFault → NetDraft → Type 0
-Adds before line (Ok _) draft = IsDraft (before ++ line ∷ []) draft
-Adds before line (Err fault.BadLine) draft = ⊥
-Adds before line (Err fault.TwiceImport) draft = IsTwice before line
-Adds before line (Err fault.TooMany) draft = IsMore before line
-Adds before line (Err fault.Memory) draft = Unit {0}
+abbrev pub AddsLine : List NetLine → NetLine → Result (Unit {0}) NetLineFault → NetDraft → Type 0
+AddsLine before line (Ok _) draft = IsDraft (before ++ line ∷ []) draft
+AddsLine before line (Err fault.BadLine) draft = ⊥
+AddsLine before line (Err fault.TwiceImport) draft = IsTwice before line
+AddsLine before line (Err fault.TooMany) draft = IsMore before line
+AddsLine before line (Err fault.Memory) draft = Unit {0}
 
 -- what came of one more piece
-abbrev pub Takes : List NetLine → List ℕ → Result (Unit {0}) NetLineFault → NetDraft → Type 0
-Takes before piece (Ok _) draft = (more : List NetLine) × Spell (piece ∷ []) more × IsDraft (before ++ more) draft
-Takes before piece (Err fault.BadLine) draft = (is_written piece ≡ true) × ((line : NetLine) → IsNetLine line → net_line line ≢ piece)
-Takes before piece (Err fault.TwiceImport) draft = (line : NetLine) × (net_line line ≡ piece) × IsNetLine line × IsTwice before line
-Takes before piece (Err fault.TooMany) draft = (line : NetLine) × (net_line line ≡ piece) × IsNetLine line × IsMore before line
-Takes before piece (Err fault.Memory) draft = Unit {0}
+abbrev pub TakesPiece : List NetLine → List ℕ → Result (Unit {0}) NetLineFault → NetDraft → Type 0
+TakesPiece before piece (Ok _) draft = (more : List NetLine) × Spell (piece ∷ []) more × IsDraft (before ++ more) draft
+TakesPiece before piece (Err fault.BadLine) draft = (is_nonempty piece ≡ true) × ((line : NetLine) → IsNetLine line → net_line line ≢ piece)
+TakesPiece before piece (Err fault.TwiceImport) draft = (line : NetLine) × (net_line line ≡ piece) × IsNetLine line × IsTwice before line
+TakesPiece before piece (Err fault.TooMany) draft = (line : NetLine) × (net_line line ≡ piece) × IsNetLine line × IsMore before line
+TakesPiece before piece (Err fault.Memory) draft = Unit {0}
 
 -- ---- the whole text
 

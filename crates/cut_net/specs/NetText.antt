@@ -30,13 +30,13 @@ abbrev pub pieces_of : List ℕ → List (List ℕ)
 pieces_of bytes = slice_split (λ c. c == 10) bytes
 
 -- the piece isn't empty
-abbrev pub is_written : List ℕ → Bool
-is_written [] = false
-is_written (_ ∷ _) = true
+abbrev pub is_nonempty : List ℕ → Bool
+is_nonempty [] = false
+is_nonempty (_ ∷ _) = true
 
 -- the pieces that aren't empty are these lines
 abbrev pub Spell : List (List ℕ) → List NetLine → Type 0
-Spell pieces lines = filter is_written pieces ≡ map net_line lines
+Spell pieces lines = filter is_nonempty pieces ≡ map net_line lines
 
 -- the line has the name
 abbrev pub Mentions : List ℕ → NetLine → Type 0
@@ -58,11 +58,11 @@ is_import (Module m) = false
 is_import (Import m n w) = true
 
 -- two lines aren't of one import
-abbrev pub AreApart : NetLine → NetLine → Type 0
-AreApart (Module _) (Module _) = Unit {0}
-AreApart (Module _) (Import _ _ _) = Unit {0}
-AreApart (Import _ _ _) (Module _) = Unit {0}
-AreApart (Import m n _) (Import k l _) = m ≡ k → n ≢ l
+abbrev pub AreOfTwoImports : NetLine → NetLine → Type 0
+AreOfTwoImports (Module _) (Module _) = Unit {0}
+AreOfTwoImports (Module _) (Import _ _ _) = Unit {0}
+AreOfTwoImports (Import _ _ _) (Module _) = Unit {0}
+AreOfTwoImports (Import m n _) (Import k l _) = m ≡ k → n ≢ l
 
 -- at most 8192 names and 65536 imports
 pub record AreFew (lines : List NetLine) : Type 0 where
@@ -74,7 +74,7 @@ pub record AreFew (lines : List NetLine) : Type 0 where
 -- lines with no fault among them
 pub record AreGood (lines : List NetLine) : Type 0 where
   pub each : All IsNetLine lines
-  pub apart : AllPairs AreApart lines
+  pub apart : AllPairs AreOfTwoImports lines
   pub few : AreFew lines
 
 -- the first k pieces are good lines, and this is the piece after them
@@ -88,7 +88,7 @@ pub record IsBadLine (bytes : List ℕ) (k : ℕ) : Type 0 where
   pub before : List NetLine
   pub piece : List ℕ
   pub front : IsFront bytes k before piece
-  pub written : is_written piece ≡ true
+  pub written : is_nonempty piece ≡ true
   pub wrong : (line : NetLine) → IsNetLine line → net_line line ≢ piece
 
 -- after good lines, a line of an import that has one already
@@ -97,7 +97,7 @@ pub record IsTwiceImport (bytes : List ℕ) (k : ℕ) : Type 0 where
   pub line : NetLine
   pub front : IsFront bytes k before (net_line line)
   pub form : IsNetLine line
-  pub twice : AllPairs AreApart (before ++ line ∷ []) → ⊥
+  pub twice : AllPairs AreOfTwoImports (before ++ line ∷ []) → ⊥
 
 -- after good lines, a line that is apart from them and one name or one import too many
 pub record IsTooMany (bytes : List ℕ) (k : ℕ) : Type 0 where
@@ -105,7 +105,7 @@ pub record IsTooMany (bytes : List ℕ) (k : ℕ) : Type 0 where
   pub line : NetLine
   pub front : IsFront bytes k before (net_line line)
   pub form : IsNetLine line
-  pub apart : AllPairs AreApart (before ++ line ∷ [])
+  pub apart : AllPairs AreOfTwoImports (before ++ line ∷ [])
   pub many : AreFew (before ++ line ∷ []) → ⊥
 
 -- the network of the lines: the names that they have, in order, and their imports, in order; nothing is pinned

@@ -4,7 +4,7 @@ use Rattle.std.specs.Option.{option_map_or}
 use Rattle.texts.specs.Fields.{cut_at, named, number_of}
 use Rattle.cut_net.specs.Network.{Network}
 use Rattle.cut_net.specs.NetReading.{after_word}
-use Rattle.cut_net.specs.NetText.{is_written, pieces_of}
+use Rattle.cut_net.specs.NetText.{is_nonempty, pieces_of}
 use Rattle.cut_net.specs.Prices.{PriceLine, PriceOutcome, Prices, BadLine, NoSuchImport, TwicePrice, PriceOverflow, price_line, said_of, IsOfImport, IsPriceLine, SpellPrices, AreGoodPrices, AreOfTwo}
 use Rattle.cut_net.specs.declared.price_fault.PriceLineFault.{PriceLineFault}
 use Rattle.cut_net.specs.declared.price_fault.PriceLineFault.TheVariants as fault
@@ -50,7 +50,7 @@ pub record IsTold (net : Network) (lines : List PriceLine) (told : List (Option 
 -- what came of one more piece
 abbrev pub Notes : Network → List PriceLine → List ℕ → Result (Unit {0}) PriceLineFault → List (Option Change) → Type 0
 Notes net before piece (Ok _) told = (more : List PriceLine) × SpellPrices (piece ∷ []) more × IsTold net (before ++ more) told
-Notes net before piece (Err fault.BadLine) told = (is_written piece ≡ true) × ((line : PriceLine) → IsPriceLine line → price_line line ≢ piece)
+Notes net before piece (Err fault.BadLine) told = (is_nonempty piece ≡ true) × ((line : PriceLine) → IsPriceLine line → price_line line ≢ piece)
 Notes net before piece (Err fault.NoSuchImport) told = (line : PriceLine) × (price_line line ≡ piece) × IsPriceLine line × (IsOfImport net line → ⊥)
 Notes net before piece (Err fault.TwicePrice) told =
     (line : PriceLine) × (price_line line ≡ piece) × IsPriceLine line × IsOfImport net line × (AllPairs AreOfTwo (before ++ line ∷ []) → ⊥)

@@ -11,7 +11,7 @@ use Rattle.cut_net.specs.declared.standing.PinState.TheVariants.{Weighs, Stays}
 use Rattle.texts.specs.Fields.{is_name, line_of}
 use Rattle.cut_net.specs.Network.{Network, name_of}
 use Rattle.cut_net.specs.Cuts.{same_ends}
-use Rattle.cut_net.specs.NetText.{is_written, pieces_of}
+use Rattle.cut_net.specs.NetText.{is_nonempty, pieces_of}
 use Rattle.cut_net.specs.Pins.{most_weight, unpinned_weight}
 
 -- what a line says: the import of the first module of the second gets a weight, or is pinned
@@ -41,7 +41,7 @@ pub record IsPriceLine (line : PriceLine) : Type 0 where
 
 -- the pieces that aren't empty are these lines
 abbrev pub SpellPrices : List (List ℕ) → List PriceLine → Type 0
-SpellPrices pieces lines = filter is_written pieces ≡ map price_line lines
+SpellPrices pieces lines = filter is_nonempty pieces ≡ map price_line lines
 
 -- whether the import leads between the modules of these names
 abbrev pub is_named : Network → List ℕ → List ℕ → Priced → Bool
@@ -78,7 +78,7 @@ pub record IsBadPrice (net : Network) (bytes : List ℕ) (k : ℕ) : Type 0 wher
   pub before : List PriceLine
   pub piece : List ℕ
   pub front : IsPriceFront net bytes k before piece
-  pub written : is_written piece ≡ true
+  pub written : is_nonempty piece ≡ true
   pub wrong : (line : PriceLine) → IsPriceLine line → price_line line ≢ piece
 
 -- after good lines, a line of no import of the network
@@ -109,8 +109,8 @@ stands_by i None = Weighs i.amount
 stands_by i (Some pin) = Stays pin.amount
 
 -- how an import of the network stands
-abbrev pub standing_of : Network → Priced → PinState
-standing_of net i = stands_by i (pin_of net i)
+abbrev pub pin_state_of : Network → Priced → PinState
+pin_state_of net i = stands_by i (pin_of net i)
 
 abbrev pub weight_in : PinState → ℕ
 weight_in (Weighs w) = w
@@ -118,7 +118,7 @@ weight_in (Stays w) = w
 
 -- the import with its weight, or the weight that it had before it was pinned
 abbrev pub as_weighed : Network → Priced → Priced
-as_weighed net i = record { from = i.from; to = i.to; amount = weight_in (standing_of net i) }
+as_weighed net i = record { from = i.from; to = i.to; amount = weight_in (pin_state_of net i) }
 
 -- how it stands after what its line says, if it has one. A price ends a pin
 abbrev pub stands_after : PinState → Option Change → PinState
@@ -132,7 +132,7 @@ said_of net lines i = option_map (λ (line : PriceLine). line.change) (find (is_
 
 -- how an import of the network stands after these lines
 abbrev pub standing_by : Network → List PriceLine → Priced → PinState
-standing_by net lines i = stands_after (standing_of net i) (said_of net lines i)
+standing_by net lines i = stands_after (pin_state_of net i) (said_of net lines i)
 
 -- the import, as it stands
 abbrev pub import_as : Priced → PinState → Priced

@@ -1,7 +1,7 @@
 //! The named cycle of a network's imports.
 ghost use Rattle.std.specs.Prelude.{◌≡◌, ◌<◌, ◌≤◌, length, map, All, IfOk, IfSome, IfNone};
 ghost use Rattle.digraph.specs.Cycle.{NamesCycle};
-ghost use Rattle.cut_net.specs.Lines.{IsAscending, pair_of};
+ghost use Rattle.cut_net.specs.Lines.{IsAscending, edge_of};
 ghost use Rattle.cut_net.specs.WellFormed.{AreBetween, IsAcyclic, Leads};
 
 use crate::Priced;
@@ -10,7 +10,7 @@ use std::alloc::{AllocError, Global};
 
 /// The imports without their weights.
 pub(crate) fn pairs_of(alloc: Global, imports: &[Priced]) -> Result<Vec<Edge>, AllocError>
-    ensures { IfOk result (λ pairs. pairs.items ≡ map pair_of imports.now) }
+    ensures { IfOk result (λ pairs. pairs.items ≡ map edge_of imports.now) }
 {
     let mut pairs = Vec::new(alloc);
     for import in imports {

@@ -5,7 +5,7 @@ ghost use Rattle.cut_net.specs.declared.draft.NetLineFault.TheVariants.{Memory};
 ghost use Rattle.std.specs.List.{slice_index_or};
 ghost use Rattle.cut_net.specs.Network.{texts};
 ghost use Rattle.cut_net.specs.NetText.{IsNetLine, NetLine, Module, Import};
-ghost use Rattle.cut_net.specs.NetReading.{line_said, noted, Adds, IsDraft, Takes};
+ghost use Rattle.cut_net.specs.NetReading.{line_said, noted, AddsLine, IsDraft, TakesPiece};
 
 use crate::NetFault;
 use crate::lines::{Line, line_in};
@@ -110,7 +110,7 @@ impl NetDraft {
     }
 
     fn add_module(&mut self, alloc: Global, name: &str) -> Result<(), NetLineFault>
-        ensures { (before : List NetLine) → IsDraft before self.old → IsNetLine (Module name.now) → Adds before (Module name.now) result self.new }
+        ensures { (before : List NetLine) → IsDraft before self.old → IsNetLine (Module name.now) → AddsLine before (Module name.now) result self.new }
     {
         note_name(alloc, &mut self.names, name)?;
         if self.names.len() > MOST_NAMES {
@@ -126,7 +126,7 @@ impl NetDraft {
         imported: &str,
         weight: u64,
     ) -> Result<(), NetLineFault>
-        ensures { (before : List NetLine) → IsDraft before self.old → IsNetLine (Import importer.now imported.now weight) → Adds before (Import importer.now imported.now weight) result self.new }
+        ensures { (before : List NetLine) → IsDraft before self.old → IsNetLine (Import importer.now imported.now weight) → AddsLine before (Import importer.now imported.now weight) result self.new }
     {
         let from = note_name(alloc, &mut self.names, importer)?;
         let to = note_name(alloc, &mut self.names, imported)?;
@@ -140,7 +140,7 @@ impl NetDraft {
     }
 
     fn add(&mut self, alloc: Global, line: Line<'_>) -> Result<(), NetLineFault>
-        ensures { (before : List NetLine) → IsDraft before self.old → IsNetLine (line_said line.entry) → Adds before (line_said line.entry) result self.new }
+        ensures { (before : List NetLine) → IsDraft before self.old → IsNetLine (line_said line.entry) → AddsLine before (line_said line.entry) result self.new }
     {
         match line {
             Line::Module(name) => self.add_module(alloc, name),
@@ -152,7 +152,7 @@ impl NetDraft {
 
     /// Notes what the bytes between two line ends say, if they say anything.
     pub(crate) fn take(&mut self, alloc: Global, piece: &[u8]) -> Result<(), NetLineFault>
-        ensures { (before : List NetLine) → IsDraft before self.old → Takes before piece.now result self.new }
+        ensures { (before : List NetLine) → IsDraft before self.old → TakesPiece before piece.now result self.new }
     {
         if piece.is_empty() {
             return Ok(());

@@ -6,7 +6,7 @@ ghost use Rattle.cut_net.specs.declared.standing.Change.{Change};
 ghost use Rattle.cut_net.specs.declared.standing.PinState.{PinState};
 ghost use Rattle.cut_net.specs.Network.{none_there};
 ghost use Rattle.cut_net.specs.Pins.{most_weight};
-ghost use Rattle.cut_net.specs.Prices.{import_as, is_named, pin_as, standing_of, standing_so, stands_after, stands_by, IsPriceOutcome, PriceLine, PriceOutcome};
+ghost use Rattle.cut_net.specs.Prices.{import_as, is_named, pin_as, pin_state_of, standing_so, stands_after, stands_by, IsPriceOutcome, PriceLine, PriceOutcome};
 ghost use Rattle.cut_net.specs.PriceReading.{fault_said, outcome_of, unpinned_part, IsTold, IsToldOf, Notes};
 
 use crate::found::{line_of, place_in};
@@ -105,7 +105,7 @@ fn standings_of(
 ) -> Result<Vec<PinState>, AllocError>
     requires { length told.now ≡ length net.now.imports }
     ensures { IfOk result (λ standings. (said : Priced → Option Change) → told.now ≡ map said net.now.imports →
-        standings.items ≡ map (λ i. stands_after (standing_of net.now i) (said i)) net.now.imports) }
+        standings.items ≡ map (λ i. stands_after (pin_state_of net.now i) (said i)) net.now.imports) }
 {
     net.keeps();
     let imports = net.imports();

@@ -10,7 +10,7 @@ use Rattle.cut_net.specs.declared.priced.Priced.{Priced}
 use Rattle.cut_net.specs.Network.{Network, none_there}
 use Rattle.cut_net.specs.WellFormed.{AreBetween}
 use Rattle.cut_net.specs.Cuts.{entering, leaving, leaves, IsFlow}
-use Rattle.cut_net.specs.Lines.{flow_by, pair_of}
+use Rattle.cut_net.specs.Lines.{flow_by, edge_of}
 use Rattle.cut_net.proofs.ListSums.{sum_by-mono, sum_by-both, sum_by-tight}
 use Rattle.cut_net.proofs.Duality.{across, enters, cond_le}
 use Rattle.cut_part.specs.Narrowing.{ends_of, import_in, weighing, reweighed, weight_leaving, weight_entering, IsBarred, IsBarrier, IsByEnds, IsEnough, IsGreatestFlow, IsLoweredAt, AreLowered, IsNarrowed}
@@ -102,7 +102,7 @@ module _ (net : Network) (a b : ℕ) (flow : Priced → ℕ) (value : ℕ) (is_f
 
 -- the ends are as before
 pub ends_reweighed : (net : Network) (k amount : ℕ) → ends_of (reweighed net k amount).imports ≡ ends_of net.imports
-ends_reweighed net k amount = map-set_same pair_of net.imports k (weighing (import_in net.imports k) amount) none_there refl
+ends_reweighed net k amount = map-set_same edge_of net.imports k (weighing (import_in net.imports k) amount) none_there refl
 
 module _ (net : Network) (a b : ℕ) (flow : Priced → ℕ) (value : ℕ) (by_ends : IsByEnds flow) (k amount : ℕ) (there : k < length net.imports) where
   -- an import of the new network is the one that was lowered, or was there
@@ -295,11 +295,11 @@ lowered_at old new a b k amount between a_in apart step = subst (λ (net : Netwo
 })
 
 same_length : (xs ys : List Priced) → ends_of xs ≡ ends_of ys → length xs ≡ length ys
-same_length xs ys e = sym (length-map xs pair_of) ∙ ap length e ∙ length-map ys pair_of
+same_length xs ys e = sym (length-map xs edge_of) ∙ ap length e ∙ length-map ys edge_of
 
 -- imports by number have the same ends
-pub same_pair : (xs ys : List Priced) (k : ℕ) → ends_of xs ≡ ends_of ys → pair_of (import_in xs k) ≡ pair_of (import_in ys k)
-same_pair xs ys k e = sym (get_or-map pair_of xs k none_there) ∙ ap (λ (ps : List Edge). get_or ps k (pair_of none_there)) e ∙ get_or-map pair_of ys k none_there
+pub same_pair : (xs ys : List Priced) (k : ℕ) → ends_of xs ≡ ends_of ys → edge_of (import_in xs k) ≡ edge_of (import_in ys k)
+same_pair xs ys k e = sym (get_or-map edge_of xs k none_there) ∙ ap (λ (ps : List Edge). get_or ps k (edge_of none_there)) e ∙ get_or-map edge_of ys k none_there
 
 -- the imports lead between as many modules
 pub still_between : (xs ys : List Priced) (n : ℕ) → ends_of xs ≡ ends_of ys → AreBetween ys n → AreBetween xs n

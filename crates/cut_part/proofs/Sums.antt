@@ -4,7 +4,7 @@ use Rattle.std.proofs.lemmas.List.Sums.{sum_by-cons}
 use Rattle.digraph.specs.declared.edge.Edge.{Edge}
 use Rattle.cut_net.specs.declared.priced.Priced.{Priced}
 use Rattle.cut_net.specs.Cuts.{entering, leaving}
-use Rattle.cut_net.specs.Lines.{pair_of}
+use Rattle.cut_net.specs.Lines.{edge_of}
 use Rattle.cut_net.proofs.ListSums.{sum_by-same}
 use Rattle.cut_part.specs.Narrowing.{ends_of, IsByEnds}
 
@@ -35,14 +35,14 @@ module _ (flow : Priced → ℕ) (by_ends : IsByEnds flow) where
   entering_by_ends : (xs : List Priced) (m : ℕ) → entering xs flow m ≡ sum_by (λ p. cond (p.to == m) (flow (bare p)) 0) (ends_of xs)
   unfolding bare
   entering_by_ends xs m =
-      sum_by-same _ (λ i. cond (i.to == m) (flow (bare (pair_of i))) 0) xs (λ i c. ap (λ n. cond (i.to == m) n 0) (by_ends i (bare (pair_of i)) refl refl))
-      ∙ sym (sum_by-map (λ p. cond (p.to == m) (flow (bare p)) 0) pair_of xs)
+      sum_by-same _ (λ i. cond (i.to == m) (flow (bare (edge_of i))) 0) xs (λ i c. ap (λ n. cond (i.to == m) n 0) (by_ends i (bare (edge_of i)) refl refl))
+      ∙ sym (sum_by-map (λ p. cond (p.to == m) (flow (bare p)) 0) edge_of xs)
 
   leaving_by_ends : (xs : List Priced) (m : ℕ) → leaving xs flow m ≡ sum_by (λ p. cond (p.from == m) (flow (bare p)) 0) (ends_of xs)
   unfolding bare
   leaving_by_ends xs m =
-      sum_by-same _ (λ i. cond (i.from == m) (flow (bare (pair_of i))) 0) xs (λ i c. ap (λ n. cond (i.from == m) n 0) (by_ends i (bare (pair_of i)) refl refl))
-      ∙ sym (sum_by-map (λ p. cond (p.from == m) (flow (bare p)) 0) pair_of xs)
+      sum_by-same _ (λ i. cond (i.from == m) (flow (bare (edge_of i))) 0) xs (λ i c. ap (λ n. cond (i.from == m) n 0) (by_ends i (bare (edge_of i)) refl refl))
+      ∙ sym (sum_by-map (λ p. cond (p.from == m) (flow (bare p)) 0) edge_of xs)
 
   -- what enters and leaves is told by the ends of the imports
   pub same_entering : (xs ys : List Priced) (m : ℕ) → ends_of xs ≡ ends_of ys → entering xs flow m ≡ entering ys flow m

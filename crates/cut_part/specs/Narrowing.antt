@@ -4,7 +4,7 @@ use Rattle.digraph.specs.declared.edge.Edge.{Edge}
 use Rattle.cut_net.specs.declared.priced.Priced.{Priced}
 use Rattle.cut_net.specs.Network.{Network, none_there}
 use Rattle.cut_net.specs.Cuts.{entering, leaving, IsClosed, IsFlow}
-use Rattle.cut_net.specs.Lines.{pair_of}
+use Rattle.cut_net.specs.Lines.{edge_of}
 
 -- the flow of an import is told by its ends, whatever it weighs
 abbrev pub IsByEnds : (Priced → ℕ) → Type 0
@@ -27,7 +27,7 @@ pub record IsGreatestFlow (net : Network) (a b : ℕ) (flow : Priced → ℕ) (v
 
 -- the ends of each import
 abbrev pub ends_of : List Priced → List Edge
-ends_of imports = map pair_of imports
+ends_of imports = map edge_of imports
 
 abbrev pub import_in : List Priced → ℕ → Priced
 import_in imports k = slice_index_or imports k none_there

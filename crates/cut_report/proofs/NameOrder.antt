@@ -13,7 +13,7 @@ use Rattle.cut_net.specs.declared.priced.Priced.{Priced}
 use Rattle.cut_net.specs.Network.{Network, name_of, index_of}
 use Rattle.cut_net.specs.Lines.{comes_before}
 use Rattle.cut_net.specs.WellFormed.{AreNamesInOrder}
-use Rattle.cut_report.specs.ReportLines.{IsKnownName, is_before}
+use Rattle.cut_report.specs.ReportLines.{IsKnownName, pair_is_before}
 use Rattle.cut_net.proofs.Search.{AreApart}
 use Rattle.cut_net.proofs.Places.{index_takes, index_again}
 
@@ -60,7 +60,7 @@ pub record AreIn (net : Network) (p : Priced) : Type 0 where
   pub to : p.to < length net.names
 
 pub before_is : (net : Network) (p q : Priced) → AreNamesInOrder net.names → AreIn net p → AreIn net q
-    → is_before (name_of net p.from) (name_of net p.to) (name_of net q.from) (name_of net q.to) ≡ comes_before p q
+    → pair_is_before (name_of net p.from) (name_of net p.to) (name_of net q.from) (name_of net q.to) ≡ comes_before p q
 before_is net p q h a b =
     rw (less_is net p.from q.from h a.from b.from, same_is net p.from q.from h a.from b.from, less_is net p.to q.to h a.to b.to) refl
 

@@ -9,7 +9,7 @@ use Rattle.texts.specs.Fields.{cut_at, ended}
 use Rattle.cut_net.specs.Network.{Network, index_of}
 use Rattle.cut_net.specs.WellFormed.{AreNamesInOrder}
 use Rattle.cut_report.specs.ReportLine.{ReportLine, Ends, Weighs, Removes, Flows, Blocks, Last, report_line, written}
-use Rattle.cut_report.specs.ReportLines.{may_follow, is_above, IsKnown, IsKnownName, IsGoodAfter, AreGoodAfter, IsNextLine, IsWrong, BeginsWith, has_line_end, last_of}
+use Rattle.cut_report.specs.ReportLines.{may_follow, is_above, HasKnownNames, IsKnownName, IsGoodAfter, AreGoodAfter, IsNextLine, IsWrongLine, BeginsWith, has_line_end, last_of}
 use Rattle.texts.proofs.FieldCuts.{cut_none}
 use Rattle.cut_report.specs.Lines.{line_of_text}
 use Rattle.cut_report.proofs.LineLaws.{line_again, line_takes, line_once, line_without}
@@ -61,7 +61,7 @@ all_has : (net : Network) (names : List (List ℕ)) → list_all (has net) names
 all_has net [] e = All-nil (IsKnownName net)
 all_has net (n ∷ names) e = let p = and_parts _ _ e in All-cons (IsKnownName net) n names (known_has net n p.0) (all_has net names p.1)
 
-knows_known : (net : Network) (line : ReportLine) → AreNamesInOrder net.names → IsKnown net line → knows net line ≡ true
+knows_known : (net : Network) (line : ReportLine) → AreNamesInOrder net.names → HasKnownNames net line → knows net line ≡ true
 knows_known net (Ends m n) h k = both_known net m n h k.0 k.1
 knows_known net (Weighs w) h k = refl
 knows_known net (Removes m n w) h k = both_known net m n h k.0 k.1
@@ -69,7 +69,7 @@ knows_known net (Flows m n f) h k = both_known net m n h k.0 k.1
 knows_known net (Blocks names) h k = all_known net names h k
 knows_known net Last h k = refl
 
-known_knows : (net : Network) (line : ReportLine) → knows net line ≡ true → IsKnown net line
+known_knows : (net : Network) (line : ReportLine) → knows net line ≡ true → HasKnownNames net line
 known_knows net (Ends m n) e = both_has net m n e
 known_knows net (Weighs w) e = tt
 known_knows net (Removes m n w) e = both_has net m n e
@@ -137,12 +137,12 @@ kind_good net last line more h g =
     let first : cut_at 10 (ended (report_line line) ++ more) ≡ Some (report_line line, more) = ended_cut (report_line line) more (line_without line g.form) in
     rw (followed last line g.follows, first, line_again line g.form, g.follows, knows_known net line h g.known, g.above) refl
 
-pub kind_unknown : (net : Network) (last : Option ReportLine) (rest : List ℕ) (line : ReportLine) → IsNextLine last line → BeginsWith rest (report_line line) → (IsKnown net line → ⊥) → rest_kind net last rest ≡ Unknown
+pub kind_unknown : (net : Network) (last : Option ReportLine) (rest : List ℕ) (line : ReportLine) → IsNextLine last line → BeginsWith rest (report_line line) → (HasKnownNames net line → ⊥) → rest_kind net last rest ≡ Unknown
 kind_unknown net last rest line h b u =
     let lacks : knows net line ≡ false = false_from_ne_true _ (λ e. u (known_knows net line e)) in
     line_at net last rest line h b ∙ rw (h.follows, lacks) refl
 
-pub kind_below : (net : Network) (last : Option ReportLine) (rest : List ℕ) (line : ReportLine) → AreNamesInOrder net.names → IsNextLine last line → BeginsWith rest (report_line line) → IsKnown net line → is_above last line ≡ false
+pub kind_below : (net : Network) (last : Option ReportLine) (rest : List ℕ) (line : ReportLine) → AreNamesInOrder net.names → IsNextLine last line → BeginsWith rest (report_line line) → HasKnownNames net line → is_above last line ≡ false
     → rest_kind net last rest ≡ Below
 kind_below net last rest line o h b k low =
     line_at net last rest line h b ∙ rw (h.follows, knows_known net line o k, low) refl
@@ -166,7 +166,7 @@ text_bad net last text h = go (line_of_text text) refl
         let s = line_takes text line e in
         rw (false_from_ne_true (may_follow last line) (λ f. h line (record { form = s.form; follows = f }) s.spelled)) refl
 
-pub kind_bad : (net : Network) (last : Option ReportLine) (rest : List ℕ) → IsWrong last rest → rest_kind net last rest ≡ Bad
+pub kind_bad : (net : Network) (last : Option ReportLine) (rest : List ℕ) → IsWrongLine last rest → rest_kind net last rest ≡ Bad
 kind_bad net last rest (inl p) = rw p.0 (over_bad rest p.1)
 kind_bad net last rest (inr p) =
     let text : List ℕ = p.1.0 in

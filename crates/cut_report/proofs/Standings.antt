@@ -10,12 +10,12 @@ use Rattle.std.specs.Prelude.{All}
 use Rattle.std.proofs.lemmas.List.Elements.{All-cons, All-head, All-nil, All-tail}
 use Rattle.cut_report.specs.ReportClaim.{ReportClaim}
 use Rattle.cut_report.specs.ReportLine.{ReportLine, Ends, Weighs, Removes, Flows, Blocks, Last}
-use Rattle.cut_report.specs.ReportLines.{HasForm, may_follow, is_above, IsKnown, IsKnownName, IsGoodAfter, AreGoodAfter, IsNextLine, last_of}
+use Rattle.cut_report.specs.ReportLines.{HasForm, may_follow, is_above, HasKnownNames, IsKnownName, IsGoodAfter, AreGoodAfter, IsNextLine, last_of}
 use Rattle.cut_net.proofs.Places.{index_takes}
 use Rattle.cut_report.specs.declared.fault.ReportLineFault.{ReportLineFault}
 use Rattle.cut_report.specs.declared.fault.ReportLineFault.TheVariants as faults
 use Rattle.cut_report.specs.ReportLine.{removes, flows, front_lines, entry_lines}
-use Rattle.cut_report.specs.Drafts.{◌>>=◌, ReadSoFar, Start, Named, Open, Shut, Ended, Part, blocked_entry, chain_of, entry_of_part, going_on, import_of, is_after, last_import, named_by, opened_by, shut_by, step, with_removed}
+use Rattle.cut_report.specs.Drafts.{◌>>=◌, ReadSoFar, Start, Named, Open, Shut, Ended, Part, blocked_entry, chain_of, entry_of_part, going_on, import_of, is_after, last_import, numbered_by, opened_by, shut_by, step, with_removed}
 use Rattle.cut_report.proofs.NameOrder.{AreIn, index_from_known, known_from_index}
 use Rattle.cut_report.proofs.ImportLines.{AreLines, FitsWord, FitsFlow, IsRun, flow_lines, remove_lines, good_run, good_after}
 use Rattle.cut_report.proofs.EntryLines.{last_of-append, last_follows}
@@ -35,8 +35,8 @@ last_line net s = last_of None (standing_lines net s)
 abbrev pub StepIs : Network → ReadSoFar → ReportLine → Result ReadSoFar ReportLineFault → Type 0
 StepIs net s line (Ok t) = IsGoodAfter net (last_line net s) line × (standing_lines net t ≡ standing_lines net s ++ line ∷ [])
 StepIs net s line (Err faults.BadLine) = may_follow (last_line net s) line ≡ false
-StepIs net s line (Err faults.UnknownName) = IsNextLine (last_line net s) line × (IsKnown net line → ⊥)
-StepIs net s line (Err faults.Order) = IsNextLine (last_line net s) line × IsKnown net line × (is_above (last_line net s) line ≡ false)
+StepIs net s line (Err faults.UnknownName) = IsNextLine (last_line net s) line × (HasKnownNames net line → ⊥)
+StepIs net s line (Err faults.Order) = IsNextLine (last_line net s) line × HasKnownNames net line × (is_above (last_line net s) line ≡ false)
 StepIs net s line (Err faults.Memory) = Unit {0}
 
 -- ---- the line before
@@ -112,8 +112,8 @@ by_chain P net names f w lacks has = go {T = ReadSoFar} P names f lacks has
 
 -- ---- each step
 
-name_is_step : (net : Network) (line : ReportLine) → IsNetwork net → HasForm line → StepIs net Start line (named_by net line)
-unfolding named_by
+name_is_step : (net : Network) (line : ReportLine) → IsNetwork net → HasForm line → StepIs net Start line (numbered_by net line)
+unfolding numbered_by
 name_is_step net (Ends m n) w h =
     by_index (StepIs net Start (Ends m n)) net m _ w (λ k. (record { form = h; follows = refl }, λ known. k known.0)) (λ x km ltm em.
     by_index (StepIs net Start (Ends m n)) net n _ w (λ k. (record { form = h; follows = refl }, λ known. k known.1)) (λ y kn ltn en.

@@ -9,7 +9,7 @@ use Rattle.texts.specs.Fields.{cut_at, ended, with_first}
 use Rattle.cut_net.specs.Network.{Network}
 use Rattle.cut_net.specs.WellFormed.{IsNetwork}
 use Rattle.cut_report.specs.ReportLine.{ReportLine, Last, report_line, written}
-use Rattle.cut_report.specs.ReportLines.{HasForm, IsGoodAfter, IsNextLine, IsFront, BeginsWith, IsWrong, IsBadLine, IsUnknownName, IsOutOfOrder, has_line_end, last_of, IsReportOutcome}
+use Rattle.cut_report.specs.ReportLines.{HasForm, IsGoodAfter, IsNextLine, IsFront, BeginsWith, IsWrongLine, IsBadLine, IsUnknownName, IsOutOfOrder, has_line_end, last_of, IsReportOutcome}
 use Rattle.texts.proofs.FieldCuts.{cut_takes, without, some, some_is, with_some}
 use Rattle.cut_report.specs.declared.fault.ReportLineFault.{ReportLineFault}
 use Rattle.cut_report.specs.declared.fault.ReportLineFault.TheVariants as faults
@@ -17,7 +17,7 @@ use Rattle.cut_report.specs.ReportLine.{front_lines, entry_lines}
 use Rattle.cut_report.specs.Lines.{line_of_text}
 use Rattle.cut_report.specs.declared.fault.ReportFault.{ReportFault}
 use Rattle.cut_report.specs.declared.draft.ReportDraft.{ReportDraft}
-use Rattle.cut_report.specs.Drafts.{◌>>=◌, Fails, GivesAt, ReadSoFar, Start, Named, Open, Shut, Ended, fault_at, finish_of, standing_of, step, text_step}
+use Rattle.cut_report.specs.Drafts.{◌>>=◌, Fails, GivesAt, ReadSoFar, Start, Named, Open, Shut, Ended, fault_at, finish_of, read_so_far_of, step, text_step}
 use Rattle.cut_report.specs.Reading.{outcome_of}
 use Rattle.cut_report.proofs.LineLaws.{line_again, line_once, line_takes}
 use Rattle.cut_report.proofs.TextFronts.{end_without}
@@ -76,7 +76,7 @@ nonempty rest text b e =
     absurd (omega (arith, length-append (ended text) b.more, length_push text 10, n))
 
 -- no line that may follow is spelled so
-wrong : (net : Network) (s : ReadSoFar) (rest text : List ℕ) → BeginsWith rest text → ((line : ReportLine) → IsNextLine (last_line net s) line → report_line line ≢ text) → IsWrong (last_line net s) rest
+wrong : (net : Network) (s : ReadSoFar) (rest text : List ℕ) → BeginsWith rest text → ((line : ReportLine) → IsNextLine (last_line net s) line → report_line line ≢ text) → IsWrongLine (last_line net s) rest
 wrong net Start rest text b h = inr (λ e. absurd cc, (text, b, h))
 wrong net (Named x y) rest text b h = inr (λ e. absurd cc, (text, b, h))
 wrong net (Open p) rest text b h = inr (not_ended net p, (text, b, h))
@@ -173,7 +173,7 @@ goes_on net bytes s t rest text after w f e is = rw is at (text_is net bytes s r
 
 -- the fault of a line is that of the text
 pub fails : (net : Network) (bytes : List ℕ) (s : ReadSoFar) (rest text after : List ℕ) (line : ℕ) (fault : ReportFault) → IsNetwork net → IsFront net bytes (standing_lines net s) rest → cut_at 10 rest ≡ Some (text, after)
-    → line ≡ length (standing_lines net s) + 1 → GivesAt {X = ReportDraft} line standing_of (Err fault) (text_step net s text) → IfSome (outcome_of (Err fault)) (IsReportOutcome net bytes)
+    → line ≡ length (standing_lines net s) + 1 → GivesAt {X = ReportDraft} line read_so_far_of (Err fault) (text_step net s text) → IfSome (outcome_of (Err fault)) (IsReportOutcome net bytes)
 fails net bytes s rest text after line fault w f e n given = rw given.1 (by_fault given.0 given.2)
   where
     by_fault : (x : ReportLineFault) → Fails x (text_step net s text) → IfSome (outcome_of (Err (fault_at line x))) (IsReportOutcome net bytes)

@@ -46,15 +46,15 @@ pub data ReadSoFar : Type 0 where
   Shut : ℕ → ℕ → List ℕ → ReadSoFar
   Ended : ReportClaim → ReadSoFar
 
-abbrev pub part_of : ℕ → ℕ → Cut → Part
-part_of a b cut = record { from = a; to = b; weight = cut.weight; printed = cut.imports.items; flow = cut.flow.items }
+abbrev pub claimed_part : ℕ → ℕ → Cut → Part
+claimed_part a b cut = record { from = a; to = b; weight = cut.weight; printed = cut.imports.items; flow = cut.flow.items }
 
-abbrev pub standing_of : ReportDraft → ReadSoFar
-standing_of drafts.Start = Start
-standing_of (drafts.Named a b) = Named a b
-standing_of (drafts.Open a b cut) = Open (part_of a b cut)
-standing_of (drafts.Shut a b chain) = Shut a b chain.items
-standing_of (drafts.Ended r) = Ended (entry_of r)
+abbrev pub read_so_far_of : ReportDraft → ReadSoFar
+read_so_far_of drafts.Start = Start
+read_so_far_of (drafts.Named a b) = Named a b
+read_so_far_of (drafts.Open a b cut) = Open (claimed_part a b cut)
+read_so_far_of (drafts.Shut a b chain) = Shut a b chain.items
+read_so_far_of (drafts.Ended r) = Ended (entry_of r)
 
 -- the last of the imports, or what stood before them
 abbrev pub last_import : Option Priced → List Priced → Option Priced
@@ -72,16 +72,16 @@ import_of net last m n amount = do
   y ← ok_or (index_of net n) faults.UnknownName
   if is_after last (record { from = x; to = y; amount = amount }) then Ok (record { from = x; to = y; amount = amount }) else Err faults.Order
 
-unfoldable pub named_by : Network → ReportLine → Result ReadSoFar ReportLineFault
-named_by net (Ends m n) = do
+unfoldable pub numbered_by : Network → ReportLine → Result ReadSoFar ReportLineFault
+numbered_by net (Ends m n) = do
   x ← ok_or (index_of net m) faults.UnknownName
   y ← ok_or (index_of net n) faults.UnknownName
   Ok (Named x y)
-named_by net (Weighs w) = Err faults.BadLine
-named_by net (Removes m n w) = Err faults.BadLine
-named_by net (Flows m n f) = Err faults.BadLine
-named_by net (Blocks names) = Err faults.BadLine
-named_by net Last = Err faults.BadLine
+numbered_by net (Weighs w) = Err faults.BadLine
+numbered_by net (Removes m n w) = Err faults.BadLine
+numbered_by net (Flows m n f) = Err faults.BadLine
+numbered_by net (Blocks names) = Err faults.BadLine
+numbered_by net Last = Err faults.BadLine
 
 -- the modules of these names
 abbrev pub chain_of : Network → List (List ℕ) → Result (List ℕ) ReportLineFault
@@ -121,7 +121,7 @@ shut_by a b chain (Blocks names) = Err faults.BadLine
 shut_by a b chain Last = Ok (Ended (blocked_entry a b chain))
 
 unfoldable pub step : Network → ReadSoFar → ReportLine → Result ReadSoFar ReportLineFault
-step net Start line = named_by net line
+step net Start line = numbered_by net line
 step net (Named a b) line = opened_by net a b line
 step net (Open p) line = going_on net p line
 step net (Shut a b chain) line = shut_by a b chain line

@@ -70,24 +70,24 @@ abbrev pub IsKnownName : Network → List ℕ → Type 0
 IsKnownName net name = Contains net.names name
 
 -- the network has the line's names
-abbrev pub IsKnown : Network → ReportLine → Type 0
-IsKnown net (Ends m n) = IsKnownName net m × IsKnownName net n
-IsKnown net (Weighs w) = Unit {0}
-IsKnown net (Removes m n w) = IsKnownName net m × IsKnownName net n
-IsKnown net (Flows m n f) = IsKnownName net m × IsKnownName net n
-IsKnown net (Blocks names) = All (IsKnownName net) names
-IsKnown net Last = Unit {0}
+abbrev pub HasKnownNames : Network → ReportLine → Type 0
+HasKnownNames net (Ends m n) = IsKnownName net m × IsKnownName net n
+HasKnownNames net (Weighs w) = Unit {0}
+HasKnownNames net (Removes m n w) = IsKnownName net m × IsKnownName net n
+HasKnownNames net (Flows m n f) = IsKnownName net m × IsKnownName net n
+HasKnownNames net (Blocks names) = All (IsKnownName net) names
+HasKnownNames net Last = Unit {0}
 
 -- the one pair of names comes before the other, by their bytes
-abbrev pub is_before : List ℕ → List ℕ → List ℕ → List ℕ → Bool
-is_before k l m n = is_lt (slice_cmp nat_cmp k m) || (bytes_eq k m && is_lt (slice_cmp nat_cmp l n))
+abbrev pub pair_is_before : List ℕ → List ℕ → List ℕ → List ℕ → Bool
+pair_is_before k l m n = is_lt (slice_cmp nat_cmp k m) || (bytes_eq k m && is_lt (slice_cmp nat_cmp l n))
 
 -- the names come after those of the line before, if that is a remove line
 abbrev pub is_above_removed : Option ReportLine → List ℕ → List ℕ → Bool
 is_above_removed None m n = true
 is_above_removed (Some (Ends _ _)) m n = true
 is_above_removed (Some (Weighs _)) m n = true
-is_above_removed (Some (Removes k l _)) m n = is_before k l m n
+is_above_removed (Some (Removes k l _)) m n = pair_is_before k l m n
 is_above_removed (Some (Flows _ _ _)) m n = true
 is_above_removed (Some (Blocks _)) m n = true
 is_above_removed (Some Last) m n = true
@@ -98,7 +98,7 @@ is_above_flow None m n = true
 is_above_flow (Some (Ends _ _)) m n = true
 is_above_flow (Some (Weighs _)) m n = true
 is_above_flow (Some (Removes _ _ _)) m n = true
-is_above_flow (Some (Flows k l _)) m n = is_before k l m n
+is_above_flow (Some (Flows k l _)) m n = pair_is_before k l m n
 is_above_flow (Some (Blocks _)) m n = true
 is_above_flow (Some Last) m n = true
 
@@ -115,7 +115,7 @@ is_above last Last = true
 pub record IsGoodAfter (net : Network) (last : Option ReportLine) (line : ReportLine) : Type 0 where
   pub form : HasForm line
   pub follows : may_follow last line ≡ true
-  pub known : IsKnown net line
+  pub known : HasKnownNames net line
   pub above : is_above last line ≡ true
 
 -- the last of the lines, or the one that stood before them
@@ -149,8 +149,8 @@ pub record IsNextLine (last : Option ReportLine) (line : ReportLine) : Type 0 wh
   pub follows : may_follow last line ≡ true
 
 -- a line that is none that may follow, or a byte after the last line
-abbrev pub IsWrong : Option ReportLine → List ℕ → Type 0
-IsWrong last rest =
+abbrev pub IsWrongLine : Option ReportLine → List ℕ → Type 0
+IsWrongLine last rest =
     ((last ≡ Some Last) × (rest ≢ []))
     ⊎ ((last ≢ Some Last) × ((text : List ℕ) × BeginsWith rest text × ((line : ReportLine) → IsNextLine last line → report_line line ≢ text)))
 
@@ -160,7 +160,7 @@ pub record IsBadLine (net : Network) (bytes : List ℕ) (k : ℕ) : Type 0 where
   pub rest : List ℕ
   pub front : IsFront net bytes before rest
   pub count : length before ≡ k
-  pub wrong : IsWrong (last_of None before) rest
+  pub wrong : IsWrongLine (last_of None before) rest
 
 -- after good lines, a line that may follow them, with a name that the network lacks
 pub record IsUnknownName (net : Network) (bytes : List ℕ) (k : ℕ) : Type 0 where
@@ -171,7 +171,7 @@ pub record IsUnknownName (net : Network) (bytes : List ℕ) (k : ℕ) : Type 0 w
   pub line : ReportLine
   pub there : BeginsWith rest (report_line line)
   pub next : IsNextLine (last_of None before) line
-  pub unknown : IsKnown net line → ⊥
+  pub unknown : HasKnownNames net line → ⊥
 
 -- after good lines, a line of known names that may follow them and isn't above the one before it
 pub record IsOutOfOrder (net : Network) (bytes : List ℕ) (k : ℕ) : Type 0 where
@@ -182,7 +182,7 @@ pub record IsOutOfOrder (net : Network) (bytes : List ℕ) (k : ℕ) : Type 0 wh
   pub line : ReportLine
   pub there : BeginsWith rest (report_line line)
   pub next : IsNextLine (last_of None before) line
-  pub known : IsKnown net line
+  pub known : HasKnownNames net line
   pub below : is_above (last_of None before) line ≡ false
 
 -- good lines without the last, and then no whole line

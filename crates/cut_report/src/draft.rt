@@ -2,7 +2,7 @@
 ghost use Rattle.std.specs.Prelude.{◌≡◌, ◌+◌, ◌<◌, ◌^◌, None, Some, length};
 ghost use Rattle.cut_report.specs.Lines.{line_seen, words_of};
 ghost use Rattle.cut_report.specs.Reading.{outcome_of};
-ghost use Rattle.cut_report.specs.Drafts.{chain_of, finish_of, going_on, import_of, is_after, last_import, named_by, opened_by, part_of, shut_by, standing_of, step, text_step, Gives, GivesAt};
+ghost use Rattle.cut_report.specs.Drafts.{chain_of, finish_of, going_on, import_of, is_after, last_import, numbered_by, opened_by, claimed_part, shut_by, read_so_far_of, step, text_step, Gives, GivesAt};
 
 use crate::fault::ReportLineFault;
 use crate::line::{Line, line_in};
@@ -63,9 +63,9 @@ fn import_in(
 }
 
 /// The first line.
-#[tactic(auto, unfolding(crate::specs::Drafts::named_by))]
+#[tactic(auto, unfolding(crate::specs::Drafts::numbered_by))]
 fn with_ends(net: &Net, line: Line) -> Result<ReportDraft, ReportLineFault>
-    ensures { Gives standing_of result (named_by net.now (line_seen line.entry)) }
+    ensures { Gives read_so_far_of result (numbered_by net.now (line_seen line.entry)) }
 {
     let Line::Ends(from, to) = line else {
         return Err(ReportLineFault::BadLine);
@@ -98,7 +98,7 @@ fn with_second(
     to: u32,
     line: Line,
 ) -> Result<ReportDraft, ReportLineFault>
-    ensures { Gives standing_of result (opened_by net.now from to (line_seen line.entry)) }
+    ensures { Gives read_so_far_of result (opened_by net.now from to (line_seen line.entry)) }
 {
     match line {
         Line::Weighs(weight) => {
@@ -126,7 +126,7 @@ fn with_more(
     net: &Net,
     line: Line,
 ) -> Result<ReportDraft, ReportLineFault>
-    ensures { Gives standing_of result (going_on net.now (part_of from to cut) (line_seen line.entry)) }
+    ensures { Gives read_so_far_of result (going_on net.now (claimed_part from to cut) (line_seen line.entry)) }
 {
     match line {
         Line::Removes(importer, imported, weight) if cut.flow.is_empty() => {
@@ -150,7 +150,7 @@ fn with_more(
 /// The line after a chain of pins.
 #[tactic(auto, unfolding(crate::specs::Drafts::shut_by))]
 fn with_end(from: u32, to: u32, chain: Vec<u32>, line: Line) -> Result<ReportDraft, ReportLineFault>
-    ensures { Gives standing_of result (shut_by from to chain.items (line_seen line.entry)) }
+    ensures { Gives read_so_far_of result (shut_by from to chain.items (line_seen line.entry)) }
 {
     let Line::Last = line else {
         return Err(ReportLineFault::BadLine);
@@ -162,7 +162,7 @@ fn with_end(from: u32, to: u32, chain: Vec<u32>, line: Line) -> Result<ReportDra
 impl ReportDraft {
     #[tactic(auto, unfolding(crate::specs::Drafts::step))]
     fn with_line(self, alloc: Global, net: &Net, line: Line) -> Result<ReportDraft, ReportLineFault>
-        ensures { Gives standing_of result (step net.now (standing_of self) (line_seen line.entry)) }
+        ensures { Gives read_so_far_of result (step net.now (read_so_far_of self) (line_seen line.entry)) }
     {
         match self {
             ReportDraft::Start => with_ends(net, line),
@@ -181,7 +181,7 @@ impl ReportDraft {
         net: &Net,
         text: &[u8],
     ) -> Result<ReportDraft, ReportLineFault>
-        ensures { Gives standing_of result (text_step net.now (standing_of self) text.now) }
+        ensures { Gives read_so_far_of result (text_step net.now (read_so_far_of self) text.now) }
     {
         let line = line_in(text).ok_or(ReportLineFault::BadLine)?;
         self.with_line(alloc, net, line)
@@ -195,7 +195,7 @@ impl ReportDraft {
         number: u64,
         text: &[u8],
     ) -> Result<ReportDraft, ReportFault>
-        ensures { GivesAt number standing_of result (text_step net.now (standing_of self) text.now) }
+        ensures { GivesAt number read_so_far_of result (text_step net.now (read_so_far_of self) text.now) }
     {
         match self.with_text(alloc, net, text) {
             Ok(draft) => Ok(draft),
@@ -206,7 +206,7 @@ impl ReportDraft {
     /// The report, where all lines are read and nothing stands behind them.
     pub(crate) fn finish(self, before: u64, rest: &[u8]) -> Result<Report, ReportFault>
         requires { before + length rest.now < 2 ^ 64 }
-        ensures { outcome_of result ≡ Some (finish_of (standing_of self) before rest.now) }
+        ensures { outcome_of result ≡ Some (finish_of (read_so_far_of self) before rest.now) }
     {
         match self {
             ReportDraft::Ended(report) if rest.is_empty() => Ok(report),

@@ -2,7 +2,7 @@
 ghost use Rattle.std.specs.Prelude.{ℕ, ◌≡◌, ◌<◌, true, length, IfOk};
 ghost use Rattle.cut_residual.specs.Graphs.{IsAugmenting, is_seen};
 ghost use Rattle.cut_residual.specs.Searches.{IsSearchOf};
-ghost use Rattle.cut_residual.specs.Trees.{place_at};
+ghost use Rattle.cut_residual.specs.Trees.{visit_at};
 
 use crate::found::Visit;
 use crate::{ResidualArc, ResidualGraph, Searched};
@@ -11,8 +11,8 @@ use std::alloc::{AllocError, Global};
 /// The place of the node.
 fn place_of(places: &[Visit], node: u32) -> usize
     ensures within { 0 < result → result < length places.now }
-    ensures found { (p : ℕ) → p < length places.now → (place_at places.now p).node ≡ node →
-        (result < length places.now) × ((place_at places.now result).node ≡ node) }
+    ensures found { (p : ℕ) → p < length places.now → (visit_at places.now p).node ≡ node →
+        (result < length places.now) × ((visit_at places.now result).node ≡ node) }
 {
     for (p, place) in places.iter().enumerate() {
         if place.node == node {

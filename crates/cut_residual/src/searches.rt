@@ -2,7 +2,7 @@
 ghost use Rattle.std.specs.Prelude.{ℕ, [], ◌≡◌, ◌<◌, ◌+◌, ◌↔◌, IsTrue, IfOk, OnOk, length, vec_len};
 ghost use Rattle.cut_residual.specs.Graphs.{AreClosed, AreReached, HasArc, head};
 ghost use Rattle.cut_residual.specs.Searches.{IsSearchOf};
-ghost use Rattle.cut_residual.specs.Trees.{LeadsOn, Searching, place_at};
+ghost use Rattle.cut_residual.specs.Trees.{LeadsOn, Searching, visit_at};
 
 use crate::found::Visit;
 use crate::{ResidualArc, ResidualGraph, Searched};
@@ -29,7 +29,7 @@ fn visit(
     requires seen { vec_len seen.old ≡ graph.now.nodes }
     requires levels { vec_len levels.old ≡ graph.now.nodes }
     requires place { place < vec_len places.old }
-    requires node { (place_at places.old.items place).node < graph.now.nodes }
+    requires node { (visit_at places.old.items place).node < graph.now.nodes }
     ensures seen { OnOk result (vec_len seen.new ≡ graph.now.nodes) }
     ensures levels { OnOk result (vec_len levels.new ≡ graph.now.nodes) }
     ensures search { OnOk result ((start : ℕ) →

@@ -8,7 +8,7 @@ use Rattle.digraph.specs.declared.edge.Edge.{Edge}
 use Rattle.cut_net.specs.declared.priced.Priced.{Priced}
 use Rattle.cut_net.specs.Network.{Network, none_there}
 use Rattle.cut_net.specs.Cuts.{same_ends}
-use Rattle.cut_net.specs.Lines.{pair_of}
+use Rattle.cut_net.specs.Lines.{edge_of}
 use Rattle.cut_net.specs.WellFormed.{AreBetween, IsNetwork}
 use Rattle.cut_net.proofs.Ends.{same_from, same_true}
 use Rattle.cut_part.specs.Apart.{AreApart}
@@ -34,7 +34,7 @@ either_way net a b imports source sink start P forth back = elim start.way [
 ]
 
 same_length : (xs ys : List Priced) → ends_of xs ≡ ends_of ys → length xs ≡ length ys
-same_length xs ys e = sym (length-map xs pair_of) ∙ ap length e ∙ length-map ys pair_of
+same_length xs ys e = sym (length-map xs edge_of) ∙ ap length e ∙ length-map ys edge_of
 
 -- imports with the ends of others are apart as these are
 apart_by_ends : (xs ys : List Priced) → ends_of xs ≡ ends_of ys → AreApart ys → AreApart xs

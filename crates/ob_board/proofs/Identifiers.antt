@@ -15,7 +15,7 @@ use Rattle.ob_scan.proofs.NameTokens.{spelled_names}
 use Rattle.ob_scope.specs.Texts.{no_token, text_at, token_at}
 use Rattle.ob_scope.proofs.Names.{same_test}
 use Rattle.ob_targets.specs.declared.target.Reference.{Reference}
-use Rattle.ob_targets.specs.Refers.{identifiers, is_identifier, is_unresolved, number_of, unresolved}
+use Rattle.ob_targets.specs.Refers.{identifiers, is_identifier, is_unresolved, identifier_number, unresolved}
 use Rattle.digraph.proofs.Members.{first_or_later, from_filter, from_map, in_map, no_member}
 
 -- an identifier by its kind
@@ -24,17 +24,17 @@ ident_kind kinds.Ident e = refl
 ident_kind _ e = absurd (let f : false ≡ true = e in cc)
 
 -- the numbers of identifiers are those of tokens of their kind
-ident_from : (ts : List Token) (a k : ℕ) → Contains (filter_map number_of (enumerate_from a ts)) k → (j : ℕ) × (j < length ts) × (k ≡ a + j) × ((token_at ts j).kind ≡ kinds.Ident)
+ident_from : (ts : List Token) (a k : ℕ) → Contains (filter_map identifier_number (enumerate_from a ts)) k → (j : ℕ) × (j < length ts) × (k ≡ a + j) × ((token_at ts j).kind ≡ kinds.Ident)
 ident_from [] a k h = no_member k h
 ident_from (t ∷ ts) a k h = elim (cases_Bool (is_identifier t.kind)) [
   | inl is_one ↦
-      let g : Contains (a ∷ filter_map number_of (enumerate_from (a + 1) ts)) k = rw is_one at h in
-      elim (first_or_later a (filter_map number_of (enumerate_from (a + 1) ts)) k g) [
+      let g : Contains (a ∷ filter_map identifier_number (enumerate_from (a + 1) ts)) k = rw is_one at h in
+      elim (first_or_later a (filter_map identifier_number (enumerate_from (a + 1) ts)) k g) [
         | inl here ↦ (zero, omega arith, omega arith, ident_kind t.kind is_one)
         | inr later ↦ let r = ident_from ts (a + 1) k later in (suc r.0, omega arith, omega arith, r.3)
       ]
   | inr is_none ↦
-      let g : Contains (filter_map number_of (enumerate_from (a + 1) ts)) k = rw is_none at h in
+      let g : Contains (filter_map identifier_number (enumerate_from (a + 1) ts)) k = rw is_none at h in
       let r = ident_from ts (a + 1) k g in
       (suc r.0, omega arith, omega arith, r.3)
 ]

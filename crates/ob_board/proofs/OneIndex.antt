@@ -19,7 +19,7 @@ use Rattle.tree_board.specs.Reached.{names, seen_of, SeenFile}
 use Rattle.ob_board.specs.Entries.{AreEntriesOf, IsEntry, PlainEntry}
 use Rattle.ob_board.specs.Indexes.{AreEntries, IsIndex, IsIndexOf, IsMadeOf}
 use Rattle.ob_board.specs.Resolved.{AreResolved}
-use Rattle.ob_board.specs.Unresolved.{AreRows, AreUnresolved, IsRow, IsUnresolvedIn, IsUnresolvedOf, PlainUnresolved}
+use Rattle.ob_board.specs.Unresolved.{AreUnresolvedRows, AreUnresolved, IsRow, IsUnresolvedIn, IsUnresolvedOf, PlainUnresolved}
 use Rattle.ob_board.proofs.OneExternals.{one_externals}
 use Rattle.ob_board.proofs.OneTree.{one_reached, one_tree}
 
@@ -89,7 +89,7 @@ one_row path bytes tokens k row other a b =
     let columns : row.column ≡ other.column = position_column bytes at row.line row.column a.position ∙ sym (position_column bytes at other.line other.column b.position) in
     λ i. record { path = (a.path_is ∙ sym b.path_is) i; line = lines i; column = columns i; name = (a.name_is ∙ sym b.name_is) i }
 
-one_rows : (path bytes : List ℕ) (tokens : List Token) (ks : List ℕ) (rows others : List PlainUnresolved) → AreRows path bytes tokens ks rows → AreRows path bytes tokens ks others → rows ≡ others
+one_rows : (path bytes : List ℕ) (tokens : List Token) (ks : List ℕ) (rows others : List PlainUnresolved) → AreUnresolvedRows path bytes tokens ks rows → AreUnresolvedRows path bytes tokens ks others → rows ≡ others
 one_rows path bytes tokens [] [] [] a b = refl
 one_rows path bytes tokens [] [] (other ∷ others) a b = absurd b
 one_rows path bytes tokens [] (row ∷ rows) others a b = absurd a
@@ -101,7 +101,7 @@ one_rows path bytes tokens (k ∷ ks) (row ∷ rows) (other ∷ others) a b =
 one_part : (files : List SeenFile) (file : SeenFile) (rows others : List PlainUnresolved) → IsUnresolvedIn files file rows → IsUnresolvedIn files file others → rows ≡ others
 one_part files file rows others a b =
     let refs : a.refs ≡ b.refs = same_references files file a.refs b.refs a.resolved b.resolved in
-    let here : AreRows file.path file.bytes file.tokens (unresolved a.refs) others = subst (λ (rs : List Reference). AreRows file.path file.bytes file.tokens (unresolved rs) others) (sym refs) b.are_rows in
+    let here : AreUnresolvedRows file.path file.bytes file.tokens (unresolved a.refs) others = subst (λ (rs : List Reference). AreUnresolvedRows file.path file.bytes file.tokens (unresolved rs) others) (sym refs) b.are_rows in
     one_rows file.path file.bytes file.tokens (unresolved a.refs) rows others a.are_rows here
 
 one_unresolved_of : (files : List SeenFile) (rows others : List PlainUnresolved) → IsUnresolvedOf files rows → IsUnresolvedOf files others → rows ≡ others

@@ -9,8 +9,8 @@ use Rattle.tree_board.specs.Reached.{seen_of, SeenFile}
 use Rattle.ob_board.specs.Entries.{AreEntriesOf, PlainEntry}
 
 -- made by this project, version 1, from files in UTF-8
-abbrev pub metadata_of : List ℕ → PlainMetadata
-metadata_of root = record {
+abbrev pub own_metadata : List ℕ → PlainMetadata
+own_metadata root = record {
   version = pos 0;
   tool_info = Some (record { name = codes "oscip"; version = codes "1"; arguments = [] });
   project_root = root;
@@ -19,7 +19,7 @@ metadata_of root = record {
 
 -- what is made of these entries: their documents in order, and the symbols outside of the tree by their texts
 pub record IsMadeOf (entries : List PlainEntry) (root : List ℕ) (index : PlainIndex) : Type 0 where
-  pub metadata : index.metadata ≡ Some (metadata_of root)
+  pub metadata : index.metadata ≡ Some (own_metadata root)
   pub documents : index.documents ≡ map (λ (e : PlainEntry). e.document) entries
   pub externals : AreExternals (flat_map (λ (e : PlainEntry). e.externals) entries) index.external_symbols
 

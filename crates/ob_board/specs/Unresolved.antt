@@ -30,17 +30,17 @@ pub record IsRow (path bytes : List ℕ) (tokens : List Token) (k : ℕ) (row : 
   pub name_is : row.name ≡ text_at bytes tokens k
 
 -- a row for each of these tokens, in their order
-abbrev pub AreRows : List ℕ → List ℕ → List Token → List ℕ → List PlainUnresolved → Type 0
-AreRows path bytes tokens [] [] = Unit {0}
-AreRows path bytes tokens [] (row ∷ rows) = ⊥
-AreRows path bytes tokens (k ∷ ks) [] = ⊥
-AreRows path bytes tokens (k ∷ ks) (row ∷ rows) = IsRow path bytes tokens k row × AreRows path bytes tokens ks rows
+abbrev pub AreUnresolvedRows : List ℕ → List ℕ → List Token → List ℕ → List PlainUnresolved → Type 0
+AreUnresolvedRows path bytes tokens [] [] = Unit {0}
+AreUnresolvedRows path bytes tokens [] (row ∷ rows) = ⊥
+AreUnresolvedRows path bytes tokens (k ∷ ks) [] = ⊥
+AreUnresolvedRows path bytes tokens (k ∷ ks) (row ∷ rows) = IsRow path bytes tokens k row × AreUnresolvedRows path bytes tokens ks rows
 
 -- the rows of a file of the tree: of its identifiers that stand for nothing, and aren't predeclared, in the order of the file
 pub record IsUnresolvedIn (files : List SeenFile) (file : SeenFile) (rows : List PlainUnresolved) : Type 0 where
   pub refs : List Reference
   pub resolved : AreResolved files file refs
-  pub are_rows : AreRows file.path file.bytes file.tokens (unresolved refs) rows
+  pub are_rows : AreUnresolvedRows file.path file.bytes file.tokens (unresolved refs) rows
 
 -- those of all files, in their order
 pub record IsUnresolvedOf (files : List SeenFile) (rows : List PlainUnresolved) : Type 0 where

@@ -11,7 +11,7 @@ ghost use Rattle.scip_index.specs.Plain.{plain_document, plain_index, plain_meta
 ghost use Rattle.scip_symbol.specs.Outcomes.{is_wrong_part};
 ghost use Rattle.tree_board.specs.Seen.{all_seen, AreSeen};
 ghost use Rattle.ob_board.specs.Entries.{interfaces_of, plain_entry, AreEntriesOf};
-ghost use Rattle.ob_board.specs.Indexes.{metadata_of, AreEntries, IsIndex, IsMadeOf};
+ghost use Rattle.ob_board.specs.Indexes.{own_metadata, AreEntries, IsIndex, IsMadeOf};
 
 use crate::Entry;
 use crate::made::{Made, Making};
@@ -125,7 +125,7 @@ pub fn entries<G: BoardGate + Sync, R: Threads + Wait + Sync>(
 
 /// What an index says of itself.
 fn metadata(alloc: Global, root: &str) -> Result<Metadata, AllocError>
-    ensures { IfOk result (λ m. plain_metadata m ≡ metadata_of root.now) }
+    ensures { IfOk result (λ m. plain_metadata m ≡ own_metadata root.now) }
 {
     let tool = ToolInfo {
         name: String::from_str(alloc, "oscip")?,

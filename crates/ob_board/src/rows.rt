@@ -5,7 +5,7 @@ ghost use Rattle.std.specs.String.{string_bytes};
 ghost use Rattle.ob_scan.specs.Position.{line_starts};
 ghost use Rattle.ob_scan.specs.Spelling.{AreInText};
 ghost use Rattle.ob_scope.specs.Texts.{text_at, token_at};
-ghost use Rattle.ob_board.specs.Unresolved.{plain_unresolved, AreRows, IsRow};
+ghost use Rattle.ob_board.specs.Unresolved.{plain_unresolved, AreUnresolvedRows, IsRow};
 
 use crate::Unresolved;
 use ob_scan::{Lines, Token, lines};
@@ -62,7 +62,7 @@ pub(crate) fn rows_of(
 ) -> Result<Vec<Unresolved>, AllocError>
     requires in_text { AreInText bytes.now tokens.now }
     requires texts { All (λ k. IsUtf8 (text_at bytes.now tokens.now k)) numbers.now }
-    ensures { IfOk result (λ rows. AreRows path.now bytes.now tokens.now numbers.now (map plain_unresolved rows.items)) }
+    ensures { IfOk result (λ rows. AreUnresolvedRows path.now bytes.now tokens.now numbers.now (map plain_unresolved rows.items)) }
 {
     let lines = lines(alloc, bytes)?;
     let mut rows = Vec::new(alloc);

@@ -11,7 +11,7 @@ use Rattle.ob_tree.specs.declared.declaration.ProcDecl.{ProcDecl, ProcDecl-F, fo
 use Rattle.ob_decls.specs.declared.rows.Sort.TheVariants as sorts
 use Rattle.ob_decls.specs.declared.draft.Context.{Context}
 use Rattle.ob_decls.specs.Drafts.{Stage, after, passed}
-use Rattle.ob_decls.specs.Parts.{Piece, token, both, tells, if_there, each, declaring, opening}
+use Rattle.ob_decls.specs.Parts.{Piece, token, both, tells, if_there, each, declaring, opens_block}
 use Rattle.ob_decls.specs.Expressions.{each_after, expr_piece}
 use Rattle.ob_decls.specs.Statements.{block_piece}
 use Rattle.ob_decls.specs.Types.{declared_row, identdef_piece, parameters_piece, type_piece, var_piece}
@@ -49,7 +49,7 @@ pub procedure_inner_out : (p : ProcDecl) → procedure_inner p ≡
 unfolding procedure_inner
 procedure_inner_out p = refl
 
-pub procedure_out : (p : ProcDecl) → procedure_piece p ≡ declaring sorts.Procedure (opening (procedure_inner p))
+pub procedure_out : (p : ProcDecl) → procedure_piece p ≡ declaring sorts.Procedure (opens_block (procedure_inner p))
 unfolding declarations_piece procedure_piece procedure_inner
 procedure_out p = fold_out-ProcDecl Piece Piece declarations_step procedure_step p
 
@@ -83,7 +83,7 @@ pub ruleset sections_made = (steps, after_declaring, added_number, const_out, ty
 pub ruleset declarations_made = (steps, after_declaring, added_number, declarations_out, procedure_inner_out, procedure_out)
 
 abbrev pub procedure_shown : ProcDecl-F Declarations ProcDecl → Piece
-procedure_shown p = declaring sorts.Procedure (opening (
+procedure_shown p = declaring sorts.Procedure (opens_block (
     both token (both (identdef_piece p.name) (both (if_there parameters_piece p.parameters) (both token
     (both (declarations_piece p.declarations) (both (if_there (λ b. both token (block_piece b.value)) p.body)
     (both (if_there (λ e. both token (expr_piece e.value)) p.returned) (both token (tells procedure_end token))))))))))

@@ -10,7 +10,7 @@ use Rattle.ob_tree.specs.declared.token.Leaf.{Leaf}
 use Rattle.ob_tree.specs.declared.token.Leaf.TheVariants as leafs
 use Rattle.ob_tree.specs.Declaring.{module_outline}
 use Rattle.ob_tree.specs.Derives.{Derives, declared_in, used_in, spelling}
-use Rattle.ob_tree.specs.Leaves.{leaf_of, leaves}
+use Rattle.ob_tree.specs.Leaves.{leaf_of, leaves_from}
 use Rattle.ob_tree.specs.Marks.{Out, Begins, Ends, Identifier, Value, Word, construct, tokens_of}
 use Rattle.ob_decls.specs.declared.rows.Declared.{Declared}
 use Rattle.ob_decls.specs.declared.rows.Used.{Used}
@@ -25,20 +25,20 @@ record IsStep (k : ℕ) (l : Leaf) (ls : List Leaf) : Type 0 where
   kind : Kind
   rest : List Kind
   head : leaf_of k kind ≡ l
-  tail : leaves (suc k) rest ≡ ls
+  tail : leaves_from (suc k) rest ≡ ls
 
-step : (k : ℕ) (ks : List Kind) (l : Leaf) (ls : List Leaf) → leaves k ks ≡ l ∷ ls → IsStep k l ls
+step : (k : ℕ) (ks : List Kind) (l : Leaf) (ls : List Leaf) → leaves_from k ks ≡ l ∷ ls → IsStep k l ls
 step k [] l ls e = absurd cc
 step k (x ∷ ks) l ls e =
     let n : suc k ≡ k + 1 = omega arith in
-    record { kind = x; rest = ks; head = cc; tail = ap (λ (j : ℕ). leaves j ks) n ∙ cc }
+    record { kind = x; rest = ks; head = cc; tail = ap (λ (j : ℕ). leaves_from j ks) n ∙ cc }
 
 -- an identifier has its token's number
 number_of : (k n : ℕ) (x : Kind) → leaf_of k x ≡ leafs.Name n → k ≡ n
 number_of k n kinds.Ident e = cc
 number_of k n x e = absurd cc
 
-declares_derived : (k : ℕ) (ks : List Kind) (o : Out) → leaves k ks ≡ tokens_of o → declares_at k o ≡ declared_in o
+declares_derived : (k : ℕ) (ks : List Kind) (o : Out) → leaves_from k ks ≡ tokens_of o → declares_at k o ≡ declared_in o
 declares_derived k ks [] e = refl
 declares_derived k ks (Begins c m ∷ ms) e = declares_derived k ks ms e
 declares_derived k ks (Ends c ∷ ms) e = declares_derived k ks ms e
@@ -57,7 +57,7 @@ declares_derived k ks (Identifier (Repeats r) m ∷ ms) e = let s = step k ks (l
 declares_derived k ks (Value l m ∷ ms) e = let s = step k ks (leafs.Value l m) (tokens_of ms) e in declares_derived (suc k) s.rest ms s.tail
 declares_derived k ks (Word w ∷ ms) e = let s = step k ks (leafs.Word w) (tokens_of ms) e in declares_derived (suc k) s.rest ms s.tail
 
-uses_derived : (k : ℕ) (ks : List Kind) (o : Out) → leaves k ks ≡ tokens_of o → uses_at k o ≡ used_in o
+uses_derived : (k : ℕ) (ks : List Kind) (o : Out) → leaves_from k ks ≡ tokens_of o → uses_at k o ≡ used_in o
 uses_derived k ks [] e = refl
 uses_derived k ks (Begins c m ∷ ms) e = uses_derived k ks ms e
 uses_derived k ks (Ends c ∷ ms) e = uses_derived k ks ms e
@@ -92,32 +92,32 @@ ident_of : (k n : ℕ) (x : Kind) → leaf_of k x ≡ leafs.Name n → x ≡ kin
 ident_of k n kinds.Ident e = refl
 ident_of k n x e = absurd cc
 
-here : (k : ℕ) (ks : List Kind) (m : ℕ) (ls : List Leaf) (n : ℕ) → leaves k ks ≡ leafs.Name m ∷ ls → k ≡ n → IsIdentAt k ks n
+here : (k : ℕ) (ks : List Kind) (m : ℕ) (ls : List Leaf) (n : ℕ) → leaves_from k ks ≡ leafs.Name m ∷ ls → k ≡ n → IsIdentAt k ks n
 here k [] m ls n e s = absurd cc
 here k (x ∷ ks) m ls n e s =
     let head : leaf_of k x ≡ leafs.Name m = cc in
     record { place = zero; is = omega (arith, s); there = ap Some (ident_of k m x head) }
 
-behind : (k : ℕ) (ks : List Kind) (l : Leaf) (ls : List Leaf) (n : ℕ) → leaves k ks ≡ l ∷ ls → ((rest : List Kind) → leaves (suc k) rest ≡ ls → IsIdentAt (suc k) rest n) → IsIdentAt k ks n
+behind : (k : ℕ) (ks : List Kind) (l : Leaf) (ls : List Leaf) (n : ℕ) → leaves_from k ks ≡ l ∷ ls → ((rest : List Kind) → leaves_from (suc k) rest ≡ ls → IsIdentAt (suc k) rest n) → IsIdentAt k ks n
 behind k [] l ls n e f = absurd cc
 behind k (x ∷ ks) l ls n e f =
-    let t : leaves (k + 1) ks ≡ ls = cc in
+    let t : leaves_from (k + 1) ks ≡ ls = cc in
     let s : suc k ≡ k + 1 = omega arith in
-    let h : IsIdentAt (suc k) ks n = f ks (ap (λ (j : ℕ). leaves j ks) s ∙ t) in
+    let h : IsIdentAt (suc k) ks n = f ks (ap (λ (j : ℕ). leaves_from j ks) s ∙ t) in
     record { place = suc h.place; is = (let e = h.is in omega arith); there = h.there }
 
 first_or_later : (y : ℕ) (xs : List ℕ) (x : ℕ) → Contains (y ∷ xs) x → (y ≡ x) ⊎ Contains xs x
 first_or_later y xs x (zero, l, e) = inl e
 first_or_later y xs x (suc k, l, e) = inr (k, omega arith, e)
 
-found : (k : ℕ) (ks : List Kind) (m : ℕ) (ls : List Leaf) (ns : List ℕ) (n : ℕ) → leaves k ks ≡ leafs.Name m ∷ ls → Contains (k ∷ ns) n →
-    ((rest : List Kind) → leaves (suc k) rest ≡ ls → Contains ns n → IsIdentAt (suc k) rest n) → IsIdentAt k ks n
+found : (k : ℕ) (ks : List Kind) (m : ℕ) (ls : List Leaf) (ns : List ℕ) (n : ℕ) → leaves_from k ks ≡ leafs.Name m ∷ ls → Contains (k ∷ ns) n →
+    ((rest : List Kind) → leaves_from (suc k) rest ≡ ls → Contains ns n → IsIdentAt (suc k) rest n) → IsIdentAt k ks n
 found k ks m ls ns n e h f = elim (first_or_later k ns n h) [
   | inl same ↦ here k ks m ls n e same
   | inr later ↦ behind k ks (leafs.Name m) ls n e (λ rest t. f rest t later)
 ]
 
-declares_idents : (k : ℕ) (ks : List Kind) (o : Out) (n : ℕ) → leaves k ks ≡ tokens_of o → Contains (declares_at k o) n → IsIdentAt k ks n
+declares_idents : (k : ℕ) (ks : List Kind) (o : Out) (n : ℕ) → leaves_from k ks ≡ tokens_of o → Contains (declares_at k o) n → IsIdentAt k ks n
 declares_idents k ks [] n e (i, l, h) = absurd (omega arith)
 declares_idents k ks (Begins c m ∷ ms) n e h = declares_idents k ks ms n e h
 declares_idents k ks (Ends c ∷ ms) n e h = declares_idents k ks ms n e h
@@ -132,7 +132,7 @@ declares_idents k ks (Identifier (Repeats r) m ∷ ms) n e h = behind k ks (leaf
 declares_idents k ks (Value l m ∷ ms) n e h = behind k ks (leafs.Value l m) (tokens_of ms) n e (λ rest t. declares_idents (suc k) rest ms n t h)
 declares_idents k ks (Word w ∷ ms) n e h = behind k ks (leafs.Word w) (tokens_of ms) n e (λ rest t. declares_idents (suc k) rest ms n t h)
 
-uses_idents : (k : ℕ) (ks : List Kind) (o : Out) (n : ℕ) → leaves k ks ≡ tokens_of o → Contains (uses_at k o) n → IsIdentAt k ks n
+uses_idents : (k : ℕ) (ks : List Kind) (o : Out) (n : ℕ) → leaves_from k ks ≡ tokens_of o → Contains (uses_at k o) n → IsIdentAt k ks n
 uses_idents k ks [] n e (i, l, h) = absurd (omega arith)
 uses_idents k ks (Begins c m ∷ ms) n e h = uses_idents k ks ms n e h
 uses_idents k ks (Ends c ∷ ms) n e h = uses_idents k ks ms n e h
@@ -170,7 +170,7 @@ name_spelled : (m : Module) → (l : Leaf) × (ls : List Leaf) × (spelling m �
 unfolding module_outline construct
 name_spelled m = (_, _, refl)
 
-second : (ks : List Kind) (l : Leaf) (n : ℕ) (ls : List Leaf) → leaves 0 ks ≡ l ∷ leafs.Name n ∷ ls → (n ≡ own_name) × (slice_get ks own_name ≡ Some kinds.Ident)
+second : (ks : List Kind) (l : Leaf) (n : ℕ) (ls : List Leaf) → leaves_from 0 ks ≡ l ∷ leafs.Name n ∷ ls → (n ≡ own_name) × (slice_get ks own_name ≡ Some kinds.Ident)
 second [] l n ls e = absurd cc
 second (x ∷ []) l n ls e = absurd cc
 second (x ∷ y ∷ ks) l n ls e = let s : leaf_of 1 y ≡ leafs.Name n = cc in (sym (number_of 1 n y s), ap Some (ident_of 1 n y s))
@@ -180,16 +180,16 @@ own_ident ks m d = let (l, ls, e) = name_spelled m in second ks l m.name ls (d �
 
 -- ---- each identifier
 
-tail_of : (k : ℕ) (x : Kind) (ks : List Kind) (l : Leaf) (ls : List Leaf) → leaves k (x ∷ ks) ≡ l ∷ ls → leaves (suc k) ks ≡ ls
-tail_of k x ks l ls e = let t : leaves (k + 1) ks ≡ ls = cc in let s : suc k ≡ k + 1 = omega arith in ap (λ (j : ℕ). leaves j ks) s ∙ t
+tail_of : (k : ℕ) (x : Kind) (ks : List Kind) (l : Leaf) (ls : List Leaf) → leaves_from k (x ∷ ks) ≡ l ∷ ls → leaves_from (suc k) ks ≡ ls
+tail_of k x ks l ls e = let t : leaves_from (k + 1) ks ≡ ls = cc in let s : suc k ≡ k + 1 = omega arith in ap (λ (j : ℕ). leaves_from j ks) s ∙ t
 
-no_value : (k : ℕ) (x : Kind) (ks : List Kind) (l : Literal) (n : ℕ) (ls : List Leaf) → leaves k (x ∷ ks) ≡ leafs.Value l n ∷ ls → Some x ≡ Some kinds.Ident → ⊥
+no_value : (k : ℕ) (x : Kind) (ks : List Kind) (l : Literal) (n : ℕ) (ls : List Leaf) → leaves_from k (x ∷ ks) ≡ leafs.Value l n ∷ ls → Some x ≡ Some kinds.Ident → ⊥
 no_value k x ks l n ls e g =
     let h : leaf_of k x ≡ leafs.Value l n = cc in
     let i : x ≡ kinds.Ident = cc in
     let j : leafs.Name k ≡ leafs.Value l n = subst (λ (y : Kind). leaf_of k y ≡ leafs.Value l n) i h in cc
 
-no_word : (k : ℕ) (x : Kind) (ks : List Kind) (w : Kind) (ls : List Leaf) → leaves k (x ∷ ks) ≡ leafs.Word w ∷ ls → Some x ≡ Some kinds.Ident → ⊥
+no_word : (k : ℕ) (x : Kind) (ks : List Kind) (w : Kind) (ls : List Leaf) → leaves_from k (x ∷ ks) ≡ leafs.Word w ∷ ls → Some x ≡ Some kinds.Ident → ⊥
 no_word k x ks w ls e g =
     let h : leaf_of k x ≡ leafs.Word w = cc in
     let i : x ≡ kinds.Ident = cc in
@@ -200,7 +200,7 @@ module _ (P : ℕ → Type 0) where
   moved_on k i h = subst P (omega arith) h
 
   -- what holds of each place of an identifier holds of each token that is one
-  at_each : (o : Out) (k : ℕ) (ks : List Kind) (i : ℕ) → leaves k ks ≡ tokens_of o → AtNames P k o → slice_get ks i ≡ Some kinds.Ident → P (k + i)
+  at_each : (o : Out) (k : ℕ) (ks : List Kind) (i : ℕ) → leaves_from k ks ≡ tokens_of o → AtNames P k o → slice_get ks i ≡ Some kinds.Ident → P (k + i)
   unfolding AtNames
   at_each [] k [] i e a g = absurd cc
   at_each [] k (x ∷ ks) i e a g = absurd cc

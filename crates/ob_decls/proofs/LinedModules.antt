@@ -11,7 +11,7 @@ use Rattle.ob_tree.specs.declared.declaration.ProcDecl.{ProcDecl, ProcDecl-F, ro
 use Rattle.ob_tree.proofs.Closed.{With}
 use Rattle.ob_decls.specs.declared.rows.Sort.TheVariants as sorts
 use Rattle.ob_decls.specs.declared.draft.Context.{Context}
-use Rattle.ob_decls.specs.Parts.{Piece, Rows, token, both, tells, declaring, opening, in_block}
+use Rattle.ob_decls.specs.Parts.{Piece, Rows, token, both, tells, declaring, opens_block, in_block}
 use Rattle.ob_decls.specs.Parts.{if_there as there, each as pieces}
 use Rattle.ob_decls.specs.Expressions.{expr_piece}
 use Rattle.ob_decls.specs.Statements.{block_piece}
@@ -93,7 +93,7 @@ module _ {X : Type 0} (K : Kind X) where
       (o-map K (λ p. both (procedure_piece p) token) _ y.procedures.items (λ p. o-both K p.1 (o-token K)))))
 
   abbrev procedure_told : ProcDecl-F Declarations ProcDecl → Piece
-  procedure_told p = declaring sorts.Procedure (opening (
+  procedure_told p = declaring sorts.Procedure (opens_block (
       both token (both (identdef_piece p.name) (both (there parameters_piece p.parameters) (both token
       (both (declarations_piece p.declarations) (both (there (λ b. both token (block_piece b.value)) p.body)
       (both (there (λ e. both token (expr_piece e.value)) p.returned) (both token (tells procedure_end token))))))))))

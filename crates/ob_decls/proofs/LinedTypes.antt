@@ -17,7 +17,7 @@ use Rattle.ob_tree.specs.declared.declaration.ParameterSection.{ParameterSection
 use Rattle.ob_decls.specs.declared.rows.Sort.TheVariants as sorts
 use Rattle.ob_decls.specs.declared.rows.Part.TheVariants as parts
 use Rattle.ob_decls.specs.declared.rows.Part.{Part as PartRow}
-use Rattle.ob_decls.specs.Parts.{Piece, token, both, tells, within, if_so, declaring, opening, in_block}
+use Rattle.ob_decls.specs.Parts.{Piece, token, both, tells, within, if_so, declaring, opens_block, in_block}
 use Rattle.ob_decls.specs.Parts.{if_there as there}
 use Rattle.ob_decls.specs.Expressions.{each_after, expr_piece}
 use Rattle.ob_decls.specs.Statements.{qualident_piece}
@@ -128,7 +128,7 @@ module _ {X : Type 0} (K : Kind X) where
   unfolding HasRecord
   record_type p f = o-headed K (h-before K _ f.1) (λ c k. K.holds k _ _ refl refl)
 
-  block_type : {p : Piece} → Later K p → Ordered K (tells (part_here parts.Procedure) (opening p))
+  block_type : {p : Piece} → Later K p → Ordered K (tells (part_here parts.Procedure) (opens_block p))
   block_type f = o-headed K (h-before K _ (h-tells K _ (l-within K in_block f))) (λ c k. K.opens k _ _ refl refl)
 
   type_held : (y : WithTypeForm) → Ordered K (told.type_shown (type_of y))

@@ -10,7 +10,7 @@ use Rattle.ob_tree.specs.declared.expression.Literal.{Literal}
 use Rattle.ob_tree.specs.declared.name.OneOrMore.{OneOrMore}
 use Rattle.ob_tree.specs.declared.role.Role.{Role}
 use Rattle.ob_tree.specs.declared.role.Role.TheVariants.{Declares, Aliases, Imports, Uses, Completes, Selects, Names, Repeats}
-use Rattle.ob_tree.specs.Marks.{Out, Begins, Ends, Identifier, Value, Word, construct, word, completed, imported, listed}
+use Rattle.ob_tree.specs.Marks.{Out, Begins, Ends, Identifier, Value, Word, construct, word, completed, imported, separated}
 use Rattle.ob_tree.specs.Marks.{if_there as outline_there, if_so as outline_so, each as outline_each}
 use Rattle.ob_decls.specs.declared.rows.Declared.{Declared}
 use Rattle.ob_decls.specs.declared.rows.End.{End}
@@ -24,7 +24,7 @@ use Rattle.ob_decls.specs.Declaring.{named_by, outermost}
 use Rattle.ob_decls.specs.Expressions.{Selected, behind_dot, each_after, selector_rows, used}
 use Rattle.ob_decls.specs.Naming.{IsNamed}
 use Rattle.ob_decls.specs.Naming as names
-use Rattle.ob_decls.specs.Parts.{Piece, Rows, no_rows, joined, nothing, token, both, tells, within, if_there, if_so, each, declaring, opening, one_declarer, one_end, one_import, one_used, these_selectors, declarer, declaring_at}
+use Rattle.ob_decls.specs.Parts.{Piece, Rows, no_rows, joined, nothing, token, both, tells, within, if_there, if_so, each, declaring, opens_block, one_declarer, one_end, one_import, one_used, these_selectors, declarer, declaring_at}
 use Rattle.ob_decls.specs.Types.{declared_row}
 use Rattle.ob_decls.proofs.Mirrored.{IsDeclaring, Mirrors, aliases_it, declared_numbers, m-both, m-declared, m-declaring, m-first_declares, m-first_uses, m-held, m-name, m-nothing, m-tells, m-use, m-value, m-within, m-word, used_numbers, width_of}
 
@@ -172,8 +172,8 @@ n-declaring sort {p} {o} f = record {
       at_among (p.rows (declaring_at c k) k) (joined own (p.rows (declaring_at c k) k)) k o (among_second own (p.rows (declaring_at c k) k)) (f.has_row (declaring_at c k) k);
 }
 
-pub n-opening : {p : Piece} {o : Out} → Named p o → Named (opening p) o
-n-opening f = n-tells _ (λ c k. refl) (λ c k. refl) (n-within _ f)
+pub n-opens_block : {p : Piece} {o : Out} → Named p o → Named (opens_block p) o
+n-opens_block f = n-tells _ (λ c k. refl) (λ c k. refl) (n-within _ f)
 
 pub n-there : {X : Type 0} (f : X → Piece) (g : X → Out) (o : Option X) → ((x : X) → Named (f x) (g x)) → Named (if_there f o) (outline_there g o)
 n-there f g None w = n-nothing
@@ -191,9 +191,9 @@ pub n-map : {X Y : Type 0} (f : Y → Piece) (g : Y → Out) (h : X → Y) (xs :
 n-map f g h [] w = n-nothing
 n-map f g h (x ∷ xs) w = n-both (w x) (n-map f g h xs w)
 
-pub n-listed : {X : Type 0} (k : Kind) (f : X → Piece) (g : X → Out) (l : OneOrMore X) → ((x : X) → Named (f x) (g x)) →
-    Named (both (f l.first) (each_after f l.rest.items)) (listed k g l)
-n-listed k f g l w = n-both (w l.first) (n-each (λ x. both token (f x)) (λ x. word k ++ g x) l.rest.items (λ x. n-both (n-word k) (w x)))
+pub n-separated : {X : Type 0} (k : Kind) (f : X → Piece) (g : X → Out) (l : OneOrMore X) → ((x : X) → Named (f x) (g x)) →
+    Named (both (f l.first) (each_after f l.rest.items)) (separated k g l)
+n-separated k f g l w = n-both (w l.first) (n-each (λ x. both token (f x)) (λ x. word k ++ g x) l.rest.items (λ x. n-both (n-word k) (w x)))
 
 pub named_as : {p q : Piece} {a b : Out} → p ≡ q → a ≡ b → Named q b → Named p a
 named_as {p} {q} {a} {b} e f m = subst (λ (x : Piece). Named x a) (sym e) (subst (λ (x : Out). Named q x) (sym f) m)

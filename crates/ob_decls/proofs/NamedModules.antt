@@ -12,7 +12,7 @@ use Rattle.ob_tree.specs.declared.declaration.Declarations.{Declarations, Declar
 use Rattle.ob_tree.specs.declared.declaration.ProcDecl.{ProcDecl, ProcDecl-F, roll-ProcDecl, out-roll-ProcDecl, map-ProcDecl}
 use Rattle.ob_tree.specs.Constructs as constructs
 use Rattle.ob_tree.specs.declared.role.Role.TheVariants.{Names}
-use Rattle.ob_tree.specs.Marks.{Out, construct, if_there, word, repeated, listed}
+use Rattle.ob_tree.specs.Marks.{Out, construct, if_there, word, repeated, separated}
 use Rattle.ob_tree.specs.Expressions.{expr_outline}
 use Rattle.ob_tree.specs.Statements.{block_outline}
 use Rattle.ob_tree.specs.Types.{parameters_outline}
@@ -20,7 +20,7 @@ use Rattle.ob_tree.specs.Declaring.{const_outline, type_decl_outline, variable_o
 use Rattle.ob_tree.proofs.DeclarationLayers.{declarations_shown, procedure_shown, declarations_out, procedure_out}
 use Rattle.ob_tree.proofs.Closed.{With}
 use Rattle.ob_decls.specs.declared.rows.Sort.TheVariants as sorts
-use Rattle.ob_decls.specs.Parts.{Piece, token, both, tells, declaring, opening}
+use Rattle.ob_decls.specs.Parts.{Piece, token, both, tells, declaring, opens_block}
 use Rattle.ob_decls.specs.Parts.{if_there as there, each as pieces}
 use Rattle.ob_decls.specs.Expressions.{expr_piece}
 use Rattle.ob_decls.specs.Statements.{block_piece}
@@ -30,7 +30,7 @@ use Rattle.ob_decls.specs.Declaring.{part as told_part}
 use Rattle.ob_decls.proofs.DeclarationLayers as told
 use Rattle.ob_decls.specs.Naming.{IsNamed}
 use Rattle.ob_decls.proofs.Mirrored.{Mirrors, m-both, m-held, m-name, m-word}
-use Rattle.ob_decls.proofs.Named.{AtNames, Named, named_module, named_as, n-word, n-ends, n-both, n-three, n-item, n-held, n-declaring, n-opening, n-there, n-each, n-map}
+use Rattle.ob_decls.proofs.Named.{AtNames, Named, named_module, named_as, n-word, n-ends, n-both, n-three, n-item, n-held, n-declaring, n-opens_block, n-there, n-each, n-map}
 use Rattle.ob_decls.proofs.NamedExpressions.{n-expr}
 use Rattle.ob_decls.proofs.NamedStatements.{n-block}
 use Rattle.ob_decls.proofs.NamedTypes.{n-identdef, n-parameters, n-type, n-var}
@@ -92,13 +92,13 @@ declarations_held y =
     (n-map (λ p. both (procedure_piece p) token) (λ p. procedure_outline p ++ word kinds.Semicolon) _ y.procedures.items (λ p. n-both p.1 (n-word kinds.Semicolon)))))
 
 abbrev procedure_told : ProcDecl-F Declarations ProcDecl → Piece
-procedure_told p = declaring sorts.Procedure (opening (
+procedure_told p = declaring sorts.Procedure (opens_block (
     both token (both (identdef_piece p.name) (both (there parameters_piece p.parameters) (both token
     (both (declarations_piece p.declarations) (both (there (λ b. both token (block_piece b.value)) p.body)
     (both (there (λ e. both token (expr_piece e.value)) p.returned) (both token (tells procedure_end token))))))))))
 
 procedure_held : (y : WithProcDecl) → Named (procedure_told (procedure_of y)) (procedure_shown (procedure_of y))
-procedure_held y = n-declaring sorts.Procedure (n-opening (
+procedure_held y = n-declaring sorts.Procedure (n-opens_block (
     n-both (n-word kinds.Procedure) (n-both (n-identdef y.name) (n-both (n-there parameters_piece parameters_outline y.parameters n-parameters) (n-both (n-word kinds.Semicolon)
     (n-both y.declarations.1 (n-both (n-there (λ b. both token (block_piece b.value)) (λ b. word kinds.Begin ++ block_outline b.value) y.body (λ b. n-both (n-word kinds.Begin) (n-block b.value)))
     (n-both (n-there (λ e. both token (expr_piece e.value)) (λ e. word kinds.Return ++ expr_outline e.value) y.returned (λ e. n-both (n-word kinds.Return) (n-expr e.value)))
@@ -123,7 +123,7 @@ procedure_step x y is =
 n-declarations : (d : Declarations) → Named (declarations_piece d) (declarations_outline d)
 n-declarations = ind-Declarations HeldDeclarations HeldProcDecl declarations_step procedure_step
 
-n-imports : (l : OneOrMore ImportItem) → Named (imports_piece l) (word kinds.Import ++ (listed kinds.Comma import_outline l ++ word kinds.Semicolon))
+n-imports : (l : OneOrMore ImportItem) → Named (imports_piece l) (word kinds.Import ++ (separated kinds.Comma import_outline l ++ word kinds.Semicolon))
 unfolding imports_piece
 n-imports l = n-both (n-word kinds.Import) (n-three (n-import l.first)
     (n-each (λ i. both token (import_piece i)) (λ i. word kinds.Comma ++ import_outline i) l.rest.items (λ i. n-both (n-word kinds.Comma) (n-import i))) (n-word kinds.Semicolon))
@@ -134,13 +134,13 @@ behind_name m = both token (both (there imports_piece m.imports) (both (declarat
     (both token (both (tells module_end token) token)))))
 
 behind_outline : Module → Out
-behind_outline m = word kinds.Semicolon ++ (if_there (λ l. word kinds.Import ++ (listed kinds.Comma import_outline l ++ word kinds.Semicolon)) m.imports ++ (declarations_outline m.declarations ++
+behind_outline m = word kinds.Semicolon ++ (if_there (λ l. word kinds.Import ++ (separated kinds.Comma import_outline l ++ word kinds.Semicolon)) m.imports ++ (declarations_outline m.declarations ++
     (if_there (λ b. word kinds.Begin ++ block_outline b) m.body ++ (word kinds.End ++ (repeated m.name m.end_name ++ word kinds.Dot)))))
 
 n-behind : (m : Module) → Named (behind_name m) (behind_outline m)
 unfolding behind_name behind_outline
 n-behind m = n-both (n-word kinds.Semicolon)
-    (n-both (n-there imports_piece (λ l. word kinds.Import ++ (listed kinds.Comma import_outline l ++ word kinds.Semicolon)) m.imports n-imports)
+    (n-both (n-there imports_piece (λ l. word kinds.Import ++ (separated kinds.Comma import_outline l ++ word kinds.Semicolon)) m.imports n-imports)
     (n-both (n-declarations m.declarations) (n-both (n-there (λ b. both token (block_piece b)) (λ b. word kinds.Begin ++ block_outline b) m.body (λ b. n-both (n-word kinds.Begin) (n-block b)))
     (n-both (n-word kinds.End) (n-both (n-ends (λ c k. None) m.name m.end_name) (n-word kinds.Dot))))))
 

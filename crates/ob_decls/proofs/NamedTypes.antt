@@ -12,7 +12,7 @@ use Rattle.ob_tree.specs.declared.declaration.Record.{Record, Record-F, roll-Rec
 use Rattle.ob_tree.specs.declared.declaration.VarDecl.{VarDecl, VarDecl-F, roll-VarDecl, out-roll-VarDecl, ind-VarDecl, map-VarDecl}
 use Rattle.ob_tree.specs.Constructs as constructs
 use Rattle.ob_tree.specs.declared.name.Identdef.{Identdef}
-use Rattle.ob_tree.specs.Marks.{construct, word, declared, if_there, listed, times}
+use Rattle.ob_tree.specs.Marks.{construct, word, declared, if_there, separated, times}
 use Rattle.ob_tree.specs.Names.{qualident_outline, identdef_outline}
 use Rattle.ob_tree.specs.Types.{section_outline, parameters_outline, type_outline, fields_outline, record_outline, var_outline}
 use Rattle.ob_tree.proofs.TypeLayers.{type_shown, fields_shown, record_shown, var_shown, type_out, fields_out, record_out, var_out}
@@ -31,7 +31,7 @@ use Rattle.ob_decls.specs.Statements.{qualident_piece}
 use Rattle.ob_decls.specs.Types.{is_lone, part_here, record_row, in_record, open_arrays, section_inner, section_piece, identdef_piece, parameter_piece, parameters_piece, type_name_piece, lengths_piece, type_piece, fields_piece, record_piece, var_piece}
 use Rattle.ob_decls.proofs.TypeLayers as told
 use Rattle.ob_decls.proofs.Mirrored.{declares_it}
-use Rattle.ob_decls.proofs.Named.{Named, named_as, n-nothing, n-word, n-declared, n-both, n-three, n-first_declares, n-type_use, n-held, n-tells, n-within, n-declaring, n-opening, n-there, n-so, n-each, n-map, n-listed}
+use Rattle.ob_decls.proofs.Named.{Named, named_as, n-nothing, n-word, n-declared, n-both, n-three, n-first_declares, n-type_use, n-held, n-tells, n-within, n-declaring, n-opening, n-there, n-so, n-each, n-map, n-separated}
 use Rattle.ob_decls.proofs.NamedExpressions.{n-expr}
 use Rattle.ob_decls.proofs.NamedStatements.{n-qualident}
 
@@ -62,7 +62,7 @@ n-section s = n-held constructs.FPSection (n-declaring sorts.Parameter (n-both (
 pub n-parameters : (p : Parameters) → Named (parameters_piece p) (parameters_outline p)
 unfolding parameters_piece parameters_outline
 n-parameters p =
-    n-both (n-word kinds.LeftParen) (n-both (n-there (λ l. both (section_piece l.first) (each_after section_piece l.rest.items)) (listed kinds.Semicolon section_outline) p.sections (λ l. n-listed kinds.Semicolon section_piece section_outline l n-section))
+    n-both (n-word kinds.LeftParen) (n-both (n-there (λ l. both (section_piece l.first) (each_after section_piece l.rest.items)) (separated kinds.Semicolon section_outline) p.sections (λ l. n-separated kinds.Semicolon section_piece section_outline l n-section))
     (n-both (n-word kinds.RightParen) (n-there (λ q. both token (qualident_piece q)) (λ q. word kinds.Colon ++ qualident_outline q) p.result (λ q. n-both (n-word kinds.Colon) (n-qualident q)))))
 
 n-lengths : (l : ExprList) → Named (lengths_piece l) (expr_list_outline l)

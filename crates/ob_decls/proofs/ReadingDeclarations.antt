@@ -19,7 +19,7 @@ use Rattle.ob_tree.specs.Declaring.{const_outline, type_decl_outline, variable_o
 use Rattle.ob_tree.proofs.DeclarationLayers.{declarations_shown, procedure_shown, declarations_out, procedure_out}
 use Rattle.ob_tree.proofs.Closed.{With}
 use Rattle.ob_decls.specs.declared.rows.Sort.TheVariants as sorts
-use Rattle.ob_decls.specs.Parts.{Piece, token, both, tells, declaring, opening}
+use Rattle.ob_decls.specs.Parts.{Piece, token, both, tells, declaring, opens_block}
 use Rattle.ob_decls.specs.Parts.{if_there as there, each as pieces}
 use Rattle.ob_decls.specs.Expressions.{Phrase, expr_piece, expr_phrase}
 use Rattle.ob_decls.specs.Statements.{block_piece}
@@ -102,7 +102,7 @@ abbrev procedure_parts : ProcDecl-F Declarations ProcDecl → Heading
 procedure_parts z = (z.name, (maybe parameters_piece z.parameters, (declarations_piece z.declarations, (maybe (λ b. block_piece b.value) z.body, (maybe (λ e. expr_phrase e.value) z.returned, true)))))
 
 abbrev procedure_with : Identdef → Piece → Piece → Piece → Piece → Piece
-procedure_with i d a b c = declaring sorts.Procedure (opening (
+procedure_with i d a b c = declaring sorts.Procedure (opens_block (
     both token (both (identdef_piece i) (both a (both token (both d (both b (both c (both token (tells procedure_end token))))))))))
 
 abbrev procedure_told : Heading → Piece

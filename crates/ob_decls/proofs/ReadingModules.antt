@@ -14,7 +14,7 @@ use Rattle.ob_tree.specs.declared.declaration.ImportItem.{ImportItem}
 use Rattle.ob_tree.specs.declared.declaration.Module.{Module}
 use Rattle.ob_tree.specs.Constructs as constructs
 use Rattle.ob_tree.specs.declared.role.Role.TheVariants as roles
-use Rattle.ob_tree.specs.Marks.{Out, construct, word, aliased, imported, named, repeated, if_there, listed}
+use Rattle.ob_tree.specs.Marks.{Out, construct, word, aliased, imported, named, repeated, if_there, separated}
 use Rattle.ob_tree.specs.Statements.{block_outline}
 use Rattle.ob_tree.specs.Declaring.{const_outline, part, declarations_outline, procedure_outline, import_outline, module_outline}
 use Rattle.ob_tree.proofs.DeclarationLayers.{import_out, module_out, declarations_out, procedure_out}
@@ -30,7 +30,7 @@ use Rattle.ob_decls.proofs.Reading.{Reads, never, on_word, maybe, r-name, r-unti
 use Rattle.ob_decls.proofs.ReadingLists.{r-there, each_told, there_told}
 use Rattle.ob_decls.proofs.ReadingNames.{itself, on_words}
 use Rattle.ob_decls.proofs.ReadingStatements.{r-block}
-use Rattle.ob_decls.proofs.ReadingParameters.{r-listed}
+use Rattle.ob_decls.proofs.ReadingParameters.{r-separated}
 use Rattle.ob_decls.proofs.ReadingSections.{on_declarations, procedures_shown, variables_shown, types_shown}
 use Rattle.ob_decls.proofs.ReadingDeclarations.{in_body, body_ends, r-repeated, r-declarations}
 
@@ -75,10 +75,10 @@ imports_seen (Some l) = told.imports_out l ∙
     ap (λ (x : Piece). both token (both (import_piece l.first) (both x token))) (each_told import_piece (λ x. both token x) l.rest.items)
 
 abbrev imports_shown : OneOrMore ImportItem → Out
-imports_shown l = word kinds.Import ++ (listed kinds.Comma import_outline l ++ word kinds.Semicolon)
+imports_shown l = word kinds.Import ++ (separated kinds.Comma import_outline l ++ word kinds.Semicolon)
 
 r-imports : (l : OneOrMore ImportItem) → Reads imports_parts imports_shown never (imports_parts l) (imports_shown l)
-r-imports l = r-past kinds.Import (r-then kinds.Semicolon (r-listed kinds.Comma (on_word kinds.Comma) r-import (λ s. refl) (λ s. refl) (λ s i. refl) l) (λ s. refl))
+r-imports l = r-past kinds.Import (r-then kinds.Semicolon (r-separated kinds.Comma (on_word kinds.Comma) r-import (λ s. refl) (λ s. refl) (λ s i. refl) l) (λ s. refl))
 
 -- ---- modules
 

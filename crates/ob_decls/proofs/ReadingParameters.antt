@@ -9,7 +9,7 @@ use Rattle.ob_tree.specs.declared.declaration.ParameterSection.{ParameterSection
 use Rattle.ob_tree.specs.declared.declaration.Parameters.{Parameters}
 use Rattle.ob_tree.specs.Constructs as constructs
 use Rattle.ob_tree.specs.declared.role.Role.TheVariants as roles
-use Rattle.ob_tree.specs.Marks.{Out, Word, construct, word, declared, if_there, if_so, each, listed, times}
+use Rattle.ob_tree.specs.Marks.{Out, Word, construct, word, declared, if_there, if_so, each, separated, times}
 use Rattle.ob_tree.specs.Names.{qualident_outline, identdef_outline}
 use Rattle.ob_tree.specs.Types.{section_outline, parameters_outline}
 use Rattle.ob_decls.specs.declared.rows.Sort.TheVariants as sorts
@@ -25,10 +25,10 @@ use Rattle.ob_decls.proofs.ReadingLists.{r-there, r-each, r-so, apart_from, each
 use Rattle.ob_decls.proofs.ReadingNames.{on_words, not_the_first, none_behind, r-qualident}
 
 -- one or more with a token between each two
-pub r-listed : {X A : Type 0} {f : X → A} {g : X → Out} {part : Out → Bool} (k : Kind) (more : Out → Bool) →
+pub r-separated : {X A : Type 0} {f : X → A} {g : X → Out} {part : Out → Bool} (k : Kind) (more : Out → Bool) →
     ((x : X) → Reads f g part (f x) (g x)) → ((s : Out) → more (Word k ∷ s) ≡ true) → ((s : Out) → part (Word k ∷ s) ≡ false) → ((s : Out) → more s ≡ false → part s ≡ false) → (l : OneOrMore X) →
     Reads {Z = OneOrMore X} {A = A × List A} (λ z. (f z.first, map f z.rest.items)) (λ z. g z.first ++ each (λ x. word k ++ g x) z.rest.items) more (f l.first, map f l.rest.items) (g l.first ++ each (λ x. word k ++ g x) l.rest.items)
-r-listed {X} {A} {f} {g} {part} k more x front apart ends l = r-until (r-at (λ z. z.first) (x l.first))
+r-separated {X} {A} {f} {g} {part} k more x front apart ends l = r-until (r-at (λ z. z.first) (x l.first))
     (λ s i. apart_from (λ y. word k ++ g y) part more ends (λ y t. apart (g y ++ t)) l.rest.items s i)
     (λ z s i. apart_from (λ y. word k ++ g y) part more ends (λ y t. apart (g y ++ t)) z.rest.items s i)
     (r-at (λ z. z.rest.items) (r-each f (λ y. word k ++ g y) part more (λ y s. front (g y ++ s)) ends (λ y s. apart (g y ++ s)) l.rest.items (λ y. r-past k (x y))))
@@ -85,7 +85,7 @@ section_tells s =
     (both (arrays_piece s.open_arrays) (tells (name_part s.of) (qualident_piece s.of)))))))) (each_told (λ (n : ℕ). n) (λ n. both token parameter_piece) s.names.rest.items)
 
 abbrev section_shown : ParameterSection → Out
-section_shown s = if_so s.variable (word kinds.Var) ++ (listed kinds.Comma (declared false) s.names ++ (word kinds.Colon ++ (arrays s.open_arrays ++ qualident_outline s.of)))
+section_shown s = if_so s.variable (word kinds.Var) ++ (separated kinds.Comma (declared false) s.names ++ (word kinds.Colon ++ (arrays s.open_arrays ++ qualident_outline s.of)))
 
 no_array : (q : Qualident) (s : Out) → on_word kinds.Array (qualident_outline q ++ s) ≡ false
 unfolding qualident_outline
@@ -96,7 +96,7 @@ r-parameter n = r-name (roles.Declares false) (λ z. z) n
 
 section_held : (s : ParameterSection) → Reads section_parts section_shown (on_word kinds.Dot) (section_parts s) (section_shown s)
 section_held s = r-until (r-so kinds.Var (on_word kinds.Var) (λ t. refl) (λ z. z.variable) s.variable) (λ t i. refl) (λ z t i. refl)
-    (r-until (r-at (λ z. z.names) (r-listed kinds.Comma (on_word kinds.Comma) r-parameter (λ t. refl) (λ t. refl) (λ t i. refl) s.names)) (λ t i. refl) (λ z t i. refl)
+    (r-until (r-at (λ z. z.names) (r-separated kinds.Comma (on_word kinds.Comma) r-parameter (λ t. refl) (λ t. refl) (λ t i. refl) s.names)) (λ t i. refl) (λ z t i. refl)
     (r-past kinds.Colon (r-until (r-arrays (λ z. z.open_arrays) s.open_arrays) (λ t i. no_array s.of t) (λ z t i. no_array z.of t) (r-at (λ z. z.of) (r-qualident s.of)))))
 
 pub r-section : (s : ParameterSection) → Reads section_piece section_outline never (section_piece s) (section_outline s)
@@ -128,13 +128,13 @@ parameters_tells p = told.parameters_out p ∙
 
 abbrev parameters_shown : Parameters → Out
 parameters_shown p =
-    word kinds.LeftParen ++ (if_there (listed kinds.Semicolon section_outline) p.sections ++
+    word kinds.LeftParen ++ (if_there (separated kinds.Semicolon section_outline) p.sections ++
     (word kinds.RightParen ++ if_there (λ q. word kinds.Colon ++ qualident_outline q) p.result))
 
-r-sections : (l : OneOrMore ParameterSection) → Reads sections_parts (listed kinds.Semicolon section_outline) (on_word kinds.Semicolon) (sections_parts l) (listed kinds.Semicolon section_outline l)
-r-sections l = r-listed kinds.Semicolon (on_word kinds.Semicolon) r-section (λ s. refl) (λ s. refl) (λ s i. refl) l
+r-sections : (l : OneOrMore ParameterSection) → Reads sections_parts (separated kinds.Semicolon section_outline) (on_word kinds.Semicolon) (sections_parts l) (separated kinds.Semicolon section_outline l)
+r-sections l = r-separated kinds.Semicolon (on_word kinds.Semicolon) r-section (λ s. refl) (λ s. refl) (λ s i. refl) l
 
-sections_begin : (l : OneOrMore ParameterSection) (s : Out) → on_list kinds.Semicolon (listed kinds.Semicolon section_outline l ++ s) ≡ true
+sections_begin : (l : OneOrMore ParameterSection) (s : Out) → on_list kinds.Semicolon (separated kinds.Semicolon section_outline l ++ s) ≡ true
 unfolding section_outline construct
 sections_begin l s = refl
 

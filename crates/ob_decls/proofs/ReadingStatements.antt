@@ -17,7 +17,7 @@ use Rattle.ob_tree.specs.declared.statement.StatementSequence.{StatementSequence
 use Rattle.ob_tree.specs.declared.statement.Branch.{Branch, Branch-F, roll-Branch, out-Branch, out-roll-Branch, map-Branch}
 use Rattle.ob_tree.specs.declared.statement.For.{For, For-F, roll-For, out-For, out-roll-For, map-For}
 use Rattle.ob_tree.specs.Constructs as constructs
-use Rattle.ob_tree.specs.Marks.{Out, Ends, construct, word, if_there, each, each_after, listed}
+use Rattle.ob_tree.specs.Marks.{Out, Ends, construct, word, if_there, each, each_after, separated}
 use Rattle.ob_tree.specs.Expressions.{expr_outline}
 use Rattle.ob_tree.specs.Statements.{label_outline, label_range_outline, case_outline, stmt_outline, block_outline, branch_outline, for_outline}
 use Rattle.ob_tree.specs.Names.{qualident_outline}
@@ -113,7 +113,7 @@ abbrev labelled_parts : Labelled → (Piece × List Piece) × Piece
 labelled_parts z = ((label_range_piece z.0.first, map label_range_piece z.0.rest.items), block_piece z.1.value)
 
 abbrev labelled_outline : Labelled → Out
-labelled_outline z = listed kinds.Comma label_range_outline z.0 ++ (word kinds.Colon ++ block_outline z.1.value)
+labelled_outline z = separated kinds.Comma label_range_outline z.0 ++ (word kinds.Colon ++ block_outline z.1.value)
 
 abbrev labelled_told : (Piece × List Piece) × Piece → Piece
 labelled_told p = both p.0.0 (both (pieces (λ r. both token r) p.0.1) (both token p.1))
@@ -129,7 +129,7 @@ abbrev ranges_parts : OneOrMore LabelRange → Piece × List Piece
 ranges_parts l = (label_range_piece l.first, map label_range_piece l.rest.items)
 
 abbrev ranges_outline : OneOrMore LabelRange → Out
-ranges_outline l = listed kinds.Comma label_range_outline l
+ranges_outline l = separated kinds.Comma label_range_outline l
 
 ranges_held : (l : OneOrMore LabelRange) → Reads ranges_parts ranges_outline (on_words (kinds.Comma ∷ dots)) (ranges_parts l) (ranges_outline l)
 ranges_held l = r-until (r-at (λ z. z.first) (r-range l.first)) (λ s i. range_ends l.rest.items s i) (λ z s i. range_ends z.rest.items s i)
@@ -147,7 +147,7 @@ unfolding label_range_outline
 range_there r o p s e = label_there r.low _ (o ++ p) s (sym (append_assoc (label_outline r.low ++ if_there (λ l. word kinds.DotDot ++ label_outline l) r.high) o p) ∙ e)
 
 labelled_there : (z : Labelled) (r s : Out) → labelled_outline z ++ r ≡ Ends constructs.Case ∷ s → ⊥
-labelled_there z r s e = range_there z.0.first _ _ s (sym (append_assoc (listed kinds.Comma label_range_outline z.0) (word kinds.Colon ++ block_outline z.1.value) r) ∙ e)
+labelled_there z r s e = range_there z.0.first _ _ s (sym (append_assoc (separated kinds.Comma label_range_outline z.0) (word kinds.Colon ++ block_outline z.1.value) r) ∙ e)
 
 none_same : (z : Case-F Case Stmt Branch For StatementSequence) (r s : Out) → Ends constructs.Case ∷ r ≡ case_shown z ++ Ends constructs.Case ∷ s → (told.case_shown layers.Nothing ≡ told.case_shown z) × (r ≡ s)
 none_same layers.Nothing r s e = (refl, tail_is _ _ r s e)

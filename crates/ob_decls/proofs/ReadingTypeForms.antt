@@ -19,7 +19,7 @@ use Rattle.ob_tree.specs.Types.{parameters_outline, type_outline, record_outline
 use Rattle.ob_tree.proofs.ExpressionLayers.{expr_list_shown, expr_list_out}
 use Rattle.ob_tree.proofs.TypeLayers.{type_shown}
 use Rattle.ob_decls.specs.declared.rows.Part.TheVariants as parts
-use Rattle.ob_decls.specs.Parts.{Piece, token, both, tells, within, opening}
+use Rattle.ob_decls.specs.Parts.{Piece, token, both, tells, within, opens_block}
 use Rattle.ob_decls.specs.Parts.{if_there as there, each as pieces}
 use Rattle.ob_decls.specs.Expressions.{Phrase, expr_piece, expr_phrase}
 use Rattle.ob_decls.specs.Types.{part_here, targeted, untargeted, parameters_piece, type_name_piece, lengths_piece, type_piece, record_piece}
@@ -106,10 +106,10 @@ pointer_same b q y (layers.PointerTo t) r s e = let h = (pointer_held y).same t 
 pointer_same b q y (layers.ProcOf p) r s e = absurd cc
 
 abbrev procedure_told : Option Piece → Piece
-procedure_told o = tells (part_here parts.Procedure) (opening (both token (there (λ p. p) o)))
+procedure_told o = tells (part_here parts.Procedure) (opens_block (both token (there (λ p. p) o)))
 
 procedure_seen : (o : Option Parameters) → told.type_shown (layers.ProcOf o) ≡ procedure_told (maybe parameters_piece o)
-procedure_seen o = ap (λ (p : Piece). tells (part_here parts.Procedure) (opening (both token p))) (there_told parameters_piece (λ p. p) o)
+procedure_seen o = ap (λ (p : Piece). tells (part_here parts.Procedure) (opens_block (both token p))) (there_told parameters_piece (λ p. p) o)
 
 procedure_held : (o : Option Parameters) → Reads {Z = Option Parameters} (maybe parameters_piece) (λ w. construct constructs.ProcedureType (word kinds.Procedure ++ if_there parameters_outline w)) never (maybe parameters_piece o) (construct constructs.ProcedureType (word kinds.Procedure ++ if_there parameters_outline o))
 procedure_held o = r-held constructs.ProcedureType (r-past kinds.Procedure (r-heading (λ w. w) o)) (λ s. refl)

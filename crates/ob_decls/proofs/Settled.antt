@@ -7,7 +7,7 @@ use Rattle.ob_decls.specs.declared.rows.Selector.{Selector as SelectorRow}
 use Rattle.ob_decls.specs.declared.draft.Context.{Context}
 use Rattle.ob_decls.specs.declared.draft.Draft.{Draft}
 use Rattle.ob_decls.specs.Parts.{joined, no_rows, token, tells, each, these_selectors}
-use Rattle.ob_decls.specs.Drafts.{Stage, stage_of, after, added, settled, Reaches}
+use Rattle.ob_decls.specs.Drafts.{Stage, stage_of, after, added, settled, ComesTo}
 use Rattle.ob_decls.specs.Expressions.{Selected, used, first_name, selected, selector_rows, its_selectors, designator_row, designator_piece}
 use Rattle.ob_decls.specs.Settling.{blank, blanks, row_at, settling}
 use Rattle.ob_decls.proofs.Steps.{added_number, after_both, after_nothing, after_tells, number_of, selectors_of}
@@ -128,9 +128,9 @@ settling_taken head at place i items x c s t h e p f =
     )
 
 pub settling_reached : (head at place i : ℕ) (items : List Selector) (x : Selector) (c : Context) (old now given new : Draft) → i < length items → x ≡ get_or items i x →
-    (now.refused ≡ false → place ≡ at + i) → Reaches (settling head at (map selected (take i items)) c) old now →
-    Reaches (λ s. settled place (row_at head (selected x) s) s) now given → Reaches (after (selected x).piece c) given new →
-    Reaches (settling head at (map selected (take (i + 1) items)) c) old new
+    (now.refused ≡ false → place ≡ at + i) → ComesTo (settling head at (map selected (take i items)) c) old now →
+    ComesTo (λ s. settled place (row_at head (selected x) s) s) now given → ComesTo (after (selected x).piece c) given new →
+    ComesTo (settling head at (map selected (take (i + 1) items)) c) old new
 settling_reached head at place i items x c old now given new h e p f g k r =
     let behind = k r in
     let here = g behind.0 in

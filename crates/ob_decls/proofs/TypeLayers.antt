@@ -19,7 +19,7 @@ use Rattle.ob_decls.specs.declared.rows.Sort.TheVariants as sorts
 use Rattle.ob_decls.specs.declared.rows.Part.TheVariants as parts
 use Rattle.ob_decls.specs.declared.draft.Context.{Context}
 use Rattle.ob_decls.specs.Drafts.{Stage, added, after, passed}
-use Rattle.ob_decls.specs.Parts.{Piece, nothing, token, both, tells, within, if_there, if_so, each, declaring, opening}
+use Rattle.ob_decls.specs.Parts.{Piece, nothing, token, both, tells, within, if_there, if_so, each, declaring, opens_block}
 use Rattle.ob_decls.specs.Expressions.{each_after, expr_piece}
 use Rattle.ob_decls.specs.Statements.{qualident_piece}
 use Rattle.ob_decls.specs.Types.{declared_row, part_here, name_part, type_use, targeted, untargeted, in_record, record_row, identdef_piece, parameter_piece, open_arrays, section_inner, section_piece, parameters_piece, type_name_piece, lengths_piece, type_step, fields_step, record_step, var_step, type_piece, fields_piece, record_piece, var_piece}
@@ -93,7 +93,7 @@ type_shown (layers.Named q) = type_name_piece q
 type_shown (layers.ArrayOf lengths of) = tells (part_here parts.Array) (both token (both (lengths_piece lengths.value) (both token (within untargeted (type_piece of.value)))))
 type_shown (layers.RecordOf r) = tells (part_here parts.Record) (record_piece r)
 type_shown (layers.PointerTo t) = tells (part_here parts.Pointer) (both token (both token (within targeted (type_piece t.value))))
-type_shown (layers.ProcOf p) = tells (part_here parts.Procedure) (opening (both token (if_there parameters_piece p)))
+type_shown (layers.ProcOf p) = tells (part_here parts.Procedure) (opens_block (both token (if_there parameters_piece p)))
 
 type_seen : (x : TypeForm-F TypeForm Fields Record VarDecl) → type_step (map-TypeForm TypeForm Fields Record VarDecl Piece Piece Piece Piece type_piece fields_piece record_piece var_piece x) ≡ type_shown x
 type_seen (layers.Named q) = refl
@@ -151,7 +151,7 @@ pub pointer_made : (t : Box TypeForm Global) → type_piece (forms.PointerTo t)
     ≡ tells (part_here parts.Pointer) (both token (both token (within targeted (type_piece t.value))))
 pointer_made t = formed _ _ (forms.outs-PointerTo t)
 
-pub procedure_type_made : (p : Option Parameters) → type_piece (forms.ProcOf p) ≡ tells (part_here parts.Procedure) (opening (both token (if_there parameters_piece p)))
+pub procedure_type_made : (p : Option Parameters) → type_piece (forms.ProcOf p) ≡ tells (part_here parts.Procedure) (opens_block (both token (if_there parameters_piece p)))
 procedure_type_made p = formed _ _ (forms.outs-ProcOf p)
 
 pub ruleset names_made = (steps, after_declaring, added_number, after_arrays, after_name, identdef_out, parameter_out, section_inner_out, section_out, parameters_out, type_name_out, lengths_out)

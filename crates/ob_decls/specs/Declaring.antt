@@ -11,7 +11,7 @@ use Rattle.ob_tree.specs.declared.declaration.ProcDecl.{ProcDecl, ProcDecl-F, fo
 use Rattle.ob_decls.specs.declared.rows.Sort.TheVariants as sorts
 use Rattle.ob_decls.specs.declared.draft.Context.{Context}
 use Rattle.ob_decls.specs.declared.table.Table.{Table}
-use Rattle.ob_decls.specs.Parts.{Piece, Rows, one_end, one_import, token, both, tells, if_there, each, declaring, opening}
+use Rattle.ob_decls.specs.Parts.{Piece, Rows, one_end, one_import, token, both, tells, if_there, each, declaring, opens_block}
 use Rattle.ob_decls.specs.Expressions.{each_after, expr_piece}
 use Rattle.ob_decls.specs.Statements.{block_piece}
 use Rattle.ob_decls.specs.Types.{declared_row, identdef_piece, parameters_piece, type_piece, var_piece}
@@ -52,7 +52,7 @@ declarations_step d =
 -- ProcedureDeclaration = PROCEDURE identdef [FormalParameters] ";" DeclarationSequence [BEGIN StatementSequence]
 --   [RETURN expression] END ident
 abbrev pub procedure_step : ProcDecl-F Piece Piece → Piece
-procedure_step p = declaring sorts.Procedure (opening (
+procedure_step p = declaring sorts.Procedure (opens_block (
     both token (both (identdef_piece p.name) (both (if_there parameters_piece p.parameters) (both token
     (both p.declarations (both (if_there (λ b. both token (block_piece b.value)) p.body)
     (both (if_there (λ e. both token (expr_piece e.value)) p.returned) (both token (tells procedure_end token))))))))))

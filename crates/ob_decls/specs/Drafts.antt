@@ -32,8 +32,8 @@ unfoldable pub stage_of : Draft → Stage
 stage_of d = record { number = d.number; rows = drafted d }
 
 -- where the new draft was refused nothing, the old one was refused nothing, and this leads from its stage to the new one
-abbrev pub Reaches : (Stage → Stage) → Draft → Draft → Type 0
-Reaches step old new = new.refused ≡ false → (old.refused ≡ false) × (stage_of new ≡ step (stage_of old))
+abbrev pub ComesTo : (Stage → Stage) → Draft → Draft → Type 0
+ComesTo step old new = new.refused ≡ false → (old.refused ≡ false) × (stage_of new ≡ step (stage_of old))
 
 -- before the first token
 abbrev pub start : Stage

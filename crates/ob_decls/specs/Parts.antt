@@ -147,5 +147,5 @@ abbrev pub in_block : Context → ℕ → Context
 in_block c k = record { block = k; declarer = c.declarer; of_record = c.of_record; is_target = c.is_target }
 
 -- a part that is a block
-abbrev pub opening : Piece → Piece
-opening p = tells (λ c k. one_block (record { first = k; outer = c.block })) (within in_block p)
+abbrev pub opens_block : Piece → Piece
+opens_block p = tells (λ c k. one_block (record { first = k; outer = c.block })) (within in_block p)

@@ -15,7 +15,7 @@ use Rattle.ob_decls.specs.declared.rows.Part.{Part}
 use Rattle.ob_decls.specs.declared.rows.Part.TheVariants as parts
 use Rattle.ob_decls.specs.declared.rows.TypeName.{TypeName}
 use Rattle.ob_decls.specs.declared.draft.Context.{Context}
-use Rattle.ob_decls.specs.Parts.{Piece, Rows, one_declared, one_part, one_record, one_used, nothing, token, both, tells, within, if_there, if_so, each, declaring, opening}
+use Rattle.ob_decls.specs.Parts.{Piece, Rows, one_declared, one_part, one_record, one_used, nothing, token, both, tells, within, if_there, if_so, each, declaring, opens_block}
 use Rattle.ob_decls.specs.Expressions.{behind_dot, each_after, expr_piece}
 use Rattle.ob_decls.specs.Statements.{qualident_piece}
 
@@ -104,7 +104,7 @@ type_step (layers.ArrayOf lengths of) =
     tells (part_here parts.Array) (both token (both (lengths_piece lengths.value) (both token (within untargeted of.value))))
 type_step (layers.RecordOf r) = tells (part_here parts.Record) r
 type_step (layers.PointerTo t) = tells (part_here parts.Pointer) (both token (both token (within targeted t.value)))
-type_step (layers.ProcOf p) = tells (part_here parts.Procedure) (opening (both token (if_there parameters_piece p)))
+type_step (layers.ProcOf p) = tells (part_here parts.Procedure) (opens_block (both token (if_there parameters_piece p)))
 
 -- FieldList {";" FieldList} [";"]; the report has not the last semicolon
 abbrev pub fields_step : Fields-F Piece Piece Piece Piece → Piece

@@ -2,7 +2,7 @@
 
 ghost use Rattle.std.specs.Prelude.{◌≡◌, ◌+◌, ◌++◌, ◌∷◌, [], false, length, IfOk};
 ghost use Rattle.ob_decls.specs.Parts.{declarer, declaring_at, in_block, one_block, one_declarer, one_declared, one_designator, one_end, one_import, one_part, one_record, one_used, record_for, these_selectors};
-ghost use Rattle.ob_decls.specs.Drafts.{added, closed, passed, settled, stage_of, start, Reaches};
+ghost use Rattle.ob_decls.specs.Drafts.{added, closed, passed, settled, stage_of, start, ComesTo};
 
 use crate::rows::{
     Block, Declared, Declarer, Designator, End, FormPart, Import, Record, Selector, Sort, Used,
@@ -53,7 +53,7 @@ impl Draft {
     /// Passes a token, of which there are 2^32 - 1 at most.
     #[tactic(auto, using(crate::proofs::Steps::growing), unfolding(crate::specs::Drafts::stage_of, crate::specs::Drafts::passed, crate::specs::Drafts::added, crate::specs::Drafts::closed, crate::specs::Parts::joined))]
     pub(crate) fn pass(&mut self)
-        ensures { Reaches passed self.old self.new }
+        ensures { ComesTo passed self.old self.new }
     {
         match self.number.checked_add(1) {
             None => self.refused = true,
@@ -64,7 +64,7 @@ impl Draft {
     /// Adds an identifier that is declared.
     #[tactic(auto, using(crate::proofs::Steps::growing), unfolding(crate::specs::Drafts::stage_of, crate::specs::Drafts::passed, crate::specs::Drafts::added, crate::specs::Drafts::closed, crate::specs::Parts::joined))]
     pub(crate) fn add_declared(&mut self, row: Declared)
-        ensures { Reaches (added (one_declared row)) self.old self.new }
+        ensures { ComesTo (added (one_declared row)) self.old self.new }
     {
         add_row(&mut self.declared, row, &mut self.refused);
     }
@@ -72,7 +72,7 @@ impl Draft {
     /// Adds an identifier that is looked up.
     #[tactic(auto, using(crate::proofs::Steps::growing), unfolding(crate::specs::Drafts::stage_of, crate::specs::Drafts::passed, crate::specs::Drafts::added, crate::specs::Drafts::closed, crate::specs::Parts::joined))]
     pub(crate) fn add_used(&mut self, row: Used)
-        ensures { Reaches (added (one_used row)) self.old self.new }
+        ensures { ComesTo (added (one_used row)) self.old self.new }
     {
         add_row(&mut self.uses, row, &mut self.refused);
     }
@@ -80,7 +80,7 @@ impl Draft {
     /// Adds a block that begins with the next token.
     #[tactic(auto, using(crate::proofs::Steps::growing), unfolding(crate::specs::Drafts::stage_of, crate::specs::Drafts::passed, crate::specs::Drafts::added, crate::specs::Drafts::closed, crate::specs::Parts::joined))]
     pub(crate) fn add_block(&mut self, row: Block)
-        ensures { Reaches (added (one_block row)) self.old self.new }
+        ensures { ComesTo (added (one_block row)) self.old self.new }
     {
         add_row(&mut self.blocks, row, &mut self.refused);
     }
@@ -88,7 +88,7 @@ impl Draft {
     /// Adds an import item.
     #[tactic(auto, using(crate::proofs::Steps::growing), unfolding(crate::specs::Drafts::stage_of, crate::specs::Drafts::passed, crate::specs::Drafts::added, crate::specs::Drafts::closed, crate::specs::Parts::joined))]
     pub(crate) fn add_import(&mut self, row: Import)
-        ensures { Reaches (added (one_import row)) self.old self.new }
+        ensures { ComesTo (added (one_import row)) self.old self.new }
     {
         add_row(&mut self.imports, row, &mut self.refused);
     }
@@ -96,7 +96,7 @@ impl Draft {
     /// Adds a part of a form.
     #[tactic(auto, using(crate::proofs::Steps::growing), unfolding(crate::specs::Drafts::stage_of, crate::specs::Drafts::passed, crate::specs::Drafts::added, crate::specs::Drafts::closed, crate::specs::Parts::joined))]
     pub(crate) fn add_part(&mut self, row: FormPart)
-        ensures { Reaches (added (one_part row)) self.old self.new }
+        ensures { ComesTo (added (one_part row)) self.old self.new }
     {
         add_row(&mut self.parts, row, &mut self.refused);
     }
@@ -104,7 +104,7 @@ impl Draft {
     /// Adds a record.
     #[tactic(auto, using(crate::proofs::Steps::growing), unfolding(crate::specs::Drafts::stage_of, crate::specs::Drafts::passed, crate::specs::Drafts::added, crate::specs::Drafts::closed, crate::specs::Parts::joined))]
     pub(crate) fn add_record(&mut self, row: Record)
-        ensures { Reaches (added (one_record row)) self.old self.new }
+        ensures { ComesTo (added (one_record row)) self.old self.new }
     {
         add_row(&mut self.records, row, &mut self.refused);
     }
@@ -112,7 +112,7 @@ impl Draft {
     /// Adds a designator.
     #[tactic(auto, using(crate::proofs::Steps::growing), unfolding(crate::specs::Drafts::stage_of, crate::specs::Drafts::passed, crate::specs::Drafts::added, crate::specs::Drafts::closed, crate::specs::Parts::joined))]
     pub(crate) fn add_designator(&mut self, row: Designator)
-        ensures { Reaches (added (one_designator row)) self.old self.new }
+        ensures { ComesTo (added (one_designator row)) self.old self.new }
     {
         add_row(&mut self.designators, row, &mut self.refused);
     }
@@ -120,7 +120,7 @@ impl Draft {
     /// Adds a selector.
     #[tactic(auto, using(crate::proofs::Steps::growing), unfolding(crate::specs::Drafts::stage_of, crate::specs::Drafts::passed, crate::specs::Drafts::added, crate::specs::Drafts::closed, crate::specs::Parts::joined))]
     pub(crate) fn add_selector(&mut self, row: Selector)
-        ensures { Reaches (added (these_selectors (row ∷ []))) self.old self.new }
+        ensures { ComesTo (added (these_selectors (row ∷ []))) self.old self.new }
     {
         add_row(&mut self.selectors, row, &mut self.refused);
     }
@@ -128,7 +128,7 @@ impl Draft {
     /// Adds a name behind END.
     #[tactic(auto, using(crate::proofs::Steps::growing), unfolding(crate::specs::Drafts::stage_of, crate::specs::Drafts::passed, crate::specs::Drafts::added, crate::specs::Drafts::closed, crate::specs::Parts::joined))]
     pub(crate) fn add_end(&mut self, row: End)
-        ensures { Reaches (added (one_end row)) self.old self.new }
+        ensures { ComesTo (added (one_end row)) self.old self.new }
     {
         add_row(&mut self.ends, row, &mut self.refused);
     }
@@ -136,7 +136,7 @@ impl Draft {
     /// Gives the row in this place, and answers the place behind it.
     #[tactic(auto, using(crate::proofs::Steps::growing), unfolding(crate::specs::Drafts::stage_of, crate::specs::Drafts::passed, crate::specs::Drafts::added, crate::specs::Drafts::settled, crate::specs::Parts::joined))]
     pub(crate) fn settle(&mut self, at: usize, row: Selector) -> usize
-        ensures row { Reaches (settled at row) self.old self.new }
+        ensures row { ComesTo (settled at row) self.old self.new }
         ensures place { self.new.refused ≡ false → result ≡ at + 1 }
     {
         if at < self.selectors.len() {
@@ -154,7 +154,7 @@ impl Draft {
     /// Begins a construct that declares, whose last token isn't known yet.
     #[tactic(auto, using(crate::proofs::Steps::growing), unfolding(crate::specs::Drafts::stage_of, crate::specs::Drafts::passed, crate::specs::Drafts::added, crate::specs::Drafts::closed, crate::specs::Parts::joined))]
     pub(crate) fn open(&mut self, row: Declarer) -> usize
-        ensures row { Reaches (added (one_declarer row)) self.old self.new }
+        ensures row { ComesTo (added (one_declarer row)) self.old self.new }
         ensures place { result ≡ length self.old.declarers.items }
     {
         let at = self.declarers.len();
@@ -165,7 +165,7 @@ impl Draft {
     /// Ends the construct of this row, behind its last token.
     #[tactic(auto, using(crate::proofs::Steps::growing), unfolding(crate::specs::Drafts::stage_of, crate::specs::Drafts::passed, crate::specs::Drafts::added, crate::specs::Drafts::closed, crate::specs::Parts::joined))]
     pub(crate) fn close(&mut self, at: usize, row: Declarer)
-        ensures { Reaches (closed at row) self.old self.new }
+        ensures { ComesTo (closed at row) self.old self.new }
     {
         if at < self.declarers.len() {
             self.declarers[at] = Declarer {
@@ -246,7 +246,7 @@ impl Draft {
     /// The number of the token that stands so many tokens behind this one.
     #[tactic(auto, unfolding(crate::specs::Drafts::stage_of))]
     pub(crate) fn behind(&mut self, number: u32, by: u32) -> u32
-        ensures stage { Reaches (λ s. s) self.old self.new }
+        ensures stage { ComesTo (λ s. s) self.old self.new }
         ensures number { self.new.refused ≡ false → result ≡ number + by }
     {
         match number.checked_add(by) {

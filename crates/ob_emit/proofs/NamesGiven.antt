@@ -14,7 +14,7 @@ use Rattle.ob_scan.proofs.NameTokens.{spelled_names}
 use Rattle.ob_decls.specs.declared.rows.Declared.{Declared}
 use Rattle.ob_decls.specs.declared.rows.Declarer.{Declarer}
 use Rattle.ob_decls.specs.Parts.{Rows}
-use Rattle.ob_interface.specs.Interfaces.{declaration, declaration_by, declaration_of, interface_of, is_outer, is_seen, outer_by, Declaration}
+use Rattle.ob_interface.specs.Interfaces.{declaration, declaration_by, declaration_of, interface_of, is_outer, is_seen_outside, outer_by, Declaration}
 use Rattle.ob_scope.specs.Identified.{AreNames}
 use Rattle.ob_scope.specs.Members.{declarer_at, member_by, members_of}
 use Rattle.ob_scope.specs.Texts.{no_token, text_at, token_at}
@@ -22,7 +22,7 @@ use Rattle.ob_scope.proofs.Elements.{contains_of, contains_slice, slice_contains
 use Rattle.ob_targets.specs.declared.target.Reference.{Reference}
 use Rattle.ob_targets.specs.declared.target.Target.{Target}
 use Rattle.ob_targets.specs.declared.target.Target.TheVariants as targets
-use Rattle.ob_targets.specs.Refers.{identifiers, is_identifier, number_of, AreReferences, Refers, own_name, item, declaration as declares, end, used, selected, second, nowhere}
+use Rattle.ob_targets.specs.Refers.{identifiers, is_identifier, identifier_number, AreReferences, Refers, own_name, item, declaration as declares, end, used, selected, second, nowhere}
 use Rattle.ob_targets.specs.declared.known.Known.{Known}
 use Rattle.ob_targets.specs.Predeclared.{is_predeclared}
 use Rattle.ob_types.specs.declared.nodes.Field.{Field}
@@ -79,7 +79,7 @@ module _ (bytes : List ℕ) (ts : List Token) (rows : Rows) (names : AreNames (t
 
   seen_by : (r : Declared) (i : ℕ) (d : Declaration) (o : Option Declarer) → slice_get rows.declared i ≡ Some r → outer_by rows.declarers r.declared_by ≡ o → declaration_by bytes ts rows.parts r o ≡ Some d → IsName d.name
   seen_by r i d None at e f = absurd (let none : None ≡ Some d = f in cc)
-  seen_by r i d (Some by) at e f = elim (cases_Bool (is_seen by.sort)) [
+  seen_by r i d (Some by) at e f = elim (cases_Bool (is_seen_outside by.sort)) [
     | inl a ↦ (
         let same : declaration bytes ts rows.parts r by ≡ d = some_one (declaration bytes ts rows.parts r by) d (rw a at f) in
         subst IsName (ap (λ (x : Declaration). x.name) same) (outer_name r i by at e))
@@ -112,7 +112,7 @@ numbered (t ∷ ts) b (suc i) p e =
     let n : p.0 ≡ b + 1 + i = r.0 in
     (omega arith, r.1)
 
-told_number : (p : ℕ × Token) (k : ℕ) → number_of p ≡ Some k → (p.0 ≡ k) × (p.1.kind ≡ kinds.Ident)
+told_number : (p : ℕ × Token) (k : ℕ) → identifier_number p ≡ Some k → (p.0 ≡ k) × (p.1.kind ≡ kinds.Ident)
 told_number (n, t) k e = elim (cases_Bool (is_identifier t.kind)) [
   | inl a ↦ (some_one n k (rw a at e), is_ident t.kind a)
   | inr b ↦ absurd (let none : None ≡ Some k = rw b at e in cc)
@@ -128,7 +128,7 @@ module _ (bytes : List ℕ) (ts : List Token) (spells : Spells bytes ts) where
   identifier_name : (k : ℕ) → Contains (identifiers ts) k → IsName (text_at bytes ts k)
   identifier_name k h =
       let at = slice_contains (identifiers ts) k h in
-      let r = row_of number_of (enumerate_from 0 ts) k at.0 at.1 in
+      let r = row_of identifier_number (enumerate_from 0 ts) k at.0 at.1 in
       let n = numbered ts 0 r.place r.row r.at in
       let t = told_number r.row k r.tells in
       let same : r.place ≡ k = (let a : r.row.0 ≡ 0 + r.place = n.0 in let b : r.row.0 ≡ k = t.0 in omega arith) in

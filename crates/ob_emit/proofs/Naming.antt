@@ -23,7 +23,7 @@ use Rattle.scip_symbol.specs.declared.kind.DescriptorKind.{DescriptorKind}
 use Rattle.scip_symbol.specs.declared.kind.DescriptorKind.TheVariants.{Term}
 use Rattle.ob_emit.specs.Made.{AreStepNames}
 use Rattle.ob_emit.specs.Named.{AreNamed, IsName, IsNamed}
-use Rattle.ob_emit.specs.Symbols.{Step, descriptor, in_block, in_record, kind_of, own_step, own_step_by, own_steps, step_by, step_there, steps_there}
+use Rattle.ob_emit.specs.Symbols.{Step, descriptor, step_in_block, step_in_record, kind_of, own_step, own_step_by, own_steps, step_by, step_there, steps_there}
 
 -- names are texts
 pub name_is_text : (bytes : List ℕ) → IsName bytes → IsUtf8 bytes
@@ -93,10 +93,10 @@ in_kind_name : (name : List ℕ) (kind : Option DescriptorKind) (s : Step) → o
 in_kind_name name None s e = absurd (let none : None ≡ Some s = e in cc)
 in_kind_name name (Some k) s e = ap (λ (x : Step). x.own.name) (sym (some_one (record { own = descriptor k name; owner = None }) s e))
 
-in_block_name : (sort : Sort) (name : List ℕ) (s : Step) → in_block sort name ≡ Some s → s.own.name ≡ name
+in_block_name : (sort : Sort) (name : List ℕ) (s : Step) → step_in_block sort name ≡ Some s → s.own.name ≡ name
 in_block_name sort name s e = in_kind_name name (kind_of sort) s e
 
-in_record_name : (k : ℕ) (name : List ℕ) (o : Option ℕ) (s : Step) → in_record k name o ≡ Some s → s.own.name ≡ name
+in_record_name : (k : ℕ) (name : List ℕ) (o : Option ℕ) (s : Step) → step_in_record k name o ≡ Some s → s.own.name ≡ name
 in_record_name k name None s e = absurd (let none : None ≡ Some s = e in cc)
 in_record_name k name (Some o) s e = elim (cases_Bool (nat_lt o k)) [
   | inl t ↦ ap (λ (x : Step). x.own.name) (sym (some_one (record { own = descriptor Term name; owner = Some o }) s (rw t at e)))

@@ -9,7 +9,7 @@ use Rattle.ob_decls.specs.declared.rows.Declared.{Declared}
 use Rattle.ob_decls.specs.declared.rows.Declarer.{Declarer}
 use Rattle.ob_decls.specs.declared.rows.Record.{Record as RecordRow}
 use Rattle.ob_scope.specs.declared.members.Member.{Member}
-use Rattle.ob_scope.specs.Members.{declarer_at, member_by, members_of, place_of}
+use Rattle.ob_scope.specs.Members.{declarer_at, member_by, members_of, scope_of}
 use Rattle.ob_scope.specs.Scope.{NoneTwice}
 use Rattle.ob_types.specs.World.{World, declared_at, declarer_from, declarer_of, owner_at, record_at}
 
@@ -80,7 +80,7 @@ member_once name ds f g once (i, l, a) (j, m, b) place named =
 pub record DeclaresBy (w : World) (k : ℕ) (by : Declarer) : Type 0 where
   pub row : Declared
   pub number : row.number ≡ k
-  pub among : Contains (members_of w.rows) (record { place = place_of by; number = row.number; sort = by.sort })
+  pub among : Contains (members_of w.rows) (record { place = scope_of by; number = row.number; sort = by.sort })
 
 pub declares : (w : World) (k : ℕ) (by : Declarer) → declarer_of w k ≡ Some by → DeclaresBy w k by
 unfolding declarer_of declarer_from declared_at
@@ -95,7 +95,7 @@ declares w k by e = by_row (find (λ (d : Declared). d.number == k) w.rows.decla
         record {
           row = d;
           number = eqb-true d.number k h.passes;
-          among = mapped (λ (x : Declared). member_by x (declarer_at w.rows.declarers x.declared_by)) w.rows.declared d (record { place = place_of by; number = d.number; sort = by.sort }) h.among
+          among = mapped (λ (x : Declared). member_by x (declarer_at w.rows.declarers x.declared_by)) w.rows.declared d (record { place = scope_of by; number = d.number; sort = by.sort }) h.among
               (ap (member_by d) by_it);
         }
 

@@ -14,14 +14,14 @@ use Rattle.ob_decls.specs.declared.rows.Declarer.{Declarer}
 use Rattle.ob_decls.specs.Declaring.{own_name}
 use Rattle.ob_scope.specs.declared.members.Scope.{Scope}
 use Rattle.ob_scope.specs.declared.members.Scope.TheVariants.{Block, Record}
-use Rattle.ob_scope.specs.Members.{members_of, place_of}
+use Rattle.ob_scope.specs.Members.{members_of, scope_of}
 use Rattle.ob_scope.specs.Texts.{text_at}
 use Rattle.ob_types.specs.World.{World, text, declarer_of, owner_at}
 use Rattle.scip_symbol.specs.declared.kind.DescriptorKind.{DescriptorKind}
 use Rattle.scip_symbol.specs.declared.kind.DescriptorKind.TheVariants.{Namespace, Term}
 use Rattle.scip_symbol.specs.SymbolTexts.{PlainDescriptor, PlainSymbol, Local}
 use Rattle.ob_emit.specs.Apart.{DeclaresOnce, IsLocal}
-use Rattle.ob_emit.specs.Symbols.{Step, descriptor, declared_symbol, global, in_record, is_local, kind_of, own_path, own_step, own_step_by, own_steps, symbol_at}
+use Rattle.ob_emit.specs.Symbols.{Step, descriptor, declared_symbol, global, step_in_record, is_local, kind_of, own_path, own_step, own_step_by, own_steps, symbol_at}
 use Rattle.ob_emit.proofs.OneMember.{declares, member_once, owns, DeclaresBy, Owns}
 use Rattle.ob_emit.proofs.OnePath.{begins, path_once, Begins}
 
@@ -56,7 +56,7 @@ module _ (w : World) (k : ℕ) (s : Step) where
       let g : made ≡ s = cc in
       field is owner (sym g)
 
-  by_owner : (by : Declarer) (r : ℕ) (v : Option ℕ) → by.of_record ≡ Some r → owner_at w r ≡ v → in_record k (text w k) v ≡ Some s → StepsBy w k by s
+  by_owner : (by : Declarer) (r : ℕ) (v : Option ℕ) → by.of_record ≡ Some r → owner_at w r ≡ v → step_in_record k (text w k) v ≡ Some s → StepsBy w k by s
   by_owner by r None is owner e = absurd (let f : None ≡ Some s = e in cc)
   by_owner by r (Some o) is owner e = by_test by r o _ is owner e
 
@@ -79,7 +79,7 @@ module _ (w : World) (k : ℕ) (s : Step) where
 
 module _ (w : World) (once : DeclaresOnce w) where
   -- members of one name in one place
-  in_one_place : (k j : ℕ) (a b : Declarer) → declarer_of w k ≡ Some a → declarer_of w j ≡ Some b → place_of a ≡ place_of b → text w k ≡ text w j → k ≡ j
+  in_one_place : (k j : ℕ) (a b : Declarer) → declarer_of w k ≡ Some a → declarer_of w j ≡ Some b → scope_of a ≡ scope_of b → text w k ≡ text w j → k ≡ j
   unfolding text
   in_one_place k j a b at_k at_j place named =
       let f : DeclaresBy w k a = declares w k a at_k in
@@ -87,7 +87,7 @@ module _ (w : World) (once : DeclaresOnce w) where
       let same_text : text_at w.bytes w.tokens f.row.number ≡ text_at w.bytes w.tokens g.row.number =
       ap (text_at w.bytes w.tokens) f.number ∙ named ∙ ap (text_at w.bytes w.tokens) (sym g.number) in
       sym f.number
-      ∙ member_once (text_at w.bytes w.tokens) (members_of w.rows) (record { place = place_of a; number = f.row.number; sort = a.sort }) (record { place = place_of b; number = g.row.number; sort = b.sort })
+      ∙ member_once (text_at w.bytes w.tokens) (members_of w.rows) (record { place = scope_of a; number = f.row.number; sort = a.sort }) (record { place = scope_of b; number = g.row.number; sort = b.sort })
       once.once f.among g.among place same_text
       ∙ g.number
 
@@ -101,7 +101,7 @@ module _ (w : World) (once : DeclaresOnce w) where
       let named : text w k ≡ text w j = ap (λ (v : PlainDescriptor). v.name) (ap (λ (v : Step). v.own) (sym is) ∙ own ∙ ap (λ (v : Step). v.own) is_too) in
       in_one_place k j a b at_k at_j (block_place a none ∙ ap Block (outer ∙ sym outer_too) ∙ sym (block_place b none_too)) named
     where
-      block_place : (c : Declarer) → c.of_record ≡ None → place_of c ≡ Block c.block
+      block_place : (c : Declarer) → c.of_record ≡ None → scope_of c ≡ Block c.block
       block_place c e = rw e refl
   alike_by k j s t a b at_k at_j (block none outer is) (field {o = o} r at_o is_too) own owner =
       absurd (let e : None ≡ Some o = ap (λ (v : Step). v.owner) (sym is) ∙ owner ∙ ap (λ (v : Step). v.owner) is_too in cc)
@@ -116,7 +116,7 @@ module _ (w : World) (once : DeclaresOnce w) where
       let same_record : r ≡ q = sym x.number ∙ once.owners x.row y.row x.among y.among (x.owner ∙ same_owner ∙ sym y.owner) ∙ y.number in
       in_one_place k j a b at_k at_j (record_place a r in_r ∙ ap Record same_record ∙ sym (record_place b q in_q)) named
     where
-      record_place : (c : Declarer) (r : ℕ) → c.of_record ≡ Some r → place_of c ≡ Record r
+      record_place : (c : Declarer) (r : ℕ) → c.of_record ≡ Some r → scope_of c ≡ Record r
       record_place c r e = rw e refl
 
   alike : (k j : ℕ) (s t : Step) → own_steps w k ≡ Some s → own_steps w j ≡ Some t → s.own ≡ t.own → s.owner ≡ t.owner → k ≡ j

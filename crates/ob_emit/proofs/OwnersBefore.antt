@@ -12,14 +12,14 @@ use Rattle.ob_types.specs.World.{World, declarer_of, owner_at, text}
 use Rattle.scip_symbol.specs.declared.kind.DescriptorKind.{DescriptorKind}
 use Rattle.scip_symbol.specs.declared.kind.DescriptorKind.TheVariants.{Term}
 use Rattle.ob_emit.specs.Made.{AreBefore}
-use Rattle.ob_emit.specs.Symbols.{Step, descriptor, in_record, kind_of, own_step, own_step_by, own_steps, step_by, step_there, steps_there}
+use Rattle.ob_emit.specs.Symbols.{Step, descriptor, step_in_record, kind_of, own_step, own_step_by, own_steps, step_by, step_there, steps_there}
 
 no_owner : (k : ℕ) (name : List ℕ) (kind : Option DescriptorKind) (s : Step) (o : ℕ) → option_map (λ (it : DescriptorKind). record { own = descriptor it name; owner = None }) kind ≡ Some s → s.owner ≡ Some o → o < k
 no_owner k name None s o e f = absurd (let none : None ≡ Some s = e in cc)
 no_owner k name (Some it) s o e f =
     absurd (let none : None ≡ Some o = ap (λ (x : Step). x.owner) (some_one (record { own = descriptor it name; owner = None }) s e) ∙ f in cc)
 
-field_before : (k : ℕ) (name : List ℕ) (owner : Option ℕ) (s : Step) (o : ℕ) → in_record k name owner ≡ Some s → s.owner ≡ Some o → o < k
+field_before : (k : ℕ) (name : List ℕ) (owner : Option ℕ) (s : Step) (o : ℕ) → step_in_record k name owner ≡ Some s → s.owner ≡ Some o → o < k
 field_before k name None s o e f = absurd (let none : None ≡ Some s = e in cc)
 field_before k name (Some before) s o e f = elim (cases_Bool (nat_lt before k)) [
   | inl t ↦ (

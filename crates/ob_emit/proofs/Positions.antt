@@ -11,7 +11,7 @@ use Rattle.ob_scan.specs.declared.token.Token.{Token}
 use Rattle.ob_scan.specs.Position.{ends_line, IsPosition}
 use Rattle.ob_scan.specs.Spelling.{AreInText}
 use Rattle.ob_scope.specs.Texts.{no_token, token_at}
-use Rattle.ob_emit.specs.Documents.{column_of, line_of}
+use Rattle.ob_emit.specs.Documents.{column_of, line_number}
 
 -- behind a line end the column is 0
 column_first : (bytes : List ℕ) (first : ℕ) → (first ≡ 0) ⊎ ((last : ℕ) × (last + 1 ≡ first) × (ends_line bytes last ≡ true)) → column_of bytes first ≡ 0
@@ -43,12 +43,12 @@ position_column bytes offset line column p =
     let here : column_of bytes (p.first + column) ≡ column = column_behind bytes p.first column (column_first bytes p.first p.begins) all in
     sym (subst (λ (n : ℕ). column_of bytes n ≡ column) e here)
 
-pub position_line : (bytes : List ℕ) (offset line column : ℕ) → IsPosition bytes offset line column → line ≡ line_of bytes offset
-unfolding line_of
+pub position_line : (bytes : List ℕ) (offset line column : ℕ) → IsPosition bytes offset line column → line ≡ line_number bytes offset
+unfolding line_number
 position_line bytes offset line column p = p.line_is
 
-pub line_within : (bytes : List ℕ) (offset : ℕ) → line_of bytes offset ≤ offset
-unfolding line_of
+pub line_within : (bytes : List ℕ) (offset : ℕ) → line_number bytes offset ≤ offset
+unfolding line_number
 line_within bytes offset = omega (arith, count_by-le-length (ends_line bytes) (range_with_len 0 offset), length-range_with_len 0 offset)
 
 one_further : (b : Bool) (column offset : ℕ) → column ≤ offset → (if b then 0 else column + 1) ≤ suc offset
@@ -61,7 +61,7 @@ column_within bytes zero = omega arith
 column_within bytes (suc offset) = one_further (ends_line bytes offset) (column_of bytes offset) offset (column_within bytes offset)
 
 -- both stand within the offset, so that they fit where it does
-pub line_fits : (bytes : List ℕ) (offset n line : ℕ) → line ≡ line_of bytes offset → offset ≤ length bytes → length bytes < n → line < n
+pub line_fits : (bytes : List ℕ) (offset n line : ℕ) → line ≡ line_number bytes offset → offset ≤ length bytes → length bytes < n → line < n
 line_fits bytes offset n line e l h = omega (arith, line_within bytes offset)
 
 pub column_fits : (bytes : List ℕ) (offset n column : ℕ) → column ≡ column_of bytes offset → offset ≤ length bytes → length bytes < n → column < n

@@ -15,7 +15,7 @@ use Rattle.ob_decls.specs.declared.rows.Sort.TheVariants as sorts
 use Rattle.ob_decls.specs.Declaring.{rows_of}
 use Rattle.ob_decls.specs.Order.{AreRowsInOrder}
 use Rattle.ob_decls.specs.Parts.{Rows}
-use Rattle.ob_interface.specs.Interfaces.{declaration, declaration_of, form_by, interface_of, is_outer, is_part_by, is_seen, outer_by, part_at, part_of, Declaration}
+use Rattle.ob_interface.specs.Interfaces.{declaration, declaration_of, form_by, interface_of, is_outer, is_part_by, is_seen_outside, outer_by, part_at, part_of, Declaration}
 use Rattle.ob_interface.specs.Placed.{holds, is_record, owner_place}
 use Rattle.ob_owners.specs.Owners.{has_type, EndsForm, IsFieldOf, IsOfRecord}
 use Rattle.ob_owners.proofs.StandingModules.{behind_first, ends_form, has_owner, of_record}
@@ -28,7 +28,7 @@ use Rattle.ob_emit.proofs.SeenSymbols.{row_at, seen_by, RowAt, SeenBy}
 use Rattle.ob_emit.proofs.SomeSymbol.{owner_is}
 
 -- what has a type is seen
-seen_type : (s : Sort) → has_type s ≡ true → is_seen s ≡ true
+seen_type : (s : Sort) → has_type s ≡ true → is_seen_outside s ≡ true
 seen_type sorts.Import e = absurd (let f : false ≡ true = e in cc)
 seen_type sorts.Constant e = refl
 seen_type sorts.Type e = refl

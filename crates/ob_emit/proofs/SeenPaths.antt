@@ -16,7 +16,7 @@ use Rattle.scip_symbol.specs.declared.kind.DescriptorKind.{DescriptorKind}
 use Rattle.scip_symbol.specs.declared.kind.DescriptorKind.TheVariants.{Term}
 use Rattle.scip_symbol.specs.SymbolTexts.{PlainDescriptor}
 use Rattle.ob_emit.specs.Apart.{seen_tokens}
-use Rattle.ob_emit.specs.Symbols.{Step, declared_symbol, descriptor, global, imported_symbol, in_block, in_record, kind_of, module_path, own_path, own_steps, path_there, path_within, step_by, steps_there}
+use Rattle.ob_emit.specs.Symbols.{Step, declared_symbol, descriptor, global, imported_symbol, step_in_block, step_in_record, kind_of, module_path, own_path, own_steps, path_there, path_within, step_by, steps_there}
 use Rattle.ob_emit.proofs.SeenOrder.{ascend}
 use Rattle.ob_emit.proofs.SeenOwners.{behind, owner_seen, OwnerSeen}
 use Rattle.ob_emit.proofs.SeenSymbols.{among, block, first, here, own, row_at, seen_at, seen_by, RowAt, SeenBy}
@@ -31,7 +31,7 @@ flat_by m name rest None = refl
 flat_by m name rest (Some kind) = refl
 
 -- of what stands in a block
-flat : (m : List ℕ) (steps : ℕ → Option Step) (n k : ℕ) (sort : Sort) (name : List ℕ) → steps k ≡ in_block sort name
+flat : (m : List ℕ) (steps : ℕ → Option Step) (n k : ℕ) (sort : Sort) (name : List ℕ) → steps k ≡ step_in_block sort name
     → path_within m steps (suc n) k ≡ option_map (λ (kind : DescriptorKind). module_path m ++ descriptor kind name ∷ []) (kind_of sort)
 unfolding path_within
 flat m steps n k sort name e = rw e (flat_by m name (path_within m steps n) (kind_of sort))
@@ -42,7 +42,7 @@ owned : (m : List ℕ) (steps : ℕ → Option Step) (n k o : ℕ) (own : PlainD
 unfolding path_within
 owned m steps n k o own e = rw e refl
 
-behind_owner : (k : ℕ) (name : List ℕ) (x : Option ℕ) (o : ℕ) → x ≡ Some o → o < k → in_record k name x ≡ Some (record { own = descriptor Term name; owner = Some o })
+behind_owner : (k : ℕ) (name : List ℕ) (x : Option ℕ) (o : ℕ) → x ≡ Some o → o < k → step_in_record k name x ≡ Some (record { own = descriptor Term name; owner = Some o })
 behind_owner k name x o e l = rw e (rw (lt-ltb o k l) refl)
 
 named : (v : World) (r : Declared) (it : Declaration) → SeenBy v r it → it.name ≡ text v r.number
@@ -83,8 +83,8 @@ module _ (v : World) (m : Module) (same : v.rows ≡ rows_of m) (order : AreRows
       → path_seen (suc n) d ≡ path_here (suc j) r.row.number
   by_record n j d k it rest l b number at r s None is =
       let of : it.of_record ≡ None = ap (λ (y : Declaration). y.of_record) (sym s.is) ∙ is in
-      let theirs : steps_there there d ≡ in_block it.sort it.name = rw at (ap (step_by there d it) of) in
-      let ours : own_steps v r.row.number ≡ in_block s.by.sort (text v r.row.number) = own v order r.place k r.row r.at r.has s.by s.outer None is in
+      let theirs : steps_there there d ≡ step_in_block it.sort it.name = rw at (ap (step_by there d it) of) in
+      let ours : own_steps v r.row.number ≡ step_in_block s.by.sort (text v r.row.number) = own v order r.place k r.row r.at r.has s.by s.outer None is in
       flat (text v own_name) (steps_there there) n d it.sort it.name theirs
       ∙ ap (λ (name : List ℕ). option_map (λ (kind : DescriptorKind). module_path (text v own_name) ++ descriptor kind name ∷ []) (kind_of it.sort)) (named v r.row it s)
       ∙ ap (λ (y : Declaration). option_map (λ (kind : DescriptorKind). module_path (text v own_name) ++ descriptor kind (text v r.row.number) ∷ []) (kind_of y.sort)) (sym s.is)

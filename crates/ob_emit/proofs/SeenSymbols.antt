@@ -7,7 +7,7 @@ use Rattle.std.proofs.lemmas.Bool.{and_parts}
 use Rattle.ob_decls.specs.declared.rows.Declared.{Declared}
 use Rattle.ob_decls.specs.declared.rows.Declarer.{Declarer}
 use Rattle.ob_decls.specs.Order.{AreRowsInOrder}
-use Rattle.ob_interface.specs.Interfaces.{declaration, declaration_by, is_outer, is_seen, outer_by, Declaration, ModuleInterface}
+use Rattle.ob_interface.specs.Interfaces.{declaration, declaration_by, is_outer, is_seen_outside, outer_by, Declaration, ModuleInterface}
 use Rattle.ob_interface.specs.Placed.{declaration_at}
 use Rattle.ob_types.specs.World.{World, declaration_there, declared_at, declarer_from, declarer_of}
 use Rattle.ob_scope.proofs.Elements.{contains_slice}
@@ -57,7 +57,7 @@ seen_if v r it by false e h = cc
 
 pub seen_by : (v : World) (r : Declared) (it : Declaration) (o : Option Declarer) → outer_by v.rows.declarers r.declared_by ≡ o → declaration_by v.bytes v.tokens v.rows.parts r o ≡ Some it → SeenBy v r it
 seen_by v r it None e h = cc
-seen_by v r it (Some by) e h = seen_if v r it by (is_seen by.sort) e h
+seen_by v r it (Some by) e h = seen_if v r it by (is_seen_outside by.sort) e h
 
 module _ (v : World) (order : AreRowsInOrder v.rows) (place k : ℕ) (r : Declared) (at : slice_get v.rows.declared place ≡ Some r) (has : r.number ≡ k) (by : Declarer) (outer : outer_by v.rows.declarers r.declared_by ≡ Some by) where
   pub passes : ((by.block == 0) ≡ true) × ((by.first == r.declared_by) ≡ true)

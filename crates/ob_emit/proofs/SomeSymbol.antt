@@ -20,7 +20,7 @@ use Rattle.ob_types.specs.World.{World, declared_at, declarer_from, declarer_of,
 use Rattle.scip_symbol.specs.declared.kind.DescriptorKind.{DescriptorKind}
 use Rattle.scip_symbol.specs.declared.kind.DescriptorKind.TheVariants.{Term, TypeName, Method}
 use Rattle.scip_symbol.specs.SymbolTexts.{PlainDescriptor, Local}
-use Rattle.ob_emit.specs.Symbols.{Step, declared_symbol, descriptor, global, in_record, is_local, kind_of, module_path, own_path, own_step_by, own_steps, path_within, symbol_at}
+use Rattle.ob_emit.specs.Symbols.{Step, declared_symbol, descriptor, global, step_in_record, is_local, kind_of, module_path, own_path, own_step_by, own_steps, path_within, symbol_at}
 use Rattle.ob_emit.proofs.Numbered.{find_among, position_there}
 
 unfoldable pub IsThere : {X : Type 0} → Option X → Type 0
@@ -71,7 +71,7 @@ module _ (w : World) (m : Module) (same : w.rows ≡ rows_of m) (order : AreRows
       → own_steps w x.number ≡ own_step_by w x.number by.sort v
   steps_by x by h j e outer v is = rw (of x by h j e) (rw (eq-eqb by.block 0 outer) (ap (own_step_by w x.number by.sort) is))
 
-  field_step : (k r o : ℕ) → owner_at w r ≡ Some o → o < k → in_record k (text w k) (owner_at w r) ≡ Some (record { own = descriptor Term (text w k); owner = Some o })
+  field_step : (k r o : ℕ) → owner_at w r ≡ Some o → o < k → step_in_record k (text w k) (owner_at w r) ≡ Some (record { own = descriptor Term (text w k); owner = Some o })
   field_step k r o e l = rw e (rw (lt-ltb o k l) refl)
 
   PathOf : ℕ → ℕ → Type 0

@@ -24,7 +24,7 @@ use Rattle.ob_decls.specs.declared.rows.Step.{Step}
 use Rattle.ob_decls.specs.declared.rows.TypeName.{TypeName as NameRow}
 use Rattle.ob_decls.specs.Declaring.{own_name, rows_of}
 use Rattle.ob_decls.specs.Order.{AreRowsInOrder}
-use Rattle.ob_interface.specs.Interfaces.{declaration as seen_as, declaration_by, declaration_of, interface_of, is_seen, outer_by, Declaration, ModuleInterface}
+use Rattle.ob_interface.specs.Interfaces.{declaration as seen_as, declaration_by, declaration_of, interface_of, is_seen_outside, outer_by, Declaration, ModuleInterface}
 use Rattle.ob_interface.specs.Placed.{declaration_at, place_of}
 use Rattle.ob_owners.proofs.Placed.{AreFields, EndsOne, HasConstruct, IsAlias, IsField, IsNoImport}
 use Rattle.ob_scope.proofs.Elements.{contains_slice, slice_contains, slice_there, some_one}
@@ -42,7 +42,7 @@ use Rattle.ob_targets.specs.declared.target.Target.{Target}
 use Rattle.ob_targets.specs.declared.target.Target.TheVariants as targets
 use Rattle.ob_targets.specs.Predeclared.{is_predeclared}
 use Rattle.ob_targets.specs.Refers.{AreReferences, Refers, own_name as at_own_name, item, declaration, end, used, selected, second, nowhere}
-use Rattle.ob_targets.specs.Standing.{first, is_alias, is_declared, is_end, is_imported, is_second, is_selected, is_use, standing}
+use Rattle.ob_targets.specs.Standing.{first, is_alias, is_declared, is_end_name, is_imported_name, is_second, is_selected, is_use, standing}
 use Rattle.ob_targets.specs.Steps.{Follows, Knows, StepsTo, Levels, Selects, guard_of, there, nowhere as leads_nowhere, of_module, of_nothing, exported as by_module, field as by_field, no_field, unknown, none, one, to_field, to_elements, to_target, by_guard, at_head, behind}
 use Rattle.ob_targets.specs.Targets.{declared_target, end_target, field_target, holds_value, known_of, second_target, typed, used_target}
 use Rattle.ob_types.specs.declared.nodes.Field.{Field}
@@ -54,10 +54,10 @@ use Rattle.ob_types.specs.declared.nodes.Record.{Record}
 use Rattle.ob_types.specs.declared.nodes.Record.TheVariants as records
 use Rattle.ob_types.specs.Same.{same}
 use Rattle.ob_types.specs.Shapes.{base_of, field_of, named_here, shape}
-use Rattle.ob_types.specs.World.{World, declaration_there, declarer_from, exported, exported_at, field_at, form_of, home_of, if_exported, is_in, item_of, meaning, sort_of, sort_there, text}
+use Rattle.ob_types.specs.World.{World, declaration_there, declarer_from, exported, exported_at, field_at, form_of, home_of, if_exported, is_of_record, item_of, meaning, sort_of, sort_there, text}
 use Rattle.scip_symbol.specs.declared.kind.DescriptorKind.{DescriptorKind}
 use Rattle.scip_symbol.specs.declared.kind.DescriptorKind.TheVariants.{Term, TypeName, Method}
-use Rattle.ob_emit.specs.Symbols.{declared_symbol, external_symbol, imported_symbol, is_imported as is_imported_target, kind_of, module_symbol, stands_for_something, symbol_of}
+use Rattle.ob_emit.specs.Symbols.{declared_symbol, external_symbol, imported_symbol, is_imported_name as is_imported_target, kind_of, module_symbol, stands_for_something, symbol_of}
 use Rattle.ob_emit.proofs.Naming.{found_there}
 use Rattle.ob_emit.proofs.Numbered.{position_there}
 use Rattle.ob_emit.proofs.SeenOrder.{number_there}
@@ -98,7 +98,7 @@ means_among name blocks ds u d (by_scope r) = (r.seen).declared
 means_among name blocks ds u d (as_target t n l) = l.declared
 
 -- what others see has a descriptor
-kind_seen : (v : World) (x : Declared) (by : Declarer) (it : Declaration) (s : Sort) → by.sort ≡ s → cond (is_seen s) (Some (seen_as v.bytes v.tokens v.rows.parts x by)) None ≡ Some it → (kind : DescriptorKind) × (kind_of it.sort ≡ Some kind)
+kind_seen : (v : World) (x : Declared) (by : Declarer) (it : Declaration) (s : Sort) → by.sort ≡ s → cond (is_seen_outside s) (Some (seen_as v.bytes v.tokens v.rows.parts x by)) None ≡ Some it → (kind : DescriptorKind) × (kind_of it.sort ≡ Some kind)
 kind_seen v x by it sorts.Import e f = absurd (let g : None ≡ Some it = f in cc)
 kind_seen v x by it sorts.Constant e f = (Term, ap kind_of (ap (λ (y : Declaration). y.sort) (sym (some_one _ it f)) ∙ e))
 kind_seen v x by it sorts.Type e f = (TypeName, ap kind_of (ap (λ (y : Declaration). y.sort) (sym (some_one _ it f)) ∙ e))
@@ -235,10 +235,10 @@ module _ (w : World) (m : Module) (is_tree : w.rows ≡ rows_of m) (order : AreR
   at_rest k true otherwise s = tt
   at_rest k false otherwise s = s
 
-  at_end : (k : ℕ) → Stands k (first (is_end k) standings.End w.rows.ends (first (is_use k) standings.Use w.rows.uses (first (is_selected k) standings.Selected w.rows.selectors (first (is_second k) standings.Second w.rows.uses standings.Nowhere))))
+  at_end : (k : ℕ) → Stands k (first (is_end_name k) standings.End w.rows.ends (first (is_use k) standings.Use w.rows.uses (first (is_selected k) standings.Selected w.rows.selectors (first (is_second k) standings.Second w.rows.uses standings.Nowhere))))
   unfolding Stands
   at_end k =
-      stands_first k (is_end k) standings.End w.rows.ends _ (λ i e. tt) (λ e.
+      stands_first k (is_end_name k) standings.End w.rows.ends _ (λ i e. tt) (λ e.
       stands_first k (is_use k) standings.Use w.rows.uses _ (λ i e. tt) (λ e.
       stands_first k (is_selected k) standings.Selected w.rows.selectors _ (λ i e. tt) (λ e.
       stands_first k (is_second k) standings.Second w.rows.uses standings.Nowhere (λ i e. tt) (λ e. tt))))
@@ -246,7 +246,7 @@ module _ (w : World) (m : Module) (is_tree : w.rows ≡ rows_of m) (order : AreR
   stands : (k : ℕ) → Stands k (standing w.rows k)
   stands k = at_rest k (k == own_name) _ (
       stands_first k (is_alias k) standings.Item w.rows.imports _ (λ i e. at_item k (is_alias k) i e) (λ unaliased.
-      stands_first k (is_imported k) standings.Item w.rows.imports _ (λ i e. at_item k (is_imported k) i e) (λ e.
+      stands_first k (is_imported_name k) standings.Item w.rows.imports _ (λ i e. at_item k (is_imported_name k) i e) (λ e.
       stands_first k (is_declared k) standings.Declaration w.rows.declared _ (λ i e. at_declaration k i unaliased e) (λ e. at_end k))))
 
   -- ---- names behind a dot
@@ -287,24 +287,24 @@ module _ (w : World) (m : Module) (is_tree : w.rows ≡ rows_of m) (order : AreR
   exported_valid at k None i e = i
   exported_valid at k (Some j) i e = exported_by at k j (exported w j (text w k)) refl
 
-  field_by : (r : ℕ) (k : ℕ) (d : Declared) (name : List ℕ) → find (λ (x : Declared). is_in w r x && bytes_eq (text w x.number) name) w.rows.declared ≡ Some d → d.number ≡ k → IsThere (declared_symbol w p k)
+  field_by : (r : ℕ) (k : ℕ) (d : Declared) (name : List ℕ) → find (λ (x : Declared). is_of_record w r x && bytes_eq (text w x.number) name) w.rows.declared ≡ Some d → d.number ≡ k → IsThere (declared_symbol w p k)
   unfolding AreFields
   field_by r k d name e is =
-      let h = found_there (λ (x : Declared). is_in w r x && bytes_eq (text w x.number) name) w.rows.declared d e in
+      let h = found_there (λ (x : Declared). is_of_record w r x && bytes_eq (text w x.number) name) w.rows.declared d e in
       let among : Contains w.rows.declared d = contains_slice w.rows.declared h.0 d h.1 in
       let c : HasConstruct w.rows d = (holds w m is_tree order).declared d among in
       let of : declarer_from w d.declared_by ≡ Some c.by = from w m is_tree order d.declared_by c.by c.among c.first in
-      let in_it : option_eq nat_eq c.by.of_record (Some r) ≡ true = sym (rw of refl) ∙ (and_parts (is_in w r d) (bytes_eq (text w d.number) name) h.2).0 in
+      let in_it : option_eq nat_eq c.by.of_record (Some r) ≡ true = sym (rw of refl) ∙ (and_parts (is_of_record w r d) (bytes_eq (text w d.number) name) h.2).0 in
       let f : IsField w.rows c.by r = (holds w m is_tree order).declarers c.by c.among r (same_record c.by.of_record r in_it) in
       subst (λ (j : ℕ). IsThere (declared_symbol w p j)) is (has_symbol w m is_tree order p d c.by among c.among c.first f.sort)
 
-  own_number : (r : ℕ) (name : List ℕ) (k : ℕ) (o : Option Declared) → find (λ (x : Declared). is_in w r x && bytes_eq (text w x.number) name) w.rows.declared ≡ o → option_map (λ (d : Declared). d.number) o ≡ Some k → IsThere (declared_symbol w p k)
+  own_number : (r : ℕ) (name : List ℕ) (k : ℕ) (o : Option Declared) → find (λ (x : Declared). is_of_record w r x && bytes_eq (text w x.number) name) w.rows.declared ≡ o → option_map (λ (d : Declared). d.number) o ≡ Some k → IsThere (declared_symbol w p k)
   own_number r name k None e f = absurd (let g : None ≡ Some k = f in cc)
   own_number r name k (Some d) e f = field_by r k d name e (some_one d.number k f)
 
   own_there : (r : ℕ) (name : List ℕ) (k : ℕ) → field_at w r name ≡ Some k → IsThere (declared_symbol w p k)
   unfolding field_at
-  own_there r name k e = own_number r name k (find (λ (x : Declared). is_in w r x && bytes_eq (text w x.number) name) w.rows.declared) refl e
+  own_there r name k e = own_number r name k (find (λ (x : Declared). is_of_record w r x && bytes_eq (text w x.number) name) w.rows.declared) refl e
 
   own_field : (r : ℕ) (name : List ℕ) (f : Field) (o : Option ℕ) → field_at w r name ≡ o → option_map fields.Own o ≡ Some f → Valid (field_target f)
   unfolding Valid

@@ -17,8 +17,8 @@ use Rattle.ob_emit.specs.Symbols.{symbol_of}
 -- ---- places
 
 -- how many lines end before an offset
-unfoldable pub line_of : List ℕ → ℕ → ℕ
-line_of bytes offset = count_by (ends_line bytes) (range_with_len 0 offset)
+unfoldable pub line_number : List ℕ → ℕ → ℕ
+line_number bytes offset = count_by (ends_line bytes) (range_with_len 0 offset)
 
 -- how far an offset stands behind the last line end before it
 unfoldable pub column_of : List ℕ → ℕ → ℕ
@@ -31,7 +31,7 @@ range_by line column last end = if line == last then pos line ∷ pos column ∷
 
 -- from the start of a token to the end of another
 abbrev pub span_range : List ℕ → Token → Token → List ℤ
-span_range bytes first last = range_by (line_of bytes first.start) (column_of bytes first.start) (line_of bytes last.end) (column_of bytes last.end)
+span_range bytes first last = range_by (line_number bytes first.start) (column_of bytes first.start) (line_number bytes last.end) (column_of bytes last.end)
 
 abbrev pub span_of : World → ℕ → ℕ → List ℤ
 span_of w first last = span_range w.bytes (token_at w.tokens first) (token_at w.tokens last)

@@ -51,13 +51,13 @@ pub record Step : Type 0 where
   pub owner : Option ℕ
 
 -- what stands in the block itself
-abbrev pub in_block : Sort → List ℕ → Option Step
-in_block sort name = option_map (λ kind. record { own = descriptor kind name; owner = None }) (kind_of sort)
+abbrev pub step_in_block : Sort → List ℕ → Option Step
+step_in_block sort name = option_map (λ kind. record { own = descriptor kind name; owner = None }) (kind_of sort)
 
 -- a field, by its number and its owner's, which stands before it
-abbrev pub in_record : ℕ → List ℕ → Option ℕ → Option Step
-in_record k name None = None
-in_record k name (Some o) = if nat_lt o k then Some (record { own = descriptor Term name; owner = Some o }) else None
+abbrev pub step_in_record : ℕ → List ℕ → Option ℕ → Option Step
+step_in_record k name None = None
+step_in_record k name (Some o) = if nat_lt o k then Some (record { own = descriptor Term name; owner = Some o }) else None
 
 -- the descriptors of a declaration behind those of its owner, or else of the module, at most so many steps up
 unfoldable pub path_within : List ℕ → (ℕ → Option Step) → ℕ → ℕ → Option (List PlainDescriptor)
@@ -72,8 +72,8 @@ path m steps k = path_within m steps (suc k) k
 -- ---- the module's own declarations, by their tokens
 
 abbrev pub own_step_by : World → ℕ → Sort → Option ℕ → Option Step
-own_step_by w k sort None = in_block sort (text w k)
-own_step_by w k sort (Some r) = in_record k (text w k) (owner_at w r)
+own_step_by w k sort None = step_in_block sort (text w k)
+own_step_by w k sort (Some r) = step_in_record k (text w k) (owner_at w r)
 
 abbrev pub own_step : World → ℕ → Declarer → Option Step
 own_step w k by = if by.block == 0 then own_step_by w k by.sort by.of_record else None
@@ -101,8 +101,8 @@ declared_symbol w package_name k =
 -- ---- declarations of another module, by their places
 
 abbrev pub step_by : ModuleInterface → ℕ → Declaration → Option ℕ → Option Step
-step_by m d it None = in_block it.sort it.name
-step_by m d it (Some r) = in_record d it.name (owner_place m r)
+step_by m d it None = step_in_block it.sort it.name
+step_by m d it (Some r) = step_in_record d it.name (owner_place m r)
 
 abbrev pub step_there : ModuleInterface → ℕ → Declaration → Option Step
 step_there m d it = step_by m d it it.of_record
@@ -153,11 +153,11 @@ stands_for_something targets.Predeclared = false
 stands_for_something targets.Unresolved = false
 
 -- whether another module of the tree declares it
-abbrev pub is_imported : Target → Bool
-is_imported (targets.Declared k) = false
-is_imported (targets.Imported i d) = true
-is_imported (targets.External item name) = false
-is_imported targets.Own = false
-is_imported (targets.«Module» item) = false
-is_imported targets.Predeclared = false
-is_imported targets.Unresolved = false
+abbrev pub is_of_another_module : Target → Bool
+is_of_another_module (targets.Declared k) = false
+is_of_another_module (targets.Imported i d) = true
+is_of_another_module (targets.External item name) = false
+is_of_another_module targets.Own = false
+is_of_another_module (targets.«Module» item) = false
+is_of_another_module targets.Predeclared = false
+is_of_another_module targets.Unresolved = false

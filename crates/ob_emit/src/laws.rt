@@ -16,7 +16,7 @@ ghost use Rattle.ob_types.specs.World.{declaration_there, text, World};
 ghost use Rattle.scip_symbol.specs.SymbolTexts.{PlainSymbol};
 ghost use Rattle.ob_emit.specs.Apart.{seen_tokens, DeclaresOnce, IsLocal};
 ghost use Rattle.ob_emit.specs.Named.{AreNamed, AreOfNames, IsNamed};
-ghost use Rattle.ob_emit.specs.Symbols.{declared_symbol, imported_symbol, is_imported, stands_for_something, symbol_of};
+ghost use Rattle.ob_emit.specs.Symbols.{declared_symbol, imported_symbol, is_of_another_module, stands_for_something, symbol_of};
 
 /// The scopes of a module say that it has names, and those of the modules that it reaches that these have.
 pub fn names_of_scopes()
@@ -54,7 +54,7 @@ pub fn one_symbol()
 /// and has a symbol. The rows of both are those of their trees, in order.
 pub fn some_symbol()
     ensures here { (w : World) (m : Module) (refs : List Reference) (package_name : List ℕ) (r : Reference) → w.rows ≡ rows_of m → AreRowsInOrder w.rows → AreScopes w.bytes w.tokens w.rows w.scopes
-        → AreReferences w refs → Contains refs r → is_imported r.target ≡ false → is_some (symbol_of w package_name r.target) ≡ stands_for_something r.target }
+        → AreReferences w refs → Contains refs r → is_of_another_module r.target ≡ false → is_some (symbol_of w package_name r.target) ≡ stands_for_something r.target }
     ensures there { (w v : World) (m n : Module) (refs : List Reference) (package_name : List ℕ) (r : Reference) (i d : ℕ) → w.rows ≡ rows_of m → AreRowsInOrder w.rows → AreScopes w.bytes w.tokens w.rows w.scopes
         → v.rows ≡ rows_of n → AreRowsInOrder v.rows → AreReferences w refs → Contains refs r → r.target ≡ Imported i d → slice_get w.reached i ≡ Some (interface_of v.bytes v.tokens v.rows)
         → (it : Declaration) × (declaration_there w i d ≡ Some it) × (is_some (symbol_of w package_name r.target) ≡ true) }

@@ -10,7 +10,7 @@ ghost use Rattle.ob_types.specs.World.{declarer_of, owner_at};
 ghost use Rattle.ob_emit.specs.Made.{step_told};
 ghost use Rattle.ob_emit.specs.Symbols.{is_local, own_step, own_step_by, own_steps};
 
-use crate::steps::{Nested, StepRow, in_block, in_record};
+use crate::steps::{Nested, StepRow, step_in_block, step_in_record};
 use ob_decls::{Declared, Declarer, Import, Table};
 use ob_types::Types;
 
@@ -83,8 +83,8 @@ fn own_step<'a>(types: &Types<'a>, number: u32, by: Declarer) -> Option<StepRow<
     }
     let name = types.text(number);
     match by.of_record {
-        None => in_block(by.sort, name),
-        Some(record) => in_record(number, name, types.owner(record)),
+        None => step_in_block(by.sort, name),
+        Some(record) => step_in_record(number, name, types.owner(record)),
     }
 }
 

@@ -3,7 +3,7 @@ ghost use Rattle.std.specs.Prelude.{◌≡◌, ◌≤◌, ◌<◌, ◌^◌, IfOk
 ghost use Rattle.ob_scan.specs.Position.{line_starts};
 ghost use Rattle.ob_scan.specs.Spelling.{AreInText};
 ghost use Rattle.ob_scope.specs.Texts.{token_at};
-ghost use Rattle.ob_emit.specs.Documents.{column_of, construct_range, enclosing_range, line_of, range_by, range_of, span_of};
+ghost use Rattle.ob_emit.specs.Documents.{column_of, construct_range, enclosing_range, line_number, range_by, range_of, span_of};
 ghost use Rattle.std.specs.Prelude.{List, ℕ};
 
 use crate::own::declarer_of;
@@ -14,7 +14,7 @@ use std::alloc::{AllocError, Global};
 
 /// The line and the column of an offset.
 fn place_at(lines: &Lines, offset: u32) -> Position
-    ensures line { (bytes : List ℕ) → lines.now ≡ line_starts bytes → offset ≤ length bytes → result.line ≡ line_of bytes offset }
+    ensures line { (bytes : List ℕ) → lines.now ≡ line_starts bytes → offset ≤ length bytes → result.line ≡ line_number bytes offset }
     ensures column { (bytes : List ℕ) → lines.now ≡ line_starts bytes → offset ≤ length bytes → result.column ≡ column_of bytes offset }
 {
     lines.position(offset)

@@ -2,7 +2,7 @@
 ghost use Rattle.std.specs.Prelude.{◌≡◌, ℕ, Option};
 ghost use Rattle.std.specs.Option.{option_map};
 ghost use Rattle.ob_emit.specs.Made.{step_told};
-ghost use Rattle.ob_emit.specs.Symbols.{Step, in_block, in_record, kind_of};
+ghost use Rattle.ob_emit.specs.Symbols.{Step, step_in_block, step_in_record, kind_of};
 
 use ob_decls::Sort;
 use scip_symbol::DescriptorKind;
@@ -39,8 +39,8 @@ fn kind_of(sort: Sort) -> Option<DescriptorKind>
 }
 
 /// What stands in the block itself.
-pub(crate) fn in_block(sort: Sort, name: &[u8]) -> Option<StepRow<'_>>
-    ensures { option_map step_told result ≡ in_block sort name.now }
+pub(crate) fn step_in_block(sort: Sort, name: &[u8]) -> Option<StepRow<'_>>
+    ensures { option_map step_told result ≡ step_in_block sort name.now }
 {
     let kind = kind_of(sort)?;
     Some(StepRow {
@@ -51,8 +51,8 @@ pub(crate) fn in_block(sort: Sort, name: &[u8]) -> Option<StepRow<'_>>
 }
 
 /// A field, whose owner stands before it.
-pub(crate) fn in_record(number: u32, name: &[u8], owner: Option<u32>) -> Option<StepRow<'_>>
-    ensures { option_map step_told result ≡ in_record number name.now owner }
+pub(crate) fn step_in_record(number: u32, name: &[u8], owner: Option<u32>) -> Option<StepRow<'_>>
+    ensures { option_map step_told result ≡ step_in_record number name.now owner }
 {
     match owner {
         Some(before) if before < number => Some(StepRow {

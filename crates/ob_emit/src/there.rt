@@ -6,7 +6,7 @@ ghost use Rattle.ob_interface.specs.Answered.{declaration_told};
 ghost use Rattle.ob_emit.specs.Made.{step_told};
 ghost use Rattle.ob_emit.specs.Symbols.{step_by, step_there, steps_there};
 
-use crate::steps::{Nested, StepRow, in_block, in_record};
+use crate::steps::{Nested, StepRow, step_in_block, step_in_record};
 use ob_interface::{Declaration, Interface};
 
 /// What a declaration is to paths.
@@ -14,8 +14,8 @@ fn step_there<'a>(interface: &'a Interface, place: u32, it: &Declaration<'a>) ->
     ensures { option_map step_told result ≡ step_there interface.now place (declaration_told it.now) }
 {
     match it.record {
-        None => in_block(it.sort, it.name),
-        Some(record) => in_record(place, it.name, interface.owner(record)),
+        None => step_in_block(it.sort, it.name),
+        Some(record) => step_in_record(place, it.name, interface.owner(record)),
     }
 }
 

@@ -11,8 +11,8 @@ use Rattle.ob_decls.specs.declared.rows.Record.{Record as RecordRow}
 use Rattle.ob_decls.specs.Parts.{Rows as TableRows}
 use Rattle.ob_interface.specs.declared.rows.Rows.{Rows}
 use Rattle.ob_interface.specs.declared.rows.PartRow.{PartRow}
-use Rattle.ob_interface.specs.Interfaces.{Part, Declaration, Base, part_of, is_part_by, is_seen, declaration_by, declaration_of, base_by, base_of, outer_by, imported_of, text_at, start_at, interface_of}
-use Rattle.ob_interface.specs.Texts.{text_in, part_row_in, declaration_in, form_at, base_in, import_in, IsGrown, Tells, AllTell}
+use Rattle.ob_interface.specs.Interfaces.{Part, Declaration, Base, part_of, is_part_by, is_seen_outside, declaration_by, declaration_of, base_by, base_of, outer_by, imported_of, text_at, start_at, interface_of}
+use Rattle.ob_interface.specs.Texts.{text_in, part_row_in, declaration_in, form_at, base_in, import_in, IsGrown, TellsOn, AllTell}
 use Rattle.ob_interface.specs.Rowed.{form_in, interface_in}
 use Rattle.ob_interface.proofs.Growing.{tells_grown, all_tell_grown, all_tell_now, grown_twice}
 
@@ -28,7 +28,7 @@ declared_same : (bytes : List ℕ) (ts : List Token) (ps all : List FormPart) (r
     → declaration_by bytes ts ps r o ≡ declaration_by bytes ts all r o
 declared_same bytes ts ps all r None h = refl
 declared_same bytes ts ps all r (Some d) h =
-    ap (λ (x : List FormPart). if is_seen d.sort then Some (record {
+    ap (λ (x : List FormPart). if is_seen_outside d.sort then Some (record {
       name = text_at bytes ts r.number;
       start = start_at ts r.number;
       sort = d.sort;
@@ -55,7 +55,7 @@ pub bases_same : (bytes : List ℕ) (ts : List Token) (rows : TableRows) (outers
 bases_same bytes ts rows outers h = ap (λ (f : RecordRow → Option Base). filter_map f rows.records) (λ i r. base_by bytes ts r (h r.owner i))
 
 pub assembled : (bytes : List ℕ) (ts : List Token) (table : TableRows) (ps : List FormPart) (outers : ℕ → Option Declarer) (rows : Rows) (a b c d : List ℕ) → IsGathered table.declarers table.parts ps outers
-    → Tells text_in a rows.name (text_at bytes ts 1) → IsGrown a b
+    → TellsOn text_in a rows.name (text_at bytes ts 1) → IsGrown a b
     → AllTell (declaration_in (form_at bytes ts ps)) b rows.declarations.items (filter_map (λ r. declaration_by bytes ts ps r (outers r.declared_by)) table.declared) → IsGrown b c
     → AllTell base_in c rows.bases.items (filter_map (λ r. base_by bytes ts r (outers r.owner)) table.records) → IsGrown c d → AllTell import_in d rows.imports.items (map (imported_of bytes ts) table.imports)
     → IsGrown d rows.text.items → AllTell part_row_in rows.text.items rows.parts.items (map (part_of bytes ts) ps) → interface_in rows ≡ interface_of bytes ts table

@@ -12,7 +12,7 @@ use Rattle.ob_decls.specs.declared.rows.Declarer.{Declarer}
 use Rattle.ob_decls.specs.declared.rows.Declared.{Declared}
 use Rattle.ob_decls.specs.Order.{AreRowsInOrder, AscendBy}
 use Rattle.ob_decls.specs.Parts.{Rows}
-use Rattle.ob_interface.specs.Interfaces.{declaration, declaration_by, declaration_of, interface_of, is_outer, is_seen, outer_by, text_at, Declaration}
+use Rattle.ob_interface.specs.Interfaces.{declaration, declaration_by, declaration_of, interface_of, is_outer, is_seen_outside, outer_by, text_at, Declaration}
 use Rattle.ob_interface.specs.OwnTable.{Declares, IsFirstDeclared}
 use Rattle.ob_interface.specs.Placed.{declaration_at, is_member, place_of}
 use Rattle.ob_interface.proofs.Made.{both_true, left, option_is, right, same_option}
@@ -151,7 +151,7 @@ module _ (bytes : List ℕ) (ts : List Token) (rows : Rows) (of_record : Option 
   fits_told : (row : Declared) → Contains rows.declared row → fits row ≡ true → (by : Declarer) × IsToldBy row by
   fits_told row has fit = construct (outer_by rows.declarers row.declared_by) refl fit
     where
-      seen : (by : Declarer) (b : Bool) → outer_by rows.declarers row.declared_by ≡ Some by → is_seen by.sort ≡ b
+      seen : (by : Declarer) (b : Bool) → outer_by rows.declarers row.declared_by ≡ Some by → is_seen_outside by.sort ≡ b
           → option_map_or (is_member of_record name) (cond b (Some (declaration bytes ts rows.parts row by)) None) false ≡ true → IsToldBy row by
       seen by false at e fit = absurd cc
       seen by true at e fit =
@@ -174,7 +174,7 @@ module _ (bytes : List ℕ) (ts : List Token) (rows : Rows) (of_record : Option 
       construct : (o : Option Declarer) → outer_by rows.declarers row.declared_by ≡ o → option_map_or (is_member of_record name) (declaration_by bytes ts rows.parts row o) false ≡ true
           → (by : Declarer) × IsToldBy row by
       construct None at fit = absurd cc
-      construct (Some by) at fit = (by, seen by (is_seen by.sort) at refl fit)
+      construct (Some by) at fit = (by, seen by (is_seen_outside by.sort) at refl fit)
 
   told_by : (row : Declared) (by : Declarer) → Declares bytes ts rows of_record name row by → told_of row ≡ Some (declaration bytes ts rows.parts row by)
   told_by row by is =

@@ -111,14 +111,14 @@ abbrev pub outer_by : List Declarer → ℕ → Option Declarer
 outer_by ds k = find (is_outer k) ds
 
 -- an alias is no declaration, and no parameter is seen
-abbrev pub is_seen : Sort → Bool
-is_seen sorts.Import = false
-is_seen sorts.Constant = true
-is_seen sorts.Type = true
-is_seen sorts.Variable = true
-is_seen sorts.Procedure = true
-is_seen sorts.Parameter = false
-is_seen sorts.Field = true
+abbrev pub is_seen_outside : Sort → Bool
+is_seen_outside sorts.Import = false
+is_seen_outside sorts.Constant = true
+is_seen_outside sorts.Type = true
+is_seen_outside sorts.Variable = true
+is_seen_outside sorts.Procedure = true
+is_seen_outside sorts.Parameter = false
+is_seen_outside sorts.Field = true
 
 -- what is seen of an identifier that this construct declares
 abbrev pub declaration : List ℕ → List Token → List FormPart → Declared → Declarer → Declaration
@@ -135,7 +135,7 @@ declaration bytes ts ps r d = record {
 -- the same, if there is such a construct
 abbrev pub declaration_by : List ℕ → List Token → List FormPart → Declared → Option Declarer → Option Declaration
 declaration_by bytes ts ps r None = None
-declaration_by bytes ts ps r (Some d) = if is_seen d.sort then Some (declaration bytes ts ps r d) else None
+declaration_by bytes ts ps r (Some d) = if is_seen_outside d.sort then Some (declaration bytes ts ps r d) else None
 
 -- what is seen of a declared identifier, if it stands in the module's block
 abbrev pub declaration_of : List ℕ → List Token → Rows → Declared → Option Declaration

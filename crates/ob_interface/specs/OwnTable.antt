@@ -4,7 +4,7 @@ use Rattle.ob_scan.specs.declared.token.Token.{Token}
 use Rattle.ob_decls.specs.declared.rows.Declarer.{Declarer}
 use Rattle.ob_decls.specs.declared.rows.Declared.{Declared}
 use Rattle.ob_decls.specs.Parts.{Rows}
-use Rattle.ob_interface.specs.Interfaces.{declaration, is_seen, text_at, Declaration}
+use Rattle.ob_interface.specs.Interfaces.{declaration, is_seen_outside, text_at, Declaration}
 
 -- a row declares the name in this record, or in the block where no record is given, by a construct of the module's block that others see
 pub record Declares (bytes : List ℕ) (ts : List Token) (rows : Rows) (of_record : Option ℕ) (name : List ℕ) (row : Declared) (by : Declarer) : Type 0 where
@@ -12,7 +12,7 @@ pub record Declares (bytes : List ℕ) (ts : List Token) (rows : Rows) (of_recor
   pub is_construct : Contains rows.declarers by
   pub begins : by.first ≡ row.declared_by
   pub in_block : by.block ≡ 0
-  pub seen : is_seen by.sort ≡ true
+  pub seen : is_seen_outside by.sort ≡ true
   pub in_record : by.of_record ≡ of_record
   pub named : text_at bytes ts row.number ≡ name
 

@@ -18,8 +18,8 @@ pub record IsGrown (old new : List ℕ) : Type 0 where
   pub is : new ≡ old ++ more
 
 -- x tells y in this buffer, and in each that goes on behind it
-abbrev pub Tells : {X Y : Type 0} → (List ℕ → X → Y) → List ℕ → X → Y → Type 0
-Tells tell text x y = (more : List ℕ) → tell (text ++ more) x ≡ y
+abbrev pub TellsOn : {X Y : Type 0} → (List ℕ → X → Y) → List ℕ → X → Y → Type 0
+TellsOn tell text x y = (more : List ℕ) → tell (text ++ more) x ≡ y
 
 -- the same of each of a list
 abbrev pub AllTell : {X Y : Type 0} → (List ℕ → X → Y) → List ℕ → List X → List Y → Type 0

@@ -7,8 +7,8 @@ ghost use Rattle.std.specs.List.{filter_map};
 ghost use Rattle.std.specs.List.Sorted.{IsNonDecreasingBy};
 ghost use Rattle.indexmap.specs.IndexMap.{get};
 ghost use Rattle.ob_scan.specs.Spelling.{AreInText};
-ghost use Rattle.ob_interface.specs.Interfaces.{base, base_by, declaration, declaration_by, imported_of, is_seen};
-ghost use Rattle.ob_interface.specs.Texts.{base_in, declaration_in, form_at, import_in, AllTell, IsGrown, Tells};
+ghost use Rattle.ob_interface.specs.Interfaces.{base, base_by, declaration, declaration_by, imported_of, is_seen_outside};
+ghost use Rattle.ob_interface.specs.Texts.{base_in, declaration_in, form_at, import_in, AllTell, IsGrown, TellsOn};
 
 use crate::forms::places_of;
 use crate::rows::{BaseRow, DeclarationRow, ImportRow};
@@ -18,8 +18,8 @@ use ob_decls::{Declared, Declarer, FormPart, Import, Record, Sort, TypeName};
 use std::alloc::{AllocError, Global};
 
 /// Whether what is declared as this is seen.
-fn is_seen(sort: Sort) -> bool
-    ensures { result ≡ is_seen sort }
+fn is_seen_outside(sort: Sort) -> bool
+    ensures { result ≡ is_seen_outside sort }
 {
     match sort {
         Sort::Import | Sort::Parameter => false,
@@ -32,7 +32,7 @@ fn declarer_of(outers: &IndexMap<u32, Declarer>, declared: Declared) -> Option<D
     ensures { (bytes : List ℕ) (ts : List Token) (ps : List FormPartRow) → option_map (declaration bytes ts ps declared) result ≡ declaration_by bytes ts ps declared (get nat_eq outers.now declared.declared_by) }
 {
     let declarer = *outers.get(&declared.declared_by)?;
-    if is_seen(declarer.sort) {
+    if is_seen_outside(declarer.sort) {
         Some(declarer)
     } else {
         None
@@ -61,7 +61,7 @@ fn add_declaration(
     requires in_text { AreInText source.now.bytes.now source.now.tokens.now }
     requires together { IsNonDecreasingBy (λ p. p.declared_by) parts.now }
     ensures grown { IfOk result (λ _. IsGrown text.old.items text.new.items) }
-    ensures tells { IfOk result (λ d. Tells (declaration_in (form_at source.now.bytes.now source.now.tokens.now parts.now)) text.new.items d
+    ensures tells { IfOk result (λ d. TellsOn (declaration_in (form_at source.now.bytes.now source.now.tokens.now parts.now)) text.new.items d
         (declaration source.now.bytes.now source.now.tokens.now parts.now declared declarer)) }
 {
     let name = add_text(text, source.text(declared.number))?;
@@ -116,7 +116,7 @@ fn add_base(
 ) -> Result<BaseRow, AllocError>
     requires { AreInText source.now.bytes.now source.now.tokens.now }
     ensures grown { IfOk result (λ _. IsGrown text.old.items text.new.items) }
-    ensures tells { IfOk result (λ b. Tells base_in text.new.items b (base source.now.bytes.now source.now.tokens.now «record» name)) }
+    ensures tells { IfOk result (λ b. TellsOn base_in text.new.items b (base source.now.bytes.now source.now.tokens.now «record» name)) }
 {
     let start = source.start(name.head);
     let name = add_name(text, source, name.head, name.member)?;
@@ -158,7 +158,7 @@ pub(crate) fn add_bases(
 fn add_import(text: &mut Vec<u8>, source: &Source, import: Import) -> Result<ImportRow, AllocError>
     requires { AreInText source.now.bytes.now source.now.tokens.now }
     ensures grown { IfOk result (λ _. IsGrown text.old.items text.new.items) }
-    ensures tells { IfOk result (λ i. Tells import_in text.new.items i (imported_of source.now.bytes.now source.now.tokens.now import)) }
+    ensures tells { IfOk result (λ i. TellsOn import_in text.new.items i (imported_of source.now.bytes.now source.now.tokens.now import)) }
 {
     let alias = add_text(text, source.text(import.alias))?;
     let imported = add_text(text, source.text(import.imported))?;

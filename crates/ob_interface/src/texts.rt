@@ -2,7 +2,7 @@
 ghost use Rattle.std.specs.Prelude.{◌≡◌, ◌++◌, IfOk};
 ghost use Rattle.ob_scan.specs.Spelling.{AreInText};
 ghost use Rattle.ob_interface.specs.Interfaces.{part_of, start_at, text_at, type_name};
-ghost use Rattle.ob_interface.specs.Texts.{name_in, part_row_in, text_in, IsGrown, Tells};
+ghost use Rattle.ob_interface.specs.Texts.{name_in, part_row_in, text_in, IsGrown, TellsOn};
 
 use crate::rows::{NameRow, PartRow, RowPart, Span};
 use ob_decls::{FormPart, Part};
@@ -52,7 +52,7 @@ pub(crate) fn place(length: usize) -> Result<u32, AllocError>
 /// Adds a text to the buffer. AllocError is also answered where the buffer came to 2^32 bytes.
 pub(crate) fn add_text(text: &mut Vec<u8>, more: &[u8]) -> Result<Span, AllocError>
     ensures grown { IfOk result (λ _. text.new.items ≡ text.old.items ++ more.now) }
-    ensures tells { IfOk result (λ s. Tells text_in text.new.items s more.now) }
+    ensures tells { IfOk result (λ s. TellsOn text_in text.new.items s more.now) }
 {
     let start = place(text.len())?;
     text.extend_from_slice(more)?;
@@ -69,7 +69,7 @@ pub(crate) fn add_name(
 ) -> Result<NameRow, AllocError>
     requires { AreInText source.now.bytes.now source.now.tokens.now }
     ensures grown { IfOk result (λ _. IsGrown text.old.items text.new.items) }
-    ensures tells { IfOk result (λ n. Tells name_in text.new.items n (type_name source.now.bytes.now source.now.tokens.now head member)) }
+    ensures tells { IfOk result (λ n. TellsOn name_in text.new.items n (type_name source.now.bytes.now source.now.tokens.now head member)) }
 {
     let head = add_text(text, source.text(head))?;
     match member {
@@ -92,7 +92,7 @@ pub(crate) fn add_part(
 ) -> Result<PartRow, AllocError>
     requires { AreInText source.now.bytes.now source.now.tokens.now }
     ensures grown { IfOk result (λ _. IsGrown text.old.items text.new.items) }
-    ensures tells { IfOk result (λ p. Tells part_row_in text.new.items p (part_of source.now.bytes.now source.now.tokens.now part)) }
+    ensures tells { IfOk result (λ p. TellsOn part_row_in text.new.items p (part_of source.now.bytes.now source.now.tokens.now part)) }
     ensures declared_by { IfOk result (λ p. p.declared_by ≡ part.declared_by) }
 {
     let declared_by = part.declared_by;

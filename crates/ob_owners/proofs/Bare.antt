@@ -3,7 +3,7 @@ use Rattle.std.proofs.Common.{◌≡◌, ℕ, ◌+◌, Bool, true, false, List, 
 use Rattle.ob_tree.specs.declared.name.OneOrMore.{OneOrMore}
 use Rattle.ob_decls.specs.declared.rows.Record.{Record}
 use Rattle.ob_decls.specs.declared.rows.Sort.{Sort}
-use Rattle.ob_decls.specs.Parts.{Piece, Rows, no_rows, joined, nothing, token, both, tells, within, if_there, if_so, each, declaring, opening}
+use Rattle.ob_decls.specs.Parts.{Piece, Rows, no_rows, joined, nothing, token, both, tells, within, if_there, if_so, each, declaring, opens_block}
 use Rattle.ob_decls.specs.Expressions.{each_after, used}
 use Rattle.ob_decls.specs.Types.{declared_row}
 
@@ -41,8 +41,8 @@ pub b-declaring : (sort : Sort) {p : Piece} → Bare p → Bare (declaring sort 
 unfolding declaring joined
 b-declaring sort f = record { none = λ c k. f.none _ k }
 
-pub b-opening : {p : Piece} → Bare p → Bare (opening p)
-b-opening f = b-tells _ (λ c k. refl) (b-within _ f)
+pub b-opens_block : {p : Piece} → Bare p → Bare (opens_block p)
+b-opens_block f = b-tells _ (λ c k. refl) (b-within _ f)
 
 pub b-there : {X : Type 0} (f : X → Piece) (o : Option X) → ((x : X) → Bare (f x)) → Bare (if_there f o)
 b-there f None w = b-nothing

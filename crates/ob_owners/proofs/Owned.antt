@@ -3,7 +3,7 @@ use Rattle.std.proofs.Common.{◌≡◌, ℕ, zero, suc, ◌+◌, ◌<◌, ◌�
 use Rattle.std.specs.Prelude.{slice_get}
 use Rattle.ob_decls.specs.declared.rows.Record.{Record}
 use Rattle.ob_decls.specs.declared.rows.Sort.{Sort}
-use Rattle.ob_decls.specs.Parts.{Piece, Rows, joined, both, tells, within, if_there, each, declaring, opening}
+use Rattle.ob_decls.specs.Parts.{Piece, Rows, joined, both, tells, within, if_there, each, declaring, opens_block}
 use Rattle.ob_owners.proofs.Bare.{Bare, Context, b-nothing}
 
 -- ---- owners
@@ -216,9 +216,9 @@ pub f-declaring : (sort : Sort) {p : Piece} → Declares p → Free (declaring s
 unfolding declaring joined
 f-declaring sort f = record { each = λ c k l. f.each _ k refl; once = λ c k l. f.once _ k refl }
 
-pub d-opening : {p : Piece} → Declares p → Declares (opening p)
+pub d-opens_block : {p : Piece} → Declares p → Declares (opens_block p)
 unfolding tells within joined
-d-opening {p} f = record { some = f.some; each = λ c k l. f.each _ k l; once = λ c k l. f.once _ k l }
+d-opens_block {p} f = record { some = f.some; each = λ c k l. f.each _ k l; once = λ c k l. f.once _ k l }
 
 pub d-is : {p q : Piece} → p ≡ q → Declares q → Declares p
 d-is e m = subst Declares (sym e) m

@@ -10,7 +10,7 @@ use Rattle.ob_tree.specs.declared.declaration.Declarations.{Declarations, Declar
 use Rattle.ob_tree.specs.declared.declaration.ProcDecl.{ProcDecl, ProcDecl-F, roll-ProcDecl, out-roll-ProcDecl, map-ProcDecl}
 use Rattle.ob_tree.proofs.Closed.{With}
 use Rattle.ob_decls.specs.declared.rows.Sort.TheVariants as sorts
-use Rattle.ob_decls.specs.Parts.{Piece, token, both, tells, declaring, opening}
+use Rattle.ob_decls.specs.Parts.{Piece, token, both, tells, declaring, opens_block}
 use Rattle.ob_decls.specs.Parts.{if_there as there, each as pieces}
 use Rattle.ob_decls.specs.Expressions.{expr_piece}
 use Rattle.ob_decls.specs.Statements.{block_piece}
@@ -26,7 +26,7 @@ use Rattle.ob_decls.specs.Declaring.{rows_of, outermost}
 use Rattle.ob_owners.proofs.Bare.{Bare, b-both, b-declaring, b-each, b-first, b-tells, b-there, b-token}
 use Rattle.ob_owners.proofs.BareExpressions.{b-expr}
 use Rattle.ob_owners.proofs.BareStatements.{b-block}
-use Rattle.ob_owners.proofs.Owned.{Declares, Free, Once, d-free, d-held, d-opening, f-bare, f-both, f-declaring, f-each, f-is, f-map, f-there, h-bare, h-behind, one_record}
+use Rattle.ob_owners.proofs.Owned.{Declares, Free, Once, d-free, d-held, d-opens_block, f-bare, f-both, f-declaring, f-each, f-is, f-map, f-there, h-bare, h-behind, one_record}
 use Rattle.ob_owners.proofs.OwnedTypes.{b-identdef, b-parameters, d-var, h-type, identdef_some}
 
 token_some : 0 < token.width
@@ -84,13 +84,13 @@ declarations_held y =
     (f-map (λ p. both (procedure_piece p) token) _ y.procedures.items (λ p. f-both p.1 (f-bare b-token)))))
 
 abbrev procedure_told : ProcDecl-F Declarations ProcDecl → Piece
-procedure_told p = declaring sorts.Procedure (opening (
+procedure_told p = declaring sorts.Procedure (opens_block (
     both token (both (identdef_piece p.name) (both (there parameters_piece p.parameters) (both token
     (both (declarations_piece p.declarations) (both (there (λ b. both token (block_piece b.value)) p.body)
     (both (there (λ e. both token (expr_piece e.value)) p.returned) (both token (tells procedure_end token))))))))))
 
 procedure_held : (y : WithProcDecl) → Free (procedure_told (procedure_of y))
-procedure_held y = f-declaring sorts.Procedure (d-opening (
+procedure_held y = f-declaring sorts.Procedure (d-opens_block (
     d-free b-token token_some (f-both (f-bare (b-identdef y.name)) (f-both (f-bare (b-there parameters_piece y.parameters b-parameters)) (f-both (f-bare b-token)
     (f-both y.declarations.1 (f-both (f-bare (b-there (λ b. both token (block_piece b.value)) y.body (λ b. b-both b-token (b-block b.value))))
     (f-both (f-bare (b-there (λ e. both token (expr_piece e.value)) y.returned (λ e. b-both b-token (b-expr e.value))))

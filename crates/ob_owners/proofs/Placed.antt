@@ -13,7 +13,7 @@ use Rattle.ob_decls.specs.declared.rows.Import.{Import}
 use Rattle.ob_decls.specs.declared.rows.Record.{Record}
 use Rattle.ob_decls.specs.declared.rows.Sort.{Sort}
 use Rattle.ob_decls.specs.declared.rows.Sort.TheVariants as sorts
-use Rattle.ob_decls.specs.Parts.{Piece, Rows, joined, no_rows, one_block, one_declarer, one_end, token, both, tells, within, if_there, each, declaring, opening, declarer, declaring_at, in_block}
+use Rattle.ob_decls.specs.Parts.{Piece, Rows, joined, no_rows, one_block, one_declarer, one_end, token, both, tells, within, if_there, each, declaring, opens_block, declarer, declaring_at, in_block}
 use Rattle.ob_decls.specs.Declaring.{import_inner, import_piece, import_row, module_end, procedure_end}
 use Rattle.ob_decls.specs.Types.{declared_row, identdef_piece, record_row, in_record}
 use Rattle.ob_owners.proofs.Bare.{Context}
@@ -388,7 +388,7 @@ module _ (R : Rows) where
   begun_named_in : (c : Context) (k : ℕ) → Begun c k → Named (in_block c k) k
   begun_named_in c k s = record { by = s.by; among = s.among; first = s.first; before = (let h = s.here in omega (arith, h)); sort = s.sort }
 
-  heading : (j : Identdef) {p : Piece} → Good Ended p → Good Begun (opening (both token (both (identdef_piece j) p)))
+  heading : (j : Identdef) {p : Piece} → Good Ended p → Good Begun (opens_block (both token (both (identdef_piece j) p)))
   unfolding both token tells within joined no_rows Ended
   heading j {p} f = record {
     holds = λ c k s h.
@@ -404,7 +404,7 @@ module _ (R : Rows) where
         (f.holds d (k + 1 + (identdef_piece j).width) (procedure_named j c k s name) (in_second ((identdef_piece j).rows d (k + 1)) (p.rows d (k + 1 + (identdef_piece j).width)) rest))));
   }
 
-  pub g-procedure : (i : Identdef) {q : Piece} → Good Ended q → Good Free (declaring sorts.Procedure (opening (both token (both (identdef_piece i) q))))
+  pub g-procedure : (i : Identdef) {q : Piece} → Good Ended q → Good Free (declaring sorts.Procedure (opens_block (both token (both (identdef_piece i) q))))
   unfolding IsNoImport
   g-procedure i {q} g = g-declaring sorts.Procedure tt (λ c k last s. no_fields _ refl) (heading i g)
 

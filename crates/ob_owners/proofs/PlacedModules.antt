@@ -10,7 +10,7 @@ use Rattle.ob_tree.specs.declared.declaration.Declarations.{Declarations, Declar
 use Rattle.ob_tree.specs.declared.declaration.ProcDecl.{ProcDecl, ProcDecl-F, roll-ProcDecl, out-roll-ProcDecl, map-ProcDecl}
 use Rattle.ob_tree.proofs.Closed.{With}
 use Rattle.ob_decls.specs.declared.rows.Sort.TheVariants as sorts
-use Rattle.ob_decls.specs.Parts.{Piece, token, both, tells, declaring, opening}
+use Rattle.ob_decls.specs.Parts.{Piece, token, both, tells, declaring, opens_block}
 use Rattle.ob_decls.specs.Parts.{if_there as there, each as pieces}
 use Rattle.ob_decls.specs.Expressions.{expr_piece}
 use Rattle.ob_decls.specs.Statements.{block_piece}
@@ -81,7 +81,7 @@ module _ (R : Rows) where
       (g-map R (λ p. both (procedure_piece p) token) _ y.procedures.items (free_later R) (λ p. g-both R (free_later R) p.1 g-token))))
 
   abbrev procedure_told : ProcDecl-F Declarations ProcDecl → Piece
-  procedure_told p = declaring sorts.Procedure (opening (
+  procedure_told p = declaring sorts.Procedure (opens_block (
       both token (both (identdef_piece p.name) (both (there parameters_piece p.parameters) (both token
       (both (declarations_piece p.declarations) (both (there (λ b. both token (block_piece b.value)) p.body)
       (both (there (λ e. both token (expr_piece e.value)) p.returned) (both token (tells procedure_end token))))))))))

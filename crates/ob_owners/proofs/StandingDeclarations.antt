@@ -4,7 +4,7 @@ use Rattle.ob_tree.specs.declared.name.Identdef.{Identdef}
 use Rattle.ob_decls.specs.declared.rows.Declared.{Declared}
 use Rattle.ob_decls.specs.declared.rows.Sort.{Sort}
 use Rattle.ob_decls.specs.declared.rows.Sort.TheVariants as sorts
-use Rattle.ob_decls.specs.Parts.{Piece, joined, token, both, tells, within, declaring, declarer, declaring_at, if_so, in_block, opening, no_rows, record_for}
+use Rattle.ob_decls.specs.Parts.{Piece, joined, token, both, tells, within, declaring, declarer, declaring_at, if_so, in_block, opens_block, no_rows, record_for}
 use Rattle.ob_decls.specs.Types.{identdef_piece}
 use Rattle.ob_owners.specs.Owners.{has_type}
 use Rattle.ob_owners.proofs.Bare.{Context}
@@ -25,7 +25,7 @@ unfolding identdef_piece tells both token
 identdef_some i = omega arith
 
 -- what stands behind the word that begins a procedure
-pub o-procedure : {q : Piece} → Free q → Opens (opening (both token q))
+pub o-procedure : {q : Piece} → Free q → Opens (opens_block (both token q))
 unfolding tells within both token joined no_rows
 o-procedure {q} g = record {
   some = omega arith;

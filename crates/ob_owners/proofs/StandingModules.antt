@@ -16,7 +16,7 @@ use Rattle.ob_decls.specs.declared.rows.FormPart.{FormPart}
 use Rattle.ob_decls.specs.declared.rows.Part.TheVariants as kinds
 use Rattle.ob_decls.specs.declared.rows.Record.{Record}
 use Rattle.ob_decls.specs.declared.rows.Sort.TheVariants as sorts
-use Rattle.ob_decls.specs.Parts.{Piece, token, both, tells, declaring, opening, joined, no_rows}
+use Rattle.ob_decls.specs.Parts.{Piece, token, both, tells, declaring, opens_block, joined, no_rows}
 use Rattle.ob_decls.specs.Parts.{if_there as there, each as pieces}
 use Rattle.ob_decls.specs.Expressions.{expr_piece}
 use Rattle.ob_decls.specs.Statements.{block_piece}
@@ -100,7 +100,7 @@ declarations_held y =
     (s-map (λ p. both (procedure_piece p) token) _ y.procedures.items (λ p. s-both p.1 (s-plain b-token)))))
 
 abbrev procedure_told : ProcDecl-F Declarations ProcDecl → Piece
-procedure_told p = declaring sorts.Procedure (opening (
+procedure_told p = declaring sorts.Procedure (opens_block (
     both token (both (identdef_piece p.name) (both (there parameters_piece p.parameters) (both token
     (both (declarations_piece p.declarations) (both (there (λ b. both token (block_piece b.value)) p.body)
     (both (there (λ e. both token (expr_piece e.value)) p.returned) (both token (tells procedure_end token))))))))))

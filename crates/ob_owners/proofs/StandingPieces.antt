@@ -8,7 +8,7 @@ use Rattle.ob_decls.specs.declared.rows.Part.{Part}
 use Rattle.ob_decls.specs.declared.rows.Part.TheVariants as kinds
 use Rattle.ob_decls.specs.declared.rows.Record.{Record}
 use Rattle.ob_decls.specs.declared.rows.Sort.{Sort}
-use Rattle.ob_decls.specs.Parts.{Piece, Rows, no_rows, joined, token, both, tells, within, if_there, each, declaring, declarer, declaring_at, in_block, opening, record_for}
+use Rattle.ob_decls.specs.Parts.{Piece, Rows, no_rows, joined, token, both, tells, within, if_there, each, declaring, declarer, declaring_at, in_block, opens_block, record_for}
 use Rattle.ob_decls.specs.Types.{base_of, declared_row, in_record, part_here, record_row, targeted, untargeted}
 use Rattle.ob_owners.proofs.Bare.{Context}
 use Rattle.ob_owners.proofs.Plain.{Plain, Told, b-nothing, none, told}
@@ -202,7 +202,7 @@ s-part {R} {F} t {q} other g = record {
       part_holds c.declarer c.block c.of_record k (k + (1 + q.width)) (record { declared_by = c.declarer; number = k; part = t }) (core (q.rows c (k + 1))) l (omega arith) refl refl other i;
 }
 
-pub s-procedure : {R F : Type 0} (t : Part) {q : Piece} → (t ≡ kinds.Record → ⊥) → Free q → Stands R Unit F (tells (part_here t) (opening (both token q)))
+pub s-procedure : {R F : Type 0} (t : Part) {q : Piece} → (t ≡ kinds.Record → ⊥) → Free q → Stands R Unit F (tells (part_here t) (opens_block (both token q)))
 unfolding tells within both token joined no_rows
 s-procedure {R} {F} t {q} other g = record {
   holds = λ c k l.

@@ -3,13 +3,13 @@ use Rattle.std.proofs.Common.{◌≡◌, ℕ, ◌+◌, ◌≤◌, ◌<◌, ◌^�
 use Rattle.std.proofs.lemmas.List.{drop_all, drop_more, get_or-take, length-take, take_all}
 use Rattle.ob_scan.specs.declared.token.Token.{Token}
 use Rattle.ob_tree.specs.declared.token.Leaf.{Leaf}
-use Rattle.ob_tree.specs.Leaves.{leaf_of, leaves}
+use Rattle.ob_tree.specs.Leaves.{leaf_of, leaves_from}
 use Rattle.ob_parse.specs.declared.cursor.Cursor.{Cursor}
 use Rattle.ob_parse.specs.Front.{uncons}
 use Rattle.ob_parse.specs.Gives.{ahead, kind_of}
 
 abbrev front : ℕ → List Token → Option (Leaf × List Leaf)
-front n ts = uncons (leaves n (map kind_of ts))
+front n ts = uncons (leaves_from n (map kind_of ts))
 
 none_left : (ts : List Token) (at : ℕ) → length (take 4294967295 ts) ≤ at → front at (drop at (take 4294967295 ts)) ≡ None
 none_left ts at h = ap (front at) (drop_all at (take 4294967295 ts) h)
@@ -32,6 +32,6 @@ next_ahead ts i t n placed e m lt =
     let parts : drop i.at some ≡ t ∷ drop (i.at + 1) some = drop_more some i.at t within ∙ ap (λ (x : Token). x ∷ drop (i.at + 1) some) here in
     rw m (ap (front i.at) parts)
 
-pub all_ahead : (ts : List Token) → length ts < 2 ^ 32 → ahead ts (record { at = 0 }) ≡ leaves 0 (map kind_of ts)
+pub all_ahead : (ts : List Token) → length ts < 2 ^ 32 → ahead ts (record { at = 0 }) ≡ leaves_from 0 (map kind_of ts)
 unfolding ahead
-all_ahead ts few = ap (λ (us : List Token). leaves 0 (map kind_of us)) (take_all 4294967295 ts (omega (arith, few)))
+all_ahead ts few = ap (λ (us : List Token). leaves_from 0 (map kind_of us)) (take_all 4294967295 ts (omega (arith, few)))

@@ -4,7 +4,7 @@ use Rattle.std.proofs.lemmas.List.{append-nil}
 use Rattle.ob_scan.specs.declared.kind.Kind.TheVariants as kinds
 use Rattle.ob_scan.specs.declared.token.Token.{Token}
 use Rattle.ob_tree.specs.declared.token.Leaf.{Leaf}
-use Rattle.ob_tree.specs.Leaves.{leaves}
+use Rattle.ob_tree.specs.Leaves.{leaves_from}
 use Rattle.ob_tree.specs.Marks.{Out, word, times}
 use Rattle.ob_parse.specs.declared.cursor.Cursor.{Cursor}
 use Rattle.ob_parse.specs.Forms.{Read, many, accept_at, expect_at}
@@ -38,12 +38,12 @@ one_more n ls rest after total e f h =
     ap (λ (o : Out). with_front o (many (accept_at kinds.Array) (expect_at kinds.Of) after)) (once_more n array_of)
     ∙ goes_on (accept_at kinds.Array) (expect_at kinds.Of) array_advances (times n array_of) ls (word kinds.Array, rest) (word kinds.Of, after) total e f h
 
-length-leaves : (n : ℕ) (ts : List Token) → length (leaves n (map kind_of ts)) ≡ length ts
-length-leaves n [] = refl
-length-leaves n (t ∷ ts) = ap suc (length-leaves (n + 1) ts)
+length-leaves_from : (n : ℕ) (ts : List Token) → length (leaves_from n (map kind_of ts)) ≡ length ts
+length-leaves_from n [] = refl
+length-leaves_from n (t ∷ ts) = ap suc (length-leaves_from (n + 1) ts)
 
 pub few_ahead : (ts : List Token) (i : Cursor) → length (ahead ts i) < 2 ^ 32
 unfolding ahead
 few_ahead ts i =
     let some = take 4294967295 ts in
-    omega (arith, length-leaves i.at (drop i.at some), length-drop i.at some, length-take 4294967295 ts)
+    omega (arith, length-leaves_from i.at (drop i.at some), length-drop i.at some, length-take 4294967295 ts)

@@ -24,7 +24,7 @@ use Rattle.ob_tree.specs.Constructs as constructs
 use Rattle.ob_tree.specs.Constructs.{Construct}
 use Rattle.ob_tree.specs.declared.role.Role.{Role}
 use Rattle.ob_tree.specs.declared.role.Role.TheVariants.{Names}
-use Rattle.ob_tree.specs.Marks.{Out, Identifier, construct, word, aliased, imported, repeated, if_there, each, listed, tokens_of, height}
+use Rattle.ob_tree.specs.Marks.{Out, Identifier, construct, word, aliased, imported, repeated, if_there, each, separated, tokens_of, height}
 use Rattle.ob_tree.specs.Names.{identdef_outline}
 use Rattle.ob_tree.specs.Expressions.{expr_outline}
 use Rattle.ob_tree.specs.Statements.{block_outline}
@@ -37,7 +37,7 @@ use Rattle.ob_parse.specs.ReadNames.{identdef_after}
 use Rattle.ob_parse.specs.ReadExpressions.{expr_at}
 use Rattle.ob_parse.specs.ReadStatements.{block_at}
 use Rattle.ob_parse.specs.ReadTypes.{some_parameters_at, type_at}
-use Rattle.ob_parse.specs.ReadModules.{is_identifier, const_with, type_decl_with, variable_with, ended, part_with, procedures_with, declarations_with, body_with, procedure_named, name_then, procedure_with, procedure_at, declarations_at, import_at, imports_at, module_named, module_at, all_of}
+use Rattle.ob_parse.specs.ReadModules.{is_identifier, const_with, type_decl_with, variable_with, with_semicolon, part_with, procedures_with, declarations_with, body_with, procedure_named, name_then, procedure_with, procedure_at, declarations_at, import_item_at, imports_at, module_behind_name, module_at, all_of}
 use Rattle.ob_parse.proofs.Sound.{tokens_of-construct}
 use Rattle.ob_parse.proofs.SoundExpressions.{expr_at_sound}
 use Rattle.ob_parse.proofs.SoundTypes.{type_at_sound}
@@ -93,16 +93,16 @@ abbrev pub ended_outline : {X : Type 0} → (X → Out) → X → Out
 ended_outline f x = f x ++ word kinds.Semicolon
 
 again_ended : {X : Type 0} (d : ℕ) (r : Reader) (f : X → Out) → ((x : X) (rest : List Leaf) → Again d r (f x) (leafs.Word kinds.Semicolon ∷ rest)) →
-    (x : X) (rest : List Leaf) → Again d (ended r) (ended_outline f x) rest
+    (x : X) (rest : List Leaf) → Again d (with_semicolon r) (ended_outline f x) rest
 again_ended d r f h x rest = again_seq (again_end d kinds.Semicolon rest) (h x rest)
 
-again_listed : {X : Type 0} (d : ℕ) (k : Kind) (r : Reader) (f : X → Out) → Advances (begins is_identifier) (ended r) →
+again_listed : {X : Type 0} (d : ℕ) (k : Kind) (r : Reader) (f : X → Out) → Advances (begins is_identifier) (with_semicolon r) →
     ((x : X) (rest : List Leaf) → Again d r (f x) (leafs.Word kinds.Semicolon ∷ rest)) → ((x : X) (ls : List Leaf) → OpensName (tokens_of (f x) ++ ls)) →
     (o : Option (Vec X Global)) (rest : List Leaf) → accept_at k rest ≡ None → begins is_identifier rest ≡ None → Again d (part_with k r) (if_there (λ v. part k f v.items) o) rest
 unfolding part_with
 again_listed d k r f adv h opens o rest none no_name =
-    again_option d k (many (begins is_identifier) (ended r)) (λ v. each (ended_outline f) v.items) o rest none (λ v.
-    again_each (begins is_identifier) (ended r) (λ x. []) (ended_outline f) (λ ls. Unit {0}) d adv
+    again_option d k (many (begins is_identifier) (with_semicolon r)) (λ v. each (ended_outline f) v.items) o rest none (λ v.
+    again_each (begins is_identifier) (with_semicolon r) (λ x. []) (ended_outline f) (λ ls. Unit {0}) d adv
     (λ x ls. name_begun _ (opens_name_front (f x) (word kinds.Semicolon) ls (opens x))) (λ x ls. tt) (λ x ls good. again_ended d r f h x ls) v.items rest tt no_name)
 
 -- ---- what can't go on with declarations
@@ -160,7 +160,7 @@ again_procedures : (d : ℕ) → AgainProcedures d → (ps : List ProcDecl) (res
     Again d (procedures_with (procedure_at d)) (each (ended_outline procedure_outline) ps) rest
 unfolding procedures_with
 again_procedures d h ps rest none =
-    again_each (begins (is_word kinds.Procedure)) (ended (procedure_at d)) (λ p. []) (ended_outline procedure_outline) (λ ls. Unit {0}) d (procedure_advances d)
+    again_each (begins (is_word kinds.Procedure)) (with_semicolon (procedure_at d)) (λ p. []) (ended_outline procedure_outline) (λ ls. Unit {0}) d (procedure_advances d)
     ended_begun (λ p ls. tt) (λ p ls good. again_ended d (procedure_at d) procedure_outline (λ q x. h q _) p ls) ps rest tt none
   where
     ended_begun : (p : ProcDecl) (ls : List Leaf) → begins (is_word kinds.Procedure) (tokens_of (ended_outline procedure_outline p) ++ ls) ≡
@@ -304,20 +304,20 @@ again_procedure (suc d) = again_next d (again_procedure d)
 
 -- ---- modules
 
-again_import : (d : ℕ) (i : ImportItem) (rest : List Leaf) → accept_at kinds.Assign rest ≡ None → Again d import_at (import_outline i) rest
-unfolding import_at
+again_import : (d : ℕ) (i : ImportItem) (rest : List Leaf) → accept_at kinds.Assign rest ≡ None → Again d import_item_at (import_outline i) rest
+unfolding import_item_at
 again_import d i rest none =
     again_is (import_out i) (again_node constructs.Import
     (again_seq (again_option d kinds.Assign (name_at imported) imported i.of rest none (λ m. again_name d imported m rest refl)) (again_name d aliased i.name _ refl)))
 
 again_imports : (d : ℕ) (o : Option (OneOrMore ImportItem)) (rest : List Leaf) → accept_at kinds.Import rest ≡ None →
-    Again d imports_at (if_there (λ l. word kinds.Import ++ (listed kinds.Comma import_outline l ++ word kinds.Semicolon)) o) rest
+    Again d imports_at (if_there (λ l. word kinds.Import ++ (separated kinds.Comma import_outline l ++ word kinds.Semicolon)) o) rest
 unfolding imports_at
 again_imports d o rest none =
-    again_option d kinds.Import (seq (several kinds.Comma import_at) (expect_at kinds.Semicolon)) (λ l. listed kinds.Comma import_outline l ++ word kinds.Semicolon) o
+    again_option d kinds.Import (seq (several kinds.Comma import_item_at) (expect_at kinds.Semicolon)) (λ l. separated kinds.Comma import_outline l ++ word kinds.Semicolon) o
     rest none (λ l.
     again_seq (again_end d kinds.Semicolon rest)
-    (again_several kinds.Comma import_at import_outline (λ ls. accept_at kinds.Assign ls ≡ None) d (accept_advances d kinds.Comma import_at (import_sound d))
+    (again_several kinds.Comma import_item_at import_outline (λ ls. accept_at kinds.Assign ls ≡ None) d (accept_advances d kinds.Comma import_item_at (import_sound d))
     (λ ls. not_accepted kinds.Assign kinds.Comma ls refl) (again_import d) l.first l.rest.items _ (not_accepted kinds.Assign kinds.Semicolon _ refl)
     (not_accepted kinds.Comma kinds.Semicolon _ refl)))
 
@@ -325,7 +325,7 @@ abbrev statements_outline : Option StatementSequence → Out
 statements_outline = if_there (λ b. word kinds.Begin ++ block_outline b)
 
 again_module : (d : ℕ) (m : Module) (rest : List Leaf) → Again d (module_at d) (module_outline m) rest
-unfolding module_at module_named body_with
+unfolding module_at module_behind_name body_with
 again_module d m rest =
     let last : Out = word kinds.End ++ (repeated m.name m.end_name ++ word kinds.Dot) in
     let end = again_word kinds.End (again_seq (again_end d kinds.Dot rest) (again_name d (repeated m.name) m.end_name _ refl)) in
@@ -343,7 +343,7 @@ again_module d m rest =
     (λ ls. not_accepted kinds.Import kinds.Type ls refl) (λ ls. not_accepted kinds.Import kinds.Var ls refl) (λ ls. not_accepted kinds.Import kinds.Procedure ls refl)
     no_import_behind) in
     let whole = again_word kinds.Semicolon (again_seq declarations (again_imports d m.imports _ no_import)) in
-    again_is (module_out m) (again_node constructs.Module (again_word kinds.Module (again_name_then Names (module_named d) m.name whole)))
+    again_is (module_out m) (again_node constructs.Module (again_word kinds.Module (again_name_then Names (module_behind_name d) m.name whole)))
 
 pub modules_again : (d : ℕ) (m : Module) (rest : List Leaf) → height (module_outline m) ≤ d → Reads (module_at d) (module_outline m) rest
 modules_again d m rest le = (again_module d m rest).reads le

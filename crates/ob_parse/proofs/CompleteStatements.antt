@@ -29,7 +29,7 @@ use Rattle.ob_parse.specs.Front.{uncons, front}
 use Rattle.ob_parse.specs.Forms.{Reader, expect_at, accept_at, name_at, identifier_at, begins, seq, prefixed, node, optional, many, several}
 use Rattle.ob_parse.specs.ReadNames.{qualident_at, qualident_after}
 use Rattle.ob_parse.specs.ReadExpressions.{mul_at, add_at, relation_at, designator_with, factor_from, expr_at, negated_at}
-use Rattle.ob_parse.specs.ReadStatements.{label_first, statement_first, label_at, label_range_at, case_with, block_with, branch_with, if_with, cases_with, while_with, repeat_with, for_with, assign_with, statement_from, statement_with, empty_at, statement_at, block_at}
+use Rattle.ob_parse.specs.ReadStatements.{label_first, statement_first, case_label_at, label_range_at, case_with, block_with, branch_with, if_with, cases_with, while_with, repeat_with, for_with, assign_with, statement_from, statement_with, empty_at, statement_at, block_at}
 use Rattle.ob_parse.proofs.Sound.{tokens_of-construct}
 use Rattle.ob_parse.proofs.Loops.{accept_advances}
 use Rattle.ob_parse.proofs.ReadsBack.{Reads, Opens, split, low_level, opens_front, begins_there}
@@ -139,8 +139,8 @@ again_expr d e rest end = record { reads = λ le. exprs_again d e rest le end }
 
 -- ---- labels
 
-again_label : (d : ℕ) (l : Label) (rest : List Leaf) → accept_at kinds.Dot rest ≡ None → Again d label_at (label_outline l) rest
-unfolding label_at label_outline qualident_outline qualident_at qualident_after name_at identifier_at
+again_label : (d : ℕ) (l : Label) (rest : List Leaf) → accept_at kinds.Dot rest ≡ None → Again d case_label_at (label_outline l) rest
+unfolding case_label_at label_outline qualident_outline qualident_at qualident_after name_at identifier_at
 again_label d (labels.Integer n) rest e = record { reads = λ le. record { is = refl } }
 again_label d (labels.Text n) rest e = record { reads = λ le. record { is = refl } }
 again_label d (labels.Name q) rest e = record { reads = λ le. record { is = (qualident_again q rest e).is } }
@@ -167,7 +167,7 @@ colon_ends_range rest = record { dot = refl; dots = refl }
 again_range : (d : ℕ) (r : LabelRange) (rest : List Leaf) → EndsRange rest → Again d label_range_at (label_range_outline r) rest
 unfolding label_range_at
 again_range d r rest end =
-    let high = again_option d kinds.DotDot label_at label_outline r.high rest end.dots (λ l. again_label d l rest end.dot) in
+    let high = again_option d kinds.DotDot case_label_at label_outline r.high rest end.dots (λ l. again_label d l rest end.dot) in
     let dot : accept_at kinds.Dot (tokens_of (if_there (λ l. word kinds.DotDot ++ label_outline l) r.high) ++ rest) ≡ None =
     past_option (λ ls. accept_at kinds.Dot ls ≡ None) kinds.DotDot label_outline r.high rest (λ ls. not_accepted kinds.Dot kinds.DotDot ls refl) end.dot in
     again_is (label_range_out r) (again_seq high (again_label d r.low _ dot))

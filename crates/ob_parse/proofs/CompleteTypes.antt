@@ -18,7 +18,7 @@ use Rattle.ob_tree.specs.declared.declaration.Record.{Record, Record-F, out-Reco
 use Rattle.ob_tree.specs.declared.declaration.VarDecl.{VarDecl, out-VarDecl}
 use Rattle.ob_tree.specs.Constructs.{Construct, is_level}
 use Rattle.ob_tree.specs.Constructs as constructs
-use Rattle.ob_tree.specs.Marks.{Out, construct, word, declared, if_there, if_so, each_after, listed, times, tokens_of, height}
+use Rattle.ob_tree.specs.Marks.{Out, construct, word, declared, if_there, if_so, each_after, separated, times, tokens_of, height}
 use Rattle.ob_tree.specs.Names.{qualident_outline, identdef_outline}
 use Rattle.ob_tree.specs.Expressions.{expr_list_outline}
 use Rattle.ob_tree.specs.Types.{section_outline, parameters_outline, type_outline, fields_outline, var_outline}
@@ -97,13 +97,13 @@ section_opens s x = subst (λ (o : Out). Opens section_first (tokens_of o ++ x))
     (section_parts_open s.variable s.names.first (each_after kinds.Comma (declared false) s.names.rest.items)
     (word kinds.Colon ++ (times s.open_arrays (word kinds.Array ++ word kinds.Of) ++ qualident_outline s.of)) x))
 
-sections_free : (l : OneOrMore ParameterSection) (x : List Leaf) → unless kinds.RightParen (tokens_of (listed kinds.Semicolon section_outline l) ++ x) ≡
-    Some ([], tokens_of (listed kinds.Semicolon section_outline l) ++ x)
+sections_free : (l : OneOrMore ParameterSection) (x : List Leaf) → unless kinds.RightParen (tokens_of (separated kinds.Semicolon section_outline l) ++ x) ≡
+    Some ([], tokens_of (separated kinds.Semicolon section_outline l) ++ x)
 sections_free l x = open_there kinds.RightParen section_first no_paren _
     (opens_front section_first (section_outline l.first) (each_after kinds.Semicolon section_outline l.rest.items) x (section_opens l.first))
 
 again_sections : (d : ℕ) (l : OneOrMore ParameterSection) (rest : List Leaf) →
-    Again d (several kinds.Semicolon section_at) (listed kinds.Semicolon section_outline l) (leafs.Word kinds.RightParen ∷ rest)
+    Again d (several kinds.Semicolon section_at) (separated kinds.Semicolon section_outline l) (leafs.Word kinds.RightParen ∷ rest)
 again_sections d l rest =
     again_several kinds.Semicolon section_at section_outline (λ ls. accept_at kinds.Dot ls ≡ None) d (accept_advances d kinds.Semicolon section_at (section_sound d))
     (λ ls. not_accepted kinds.Dot kinds.Semicolon ls refl) (again_section d) l.first l.rest.items _ (not_accepted kinds.Dot kinds.RightParen rest refl)
@@ -114,7 +114,7 @@ again_parameters : (d : ℕ) (p : Parameters) (rest : List Leaf) → accept_at k
 unfolding parameters_at
 again_parameters d p rest dot colon =
     let answer = again_word kinds.RightParen (again_option d kinds.Colon qualident_at qualident_outline p.result rest colon (λ q. again_qualident d q rest dot)) in
-    let all = again_seq answer (again_unless d kinds.RightParen (several kinds.Semicolon section_at) (listed kinds.Semicolon section_outline) p.sections _ sections_free
+    let all = again_seq answer (again_unless d kinds.RightParen (several kinds.Semicolon section_at) (separated kinds.Semicolon section_outline) p.sections _ sections_free
     (λ l. again_sections d l _)) in
     again_is (parameters_out p) (again_word kinds.LeftParen all)
 
@@ -160,7 +160,7 @@ pub var_opens : (v : VarDecl) (x : List Leaf) → OpensName (tokens_of (var_outl
 var_opens v x =
     let y = out-VarDecl v in
     subst (λ (o : Out). OpensName (tokens_of o ++ x)) (sym (var_out v))
-    (opens_name_front (listed kinds.Comma identdef_outline y.names) (word kinds.Colon ++ type_outline y.form) x
+    (opens_name_front (separated kinds.Comma identdef_outline y.names) (word kinds.Colon ++ type_outline y.form) x
     (λ z. opens_name_front (identdef_outline y.names.first) _ z (identdef_opens y.names.first)))
 
 abbrev field_outline : VarDecl → Out

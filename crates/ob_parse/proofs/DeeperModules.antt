@@ -7,7 +7,7 @@ use Rattle.ob_parse.specs.Front.{is_word}
 use Rattle.ob_parse.specs.Forms.{Reader, expect_at, accept_at, name_at, begins, seq}
 use Rattle.ob_parse.specs.ReadNames.{identdef_after, identdef_at}
 use Rattle.ob_parse.specs.ReadTypes.{some_parameters_at}
-use Rattle.ob_parse.specs.ReadModules.{is_identifier, const_with, type_decl_with, variable_with, ended, part_with, procedures_with, declarations_with, body_with, procedure_named, procedure_with, procedure_at, declarations_at, imports_at, module_named, module_at}
+use Rattle.ob_parse.specs.ReadModules.{is_identifier, const_with, type_decl_with, variable_with, with_semicolon, part_with, procedures_with, declarations_with, body_with, procedure_named, procedure_with, procedure_at, declarations_at, imports_at, module_behind_name, module_at}
 use Rattle.ob_parse.proofs.Deeper.{Extends, Needs, same, seq_extends, node_extends, optional_extends, many_extends, behind_name_extends, name_then_extends, limit_extends, seq_needs, node_needs, expect_needs, expr_at_extends}
 use Rattle.ob_parse.proofs.DeeperStatements.{block_at_extends}
 use Rattle.ob_parse.proofs.DeeperTypes.{var_extends, type_at_extends}
@@ -24,7 +24,7 @@ variable_extends : (t u : Reader) → Extends t u → Extends (variable_with t) 
 unfolding variable_with
 variable_extends t u q = node_extends _ _ _ (var_extends t u q)
 
-ended_extends : (r s : Reader) → Extends r s → Extends (ended r) (ended s)
+ended_extends : (r s : Reader) → Extends r s → Extends (with_semicolon r) (with_semicolon s)
 ended_extends r s p = seq_extends _ _ _ _ p (same (expect_at kinds.Semicolon))
 
 section_extends : (k : Kind) (r s : Reader) → Extends r s → Extends (part_with k r) (part_with k s)
@@ -74,8 +74,8 @@ procedure_at_extends (suc d) (suc k) le =
 pub declarations_at_extends : (d k : ℕ) → d ≤ k → Extends (declarations_at d) (declarations_at k)
 declarations_at_extends d k le = declarations_extends _ _ _ _ _ _ (expr_at_extends d k le) (type_at_extends d k le) (procedure_at_extends d k le)
 
-module_named_extends : (d k : ℕ) → d ≤ k → (n : ℕ) → Extends (module_named d n) (module_named k n)
-unfolding module_named
+module_named_extends : (d k : ℕ) → d ≤ k → (n : ℕ) → Extends (module_behind_name d n) (module_behind_name k n)
+unfolding module_behind_name
 module_named_extends d k le n =
     seq_extends _ _ _ _ (same (expect_at kinds.Semicolon)) (seq_extends _ _ _ _ (same imports_at)
     (seq_extends _ _ _ _ (declarations_at_extends d k le) (seq_extends _ _ _ _ (body_extends _ _ (block_at_extends d k le))

@@ -19,7 +19,7 @@ use Rattle.ob_tree.specs.declared.token.Leaf.{Leaf}
 use Rattle.ob_tree.specs.declared.token.Leaf.TheVariants as leafs
 use Rattle.ob_tree.specs.Constructs as constructs
 use Rattle.ob_tree.specs.Constructs.{Construct}
-use Rattle.ob_tree.specs.Leaves.{same_kind, leaf_of, leaves}
+use Rattle.ob_tree.specs.Leaves.{same_kind, leaf_of, leaves_from}
 use Rattle.ob_tree.specs.Marks.{Value, Ends, Out, construct, word, declared, aliased, imported, used, completed, selected, named, repeated}
 use Rattle.ob_tree.specs.Expressions.{relation_kind, sign_kind, add_kind, mul_kind}
 use Rattle.ob_tree.specs.Derives.{endings_in}
@@ -27,10 +27,10 @@ use Rattle.ob_tree.proofs.EndNames.{endings-append}
 use Rattle.ob_parse.specs.Front.{uncons, front, is_word}
 use Rattle.ob_parse.specs.Forms.{Refusal, Unexpected, deep_at, Read, ◌>>=◌, Reader, Front, Start, expect_at, accept_at, identifier_at, name_at, behind_name, is_something, led_by, begins, unless, nothing, seq, prefixed, node, if_found, optional, so_often, many, several, limit_at}
 use Rattle.ob_parse.specs.ReadNames.{qualident_after, qualident_at, identdef_after, identdef_at}
-use Rattle.ob_parse.specs.ReadExpressions.{after_relation, after_sign, after_add, after_mul, relation_at, sign_at, add_at, mul_at, marked, mul_start, add_start, relation_start, sign_start, selector_first, term_with, sum_with, expr_with, element_with, selector_from, selector_with, designator_with, factor_from, factor_with, expr_at, negated_at}
-use Rattle.ob_parse.specs.ReadStatements.{label_first, statement_first, label_from, label_at, label_range_at, case_with, block_with, branch_with, if_with, cases_with, while_with, repeat_with, for_with, assign_with, statement_from, statement_with, empty_at, statement_at, block_at}
+use Rattle.ob_parse.specs.ReadExpressions.{after_relation, after_sign, after_add, after_mul, relation_at, sign_at, add_at, mul_at, as_word, mul_start, add_start, relation_start, sign_start, selector_first, term_with, sum_with, expr_with, element_with, selector_from, selector_with, designator_with, factor_from, factor_with, expr_at, negated_at}
+use Rattle.ob_parse.specs.ReadStatements.{label_first, statement_first, label_from, case_label_at, label_range_at, case_with, block_with, branch_with, if_with, cases_with, while_with, repeat_with, for_with, assign_with, statement_from, statement_with, empty_at, statement_at, block_at}
 use Rattle.ob_parse.specs.ReadTypes.{section_at, parameters_at, some_parameters_at, var_with, behind_semicolon, next_field, field_start, fields_with, record_with, type_from, type_with, type_at}
-use Rattle.ob_parse.specs.ReadModules.{is_identifier, const_with, type_decl_with, variable_with, ended, part_with, procedures_with, declarations_with, body_with, procedure_named, name_then, procedure_with, procedure_at, declarations_at, import_at, imports_at, module_named, module_at, nothing_left, all_of}
+use Rattle.ob_parse.specs.ReadModules.{is_identifier, const_with, type_decl_with, variable_with, with_semicolon, part_with, procedures_with, declarations_with, body_with, procedure_named, name_then, procedure_with, procedure_at, declarations_at, import_item_at, imports_at, module_behind_name, module_at, nothing_left, all_of}
 use Rattle.ob_parse.proofs.Sound.{bind_ok, done, ok_is, some_is}
 
 -- a leaf that is an identifier has a number below this one
@@ -107,11 +107,11 @@ leaf_below bound n kinds.Real h = tt
 leaf_below bound n kinds.Text h = tt
 leaf_below bound n k h = tt
 
-leaves_from_below : (bound n : ℕ) (ks : List Kind) → n + length ks ≤ bound → All (IsBelow bound) (leaves n ks)
+leaves_from_below : (bound n : ℕ) (ks : List Kind) → n + length ks ≤ bound → All (IsBelow bound) (leaves_from n ks)
 leaves_from_below bound n [] h = All-nil (IsBelow bound)
-leaves_from_below bound n (k ∷ ks) h = All-cons (IsBelow bound) (leaf_of n k) (leaves (n + 1) ks) (leaf_below bound n k (omega arith)) (leaves_from_below bound (n + 1) ks (omega arith))
+leaves_from_below bound n (k ∷ ks) h = All-cons (IsBelow bound) (leaf_of n k) (leaves_from (n + 1) ks) (leaf_below bound n k (omega arith)) (leaves_from_below bound (n + 1) ks (omega arith))
 
-pub leaves_below : (ks : List Kind) → All (IsBelow (length ks)) (leaves 0 ks)
+pub leaves_below : (ks : List Kind) → All (IsBelow (length ks)) (leaves_from 0 ks)
 leaves_below ks = leaves_from_below (length ks) 0 ks (omega arith)
 
 -- ---- forms
@@ -312,7 +312,7 @@ identdef_knows bound = knows_behind_name bound _ (λ n h. identdef_after_knows b
 -- ---- expressions
 
 marked_knows : {X : Type 0} (bound : ℕ) (kind : X → Kind) (f : Front X) (x : Out × List Leaf) → ((y : X × List Leaf) → f ≡ Some y → LeavesBelow bound y.1)
-    → marked kind f ≡ Some x → Known bound x.0 x.1
+    → as_word kind f ≡ Some x → Known bound x.0 x.1
 marked_knows bound kind None x h e = absurd cc
 marked_knows bound kind (Some y) x h e = start_at_once bound y.1 (word (kind y.0)) x (word_below bound (kind y.0)) (h y refl) e
 
@@ -351,7 +351,7 @@ relation_rest bound l rest y b e = absurd cc
 
 -- an operator, found by f, is a word
 operator_knows : {X : Type 0} (bound : ℕ) (kind : X → Kind) (f : Option (Leaf × List Leaf) → Front X) → ((y : X × List Leaf) → f None ≡ Some y → ⊥)
-    → ((l : Leaf) (rest : List Leaf) (y : X × List Leaf) → LeavesBelow bound rest → f (Some (l, rest)) ≡ Some y → LeavesBelow bound y.1) → KnowsStart bound (λ ls. marked kind (f (uncons ls)))
+    → ((l : Leaf) (rest : List Leaf) (y : X × List Leaf) → LeavesBelow bound rest → f (Some (l, rest)) ≡ Some y → LeavesBelow bound y.1) → KnowsStart bound (λ ls. as_word kind (f (uncons ls)))
 operator_knows bound kind f g h [] x l e = marked_knows bound kind (f None) x (λ y q. absurd (g y q)) e
 operator_knows bound kind f g h (t ∷ ls) x l e = marked_knows bound kind (f (Some (t, ls))) x (λ y q. h t ls y (tail_below bound t ls l) q) e
 
@@ -442,8 +442,8 @@ label_from_knows bound (leafs.Value literals.Integer n) = knows_value_only bound
 label_from_knows bound (leafs.Value literals.Text n) = knows_value_only bound literals.Text n
 label_from_knows bound l = λ ls x b e. absurd cc
 
-label_knows : (bound : ℕ) → Knows bound label_at
-unfolding label_at
+label_knows : (bound : ℕ) → Knows bound case_label_at
+unfolding case_label_at
 label_knows bound = knows_from bound label_from (λ x e. cc) (label_from_knows bound)
 
 label_range_knows : (bound : ℕ) → Knows bound label_range_at
@@ -618,7 +618,7 @@ variable_knows : (bound : ℕ) (t : Reader) → Knows bound t → Knows bound (v
 unfolding variable_with
 variable_knows bound t h = knows_node bound _ _ (var_knows bound t h)
 
-ended_knows : (bound : ℕ) (r : Reader) → Knows bound r → Knows bound (ended r)
+ended_knows : (bound : ℕ) (r : Reader) → Knows bound r → Knows bound (with_semicolon r)
 ended_knows bound r h = knows_seq bound _ _ h (expect_knows bound kinds.Semicolon)
 
 part_with_knows : (bound : ℕ) (k : Kind) (r : Reader) → Knows bound r → Knows bound (part_with k r)
@@ -667,16 +667,16 @@ declarations_at_knows bound d = declarations_knows bound _ _ _ (expr_at_knows bo
 
 -- ---- modules
 
-import_knows : (bound : ℕ) → Knows bound import_at
-unfolding import_at
+import_knows : (bound : ℕ) → Knows bound import_item_at
+unfolding import_item_at
 import_knows bound = knows_node bound _ _ (knows_seq bound _ _ (silent_knows bound aliased (λ n. refl)) (knows_accepted bound kinds.Assign _ (silent_knows bound imported (λ n. refl))))
 
 imports_knows : (bound : ℕ) → Knows bound imports_at
 unfolding imports_at
 imports_knows bound = knows_accepted bound kinds.Import _ (knows_seq bound _ _ (knows_several bound kinds.Comma _ (import_knows bound)) (expect_knows bound kinds.Semicolon))
 
-module_named_knows : (bound d n : ℕ) → n < bound → Knows bound (module_named d n)
-unfolding module_named
+module_named_knows : (bound d n : ℕ) → n < bound → Knows bound (module_behind_name d n)
+unfolding module_behind_name
 module_named_knows bound d n h =
     let end = knows_expected bound kinds.End _ (knows_seq bound _ _ (repeated_knows bound n h) (expect_knows bound kinds.Dot)) in
     let body = knows_seq bound _ _ (declarations_at_knows bound d) (knows_seq bound _ _ (body_knows bound _ (block_at_knows bound d)) end) in
@@ -684,7 +684,7 @@ module_named_knows bound d n h =
 
 module_knows : (bound d : ℕ) → Knows bound (module_at d)
 unfolding module_at
-module_knows bound d = knows_node bound _ _ (knows_expected bound kinds.Module _ (knows_name_then bound named (module_named d) (named_below bound) (module_named_knows bound d)))
+module_knows bound d = knows_node bound _ _ (knows_expected bound kinds.Module _ (knows_name_then bound named (module_behind_name d) (named_below bound) (module_named_knows bound d)))
 
 nothing_left_is : (o p : Out) (left : Option (Leaf × List Leaf)) → nothing_left o left ≡ Ok p → o ≡ p
 nothing_left_is o p None e = ok_is o p e

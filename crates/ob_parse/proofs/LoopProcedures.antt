@@ -5,7 +5,7 @@ use Rattle.ob_tree.specs.declared.token.Leaf.{Leaf}
 use Rattle.ob_tree.specs.Marks.{Out}
 use Rattle.ob_parse.specs.Front.{uncons, front, is_word}
 use Rattle.ob_parse.specs.Forms.{Unexpected, deep_at, Reader, begins, limit_at}
-use Rattle.ob_parse.specs.ReadModules.{ended, procedure_with, procedure_at}
+use Rattle.ob_parse.specs.ReadModules.{with_semicolon, procedure_with, procedure_at}
 use Rattle.ob_parse.proofs.Sound.{Sound, expect_sound}
 use Rattle.ob_parse.proofs.SoundExpressions.{expr_at_sound}
 use Rattle.ob_parse.proofs.SoundStatements.{block_at_sound}
@@ -31,5 +31,5 @@ unfolding procedure_at
 procedure_shortens zero = limit_shortens _
 procedure_shortens (suc d) = procedure_with_shortens d _ _ _ (expr_at_sound d) (block_at_sound d) (declarations_at_sound d)
 
-pub procedure_advances : (d : ℕ) → Advances (begins (is_word kinds.Procedure)) (ended (procedure_at d))
+pub procedure_advances : (d : ℕ) → Advances (begins (is_word kinds.Procedure)) (with_semicolon (procedure_at d))
 procedure_advances d = begins_advances (is_word kinds.Procedure) _ (shortens_seq _ _ (procedure_shortens d) (sound_no_longer d _ (expect_sound d kinds.Semicolon)))

@@ -13,9 +13,9 @@ use Rattle.ob_tree.specs.Expressions.{mul_kind, add_kind}
 use Rattle.ob_parse.specs.Front.{uncons, front}
 use Rattle.ob_parse.specs.Forms.{Unexpected, ◌>>=◌, Read, Reader, Front, Start, expect_at, accept_at, identifier_at, behind_name, is_something, led_by, begins, seq, prefixed, node, if_found, so_often, many, several}
 use Rattle.ob_parse.specs.ReadNames.{identdef_after, identdef_at}
-use Rattle.ob_parse.specs.ReadExpressions.{mul_start, add_start, mul_at, add_at, marked, selector_first, selector_from, selector_with}
+use Rattle.ob_parse.specs.ReadExpressions.{mul_start, add_start, mul_at, add_at, as_word, selector_first, selector_from, selector_with}
 use Rattle.ob_parse.specs.ReadTypes.{var_with, behind_semicolon, next_field, field_start}
-use Rattle.ob_parse.specs.ReadModules.{is_identifier, ended, const_with, type_decl_with, variable_with}
+use Rattle.ob_parse.specs.ReadModules.{is_identifier, with_semicolon, const_with, type_decl_with, variable_with}
 use Rattle.ob_parse.proofs.Sound.{Sound, Takes, bind_ok, ok_is, done, some_is, identifier_spelt, expect_sound, accept_sound, sound_nothing, sound_optional, sound_seq, sound_many, sound_several}
 use Rattle.ob_parse.proofs.SoundExpressions.{Spelt, mul_spelt, add_spelt, role_sound, identdef_sound, closed_sound}
 
@@ -87,11 +87,11 @@ pushed_after start r adv f k xs ys x ls rest a total y e g o h = pushed start r 
 pub smaller : (start : Start) (r : Reader) → Advances start r → (ls : List Leaf) (s a : Out × List Leaf) → start ls ≡ Some s → r s.1 ≡ Ok a → length a.1 < length ls
 smaller start r adv ls s a e f = adv.shorter ls s a e f
 
-pub marked_some : {X : Type 0} (kind : X → Kind) (x : X) (rest : List Leaf) (f : Front X) → Some (x, rest) ≡ f → marked kind f ≡ Some (word (kind x), rest)
-marked_some kind x rest f e = ap (marked kind) (sym e)
+pub marked_some : {X : Type 0} (kind : X → Kind) (x : X) (rest : List Leaf) (f : Front X) → Some (x, rest) ≡ f → as_word kind f ≡ Some (word (kind x), rest)
+marked_some kind x rest f e = ap (as_word kind) (sym e)
 
-pub marked_none : {X : Type 0} (kind : X → Kind) (f : Front X) → None ≡ f → marked kind f ≡ None
-marked_none kind f e = ap (marked kind) (sym e)
+pub marked_none : {X : Type 0} (kind : X → Kind) (f : Front X) → None ≡ f → as_word kind f ≡ None
+marked_none kind f e = ap (as_word kind) (sym e)
 
 pub has_begun : (p : Leaf → Bool) (ls : List Leaf) → front p (uncons ls) ≡ true → begins p ls ≡ Some ([], ls)
 unfolding begins
@@ -170,7 +170,7 @@ shortens_expect k (leafs.Word j ∷ rest) x e = expected_shortens k (same_kind j
 
 -- ---- what advances
 
-word_front : {X : Type 0} (kind : X → Kind) (ls : List Leaf) (f : Front X) (x : Out × List Leaf) → ((y : X × List Leaf) → f ≡ Some y → Spelt kind ls y) → marked kind f ≡ Some x
+word_front : {X : Type 0} (kind : X → Kind) (ls : List Leaf) (f : Front X) (x : Out × List Leaf) → ((y : X × List Leaf) → f ≡ Some y → Spelt kind ls y) → as_word kind f ≡ Some x
     → length x.1 < length ls
 word_front kind ls None x h e = absurd cc
 word_front kind ls (Some y) x h e =
@@ -263,14 +263,14 @@ const_shortens : (d : ℕ) (r : Reader) → Sound d r → Shortens (const_with r
 unfolding const_with
 const_shortens d r h = shortens_node _ _ (shortens_seq _ _ identdef_shortens (sound_no_longer d _ (sound_seq d _ _ (expect_sound d kinds.Equals) h)))
 
-pub const_advances : (d : ℕ) (r : Reader) → Sound d r → Advances (begins is_identifier) (ended (const_with r))
+pub const_advances : (d : ℕ) (r : Reader) → Sound d r → Advances (begins is_identifier) (with_semicolon (const_with r))
 const_advances d r h = begins_advances is_identifier _ (shortens_seq _ _ (const_shortens d r h) ended_no_longer)
 
 type_decl_shortens : (d : ℕ) (r : Reader) → Sound d r → Shortens (type_decl_with r)
 unfolding type_decl_with
 type_decl_shortens d r h = shortens_node _ _ (shortens_seq _ _ identdef_shortens (sound_no_longer d _ (sound_seq d _ _ (expect_sound d kinds.Equals) h)))
 
-pub type_decl_advances : (d : ℕ) (r : Reader) → Sound d r → Advances (begins is_identifier) (ended (type_decl_with r))
+pub type_decl_advances : (d : ℕ) (r : Reader) → Sound d r → Advances (begins is_identifier) (with_semicolon (type_decl_with r))
 type_decl_advances d r h = begins_advances is_identifier _ (shortens_seq _ _ (type_decl_shortens d r h) ended_no_longer)
 
 var_shortens : (d : ℕ) (r : Reader) → Sound d r → Shortens (var_with r)
@@ -281,5 +281,5 @@ variable_shortens : (d : ℕ) (r : Reader) → Sound d r → Shortens (variable_
 unfolding variable_with
 variable_shortens d r h = shortens_node _ _ (var_shortens d r h)
 
-pub variable_advances : (d : ℕ) (r : Reader) → Sound d r → Advances (begins is_identifier) (ended (variable_with r))
+pub variable_advances : (d : ℕ) (r : Reader) → Sound d r → Advances (begins is_identifier) (with_semicolon (variable_with r))
 variable_advances d r h = begins_advances is_identifier _ (shortens_seq _ _ (variable_shortens d r h) ended_no_longer)

@@ -8,7 +8,7 @@ use Rattle.ob_scan.specs.declared.token.Token.{Token}
 use Rattle.ob_tree.specs.Declaring.{module_outline}
 use Rattle.ob_tree.specs.Derives.{endings_in}
 use Rattle.ob_tree.specs.declared.token.Leaf.{Leaf}
-use Rattle.ob_tree.specs.Leaves.{leaves}
+use Rattle.ob_tree.specs.Leaves.{leaves_from}
 use Rattle.ob_tree.specs.Marks.{Out}
 use Rattle.ob_parse.specs.declared.fault.ParseFault.{ParseFault}
 use Rattle.ob_parse.specs.declared.fault.ParseFault.TheVariants as faults
@@ -31,7 +31,7 @@ counted [] = refl
 counted (l ∷ ls) = refl
 
 from_count : (ts : List Token) (n : ℕ) → count (from_token ts n) ≡ length ts - n
-from_count ts n = counted (leaves n (kinds_of (drop n ts))) ∙ leaves_length n (kinds_of (drop n ts)) ∙ length-map (drop n ts) (λ (t : Token). t.kind) ∙ length-drop n ts
+from_count ts n = counted (leaves_from n (kinds_of (drop n ts))) ∙ leaves_length n (kinds_of (drop n ts)) ∙ length-map (drop n ts) (λ (t : Token). t.kind) ∙ length-drop n ts
 
 -- what stands from a token on tells where the token begins
 one_start : (ts : List Token) (m n end : ℕ) → from_token ts m ≡ from_token ts n → start_or end (slice_get ts m) ≡ start_or end (slice_get ts n)

@@ -12,7 +12,7 @@ use Rattle.ob_tree.specs.declared.declaration.Module.{Module}
 use Rattle.ob_tree.specs.Declaring.{module_outline}
 use Rattle.ob_tree.specs.Derives.{Derives, depth, endings_in, spelling}
 use Rattle.ob_tree.specs.declared.token.Leaf.{Leaf}
-use Rattle.ob_tree.specs.Leaves.{leaf_of, leaves}
+use Rattle.ob_tree.specs.Leaves.{leaf_of, leaves_from}
 use Rattle.ob_tree.specs.Marks.{Out}
 use Rattle.ob_parse.specs.declared.fault.ParseFault.{ParseFault}
 use Rattle.ob_parse.specs.declared.fault.ParseFault.TheVariants as faults
@@ -22,7 +22,7 @@ use Rattle.ob_parse.specs.Gives.{Fails, ahead}
 use Rattle.ob_parse.specs.declared.cursor.Cursor.{Cursor}
 use Rattle.ob_parse.specs.declared.stop.Stop.{Stop}
 use Rattle.ob_parse.specs.declared.stop.Stop.TheVariants as stops
-use Rattle.ob_parse.specs.Ends.{IsKnown, IsPlaced, deep_told, told}
+use Rattle.ob_parse.specs.Ends.{AreTokenNumbers, IsPlaced, deep_told, told}
 use Rattle.ob_parse.specs.Parsed.{Pair, IsOneTree, IsTheTree, IsRightEnd, IsWrongEnd, IsEndFault, IsFaultOf, IsPlace, kinds_of, bytes_of, from_token, read_left, start_or}
 use Rattle.ob_parse.specs.ReadModules.{all_of}
 use Rattle.ob_parse.proofs.SoundModules.{all_sound}
@@ -40,20 +40,20 @@ never : (r : Result Out Refusal) (o : Out) (x : Refusal) → r ≡ Ok o → r �
 never r o x e f = cc
 
 -- a tree that derives the tokens is read wherever it isn't too deep
-again : (kinds : List Kind) (d : ℕ) (m : Module) → Derives kinds m → depth m ≤ d → all_of d (leaves 0 kinds) ≡ Ok (module_outline m)
+again : (kinds : List Kind) (d : ℕ) (m : Module) → Derives kinds m → depth m ≤ d → all_of d (leaves_from 0 kinds) ≡ Ok (module_outline m)
 again kinds d m h le = ap (all_of d) h ∙ all_again d m le
 
-pub one_tree : (ts : List Token) (m : Module) → all_of 200 (leaves 0 (kinds_of ts)) ≡ Ok (module_outline m) → IsOneTree ts m
+pub one_tree : (ts : List Token) (m : Module) → all_of 200 (leaves_from 0 (kinds_of ts)) ≡ Ok (module_outline m) → IsOneTree ts m
 one_tree ts m e =
-    let read = all_sound 200 (leaves 0 (kinds_of ts)) (module_outline m) e in
+    let read = all_sound 200 (leaves_from 0 (kinds_of ts)) (module_outline m) e in
     record {
       derived = read.0;
       shallow = read.1;
-      only = λ other h. ok_same (module_outline other) (module_outline m) (all_of (200 + depth other) (leaves 0 (kinds_of ts))) (again (kinds_of ts) (200 + depth other) other h (omega arith)) (still_ok 200 (200 + depth other) (leaves 0 (kinds_of ts)) (module_outline m) (omega arith) e);
+      only = λ other h. ok_same (module_outline other) (module_outline m) (all_of (200 + depth other) (leaves_from 0 (kinds_of ts))) (again (kinds_of ts) (200 + depth other) other h (omega arith)) (still_ok 200 (200 + depth other) (leaves_from 0 (kinds_of ts)) (module_outline m) (omega arith) e);
     }
 
 no_tree : (ts : List Token) (o : Option (Leaf × List Leaf)) → read_left ts ≡ Err (Unexpected o) → (other : Module) → Derives (kinds_of ts) other → ⊥
-no_tree ts o e other h = never (all_of (200 + depth other) (leaves 0 (kinds_of ts))) (module_outline other) (Unexpected o) (again (kinds_of ts) (200 + depth other) other h (omega arith)) (still_wrong 200 (200 + depth other) (leaves 0 (kinds_of ts)) o (omega arith) e)
+no_tree ts o e other h = never (all_of (200 + depth other) (leaves_from 0 (kinds_of ts))) (module_outline other) (Unexpected o) (again (kinds_of ts) (200 + depth other) other h (omega arith)) (still_wrong 200 (200 + depth other) (leaves_from 0 (kinds_of ts)) o (omega arith) e)
 
 no_low_tree : (ts : List Token) (x : Leaf × List Leaf) → read_left ts ≡ Err (TooDeep x) → (other : Module) → Derives (kinds_of ts) other → 200 < depth other
 no_low_tree ts x e other h = elim (cases_lt 200 (depth other)) [
@@ -66,13 +66,13 @@ no_low_tree ts x e other h = elim (cases_lt 200 (depth other)) [
 -- what is ahead is what stands from the token of that number on
 ahead_is : (ts : List Token) (i : Cursor) → length ts < 2 ^ 32 → uncons (ahead ts i) ≡ from_token ts i.at
 unfolding ahead
-ahead_is ts i few = ap (λ (us : List Token). uncons (leaves i.at (kinds_of (drop i.at us)))) (take_all 4294967295 ts (omega (arith, few)))
+ahead_is ts i few = ap (λ (us : List Token). uncons (leaves_from i.at (kinds_of (drop i.at us)))) (take_all 4294967295 ts (omega (arith, few)))
 
 nothing_from : (ts : List Token) (n : ℕ) → length ts ≤ n → from_token ts n ≡ None
-nothing_from ts n h = ap (λ (us : List Token). uncons (leaves n (kinds_of us))) (drop_all n ts h)
+nothing_from ts n h = ap (λ (us : List Token). uncons (leaves_from n (kinds_of us))) (drop_all n ts h)
 
-token_from : (ts : List Token) (n : ℕ) (t : Token) → n < length ts → get_or ts n t ≡ t → from_token ts n ≡ Some (leaf_of n t.kind, leaves (n + 1) (kinds_of (drop (n + 1) ts)))
-token_from ts n t h e = ap (λ (us : List Token). uncons (leaves n (kinds_of us))) (drop_more ts n t h ∙ ap (λ (u : Token). u ∷ drop (n + 1) ts) e)
+token_from : (ts : List Token) (n : ℕ) (t : Token) → n < length ts → get_or ts n t ≡ t → from_token ts n ≡ Some (leaf_of n t.kind, leaves_from (n + 1) (kinds_of (drop (n + 1) ts)))
+token_from ts n t h e = ap (λ (us : List Token). uncons (leaves_from n (kinds_of us))) (drop_more ts n t h ∙ ap (λ (u : Token). u ∷ drop (n + 1) ts) e)
 
 wrong_fault : (bytes : List ℕ) (ts : List Token) (n : ℕ) → read_left ts ≡ Err (Unexpected (from_token ts n)) → IsFaultOf bytes ts (faults.Syntax (start_or (length bytes) (slice_get ts n)))
 wrong_fault bytes ts n e = (record { number = n; begins = refl; stops = e }, no_tree ts (from_token ts n) e)
@@ -81,9 +81,9 @@ deep_fault : (bytes : List ℕ) (ts : List Token) (n : ℕ) → read_left ts ≡
 deep_fault bytes ts n e = elim (slice_get_cases ts n).1 [
   | inl (t, within, there, at) ↦
       let is_ahead = token_from ts n t within at in
-      let stops : read_left ts ≡ Err (TooDeep (leaf_of n t.kind, leaves (n + 1) (kinds_of (drop (n + 1) ts)))) = e ∙ ap (λ (o : Option (Leaf × List Leaf)). refused (deep_at o)) is_ahead in
+      let stops : read_left ts ≡ Err (TooDeep (leaf_of n t.kind, leaves_from (n + 1) (kinds_of (drop (n + 1) ts)))) = e ∙ ap (λ (o : Option (Leaf × List Leaf)). refused (deep_at o)) is_ahead in
       subst (λ (o : Option Token). IsFaultOf bytes ts (deep_told (length bytes) o)) (sym there)
-      (record { number = n; token = t; there = there; begins = refl; ahead = (leaf_of n t.kind, leaves (n + 1) (kinds_of (drop (n + 1) ts))); is_ahead = is_ahead; stops = stops }, no_low_tree ts _ stops)
+      (record { number = n; token = t; there = there; begins = refl; ahead = (leaf_of n t.kind, leaves_from (n + 1) (kinds_of (drop (n + 1) ts))); is_ahead = is_ahead; stops = stops }, no_low_tree ts _ stops)
   | inr (past, none) ↦
       let stops : read_left ts ≡ Err (Unexpected (from_token ts n)) = e ∙ ap (λ (o : Option (Leaf × List Leaf)). refused (deep_at o)) (nothing_from ts n past) ∙ ap (λ (o : Option (Leaf × List Leaf)). refused (Unexpected o)) (sym (nothing_from ts n past)) in
       subst (λ (o : Option Token). IsFaultOf bytes ts (deep_told (length bytes) o)) (sym none)
@@ -96,15 +96,15 @@ why_none bytes ts (stops.Unexpected i) few e = wrong_fault bytes ts i.at (e ∙ 
 why_none bytes ts (stops.TooDeep i) few e = deep_fault bytes ts i.at (e ∙ ap (λ (o : Option (Leaf × List Leaf)). refused (deep_at o)) (ahead_is ts i few))
 
 -- both numbers of each ending are those of tokens
-pub endings_are_known : (ts : List Token) (o : Out) → all_of 200 (leaves 0 (kinds_of ts)) ≡ Ok o → All (IsKnown ts) (endings_in o)
+pub endings_are_known : (ts : List Token) (o : Out) → all_of 200 (leaves_from 0 (kinds_of ts)) ≡ Ok o → All (AreTokenNumbers ts) (endings_in o)
 endings_are_known ts o e =
-    subst (λ (n : ℕ). All (λ (p : ℕ × ℕ). (p.0 < n) × (p.1 < n)) (endings_in o)) (length-map ts (λ (t : Token). t.kind)) (endings_known (length (kinds_of ts)) 200 (leaves 0 (kinds_of ts)) o (leaves_below (kinds_of ts)) e)
+    subst (λ (n : ℕ). All (λ (p : ℕ × ℕ). (p.0 < n) × (p.1 < n)) (endings_in o)) (length-map ts (λ (t : Token). t.kind)) (endings_known (length (kinds_of ts)) 200 (leaves_from 0 (kinds_of ts)) o (leaves_below (kinds_of ts)) e)
 
 pub tokens_placed : (bytes : List ℕ) (ts : List Token) → AreInText bytes ts → All (IsPlaced bytes) ts
 tokens_placed bytes ts h = λ i d in_i. let a = h.some i d in_i in (omega arith, h.within i d in_i)
 
 pub trees_same : (kinds : List Kind) (m n : Module) → Derives kinds m → Derives kinds n → module_outline m ≡ module_outline n
-trees_same kinds m n h k = ok_same (module_outline m) (module_outline n) (all_of (depth m + depth n) (leaves 0 kinds)) (again kinds (depth m + depth n) m h (omega arith)) (again kinds (depth m + depth n) n k (omega arith))
+trees_same kinds m n h k = ok_same (module_outline m) (module_outline n) (all_of (depth m + depth n) (leaves_from 0 kinds)) (again kinds (depth m + depth n) m h (omega arith)) (again kinds (depth m + depth n) n k (omega arith))
 
 pub some_is : {X : Type 0} (x y : X) → Some x ≡ Some y → x ≡ y
 some_is x y e = cc
@@ -144,7 +144,7 @@ place_in_text bytes ts at h (inl s) =
     let start : (get_or ts s.number s.token).start ≡ at = ap (λ (t : Token). t.start) here ∙ s.begins in
     omega (arith, token.0, token.1, start)
 
-pub leaves_length : (n : ℕ) (kinds : List Kind) → length (leaves n kinds) ≡ length kinds
+pub leaves_length : (n : ℕ) (kinds : List Kind) → length (leaves_from n kinds) ≡ length kinds
 leaves_length n [] = refl
 leaves_length n (k ∷ kinds) = ap suc (leaves_length (n + 1) kinds)
 

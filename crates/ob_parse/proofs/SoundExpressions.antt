@@ -19,7 +19,7 @@ use Rattle.ob_tree.specs.Expressions.{relation_kind, sign_kind, add_kind, mul_ki
 use Rattle.ob_parse.specs.Front.{uncons}
 use Rattle.ob_parse.specs.Forms.{Reader, Front, expect_at, name_at, is_something, unless, seq, optional, several}
 use Rattle.ob_parse.specs.ReadNames.{qualident_after, qualident_at, identdef_after, identdef_at}
-use Rattle.ob_parse.specs.ReadExpressions.{after_relation, after_sign, after_add, after_mul, relation_at, sign_at, add_at, mul_at, marked, mul_start, add_start, relation_start, sign_start, selector_first, term_with, sum_with, expr_with, element_with, selector_from, selector_with, designator_with, factor_from, factor_with, expr_at, negated_at, factor_at, term_at}
+use Rattle.ob_parse.specs.ReadExpressions.{after_relation, after_sign, after_add, after_mul, relation_at, sign_at, add_at, mul_at, as_word, mul_start, add_start, relation_start, sign_start, selector_first, term_with, sum_with, expr_with, element_with, selector_from, selector_with, designator_with, factor_from, factor_with, expr_at, negated_at, factor_at, term_at}
 use Rattle.ob_parse.proofs.Sound.{Sound, SoundStart, SoundBehind, Takes, TakesIt, some_is, word_takes, role_takes, value_takes, sound_nothing, sound_seq, sound_flat, sound_level, sound_optional, sound_many, sound_several, behind_flat, behind_led, behind_prefixed, behind_at_once, sound_behind_name, expect_sound, accept_sound, name_sound, begins_sound, unless_sound, limit_sound}
 
 -- ---- names
@@ -56,7 +56,7 @@ identdef_sound d = sound_behind_name d _ (identdef_after_sound d)
 abbrev pub Spelt : {X : Type 0} → (X → Kind) → List Leaf → X × List Leaf → Type 0
 Spelt kind ls y = ls ≡ leafs.Word (kind y.0) ∷ y.1
 
-marked_takes : {X : Type 0} (d : ℕ) (kind : X → Kind) (ls : List Leaf) (f : Front X) (x : Out × List Leaf) → ((y : X × List Leaf) → f ≡ Some y → Spelt kind ls y) → marked kind f ≡ Some x
+marked_takes : {X : Type 0} (d : ℕ) (kind : X → Kind) (ls : List Leaf) (f : Front X) (x : Out × List Leaf) → ((y : X × List Leaf) → f ≡ Some y → Spelt kind ls y) → as_word kind f ≡ Some x
     → Takes d ls x.0 x.1
 marked_takes d kind ls None x h e = absurd cc
 marked_takes d kind ls (Some y) x h e = subst (TakesIt d ls) (some_is (word (kind y.0), y.1) x e) (record { parts = h y refl; low = omega arith })

@@ -9,7 +9,7 @@ use Rattle.ob_tree.specs.declared.role.Role.TheVariants.{Aliases, Imports, Names
 use Rattle.ob_tree.specs.Marks.{Out, tokens_of, height, repeated}
 use Rattle.ob_parse.specs.Front.{uncons, is_word}
 use Rattle.ob_parse.specs.Forms.{Reader, behind_name, name_at}
-use Rattle.ob_parse.specs.ReadModules.{is_identifier, const_with, type_decl_with, variable_with, ended, part_with, procedures_with, declarations_with, body_with, procedure_named, procedure_with, procedure_at, declarations_at, import_at, imports_at, module_named, module_at, nothing_left, all_of}
+use Rattle.ob_parse.specs.ReadModules.{is_identifier, const_with, type_decl_with, variable_with, with_semicolon, part_with, procedures_with, declarations_with, body_with, procedure_named, procedure_with, procedure_at, declarations_at, import_item_at, imports_at, module_behind_name, module_at, nothing_left, all_of}
 use Rattle.ob_parse.proofs.Sound.{Sound, SoundBehind, Takes, behind_seq, bind_ok, role_takes, sound_behind_name, sound_seq, sound_flat, sound_level, sound_optional, sound_many, sound_several, sound_name_then, expect_sound, accept_sound, name_sound, begins_sound, limit_sound}
 use Rattle.ob_parse.proofs.SoundExpressions.{role_sound, identdef_after_sound, identdef_sound, expr_at_sound}
 use Rattle.ob_parse.proofs.SoundStatements.{block_at_sound}
@@ -27,7 +27,7 @@ pub variable_sound : (d : ℕ) (type : Reader) → Sound d type → Sound d (var
 unfolding variable_with
 variable_sound d type h = sound_flat d _ _ refl (var_sound d type h)
 
-pub ended_sound : (d : ℕ) (r : Reader) → Sound d r → Sound d (ended r)
+pub ended_sound : (d : ℕ) (r : Reader) → Sound d r → Sound d (with_semicolon r)
 ended_sound d r h = sound_seq d _ _ h (expect_sound d kinds.Semicolon)
 
 pub part_with_sound : (d : ℕ) (k : Kind) (r : Reader) → Sound d r → Sound d (part_with k r)
@@ -76,16 +76,16 @@ procedure_at_sound (suc d) = procedure_with_sound d _ _ _ (expr_at_sound d) (blo
 pub declarations_at_sound : (d : ℕ) → Sound d (declarations_at d)
 declarations_at_sound d = declarations_sound d _ _ _ (expr_at_sound d) (type_at_sound d) (procedure_at_sound d)
 
-pub import_sound : (d : ℕ) → Sound d import_at
-unfolding import_at
+pub import_sound : (d : ℕ) → Sound d import_item_at
+unfolding import_item_at
 import_sound d = sound_flat d _ _ refl (sound_seq d _ _ (role_sound d Aliases) (sound_optional d _ _ (accept_sound d kinds.Assign) (role_sound d Imports)))
 
 pub imports_sound : (d : ℕ) → Sound d imports_at
 unfolding imports_at
 imports_sound d = sound_optional d _ _ (accept_sound d kinds.Import) (sound_seq d _ _ (sound_several d kinds.Comma _ (import_sound d)) (expect_sound d kinds.Semicolon))
 
-module_named_sound : (d n : ℕ) → Sound d (module_named d n)
-unfolding module_named
+module_named_sound : (d n : ℕ) → Sound d (module_behind_name d n)
+unfolding module_behind_name
 module_named_sound d n =
     sound_seq d _ _ (expect_sound d kinds.Semicolon) (sound_seq d _ _ (imports_sound d)
     (sound_seq d _ _ (declarations_at_sound d) (sound_seq d _ _ (body_sound d _ (block_at_sound d))

@@ -9,12 +9,12 @@ use Rattle.ob_tree.specs.Constructs as constructs
 use Rattle.ob_tree.specs.Marks.{Out, construct}
 use Rattle.ob_parse.specs.Front.{uncons, front}
 use Rattle.ob_parse.specs.Forms.{Refusal, deep_at, Reader}
-use Rattle.ob_parse.specs.ReadStatements.{label_first, statement_first, label_at, label_range_at, case_with, block_with, branch_with, if_with, cases_with, while_with, repeat_with, for_with, assign_with, statement_from, statement_with, empty_at, statement_at, block_at}
+use Rattle.ob_parse.specs.ReadStatements.{label_first, statement_first, case_label_at, label_range_at, case_with, block_with, branch_with, if_with, cases_with, while_with, repeat_with, for_with, assign_with, statement_from, statement_with, empty_at, statement_at, block_at}
 use Rattle.ob_parse.proofs.Sound.{Sound, SoundBehind, Takes, done, takes_none, takes_flat, word_takes, value_takes, sound_at_once, sound_seq, sound_flat, sound_optional, sound_many, sound_several, behind_seq, behind_level, behind_prefixed, behind_at_once, expect_sound, accept_sound, begins_sound}
 use Rattle.ob_parse.proofs.SoundExpressions.{used_sound, qualident_after_sound, designator_sound, expr_at_sound}
 
-pub label_sound : (d : ℕ) → Sound d label_at
-unfolding label_at
+pub label_sound : (d : ℕ) → Sound d case_label_at
+unfolding case_label_at
 label_sound d [] x e = absurd cc
 label_sound d (leafs.Name n ∷ rest) x e = qualident_after_sound d n rest x e
 label_sound d (leafs.Value literals.Integer n ∷ rest) x e = behind_at_once d _ _ (value_takes d literals.Integer n) rest x e

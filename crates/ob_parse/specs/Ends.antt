@@ -9,8 +9,8 @@ use Rattle.ob_parse.specs.declared.stop.Stop.TheVariants as stops
 use Rattle.ob_parse.specs.Parsed.{Pair, IsRightEnd, IsFirstWrong, bytes_of, start_or}
 
 -- both are numbers of tokens
-abbrev pub IsKnown : List Token → ℕ × ℕ → Type 0
-IsKnown ts e = (e.0 < length ts) × (e.1 < length ts)
+abbrev pub AreTokenNumbers : List Token → ℕ × ℕ → Type 0
+AreTokenNumbers ts e = (e.0 < length ts) × (e.1 < length ts)
 
 -- a token that lies in the text
 abbrev pub IsPlaced : List ℕ → Token → Type 0

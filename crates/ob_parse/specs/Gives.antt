@@ -3,7 +3,7 @@ use Rattle.std.specs.Prelude.{◌≡◌, List, [], ◌∷◌, ◌++◌, map, dro
 use Rattle.ob_scan.specs.declared.kind.Kind.{Kind}
 use Rattle.ob_scan.specs.declared.token.Token.{Token}
 use Rattle.ob_tree.specs.declared.token.Leaf.{Leaf}
-use Rattle.ob_tree.specs.Leaves.{leaves}
+use Rattle.ob_tree.specs.Leaves.{leaves_from}
 use Rattle.ob_tree.specs.Marks.{Out, word}
 use Rattle.ob_parse.specs.declared.stop.Stop.{Stop}
 use Rattle.ob_parse.specs.declared.stop.Stop.TheVariants as stops
@@ -16,7 +16,7 @@ kind_of t = t.kind
 
 -- the tokens of a text that are still to be read, of those whose numbers 32 bits hold
 unfoldable pub ahead : List Token → Cursor → List Leaf
-ahead ts i = leaves i.at (map kind_of (drop i.at (take 4294967295 ts)))
+ahead ts i = leaves_from i.at (map kind_of (drop i.at (take 4294967295 ts)))
 
 -- a token with those after it
 abbrev pub seen : {X : Type 0} → List Token → Option (X × Cursor) → Option (X × List Leaf)
@@ -40,11 +40,11 @@ Gives ts view (Ok x) read = read ≡ Ok (view x)
 Gives ts view (Err e) read = Fails ts e read
 
 -- what was read was put at the end of a list, and the tokens behind it are answered; else why the parser stopped
-abbrev pub Keeps : {X T : Type 0} → (X → T) → List T → List T → Result (X × Cursor) Stop → Result Cursor Stop → Type 0
-Keeps value old new (Ok x) (Ok rest) = (new ≡ old ++ value x.0 ∷ []) × (x.1 ≡ rest)
-Keeps value old new (Ok x) (Err stop) = stop ≡ stops.Memory
-Keeps value old new (Err e) (Ok rest) = ⊥
-Keeps value old new (Err e) (Err stop) = e ≡ stop
+abbrev pub Collects : {X T : Type 0} → (X → T) → List T → List T → Result (X × Cursor) Stop → Result Cursor Stop → Type 0
+Collects value old new (Ok x) (Ok rest) = (new ≡ old ++ value x.0 ∷ []) × (x.1 ≡ rest)
+Collects value old new (Ok x) (Err stop) = stop ≡ stops.Memory
+Collects value old new (Err e) (Ok rest) = ⊥
+Collects value old new (Err e) (Err stop) = e ≡ stop
 
 -- what was read, where something may stand
 abbrev pub some_of : {X : Type 0} → Result (X × Cursor) Stop → Result (Option X × Cursor) Stop

@@ -7,7 +7,7 @@ use Rattle.ob_tree.specs.declared.declaration.Module.{Module}
 use Rattle.ob_tree.specs.Declaring.{module_outline}
 use Rattle.ob_tree.specs.Derives.{Derives, depth, endings_in}
 use Rattle.ob_tree.specs.declared.token.Leaf.{Leaf}
-use Rattle.ob_tree.specs.Leaves.{leaves}
+use Rattle.ob_tree.specs.Leaves.{leaves_from}
 use Rattle.ob_tree.specs.Marks.{Out}
 use Rattle.ob_parse.specs.Front.{uncons}
 use Rattle.ob_parse.specs.Forms.{Refusal, Unexpected, TooDeep}
@@ -84,11 +84,11 @@ start_or end (Some t) = t.start
 
 -- the token of this number and those after it, or nothing behind the last
 abbrev pub from_token : List Token → ℕ → Option (Leaf × List Leaf)
-from_token ts n = uncons (leaves n (kinds_of (drop n ts)))
+from_token ts n = uncons (leaves_from n (kinds_of (drop n ts)))
 
 -- the tokens read from the left, a production at a time, as one module of at most 200 levels
 abbrev pub read_left : List Token → Result Out Refusal
-read_left ts = all_of 200 (leaves 0 (kinds_of ts))
+read_left ts = all_of 200 (leaves_from 0 (kinds_of ts))
 
 -- reading comes to the token that begins at this offset, or to the text's end, and it can't stand there, nor the end
 pub record IsWrongToken (bytes : List ℕ) (ts : List Token) (at : ℕ) : Type 0 where

@@ -63,21 +63,21 @@ unfoldable pub mul_at : List Leaf → Front MulOperator
 mul_at ls = after_mul (uncons ls)
 
 -- a front whose mark is a word
-abbrev pub marked : {X : Type 0} → (X → Kind) → Front X → Front Out
-marked kind None = None
-marked kind (Some x) = Some (word (kind x.0), x.1)
+abbrev pub as_word : {X : Type 0} → (X → Kind) → Front X → Front Out
+as_word kind None = None
+as_word kind (Some x) = Some (word (kind x.0), x.1)
 
 abbrev pub mul_start : Start
-mul_start ls = marked mul_kind (mul_at ls)
+mul_start ls = as_word mul_kind (mul_at ls)
 
 abbrev pub add_start : Start
-add_start ls = marked add_kind (add_at ls)
+add_start ls = as_word add_kind (add_at ls)
 
 abbrev pub relation_start : Start
-relation_start ls = marked relation_kind (relation_at ls)
+relation_start ls = as_word relation_kind (relation_at ls)
 
 abbrev pub sign_start : Start
-sign_start ls = marked sign_kind (sign_at ls)
+sign_start ls = as_word sign_kind (sign_at ls)
 
 -- ---- what begins a construct
 

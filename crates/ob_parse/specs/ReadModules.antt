@@ -31,16 +31,16 @@ unfoldable pub variable_with : Reader → Reader
 variable_with type = node constructs.VariableDeclaration (var_with type)
 
 -- a declaration and the semicolon behind it
-abbrev pub ended : Reader → Reader
-ended r = seq r (expect_at kinds.Semicolon)
+abbrev pub with_semicolon : Reader → Reader
+with_semicolon r = seq r (expect_at kinds.Semicolon)
 
 -- a keyword, and declarations that a semicolon ends
 unfoldable pub part_with : Kind → Reader → Reader
-part_with k r = optional (accept_at k) (many (begins is_identifier) (ended r))
+part_with k r = optional (accept_at k) (many (begins is_identifier) (with_semicolon r))
 
 -- {ProcedureDeclaration ";"}
 unfoldable pub procedures_with : Reader → Reader
-procedures_with procedure = many (begins (is_word kinds.Procedure)) (ended procedure)
+procedures_with procedure = many (begins (is_word kinds.Procedure)) (with_semicolon procedure)
 
 -- DeclarationSequence = [CONST {ConstDeclaration ";"}] [TYPE {TypeDeclaration ";"}] [VAR {VariableDeclaration ";"}]
 --   {ProcedureDeclaration ";"}
@@ -76,20 +76,20 @@ abbrev pub declarations_at : ℕ → Reader
 declarations_at d = declarations_with (expr_at d) (type_at d) (procedure_at d)
 
 -- import = ident [":=" ident]
-unfoldable pub import_at : Reader
-import_at = node constructs.Import (seq (name_at aliased) (optional (accept_at kinds.Assign) (name_at imported)))
+unfoldable pub import_item_at : Reader
+import_item_at = node constructs.Import (seq (name_at aliased) (optional (accept_at kinds.Assign) (name_at imported)))
 
 -- [IMPORT import {"," import} ";"]
 unfoldable pub imports_at : Reader
-imports_at = optional (accept_at kinds.Import) (seq (several kinds.Comma import_at) (expect_at kinds.Semicolon))
+imports_at = optional (accept_at kinds.Import) (seq (several kinds.Comma import_item_at) (expect_at kinds.Semicolon))
 
 -- what stands behind MODULE and the name of this number
-unfoldable pub module_named : ℕ → ℕ → Reader
-module_named d n = seq (expect_at kinds.Semicolon) (seq imports_at (seq (declarations_at d) (seq (body_with (block_at d)) (seq (expect_at kinds.End) (seq (name_at (repeated n)) (expect_at kinds.Dot))))))
+unfoldable pub module_behind_name : ℕ → ℕ → Reader
+module_behind_name d n = seq (expect_at kinds.Semicolon) (seq imports_at (seq (declarations_at d) (seq (body_with (block_at d)) (seq (expect_at kinds.End) (seq (name_at (repeated n)) (expect_at kinds.Dot))))))
 
 -- module = MODULE ident ";" [ImportList] DeclarationSequence [BEGIN StatementSequence] END ident "."
 unfoldable pub module_at : ℕ → Reader
-module_at d = node constructs.Module (seq (expect_at kinds.Module) (name_then named (module_named d)))
+module_at d = node constructs.Module (seq (expect_at kinds.Module) (name_then named (module_behind_name d)))
 
 -- the outline, where nothing is left
 abbrev pub nothing_left : Out → Option (Leaf × List Leaf) → Result Out Refusal

@@ -38,12 +38,12 @@ label_from (Some (leafs.Value literals.Integer n, rest)) = Ok (Value literals.In
 label_from (Some (leafs.Value literals.Text n, rest)) = Ok (Value literals.Text n ∷ [], rest)
 label_from o = Err (Unexpected o)
 
-unfoldable pub label_at : Reader
-label_at ls = label_from (uncons ls)
+unfoldable pub case_label_at : Reader
+case_label_at ls = label_from (uncons ls)
 
 -- LabelRange = label [".." label]
 unfoldable pub label_range_at : Reader
-label_range_at = seq label_at (optional (accept_at kinds.DotDot) label_at)
+label_range_at = seq case_label_at (optional (accept_at kinds.DotDot) case_label_at)
 
 -- case = [LabelRange {"," LabelRange} ":" StatementSequence]
 unfoldable pub case_with : Reader → Reader

@@ -11,7 +11,7 @@ ghost use Rattle.ob_parse.specs.Forms.{optional, accept_at, expect_at, name_at, 
 ghost use Rattle.ob_parse.specs.ReadExpressions.{expr_at};
 ghost use Rattle.ob_parse.specs.ReadStatements.{block_at};
 ghost use Rattle.ob_parse.specs.ReadTypes.{type_at};
-ghost use Rattle.ob_parse.specs.ReadModules.{is_identifier, ended, const_with, type_decl_with, variable_with, part_with, procedures_with, body_with, procedure_with, procedure_at, declarations_at};
+ghost use Rattle.ob_parse.specs.ReadModules.{is_identifier, with_semicolon, const_with, type_decl_with, variable_with, part_with, procedures_with, body_with, procedure_with, procedure_at, declarations_at};
 ghost use Rattle.ob_parse.specs.Gives.{Gives, ahead};
 
 use crate::cursor::Cursor;
@@ -45,7 +45,7 @@ fn ended_constant(
     input: Cursor,
     depth: u32,
 ) -> Result<(ConstDecl, Cursor), Stop>
-    ensures { Gives tokens.now (λ x. (const_outline x.0 ++ word kinds.Semicolon, ahead tokens.now x.1)) result (ended (const_with (expr_at depth)) (ahead tokens.now input)) }
+    ensures { Gives tokens.now (λ x. (const_outline x.0 ++ word kinds.Semicolon, ahead tokens.now x.1)) result (with_semicolon (const_with (expr_at depth)) (ahead tokens.now input)) }
 {
     let (name, here) = identdef(tokens, input)?;
     let here = expect(tokens, here, Kind::Equals)?;
@@ -63,7 +63,7 @@ fn constants(
     depth: u32,
 ) -> Result<(Vec<ConstDecl>, Cursor), Stop>
     ensures { Gives tokens.now (λ x. (each (λ d. const_outline d ++ word kinds.Semicolon) x.0.items, ahead tokens.now x.1)) result
-        (many (begins is_identifier) (ended (const_with (expr_at depth))) (ahead tokens.now input)) }
+        (many (begins is_identifier) (with_semicolon (const_with (expr_at depth))) (ahead tokens.now input)) }
 {
     let mut declared = Vec::new(alloc);
     let mut here = input;
@@ -97,7 +97,7 @@ fn ended_named_type(
     input: Cursor,
     depth: u32,
 ) -> Result<(TypeDecl, Cursor), Stop>
-    ensures { Gives tokens.now (λ x. (type_decl_outline x.0 ++ word kinds.Semicolon, ahead tokens.now x.1)) result (ended (type_decl_with (type_at depth)) (ahead tokens.now input)) }
+    ensures { Gives tokens.now (λ x. (type_decl_outline x.0 ++ word kinds.Semicolon, ahead tokens.now x.1)) result (with_semicolon (type_decl_with (type_at depth)) (ahead tokens.now input)) }
 {
     let (name, here) = identdef(tokens, input)?;
     let here = expect(tokens, here, Kind::Equals)?;
@@ -115,7 +115,7 @@ fn named_types(
     depth: u32,
 ) -> Result<(Vec<TypeDecl>, Cursor), Stop>
     ensures { Gives tokens.now (λ x. (each (λ d. type_decl_outline d ++ word kinds.Semicolon) x.0.items, ahead tokens.now x.1)) result
-        (many (begins is_identifier) (ended (type_decl_with (type_at depth))) (ahead tokens.now input)) }
+        (many (begins is_identifier) (with_semicolon (type_decl_with (type_at depth))) (ahead tokens.now input)) }
 {
     let mut declared = Vec::new(alloc);
     let mut here = input;
@@ -149,7 +149,7 @@ fn ended_variable(
     input: Cursor,
     depth: u32,
 ) -> Result<(Box<VarDecl>, Cursor), Stop>
-    ensures { Gives tokens.now (λ x. (variable_outline x.0.value ++ word kinds.Semicolon, ahead tokens.now x.1)) result (ended (variable_with (type_at depth)) (ahead tokens.now input)) }
+    ensures { Gives tokens.now (λ x. (variable_outline x.0.value ++ word kinds.Semicolon, ahead tokens.now x.1)) result (with_semicolon (variable_with (type_at depth)) (ahead tokens.now input)) }
 {
     let (declaration, here) = var_declaration(alloc, tokens, input, depth)?;
     let here = expect(tokens, here, Kind::Semicolon)?;
@@ -164,7 +164,7 @@ fn variables(
     depth: u32,
 ) -> Result<(Vec<VarDecl>, Cursor), Stop>
     ensures { Gives tokens.now (λ x. (each (λ d. variable_outline d ++ word kinds.Semicolon) x.0.items, ahead tokens.now x.1)) result
-        (many (begins is_identifier) (ended (variable_with (type_at depth))) (ahead tokens.now input)) }
+        (many (begins is_identifier) (with_semicolon (variable_with (type_at depth))) (ahead tokens.now input)) }
 {
     let mut declared = Vec::new(alloc);
     let mut here = input;
@@ -199,7 +199,7 @@ fn procedures(
     depth: u32,
 ) -> Result<(Vec<ProcDecl>, Cursor), Stop>
     ensures { Gives tokens.now (λ x. (each (λ p. procedure_outline p ++ word kinds.Semicolon) x.0.items, ahead tokens.now x.1)) result
-        (many (begins (is_word kinds.Procedure)) (ended (procedure_at depth)) (ahead tokens.now input)) }
+        (many (begins (is_word kinds.Procedure)) (with_semicolon (procedure_at depth)) (ahead tokens.now input)) }
 {
     let mut declared = Vec::new(alloc);
     let mut here = input;
@@ -217,7 +217,7 @@ fn ended_procedure(
     input: Cursor,
     depth: u32,
 ) -> Result<(Box<ProcDecl>, Cursor), Stop>
-    ensures { Gives tokens.now (λ x. (procedure_outline x.0.value ++ word kinds.Semicolon, ahead tokens.now x.1)) result (ended (procedure_at depth) (ahead tokens.now input)) }
+    ensures { Gives tokens.now (λ x. (procedure_outline x.0.value ++ word kinds.Semicolon, ahead tokens.now x.1)) result (with_semicolon (procedure_at depth) (ahead tokens.now input)) }
 {
     let (declaration, here) = procedure(alloc, tokens, input, depth)?;
     let here = expect(tokens, here, Kind::Semicolon)?;

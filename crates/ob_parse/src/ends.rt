@@ -2,7 +2,7 @@
 
 ghost use Rattle.std.specs.Prelude.{◌≡◌, ◌<◌, ◌≤◌, length};
 ghost use Rattle.std.specs.List.{All};
-ghost use Rattle.ob_parse.specs.Ends.{FirstWrong, IsEnd, IsKnown, IsPlaced};
+ghost use Rattle.ob_parse.specs.Ends.{FirstWrong, IsEnd, AreTokenNumbers, IsPlaced};
 ghost use Rattle.ob_parse.specs.Parsed.{bytes_of};
 
 use ob_scan::Token;
@@ -24,7 +24,7 @@ fn is_right(bytes: &[u8], tokens: &[Token], name: u32, end: u32) -> bool
 
 /// The offset of the first name after END that isn't the one that it has to be.
 pub(crate) fn wrong_end(bytes: &[u8], tokens: &[Token], ends: &[(u32, u32)]) -> Option<u32>
-    requires known { All (IsKnown tokens.now) ends.now }
+    requires known { All (AreTokenNumbers tokens.now) ends.now }
     requires placed { All (IsPlaced bytes.now) tokens.now }
     ensures { FirstWrong bytes.now tokens.now ends.now result }
 {

@@ -4,9 +4,9 @@ ghost use Rattle.std.specs.Prelude.{◌≡◌};
 ghost use Rattle.ob_parse.specs.Forms.{accept_at, many, several};
 ghost use Rattle.ob_parse.specs.Front.{uncons, front};
 ghost use Rattle.ob_parse.specs.Gives.{Gives, ahead};
-ghost use Rattle.ob_parse.specs.ReadStatements.{label_at, label_first, label_range_at};
+ghost use Rattle.ob_parse.specs.ReadStatements.{case_label_at, label_first, label_range_at};
 ghost use Rattle.ob_scan.specs.declared.kind.Kind.TheVariants as kinds;
-ghost use Rattle.ob_tree.specs.Marks.{each_after, listed};
+ghost use Rattle.ob_tree.specs.Marks.{each_after, separated};
 ghost use Rattle.ob_tree.specs.Statements.{label_outline, label_range_outline};
 
 use crate::cursor::Cursor;
@@ -33,9 +33,9 @@ pub(crate) fn begins_label(tokens: &[Token], input: Cursor) -> bool
 }
 
 /// A label.
-#[tactic(auto, using(crate::proofs::StatementSteps::made), unfolding(crate::specs::ReadStatements::label_at))]
+#[tactic(auto, using(crate::proofs::StatementSteps::made), unfolding(crate::specs::ReadStatements::case_label_at))]
 fn label(tokens: &[Token], input: Cursor) -> Result<(Label, Cursor), Stop>
-    ensures { Gives tokens.now (λ x. (label_outline x.0, ahead tokens.now x.1)) result (label_at (ahead tokens.now input)) }
+    ensures { Gives tokens.now (λ x. (label_outline x.0, ahead tokens.now x.1)) result (case_label_at (ahead tokens.now input)) }
 {
     match input.next(tokens) {
         Some((Leaf::Name(number), rest)) => {
@@ -76,7 +76,7 @@ pub(crate) fn label_ranges(
     tokens: &[Token],
     input: Cursor,
 ) -> Result<(OneOrMore<LabelRange>, Cursor), Stop>
-    ensures { Gives tokens.now (λ x. (listed kinds.Comma label_range_outline x.0, ahead tokens.now x.1)) result (several kinds.Comma label_range_at (ahead tokens.now input)) }
+    ensures { Gives tokens.now (λ x. (separated kinds.Comma label_range_outline x.0, ahead tokens.now x.1)) result (several kinds.Comma label_range_at (ahead tokens.now input)) }
 {
     let (first, here) = label_range(tokens, input)?;
     let (rest, here) = more_label_ranges(alloc, tokens, here)?;

@@ -2,12 +2,12 @@
 
 ghost use Rattle.std.specs.Prelude.{◌≡◌, ◌++◌};
 ghost use Rattle.ob_scan.specs.declared.kind.Kind.TheVariants as kinds;
-ghost use Rattle.ob_tree.specs.Marks.{word, each_after, listed, if_there, imported, repeated};
+ghost use Rattle.ob_tree.specs.Marks.{word, each_after, separated, if_there, imported, repeated};
 ghost use Rattle.ob_tree.specs.Statements.{block_outline};
 ghost use Rattle.ob_tree.specs.Declaring.{declarations_outline, import_outline, module_outline};
 ghost use Rattle.ob_parse.specs.Forms.{optional, accept_at, expect_at, name_at, several, many, seq};
 ghost use Rattle.ob_parse.specs.ReadStatements.{block_at};
-ghost use Rattle.ob_parse.specs.ReadModules.{import_at, imports_at, declarations_at, body_with, module_at, all_of};
+ghost use Rattle.ob_parse.specs.ReadModules.{import_item_at, imports_at, declarations_at, body_with, module_at, all_of};
 ghost use Rattle.ob_parse.specs.Gives.{Gives, ahead};
 
 use crate::cursor::Cursor;
@@ -36,9 +36,9 @@ fn renamed(tokens: &[Token], input: Cursor) -> Result<(Option<u32>, Cursor), Sto
 }
 
 /// An imported module.
-#[tactic(auto, using(ob_tree::proofs::DeclarationLayers::declaring_made), unfolding(crate::specs::ReadModules::import_at, crate::specs::Forms::name_at))]
+#[tactic(auto, using(ob_tree::proofs::DeclarationLayers::declaring_made), unfolding(crate::specs::ReadModules::import_item_at, crate::specs::Forms::name_at))]
 fn import(tokens: &[Token], input: Cursor) -> Result<(ImportItem, Cursor), Stop>
-    ensures { Gives tokens.now (λ x. (import_outline x.0, ahead tokens.now x.1)) result (import_at (ahead tokens.now input)) }
+    ensures { Gives tokens.now (λ x. (import_outline x.0, ahead tokens.now x.1)) result (import_item_at (ahead tokens.now input)) }
 {
     let (name, here) = identifier(tokens, input)?;
     let (of, here) = renamed(tokens, here)?;
@@ -51,7 +51,7 @@ fn more_imports(
     tokens: &[Token],
     input: Cursor,
 ) -> Result<(Vec<ImportItem>, Cursor), Stop>
-    ensures { Gives tokens.now (λ x. (each_after kinds.Comma import_outline x.0.items, ahead tokens.now x.1)) result (many (accept_at kinds.Comma) import_at (ahead tokens.now input)) }
+    ensures { Gives tokens.now (λ x. (each_after kinds.Comma import_outline x.0.items, ahead tokens.now x.1)) result (many (accept_at kinds.Comma) import_item_at (ahead tokens.now input)) }
 {
     let mut rest = Vec::new(alloc);
     let mut here = input;
@@ -68,7 +68,7 @@ fn import_list(
     tokens: &[Token],
     input: Cursor,
 ) -> Result<(OneOrMore<ImportItem>, Cursor), Stop>
-    ensures { Gives tokens.now (λ x. (listed kinds.Comma import_outline x.0, ahead tokens.now x.1)) result (several kinds.Comma import_at (ahead tokens.now input)) }
+    ensures { Gives tokens.now (λ x. (separated kinds.Comma import_outline x.0, ahead tokens.now x.1)) result (several kinds.Comma import_item_at (ahead tokens.now input)) }
 {
     let (first, here) = import(tokens, input)?;
     let (rest, here) = more_imports(alloc, tokens, here)?;
@@ -82,7 +82,7 @@ fn imports(
     tokens: &[Token],
     input: Cursor,
 ) -> Result<(Option<OneOrMore<ImportItem>>, Cursor), Stop>
-    ensures { Gives tokens.now (λ x. (if_there (λ l. word kinds.Import ++ (listed kinds.Comma import_outline l ++ word kinds.Semicolon)) x.0, ahead tokens.now x.1)) result (imports_at (ahead tokens.now input)) }
+    ensures { Gives tokens.now (λ x. (if_there (λ l. word kinds.Import ++ (separated kinds.Comma import_outline l ++ word kinds.Semicolon)) x.0, ahead tokens.now x.1)) result (imports_at (ahead tokens.now input)) }
 {
     match accept(tokens, input, Kind::Import) {
         Some(rest) => {
@@ -105,7 +105,7 @@ fn unboxed(body: Option<Box<StatementSequence>>) -> Option<StatementSequence>
 }
 
 /// A module, with at most so many levels in it.
-#[tactic(auto, using(ob_tree::proofs::DeclarationLayers::declaring_made), unfolding(crate::specs::ReadModules::module_at, crate::specs::ReadModules::module_named))]
+#[tactic(auto, using(ob_tree::proofs::DeclarationLayers::declaring_made), unfolding(crate::specs::ReadModules::module_at, crate::specs::ReadModules::module_behind_name))]
 pub(crate) fn module(
     alloc: Global,
     tokens: &[Token],

@@ -2,7 +2,7 @@
 
 ghost use Rattle.std.specs.Prelude.{◌++◌, false};
 ghost use Rattle.ob_scan.specs.declared.kind.Kind.TheVariants as kinds;
-ghost use Rattle.ob_tree.specs.Marks.{word, declared, if_there, each_after, listed, times};
+ghost use Rattle.ob_tree.specs.Marks.{word, declared, if_there, each_after, separated, times};
 ghost use Rattle.ob_tree.specs.Names.{qualident_outline};
 ghost use Rattle.ob_tree.specs.Types.{section_outline, parameters_outline};
 ghost use Rattle.ob_parse.specs.Forms.{optional, accept_at, expect_at, name_at, many, several, unless};
@@ -42,7 +42,7 @@ fn more_names(alloc: Global, tokens: &[Token], input: Cursor) -> Result<(Vec<u32
 /// The names of parameters.
 #[tactic(auto, unfolding(crate::specs::Forms::several))]
 fn names(alloc: Global, tokens: &[Token], input: Cursor) -> Result<(OneOrMore<u32>, Cursor), Stop>
-    ensures { Gives tokens.now (λ x. (listed kinds.Comma (declared false) x.0, ahead tokens.now x.1)) result (several kinds.Comma (name_at (declared false)) (ahead tokens.now input)) }
+    ensures { Gives tokens.now (λ x. (separated kinds.Comma (declared false) x.0, ahead tokens.now x.1)) result (several kinds.Comma (name_at (declared false)) (ahead tokens.now input)) }
 {
     let (first, here) = name(tokens, input)?;
     let (rest, here) = more_names(alloc, tokens, here)?;
@@ -110,7 +110,7 @@ fn sections(
     tokens: &[Token],
     input: Cursor,
 ) -> Result<(Option<OneOrMore<ParameterSection>>, Cursor), Stop>
-    ensures { Gives tokens.now (λ x. (if_there (listed kinds.Semicolon section_outline) x.0, ahead tokens.now x.1)) result (optional (unless kinds.RightParen) (several kinds.Semicolon section_at) (ahead tokens.now input)) }
+    ensures { Gives tokens.now (λ x. (if_there (separated kinds.Semicolon section_outline) x.0, ahead tokens.now x.1)) result (optional (unless kinds.RightParen) (several kinds.Semicolon section_at) (ahead tokens.now input)) }
 {
     if is_at(tokens, input, Kind::RightParen) {
         return Ok((None, input));

@@ -5,7 +5,7 @@ ghost use Rattle.std.specs.List.{All};
 ghost use Rattle.ob_scan.specs.Spelling.{IsOutcome, Reads};
 ghost use Rattle.ob_tree.specs.Declaring.{module_outline};
 ghost use Rattle.ob_tree.specs.Derives.{spelling};
-ghost use Rattle.ob_tree.specs.Leaves.{leaves};
+ghost use Rattle.ob_tree.specs.Leaves.{leaves_from};
 ghost use Rattle.ob_parse.specs.Gives.{Gives};
 ghost use Rattle.ob_parse.specs.Ends.{told};
 ghost use Rattle.ob_parse.specs.Parsed.{IsTheTree, IsFaultOf, kinds_of, start_or};
@@ -27,7 +27,7 @@ const DEEPEST: u32 = 200;
 #[tactic(auto, using(crate::proofs::Ahead::all_ahead))]
 fn tree_of(alloc: Global, tokens: &[Token]) -> Result<Box<Module>, Stop>
     requires { length tokens.now < 2 ^ 32 }
-    ensures { Gives tokens.now (λ m. module_outline m.value) result (all_of 200 (leaves 0 (kinds_of tokens.now))) }
+    ensures { Gives tokens.now (λ m. module_outline m.value) result (all_of 200 (leaves_from 0 (kinds_of tokens.now))) }
 {
     whole(alloc, tokens, Cursor::ALL, DEEPEST)
 }

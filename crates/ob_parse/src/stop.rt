@@ -1,7 +1,7 @@
 //! Why the parser stops, and what becomes of what it read until then.
 
 ghost use Rattle.std.specs.Prelude.{◌≡◌, IfOk, IfErr};
-ghost use Rattle.ob_parse.specs.Gives.{some_of, Keeps};
+ghost use Rattle.ob_parse.specs.Gives.{some_of, Collects};
 ghost use Rattle.ob_parse.specs.declared.stop.Stop.TheVariants.{Memory};
 
 use crate::cursor::Cursor;
@@ -51,7 +51,7 @@ pub(crate) fn keep<T: Drop>(
     list: &mut Vec<T>,
     read: Result<(T, Cursor), Stop>,
 ) -> Result<Cursor, Stop>
-    ensures { Keeps (λ x. x) list.old.items list.new.items read result }
+    ensures { Collects (λ x. x) list.old.items list.new.items read result }
 {
     let (item, rest) = read?;
     list.push(item)?;
@@ -63,7 +63,7 @@ pub(crate) fn keep_boxed<T: Drop>(
     list: &mut Vec<T>,
     read: Result<(Box<T>, Cursor), Stop>,
 ) -> Result<Cursor, Stop>
-    ensures { Keeps (λ b. b.value) list.old.items list.new.items read result }
+    ensures { Collects (λ b. b.value) list.old.items list.new.items read result }
 {
     let (item, rest) = read?;
     list.push(Box::into_inner(item))?;

@@ -3,7 +3,7 @@
 ghost use Rattle.std.specs.Prelude.{◌≡◌, ◌++◌};
 ghost use Rattle.ob_scan.specs.declared.kind.Kind.TheVariants as kinds;
 ghost use Rattle.ob_tree.specs.Constructs as constructs;
-ghost use Rattle.ob_tree.specs.Marks.{construct, word, if_there, each_after, listed};
+ghost use Rattle.ob_tree.specs.Marks.{construct, word, if_there, each_after, separated};
 ghost use Rattle.ob_tree.specs.Names.{qualident_outline, identdef_outline};
 ghost use Rattle.ob_tree.specs.Types.{type_outline, fields_outline, var_outline};
 ghost use Rattle.ob_parse.specs.Front.{front, uncons};
@@ -63,7 +63,7 @@ fn identdefs(
     tokens: &[Token],
     input: Cursor,
 ) -> Result<(OneOrMore<Identdef>, Cursor), Stop>
-    ensures { Gives tokens.now (λ x. (listed kinds.Comma identdef_outline x.0, ahead tokens.now x.1)) result (several kinds.Comma identdef_at (ahead tokens.now input)) }
+    ensures { Gives tokens.now (λ x. (separated kinds.Comma identdef_outline x.0, ahead tokens.now x.1)) result (several kinds.Comma identdef_at (ahead tokens.now input)) }
 {
     let (first, here) = identdef(tokens, input)?;
     let (rest, here) = more_identdefs(alloc, tokens, here)?;

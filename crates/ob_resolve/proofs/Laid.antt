@@ -7,7 +7,7 @@ use Rattle.ob_decls.specs.Parts.{Rows}
 use Rattle.ob_decls.specs.Declaring.{own_name}
 use Rattle.ob_targets.specs.declared.standing.Standing.{Standing}
 use Rattle.ob_targets.specs.declared.standing.Standing.TheVariants as standings
-use Rattle.ob_targets.specs.Standing.{first, is_alias, is_imported, is_declared, is_end, is_use, is_selected, is_second, standing_or}
+use Rattle.ob_targets.specs.Standing.{first, is_alias, is_imported_name, is_declared, is_end_name, is_use, is_selected, is_second, standing_or}
 use Rattle.ob_resolve.specs.Marked.{IsMarked}
 use Rattle.ob_resolve.proofs.Marks.{not_same, slice_get-set_same, slice_get-set_other}
 
@@ -15,9 +15,9 @@ use Rattle.ob_resolve.proofs.Marks.{not_same, slice_get-set_same, slice_get-set_
 abbrev pub elsewhere : Rows → ℕ → Standing → Standing
 elsewhere rows k s =
     first (is_alias k) standings.Item rows.imports (
-    first (is_imported k) standings.Item rows.imports (
+    first (is_imported_name k) standings.Item rows.imports (
     first (is_declared k) standings.Declaration rows.declared (
-    first (is_end k) standings.End rows.ends (
+    first (is_end_name k) standings.End rows.ends (
     first (is_use k) standings.Use rows.uses (
     first (is_selected k) standings.Selected rows.selectors (
     first (is_second k) standings.Second rows.uses s))))))
@@ -26,8 +26,8 @@ pub AreLaid : Rows → List Standing → List Standing → Type 0
 AreLaid rows old new = (k : ℕ) (s : Standing) → slice_get old k ≡ Some s → slice_get new k ≡ Some (elsewhere rows k s)
 
 pub all_laid : (rows : Rows) (a b c d e f g h : List Standing) → IsMarked is_second standings.Second rows.uses a b → IsMarked is_selected standings.Selected rows.selectors b c →
-    IsMarked is_use standings.Use rows.uses c d → IsMarked is_end standings.End rows.ends d e → IsMarked is_declared standings.Declaration rows.declared e f →
-    IsMarked is_imported standings.Item rows.imports f g → IsMarked is_alias standings.Item rows.imports g h → AreLaid rows a h
+    IsMarked is_use standings.Use rows.uses c d → IsMarked is_end_name standings.End rows.ends d e → IsMarked is_declared standings.Declaration rows.declared e f →
+    IsMarked is_imported_name standings.Item rows.imports f g → IsMarked is_alias standings.Item rows.imports g h → AreLaid rows a h
 unfolding AreLaid
 all_laid rows a b c d e f g h second selected used end declared imported alias k s is =
     alias k _ (imported k _ (declared k _ (end k _ (used k _ (selected k _ (second k s is))))))

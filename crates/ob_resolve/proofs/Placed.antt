@@ -11,7 +11,7 @@ use Rattle.ob_decls.specs.Declaring.{own_name}
 use Rattle.ob_decls.specs.Parts.{Rows}
 use Rattle.ob_targets.specs.declared.standing.Standing.{Standing}
 use Rattle.ob_targets.specs.declared.standing.Standing.TheVariants as standings
-use Rattle.ob_targets.specs.Standing.{first, is_alias, is_imported, is_declared, is_end, is_use, is_selected, is_second, is_token, name_of, standing}
+use Rattle.ob_targets.specs.Standing.{first, is_alias, is_imported_name, is_declared, is_end_name, is_use, is_selected, is_second, is_token, name_of, standing}
 
 -- a selector of this name stands at this place
 pub record SelectsAt (rows : Rows) (k at : ℕ) : Type 0 where
@@ -73,14 +73,14 @@ module _ (rows : Rows) (k : ℕ) where
   placed_use : (s : Standing) → IsPlaced rows k s → IsPlaced rows k (first (is_use k) standings.Use rows.uses s)
   placed_use s p = first_has (IsPlaced rows k) (is_use k) standings.Use rows.uses s (λ i x there is. tt) p
 
-  placed_end : (s : Standing) → IsPlaced rows k s → IsPlaced rows k (first (is_end k) standings.End rows.ends s)
-  placed_end s p = first_has (IsPlaced rows k) (is_end k) standings.End rows.ends s (λ i x there is. slice_get_within rows.ends i x there) p
+  placed_end : (s : Standing) → IsPlaced rows k s → IsPlaced rows k (first (is_end_name k) standings.End rows.ends s)
+  placed_end s p = first_has (IsPlaced rows k) (is_end_name k) standings.End rows.ends s (λ i x there is. slice_get_within rows.ends i x there) p
 
   placed_declaration : (s : Standing) → IsPlaced rows k s → IsPlaced rows k (first (is_declared k) standings.Declaration rows.declared s)
   placed_declaration s p = first_has (IsPlaced rows k) (is_declared k) standings.Declaration rows.declared s (λ i x there is. tt) p
 
-  placed_imported : (s : Standing) → IsPlaced rows k s → IsPlaced rows k (first (is_imported k) standings.Item rows.imports s)
-  placed_imported s p = first_has (IsPlaced rows k) (is_imported k) standings.Item rows.imports s (λ i x there is. slice_get_within rows.imports i x there) p
+  placed_imported : (s : Standing) → IsPlaced rows k s → IsPlaced rows k (first (is_imported_name k) standings.Item rows.imports s)
+  placed_imported s p = first_has (IsPlaced rows k) (is_imported_name k) standings.Item rows.imports s (λ i x there is. slice_get_within rows.imports i x there) p
 
   placed_alias : (s : Standing) → IsPlaced rows k s → IsPlaced rows k (first (is_alias k) standings.Item rows.imports s)
   placed_alias s p = first_has (IsPlaced rows k) (is_alias k) standings.Item rows.imports s (λ i x there is. slice_get_within rows.imports i x there) p

@@ -22,7 +22,7 @@ use Rattle.ob_targets.specs.declared.target.Reference.{Reference}
 use Rattle.ob_targets.specs.Standing.{standing}
 use Rattle.ob_targets.specs.Targets.{end_target, is_written, second_target, use_role, used_target}
 use Rattle.ob_targets.specs.Steps.{Knows, Selects}
-use Rattle.ob_targets.specs.Refers.{identifiers, is_identifier, number_of, AreReferences, Refers, own_name, item, declaration, end, used, selected, second, nowhere}
+use Rattle.ob_targets.specs.Refers.{identifiers, is_identifier, identifier_number, AreReferences, Refers, own_name, item, declaration, end, used, selected, second, nowhere}
 use Rattle.ob_resolve.specs.declared.found.Found.{Found}
 use Rattle.ob_resolve.specs.Found.{IsFound, IsReference}
 use Rattle.ob_resolve.specs.Selected.{IsNamed, Names}
@@ -103,7 +103,7 @@ not_identifier _ other = refl
 
 -- the numbers of the identifiers from this place on
 abbrev pub numbers_from : ℕ → List Token → List ℕ
-numbers_from i ts = filter_map number_of (enumerate_from i (drop i ts))
+numbers_from i ts = filter_map identifier_number (enumerate_from i (drop i ts))
 
 module _ (w : World) where
   -- the identifiers before this place are gone through
@@ -114,10 +114,10 @@ module _ (w : World) where
   pub none_gone : (rs : List Reference) → rs ≡ [] → AreGone 0 rs
   none_gone rs is = rw is (record { numbers = refl; each = All-nil (λ (r : Reference). Refers w r.number r.target r.role) })
 
-  numbers_step : (i : ℕ) (d : Token) → i < length w.tokens → numbers_from i w.tokens ≡ cons_option (number_of (i, get_or w.tokens i d)) (numbers_from (i + 1) w.tokens)
-  numbers_step i d l = ap (λ (ts : List Token). filter_map number_of (enumerate_from i ts)) (drop_more w.tokens i d l)
+  numbers_step : (i : ℕ) (d : Token) → i < length w.tokens → numbers_from i w.tokens ≡ cons_option (identifier_number (i, get_or w.tokens i d)) (numbers_from (i + 1) w.tokens)
+  numbers_step i d l = ap (λ (ts : List Token). filter_map identifier_number (enumerate_from i ts)) (drop_more w.tokens i d l)
 
-  told : (i : ℕ) (t : Token) (b : Bool) → b ≡ is_identifier t.kind → number_of (i, t) ≡ cond b (Some i) None
+  told : (i : ℕ) (t : Token) (b : Bool) → b ≡ is_identifier t.kind → identifier_number (i, t) ≡ cond b (Some i) None
   told i t b is = ap (λ (v : Bool). cond v (Some i) None) (sym is)
 
   identifier_gone : (i : ℕ) (d : Token) (b : Bool) (rs : List Reference) (r : Reference) → i < length w.tokens → b ≡ is_identifier (get_or w.tokens i d).kind → b ≡ true →
@@ -159,7 +159,7 @@ module _ (w : World) where
 
   pub all_gone : (i : ℕ) (rs : List Reference) → length w.tokens ≤ i → AreGone i rs → AreReferences w rs
   all_gone i rs l g =
-      let rest : numbers_from i w.tokens ≡ [] = ap (λ (ts : List Token). filter_map number_of (enumerate_from i ts)) (drop_past w.tokens i l) in
+      let rest : numbers_from i w.tokens ≡ [] = ap (λ (ts : List Token). filter_map identifier_number (enumerate_from i ts)) (drop_past w.tokens i l) in
       record {
         numbers = sym (append-nil (map (λ (x : Reference). x.number) rs)) ∙ ap (λ (ns : List ℕ). map (λ (x : Reference). x.number) rs ++ ns) (sym rest) ∙ g.numbers;
         each = g.each;

@@ -12,7 +12,7 @@ use Rattle.type_search.specs.Searches.{HasTarget}
 use Rattle.ob_targets.specs.declared.known.Known.{Known}
 use Rattle.ob_targets.specs.declared.target.Target.{Target}
 use Rattle.ob_targets.specs.Targets.{known_of, used_target}
-use Rattle.ob_targets.specs.Steps.{begins, guard_of, Follows, Knows, Levels, Selects, at_head, behind, to_field, to_elements, to_target, by_guard}
+use Rattle.ob_targets.specs.Steps.{begins_designator, guard_of, Follows, Knows, Levels, Selects, at_head, behind, to_field, to_elements, to_target, by_guard}
 use Rattle.ob_resolve.specs.declared.selectors.Led.{Led}
 use Rattle.ob_resolve.specs.Selected.{AreNamed, IsBehind, IsLed}
 
@@ -26,22 +26,22 @@ get_push (z ∷ xs) x y (suc i) e = elim (get_push xs x y i e) [ inl h ↦ inl h
 module _ (w : World) where
   -- what is known before the first selector of a designator
   pub known_at_head : (selectors : List Selector) (place : ℕ) (s : Selector) (b : Bool) (t : Target) (o : Known) → selectors ≡ w.rows.selectors → slice_get selectors place ≡ Some s →
-      b ≡ begins selectors place s → b ≡ true → t ≡ used_target w s.of → o ≡ known_of w t → Knows w place o
+      b ≡ begins_designator selectors place s → b ≡ true → t ≡ used_target w s.of → o ≡ known_of w t → Knows w place o
   known_at_head selectors place s b t o are there test is_first made known =
       let there' : slice_get w.rows.selectors place ≡ Some s = subst (λ (xs : List Selector). slice_get xs place ≡ Some s) are there in
-      let first : begins w.rows.selectors place s ≡ true = subst (λ (xs : List Selector). begins xs place s ≡ true) are (sym test ∙ is_first) in
+      let first : begins_designator w.rows.selectors place s ≡ true = subst (λ (xs : List Selector). begins_designator xs place s ≡ true) are (sym test ∙ is_first) in
       rw (known, made) (at_head there' first)
 
-  knows_next : (place : ℕ) (s : Selector) (o : Known) → slice_get w.rows.selectors place ≡ Some s → begins w.rows.selectors place s ≡ false → IsBehind w place o → Knows w place o
+  knows_next : (place : ℕ) (s : Selector) (o : Known) → slice_get w.rows.selectors place ≡ Some s → begins_designator w.rows.selectors place s ≡ false → IsBehind w place o → Knows w place o
   knows_next zero s o there other b = absurd (let f : true ≡ false = other in cc)
   knows_next (suc i) s o there other b = behind b.there there other b.knows b.leads
 
   -- what is known before another one is what is known behind the one before it
   pub known_behind : (selectors : List Selector) (place : ℕ) (s : Selector) (b : Bool) (o : Known) → selectors ≡ w.rows.selectors → slice_get selectors place ≡ Some s →
-      b ≡ begins selectors place s → b ≡ false → IsBehind w place o → Knows w place o
+      b ≡ begins_designator selectors place s → b ≡ false → IsBehind w place o → Knows w place o
   known_behind selectors place s b o are there test is_other known =
       let there' : slice_get w.rows.selectors place ≡ Some s = subst (λ (xs : List Selector). slice_get xs place ≡ Some s) are there in
-      let other : begins w.rows.selectors place s ≡ false = subst (λ (xs : List Selector). begins xs place s ≡ false) are (sym test ∙ is_other) in
+      let other : begins_designator w.rows.selectors place s ≡ false = subst (λ (xs : List Selector). begins_designator xs place s ≡ false) are (sym test ∙ is_other) in
       knows_next place s o there' other known
 
   -- one step

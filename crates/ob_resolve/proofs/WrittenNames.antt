@@ -5,7 +5,7 @@ use Rattle.std.specs.List.{list_any}
 use Rattle.std.proofs.lemmas.Bool.{cases_eq, cases_lt}
 use Rattle.std.proofs.lemmas.Option.{slice_get_within, slice_get-get_or}
 use Rattle.ob_targets.specs.Standing.{is_token}
-use Rattle.ob_resolve.specs.Marked.{marked}
+use Rattle.ob_resolve.specs.Marked.{with_mark}
 use Rattle.ob_resolve.proofs.Marks.{not_same, slice_get-set_same, slice_get-set_other}
 
 pub drop_past : {X : Type 0} (xs : List X) (i : ℕ) → length xs ≤ i → drop i xs ≡ []
@@ -74,7 +74,7 @@ module _ {X : Type 0} (has : ℕ → X → Bool) (all : List X) (count : ℕ) wh
   set_past (b ∷ marks) (suc n) l = ap (λ m. b ∷ m) (set_past marks n (omega arith))
 
   -- a row, with the token that it has, if any
-  pub stepped : (x : X) (rest : List X) (marks : List Bool) (name : Option ℕ) → ((k : ℕ) → has k x ≡ is_token k name) → AreWritten (x ∷ rest) marks → AreWritten rest (marked name marks)
+  pub stepped : (x : X) (rest : List X) (marks : List Bool) (name : Option ℕ) → ((k : ℕ) → has k x ≡ is_token k name) → AreWritten (x ∷ rest) marks → AreWritten rest (with_mark name marks)
   stepped x rest marks None has_none m = passed x rest marks (λ k l. has_none k) m
   stepped x rest marks (Some n) alone m = elim (cases_lt n count) [
     | inl within ↦ written x rest marks n alone within m

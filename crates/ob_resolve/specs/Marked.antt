@@ -8,6 +8,6 @@ abbrev pub IsMarked : {X : Type 0} → (ℕ → X → Bool) → (ℕ → Standin
 IsMarked has at rows old new = (k : ℕ) (s : Standing) → slice_get old k ≡ Some s → slice_get new k ≡ Some (first (has k) at rows s)
 
 -- this token, if there is one, is marked
-abbrev pub marked : Option ℕ → List Bool → List Bool
-marked None marks = marks
-marked (Some n) marks = slice_set marks n true
+abbrev pub with_mark : Option ℕ → List Bool → List Bool
+with_mark None marks = marks
+with_mark (Some n) marks = slice_set marks n true

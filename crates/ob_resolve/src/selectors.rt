@@ -1,7 +1,7 @@
 //! What the names behind the dots of designators stand for.
 ghost use Rattle.std.specs.Prelude.{◌≡◌, ◌<◌, IfOk, Some, slice_get, length};
 ghost use Rattle.ob_decls.specs.declared.rows.Step.TheVariants as steps;
-ghost use Rattle.ob_targets.specs.Steps.{begins, Knows};
+ghost use Rattle.ob_targets.specs.Steps.{begins_designator, Knows};
 ghost use Rattle.ob_resolve.specs.Selected.{AreNamed, IsBehind, IsLed};
 
 use crate::meaning::{guard_of, known_of, used_target};
@@ -19,8 +19,8 @@ pub(crate) struct Led {
 }
 
 /// Whether the selector at this place is the first one of its designator.
-fn begins(selectors: &[Selector], place: usize, selector: Selector) -> bool
-    ensures { result ≡ begins selectors.now place selector }
+fn begins_designator(selectors: &[Selector], place: usize, selector: Selector) -> bool
+    ensures { result ≡ begins_designator selectors.now place selector }
 {
     match place.checked_sub(1) {
         None => true,
@@ -71,7 +71,7 @@ fn known_before(types: &Types<'_>, selectors: &[Selector], place: usize, behind:
     ensures { Knows types.now place result }
 {
     let selector = selectors[place];
-    if begins(selectors, place, selector) {
+    if begins_designator(selectors, place, selector) {
         known_of(types, used_target(types, selector.of))
     } else {
         behind

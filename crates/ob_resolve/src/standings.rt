@@ -2,7 +2,7 @@
 ghost use Rattle.std.specs.Prelude.{◌≡◌, ◌<◌, ℕ, List, Bool, IfOk, Some, length, slice_get, nat_eq};
 ghost use Rattle.ob_decls.specs.Declaring.{rows_in};
 ghost use Rattle.ob_decls.specs.declared.rows.Declared.{Declared as DeclaredRow};
-ghost use Rattle.ob_targets.specs.Standing.{is_token, is_alias, is_imported, is_declared, is_end, is_use, is_selected, is_second, name_of, standing, standing_or};
+ghost use Rattle.ob_targets.specs.Standing.{is_token, is_alias, is_imported_name, is_declared, is_end_name, is_use, is_selected, is_second, name_of, standing, standing_or};
 ghost use Rattle.ob_targets.specs.declared.standing.Standing.{Standing as StandingSeen};
 ghost use Rattle.ob_targets.specs.declared.standing.Standing.TheVariants as standings;
 ghost use Rattle.ob_resolve.specs.Marked.{IsMarked};
@@ -51,7 +51,7 @@ struct ModuleNames;
 impl Places for ModuleNames {
     type Row = Import;
 
-    ghost has = { is_imported };
+    ghost has = { is_imported_name };
 
     ghost at = { standings.Item };
 
@@ -87,7 +87,7 @@ struct Ends;
 impl Places for Ends {
     type Row = End;
 
-    ghost has = { is_end };
+    ghost has = { is_end_name };
 
     ghost at = { standings.End };
 

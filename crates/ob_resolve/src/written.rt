@@ -1,7 +1,7 @@
 //! The names that are written.
 ghost use Rattle.std.specs.Prelude.{◌≡◌, ◌<◌, ℕ, IfOk, Some, false, length, replicate, slice_get};
 ghost use Rattle.ob_decls.specs.Declaring.{rows_in};
-ghost use Rattle.ob_resolve.specs.Marked.{marked};
+ghost use Rattle.ob_resolve.specs.Marked.{with_mark};
 ghost use Rattle.ob_targets.specs.Standing.{is_token};
 ghost use Rattle.ob_targets.specs.Targets.{is_written, last_name, writes};
 
@@ -35,7 +35,7 @@ fn written_by(table: &Table, designator: Designator) -> Option<u32>
 
 /// Marks a name, if there is one among these tokens.
 fn mark_name(written: &mut [bool], name: Option<u32>)
-    ensures { written.new ≡ marked name written.old }
+    ensures { written.new ≡ with_mark name written.old }
 {
     if let Some(name) = name {
         if (name as usize) < written.len() {

@@ -11,7 +11,7 @@ use Rattle.ob_scan.specs.declared.kind.Kind.{Kind}
 use Rattle.ob_scan.specs.declared.kind.Kind.TheVariants as kinds
 use Rattle.ob_scan.specs.declared.token.Token.{Token}
 use Rattle.ob_scan.specs.Comments.{begins_comment, Closes, closed, nested, other}
-use Rattle.ob_scan.specs.Numbers.{begins, begins_digit, is_hex_digit, digits, hex_digits, is_next, sign_len, scale_of, with_scale, fraction_of, decimal_of, number_of}
+use Rattle.ob_scan.specs.Numbers.{first_passes, begins_digit, is_hex_digit, digits, hex_digits, is_next, sign_len, scale_of, with_scale, fraction_of, decimal_of, number_token}
 use Rattle.ob_scan.specs.Pieces.{after_comment, string_len, delimiter_of}
 use Rattle.ob_scan.specs.Spelling.{begins_blank, begins_quote, IsGap, blank, comment, Scanned, start, gap, token, IsBadByte, IsBadNumber, IsOpenString, IsOpenComment, Outcome, Reads, BadByte, BadNumber, OpenString, OpenComment, TooLong, IsOutcome}
 use Rattle.ob_scan.specs.Tokens.{IsToken, number, longest}
@@ -63,7 +63,7 @@ decimal_within n bs h =
     let more = digits_within (n + 1) bs in
     cond_both (is_next 46 (drop (n + 1) bs)) _ _ (IsWithin bs) (λ f. h) (λ f. fraction_within (n + 1 + digits (drop (n + 1) bs)) bs (omega arith))) (λ e. h)
 
-number_within : (bs : List ℕ) → IsWithin bs (number_of bs)
+number_within : (bs : List ℕ) → IsWithin bs (number_token bs)
 number_within bs =
     let n = hex_digits bs in
     let h : n ≤ length bs = hex_within bs in
@@ -125,9 +125,9 @@ next_comment bs e = go (after_comment 1 (drop 2 bs)) refl
         skips (2 + r.count) (comment e le (subst (λ x. Closes (drop 2 bs) x) (sym r.is ∙ drop-drop 2 r.count bs) c)) (omega arith) le
 
 next_number : (bs : List ℕ) → begins_digit bs ≡ true → Next bs
-next_number bs d = go (number_of bs) refl
+next_number bs d = go (number_token bs) refl
   where
-    go : (o : Option (Kind × ℕ)) → number_of bs ≡ o → Next bs
+    go : (o : Option (Kind × ℕ)) → number_token bs ≡ o → Next bs
     go None e = bad_number (record { digit = d; no_number = e })
     go (Some (k, n)) e = takes k n (number d e)
 
@@ -150,7 +150,7 @@ next_of bs h =
     elim (cases_Bool (begins_blank bs)) [
       | inl e ↦ skips 1 (blank e) (omega arith) h
       | inr b ↦
-          elim (cases_Bool (begins is_ascii_alphabetic bs)) [
+          elim (cases_Bool (first_passes is_ascii_alphabetic bs)) [
             | inl e ↦ takes _ _ (name_token bs (prefix_len is_ascii_alphanumeric bs) e refl)
             | inr l ↦
                 elim (cases_Bool (begins_comment bs)) [

@@ -8,7 +8,7 @@ use Rattle.ob_scan.specs.declared.kind.Kind.{Kind}
 use Rattle.ob_scan.specs.declared.kind.Kind.TheVariants as kinds
 use Rattle.ob_scan.specs.declared.token.Token.{Token}
 use Rattle.ob_scan.specs.Kinds.{text_of}
-use Rattle.ob_scan.specs.Numbers.{digits, hex_digits, is_next, number_of, decimal_of, fraction_of, with_scale, scale_of}
+use Rattle.ob_scan.specs.Numbers.{digits, hex_digits, is_next, number_token, decimal_of, fraction_of, with_scale, scale_of}
 use Rattle.ob_scan.specs.Spelling.{Scanned, start, gap, token, Spells}
 use Rattle.ob_scan.specs.Tokens.{IsText, fixed, name, quoted, IsToken, number, longest, is_name}
 
@@ -31,7 +31,7 @@ decimal_other : (n : ℕ) (bs : List ℕ) → IsOther (decimal_of n bs)
 decimal_other n bs =
     either (is_next 46 (drop n bs)) _ _ (either (is_next 46 (drop (n + 1) bs)) _ _ (λ e. absurd cc) (fraction_other (n + 1 + digits (drop (n + 1) bs)) bs)) (λ e. absurd cc)
 
-number_other : (bs : List ℕ) → IsOther (number_of bs)
+number_other : (bs : List ℕ) → IsOther (number_token bs)
 number_other bs =
     let n = hex_digits bs in
     either (is_next 72 (drop n bs)) _ _ (λ e. absurd cc) (either (is_next 88 (drop n bs)) _ _ (λ e. absurd cc) (either (eqb (digits bs) n) _ _ (decimal_other n bs) tt))

@@ -10,7 +10,7 @@ use Rattle.ob_scan.specs.declared.kind.Kind.{Kind}
 use Rattle.ob_scan.specs.declared.kind.Kind.TheVariants as kinds
 use Rattle.ob_scan.specs.Comments.{begins_comment}
 use Rattle.ob_scan.specs.Kinds.{text_of}
-use Rattle.ob_scan.specs.Numbers.{begins}
+use Rattle.ob_scan.specs.Numbers.{first_passes}
 use Rattle.ob_scan.specs.Tables.{word_of}
 use Rattle.ob_scan.specs.Tokens.{is_name, IsText, fixed, name, Stands, IsToken, longest}
 use Rattle.ob_scan.proofs.Texts.{listed, word_of_is}
@@ -30,12 +30,12 @@ name_text text e = go (word_of text) refl
     go (Some k) f = fixed (word_of_is text k f)
     go None f = name e (λ k g. let h = reserved_is text e k g in absurd cc)
 
-front_name : (bs : List ℕ) → begins is_ascii_alphabetic bs ≡ true → is_name (take (prefix_len is_ascii_alphanumeric bs) bs) ≡ true
+front_name : (bs : List ℕ) → first_passes is_ascii_alphabetic bs ≡ true → is_name (take (prefix_len is_ascii_alphanumeric bs) bs) ≡ true
 front_name [] e = absurd cc
 front_name (b ∷ bs) e = rw (letter_alphanumeric b e, one-add) (and_from _ _ e (run_all is_ascii_alphanumeric bs))
 
 -- nothing longer stands there
-name_longest : (bs : List ℕ) → begins is_ascii_alphabetic bs ≡ true → (j : Kind) (other : List ℕ) → Stands j other bs → length other ≤ prefix_len is_ascii_alphanumeric bs
+name_longest : (bs : List ℕ) → first_passes is_ascii_alphabetic bs ≡ true → (j : Kind) (other : List ℕ) → Stands j other bs → length other ≤ prefix_len is_ascii_alphanumeric bs
 name_longest bs e j other s =
     elim (shape_of s.is_text) [
       | word w ↦ rw s.front (run_covers is_ascii_alphanumeric other s.rest (word_all other w))
@@ -43,15 +43,15 @@ name_longest bs e j other s =
       | string inside k n t ↦ absurd (apart is_ascii_alphabetic is_quote letter_quote bs e (begins_string inside s t))
     ]
 
-pub name_token : (bs : List ℕ) (n : ℕ) → begins is_ascii_alphabetic bs ≡ true → n ≡ prefix_len is_ascii_alphanumeric bs → IsToken (unwrap_or (word_of (take n bs)) kinds.Ident) n bs
+pub name_token : (bs : List ℕ) (n : ℕ) → first_passes is_ascii_alphabetic bs ≡ true → n ≡ prefix_len is_ascii_alphanumeric bs → IsToken (unwrap_or (word_of (take n bs)) kinds.Ident) n bs
 name_token bs n e is =
-    let digit : begins is_ascii_digit bs ≡ false = false_from_ne_true _ (apart is_ascii_alphabetic is_ascii_digit letter_digit bs e) in
+    let digit : first_passes is_ascii_digit bs ≡ false = false_from_ne_true _ (apart is_ascii_alphabetic is_ascii_digit letter_digit bs e) in
     let comment : begins_comment bs ≡ false = false_from_ne_true _ (λ f. apart is_ascii_alphabetic (λ b. eqb b 40) letter_paren bs e (begins_paren bs f)) in
     rw is (
     longest digit comment (record { is_text = name_text _ (front_name bs e); rest = drop (prefix_len is_ascii_alphanumeric bs) bs; front = sym (take-append-drop (prefix_len is_ascii_alphanumeric bs) bs) })
     (length-prefix_len is_ascii_alphanumeric bs) (name_longest bs e)
     )
 
-pub name_some : (bs : List ℕ) → begins is_ascii_alphabetic bs ≡ true → 0 < prefix_len is_ascii_alphanumeric bs
+pub name_some : (bs : List ℕ) → first_passes is_ascii_alphabetic bs ≡ true → 0 < prefix_len is_ascii_alphanumeric bs
 name_some [] e = absurd cc
 name_some (b ∷ bs) e = rw (letter_alphanumeric b e) (omega arith)

@@ -9,7 +9,7 @@ use Rattle.ob_scan.specs.declared.kind.Kind.{Kind}
 use Rattle.ob_scan.specs.declared.token.Token.{Token}
 use Rattle.ob_scan.specs.declared.fault.ScanFault.{ScanFault}
 use Rattle.ob_scan.specs.Comments.{begins_comment}
-use Rattle.ob_scan.specs.Numbers.{begins, begins_digit}
+use Rattle.ob_scan.specs.Numbers.{first_passes, begins_digit}
 use Rattle.ob_scan.specs.Spelling.{begins_quote, IsGap, blank, comment, Scanned, start, gap, token, Spells, IsBadByte, IsBadNumber, IsOpenString, IsOpenComment, Outcome, Reads, BadByte, BadNumber, OpenString, OpenComment, TooLong, IsShort, IsOutcome, outcome_of}
 use Rattle.ob_scan.specs.Tokens.{IsToken, number, longest}
 use Rattle.ob_scan.proofs.OneToken.{one_token, one_gap, not_both}
@@ -59,7 +59,7 @@ one_way {bytes} {at} {to} {end} (token_on {n = n} {ts = ts} {k = k} t w) (token_
 at_end : (bs : List ℕ) → bs ≡ [] → IsEnd bs
 at_end bs is = record { no_gap = λ n g. gaps g is; no_token = λ k n t. tokens t is }
   where
-    none : (p : ℕ → Bool) (bs : List ℕ) → bs ≡ [] → begins p bs ≡ true → ⊥
+    none : (p : ℕ → Bool) (bs : List ℕ) → bs ≡ [] → first_passes p bs ≡ true → ⊥
     none p [] e f = false≢true f
     none p (b ∷ bs) e f = absurd cc
 

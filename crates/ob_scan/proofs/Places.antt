@@ -6,7 +6,7 @@ use Rattle.std.proofs.lemmas.List.Elements.{All-nil, All-push, All-weaker}
 use Rattle.std.proofs.lemmas.List.Quantifiers.{all_pairs_push}
 use Rattle.ob_scan.specs.declared.kind.Kind.{Kind}
 use Rattle.ob_scan.specs.declared.token.Token.{Token}
-use Rattle.ob_scan.specs.Numbers.{begins_digit, digits, hex_digits, is_next, number_of, decimal_of, fraction_of, with_scale, scale_of}
+use Rattle.ob_scan.specs.Numbers.{begins_digit, digits, hex_digits, is_next, number_token, decimal_of, fraction_of, with_scale, scale_of}
 use Rattle.ob_scan.specs.Spelling.{Scanned, start, gap, token, Spells, AreInText}
 use Rattle.ob_scan.specs.Tokens.{IsToken, number, longest, is_name}
 use Rattle.ob_scan.proofs.Numbers.{hex_digits_some}
@@ -36,12 +36,12 @@ decimal_least : (n : ℕ) (bs : List ℕ) → IsLeast n (decimal_of n bs)
 decimal_least n bs =
     either n (is_next 46 (drop n bs)) _ _ (either n (is_next 46 (drop (n + 1) bs)) _ _ (le_refl n) (fraction_least n (n + 1 + digits (drop (n + 1) bs)) bs (omega arith))) (le_refl n)
 
-number_least : (bs : List ℕ) → IsLeast (hex_digits bs) (number_of bs)
+number_least : (bs : List ℕ) → IsLeast (hex_digits bs) (number_token bs)
 number_least bs =
     let n = hex_digits bs in
     either n (is_next 72 (drop n bs)) _ _ (omega arith) (either n (is_next 88 (drop n bs)) _ _ (omega arith) (either n (eqb (digits bs) n) _ _ (decimal_least n bs) tt))
 
-number_some : (bs : List ℕ) (k : Kind) (n : ℕ) → begins_digit bs ≡ true → number_of bs ≡ Some (k, n) → 0 < n
+number_some : (bs : List ℕ) (k : Kind) (n : ℕ) → begins_digit bs ≡ true → number_token bs ≡ Some (k, n) → 0 < n
 number_some bs k n d e =
     let least : hex_digits bs ≤ n = subst (IsLeast (hex_digits bs)) e (number_least bs) in
     omega (arith, hex_digits_some bs d)

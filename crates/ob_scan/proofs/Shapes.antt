@@ -8,7 +8,7 @@ use Rattle.ob_scan.specs.declared.kind.Kind.{Kind}
 use Rattle.ob_scan.specs.declared.kind.Kind.TheVariants as kinds
 use Rattle.ob_scan.specs.Comments.{begins_comment}
 use Rattle.ob_scan.specs.Kinds.{text_of}
-use Rattle.ob_scan.specs.Numbers.{begins}
+use Rattle.ob_scan.specs.Numbers.{first_passes}
 use Rattle.ob_scan.specs.Tokens.{is_name, is_no_quote, IsText, fixed, name, quoted, Stands}
 use Rattle.ob_scan.proofs.Texts.{is_sign, is_sign_byte, listed}
 
@@ -22,41 +22,41 @@ shape_of {k} {text} (fixed e) = elim (or_cases _ _ (listed k text e).1) [ inl n 
 shape_of (name n x) = word n
 shape_of (quoted inside n e) = string inside refl n e
 
-begins_front : (p : ℕ → Bool) (text rest : List ℕ) → begins p text ≡ true → begins p (text ++ rest) ≡ true
+begins_front : (p : ℕ → Bool) (text rest : List ℕ) → first_passes p text ≡ true → first_passes p (text ++ rest) ≡ true
 begins_front p [] rest e = absurd cc
 begins_front p (b ∷ text) rest e = e
 
-word_begins : (text : List ℕ) → is_name text ≡ true → begins is_ascii_alphabetic text ≡ true
+word_begins : (text : List ℕ) → is_name text ≡ true → first_passes is_ascii_alphabetic text ≡ true
 word_begins [] e = e
 word_begins (b ∷ text) e = (and_parts _ _ e).0
 
-sign_begins : (text : List ℕ) → is_sign text ≡ true → begins is_sign_byte text ≡ true
+sign_begins : (text : List ℕ) → is_sign text ≡ true → first_passes is_sign_byte text ≡ true
 sign_begins [] e = e
 sign_begins (b ∷ []) e = e
 sign_begins (b ∷ c ∷ []) e = e
 sign_begins (b ∷ c ∷ d ∷ text) e = absurd cc
 
 -- what stands in front of the bytes, by their first one
-pub begins_word : {k : Kind} {text bs : List ℕ} → Stands k text bs → is_name text ≡ true → begins is_ascii_alphabetic bs ≡ true
-begins_word {k} {text} {bs} s e = ap (begins is_ascii_alphabetic) s.front ∙ begins_front is_ascii_alphabetic text s.rest (word_begins text e)
+pub begins_word : {k : Kind} {text bs : List ℕ} → Stands k text bs → is_name text ≡ true → first_passes is_ascii_alphabetic bs ≡ true
+begins_word {k} {text} {bs} s e = ap (first_passes is_ascii_alphabetic) s.front ∙ begins_front is_ascii_alphabetic text s.rest (word_begins text e)
 
-pub begins_sign : {k : Kind} {text bs : List ℕ} → Stands k text bs → is_sign text ≡ true → begins is_sign_byte bs ≡ true
-begins_sign {k} {text} {bs} s e = ap (begins is_sign_byte) s.front ∙ begins_front is_sign_byte text s.rest (sign_begins text e)
+pub begins_sign : {k : Kind} {text bs : List ℕ} → Stands k text bs → is_sign text ≡ true → first_passes is_sign_byte bs ≡ true
+begins_sign {k} {text} {bs} s e = ap (first_passes is_sign_byte) s.front ∙ begins_front is_sign_byte text s.rest (sign_begins text e)
 
 abbrev pub is_quote : ℕ → Bool
 is_quote b = eqb b 34
 
-pub begins_string : {k : Kind} {text bs : List ℕ} (inside : List ℕ) → Stands k text bs → text ≡ 34 ∷ inside ++ 34 ∷ [] → begins is_quote bs ≡ true
-begins_string {k} {text} {bs} inside s e = ap (begins is_quote) (s.front ∙ ap (λ (t : List ℕ). t ++ s.rest) e)
+pub begins_string : {k : Kind} {text bs : List ℕ} (inside : List ℕ) → Stands k text bs → text ≡ 34 ∷ inside ++ 34 ∷ [] → first_passes is_quote bs ≡ true
+begins_string {k} {text} {bs} inside s e = ap (first_passes is_quote) (s.front ∙ ap (λ (t : List ℕ). t ++ s.rest) e)
 
 -- a comment begins with `(`
-pub begins_paren : (bs : List ℕ) → begins_comment bs ≡ true → begins (λ b. eqb b 40) bs ≡ true
+pub begins_paren : (bs : List ℕ) → begins_comment bs ≡ true → first_passes (λ b. eqb b 40) bs ≡ true
 begins_paren [] e = absurd cc
 begins_paren (b ∷ []) e = absurd cc
 begins_paren (b ∷ c ∷ bs) e = (and_parts _ _ e).0
 
 -- two tests that no byte passes
-pub apart : (p q : ℕ → Bool) → ((b : ℕ) → p b ≡ true → q b ≡ true → ⊥) → (bs : List ℕ) → begins p bs ≡ true → begins q bs ≡ true → ⊥
+pub apart : (p q : ℕ → Bool) → ((b : ℕ) → p b ≡ true → q b ≡ true → ⊥) → (bs : List ℕ) → first_passes p bs ≡ true → first_passes q bs ≡ true → ⊥
 apart p q h [] e f = absurd cc
 apart p q h (b ∷ bs) e f = h b e f
 

@@ -6,7 +6,7 @@ use Rattle.std.proofs.lemmas.Bool.{and_parts, cases_Bool, ltb-true, ltb-false, e
 use Rattle.std.proofs.lemmas.List.Folds.{list_all-append}
 use Rattle.ob_scan.specs.declared.kind.Kind.{Kind}
 use Rattle.ob_scan.specs.declared.kind.Kind.TheVariants as kinds
-use Rattle.ob_scan.specs.Numbers.{begins}
+use Rattle.ob_scan.specs.Numbers.{first_passes}
 use Rattle.ob_scan.specs.Pieces.{string_len}
 use Rattle.ob_scan.specs.Tokens.{is_no_quote, quoted, Stands, IsToken, longest}
 use Rattle.ob_scan.proofs.Runs.{run_stops, run_whole}
@@ -48,7 +48,7 @@ string_ends b t inside rest e n =
     rw whole (run_stops is_no_quote inside 34 rest n refl)
 
 -- only a string stands at a quote, and it is this long
-string_only : (bs : List ℕ) → begins is_quote bs ≡ true → (j : Kind) (other : List ℕ) → Stands j other bs → length other ≡ prefix_len is_no_quote (drop 1 bs) + 2
+string_only : (bs : List ℕ) → first_passes is_quote bs ≡ true → (j : Kind) (other : List ℕ) → Stands j other bs → length other ≡ prefix_len is_no_quote (drop 1 bs) + 2
 string_only [] e j other s = absurd cc
 string_only (b ∷ t) e j other s =
     elim (shape_of s.is_text) [
@@ -75,7 +75,7 @@ string_at t n h is =
 same_len : (m n : ℕ) → Some m ≡ Some n → m ≡ n
 same_len m n e = cc
 
-pub string_token : (bs : List ℕ) (n : ℕ) → begins is_quote bs ≡ true → string_len bs ≡ Some n → IsToken kinds.Text n bs × (0 < n)
+pub string_token : (bs : List ℕ) (n : ℕ) → first_passes is_quote bs ≡ true → string_len bs ≡ Some n → IsToken kinds.Text n bs × (0 < n)
 string_token [] n e f = absurd cc
 string_token (b ∷ t) n e f =
     elim (cases_Bool (ltb (prefix_len is_no_quote t) (length t))) [
@@ -85,7 +85,7 @@ string_token (b ∷ t) n e f =
       | inr ge ↦ let g : ◌≡◌ {A = Option ℕ} None (Some n) = rw ge at f in absurd cc
     ]
 
-pub string_open : (bs : List ℕ) → begins is_quote bs ≡ true → string_len bs ≡ None → list_all is_no_quote (drop 1 bs) ≡ true
+pub string_open : (bs : List ℕ) → first_passes is_quote bs ≡ true → string_len bs ≡ None → list_all is_no_quote (drop 1 bs) ≡ true
 string_open [] e f = absurd cc
 string_open (b ∷ t) e f =
     elim (cases_Bool (ltb (prefix_len is_no_quote t) (length t))) [
@@ -94,7 +94,7 @@ string_open (b ∷ t) e f =
     ]
 
 -- where no other quote follows, nothing stands there
-pub open_stands : (bs : List ℕ) → begins is_quote bs ≡ true → list_all is_no_quote (drop 1 bs) ≡ true → (j : Kind) (other : List ℕ) → Stands j other bs → ⊥
+pub open_stands : (bs : List ℕ) → first_passes is_quote bs ≡ true → list_all is_no_quote (drop 1 bs) ≡ true → (j : Kind) (other : List ℕ) → Stands j other bs → ⊥
 open_stands [] e f j other s = absurd cc
 open_stands (b ∷ t) e f j other s =
     elim (shape_of s.is_text) [

@@ -7,19 +7,19 @@ use Rattle.std.proofs.lemmas.Slice.Eq.{bytes_eq-Decides}
 use Rattle.ob_scan.specs.declared.kind.Kind.{Kind}
 use Rattle.ob_scan.specs.declared.kind.Kind.TheVariants as kinds
 use Rattle.ob_scan.specs.Kinds.{text_of}
-use Rattle.ob_scan.specs.Numbers.{begins}
-use Rattle.ob_scan.specs.Tables.{word_of_two, word_of_three, word_of_four, word_of_five, long_word_of, word_of, single_of, pair_of}
+use Rattle.ob_scan.specs.Numbers.{first_passes}
+use Rattle.ob_scan.specs.Tables.{word_of_two, word_of_three, word_of_four, word_of_five, long_word_of, word_of, single_of, two_byte_delimiter}
 use Rattle.ob_scan.specs.Tokens.{is_name}
 
 -- the delimiter of a whole text
 abbrev pub sign_of : List ℕ → Option Kind
 sign_of [] = None
 sign_of (b ∷ []) = single_of b
-sign_of (b ∷ c ∷ []) = pair_of b c
+sign_of (b ∷ c ∷ []) = two_byte_delimiter b c
 sign_of (b ∷ c ∷ d ∷ bs) = None
 
 abbrev pub kind_of : List ℕ → Option Kind
-kind_of text = cond (begins is_ascii_alphabetic text) (word_of text) (sign_of text)
+kind_of text = cond (first_passes is_ascii_alphabetic text) (word_of text) (sign_of text)
 
 -- a byte with which a delimiter may begin
 abbrev pub is_sign_byte : ℕ → Bool
@@ -103,5 +103,5 @@ word_of_is text j =
 pub single_of_is : (b : ℕ) (j : Kind) → single_of b ≡ Some j → text_of j ≡ Some (b ∷ [])
 single_of_is b j = pick_one _ refl (pick_one _ refl (pick_one _ refl (pick_one _ refl (pick_one _ refl (pick_one _ refl (pick_one _ refl (pick_one _ refl (pick_one _ refl (pick_one _ refl (pick_one _ refl (pick_one _ refl (pick_one _ refl (pick_one _ refl (pick_one _ refl (pick_one _ refl (pick_one _ refl (pick_one _ refl (pick_one _ refl (pick_one _ refl (pick_one _ refl (pick_one _ refl (λ e. absurd cc))))))))))))))))))))))
 
-pub pair_of_is : (b c : ℕ) (j : Kind) → pair_of b c ≡ Some j → text_of j ≡ Some (b ∷ c ∷ [])
+pub pair_of_is : (b c : ℕ) (j : Kind) → two_byte_delimiter b c ≡ Some j → text_of j ≡ Some (b ∷ c ∷ [])
 pair_of_is b c j = pick_two _ refl (pick_two _ refl (pick_two _ refl (pick_two _ refl (λ e. absurd cc))))

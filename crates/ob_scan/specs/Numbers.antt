@@ -6,13 +6,13 @@ use Rattle.ob_scan.specs.declared.kind.Kind.{Kind}
 use Rattle.ob_scan.specs.declared.kind.Kind.TheVariants.{Integer, Real, Text}
 
 -- the first byte passes this test
-abbrev pub begins : (ℕ → Bool) → List ℕ → Bool
-begins p [] = false
-begins p (b ∷ bs) = p b
+abbrev pub first_passes : (ℕ → Bool) → List ℕ → Bool
+first_passes p [] = false
+first_passes p (b ∷ bs) = p b
 
 -- a digit stands in front
 abbrev pub begins_digit : List ℕ → Bool
-begins_digit bs = begins is_ascii_digit bs
+begins_digit bs = first_passes is_ascii_digit bs
 
 -- a digit, or a letter from `A` to `F`
 abbrev pub is_hex_digit : ℕ → Bool
@@ -20,7 +20,7 @@ is_hex_digit b = is_ascii_digit b || is_in_range 65 70 b
 
 -- this byte stands in front
 abbrev pub is_next : ℕ → List ℕ → Bool
-is_next c bs = begins (λ b. b == c) bs
+is_next c bs = first_passes (λ b. b == c) bs
 
 -- how many digits stand in front, and how many hexadecimal digits
 abbrev pub digits : List ℕ → ℕ
@@ -55,8 +55,8 @@ decimal_of n bs =
 
 -- the kind and the length of the token in front. Behind the longest run of hexadecimal digits an `H` makes it an integer and
 -- an `X` a string; else a run with a letter is no token
-abbrev pub number_of : List ℕ → Option (Kind × ℕ)
-number_of bs =
+abbrev pub number_token : List ℕ → Option (Kind × ℕ)
+number_token bs =
     if is_next 72 (drop (hex_digits bs) bs) then Some (Integer, hex_digits bs + 1)
     else if is_next 88 (drop (hex_digits bs) bs) then Some (Text, hex_digits bs + 1)
     else if digits bs == hex_digits bs then decimal_of (hex_digits bs) bs

@@ -11,7 +11,7 @@ use Rattle.ob_scan.specs.declared.fault.Reason.TheVariants as reasons
 use Rattle.ob_scan.specs.declared.fault.ScanFault.{ScanFault}
 use Rattle.ob_scan.specs.declared.fault.ScanFault.TheVariants as faults
 use Rattle.ob_scan.specs.Spelling.{IsGap, IsBadByte, IsBadNumber, IsOpenString, IsOpenComment}
-use Rattle.ob_scan.specs.Tables.{pair_of, single_of}
+use Rattle.ob_scan.specs.Tables.{two_byte_delimiter, single_of}
 use Rattle.ob_scan.specs.Tokens.{IsToken}
 
 -- the mark of a comment that these two bytes are
@@ -59,20 +59,20 @@ single_in b = option_map (λ k. (k, 1)) (single_of b)
 abbrev pub delimiter_of : List ℕ → Option (Kind × ℕ)
 delimiter_of [] = None
 delimiter_of (b ∷ []) = single_in b
-delimiter_of (b ∷ c ∷ bs) = first_of (option_map (λ k. (k, 2)) (pair_of b c)) (single_in b)
+delimiter_of (b ∷ c ∷ bs) = first_of (option_map (λ k. (k, 2)) (two_byte_delimiter b c)) (single_in b)
 
 -- why nothing begins in front
-abbrev pub IsWrong : Reason → List ℕ → Type 0
-IsWrong reasons.Byte bs = IsBadByte bs
-IsWrong reasons.Number bs = IsBadNumber bs
-IsWrong reasons.String bs = IsOpenString bs
-IsWrong reasons.Comment bs = IsOpenComment bs
+abbrev pub BeginsNothing : Reason → List ℕ → Type 0
+BeginsNothing reasons.Byte bs = IsBadByte bs
+BeginsNothing reasons.Number bs = IsBadNumber bs
+BeginsNothing reasons.String bs = IsOpenString bs
+BeginsNothing reasons.Comment bs = IsOpenComment bs
 
 -- what begins in front, of at most all of the bytes
 abbrev pub IsPiece : List ℕ → Piece → Type 0
 IsPiece bs (pieces.Gap n) = IsGap n bs × (0 < n) × (n ≤ length bs)
 IsPiece bs (pieces.Token k n) = IsToken k n bs × (0 < n) × (n ≤ length bs)
-IsPiece bs (pieces.Nothing reason) = IsWrong reason bs
+IsPiece bs (pieces.Nothing reason) = BeginsNothing reason bs
 
 -- the fault that is told of an offset
 abbrev pub fault_at : ℕ → Reason → ScanFault

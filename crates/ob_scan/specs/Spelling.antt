@@ -7,16 +7,16 @@ use Rattle.ob_scan.specs.declared.token.Token.{Token}
 use Rattle.ob_scan.specs.declared.fault.ScanFault.{ScanFault}
 use Rattle.ob_scan.specs.declared.fault.ScanFault.TheVariants as faults
 use Rattle.ob_scan.specs.Comments.{begins_comment, Closes}
-use Rattle.ob_scan.specs.Numbers.{begins, begins_digit, number_of}
+use Rattle.ob_scan.specs.Numbers.{first_passes, begins_digit, number_token}
 use Rattle.ob_scan.specs.Tokens.{is_no_quote, Stands, IsToken}
 
 -- a byte from 0 to 32 stands in front
 abbrev pub begins_blank : List ℕ → Bool
-begins_blank bs = begins (λ b. nat_lt b 33) bs
+begins_blank bs = first_passes (λ b. nat_lt b 33) bs
 
 -- a quote stands in front
 abbrev pub begins_quote : List ℕ → Bool
-begins_quote bs = begins (λ b. b == 34) bs
+begins_quote bs = first_passes (λ b. b == 34) bs
 
 -- n bytes that are no token stand in front: a blank, or a closed comment
 pub data IsGap : ℕ → List ℕ → Type 0 where
@@ -52,7 +52,7 @@ pub record IsBadByte (bs : List ℕ) : Type 0 where
 -- digits that are no number
 pub record IsBadNumber (bs : List ℕ) : Type 0 where
   pub digit : begins_digit bs ≡ true
-  pub no_number : number_of bs ≡ None
+  pub no_number : number_token bs ≡ None
 
 -- a quote that no quote follows
 pub record IsOpenString (bs : List ℕ) : Type 0 where

@@ -95,8 +95,8 @@ single_of b =
     else None
 
 -- the delimiter of these two bytes
-abbrev pub pair_of : ℕ → ℕ → Option Kind
-pair_of b c =
+abbrev pub two_byte_delimiter : ℕ → ℕ → Option Kind
+two_byte_delimiter b c =
     if (b == 58) && (c == 61) then Some kinds.Assign
     else if (b == 60) && (c == 61) then Some kinds.LessEquals
     else if (b == 62) && (c == 61) then Some kinds.GreaterEquals

@@ -6,7 +6,7 @@ use Rattle.ob_scan.specs.declared.kind.Kind.{Kind}
 use Rattle.ob_scan.specs.declared.kind.Kind.TheVariants as kinds
 use Rattle.ob_scan.specs.Comments.{begins_comment}
 use Rattle.ob_scan.specs.Kinds.{text_of}
-use Rattle.ob_scan.specs.Numbers.{begins_digit, number_of}
+use Rattle.ob_scan.specs.Numbers.{begins_digit, number_token}
 
 -- a letter, and then letters and digits
 abbrev pub is_name : List ℕ → Bool
@@ -32,5 +32,5 @@ pub record Stands (k : Kind) (text bs : List ℕ) : Type 0 where
 
 -- a token of n bytes stands in front: at a digit the number, else the longest text; a `(` before `*` is none
 pub data IsToken : Kind → ℕ → List ℕ → Type 0 where
-  number : {k : Kind} {n : ℕ} {bs : List ℕ} → begins_digit bs ≡ true → number_of bs ≡ Some (k, n) → IsToken k n bs
+  number : {k : Kind} {n : ℕ} {bs : List ℕ} → begins_digit bs ≡ true → number_token bs ≡ Some (k, n) → IsToken k n bs
   longest : {k : Kind} {n : ℕ} {bs text : List ℕ} → begins_digit bs ≡ false → begins_comment bs ≡ false → Stands k text bs → length text ≡ n → ((j : Kind) (other : List ℕ) → Stands j other bs → length other ≤ n) → IsToken k n bs

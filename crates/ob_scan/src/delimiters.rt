@@ -1,12 +1,12 @@
 //! The delimiters (Oberon-07 report, section 3).
 ghost use Rattle.std.specs.Prelude.{◌≡◌};
 ghost use Rattle.ob_scan.specs.Pieces.{delimiter_of, single_in};
-ghost use Rattle.ob_scan.specs.Tables.{pair_of, single_of};
+ghost use Rattle.ob_scan.specs.Tables.{two_byte_delimiter, single_of};
 
 use crate::Kind;
 
-fn pair_of(first: u8, second: u8) -> Option<Kind>
-    ensures { result ≡ pair_of first second }
+fn two_byte_delimiter(first: u8, second: u8) -> Option<Kind>
+    ensures { result ≡ two_byte_delimiter first second }
 {
     match (first, second) {
         (b':', b'=') => Some(Kind::Assign),
@@ -58,7 +58,7 @@ pub(crate) fn delimiter(rest: &[u8]) -> Option<(Kind, usize)>
     ensures { result ≡ delimiter_of rest.now }
 {
     match rest {
-        [first, second, ..] => match pair_of(*first, *second) {
+        [first, second, ..] => match two_byte_delimiter(*first, *second) {
             Some(kind) => Some((kind, 2)),
             None => single(*first),
         },

@@ -1,6 +1,6 @@
 //! Tokens that begin with a digit (Oberon-07 report, section 3).
 ghost use Rattle.std.specs.Prelude.{◌≡◌, ◌≤◌, ◌<◌, length, true, IfSome};
-ghost use Rattle.ob_scan.specs.Numbers.{begins_digit, decimal_of, digits, fraction_of, hex_digits, is_next, number_of};
+ghost use Rattle.ob_scan.specs.Numbers.{begins_digit, decimal_of, digits, fraction_of, hex_digits, is_next, number_token};
 
 use crate::Kind;
 
@@ -72,7 +72,7 @@ fn decimal(bytes: &[u8], n: usize) -> Option<(Kind, usize)>
 #[tactic(auto, using(crate::proofs::Numbers::hex_digits_some))]
 pub(crate) fn number(bytes: &[u8]) -> Option<(Kind, usize)>
     requires { begins_digit bytes.now ≡ true }
-    ensures value { result ≡ number_of bytes.now }
+    ensures value { result ≡ number_token bytes.now }
     ensures some { IfSome result (λ x. 0 < x.1) }
     ensures within { IfSome result (λ x. x.1 ≤ length bytes.now) }
 {

@@ -2,7 +2,7 @@
 ghost use Rattle.std.specs.Prelude.{◌≡◌, ◌<◌, true, false, length};
 ghost use Rattle.std.specs.Char.{is_ascii_alphabetic};
 ghost use Rattle.ob_scan.specs.Comments.{begins_comment};
-ghost use Rattle.ob_scan.specs.Numbers.{begins, begins_digit};
+ghost use Rattle.ob_scan.specs.Numbers.{first_passes, begins_digit};
 ghost use Rattle.ob_scan.specs.Pieces.{IsPiece};
 ghost use Rattle.ob_scan.specs.Spelling.{begins_blank, begins_quote};
 
@@ -46,7 +46,7 @@ fn begins_digit(rest: &[u8]) -> bool
 }
 
 fn begins_letter(rest: &[u8]) -> bool
-    ensures { result ≡ begins is_ascii_alphabetic rest.now }
+    ensures { result ≡ first_passes is_ascii_alphabetic rest.now }
 {
     match rest {
         [first, ..] => first.is_ascii_alphabetic(),
@@ -84,7 +84,7 @@ fn number_piece(rest: &[u8]) -> Piece
 }
 
 fn name_piece(rest: &[u8]) -> Piece
-    requires { begins is_ascii_alphabetic rest.now ≡ true }
+    requires { first_passes is_ascii_alphabetic rest.now ≡ true }
     ensures { IsPiece rest.now result }
 {
     let n = name_len(rest);
@@ -107,7 +107,7 @@ fn delimiter_piece(rest: &[u8]) -> Piece
     requires no_blank { begins_blank rest.now ≡ false }
     requires no_comment { begins_comment rest.now ≡ false }
     requires no_digit { begins_digit rest.now ≡ false }
-    requires no_letter { begins is_ascii_alphabetic rest.now ≡ false }
+    requires no_letter { first_passes is_ascii_alphabetic rest.now ≡ false }
     requires no_quote { begins_quote rest.now ≡ false }
     ensures { IsPiece rest.now result }
 {

@@ -9,7 +9,7 @@ use Rattle.std.proofs.lemmas.Option.{slice_get_within}
 use Rattle.std.proofs.lemmas.Slice.Eq.{bytes_eq-Decides}
 use Rattle.std.proofs.Math.Seq.{get_or-append_seam}
 use Rattle.ob_scope.specs.declared.members.Member.{Member}
-use Rattle.ob_scope.specs.Sights.{number_of, AreNumbered}
+use Rattle.ob_scope.specs.Sights.{name_number, AreNumbered}
 use Rattle.ob_scope.proofs.Elements.{some_one}
 use Rattle.ob_scope.proofs.Keyed.{front_get, get_front}
 
@@ -61,7 +61,7 @@ is_text text y = bytes_eq text y.now
 module _ (name : ℕ → List ℕ) (members : List Member) where
   -- the names stay, where those that are numbered keep their numbers
   more : (i n : ℕ) (m : Member) (names later : List (Bor (List ℕ))) (numbers : List ℕ) → AreNumbered name (take i members) names numbers → slice_get members i ≡ Some m → length (take i members) ≡ i → length names ≤ length later
-      → ((text : List ℕ) → number_of names text < length names → number_of later text ≡ number_of names text) → n ≡ number_of later (name m.number) → n < length later
+      → ((text : List ℕ) → name_number names text < length names → name_number later text ≡ name_number names text) → n ≡ name_number later (name m.number) → n < length later
       → AreNumbered name (take (i + 1) members) later (numbers ++ n ∷ [])
   more i n m names later numbers a at long grown kept is within = record {
     as_many = (
@@ -78,7 +78,7 @@ module _ (name : ℕ → List ℕ) (members : List Member) where
         rw (get_or_append_left numbers (n ∷ []) 0 k (inside k less)) (old ∙ sym (kept (name x.number) (rw (← old) bound)))))
         (λ (past : i ≤ k). (
         let last = last_there k x past e in
-        rw (last.0, seam) (is ∙ ap (λ (y : Member). number_of later (name y.number)) last.1)))
+        rw (last.0, seam) (is ∙ ap (λ (y : Member). name_number later (name y.number)) last.1)))
         (cases_lt k i);
     within = λ k x e. ⊎_elim
         (λ (less : k < i). (
@@ -108,20 +108,20 @@ module _ (name : ℕ → List ℕ) (members : List Member) where
           (same, some_one m x (sym at ∙ ap (slice_get members) (sym same) ∙ u.1))
 
   pub numbered_more : (i n : ℕ) (m : Member) (k : Bor (List ℕ)) (names later : List (Bor (List ℕ))) (numbers : List ℕ) → AreNumbered name (take i members) names numbers → slice_get members i ≡ Some m → k.now ≡ name m.number
-      → n ≡ number_of names k.now → later ≡ (if list_any (is_text k.now) names then names else names ++ k ∷ []) → AreNumbered name (take (i + 1) members) later (numbers ++ n ∷ [])
+      → n ≡ name_number names k.now → later ≡ (if list_any (is_text k.now) names then names else names ++ k ∷ []) → AreNumbered name (take (i + 1) members) later (numbers ++ n ∷ [])
   numbered_more i n m k names later numbers a at text is keys = elim (cases_Bool (list_any (is_text k.now) names)) [
     | inl old ↦ (
         let same : later ≡ names = keys ∙ ap (λ (b : Bool). if b then names else names ++ k ∷ []) old in
-        let within : number_of names k.now < length names = found_within (is_text k.now) names old in
-        rw same (more i n m names names numbers a at long (omega arith) (λ t l. refl) (is ∙ ap (number_of names) text) (rw is within)))
+        let within : name_number names k.now < length names = found_within (is_text k.now) names old in
+        rw same (more i n m names names numbers a at long (omega arith) (λ t l. refl) (is ∙ ap (name_number names) text) (rw is within)))
     | inr new ↦ (
         let grown : later ≡ names ++ k ∷ [] = keys ∙ ap (λ (b : Bool). if b then names else names ++ k ∷ []) new in
         let longer = length-append names (k ∷ []) in
         let own : is_text k.now k ≡ true = (bytes_eq-Decides k.now k.now).1 refl in
-        let last : number_of (names ++ k ∷ []) k.now ≡ length names = found_last (is_text k.now) names k new own in
-        let none : number_of names k.now ≡ length names = not_found (is_text k.now) names new in
+        let last : name_number (names ++ k ∷ []) k.now ≡ length names = found_last (is_text k.now) names k new own in
+        let none : name_number names k.now ≡ length names = not_found (is_text k.now) names new in
         rw grown (more i n m names (names ++ k ∷ []) numbers a at long (omega arith) (λ t l. found_stays (is_text t) names k l)
-        (is ∙ none ∙ sym last ∙ ap (number_of (names ++ k ∷ [])) text) (let e = is in omega arith)))
+        (is ∙ none ∙ sym last ∙ ap (name_number (names ++ k ∷ [])) text) (let e = is in omega arith)))
   ]
     where
       long : length (take i members) ≡ i

@@ -12,7 +12,7 @@ use Rattle.ob_scope.specs.declared.sight.Sight.{Sight}
 use Rattle.ob_scope.specs.Looked.{use_in, IsResolved}
 use Rattle.ob_scope.specs.Scope.{ResolvesToNothing}
 use Rattle.ob_scope.specs.Sighted.{IsFrontBefore, IsSight}
-use Rattle.ob_scope.specs.Sights.{number_of, AreNumbered, AreSeen, Enters, IsIn, IsNamedAt, IsOpen, IsOpenScope, IsStart}
+use Rattle.ob_scope.specs.Sights.{name_number, AreNumbered, AreSeen, Enters, IsIn, IsNamedAt, IsOpen, IsOpenScope, IsStart}
 use Rattle.ob_scope.proofs.Opening.{open_ascend, open_none}
 use Rattle.ob_scope.proofs.Sighting.{resolved_found, resolved_none, resolved_unnamed, seen_bind, seen_enter, seen_field, seen_none, seen_start}
 
@@ -118,7 +118,7 @@ module _ (name : ℕ → List ℕ) (blocks : List Block) (members : List Member)
   pub look_same : (t : Sight) → t.«open» ≡ opened → t.next ≡ s.next → t.latest.items ≡ s.latest.items → t.earlier.items ≡ s.earlier.items → IsSight blocks members numbers (length names) t
   look_same t is_open is_next is_latest is_earlier = sight_entered blocks members numbers (length names) s t block opened h e is_open is_next is_latest is_earlier
 
-  pub look_unnamed : length names ≤ number_of names (name token) → ResolvesToNothing name blocks members (use_in block token)
+  pub look_unnamed : length names ≤ name_number names (name token) → ResolvesToNothing name blocks members (use_in block token)
   look_unnamed past = resolved_unnamed name blocks members names numbers numbered opened.stack.items opened.fresh s.next s.latest.items s.earlier.items seen ascend e.opened block token e.innermost front past
 
   pub look_ascend : AscendBy (λ (b : ℕ). b) opened.stack.items
@@ -136,14 +136,14 @@ module _ (name : ℕ → List ℕ) (blocks : List Block) (members : List Member)
       sight_of blocks members numbers (length names) t opened s.next (slice_set s.latest.items n at) s.earlier.items is_open is_next is_latest is_earlier (length-set s.latest.items n at ∙ h.named) h.as_many h.few e.opened
       (seen_start blocks members numbers opened.stack.items opened.fresh s.next s.latest.items s.earlier.items seen n at (let long = h.named in omega arith) start)
 
-  pub look_found : (n : ℕ) (at : Option ℕ) → n ≡ number_of names (name token) → IsStart members numbers opened.stack.items s.next n at
+  pub look_found : (n : ℕ) (at : Option ℕ) → n ≡ name_number names (name token) → IsStart members numbers opened.stack.items s.next n at
       → IfSome at (λ i. (m : Member) × (slice_get members i ≡ Some m) × IsOpenScope opened.stack.items m.place) → IfSome at (IsResolved name blocks members block token)
   look_found n None is start shown = tt
   look_found n (Some i) is start shown =
       resolved_found name blocks members names numbers numbered opened.stack.items opened.fresh s.next s.latest.items s.earlier.items seen ascend e.opened block token e.innermost front i
       (subst (λ (k : ℕ). IsStart members numbers opened.stack.items s.next k (Some i)) is start) shown
 
-  pub look_none : (n : ℕ) (at : Option ℕ) → n ≡ number_of names (name token) → IsStart members numbers opened.stack.items s.next n at → IfNone at (ResolvesToNothing name blocks members (use_in block token))
+  pub look_none : (n : ℕ) (at : Option ℕ) → n ≡ name_number names (name token) → IsStart members numbers opened.stack.items s.next n at → IfNone at (ResolvesToNothing name blocks members (use_in block token))
   look_none n (Some i) is start = tt
   look_none n None is start =
       resolved_none name blocks members names numbers numbered opened.stack.items opened.fresh s.next s.latest.items s.earlier.items seen ascend e.opened block token e.innermost front

@@ -14,7 +14,7 @@ use Rattle.ob_scope.specs.declared.members.Scope.TheVariants as places
 use Rattle.ob_scope.specs.Looked.{use_in, IsResolved}
 use Rattle.ob_scope.specs.Scope.{IsAround, IsSeen, ResolvesToNothing, itself}
 use Rattle.ob_scope.specs.Sighted.{IsFrontBefore}
-use Rattle.ob_scope.specs.Sights.{number_of, AreNumbered, AreSeen, IsIn, IsInnermost, IsLimit, IsNamedAt, IsOpen, IsOpenScope, IsSeenAt, IsStart}
+use Rattle.ob_scope.specs.Sights.{name_number, AreNumbered, AreSeen, IsIn, IsInnermost, IsLimit, IsNamedAt, IsOpen, IsOpenScope, IsSeenAt, IsStart}
 use Rattle.ob_scope.proofs.Elements.{contains_slice, slice_contains, slice_there, some_one}
 use Rattle.ob_scope.proofs.Opening.{around_open, open_around}
 
@@ -196,11 +196,11 @@ seen_none blocks members numbers stack fresh latest earlier no_latest no_earlier
 -- ---- numbers of names
 
 -- texts of one number are one
-same_text : (names : List (Bor (List ℕ))) (a b : List ℕ) → number_of names a ≡ number_of names b → number_of names a < length names → a ≡ b
+same_text : (names : List (Bor (List ℕ))) (a b : List ℕ) → name_number names a ≡ name_number names b → name_number names a < length names → a ≡ b
 same_text names a b e within =
-    let x = slice_there names (number_of names a) within in
-    let first = (bytes_eq-Decides a (get_or names (number_of names a) x.0).now).0 (passes_at_first (λ (y : Bor (List ℕ)). bytes_eq a y.now) names x.0 within) in
-    let second = (bytes_eq-Decides b (get_or names (number_of names b) x.0).now).0 (passes_at_first (λ (y : Bor (List ℕ)). bytes_eq b y.now) names x.0 (rw (← e) within)) in
+    let x = slice_there names (name_number names a) within in
+    let first = (bytes_eq-Decides a (get_or names (name_number names a) x.0).now).0 (passes_at_first (λ (y : Bor (List ℕ)). bytes_eq a y.now) names x.0 within) in
+    let second = (bytes_eq-Decides b (get_or names (name_number names b) x.0).now).0 (passes_at_first (λ (y : Bor (List ℕ)). bytes_eq b y.now) names x.0 (rw (← e) within)) in
     first ∙ ap (λ (n : ℕ). (get_or names n x.0).now) e ∙ sym second
 
 -- ---- what a use resolves to
@@ -209,19 +209,19 @@ module _ (name : ℕ → List ℕ) (blocks : List Block) (members : List Member)
     (stack : List ℕ) (fresh j : ℕ) (latest earlier : List (Option ℕ)) (s : AreSeen blocks members numbers stack fresh j latest earlier)
     (ascend : AscendBy (λ (b : Block). b.first) blocks) (opened : IsOpen blocks stack fresh) (block token : ℕ) (last : IsInnermost stack block) (front : IsFrontBefore members j token) where
   -- what the use sees is seen here
-  seen_here : (b : ℕ) (e : Member) → IsSeen name blocks members (use_in block token) b e → (k : ℕ) × (slice_get members k ≡ Some e) × IsSeenAt members numbers stack j (number_of names (name token)) k
+  seen_here : (b : ℕ) (e : Member) → IsSeen name blocks members (use_in block token) b e → (k : ℕ) × (slice_get members k ≡ Some e) × IsSeenAt members numbers stack j (name_number names (name token)) k
   seen_here b e t =
       let p = slice_contains members e t.declared in
       let below : p.0 < j = ⊎_elim (λ (less : p.0 < j). less) (λ (past : j ≤ p.0). absurd (let l : token ≤ e.number = front.behind p.0 e past p.1 in let k : e.number < token = t.before in omega arith)) (cases_lt p.0 j) in (
         p.0,
         p.1,
         record {
-          named = record { below = below; number = numbered.each p.0 e p.1 ∙ ap (number_of names) t.named; block = b; inside = record { member = e; there = p.1; placed = t.placed } };
+          named = record { below = below; number = numbered.each p.0 e p.1 ∙ ap (name_number names) t.named; block = b; inside = record { member = e; there = p.1; placed = t.placed } };
           is_open = around_open blocks stack opened.chain ascend b block last t.around;
         },
       )
 
-  pub resolved_none : IsStart members numbers stack j (number_of names (name token)) None → ResolvesToNothing name blocks members (use_in block token)
+  pub resolved_none : IsStart members numbers stack j (name_number names (name token)) None → ResolvesToNothing name blocks members (use_in block token)
   resolved_none start b e t =
       let here = seen_here b e t in
       let bound = start.limit here.0 here.2 in
@@ -229,11 +229,11 @@ module _ (name : ℕ → List ℕ) (blocks : List Block) (members : List Member)
       absurd cc
 
   -- a name that no member has
-  pub resolved_unnamed : length names ≤ number_of names (name token) → ResolvesToNothing name blocks members (use_in block token)
+  pub resolved_unnamed : length names ≤ name_number names (name token) → ResolvesToNothing name blocks members (use_in block token)
   resolved_unnamed past b e t =
       let p = slice_contains members e t.declared in
       let within = numbered.within p.0 e p.1 in
-      let same : slice_index numbers p.0 ≡ number_of names (name token) = numbered.each p.0 e p.1 ∙ ap (number_of names) t.named in
+      let same : slice_index numbers p.0 ≡ name_number names (name token) = numbered.each p.0 e p.1 ∙ ap (name_number names) t.named in
       omega arith
 
   open_in : (i c : ℕ) (m : Member) → slice_get members i ≡ Some m → IsOpenScope stack m.place → IsIn members i c → Contains stack c
@@ -241,7 +241,7 @@ module _ (name : ℕ → List ℕ) (blocks : List Block) (members : List Member)
       let same : m ≡ p.member = some_one m p.member (sym there ∙ p.there) in
       subst (λ (x : Scope). IsOpenScope stack x) (ap (λ (y : Member). y.place) same ∙ p.placed) is
 
-  pub resolved_found : (i : ℕ) → IsStart members numbers stack j (number_of names (name token)) (Some i) → (m : Member) × (slice_get members i ≡ Some m) × IsOpenScope stack m.place → IsResolved name blocks members block token i
+  pub resolved_found : (i : ℕ) → IsStart members numbers stack j (name_number names (name token)) (Some i) → (m : Member) × (slice_get members i ≡ Some m) × IsOpenScope stack m.place → IsResolved name blocks members block token i
   unfolding seen_here
   resolved_found i start (m, there, is) =
       let here = start.some i refl in

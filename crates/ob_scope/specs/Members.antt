@@ -9,8 +9,8 @@ use Rattle.ob_scope.specs.declared.members.Scope.{Scope}
 use Rattle.ob_scope.specs.declared.members.Scope.TheVariants.{Block, Record}
 
 -- where a construct declares: fields in their record, all else in the block around it
-abbrev pub place_of : Declarer → Scope
-place_of by = place by.of_record
+abbrev pub scope_of : Declarer → Scope
+scope_of by = place by.of_record
   where
     place : Option ℕ → Scope
     place None = Block by.block
@@ -24,7 +24,7 @@ declarer_at (by ∷ rest) k = if by.first == k then Some by else declarer_at res
 -- an identifier, as what and where its construct declares it
 abbrev pub member_by : Declared → Option Declarer → Option Member
 member_by d None = None
-member_by d (Some by) = Some (record { place = place_of by; number = d.number; sort = by.sort })
+member_by d (Some by) = Some (record { place = scope_of by; number = d.number; sort = by.sort })
 
 -- what these constructs declare, in the order of the identifiers
 abbrev pub members_by : List Declarer → List Declared → List Member

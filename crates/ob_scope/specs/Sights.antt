@@ -12,13 +12,13 @@ use Rattle.ob_scope.specs.Scope.{IsAround, IsDirectlyIn}
 -- ---- names
 
 -- the number of a text: its first place among the names
-abbrev pub number_of : List (Bor (List ℕ)) → List ℕ → ℕ
-number_of names text = position_or_len (λ y. bytes_eq text y.now) names
+abbrev pub name_number : List (Bor (List ℕ)) → List ℕ → ℕ
+name_number names text = position_or_len (λ y. bytes_eq text y.now) names
 
 -- for each member the number of its name
 pub record AreNumbered (name : ℕ → List ℕ) (members : List Member) (names : List (Bor (List ℕ))) (numbers : List ℕ) : Type 0 where
   pub as_many : length numbers ≡ length members
-  pub each : (k : ℕ) (m : Member) → slice_get members k ≡ Some m → slice_index numbers k ≡ number_of names (name m.number)
+  pub each : (k : ℕ) (m : Member) → slice_get members k ≡ Some m → slice_index numbers k ≡ name_number names (name m.number)
   pub within : (k : ℕ) (m : Member) → slice_get members k ≡ Some m → slice_index numbers k < length names
 
 -- ---- blocks

@@ -3,7 +3,7 @@ ghost use Rattle.std.specs.Prelude.{◌≡◌, IfNone, IfOk, IfSome};
 ghost use Rattle.ob_decls.specs.declared.rows.Declarer.{Declarer};
 ghost use Rattle.ob_scope.specs.declared.members.Member.{Member};
 ghost use Rattle.ob_decls.specs.Order.{AscendBy, HasNoneBy, IsPlaceBy};
-ghost use Rattle.ob_scope.specs.Members.{declarer_at, member_by, members_by, place_of};
+ghost use Rattle.ob_scope.specs.Members.{declarer_at, member_by, members_by, scope_of};
 
 use ob_decls::{Declared, Declarer, Sort};
 use std::alloc::{AllocError, Global};
@@ -26,8 +26,8 @@ pub struct Member {
 }
 
 /// Where a construct declares its identifiers.
-fn place_of(by: Declarer) -> Scope
-    ensures { result ≡ place_of by }
+fn scope_of(by: Declarer) -> Scope
+    ensures { result ≡ scope_of by }
 {
     match by.of_record {
         None => Scope::Block(by.block),
@@ -71,7 +71,7 @@ fn member_by(declarers: &[Declarer], declared: Declared) -> Option<Member>
 {
     match declarer_at(declarers, declared.declared_by) {
         Some(by) => Some(Member {
-            place: place_of(by),
+            place: scope_of(by),
             number: declared.number,
             sort: by.sort,
         }),

@@ -1,7 +1,7 @@
 //! The names of members, numbered.
 ghost use Rattle.std.specs.Prelude.{◌≡◌, ◌≤◌, ◌<◌, length, IfOk, IfSome, IfNone};
 ghost use Rattle.ob_scan.specs.Spelling.{AreInText};
-ghost use Rattle.ob_scope.specs.Sights.{number_of, AreNumbered};
+ghost use Rattle.ob_scope.specs.Sights.{name_number, AreNumbered};
 ghost use Rattle.ob_scope.specs.Texts.{text_at};
 
 use crate::members::Member;
@@ -38,10 +38,10 @@ pub(crate) fn number_names<'a>(
 }
 
 /// The number of a name, or none where no member has it.
-pub(crate) fn number_of(names: &IndexSet<&[u8]>, name: &[u8]) -> Option<usize>
-    ensures found { IfSome result (λ n. n ≡ number_of names.now.keys name.now) }
+pub(crate) fn name_number(names: &IndexSet<&[u8]>, name: &[u8]) -> Option<usize>
+    ensures found { IfSome result (λ n. n ≡ name_number names.now.keys name.now) }
     ensures within { IfSome result (λ n. n < length names.now.keys) }
-    ensures none { IfNone result (length names.now.keys ≤ number_of names.now.keys name.now) }
+    ensures none { IfNone result (length names.now.keys ≤ name_number names.now.keys name.now) }
 {
     names.get_index_of(name)
 }

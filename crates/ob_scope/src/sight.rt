@@ -14,7 +14,7 @@ ghost use Rattle.ob_scope.specs.Sights.{AreNumbered, AreSeen, IsOpenScope, IsSta
 ghost use Rattle.ob_scope.specs.Texts.{text_at};
 
 use crate::members::{Member, Scope};
-use crate::numbering::{Numbered, number_of};
+use crate::numbering::{Numbered, name_number};
 use crate::opened::{Open, enter, is_open};
 use crate::text::Text;
 use ob_decls::Block;
@@ -179,7 +179,7 @@ pub(crate) fn resolved(
 {
     declare_before(sight, blocks, members, named.numbers.as_slice(), token)?;
     enter(&mut sight.open, blocks, block)?;
-    let Some(number) = number_of(&named.names, text.of(token)) else {
+    let Some(number) = name_number(&named.names, text.of(token)) else {
         return Ok(None);
     };
     let at = last_open(

@@ -15,7 +15,7 @@ use Rattle.ob_targets.specs.declared.known.Known.{Known}
 use Rattle.ob_targets.specs.declared.known.Known.TheVariants as knowns
 use Rattle.ob_targets.specs.declared.target.Target.{Target}
 use Rattle.ob_targets.specs.Targets.{field_target, known_of, used_target}
-use Rattle.ob_targets.specs.Steps.{begins, FindsField, Follows, Knows, StepsTo, Levels, Selects, there, nowhere, of_module, of_nothing, exported, field, no_field, unknown, none, one, to_field, to_elements, to_target, by_guard, at_head, behind}
+use Rattle.ob_targets.specs.Steps.{begins_designator, FindsField, Follows, Knows, StepsTo, Levels, Selects, there, nowhere, of_module, of_nothing, exported, field, no_field, unknown, none, one, to_field, to_elements, to_target, by_guard, at_head, behind}
 
 follows_once : (Leads : Node → Node → Type 0) → ((n x y : Node) → Leads n x → Leads n y → x ≡ y) → (o a b : Known) → Follows Leads o a → Follows Leads o b → a ≡ b
 follows_once Leads once o a b (there {n = n} {m = x} p) (there {m = y} q) = ap knowns.Typed (once n x y p q)
@@ -54,10 +54,10 @@ module _ (w : World) where
   one_selector i s t p q = let e : Some s ≡ Some t = sym p ∙ q in cc
 
   begins_or_not : (i : ℕ) (s t : Selector) → slice_get w.rows.selectors i ≡ Some s → slice_get w.rows.selectors i ≡ Some t →
-      begins w.rows.selectors i s ≡ true → begins w.rows.selectors i t ≡ false → ⊥
+      begins_designator w.rows.selectors i s ≡ true → begins_designator w.rows.selectors i t ≡ false → ⊥
   begins_or_not i s t p q first other =
       let is : s ≡ t = one_selector i s t p q in
-      let e : true ≡ false = sym first ∙ ap (begins w.rows.selectors i) is ∙ other in
+      let e : true ≡ false = sym first ∙ ap (begins_designator w.rows.selectors i) is ∙ other in
       cc
 
   pub knows_once : (i : ℕ) (a b : Known) → Knows w i a → Knows w i b → a ≡ b

@@ -17,8 +17,8 @@ use Rattle.ob_decls.specs.Parts.{Rows}
 use Rattle.ob_decls.proofs.Derived.{each_named}
 use Rattle.ob_targets.specs.declared.standing.Standing.{Standing}
 use Rattle.ob_targets.specs.declared.standing.Standing.TheVariants as standings
-use Rattle.ob_targets.specs.Refers.{identifiers, is_identifier, number_of}
-use Rattle.ob_targets.specs.Standing.{first, is_alias, is_declared, is_end, is_imported, is_second, is_selected, is_token, is_use, name_of, standing}
+use Rattle.ob_targets.specs.Refers.{identifiers, is_identifier, identifier_number}
+use Rattle.ob_targets.specs.Standing.{first, is_alias, is_declared, is_end_name, is_imported_name, is_second, is_selected, is_token, is_use, name_of, standing}
 
 -- ---- the first row of a kind
 
@@ -61,13 +61,13 @@ module _ (rows : Rows) (k : ℕ) where
   by_use = first (is_use k) standings.Use rows.uses by_selected
 
   abbrev by_end : Standing
-  by_end = first (is_end k) standings.End rows.ends by_use
+  by_end = first (is_end_name k) standings.End rows.ends by_use
 
   abbrev by_declared : Standing
   by_declared = first (is_declared k) standings.Declaration rows.declared by_end
 
   abbrev by_imported : Standing
-  by_imported = first (is_imported k) standings.Item rows.imports by_declared
+  by_imported = first (is_imported_name k) standings.Item rows.imports by_declared
 
   abbrev by_alias : Standing
   by_alias = first (is_alias k) standings.Item rows.imports by_imported
@@ -75,9 +75,9 @@ module _ (rows : Rows) (k : ℕ) where
   behind_own : (k ≡ own_name → ⊥) → IsNamed rows k → by_alias ≡ standings.Nowhere → ⊥
   behind_own not_own named e =
       let a = none_first (is_alias k) standings.Item rows.imports by_imported (λ n f. cc) e in
-      let b = none_first (is_imported k) standings.Item rows.imports by_declared (λ n f. cc) a.1 in
+      let b = none_first (is_imported_name k) standings.Item rows.imports by_declared (λ n f. cc) a.1 in
       let c = none_first (is_declared k) standings.Declaration rows.declared by_end (λ n f. cc) b.1 in
-      let d = none_first (is_end k) standings.End rows.ends by_use (λ n f. cc) c.1 in
+      let d = none_first (is_end_name k) standings.End rows.ends by_use (λ n f. cc) c.1 in
       let u = none_first (is_use k) standings.Use rows.uses by_selected (λ n f. cc) d.1 in
       let s = none_first (is_selected k) standings.Selected rows.selectors by_second (λ n f. cc) u.1 in
       let t = none_first (is_second k) standings.Second rows.uses standings.Nowhere (λ n f. cc) s.1 in
@@ -108,17 +108,17 @@ first_or_later y xs x (zero, l, e) = inl e
 first_or_later y xs x (suc k, l, e) = inr (k, omega arith, e)
 
 -- the number of an identifier is that of a token of its kind
-ident_from : (ts : List Token) (a k : ℕ) → Contains (filter_map number_of (enumerate_from a ts)) k → (j : ℕ) × (a + j ≡ k) × (slice_get (map (λ (t : Token). t.kind) ts) j ≡ Some kinds.Ident)
+ident_from : (ts : List Token) (a k : ℕ) → Contains (filter_map identifier_number (enumerate_from a ts)) k → (j : ℕ) × (a + j ≡ k) × (slice_get (map (λ (t : Token). t.kind) ts) j ≡ Some kinds.Ident)
 ident_from [] a k (i, l, e) = absurd (omega (arith, l))
 ident_from (t ∷ ts) a k h = elim (cases_Bool (is_identifier t.kind)) [
   | inl is_one ↦
-      let g : Contains (a ∷ filter_map number_of (enumerate_from (a + 1) ts)) k = rw is_one at h in
-      elim (first_or_later a (filter_map number_of (enumerate_from (a + 1) ts)) k g) [
+      let g : Contains (a ∷ filter_map identifier_number (enumerate_from (a + 1) ts)) k = rw is_one at h in
+      elim (first_or_later a (filter_map identifier_number (enumerate_from (a + 1) ts)) k g) [
         | inl here ↦ (zero, omega (arith, here), ap Some (ident_kind t.kind is_one))
         | inr later ↦ let r = ident_from ts (a + 1) k later in (suc r.0, (let e : a + 1 + r.0 ≡ k = r.1 in omega arith), r.2)
       ]
   | inr is_none ↦
-      let g : Contains (filter_map number_of (enumerate_from (a + 1) ts)) k = rw is_none at h in
+      let g : Contains (filter_map identifier_number (enumerate_from (a + 1) ts)) k = rw is_none at h in
       let r = ident_from ts (a + 1) k g in
       (suc r.0, (let e : a + 1 + r.0 ≡ k = r.1 in omega arith), r.2)
 ]

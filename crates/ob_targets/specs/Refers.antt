@@ -35,11 +35,11 @@ abbrev pub is_identifier : Kind → Bool
 is_identifier kinds.Ident = true
 is_identifier _ = false
 
-abbrev pub number_of : ℕ × Token → Option ℕ
-number_of (k, t) = if is_identifier t.kind then Some k else None
+abbrev pub identifier_number : ℕ × Token → Option ℕ
+identifier_number (k, t) = if is_identifier t.kind then Some k else None
 
 abbrev pub identifiers : List Token → List ℕ
-identifiers ts = filter_map number_of (enumerate_from 0 ts)
+identifiers ts = filter_map identifier_number (enumerate_from 0 ts)
 
 -- all identifiers of a module, in order, each with what it stands for and its role
 pub record AreReferences (w : World) (rs : List Reference) : Type 0 where

@@ -31,14 +31,14 @@ name_of (steps.Arguments t) = None
 abbrev pub is_alias : ℕ → Import → Bool
 is_alias k i = i.alias == k
 
-abbrev pub is_imported : ℕ → Import → Bool
-is_imported k i = i.imported == k
+abbrev pub is_imported_name : ℕ → Import → Bool
+is_imported_name k i = i.imported == k
 
 abbrev pub is_declared : ℕ → Declared → Bool
 is_declared k d = d.number == k
 
-abbrev pub is_end : ℕ → End → Bool
-is_end k e = e.number == k
+abbrev pub is_end_name : ℕ → End → Bool
+is_end_name k e = e.number == k
 
 abbrev pub is_use : ℕ → Used → Bool
 is_use k u = u.number == k
@@ -58,9 +58,9 @@ first stands at rows otherwise = option_map_or at (position stands rows) otherwi
 abbrev pub standing_or : Rows → ℕ → Standing → Standing
 standing_or rows k otherwise = if k == own_name then standings.OwnName else
     first (is_alias k) standings.Item rows.imports (
-    first (is_imported k) standings.Item rows.imports (
+    first (is_imported_name k) standings.Item rows.imports (
     first (is_declared k) standings.Declaration rows.declared (
-    first (is_end k) standings.End rows.ends (
+    first (is_end_name k) standings.End rows.ends (
     first (is_use k) standings.Use rows.uses (
     first (is_selected k) standings.Selected rows.selectors (
     first (is_second k) standings.Second rows.uses otherwise))))))

@@ -38,9 +38,9 @@ guard_of w (Some t) = elim (named_here w t.head t.member) [
 ]
 
 -- whether the selector at this place is the first one of its designator; those of one designator stand together
-abbrev pub begins : List Selector → ℕ → Selector → Bool
-begins selectors zero s = true
-begins selectors (suc i) s = elim (slice_get selectors i) [ None ↦ true | Some before ↦ not (before.of == s.of) ]
+abbrev pub begins_designator : List Selector → ℕ → Selector → Bool
+begins_designator selectors zero s = true
+begins_designator selectors (suc i) s = elim (slice_get selectors i) [ None ↦ true | Some before ↦ not (before.of == s.of) ]
 
 module _ (w : World) where
   -- the field that a name means at a type
@@ -68,6 +68,6 @@ module _ (w : World) where
 
   -- what is known before the selector at this place
   pub data Knows : ℕ → Known → Type 0 where
-    at_head : {i : ℕ} {s : Selector} → slice_get w.rows.selectors i ≡ Some s → begins w.rows.selectors i s ≡ true → Knows i (known_of w (used_target w s.of))
+    at_head : {i : ℕ} {s : Selector} → slice_get w.rows.selectors i ≡ Some s → begins_designator w.rows.selectors i s ≡ true → Knows i (known_of w (used_target w s.of))
     behind : {i : ℕ} {s t : Selector} {o next : Known} → slice_get w.rows.selectors i ≡ Some s → slice_get w.rows.selectors (suc i) ≡ Some t →
-        begins w.rows.selectors (suc i) t ≡ false → Knows i o → StepsTo o s.step next → Knows (suc i) next
+        begins_designator w.rows.selectors (suc i) t ≡ false → Knows i o → StepsTo o s.step next → Knows (suc i) next

@@ -4,7 +4,7 @@ use Rattle.ob_scan.specs.declared.kind.Kind.{Kind}
 use Rattle.ob_tree.specs.Constructs.{Construct}
 use Rattle.ob_tree.specs.declared.expression.Literal.{Literal}
 use Rattle.ob_tree.specs.declared.name.OneOrMore.{OneOrMore}
-use Rattle.ob_tree.specs.Marks.{Out, Value, construct, word, used, completed, selected, if_there, if_so, each, listed, times}
+use Rattle.ob_tree.specs.Marks.{Out, Value, construct, word, used, completed, selected, if_there, if_so, each, separated, times}
 
 -- it holds of nothing, of one after the other, of a token that neither declares nor repeats a name, and of a construct
 pub record IsClosed (P : Out → Type 0) : Type 0 where
@@ -48,5 +48,5 @@ module _ (P : Out → Type 0) (closed : IsClosed P) where
   closed-map f g [] w = closed.nothing
   closed-map f g (x ∷ xs) w = closed-both (w x) (closed-map f g xs w)
 
-  pub closed-listed : {X : Type 0} (k : Kind) (f : X → Out) (l : OneOrMore X) → ((x : X) → P (f x)) → P (listed k f l)
-  closed-listed k f l w = closed-both (w l.first) (closed-each (λ x. word k ++ f x) l.rest.items (λ x. closed-both (closed.a_word k) (w x)))
+  pub closed-separated : {X : Type 0} (k : Kind) (f : X → Out) (l : OneOrMore X) → ((x : X) → P (f x)) → P (separated k f l)
+  closed-separated k f l w = closed-both (w l.first) (closed-each (λ x. word k ++ f x) l.rest.items (λ x. closed-both (closed.a_word k) (w x)))

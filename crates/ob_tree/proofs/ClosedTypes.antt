@@ -13,11 +13,11 @@ use Rattle.ob_tree.specs.declared.declaration.Record.{Record, Record-F, roll-Rec
 use Rattle.ob_tree.specs.declared.declaration.VarDecl.{VarDecl, VarDecl-F, roll-VarDecl, out-roll-VarDecl, ind-VarDecl, map-VarDecl}
 use Rattle.ob_tree.specs.Constructs as constructs
 use Rattle.ob_tree.specs.declared.name.Identdef.{Identdef}
-use Rattle.ob_tree.specs.Marks.{Out, construct, word, declared, if_there, listed}
+use Rattle.ob_tree.specs.Marks.{Out, construct, word, declared, if_there, separated}
 use Rattle.ob_tree.specs.Names.{qualident_outline, identdef_outline}
 use Rattle.ob_tree.specs.Types.{section_outline, parameters_outline, type_outline, fields_outline, record_outline, var_outline}
 use Rattle.ob_tree.proofs.TypeLayers.{type_shown, fields_shown, record_shown, var_shown, type_out, fields_out, record_out, var_out}
-use Rattle.ob_tree.proofs.Closed.{IsClosed, With, closed-both, closed-construct, closed-there, closed-so, closed-times, closed-map, closed-listed}
+use Rattle.ob_tree.proofs.Closed.{IsClosed, With, closed-both, closed-construct, closed-there, closed-so, closed-times, closed-map, closed-separated}
 use Rattle.ob_tree.proofs.ClosedExpressions.{closed-expr_list}
 use Rattle.ob_tree.proofs.ClosedStatements.{closed-qualident}
 
@@ -30,13 +30,13 @@ module _ (P : Out → Type 0) (closed : IsClosed P) (declares : (starred : Bool)
 
   section_held : (s : ParameterSection) → P (section_outline s)
   unfolding section_outline
-  section_held s = closed-construct P closed constructs.FPSection (closed-both P closed (closed-so P closed s.variable (closed.a_word kinds.Var)) (closed-both P closed (closed-listed P closed kinds.Comma (declared false) s.names (declares false))
+  section_held s = closed-construct P closed constructs.FPSection (closed-both P closed (closed-so P closed s.variable (closed.a_word kinds.Var)) (closed-both P closed (closed-separated P closed kinds.Comma (declared false) s.names (declares false))
       (closed-both P closed (closed.a_word kinds.Colon) (closed-both P closed (closed-times P closed s.open_arrays (closed-both P closed (closed.a_word kinds.Array) (closed.a_word kinds.Of))) (closed-qualident P closed s.of)))))
 
   pub closed-parameters : (p : Parameters) → P (parameters_outline p)
   unfolding parameters_outline
   closed-parameters p =
-      closed-both P closed (closed.a_word kinds.LeftParen) (closed-both P closed (closed-there P closed (listed kinds.Semicolon section_outline) p.sections (λ l. closed-listed P closed kinds.Semicolon section_outline l section_held))
+      closed-both P closed (closed.a_word kinds.LeftParen) (closed-both P closed (closed-there P closed (separated kinds.Semicolon section_outline) p.sections (λ l. closed-separated P closed kinds.Semicolon section_outline l section_held))
       (closed-both P closed (closed.a_word kinds.RightParen) (closed-there P closed (λ q. word kinds.Colon ++ qualident_outline q) p.result (λ q. closed-both P closed (closed.a_word kinds.Colon) (closed-qualident P closed q)))))
 
   -- each part has it
@@ -103,7 +103,7 @@ module _ (P : Out → Type 0) (closed : IsClosed P) (declares : (starred : Bool)
       (closed-both P closed (fields_there y.fields) (closed.a_word kinds.End)))
 
   var_held : (y : WithVarDecl) → P (var_shown (var_of y))
-  var_held y = closed-both P closed (closed-listed P closed kinds.Comma identdef_outline y.names closed-identdef) (closed-both P closed (closed.a_word kinds.Colon) y.form.1)
+  var_held y = closed-both P closed (closed-separated P closed kinds.Comma identdef_outline y.names closed-identdef) (closed-both P closed (closed.a_word kinds.Colon) y.form.1)
 
   -- ---- layer by layer
 

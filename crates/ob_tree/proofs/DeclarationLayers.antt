@@ -9,7 +9,7 @@ use Rattle.ob_tree.specs.declared.declaration.Module.{Module}
 use Rattle.ob_tree.specs.declared.declaration.Declarations.{Declarations, Declarations-F, fold_out-Declarations, roll-Declarations, out-Declarations, out-roll-Declarations}
 use Rattle.ob_tree.specs.declared.declaration.ProcDecl.{ProcDecl, ProcDecl-F, fold_out-ProcDecl, roll-ProcDecl, out-ProcDecl, out-roll-ProcDecl}
 use Rattle.ob_tree.specs.Constructs as constructs
-use Rattle.ob_tree.specs.Marks.{Out, construct, word, aliased, imported, named, repeated, if_there, each, listed}
+use Rattle.ob_tree.specs.Marks.{Out, construct, word, aliased, imported, named, repeated, if_there, each, separated}
 use Rattle.ob_tree.specs.Names.{identdef_outline}
 use Rattle.ob_tree.specs.Expressions.{expr_outline}
 use Rattle.ob_tree.specs.Statements.{block_outline}
@@ -38,7 +38,7 @@ import_out i = refl
 
 pub module_out : (m : Module) →
     module_outline m ≡ construct constructs.Module (word kinds.Module ++ (named m.name ++ (word kinds.Semicolon ++
-    (if_there (λ l. word kinds.Import ++ (listed kinds.Comma import_outline l ++ word kinds.Semicolon)) m.imports ++
+    (if_there (λ l. word kinds.Import ++ (separated kinds.Comma import_outline l ++ word kinds.Semicolon)) m.imports ++
     (declarations_outline m.declarations ++ (if_there (λ b. word kinds.Begin ++ block_outline b) m.body ++ (word kinds.End ++ (repeated m.name m.end_name ++ word kinds.Dot))))))))
 unfolding module_outline
 module_out m = refl

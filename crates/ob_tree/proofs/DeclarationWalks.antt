@@ -10,7 +10,7 @@ use Rattle.ob_tree.specs.declared.declaration.ImportItem.{ImportItem}
 use Rattle.ob_tree.specs.declared.declaration.Module.{Module}
 use Rattle.ob_tree.specs.declared.declaration.Declarations.{Declarations, out-Declarations}
 use Rattle.ob_tree.specs.declared.declaration.ProcDecl.{ProcDecl, out-ProcDecl}
-use Rattle.ob_tree.specs.Marks.{word, imported, if_there, each, listed}
+use Rattle.ob_tree.specs.Marks.{word, imported, if_there, each, separated}
 use Rattle.ob_tree.specs.Items.{items_of}
 use Rattle.ob_tree.specs.Names.{identdef_outline}
 use Rattle.ob_tree.specs.Expressions.{expr_outline}
@@ -37,7 +37,7 @@ import_items i = simp (import_out i, items-construct)
 
 pub module_items : (m : Module) → items_of (module_outline m) ≡
     items.Word ∷ (items.Identifier roles.Names m.name ∷ (items.Word ∷
-    (items_of (if_there (λ l. word kinds.Import ++ (listed kinds.Comma import_outline l ++ word kinds.Semicolon)) m.imports) ++
+    (items_of (if_there (λ l. word kinds.Import ++ (separated kinds.Comma import_outline l ++ word kinds.Semicolon)) m.imports) ++
     (items_of (declarations_outline m.declarations) ++ (items_of (if_there (λ b. word kinds.Begin ++ block_outline b) m.body) ++
     (items.Word ∷ (items.Identifier (roles.Repeats m.name) m.end_name ∷ (items.Word ∷ []))))))))
 module_items m = simp (module_out m, items-construct, items-append)

@@ -24,7 +24,7 @@ use Rattle.ob_tree.specs.declared.declaration.Module.{Module}
 use Rattle.ob_tree.specs.declared.declaration.Declarations.{Declarations, out-Declarations}
 use Rattle.ob_tree.specs.declared.declaration.ProcDecl.{ProcDecl, out-ProcDecl}
 use Rattle.ob_tree.specs.declared.role.Role.TheVariants.{Declares, Aliases, Imports, Uses, Completes, Selects, Names, Repeats}
-use Rattle.ob_tree.specs.Marks.{Out, Mark, Begins, Ends, Identifier, Value, Word, construct, word, declared, aliased, imported, if_there, each, each_after, listed}
+use Rattle.ob_tree.specs.Marks.{Out, Mark, Begins, Ends, Identifier, Value, Word, construct, word, declared, aliased, imported, if_there, each, each_after, separated}
 use Rattle.ob_tree.specs.Names.{qualident_outline, identdef_outline}
 use Rattle.ob_tree.specs.Expressions.{expr_outline}
 use Rattle.ob_tree.specs.Statements.{block_outline}
@@ -104,14 +104,14 @@ unfolding section_outline
 section_names s =
     declared-construct constructs.FPSection _
     ∙ past _ _ (closed-so NoName no_name s.variable (no_name.a_word kinds.Var))
-    ∙ before (listed kinds.Comma (declared false) s.names) _ (closed-both NoName no_name (no_name.a_word kinds.Colon) (closed-both NoName no_name
+    ∙ before (separated kinds.Comma (declared false) s.names) _ (closed-both NoName no_name (no_name.a_word kinds.Colon) (closed-both NoName no_name
     (closed-times NoName no_name s.open_arrays (closed-both NoName no_name (no_name.a_word kinds.Array) (no_name.a_word kinds.Of))) (closed-qualident NoName no_name s.of)))
     ∙ ap (λ (ns : List ℕ). s.names.first ∷ ns) (listed_numbers s.names.rest.items)
 
-pub parameters_names : (p : Parameters) → declared_in (parameters_outline p) ≡ declared_in (if_there (listed kinds.Semicolon section_outline) p.sections)
+pub parameters_names : (p : Parameters) → declared_in (parameters_outline p) ≡ declared_in (if_there (separated kinds.Semicolon section_outline) p.sections)
 unfolding parameters_outline
 parameters_names p =
-    before (if_there (listed kinds.Semicolon section_outline) p.sections) _ (closed-both NoName no_name (no_name.a_word kinds.RightParen)
+    before (if_there (separated kinds.Semicolon section_outline) p.sections) _ (closed-both NoName no_name (no_name.a_word kinds.RightParen)
     (closed-there NoName no_name (λ q. word kinds.Colon ++ qualident_outline q) p.result (λ q. closed-both NoName no_name (no_name.a_word kinds.Colon) (closed-qualident NoName no_name q))))
 
 -- ---- types
@@ -130,8 +130,8 @@ record_names r =
     (λ q. closed-both NoName no_name (no_name.a_word kinds.LeftParen) (closed-both NoName no_name (closed-qualident NoName no_name q) (no_name.a_word kinds.RightParen))))
     ∙ before (if_there (λ f. fields_outline f.value) (out-Record r).fields) _ (no_name.a_word kinds.End)
 
-pub var_names : (v : VarDecl) → declared_in (var_outline v) ≡ declared_in (listed kinds.Comma identdef_outline (out-VarDecl v).names) ++ declared_in (type_outline (out-VarDecl v).form)
-var_names v = ap declared_in (var_out v) ∙ declared-append (listed kinds.Comma identdef_outline (out-VarDecl v).names) _
+pub var_names : (v : VarDecl) → declared_in (var_outline v) ≡ declared_in (separated kinds.Comma identdef_outline (out-VarDecl v).names) ++ declared_in (type_outline (out-VarDecl v).form)
+var_names v = ap declared_in (var_out v) ∙ declared-append (separated kinds.Comma identdef_outline (out-VarDecl v).names) _
 
 pub named_names : (q : Qualident) → declared_in (type_outline (forms.Named q)) ≡ []
 named_names q = ap declared_in (named_made q) ∙ declared-construct constructs.NamedType _ ∙ (closed-qualident NoName no_name q).none
@@ -191,12 +191,12 @@ procedure_names p =
     (record { none = refl }))))))
 
 pub module_names : (m : Module) → declared_in (module_outline m) ≡
-    declared_in (if_there (λ l. word kinds.Import ++ (listed kinds.Comma import_outline l ++ word kinds.Semicolon)) m.imports) ++ declared_in (declarations_outline m.declarations)
+    declared_in (if_there (λ l. word kinds.Import ++ (separated kinds.Comma import_outline l ++ word kinds.Semicolon)) m.imports) ++ declared_in (declarations_outline m.declarations)
 unfolding module_outline
 module_names m =
     declared-construct constructs.Module _
-    ∙ declared-append (if_there (λ l. word kinds.Import ++ (listed kinds.Comma import_outline l ++ word kinds.Semicolon)) m.imports) _
-    ∙ ap (λ (ns : List ℕ). declared_in (if_there (λ l. word kinds.Import ++ (listed kinds.Comma import_outline l ++ word kinds.Semicolon)) m.imports) ++ ns) (
+    ∙ declared-append (if_there (λ l. word kinds.Import ++ (separated kinds.Comma import_outline l ++ word kinds.Semicolon)) m.imports) _
+    ∙ ap (λ (ns : List ℕ). declared_in (if_there (λ l. word kinds.Import ++ (separated kinds.Comma import_outline l ++ word kinds.Semicolon)) m.imports) ++ ns) (
     before (declarations_outline m.declarations) _ (closed-both NoName no_name
     (closed-there NoName no_name (λ b. word kinds.Begin ++ block_outline b) m.body (λ b. closed-both NoName no_name (no_name.a_word kinds.Begin) (closed-block NoName no_name b)))
     (record { none = refl })))

@@ -14,7 +14,7 @@ use Rattle.ob_tree.specs.declared.declaration.Module.{Module}
 use Rattle.ob_tree.specs.declared.declaration.Declarations.{Declarations, out-Declarations}
 use Rattle.ob_tree.specs.declared.declaration.ProcDecl.{ProcDecl, out-ProcDecl}
 use Rattle.ob_tree.specs.declared.role.Role.TheVariants.{Declares, Aliases, Imports, Uses, Completes, Selects, Names, Repeats}
-use Rattle.ob_tree.specs.Marks.{Out, Mark, Begins, Ends, Identifier, Value, Word, word, declared, aliased, imported, each, listed}
+use Rattle.ob_tree.specs.Marks.{Out, Mark, Begins, Ends, Identifier, Value, Word, word, declared, aliased, imported, each, separated}
 use Rattle.ob_tree.specs.Expressions.{expr_outline}
 use Rattle.ob_tree.specs.Statements.{block_outline}
 use Rattle.ob_tree.specs.Types.{parameters_outline}
@@ -22,7 +22,7 @@ use Rattle.ob_tree.specs.Declaring.{const_outline, type_decl_outline, variable_o
 use Rattle.ob_tree.specs.Derives.{endings_in}
 use Rattle.ob_tree.proofs.DeclarationLayers.{procedure_shown, declarations_out, procedure_out}
 use Rattle.ob_tree.proofs.Gathers.{Gathers, Without, without, gathered-append, gathered-past, gathered-construct, gathered-each_push}
-use Rattle.ob_tree.proofs.Closed.{IsClosed, closed-both, closed-construct, closed-there, closed-each, closed-listed}
+use Rattle.ob_tree.proofs.Closed.{IsClosed, closed-both, closed-construct, closed-there, closed-each, closed-separated}
 use Rattle.ob_tree.proofs.ClosedExpressions.{closed-expr}
 use Rattle.ob_tree.proofs.ClosedStatements.{closed-block}
 use Rattle.ob_tree.proofs.ClosedTypes.{closed-identdef, closed-parameters, closed-type, closed-var}
@@ -128,8 +128,8 @@ pub module_ends : (m : Module) → endings_in (module_outline m) ≡ endings_in 
 unfolding module_outline
 module_ends m =
     gathered-construct endings_in gathers constructs.Module _
-    ∙ past _ _ (closed-there NoEnd no_end (λ l. word kinds.Import ++ (listed kinds.Comma import_outline l ++ word kinds.Semicolon)) m.imports
-    (λ l. closed-both NoEnd no_end (no_end.a_word kinds.Import) (closed-both NoEnd no_end (closed-listed NoEnd no_end kinds.Comma import_outline l import_none) (no_end.a_word kinds.Semicolon))))
+    ∙ past _ _ (closed-there NoEnd no_end (λ l. word kinds.Import ++ (separated kinds.Comma import_outline l ++ word kinds.Semicolon)) m.imports
+    (λ l. closed-both NoEnd no_end (no_end.a_word kinds.Import) (closed-both NoEnd no_end (closed-separated NoEnd no_end kinds.Comma import_outline l import_none) (no_end.a_word kinds.Semicolon))))
     ∙ endings-append (declarations_outline m.declarations) _
     ∙ ap (λ (es : List (ℕ × ℕ)). endings_in (declarations_outline m.declarations) ++ es)
     (past _ _ (closed-there NoEnd no_end (λ b. word kinds.Begin ++ block_outline b) m.body (λ b. closed-both NoEnd no_end (no_end.a_word kinds.Begin) (closed-block NoEnd no_end b))))

@@ -12,7 +12,7 @@ use Rattle.ob_tree.specs.declared.token.Leaf.TheVariants as leafs
 use Rattle.ob_tree.specs.declared.item.Item.{Item}
 use Rattle.ob_tree.specs.Declaring.{module_outline}
 use Rattle.ob_tree.specs.Items.{items_of, number_at, used_by}
-use Rattle.ob_tree.specs.Leaves.{leaf_of, leaves}
+use Rattle.ob_tree.specs.Leaves.{leaf_of, leaves_from}
 use Rattle.ob_tree.specs.declared.role.Role.TheVariants.{Declares, Aliases, Imports, Uses, Completes, Selects, Names, Repeats}
 use Rattle.ob_tree.specs.Marks.{Out, Begins, Ends, Identifier, Value, Word, tokens_of}
 use Rattle.ob_tree.specs.Derives.{Derives, numbers_from, used_in, yields}
@@ -44,7 +44,7 @@ leaf_number at kinds.Real = refl
 leaf_number at kinds.Text = refl
 leaf_number at k = refl
 
-leaf_numbers : (at : ℕ) (ks : List Kind) → leaves_at at (leaves at ks) ≡ range_with_len at (length ks)
+leaf_numbers : (at : ℕ) (ks : List Kind) → leaves_at at (leaves_from at ks) ≡ range_with_len at (length ks)
 leaf_numbers at [] = refl
 leaf_numbers at (k ∷ ks) = rw (leaf_number at k) (ap (λ (ns : List ℕ). at ∷ ns) (leaf_numbers (at + 1) ks))
 

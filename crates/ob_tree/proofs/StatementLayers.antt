@@ -22,7 +22,7 @@ use Rattle.ob_tree.specs.declared.statement.StatementSequence.{StatementSequence
 use Rattle.ob_tree.specs.declared.statement.Branch.{Branch, Branch-F, fold_out-Branch, roll-Branch, out-Branch, out-roll-Branch}
 use Rattle.ob_tree.specs.declared.statement.For.{For, For-F, fold_out-For, roll-For, out-For, out-roll-For}
 use Rattle.ob_tree.specs.Constructs as constructs
-use Rattle.ob_tree.specs.Marks.{Out, Value, construct, word, used, if_there, each_after, listed}
+use Rattle.ob_tree.specs.Marks.{Out, Value, construct, word, used, if_there, each_after, separated}
 use Rattle.ob_tree.specs.Names.{qualident_outline}
 use Rattle.ob_tree.specs.Expressions.{expr_outline, designator_outline}
 use Rattle.ob_tree.specs.Statements.{Waits, label_outline, label_range_outline, case_step, stmt_step, block_step, branch_step, for_step, case_outline, stmt_outline, block_outline, branch_outline, for_outline}
@@ -55,7 +55,7 @@ label_range_out r = refl
 
 abbrev pub case_shown : Case-F Case Stmt Branch For StatementSequence → Out
 case_shown layers.Nothing = []
-case_shown (layers.Labelled ranges body) = listed kinds.Comma label_range_outline ranges ++ (word kinds.Colon ++ block_outline body.value)
+case_shown (layers.Labelled ranges body) = separated kinds.Comma label_range_outline ranges ++ (word kinds.Colon ++ block_outline body.value)
 
 abbrev pub if_shown : Box Branch Global → Out → Out → Out
 if_shown first rest otherwise = word kinds.If ++ (branch_outline first.value kinds.Then ++ (rest ++ (otherwise ++ word kinds.End)))
@@ -150,7 +150,7 @@ pub nothing_made : case_outline cases.Nothing ≡ construct constructs.Case []
 nothing_made = cased _ _ cases.outs-Nothing
 
 pub labelled_made : (l : OneOrMore LabelRange) (b : Box StatementSequence Global) → case_outline (cases.Labelled l b)
-    ≡ construct constructs.Case (listed kinds.Comma label_range_outline l ++ (word kinds.Colon ++ block_outline b.value))
+    ≡ construct constructs.Case (separated kinds.Comma label_range_outline l ++ (word kinds.Colon ++ block_outline b.value))
 labelled_made l b = cased _ _ (cases.outs-Labelled l b)
 
 stated : (s : Stmt) (x : Stmt-F Case Stmt Branch For StatementSequence) → out-Stmt s ≡ x → stmt_outline s ≡ stmt_shown x

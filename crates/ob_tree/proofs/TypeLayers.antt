@@ -18,7 +18,7 @@ use Rattle.ob_tree.specs.declared.declaration.Fields.{Fields, Fields-F, fold_out
 use Rattle.ob_tree.specs.declared.declaration.Record.{Record, Record-F, fold_out-Record, roll-Record, out-Record, out-roll-Record}
 use Rattle.ob_tree.specs.declared.declaration.VarDecl.{VarDecl, VarDecl-F, fold_out-VarDecl, roll-VarDecl, out-VarDecl, out-roll-VarDecl}
 use Rattle.ob_tree.specs.Constructs as constructs
-use Rattle.ob_tree.specs.Marks.{Out, construct, word, declared, if_there, if_so, each_after, listed, times}
+use Rattle.ob_tree.specs.Marks.{Out, construct, word, declared, if_there, if_so, each_after, separated, times}
 use Rattle.ob_tree.specs.Names.{qualident_outline, identdef_outline}
 use Rattle.ob_tree.specs.Expressions.{expr_list_outline}
 use Rattle.ob_tree.specs.Types.{section_outline, parameters_outline, type_step, fields_step, record_step, var_step, type_outline, fields_outline, record_outline, var_outline}
@@ -32,12 +32,12 @@ fields_there f (Some x) = refl
 -- ---- parameters
 
 pub section_out : (s : ParameterSection) → section_outline s
-    ≡ construct constructs.FPSection (if_so s.variable (word kinds.Var) ++ (listed kinds.Comma (declared false) s.names ++ (word kinds.Colon ++ (times s.open_arrays (word kinds.Array ++ word kinds.Of) ++ qualident_outline s.of))))
+    ≡ construct constructs.FPSection (if_so s.variable (word kinds.Var) ++ (separated kinds.Comma (declared false) s.names ++ (word kinds.Colon ++ (times s.open_arrays (word kinds.Array ++ word kinds.Of) ++ qualident_outline s.of))))
 unfolding section_outline
 section_out s = refl
 
 pub parameters_out : (p : Parameters) → parameters_outline p
-    ≡ word kinds.LeftParen ++ (if_there (listed kinds.Semicolon section_outline) p.sections ++ (word kinds.RightParen ++ if_there (λ q. word kinds.Colon ++ qualident_outline q) p.result))
+    ≡ word kinds.LeftParen ++ (if_there (separated kinds.Semicolon section_outline) p.sections ++ (word kinds.RightParen ++ if_there (λ q. word kinds.Colon ++ qualident_outline q) p.result))
 unfolding parameters_outline
 parameters_out p = refl
 
@@ -57,7 +57,7 @@ abbrev pub record_shown : Record-F TypeForm Fields Record VarDecl → Out
 record_shown r = word kinds.Record ++ (if_there (λ q. word kinds.LeftParen ++ (qualident_outline q ++ word kinds.RightParen)) r.base ++ (if_there (λ f. fields_outline f.value) r.fields ++ word kinds.End))
 
 abbrev pub var_shown : VarDecl-F TypeForm Fields Record VarDecl → Out
-var_shown v = listed kinds.Comma identdef_outline v.names ++ (word kinds.Colon ++ type_outline v.form)
+var_shown v = separated kinds.Comma identdef_outline v.names ++ (word kinds.Colon ++ type_outline v.form)
 
 type_seen : (x : TypeForm-F TypeForm Fields Record VarDecl) → type_step (map-TypeForm TypeForm Fields Record VarDecl Out Out Out Out type_outline fields_outline record_outline var_outline x)
     ≡ type_shown x
@@ -107,7 +107,7 @@ pub record_made : (o : Option Qualident) (f : Option (Box Fields Global)) → re
 record_made o f = record_rolled _
 
 pub var_made : (l : OneOrMore Identdef) (t : TypeForm) → var_outline (roll-VarDecl (record { names = l; form = t }))
-    ≡ listed kinds.Comma identdef_outline l ++ (word kinds.Colon ++ type_outline t)
+    ≡ separated kinds.Comma identdef_outline l ++ (word kinds.Colon ++ type_outline t)
 var_made l t = var_rolled _
 
 formed : (t : TypeForm) (x : TypeForm-F TypeForm Fields Record VarDecl) → out-TypeForm t ≡ x → type_outline t

@@ -15,7 +15,7 @@ use Rattle.ob_tree.specs.declared.declaration.Fields.{Fields, out-Fields}
 use Rattle.ob_tree.specs.declared.declaration.Record.{Record, out-Record}
 use Rattle.ob_tree.specs.declared.declaration.VarDecl.{VarDecl, out-VarDecl}
 use Rattle.ob_tree.specs.Constructs as constructs
-use Rattle.ob_tree.specs.Marks.{Out, construct, word, declared, if_there, if_so, each_after, listed, times}
+use Rattle.ob_tree.specs.Marks.{Out, construct, word, declared, if_there, if_so, each_after, separated, times}
 use Rattle.ob_tree.specs.Items.{items_of}
 use Rattle.ob_tree.specs.Names.{qualident_outline, identdef_outline}
 use Rattle.ob_tree.specs.Expressions.{expr_list_outline}
@@ -29,7 +29,7 @@ pub section_items : (s : ParameterSection) → items_of (section_outline s) ≡
 section_items s = simp (section_out s, items-construct, items-append, append_assoc)
 
 pub parameters_items : (p : Parameters) → items_of (parameters_outline p) ≡
-    items.Word ∷ (items_of (if_there (listed kinds.Semicolon section_outline) p.sections) ++ (items.Word ∷ items_of (if_there (λ q. word kinds.Colon ++ qualident_outline q) p.result)))
+    items.Word ∷ (items_of (if_there (separated kinds.Semicolon section_outline) p.sections) ++ (items.Word ∷ items_of (if_there (λ q. word kinds.Colon ++ qualident_outline q) p.result)))
 parameters_items p = simp (parameters_out p, items-append)
 
 pub fields_items : (f : Fields) → items_of (fields_outline f) ≡

@@ -5,7 +5,7 @@ use Rattle.ob_tree.specs.declared.declaration.Module.{Module}
 use Rattle.ob_tree.specs.declared.role.Role.TheVariants.{Declares, Aliases, Imports, Uses, Completes, Selects, Names, Repeats}
 use Rattle.ob_tree.specs.declared.token.Leaf.{Leaf}
 use Rattle.ob_tree.specs.Declaring.{module_outline}
-use Rattle.ob_tree.specs.Leaves.{leaves}
+use Rattle.ob_tree.specs.Leaves.{leaves_from}
 use Rattle.ob_tree.specs.Marks.{Out, Begins, Ends, Identifier, Value, Word, tokens_of, height}
 
 -- the tokens of a module's tree, in order
@@ -14,7 +14,7 @@ spelling m = tokens_of (module_outline m)
 
 -- the tree derives tokens of these kinds: it spells them, and each identifier and literal is its token's number
 abbrev pub Derives : List Kind → Module → Type 0
-Derives kinds m = leaves 0 kinds ≡ spelling m
+Derives kinds m = leaves_from 0 kinds ≡ spelling m
 
 -- how many procedure declarations, types, statements that are not empty, expressions and factors after ~ hold one another
 abbrev pub depth : Module → ℕ

@@ -24,9 +24,9 @@ literal_kind literals.Real = kinds.Real
 literal_kind literals.Text = kinds.Text
 
 -- the tokens of these kinds, numbered from n on
-abbrev pub leaves : ℕ → List Kind → List Leaf
-leaves n [] = []
-leaves n (k ∷ ks) = leaf_of n k ∷ leaves (n + 1) ks
+abbrev pub leaves_from : ℕ → List Kind → List Leaf
+leaves_from n [] = []
+leaves_from n (k ∷ ks) = leaf_of n k ∷ leaves_from (n + 1) ks
 
 -- whether two kinds are one
 abbrev pub same_kind : Kind → Kind → Bool

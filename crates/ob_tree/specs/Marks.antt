@@ -89,8 +89,8 @@ abbrev pub each_after : {X : Type 0} → Kind → (X → Out) → List X → Out
 each_after k f = each (λ x. word k ++ f x)
 
 -- one or more with a token between each two
-abbrev pub listed : {X : Type 0} → Kind → (X → Out) → OneOrMore X → Out
-listed k f l = f l.first ++ each_after k f l.rest.items
+abbrev pub separated : {X : Type 0} → Kind → (X → Out) → OneOrMore X → Out
+separated k f l = f l.first ++ each_after k f l.rest.items
 
 -- so many times the same
 abbrev pub times : ℕ → Out → Out

@@ -13,7 +13,7 @@ use Rattle.ob_tree.specs.declared.statement.StatementSequence.{StatementSequence
 use Rattle.ob_tree.specs.declared.statement.Branch.{Branch, Branch-F, fold-Branch}
 use Rattle.ob_tree.specs.declared.statement.For.{For, For-F, fold-For}
 use Rattle.ob_tree.specs.Constructs as constructs
-use Rattle.ob_tree.specs.Marks.{Out, Value, construct, word, used, if_there, each_after, listed}
+use Rattle.ob_tree.specs.Marks.{Out, Value, construct, word, used, if_there, each_after, separated}
 use Rattle.ob_tree.specs.Names.{qualident_outline}
 use Rattle.ob_tree.specs.Expressions.{expr_outline, designator_outline}
 
@@ -35,7 +35,7 @@ Waits = Kind → Out
 -- case = [LabelRange {"," LabelRange} ":" StatementSequence]
 abbrev pub case_parts : Case-F Out Out Waits Out Out → Out
 case_parts layers.Nothing = []
-case_parts (layers.Labelled ranges body) = listed kinds.Comma label_range_outline ranges ++ (word kinds.Colon ++ body.value)
+case_parts (layers.Labelled ranges body) = separated kinds.Comma label_range_outline ranges ++ (word kinds.Colon ++ body.value)
 
 abbrev pub case_step : Case-F Out Out Waits Out Out → Out
 case_step c = construct constructs.Case (case_parts c)

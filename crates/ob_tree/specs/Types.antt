@@ -9,20 +9,20 @@ use Rattle.ob_tree.specs.declared.declaration.Fields.{Fields, Fields-F, fold-Fie
 use Rattle.ob_tree.specs.declared.declaration.Record.{Record, Record-F, fold-Record}
 use Rattle.ob_tree.specs.declared.declaration.VarDecl.{VarDecl, VarDecl-F, fold-VarDecl}
 use Rattle.ob_tree.specs.Constructs as constructs
-use Rattle.ob_tree.specs.Marks.{Out, construct, word, declared, if_there, if_so, each_after, listed, times}
+use Rattle.ob_tree.specs.Marks.{Out, construct, word, declared, if_there, if_so, each_after, separated, times}
 use Rattle.ob_tree.specs.Names.{qualident_outline, identdef_outline}
 use Rattle.ob_tree.specs.Expressions.{expr_list_outline}
 
 -- FPSection = [VAR] ident {"," ident} ":" {ARRAY OF} qualident
 unfoldable pub section_outline : ParameterSection → Out
 section_outline s = construct constructs.FPSection (
-    if_so s.variable (word kinds.Var) ++ (listed kinds.Comma (declared false) s.names ++ (word kinds.Colon ++
+    if_so s.variable (word kinds.Var) ++ (separated kinds.Comma (declared false) s.names ++ (word kinds.Colon ++
     (times s.open_arrays (word kinds.Array ++ word kinds.Of) ++ qualident_outline s.of))))
 
 -- FormalParameters = "(" [FPSection {";" FPSection}] ")" [":" qualident]
 unfoldable pub parameters_outline : Parameters → Out
 parameters_outline p =
-    word kinds.LeftParen ++ (if_there (listed kinds.Semicolon section_outline) p.sections ++
+    word kinds.LeftParen ++ (if_there (separated kinds.Semicolon section_outline) p.sections ++
     (word kinds.RightParen ++ if_there (λ q. word kinds.Colon ++ qualident_outline q) p.result))
 
 -- Each step below is one layer of a tree, with the outline of each part in its place.
@@ -52,7 +52,7 @@ record_step r =
 
 -- FieldList = IdentList ":" type; VariableDeclaration = IdentList ":" type
 abbrev pub var_step : VarDecl-F Out Out Out Out → Out
-var_step v = listed kinds.Comma identdef_outline v.names ++ (word kinds.Colon ++ v.form)
+var_step v = separated kinds.Comma identdef_outline v.names ++ (word kinds.Colon ++ v.form)
 
 unfoldable pub type_outline : TypeForm → Out
 type_outline = fold-TypeForm Out Out Out Out type_step fields_step record_step var_step

@@ -19,24 +19,24 @@ use Rattle.ob_types.specs.declared.nodes.Node.TheVariants as nodes
 use Rattle.ob_types.specs.declared.nodes.Record.{Record}
 use Rattle.ob_types.specs.declared.nodes.Record.TheVariants as records
 use Rattle.ob_types.specs.Depths.{parts_of, parts_there, depth, all_parts, height}
-use Rattle.ob_types.specs.Shapes.{TypeShape, known, is_type, type_by, type_there, exported_type, type_as, own_type, home_meant, named_here, seen_by, seen_type, may_mean, named_there, part_here, part_there, based_there, shape, base_name, base_of}
+use Rattle.ob_types.specs.Shapes.{TypeShape, known, is_type, type_by, type_there, exported_type, type_as, own_type, home_meant, named_here, seen_by, seen_type, may_mean, named_there, own_shape, part_there, based_there, shape, base_name, base_of}
 use Rattle.ob_types.specs.World.{World, text, meaning, sort_of, form_at, record_at, home, exported, declaration_there, declared_there, named_by_alias, base_there, part_there as part_row_there}
 
 -- ---- names stand for names
 
-abbrev IsName : TypeShape → Type 0
-IsName (shapes.Array n) = ⊥
-IsName (shapes.Pointer n) = ⊥
-IsName (shapes.Record r) = ⊥
-IsName shapes.Procedure = ⊥
-IsName (shapes.Named d n) = Unit {0}
-IsName shapes.Unknown = Unit {0}
+abbrev IsNameShape : TypeShape → Type 0
+IsNameShape (shapes.Array n) = ⊥
+IsNameShape (shapes.Pointer n) = ⊥
+IsNameShape (shapes.Record r) = ⊥
+IsNameShape shapes.Procedure = ⊥
+IsNameShape (shapes.Named d n) = Unit {0}
+IsNameShape shapes.Unknown = Unit {0}
 
 abbrev IsNameIf : Option TypeShape → Type 0
 IsNameIf None = Unit {0}
-IsNameIf (Some s) = IsName s
+IsNameIf (Some s) = IsNameShape s
 
-known_name : (o : Option TypeShape) → IsNameIf o → IsName (known o)
+known_name : (o : Option TypeShape) → IsNameIf o → IsNameShape (known o)
 known_name None h = tt
 known_name (Some s) h = h
 
@@ -48,7 +48,7 @@ if_name : (b : Bool) (o : Option TypeShape) → IsNameIf o → IsNameIf (if b th
 if_name true o h = h
 if_name false o h = tt
 
-map_name : (f : ℕ → TypeShape) (o : Option ℕ) → ((p : ℕ) → IsName (f p)) → IsNameIf (option_map f o)
+map_name : (f : ℕ → TypeShape) (o : Option ℕ) → ((p : ℕ) → IsNameShape (f p)) → IsNameIf (option_map f o)
 map_name f None h = tt
 map_name f (Some p) h = h p
 
@@ -70,7 +70,7 @@ own_name : (w : World) (k : ℕ) → IsNameIf (own_type w k)
 unfolding own_type
 own_name w k = then_name (type_as w k) (sort_of w k) (as_name w k)
 
-here_name : (w : World) (head : ℕ) (member : Option ℕ) → IsName (named_here w head member)
+here_name : (w : World) (head : ℕ) (member : Option ℕ) → IsNameShape (named_here w head member)
 unfolding named_here
 here_name w head None = known_name _ (then_name (own_type w) (meaning w head) (own_name w))
 here_name w head (Some m) = known_name _ (then_name (exported_type w (text w m)) (home_meant w head) (exported_name w (text w m)))
@@ -82,20 +82,20 @@ seen_name : (w : World) (i start : ℕ) (is_target : Bool) (d : ℕ) → IsNameI
 unfolding seen_type
 seen_name w i start is_target d = then_name (seen_by i d start is_target) (declaration_there w i d) (seen_by_name i d start is_target)
 
-that_name : (w : World) (i start : ℕ) (is_target : Bool) (n : TypeName) → IsName (named_there w i start is_target n)
+that_name : (w : World) (i start : ℕ) (is_target : Bool) (n : TypeName) → IsNameShape (named_there w i start is_target n)
 unfolding named_there
 that_name w i start is_target (Alone name) = known_name _ (then_name (seen_type w i start is_target) (declared_there w i name) (seen_name w i start is_target))
 that_name w i start is_target (Qualified alias name) = known_name _ (then_name (exported_type w name) (option_and_then (home w) (named_by_alias w i alias)) (exported_name w name))
 
 -- a name is no other type
-not_name : (s t : TypeShape) → IsName s → s ≡ t → (IsName t → ⊥) → ⊥
-not_name s t h e none = none (subst (λ (x : TypeShape). IsName x) e h)
+not_name : (s t : TypeShape) → IsNameShape s → s ≡ t → (IsNameShape t → ⊥) → ⊥
+not_name s t h e none = none (subst (λ (x : TypeShape). IsNameShape x) e h)
 
 -- ---- what stands at a place
 
 -- what isn't a name stands at a place, with this type
-here_at : (w : World) (k : ℕ) (o : Option FormPart) (s : TypeShape) → slice_get w.rows.parts k ≡ o → known (option_map (part_here w k) o) ≡ s → (IsName s → ⊥) → k < length w.rows.parts
-here_at w k None s e h none = absurd (none (subst (λ (x : TypeShape). IsName x) h tt))
+here_at : (w : World) (k : ℕ) (o : Option FormPart) (s : TypeShape) → slice_get w.rows.parts k ≡ o → known (option_map (own_shape w k) o) ≡ s → (IsNameShape s → ⊥) → k < length w.rows.parts
+here_at w k None s e h none = absurd (none (subst (λ (x : TypeShape). IsNameShape x) h tt))
 here_at w k (Some p) s e h none = slice_get_within w.rows.parts k p e
 
 part_by : (d j : ℕ) (o : Option ModuleInterface) → option_and_then (λ (m : ModuleInterface). form_part m d j) o ≡ option_and_then (λ (it : Declaration). slice_get it.form j) (option_and_then (λ (m : ModuleInterface). declaration_at m d) o)
@@ -110,16 +110,16 @@ row_at : (w : World) (i d j : ℕ) (p : Part) → part_row_there w i d j ≡ Som
 unfolding part_row_there declaration_there parts_there
 row_at w i d j p e = within_form j p (option_and_then (λ (m : ModuleInterface). declaration_at m d) (slice_get w.reached i)) (sym (part_by d j (slice_get w.reached i)) ∙ e)
 
-there_at : (w : World) (i d j : ℕ) (o : Option Part) (s : TypeShape) → part_row_there w i d j ≡ o → known (option_map (part_there w i d j) o) ≡ s → (IsName s → ⊥) → j < parts_there w i d
-there_at w i d j None s e h none = absurd (none (subst (λ (x : TypeShape). IsName x) h tt))
+there_at : (w : World) (i d j : ℕ) (o : Option Part) (s : TypeShape) → part_row_there w i d j ≡ o → known (option_map (part_there w i d j) o) ≡ s → (IsNameShape s → ⊥) → j < parts_there w i d
+there_at w i d j None s e h none = absurd (none (subst (λ (x : TypeShape). IsNameShape x) h tt))
 there_at w i d j (Some p) s e h none = row_at w i d j p e
 
-based_name : (w : World) (i : ℕ) (o : Option Base) → IsName (known (option_map (based_there w i) o))
+based_name : (w : World) (i : ℕ) (o : Option Base) → IsNameShape (known (option_map (based_there w i) o))
 based_name w i None = tt
 based_name w i (Some b) = that_name w i b.start false b.name
 
 -- what isn't a name is deep
-rooted : (w : World) (n : Node) (s : TypeShape) → shape w n ≡ s → (IsName s → ⊥) → 0 < depth w n
+rooted : (w : World) (n : Node) (s : TypeShape) → shape w n ≡ s → (IsNameShape s → ⊥) → 0 < depth w n
 unfolding shape depth
 rooted w (nodes.Own k) s e none = let l : k < length w.rows.parts = here_at w k (slice_get w.rows.parts k) s refl e none in omega arith
 rooted w (nodes.Name head member) s e none = absurd (not_name _ s (here_name w head member) e none)
@@ -128,7 +128,7 @@ rooted w (nodes.OtherBase i r) s e none = absurd (not_name _ s (based_name w i (
 
 -- ---- pointers
 
-here_pointer : (w : World) (k b x : ℕ) (q : PartRow) (m : Node) → part_here w k (record { declared_by = b; number = x; part = q }) ≡ shapes.Pointer m → m ≡ nodes.Own (suc k)
+here_pointer : (w : World) (k b x : ℕ) (q : PartRow) (m : Node) → own_shape w k (record { declared_by = b; number = x; part = q }) ≡ shapes.Pointer m → m ≡ nodes.Own (suc k)
 here_pointer w k b x parts.Array m e = cc
 here_pointer w k b x parts.Pointer m e = cc
 here_pointer w k b x parts.Record m e = cc
@@ -142,7 +142,7 @@ there_pointer w i d j (RecordPart k) m e = cc
 there_pointer w i d j Procedure m e = cc
 there_pointer w i d j (NamedPart start name) m e = absurd (not_name _ (shapes.Pointer m) (that_name w i start _ name) e (λ h. h))
 
-behind_here : (w : World) (k : ℕ) (o : Option FormPart) (m : Node) → known (option_map (part_here w k) o) ≡ shapes.Pointer m → m ≡ nodes.Own (suc k)
+behind_here : (w : World) (k : ℕ) (o : Option FormPart) (m : Node) → known (option_map (own_shape w k) o) ≡ shapes.Pointer m → m ≡ nodes.Own (suc k)
 behind_here w k None m e = cc
 behind_here w k (Some p) m e = here_pointer w k p.declared_by p.number p.part m e
 

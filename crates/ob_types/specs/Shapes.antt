@@ -85,8 +85,8 @@ named_there w i start is_target (Qualified alias name) = known (option_and_then 
 -- ---- forms
 
 -- a part of the module's own, at its place
-abbrev pub part_here : World → ℕ → FormPart → TypeShape
-part_here w k p = of p.part
+abbrev pub own_shape : World → ℕ → FormPart → TypeShape
+own_shape w k p = of p.part
   where
     of : PartRow → TypeShape
     of parts.Array = shapes.Array (nodes.Own (suc k))
@@ -122,7 +122,7 @@ abbrev pub based_there : World → ℕ → Base → TypeShape
 based_there w i b = named_there w i b.start false b.name
 
 unfoldable pub shape : World → Node → TypeShape
-shape w (nodes.Own k) = known (option_map (part_here w k) (slice_get w.rows.parts k))
+shape w (nodes.Own k) = known (option_map (own_shape w k) (slice_get w.rows.parts k))
 shape w (nodes.Name head member) = named_here w head member
 shape w (nodes.Other i d j) = known (option_map (part_there w i d j) (part_row_there w i d j))
 shape w (nodes.OtherBase i r) = known (option_map (based_there w i) (base_there w i r))

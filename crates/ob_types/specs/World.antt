@@ -73,12 +73,12 @@ unfoldable pub item_of : World → ℕ → Option ℕ
 item_of w k = position (λ (i : Import). i.alias == k) w.rows.imports
 
 -- whether this is a field of the record of this RECORD
-abbrev pub is_in : World → ℕ → Declared → Bool
-is_in w r d = option_eq nat_eq (option_and_then (λ (c : Declarer). c.of_record) (declarer_from w d.declared_by)) (Some r)
+abbrev pub is_of_record : World → ℕ → Declared → Bool
+is_of_record w r d = option_eq nat_eq (option_and_then (λ (c : Declarer). c.of_record) (declarer_from w d.declared_by)) (Some r)
 
 -- the field of this name in the record of this RECORD
 unfoldable pub field_at : World → ℕ → List ℕ → Option ℕ
-field_at w r name = option_map (λ (d : Declared). d.number) (find (λ (d : Declared). is_in w r d && bytes_eq (text w d.number) name) w.rows.declared)
+field_at w r name = option_map (λ (d : Declared). d.number) (find (λ (d : Declared). is_of_record w r d && bytes_eq (text w d.number) name) w.rows.declared)
 
 -- the record of this RECORD
 unfoldable pub record_at : World → ℕ → Option RecordRow

@@ -6,7 +6,7 @@ ghost use Rattle.indexmap.specs.IndexMap.{get};
 ghost use Rattle.ob_decls.specs.declared.rows.Declarer.{Declarer as Construct};
 ghost use Rattle.ob_scan.specs.Spelling.{AreInText};
 ghost use Rattle.ob_types.specs.Parted.{home_by, same_field, world_of, AreFields, FieldKey};
-ghost use Rattle.ob_types.specs.World.{declarer_from, is_in, text};
+ghost use Rattle.ob_types.specs.World.{declarer_from, is_of_record, text};
 
 use crate::homes::Homes;
 use crate::parts::Parts;
@@ -44,7 +44,7 @@ fn add_field<'a>(
     row: Declared,
 ) -> Result<(), AllocError>
     requires { AreInText parts.now.bytes.now parts.now.tokens.now }
-    ensures { OnOk result ((key : FieldKey) → get same_field fields.new key ≡ (if is_in (world_of parts.now) key.0 row && bytes_eq (text (world_of parts.now) row.number) key.1.now then Some row.number else get same_field fields.old key)) }
+    ensures { OnOk result ((key : FieldKey) → get same_field fields.new key ≡ (if is_of_record (world_of parts.now) key.0 row && bytes_eq (text (world_of parts.now) row.number) key.1.now then Some row.number else get same_field fields.old key)) }
 {
     match record_of(parts, row.declared_by) {
         None => Ok(()),

@@ -5,7 +5,7 @@ ghost use Rattle.std.specs.Prelude.{◌≡◌, ◌+◌, ◌<◌, ◌^◌};
 ghost use Rattle.std.specs.Option.{option_and_then, option_map};
 ghost use Rattle.ob_interface.specs.Answered.{name_told, part_told};
 ghost use Rattle.ob_types.specs.Parted.{world_of};
-ghost use Rattle.ob_types.specs.Shapes.{base_of, behind_pointer, exported_type, field_of, is_pointer, named_there, part_here, part_there, seen_type, shape, type_of_field};
+ghost use Rattle.ob_types.specs.Shapes.{base_of, behind_pointer, exported_type, field_of, is_pointer, named_there, own_shape, part_there, seen_type, shape, type_of_field};
 ghost use Rattle.ob_types.specs.World.{declared_there, home, named_by_alias};
 ghost use Rattle.ob_types.specs.declared.nodes.Node.TheVariants as nodes;
 
@@ -89,9 +89,9 @@ impl<'a> Indexed<'a> {
     }
 
     /// A part of the module's own, at its place.
-    fn part_here(&self, place: u32, row: FormPart) -> Shape<Node, Named, Record>
+    fn own_shape(&self, place: u32, row: FormPart) -> Shape<Node, Named, Record>
         requires { place + 1 < 2 ^ 32 }
-        ensures { result ≡ part_here (world_of self.now.parts) place row }
+        ensures { result ≡ own_shape (world_of self.now.parts) place row }
     {
         match row.part {
             PartRow::Array => Shape::Array(Node::Own(place + 1)),
@@ -147,7 +147,7 @@ impl<'a> Indexed<'a> {
     {
         match self.parts.part(place) {
             None => Shape::Unknown,
-            Some(row) => self.part_here(place, row),
+            Some(row) => self.own_shape(place, row),
         }
     }
 

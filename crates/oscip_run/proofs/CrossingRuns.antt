@@ -6,7 +6,7 @@ use Rattle.byte_sink.specs.declared.sink.SinkFault.TheVariants as sink
 use Rattle.byte_sink.specs.Sinks.{AppendsFront}
 use Rattle.cut_solve.specs.declared.fault.SolveFault.TheVariants as solve
 use Rattle.oscip_query.specs.Lines.{place_lines}
-use Rattle.oscip_run.specs.CrossingRuns.{place_at, IsCrossingsRun, IsFirstUnknown, IsNoName, IsUsesText}
+use Rattle.oscip_run.specs.CrossingRuns.{place_in_file, IsCrossingsRun, IsFirstUnknown, IsNoName, IsUsesText}
 use Rattle.oscip_run.specs.Faults.{is_device, of_sink}
 use Rattle.oscip_run.specs.declared.fault.RunFault.{RunFault}
 use Rattle.oscip_run.specs.declared.fault.RunFault.TheVariants.{CannotRead, CannotWrite, Tree, Net, Price, Report, Solve, Query, Device, Memory}
@@ -14,7 +14,7 @@ use Rattle.oscip_tree.specs.Crossings.{AreUses}
 use Rattle.oscip_tree.specs.declared.crossing.Span.{Span}
 use Rattle.oscip_tree.specs.declared.source.Source.{Source}
 
-pub uses_text : (sources : List Source) (m n path : List ℕ) (spans : List Span) → AreUses sources m n path spans → IsUsesText sources m n (place_lines (map (place_at path) spans))
+pub uses_text : (sources : List Source) (m n path : List ℕ) (spans : List Span) → AreUses sources m n path spans → IsUsesText sources m n (place_lines (map (place_in_file path) spans))
 uses_text sources m n path spans uses = record { path = path; spans = spans; uses = uses; lines = refl }
 
 -- a sink that failed

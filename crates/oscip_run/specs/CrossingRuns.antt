@@ -17,8 +17,8 @@ use Rattle.oscip_tree.specs.declared.crossing.Span.{Span}
 use Rattle.oscip_tree.specs.declared.source.Source.{Source}
 
 -- a place in the file of this path
-abbrev pub place_at : List ℕ → Span → PlainPlace
-place_at path span = record {
+abbrev pub place_in_file : List ℕ → Span → PlainPlace
+place_in_file path span = record {
   path = path;
   span = record { start = record { line = span.start.line; column = span.start.column }; end = record { line = span.end.line; column = span.end.column } };
 }
@@ -28,7 +28,7 @@ pub record IsUsesText (sources : List Source) (m n text : List ℕ) : Type 0 whe
   pub path : List ℕ
   pub spans : List Span
   pub uses : AreUses sources m n path spans
-  pub lines : text ≡ place_lines (map (place_at path) spans)
+  pub lines : text ≡ place_lines (map (place_in_file path) spans)
 
 -- the sink has the whole text
 abbrev pub PutsUses : List Source → List ℕ → List ℕ → Option (List ℕ) → Option (List ℕ) → Type 0

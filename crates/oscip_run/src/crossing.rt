@@ -3,7 +3,7 @@ ghost use Rattle.std.specs.Prelude.{◌≡◌, ℕ, IfOk, List, map, true};
 ghost use Rattle.byte_sink.specs.Sinks.{failures_by};
 ghost use Rattle.index_store.specs.Queries.{plain_place};
 ghost use Rattle.oscip_job.specs.Jobs.{is_crossings_job};
-ghost use Rattle.oscip_run.specs.CrossingRuns.{place_at, IsCrossingsJob, IsCrossingsRun, IsNoName};
+ghost use Rattle.oscip_run.specs.CrossingRuns.{place_in_file, IsCrossingsJob, IsCrossingsRun, IsNoName};
 ghost use Rattle.oscip_run.specs.Faults.{is_device};
 ghost use Rattle.oscip_tree.specs.Crossings.{AreUses};
 ghost use Rattle.oscip_tree.specs.Sources.{ArePathsInOrder};
@@ -21,8 +21,8 @@ use std::alloc::{AllocError, Global};
 use std::thread::Threads;
 
 /// A place in the file of this path.
-fn place_at<'a>(path: &'a str, span: &Span) -> Place<'a>
-    ensures { plain_place result ≡ place_at path.now span.now }
+fn place_in_file<'a>(path: &'a str, span: &Span) -> Place<'a>
+    ensures { plain_place result ≡ place_in_file path.now span.now }
 {
     Place {
         path,
@@ -39,11 +39,11 @@ fn place_at<'a>(path: &'a str, span: &Span) -> Place<'a>
 
 /// The places in the file of this path, in their order.
 fn places_at<'a>(alloc: Global, path: &'a str, spans: &[Span]) -> Result<Vec<Place<'a>>, AllocError>
-    ensures { IfOk result (λ places. map plain_place places.items ≡ map (place_at path.now) spans.now) }
+    ensures { IfOk result (λ places. map plain_place places.items ≡ map (place_in_file path.now) spans.now) }
 {
     let mut places = Vec::new(alloc);
     for span in spans {
-        places.push(place_at(path, span))?;
+        places.push(place_in_file(path, span))?;
     }
     Ok(places)
 }

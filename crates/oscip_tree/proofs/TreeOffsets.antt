@@ -6,7 +6,7 @@ use Rattle.std.proofs.lemmas.List.{get_or_past}
 use Rattle.std.proofs.lemmas.List.Elements.{All-get_or}
 use Rattle.std.proofs.lemmas.Option.{get_or_from_slice_get}
 use Rattle.ob_scan.specs.Comments.{begins_comment}
-use Rattle.ob_scan.specs.Numbers.{begins}
+use Rattle.ob_scan.specs.Numbers.{first_passes}
 use Rattle.ob_scan.specs.Spelling.{AreInText, Spells}
 use Rattle.ob_scan.specs.declared.fault.ScanFault.{ScanFault}
 use Rattle.ob_scan.specs.declared.fault.ScanFault.TheVariants as scans
@@ -20,7 +20,7 @@ use Rattle.ob_scope.specs.declared.fault.ScopeFault.{ScopeFault}
 use Rattle.ob_scope.specs.declared.fault.ScopeFault.TheVariants as scopes
 use Rattle.oscip_tree.specs.Trees.{parse_offset, scan_offset, scope_offset, HasParseFault, HasScanFault, HasScopeFault}
 
-some_there : (p : ℕ → Bool) (bs : List ℕ) → begins p bs ≡ true → 0 < length bs
+some_there : (p : ℕ → Bool) (bs : List ℕ) → first_passes p bs ≡ true → 0 < length bs
 some_there p [] e = absurd (false≢true e)
 some_there p (b ∷ bs) e = omega arith
 
@@ -64,8 +64,8 @@ pub parse_in_text : StandIn → (bytes : List ℕ) (fault : ParseFault) → HasP
 parse_in_text law bytes (parses.Syntax at) (ts, reads, h) = place_in_text bytes ts at (law bytes ts reads.1) (syntax_place bytes ts at h)
 parse_in_text law bytes (parses.EndName at) (ts, reads, h) =
     let wrong = h.first.is_wrong in
-    start_in_text bytes ts _ at wrong.pair.end (law bytes ts reads.1) wrong.pair.end_there wrong.begins
-parse_in_text law bytes (parses.TooDeep at) (ts, reads, h) = start_in_text bytes ts h.0.number at h.0.token (law bytes ts reads.1) h.0.there h.0.begins
+    start_in_text bytes ts _ at wrong.pair.end (law bytes ts reads.1) wrong.pair.end_there wrong.first_passes
+parse_in_text law bytes (parses.TooDeep at) (ts, reads, h) = start_in_text bytes ts h.0.number at h.0.token (law bytes ts reads.1) h.0.there h.0.first_passes
 parse_in_text law bytes parses.Memory h = omega arith
 
 pub scope_in_text : StandIn → (bytes : List ℕ) (fault : ScopeFault) → HasScopeFault fault bytes → scope_offset fault ≤ length bytes

@@ -3,7 +3,7 @@ use Rattle.std.proofs.Common.{◌≡◌, ◌↔◌, ℕ, zero, suc, ◌+◌, ◌
 use Rattle.std.proofs.lemmas.List.{length-append, append-nil}
 use Rattle.proto_wire.specs.declared.fault.WireFault.{WireFault}
 use Rattle.proto_wire.specs.declared.record.WireRecord.{WireRecord}
-use Rattle.proto_wire.specs.Records.{Piece, IsRecord, AreRecords, IsWrong, IsFirst, IsStopped, Reaches, IsOutcome}
+use Rattle.proto_wire.specs.Records.{Piece, IsRecord, AreRecords, IsWrongRecord, IsFirst, IsStopped, Reaches, IsOutcome}
 use Rattle.proto_wire.specs.Readings.{record_in, followed, pieces_from, pieces_of}
 use Rattle.proto_wire.proofs.PieceLaws.{with_front, pieces_from-step, faulty, ended}
 use Rattle.proto_wire.proofs.RecordReadings.{record_found, record_bytes, wrong_found, record_read}
@@ -75,13 +75,13 @@ PiecesRead-cons at bytes first rest p pieces (Some fault) form r others =
       form = form ∙ ap (λ (bs : List ℕ). first ++ bs) others.form ∙ sym (append_assoc first others.good others.rest);
       are_records = (first, others.good, refl, r, others.are_records);
       some = others.some;
-      is_wrong = subst (λ (here : ℕ). IsWrong here others.rest fault) place others.is_wrong;
+      is_wrong = subst (λ (here : ℕ). IsWrongRecord here others.rest fault) place others.is_wrong;
     }
 
-start_wrong : (at b : ℕ) (bytes : List ℕ) (fault : WireFault) → IsWrong at (b ∷ bytes) fault → IsStopped at (b ∷ bytes) [] fault
+start_wrong : (at b : ℕ) (bytes : List ℕ) (fault : WireFault) → IsWrongRecord at (b ∷ bytes) fault → IsStopped at (b ∷ bytes) [] fault
 start_wrong at b bytes fault wrong =
     let place : at ≡ at + length {A = ℕ} [] = omega arith in
-    record { good = []; rest = b ∷ bytes; form = refl; are_records = refl; some = omega arith; is_wrong = subst (λ (here : ℕ). IsWrong here (b ∷ bytes) fault) place wrong }
+    record { good = []; rest = b ∷ bytes; form = refl; are_records = refl; some = omega arith; is_wrong = subst (λ (here : ℕ). IsWrongRecord here (b ∷ bytes) fault) place wrong }
 
 mutual_read : (most at b : ℕ) (bytes : List ℕ) (reading : Result (Piece × List ℕ) WireFault) → IsFirst at (b ∷ bytes) reading → length bytes ≤ most
     → ((place : ℕ) (rest : List ℕ) → length rest ≤ most → PiecesRead place rest (pieces_from most place rest).0 (pieces_from most place rest).1)

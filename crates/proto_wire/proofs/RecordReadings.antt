@@ -8,7 +8,7 @@ use Rattle.proto_wire.specs.declared.record.WireValue.{WireValue}
 use Rattle.proto_wire.specs.declared.record.WireValue.TheVariants.{Varint, Eight, Bytes, Four}
 use Rattle.proto_wire.specs.Faults.{◌>>=◌, Gives, Shows}
 use Rattle.proto_wire.specs.Varints.{IsVarint, IsNoVarint, varint_in}
-use Rattle.proto_wire.specs.Records.{Piece, IsField, IsKey, IsValue, IsRecord, HasKey, IsTruncated, in_key, in_varint, in_eight, in_length, in_payload, in_four, IsTooLong, as_key, as_varint, as_length, IsGroup, IsNoField, IsWrong, IsFirst}
+use Rattle.proto_wire.specs.Records.{Piece, IsField, IsKey, IsValue, IsRecord, HasKey, IsTruncated, in_key, in_varint, in_eight, in_length, in_payload, in_four, IsTooLong, as_key, as_varint, as_length, IsGroup, IsNoField, IsWrongRecord, IsFirst}
 use Rattle.proto_wire.specs.Readings.{piece, is_field, fixed_in, payload_in, value_in, record_in}
 use Rattle.proto_wire.proofs.VarintReadings.{varint_found, open_found, long_found, VarintRead, varint_read, varint_bytes}
 
@@ -140,7 +140,7 @@ no_field_found at bytes z =
     rw (z.form, varint_found at z.key z.rest (8 * z.number + z.kind) z.is_varint, quotient, no_field_is z.number z.no_field) refl
 
 -- why no record was found
-pub wrong_found : (at : ℕ) (bytes : List ℕ) (fault : WireFault) → IsWrong at bytes fault → record_in at bytes ≡ Err fault
+pub wrong_found : (at : ℕ) (bytes : List ℕ) (fault : WireFault) → IsWrongRecord at bytes fault → record_in at bytes ≡ Err fault
 wrong_found at bytes (Truncated place) h = rw h.0 (truncated_found at bytes h.1)
 wrong_found at bytes (LongVarint place) h = rw h.0 (too_long_found at bytes h.1)
 wrong_found at bytes (Group place) h = rw h.0 (group_found at bytes h.1)
@@ -149,7 +149,7 @@ wrong_found at bytes (BadText place) h = absurd h
 wrong_found at bytes Device h = absurd h
 wrong_found at bytes Memory h = absurd h
 
-wrong_key : (at : ℕ) (bytes : List ℕ) (fault : WireFault) → IsNoVarint at bytes fault → IsWrong at bytes fault
+wrong_key : (at : ℕ) (bytes : List ℕ) (fault : WireFault) → IsNoVarint at bytes fault → IsWrongRecord at bytes fault
 wrong_key at bytes (Truncated place) h = (h.0, in_key h.1)
 wrong_key at bytes (LongVarint place) h = (h.0, as_key h.1)
 wrong_key at bytes (Group place) h = absurd h
@@ -158,7 +158,7 @@ wrong_key at bytes (BadText place) h = absurd h
 wrong_key at bytes Device h = absurd h
 wrong_key at bytes Memory h = absurd h
 
-wrong_varint : (at : ℕ) (bytes rest : List ℕ) (fault : WireFault) → HasKey bytes 0 rest → IsNoVarint at rest fault → IsWrong at bytes fault
+wrong_varint : (at : ℕ) (bytes rest : List ℕ) (fault : WireFault) → HasKey bytes 0 rest → IsNoVarint at rest fault → IsWrongRecord at bytes fault
 wrong_varint at bytes rest (Truncated place) k h = (h.0, in_varint rest k h.1)
 wrong_varint at bytes rest (LongVarint place) k h = (h.0, as_varint rest k h.1)
 wrong_varint at bytes rest (Group place) k h = absurd h
@@ -167,7 +167,7 @@ wrong_varint at bytes rest (BadText place) k h = absurd h
 wrong_varint at bytes rest Device k h = absurd h
 wrong_varint at bytes rest Memory k h = absurd h
 
-wrong_length : (at : ℕ) (bytes rest : List ℕ) (fault : WireFault) → HasKey bytes 2 rest → IsNoVarint at rest fault → IsWrong at bytes fault
+wrong_length : (at : ℕ) (bytes rest : List ℕ) (fault : WireFault) → HasKey bytes 2 rest → IsNoVarint at rest fault → IsWrongRecord at bytes fault
 wrong_length at bytes rest (Truncated place) k h = (h.0, in_length rest k h.1)
 wrong_length at bytes rest (LongVarint place) k h = (h.0, as_length rest k h.1)
 wrong_length at bytes rest (Group place) k h = absurd h
@@ -195,7 +195,7 @@ split_at : (rest : List ℕ) (count : ℕ) → rest ≡ take count rest ++ drop 
 split_at rest count = sym (take-append-drop count rest)
 
 fixed_read : (at : ℕ) (bytes rest : List ℕ) (kind count : ℕ) (value : WireValue) (k : HasKey bytes kind rest)
-    → ((content : List ℕ) → length content ≡ count → IsValue value kind [] content []) → (length rest < count → IsWrong at bytes (Truncated at))
+    → ((content : List ℕ) → length content ≡ count → IsValue value kind [] content []) → (length rest < count → IsWrongRecord at bytes (Truncated at))
     → IsFirst at bytes (fixed_in count value k.field at (at + length k.key) rest)
 fixed_read at bytes rest kind count value k good bad =
     elim (cases_lt (length rest) count) [

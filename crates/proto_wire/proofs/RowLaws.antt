@@ -2,7 +2,7 @@
 use Rattle.std.proofs.Common.{◌≡◌, ℕ, ◌+◌, ◌-◌, ◌<◌, List, [], ◌∷◌, ◌++◌, length, Ok, Err, refl, sym, ap, ◌∙◌, subst, append_assoc, arith}
 use Rattle.std.proofs.lemmas.List.{append-nil, length-append}
 use Rattle.proto_wire.specs.declared.fault.WireFault.{WireFault}
-use Rattle.proto_wire.specs.Records.{Piece, IsRecord, AreRecords, IsFirst, IsWrong, IsStopped, Reaches}
+use Rattle.proto_wire.specs.Records.{Piece, IsRecord, AreRecords, IsFirst, IsWrongRecord, IsStopped, Reaches}
 
 pub Reaches-start : (start : ℕ) (bytes : List ℕ) → Reaches start bytes [] start bytes
 Reaches-start start bytes = record { good = []; form = refl; are_records = refl; here = omega arith }
@@ -37,7 +37,7 @@ Reaches-fault start bytes front at rest fault so_far some wrong = record {
   form = so_far.form;
   are_records = so_far.are_records;
   some = some;
-  is_wrong = subst (λ (here : ℕ). IsWrong here rest fault) so_far.here wrong;
+  is_wrong = subst (λ (here : ℕ). IsWrongRecord here rest fault) so_far.here wrong;
 }
 
 no_bytes : (bytes : List ℕ) → length bytes ≡ 0 → bytes ≡ []

@@ -93,19 +93,19 @@ pub record IsNoField (bytes : List ℕ) : Type 0 where
   pub no_field : (number ≡ 0) ⊎ (536870911 < number)
 
 -- the record in front, whose key has this offset, has this fault
-abbrev pub IsWrong : ℕ → List ℕ → WireFault → Type 0
-IsWrong at bytes (Truncated place) = (place ≡ at) × IsTruncated bytes
-IsWrong at bytes (LongVarint place) = (place ≡ at) × IsTooLong bytes
-IsWrong at bytes (Group place) = (place ≡ at) × IsGroup bytes
-IsWrong at bytes (ZeroField place) = (place ≡ at) × IsNoField bytes
-IsWrong at bytes (BadText place) = ⊥
-IsWrong at bytes Device = ⊥
-IsWrong at bytes Memory = ⊥
+abbrev pub IsWrongRecord : ℕ → List ℕ → WireFault → Type 0
+IsWrongRecord at bytes (Truncated place) = (place ≡ at) × IsTruncated bytes
+IsWrongRecord at bytes (LongVarint place) = (place ≡ at) × IsTooLong bytes
+IsWrongRecord at bytes (Group place) = (place ≡ at) × IsGroup bytes
+IsWrongRecord at bytes (ZeroField place) = (place ≡ at) × IsNoField bytes
+IsWrongRecord at bytes (BadText place) = ⊥
+IsWrongRecord at bytes Device = ⊥
+IsWrongRecord at bytes Memory = ⊥
 
 -- what stands in front of bytes: a record and what follows it, or the fault of a record that is wrong
 abbrev pub IsFirst : ℕ → List ℕ → Result (Piece × List ℕ) WireFault → Type 0
 IsFirst at bytes (Ok x) = (first : List ℕ) × (bytes ≡ first ++ x.1) × IsRecord at first x.0
-IsFirst at bytes (Err fault) = IsWrong at bytes fault
+IsFirst at bytes (Err fault) = IsWrongRecord at bytes fault
 
 -- these good records stand in front, and the one behind them has this fault
 pub record IsStopped (at : ℕ) (bytes : List ℕ) (before : List Piece) (fault : WireFault) : Type 0 where
@@ -114,7 +114,7 @@ pub record IsStopped (at : ℕ) (bytes : List ℕ) (before : List Piece) (fault 
   pub form : bytes ≡ good ++ rest
   pub are_records : AreRecords at good before
   pub some : 0 < length rest
-  pub is_wrong : IsWrong (at + length good) rest fault
+  pub is_wrong : IsWrongRecord (at + length good) rest fault
 
 -- these good records stand in front, and then this rest, whose first byte has this offset
 pub record Reaches (start : ℕ) (bytes : List ℕ) (front : List Piece) (at : ℕ) (rest : List ℕ) : Type 0 where

@@ -29,8 +29,8 @@ abbrev pub given : ReaderState → List PlainDocument
 given r = documents_in (pieces_of 0 (take r.at r.bytes)).0
 
 -- what a reader that has refused nothing keeps, beside the documents that it has given
-abbrev pub Keeps : List ℕ → ℕ → List ℕ → Option PlainMetadata → List PlainSymbol → Type 0
-Keeps bytes at rest metadata externals = (front : List Piece) × Stands bytes front at rest metadata externals
+abbrev pub HasRead : List ℕ → ℕ → List ℕ → Option PlainMetadata → List PlainSymbol → Type 0
+HasRead bytes at rest metadata externals = (front : List Piece) × Stands bytes front at rest metadata externals
 
 -- the bytes mean an index with these documents
 abbrev pub HasDocuments : List ℕ → List PlainDocument → Type 0

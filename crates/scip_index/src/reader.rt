@@ -121,13 +121,13 @@ pub struct IndexReader<'a> {
 impl<'a> Model for IndexReader<'a> {
     ghost use Rattle.std.specs.Prelude.{IfNone, map, option_map};
     ghost use Rattle.scip_index.specs.Plain.{plain_metadata, plain_symbol};
-    ghost use Rattle.scip_index.specs.Streaming.{Keeps, ReaderState};
+    ghost use Rattle.scip_index.specs.Streaming.{HasRead, ReaderState};
 
     ghost Value = { ReaderState };
 
     ghost view = { λ r. record { bytes = r.bytes.now; at = r.at; refusal = r.refusal } };
 
-    ghost invariant = { λ r. IfNone r.refusal (Keeps r.bytes.now r.at r.rest.now (option_map plain_metadata r.metadata) (map plain_symbol r.externals.items)) };
+    ghost invariant = { λ r. IfNone r.refusal (HasRead r.bytes.now r.at r.rest.now (option_map plain_metadata r.metadata) (map plain_symbol r.externals.items)) };
 }
 
 impl<'a> IndexReader<'a> {

@@ -8,9 +8,9 @@ use Rattle.scip_symbol.specs.declared.kind.DescriptorKind.TheVariants.{Namespace
 use Rattle.scip_symbol.specs.declared.fault.SymbolFault.{SymbolFault}
 use Rattle.scip_symbol.specs.declared.fault.SymbolFault.TheVariants as faults
 use Rattle.scip_symbol.specs.Bytes.{IsUnended}
-use Rattle.scip_symbol.specs.SymbolTexts.{PlainDescriptor, are_simple, opening, closing, IsOfMethod, NameText, DescriptorText}
+use Rattle.scip_symbol.specs.SymbolTexts.{PlainDescriptor, are_simple, before_name, closing, IsOfMethod, NameText, DescriptorText}
 use Rattle.scip_symbol.specs.Outcomes.{HasOpenQuote}
-use Rattle.scip_symbol.specs.Reading.{after_byte, after_bytes, simple_front, name_at, closed_at, method_at, kind_of, suffix_at, told_at, suffixed_behind, suffixed_at, bare_at, descriptor_behind, descriptor_at, ◌>>=◌}
+use Rattle.scip_symbol.specs.Reading.{after_byte, after_bytes, simple_front, name_in_front, closed_at, method_at, kind_of, suffix_at, told_at, suffixed_behind, suffixed_at, bare_at, descriptor_behind, descriptor_at, ◌>>=◌}
 use Rattle.scip_symbol.proofs.Answered.{ok_same, err_same}
 use Rattle.scip_symbol.proofs.TextCuts.{after_bytes_some}
 use Rattle.scip_symbol.proofs.Ends.{after_some}
@@ -29,11 +29,11 @@ err_as x y e = ap (λ (z : SymbolFault). Err z) (err_same x y e)
 
 -- the name of a read text and what follows it make a descriptor of this kind
 read_as : (kind : DescriptorKind) (name disambiguator written rest others : List ℕ) → NameText name written → IsOfMethod kind disambiguator → are_simple disambiguator ≡ true
-    → rest ≡ closing kind disambiguator ++ others → IsRead (opening kind ++ written ++ rest) (record { kind = kind; name = name; disambiguator = disambiguator }, others)
+    → rest ≡ closing kind disambiguator ++ others → IsRead (before_name kind ++ written ++ rest) (record { kind = kind; name = name; disambiguator = disambiguator }, others)
 read_as kind name disambiguator written rest others t m s e = record {
-  first = opening kind ++ written ++ closing kind disambiguator;
+  first = before_name kind ++ written ++ closing kind disambiguator;
   first_is = record { name = written; name_is = t; of_method = m; simple = s; whole = refl };
-  split = ap (λ (xs : List ℕ). opening kind ++ written ++ xs) e ∙ sym (append_assoc (opening kind ++ written) (closing kind disambiguator) others);
+  split = ap (λ (xs : List ℕ). before_name kind ++ written ++ xs) e ∙ sym (append_assoc (before_name kind ++ written) (closing kind disambiguator) others);
 }
 
 none_of : (kind : DescriptorKind) → IsOfMethod kind []
@@ -42,22 +42,22 @@ none_of kind = λ ne. refl
 after_word_some : (text rest : List ℕ) → after_bytes (codes ").") text ≡ Some rest → text ≡ 41 ∷ 46 ∷ rest
 after_word_some text rest e = after_bytes_some (codes ").") text rest e
 
-closed_takes : (at : ℕ) (kind : DescriptorKind) (close : ℕ) (inside : List ℕ) (x : PlainDescriptor × List ℕ) → closing kind [] ≡ close ∷ [] → closed_at at kind close inside ≡ Ok x → IsRead (opening kind ++ inside) x
+closed_takes : (at : ℕ) (kind : DescriptorKind) (close : ℕ) (inside : List ℕ) (x : PlainDescriptor × List ℕ) → closing kind [] ≡ close ∷ [] → closed_at at kind close inside ≡ Ok x → IsRead (before_name kind ++ inside) x
 unfolding closed_at
-closed_takes at kind close inside x same e = by_name (name_at at inside) refl e
+closed_takes at kind close inside x same e = by_name (name_in_front at inside) refl e
   where
-    by_rest : (n : List ℕ × List ℕ) (o : Option (List ℕ)) → name_at at inside ≡ Ok n → after_byte close n.1 ≡ o
-        → ok_or o (faults.BadDescriptor at) >>= (λ rest. Ok (record { kind = kind; name = n.0; disambiguator = [] }, rest)) ≡ Ok x → IsRead (opening kind ++ inside) x
+    by_rest : (n : List ℕ × List ℕ) (o : Option (List ℕ)) → name_in_front at inside ≡ Ok n → after_byte close n.1 ≡ o
+        → ok_or o (faults.BadDescriptor at) >>= (λ rest. Ok (record { kind = kind; name = n.0; disambiguator = [] }, rest)) ≡ Ok x → IsRead (before_name kind ++ inside) x
     by_rest n None h s e = absurd cc
     by_rest n (Some rest) h s e =
         let t = name_takes at inside n h in
         let z : (record { kind = kind; name = n.0; disambiguator = [] }, rest) ≡ x = ok_same _ _ e in
         let r = read_as kind n.0 [] t.written n.1 rest t.written_is (none_of kind) refl (after_some close n.1 rest s ∙ ap (λ (xs : List ℕ). xs ++ rest) (sym same)) in
-        subst (λ (v : PlainDescriptor × List ℕ). IsRead (opening kind ++ inside) v) z
-        (subst (λ (xs : List ℕ). IsRead xs (record { kind = kind; name = n.0; disambiguator = [] }, rest)) (append_assoc (opening kind) t.written n.1 ∙ ap (λ (xs : List ℕ). opening kind ++ xs) (sym t.split)) r)
+        subst (λ (v : PlainDescriptor × List ℕ). IsRead (before_name kind ++ inside) v) z
+        (subst (λ (xs : List ℕ). IsRead xs (record { kind = kind; name = n.0; disambiguator = [] }, rest)) (append_assoc (before_name kind) t.written n.1 ∙ ap (λ (xs : List ℕ). before_name kind ++ xs) (sym t.split)) r)
 
-    by_name : (o : Result (List ℕ × List ℕ) SymbolFault) → name_at at inside ≡ o
-        → o >>= (λ n. ok_or (after_byte close n.1) (faults.BadDescriptor at) >>= (λ rest. Ok (record { kind = kind; name = n.0; disambiguator = [] }, rest))) ≡ Ok x → IsRead (opening kind ++ inside) x
+    by_name : (o : Result (List ℕ × List ℕ) SymbolFault) → name_in_front at inside ≡ o
+        → o >>= (λ n. ok_or (after_byte close n.1) (faults.BadDescriptor at) >>= (λ rest. Ok (record { kind = kind; name = n.0; disambiguator = [] }, rest))) ≡ Ok x → IsRead (before_name kind ++ inside) x
     by_name (Err fault) h e = absurd cc
     by_name (Ok n) h e = by_rest n (after_byte close n.1) h refl e
 
@@ -78,9 +78,9 @@ method_takes at name written inside x t e = go (after_bytes (codes ").") (simple
 -- the byte behind a name of this kind, and what stands before one
 pub record IsTold (b : ℕ) (kind : DescriptorKind) : Type 0 where
   pub closes : closing kind [] ≡ b ∷ []
-  pub opens : opening kind ≡ []
+  pub opens : before_name kind ≡ []
 
-tells : (b n : ℕ) (kind k : DescriptorKind) → closing k [] ≡ n ∷ [] → opening k ≡ [] → b ≡ n → ◌≡◌ {A = Option DescriptorKind} (Some k) (Some kind) → IsTold b kind
+tells : (b n : ℕ) (kind k : DescriptorKind) → closing k [] ≡ n ∷ [] → before_name k ≡ [] → b ≡ n → ◌≡◌ {A = Option DescriptorKind} (Some k) (Some kind) → IsTold b kind
 tells b n kind k c o s e = subst (λ (x : DescriptorKind). IsTold b x) (same_Some k kind e) (record { closes = c ∙ ap (λ (x : ℕ). x ∷ []) (sym s); opens = o })
 
 told_is : (b : ℕ) (kind : DescriptorKind) → kind_of b ≡ Some kind → IsTold b kind
@@ -130,9 +130,9 @@ suffixed_takes at name written text x t e = go (after_byte 40 text) refl e
 
 bare_takes : (at : ℕ) (text : List ℕ) (x : PlainDescriptor × List ℕ) → bare_at at text ≡ Ok x → IsRead text x
 unfolding bare_at
-bare_takes at text x e = go (name_at at text) refl e
+bare_takes at text x e = go (name_in_front at text) refl e
   where
-    go : (o : Result (List ℕ × List ℕ) SymbolFault) → name_at at text ≡ o → o >>= (λ n. suffixed_at at n.0 n.1) ≡ Ok x → IsRead text x
+    go : (o : Result (List ℕ × List ℕ) SymbolFault) → name_in_front at text ≡ o → o >>= (λ n. suffixed_at at n.0 n.1) ≡ Ok x → IsRead text x
     go (Err fault) s e = absurd cc
     go (Ok n) s e =
         let t = name_takes at text n s in
@@ -159,7 +159,7 @@ closing_some Parameter dis = omega arith
 
 pub descriptor_some : (d : PlainDescriptor) (first : List ℕ) → DescriptorText d first → 0 < length first
 descriptor_some d first t =
-    omega (arith, ap length t.whole, length-append (opening d.kind ++ t.name) (closing d.kind d.disambiguator), closing_some d.kind d.disambiguator)
+    omega (arith, ap length t.whole, length-append (before_name d.kind ++ t.name) (closing d.kind d.disambiguator), closing_some d.kind d.disambiguator)
 
 pub descriptor_shortens : (at : ℕ) (text : List ℕ) (d : PlainDescriptor) (rest : List ℕ) → descriptor_at at text ≡ Ok (d, rest) → length rest < length text
 descriptor_shortens at text d rest e =
@@ -203,7 +203,7 @@ parameter_again at name written others t = closed_again at Parameter 41 name wri
 
 -- without a disambiguator
 plain_again : (at : ℕ) (kind : DescriptorKind) (name written others : List ℕ) → NameText name written → kind ≢ Method
-    → descriptor_at at (opening kind ++ (written ++ (closing kind [] ++ others))) ≡ Ok (record { kind = kind; name = name; disambiguator = [] }, others)
+    → descriptor_at at (before_name kind ++ (written ++ (closing kind [] ++ others))) ≡ Ok (record { kind = kind; name = name; disambiguator = [] }, others)
 plain_again at Namespace name written others t ne = told_again at Namespace 47 name written others t (refl, eqb-false 47 96 refl) refl refl
 plain_again at TypeName name written others t ne = told_again at TypeName 35 name written others t (refl, eqb-false 35 96 refl) refl refl
 plain_again at Term name written others t ne = told_again at Term 46 name written others t (refl, eqb-false 46 96 refl) refl refl
@@ -224,12 +224,12 @@ method_or TypeParameter = inr (λ e. absurd cc)
 method_or Parameter = inr (λ e. absurd cc)
 
 parts_again : (at : ℕ) (kind : DescriptorKind) (name disambiguator written others : List ℕ) → NameText name written → IsOfMethod kind disambiguator → are_simple disambiguator ≡ true
-    → descriptor_at at (opening kind ++ (written ++ (closing kind disambiguator ++ others))) ≡ Ok (record { kind = kind; name = name; disambiguator = disambiguator }, others)
+    → descriptor_at at (before_name kind ++ (written ++ (closing kind disambiguator ++ others))) ≡ Ok (record { kind = kind; name = name; disambiguator = disambiguator }, others)
 parts_again at kind name disambiguator written others t m s =
     elim (method_or kind) [
-      | inl e ↦ subst (λ (k : DescriptorKind). descriptor_at at (opening k ++ (written ++ (closing k disambiguator ++ others))) ≡ Ok (record { kind = k; name = name; disambiguator = disambiguator }, others)) (sym e)
+      | inl e ↦ subst (λ (k : DescriptorKind). descriptor_at at (before_name k ++ (written ++ (closing k disambiguator ++ others))) ≡ Ok (record { kind = k; name = name; disambiguator = disambiguator }, others)) (sym e)
           (ap (λ (xs : List ℕ). descriptor_at at (written ++ (40 ∷ xs))) (append_assoc disambiguator (codes ").") others) ∙ method_again at name disambiguator written others t s)
-      | inr ne ↦ subst (λ (d : List ℕ). descriptor_at at (opening kind ++ (written ++ (closing kind d ++ others))) ≡ Ok (record { kind = kind; name = name; disambiguator = d }, others)) (sym (m ne))
+      | inr ne ↦ subst (λ (d : List ℕ). descriptor_at at (before_name kind ++ (written ++ (closing kind d ++ others))) ≡ Ok (record { kind = kind; name = name; disambiguator = d }, others)) (sym (m ne))
           (plain_again at kind name written others t ne)
     ]
 
@@ -237,7 +237,7 @@ parts_again at kind name disambiguator written others t m s =
 pub descriptor_again : (at : ℕ) (d : PlainDescriptor) (first others : List ℕ) → DescriptorText d first → descriptor_at at (first ++ others) ≡ Ok (d, others)
 descriptor_again at d first others t =
     ap (λ (xs : List ℕ). descriptor_at at (xs ++ others)) t.whole
-    ∙ ap (descriptor_at at) (append_assoc (opening d.kind ++ t.name) (closing d.kind d.disambiguator) others ∙ append_assoc (opening d.kind) t.name (closing d.kind d.disambiguator ++ others))
+    ∙ ap (descriptor_at at) (append_assoc (before_name d.kind ++ t.name) (closing d.kind d.disambiguator) others ∙ append_assoc (before_name d.kind) t.name (closing d.kind d.disambiguator ++ others))
     ∙ parts_again at d.kind d.name d.disambiguator t.name others t.name_is t.of_method t.simple
 
 -- ---- what is no descriptor
@@ -250,7 +250,7 @@ bare_open : (at : ℕ) (inside : List ℕ) → IsUnended 96 inside → descripto
 unfolding descriptor_at bare_at
 bare_open at inside u = rw (name_open at inside u) refl
 
-opening_open : (at : ℕ) (kind : DescriptorKind) (inside : List ℕ) → IsUnended 96 inside → descriptor_at at (opening kind ++ 96 ∷ inside) ≡ Err faults.OpenQuote
+opening_open : (at : ℕ) (kind : DescriptorKind) (inside : List ℕ) → IsUnended 96 inside → descriptor_at at (before_name kind ++ 96 ∷ inside) ≡ Err faults.OpenQuote
 unfolding descriptor_at
 opening_open at Namespace inside u = bare_open at inside u
 opening_open at TypeName inside u = bare_open at inside u
@@ -269,9 +269,9 @@ descriptor_open at rest q = ap (descriptor_at at) q.there ∙ opening_open at q.
 abbrev pub IsWrong : ℕ → List ℕ → SymbolFault → Type 0
 IsWrong at rest e = (e ≡ faults.BadDescriptor at) ⊎ ((e ≡ faults.OpenQuote) × HasOpenQuote rest)
 
-open_behind : (at : ℕ) (kind : DescriptorKind) (inside text : List ℕ) (e : SymbolFault) → text ≡ opening kind ++ inside → (e ≡ faults.BadDescriptor at) ⊎ ((e ≡ faults.OpenQuote) × OpensQuote inside) → IsWrong at text e
+open_behind : (at : ℕ) (kind : DescriptorKind) (inside text : List ℕ) (e : SymbolFault) → text ≡ before_name kind ++ inside → (e ≡ faults.BadDescriptor at) ⊎ ((e ≡ faults.OpenQuote) × OpensQuote inside) → IsWrong at text e
 open_behind at kind inside text e s (inl b) = inl b
-open_behind at kind inside text e s (inr q) = inr (q.0, record { kind = kind; inside = q.1.inside; there = s ∙ ap (λ (xs : List ℕ). opening kind ++ xs) q.1.there; open_is = q.1.open_is })
+open_behind at kind inside text e s (inr q) = inr (q.0, record { kind = kind; inside = q.1.inside; there = s ∙ ap (λ (xs : List ℕ). before_name kind ++ xs) q.1.there; open_is = q.1.open_is })
 
 abbrev closes_to : DescriptorKind → List ℕ → List ℕ → PlainDescriptor × List ℕ
 closes_to kind name rest = (record { kind = kind; name = name; disambiguator = [] }, rest)
@@ -288,9 +288,9 @@ missing (Some x) d e f h = absurd cc
 
 closed_fails : (at : ℕ) (kind : DescriptorKind) (close : ℕ) (inside : List ℕ) (e : SymbolFault) → closed_at at kind close inside ≡ Err e → (e ≡ faults.BadDescriptor at) ⊎ ((e ≡ faults.OpenQuote) × OpensQuote inside)
 unfolding closed_at
-closed_fails at kind close inside e h = go (name_at at inside) refl h
+closed_fails at kind close inside e h = go (name_in_front at inside) refl h
   where
-    go : (o : Result (List ℕ × List ℕ) SymbolFault) → name_at at inside ≡ o
+    go : (o : Result (List ℕ × List ℕ) SymbolFault) → name_in_front at inside ≡ o
         → o >>= (λ n. ok_or (after_byte close n.1) (faults.BadDescriptor at) >>= (λ rest. Ok (closes_to kind n.0 rest))) ≡ Err e
         → (e ≡ faults.BadDescriptor at) ⊎ ((e ≡ faults.OpenQuote) × OpensQuote inside)
     go (Err fault) s h = name_fails at inside e (s ∙ err_as fault e h)
@@ -306,9 +306,9 @@ suffixed_fails at name text e h = go (after_byte 40 text) h
 
 bare_fails : (at : ℕ) (text : List ℕ) (e : SymbolFault) → bare_at at text ≡ Err e → IsWrong at text e
 unfolding bare_at
-bare_fails at text e h = go (name_at at text) refl h
+bare_fails at text e h = go (name_in_front at text) refl h
   where
-    go : (o : Result (List ℕ × List ℕ) SymbolFault) → name_at at text ≡ o → o >>= (λ n. suffixed_at at n.0 n.1) ≡ Err e → IsWrong at text e
+    go : (o : Result (List ℕ × List ℕ) SymbolFault) → name_in_front at text ≡ o → o >>= (λ n. suffixed_at at n.0 n.1) ≡ Err e → IsWrong at text e
     go (Err fault) s h = open_behind at Term text text e refl (name_fails at text e (s ∙ err_as fault e h))
     go (Ok n) s h = inl (suffixed_fails at n.0 n.1 e h)
 

@@ -6,7 +6,7 @@ use Rattle.scip_symbol.specs.declared.fault.SymbolFault.{SymbolFault}
 use Rattle.scip_symbol.specs.declared.fault.SymbolFault.TheVariants as faults
 use Rattle.scip_symbol.specs.Bytes.{doubled, IsNotFirst, IsUnended}
 use Rattle.scip_symbol.specs.SymbolTexts.{is_simple, are_simple, IsSimple, quoted, NameText}
-use Rattle.scip_symbol.specs.Reading.{after_byte, ended_by, simple_front, named, simple_name_at, quoted_name_at, name_behind, name_at, ◌>>=◌}
+use Rattle.scip_symbol.specs.Reading.{after_byte, ended_by, simple_front, nonempty_name, simple_name_at, quoted_name_at, name_behind, name_in_front, ◌>>=◌}
 use Rattle.scip_symbol.proofs.Ends.{ended-again, ended-said, unended, unended-none, after_some}
 use Rattle.scip_symbol.proofs.TextCuts.{after_byte-other}
 
@@ -64,15 +64,15 @@ front-again (x ∷ xs) rest e h = let p = and_parts (is_simple x) (are_simple xs
 
 -- ---- names
 
-named_takes : (at : ℕ) (name rest : List ℕ) (x : List ℕ × List ℕ) → named at name rest ≡ Ok x → (name ≢ []) × ((name, rest) ≡ x)
+named_takes : (at : ℕ) (name rest : List ℕ) (x : List ℕ × List ℕ) → nonempty_name at name rest ≡ Ok x → (name ≢ []) × ((name, rest) ≡ x)
 named_takes at [] rest x e = absurd cc
 named_takes at (b ∷ name) rest x e = (λ s. absurd cc, cc)
 
-named_again : (at : ℕ) (name rest : List ℕ) → name ≢ [] → named at name rest ≡ Ok (name, rest)
+named_again : (at : ℕ) (name rest : List ℕ) → name ≢ [] → nonempty_name at name rest ≡ Ok (name, rest)
 named_again at [] rest h = absurd (h refl)
 named_again at (b ∷ name) rest h = refl
 
-named_fails : (at : ℕ) (name rest : List ℕ) (e : SymbolFault) → named at name rest ≡ Err e → e ≡ faults.BadDescriptor at
+named_fails : (at : ℕ) (name rest : List ℕ) (e : SymbolFault) → nonempty_name at name rest ≡ Err e → e ≡ faults.BadDescriptor at
 named_fails at [] rest e h = cc
 named_fails at (b ∷ name) rest e h = absurd cc
 
@@ -93,7 +93,7 @@ quoted_takes : (at : ℕ) (inside : List ℕ) (x : List ℕ × List ℕ) → quo
 unfolding quoted_name_at
 quoted_takes at inside x e = go (ended_by 96 inside) refl e
   where
-    go : (o : Option (List ℕ × List ℕ)) → ended_by 96 inside ≡ o → ok_or o faults.OpenQuote >>= (λ y. named at y.0 y.1) ≡ Ok x → IsNameRead (96 ∷ inside) x
+    go : (o : Option (List ℕ × List ℕ)) → ended_by 96 inside ≡ o → ok_or o faults.OpenQuote >>= (λ y. nonempty_name at y.0 y.1) ≡ Ok x → IsNameRead (96 ∷ inside) x
     go None s e = absurd cc
     go (Some y) s e =
         let n = named_takes at y.0 y.1 x e in
@@ -105,8 +105,8 @@ quoted_takes at inside x e = go (ended_by 96 inside) refl e
           split = ap (λ (xs : List ℕ). 96 ∷ xs) (i.whole ∙ sym (append_assoc (doubled 96 y.0) (96 ∷ []) y.1));
         })
 
-pub name_takes : (at : ℕ) (text : List ℕ) (x : List ℕ × List ℕ) → name_at at text ≡ Ok x → IsNameRead text x
-unfolding name_at
+pub name_takes : (at : ℕ) (text : List ℕ) (x : List ℕ × List ℕ) → name_in_front at text ≡ Ok x → IsNameRead text x
+unfolding name_in_front
 name_takes at text x e = go (after_byte 96 text) refl e
   where
     go : (o : Option (List ℕ)) → after_byte 96 text ≡ o → name_behind at o text ≡ Ok x → IsNameRead text x
@@ -127,8 +127,8 @@ name_begins mark name written rest m n t = go name written t.some t.written
         ap (λ (xs : List ℕ). after_byte mark (xs ++ rest)) s.1 ∙ after_byte-other mark b (name ++ rest) (simple_other b mark p.0 m)
     go (b ∷ name) written some (inr q) = ap (λ (xs : List ℕ). after_byte mark (xs ++ rest)) q ∙ after_byte-other mark 96 (doubled 96 (b ∷ name) ++ 96 ∷ [] ++ rest) (λ e. n (sym e))
 
-simple_again : (at : ℕ) (name rest : List ℕ) → IsSimple name → EndsName rest → name_at at (name ++ rest) ≡ Ok (name, rest)
-unfolding name_at simple_name_at
+simple_again : (at : ℕ) (name rest : List ℕ) → IsSimple name → EndsName rest → name_in_front at (name ++ rest) ≡ Ok (name, rest)
+unfolding name_in_front simple_name_at
 simple_again at name rest s h =
     rw (name_begins_simple name s.some s.simple, front-again name rest s.simple (ends_simple rest h)) (named_again at name rest s.some)
   where
@@ -136,16 +136,16 @@ simple_again at name rest s h =
     name_begins_simple [] some e = absurd (some refl)
     name_begins_simple (b ∷ name) some e = let p = and_parts (is_simple b) (are_simple name) e in after_byte-other 96 b (name ++ rest) (simple_other b 96 p.0 refl)
 
-quoted_again : (at : ℕ) (name rest : List ℕ) → name ≢ [] → EndsName rest → name_at at (quoted name ++ rest) ≡ Ok (name, rest)
-unfolding name_at quoted_name_at
+quoted_again : (at : ℕ) (name rest : List ℕ) → name ≢ [] → EndsName rest → name_in_front at (quoted name ++ rest) ≡ Ok (name, rest)
+unfolding name_in_front quoted_name_at
 quoted_again at name rest some h =
     rw (append_assoc (doubled 96 name) (96 ∷ []) rest, ended-again 96 name rest (no_backtick rest h)) (named_again at name rest some)
 
-pub name_again : (at : ℕ) (name written rest : List ℕ) → NameText name written → EndsName rest → name_at at (written ++ rest) ≡ Ok (name, rest)
+pub name_again : (at : ℕ) (name written rest : List ℕ) → NameText name written → EndsName rest → name_in_front at (written ++ rest) ≡ Ok (name, rest)
 name_again at name written rest t h =
     elim (t.written) [
-      | inl s ↦ ap (λ (xs : List ℕ). name_at at (xs ++ rest)) s.1 ∙ simple_again at name rest s.0 h
-      | inr q ↦ ap (λ (xs : List ℕ). name_at at (xs ++ rest)) q ∙ quoted_again at name rest t.some h
+      | inl s ↦ ap (λ (xs : List ℕ). name_in_front at (xs ++ rest)) s.1 ∙ simple_again at name rest s.0 h
+      | inr q ↦ ap (λ (xs : List ℕ). name_in_front at (xs ++ rest)) q ∙ quoted_again at name rest t.some h
     ]
 
 -- ---- what isn't a name
@@ -156,15 +156,15 @@ pub record OpensQuote (text : List ℕ) : Type 0 where
   pub there : text ≡ 96 ∷ inside
   pub open_is : IsUnended 96 inside
 
-pub name_open : (at : ℕ) (inside : List ℕ) → IsUnended 96 inside → name_at at (96 ∷ inside) ≡ Err faults.OpenQuote
-unfolding name_at quoted_name_at
+pub name_open : (at : ℕ) (inside : List ℕ) → IsUnended 96 inside → name_in_front at (96 ∷ inside) ≡ Err faults.OpenQuote
+unfolding name_in_front quoted_name_at
 name_open at inside u = rw (unended-none 96 inside u) refl
 
-pub name_fails : (at : ℕ) (text : List ℕ) (e : SymbolFault) → name_at at text ≡ Err e → (e ≡ faults.BadDescriptor at) ⊎ ((e ≡ faults.OpenQuote) × OpensQuote text)
-unfolding name_at simple_name_at quoted_name_at
+pub name_fails : (at : ℕ) (text : List ℕ) (e : SymbolFault) → name_in_front at text ≡ Err e → (e ≡ faults.BadDescriptor at) ⊎ ((e ≡ faults.OpenQuote) × OpensQuote text)
+unfolding name_in_front simple_name_at quoted_name_at
 name_fails at text e h = go (after_byte 96 text) refl h
   where
-    quote : (inside : List ℕ) (o : Option (List ℕ × List ℕ)) → text ≡ 96 ∷ inside → ended_by 96 inside ≡ o → ok_or o faults.OpenQuote >>= (λ y. named at y.0 y.1) ≡ Err e → (e ≡ faults.BadDescriptor at) ⊎ ((e ≡ faults.OpenQuote) × OpensQuote text)
+    quote : (inside : List ℕ) (o : Option (List ℕ × List ℕ)) → text ≡ 96 ∷ inside → ended_by 96 inside ≡ o → ok_or o faults.OpenQuote >>= (λ y. nonempty_name at y.0 y.1) ≡ Err e → (e ≡ faults.BadDescriptor at) ⊎ ((e ≡ faults.OpenQuote) × OpensQuote text)
     quote inside None t s h = inr (cc, record { inside = inside; there = t; open_is = unended 96 inside s })
     quote inside (Some y) t s h = inl (named_fails at y.0 y.1 e h)
 

@@ -7,7 +7,7 @@ use Rattle.std.proofs.lemmas.List.{append-nil}
 use Rattle.scip_symbol.specs.declared.fault.SymbolFault.{SymbolFault}
 use Rattle.scip_symbol.specs.declared.fault.SymbolFault.TheVariants as faults
 use Rattle.scip_symbol.specs.Bytes.{doubled}
-use Rattle.scip_symbol.specs.SymbolTexts.{PlainDescriptor, PlainSymbol, Local, Global, opening, DescriptorTexts, part_shown, ended_part, shown_parts, parts_text, GlobalText, SymbolText}
+use Rattle.scip_symbol.specs.SymbolTexts.{PlainDescriptor, PlainSymbol, Local, Global, before_name, DescriptorTexts, part_shown, ended_part, shown_parts, parts_text, GlobalText, SymbolText}
 use Rattle.scip_symbol.specs.Outcomes.{begins_with_space, HasParts, LacksPart, IsBadPart, HasFront, HasOpenQuote, HasNoDescriptor, IsReadRefusal, IsReadOutcome}
 use Rattle.scip_symbol.specs.Reading.{local_of, part_meant, descriptor_at, IsFirstWrong}
 use Rattle.scip_symbol.proofs.Answered.{err_same}
@@ -161,7 +161,7 @@ bad_answer at rest none no_quote = go (descriptor_at at rest) refl
     go (Err fault) e = wrong fault (descriptor_fails at rest fault e)
 
 quote_some : (rest : List ℕ) → HasOpenQuote rest → rest ≢ []
-quote_some rest q = λ e. absurd (omega (arith, ap length (sym e ∙ q.there), length-append (opening q.kind) (96 ∷ q.inside)))
+quote_some rest q = λ e. absurd (omega (arith, ap length (sym e ∙ q.there), length-append (before_name q.kind) (96 ∷ q.inside)))
 
 from_local : (text id : List ℕ) (o : Result PlainSymbol SymbolFault) → text ≡ codes "local " ++ id → o ≡ local_of id → IsOutcomeFrom (length text) (start_of text) o
 from_local text id o e i = from_start text (LocalId id) o (ap start_of e ∙ starts_local id) i

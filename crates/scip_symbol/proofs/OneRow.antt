@@ -5,7 +5,7 @@ use Rattle.scip_symbol.specs.declared.kind.DescriptorKind.{DescriptorKind}
 use Rattle.scip_symbol.specs.declared.kind.DescriptorKind.TheVariants.{Namespace, TypeName, Term, Method, Meta, Macro, TypeParameter, Parameter}
 use Rattle.scip_symbol.specs.declared.fault.SymbolFault.{SymbolFault}
 use Rattle.scip_symbol.specs.Bytes.{IsNotFirst}
-use Rattle.scip_symbol.specs.SymbolTexts.{PlainDescriptor, opening, closing, NameText, DescriptorText, DescriptorTexts}
+use Rattle.scip_symbol.specs.SymbolTexts.{PlainDescriptor, before_name, closing, NameText, DescriptorText, DescriptorTexts}
 use Rattle.scip_symbol.specs.Outcomes.{HasNoDescriptor}
 use Rattle.scip_symbol.specs.Reading.{descriptor_at}
 use Rattle.scip_symbol.proofs.Answered.{ok_same}
@@ -36,7 +36,7 @@ row_once (d ∷ ds) (d' ∷ es) f g r s t u e h k =
     (ap (λ (x : PlainDescriptor). x ∷ ds) same.0 ∙ ap (λ (xs : List PlainDescriptor). d' ∷ xs) rest.0, rest.1)
 
 -- a descriptor doesn't begin with a space
-opens : (kind : DescriptorKind) (name written rest : List ℕ) → NameText name written → IsNotFirst 32 (opening kind ++ (written ++ rest))
+opens : (kind : DescriptorKind) (name written rest : List ℕ) → NameText name written → IsNotFirst 32 (before_name kind ++ (written ++ rest))
 opens Namespace name written rest t = after_none 32 (written ++ rest) (name_begins 32 name written rest refl (eqb-false 32 96 refl) t)
 opens TypeName name written rest t = after_none 32 (written ++ rest) (name_begins 32 name written rest refl (eqb-false 32 96 refl) t)
 opens Term name written rest t = after_none 32 (written ++ rest) (name_begins 32 name written rest refl (eqb-false 32 96 refl) t)
@@ -48,8 +48,8 @@ opens Parameter name written rest t = eqb-false 40 32 refl
 
 descriptor_first : (d : PlainDescriptor) (first others : List ℕ) → DescriptorText d first → IsNotFirst 32 (first ++ others)
 descriptor_first d first others t =
-    let split : first ++ others ≡ opening d.kind ++ (t.name ++ (closing d.kind d.disambiguator ++ others)) =
-    ap (λ (x : List ℕ). x ++ others) t.whole ∙ append_assoc (opening d.kind ++ t.name) (closing d.kind d.disambiguator) others ∙ append_assoc (opening d.kind) t.name (closing d.kind d.disambiguator ++ others) in
+    let split : first ++ others ≡ before_name d.kind ++ (t.name ++ (closing d.kind d.disambiguator ++ others)) =
+    ap (λ (x : List ℕ). x ++ others) t.whole ∙ append_assoc (before_name d.kind ++ t.name) (closing d.kind d.disambiguator) others ∙ append_assoc (before_name d.kind) t.name (closing d.kind d.disambiguator ++ others) in
     subst (λ (x : List ℕ). IsNotFirst 32 x) (sym split) (opens d.kind d.name t.name (closing d.kind d.disambiguator ++ others) t.name_is)
 
 pub row_first : (ds : List PlainDescriptor) (text : List ℕ) → DescriptorTexts ds text → IsNotFirst 32 text

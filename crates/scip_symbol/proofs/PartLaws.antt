@@ -10,7 +10,7 @@ use Rattle.scip_symbol.specs.declared.fault.SymbolFault.TheVariants as faults
 use Rattle.scip_symbol.specs.Bytes.{doubled, IsNotFirst, IsEnded}
 use Rattle.scip_symbol.specs.SymbolTexts.{IsPart, IsOptionalPart, part_shown, ended_part, shown_parts, BeginsLocal}
 use Rattle.scip_symbol.specs.Outcomes.{HasParts, IsBadPart, IsReadRefusal}
-use Rattle.scip_symbol.specs.Reading.{ended_by, part_at, part_meant, optional_part_at, PlainParts, parts_at, ◌>>=◌}
+use Rattle.scip_symbol.specs.Reading.{ended_by, part_in_front, part_meant, optional_part_at, PlainParts, parts_at, ◌>>=◌}
 use Rattle.scip_symbol.proofs.Ends.{ended-said, unended}
 
 -- ---- parts as they are shown, and as they are meant
@@ -119,7 +119,7 @@ with_optional text parts rest n None go some h count few e then = part_lacks tex
 with_optional text parts rest n (Some x) go some h count few e then = let m = part_more text parts rest x h e in then x m.0 m.1
 
 pub parts_of : (text : List ℕ) → IsPart text → (BeginsLocal text → ⊥) → ArePartsOf text (parts_at text)
-unfolding parts_at optional_part_at part_at
+unfolding parts_at optional_part_at part_in_front
 parts_of text p not_local =
     let some = part_some text p in
     with_part text [] text 0 (ended_by 32 text) _ some (first_parts text p not_local) refl (omega arith) refl (λ s is_s hs.

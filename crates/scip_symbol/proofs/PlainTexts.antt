@@ -3,7 +3,7 @@ use Rattle.std.proofs.Common.{◌≡◌, ◌⊎◌, ℕ, ◌<◌, ◌≤◌, Lis
 use Rattle.std.specs.List.{flat_map}
 use Rattle.std.proofs.lemmas.Bool.{cases_Bool, cases_eq, eq-eqb, ne_eqb, both_ways}
 use Rattle.scip_symbol.specs.Bytes.{doubled}
-use Rattle.scip_symbol.specs.SymbolTexts.{PlainDescriptor, PlainSymbol, Local, Global, are_simple, NameText, plain_name, opening, closing, DescriptorText, DescriptorTexts, plain_descriptor_text, parts_text, SymbolText, plain_text}
+use Rattle.scip_symbol.specs.SymbolTexts.{PlainDescriptor, PlainSymbol, Local, Global, are_simple, NameText, plain_name, before_name, closing, DescriptorText, DescriptorTexts, plain_descriptor_text, parts_text, SymbolText, plain_text}
 use Rattle.scip_symbol.proofs.Answered.{ok_same}
 use Rattle.scip_symbol.proofs.WriteLaws.{plain_name_text}
 use Rattle.scip_symbol.proofs.OneReading.{outcome_once}
@@ -61,7 +61,7 @@ descriptor_plain d text t = record { name = plain_name d.name; name_is = plain_n
 
 descriptor_least : (d : PlainDescriptor) (text : List ℕ) → DescriptorText d text → IsLeast (plain_descriptor_text d) text
 descriptor_least d text t =
-    subst (λ (x : List ℕ). IsLeast (plain_descriptor_text d) x) (sym t.whole) (around_least (opening d.kind) (closing d.kind d.disambiguator) (plain_name d.name) t.name (plain_name_least d.name t.name t.name_is))
+    subst (λ (x : List ℕ). IsLeast (plain_descriptor_text d) x) (sym t.whole) (around_least (before_name d.kind) (closing d.kind d.disambiguator) (plain_name d.name) t.name (plain_name_least d.name t.name t.name_is))
 
 row_plain : (ds : List PlainDescriptor) (text : List ℕ) → DescriptorTexts ds text → DescriptorTexts ds (flat_map plain_descriptor_text ds)
 row_plain [] text t = refl

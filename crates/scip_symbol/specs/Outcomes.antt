@@ -5,7 +5,7 @@ use Rattle.scip_symbol.specs.declared.kind.DescriptorKind.{DescriptorKind}
 use Rattle.scip_symbol.specs.declared.fault.SymbolFault.{SymbolFault}
 use Rattle.scip_symbol.specs.declared.fault.SymbolFault.TheVariants as faults
 use Rattle.scip_symbol.specs.Bytes.{IsNotFirst, IsUnended}
-use Rattle.scip_symbol.specs.SymbolTexts.{PlainDescriptor, PlainSymbol, Local, Global, is_simple, are_simple, opening, IsOfMethod, DescriptorText, DescriptorTexts, IsPart, ended_part, BeginsLocal, SymbolText, plain_text}
+use Rattle.scip_symbol.specs.SymbolTexts.{PlainDescriptor, PlainSymbol, Local, Global, is_simple, are_simple, before_name, IsOfMethod, DescriptorText, DescriptorTexts, IsPart, ended_part, BeginsLocal, SymbolText, plain_text}
 
 -- ---- writing
 
@@ -117,7 +117,7 @@ pub record HasFront (text : List ℕ) (at : ℕ) (rest : List ℕ) : Type 0 wher
 pub record HasOpenQuote (rest : List ℕ) : Type 0 where
   pub kind : DescriptorKind
   pub inside : List ℕ
-  pub there : rest ≡ opening kind ++ 96 ∷ inside
+  pub there : rest ≡ before_name kind ++ 96 ∷ inside
   pub open_is : IsUnended 96 inside
 
 -- no descriptor stands in front

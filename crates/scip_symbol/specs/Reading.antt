@@ -55,31 +55,31 @@ simple_front (b ∷ bytes) = if is_simple b then with_first b (simple_front byte
 -- ---- descriptors; the place is that of the descriptor
 
 -- a name, if it isn't empty
-abbrev pub named : ℕ → List ℕ → List ℕ → Result (List ℕ × List ℕ) SymbolFault
-named at [] rest = Err (faults.BadDescriptor at)
-named at (b ∷ name) rest = Ok (b ∷ name, rest)
+abbrev pub nonempty_name : ℕ → List ℕ → List ℕ → Result (List ℕ × List ℕ) SymbolFault
+nonempty_name at [] rest = Err (faults.BadDescriptor at)
+nonempty_name at (b ∷ name) rest = Ok (b ∷ name, rest)
 
 unfoldable pub simple_name_at : ℕ → List ℕ → Result (List ℕ × List ℕ) SymbolFault
-simple_name_at at text = named at (simple_front text).0 (simple_front text).1
+simple_name_at at text = nonempty_name at (simple_front text).0 (simple_front text).1
 
 -- the name whose first backtick is read
 unfoldable pub quoted_name_at : ℕ → List ℕ → Result (List ℕ × List ℕ) SymbolFault
 quoted_name_at at inside = do
   x ← ok_or (ended_by 96 inside) faults.OpenQuote
-  named at x.0 x.1
+  nonempty_name at x.0 x.1
 
 abbrev pub name_behind : ℕ → Option (List ℕ) → List ℕ → Result (List ℕ × List ℕ) SymbolFault
 name_behind at None text = simple_name_at at text
 name_behind at (Some inside) text = quoted_name_at at inside
 
 -- the name in front, and what follows it
-unfoldable pub name_at : ℕ → List ℕ → Result (List ℕ × List ℕ) SymbolFault
-name_at at text = name_behind at (after_byte 96 text) text
+unfoldable pub name_in_front : ℕ → List ℕ → Result (List ℕ × List ℕ) SymbolFault
+name_in_front at text = name_behind at (after_byte 96 text) text
 
 -- a name and the byte that closes it
 unfoldable pub closed_at : ℕ → DescriptorKind → ℕ → List ℕ → Result (PlainDescriptor × List ℕ) SymbolFault
 closed_at at kind close inside = do
-  x ← name_at at inside
+  x ← name_in_front at inside
   rest ← ok_or (after_byte close x.1) (faults.BadDescriptor at)
   Ok (record { kind = kind; name = x.0; disambiguator = [] }, rest)
 
@@ -120,7 +120,7 @@ suffixed_at at name text = suffixed_behind at name (after_byte 40 text) text
 -- one that begins with its name
 unfoldable pub bare_at : ℕ → List ℕ → Result (PlainDescriptor × List ℕ) SymbolFault
 bare_at at text = do
-  x ← name_at at text
+  x ← name_in_front at text
   suffixed_at at x.0 x.1
 
 abbrev pub descriptor_behind : ℕ → Option (List ℕ) → Option (List ℕ) → List ℕ → Result (PlainDescriptor × List ℕ) SymbolFault
@@ -150,8 +150,8 @@ IsDescriptorsOutcome whole text (Err fault) = IsFirstWrong whole text fault
 -- ---- parts
 
 -- the part in front of this number, and what follows the space that ends it
-unfoldable pub part_at : ℕ → List ℕ → Result (List ℕ × List ℕ) SymbolFault
-part_at number text = ok_or (ended_by 32 text) (faults.BadPart number)
+unfoldable pub part_in_front : ℕ → List ℕ → Result (List ℕ × List ℕ) SymbolFault
+part_in_front number text = ok_or (ended_by 32 text) (faults.BadPart number)
 
 -- a shown part as it is
 abbrev pub part_meant : List ℕ → List ℕ
@@ -161,7 +161,7 @@ part_meant (b ∷ c ∷ part) = b ∷ c ∷ part
 
 unfoldable pub optional_part_at : ℕ → List ℕ → Result (List ℕ × List ℕ) SymbolFault
 optional_part_at number text = do
-  x ← part_at number text
+  x ← part_in_front number text
   Ok (part_meant x.0, x.1)
 
 -- the four parts as they are
@@ -174,7 +174,7 @@ pub record PlainParts : Type 0 where
 -- the four parts in front, and what follows them
 unfoldable pub parts_at : List ℕ → Result (PlainParts × List ℕ) SymbolFault
 parts_at text = do
-  scheme ← part_at 0 text
+  scheme ← part_in_front 0 text
   manager ← optional_part_at 1 scheme.1
   package_name ← optional_part_at 2 manager.1
   version ← optional_part_at 3 package_name.1

@@ -40,15 +40,15 @@ pub record NameText (name text : List ℕ) : Type 0 where
   pub written : (IsSimple name × (text ≡ name)) ⊎ (text ≡ quoted name)
 
 -- what stands before a name of this kind
-abbrev pub opening : DescriptorKind → List ℕ
-opening Namespace = []
-opening TypeName = []
-opening Term = []
-opening Method = []
-opening Meta = []
-opening Macro = []
-opening TypeParameter = codes "["
-opening Parameter = codes "("
+abbrev pub before_name : DescriptorKind → List ℕ
+before_name Namespace = []
+before_name TypeName = []
+before_name Term = []
+before_name Method = []
+before_name Meta = []
+before_name Macro = []
+before_name TypeParameter = codes "["
+before_name Parameter = codes "("
 
 -- what stands after it; a method has its disambiguator in parentheses
 abbrev pub closing : DescriptorKind → List ℕ → List ℕ
@@ -71,7 +71,7 @@ pub record DescriptorText (d : PlainDescriptor) (text : List ℕ) : Type 0 where
   pub name_is : NameText d.name name
   pub of_method : IsOfMethod d.kind d.disambiguator
   pub simple : are_simple d.disambiguator ≡ true
-  pub whole : text ≡ opening d.kind ++ name ++ closing d.kind d.disambiguator
+  pub whole : text ≡ before_name d.kind ++ name ++ closing d.kind d.disambiguator
 
 -- descriptors in a row
 abbrev pub DescriptorTexts : List PlainDescriptor → List ℕ → Type 0
@@ -131,7 +131,7 @@ abbrev pub plain_name : List ℕ → List ℕ
 plain_name name = if are_simple name then name else quoted name
 
 abbrev pub plain_descriptor_text : PlainDescriptor → List ℕ
-plain_descriptor_text d = opening d.kind ++ plain_name d.name ++ closing d.kind d.disambiguator
+plain_descriptor_text d = before_name d.kind ++ plain_name d.name ++ closing d.kind d.disambiguator
 
 -- the one text of a symbol that has backticks only where they are needed
 abbrev pub plain_text : PlainSymbol → List ℕ

@@ -1,7 +1,7 @@
 //! Reading a name.
 ghost use Rattle.std.specs.Prelude.{◌≡◌};
 ghost use Rattle.std.specs.String.{string_bytes};
-ghost use Rattle.scip_symbol.specs.Reading.{name_at, named, quoted_name_at, simple_name_at, Gives};
+ghost use Rattle.scip_symbol.specs.Reading.{name_in_front, nonempty_name, quoted_name_at, simple_name_at, Gives};
 
 use crate::SymbolFault;
 use crate::cuts::{after_mark, ended_in, simple_in};
@@ -32,9 +32,9 @@ fn quoted_name_in(alloc: Global, at: usize, inside: &str) -> Result<(String, &st
 }
 
 /// The name in front, simple or in backticks, and what follows it. The descriptor stands at this place.
-#[tactic(auto, unfolding(crate::specs::Reading::name_at))]
+#[tactic(auto, unfolding(crate::specs::Reading::name_in_front))]
 pub(crate) fn name_in(alloc: Global, at: usize, text: &str) -> Result<(String, &str), SymbolFault>
-    ensures { Gives (λ x. (string_bytes x.0, x.1.now)) result (name_at at text.now) }
+    ensures { Gives (λ x. (string_bytes x.0, x.1.now)) result (name_in_front at text.now) }
 {
     match after_mark(text, '`') {
         None => simple_name_in(alloc, at, text),

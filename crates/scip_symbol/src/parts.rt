@@ -1,7 +1,7 @@
 //! Reading the four parts of a symbol.
 ghost use Rattle.std.specs.Prelude.{◌≡◌};
 ghost use Rattle.std.specs.String.{string_bytes};
-ghost use Rattle.scip_symbol.specs.Reading.{optional_part_at, part_at, parts_at, plain_parts, Gives};
+ghost use Rattle.scip_symbol.specs.Reading.{optional_part_at, part_in_front, parts_at, plain_parts, Gives};
 
 use crate::SymbolFault;
 use crate::cuts::ended_in;
@@ -17,9 +17,9 @@ pub(crate) struct Parts {
 }
 
 /// The part in front, which has this number, and what follows it.
-#[tactic(auto, unfolding(crate::specs::Reading::part_at))]
+#[tactic(auto, unfolding(crate::specs::Reading::part_in_front))]
 fn part_in(alloc: Global, part: usize, text: &str) -> Result<(String, &str), SymbolFault>
-    ensures { Gives (λ x. (string_bytes x.0, x.1.now)) result (part_at part text.now) }
+    ensures { Gives (λ x. (string_bytes x.0, x.1.now)) result (part_in_front part text.now) }
 {
     let found = ended_in(alloc, text, ' ')?;
     let ended = found.ok_or(SymbolFault::BadPart { part })?;

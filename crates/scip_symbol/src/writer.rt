@@ -4,7 +4,7 @@ ghost use Rattle.std.specs.List.{flat_map};
 ghost use Rattle.std.specs.String.{string_bytes};
 ghost use Rattle.scip_symbol.specs.declared.fault.SymbolFault.{SymbolFault};
 ghost use Rattle.scip_symbol.specs.Bytes.{doubled};
-ghost use Rattle.scip_symbol.specs.SymbolTexts.{closing, ended_part, opening, part_shown, parts_text, plain_descriptor_text, plain_name, plain_text};
+ghost use Rattle.scip_symbol.specs.SymbolTexts.{closing, ended_part, before_name, part_shown, parts_text, plain_descriptor_text, plain_name, plain_text};
 ghost use Rattle.scip_symbol.specs.Views.{outcome_of, plain_descriptor, plain_descriptors, plain_symbol};
 ghost use Rattle.scip_symbol.specs.Outcomes.{IsWriteOutcome};
 
@@ -42,7 +42,7 @@ fn push_name(out: &mut String, name: &str) -> Result<(), AllocError>
 
 /// What stands before a name.
 fn opening_of(kind: DescriptorKind) -> &'static str
-    ensures { result.now ≡ opening kind }
+    ensures { result.now ≡ before_name kind }
 {
     match kind {
         DescriptorKind::TypeParameter => "[",

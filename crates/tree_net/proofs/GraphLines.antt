@@ -21,7 +21,7 @@ use Rattle.texts.specs.Fields.{is_name}
 use Rattle.tree_net.specs.GraphNet.{graph_entry, graph_import, graph_lines, graph_weight, AreLight}
 use Rattle.cut_net.specs.Network as network
 use Rattle.cut_net.specs.Network.{Network}
-use Rattle.cut_net.specs.NetText.{NetLine, Module, Import, is_import, AreApart, AreNamesOf, IsNetLine, IsNetOf, Mentions}
+use Rattle.cut_net.specs.NetText.{NetLine, Module, Import, is_import, AreOfTwoImports, AreNamesOf, IsNetLine, IsNetOf, Mentions}
 use Rattle.cut_net.specs.NetReading.{entry_line, AreTablesOf}
 use Rattle.cut_net.specs.WellFormed.{IsAcyclic, IsNetwork, Leads, total_weight}
 
@@ -39,13 +39,13 @@ entries_are : (g : ImportGraph) (ss : List ModuleScopes) (ps : List Edge) → ma
 entries_are g ss [] = refl
 entries_are g ss (p ∷ ps) = ap (λ (t : List NetLine). graph_import g ss p ∷ t) (entries_are g ss ps)
 
-module_apart : (n : List ℕ) (line : NetLine) → AreApart (Module n) line
+module_apart : (n : List ℕ) (line : NetLine) → AreOfTwoImports (Module n) line
 module_apart n (Module _) = tt
 module_apart n (Import _ _ _) = tt
 
-modules_apart : (names : List (List ℕ)) (lines : List NetLine) → AllPairs AreApart lines → AllPairs AreApart (map Module names ++ lines)
+modules_apart : (names : List (List ℕ)) (lines : List NetLine) → AllPairs AreOfTwoImports lines → AllPairs AreOfTwoImports (map Module names ++ lines)
 modules_apart [] lines h = h
-modules_apart (n ∷ ns) lines h = AllPairs-cons AreApart (Module n) (map Module ns ++ lines) (λ k d l. module_apart n (get_or (map Module ns ++ lines) k d)) (modules_apart ns lines h)
+modules_apart (n ∷ ns) lines h = AllPairs-cons AreOfTwoImports (Module n) (map Module ns ++ lines) (λ k d l. module_apart n (get_or (map Module ns ++ lines) k d)) (modules_apart ns lines h)
 
 not_before : (a b c d : ℕ) → a ≡ b → c ≡ d → (ltb a b || (eqb a b && ltb c d)) ≡ true → ⊥
 not_before a b c d e f h = grind (arith, nat_tests)
@@ -83,7 +83,7 @@ module _ (g : ImportGraph) (ss : List ModuleScopes) (graph : IsGraph g) where
       ∙ ap (λ (t : List NetLine). t ++ filter is_import (map (graph_import g ss) g.pairs)) (modules_dropped g.names)
       ∙ imports_kept g ss g.pairs ∙ entries_are g ss g.pairs
 
-  imports_apart : AllPairs AreApart (map (graph_import g ss) g.pairs)
+  imports_apart : AllPairs AreOfTwoImports (map (graph_import g ss) g.pairs)
   imports_apart i j d less within =
       let long = length-map g.pairs (graph_import g ss) in
       let li : i < length g.pairs = omega arith in
@@ -92,7 +92,7 @@ module _ (g : ImportGraph) (ss : List ModuleScopes) (graph : IsGraph g) where
       let q = get_or g.pairs j none_there in
       let bp = graph.between p (Contains-get_or g.pairs i none_there li) in
       let bq = graph.between q (Contains-get_or g.pairs j none_there lj) in
-      let apart : AreApart (graph_import g ss p) (graph_import g ss q) = λ e f. not_before p.from q.from p.to q.to (same_node p.from q.from bp.0 bq.0 e) (same_node p.to q.to bp.1 bq.1 f) (graph.ascend i j none_there less lj) in
+      let apart : AreOfTwoImports (graph_import g ss p) (graph_import g ss q) = λ e f. not_before p.from q.from p.to q.to (same_node p.from q.from bp.0 bq.0 e) (same_node p.to q.to bp.1 bq.1 f) (graph.ascend i j none_there less lj) in
       rw (get_or-map (graph_import g ss) g.pairs i none_there d li, get_or-map (graph_import g ss) g.pairs j none_there d lj) apart
 
   mentioned : (x : List ℕ) (line : NetLine) → Contains (graph_lines g ss) line → Mentions x line → Contains g.names x

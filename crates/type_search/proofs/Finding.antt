@@ -6,7 +6,7 @@ use Rattle.std.proofs.lemmas.Nat.{mul-add-lt}
 use Rattle.type_search.specs.declared.shape.Shape.{Shape}
 use Rattle.type_search.specs.declared.shape.Shape.TheVariants as shapes
 use Rattle.type_search.specs.declared.fields.Step.TheVariants as steps
-use Rattle.type_search.specs.Searches.{in_record, step_of, Opens, Finds, own, pointed, inherited}
+use Rattle.type_search.specs.Searches.{search_in_record, step_of, Opens, Finds, own, pointed, inherited}
 use Rattle.type_search.proofs.Opening.{opens_once, opens_far, AreSame}
 
 -- fewer declarations are left, whatever the depth
@@ -32,16 +32,16 @@ module _ {N D R : Type 0} (same : D → D → Bool) (shape : N → Shape N D R) 
 
   comes : (met : List D) (n : N) (f : F) → Finds same shape field base met n f → Comes met n f
   comes met n f (own {after = a} {m = x} {r = r} o is has) =
-      record { after = a; at = x; opens = o; turn = inl (ap (λ (s : Shape N D R). step_of field base s) is ∙ ap (λ (v : Option F). in_record v (base r)) has) }
+      record { after = a; at = x; opens = o; turn = inl (ap (λ (s : Shape N D R). step_of field base s) is ∙ ap (λ (v : Option F). search_in_record v (base r)) has) }
   comes met n f (pointed {after = a} {m = x} {next = y} o is rest) = record { after = a; at = x; opens = o; turn = inr (y, ap (λ (s : Shape N D R). step_of field base s) is, rest) }
   comes met n f (inherited {after = a} {m = x} {next = y} {r = r} o is has up rest) = record {
     after = a;
     at = x;
     opens = o;
-    turn = inr (y, ap (λ (s : Shape N D R). step_of field base s) is ∙ ap (λ (v : Option F). in_record v (base r)) has ∙ ap (λ (v : Option N). in_record {F = F} None v) up, rest);
+    turn = inr (y, ap (λ (s : Shape N D R). step_of field base s) is ∙ ap (λ (v : Option F). search_in_record v (base r)) has ∙ ap (λ (v : Option N). search_in_record {F = F} None v) up, rest);
   }
 
-  in_record_found : (r : R) (x : Option F) (y : Option N) (f : F) → field r ≡ x → in_record x y ≡ steps.Found f → field r ≡ Some f
+  in_record_found : (r : R) (x : Option F) (y : Option N) (f : F) → field r ≡ x → search_in_record x y ≡ steps.Found f → field r ≡ Some f
   in_record_found r (Some v) y f e h = e ∙ ap (λ (u : F). Some u) (let g : v ≡ f = cc in g)
   in_record_found r None (Some v) f e h = cc
   in_record_found r None None f e h = cc
@@ -55,7 +55,7 @@ module _ {N D R : Type 0} (same : D → D → Bool) (shape : N → Shape N D R) 
   found_at met after n m f (shapes.Named d x) o e h = cc
   found_at met after n m f shapes.Unknown o e h = cc
 
-  next_in_record : (met after : List D) (n m next : N) (f : F) (r : R) (x : Option F) (y : Option N) → Opens same shape met n after m → shape m ≡ shapes.Record r → field r ≡ x → base r ≡ y → in_record x y ≡ steps.Next next
+  next_in_record : (met after : List D) (n m next : N) (f : F) (r : R) (x : Option F) (y : Option N) → Opens same shape met n after m → shape m ≡ shapes.Record r → field r ≡ x → base r ≡ y → search_in_record x y ≡ steps.Next next
       → Finds same shape field base after next f → Finds same shape field base met n f
   next_in_record met after n m next f r (Some v) y o e p q h rest = cc
   next_in_record met after n m next f r None (Some v) o e p q h rest = let g : v ≡ next = cc in inherited o e p (q ∙ ap (λ (u : N). Some u) g) rest
@@ -96,10 +96,10 @@ module _ {N D R : Type 0} (same : D → D → Bool) (shape : N → Shape N D R) 
 
   pub finds_once : (met : List D) (n : N) (f k : F) → Finds same shape field base met n f → Finds same shape field base met n k → f ≡ k
   finds_once met n f k (own {after = a} {m = x} {r = r} o is has) q =
-      finds_only a x (shapes.Record r) f k is (ap (λ (v : Option F). in_record v (base r)) has) (here met a n x k o q)
+      finds_only a x (shapes.Record r) f k is (ap (λ (v : Option F). search_in_record v (base r)) has) (here met a n x k o q)
   finds_once met n f k (pointed {after = a} {m = x} {next = y} o is rest) q = finds_once a y f k rest (finds_behind a x y (shapes.Pointer y) k is refl (here met a n x k o q))
   finds_once met n f k (inherited {after = a} {m = x} {next = y} {r = r} o is has up rest) q =
-      let step : in_record (field r) (base r) ≡ steps.Next y = ap (λ (v : Option F). in_record v (base r)) has ∙ ap (λ (v : Option N). in_record {F = F} None v) up in
+      let step : search_in_record (field r) (base r) ≡ steps.Next y = ap (λ (v : Option F). search_in_record v (base r)) has ∙ ap (λ (v : Option N). search_in_record {F = F} None v) up in
       finds_once a y f k rest (finds_behind a x y (shapes.Record r) k is step (here met a n x k o q))
 
   -- a search from the first type has come to the second
@@ -135,7 +135,7 @@ module _ {N D R : Type 0} (same : D → D → Bool) (shape : N → Shape N D R) 
 
   -- where the search goes on the type is less deep
   module _ (depth : N → ℕ) (pointing : (x y : N) → shape x ≡ shapes.Pointer y → depth y < depth x) (basing : (x y : N) (r : R) → shape x ≡ shapes.Record r → base r ≡ Some y → depth y < depth x) where
-    based_at : (x next : N) (r : R) (u : Option F) (v : Option N) → shape x ≡ shapes.Record r → base r ≡ v → in_record u v ≡ steps.Next next → depth next < depth x
+    based_at : (x next : N) (r : R) (u : Option F) (v : Option N) → shape x ≡ shapes.Record r → base r ≡ v → search_in_record u v ≡ steps.Next next → depth next < depth x
     based_at x next r (Some f) v e q h = cc
     based_at x next r None (Some y) e q h = let g : y ≡ next = cc in basing x next r e (q ∙ ap (λ (w : N). Some w) g)
     based_at x next r None None e q h = cc

@@ -33,16 +33,16 @@ target_of (shapes.Named d n) = None
 target_of shapes.Unknown = None
 
 -- what a search for a field comes to in a record with this field, if any, and this base, if any
-abbrev pub in_record : {N F : Type 0} → Option F → Option N → Step N F
-in_record (Some f) b = steps.Found f
-in_record None (Some n) = steps.Next n
-in_record None None = steps.Nothing
+abbrev pub search_in_record : {N F : Type 0} → Option F → Option N → Step N F
+search_in_record (Some f) b = steps.Found f
+search_in_record None (Some n) = steps.Next n
+search_in_record None None = steps.Nothing
 
 -- the same at a type
 abbrev pub step_of : {N D R F : Type 0} → (R → Option F) → (R → Option N) → Shape N D R → Step N F
 step_of field base (shapes.Array n) = steps.Nothing
 step_of field base (shapes.Pointer n) = steps.Next n
-step_of field base (shapes.Record r) = in_record (field r) (base r)
+step_of field base (shapes.Record r) = search_in_record (field r) (base r)
 step_of field base shapes.Procedure = steps.Nothing
 step_of field base (shapes.Named d n) = steps.Nothing
 step_of field base shapes.Unknown = steps.Nothing

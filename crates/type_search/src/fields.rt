@@ -1,6 +1,6 @@
 //! Fields of records, through pointers and bases.
 ghost use Rattle.std.specs.Prelude.{◌≡◌, [], IfOk, IfSome, IfNone};
-ghost use Rattle.type_search.specs.Searches.{in_record, step_of, Finds};
+ghost use Rattle.type_search.specs.Searches.{search_in_record, step_of, Finds};
 
 use crate::graph::TypeGraph;
 use crate::search::go_on;
@@ -21,7 +21,7 @@ pub(crate) enum Step<Node, Field> {
 
 /// What a search for a field comes to in a record.
 fn step_in<G: TypeGraph>(graph: &G, record: G::Record, name: &[u8]) -> Step<G::Node, G::Field>
-    ensures { result ≡ in_record (G.field_of graph.now «record» name.now) (G.base_of graph.now «record») }
+    ensures { result ≡ search_in_record (G.field_of graph.now «record» name.now) (G.base_of graph.now «record») }
 {
     match graph.field(record, name) {
         Some(field) => Step::Found(field),

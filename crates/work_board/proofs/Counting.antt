@@ -4,7 +4,7 @@ use Rattle.std.specs.Prelude.{Contains, ◌==◌, cond, count_by, Option, None, 
 use Rattle.std.proofs.lemmas.Bool.{cases_eq, cases_Bool, eq-eqb, eqb-true}
 use Rattle.std.proofs.lemmas.List.{get_or-set_same, get_or-set_other}
 use Rattle.std.proofs.lemmas.List.Sums.{count_by_more_yes, count_by_more_no, sum_by-append, sum_by-take-le}
-use Rattle.work_board.specs.Graphs.{times}
+use Rattle.work_board.specs.Graphs.{times_in}
 use Rattle.work_board.specs.Cores.{has_entry}
 use Rattle.work_board.specs.Keeping.{open_of}
 use Rattle.work_board.proofs.Members.{first_or_later, first_member, later_member, no_member}
@@ -12,13 +12,13 @@ use Rattle.work_board.proofs.Members.{first_or_later, first_member, later_member
 pub differ : (a b : ℕ) → (a ≡ b → ⊥) → (a == b) ≡ false
 differ a b other = elim (cases_Bool (a == b)) [ inl is_so ↦ absurd (other (eqb-true a b is_so)) | inr is_not ↦ is_not ]
 
-pub times_yes : (m : ℕ) (xs : List ℕ) (i : ℕ) → i < length xs → get_or xs i 0 ≡ m → times m (take (i + 1) xs) ≡ times m (take i xs) + 1
+pub times_yes : (m : ℕ) (xs : List ℕ) (i : ℕ) → i < length xs → get_or xs i 0 ≡ m → times_in m (take (i + 1) xs) ≡ times_in m (take i xs) + 1
 times_yes m xs i lt e = count_by_more_yes (λ x. x == m) xs i 0 lt (eq-eqb (get_or xs i 0) m e)
 
-pub times_no : (m : ℕ) (xs : List ℕ) (i : ℕ) → i < length xs → (get_or xs i 0 ≡ m → ⊥) → times m (take (i + 1) xs) ≡ times m (take i xs)
+pub times_no : (m : ℕ) (xs : List ℕ) (i : ℕ) → i < length xs → (get_or xs i 0 ≡ m → ⊥) → times_in m (take (i + 1) xs) ≡ times_in m (take i xs)
 times_no m xs i lt e = count_by_more_no (λ x. x == m) xs i 0 lt (differ (get_or xs i 0) m e)
 
-pub times_take : (m : ℕ) (xs : List ℕ) (i : ℕ) → times m (take i xs) ≤ times m xs
+pub times_take : (m : ℕ) (xs : List ℕ) (i : ℕ) → times_in m (take i xs) ≤ times_in m xs
 times_take m xs i = sum_by-take-le _ xs i
 
 pub count_cons : {X : Type 0} (p : X → Bool) (x : X) (xs : List X) → count_by p (x ∷ xs) ≡ cond (p x) 1 0 + count_by p xs
@@ -50,7 +50,7 @@ module _ {E : Type 0} where
       rw there (omega arith)
 
   pub open_delivered : (entries : List (Option E)) (n : ℕ) (e : E) (row : List ℕ) → n < length entries → has_entry entries n ≡ false
-      → open_of (set entries n (Some e)) row + times n row ≡ open_of entries row
+      → open_of (set entries n (Some e)) row + times_in n row ≡ open_of entries row
   open_delivered entries n e [] lt none = refl
   open_delivered entries n e (x ∷ xs) lt none =
       let rest = open_delivered entries n e xs lt none in
@@ -62,12 +62,12 @@ module _ {E : Type 0} where
             let old : has_entry entries x ≡ false = ap (has_entry entries) same ∙ none in
             let a : open_of (set entries n (Some e)) (x ∷ xs) ≡ 0 + open_of (set entries n (Some e)) xs = rw new refl in
             let b : open_of entries (x ∷ xs) ≡ 1 + open_of entries xs = rw old refl in
-            let t : times n (x ∷ xs) ≡ 1 + times n xs = d ∙ rw test refl in
-            a_b_t (open_of (set entries n (Some e)) (x ∷ xs)) (open_of entries (x ∷ xs)) (times n (x ∷ xs)) (open_of (set entries n (Some e)) xs) (open_of entries xs) (times n xs) 0 1 1 a b t (omega (arith, rest))
+            let t : times_in n (x ∷ xs) ≡ 1 + times_in n xs = d ∙ rw test refl in
+            a_b_t (open_of (set entries n (Some e)) (x ∷ xs)) (open_of entries (x ∷ xs)) (times_in n (x ∷ xs)) (open_of (set entries n (Some e)) xs) (open_of entries xs) (times_in n xs) 0 1 1 a b t (omega (arith, rest))
         | inr other ↦
             let test : (x == n) ≡ false = differ x n other in
             let new : has_entry (set entries n (Some e)) x ≡ has_entry entries x = ap is_some (get_or-set_other entries n x (Some e) None other) in
             let a : open_of (set entries n (Some e)) (x ∷ xs) ≡ cond (has_entry entries x) 0 1 + open_of (set entries n (Some e)) xs = rw new refl in
-            let t : times n (x ∷ xs) ≡ 0 + times n xs = d ∙ rw test refl in
-            a_b_t (open_of (set entries n (Some e)) (x ∷ xs)) (open_of entries (x ∷ xs)) (times n (x ∷ xs)) (open_of (set entries n (Some e)) xs) (open_of entries xs) (times n xs) (cond (has_entry entries x) 0 1) (cond (has_entry entries x) 0 1) 0 a refl t (omega (arith, rest))
+            let t : times_in n (x ∷ xs) ≡ 0 + times_in n xs = d ∙ rw test refl in
+            a_b_t (open_of (set entries n (Some e)) (x ∷ xs)) (open_of entries (x ∷ xs)) (times_in n (x ∷ xs)) (open_of (set entries n (Some e)) xs) (open_of entries xs) (times_in n xs) (cond (has_entry entries x) 0 1) (cond (has_entry entries x) 0 1) 0 a refl t (omega (arith, rest))
       ]

@@ -6,7 +6,7 @@ use Rattle.std.proofs.lemmas.List.{ext_get_or, get_or-set_same, get_or-set_other
 use Rattle.std.proofs.Math.ListN.{get_or-map}
 use Rattle.work_board.specs.declared.state.State.{State}
 use Rattle.work_board.specs.declared.state.State.TheVariants.{Waiting, Free, Claimed, Delivered}
-use Rattle.work_board.specs.Graphs.{row_at, times, IsGraph, Leads, Modules}
+use Rattle.work_board.specs.Graphs.{row_at, times_in, IsGraph, Leads, Modules}
 use Rattle.work_board.specs.Cores.{entry_at, has_entry}
 use Rattle.work_board.specs.Keeping.{freed, state_at, taken, IsFit, IsValidBoard, IsStateOf}
 use Rattle.work_board.proofs.Claiming.{told_zero, told_none}
@@ -75,8 +75,8 @@ module _ {E : Type 0} (is_of : List ℕ → E → Type 0) (g : Modules) (waiting
 
   pub delivered_kept : (waiting' : List ℕ) (states' : List State) (importers : List ℕ)
       → length waiting' ≡ length waiting → length states' ≡ length states
-      → ((m : ℕ) → times m importers ≡ times n (row_at g.imports m))
-      → ((m : ℕ) → m < length waiting → slice_index waiting' m + times m importers ≡ slice_index waiting m)
+      → ((m : ℕ) → times_in m importers ≡ times_in n (row_at g.imports m))
+      → ((m : ℕ) → m < length waiting → slice_index waiting' m + times_in m importers ≡ slice_index waiting m)
       → ((m : ℕ) → m < length waiting → state_at states' m ≡ freed (state_at (set states n Delivered) m) (slice_index waiting' m))
       → is_of (row_at g.names n) e
       → IsValidBoard is_of g waiting' states' reached spare (set entries n (Some e))
@@ -129,7 +129,7 @@ module _ {E : Type 0} (is_of : List ℕ → E → Type 0) (g : Modules) (waiting
         | inr other ↦ rw (get_or-set_other states n m Delivered Waiting other) (told_fit (state_at states m) (slice_index waiting m) (has_entry entries m) (kept.told m (omega arith)))
       ]
 
-  pub counted : (importers : List ℕ) → ((m : ℕ) → times m importers ≡ times n (row_at g.imports m)) → (m : ℕ) → m < length waiting → times m importers ≤ slice_index waiting m
+  pub counted : (importers : List ℕ) → ((m : ℕ) → times_in m importers ≡ times_in n (row_at g.imports m)) → (m : ℕ) → m < length waiting → times_in m importers ≤ slice_index waiting m
   counted importers turned m lt =
       let size = kept.waiting_size in
       let a = open_delivered entries n e (row_at g.imports m) entries_below none_there in

@@ -15,8 +15,8 @@ abbrev pub row_at : {X : Type 0} → List (List X) → ℕ → List X
 row_at rows n = slice_index_or rows n []
 
 -- how often n stands in the row
-abbrev pub times : ℕ → List ℕ → ℕ
-times n row = count_by (λ x. x == n) row
+abbrev pub times_in : ℕ → List ℕ → ℕ
+times_in n row = count_by (λ x. x == n) row
 
 -- as many rows as names, at most 4,096, each of at most 65,536 imports, and each import is a module
 pub record IsGraph (g : Modules) : Type 0 where
@@ -31,7 +31,7 @@ AreRows rows count = (m : ℕ) → (length (row_at rows m) ≤ 65536) × All (λ
 
 -- the row of n has m as often as the row of m has n
 abbrev pub AreTurned : List (List ℕ) → List (List ℕ) → Type 0
-AreTurned imports importers = (m n : ℕ) → times m (row_at importers n) ≡ times n (row_at imports m)
+AreTurned imports importers = (m n : ℕ) → times_in m (row_at importers n) ≡ times_in n (row_at imports m)
 
 -- m imports n
 abbrev pub Leads : List (List ℕ) → ℕ → ℕ → Type 0

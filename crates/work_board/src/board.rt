@@ -1,7 +1,7 @@
 //! The board: what is claimed, what is delivered, and what each claimed module reaches.
 ghost use Rattle.std.specs.Prelude.{◌≡◌, ◌<◌, ◌≤◌, ◌+◌, ◌⊎◌, ◌↔◌, ℕ, true, false, length, map, replicate, All, IfOk, IfErr, IfSome, OnOk, [], ◌∷◌, ◌++◌, slice_index, slice_set, None, Some};
 ghost use Rattle.std.specs.Arc.{arc_value};
-ghost use Rattle.work_board.specs.Graphs.{lists, row_at, times, IsAcyclic, Reaches};
+ghost use Rattle.work_board.specs.Graphs.{lists, row_at, times_in, IsAcyclic, Reaches};
 ghost use Rattle.work_board.specs.Cores.{abandoned_after, entry_at, has_entry, is_claimed, new_core, shares_of, taken_back, AreOf, AreShares, IsClaim, IsDelivery, IsIdle, IsOver, IsReady, IsRefusal};
 ghost use Rattle.work_board.specs.Keeping.{freed, let_go, state_at, taken, IsFit, IsLook};
 
@@ -84,9 +84,9 @@ fn state_of(states: &[State], place: usize) -> State
 fn release(waiting: &mut [u32], states: &mut [State], importers: &[u32])
     requires size { length states.old ≡ length waiting.old }
     requires within { All (λ m. m < length waiting.old) importers.now }
-    requires counted { (m : ℕ) → m < length waiting.old → times m importers.now ≤ slice_index waiting.old m }
+    requires counted { (m : ℕ) → m < length waiting.old → times_in m importers.now ≤ slice_index waiting.old m }
     requires told { (m : ℕ) → m < length waiting.old → IsFit (state_at states.old m) (slice_index waiting.old m) }
-    ensures waiting { (m : ℕ) → m < length waiting.old → slice_index waiting.new m + times m importers.now ≡ slice_index waiting.old m }
+    ensures waiting { (m : ℕ) → m < length waiting.old → slice_index waiting.new m + times_in m importers.now ≡ slice_index waiting.old m }
     ensures states { (m : ℕ) → m < length waiting.old → state_at states.new m ≡ freed (state_at states.old m) (slice_index waiting.new m) }
 {
     for module in importers {

@@ -1,7 +1,7 @@
 //! A graph of modules by rows of imports, with the rows of those that import a module.
 ghost use Rattle.std.specs.Prelude.{◌≡◌, ◌↔◌, ◌<◌, ◌≤◌, ◌+◌, ◌==◌, ℕ, cond, IsTrue, length, map, take, All, IfOk, OnOk, OnErr, slice_set, vec_len, [], ◌∷◌, ◌++◌, Vec};
 ghost use Rattle.std.specs.String.{string_bytes};
-ghost use Rattle.work_board.specs.Graphs.{lists, row_at, times, AreRows, AreTurned, IsGraph};
+ghost use Rattle.work_board.specs.Graphs.{lists, row_at, times_in, AreRows, AreTurned, IsGraph};
 
 use std::alloc::{AllocError, Global};
 use std::marker::Model;
@@ -62,8 +62,8 @@ fn push_at(rows: &mut Vec<Vec<u32>>, place: usize, by: u32) -> Result<(), AllocE
 fn add_importer(rows: &mut Vec<Vec<u32>>, row: &[u32], by: u32) -> Result<(), AllocError>
     requires { All (λ w. w < length (lists rows.old.items)) row.now }
     ensures size { OnOk result (length (lists rows.new.items) ≡ length (lists rows.old.items)) }
-    ensures more { OnOk result ((n : ℕ) → times by (row_at (lists rows.new.items) n) ≡ times by (row_at (lists rows.old.items) n) + times n row.now) }
-    ensures others { OnOk result ((n x : ℕ) → (x ≡ by → ⊥) → times x (row_at (lists rows.new.items) n) ≡ times x (row_at (lists rows.old.items) n)) }
+    ensures more { OnOk result ((n : ℕ) → times_in by (row_at (lists rows.new.items) n) ≡ times_in by (row_at (lists rows.old.items) n) + times_in n row.now) }
+    ensures others { OnOk result ((n x : ℕ) → (x ≡ by → ⊥) → times_in x (row_at (lists rows.new.items) n) ≡ times_in x (row_at (lists rows.old.items) n)) }
     ensures within { OnOk result ((k : ℕ) → by < k → ((n : ℕ) → All (λ w. w < k) (row_at (lists rows.old.items) n)) → (n : ℕ) → All (λ w. w < k) (row_at (lists rows.new.items) n)) }
 {
     for imported in row {
@@ -173,7 +173,7 @@ impl Graph {
     /// The modules that import this one.
     pub fn importers_of(&self, number: u32) -> &[u32]
         requires { number < length self.now.names }
-        ensures turned { (m : ℕ) → times m result.now ≡ times number (row_at self.now.imports m) }
+        ensures turned { (m : ℕ) → times_in m result.now ≡ times_in number (row_at self.now.imports m) }
         ensures within { All (λ m. m < length self.now.names) result.now }
     {
         row(self.importers.as_slice(), number as usize)

@@ -2,7 +2,7 @@
 
 ghost use Rattle.std.specs.Prelude.{◌≡◌, false};
 ghost use Rattle.ob_decls.specs.Declaring.{const_piece, declarations_piece, import_inner, import_piece, imports_piece, module_end, module_piece, named_by, part, procedure_end, procedure_inner, procedure_piece, type_decl_piece, variable_piece};
-ghost use Rattle.ob_decls.specs.Drafts.{after, Reaches};
+ghost use Rattle.ob_decls.specs.Drafts.{after, ComesTo};
 ghost use Rattle.ob_decls.specs.Expressions.{expr_piece};
 ghost use Rattle.ob_decls.specs.Parts.{both, if_there, tells, token};
 ghost use Rattle.ob_decls.specs.Statements.{block_piece};
@@ -23,7 +23,7 @@ use ob_tree::statement::StatementSequence;
 /// The declaration of a constant.
 #[tactic(auto, using(crate::proofs::DeclarationLayers::sections_made))]
 fn walk_constant(draft: &mut Draft, inside: Context, constant: &ConstDecl)
-    ensures { Reaches (after (const_piece constant.now) inside) draft.old draft.new }
+    ensures { ComesTo (after (const_piece constant.now) inside) draft.old draft.new }
 {
     let first = draft.number;
     let row = declarer_at(Sort::Constant, inside, first);
@@ -38,7 +38,7 @@ fn walk_constant(draft: &mut Draft, inside: Context, constant: &ConstDecl)
 /// The declaration of a type.
 #[tactic(auto, using(crate::proofs::DeclarationLayers::sections_made))]
 fn walk_type_declaration(draft: &mut Draft, inside: Context, declared: &TypeDecl)
-    ensures { Reaches (after (type_decl_piece declared.now) inside) draft.old draft.new }
+    ensures { ComesTo (after (type_decl_piece declared.now) inside) draft.old draft.new }
 {
     let first = draft.number;
     let row = declarer_at(Sort::Type, inside, first);
@@ -53,7 +53,7 @@ fn walk_type_declaration(draft: &mut Draft, inside: Context, declared: &TypeDecl
 /// The declaration of variables of one type.
 #[tactic(auto, using(crate::proofs::DeclarationLayers::sections_made))]
 fn walk_variable(draft: &mut Draft, inside: Context, declared: &VarDecl)
-    ensures { Reaches (after (variable_piece declared.now) inside) draft.old draft.new }
+    ensures { ComesTo (after (variable_piece declared.now) inside) draft.old draft.new }
 {
     let first = draft.number;
     let row = declarer_at(Sort::Variable, inside, first);
@@ -65,7 +65,7 @@ fn walk_variable(draft: &mut Draft, inside: Context, declared: &VarDecl)
 /// CONST and its declarations.
 #[tactic(auto, using(crate::proofs::DeclarationLayers::sections_made))]
 fn walk_constants(draft: &mut Draft, inside: Context, constants: &[ConstDecl])
-    ensures { Reaches (after (part const_piece constants.now) inside) draft.old draft.new }
+    ensures { ComesTo (after (part const_piece constants.now) inside) draft.old draft.new }
 {
     draft.pass();
     for constant in constants {
@@ -77,7 +77,7 @@ fn walk_constants(draft: &mut Draft, inside: Context, constants: &[ConstDecl])
 /// TYPE and its declarations.
 #[tactic(auto, using(crate::proofs::DeclarationLayers::sections_made))]
 fn walk_types(draft: &mut Draft, inside: Context, types: &[TypeDecl])
-    ensures { Reaches (after (part type_decl_piece types.now) inside) draft.old draft.new }
+    ensures { ComesTo (after (part type_decl_piece types.now) inside) draft.old draft.new }
 {
     draft.pass();
     for declared in types {
@@ -89,7 +89,7 @@ fn walk_types(draft: &mut Draft, inside: Context, types: &[TypeDecl])
 /// VAR and its declarations.
 #[tactic(auto, using(crate::proofs::DeclarationLayers::sections_made))]
 fn walk_variables(draft: &mut Draft, inside: Context, variables: &[VarDecl])
-    ensures { Reaches (after (part variable_piece variables.now) inside) draft.old draft.new }
+    ensures { ComesTo (after (part variable_piece variables.now) inside) draft.old draft.new }
 {
     draft.pass();
     for declared in variables {
@@ -101,7 +101,7 @@ fn walk_variables(draft: &mut Draft, inside: Context, variables: &[VarDecl])
 #[cycle(declarations)]
 #[tactic(auto, using(crate::proofs::DeclarationLayers::declarations_made))]
 fn walk_declarations(draft: &mut Draft, inside: Context, declarations: &Declarations)
-    ensures { Reaches (after (declarations_piece declarations.now) inside) draft.old draft.new }
+    ensures { ComesTo (after (declarations_piece declarations.now) inside) draft.old draft.new }
 {
     match &declarations.constants {
         None => {}
@@ -124,7 +124,7 @@ fn walk_declarations(draft: &mut Draft, inside: Context, declarations: &Declarat
 /// Parameters, if they stand there.
 #[tactic(auto, using(crate::proofs::DeclarationLayers::sections_made))]
 fn walk_heading(draft: &mut Draft, inside: Context, parameters: &Option<Parameters>)
-    ensures { Reaches (after (if_there parameters_piece parameters.now) inside) draft.old draft.new }
+    ensures { ComesTo (after (if_there parameters_piece parameters.now) inside) draft.old draft.new }
 {
     match parameters {
         None => {}
@@ -136,7 +136,7 @@ fn walk_heading(draft: &mut Draft, inside: Context, parameters: &Option<Paramete
 #[cycle(declarations)]
 #[tactic(auto, using(crate::proofs::DeclarationLayers::declarations_made))]
 fn walk_procedure_inner(draft: &mut Draft, inside: Context, procedure: &ProcDecl)
-    ensures { Reaches (after (procedure_inner procedure.now) inside) draft.old draft.new }
+    ensures { ComesTo (after (procedure_inner procedure.now) inside) draft.old draft.new }
 {
     draft.pass();
     walk_identdef(draft, inside, procedure.name);
@@ -152,7 +152,7 @@ fn walk_procedure_inner(draft: &mut Draft, inside: Context, procedure: &ProcDecl
 /// The name behind the END of a procedure.
 #[tactic(auto, using(crate::proofs::DeclarationLayers::sections_made))]
 fn walk_procedure_end(draft: &mut Draft, inside: Context)
-    ensures { Reaches (after (tells procedure_end token) inside) draft.old draft.new }
+    ensures { ComesTo (after (tells procedure_end token) inside) draft.old draft.new }
 {
     let number = draft.number;
     let of = draft.behind(inside.declarer, 1);
@@ -166,7 +166,7 @@ fn walk_procedure_end(draft: &mut Draft, inside: Context)
 #[cycle(declarations)]
 #[tactic(auto, using(crate::proofs::DeclarationLayers::declarations_made))]
 fn walk_procedure(draft: &mut Draft, inside: Context, procedure: &ProcDecl)
-    ensures { Reaches (after (procedure_piece procedure.now) inside) draft.old draft.new }
+    ensures { ComesTo (after (procedure_piece procedure.now) inside) draft.old draft.new }
 {
     let first = draft.number;
     let row = declarer_at(Sort::Procedure, inside, first);
@@ -183,7 +183,7 @@ fn walk_procedure(draft: &mut Draft, inside: Context, procedure: &ProcDecl)
 /// BEGIN and the statements of a procedure.
 #[tactic(auto, using(crate::proofs::DeclarationLayers::sections_made))]
 fn walk_procedure_body(draft: &mut Draft, inside: Context, body: &Option<Box<StatementSequence>>)
-    ensures { Reaches (after (if_there (λ b. both token (block_piece b.value)) body.now) inside) draft.old draft.new }
+    ensures { ComesTo (after (if_there (λ b. both token (block_piece b.value)) body.now) inside) draft.old draft.new }
 {
     match body {
         None => {}
@@ -197,7 +197,7 @@ fn walk_procedure_body(draft: &mut Draft, inside: Context, body: &Option<Box<Sta
 /// RETURN and its expression.
 #[tactic(auto, using(crate::proofs::DeclarationLayers::sections_made))]
 fn walk_answer(draft: &mut Draft, inside: Context, answer: &Option<Box<Expr>>)
-    ensures { Reaches (after (if_there (λ e. both token (expr_piece e.value)) answer.now) inside) draft.old draft.new }
+    ensures { ComesTo (after (if_there (λ e. both token (expr_piece e.value)) answer.now) inside) draft.old draft.new }
 {
     match answer {
         None => {}
@@ -210,7 +210,7 @@ fn walk_answer(draft: &mut Draft, inside: Context, answer: &Option<Box<Expr>>)
 
 /// What an import item names that begins with this token: the identifier behind `:=`, or else its own.
 fn imported_by(draft: &mut Draft, import: ImportItem, number: u32) -> u32
-    ensures stage { Reaches (λ s. s) draft.old draft.new }
+    ensures stage { ComesTo (λ s. s) draft.old draft.new }
     ensures imported { draft.new.refused ≡ false → result ≡ named_by import.of number }
 {
     match import.of {
@@ -222,7 +222,7 @@ fn imported_by(draft: &mut Draft, import: ImportItem, number: u32) -> u32
 /// The parts of an import item.
 #[tactic(auto, using(crate::proofs::DeclarationLayers::sections_made))]
 fn walk_import_inner(draft: &mut Draft, inside: Context, import: ImportItem)
-    ensures { Reaches (after (import_inner import) inside) draft.old draft.new }
+    ensures { ComesTo (after (import_inner import) inside) draft.old draft.new }
 {
     let number = draft.number;
     let imported = imported_by(draft, import, number);
@@ -247,7 +247,7 @@ fn walk_import_inner(draft: &mut Draft, inside: Context, import: ImportItem)
 
 #[tactic(auto, using(crate::proofs::DeclarationLayers::sections_made))]
 fn walk_import(draft: &mut Draft, inside: Context, import: ImportItem)
-    ensures { Reaches (after (import_piece import) inside) draft.old draft.new }
+    ensures { ComesTo (after (import_piece import) inside) draft.old draft.new }
 {
     let first = draft.number;
     let row = declarer_at(Sort::Import, inside, first);
@@ -259,7 +259,7 @@ fn walk_import(draft: &mut Draft, inside: Context, import: ImportItem)
 /// IMPORT up to its semicolon.
 #[tactic(auto, using(crate::proofs::DeclarationLayers::sections_made))]
 fn walk_imports(draft: &mut Draft, inside: Context, imports: &Option<OneOrMore<ImportItem>>)
-    ensures { Reaches (after (if_there imports_piece imports.now) inside) draft.old draft.new }
+    ensures { ComesTo (after (if_there imports_piece imports.now) inside) draft.old draft.new }
 {
     match imports {
         None => {}
@@ -278,7 +278,7 @@ fn walk_imports(draft: &mut Draft, inside: Context, imports: &Option<OneOrMore<I
 /// BEGIN and the statements of a module.
 #[tactic(auto, using(crate::proofs::DeclarationLayers::sections_made))]
 fn walk_module_body(draft: &mut Draft, inside: Context, body: &Option<StatementSequence>)
-    ensures { Reaches (after (if_there (λ b. both token (block_piece b)) body.now) inside) draft.old draft.new }
+    ensures { ComesTo (after (if_there (λ b. both token (block_piece b)) body.now) inside) draft.old draft.new }
 {
     match body {
         None => {}
@@ -292,7 +292,7 @@ fn walk_module_body(draft: &mut Draft, inside: Context, body: &Option<StatementS
 /// The name behind the END of a module.
 #[tactic(auto, using(crate::proofs::DeclarationLayers::sections_made))]
 fn walk_module_end(draft: &mut Draft, inside: Context)
-    ensures { Reaches (after (tells module_end token) inside) draft.old draft.new }
+    ensures { ComesTo (after (tells module_end token) inside) draft.old draft.new }
 {
     let number = draft.number;
     draft.add_end(End { number, of: None });
@@ -301,7 +301,7 @@ fn walk_module_end(draft: &mut Draft, inside: Context)
 
 #[tactic(auto, using(crate::proofs::DeclarationLayers::module_made))]
 pub(crate) fn walk_module(draft: &mut Draft, inside: Context, module: &Module)
-    ensures { Reaches (after (module_piece «module».now) inside) draft.old draft.new }
+    ensures { ComesTo (after (module_piece «module».now) inside) draft.old draft.new }
 {
     draft.pass();
     draft.pass();

@@ -1,7 +1,7 @@
 //! The rows of expressions and designators.
 
 ghost use Rattle.std.specs.Prelude.{◌≡◌, ◌+◌, IfOk, false, length, map};
-ghost use Rattle.ob_decls.specs.Drafts.{added, after, settled, stage_of, Reaches};
+ghost use Rattle.ob_decls.specs.Drafts.{added, after, settled, stage_of, ComesTo};
 ghost use Rattle.ob_decls.specs.Expressions.{behind_dot, between, denoted, designator_piece, dotted, element_list_piece, element_piece, expr_list_piece, expr_phrase, expr_piece, factor_phrase, factor_piece, first_name, listed, selected, sum_phrase, sum_piece, term_phrase, term_piece, used};
 ghost use Rattle.ob_decls.specs.Parts.{these_selectors};
 ghost use Rattle.ob_decls.specs.Settling.{blanks, row_at, settling};
@@ -15,7 +15,7 @@ use std::alloc::AllocError;
 
 /// The name behind a dot that follows this token, if one does.
 pub(crate) fn member_at(draft: &mut Draft, member: Option<u32>, head: u32) -> Option<u32>
-    ensures stage { Reaches (λ s. s) draft.old draft.new }
+    ensures stage { ComesTo (λ s. s) draft.old draft.new }
     ensures member { draft.new.refused ≡ false → result ≡ behind_dot member head }
 {
     match member {
@@ -27,7 +27,7 @@ pub(crate) fn member_at(draft: &mut Draft, member: Option<u32>, head: u32) -> Op
 /// An identifier that is looked up and is no pointer's target.
 #[tactic(auto, using(crate::proofs::Steps::steps))]
 pub(crate) fn walk_used(draft: &mut Draft, inside: Context, member: Option<u32>)
-    ensures { Reaches (after (used member) inside) draft.old draft.new }
+    ensures { ComesTo (after (used member) inside) draft.old draft.new }
 {
     let number = draft.number;
     let member = member_at(draft, member, number);
@@ -187,7 +187,7 @@ fn inner_name_of(list: &Option<Box<ExprList>>, number: u32) -> Result<Option<Typ
 /// Adds a place for each of these selectors, and answers the first place.
 #[tactic(auto, using(crate::proofs::Settled::places_made))]
 fn open_selectors(draft: &mut Draft, head: u32, selectors: &[Selector]) -> usize
-    ensures rows { Reaches (added (these_selectors (blanks head selectors.now))) draft.old draft.new }
+    ensures rows { ComesTo (added (these_selectors (blanks head selectors.now))) draft.old draft.new }
     ensures place { result ≡ length draft.old.selectors.items }
 {
     let at = draft.selectors.len();
@@ -203,7 +203,7 @@ fn open_selectors(draft: &mut Draft, head: u32, selectors: &[Selector]) -> usize
 #[cycle(expressions)]
 #[tactic(auto, using(crate::proofs::ExpressionLayers::expressions_made))]
 pub(crate) fn walk_expr(draft: &mut Draft, inside: Context, expr: &Expr)
-    ensures { Reaches (after (expr_piece expr.now) inside) draft.old draft.new }
+    ensures { ComesTo (after (expr_piece expr.now) inside) draft.old draft.new }
 {
     walk_sum(draft, inside, &expr.left);
     match &expr.compared {
@@ -218,7 +218,7 @@ pub(crate) fn walk_expr(draft: &mut Draft, inside: Context, expr: &Expr)
 #[cycle(expressions)]
 #[tactic(auto, using(crate::proofs::ExpressionLayers::expressions_made))]
 fn walk_sum(draft: &mut Draft, inside: Context, sum: &SimpleExpression)
-    ensures { Reaches (after (sum_piece sum.now) inside) draft.old draft.new }
+    ensures { ComesTo (after (sum_piece sum.now) inside) draft.old draft.new }
 {
     match sum.sign {
         None => {}
@@ -234,7 +234,7 @@ fn walk_sum(draft: &mut Draft, inside: Context, sum: &SimpleExpression)
 #[cycle(expressions)]
 #[tactic(auto, using(crate::proofs::ExpressionLayers::expressions_made))]
 fn walk_term(draft: &mut Draft, inside: Context, term: &Term)
-    ensures { Reaches (after (term_piece term.now) inside) draft.old draft.new }
+    ensures { ComesTo (after (term_piece term.now) inside) draft.old draft.new }
 {
     walk_factor(draft, inside, &term.first);
     for (_, factor) in &term.rest {
@@ -246,7 +246,7 @@ fn walk_term(draft: &mut Draft, inside: Context, term: &Term)
 #[cycle(expressions)]
 #[tactic(auto, using(crate::proofs::ExpressionLayers::expressions_made))]
 fn walk_factor(draft: &mut Draft, inside: Context, factor: &Factor)
-    ensures { Reaches (after (factor_piece factor.now) inside) draft.old draft.new }
+    ensures { ComesTo (after (factor_piece factor.now) inside) draft.old draft.new }
 {
     match factor {
         Factor::Value(_, _) => draft.pass(),
@@ -277,7 +277,7 @@ fn walk_factor(draft: &mut Draft, inside: Context, factor: &Factor)
 #[cycle(expressions)]
 #[tactic(auto, using(crate::proofs::ExpressionLayers::expressions_made))]
 fn walk_element_list(draft: &mut Draft, inside: Context, list: &ElementList)
-    ensures { Reaches (after (element_list_piece list.now) inside) draft.old draft.new }
+    ensures { ComesTo (after (element_list_piece list.now) inside) draft.old draft.new }
 {
     walk_element(draft, inside, &list.first);
     for element in &list.rest {
@@ -289,7 +289,7 @@ fn walk_element_list(draft: &mut Draft, inside: Context, list: &ElementList)
 #[cycle(expressions)]
 #[tactic(auto, using(crate::proofs::ExpressionLayers::expressions_made))]
 fn walk_element(draft: &mut Draft, inside: Context, element: &Element)
-    ensures { Reaches (after (element_piece element.now) inside) draft.old draft.new }
+    ensures { ComesTo (after (element_piece element.now) inside) draft.old draft.new }
 {
     walk_expr(draft, inside, &element.low);
     match &element.high {
@@ -309,7 +309,7 @@ pub(crate) fn walk_designator(
     designator: &Designator,
     is_written: bool,
 )
-    ensures { Reaches (after (designator_piece is_written designator.now) inside) draft.old draft.new }
+    ensures { ComesTo (after (designator_piece is_written designator.now) inside) draft.old draft.new }
 {
     let head = draft.number;
     draft.add_designator(DesignatorRow {
@@ -325,7 +325,7 @@ pub(crate) fn walk_designator(
 /// Gives a selector's row in this place, and answers the place behind it.
 #[tactic(auto, using(crate::proofs::Steps::steps))]
 fn settle_selector(draft: &mut Draft, head: u32, at: usize, selector: &Selector) -> usize
-    ensures row { Reaches (λ s. settled at (row_at head (selected selector.now) s) s) draft.old draft.new }
+    ensures row { ComesTo (λ s. settled at (row_at head (selected selector.now) s) s) draft.old draft.new }
     ensures place { draft.new.refused ≡ false → result ≡ at + 1 }
 {
     match step_of(selector, draft.number) {
@@ -341,7 +341,7 @@ fn settle_selector(draft: &mut Draft, head: u32, at: usize, selector: &Selector)
 #[cycle(expressions)]
 #[tactic(auto, using(crate::proofs::Settled::selectors_settled))]
 fn walk_selectors(draft: &mut Draft, inside: Context, head: u32, at: usize, selectors: &[Selector])
-    ensures { Reaches (settling head at (map selected selectors.now) inside) draft.old draft.new }
+    ensures { ComesTo (settling head at (map selected selectors.now) inside) draft.old draft.new }
 {
     let mut place = at;
     for selector in selectors {
@@ -353,7 +353,7 @@ fn walk_selectors(draft: &mut Draft, inside: Context, head: u32, at: usize, sele
 #[cycle(expressions)]
 #[tactic(auto, using(crate::proofs::ExpressionLayers::expressions_made))]
 fn walk_selector(draft: &mut Draft, inside: Context, selector: &Selector)
-    ensures { Reaches (after (selected selector.now).piece inside) draft.old draft.new }
+    ensures { ComesTo (after (selected selector.now).piece inside) draft.old draft.new }
 {
     match selector {
         Selector::Field(_) => {
@@ -380,7 +380,7 @@ fn walk_selector(draft: &mut Draft, inside: Context, selector: &Selector)
 #[cycle(expressions)]
 #[tactic(auto, using(crate::proofs::ExpressionLayers::expressions_made))]
 fn walk_expr_list(draft: &mut Draft, inside: Context, list: &ExprList)
-    ensures { Reaches (after (expr_list_piece list.now) inside) draft.old draft.new }
+    ensures { ComesTo (after (expr_list_piece list.now) inside) draft.old draft.new }
 {
     walk_expr(draft, inside, &list.first);
     for expr in &list.rest {

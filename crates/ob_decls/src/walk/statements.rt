@@ -1,6 +1,6 @@
 //! The rows of names and statements.
 
-ghost use Rattle.ob_decls.specs.Drafts.{after, Reaches};
+ghost use Rattle.ob_decls.specs.Drafts.{after, ComesTo};
 ghost use Rattle.ob_decls.specs.Expressions.{each_after, expr_piece};
 ghost use Rattle.ob_decls.specs.Parts.{both, if_there, token};
 ghost use Rattle.ob_decls.specs.Statements.{block_piece, branch_piece, case_piece, for_piece, label_piece, label_range_piece, qualident_piece, stmt_piece, variable_piece};
@@ -14,7 +14,7 @@ use ob_tree::statement::{Branch, Case, For, Label, LabelRange, StatementSequence
 
 #[tactic(auto, using(crate::proofs::StatementLayers::labels_made))]
 pub(crate) fn walk_qualident(draft: &mut Draft, inside: Context, name: Qualident)
-    ensures { Reaches (after (qualident_piece name) inside) draft.old draft.new }
+    ensures { ComesTo (after (qualident_piece name) inside) draft.old draft.new }
 {
     walk_used(draft, inside, name.member);
     match name.member {
@@ -28,7 +28,7 @@ pub(crate) fn walk_qualident(draft: &mut Draft, inside: Context, name: Qualident
 
 #[tactic(auto, using(crate::proofs::StatementLayers::labels_made))]
 fn walk_label(draft: &mut Draft, inside: Context, label: Label)
-    ensures { Reaches (after (label_piece label) inside) draft.old draft.new }
+    ensures { ComesTo (after (label_piece label) inside) draft.old draft.new }
 {
     match label {
         Label::Integer(_) => draft.pass(),
@@ -39,7 +39,7 @@ fn walk_label(draft: &mut Draft, inside: Context, label: Label)
 
 #[tactic(auto, using(crate::proofs::StatementLayers::labels_made))]
 fn walk_label_range(draft: &mut Draft, inside: Context, range: LabelRange)
-    ensures { Reaches (after (label_range_piece range) inside) draft.old draft.new }
+    ensures { ComesTo (after (label_range_piece range) inside) draft.old draft.new }
 {
     walk_label(draft, inside, range.low);
     match range.high {
@@ -54,7 +54,7 @@ fn walk_label_range(draft: &mut Draft, inside: Context, range: LabelRange)
 /// BY and the step of a FOR.
 #[tactic(auto, using(crate::proofs::StatementLayers::labels_made))]
 fn walk_step(draft: &mut Draft, inside: Context, by: &Option<Expr>)
-    ensures { Reaches (after (if_there (λ e. both token (expr_piece e)) by.now) inside) draft.old draft.new }
+    ensures { ComesTo (after (if_there (λ e. both token (expr_piece e)) by.now) inside) draft.old draft.new }
 {
     match by {
         None => {}
@@ -68,7 +68,7 @@ fn walk_step(draft: &mut Draft, inside: Context, by: &Option<Expr>)
 /// The variable of a FOR, which is written.
 #[tactic(auto, using(crate::proofs::StatementLayers::labels_made))]
 fn walk_for_variable(draft: &mut Draft, inside: Context)
-    ensures { Reaches (after variable_piece inside) draft.old draft.new }
+    ensures { ComesTo (after variable_piece inside) draft.old draft.new }
 {
     let head = draft.number;
     draft.add_designator(Designator {
@@ -82,7 +82,7 @@ fn walk_for_variable(draft: &mut Draft, inside: Context)
 #[cycle(statements)]
 #[tactic(auto, using(crate::proofs::StatementLayers::statements_made))]
 pub(crate) fn walk_block(draft: &mut Draft, inside: Context, block: &StatementSequence)
-    ensures { Reaches (after (block_piece block.now) inside) draft.old draft.new }
+    ensures { ComesTo (after (block_piece block.now) inside) draft.old draft.new }
 {
     walk_stmt(draft, inside, &block.first);
     for stmt in &block.rest {
@@ -94,7 +94,7 @@ pub(crate) fn walk_block(draft: &mut Draft, inside: Context, block: &StatementSe
 #[cycle(statements)]
 #[tactic(auto, using(crate::proofs::StatementLayers::statements_made))]
 fn walk_stmt(draft: &mut Draft, inside: Context, stmt: &Stmt)
-    ensures { Reaches (after (stmt_piece stmt.now) inside) draft.old draft.new }
+    ensures { ComesTo (after (stmt_piece stmt.now) inside) draft.old draft.new }
 {
     match stmt {
         Stmt::Empty => {}
@@ -139,7 +139,7 @@ fn walk_stmt(draft: &mut Draft, inside: Context, stmt: &Stmt)
 #[cycle(statements)]
 #[tactic(auto, using(crate::proofs::StatementLayers::statements_made))]
 fn walk_otherwise(draft: &mut Draft, inside: Context, otherwise: &Option<Box<StatementSequence>>)
-    ensures { Reaches (after (if_there (λ b. both token (block_piece b.value)) otherwise.now) inside) draft.old draft.new }
+    ensures { ComesTo (after (if_there (λ b. both token (block_piece b.value)) otherwise.now) inside) draft.old draft.new }
 {
     match otherwise {
         None => {}
@@ -154,7 +154,7 @@ fn walk_otherwise(draft: &mut Draft, inside: Context, otherwise: &Option<Box<Sta
 #[cycle(statements)]
 #[tactic(auto, using(crate::proofs::StatementLayers::statements_made))]
 fn walk_branch(draft: &mut Draft, inside: Context, branch: &Branch)
-    ensures { Reaches (after (branch_piece branch.now) inside) draft.old draft.new }
+    ensures { ComesTo (after (branch_piece branch.now) inside) draft.old draft.new }
 {
     walk_expr(draft, inside, &branch.condition);
     draft.pass();
@@ -165,7 +165,7 @@ fn walk_branch(draft: &mut Draft, inside: Context, branch: &Branch)
 #[cycle(statements)]
 #[tactic(auto, using(crate::proofs::StatementLayers::statements_made))]
 fn walk_branches(draft: &mut Draft, inside: Context, branches: &Vec<Branch>)
-    ensures { Reaches (after (each_after branch_piece branches.now.items) inside) draft.old draft.new }
+    ensures { ComesTo (after (each_after branch_piece branches.now.items) inside) draft.old draft.new }
 {
     for branch in branches {
         draft.pass();
@@ -177,7 +177,7 @@ fn walk_branches(draft: &mut Draft, inside: Context, branches: &Vec<Branch>)
 #[cycle(statements)]
 #[tactic(auto, using(crate::proofs::StatementLayers::statements_made))]
 fn walk_cases(draft: &mut Draft, inside: Context, cases: &Vec<Case>)
-    ensures { Reaches (after (each_after case_piece cases.now.items) inside) draft.old draft.new }
+    ensures { ComesTo (after (each_after case_piece cases.now.items) inside) draft.old draft.new }
 {
     for case in cases {
         draft.pass();
@@ -188,7 +188,7 @@ fn walk_cases(draft: &mut Draft, inside: Context, cases: &Vec<Case>)
 #[cycle(statements)]
 #[tactic(auto, using(crate::proofs::StatementLayers::statements_made))]
 fn walk_case(draft: &mut Draft, inside: Context, case: &Case)
-    ensures { Reaches (after (case_piece case.now) inside) draft.old draft.new }
+    ensures { ComesTo (after (case_piece case.now) inside) draft.old draft.new }
 {
     match case {
         Case::Nothing => {}
@@ -207,7 +207,7 @@ fn walk_case(draft: &mut Draft, inside: Context, case: &Case)
 #[cycle(statements)]
 #[tactic(auto, using(crate::proofs::StatementLayers::statements_made))]
 fn walk_for(draft: &mut Draft, inside: Context, for_loop: &For)
-    ensures { Reaches (after (for_piece for_loop.now) inside) draft.old draft.new }
+    ensures { ComesTo (after (for_piece for_loop.now) inside) draft.old draft.new }
 {
     draft.pass();
     walk_for_variable(draft, inside);

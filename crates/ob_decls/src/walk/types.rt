@@ -1,10 +1,10 @@
 //! The rows of types and of formal parameters.
 
 ghost use Rattle.std.specs.Prelude.{◌≡◌, false};
-ghost use Rattle.ob_decls.specs.Drafts.{added, after, Reaches};
+ghost use Rattle.ob_decls.specs.Drafts.{added, after, ComesTo};
 ghost use Rattle.ob_decls.specs.Statements.{qualident_piece};
 ghost use Rattle.ob_decls.specs.Types.{base_of, fields_piece, identdef_piece, lengths_piece, open_arrays, parameter_piece, parameters_piece, record_piece, in_record, name_part, part_here, record_row, section_inner, section_piece, type_name_piece, type_piece, var_piece};
-ghost use Rattle.ob_decls.specs.Parts.{declaring, opening, both, if_there, token};
+ghost use Rattle.ob_decls.specs.Parts.{declaring, opens_block, both, if_there, token};
 ghost use Rattle.ob_decls.specs.declared.rows.Sort.TheVariants as sorts;
 
 use crate::draft::{Context, Draft, block_from, declarer_at, declaring_from};
@@ -17,7 +17,7 @@ use ob_tree::name::{Identdef, Qualident};
 
 #[tactic(auto, using(crate::proofs::TypeLayers::names_made))]
 pub(crate) fn walk_identdef(draft: &mut Draft, inside: Context, name: Identdef)
-    ensures { Reaches (after (identdef_piece name) inside) draft.old draft.new }
+    ensures { ComesTo (after (identdef_piece name) inside) draft.old draft.new }
 {
     let number = draft.number;
     draft.add_declared(Declared {
@@ -33,7 +33,7 @@ pub(crate) fn walk_identdef(draft: &mut Draft, inside: Context, name: Identdef)
 
 #[tactic(auto, using(crate::proofs::TypeLayers::names_made))]
 fn walk_parameter(draft: &mut Draft, inside: Context)
-    ensures { Reaches (after parameter_piece inside) draft.old draft.new }
+    ensures { ComesTo (after parameter_piece inside) draft.old draft.new }
 {
     let number = draft.number;
     draft.add_declared(Declared {
@@ -47,7 +47,7 @@ fn walk_parameter(draft: &mut Draft, inside: Context)
 /// ARRAY OF, so many times.
 #[tactic(auto, using(crate::proofs::TypeLayers::names_made))]
 fn walk_open_arrays(draft: &mut Draft, inside: Context, count: u32)
-    ensures { Reaches (after (open_arrays count) inside) draft.old draft.new }
+    ensures { ComesTo (after (open_arrays count) inside) draft.old draft.new }
 {
     for level in 0..count {
         add_here(draft, inside, Part::Array);
@@ -59,7 +59,7 @@ fn walk_open_arrays(draft: &mut Draft, inside: Context, count: u32)
 /// Adds a part of a form, which stands at the next token.
 #[tactic(auto, using(crate::proofs::TypeLayers::names_made))]
 fn add_here(draft: &mut Draft, inside: Context, part: Part)
-    ensures { Reaches (added (part_here part inside draft.old.number)) draft.old draft.new }
+    ensures { ComesTo (added (part_here part inside draft.old.number)) draft.old draft.new }
 {
     let number = draft.number;
     draft.add_part(FormPart {
@@ -72,7 +72,7 @@ fn add_here(draft: &mut Draft, inside: Context, part: Part)
 /// Adds a name as a part of a form.
 #[tactic(auto, using(crate::proofs::TypeLayers::names_made))]
 fn add_name(draft: &mut Draft, inside: Context, name: Qualident)
-    ensures { Reaches (added (name_part name inside draft.old.number)) draft.old draft.new }
+    ensures { ComesTo (added (name_part name inside draft.old.number)) draft.old draft.new }
 {
     let number = draft.number;
     let member = member_at(draft, name.member, number);
@@ -86,7 +86,7 @@ fn add_name(draft: &mut Draft, inside: Context, name: Qualident)
 /// The names of a section, with VAR if it stands before them, and their type.
 #[tactic(auto, using(crate::proofs::TypeLayers::names_made))]
 fn walk_section_inner(draft: &mut Draft, inside: Context, section: &ParameterSection)
-    ensures { Reaches (after (section_inner section.now) inside) draft.old draft.new }
+    ensures { ComesTo (after (section_inner section.now) inside) draft.old draft.new }
 {
     if section.variable {
         draft.pass();
@@ -104,7 +104,7 @@ fn walk_section_inner(draft: &mut Draft, inside: Context, section: &ParameterSec
 
 #[tactic(auto, using(crate::proofs::TypeLayers::names_made))]
 fn walk_section(draft: &mut Draft, inside: Context, section: &ParameterSection)
-    ensures { Reaches (after (section_piece section.now) inside) draft.old draft.new }
+    ensures { ComesTo (after (section_piece section.now) inside) draft.old draft.new }
 {
     let first = draft.number;
     let row = declarer_at(Sort::Parameter, inside, first);
@@ -115,7 +115,7 @@ fn walk_section(draft: &mut Draft, inside: Context, section: &ParameterSection)
 
 #[tactic(auto, using(crate::proofs::TypeLayers::names_made))]
 pub(crate) fn walk_parameters(draft: &mut Draft, inside: Context, parameters: &Parameters)
-    ensures { Reaches (after (parameters_piece parameters.now) inside) draft.old draft.new }
+    ensures { ComesTo (after (parameters_piece parameters.now) inside) draft.old draft.new }
 {
     draft.pass();
     match &parameters.sections {
@@ -141,7 +141,7 @@ pub(crate) fn walk_parameters(draft: &mut Draft, inside: Context, parameters: &P
 /// A name as a type; alone behind POINTER TO it is a target.
 #[tactic(auto, using(crate::proofs::TypeLayers::names_made))]
 fn walk_type_name(draft: &mut Draft, inside: Context, name: Qualident)
-    ensures { Reaches (after (type_name_piece name) inside) draft.old draft.new }
+    ensures { ComesTo (after (type_name_piece name) inside) draft.old draft.new }
 {
     add_name(draft, inside, name);
     let is_target = match name.member {
@@ -169,7 +169,7 @@ fn walk_type_name(draft: &mut Draft, inside: Context, name: Qualident)
 /// The lengths of an array.
 #[tactic(auto, using(crate::proofs::TypeLayers::names_made))]
 fn walk_lengths(draft: &mut Draft, inside: Context, lengths: &ExprList)
-    ensures { Reaches (after (lengths_piece lengths.now) inside) draft.old draft.new }
+    ensures { ComesTo (after (lengths_piece lengths.now) inside) draft.old draft.new }
 {
     walk_expr(draft, inside, &lengths.first);
     for length in &lengths.rest {
@@ -182,7 +182,7 @@ fn walk_lengths(draft: &mut Draft, inside: Context, lengths: &ExprList)
 /// A procedure type, which is a block.
 #[tactic(auto, using(crate::proofs::TypeLayers::names_made))]
 fn walk_procedure_type(draft: &mut Draft, inside: Context, parameters: &Option<Parameters>)
-    ensures { Reaches (after (opening (both token (if_there parameters_piece parameters.now))) inside) draft.old draft.new }
+    ensures { ComesTo (after (opens_block (both token (if_there parameters_piece parameters.now))) inside) draft.old draft.new }
 {
     let first = draft.number;
     draft.add_block(Block {
@@ -209,7 +209,7 @@ fn type_from(inside: Context, is_target: bool) -> Context
 #[cycle(types)]
 #[tactic(auto, using(crate::proofs::TypeLayers::types_made))]
 pub(crate) fn walk_type(draft: &mut Draft, inside: Context, form: &TypeForm)
-    ensures { Reaches (after (type_piece form.now) inside) draft.old draft.new }
+    ensures { ComesTo (after (type_piece form.now) inside) draft.old draft.new }
 {
     match form {
         TypeForm::Named(name) => walk_type_name(draft, inside, *name),
@@ -240,7 +240,7 @@ pub(crate) fn walk_type(draft: &mut Draft, inside: Context, form: &TypeForm)
 /// The base that a record names, whose RECORD has this number.
 #[tactic(auto, using(crate::proofs::Steps::steps))]
 fn base_from(draft: &mut Draft, base: Option<Qualident>, number: u32) -> Option<TypeName>
-    ensures stage { Reaches (λ s. s) draft.old draft.new }
+    ensures stage { ComesTo (λ s. s) draft.old draft.new }
     ensures base { draft.new.refused ≡ false → result ≡ base_of base number }
 {
     match base {
@@ -256,7 +256,7 @@ fn base_from(draft: &mut Draft, base: Option<Qualident>, number: u32) -> Option<
 /// Adds a record that begins with the next token.
 #[tactic(auto, using(crate::proofs::TypeLayers::names_made))]
 fn add_record(draft: &mut Draft, inside: Context, base: Option<Qualident>)
-    ensures { Reaches (added (record_row base inside draft.old.number)) draft.old draft.new }
+    ensures { ComesTo (added (record_row base inside draft.old.number)) draft.old draft.new }
 {
     let number = draft.number;
     let base = base_from(draft, base, number);
@@ -281,7 +281,7 @@ fn record_from(inside: Context, number: u32) -> Context
 /// The base of a record, in parentheses.
 #[tactic(auto, using(crate::proofs::TypeLayers::names_made))]
 fn walk_base(draft: &mut Draft, inside: Context, base: Option<Qualident>)
-    ensures { Reaches (after (if_there (λ q. both token (both (qualident_piece q) token)) base) inside) draft.old draft.new }
+    ensures { ComesTo (after (if_there (λ q. both token (both (qualident_piece q) token)) base) inside) draft.old draft.new }
 {
     match base {
         None => {}
@@ -296,7 +296,7 @@ fn walk_base(draft: &mut Draft, inside: Context, base: Option<Qualident>)
 #[cycle(types)]
 #[tactic(auto, using(crate::proofs::TypeLayers::types_made))]
 fn walk_record(draft: &mut Draft, inside: Context, form: &Record)
-    ensures { Reaches (after (record_piece form.now) inside) draft.old draft.new }
+    ensures { ComesTo (after (record_piece form.now) inside) draft.old draft.new }
 {
     let around = record_from(inside, draft.number);
     add_record(draft, inside, form.base);
@@ -310,7 +310,7 @@ fn walk_record(draft: &mut Draft, inside: Context, form: &Record)
 #[cycle(types)]
 #[tactic(auto, using(crate::proofs::TypeLayers::types_made))]
 fn walk_record_fields(draft: &mut Draft, inside: Context, fields: &Option<Box<Fields>>)
-    ensures { Reaches (after (if_there (λ x. fields_piece x.value) fields.now) inside) draft.old draft.new }
+    ensures { ComesTo (after (if_there (λ x. fields_piece x.value) fields.now) inside) draft.old draft.new }
 {
     match fields {
         None => {}
@@ -321,7 +321,7 @@ fn walk_record_fields(draft: &mut Draft, inside: Context, fields: &Option<Box<Fi
 #[cycle(types)]
 #[tactic(auto, using(crate::proofs::TypeLayers::types_made))]
 fn walk_fields(draft: &mut Draft, inside: Context, fields: &Fields)
-    ensures { Reaches (after (fields_piece fields.now) inside) draft.old draft.new }
+    ensures { ComesTo (after (fields_piece fields.now) inside) draft.old draft.new }
 {
     walk_field(draft, inside, &fields.first);
     for field in &fields.rest {
@@ -337,7 +337,7 @@ fn walk_fields(draft: &mut Draft, inside: Context, fields: &Fields)
 #[cycle(types)]
 #[tactic(auto, using(crate::proofs::TypeLayers::types_made))]
 fn walk_field(draft: &mut Draft, inside: Context, field: &VarDecl)
-    ensures { Reaches (after (declaring sorts.Field (var_piece field.now)) inside) draft.old draft.new }
+    ensures { ComesTo (after (declaring sorts.Field (var_piece field.now)) inside) draft.old draft.new }
 {
     let first = draft.number;
     let row = declarer_at(Sort::Field, inside, first);
@@ -349,7 +349,7 @@ fn walk_field(draft: &mut Draft, inside: Context, field: &VarDecl)
 #[cycle(types)]
 #[tactic(auto, using(crate::proofs::TypeLayers::types_made))]
 pub(crate) fn walk_var(draft: &mut Draft, inside: Context, variables: &VarDecl)
-    ensures { Reaches (after (var_piece variables.now) inside) draft.old draft.new }
+    ensures { ComesTo (after (var_piece variables.now) inside) draft.old draft.new }
 {
     walk_identdef(draft, inside, variables.names.first);
     for name in &variables.names.rest {

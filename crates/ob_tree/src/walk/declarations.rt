@@ -5,7 +5,7 @@ ghost use Rattle.ob_scan.specs.declared.kind.Kind.TheVariants as kinds;
 ghost use Rattle.ob_tree.specs.Declaring.{part, const_outline, type_decl_outline, variable_outline, declarations_outline, procedure_outline, import_outline, module_outline};
 ghost use Rattle.ob_tree.specs.Items.{items_of, more};
 ghost use Rattle.ob_tree.specs.Expressions.{expr_outline};
-ghost use Rattle.ob_tree.specs.Marks.{word, if_there, listed};
+ghost use Rattle.ob_tree.specs.Marks.{word, if_there, separated};
 ghost use Rattle.ob_tree.specs.Names.{identdef_outline};
 ghost use Rattle.ob_tree.specs.Statements.{block_outline};
 ghost use Rattle.ob_tree.specs.Types.{parameters_outline};
@@ -159,7 +159,7 @@ fn walk_import(out: &mut Items, import: ImportItem)
 /// IMPORT up to its semicolon.
 #[tactic(auto, using(crate::proofs::DeclarationWalks::module_walks))]
 fn walk_imports(out: &mut Items, imports: &Option<OneOrMore<ImportItem>>)
-    ensures { out.new ≡ more out.old (items_of (if_there (λ l. word kinds.Import ++ (listed kinds.Comma import_outline l ++ word kinds.Semicolon)) imports.now)) }
+    ensures { out.new ≡ more out.old (items_of (if_there (λ l. word kinds.Import ++ (separated kinds.Comma import_outline l ++ word kinds.Semicolon)) imports.now)) }
 {
     match imports {
         None => {}

@@ -5,7 +5,7 @@ ghost use Rattle.ob_scan.specs.declared.kind.Kind.TheVariants as kinds;
 ghost use Rattle.ob_tree.specs.Declaring.{part, const_outline, type_decl_outline, variable_outline, declarations_outline, procedure_outline, import_outline, module_outline};
 ghost use Rattle.ob_tree.specs.Derives.{declared_in};
 ghost use Rattle.ob_tree.specs.Gathered.{Adds};
-ghost use Rattle.ob_tree.specs.Marks.{word, if_there, listed};
+ghost use Rattle.ob_tree.specs.Marks.{word, if_there, separated};
 ghost use Rattle.ob_tree.specs.Names.{identdef_outline};
 ghost use Rattle.ob_tree.specs.Types.{section_outline, parameters_outline, type_outline, fields_outline, record_outline, var_outline};
 
@@ -46,7 +46,7 @@ fn parameters_names(out: &mut Numbers, parameters: &Option<Parameters>)
 
 #[tactic(auto, using(crate::proofs::DeclaredNames::type_names))]
 fn list_names(out: &mut Numbers, names: &OneOrMore<Identdef>)
-    ensures { Adds (declared_in (listed kinds.Comma identdef_outline names.now)) out.old out.new }
+    ensures { Adds (declared_in (separated kinds.Comma identdef_outline names.now)) out.old out.new }
 {
     out.put(names.first.name);
     for name in &names.rest {
@@ -167,7 +167,7 @@ fn procedure_names(out: &mut Numbers, procedure: &ProcDecl)
 
 #[tactic(auto, using(crate::proofs::DeclaredNames::declaration_names))]
 fn imports_names(out: &mut Numbers, imports: &Option<OneOrMore<ImportItem>>)
-    ensures { Adds (declared_in (if_there (λ l. word kinds.Import ++ (listed kinds.Comma import_outline l ++ word kinds.Semicolon)) imports.now)) out.old out.new }
+    ensures { Adds (declared_in (if_there (λ l. word kinds.Import ++ (separated kinds.Comma import_outline l ++ word kinds.Semicolon)) imports.now)) out.old out.new }
 {
     match imports {
         None => {}

@@ -3,7 +3,7 @@
 ghost use Rattle.std.specs.Prelude.{◌≡◌, ◌++◌, false};
 ghost use Rattle.ob_scan.specs.declared.kind.Kind.TheVariants as kinds;
 ghost use Rattle.ob_tree.specs.Items.{items_of, more};
-ghost use Rattle.ob_tree.specs.Marks.{declared, if_so, listed, word, times};
+ghost use Rattle.ob_tree.specs.Marks.{declared, if_so, separated, word, times};
 ghost use Rattle.ob_tree.specs.Types.{section_outline, parameters_outline, type_outline, fields_outline, record_outline, var_outline};
 
 use crate::declaration::{Fields, ParameterSection, Parameters, Record, TypeForm, VarDecl};
@@ -27,7 +27,7 @@ fn walk_open_arrays(out: &mut Items, count: u32)
 /// The names of a section, with VAR if it stands before them.
 #[tactic(auto, using(crate::proofs::TypeWalks::section_walks))]
 fn walk_section_names(out: &mut Items, section: &ParameterSection)
-    ensures { out.new ≡ more out.old (items_of (if_so section.now.variable (word kinds.Var) ++ listed kinds.Comma (declared false) section.now.names)) }
+    ensures { out.new ≡ more out.old (items_of (if_so section.now.variable (word kinds.Var) ++ separated kinds.Comma (declared false) section.now.names)) }
 {
     if section.variable {
         out.put(Item::Word);

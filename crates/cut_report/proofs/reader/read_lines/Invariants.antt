@@ -1,13 +1,13 @@
 use Rattle.std.proofs.Common.{◌≡◌, ◌+◌, ◌≤◌, length}
 use Rattle.cut_report.specs.ReportLines.{IsFront}
-use Rattle.cut_report.specs.Drafts.{standing_of}
+use Rattle.cut_report.specs.Drafts.{read_so_far_of}
 use Rattle.cut_report.proofs.Standings.{standing_lines}
 use Rattle.cut_report.proofs.reader.read_lines.Given as goal
 
 abbrev pub invariant-loop-text : goal.invariant-loop-text
 invariant-loop-text l = record {
-  front : IsFront l.net l.bytes (standing_lines l.net (standing_of l.draft)) l.rest;
-  count : l.before ≡ length (standing_lines l.net (standing_of l.draft));
+  front : IsFront l.net l.bytes (standing_lines l.net (read_so_far_of l.draft)) l.rest;
+  count : l.before ≡ length (standing_lines l.net (read_so_far_of l.draft));
   room : l.before + length l.rest ≤ length l.bytes;
 }
 

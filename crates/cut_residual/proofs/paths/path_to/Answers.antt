@@ -2,7 +2,7 @@ use Rattle.std.proofs.Common.{◌≡◌, ◌<◌, ◌∙◌, length, ap, sym, su
 use Rattle.std.proofs.lemmas.List.{get_or_default}
 use Rattle.cut_residual.specs.declared.found.Visit.{Visit}
 use Rattle.cut_residual.specs.Graphs.{IsAugmenting}
-use Rattle.cut_residual.specs.Trees.{no_place, place_at}
+use Rattle.cut_residual.specs.Trees.{no_place, visit_at}
 use Rattle.cut_residual.proofs.Walking.{Walking, walking_more, walking_end}
 use Rattle.cut_residual.proofs.paths.path_to.Goals as goal
 
@@ -14,8 +14,8 @@ loop-at-preserved c =
     let test = c.loop-at-test.true in
     let positive : 0 < at = omega arith in
     let in_places = c.loop-at.invariant.within positive in
-    let is : c.index-place.result.now ≡ place_at places at = c.index-place.ensures ∙ get_or_default places at c.index-place.result.now no_place in_places in
-    let parent_is : c.index-place.result.now.parent ≡ (place_at places at).parent = ap (λ (p : Visit). p.parent) is in
+    let is : c.index-place.result.now ≡ visit_at places at = c.index-place.ensures ∙ get_or_default places at c.index-place.result.now no_place in_places in
+    let parent_is : c.index-place.result.now.parent ≡ (visit_at places at).parent = ap (λ (p : Visit). p.parent) is in
     let earlier = found.have_parents at positive in_places in
     record {
       within = λ _. omega arith;
@@ -33,7 +33,7 @@ returns c start s =
     let w = subst (λ n. Walking g places c.place_of-at.result n c.loop-at.path.items) at_first (c.loop-at.invariant.walking g start s) in
     let way = walking_end g start found.seen.items places s.tree c.place_of-at.result c.loop-at.path.items w in
     let (p, in_places, at_node) = s.tree.placed c.args.node c.requires.seen in
-    let end = c.place_of-at.ensures.found p (subst (λ v. p < length v) (sym c.deref.ensures.value) in_places) (subst (λ v. (place_at v p).node ≡ c.args.node) (sym c.deref.ensures.value) at_node) in
-    let end_is = subst (λ v. (place_at v c.place_of-at.result).node ≡ c.args.node) c.deref.ensures.value end.1 in
+    let end = c.place_of-at.ensures.found p (subst (λ v. p < length v) (sym c.deref.ensures.value) in_places) (subst (λ v. (visit_at v p).node ≡ c.args.node) (sym c.deref.ensures.value) at_node) in
+    let end_is = subst (λ v. (visit_at v c.place_of-at.result).node ≡ c.args.node) c.deref.ensures.value end.1 in
     subst (λ v. IsAugmenting g.arcs start v c.args.node) (sym c.reverse.ensures.items)
     (subst (IsAugmenting g.arcs start (reverse c.loop-at.path.items)) end_is way)

@@ -6,7 +6,7 @@ use Rattle.std.proofs.lemmas.List.{get_or_default, get_or_append_left}
 use Rattle.std.proofs.lemmas.List.Elements.{Contains-get_or}
 use Rattle.cut_residual.specs.declared.found.Visit.{Visit}
 use Rattle.cut_residual.specs.Graphs.{no_residual_arc, HasArc, tail}
-use Rattle.cut_residual.specs.Trees.{LeadsOn, no_place, place_at}
+use Rattle.cut_residual.specs.Trees.{LeadsOn, no_place, visit_at}
 use Rattle.cut_residual.proofs.Searching.{searching_at, searching_no, searching_yes, searching_next}
 use Rattle.cut_residual.proofs.searches.visit.Goals as goal
 use Rattle.cut_residual.proofs.searches.visit.Goals.{then-leads_on+in_ok-push, else-leads_on}
@@ -18,7 +18,7 @@ head-next-requires c =
     ((c.residual_arcs-step-items.ensures (get_or group k no_residual_arc)).0 (Contains-get_or group k no_residual_arc c.loop-step-test.true)).0
 
 -- the node that is read is the place's
-read : (places : List Visit) (place : ℕ) (it : Visit) → place < length places → it ≡ get_or places place it → it.node ≡ (place_at places place).node
+read : (places : List Visit) (place : ℕ) (it : Visit) → place < length places → it ≡ get_or places place it → it.node ≡ (visit_at places place).node
 read places place it in_places is = ap (λ (p : Visit). p.node) (is ∙ get_or_default places place it no_place in_places)
 
 pub loop-step-init : goal.loop-step-init
@@ -63,7 +63,7 @@ loop-step-preserved c =
             seen_size = ap vec_len w.seen-is ∙ c.loop-step.invariant.seen_size;
             levels_size = ap vec_len w.levels-is ∙ c.loop-step.invariant.levels_size;
             longer = omega arith;
-            same_place = ap (λ v. place_at v place) places_is ∙ get_or_append_left places (new ∷ []) no_place place in_place ∙ same_place;
+            same_place = ap (λ v. visit_at v place) places_is ∙ get_or_append_left places (new ∷ []) no_place place in_place ∙ same_place;
             search = λ start z. rw (seen_is, places_is, next_is)
                 (searching_yes graph start seen places place group k (c.loop-step.invariant.search start z) in_place of_group.0 (of_group.1 ∙ node_is ∙ ap (λ (p : Visit). p.node) (sym same_place)) (subst (λ n. n < graph.nodes) next_is c.head-next.ensures.node) is_on);
           }
@@ -75,7 +75,7 @@ loop-step-preserved c =
             seen_size = ap vec_len w.seen-is ∙ c.loop-step.invariant.seen_size;
             levels_size = ap vec_len w.levels-is ∙ c.loop-step.invariant.levels_size;
             longer = omega arith;
-            same_place = ap (λ v. place_at v place) places_is ∙ same_place;
+            same_place = ap (λ v. visit_at v place) places_is ∙ same_place;
             search = λ start z. rw (seen_is, places_is)
                 (searching_no graph start seen places place group k (c.loop-step.invariant.search start z)
                 (λ lo. both_ways c.leads_on.result w.if-leads_on.false (on.1 (subst (LeadsOn graph.arcs s) (sym was) lo))));

@@ -1,5 +1,5 @@
 use Rattle.std.proofs.Common.{ℕ, [], ◌≡◌, ◌≤◌, vec_len}
-use Rattle.cut_residual.specs.Trees.{Searching, place_at}
+use Rattle.cut_residual.specs.Trees.{Searching, visit_at}
 use Rattle.cut_residual.proofs.searches.visit.Given as goal
 
 abbrev pub invariant-loop-step : goal.invariant-loop-step
@@ -7,7 +7,7 @@ invariant-loop-step l = record {
   seen_size : vec_len l.seen ≡ l.graph.nodes;
   levels_size : vec_len l.levels ≡ l.graph.nodes;
   longer : vec_len l.fn.places ≤ vec_len l.places;
-  same_place : place_at l.places.items l.place ≡ place_at l.fn.places.items l.place;
+  same_place : visit_at l.places.items l.place ≡ visit_at l.fn.places.items l.place;
   search : (start : ℕ) → Searching l.graph start l.fn.seen.items l.fn.places.items l.place [] 0 →
       Searching l.graph start l.seen.items l.places.items l.place l.step-items l.step-index;
 }

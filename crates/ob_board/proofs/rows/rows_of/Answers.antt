@@ -1,7 +1,7 @@
 use Rattle.std.proofs.Common.{◌≡◌, ◌+◌, ◌++◌, ◌∷◌, [], List, ℕ, map, take, sym, ap, ◌∙◌, subst}
 use Rattle.std.specs.Prelude.{slice_index}
 use Rattle.std.proofs.lemmas.List.{map-append, take_more}
-use Rattle.ob_board.specs.Unresolved.{plain_unresolved, AreRows, PlainUnresolved}
+use Rattle.ob_board.specs.Unresolved.{plain_unresolved, AreUnresolvedRows, PlainUnresolved}
 use Rattle.ob_board.proofs.Rowing.{rows_more}
 use Rattle.ob_board.proofs.rows.rows_of.Goals as goal
 
@@ -17,6 +17,6 @@ loop-number-preserved c =
     let more : take (i + 1) ks ≡ take i ks ++ slice_index ks i ∷ [] = take_more ks i 0 c.loop-number-test.true in
     let pushed : map plain_unresolved c.push.new.self.items ≡ before ++ row ∷ [] =
     ap (map plain_unresolved) c.in_ok-push.ensures.items ∙ map-append plain_unresolved c.loop-number.rows.items (c.in_ok-row_of.field-0 ∷ []) in
-    subst (λ (rows : List PlainUnresolved). AreRows path bytes ts (take (i + 1) ks) rows) (sym pushed)
-    (subst (λ (xs : List ℕ). AreRows path bytes ts xs (before ++ row ∷ [])) (sym more)
+    subst (λ (rows : List PlainUnresolved). AreUnresolvedRows path bytes ts (take (i + 1) ks) rows) (sym pushed)
+    (subst (λ (xs : List ℕ). AreUnresolvedRows path bytes ts xs (before ++ row ∷ [])) (sym more)
     (rows_more path bytes ts (take i ks) before (slice_index ks i) row c.loop-number.invariant c.in_ok-row_of.ensures))

@@ -8,7 +8,7 @@ use Rattle.ob_parse.specs.Front.{is_word}
 use Rattle.ob_parse.specs.Forms.{Reader, many, begins, limit_at}
 use Rattle.ob_parse.specs.Gives.{ahead}
 use Rattle.ob_parse.specs.ReadNames.{identdef_after}
-use Rattle.ob_parse.specs.ReadModules.{ended, procedure_at, declarations_with, procedure_named, procedure_with, procedures_with}
+use Rattle.ob_parse.specs.ReadModules.{with_semicolon, procedure_at, declarations_with, procedure_named, procedure_with, procedures_with}
 use Rattle.ob_parse.proofs.Kept.{kept, unkept}
 use Rattle.ob_parse.proofs.Loops.{pushed, smaller, is_done, has_begun, has_not_begun}
 use Rattle.ob_parse.proofs.LoopEnds.{ends}
@@ -20,7 +20,7 @@ use Rattle.ob_parse.proofs.Boxes.{gives_boxed}
 use Rattle.ob_parse.proofs.declarations.+declarations.Goals as goal
 
 abbrev declared_at : ℕ → Reader
-declared_at d = ended (procedure_at d)
+declared_at d = with_semicolon (procedure_at d)
 
 abbrev shown : ProcDecl → Out
 shown p = procedure_outline p ++ word kinds.Semicolon

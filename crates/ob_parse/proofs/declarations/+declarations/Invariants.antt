@@ -5,7 +5,7 @@ use Rattle.ob_tree.specs.Declaring.{procedure_outline}
 use Rattle.ob_parse.specs.Front.{is_word}
 use Rattle.ob_parse.specs.Forms.{many, begins}
 use Rattle.ob_parse.specs.Gives.{ahead}
-use Rattle.ob_parse.specs.ReadModules.{ended, procedure_at}
+use Rattle.ob_parse.specs.ReadModules.{with_semicolon, procedure_at}
 use Rattle.ob_parse.proofs.Loops.{with_front}
 use Rattle.ob_parse.proofs.declarations.+declarations.Given as goal
 
@@ -29,8 +29,8 @@ decreases-procedure_within l = 16 * l.depth + 5
 
 abbrev pub invariant-procedures-more : goal.invariant-procedures-more
 invariant-procedures-more l =
-    with_front (each (λ p. procedure_outline p ++ word kinds.Semicolon) l.declared.items) (many (begins (is_word kinds.Procedure)) (ended (procedure_at l.depth)) (ahead l.fn.tokens l.here))
-    ≡ many (begins (is_word kinds.Procedure)) (ended (procedure_at l.depth)) (ahead l.fn.tokens l.fn.input)
+    with_front (each (λ p. procedure_outline p ++ word kinds.Semicolon) l.declared.items) (many (begins (is_word kinds.Procedure)) (with_semicolon (procedure_at l.depth)) (ahead l.fn.tokens l.here))
+    ≡ many (begins (is_word kinds.Procedure)) (with_semicolon (procedure_at l.depth)) (ahead l.fn.tokens l.fn.input)
 
 abbrev pub decreases-procedures-more : goal.decreases-procedures-more
 decreases-procedures-more l = length (ahead l.fn.tokens l.here)

@@ -7,7 +7,7 @@ use Rattle.ob_tree.specs.Declaring.{const_outline}
 use Rattle.ob_parse.specs.Forms.{Reader, many, begins}
 use Rattle.ob_parse.specs.Gives.{ahead}
 use Rattle.ob_parse.specs.ReadExpressions.{expr_at}
-use Rattle.ob_parse.specs.ReadModules.{is_identifier, ended, const_with}
+use Rattle.ob_parse.specs.ReadModules.{is_identifier, with_semicolon, const_with}
 use Rattle.ob_parse.proofs.SoundExpressions.{expr_at_sound}
 use Rattle.ob_parse.proofs.Kept.{kept, unkept}
 use Rattle.ob_parse.proofs.Loops.{Advances, pushed, smaller, is_done, has_begun, has_not_begun, const_advances}
@@ -15,7 +15,7 @@ use Rattle.ob_parse.proofs.LoopEnds.{ends}
 use Rattle.ob_parse.proofs.declarations.constants.Goals as goal
 
 abbrev declared_at : ℕ → Reader
-declared_at d = ended (const_with (expr_at d))
+declared_at d = with_semicolon (const_with (expr_at d))
 
 abbrev shown : ConstDecl → Out
 shown d = const_outline d ++ word kinds.Semicolon

@@ -7,7 +7,7 @@ use Rattle.ob_tree.specs.Declaring.{type_decl_outline}
 use Rattle.ob_parse.specs.Forms.{Reader, many, begins}
 use Rattle.ob_parse.specs.Gives.{ahead}
 use Rattle.ob_parse.specs.ReadTypes.{type_at}
-use Rattle.ob_parse.specs.ReadModules.{is_identifier, ended, type_decl_with}
+use Rattle.ob_parse.specs.ReadModules.{is_identifier, with_semicolon, type_decl_with}
 use Rattle.ob_parse.proofs.SoundTypes.{type_at_sound}
 use Rattle.ob_parse.proofs.Kept.{kept, unkept}
 use Rattle.ob_parse.proofs.Loops.{Advances, pushed, smaller, is_done, has_begun, has_not_begun, type_decl_advances}
@@ -15,7 +15,7 @@ use Rattle.ob_parse.proofs.LoopEnds.{ends}
 use Rattle.ob_parse.proofs.declarations.named_types.Goals as goal
 
 abbrev declared_at : ℕ → Reader
-declared_at d = ended (type_decl_with (type_at d))
+declared_at d = with_semicolon (type_decl_with (type_at d))
 
 abbrev shown : TypeDecl → Out
 shown d = type_decl_outline d ++ word kinds.Semicolon

@@ -7,7 +7,7 @@ use Rattle.ob_tree.specs.Declaring.{variable_outline}
 use Rattle.ob_parse.specs.Forms.{Reader, many, begins}
 use Rattle.ob_parse.specs.Gives.{ahead}
 use Rattle.ob_parse.specs.ReadTypes.{type_at}
-use Rattle.ob_parse.specs.ReadModules.{is_identifier, ended, variable_with}
+use Rattle.ob_parse.specs.ReadModules.{is_identifier, with_semicolon, variable_with}
 use Rattle.ob_parse.proofs.SoundTypes.{type_at_sound}
 use Rattle.ob_parse.proofs.Kept.{kept, unkept}
 use Rattle.ob_parse.proofs.Loops.{Advances, pushed, smaller, is_done, has_begun, has_not_begun, variable_advances}
@@ -15,7 +15,7 @@ use Rattle.ob_parse.proofs.LoopEnds.{ends}
 use Rattle.ob_parse.proofs.declarations.variables.Goals as goal
 
 abbrev declared_at : ℕ → Reader
-declared_at d = ended (variable_with (type_at d))
+declared_at d = with_semicolon (variable_with (type_at d))
 
 abbrev shown : VarDecl → Out
 shown d = variable_outline d ++ word kinds.Semicolon

@@ -4,14 +4,14 @@ use Rattle.ob_tree.specs.Marks.{each_after}
 use Rattle.ob_tree.specs.Declaring.{import_outline}
 use Rattle.ob_parse.specs.Forms.{many, accept_at}
 use Rattle.ob_parse.specs.Gives.{ahead}
-use Rattle.ob_parse.specs.ReadModules.{import_at}
+use Rattle.ob_parse.specs.ReadModules.{import_item_at}
 use Rattle.ob_parse.proofs.Loops.{with_front}
 use Rattle.ob_parse.proofs.modules.more_imports.Given as goal
 
 abbrev pub invariant-more : goal.invariant-more
 invariant-more l =
-    with_front (each_after kinds.Comma import_outline l.rest.items) (many (accept_at kinds.Comma) import_at (ahead l.fn.tokens l.here))
-    ≡ many (accept_at kinds.Comma) import_at (ahead l.fn.tokens l.fn.input)
+    with_front (each_after kinds.Comma import_outline l.rest.items) (many (accept_at kinds.Comma) import_item_at (ahead l.fn.tokens l.here))
+    ≡ many (accept_at kinds.Comma) import_item_at (ahead l.fn.tokens l.fn.input)
 
 abbrev pub decreases-more : goal.decreases-more
 decreases-more l = length (ahead l.fn.tokens l.here)

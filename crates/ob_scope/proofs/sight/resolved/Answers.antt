@@ -4,7 +4,7 @@ use Rattle.std.specs.Prelude.{slice_get, slice_index_or, IfSome}
 use Rattle.std.proofs.lemmas.List.{get_or_default}
 use Rattle.ob_scope.specs.declared.members.Member.{Member}
 use Rattle.ob_scope.specs.Sighted.{IsSight}
-use Rattle.ob_scope.specs.Sights.{number_of, IsOpenScope}
+use Rattle.ob_scope.specs.Sights.{name_number, IsOpenScope}
 use Rattle.ob_scope.specs.Texts.{text_at}
 use Rattle.ob_scope.proofs.Elements.{slice_there}
 use Rattle.ob_scope.proofs.SightSteps.{falls, look_ascend, look_found, look_none, look_same, look_sight, look_start, look_unnamed, sight_as, start_within, walk_by}
@@ -110,7 +110,7 @@ returns-clause-found c =
     let at = c.last_open-at.result in
     let walks = walk_by members c.as_slice-2.result.now c.enter.new.opened.stack.items c.as_slice-3.result.now s.earlier.items c.index.result.now (slice_index_or s.latest.items n None) at c.as_slice-2.ensures.value c.as_slice-3.ensures.value (sym from) c.last_open-at.ensures.start in
     let start = look_start name blocks members names numbers c.requires.numbered c.requires.blocks c.args.block c.args.token s h c.in_ok-declare_before.ensures.front c.enter.new.opened c.in_ok-enter.ensures n at walks in
-    let is = c.in-Some.ensures.found ∙ ap (number_of names) c.of.ensures in
+    let is = c.in-Some.ensures.found ∙ ap (name_number names) c.of.ensures in
     look_found name blocks members names numbers c.requires.numbered c.requires.blocks c.args.block c.args.token s h c.in_ok-declare_before.ensures.front c.enter.new.opened c.in_ok-enter.ensures n at is start
     (subst (λ (stack : List ℕ). IfSome at (λ i. (m : Member) × (slice_get members i ≡ Some m) × IsOpenScope stack m.place)) c.as_slice-2.ensures.value c.last_open-at.ensures.«open»)
 
@@ -130,5 +130,5 @@ returns-clause-none c =
     let at = c.last_open-at.result in
     let walks = walk_by members c.as_slice-2.result.now c.enter.new.opened.stack.items c.as_slice-3.result.now s.earlier.items c.index.result.now (slice_index_or s.latest.items n None) at c.as_slice-2.ensures.value c.as_slice-3.ensures.value (sym from) c.last_open-at.ensures.start in
     let start = look_start name blocks members names numbers c.requires.numbered c.requires.blocks c.args.block c.args.token s h c.in_ok-declare_before.ensures.front c.enter.new.opened c.in_ok-enter.ensures n at walks in
-    let is = c.in-Some.ensures.found ∙ ap (number_of names) c.of.ensures in
+    let is = c.in-Some.ensures.found ∙ ap (name_number names) c.of.ensures in
     look_none name blocks members names numbers c.requires.numbered c.requires.blocks c.args.block c.args.token s h c.in_ok-declare_before.ensures.front c.enter.new.opened c.in_ok-enter.ensures n at is start

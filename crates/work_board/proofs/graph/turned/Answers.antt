@@ -1,7 +1,7 @@
 use Rattle.std.proofs.Common.{◌≡◌, ◌<◌, ℕ, [], length, sym, ap, ◌∙◌, arith, inl, inr}
 use Rattle.std.proofs.lemmas.Bool.{cases_eq, cases_lt}
 use Rattle.std.proofs.lemmas.List.{get_or_past, length-map}
-use Rattle.work_board.specs.Graphs.{lists, row_at, times}
+use Rattle.work_board.specs.Graphs.{lists, row_at, times_in}
 use Rattle.work_board.proofs.graph.turned.Goals as goal
 
 pub add_importer-requires : goal.add_importer-requires
@@ -27,7 +27,7 @@ loop-place-preserved c =
         | inl here ↦
             let more = after.more n in
             let none = before.rest n p (omega arith) in
-            let row_is = ap (times n) c.row.ensures in
+            let row_is = ap (times_in n) c.row.ensures in
             rw here (omega (arith, more, none, row_is))
         | inr away ↦ after.others n x away ∙ before.done n x (omega arith)
       ];
@@ -43,7 +43,7 @@ returns-clause-turned c = λ m n.
       | inl below ↦ c.loop-place.invariant.done n m (omega arith)
       | inr above ↦
           let none : row_at (lists c.args.imports.now) m ≡ [] = get_or_past (lists c.args.imports.now) m [] (omega arith) in
-          c.loop-place.invariant.rest n m (let e = c.loop-place.auto.place-end in omega arith) ∙ sym (ap (times n) none)
+          c.loop-place.invariant.rest n m (let e = c.loop-place.auto.place-end in omega arith) ∙ sym (ap (times_in n) none)
     ]
 
 pub returns-clause-size : goal.returns-clause-size

@@ -6,7 +6,7 @@ use Rattle.digraph.specs.declared.edge.Edge.{Edge}
 use Rattle.digraph.specs.Chains.{Chain}
 use Rattle.digraph.specs.Edges as edges
 use Rattle.digraph.specs.Levels.{IsLeastChain}
-use Rattle.cut_net.specs.Lines.{pair_of}
+use Rattle.cut_net.specs.Lines.{edge_of}
 use Rattle.cut_net.proofs.Cycles.{pairs_ascend, pairs_between, IfNone_then}
 use Rattle.cut_net.proofs.PinChains.{least_of_pins, no_pin_chain, pins_between}
 use Rattle.cut_net.proofs.net.Net.pinned_chain.Goals as goal
@@ -23,7 +23,7 @@ least_chain-requires-clause-ascending c =
 pub returns-clause-found : goal.returns-clause-found
 returns-clause-found c =
     let net = c.args.self.now in
-    let pairs : c.as_slice.result.now ≡ map pair_of net.pins = c.as_slice.ensures.value ∙ c.in_ok-pairs.ensures ∙ ap (map pair_of) c.pins.ensures in
+    let pairs : c.as_slice.result.now ≡ map edge_of net.pins = c.as_slice.ensures.value ∙ c.in_ok-pairs.ensures ∙ ap (map edge_of) c.pins.ensures in
     IfOk-weaker c.least_chain.result _ _
     (λ answer h. IfSome_then answer h (λ chain is. least_of_pins net c.keeps.ensures.pins c.args.from c.args.to chain.items
     (subst (λ (es : List Edge). IsLeastChain (edges.Leads es) c.args.from c.args.to chain.items) pairs is))) c.least_chain.ensures.found
@@ -31,7 +31,7 @@ returns-clause-found c =
 pub returns-clause-none : goal.returns-clause-none
 returns-clause-none c =
     let net = c.args.self.now in
-    let pairs : c.as_slice.result.now ≡ map pair_of net.pins = c.as_slice.ensures.value ∙ c.in_ok-pairs.ensures ∙ ap (map pair_of) c.pins.ensures in
+    let pairs : c.as_slice.result.now ≡ map edge_of net.pins = c.as_slice.ensures.value ∙ c.in_ok-pairs.ensures ∙ ap (map edge_of) c.pins.ensures in
     IfOk-weaker c.least_chain.result _ _
     (λ answer. IfNone_then answer (λ none. no_pin_chain net c.keeps.ensures.pins c.args.from c.args.to
     (subst (λ (es : List Edge). Chain (edges.Leads es) c.args.from c.args.to → ⊥) pairs none))) c.least_chain.ensures.none

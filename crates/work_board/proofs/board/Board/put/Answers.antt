@@ -2,7 +2,7 @@ use Rattle.std.proofs.Common.{◌≡◌, ◌<◌, ◌≤◌, ◌+◌, ℕ, Bool,
 use Rattle.std.specs.Prelude.{slice_index, Some}
 use Rattle.std.proofs.lemmas.List.{length-set}
 use Rattle.work_board.specs.declared.state.State.TheVariants.{Claimed, Delivered}
-use Rattle.work_board.specs.Graphs.{lists, row_at, times, Modules}
+use Rattle.work_board.specs.Graphs.{lists, row_at, times_in, Modules}
 use Rattle.work_board.specs.Cores.{has_entry, is_claimed}
 use Rattle.work_board.specs.Keeping.{freed, state_at, taken, IsFit, IsValidBoard}
 use Rattle.work_board.proofs.Claiming.{claimed_state}
@@ -17,8 +17,8 @@ at_n g c =
     let none = subst (λ core. has_entry core.entries c.args.number ≡ false) (sym c.self.view_is) c.requires.none in
     claimed_state g.E.WorkEntry.is_of g.T.NamedTree.graph b.waiting.items b.states.items (lists b.reached.items) b.spare.items b.entries.items c.self.invariant.1 b.abandoned c.args.number claimed none
 
-turned : (g : _) (c : goal.After-importers_of g) (m : ℕ) → times m c.importers_of.result.now ≡ times c.args.number (row_at g.T.NamedTree.graph.imports m)
-turned g c m = c.importers_of.ensures.turned m ∙ ap (λ (t : Modules). times c.args.number (row_at t.imports m)) c.self.invariant.0
+turned : (g : _) (c : goal.After-importers_of g) (m : ℕ) → times_in m c.importers_of.result.now ≡ times_in c.args.number (row_at g.T.NamedTree.graph.imports m)
+turned g c m = c.importers_of.ensures.turned m ∙ ap (λ (t : Modules). times_in c.args.number (row_at t.imports m)) c.self.invariant.0
 
 pub release-requires-clause-counted : goal.release-requires-clause-counted
 release-requires-clause-counted g c = λ m lt.
@@ -26,7 +26,7 @@ release-requires-clause-counted g c = λ m lt.
     let at = at_n g c in
     let l = ap length c.as_mut_slice.ensures.value in
     let h = counted g.E.WorkEntry.is_of g.T.NamedTree.graph b.waiting.items b.states.items (lists b.reached.items) b.spare.items b.entries.items c.self.invariant.1 c.args.number c.args.entry at.0 at.1 c.importers_of.result.now (turned g c) m (omega arith) in
-    subst (λ ws. times m c.importers_of.result.now ≤ slice_index ws m) (sym c.as_mut_slice.ensures.value) h
+    subst (λ ws. times_in m c.importers_of.result.now ≤ slice_index ws m) (sym c.as_mut_slice.ensures.value) h
 
 pub release-requires-clause-told : goal.release-requires-clause-told
 release-requires-clause-told g c = λ m lt.
@@ -43,7 +43,7 @@ w_size g c = c.release.auto.waiting ∙ ap length c.as_mut_slice.ensures.value
 s_size : (g : _) (c : goal.After-self-4-1 g) → length c.release.new.states ≡ length c.self.inside.states.items
 s_size g c = c.release.auto.states ∙ ap length c.as_mut_slice-2.ensures.value ∙ length-set c.self.inside.states.items c.args.number Delivered
 
-counts : (g : _) (c : goal.After-self-4-1 g) (m : ℕ) → m < length c.self.inside.waiting.items → slice_index c.release.new.waiting m + times m c.importers_of.result.now ≡ slice_index c.self.inside.waiting.items m
+counts : (g : _) (c : goal.After-self-4-1 g) (m : ℕ) → m < length c.self.inside.waiting.items → slice_index c.release.new.waiting m + times_in m c.importers_of.result.now ≡ slice_index c.self.inside.waiting.items m
 counts g c m lt =
     let l = ap length c.as_mut_slice.ensures.value in
     c.release.ensures.waiting m (omega arith) ∙ ap (λ ws. slice_index ws m) c.as_mut_slice.ensures.value
@@ -61,8 +61,8 @@ at_end g c =
     let none = subst (λ core. has_entry core.entries c.args.number ≡ false) (sym c.self.view_is) c.requires.none in
     claimed_state g.E.WorkEntry.is_of g.T.NamedTree.graph b.waiting.items b.states.items (lists b.reached.items) b.spare.items b.entries.items c.self.invariant.1 b.abandoned c.args.number claimed none
 
-turned_end : (g : _) (c : goal.After-self-4-1 g) (m : ℕ) → times m c.importers_of.result.now ≡ times c.args.number (row_at g.T.NamedTree.graph.imports m)
-turned_end g c m = c.importers_of.ensures.turned m ∙ ap (λ (t : Modules). times c.args.number (row_at t.imports m)) c.self.invariant.0
+turned_end : (g : _) (c : goal.After-self-4-1 g) (m : ℕ) → times_in m c.importers_of.result.now ≡ times_in c.args.number (row_at g.T.NamedTree.graph.imports m)
+turned_end g c m = c.importers_of.ensures.turned m ∙ ap (λ (t : Modules). times_in c.args.number (row_at t.imports m)) c.self.invariant.0
 
 new_waiting : (g : _) (c : goal.After-self-4-1 g) → take c.self.inside.waiting.len (c.release.new.waiting ++ drop (length c.release.new.waiting) c.self.inside.waiting.items) ≡ c.release.new.waiting
 new_waiting g c = restored c.self.inside.waiting.len c.release.new.waiting c.self.inside.waiting.items (w_size g c) c.self.inside.waiting.ok.0

@@ -3,20 +3,20 @@ use Rattle.std.proofs.Common.{◌≡◌, ℕ, zero, suc, ◌-◌, ◌≤◌, Lis
 use Rattle.std.specs.Prelude.{◌==◌, slice_get}
 use Rattle.std.proofs.lemmas.Option.{slice_get_past, slice_get_read}
 use Rattle.ob_decls.specs.declared.rows.Selector.{Selector}
-use Rattle.ob_targets.specs.Steps.{begins}
-use Rattle.ob_resolve.proofs.selectors.begins.Goals as goal
+use Rattle.ob_targets.specs.Steps.{begins_designator}
+use Rattle.ob_resolve.proofs.selectors.begins_designator.Goals as goal
 
-first_of_all : (ss : List Selector) (p : ℕ) (s : Selector) → (1 ≤ p → ⊥) → true ≡ begins ss p s
+first_of_all : (ss : List Selector) (p : ℕ) (s : Selector) → (1 ≤ p → ⊥) → true ≡ begins_designator ss p s
 first_of_all ss zero s none = refl
 first_of_all ss (suc p) s none = absurd (none (omega arith))
 
-behind_none : (ss : List Selector) (p e : ℕ) (s : Selector) → 1 ≤ p → e ≡ p - 1 → slice_get ss e ≡ None → true ≡ begins ss p s
+behind_none : (ss : List Selector) (p e : ℕ) (s : Selector) → 1 ≤ p → e ≡ p - 1 → slice_get ss e ≡ None → true ≡ begins_designator ss p s
 behind_none ss zero e s l is none = absurd (omega (arith, l))
 behind_none ss (suc p) e s l is none =
     let same : p ≡ e = omega (arith, is) in
     sym (ap (λ (o : Option Selector). elim o [ None ↦ true | Some before ↦ not (before.of == s.of) ]) (ap (slice_get ss) same ∙ none))
 
-behind_another : (ss : List Selector) (p e : ℕ) (s before : Selector) → 1 ≤ p → e ≡ p - 1 → slice_get ss e ≡ Some before → not (before.of == s.of) ≡ begins ss p s
+behind_another : (ss : List Selector) (p e : ℕ) (s before : Selector) → 1 ≤ p → e ≡ p - 1 → slice_get ss e ≡ Some before → not (before.of == s.of) ≡ begins_designator ss p s
 behind_another ss zero e s before l is there = absurd (omega (arith, l))
 behind_another ss (suc p) e s before l is there =
     let same : p ≡ e = omega (arith, is) in
