@@ -8,4 +8,4 @@ mod narrow;
 mod part;
 
 pub use narrow::narrowed;
-pub use part::{Part, between, lines_whole, turned_imports};
+pub use part::{NetPart, between, lines_whole, turned_imports};

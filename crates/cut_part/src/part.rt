@@ -16,7 +16,7 @@ use std::alloc::{AllocError, Global};
 /// The network between two modules: those on a chain of imports from the one to the other, with all imports between these. Both modules
 /// are there also where no chain leads, and then there is no import.
 #[derive(Drop)]
-pub struct Part {
+pub struct NetPart {
     /// The smaller network, its modules in the order that they have in the whole one.
     pub net: Net,
     /// For each module of the smaller network its number in the whole one.
@@ -242,7 +242,7 @@ pub fn lines_whole(
 
 /// The network between two modules of a network, which are told by their numbers, with its pins. It has the same flows from the one to the
 /// other, and what is printed of it is what is printed of the whole network.
-pub fn between(alloc: Global, net: &Net, from: u32, to: u32) -> Result<Part, AllocError>
+pub fn between(alloc: Global, net: &Net, from: u32, to: u32) -> Result<NetPart, AllocError>
     requires from { from < length net.now.names }
     requires to { to < length net.now.names }
     ensures { IfOk result (λ part. IsPart net.now from to part.marks.items part.numbers.items part.places.items part.net) }
@@ -252,7 +252,7 @@ pub fn between(alloc: Global, net: &Net, from: u32, to: u32) -> Result<Part, All
     let (numbers, places) = numbering(alloc, &marks, from, to)?;
     let (imports, pins) = lines_between(alloc, net, &marks, &places)?;
     let names = names_of(alloc, net, &numbers)?;
-    Ok(Part {
+    Ok(NetPart {
         net: Net::with_pins(names, imports, pins),
         numbers,
         places,

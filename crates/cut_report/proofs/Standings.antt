@@ -15,7 +15,7 @@ use Rattle.cut_net.proofs.Places.{index_takes}
 use Rattle.cut_report.specs.declared.fault.ReportLineFault.{ReportLineFault}
 use Rattle.cut_report.specs.declared.fault.ReportLineFault.TheVariants as faults
 use Rattle.cut_report.specs.ReportLine.{removes, flows, front_lines, entry_lines}
-use Rattle.cut_report.specs.Drafts.{◌>>=◌, ReadSoFar, Start, Named, Open, Shut, Ended, Part, blocked_entry, chain_of, entry_of_part, going_on, import_of, is_after, last_import, numbered_by, opened_by, shut_by, step, with_removed}
+use Rattle.cut_report.specs.Drafts.{◌>>=◌, ReadSoFar, Start, Named, Open, Shut, Ended, ClaimedPart, blocked_entry, chain_of, entry_of_part, going_on, import_of, is_after, last_import, numbered_by, opened_by, shut_by, step, with_removed}
 use Rattle.cut_report.proofs.NameOrder.{AreIn, index_from_known, known_from_index}
 use Rattle.cut_report.proofs.ImportLines.{AreLines, FitsWord, FitsFlow, IsRun, flow_lines, remove_lines, good_run, good_after}
 use Rattle.cut_report.proofs.EntryLines.{last_of-append, last_follows}
@@ -151,7 +151,7 @@ found_removes net m n k q f = rw (f.from, f.to, f.amount_is) refl
 found_flows : (net : Network) (m n : List ℕ) (k : ℕ) (q : Priced) → IsFound net m n k q → flows net q ≡ Flows m n k
 found_flows net m n k q f = rw (f.from, f.to, f.amount_is) refl
 
-remove_is_step : (net : Network) (p : Part) (m n : List ℕ) (k : ℕ) (flow : List Priced) → p.flow ≡ flow → IsNetwork net → AreGoodAfter net None (standing_lines net (Open p)) → HasForm (Removes m n k)
+remove_is_step : (net : Network) (p : ClaimedPart) (m n : List ℕ) (k : ℕ) (flow : List Priced) → p.flow ≡ flow → IsNetwork net → AreGoodAfter net None (standing_lines net (Open p)) → HasForm (Removes m n k)
     → StepIs net (Open p) (Removes m n k) (with_removed net p flow m n k)
 remove_is_step net p m n k [] e w g h =
     let start : Option ReportLine = Some (Weighs p.weight) in
@@ -173,7 +173,7 @@ remove_is_step net p m n k (f ∷ fs) e w g h =
     let last_is : last_line net (Open p) ≡ last_of (Some (flows net f)) (map (flows net) fs) = rw (e, last_of-append start (map (removes net) p.printed) (map (flows net) (f ∷ fs))) refl in
     rw last_is (flow_inner net (λ x. may_follow x (Removes m n k) ≡ false) (Some (flows net f)) fs refl (λ q. refl))
 
-flow_is_step : (net : Network) (p : Part) (m n : List ℕ) (k : ℕ) → IsNetwork net → AreGoodAfter net None (standing_lines net (Open p)) → HasForm (Flows m n k)
+flow_is_step : (net : Network) (p : ClaimedPart) (m n : List ℕ) (k : ℕ) → IsNetwork net → AreGoodAfter net None (standing_lines net (Open p)) → HasForm (Flows m n k)
     → StepIs net (Open p) (Flows m n k) (import_of net (last_import None p.flow) m n k >>= λ next. Ok (Open (record p { flow = p.flow ++ next ∷ [] })))
 flow_is_step net p m n k w g h =
     let start : Option ReportLine = Some (Weighs p.weight) in
@@ -194,7 +194,7 @@ flow_is_step net p m n k w g h =
       rw (map_push (flows net) p.flow q, found_flows net m n k q f, append_assoc (map (removes net) p.printed) (map (flows net) p.flow) (Flows m n k ∷ [])) refl,
     ))
 
-go_on_is_step : (net : Network) (p : Part) (line : ReportLine) → IsNetwork net → AreGoodAfter net None (standing_lines net (Open p)) → HasForm line → StepIs net (Open p) line (going_on net p line)
+go_on_is_step : (net : Network) (p : ClaimedPart) (line : ReportLine) → IsNetwork net → AreGoodAfter net None (standing_lines net (Open p)) → HasForm line → StepIs net (Open p) line (going_on net p line)
 unfolding going_on
 go_on_is_step net p (Ends m n) w g h = inner net (λ x. may_follow x (Ends m n) ≡ false) (Some (Weighs p.weight)) p.printed p.flow refl (λ q. refl) (λ q. refl)
 go_on_is_step net p (Weighs k) w g h = inner net (λ x. may_follow x (Weighs k) ≡ false) (Some (Weighs p.weight)) p.printed p.flow refl (λ q. refl) (λ q. refl)
@@ -216,5 +216,5 @@ step_is net (Shut a b chain) line w g h = shut_is_step net a b chain line
 step_is net (Ended e) line w g h = rw (last_is_end net e) (ended_follows line)
 
 -- before the end, the line before isn't the last
-pub not_ended : (net : Network) (p : Part) → last_line net (Open p) ≢ Some Last
+pub not_ended : (net : Network) (p : ClaimedPart) → last_line net (Open p) ≢ Some Last
 not_ended net p = inner net (λ x. x ≢ Some Last) (Some (Weighs p.weight)) p.printed p.flow (λ e. absurd cc) (λ q e. absurd cc) (λ q e. absurd cc)

@@ -24,14 +24,14 @@ abbrev pub ◌>>=◌ : {A B E : Type 0} → Result A E → (A → Result B E) �
 (Err e) >>= f = Err e
 
 -- a cut as far as it is read
-pub record Part : Type 0 where
+pub record ClaimedPart : Type 0 where
   pub from : ℕ
   pub to : ℕ
   pub weight : ℕ
   pub printed : List Priced
   pub flow : List Priced
 
-abbrev pub entry_of_part : Part → ReportClaim
+abbrev pub entry_of_part : ClaimedPart → ReportClaim
 entry_of_part p = record { from = p.from; to = p.to; said = CutOf p.weight p.printed p.flow }
 
 -- a chain of pins between two modules
@@ -42,11 +42,11 @@ blocked_entry a b chain = record { from = a; to = b; said = BlockedBy chain }
 pub data ReadSoFar : Type 0 where
   Start : ReadSoFar
   Named : ℕ → ℕ → ReadSoFar
-  Open : Part → ReadSoFar
+  Open : ClaimedPart → ReadSoFar
   Shut : ℕ → ℕ → List ℕ → ReadSoFar
   Ended : ReportClaim → ReadSoFar
 
-abbrev pub claimed_part : ℕ → ℕ → Cut → Part
+abbrev pub claimed_part : ℕ → ℕ → Cut → ClaimedPart
 claimed_part a b cut = record { from = a; to = b; weight = cut.weight; printed = cut.imports.items; flow = cut.flow.items }
 
 abbrev pub read_so_far_of : ReportDraft → ReadSoFar
@@ -100,11 +100,11 @@ opened_by net a b (Blocks names) = chain_of net names >>= λ chain. Ok (Shut a b
 opened_by net a b Last = Err faults.BadLine
 
 -- with one more import to be removed, if no flow is there yet
-abbrev pub with_removed : Network → Part → List Priced → List ℕ → List ℕ → ℕ → Result ReadSoFar ReportLineFault
+abbrev pub with_removed : Network → ClaimedPart → List Priced → List ℕ → List ℕ → ℕ → Result ReadSoFar ReportLineFault
 with_removed net p [] m n w = import_of net (last_import None p.printed) m n w >>= λ next. Ok (Open (record p { printed = p.printed ++ next ∷ [] }))
 with_removed net p (_ ∷ _) m n w = Err faults.BadLine
 
-unfoldable pub going_on : Network → Part → ReportLine → Result ReadSoFar ReportLineFault
+unfoldable pub going_on : Network → ClaimedPart → ReportLine → Result ReadSoFar ReportLineFault
 going_on net p (Ends m n) = Err faults.BadLine
 going_on net p (Weighs w) = Err faults.BadLine
 going_on net p (Removes m n w) = with_removed net p p.flow m n w

@@ -23,7 +23,7 @@ use Rattle.scip_symbol.specs.declared.kind.DescriptorKind.{DescriptorKind}
 use Rattle.scip_symbol.specs.declared.kind.DescriptorKind.TheVariants.{Term}
 use Rattle.ob_emit.specs.Made.{AreStepNames}
 use Rattle.ob_emit.specs.Named.{AreNamed, IsName, IsNamed}
-use Rattle.ob_emit.specs.Symbols.{Step, descriptor, step_in_block, step_in_record, kind_of, own_step, own_step_by, own_steps, step_by, step_there, steps_there}
+use Rattle.ob_emit.specs.Symbols.{PathStep, descriptor, step_in_block, step_in_record, kind_of, own_step, own_step_by, own_steps, step_by, step_there, steps_there}
 
 -- names are texts
 pub name_is_text : (bytes : List ℕ) → IsName bytes → IsUtf8 bytes
@@ -89,42 +89,42 @@ module _ (w : World) (named : AreNamed w) where
 
 -- ---- the names of steps
 
-in_kind_name : (name : List ℕ) (kind : Option DescriptorKind) (s : Step) → option_map (λ (k : DescriptorKind). record { own = descriptor k name; owner = None }) kind ≡ Some s → s.own.name ≡ name
+in_kind_name : (name : List ℕ) (kind : Option DescriptorKind) (s : PathStep) → option_map (λ (k : DescriptorKind). record { own = descriptor k name; owner = None }) kind ≡ Some s → s.own.name ≡ name
 in_kind_name name None s e = absurd (let none : None ≡ Some s = e in cc)
-in_kind_name name (Some k) s e = ap (λ (x : Step). x.own.name) (sym (some_one (record { own = descriptor k name; owner = None }) s e))
+in_kind_name name (Some k) s e = ap (λ (x : PathStep). x.own.name) (sym (some_one (record { own = descriptor k name; owner = None }) s e))
 
-in_block_name : (sort : Sort) (name : List ℕ) (s : Step) → step_in_block sort name ≡ Some s → s.own.name ≡ name
+in_block_name : (sort : Sort) (name : List ℕ) (s : PathStep) → step_in_block sort name ≡ Some s → s.own.name ≡ name
 in_block_name sort name s e = in_kind_name name (kind_of sort) s e
 
-in_record_name : (k : ℕ) (name : List ℕ) (o : Option ℕ) (s : Step) → step_in_record k name o ≡ Some s → s.own.name ≡ name
+in_record_name : (k : ℕ) (name : List ℕ) (o : Option ℕ) (s : PathStep) → step_in_record k name o ≡ Some s → s.own.name ≡ name
 in_record_name k name None s e = absurd (let none : None ≡ Some s = e in cc)
 in_record_name k name (Some o) s e = elim (cases_Bool (nat_lt o k)) [
-  | inl t ↦ ap (λ (x : Step). x.own.name) (sym (some_one (record { own = descriptor Term name; owner = Some o }) s (rw t at e)))
+  | inl t ↦ ap (λ (x : PathStep). x.own.name) (sym (some_one (record { own = descriptor Term name; owner = Some o }) s (rw t at e)))
   | inr f ↦ absurd (let none : None ≡ Some s = rw f at e in cc)
 ]
 
-own_step_by_name : (w : World) (k : ℕ) (sort : Sort) (of_record : Option ℕ) (s : Step) → own_step_by w k sort of_record ≡ Some s → s.own.name ≡ text w k
+own_step_by_name : (w : World) (k : ℕ) (sort : Sort) (of_record : Option ℕ) (s : PathStep) → own_step_by w k sort of_record ≡ Some s → s.own.name ≡ text w k
 own_step_by_name w k sort None s e = in_block_name sort (text w k) s e
 own_step_by_name w k sort (Some r) s e = in_record_name k (text w k) (owner_at w r) s e
 
-own_step_name : (w : World) (k : ℕ) (by : Declarer) (s : Step) → own_step w k by ≡ Some s → s.own.name ≡ text w k
+own_step_name : (w : World) (k : ℕ) (by : Declarer) (s : PathStep) → own_step w k by ≡ Some s → s.own.name ≡ text w k
 own_step_name w k by s e = elim (cases_Bool (by.block == 0)) [
   | inl t ↦ own_step_by_name w k by.sort by.of_record s (rw t at e)
   | inr f ↦ absurd (let none : None ≡ Some s = rw f at e in cc)
 ]
 
-own_steps_by : (w : World) → AreNamed w → (k : ℕ) (o : Option Declarer) (s : Step) → declarer_of w k ≡ o → option_and_then (own_step w k) o ≡ Some s → IsName s.own.name
+own_steps_by : (w : World) → AreNamed w → (k : ℕ) (o : Option Declarer) (s : PathStep) → declarer_of w k ≡ o → option_and_then (own_step w k) o ≡ Some s → IsName s.own.name
 own_steps_by w named k None s e f = absurd (let none : None ≡ Some s = f in cc)
 own_steps_by w named k (Some by) s e f = subst IsName (sym (own_step_name w k by s f)) (declarer_name w named k by e)
 
 pub own_step_names : (w : World) → AreNamed w → AreStepNames (own_steps w)
 own_step_names w named k s e = own_steps_by w named k (declarer_of w k) s refl e
 
-step_by_name : (m : ModuleInterface) (d : ℕ) (it : Declaration) (of_record : Option ℕ) (s : Step) → step_by m d it of_record ≡ Some s → s.own.name ≡ it.name
+step_by_name : (m : ModuleInterface) (d : ℕ) (it : Declaration) (of_record : Option ℕ) (s : PathStep) → step_by m d it of_record ≡ Some s → s.own.name ≡ it.name
 step_by_name m d it None s e = in_block_name it.sort it.name s e
 step_by_name m d it (Some r) s e = in_record_name d it.name (owner_place m r) s e
 
-steps_by : (m : ModuleInterface) → IsNamed m → (d : ℕ) (o : Option Declaration) (s : Step) → declaration_at m d ≡ o → option_and_then (step_there m d) o ≡ Some s → IsName s.own.name
+steps_by : (m : ModuleInterface) → IsNamed m → (d : ℕ) (o : Option Declaration) (s : PathStep) → declaration_at m d ≡ o → option_and_then (step_there m d) o ≡ Some s → IsName s.own.name
 steps_by m named d None s e f = absurd (let none : None ≡ Some s = f in cc)
 steps_by m named d (Some it) s e f = subst IsName (sym (step_by_name m d it it.of_record s f)) (named.declarations it (contains_slice m.declarations d it e))
 

@@ -3,7 +3,7 @@ use Rattle.std.proofs.Common.{◌≡◌, ℕ, zero, suc, List, [], ◌∷◌, �
 use Rattle.std.specs.Option.{option_map, option_map_or, option_and_then}
 use Rattle.scip_symbol.specs.SymbolTexts.{PlainDescriptor}
 use Rattle.scip_symbol.specs.declared.kind.DescriptorKind.TheVariants.{Namespace}
-use Rattle.ob_emit.specs.Symbols.{Step, descriptor, module_path, path_within}
+use Rattle.ob_emit.specs.Symbols.{PathStep, descriptor, module_path, path_within}
 
 -- lists that end alike are alike before their ends
 record EndAlike {X : Type 0} (xs ys : List X) (x y : X) : Type 0 where
@@ -26,20 +26,20 @@ end_alike (a ∷ xs) (b ∷ ys) x y e =
     let front : xs ≡ ys = h.front in
     record { front = cc; end = h.end }
 
-module _ (m : List ℕ) (steps : ℕ → Option Step) where
+module _ (m : List ℕ) (steps : ℕ → Option PathStep) where
   -- what stands above a step
   abbrev above : ℕ → Option ℕ → Option (List PlainDescriptor)
   above n owner = option_map_or (path_within m steps n) owner (Some (module_path m))
 
   -- a path has a step, and what stands above it
   record HasStep (n k : ℕ) (ds : List PlainDescriptor) : Type 0 where
-    step : Step
+    step : PathStep
     there : steps k ≡ Some step
     front : List PlainDescriptor
     up : above n step.owner ≡ Some front
     whole : ds ≡ front ++ step.own ∷ []
 
-  behind : (n k : ℕ) (s : Step) (ds : List PlainDescriptor) (front : Option (List PlainDescriptor)) → steps k ≡ Some s → above n s.owner ≡ front →
+  behind : (n k : ℕ) (s : PathStep) (ds : List PlainDescriptor) (front : Option (List PlainDescriptor)) → steps k ≡ Some s → above n s.owner ≡ front →
       option_map (λ (xs : List PlainDescriptor). xs ++ s.own ∷ []) front ≡ Some ds → HasStep n k ds
   behind n k s ds None there up e = absurd (let f : None ≡ Some ds = e in cc)
   behind n k s ds (Some front) there up e = record {
@@ -50,8 +50,8 @@ module _ (m : List ℕ) (steps : ℕ → Option Step) where
     whole = (let f : Some (front ++ s.own ∷ []) ≡ Some ds = e in cc);
   }
 
-  by_step : (n k : ℕ) (ds : List PlainDescriptor) (o : Option Step) → steps k ≡ o →
-      option_and_then (λ (s : Step). option_map (λ (xs : List PlainDescriptor). xs ++ s.own ∷ []) (above n s.owner)) o ≡ Some ds → HasStep n k ds
+  by_step : (n k : ℕ) (ds : List PlainDescriptor) (o : Option PathStep) → steps k ≡ o →
+      option_and_then (λ (s : PathStep). option_map (λ (xs : List PlainDescriptor). xs ++ s.own ∷ []) (above n s.owner)) o ≡ Some ds → HasStep n k ds
   by_step n k ds None there e = absurd (let f : None ≡ Some ds = e in cc)
   by_step n k ds (Some s) there e = behind n k s ds (above n s.owner) there refl e
 
@@ -90,7 +90,7 @@ module _ (m : List ℕ) (steps : ℕ → Option Step) where
       let g : [] ≡ b.rest ++ h.step.own ∷ [] = cc in
       no_end b.rest h.step.own g
 
-  module _ (alike : (k j : ℕ) (s t : Step) → steps k ≡ Some s → steps j ≡ Some t → s.own ≡ t.own → s.owner ≡ t.owner → k ≡ j) where
+  module _ (alike : (k j : ℕ) (s t : PathStep) → steps k ≡ Some s → steps j ≡ Some t → s.own ≡ t.own → s.owner ≡ t.owner → k ≡ j) where
     owners : (n o : ℕ) (a b : Option ℕ) (front back : List PlainDescriptor) →
         ((k j : ℕ) (ds : List PlainDescriptor) → path_within m steps n k ≡ Some ds → path_within m steps o j ≡ Some ds → k ≡ j) →
         above n a ≡ Some front → above o b ≡ Some back → front ≡ back → a ≡ b

@@ -21,28 +21,28 @@ use Rattle.scip_symbol.specs.declared.kind.DescriptorKind.{DescriptorKind}
 use Rattle.scip_symbol.specs.declared.kind.DescriptorKind.TheVariants.{Namespace, Term}
 use Rattle.scip_symbol.specs.SymbolTexts.{PlainDescriptor, PlainSymbol, Local}
 use Rattle.ob_emit.specs.Apart.{DeclaresOnce, IsLocal}
-use Rattle.ob_emit.specs.Symbols.{Step, descriptor, declared_symbol, global, step_in_record, is_local, kind_of, own_path, own_step, own_step_by, own_steps, symbol_at}
+use Rattle.ob_emit.specs.Symbols.{PathStep, descriptor, declared_symbol, global, step_in_record, is_local, kind_of, own_path, own_step, own_step_by, own_steps, symbol_at}
 use Rattle.ob_emit.proofs.OneMember.{declares, member_once, owns, DeclaresBy, Owns}
 use Rattle.ob_emit.proofs.OnePath.{begins, path_once, Begins}
 
 -- ---- steps of the module's own declarations
 
 -- a step of the module's block, or of a record
-data StepsBy (w : World) (k : ℕ) (by : Declarer) (s : Step) : Type 0 where
+data StepsBy (w : World) (k : ℕ) (by : Declarer) (s : PathStep) : Type 0 where
   block : {kind : DescriptorKind} → by.of_record ≡ None → by.block ≡ 0 → s ≡ record { own = descriptor kind (text w k); owner = None } → StepsBy w k by s
   field : {r o : ℕ} → by.of_record ≡ Some r → owner_at w r ≡ Some o → s ≡ record { own = descriptor Term (text w k); owner = Some o } → StepsBy w k by s
 
-record HasStepBy (w : World) (k : ℕ) (s : Step) : Type 0 where
+record HasStepBy (w : World) (k : ℕ) (s : PathStep) : Type 0 where
   by : Declarer
   declared : declarer_of w k ≡ Some by
   steps : StepsBy w k by s
 
-module _ (w : World) (k : ℕ) (s : Step) where
+module _ (w : World) (k : ℕ) (s : PathStep) where
   by_kind : (by : Declarer) (kind : Option DescriptorKind) → by.of_record ≡ None → by.block ≡ 0 →
       option_map (λ (v : DescriptorKind). record { own = descriptor v (text w k); owner = None }) kind ≡ Some s → StepsBy w k by s
   by_kind by None is outer e = absurd (let f : None ≡ Some s = e in cc)
   by_kind by (Some kind) is outer e =
-      let made : Step = record { own = descriptor kind (text w k); owner = None } in
+      let made : PathStep = record { own = descriptor kind (text w k); owner = None } in
       let f : Some made ≡ Some s = e in
       let g : made ≡ s = cc in
       block is outer (sym g)
@@ -51,7 +51,7 @@ module _ (w : World) (k : ℕ) (s : Step) where
       cond b (Some (record { own = descriptor Term (text w k); owner = Some o })) None ≡ Some s → StepsBy w k by s
   by_test by r o false is owner e = absurd (let f : None ≡ Some s = e in cc)
   by_test by r o true is owner e =
-      let made : Step = record { own = descriptor Term (text w k); owner = Some o } in
+      let made : PathStep = record { own = descriptor Term (text w k); owner = Some o } in
       let f : Some made ≡ Some s = e in
       let g : made ≡ s = cc in
       field is owner (sym g)
@@ -96,20 +96,20 @@ module _ (w : World) (once : DeclaresOnce w) where
   place_by a None = Block a.block
   place_by a (Some r) = Record r
 
-  alike_by : (k j : ℕ) (s t : Step) (a b : Declarer) → declarer_of w k ≡ Some a → declarer_of w j ≡ Some b → StepsBy w k a s → StepsBy w j b t → s.own ≡ t.own → s.owner ≡ t.owner → k ≡ j
+  alike_by : (k j : ℕ) (s t : PathStep) (a b : Declarer) → declarer_of w k ≡ Some a → declarer_of w j ≡ Some b → StepsBy w k a s → StepsBy w j b t → s.own ≡ t.own → s.owner ≡ t.owner → k ≡ j
   alike_by k j s t a b at_k at_j (block {kind = kind} none outer is) (block {kind = other} none_too outer_too is_too) own owner =
-      let named : text w k ≡ text w j = ap (λ (v : PlainDescriptor). v.name) (ap (λ (v : Step). v.own) (sym is) ∙ own ∙ ap (λ (v : Step). v.own) is_too) in
+      let named : text w k ≡ text w j = ap (λ (v : PlainDescriptor). v.name) (ap (λ (v : PathStep). v.own) (sym is) ∙ own ∙ ap (λ (v : PathStep). v.own) is_too) in
       in_one_place k j a b at_k at_j (block_place a none ∙ ap Block (outer ∙ sym outer_too) ∙ sym (block_place b none_too)) named
     where
       block_place : (c : Declarer) → c.of_record ≡ None → scope_of c ≡ Block c.block
       block_place c e = rw e refl
   alike_by k j s t a b at_k at_j (block none outer is) (field {o = o} r at_o is_too) own owner =
-      absurd (let e : None ≡ Some o = ap (λ (v : Step). v.owner) (sym is) ∙ owner ∙ ap (λ (v : Step). v.owner) is_too in cc)
+      absurd (let e : None ≡ Some o = ap (λ (v : PathStep). v.owner) (sym is) ∙ owner ∙ ap (λ (v : PathStep). v.owner) is_too in cc)
   alike_by k j s t a b at_k at_j (field {o = o} r at_o is) (block none outer is_too) own owner =
-      absurd (let e : Some o ≡ None = ap (λ (v : Step). v.owner) (sym is) ∙ owner ∙ ap (λ (v : Step). v.owner) is_too in cc)
+      absurd (let e : Some o ≡ None = ap (λ (v : PathStep). v.owner) (sym is) ∙ owner ∙ ap (λ (v : PathStep). v.owner) is_too in cc)
   alike_by k j s t a b at_k at_j (field {r = r} {o = o} in_r at_o is) (field {r = q} {o = p} in_q at_p is_too) own owner =
-      let named : text w k ≡ text w j = ap (λ (v : PlainDescriptor). v.name) (ap (λ (v : Step). v.own) (sym is) ∙ own ∙ ap (λ (v : Step). v.own) is_too) in
-      let e : Some o ≡ Some p = ap (λ (v : Step). v.owner) (sym is) ∙ owner ∙ ap (λ (v : Step). v.owner) is_too in
+      let named : text w k ≡ text w j = ap (λ (v : PlainDescriptor). v.name) (ap (λ (v : PathStep). v.own) (sym is) ∙ own ∙ ap (λ (v : PathStep). v.own) is_too) in
+      let e : Some o ≡ Some p = ap (λ (v : PathStep). v.owner) (sym is) ∙ owner ∙ ap (λ (v : PathStep). v.owner) is_too in
       let same_owner : o ≡ p = cc in
       let x : Owns w r o = owns w r o at_o in
       let y : Owns w q p = owns w q p at_p in
@@ -119,7 +119,7 @@ module _ (w : World) (once : DeclaresOnce w) where
       record_place : (c : Declarer) (r : ℕ) → c.of_record ≡ Some r → scope_of c ≡ Record r
       record_place c r e = rw e refl
 
-  alike : (k j : ℕ) (s t : Step) → own_steps w k ≡ Some s → own_steps w j ≡ Some t → s.own ≡ t.own → s.owner ≡ t.owner → k ≡ j
+  alike : (k j : ℕ) (s t : PathStep) → own_steps w k ≡ Some s → own_steps w j ≡ Some t → s.own ≡ t.own → s.owner ≡ t.owner → k ≡ j
   alike k j s t e f own owner =
       let a : HasStepBy w k s = has_step_by w k s e in
       let b : HasStepBy w j t = has_step_by w j t f in

@@ -12,27 +12,27 @@ use Rattle.ob_types.specs.World.{World, declarer_of, owner_at, text}
 use Rattle.scip_symbol.specs.declared.kind.DescriptorKind.{DescriptorKind}
 use Rattle.scip_symbol.specs.declared.kind.DescriptorKind.TheVariants.{Term}
 use Rattle.ob_emit.specs.Made.{AreBefore}
-use Rattle.ob_emit.specs.Symbols.{Step, descriptor, step_in_record, kind_of, own_step, own_step_by, own_steps, step_by, step_there, steps_there}
+use Rattle.ob_emit.specs.Symbols.{PathStep, descriptor, step_in_record, kind_of, own_step, own_step_by, own_steps, step_by, step_there, steps_there}
 
-no_owner : (k : ℕ) (name : List ℕ) (kind : Option DescriptorKind) (s : Step) (o : ℕ) → option_map (λ (it : DescriptorKind). record { own = descriptor it name; owner = None }) kind ≡ Some s → s.owner ≡ Some o → o < k
+no_owner : (k : ℕ) (name : List ℕ) (kind : Option DescriptorKind) (s : PathStep) (o : ℕ) → option_map (λ (it : DescriptorKind). record { own = descriptor it name; owner = None }) kind ≡ Some s → s.owner ≡ Some o → o < k
 no_owner k name None s o e f = absurd (let none : None ≡ Some s = e in cc)
 no_owner k name (Some it) s o e f =
-    absurd (let none : None ≡ Some o = ap (λ (x : Step). x.owner) (some_one (record { own = descriptor it name; owner = None }) s e) ∙ f in cc)
+    absurd (let none : None ≡ Some o = ap (λ (x : PathStep). x.owner) (some_one (record { own = descriptor it name; owner = None }) s e) ∙ f in cc)
 
-field_before : (k : ℕ) (name : List ℕ) (owner : Option ℕ) (s : Step) (o : ℕ) → step_in_record k name owner ≡ Some s → s.owner ≡ Some o → o < k
+field_before : (k : ℕ) (name : List ℕ) (owner : Option ℕ) (s : PathStep) (o : ℕ) → step_in_record k name owner ≡ Some s → s.owner ≡ Some o → o < k
 field_before k name None s o e f = absurd (let none : None ≡ Some s = e in cc)
 field_before k name (Some before) s o e f = elim (cases_Bool (nat_lt before k)) [
   | inl t ↦ (
-      let one : Some before ≡ Some o = ap (λ (x : Step). x.owner) (some_one (record { own = descriptor Term name; owner = Some before }) s (rw t at e)) ∙ f in
+      let one : Some before ≡ Some o = ap (λ (x : PathStep). x.owner) (some_one (record { own = descriptor Term name; owner = Some before }) s (rw t at e)) ∙ f in
       subst (λ (n : ℕ). n < k) (some_one before o one) (ltb-true before k t))
   | inr f ↦ absurd (let none : None ≡ Some s = rw f at e in cc)
 ]
 
-own_before_by : (w : World) (k : ℕ) (sort : Sort) (of_record : Option ℕ) (s : Step) (o : ℕ) → own_step_by w k sort of_record ≡ Some s → s.owner ≡ Some o → o < k
+own_before_by : (w : World) (k : ℕ) (sort : Sort) (of_record : Option ℕ) (s : PathStep) (o : ℕ) → own_step_by w k sort of_record ≡ Some s → s.owner ≡ Some o → o < k
 own_before_by w k sort None s o e f = no_owner k (text w k) (kind_of sort) s o e f
 own_before_by w k sort (Some r) s o e f = field_before k (text w k) (owner_at w r) s o e f
 
-own_before_at : (w : World) (k o : ℕ) (by : Option Declarer) (s : Step) → option_and_then (own_step w k) by ≡ Some s → s.owner ≡ Some o → o < k
+own_before_at : (w : World) (k o : ℕ) (by : Option Declarer) (s : PathStep) → option_and_then (own_step w k) by ≡ Some s → s.owner ≡ Some o → o < k
 own_before_at w k o None s e f = absurd (let none : None ≡ Some s = e in cc)
 own_before_at w k o (Some by) s e f = elim (cases_Bool (by.block == 0)) [
   | inl t ↦ own_before_by w k by.sort by.of_record s o (rw t at e) f
@@ -42,11 +42,11 @@ own_before_at w k o (Some by) s e f = elim (cases_Bool (by.block == 0)) [
 pub own_before : (w : World) → AreBefore (own_steps w)
 own_before w k o s = own_before_at w k o (declarer_of w k) s
 
-before_by : (m : ModuleInterface) (k : ℕ) (it : Declaration) (of_record : Option ℕ) (s : Step) (o : ℕ) → step_by m k it of_record ≡ Some s → s.owner ≡ Some o → o < k
+before_by : (m : ModuleInterface) (k : ℕ) (it : Declaration) (of_record : Option ℕ) (s : PathStep) (o : ℕ) → step_by m k it of_record ≡ Some s → s.owner ≡ Some o → o < k
 before_by m k it None s o e f = no_owner k it.name (kind_of it.sort) s o e f
 before_by m k it (Some r) s o e f = field_before k it.name (owner_place m r) s o e f
 
-before_at : (m : ModuleInterface) (k o : ℕ) (it : Option Declaration) (s : Step) → option_and_then (step_there m k) it ≡ Some s → s.owner ≡ Some o → o < k
+before_at : (m : ModuleInterface) (k o : ℕ) (it : Option Declaration) (s : PathStep) → option_and_then (step_there m k) it ≡ Some s → s.owner ≡ Some o → o < k
 before_at m k o None s e f = absurd (let none : None ≡ Some s = e in cc)
 before_at m k o (Some it) s e f = before_by m k it it.of_record s o e f
 

@@ -3,24 +3,24 @@ use Rattle.std.proofs.Common.{◌≡◌, ℕ, zero, suc, ◌<◌, List, [], ◌�
 use Rattle.std.specs.Option.{option_map, option_map_or, option_and_then}
 use Rattle.scip_symbol.specs.SymbolTexts.{PlainDescriptor, plain_descriptor_text}
 use Rattle.scip_symbol.specs.declared.kind.DescriptorKind.TheVariants.{Namespace}
-use Rattle.ob_emit.specs.Symbols.{Step, descriptor, module_path, path, path_within}
+use Rattle.ob_emit.specs.Symbols.{PathStep, descriptor, module_path, path, path_within}
 use Rattle.ob_emit.specs.Made.{path_text, AreBefore, IsPushed}
 
 -- what stands above a step, at most so many steps up
-abbrev above : List ℕ → (ℕ → Option Step) → ℕ → Step → Option (List PlainDescriptor)
+abbrev above : List ℕ → (ℕ → Option PathStep) → ℕ → PathStep → Option (List PlainDescriptor)
 above m steps n s = option_map (λ (ds : List PlainDescriptor). ds ++ s.own ∷ []) (option_map_or (path_within m steps n) s.owner (Some (module_path m)))
 
 -- the path of a step, given those of owners
-abbrev pub path_by : List ℕ → (ℕ → Option Step) → Step → Option (List PlainDescriptor)
+abbrev pub path_by : List ℕ → (ℕ → Option PathStep) → PathStep → Option (List PlainDescriptor)
 path_by m steps s = option_map (λ (ds : List PlainDescriptor). ds ++ s.own ∷ []) (option_map_or (path m steps) s.owner (Some (module_path m)))
 
-module _ (m : List ℕ) (steps : ℕ → Option Step) (before : AreBefore steps) where
-  above_same : (n o k : ℕ) (s : Step) (w : Option ℕ) → ((v : ℕ) → v < k → path_within m steps n v ≡ path_within m steps o v) → steps k ≡ Some s → s.owner ≡ w
+module _ (m : List ℕ) (steps : ℕ → Option PathStep) (before : AreBefore steps) where
+  above_same : (n o k : ℕ) (s : PathStep) (w : Option ℕ) → ((v : ℕ) → v < k → path_within m steps n v ≡ path_within m steps o v) → steps k ≡ Some s → s.owner ≡ w
       → option_map_or (path_within m steps n) w (Some (module_path m)) ≡ option_map_or (path_within m steps o) w (Some (module_path m))
   above_same n o k s None same e f = refl
   above_same n o k s (Some v) same e f = same v (before k v s e f)
 
-  step_same : (n o k : ℕ) (v : Option Step) → ((v : ℕ) → v < k → path_within m steps n v ≡ path_within m steps o v) → steps k ≡ v
+  step_same : (n o k : ℕ) (v : Option PathStep) → ((v : ℕ) → v < k → path_within m steps n v ≡ path_within m steps o v) → steps k ≡ v
       → option_and_then (above m steps n) v ≡ option_and_then (above m steps o) v
   step_same n o k None same e = refl
   step_same n o k (Some s) same e = ap (option_map (λ (ds : List PlainDescriptor). ds ++ s.own ∷ [])) (above_same n o k s s.owner same e refl)
@@ -32,12 +32,12 @@ module _ (m : List ℕ) (steps : ℕ → Option Step) (before : AreBefore steps)
   stable (suc n) zero k l h = absurd (omega (arith, h))
   stable (suc n) (suc o) k l h = step_same n o k (steps k) (λ v b. stable n o v (omega arith) (omega arith)) refl
 
-  above_is : (k : ℕ) (s : Step) (w : Option ℕ) → steps k ≡ Some s → s.owner ≡ w → option_map_or (path_within m steps k) w (Some (module_path m)) ≡ option_map_or (path m steps) w (Some (module_path m))
+  above_is : (k : ℕ) (s : PathStep) (w : Option ℕ) → steps k ≡ Some s → s.owner ≡ w → option_map_or (path_within m steps k) w (Some (module_path m)) ≡ option_map_or (path m steps) w (Some (module_path m))
   above_is k s None e f = refl
   above_is k s (Some w) e f = let b : w < k = before k w s e f in stable k (suc w) w b (omega arith)
 
   -- a step's path is its owner's, or the module's, and its own descriptor
-  pub path_some : (k : ℕ) (s : Step) → steps k ≡ Some s → path m steps k ≡ path_by m steps s
+  pub path_some : (k : ℕ) (s : PathStep) → steps k ≡ Some s → path m steps k ≡ path_by m steps s
   unfolding path_within
   path_some k s e = rw e (ap (option_map (λ (ds : List PlainDescriptor). ds ++ s.own ∷ [])) (above_is k s s.owner e refl))
 
@@ -76,7 +76,7 @@ pub pushed_nothing : (old new : List ℕ) (o : Option (List PlainDescriptor)) �
 pushed_nothing old new o h = sym (ap (option_map (λ (ds : List PlainDescriptor). old ++ path_text ds)) h)
 
 -- the descriptor of a step is put behind those above it
-pub pushed_step : (m : List ℕ) (steps : ℕ → Option Step) → AreBefore steps → (k : ℕ) (s : Step) (old mid new : List ℕ) (found : Bool) → steps k ≡ Some s
+pub pushed_step : (m : List ℕ) (steps : ℕ → Option PathStep) → AreBefore steps → (k : ℕ) (s : PathStep) (old mid new : List ℕ) (found : Bool) → steps k ≡ Some s
     → IsPushed old mid (option_map_or (path m steps) s.owner (Some (module_path m))) found → found ≡ true → new ≡ mid ++ plain_descriptor_text s.own → IsPushed old new (path m steps k) found
 pushed_step m steps before k s old mid new found e h t is =
     let more : IsPushed old (mid ++ plain_descriptor_text s.own) (path_by m steps s) true =
@@ -86,7 +86,7 @@ pushed_step m steps before k s old mid new found e h t is =
     subst (λ (b : Bool). IsPushed old new (path m steps k) b) (sym t) whole
 
 -- nothing is put
-pub pushed_no_step : (m : List ℕ) (steps : ℕ → Option Step) → AreBefore steps → (k : ℕ) (s : Step) (old mid : List ℕ) (found : Bool) → steps k ≡ Some s
+pub pushed_no_step : (m : List ℕ) (steps : ℕ → Option PathStep) → AreBefore steps → (k : ℕ) (s : PathStep) (old mid : List ℕ) (found : Bool) → steps k ≡ Some s
     → IsPushed old mid (option_map_or (path m steps) s.owner (Some (module_path m))) found → found ≡ false → IsPushed old mid (path m steps k) found
 pushed_no_step m steps before k s old mid found e h f =
     let none : IsPushed old mid (path_by m steps s) false =

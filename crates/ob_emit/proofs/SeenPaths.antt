@@ -16,7 +16,7 @@ use Rattle.scip_symbol.specs.declared.kind.DescriptorKind.{DescriptorKind}
 use Rattle.scip_symbol.specs.declared.kind.DescriptorKind.TheVariants.{Term}
 use Rattle.scip_symbol.specs.SymbolTexts.{PlainDescriptor}
 use Rattle.ob_emit.specs.Apart.{seen_tokens}
-use Rattle.ob_emit.specs.Symbols.{Step, declared_symbol, descriptor, global, imported_symbol, step_in_block, step_in_record, kind_of, module_path, own_path, own_steps, path_there, path_within, step_by, steps_there}
+use Rattle.ob_emit.specs.Symbols.{PathStep, declared_symbol, descriptor, global, imported_symbol, step_in_block, step_in_record, kind_of, module_path, own_path, own_steps, path_there, path_within, step_by, steps_there}
 use Rattle.ob_emit.proofs.SeenOrder.{ascend}
 use Rattle.ob_emit.proofs.SeenOwners.{behind, owner_seen, OwnerSeen}
 use Rattle.ob_emit.proofs.SeenSymbols.{among, block, first, here, own, row_at, seen_at, seen_by, RowAt, SeenBy}
@@ -24,20 +24,20 @@ use Rattle.ob_emit.proofs.SeenSymbols.{among, block, first, here, own, row_at, s
 -- ---- paths by their steps
 
 flat_by : (m name : List ℕ) (rest : ℕ → Option (List PlainDescriptor)) (o : Option DescriptorKind) →
-    option_and_then (λ (s : Step). option_map (λ (ds : List PlainDescriptor). ds ++ s.own ∷ []) (option_map_or rest s.owner (Some (module_path m))))
+    option_and_then (λ (s : PathStep). option_map (λ (ds : List PlainDescriptor). ds ++ s.own ∷ []) (option_map_or rest s.owner (Some (module_path m))))
     (option_map (λ (kind : DescriptorKind). record { own = descriptor kind name; owner = None }) o)
     ≡ option_map (λ (kind : DescriptorKind). module_path m ++ descriptor kind name ∷ []) o
 flat_by m name rest None = refl
 flat_by m name rest (Some kind) = refl
 
 -- of what stands in a block
-flat : (m : List ℕ) (steps : ℕ → Option Step) (n k : ℕ) (sort : Sort) (name : List ℕ) → steps k ≡ step_in_block sort name
+flat : (m : List ℕ) (steps : ℕ → Option PathStep) (n k : ℕ) (sort : Sort) (name : List ℕ) → steps k ≡ step_in_block sort name
     → path_within m steps (suc n) k ≡ option_map (λ (kind : DescriptorKind). module_path m ++ descriptor kind name ∷ []) (kind_of sort)
 unfolding path_within
 flat m steps n k sort name e = rw e (flat_by m name (path_within m steps n) (kind_of sort))
 
 -- of a field
-owned : (m : List ℕ) (steps : ℕ → Option Step) (n k o : ℕ) (own : PlainDescriptor) → steps k ≡ Some (record { own = own; owner = Some o })
+owned : (m : List ℕ) (steps : ℕ → Option PathStep) (n k o : ℕ) (own : PlainDescriptor) → steps k ≡ Some (record { own = own; owner = Some o })
     → path_within m steps (suc n) k ≡ option_map (λ (ds : List PlainDescriptor). ds ++ own ∷ []) (path_within m steps n o)
 unfolding path_within
 owned m steps n k o own e = rw e refl

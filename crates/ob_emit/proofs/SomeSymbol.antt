@@ -20,7 +20,7 @@ use Rattle.ob_types.specs.World.{World, declared_at, declarer_from, declarer_of,
 use Rattle.scip_symbol.specs.declared.kind.DescriptorKind.{DescriptorKind}
 use Rattle.scip_symbol.specs.declared.kind.DescriptorKind.TheVariants.{Term, TypeName, Method}
 use Rattle.scip_symbol.specs.SymbolTexts.{PlainDescriptor, Local}
-use Rattle.ob_emit.specs.Symbols.{Step, declared_symbol, descriptor, global, step_in_record, is_local, kind_of, module_path, own_path, own_step_by, own_steps, path_within, symbol_at}
+use Rattle.ob_emit.specs.Symbols.{PathStep, declared_symbol, descriptor, global, step_in_record, is_local, kind_of, module_path, own_path, own_step_by, own_steps, path_within, symbol_at}
 use Rattle.ob_emit.proofs.Numbered.{find_among, position_there}
 
 unfoldable pub IsThere : {X : Type 0} → Option X → Type 0
@@ -38,7 +38,7 @@ has_kind sorts.Parameter n = (Term, refl)
 has_kind sorts.Field n = (Term, refl)
 
 -- a step's path, where its owner has one
-path_of : (name : List ℕ) (steps : ℕ → Option Step) (n k : ℕ) (s : Step) → steps k ≡ Some s → (ds : List PlainDescriptor) → option_map_or (path_within name steps n) s.owner (Some (module_path name)) ≡ Some ds
+path_of : (name : List ℕ) (steps : ℕ → Option PathStep) (n k : ℕ) (s : PathStep) → steps k ≡ Some s → (ds : List PlainDescriptor) → option_map_or (path_within name steps n) s.owner (Some (module_path name)) ≡ Some ds
     → path_within name steps (suc n) k ≡ Some (ds ++ s.own ∷ [])
 unfolding path_within
 path_of name steps n k s e ds up = rw e (rw up refl)
@@ -82,14 +82,14 @@ module _ (w : World) (m : Module) (same : w.rows ≡ rows_of m) (order : AreRows
   unfolding PathOf IsThere AreFields
   path_by n x by rest h j e outer sort None is =
       let kind = has_kind by.sort sort in
-      let s : Step = record { own = descriptor kind.0 (text w x.number); owner = None } in
+      let s : PathStep = record { own = descriptor kind.0 (text w x.number); owner = None } in
       let steps : own_steps w x.number ≡ Some s = steps_by x by h j e outer None is ∙ (rw kind.1 refl) in
       (_, path_of (text w own_name) (own_steps w) n x.number s steps (module_path (text w own_name)) refl)
   path_by n x by rest h j e outer sort (Some r) is =
       let its : HasRecord w.rows by.block r by.first = (holds.declarers by j r is).its in
       let o : IsOwner w.rows by.block its.row.owner = its.owner in
       let before : its.row.owner < x.number = (let a = its.before in let b = behind x by h e in omega (arith, a, b)) in
-      let s : Step = record { own = descriptor Term (text w x.number); owner = Some its.row.owner } in
+      let s : PathStep = record { own = descriptor Term (text w x.number); owner = Some its.row.owner } in
       let steps : own_steps w x.number ≡ Some s = steps_by x by h j e outer (Some r) is ∙ field_step x.number r its.row.owner (owner_is its.row r its.among its.number) before in
       let smaller : o.row.number < x.number = (let a = o.number in omega (arith, a, before)) in
       let up = rest o.row o.by smaller o.declared o.among o.first (o.block_is ∙ outer) o.sort in

@@ -19,21 +19,21 @@ use Rattle.ob_emit.specs.declared.steps.StepRow.{StepRow}
 use Rattle.ob_emit.specs.declared.fronts.Fronts.{Fronts}
 use Rattle.ob_emit.specs.declared.outer_texts.Outer.{Outer}
 use Rattle.ob_emit.specs.declared.own_texts.Texts.{Texts}
-use Rattle.ob_emit.specs.Symbols.{Step, descriptor, global, imported_symbol, module_path, module_symbol, scheme, symbol_at}
+use Rattle.ob_emit.specs.Symbols.{PathStep, descriptor, global, imported_symbol, module_path, module_symbol, scheme, symbol_at}
 use Rattle.ob_emit.specs.Externals.{external_module, external_row, externals_in, shown}
 use Rattle.ob_emit.specs.Named.{IsName}
 
 -- a step as clauses see it
-abbrev pub step_told : StepRow → Step
+abbrev pub step_told : StepRow → PathStep
 step_told r = record { own = descriptor r.kind r.name.now; owner = r.owner }
 
 -- the names of all steps are names
-abbrev pub AreStepNames : (ℕ → Option Step) → Type 0
-AreStepNames steps = (k : ℕ) (s : Step) → steps k ≡ Some s → IsName (s.own).name
+abbrev pub AreStepNames : (ℕ → Option PathStep) → Type 0
+AreStepNames steps = (k : ℕ) (s : PathStep) → steps k ≡ Some s → IsName (s.own).name
 
 -- owners stand before what they own
-abbrev pub AreBefore : (ℕ → Option Step) → Type 0
-AreBefore steps = (k o : ℕ) (s : Step) → steps k ≡ Some s → s.owner ≡ Some o → o < k
+abbrev pub AreBefore : (ℕ → Option PathStep) → Type 0
+AreBefore steps = (k o : ℕ) (s : PathStep) → steps k ≡ Some s → s.owner ≡ Some o → o < k
 
 -- the text of a path
 abbrev pub path_text : List PlainDescriptor → List ℕ

@@ -46,39 +46,39 @@ kind_of sorts.Field = Some Term
 
 -- what stands in a module's block or in a record there: its own descriptor, and of a field the owner, which is the declaration whose
 -- type holds the record
-pub record Step : Type 0 where
+pub record PathStep : Type 0 where
   pub own : PlainDescriptor
   pub owner : Option ℕ
 
 -- what stands in the block itself
-abbrev pub step_in_block : Sort → List ℕ → Option Step
+abbrev pub step_in_block : Sort → List ℕ → Option PathStep
 step_in_block sort name = option_map (λ kind. record { own = descriptor kind name; owner = None }) (kind_of sort)
 
 -- a field, by its number and its owner's, which stands before it
-abbrev pub step_in_record : ℕ → List ℕ → Option ℕ → Option Step
+abbrev pub step_in_record : ℕ → List ℕ → Option ℕ → Option PathStep
 step_in_record k name None = None
 step_in_record k name (Some o) = if nat_lt o k then Some (record { own = descriptor Term name; owner = Some o }) else None
 
 -- the descriptors of a declaration behind those of its owner, or else of the module, at most so many steps up
-unfoldable pub path_within : List ℕ → (ℕ → Option Step) → ℕ → ℕ → Option (List PlainDescriptor)
+unfoldable pub path_within : List ℕ → (ℕ → Option PathStep) → ℕ → ℕ → Option (List PlainDescriptor)
 path_within m steps zero k = None
 path_within m steps (suc n) k =
-    option_and_then (λ (s : Step). option_map (λ (ds : List PlainDescriptor). ds ++ s.own ∷ []) (option_map_or (path_within m steps n) s.owner (Some (module_path m)))) (steps k)
+    option_and_then (λ (s : PathStep). option_map (λ (ds : List PlainDescriptor). ds ++ s.own ∷ []) (option_map_or (path_within m steps n) s.owner (Some (module_path m)))) (steps k)
 
 -- the descriptors of a declaration; owners stand before what they own, so that its number and one more are steps enough
-abbrev pub path : List ℕ → (ℕ → Option Step) → ℕ → Option (List PlainDescriptor)
+abbrev pub path : List ℕ → (ℕ → Option PathStep) → ℕ → Option (List PlainDescriptor)
 path m steps k = path_within m steps (suc k) k
 
 -- ---- the module's own declarations, by their tokens
 
-abbrev pub own_step_by : World → ℕ → Sort → Option ℕ → Option Step
+abbrev pub own_step_by : World → ℕ → Sort → Option ℕ → Option PathStep
 own_step_by w k sort None = step_in_block sort (text w k)
 own_step_by w k sort (Some r) = step_in_record k (text w k) (owner_at w r)
 
-abbrev pub own_step : World → ℕ → Declarer → Option Step
+abbrev pub own_step : World → ℕ → Declarer → Option PathStep
 own_step w k by = if by.block == 0 then own_step_by w k by.sort by.of_record else None
 
-abbrev pub own_steps : World → ℕ → Option Step
+abbrev pub own_steps : World → ℕ → Option PathStep
 own_steps w k = option_and_then (own_step w k) (declarer_of w k)
 
 abbrev pub own_path : World → ℕ → Option (List PlainDescriptor)
@@ -100,14 +100,14 @@ declared_symbol w package_name k =
 
 -- ---- declarations of another module, by their places
 
-abbrev pub step_by : ModuleInterface → ℕ → Declaration → Option ℕ → Option Step
+abbrev pub step_by : ModuleInterface → ℕ → Declaration → Option ℕ → Option PathStep
 step_by m d it None = step_in_block it.sort it.name
 step_by m d it (Some r) = step_in_record d it.name (owner_place m r)
 
-abbrev pub step_there : ModuleInterface → ℕ → Declaration → Option Step
+abbrev pub step_there : ModuleInterface → ℕ → Declaration → Option PathStep
 step_there m d it = step_by m d it it.of_record
 
-abbrev pub steps_there : ModuleInterface → ℕ → Option Step
+abbrev pub steps_there : ModuleInterface → ℕ → Option PathStep
 steps_there m d = option_and_then (step_there m d) (declaration_at m d)
 
 abbrev pub path_there : ModuleInterface → ℕ → Option (List PlainDescriptor)

@@ -2,7 +2,7 @@
 ghost use Rattle.std.specs.Prelude.{◌≡◌, ℕ, Option};
 ghost use Rattle.std.specs.Option.{option_map};
 ghost use Rattle.ob_emit.specs.Made.{step_told};
-ghost use Rattle.ob_emit.specs.Symbols.{Step, step_in_block, step_in_record, kind_of};
+ghost use Rattle.ob_emit.specs.Symbols.{PathStep, step_in_block, step_in_record, kind_of};
 
 use ob_decls::Sort;
 use scip_symbol::DescriptorKind;
@@ -17,7 +17,7 @@ pub(crate) struct StepRow<'a> {
 
 /// A module whose declarations are told by numbers.
 pub(crate) trait Nested {
-    ghost steps_in: { Self → ℕ → Option Step };
+    ghost steps_in: { Self → ℕ → Option PathStep };
 
     /// What the module declares by this number in its block or in a record there.
     fn step(&self, number: u32) -> Option<StepRow<'_>>
