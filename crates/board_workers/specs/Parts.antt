@@ -4,8 +4,8 @@ use Rattle.work_board.specs.Graphs.{row_at, Modules}
 use Rattle.work_board.specs.Cores.{has_entry, is_claimed, AreOf, AreShares, Core}
 
 -- the shared parts of right entries of all that the module reaches, ascending by number
-abbrev pub ArePartsOf : {E X : Type 0} → (List ℕ → E → Type 0) → (E → X) → Modules → ℕ → List X → Type 0
-ArePartsOf {E = E} is_of shared_of g n parts =
+abbrev pub AreSharedPartsOf : {E X : Type 0} → (List ℕ → E → Type 0) → (E → X) → Modules → ℕ → List X → Type 0
+AreSharedPartsOf {E = E} is_of shared_of g n parts =
     (c : Core E) × (length c.entries ≡ length g.names) × AreOf is_of g.names c.entries × AreShares shared_of g.imports c n parts
 
 -- an entry for each module, by number, that is the entry of the module of this name
@@ -15,7 +15,7 @@ pub record AreEntries {E : Type 0} (is_of : List ℕ → E → Type 0) (g : Modu
 
 -- what a worker is given: a module, and the parts for it
 abbrev pub IsJob : {E X : Type 0} → (List ℕ → E → Type 0) → (E → X) → Modules → ℕ → List X → Type 0
-IsJob is_of shared_of g n parts = (n < length g.names) × ArePartsOf is_of shared_of g n parts
+IsJob is_of shared_of g n parts = (n < length g.names) × AreSharedPartsOf is_of shared_of g n parts
 
 -- each module has its entry
 abbrev pub AreAllThere : {E : Type 0} → Core E → Type 0

@@ -97,7 +97,7 @@ abbrev pub IsStoreOfBytes : List ℕ → Tables → Type 0
 IsStoreOfBytes bytes t = (index : PlainIndex) × Means bytes index × IsStoreOf index t
 
 -- what every store keeps: its tables are whole, and those of some documents
-pub record IsSound (t : Tables) : Type 0 where
+pub record IsSoundStore (t : Tables) : Type 0 where
   pub whole : AreWhole t
   pub paths : List (List ℕ)
   pub found : List PlacedOccurrence

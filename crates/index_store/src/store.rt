@@ -30,13 +30,13 @@ pub struct Store {
 }
 
 impl Model for Store {
-    ghost use Rattle.index_store.specs.Stores.{tables_in, IsSound, Tables};
+    ghost use Rattle.index_store.specs.Stores.{tables_in, IsSoundStore, Tables};
 
     ghost Value = { Tables };
 
     ghost view = { λ s. tables_in s.by_path s.by_symbol };
 
-    ghost invariant = { λ s. IsSound (tables_in s.by_path s.by_symbol) };
+    ghost invariant = { λ s. IsSoundStore (tables_in s.by_path s.by_symbol) };
 }
 
 impl Store {

@@ -12,8 +12,8 @@ use Rattle.oscip_tree.specs.declared.source.Source.{Source}
 use Rattle.work_board.specs.Graphs.{row_at}
 use Rattle.board_workers.specs.Parts.{AreEntries, IsJob}
 use Rattle.tree_board.specs.Boards.{modules_of}
-use Rattle.tree_board.specs.Reached.{interface_in, marked_interfaces, names, AreReached, SeenFile}
-use Rattle.tree_board.specs.Seen.{all_seen, seen_in, AreSeen, IsSeen}
+use Rattle.tree_board.specs.Reached.{interface_in, marked_interfaces, names, AreReachedInterfaces, SeenFile}
+use Rattle.tree_board.specs.Seen.{all_seen, seen_in, AreSourcesRead, IsSourceRead}
 use Rattle.tree_board.proofs.Chained.{as_many, modules_within}
 use Rattle.tree_board.proofs.Shared.{parts_reached}
 use Rattle.ob_board.specs.Found.{IsAtHand}
@@ -30,12 +30,12 @@ marked_of (true ∷ marks) (file ∷ files) i h = elim (first_or_later (interfac
 marked_of (false ∷ marks) (file ∷ files) i h = let r = marked_of marks files i h in (r.0, later_member file files r.0 r.1, r.2)
 
 -- each interface that is reached is that of a file of the tree
-pub reached_of : (files : List SeenFile) (n : List ℕ) (reached : List ModuleInterface) → AreReached files n reached → (i : ModuleInterface) → Contains reached i → (file : SeenFile) × Contains files file × (i ≡ interface_in file)
+pub reached_of : (files : List SeenFile) (n : List ℕ) (reached : List ModuleInterface) → AreReachedInterfaces files n reached → (i : ModuleInterface) → Contains reached i → (file : SeenFile) × Contains files file × (i ≡ interface_in file)
 reached_of files n reached are i h = marked_of are.marks files i (subst (λ (is : List ModuleInterface). Contains is i) are.reached_are h)
 
 -- each file of the tree is that of a source and its parts
-seen_by : (sources : List Source) (modules : List (Box ModuleParts Global)) → ((k : ℕ) (s : Source) (m : Box ModuleParts Global) → slice_get sources k ≡ Some s → slice_get modules k ≡ Some m → IsSeen s m.value)
-    → (file : SeenFile) → Contains (all_seen sources modules) file → (s : Source) × ((m : Box ModuleParts Global) × (seen_in s m.value ≡ file) × IsSeen s m.value)
+seen_by : (sources : List Source) (modules : List (Box ModuleParts Global)) → ((k : ℕ) (s : Source) (m : Box ModuleParts Global) → slice_get sources k ≡ Some s → slice_get modules k ≡ Some m → IsSourceRead s m.value)
+    → (file : SeenFile) → Contains (all_seen sources modules) file → (s : Source) × ((m : Box ModuleParts Global) × (seen_in s m.value ≡ file) × IsSourceRead s m.value)
 seen_by [] modules each file h = no_member file h
 seen_by (s ∷ sources) [] each file h = no_member file h
 seen_by (s ∷ sources) (m ∷ modules) each file h = elim (first_or_later (seen_in s m.value) (all_seen sources modules) file h) [
@@ -43,11 +43,11 @@ seen_by (s ∷ sources) (m ∷ modules) each file h = elim (first_or_later (seen
   | inr later ↦ seen_by sources modules (λ k a b p q. each (suc k) a b p q) file later
 ]
 
-pub seen_of_file : (sources : List Source) (modules : List (Box ModuleParts Global)) (g : ImportGraph) → AreSeen sources modules g → (file : SeenFile) → Contains (all_seen sources modules) file
-    → (s : Source) × ((m : Box ModuleParts Global) × (seen_in s m.value ≡ file) × IsSeen s m.value)
+pub seen_of_file : (sources : List Source) (modules : List (Box ModuleParts Global)) (g : ImportGraph) → AreSourcesRead sources modules g → (file : SeenFile) → Contains (all_seen sources modules) file
+    → (s : Source) × ((m : Box ModuleParts Global) × (seen_in s m.value ≡ file) × IsSourceRead s m.value)
 seen_of_file sources modules g seen file h = seen_by sources modules seen.each file h
 
-module _ {E : Type 0} (is_of : List ℕ → E → Type 0) (shared_of : E → ModuleInterface) (sources : List Source) (modules : List (Box ModuleParts Global)) (g : ImportGraph) (seen : AreSeen sources modules g) where
+module _ {E : Type 0} (is_of : List ℕ → E → Type 0) (shared_of : E → ModuleInterface) (sources : List Source) (modules : List (Box ModuleParts Global)) (g : ImportGraph) (seen : AreSourcesRead sources modules g) where
   abbrev files : List SeenFile
   files = all_seen sources modules
 

@@ -16,7 +16,7 @@ use Rattle.ob_types.proofs.Ascending.{less}
 use Rattle.oscip_tree.specs.declared.parts.ModuleParts.{ModuleParts}
 use Rattle.oscip_tree.specs.declared.source.Source.{Source}
 use Rattle.tree_board.specs.Reached.{interface_in, marked_interfaces, SeenFile}
-use Rattle.tree_board.specs.Seen.{all_seen, seen_in, AreSeen, IsSeen}
+use Rattle.tree_board.specs.Seen.{all_seen, seen_in, AreSourcesRead, IsSourceRead}
 use Rattle.ob_board.specs.Entries.{interfaces_of}
 
 abbrev pub IsBefore : ModuleInterface → ModuleInterface → Type 0
@@ -62,7 +62,7 @@ marked_by_name (false ∷ marks) (file ∷ files) s = marked_by_name marks files
 
 -- the interfaces of all parts are those of the files
 same_interfaces : (sources : List Source) (modules : List (Box ModuleParts Global)) → length modules ≡ length sources
-    → ((k : ℕ) (s : Source) (m : Box ModuleParts Global) → slice_get sources k ≡ Some s → slice_get modules k ≡ Some m → IsSeen s m.value)
+    → ((k : ℕ) (s : Source) (m : Box ModuleParts Global) → slice_get sources k ≡ Some s → slice_get modules k ≡ Some m → IsSourceRead s m.value)
     → interfaces_of modules ≡ map interface_in (all_seen sources modules)
 same_interfaces [] [] many each = refl
 same_interfaces [] (m ∷ modules) many each = absurd (omega (arith, many))
@@ -73,7 +73,7 @@ same_interfaces (s ∷ sources) (m ∷ modules) many each =
     ap (λ (i : ModuleInterface). i ∷ interfaces_of modules) here ∙ ap (λ (is : List ModuleInterface). interface_in (seen_in s m.value) ∷ is) later
 
 -- where it is known that the names of all modules ascend, those of the modules with a mark do too
-pub reached_by_name : (sources : List Source) (modules : List (Box ModuleParts Global)) (g : ImportGraph) → AreSeen sources modules g → (known : Bool) → OnTrue known (AreByName (interfaces_of modules))
+pub reached_by_name : (sources : List Source) (modules : List (Box ModuleParts Global)) (g : ImportGraph) → AreSourcesRead sources modules g → (known : Bool) → OnTrue known (AreByName (interfaces_of modules))
     → (marks : List Bool) (reached : List ModuleInterface) → reached ≡ marked_interfaces marks (all_seen sources modules) → OnTrue known (AreByName reached)
 reached_by_name sources modules g seen known s marks reached is =
     OnTrue_from known (AreByName reached) (λ (e : known ≡ true).

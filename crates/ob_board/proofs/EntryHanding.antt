@@ -8,7 +8,7 @@ use Rattle.std.proofs.lemmas.List.{get_or-take, length-take-le}
 use Rattle.std.proofs.lemmas.List.Elements.{Contains-append_cases}
 use Rattle.std.proofs.lemmas.Option.{get_or_from_slice_get, slice_get-get_or, slice_get_within}
 use Rattle.ob_emit.specs.Externals.{AreExternalRows}
-use Rattle.ob_emit.specs.Named.{AreNamed, IsNamed}
+use Rattle.ob_emit.specs.Named.{HaveNames, HasNames}
 use Rattle.ob_decls.specs.Parts.{Rows}
 use Rattle.ob_scan.specs.declared.token.Token.{Token}
 use Rattle.ob_scope.specs.Scoped.{AreScopes, ModuleScopes}
@@ -25,16 +25,16 @@ use Rattle.oscip_tree.specs.Trees.{ModuleFile}
 use Rattle.scip_index.specs.Plain.{PlainDocument, PlainIndex, PlainSymbol}
 use Rattle.ob_board.specs.declared.entry.Entry.{Entry}
 use Rattle.work_board.specs.Graphs.{row_at}
-use Rattle.board_workers.specs.Parts.{AreEntries as AreAtBoard, IsJob}
+use Rattle.board_workers.specs.Parts.{AreTreeEntries as AreAtBoard, IsJob}
 use Rattle.tree_board.specs.Boards.{modules_of}
-use Rattle.tree_board.specs.Reached.{interface_in, marked_interfaces, names, seen_of, AreReached, SeenFile}
-use Rattle.tree_board.specs.Seen.{all_seen, seen_in, AreSeen, IsSeen}
+use Rattle.tree_board.specs.Reached.{interface_in, marked_interfaces, names, seen_of, AreReachedInterfaces, SeenFile}
+use Rattle.tree_board.specs.Seen.{all_seen, seen_in, AreSourcesRead, IsSourceRead}
 use Rattle.tree_board.proofs.Chained.{as_many, modules_within, name_of_file}
 use Rattle.tree_board.proofs.SeenFiles.{seen_are}
 use Rattle.tree_board.proofs.Shared.{parts_reached, same_file}
 use Rattle.ob_board.specs.Entries.{AreAllNamed, AreEntriesOf, IsEntry, IsEntryOf, IsWritten, plain_entry, PlainEntry}
 use Rattle.ob_board.specs.Found.{IsAtHand}
-use Rattle.ob_board.specs.Indexes.{AreEntries, IsIndex, IsMadeOf}
+use Rattle.ob_board.specs.Indexes.{AreTreeEntries, IsIndex, IsMadeOf}
 
 member : {X : Type 0} (xs : List X) (k : ℕ) (x : X) → slice_get xs k ≡ Some x → Contains xs x
 member xs k x at = (k, slice_get_within xs k x at, get_or_from_slice_get xs k x x at)
@@ -68,22 +68,22 @@ seen_all P (s ∷ sources) (m ∷ modules) each file has = elim (head_or_tail (s
   | inr later ↦ seen_all P sources modules (λ k a b p q. each (suc k) a b p q) file later
 ]
 
-all_marked : (marks : List Bool) (files : List SeenFile) → ((file : SeenFile) → Contains files file → IsNamed (interface_in file)) → AreAllNamed (marked_interfaces marks files)
+all_marked : (marks : List Bool) (files : List SeenFile) → ((file : SeenFile) → Contains files file → HasNames (interface_in file)) → AreAllNamed (marked_interfaces marks files)
 all_marked [] files each x (k, l, e) = absurd (omega arith)
 all_marked (mark ∷ marks) [] each x (k, l, e) = absurd (omega arith)
 all_marked (true ∷ marks) (file ∷ files) each x has = elim (head_or_tail (interface_in file) (marked_interfaces marks files) x has) [
-  | inl same ↦ subst IsNamed same (each file (zero, omega arith, refl))
+  | inl same ↦ subst HasNames same (each file (zero, omega arith, refl))
   | inr later ↦ all_marked marks files (λ f h. each f (suc h.0, omega (arith, h.1), h.2)) x later
 ]
 all_marked (false ∷ marks) (file ∷ files) each x has = all_marked marks files (λ f h. each f (suc h.0, omega (arith, h.1), h.2)) x has
 
-module _ (sources : List Source) (modules : List (Box ModuleParts Global)) (g : ImportGraph) (seen : AreSeen sources modules g) (package_name : List ℕ) where
+module _ (sources : List Source) (modules : List (Box ModuleParts Global)) (g : ImportGraph) (seen : AreSourcesRead sources modules g) (package_name : List ℕ) where
   abbrev files : List SeenFile
   files = all_seen sources modules
 
-  file_named : (file : SeenFile) → Contains files file → IsNamed (interface_in file)
-  file_named = seen_all (λ (file : SeenFile). IsNamed (interface_in file)) sources modules
-      (λ k s m p q. let h : IsSeen s m.value = seen.each k s m p q in seen_named s.bytes.items m.value.tokens (rows_in m.value.table) h.scopes.named)
+  file_named : (file : SeenFile) → Contains files file → HasNames (interface_in file)
+  file_named = seen_all (λ (file : SeenFile). HasNames (interface_in file)) sources modules
+      (λ k s m p q. let h : IsSourceRead s m.value = seen.each k s m p q in seen_named s.bytes.items m.value.tokens (rows_in m.value.table) h.scopes.named)
 
   pub entry_at_hand : (n : ℕ) (s : Source) (m : Box ModuleParts Global) (parts : List ModuleInterface) → slice_get sources n ≡ Some s → slice_get modules n ≡ Some m
       → IsJob (λ (x : List ℕ) (e : PlainEntry). IsEntryOf files package_name x e) (λ (e : PlainEntry). e.interface) (modules_of g) n parts → IsAtHand files s m.value parts
@@ -96,7 +96,7 @@ module _ (sources : List Source) (modules : List (Box ModuleParts Global)) (g : 
             (λ x e is. (is.file, is.is_of_tree, is.named, is.entry.interface_is)) n parts (seen_in s m.value) at job;
       }
 
-  pub reached_named : (m : List ℕ) (parts : List ModuleInterface) → AreReached files m parts → AreAllNamed parts
+  pub reached_named : (m : List ℕ) (parts : List ModuleInterface) → AreReachedInterfaces files m parts → AreAllNamed parts
   reached_named m parts are = subst AreAllNamed (sym are.reached_are) (all_marked are.marks files file_named)
 
   name_at : (n : ℕ) (file : SeenFile) → slice_get files n ≡ Some file → row_at (modules_of g).names n ≡ names file 1
@@ -139,7 +139,7 @@ made_entry files package_name s parts reached e hand w named shared = record {
 
 -- entries of the parts of a tree are the tree's
 pub entries_told : (sources : List Source) (package_name : List ℕ) (files : List ModuleFile) (tree : TreeParts) (entries : List PlainEntry) → ArePartsOfTree sources files tree →
-    AreEntriesOf (all_seen sources tree.modules.items) package_name entries → AreEntries sources package_name entries
+    AreEntriesOf (all_seen sources tree.modules.items) package_name entries → AreTreeEntries sources package_name entries
 entries_told sources package_name files tree entries are of = record {
   files = files;
   is_tree = record { accepted = are.all.accepted; graph = tree.graph; kept = are.kept; acyclic = are.acyclic };
@@ -154,7 +154,7 @@ external_rows (y ∷ ys) each x has = elim (Contains-append_cases y.externals (f
   | inr later ↦ external_rows ys (λ k e at. each (suc k) e at) x later
 ]
 
-pub externals_of_tree : (sources : List Source) (package_name : List ℕ) (entries : List PlainEntry) → AreEntries sources package_name entries → AreExternalRows (flat_map (λ (e : PlainEntry). e.externals) entries)
+pub externals_of_tree : (sources : List Source) (package_name : List ℕ) (entries : List PlainEntry) → AreTreeEntries sources package_name entries → AreExternalRows (flat_map (λ (e : PlainEntry). e.externals) entries)
 externals_of_tree sources package_name entries are =
     external_rows entries (λ k e at.
     let lt : k < length entries = slice_get_within entries k e at in
@@ -169,13 +169,13 @@ externals_of_tree sources package_name entries are =
 
 -- what a module's value is made of has names
 pub named_here : (w : World) (bytes text : List ℕ) (ts tokens : List Token) (rows : Rows) (s : ModuleScopes) (reached : List ModuleInterface) →
-    ((v : World) (t : ModuleScopes) → AreScopes v.bytes v.tokens v.rows t → AreAllNamed v.reached → AreNamed v) →
-    w ≡ record { bytes = text; tokens = tokens; rows = rows; scopes = s; reached = reached } → text ≡ bytes → tokens ≡ ts → AreScopes bytes ts rows s → AreAllNamed reached → AreNamed w
+    ((v : World) (t : ModuleScopes) → AreScopes v.bytes v.tokens v.rows t → AreAllNamed v.reached → HaveNames v) →
+    w ≡ record { bytes = text; tokens = tokens; rows = rows; scopes = s; reached = reached } → text ≡ bytes → tokens ≡ ts → AreScopes bytes ts rows s → AreAllNamed reached → HaveNames w
 named_here w bytes text ts tokens rows s reached law is same_text same_tokens scoped named =
     let v : World = record { bytes = text; tokens = tokens; rows = rows; scopes = s; reached = reached } in
     let here : AreScopes text tokens rows s =
     subst (λ (x : List ℕ). AreScopes x tokens rows s) (sym same_text) (subst (λ (x : List Token). AreScopes bytes x rows s) (sym same_tokens) scoped) in
-    subst AreNamed (sym is) (law v s here named)
+    subst HaveNames (sym is) (law v s here named)
 
 -- what entries have, by either way of seeing them
 pub same_externals : (es : List Entry) → flat_map (λ (e : Entry). (plain_entry e).externals) es ≡ flat_map (λ (e : PlainEntry). e.externals) (map plain_entry es)
@@ -187,6 +187,6 @@ same_documents [] = refl
 same_documents (e ∷ es) = ap (λ (ds : List PlainDocument). (plain_entry e).document ∷ ds) (same_documents es)
 
 -- an index of the entries of a tree is the tree's
-pub index_told : (sources : List Source) (package_name root : List ℕ) (entries : List PlainEntry) (index : PlainIndex) → AreEntries sources package_name entries → IsMadeOf entries root index →
+pub index_told : (sources : List Source) (package_name root : List ℕ) (entries : List PlainEntry) (index : PlainIndex) → AreTreeEntries sources package_name entries → IsMadeOf entries root index →
     IsIndex sources package_name root index
 index_told sources package_name root entries index are made = record { files = are.files; is_tree = are.is_tree; is_index = record { entries = entries; are_entries = are.are_entries; made = made } }

@@ -13,7 +13,7 @@ use Rattle.work_board.specs.Graphs.{row_at}
 use Rattle.board_workers.specs.Parts.{AreEntries, IsJob}
 use Rattle.tree_board.specs.Boards.{modules_of}
 use Rattle.tree_board.specs.Reached.{names, SeenFile}
-use Rattle.tree_board.specs.Seen.{all_seen, seen_in, AreSeen}
+use Rattle.tree_board.specs.Seen.{all_seen, seen_in, AreSourcesRead}
 use Rattle.tree_board.proofs.Chained.{as_many, modules_within, name_of_file}
 use Rattle.tree_board.proofs.Shared.{parts_reached, same_file}
 use Rattle.ob_board.specs.Found.{IsAtHand, IsFoundOf, PlainFound}
@@ -41,7 +41,7 @@ at_seen (a ∷ sources) (b ∷ modules) zero s m p q =
     ap (λ (x : Source). Some (seen_in x b.value)) (some_one a s p) ∙ ap (λ (x : Box ModuleParts Global). Some (seen_in s x.value)) (some_one b m q)
 at_seen (a ∷ sources) (b ∷ modules) (suc k) s m p q = at_seen sources modules k s m p q
 
-module _ (sources : List Source) (modules : List (Box ModuleParts Global)) (g : ImportGraph) (seen : AreSeen sources modules g) where
+module _ (sources : List Source) (modules : List (Box ModuleParts Global)) (g : ImportGraph) (seen : AreSourcesRead sources modules g) where
   abbrev files : List SeenFile
   files = all_seen sources modules
 

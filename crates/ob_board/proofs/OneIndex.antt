@@ -17,7 +17,7 @@ use Rattle.oscip_tree.specs.declared.source.Source.{Source}
 use Rattle.scip_index.specs.Plain.{PlainIndex, PlainSymbol}
 use Rattle.tree_board.specs.Reached.{names, seen_of, SeenFile}
 use Rattle.ob_board.specs.Entries.{AreEntriesOf, IsEntry, PlainEntry}
-use Rattle.ob_board.specs.Indexes.{AreEntries, IsIndex, IsIndexOf, IsMadeOf}
+use Rattle.ob_board.specs.Indexes.{AreTreeEntries, IsIndex, IsIndexOf, IsMadeOf}
 use Rattle.ob_board.specs.Resolved.{AreResolved}
 use Rattle.ob_board.specs.Unresolved.{AreUnresolvedRows, AreUnresolved, IsRow, IsUnresolvedIn, IsUnresolvedOf, PlainUnresolved}
 use Rattle.ob_board.proofs.OneExternals.{one_externals}
@@ -70,7 +70,7 @@ one_index_of files package_name root index other a b =
     λ i. record { metadata = (a.made.metadata ∙ sym made.metadata) i; documents = (a.made.documents ∙ sym made.documents) i; external_symbols = externals i }
 
 module _ (sources : List Source) where
-  pub one_entries : (package_name : List ℕ) (entries others : List PlainEntry) → AreEntries sources package_name entries → AreEntries sources package_name others → entries ≡ others
+  pub one_entries : (package_name : List ℕ) (entries others : List PlainEntry) → AreTreeEntries sources package_name entries → AreTreeEntries sources package_name others → entries ≡ others
   one_entries package_name entries others a b =
       let files = one_tree sources a.files b.files a.is_tree.accepted b.is_tree.accepted in
       one_entries_of (map seen_of a.files) package_name entries others a.are_entries (subst (λ (fs : List SeenFile). AreEntriesOf fs package_name others) (sym files) b.are_entries)

@@ -9,7 +9,7 @@ use Rattle.oscip_tree.proofs.SameFiles.{one_rows}
 use Rattle.oscip_tree.proofs.TreeFiles.{same_maps, there}
 use Rattle.oscip_tree.specs.Trees.{rows, AreAccepted, IsAccepted, ModuleFile}
 use Rattle.oscip_tree.specs.declared.source.Source.{Source}
-use Rattle.tree_board.specs.Reached.{marked_interfaces, names, seen_of, AreReached, ReachesName, SeenFile}
+use Rattle.tree_board.specs.Reached.{marked_interfaces, names, seen_of, AreReachedInterfaces, ReachesName, SeenFile}
 
 same_seen : (s : Source) (a b : ModuleFile) → IsAccepted s a → IsAccepted s b → seen_of a ≡ seen_of b
 same_seen s a b h k =
@@ -49,7 +49,7 @@ same_marks Holds (x ∷ xs) (m ∷ marks) (n ∷ others) p q a b =
     (same_mark m n (λ e. two.1 (one.0 e)) (λ e. one.1 (two.0 e)))
     (same_marks Holds xs marks others (omega arith) (omega arith) (λ k y at. a (suc k) y at) (λ k y at. b (suc k) y at))
 
-pub one_reached : (files : List SeenFile) (m : List ℕ) (reached others : List ModuleInterface) → AreReached files m reached → AreReached files m others → reached ≡ others
+pub one_reached : (files : List SeenFile) (m : List ℕ) (reached others : List ModuleInterface) → AreReachedInterfaces files m reached → AreReachedInterfaces files m others → reached ≡ others
 one_reached files m reached others a b =
     let same : a.marks ≡ b.marks = same_marks (λ (file : SeenFile). ReachesName files m (names file 1)) files a.marks b.marks a.size b.size a.those b.those in
     a.reached_are ∙ ap (λ (marks : List Bool). marked_interfaces marks files) same ∙ sym b.reached_are

@@ -5,7 +5,7 @@ use Rattle.std.specs.String.{string_bytes}
 use Rattle.std.specs.declared.alloc.Global.{Global}
 use Rattle.ob_emit.specs.Documents.{document_of}
 use Rattle.ob_emit.specs.Externals.{externals_in, AreExternalRows, AreExternals}
-use Rattle.ob_emit.specs.Named.{IsNamed}
+use Rattle.ob_emit.specs.Named.{HasNames}
 use Rattle.ob_decls.specs.Declaring.{rows_in}
 use Rattle.ob_interface.specs.Interfaces.{ModuleInterface}
 use Rattle.ob_targets.specs.declared.target.Reference.{Reference}
@@ -71,4 +71,4 @@ interfaces_of modules = map (λ m. arc_value (m.value).interface) modules
 
 -- what others see of these modules has names
 abbrev pub AreAllNamed : List ModuleInterface → Type 0
-AreAllNamed reached = (m : ModuleInterface) → Contains reached m → IsNamed m
+AreAllNamed reached = (m : ModuleInterface) → Contains reached m → HasNames m

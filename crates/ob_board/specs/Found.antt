@@ -3,8 +3,8 @@ use Rattle.std.specs.Prelude.{◌≡◌, ℕ, List, Contains}
 use Rattle.ob_interface.specs.Interfaces.{ModuleInterface}
 use Rattle.oscip_tree.specs.declared.parts.ModuleParts.{ModuleParts}
 use Rattle.oscip_tree.specs.declared.source.Source.{Source}
-use Rattle.tree_board.specs.Reached.{interface_in, names, AreReached, SeenFile}
-use Rattle.tree_board.specs.Seen.{seen_in, IsSeen}
+use Rattle.tree_board.specs.Reached.{interface_in, names, AreReachedInterfaces, SeenFile}
+use Rattle.tree_board.specs.Seen.{seen_in, IsSourceRead}
 use Rattle.ob_board.specs.Unresolved.{IsUnresolvedIn, PlainUnresolved}
 
 pub record PlainFound : Type 0 where
@@ -23,5 +23,5 @@ pub record IsFoundOf (files : List SeenFile) (name : List ℕ) (f : PlainFound) 
 -- what is at hand for a module of the tree: its file's source and parts, and the interfaces of what it reaches
 pub record IsAtHand (files : List SeenFile) (s : Source) (parts : ModuleParts) (reached : List ModuleInterface) : Type 0 where
   pub is_of_tree : Contains files (seen_in s parts)
-  pub is_seen : IsSeen s parts
-  pub are_reached : AreReached files (names (seen_in s parts) 1) reached
+  pub is_seen : IsSourceRead s parts
+  pub are_reached : AreReachedInterfaces files (names (seen_in s parts) 1) reached

@@ -36,7 +36,7 @@ pub record IsIndex (sources : List Source) (package_name root : List ℕ) (index
   pub is_index : IsIndexOf (map seen_of files) package_name root index
 
 -- the entries of the tree of these sources
-pub record AreEntries (sources : List Source) (package_name : List ℕ) (entries : List PlainEntry) : Type 0 where
+pub record AreTreeEntries (sources : List Source) (package_name : List ℕ) (entries : List PlainEntry) : Type 0 where
   pub files : List ModuleFile
   pub is_tree : IsTree sources files
   pub are_entries : AreEntriesOf (map seen_of files) package_name entries

@@ -9,7 +9,7 @@ ghost use Rattle.ob_targets.specs.declared.target.Reference.{Reference};
 ghost use Rattle.ob_targets.specs.Refers.{unresolved, AreReferences};
 ghost use Rattle.ob_types.specs.World.{world};
 ghost use Rattle.work_board.specs.Graphs.{row_at};
-ghost use Rattle.tree_board.specs.Seen.{all_seen, AreSeen};
+ghost use Rattle.tree_board.specs.Seen.{all_seen, AreSourcesRead};
 ghost use Rattle.ob_board.specs.Found.{IsAtHand};
 ghost use Rattle.ob_board.specs.Unresolved.{plain_unresolved};
 
@@ -163,13 +163,13 @@ pub(crate) struct Finding<'a, F: NamedFiles> {
 impl<'a, F: NamedFiles> Model for Finding<'a, F> {
     ghost use Rattle.std.specs.Prelude.{◌≡◌};
     ghost use Rattle.ob_imports.specs.Graphs.{ImportGraph};
-    ghost use Rattle.tree_board.specs.Seen.{all_seen, AreSeen};
+    ghost use Rattle.tree_board.specs.Seen.{all_seen, AreSourcesRead};
 
     ghost Value = { ImportGraph };
 
     ghost view = { λ w. w.graph.now };
 
-    ghost invariant = { λ w. (F.files ≡ all_seen w.sources.now w.modules.now) × AreSeen w.sources.now w.modules.now w.graph.now };
+    ghost invariant = { λ w. (F.files ≡ all_seen w.sources.now w.modules.now) × AreSourcesRead w.sources.now w.modules.now w.graph.now };
 }
 
 impl<'a, F: NamedFiles> Finding<'a, F> {
@@ -181,7 +181,7 @@ impl<'a, F: NamedFiles> Finding<'a, F> {
         graph: &'a Graph,
     ) -> Finding<'a, F>
         requires files { F.files ≡ all_seen sources.now modules.now }
-        requires seen { AreSeen sources.now modules.now graph.now }
+        requires seen { AreSourcesRead sources.now modules.now graph.now }
         ensures { result ≡ graph.now }
     {
         Finding {

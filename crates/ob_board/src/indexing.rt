@@ -9,9 +9,9 @@ ghost use Rattle.ob_types.specs.Homes.{AreByName};
 ghost use Rattle.oscip_tree.specs.Trees.{IsTreeFault};
 ghost use Rattle.scip_index.specs.Plain.{plain_document, plain_index, plain_metadata, plain_symbol};
 ghost use Rattle.scip_symbol.specs.Outcomes.{is_wrong_part};
-ghost use Rattle.tree_board.specs.Seen.{all_seen, AreSeen};
+ghost use Rattle.tree_board.specs.Seen.{all_seen, AreSourcesRead};
 ghost use Rattle.ob_board.specs.Entries.{interfaces_of, plain_entry, AreEntriesOf};
-ghost use Rattle.ob_board.specs.Indexes.{own_metadata, AreEntries, IsIndex, IsMadeOf};
+ghost use Rattle.ob_board.specs.Indexes.{own_metadata, AreTreeEntries, IsIndex, IsMadeOf};
 
 use crate::Entry;
 use crate::made::{Made, Making};
@@ -80,7 +80,7 @@ fn entries_in<F: NamedIndex + Send + Sync, G: BoardGate + Sync, R: Threads + Wai
     gate: &G,
 ) -> Result<Vec<Entry>, AllocError>
     requires files { F.files ≡ all_seen sources.now tree.now.modules.items }
-    requires seen { AreSeen sources.now tree.now.modules.items tree.now.graph }
+    requires seen { AreSourcesRead sources.now tree.now.modules.items tree.now.graph }
     requires package { string_bytes options.now.package ≡ F.package_name }
     requires right { is_wrong_part F.package_name ≡ false }
     ensures { IfOk result (λ entries. AreEntriesOf F.files F.package_name (map plain_entry entries.items)) }
@@ -113,7 +113,7 @@ pub fn entries<G: BoardGate + Sync, R: Threads + Wait + Sync>(
 ) -> Result<Vec<Entry>, TreeFault>
     requires package { is_wrong_part (string_bytes options.now.package) ≡ false }
     // They are exactly those, whatever turns the workers take.
-    ensures exact { IfOk result (λ entries. AreEntries sources.now (string_bytes options.now.package) (map plain_entry entries.items)) }
+    ensures exact { IfOk result (λ entries. AreTreeEntries sources.now (string_bytes options.now.package) (map plain_entry entries.items)) }
     // The fault is the tree's.
     ensures fault { IfErr result (IsTreeFault sources.now) }
 {

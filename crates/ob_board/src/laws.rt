@@ -3,7 +3,7 @@ ghost use Rattle.std.specs.Prelude.{◌≡◌, ℕ, List};
 ghost use Rattle.oscip_tree.specs.declared.source.Source.{Source};
 ghost use Rattle.scip_index.specs.Plain.{PlainIndex};
 ghost use Rattle.ob_board.specs.Entries.{PlainEntry};
-ghost use Rattle.ob_board.specs.Indexes.{AreEntries, IsIndex};
+ghost use Rattle.ob_board.specs.Indexes.{AreTreeEntries, IsIndex};
 ghost use Rattle.ob_board.specs.Unresolved.{AreUnresolved, PlainUnresolved};
 
 /// A tree, a package and a root have one index.
@@ -15,7 +15,7 @@ pub fn one_index()
 /// A tree and a package have one list of entries.
 pub fn one_entries()
     ensures { (sources : List Source) (package_name : List ℕ) (entries others : List PlainEntry) →
-        AreEntries sources package_name entries → AreEntries sources package_name others → entries ≡ others }
+        AreTreeEntries sources package_name entries → AreTreeEntries sources package_name others → entries ≡ others }
 {}
 
 /// A tree has one list of identifiers that stand for nothing.

@@ -2,7 +2,7 @@
 ghost use Rattle.std.specs.Prelude.{◌≡◌, map, IfErr, IfOk};
 ghost use Rattle.std.specs.List.{flat_map};
 ghost use Rattle.oscip_tree.specs.Trees.{IsTreeFault};
-ghost use Rattle.tree_board.specs.Seen.{all_seen, AreSeen};
+ghost use Rattle.tree_board.specs.Seen.{all_seen, AreSourcesRead};
 ghost use Rattle.ob_board.specs.Unresolved.{plain_unresolved, AreUnresolved, IsUnresolvedOf};
 
 use crate::Unresolved;
@@ -34,7 +34,7 @@ fn listed<F: NamedFiles>(
     tree: &TreeParts,
 ) -> Result<Vec<Unresolved>, AllocError>
     requires files { F.files ≡ all_seen sources.now tree.now.modules.items }
-    requires seen { AreSeen sources.now tree.now.modules.items tree.now.graph }
+    requires seen { AreSourcesRead sources.now tree.now.modules.items tree.now.graph }
     ensures { IfOk result (λ rows. IsUnresolvedOf F.files (map plain_unresolved rows.items)) }
 {
     let graph = board_graph(alloc, &tree.graph)?;

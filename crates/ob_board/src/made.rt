@@ -5,7 +5,7 @@ ghost use Rattle.std.specs.Bool.{OnTrue};
 ghost use Rattle.ob_scope.specs.Texts.{text_at};
 ghost use Rattle.ob_types.specs.Homes.{AreByName};
 ghost use Rattle.scip_symbol.specs.Outcomes.{is_wrong_part};
-ghost use Rattle.tree_board.specs.Seen.{all_seen, AreSeen};
+ghost use Rattle.tree_board.specs.Seen.{all_seen, AreSourcesRead};
 ghost use Rattle.ob_board.specs.Entries.{interfaces_of, plain_entry, AreAllNamed};
 ghost use Rattle.ob_board.specs.Found.{IsAtHand};
 
@@ -123,14 +123,14 @@ impl<'a, F: NamedIndex> Model for Making<'a, F> {
     ghost use Rattle.ob_types.specs.Homes.{AreByName};
     ghost use Rattle.scip_symbol.specs.Outcomes.{is_wrong_part};
     ghost use Rattle.std.specs.Bool.{OnTrue};
-    ghost use Rattle.tree_board.specs.Seen.{all_seen, AreSeen};
+    ghost use Rattle.tree_board.specs.Seen.{all_seen, AreSourcesRead};
     ghost use Rattle.ob_board.specs.Entries.{interfaces_of};
 
     ghost Value = { ImportGraph };
 
     ghost view = { λ w. w.graph.now };
 
-    ghost invariant = { λ w. (F.files ≡ all_seen w.sources.now w.modules.now) × AreSeen w.sources.now w.modules.now w.graph.now × (w.package_name.now ≡ F.package_name)
+    ghost invariant = { λ w. (F.files ≡ all_seen w.sources.now w.modules.now) × AreSourcesRead w.sources.now w.modules.now w.graph.now × (w.package_name.now ≡ F.package_name)
         × (is_wrong_part F.package_name ≡ false) × OnTrue w.by_name (AreByName (interfaces_of w.modules.now)) };
 }
 
@@ -146,7 +146,7 @@ impl<'a, F: NamedIndex> Making<'a, F> {
         by_name: bool,
     ) -> Making<'a, F>
         requires files { F.files ≡ all_seen sources.now modules.now }
-        requires seen { AreSeen sources.now modules.now graph.now }
+        requires seen { AreSourcesRead sources.now modules.now graph.now }
         requires package { package_name.now ≡ F.package_name }
         requires right { is_wrong_part F.package_name ≡ false }
         requires by_name { OnTrue by_name (AreByName (interfaces_of modules.now)) }

@@ -3,7 +3,7 @@ ghost use Rattle.std.specs.Prelude.{◌≡◌, ◌<◌, ◌^◌, false, length, 
 ghost use Rattle.std.specs.Arc.{arc_value};
 ghost use Rattle.std.specs.Bool.{OnTrue};
 ghost use Rattle.ob_decls.specs.Declaring.{rows_in};
-ghost use Rattle.ob_emit.specs.Named.{AreNamed};
+ghost use Rattle.ob_emit.specs.Named.{HaveNames};
 ghost use Rattle.ob_scan.specs.Spelling.{IsOutcome, Reads, Spells};
 ghost use Rattle.ob_scope.specs.Scoped.{AreScopes};
 ghost use Rattle.ob_types.specs.Homes.{AreByName};
@@ -38,7 +38,7 @@ fn written_by(
 ) -> Result<Written, AllocError>
     requires short { length types.now.bytes < 2 ^ 31 }
     requires spelled { Spells types.now.bytes types.now.tokens }
-    requires named { AreNamed types.now }
+    requires named { HaveNames types.now }
     requires package { is_wrong_part package_name.now ≡ false }
     ensures { IfOk result (λ w. IsWrittenBy types.now path.now package_name.now (plain_document w.document) (map plain_symbol w.externals.items)) }
 {

@@ -15,7 +15,7 @@ use Rattle.ob_targets.specs.declared.target.Target.TheVariants as targets
 use Rattle.ob_types.specs.World.{World, home_of, text}
 use Rattle.ob_scope.proofs.Elements.{contains_slice, slice_contains, some_one}
 use Rattle.ob_emit.specs.Externals.{AreExternalRows, IsExternalRow, external_module, external_row, externals_in, of_module, of_name, shown}
-use Rattle.ob_emit.specs.Named.{AreNamed, AreOfNames, IsName}
+use Rattle.ob_emit.specs.Named.{HaveNames, AreOfNames, IsName}
 use Rattle.ob_emit.specs.Symbols.{descriptor, global, module_path, package_of, scheme}
 use Rattle.ob_emit.proofs.Naming.{import_named}
 use Rattle.ob_emit.proofs.NamesGiven.{row_of}
@@ -66,7 +66,7 @@ one_row x y i j e =
 
 -- ---- the rows of a module are such rows
 
-module _ (w : World) (named : AreNamed w) where
+module _ (w : World) (named : HaveNames w) where
   name_row : (item name : ℕ) (x : SymbolRow) (o : Option Import) → IsName (text w name) → slice_get w.rows.imports item ≡ o
       → option_map (shown (text w name)) (option_map (λ (i : Import). global [] (module_path (text w i.imported) ++ descriptor Term (text w name) ∷ [])) o) ≡ Some x → IsExternalRow x
   name_row item name x None is e f = absurd (let none : None ≡ Some x = f in cc)

@@ -30,7 +30,7 @@ use Rattle.ob_types.specs.declared.nodes.Field.TheVariants as fields
 use Rattle.ob_targets.specs.Steps.{Selects, exported, field, no_field, unknown}
 use Rattle.ob_targets.specs.Targets.{declared_target, end_target, exported_target, field_target, second_target, used_target}
 use Rattle.ob_types.specs.World.{World, exported as exported_place, home_of, item_of, meaning, text}
-use Rattle.ob_emit.specs.Named.{AreOfNames, IsName, IsNamed}
+use Rattle.ob_emit.specs.Named.{AreOfNames, IsName, HasNames}
 use Rattle.ob_emit.proofs.Naming.{found_there, same_declarer, told_there}
 
 -- ---- what rows stand for
@@ -86,7 +86,7 @@ module _ (bytes : List ℕ) (ts : List Token) (rows : Rows) (names : AreNames (t
     | inr b ↦ absurd (let none : None ≡ Some d = rw b at f in cc)
   ]
 
-  pub seen_named : IsNamed (interface_of bytes ts rows)
+  pub seen_named : HasNames (interface_of bytes ts rows)
   seen_named = record {
     own = names.own;
     declarations = λ d h.

@@ -22,7 +22,7 @@ use Rattle.ob_decls.specs.declared.rows.Sort.{Sort}
 use Rattle.scip_symbol.specs.declared.kind.DescriptorKind.{DescriptorKind}
 use Rattle.scip_symbol.specs.declared.kind.DescriptorKind.TheVariants.{Term}
 use Rattle.ob_emit.specs.Made.{AreStepNames}
-use Rattle.ob_emit.specs.Named.{AreNamed, IsName, IsNamed}
+use Rattle.ob_emit.specs.Named.{HaveNames, IsName, HasNames}
 use Rattle.ob_emit.specs.Symbols.{PathStep, descriptor, step_in_block, step_in_record, kind_of, own_step, own_step_by, own_steps, step_by, step_there, steps_there}
 
 -- names are texts
@@ -59,7 +59,7 @@ row_there : (w : World) (k : ℕ) (d : Declared) → declared_at w k ≡ Some d 
 unfolding declared_at
 row_there w k d e = let r = found_there (λ (x : Declared). x.number == k) w.rows.declared d e in (r.0, r.1, eqb-true d.number k r.2)
 
-module _ (w : World) (named : AreNamed w) where
+module _ (w : World) (named : HaveNames w) where
   declared_name : (k : ℕ) (d : Declared) (by : Declarer) → declared_at w k ≡ Some d → declarer_from w d.declared_by ≡ Some by → IsName (text w k)
   unfolding text declarer_from
   declared_name k d by e f =
@@ -113,23 +113,23 @@ own_step_name w k by s e = elim (cases_Bool (by.block == 0)) [
   | inr f ↦ absurd (let none : None ≡ Some s = rw f at e in cc)
 ]
 
-own_steps_by : (w : World) → AreNamed w → (k : ℕ) (o : Option Declarer) (s : PathStep) → declarer_of w k ≡ o → option_and_then (own_step w k) o ≡ Some s → IsName s.own.name
+own_steps_by : (w : World) → HaveNames w → (k : ℕ) (o : Option Declarer) (s : PathStep) → declarer_of w k ≡ o → option_and_then (own_step w k) o ≡ Some s → IsName s.own.name
 own_steps_by w named k None s e f = absurd (let none : None ≡ Some s = f in cc)
 own_steps_by w named k (Some by) s e f = subst IsName (sym (own_step_name w k by s f)) (declarer_name w named k by e)
 
-pub own_step_names : (w : World) → AreNamed w → AreStepNames (own_steps w)
+pub own_step_names : (w : World) → HaveNames w → AreStepNames (own_steps w)
 own_step_names w named k s e = own_steps_by w named k (declarer_of w k) s refl e
 
 step_by_name : (m : ModuleInterface) (d : ℕ) (it : Declaration) (of_record : Option ℕ) (s : PathStep) → step_by m d it of_record ≡ Some s → s.own.name ≡ it.name
 step_by_name m d it None s e = in_block_name it.sort it.name s e
 step_by_name m d it (Some r) s e = in_record_name d it.name (owner_place m r) s e
 
-steps_by : (m : ModuleInterface) → IsNamed m → (d : ℕ) (o : Option Declaration) (s : PathStep) → declaration_at m d ≡ o → option_and_then (step_there m d) o ≡ Some s → IsName s.own.name
+steps_by : (m : ModuleInterface) → HasNames m → (d : ℕ) (o : Option Declaration) (s : PathStep) → declaration_at m d ≡ o → option_and_then (step_there m d) o ≡ Some s → IsName s.own.name
 steps_by m named d None s e f = absurd (let none : None ≡ Some s = f in cc)
 steps_by m named d (Some it) s e f = subst IsName (sym (step_by_name m d it it.of_record s f)) (named.declarations it (contains_slice m.declarations d it e))
 
-pub step_names : (m : ModuleInterface) → IsNamed m → AreStepNames (steps_there m)
+pub step_names : (m : ModuleInterface) → HasNames m → AreStepNames (steps_there m)
 step_names m named d s e = steps_by m named d (declaration_at m d) s refl e
 
-pub reached_named : (w : World) → AreNamed w → (i : ℕ) (m : ModuleInterface) → slice_get w.reached i ≡ Some m → IsNamed m
+pub reached_named : (w : World) → HaveNames w → (i : ℕ) (m : ModuleInterface) → slice_get w.reached i ≡ Some m → HasNames m
 reached_named w named i m e = named.reached m (contains_slice w.reached i m e)

@@ -98,7 +98,7 @@ pub record AreOuter (w : World) (package_name : List ℕ) (t : Outer) : Type 0 w
   pub names : AreExternal w t.names
 
 -- the texts of a module's symbols in this package
-pub record AreTexts (w : World) (package_name : List ℕ) (t : Texts) : Type 0 where
+pub record AreSymbolTexts (w : World) (package_name : List ℕ) (t : Texts) : Type 0 where
   pub fronts : AreFronts package_name t.fronts
   pub own : string_bytes t.own ≡ plain_text (global package_name (module_path (text w own_name)))
   pub declared : AreMade w package_name (length w.rows.declared) (map (option_map string_bytes) (t.declared).items)

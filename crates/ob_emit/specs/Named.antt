@@ -12,14 +12,14 @@ abbrev pub IsName : List ℕ → Type 0
 IsName bytes = is_name bytes ≡ true
 
 -- what others see of a module has names
-pub record IsNamed (m : ModuleInterface) : Type 0 where
+pub record HasNames (m : ModuleInterface) : Type 0 where
   pub own : IsName m.name
   pub declarations : (d : Declaration) → Contains m.declarations d → IsName d.name
 
 -- a module's own name, what it declares and what its import items name are names, and so are those of the modules that it reaches
-pub record AreNamed (w : World) : Type 0 where
+pub record HaveNames (w : World) : Type 0 where
   pub here : AreNames (text_at w.bytes w.tokens) w.rows
-  pub reached : (m : ModuleInterface) → Contains w.reached m → IsNamed m
+  pub reached : (m : ModuleInterface) → Contains w.reached m → HasNames m
 
 -- references are those of names, and so is what stands for a name of an external module
 pub record AreOfNames (w : World) (refs : List Reference) : Type 0 where

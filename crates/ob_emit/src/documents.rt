@@ -10,8 +10,8 @@ ghost use Rattle.scip_index.specs.Plain.{plain_document, plain_occurrence, plain
 ghost use Rattle.scip_symbol.specs.Outcomes.{is_wrong_part};
 ghost use Rattle.ob_emit.specs.declared.fault.EmitFault.TheVariants.{BadPackage};
 ghost use Rattle.ob_emit.specs.Documents.{document_of, filed, occurrence, symbol_row};
-ghost use Rattle.ob_emit.specs.Made.{AreTexts};
-ghost use Rattle.ob_emit.specs.Named.{AreNamed, AreOfNames, IsName};
+ghost use Rattle.ob_emit.specs.Made.{AreSymbolTexts};
+ghost use Rattle.ob_emit.specs.Named.{HaveNames, AreOfNames, IsName};
 
 use crate::EmitFault;
 use crate::own_texts::Texts;
@@ -41,9 +41,9 @@ fn occurrence_of(
     requires in_text { AreInText types.now.bytes types.now.tokens }
     requires short { length types.now.bytes < 2 ^ 31 }
     requires lined { lines.now ≡ line_starts types.now.bytes }
-    requires named { AreNamed types.now }
+    requires named { HaveNames types.now }
     requires external { (item name : ℕ) → reference.now.target ≡ External item name → IsName (text types.now name) }
-    ensures { (package_name : List ℕ) → AreTexts types.now package_name texts.now → IfOk result (λ o. option_map plain_occurrence o ≡ occurrence types.now package_name reference.now) }
+    ensures { (package_name : List ℕ) → AreSymbolTexts types.now package_name texts.now → IfOk result (λ o. option_map plain_occurrence o ≡ occurrence types.now package_name reference.now) }
 {
     let Some(symbol) = texts.symbol(alloc, types, reference.target)? else {
         return Ok(None);
@@ -65,9 +65,9 @@ fn occurrences(
 ) -> Result<Vec<Occurrence>, AllocError>
     requires in_text { AreInText types.now.bytes types.now.tokens }
     requires short { length types.now.bytes < 2 ^ 31 }
-    requires named { AreNamed types.now }
+    requires named { HaveNames types.now }
     requires of_names { AreOfNames types.now refs.now }
-    ensures { (package_name : List ℕ) → AreTexts types.now package_name texts.now → IfOk result (λ v. map plain_occurrence v.items ≡ filter_map (occurrence types.now package_name) refs.now) }
+    ensures { (package_name : List ℕ) → AreSymbolTexts types.now package_name texts.now → IfOk result (λ v. map plain_occurrence v.items ≡ filter_map (occurrence types.now package_name) refs.now) }
 {
     let lines = lines(alloc, types.bytes())?;
     let mut found = Vec::with_capacity(alloc, refs.len())?;
@@ -86,10 +86,10 @@ fn symbol_row(
     texts: &Texts<'_>,
     reference: &Reference,
 ) -> Result<Option<SymbolInfo>, AllocError>
-    requires named { AreNamed types.now }
+    requires named { HaveNames types.now }
     requires own { IsName (text types.now reference.now.number) }
     requires external { (item name : ℕ) → reference.now.target ≡ External item name → IsName (text types.now name) }
-    ensures { (package_name : List ℕ) → AreTexts types.now package_name texts.now → IfOk result (λ s. option_map plain_symbol s ≡ symbol_row types.now package_name reference.now) }
+    ensures { (package_name : List ℕ) → AreSymbolTexts types.now package_name texts.now → IfOk result (λ s. option_map plain_symbol s ≡ symbol_row types.now package_name reference.now) }
 {
     if reference.role != 1 {
         return Ok(None);
@@ -111,9 +111,9 @@ fn symbols(
     texts: &Texts<'_>,
     refs: &[Reference],
 ) -> Result<Vec<SymbolInfo>, AllocError>
-    requires named { AreNamed types.now }
+    requires named { HaveNames types.now }
     requires of_names { AreOfNames types.now refs.now }
-    ensures { (package_name : List ℕ) → AreTexts types.now package_name texts.now → IfOk result (λ v. map plain_symbol v.items ≡ filter_map (symbol_row types.now package_name) refs.now) }
+    ensures { (package_name : List ℕ) → AreSymbolTexts types.now package_name texts.now → IfOk result (λ v. map plain_symbol v.items ≡ filter_map (symbol_row types.now package_name) refs.now) }
 {
     let mut found = Vec::new(alloc);
     for reference in refs {
@@ -154,9 +154,9 @@ fn document_with(
 ) -> Result<Document, AllocError>
     requires in_text { AreInText types.now.bytes types.now.tokens }
     requires short { length types.now.bytes < 2 ^ 31 }
-    requires named { AreNamed types.now }
+    requires named { HaveNames types.now }
     requires of_names { AreOfNames types.now refs.now }
-    ensures { (package_name : List ℕ) → AreTexts types.now package_name texts.now → IfOk result (λ d. plain_document d ≡ document_of types.now path.now package_name refs.now) }
+    ensures { (package_name : List ℕ) → AreSymbolTexts types.now package_name texts.now → IfOk result (λ d. plain_document d ≡ document_of types.now path.now package_name refs.now) }
 {
     let occurrences = occurrences(alloc, types, texts, refs)?;
     let symbols = symbols(alloc, types, texts, refs)?;
@@ -173,7 +173,7 @@ fn document_in(
 ) -> Result<Document, AllocError>
     requires in_text { AreInText types.now.bytes types.now.tokens }
     requires short { length types.now.bytes < 2 ^ 31 }
-    requires named { AreNamed types.now }
+    requires named { HaveNames types.now }
     requires of_names { AreOfNames types.now refs.now }
     ensures { IfOk result (λ d. plain_document d ≡ document_of types.now path.now package_name.now refs.now) }
 {
@@ -195,7 +195,7 @@ pub fn document(
     requires in_text { AreInText types.now.bytes types.now.tokens }
     requires short { length types.now.bytes < 2 ^ 31 }
     // What is declared, imported and reached has names, and so have the references.
-    requires named { AreNamed types.now }
+    requires named { HaveNames types.now }
     requires of_names { AreOfNames types.now refs.now }
     // It is the module's document.
     ensures exact { IfOk result (λ d. plain_document d ≡ document_of types.now path.now package_name.now refs.now) }

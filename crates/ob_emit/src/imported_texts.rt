@@ -4,7 +4,7 @@ ghost use Rattle.std.specs.Option.{option_map};
 ghost use Rattle.std.specs.String.{string_bytes};
 ghost use Rattle.scip_symbol.specs.SymbolTexts.{plain_text};
 ghost use Rattle.ob_emit.specs.Made.{front_text};
-ghost use Rattle.ob_emit.specs.Named.{AreNamed};
+ghost use Rattle.ob_emit.specs.Named.{HaveNames};
 ghost use Rattle.ob_emit.specs.Symbols.{imported_symbol};
 
 use crate::path::path_text;
@@ -19,7 +19,7 @@ pub(crate) fn imported_text(
     reached: u32,
     declaration: u32,
 ) -> Result<Option<String>, AllocError>
-    requires { AreNamed types.now }
+    requires { HaveNames types.now }
     ensures { (package_name : List ℕ) → front.now ≡ front_text package_name →
         IfOk result (λ text. option_map string_bytes text ≡ option_map plain_text (imported_symbol types.now package_name reached declaration)) }
 {

@@ -15,13 +15,13 @@ ghost use Rattle.ob_targets.specs.Refers.{AreReferences};
 ghost use Rattle.ob_types.specs.World.{declaration_there, text, World};
 ghost use Rattle.scip_symbol.specs.SymbolTexts.{PlainSymbol};
 ghost use Rattle.ob_emit.specs.Apart.{seen_tokens, DeclaresOnce, IsLocal};
-ghost use Rattle.ob_emit.specs.Named.{AreNamed, AreOfNames, IsNamed};
+ghost use Rattle.ob_emit.specs.Named.{HaveNames, AreOfNames, HasNames};
 ghost use Rattle.ob_emit.specs.Symbols.{declared_symbol, imported_symbol, is_of_another_module, stands_for_something, symbol_of};
 
 /// The scopes of a module say that it has names, and those of the modules that it reaches that these have.
 pub fn names_of_scopes()
-    ensures here { (w : World) (s : ModuleScopes) → AreScopes w.bytes w.tokens w.rows s → ((m : ModuleInterface) → Contains w.reached m → IsNamed m) → AreNamed w }
-    ensures there { (bytes : List ℕ) (ts : List Token) (rows : Rows) (s : ModuleScopes) → AreScopes bytes ts rows s → IsNamed (interface_of bytes ts rows) }
+    ensures here { (w : World) (s : ModuleScopes) → AreScopes w.bytes w.tokens w.rows s → ((m : ModuleInterface) → Contains w.reached m → HasNames m) → HaveNames w }
+    ensures there { (bytes : List ℕ) (ts : List Token) (rows : Rows) (s : ModuleScopes) → AreScopes bytes ts rows s → HasNames (interface_of bytes ts rows) }
 {}
 
 /// The references of a module whose text spells its tokens are those of names.

@@ -4,7 +4,7 @@ ghost use Rattle.std.specs.Option.{option_map};
 ghost use Rattle.std.specs.String.{string_bytes};
 ghost use Rattle.scip_symbol.specs.SymbolTexts.{plain_text};
 ghost use Rattle.ob_emit.specs.Made.{front_text, named_symbol, path_text, AreFronts};
-ghost use Rattle.ob_emit.specs.Named.{AreNamed, IsName};
+ghost use Rattle.ob_emit.specs.Named.{HaveNames, IsName};
 ghost use Rattle.ob_emit.specs.Symbols.{module_path, module_symbol};
 
 use crate::fronts::Fronts;
@@ -32,7 +32,7 @@ pub(crate) fn item_text(
     fronts: &Fronts,
     item: u32,
 ) -> Result<Option<String>, AllocError>
-    requires { AreNamed types.now }
+    requires { HaveNames types.now }
     ensures { (package_name : List ℕ) → AreFronts package_name fronts.now →
         IfOk result (λ text. option_map string_bytes text ≡ option_map plain_text (module_symbol types.now package_name item)) }
 {
@@ -55,7 +55,7 @@ pub(crate) fn external_text(
     item: u32,
     name: &[u8],
 ) -> Result<Option<String>, AllocError>
-    requires named { AreNamed types.now }
+    requires named { HaveNames types.now }
     requires of_name { IsName name.now }
     ensures { outside.now ≡ front_text [] →
         IfOk result (λ text. option_map string_bytes text ≡ option_map plain_text (named_symbol types.now item name.now)) }

@@ -3,7 +3,7 @@ ghost use Rattle.std.specs.Prelude.{◌≡◌, ℕ, List, IfOk, OnOk, []};
 ghost use Rattle.ob_targets.specs.declared.target.Target.TheVariants.{External};
 ghost use Rattle.ob_types.specs.World.{text, World};
 ghost use Rattle.ob_emit.specs.Made.{front_text, AreExternal, AreFronts, AreImported, AreModules, AreOuter};
-ghost use Rattle.ob_emit.specs.Named.{AreNamed, AreOfNames, IsName};
+ghost use Rattle.ob_emit.specs.Named.{HaveNames, AreOfNames, IsName};
 
 use crate::fronts::Fronts;
 use crate::imported_texts::imported_text;
@@ -32,7 +32,7 @@ fn add_imported(
     texts: &mut IndexMap<(u32, u32), Option<String>>,
     key: (u32, u32),
 ) -> Result<(), AllocError>
-    requires { AreNamed types.now }
+    requires { HaveNames types.now }
     ensures { (package_name : List ℕ) → front.now ≡ front_text package_name → AreImported types.now package_name texts.old →
         OnOk result (AreImported types.now package_name texts.new) }
 {
@@ -52,7 +52,7 @@ fn add_module(
     texts: &mut IndexMap<u32, Option<String>>,
     item: u32,
 ) -> Result<(), AllocError>
-    requires { AreNamed types.now }
+    requires { HaveNames types.now }
     ensures { (package_name : List ℕ) → AreFronts package_name fronts.now → AreModules types.now package_name texts.old →
         OnOk result (AreModules types.now package_name texts.new) }
 {
@@ -72,7 +72,7 @@ fn add_name<'a>(
     texts: &mut IndexMap<(u32, &'a [u8]), Option<String>>,
     key: (u32, &'a [u8]),
 ) -> Result<(), AllocError>
-    requires named { AreNamed types.now }
+    requires named { HaveNames types.now }
     requires of_name { IsName key.1.now }
     ensures { outside.now ≡ front_text [] → AreExternal types.now texts.old → OnOk result (AreExternal types.now texts.new) }
 {
@@ -105,7 +105,7 @@ impl<'a> Outer<'a> {
         fronts: &Fronts,
         target: Target,
     ) -> Result<(), AllocError>
-        requires named { AreNamed types.now }
+        requires named { HaveNames types.now }
         requires external { (item name : ℕ) → target ≡ External item name → IsName (text types.now name) }
         ensures { (package_name : List ℕ) → AreFronts package_name fronts.now → AreOuter types.now package_name self.old →
             OnOk result (AreOuter types.now package_name self.new) }
@@ -144,7 +144,7 @@ pub(crate) fn outer_texts<'a>(
     fronts: &Fronts,
     refs: &[Reference],
 ) -> Result<Box<Outer<'a>>, AllocError>
-    requires named { AreNamed types.now }
+    requires named { HaveNames types.now }
     requires of_names { AreOfNames types.now refs.now }
     ensures { (package_name : List ℕ) → AreFronts package_name fronts.now → IfOk result (λ texts. AreOuter types.now package_name texts.value) }
 {

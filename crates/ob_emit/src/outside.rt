@@ -9,7 +9,7 @@ ghost use Rattle.ob_types.specs.World.{text};
 ghost use Rattle.scip_index.specs.Plain.{plain_symbol};
 ghost use Rattle.ob_emit.specs.Externals.{AreExternalRows, AreExternals, external_module, external_row, externals_in};
 ghost use Rattle.ob_emit.specs.Made.{front_text, outside_row, AreEnough};
-ghost use Rattle.ob_emit.specs.Named.{AreNamed, AreOfNames, IsName};
+ghost use Rattle.ob_emit.specs.Named.{HaveNames, AreOfNames, IsName};
 ghost use Rattle.std.specs.Prelude.{List, ℕ};
 
 use crate::fronts::front_text;
@@ -40,7 +40,7 @@ fn external_module(
     outside: &str,
     item: u32,
 ) -> Result<Option<SymbolInfo>, AllocError>
-    requires named { AreNamed types.now }
+    requires named { HaveNames types.now }
     requires front { outside.now ≡ front_text [] }
     ensures { IfOk result (λ s. option_map plain_symbol s ≡ external_module types.now item) }
 {
@@ -63,7 +63,7 @@ fn external_name(
     item: u32,
     name: u32,
 ) -> Result<Option<SymbolInfo>, AllocError>
-    requires named { AreNamed types.now }
+    requires named { HaveNames types.now }
     requires of_name { IsName (text types.now name) }
     requires front { outside.now ≡ front_text [] }
     ensures { IfOk result (λ s. option_map plain_symbol s ≡ external_row types.now (External item name)) }
@@ -82,7 +82,7 @@ fn external_row(
     outside: &str,
     target: Target,
 ) -> Result<Option<SymbolInfo>, AllocError>
-    requires named { AreNamed types.now }
+    requires named { HaveNames types.now }
     requires external { (item name : ℕ) → target ≡ External item name → IsName (text types.now name) }
     requires front { outside.now ≡ front_text [] }
     ensures { IfOk result (λ s. option_map plain_symbol s ≡ external_row types.now target) }
@@ -139,7 +139,7 @@ fn external_rows(
     types: &Types<'_>,
     refs: &[Reference],
 ) -> Result<Vec<SymbolInfo>, AllocError>
-    requires named { AreNamed types.now }
+    requires named { HaveNames types.now }
     requires of_names { AreOfNames types.now refs.now }
     ensures { IfOk result (λ v. map plain_symbol v.items ≡ externals_in types.now refs.now) }
 {
@@ -170,7 +170,7 @@ pub fn externals(
     refs: &[Reference],
 ) -> Result<Vec<SymbolInfo>, AllocError>
     // What is declared, imported and reached has names, and so have the references.
-    requires named { AreNamed types.now }
+    requires named { HaveNames types.now }
     requires of_names { AreOfNames types.now refs.now }
     // They are those of the references.
     ensures exact { IfOk result (λ v. AreExternals (externals_in types.now refs.now) (map plain_symbol v.items)) }

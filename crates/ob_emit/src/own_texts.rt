@@ -5,8 +5,8 @@ ghost use Rattle.std.specs.Option.{option_map};
 ghost use Rattle.std.specs.String.{string_bytes};
 ghost use Rattle.std.specs.Prelude.{List, ℕ};
 ghost use Rattle.scip_symbol.specs.SymbolTexts.{plain_text, PlainDescriptor};
-ghost use Rattle.ob_emit.specs.Made.{front_text, path_text, AreMade, AreTexts};
-ghost use Rattle.ob_emit.specs.Named.{AreNamed, AreOfNames};
+ghost use Rattle.ob_emit.specs.Made.{front_text, path_text, AreMade, AreSymbolTexts};
+ghost use Rattle.ob_emit.specs.Named.{HaveNames, AreOfNames};
 ghost use Rattle.ob_emit.specs.Symbols.{is_local, own_path, symbol_at};
 
 use crate::fronts::Fronts;
@@ -44,7 +44,7 @@ fn block_text(
     front: &str,
     number: u32,
 ) -> Result<Option<String>, AllocError>
-    requires { AreNamed types.now }
+    requires { HaveNames types.now }
     ensures { IfOk result (λ text. option_map string_bytes text ≡ option_map (λ (ds : List PlainDescriptor). front.now ++ path_text ds) (own_path types.now number)) }
 {
     path_text(
@@ -64,7 +64,7 @@ fn row_text(
     row: &Declared,
     locals: usize,
 ) -> Result<Option<String>, AllocError>
-    requires { AreNamed types.now }
+    requires { HaveNames types.now }
     ensures { (package_name : List ℕ) (i : ℕ) → front.now ≡ front_text package_name → locals ≡ count_by (is_local types.now) (take i types.now.rows.declared) →
         IfOk result (λ text. option_map string_bytes text ≡ option_map plain_text (symbol_at types.now package_name i row.now)) }
 {
@@ -81,7 +81,7 @@ fn declared_texts(
     types: &Types<'_>,
     front: &str,
 ) -> Result<Vec<Option<String>>, AllocError>
-    requires { AreNamed types.now }
+    requires { HaveNames types.now }
     ensures { (package_name : List ℕ) → front.now ≡ front_text package_name → IfOk result (λ v. AreMade types.now package_name (length types.now.rows.declared) (map (option_map string_bytes) v.items)) }
 {
     let declared = types.table().declared();
@@ -105,9 +105,9 @@ impl<'a> Texts<'a> {
         refs: &[Reference],
         package_name: &str,
     ) -> Result<Texts<'a>, AllocError>
-        requires named { AreNamed types.now }
+        requires named { HaveNames types.now }
         requires of_names { AreOfNames types.now refs.now }
-        ensures { IfOk result (AreTexts types.now package_name.now) }
+        ensures { IfOk result (AreSymbolTexts types.now package_name.now) }
     {
         let fronts = Fronts::new(alloc, package_name)?;
         let name = types.text(types.table().own_name());

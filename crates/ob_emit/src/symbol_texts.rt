@@ -4,8 +4,8 @@ ghost use Rattle.std.specs.Option.{option_map};
 ghost use Rattle.std.specs.String.{string_bytes};
 ghost use Rattle.scip_symbol.specs.SymbolTexts.{plain_text};
 ghost use Rattle.ob_targets.specs.declared.target.Target.TheVariants.{External};
-ghost use Rattle.ob_emit.specs.Made.{named_symbol, AreTexts};
-ghost use Rattle.ob_emit.specs.Named.{AreNamed, IsName};
+ghost use Rattle.ob_emit.specs.Made.{named_symbol, AreSymbolTexts};
+ghost use Rattle.ob_emit.specs.Named.{HaveNames, IsName};
 ghost use Rattle.ob_emit.specs.Symbols.{declared_symbol, imported_symbol, module_symbol, symbol_of};
 ghost use Rattle.ob_types.specs.World.{text};
 
@@ -35,7 +35,7 @@ impl Texts<'_> {
         types: &Types<'_>,
         number: u32,
     ) -> Result<Option<String>, AllocError>
-        ensures { (package_name : List ℕ) → AreTexts types.now package_name self.now →
+        ensures { (package_name : List ℕ) → AreSymbolTexts types.now package_name self.now →
             IfOk result (λ text. option_map string_bytes text ≡ option_map plain_text (declared_symbol types.now package_name number)) }
     {
         let Some(at) = place_of(types.table(), number) else {
@@ -55,8 +55,8 @@ impl Texts<'_> {
         reached: u32,
         declaration: u32,
     ) -> Result<Option<String>, AllocError>
-        requires { AreNamed types.now }
-        ensures { (package_name : List ℕ) → AreTexts types.now package_name self.now →
+        requires { HaveNames types.now }
+        ensures { (package_name : List ℕ) → AreSymbolTexts types.now package_name self.now →
             IfOk result (λ text. option_map string_bytes text ≡ option_map plain_text (imported_symbol types.now package_name reached declaration)) }
     {
         match self.outer.imported.get(&(reached, declaration)) {
@@ -78,8 +78,8 @@ impl Texts<'_> {
         types: &Types<'_>,
         item: u32,
     ) -> Result<Option<String>, AllocError>
-        requires { AreNamed types.now }
-        ensures { (package_name : List ℕ) → AreTexts types.now package_name self.now →
+        requires { HaveNames types.now }
+        ensures { (package_name : List ℕ) → AreSymbolTexts types.now package_name self.now →
             IfOk result (λ text. option_map string_bytes text ≡ option_map plain_text (module_symbol types.now package_name item)) }
     {
         match self.outer.modules.get(&item) {
@@ -96,9 +96,9 @@ impl Texts<'_> {
         item: u32,
         name: &[u8],
     ) -> Result<Option<String>, AllocError>
-        requires named { AreNamed types.now }
+        requires named { HaveNames types.now }
         requires of_name { IsName name.now }
-        ensures { (package_name : List ℕ) → AreTexts types.now package_name self.now →
+        ensures { (package_name : List ℕ) → AreSymbolTexts types.now package_name self.now →
             IfOk result (λ text. option_map string_bytes text ≡ option_map plain_text (named_symbol types.now item name.now)) }
     {
         match self.outer.names.get(&(item, name)) {
@@ -114,9 +114,9 @@ impl Texts<'_> {
         types: &Types<'_>,
         target: Target,
     ) -> Result<Option<String>, AllocError>
-        requires named { AreNamed types.now }
+        requires named { HaveNames types.now }
         requires external { (item name : ℕ) → target ≡ External item name → IsName (text types.now name) }
-        ensures { (package_name : List ℕ) → AreTexts types.now package_name self.now →
+        ensures { (package_name : List ℕ) → AreSymbolTexts types.now package_name self.now →
             IfOk result (λ text. option_map string_bytes text ≡ option_map plain_text (symbol_of types.now package_name target)) }
     {
         match target {

@@ -9,7 +9,7 @@ use Rattle.ob_interface.specs.Places.{Indexes}
 use Rattle.ob_interface.specs.Rowed.{interface_in}
 
 -- the declarations by record and name, the import items by alias, the bases by record, and the declarations by the record that they own
-pub record IsIndexed (rows : Rows) (members aliases : List NamePlace) (bases owners : List RecordPlace) : Type 0 where
+pub record HasIndexes (rows : Rows) (members aliases : List NamePlace) (bases owners : List RecordPlace) : Type 0 where
   pub by_name : AreByName rows.text.items members
   pub declared : Indexes (name_key rows.text.items) place_by_name fits_name (interface_in rows).declarations members
   pub by_alias : AreByName rows.text.items aliases

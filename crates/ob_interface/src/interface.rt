@@ -6,7 +6,7 @@ ghost use Rattle.ob_interface.specs.Orders.{fits_alias, fits_base, fits_name, na
 ghost use Rattle.ob_interface.specs.Placed.{base_named, declaration_at, form_part, holds, module_named, owner_place, place_of};
 ghost use Rattle.ob_interface.specs.Places.{Indexes};
 ghost use Rattle.ob_interface.specs.Rowed.{interface_in};
-ghost use Rattle.ob_interface.specs.Indexed.{IsIndexed};
+ghost use Rattle.ob_interface.specs.Indexed.{HasIndexes};
 ghost use Rattle.ob_interface.specs.Texts.{base_in, text_in};
 ghost use Rattle.ob_interface.specs.declared.rows.ImportRow.{ImportRow as ImportItem};
 
@@ -33,7 +33,7 @@ struct RowIndexes {
 
 /// The indexes of these rows.
 fn indexes_of(alloc: Global, rows: &Rows) -> Result<RowIndexes, AllocError>
-    ensures { IfOk result (λ x. IsIndexed rows.now x.members.items x.aliases.items x.bases.items x.owners.items) }
+    ensures { IfOk result (λ x. HasIndexes rows.now x.members.items x.aliases.items x.bases.items x.owners.items) }
 {
     let text = rows.text.as_slice();
     let declarations = rows.declarations.as_slice();
@@ -62,13 +62,13 @@ pub struct Interface {
 impl Model for Interface {
     ghost use Rattle.ob_interface.specs.Interfaces.{ModuleInterface};
     ghost use Rattle.ob_interface.specs.Rowed.{interface_in};
-    ghost use Rattle.ob_interface.specs.Indexed.{IsIndexed};
+    ghost use Rattle.ob_interface.specs.Indexed.{HasIndexes};
 
     ghost Value = { ModuleInterface };
 
     ghost view = { λ i. interface_in i.rows };
 
-    ghost invariant = { λ i. IsIndexed i.rows i.indexes.members.items i.indexes.aliases.items i.indexes.bases.items i.indexes.owners.items };
+    ghost invariant = { λ i. HasIndexes i.rows i.indexes.members.items i.indexes.aliases.items i.indexes.bases.items i.indexes.owners.items };
 }
 
 /// The place of the declaration of a name in a record, or in the block.

@@ -13,7 +13,7 @@ use Rattle.ob_tree.specs.Marks.{Out}
 use Rattle.ob_parse.specs.declared.fault.ParseFault.{ParseFault}
 use Rattle.ob_parse.specs.declared.fault.ParseFault.TheVariants as faults
 use Rattle.ob_parse.specs.Front.{uncons}
-use Rattle.ob_parse.specs.Parsed.{IsEndFault, IsFaultOf, IsFirstWrong, IsRightEnd, IsPlace, IsStart, IsWrongEnd, from_token, kinds_of, start_or}
+use Rattle.ob_parse.specs.Parsed.{IsEndFault, IsFaultOf, IsFirstWrong, IsRightEnd, IsPlace, IsTokenStart, IsWrongEnd, from_token, kinds_of, start_or}
 use Rattle.ob_parse.specs.Forms.{Refusal, Unexpected, TooDeep}
 use Rattle.std.specs.Prelude.{Result}
 use Rattle.ob_parse.proofs.OneTree.{leaves_length, not_wrong, some_is}
@@ -110,5 +110,5 @@ place_of bytes ts n (Some t) at e is = inl (record { number = n; token = t; ther
 pub syntax_place : (bytes : List ℕ) (ts : List Token) (at : ℕ) → IsFaultOf bytes ts (faults.Syntax at) → IsPlace bytes ts at
 syntax_place bytes ts at h = place_of bytes ts h.0.number (slice_get ts h.0.number) at refl h.0.begins
 
-pub deep_start : (bytes : List ℕ) (ts : List Token) (at : ℕ) → IsFaultOf bytes ts (faults.TooDeep at) → IsStart ts at
+pub deep_start : (bytes : List ℕ) (ts : List Token) (at : ℕ) → IsFaultOf bytes ts (faults.TooDeep at) → IsTokenStart ts at
 deep_start bytes ts at h = record { number = h.0.number; token = h.0.token; there = h.0.there; begins = h.0.begins }

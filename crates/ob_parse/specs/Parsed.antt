@@ -67,7 +67,7 @@ pub record IsEndFault (bytes : List ℕ) (ts : List Token) (at : ℕ) : Type 0 w
   pub first : IsFirstWrong bytes ts (endings_in (module_outline of)) at
 
 -- a token begins at this offset
-pub record IsStart (ts : List Token) (at : ℕ) : Type 0 where
+pub record IsTokenStart (ts : List Token) (at : ℕ) : Type 0 where
   pub number : ℕ
   pub token : Token
   pub there : slice_get ts number ≡ Some token
@@ -75,7 +75,7 @@ pub record IsStart (ts : List Token) (at : ℕ) : Type 0 where
 
 -- a token begins at this offset, or the text ends there
 abbrev pub IsPlace : List ℕ → List Token → ℕ → Type 0
-IsPlace bytes ts at = IsStart ts at ⊎ (at ≡ length bytes)
+IsPlace bytes ts at = IsTokenStart ts at ⊎ (at ≡ length bytes)
 
 -- where a token begins, or the text's end where there is none of this number
 abbrev pub start_or : ℕ → Option Token → ℕ

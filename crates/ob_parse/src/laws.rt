@@ -6,7 +6,7 @@ ghost use Rattle.ob_scan.specs.declared.token.Token.{Token};
 ghost use Rattle.ob_tree.specs.Declaring.{module_outline};
 ghost use Rattle.ob_tree.specs.Derives.{Derives};
 ghost use Rattle.ob_tree.specs.declared.declaration.Module.{Module};
-ghost use Rattle.ob_parse.specs.Parsed.{IsTheTree, IsFaultOf, IsPlace, IsStart};
+ghost use Rattle.ob_parse.specs.Parsed.{IsTheTree, IsFaultOf, IsPlace, IsTokenStart};
 ghost use Rattle.ob_parse.specs.declared.fault.ParseFault.{ParseFault};
 ghost use Rattle.ob_parse.specs.declared.fault.ParseFault.TheVariants as faults;
 
@@ -29,7 +29,7 @@ pub fn one_fault()
 /// A token begins where a text is TooDeep, and where its Syntax is wrong a token begins, or the text ends.
 pub fn places_of_faults()
     ensures syntax { (bytes : List ℕ) (ts : List Token) (at : ℕ) → IsFaultOf bytes ts (faults.Syntax at) → IsPlace bytes ts at }
-    ensures deep { (bytes : List ℕ) (ts : List Token) (at : ℕ) → IsFaultOf bytes ts (faults.TooDeep at) → IsStart ts at }
+    ensures deep { (bytes : List ℕ) (ts : List Token) (at : ℕ) → IsFaultOf bytes ts (faults.TooDeep at) → IsTokenStart ts at }
 {}
 
 /// Where a token of a text begins, or the text ends, is an offset of the text.

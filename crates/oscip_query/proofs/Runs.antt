@@ -16,7 +16,7 @@ use Rattle.index_store.specs.Queries.{PlainPlace, ArePlacesAnswer, IsSymbolAnswe
 use Rattle.oscip_query.specs.declared.asking.Which.{Which}
 use Rattle.oscip_query.specs.declared.fault.QueryFault.{QueryFault}
 use Rattle.oscip_query.specs.declared.fault.QueryFault.TheVariants.{Wire, NoDocument, Device, Memory}
-use Rattle.oscip_query.specs.Asking.{places_told, IsAnswer, IsQueryRun, IsRefusedIndex}
+use Rattle.oscip_query.specs.Asking.{places_told, IsAnswerText, IsQueryRun, IsRefusedIndex}
 use Rattle.oscip_query.specs.Faults.{of_sink, of_store, of_wire}
 use Rattle.oscip_query.specs.Lines.{place_lines}
 use Rattle.oscip_query.proofs.NoDevice.{first_never, index_never}
@@ -50,12 +50,12 @@ refused_places bytes path at which known index means wanted store.Memory h = inl
 
 -- the lines of the places that are told
 pub answer : (bytes path : List ℕ) (at : Position) (which : Which) (index : PlainIndex) (symbol : Option (List ℕ)) (places : List PlainPlace) → Means bytes index
-    → IsSymbolAnswer index path at (Ok symbol) → places ≡ places_told which index path symbol → IsAnswer bytes path at which (place_lines places)
+    → IsSymbolAnswer index path at (Ok symbol) → places ≡ places_told which index path symbol → IsAnswerText bytes path at which (place_lines places)
 answer bytes path at which index symbol places means at_position told =
     record { index = index; means = means; has_path = at_position.0; symbol = symbol; stands = at_position.1; lines = rw told refl }
 
 -- a sink that failed
-pub broken : (bytes path : List ℕ) (at : Position) (which : Which) (old new : Option (List ℕ)) (text : List ℕ) (fault : SinkFault) → IsAnswer bytes path at which text → AppendsFront old new text
+pub broken : (bytes path : List ℕ) (at : Position) (which : Which) (old new : Option (List ℕ)) (text : List ℕ) (fault : SinkFault) → IsAnswerText bytes path at which text → AppendsFront old new text
     → IsQueryRun bytes path at which old new (Err (of_sink fault))
 broken bytes path at which old new text sink.Memory is front = inr (text, is, front)
 broken bytes path at which old new text sink.Device is front = (text, is, front)

@@ -24,7 +24,7 @@ places_told which index path None = []
 places_told which index path (Some symbol) = places_asked which index path symbol
 
 -- the text that an index gives to a question
-pub record IsAnswer (bytes path : List ℕ) (at : Position) (which : Which) (text : List ℕ) : Type 0 where
+pub record IsAnswerText (bytes path : List ℕ) (at : Position) (which : Which) (text : List ℕ) : Type 0 where
   -- the index that the bytes mean
   pub index : PlainIndex
   pub means : Means bytes index
@@ -38,11 +38,11 @@ pub record IsAnswer (bytes path : List ℕ) (at : Position) (which : Which) (tex
 
 -- the sink has the whole answer
 abbrev pub PutsAnswer : List ℕ → List ℕ → Position → Which → Option (List ℕ) → Option (List ℕ) → Type 0
-PutsAnswer bytes path at which old new = (text : List ℕ) × IsAnswer bytes path at which text × Appends old new text
+PutsAnswer bytes path at which old new = (text : List ℕ) × IsAnswerText bytes path at which text × Appends old new text
 
 -- the sink has a front of the answer
 abbrev pub PutsAnswerFront : List ℕ → List ℕ → Position → Which → Option (List ℕ) → Option (List ℕ) → Type 0
-PutsAnswerFront bytes path at which old new = (text : List ℕ) × IsAnswer bytes path at which text × AppendsFront old new text
+PutsAnswerFront bytes path at which old new = (text : List ℕ) × IsAnswerText bytes path at which text × AppendsFront old new text
 
 -- the bytes mean an index, and no document of it has the path
 abbrev pub LacksPath : List ℕ → List ℕ → Type 0

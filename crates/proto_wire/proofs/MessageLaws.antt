@@ -4,7 +4,7 @@ use Rattle.std.proofs.lemmas.List.{append-nil, length-append}
 use Rattle.proto_wire.specs.declared.fault.WireFault.{WireFault}
 use Rattle.proto_wire.specs.Messages.{first_of, first_fault, fault_of, IsClean, IsFirstFault, in_record, of_record}
 use Rattle.proto_wire.specs.Readings.{pieces_from, pieces_of}
-use Rattle.proto_wire.specs.Records.{Piece, AreRecords, Reaches}
+use Rattle.proto_wire.specs.Records.{Piece, AreRecords, IsSplit}
 use Rattle.proto_wire.proofs.PieceReadings.{reach_found, records_found, stop_found, PiecesRead, pieces_read}
 
 first_fault-pass : (inside : Piece → Option WireFault) (p : Piece) (others : List Piece) (end : Option WireFault) → inside p ≡ None → first_fault inside (p ∷ others) end ≡ first_fault inside others end
@@ -36,7 +36,7 @@ fault_of-end inside start bytes front end clean e =
     rw e (ap (λ (ps : List Piece). first_fault inside ps end) (sym (append-nil front)) ∙ IsClean-passes inside front [] end clean ∙ first_fault-nil inside end)
 
 pub fault_of-inside : (inside : Piece → Option WireFault) (start : ℕ) (bytes : List ℕ) (front : List Piece) (p : Piece) (at : ℕ) (rest : List ℕ) (fault : WireFault)
-    → IsClean inside front → Reaches start bytes (front ++ p ∷ []) at rest → inside p ≡ Some fault → fault_of inside start bytes ≡ Some fault
+    → IsClean inside front → IsSplit start bytes (front ++ p ∷ []) at rest → inside p ≡ Some fault → fault_of inside start bytes ≡ Some fault
 fault_of-inside inside start bytes front p at rest fault clean so_far e =
     let whole = reach_found start bytes (front ++ p ∷ []) at rest so_far in
     let found = pieces_from whole.0 at rest in
@@ -78,7 +78,7 @@ first_fault-some inside (p ∷ pieces) end fault e =
     ]
 
 -- records in a row reach the end of those in front
-AreRecords-split : (start : ℕ) (bytes : List ℕ) (front others : List Piece) → AreRecords start bytes (front ++ others) → (at : ℕ) × (rest : List ℕ) × Reaches start bytes front at rest
+AreRecords-split : (start : ℕ) (bytes : List ℕ) (front others : List Piece) → AreRecords start bytes (front ++ others) → (at : ℕ) × (rest : List ℕ) × IsSplit start bytes front at rest
 AreRecords-split start bytes [] others h = (start, bytes, record { good = []; form = refl; are_records = refl; here = omega arith })
 AreRecords-split start bytes (p ∷ front) others h =
     let so_far = AreRecords-split (start + length h.0) h.1 front others h.4 in (
@@ -92,11 +92,11 @@ AreRecords-split start bytes (p ∷ front) others h =
       },
     )
 
-more_bytes : (start : ℕ) (bytes good rest : List ℕ) (front : List Piece) → bytes ≡ good ++ rest → (at : ℕ) × (last : List ℕ) × Reaches start good front at last → (at : ℕ) × (last : List ℕ) × Reaches start bytes front at last
+more_bytes : (start : ℕ) (bytes good rest : List ℕ) (front : List Piece) → bytes ≡ good ++ rest → (at : ℕ) × (last : List ℕ) × IsSplit start good front at last → (at : ℕ) × (last : List ℕ) × IsSplit start bytes front at last
 more_bytes start bytes good rest front form h =
     (h.0, h.1 ++ rest, record { good = h.2.good; form = form ∙ ap (λ (bs : List ℕ). bs ++ rest) h.2.form ∙ append_assoc h.2.good h.1 rest; are_records = h.2.are_records; here = h.2.here })
 
-reached : (start : ℕ) (bytes : List ℕ) (front others : List Piece) (end : Option WireFault) → PiecesRead start bytes (front ++ others) end → (at : ℕ) × (rest : List ℕ) × Reaches start bytes front at rest
+reached : (start : ℕ) (bytes : List ℕ) (front others : List Piece) (end : Option WireFault) → PiecesRead start bytes (front ++ others) end → (at : ℕ) × (rest : List ℕ) × IsSplit start bytes front at rest
 reached start bytes front others None h = AreRecords-split start bytes front others h
 reached start bytes front others (Some fault) h = more_bytes start bytes h.good h.rest front h.form (AreRecords-split start h.good front others h.are_records)
 

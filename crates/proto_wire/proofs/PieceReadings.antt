@@ -3,7 +3,7 @@ use Rattle.std.proofs.Common.{◌≡◌, ◌↔◌, ℕ, zero, suc, ◌+◌, ◌
 use Rattle.std.proofs.lemmas.List.{length-append, append-nil}
 use Rattle.proto_wire.specs.declared.fault.WireFault.{WireFault}
 use Rattle.proto_wire.specs.declared.record.WireRecord.{WireRecord}
-use Rattle.proto_wire.specs.Records.{Piece, IsRecord, AreRecords, IsWrongRecord, IsFirst, IsStopped, Reaches, IsOutcome}
+use Rattle.proto_wire.specs.Records.{Piece, IsRecord, AreRecords, IsWrongRecord, IsFirst, IsStopped, IsSplit, IsOutcome}
 use Rattle.proto_wire.specs.Readings.{record_in, followed, pieces_from, pieces_of}
 use Rattle.proto_wire.proofs.PieceLaws.{with_front, pieces_from-step, faulty, ended}
 use Rattle.proto_wire.proofs.RecordReadings.{record_found, record_bytes, wrong_found, record_read}
@@ -111,7 +111,7 @@ read_at : (at : ℕ) (bytes : List ℕ) (pieces : List Piece) (end : Option Wire
 read_at at bytes pieces end e = subst (λ (found : List Piece × Option WireFault). PiecesRead at bytes found.0 found.1) e (pieces_read at bytes)
 
 -- the function gives what stands in front and then reads on
-pub reach_found : (start : ℕ) (bytes : List ℕ) (front : List Piece) (at : ℕ) (rest : List ℕ) → Reaches start bytes front at rest
+pub reach_found : (start : ℕ) (bytes : List ℕ) (front : List Piece) (at : ℕ) (rest : List ℕ) → IsSplit start bytes front at rest
     → (most : ℕ) × (pieces_of start bytes ≡ with_front front (pieces_from most at rest))
 unfolding pieces_of
 reach_found start bytes front at rest so_far =

@@ -8,7 +8,7 @@ use Rattle.proto_wire.specs.declared.fault.WireFault.TheVariants.{BadText}
 use Rattle.proto_wire.specs.declared.record.WireRecord.{WireRecord}
 use Rattle.proto_wire.specs.declared.record.WireValue.{WireValue}
 use Rattle.proto_wire.specs.declared.record.WireValue.TheVariants.{Varint, Eight, Bytes, Four}
-use Rattle.proto_wire.specs.Records.{Piece, IsStopped, Reaches}
+use Rattle.proto_wire.specs.Records.{Piece, IsStopped, IsSplit}
 use Rattle.proto_wire.specs.Packed.{int32, packed}
 use Rattle.proto_wire.specs.Readings.{pieces_of}
 
@@ -33,7 +33,7 @@ IsClean inside pieces = AllByRecursion (λ p. inside p ≡ None) pieces
 -- behind these records, which stand in front of a message's bytes, comes this fault: inside the next record, or of the one that
 -- is wrong. The first byte has this offset.
 pub data IsFaultBehind (inside : Piece → Option WireFault) (start : ℕ) (bytes : List ℕ) (front : List Piece) (fault : WireFault) : Type 0 where
-  in_record : (p : Piece) (at : ℕ) (rest : List ℕ) → Reaches start bytes (front ++ p ∷ []) at rest → inside p ≡ Some fault → IsFaultBehind inside start bytes front fault
+  in_record : (p : Piece) (at : ℕ) (rest : List ℕ) → IsSplit start bytes (front ++ p ∷ []) at rest → inside p ≡ Some fault → IsFaultBehind inside start bytes front fault
   of_record : IsStopped start bytes front fault → IsFaultBehind inside start bytes front fault
 
 -- the fault is the first one of a message's bytes: it comes behind records without one

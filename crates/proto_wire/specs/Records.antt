@@ -5,7 +5,7 @@ use Rattle.proto_wire.specs.declared.fault.WireFault.TheVariants.{Truncated, Lon
 use Rattle.proto_wire.specs.declared.record.WireRecord.{WireRecord}
 use Rattle.proto_wire.specs.declared.record.WireValue.{WireValue}
 use Rattle.proto_wire.specs.declared.record.WireValue.TheVariants.{Varint, Eight, Bytes, Four}
-use Rattle.proto_wire.specs.Varints.{IsVarint, IsOpen, IsLong}
+use Rattle.proto_wire.specs.Varints.{IsVarint, EndsInside, IsLong}
 
 -- a record, with its bytes where it has a length
 pub record Piece : Type 0 where
@@ -61,10 +61,10 @@ pub record HasKey (bytes : List ℕ) (kind : ℕ) (rest : List ℕ) : Type 0 whe
 
 -- the bytes end inside the record in front
 pub data IsTruncated (bytes : List ℕ) : Type 0 where
-  in_key : IsOpen bytes → IsTruncated bytes
-  in_varint : (rest : List ℕ) → HasKey bytes 0 rest → IsOpen rest → IsTruncated bytes
+  in_key : EndsInside bytes → IsTruncated bytes
+  in_varint : (rest : List ℕ) → HasKey bytes 0 rest → EndsInside rest → IsTruncated bytes
   in_eight : (rest : List ℕ) → HasKey bytes 1 rest → length rest < 8 → IsTruncated bytes
-  in_length : (rest : List ℕ) → HasKey bytes 2 rest → IsOpen rest → IsTruncated bytes
+  in_length : (rest : List ℕ) → HasKey bytes 2 rest → EndsInside rest → IsTruncated bytes
   in_payload : (size rest : List ℕ) (count : ℕ) → HasKey bytes 2 (size ++ rest) → IsVarint size count → length rest < count → IsTruncated bytes
   in_four : (rest : List ℕ) → HasKey bytes 5 rest → length rest < 4 → IsTruncated bytes
 
@@ -117,7 +117,7 @@ pub record IsStopped (at : ℕ) (bytes : List ℕ) (before : List Piece) (fault 
   pub is_wrong : IsWrongRecord (at + length good) rest fault
 
 -- these good records stand in front, and then this rest, whose first byte has this offset
-pub record Reaches (start : ℕ) (bytes : List ℕ) (front : List Piece) (at : ℕ) (rest : List ℕ) : Type 0 where
+pub record IsSplit (start : ℕ) (bytes : List ℕ) (front : List Piece) (at : ℕ) (rest : List ℕ) : Type 0 where
   pub good : List ℕ
   pub form : bytes ≡ good ++ rest
   pub are_records : AreRecords start good front

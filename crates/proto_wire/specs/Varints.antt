@@ -26,7 +26,7 @@ pub record IsVarint (bytes : List ℕ) (n : ℕ) : Type 0 where
   pub value : n ≡ value_of bytes % 2 ^ 64
 
 -- the bytes end inside a varint
-pub record IsOpen (bytes : List ℕ) : Type 0 where
+pub record EndsInside (bytes : List ℕ) : Type 0 where
   pub go_on : GoOn bytes
   pub short : length bytes < 10
 
@@ -40,7 +40,7 @@ pub record IsLong (bytes : List ℕ) : Type 0 where
 
 -- no varint stands in front, for this reason; the fault tells this offset
 abbrev pub IsNoVarint : ℕ → List ℕ → WireFault → Type 0
-IsNoVarint at bytes (Truncated place) = (place ≡ at) × IsOpen bytes
+IsNoVarint at bytes (Truncated place) = (place ≡ at) × EndsInside bytes
 IsNoVarint at bytes (LongVarint place) = (place ≡ at) × IsLong bytes
 IsNoVarint at bytes (Group place) = ⊥
 IsNoVarint at bytes (ZeroField place) = ⊥

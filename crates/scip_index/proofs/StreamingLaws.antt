@@ -8,15 +8,15 @@ use Rattle.std.proofs.lemmas.List.{append-nil, length-append}
 use Rattle.proto_wire.specs.declared.fault.WireFault.{WireFault}
 use Rattle.proto_wire.specs.declared.record.WireValue.{WireValue}
 use Rattle.proto_wire.specs.declared.record.WireValue.TheVariants.{Varint, Eight, Bytes, Four}
-use Rattle.proto_wire.specs.Records.{Piece, Reaches}
+use Rattle.proto_wire.specs.Records.{Piece, IsSplit}
 use Rattle.proto_wire.specs.Readings.{pieces_of}
 use Rattle.proto_wire.specs.Messages.{AddsMessages, each_of, if_field, records_inside, records_inside_given, IsClean, MeansEach}
 use Rattle.proto_wire.proofs.PieceReadings.{records_found}
-use Rattle.proto_wire.proofs.RowLaws.{Reaches-start, Reaches-end}
+use Rattle.proto_wire.proofs.RowLaws.{IsSplit-start, IsSplit-end}
 use Rattle.scip_index.specs.declared.index.Document.{Document}
 use Rattle.scip_index.specs.Plain.{plain_document, PlainDocument, PlainIndex, PlainMetadata, PlainSymbol}
 use Rattle.scip_index.specs.Meaning.{index_fault, index_of, Means}
-use Rattle.scip_index.specs.Streaming.{documents_in, given, HasDocuments, Stands}
+use Rattle.scip_index.specs.Streaming.{documents_in, given, HasDocuments, ReaderStands}
 
 each_length : {M : Type 0} (Means : M → List Piece → Type 0) (ms : List M) (given : List (List Piece)) → MeansEach Means ms given → length ms ≡ length given
 each_length Means [] [] h = refl
@@ -54,38 +54,38 @@ no_value None e = refl
 no_value (Some x) e = absurd cc
 
 -- the bytes that are read
-read_bytes : (bytes : List ℕ) (front : List Piece) (at : ℕ) (rest : List ℕ) (r : Reaches 0 bytes front at rest) → take at bytes ≡ r.good
+read_bytes : (bytes : List ℕ) (front : List Piece) (at : ℕ) (rest : List ℕ) (r : IsSplit 0 bytes front at rest) → take at bytes ≡ r.good
 read_bytes bytes front at rest r =
     let here : at ≡ length r.good = omega (arith, r.here) in
     ap (λ (n : ℕ). take n bytes) here ∙ ap (λ (bs : List ℕ). take (length r.good) bs) r.form ∙ take-append_seam r.good rest
 
 -- their records
-pub read_so_far : (bytes : List ℕ) (front : List Piece) (at : ℕ) (rest : List ℕ) → Reaches 0 bytes front at rest → pieces_of 0 (take at bytes) ≡ (front, None)
+pub read_so_far : (bytes : List ℕ) (front : List Piece) (at : ℕ) (rest : List ℕ) → IsSplit 0 bytes front at rest → pieces_of 0 (take at bytes) ≡ (front, None)
 read_so_far bytes front at rest r = ap (pieces_of 0) (read_bytes bytes front at rest r) ∙ records_found 0 r.good front r.are_records
 
-pub given_is : (bytes : List ℕ) (at : ℕ) (refusal : Option WireFault) (front : List Piece) (rest : List ℕ) → Reaches 0 bytes front at rest → given (record { bytes = bytes; at = at; refusal = refusal }) ≡ documents_in front
+pub given_is : (bytes : List ℕ) (at : ℕ) (refusal : Option WireFault) (front : List Piece) (rest : List ℕ) → IsSplit 0 bytes front at rest → given (record { bytes = bytes; at = at; refusal = refusal }) ≡ documents_in front
 given_is bytes at refusal front rest r = ap (λ (x : List Piece × Option WireFault). documents_in x.0) (read_so_far bytes front at rest r)
 
 -- the bytes that are read mean an index with the documents that are given
-pub read_means : (bytes : List ℕ) (at : ℕ) (refusal : Option WireFault) (front : List Piece) (rest : List ℕ) → Reaches 0 bytes front at rest → IsClean index_fault front
+pub read_means : (bytes : List ℕ) (at : ℕ) (refusal : Option WireFault) (front : List Piece) (rest : List ℕ) → IsSplit 0 bytes front at rest → IsClean index_fault front
     → HasDocuments (take at bytes) (given (record { bytes = bytes; at = at; refusal = refusal }))
 read_means bytes at refusal front rest r clean =
     subst (λ (read : List ℕ). HasDocuments read (given (record { bytes = bytes; at = at; refusal = refusal }))) (sym (read_bytes bytes front at rest r))
     (index_of front, record { pieces = front; are_records = r.are_records; clean = clean; said = refl }, sym (given_is bytes at refusal front rest r))
 
 -- at the end the bytes mean what the reader keeps and gave
-pub ended : (bytes : List ℕ) (front : List Piece) (at : ℕ) (rest : List ℕ) (metadata : Option PlainMetadata) (externals : List PlainSymbol) → Stands bytes front at rest metadata externals → length rest ≡ 0
+pub ended : (bytes : List ℕ) (front : List Piece) (at : ℕ) (rest : List ℕ) (metadata : Option PlainMetadata) (externals : List PlainSymbol) → ReaderStands bytes front at rest metadata externals → length rest ≡ 0
     → (i : PlainIndex) × Means bytes i × (i.metadata ≡ metadata) × (i.external_symbols ≡ externals) × (i.documents ≡ documents_in front)
 ended bytes front at rest metadata externals s none = (
   index_of front,
-  record { pieces = front; are_records = Reaches-end 0 bytes front at rest s.reached none; clean = s.clean; said = refl },
+  record { pieces = front; are_records = IsSplit-end 0 bytes front at rest s.reached none; clean = s.clean; said = refl },
   sym s.metadata_is,
   sym s.externals_are,
   refl,
 )
 
 -- a reader that comes to a shorter rest has read on
-pub onward : {X : Type 0} (bytes : List ℕ) (front more : List Piece) (at next : ℕ) (rest after : List ℕ) (document : Option X) → Reaches 0 bytes front at rest → Reaches 0 bytes more next after
+pub onward : {X : Type 0} (bytes : List ℕ) (front more : List Piece) (at next : ℕ) (rest after : List ℕ) (document : Option X) → IsSplit 0 bytes front at rest → IsSplit 0 bytes more next after
     → IfSome document (λ _. length after < length rest) → IfSome document (λ _. (at < next) × (next ≤ length bytes))
 onward bytes front more at next rest after None r s h = tt
 onward bytes front more at next rest after (Some x) r s h =
@@ -94,12 +94,12 @@ onward bytes front more at next rest after (Some x) r s h =
     (omega (arith, old, new, r.here, s.here, h), omega (arith, new, s.here))
 
 -- a reader of which nothing is read
-pub fresh : (bytes : List ℕ) → Stands bytes [] 0 bytes None []
+pub fresh : (bytes : List ℕ) → ReaderStands bytes [] 0 bytes None []
 unfolding each_of
-fresh bytes = record { reached = Reaches-start 0 bytes; clean = tt; metadata_is = refl; externals_are = refl }
+fresh bytes = record { reached = IsSplit-start 0 bytes; clean = tt; metadata_is = refl; externals_are = refl }
 
 -- where no document came, all are given
-pub all_given : (bytes : List ℕ) (front more : List Piece) (at : ℕ) (rest : List ℕ) (metadata : Option PlainMetadata) (externals : List PlainSymbol) (document : Option Document) (before : List PlainDocument) → Stands bytes (front ++ more) at rest metadata externals
+pub all_given : (bytes : List ℕ) (front more : List Piece) (at : ℕ) (rest : List ℕ) (metadata : Option PlainMetadata) (externals : List PlainSymbol) (document : Option Document) (before : List PlainDocument) → ReaderStands bytes (front ++ more) at rest metadata externals
     → documents_in (front ++ more) ≡ documents_in front ++ map plain_document (option_to_list document) → IfNone document (length rest ≡ 0) → before ≡ documents_in front → IfNone document (HasDocuments bytes before)
 all_given bytes front more at rest metadata externals None before s d none b =
     let e = ended bytes (front ++ more) at rest metadata externals s none in
@@ -108,4 +108,4 @@ all_given bytes front more at rest metadata externals (Some x) before s d none b
 
 pub none_given : (bytes : List ℕ) → given (record { bytes = bytes; at = 0; refusal = None }) ≡ []
 unfolding each_of
-none_given bytes = given_is bytes 0 None [] bytes (Reaches-start 0 bytes)
+none_given bytes = given_is bytes 0 None [] bytes (IsSplit-start 0 bytes)

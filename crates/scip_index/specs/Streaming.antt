@@ -1,15 +1,15 @@
 -- A reader that has taken in some of the records of an index.
 use Rattle.std.specs.Prelude.{◌≡◌, ℕ, List, take, map, Option, Result, Ok, Err}
 use Rattle.proto_wire.specs.declared.fault.WireFault.{WireFault}
-use Rattle.proto_wire.specs.Records.{Piece, Reaches}
+use Rattle.proto_wire.specs.Records.{Piece, IsSplit}
 use Rattle.proto_wire.specs.Messages.{each_of, records_inside, IsClean, IsFaultBehind, IsFirstFault}
 use Rattle.proto_wire.specs.Readings.{pieces_of}
 use Rattle.scip_index.specs.Plain.{PlainMetadata, PlainSymbol, PlainDocument, PlainIndex}
 use Rattle.scip_index.specs.Meaning.{metadata_of, symbol_of, document_of, merged, index_fault, Means}
 
 -- behind these records, none of them with a fault inside, the reader keeps what they say but the documents
-pub record Stands (bytes : List ℕ) (front : List Piece) (at : ℕ) (rest : List ℕ) (metadata : Option PlainMetadata) (externals : List PlainSymbol) : Type 0 where
-  pub reached : Reaches 0 bytes front at rest
+pub record ReaderStands (bytes : List ℕ) (front : List Piece) (at : ℕ) (rest : List ℕ) (metadata : Option PlainMetadata) (externals : List PlainSymbol) : Type 0 where
+  pub reached : IsSplit 0 bytes front at rest
   pub clean : IsClean index_fault front
   pub metadata_is : metadata ≡ merged metadata_of (each_of 1 records_inside front)
   pub externals_are : externals ≡ map symbol_of (each_of 3 records_inside front)
@@ -30,7 +30,7 @@ given r = documents_in (pieces_of 0 (take r.at r.bytes)).0
 
 -- what a reader that has refused nothing keeps, beside the documents that it has given
 abbrev pub HasRead : List ℕ → ℕ → List ℕ → Option PlainMetadata → List PlainSymbol → Type 0
-HasRead bytes at rest metadata externals = (front : List Piece) × Stands bytes front at rest metadata externals
+HasRead bytes at rest metadata externals = (front : List Piece) × ReaderStands bytes front at rest metadata externals
 
 -- the bytes mean an index with these documents
 abbrev pub HasDocuments : List ℕ → List PlainDocument → Type 0

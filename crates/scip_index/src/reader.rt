@@ -8,7 +8,7 @@ ghost use Rattle.proto_wire.specs.Messages.{IsFaultBehind, IsFirstFault};
 ghost use Rattle.proto_wire.specs.Records.{Piece};
 ghost use Rattle.scip_index.specs.Plain.{plain_document, plain_metadata, plain_symbol};
 ghost use Rattle.scip_index.specs.Meaning.{index_fault};
-ghost use Rattle.scip_index.specs.Streaming.{documents_in, given, HasDocuments, IsFaultAfter, IsRestOutcome, Stands};
+ghost use Rattle.scip_index.specs.Streaming.{documents_in, given, HasDocuments, IsFaultAfter, IsRestOutcome, ReaderStands};
 
 use crate::{Document, Metadata, SymbolInfo};
 use proto_wire::{WireFault, merge_message, record_at_front, take_messages};
@@ -34,12 +34,12 @@ fn take_record<'a>(
     requires some { 0 < length rest.now }
     requires inside { at + length rest.now < 2 ^ 64 }
     ensures taken { IfOk result (λ x. (bytes : List ℕ) (front : List Piece) →
-        Stands bytes front at rest.now (option_map plain_metadata metadata.old) (map plain_symbol externals.old.items) →
-        (p : Piece) × Stands bytes (front ++ p ∷ []) x.1 x.2.now (option_map plain_metadata metadata.new) (map plain_symbol externals.new.items)
+        ReaderStands bytes front at rest.now (option_map plain_metadata metadata.old) (map plain_symbol externals.old.items) →
+        (p : Piece) × ReaderStands bytes (front ++ p ∷ []) x.1 x.2.now (option_map plain_metadata metadata.new) (map plain_symbol externals.new.items)
         × (documents_in (front ++ p ∷ []) ≡ documents_in front ++ map plain_document (option_to_list x.0))) }
     ensures shorter { IfOk result (λ x. (length x.2.now < length rest.now) × (x.1 + length x.2.now ≡ at + length rest.now)) }
     ensures err { IfErr result (λ e. (bytes : List ℕ) (front : List Piece) →
-        Stands bytes front at rest.now (option_map plain_metadata metadata.old) (map plain_symbol externals.old.items) → UnlessMemory e (IsFaultBehind index_fault 0 bytes front e)) }
+        ReaderStands bytes front at rest.now (option_map plain_metadata metadata.old) (map plain_symbol externals.old.items) → UnlessMemory e (IsFaultBehind index_fault 0 bytes front e)) }
 {
     let (wire, payload, after) = record_at_front(at, rest)?;
     let mut documents = Vec::new(alloc);
@@ -59,13 +59,13 @@ fn next_document<'a>(
 ) -> Result<(Option<Document>, usize, &'a [u8]), WireFault>
     requires { at + length rest.now < 2 ^ 64 }
     ensures found { IfOk result (λ x. (bytes : List ℕ) (front : List Piece) →
-        Stands bytes front at rest.now (option_map plain_metadata metadata.old) (map plain_symbol externals.old.items) →
-        (more : List Piece) × Stands bytes (front ++ more) x.1 x.2.now (option_map plain_metadata metadata.new) (map plain_symbol externals.new.items)
+        ReaderStands bytes front at rest.now (option_map plain_metadata metadata.old) (map plain_symbol externals.old.items) →
+        (more : List Piece) × ReaderStands bytes (front ++ more) x.1 x.2.now (option_map plain_metadata metadata.new) (map plain_symbol externals.new.items)
         × (documents_in (front ++ more) ≡ documents_in front ++ map plain_document (option_to_list x.0))
         × (IfNone x.0 (length x.2.now ≡ 0))) }
     ensures shorter { IfOk result (λ x. IfSome x.0 (λ _. length x.2.now < length rest.now)) }
     ensures err { IfErr result (λ e. (bytes : List ℕ) (front : List Piece) →
-        Stands bytes front at rest.now (option_map plain_metadata metadata.old) (map plain_symbol externals.old.items) → UnlessMemory e (IsFaultAfter bytes (documents_in front) e)) }
+        ReaderStands bytes front at rest.now (option_map plain_metadata metadata.old) (map plain_symbol externals.old.items) → UnlessMemory e (IsFaultAfter bytes (documents_in front) e)) }
 {
     let mut place = at;
     let mut left = rest;
@@ -90,10 +90,10 @@ fn read_rest(
 ) -> Result<(), WireFault>
     requires { at + length rest.now < 2 ^ 64 }
     ensures read { OnOk result ((bytes : List ℕ) (front : List Piece) →
-        Stands bytes front at rest.now (option_map plain_metadata metadata.old) (map plain_symbol externals.old.items) →
+        ReaderStands bytes front at rest.now (option_map plain_metadata metadata.old) (map plain_symbol externals.old.items) →
         IsRestOutcome bytes (Ok (option_map plain_metadata metadata.new, map plain_symbol externals.new.items))) }
     ensures err { IfErr result (λ e. (bytes : List ℕ) (front : List Piece) →
-        Stands bytes front at rest.now (option_map plain_metadata metadata.old) (map plain_symbol externals.old.items) → UnlessMemory e (IsFirstFault index_fault 0 bytes e)) }
+        ReaderStands bytes front at rest.now (option_map plain_metadata metadata.old) (map plain_symbol externals.old.items) → UnlessMemory e (IsFirstFault index_fault 0 bytes e)) }
 {
     let mut place = at;
     let mut left = rest;

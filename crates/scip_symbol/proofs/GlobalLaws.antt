@@ -5,7 +5,7 @@ use Rattle.scip_symbol.specs.declared.fault.SymbolFault.{SymbolFault}
 use Rattle.scip_symbol.specs.declared.fault.SymbolFault.TheVariants as faults
 use Rattle.scip_symbol.specs.Bytes.{doubled}
 use Rattle.scip_symbol.specs.SymbolTexts.{PlainDescriptor, PlainSymbol, Global, DescriptorTexts, part_shown, ended_part, shown_parts, parts_text, BeginsLocal, SymbolText}
-use Rattle.scip_symbol.specs.Outcomes.{HasParts, HasFront, HasOpenQuote, HasNoDescriptor, IsReadRefusal}
+use Rattle.scip_symbol.specs.Outcomes.{BeginsWithParts, HasFront, HasOpenQuote, HasNoDescriptor, IsReadRefusal}
 use Rattle.scip_symbol.specs.Reading.{PlainParts, descriptor_at, IsFirstWrong}
 use Rattle.scip_symbol.proofs.PartLaws.{ArePartsRead}
 use Rattle.scip_symbol.proofs.DescriptorLaws.{IsWrong, descriptor_again, descriptor_open, descriptor_fails}
@@ -40,7 +40,7 @@ front_of text x fault r w =
       parts = shown_parts x.0.scheme x.0.manager x.0.package_name x.0.version;
       descriptors = w.descriptors;
       front = w.front;
-      has_parts = subst (λ (t : List ℕ). HasParts text (shown_parts x.0.scheme x.0.manager x.0.package_name x.0.version) t) w.split r.has_parts;
+      has_parts = subst (λ (t : List ℕ). BeginsWithParts text (shown_parts x.0.scheme x.0.manager x.0.package_name x.0.version) t) w.split r.has_parts;
       four = refl;
       front_is = w.front_is;
       place = omega (arith, length-append (parts_text x.0.scheme x.0.manager x.0.package_name x.0.version) x.1, length-append w.front w.rest);
@@ -80,7 +80,7 @@ global_text text x ds r some t = record {
 
 pub nothing_behind : (text : List ℕ) (x : PlainParts × List ℕ) → ArePartsRead text x → x.1 ≡ [] → IsReadRefusal text faults.Empty
 nothing_behind text x r e =
-    inr (inr (shown_parts x.0.scheme x.0.manager x.0.package_name x.0.version, subst (λ (t : List ℕ). HasParts text (shown_parts x.0.scheme x.0.manager x.0.package_name x.0.version) t) e r.has_parts, refl))
+    inr (inr (shown_parts x.0.scheme x.0.manager x.0.package_name x.0.version, subst (λ (t : List ℕ). BeginsWithParts text (shown_parts x.0.scheme x.0.manager x.0.package_name x.0.version) t) e r.has_parts, refl))
 
 -- what follows the parts is no longer than the text
 pub rest_within : (text : List ℕ) (x : PlainParts × List ℕ) → ArePartsRead text x → length x.1 ≤ length text

@@ -8,7 +8,7 @@ use Rattle.scip_symbol.specs.declared.fault.SymbolFault.{SymbolFault}
 use Rattle.scip_symbol.specs.declared.fault.SymbolFault.TheVariants as faults
 use Rattle.scip_symbol.specs.Bytes.{doubled}
 use Rattle.scip_symbol.specs.SymbolTexts.{PlainDescriptor, PlainSymbol, Local, Global, before_name, DescriptorTexts, part_shown, ended_part, shown_parts, parts_text, GlobalText, SymbolText}
-use Rattle.scip_symbol.specs.Outcomes.{begins_with_space, HasParts, LacksPart, IsBadPart, HasFront, HasOpenQuote, HasNoDescriptor, IsReadRefusal, IsReadOutcome}
+use Rattle.scip_symbol.specs.Outcomes.{begins_with_space, BeginsWithParts, LacksPart, IsBadPart, HasFront, HasOpenQuote, HasNoDescriptor, IsReadRefusal, IsReadOutcome}
 use Rattle.scip_symbol.specs.Reading.{local_of, part_meant, descriptor_at, IsFirstWrong}
 use Rattle.scip_symbol.proofs.Answered.{err_same}
 use Rattle.scip_symbol.proofs.PartLaws.{shown_is_part, shown_meant}
@@ -114,7 +114,7 @@ scheme_begins (w ∷ word) (b ∷ scheme) rest more n e =
           begins_more w b word scheme same (scheme_begins word scheme rest more p.1 more_same)
     ]
 
-has_parts : (scheme manager package_name version text : List ℕ) (ds : List PlainDescriptor) → (g : GlobalText scheme manager package_name version ds text) → HasParts text (shown_parts scheme manager package_name version) g.rest
+has_parts : (scheme manager package_name version text : List ℕ) (ds : List PlainDescriptor) → (g : GlobalText scheme manager package_name version ds text) → BeginsWithParts text (shown_parts scheme manager package_name version) g.rest
 has_parts scheme m p v text ds g = record {
   not_local = λ b. g.not_local (scheme_begins (codes "local") scheme (flat_map ended_part (part_shown m ∷ part_shown p ∷ part_shown v ∷ []) ++ g.rest) b.0 refl (split ∙ sym g.whole ∙ b.1));
   each = (g.scheme_is, (shown_is_part m g.manager_is, (shown_is_part p g.package_is, (shown_is_part v g.version_is, tt))));
@@ -128,7 +128,7 @@ has_parts scheme m p v text ds g = record {
     split : doubled 32 scheme ++ 32 ∷ (behind ++ g.rest) ≡ parts_text scheme m p v ++ g.rest
     split = sym (append_assoc (ended_part scheme) behind g.rest ∙ append_assoc (doubled 32 scheme) (32 ∷ []) (behind ++ g.rest))
 
-parts_some : (text : List ℕ) (parts : List (List ℕ)) (rest : List ℕ) → HasParts text parts rest → length parts ≡ 4 → text ≢ []
+parts_some : (text : List ℕ) (parts : List (List ℕ)) (rest : List ℕ) → BeginsWithParts text parts rest → length parts ≡ 4 → text ≢ []
 parts_some text [] rest h n = absurd (omega arith)
 parts_some text (part ∷ parts) rest h n = λ e.
     absurd (omega (arith, ap length (sym e ∙ h.whole), length-append (ended_part part ++ flat_map ended_part parts) rest, length-append (ended_part part) (flat_map ended_part parts), length-append (doubled 32 part) (32 ∷ [])))

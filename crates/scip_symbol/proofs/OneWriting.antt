@@ -6,7 +6,7 @@ use Rattle.std.proofs.lemmas.Option.{none-some, same_Some}
 use Rattle.scip_symbol.specs.declared.fault.SymbolFault.{SymbolFault}
 use Rattle.scip_symbol.specs.declared.fault.SymbolFault.TheVariants as faults
 use Rattle.scip_symbol.specs.Bytes.{IsNotFirst}
-use Rattle.scip_symbol.specs.SymbolTexts.{PlainDescriptor, PlainSymbol, Local, Global, DescriptorTexts, IsPart, IsOptionalPart, SymbolText}
+use Rattle.scip_symbol.specs.SymbolTexts.{PlainDescriptor, PlainSymbol, Local, Global, DescriptorTexts, IsPackagePart, IsOptionalPart, SymbolText}
 use Rattle.scip_symbol.specs.Outcomes.{is_empty, has_empty, HasLocalScheme, begins_with_space, is_stop, is_wrong_part, wrong_part_of, is_wrong_descriptor, IsWritable, IsWriteRefusal, IsWriteOutcome}
 
 -- ---- what has a text can be written
@@ -15,7 +15,7 @@ not_empty : {X : Type 0} (xs : List X) → xs ≢ [] → is_empty xs ≡ false
 not_empty [] h = absurd (h refl)
 not_empty (x ∷ xs) h = refl
 
-part_not_empty : (part : List ℕ) → IsPart part → is_empty part ≡ false
+part_not_empty : (part : List ℕ) → IsPackagePart part → is_empty part ≡ false
 part_not_empty [] h = absurd h
 part_not_empty (b ∷ part) h = refl
 
@@ -23,7 +23,7 @@ no_space_first : (part : List ℕ) → IsNotFirst 32 part → begins_with_space 
 no_space_first [] h = refl
 no_space_first (b ∷ part) h = ne_eqb b 32 h
 
-part_no_space : (part : List ℕ) → IsPart part → begins_with_space part ≡ false
+part_no_space : (part : List ℕ) → IsPackagePart part → begins_with_space part ≡ false
 part_no_space [] h = absurd h
 part_no_space (b ∷ part) h = ne_eqb b 32 h
 

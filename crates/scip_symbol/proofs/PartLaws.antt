@@ -8,14 +8,14 @@ use Rattle.std.proofs.lemmas.Grind.{flat_map-append}
 use Rattle.scip_symbol.specs.declared.fault.SymbolFault.{SymbolFault}
 use Rattle.scip_symbol.specs.declared.fault.SymbolFault.TheVariants as faults
 use Rattle.scip_symbol.specs.Bytes.{doubled, IsNotFirst, IsEnded}
-use Rattle.scip_symbol.specs.SymbolTexts.{IsPart, IsOptionalPart, part_shown, ended_part, shown_parts, BeginsLocal}
-use Rattle.scip_symbol.specs.Outcomes.{HasParts, IsBadPart, IsReadRefusal}
+use Rattle.scip_symbol.specs.SymbolTexts.{IsPackagePart, IsOptionalPart, part_shown, ended_part, shown_parts, BeginsLocal}
+use Rattle.scip_symbol.specs.Outcomes.{BeginsWithParts, IsBadPart, IsReadRefusal}
 use Rattle.scip_symbol.specs.Reading.{ended_by, part_in_front, part_meant, optional_part_at, PlainParts, parts_at, ◌>>=◌}
 use Rattle.scip_symbol.proofs.Ends.{ended-said, unended}
 
 -- ---- parts as they are shown, and as they are meant
 
-pub shown_is_part : (part : List ℕ) → IsOptionalPart part → IsPart (part_shown part)
+pub shown_is_part : (part : List ℕ) → IsOptionalPart part → IsPackagePart (part_shown part)
 shown_is_part [] h = eqb-false 46 32 refl
 shown_is_part (b ∷ part) h = h.next
 
@@ -24,7 +24,7 @@ shown_meant [] h = refl
 shown_meant (b ∷ []) h = rw (ne_eqb b 46 (λ e. h.no_stop (ap (λ (x : ℕ). x ∷ []) e))) refl
 shown_meant (b ∷ c ∷ part) h = refl
 
-pub meant_shown : (part : List ℕ) → IsPart part → part_shown (part_meant part) ≡ part
+pub meant_shown : (part : List ℕ) → IsPackagePart part → part_shown (part_meant part) ≡ part
 meant_shown [] h = absurd h
 meant_shown (b ∷ []) h =
     elim (cases_eq b 46) [
@@ -33,7 +33,7 @@ meant_shown (b ∷ []) h =
     ]
 meant_shown (b ∷ c ∷ part) h = refl
 
-pub meant_is : (part : List ℕ) → IsPart part → IsOptionalPart (part_meant part)
+pub meant_is : (part : List ℕ) → IsPackagePart part → IsOptionalPart (part_meant part)
 meant_is [] h = absurd h
 meant_is (b ∷ []) h =
     elim (cases_eq b 46) [
@@ -44,11 +44,11 @@ meant_is (b ∷ c ∷ part) h = record { next = h; no_stop = λ s. absurd cc }
 
 -- ---- one part more
 
-all-push : (parts : List (List ℕ)) (part : List ℕ) → AllByRecursion IsPart parts → IsPart part → AllByRecursion IsPart (parts ++ part ∷ [])
+all-push : (parts : List (List ℕ)) (part : List ℕ) → AllByRecursion IsPackagePart parts → IsPackagePart part → AllByRecursion IsPackagePart (parts ++ part ∷ [])
 all-push [] part a h = (h, tt)
 all-push (p ∷ parts) part a h = (a.0, all-push parts part a.1 h)
 
-ended_is_part : (text part rest : List ℕ) → IsNotFirst 32 text → IsEnded 32 text part rest → IsPart part
+ended_is_part : (text part rest : List ℕ) → IsNotFirst 32 text → IsEnded 32 text part rest → IsPackagePart part
 ended_is_part text [] rest n e = let m : IsNotFirst 32 (32 ∷ rest) = subst (λ (t : List ℕ). IsNotFirst 32 t) e.whole n in m refl
 ended_is_part text (b ∷ part) rest n e = by_first text n e.whole
   where
@@ -58,7 +58,7 @@ ended_is_part text (b ∷ part) rest n e = by_first text n e.whole
         let k = rw (eq-eqb b 32 same) at m in
         k same
 
-pub part_more : (text : List ℕ) (parts : List (List ℕ)) (rest : List ℕ) (x : List ℕ × List ℕ) → HasParts text parts rest → ended_by 32 rest ≡ Some x → IsPart x.0 × HasParts text (parts ++ x.0 ∷ []) x.1
+pub part_more : (text : List ℕ) (parts : List (List ℕ)) (rest : List ℕ) (x : List ℕ × List ℕ) → BeginsWithParts text parts rest → ended_by 32 rest ≡ Some x → IsPackagePart x.0 × BeginsWithParts text (parts ++ x.0 ∷ []) x.1
 part_more text parts rest x h e =
     let i = ended-said 32 rest x e in
     let p = ended_is_part rest x.0 x.1 h.next i in (
@@ -73,7 +73,7 @@ part_more text parts rest x h e =
       },
     )
 
-part_lacks : (text : List ℕ) (parts : List (List ℕ)) (rest : List ℕ) (count : ℕ) → text ≢ [] → HasParts text parts rest → length parts ≡ count → count < 4 → ended_by 32 rest ≡ None → IsBadPart text count
+part_lacks : (text : List ℕ) (parts : List (List ℕ)) (rest : List ℕ) (count : ℕ) → text ≢ [] → BeginsWithParts text parts rest → length parts ≡ count → count < 4 → ended_by 32 rest ≡ None → IsBadPart text count
 part_lacks text parts rest count some h n few e =
     record { some = some; wrong = inr (record { parts = parts; rest = rest; has_parts = h; count_is = n; few = few; unended = unended 32 rest e }) }
 
@@ -81,29 +81,29 @@ part_lacks text parts rest count some h n few e =
 
 -- four parts that are read, and what follows them
 pub record ArePartsRead (text : List ℕ) (x : PlainParts × List ℕ) : Type 0 where
-  pub scheme_is : IsPart x.0.scheme
+  pub scheme_is : IsPackagePart x.0.scheme
   pub manager_is : IsOptionalPart x.0.manager
   pub package_is : IsOptionalPart x.0.package_name
   pub version_is : IsOptionalPart x.0.version
-  pub has_parts : HasParts text (shown_parts x.0.scheme x.0.manager x.0.package_name x.0.version) x.1
+  pub has_parts : BeginsWithParts text (shown_parts x.0.scheme x.0.manager x.0.package_name x.0.version) x.1
 
 -- what reading the parts of a text answers
 abbrev pub ArePartsOf : List ℕ → Result (PlainParts × List ℕ) SymbolFault → Type 0
 ArePartsOf text (Ok x) = ArePartsRead text x
 ArePartsOf text (Err fault) = IsReadRefusal text fault
 
-first_parts : (text : List ℕ) → IsPart text → (BeginsLocal text → ⊥) → HasParts text [] text
+first_parts : (text : List ℕ) → IsPackagePart text → (BeginsLocal text → ⊥) → BeginsWithParts text [] text
 first_parts [] p n = absurd p
 first_parts (b ∷ text) p n = record { not_local = n; each = tt; whole = refl; next = p }
 
-part_some : (text : List ℕ) → IsPart text → text ≢ []
+part_some : (text : List ℕ) → IsPackagePart text → text ≢ []
 part_some [] p = absurd p
 part_some (b ∷ text) p = λ e. absurd cc
 
 -- a part is read, or there are too few
 with_part : (text : List ℕ) (parts : List (List ℕ)) (rest : List ℕ) (n : ℕ) (o : Option (List ℕ × List ℕ)) (go : List ℕ × List ℕ → Result (PlainParts × List ℕ) SymbolFault)
-    → text ≢ [] → HasParts text parts rest → length parts ≡ n → n < 4 → ended_by 32 rest ≡ o
-    → ((x : List ℕ × List ℕ) → IsPart x.0 → HasParts text (parts ++ x.0 ∷ []) x.1 → ArePartsOf text (go x))
+    → text ≢ [] → BeginsWithParts text parts rest → length parts ≡ n → n < 4 → ended_by 32 rest ≡ o
+    → ((x : List ℕ × List ℕ) → IsPackagePart x.0 → BeginsWithParts text (parts ++ x.0 ∷ []) x.1 → ArePartsOf text (go x))
     → ArePartsOf text (ok_or o (faults.BadPart n) >>= go)
 with_part text parts rest n None go some h count few e then = part_lacks text parts rest n some h count few e
 with_part text parts rest n (Some x) go some h count few e then = let m = part_more text parts rest x h e in then x m.0 m.1
@@ -112,13 +112,13 @@ abbrev as_meant : List ℕ × List ℕ → Result (List ℕ × List ℕ) SymbolF
 as_meant x = Ok (part_meant x.0, x.1)
 
 with_optional : (text : List ℕ) (parts : List (List ℕ)) (rest : List ℕ) (n : ℕ) (o : Option (List ℕ × List ℕ)) (go : List ℕ × List ℕ → Result (PlainParts × List ℕ) SymbolFault)
-    → text ≢ [] → HasParts text parts rest → length parts ≡ n → n < 4 → ended_by 32 rest ≡ o
-    → ((x : List ℕ × List ℕ) → IsPart x.0 → HasParts text (parts ++ x.0 ∷ []) x.1 → ArePartsOf text (go (part_meant x.0, x.1)))
+    → text ≢ [] → BeginsWithParts text parts rest → length parts ≡ n → n < 4 → ended_by 32 rest ≡ o
+    → ((x : List ℕ × List ℕ) → IsPackagePart x.0 → BeginsWithParts text (parts ++ x.0 ∷ []) x.1 → ArePartsOf text (go (part_meant x.0, x.1)))
     → ArePartsOf text ((ok_or o (faults.BadPart n) >>= as_meant) >>= go)
 with_optional text parts rest n None go some h count few e then = part_lacks text parts rest n some h count few e
 with_optional text parts rest n (Some x) go some h count few e then = let m = part_more text parts rest x h e in then x m.0 m.1
 
-pub parts_of : (text : List ℕ) → IsPart text → (BeginsLocal text → ⊥) → ArePartsOf text (parts_at text)
+pub parts_of : (text : List ℕ) → IsPackagePart text → (BeginsLocal text → ⊥) → ArePartsOf text (parts_at text)
 unfolding parts_at optional_part_at part_in_front
 parts_of text p not_local =
     let some = part_some text p in
@@ -134,8 +134,8 @@ parts_of text p not_local =
       has_parts = rw (meant_shown m.0 is_m, meant_shown k.0 is_k, meant_shown v.0 is_v) hv;
     }))))
 
-pub parts_ok : (text : List ℕ) (x : PlainParts × List ℕ) → IsPart text → (BeginsLocal text → ⊥) → parts_at text ≡ Ok x → ArePartsRead text x
+pub parts_ok : (text : List ℕ) (x : PlainParts × List ℕ) → IsPackagePart text → (BeginsLocal text → ⊥) → parts_at text ≡ Ok x → ArePartsRead text x
 parts_ok text x p n e = subst (ArePartsOf text) e (parts_of text p n)
 
-pub parts_err : (text : List ℕ) (fault : SymbolFault) → IsPart text → (BeginsLocal text → ⊥) → parts_at text ≡ Err fault → IsReadRefusal text fault
+pub parts_err : (text : List ℕ) (fault : SymbolFault) → IsPackagePart text → (BeginsLocal text → ⊥) → parts_at text ≡ Err fault → IsReadRefusal text fault
 parts_err text fault p n e = subst (ArePartsOf text) e (parts_of text p n)

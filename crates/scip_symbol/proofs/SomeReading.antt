@@ -3,7 +3,7 @@ use Rattle.std.proofs.Common.{◌≡◌, ◌≢◌, ℕ, zero, suc, ◌<◌, ◌
 use Rattle.std.proofs.lemmas.Bool.{cases_eq, eq-eqb}
 use Rattle.scip_symbol.specs.declared.fault.SymbolFault.{SymbolFault}
 use Rattle.scip_symbol.specs.declared.fault.SymbolFault.TheVariants as faults
-use Rattle.scip_symbol.specs.SymbolTexts.{PlainDescriptor, PlainSymbol, DescriptorText, IsPart, BeginsLocal}
+use Rattle.scip_symbol.specs.SymbolTexts.{PlainDescriptor, PlainSymbol, DescriptorText, IsPackagePart, BeginsLocal}
 use Rattle.scip_symbol.specs.Outcomes.{IsReadOutcome}
 use Rattle.scip_symbol.specs.Reading.{after_bytes, descriptor_at, IsDescriptorsOutcome, PlainParts, parts_at, local_of}
 use Rattle.scip_symbol.proofs.TextCuts.{after_bytes_some, not_word}
@@ -60,7 +60,7 @@ behind_parts text x (b ∷ rest) r row = go row.0 row.1
     go (Ok ds) i = (Ok (global_of x ds), global_text text (x, b ∷ rest) ds r (λ e. absurd cc) i)
     go (Err fault) w = (Err fault, wrong_refused text (x, b ∷ rest) fault r w)
 
-some_global : (text : List ℕ) → IsPart text → (BeginsLocal text → ⊥) → SomeOutcome text
+some_global : (text : List ℕ) → IsPackagePart text → (BeginsLocal text → ⊥) → SomeOutcome text
 some_global text p n = go (parts_at text) refl
   where
     go : (o : Result (PlainParts × List ℕ) SymbolFault) → parts_at text ≡ o → SomeOutcome text

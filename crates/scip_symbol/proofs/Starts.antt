@@ -4,8 +4,8 @@ use Rattle.std.specs.Prelude.{◌==◌, if◌then◌else◌}
 use Rattle.std.specs.List.{flat_map, AllByRecursion}
 use Rattle.std.proofs.lemmas.Bool.{eq-eqb, ne_eqb, eqb-true}
 use Rattle.scip_symbol.specs.Bytes.{doubled, IsNotFirst, IsUnended}
-use Rattle.scip_symbol.specs.SymbolTexts.{IsPart, ended_part, BeginsLocal}
-use Rattle.scip_symbol.specs.Outcomes.{begins_with_space, HasParts}
+use Rattle.scip_symbol.specs.SymbolTexts.{IsPackagePart, ended_part, BeginsLocal}
+use Rattle.scip_symbol.specs.Outcomes.{begins_with_space, BeginsWithParts}
 use Rattle.scip_symbol.specs.Reading.{after_bytes, ended_by}
 use Rattle.scip_symbol.proofs.TextCuts.{after_bytes-again, none_after_word}
 use Rattle.scip_symbol.proofs.Ends.{ended-again, unended-none}
@@ -44,12 +44,12 @@ start_of text = by_local (after_bytes (codes "local ") text) (after_bytes (codes
 
 -- ---- parts in a row
 
-not_first : (parts : List (List ℕ)) (rest : List ℕ) → AllByRecursion IsPart parts → IsNotFirst 32 rest → IsNotFirst 32 (flat_map ended_part parts ++ rest)
+not_first : (parts : List (List ℕ)) (rest : List ℕ) → AllByRecursion IsPackagePart parts → IsNotFirst 32 rest → IsNotFirst 32 (flat_map ended_part parts ++ rest)
 not_first [] rest a h = h
 not_first ([] ∷ parts) rest a h = absurd a.0
 not_first ((b ∷ part) ∷ parts) rest a h = rw (ne_eqb b 32 a.0) a.0
 
-taken_is : (n : ℕ) (parts : List (List ℕ)) (rest : List ℕ) → AllByRecursion IsPart parts → IsNotFirst 32 rest → (length parts ≡ n) ⊎ ((length parts < n) × IsUnended 32 rest) → taken n (flat_map ended_part parts ++ rest) ≡ (parts, rest)
+taken_is : (n : ℕ) (parts : List (List ℕ)) (rest : List ℕ) → AllByRecursion IsPackagePart parts → IsNotFirst 32 rest → (length parts ≡ n) ⊎ ((length parts < n) × IsUnended 32 rest) → taken n (flat_map ended_part parts ++ rest) ≡ (parts, rest)
 unfolding taken
 taken_is zero [] rest a h count = refl
 taken_is zero (p ∷ parts) rest a h (inl e) = absurd (omega arith)
@@ -90,7 +90,7 @@ starts_nothing = refl
 local_longer : (text id : List ℕ) → text ≡ codes "local " ++ id → BeginsLocal text
 local_longer text id e = (32 ∷ id, e)
 
-starts_parts : (text : List ℕ) (parts : List (List ℕ)) (rest : List ℕ) → text ≢ [] → HasParts text parts rest → start_of text ≡ by_parts (taken 4 text)
+starts_parts : (text : List ℕ) (parts : List (List ℕ)) (rest : List ℕ) → text ≢ [] → BeginsWithParts text parts rest → start_of text ≡ by_parts (taken 4 text)
 unfolding start_of by_local by_space
 starts_parts text parts rest some h =
     let none : after_bytes (codes "local ") text ≡ None = sym (none_after_word (codes "local ") text (λ id e. h.not_local (local_longer text id e))) in
@@ -101,12 +101,12 @@ starts_parts text parts rest some h =
     go [] some n = absurd (some refl)
     go (b ∷ text) some n = rw (ne_eqb b 32 n) refl
 
-pub starts_four : (text : List ℕ) (parts : List (List ℕ)) (rest : List ℕ) → text ≢ [] → HasParts text parts rest → length parts ≡ 4 → start_of text ≡ Four parts rest
+pub starts_four : (text : List ℕ) (parts : List (List ℕ)) (rest : List ℕ) → text ≢ [] → BeginsWithParts text parts rest → length parts ≡ 4 → start_of text ≡ Four parts rest
 unfolding by_parts
 starts_four text parts rest some h n =
     starts_parts text parts rest some h ∙ ap by_parts (ap (taken 4) h.whole ∙ taken_is 4 parts rest h.each h.next (inl n)) ∙ rw (eq-eqb (length parts) 4 n) refl
 
-pub starts_lacking : (text : List ℕ) (parts : List (List ℕ)) (rest : List ℕ) → text ≢ [] → HasParts text parts rest → length parts < 4 → IsUnended 32 rest → start_of text ≡ Lacks (length parts)
+pub starts_lacking : (text : List ℕ) (parts : List (List ℕ)) (rest : List ℕ) → text ≢ [] → BeginsWithParts text parts rest → length parts < 4 → IsUnended 32 rest → start_of text ≡ Lacks (length parts)
 unfolding by_parts
 starts_lacking text parts rest some h n u =
     starts_parts text parts rest some h ∙ ap by_parts (ap (taken 4) h.whole ∙ taken_is 4 parts rest h.each h.next (inr (n, u))) ∙ rw (ne_eqb (length parts) 4 (omega arith)) refl

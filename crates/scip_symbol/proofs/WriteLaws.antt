@@ -9,7 +9,7 @@ use Rattle.scip_symbol.specs.declared.descriptor.Descriptor.{Descriptor}
 use Rattle.scip_symbol.specs.declared.symbol.Symbol.{Symbol}
 use Rattle.scip_symbol.specs.declared.symbol.Symbol.TheVariants as symbols
 use Rattle.scip_symbol.specs.Bytes.{IsNotFirst}
-use Rattle.scip_symbol.specs.SymbolTexts.{PlainDescriptor, PlainSymbol, Local, Global, are_simple, NameText, plain_name, IsOfMethod, DescriptorTexts, plain_descriptor_text, IsPart, IsOptionalPart, BeginsLocal, SymbolText, plain_text}
+use Rattle.scip_symbol.specs.SymbolTexts.{PlainDescriptor, PlainSymbol, Local, Global, are_simple, NameText, plain_name, IsOfMethod, DescriptorTexts, plain_descriptor_text, IsPackagePart, IsOptionalPart, BeginsLocal, SymbolText, plain_text}
 use Rattle.scip_symbol.specs.Views.{plain_descriptors, plain_symbol}
 use Rattle.scip_symbol.specs.Reading.{after_bytes}
 use Rattle.scip_symbol.proofs.TextCuts.{after_bytes_some, not_word}
@@ -61,7 +61,7 @@ no_space : (part : List ℕ) → begins_with_space part ≡ false → IsNotFirst
 no_space [] e = tt
 no_space (b ∷ part) e = eqb-false b 32 e
 
-is_part : (part : List ℕ) → is_empty part ≡ false → begins_with_space part ≡ false → IsPart part
+is_part : (part : List ℕ) → is_empty part ≡ false → begins_with_space part ≡ false → IsPackagePart part
 is_part [] e s = absurd cc
 is_part (b ∷ part) e s = eqb-false b 32 s
 

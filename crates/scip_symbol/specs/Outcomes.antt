@@ -5,7 +5,7 @@ use Rattle.scip_symbol.specs.declared.kind.DescriptorKind.{DescriptorKind}
 use Rattle.scip_symbol.specs.declared.fault.SymbolFault.{SymbolFault}
 use Rattle.scip_symbol.specs.declared.fault.SymbolFault.TheVariants as faults
 use Rattle.scip_symbol.specs.Bytes.{IsNotFirst, IsUnended}
-use Rattle.scip_symbol.specs.SymbolTexts.{PlainDescriptor, PlainSymbol, Local, Global, is_simple, are_simple, before_name, IsOfMethod, DescriptorText, DescriptorTexts, IsPart, ended_part, BeginsLocal, SymbolText, plain_text}
+use Rattle.scip_symbol.specs.SymbolTexts.{PlainDescriptor, PlainSymbol, Local, Global, is_simple, are_simple, before_name, IsOfMethod, DescriptorText, DescriptorTexts, IsPackagePart, ended_part, BeginsLocal, SymbolText, plain_text}
 
 -- ---- writing
 
@@ -83,9 +83,9 @@ IsWriteOutcome s (Err fault) = IsWriteRefusal s fault
 -- ---- reading
 
 -- the text isn't that of a local symbol and begins with these parts, each ended by an odd run of spaces; this is the rest
-pub record HasParts (text : List ℕ) (parts : List (List ℕ)) (rest : List ℕ) : Type 0 where
+pub record BeginsWithParts (text : List ℕ) (parts : List (List ℕ)) (rest : List ℕ) : Type 0 where
   pub not_local : BeginsLocal text → ⊥
-  pub each : AllByRecursion IsPart parts
+  pub each : AllByRecursion IsPackagePart parts
   pub whole : text ≡ flat_map ended_part parts ++ rest
   pub next : IsNotFirst 32 rest
 
@@ -93,7 +93,7 @@ pub record HasParts (text : List ℕ) (parts : List (List ℕ)) (rest : List ℕ
 pub record LacksPart (text : List ℕ) (count : ℕ) : Type 0 where
   pub parts : List (List ℕ)
   pub rest : List ℕ
-  pub has_parts : HasParts text parts rest
+  pub has_parts : BeginsWithParts text parts rest
   pub count_is : length parts ≡ count
   pub few : count < 4
   pub unended : IsUnended 32 rest
@@ -108,7 +108,7 @@ pub record HasFront (text : List ℕ) (at : ℕ) (rest : List ℕ) : Type 0 wher
   pub parts : List (List ℕ)
   pub descriptors : List PlainDescriptor
   pub front : List ℕ
-  pub has_parts : HasParts text parts (front ++ rest)
+  pub has_parts : BeginsWithParts text parts (front ++ rest)
   pub four : length parts ≡ 4
   pub front_is : DescriptorTexts descriptors front
   pub place : at + length rest ≡ length text
@@ -144,7 +144,7 @@ pub record IsBadDescriptor (text : List ℕ) (at : ℕ) : Type 0 where
 
 -- what is refused in a text
 abbrev pub IsReadRefusal : List ℕ → SymbolFault → Type 0
-IsReadRefusal text faults.Empty = (text ≡ []) ⊎ ((text ≡ codes "local ") ⊎ ((parts : List (List ℕ)) × HasParts text parts [] × (length parts ≡ 4)))
+IsReadRefusal text faults.Empty = (text ≡ []) ⊎ ((text ≡ codes "local ") ⊎ ((parts : List (List ℕ)) × BeginsWithParts text parts [] × (length parts ≡ 4)))
 IsReadRefusal text (faults.BadDescriptor at) = IsBadId text at ⊎ IsBadDescriptor text at
 IsReadRefusal text faults.LocalScheme = BeginsLocal text × ((id : List ℕ) → text ≢ codes "local " ++ id)
 IsReadRefusal text faults.OpenQuote = (at : ℕ) × (rest : List ℕ) × HasFront text at rest × HasOpenQuote rest

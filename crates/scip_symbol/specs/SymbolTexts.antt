@@ -79,9 +79,9 @@ DescriptorTexts [] text = text ≡ []
 DescriptorTexts (d ∷ ds) text = (first : List ℕ) × (others : List ℕ) × DescriptorText d first × DescriptorTexts ds others × (text ≡ first ++ others)
 
 -- a part as it stands in a text: it isn't empty and begins with no space
-abbrev pub IsPart : List ℕ → Type 0
-IsPart [] = ⊥
-IsPart (b ∷ part) = b ≢ 32
+abbrev pub IsPackagePart : List ℕ → Type 0
+IsPackagePart [] = ⊥
+IsPackagePart (b ∷ part) = b ≢ 32
 
 -- a manager, a package or a version: it begins with no space, and isn't the full stop that stands for an empty one
 pub record IsOptionalPart (part : List ℕ) : Type 0 where
@@ -111,7 +111,7 @@ BeginsLocal bytes = (rest : List ℕ) × (bytes ≡ codes "local" ++ rest)
 
 -- a scheme with its parts and descriptors has this text
 pub record GlobalText (scheme manager package_name version : List ℕ) (descriptors : List PlainDescriptor) (text : List ℕ) : Type 0 where
-  pub scheme_is : IsPart scheme
+  pub scheme_is : IsPackagePart scheme
   pub not_local : BeginsLocal scheme → ⊥
   pub manager_is : IsOptionalPart manager
   pub package_is : IsOptionalPart package_name

@@ -1,7 +1,7 @@
 //! Reading a symbol.
 ghost use Rattle.std.specs.Prelude.{◌≡◌, ◌+◌, ◌<◌, ◌^◌, length, IfSome, Result};
 ghost use Rattle.scip_symbol.specs.declared.fault.SymbolFault.{SymbolFault};
-ghost use Rattle.scip_symbol.specs.SymbolTexts.{BeginsLocal, IsPart, PlainSymbol};
+ghost use Rattle.scip_symbol.specs.SymbolTexts.{BeginsLocal, IsPackagePart, PlainSymbol};
 ghost use Rattle.scip_symbol.specs.Views.{outcome_of, plain_symbol};
 ghost use Rattle.scip_symbol.specs.Outcomes.{IsReadOutcome};
 ghost use Rattle.scip_symbol.specs.Reading.{local_of, Gives};
@@ -31,7 +31,7 @@ fn local_in(alloc: Global, id: &str) -> Result<Symbol, SymbolFault>
 
 /// The symbol of a text that begins with a part, and not as a local one.
 fn global_in(alloc: Global, text: &str) -> Result<Symbol, SymbolFault>
-    requires part { IsPart text.now }
+    requires part { IsPackagePart text.now }
     requires not_local { BeginsLocal text.now → ⊥ }
     ensures { IfSome (outcome_of plain_symbol result) (IsReadOutcome text.now) }
 {

@@ -16,7 +16,7 @@ use Rattle.oscip_tree.specs.declared.parts.ModuleParts.{ModuleParts}
 use Rattle.oscip_tree.specs.declared.source.Source.{Source}
 use Rattle.oscip_tree.proofs.TreeFiles.{there}
 use Rattle.tree_board.specs.Reached.{files_of, seen_of, SeenFile}
-use Rattle.tree_board.specs.Seen.{all_seen, seen_in, AreSeen}
+use Rattle.tree_board.specs.Seen.{all_seen, seen_in, AreSourcesRead}
 
 is_seen : (s : Source) (file : ModuleFile) (parts : ModuleParts) → IsAccepted s file → ArePartsOf file parts → seen_in s parts ≡ seen_of file
 is_seen s file parts accepted are = λ k. record { path = sym accepted.path_is k; bytes = sym accepted.bytes_are k; tokens = are.tokens_are k; rows = are.table_is k }
@@ -42,7 +42,7 @@ module _ (sources : List Source) (files : List ModuleFile) (modules : List (Box 
   pub seen_are : all_seen sources modules ≡ map seen_of files
   seen_are = seen_files sources modules files all.accepted.as_many all.as_many (λ k s file m at_s at_f at_m. is_seen s file m.value (all.accepted.each k s file at_s at_f) (all.each k file m at_f at_m))
 
-  pub parts_seen : (g : ImportGraph) → AreFilesOfGraph (files_told files) g → AreSeen sources modules g
+  pub parts_seen : (g : ImportGraph) → AreFilesOfGraph (files_told files) g → AreSourcesRead sources modules g
   parts_seen g kept = record {
     as_many = all.as_many ∙ all.accepted.as_many;
     each = λ k s m at_s at_m.

@@ -13,7 +13,7 @@ use Rattle.work_board.specs.Cores.{entry_at, shares_of}
 use Rattle.work_board.specs.Graphs.{row_at}
 use Rattle.board_workers.specs.Parts.{IsJob}
 use Rattle.tree_board.specs.Boards.{modules_of}
-use Rattle.tree_board.specs.Reached.{file_of, files_of, interface_in, marked_interfaces, names, AreReached, SeenFile}
+use Rattle.tree_board.specs.Reached.{file_of, files_of, interface_in, marked_interfaces, names, AreReachedInterfaces, SeenFile}
 use Rattle.tree_board.proofs.Chained.{as_many, modules_within, name_of_file, reaches_as}
 
 module _ {E : Type 0} (shared_of : E → ModuleInterface) where
@@ -58,7 +58,7 @@ module _ (files : List SeenFile) (g : ImportGraph) (kept : AreFilesOfGraph (file
 
 module _ {E : Type 0} (is_of : List ℕ → E → Type 0) (shared_of : E → ModuleInterface) (files : List SeenFile) (g : ImportGraph) (kept : AreFilesOfGraph (files_of files) g)
     (tells : (n : List ℕ) (e : E) → is_of n e → (file : SeenFile) × Contains files file × (names file 1 ≡ n) × (shared_of e ≡ interface_in file)) where
-  pub parts_reached : (n : ℕ) (parts : List ModuleInterface) (m : SeenFile) → slice_get files n ≡ Some m → IsJob is_of shared_of (modules_of g) n parts → AreReached files (names m 1) parts
+  pub parts_reached : (n : ℕ) (parts : List ModuleInterface) (m : SeenFile) → slice_get files n ≡ Some m → IsJob is_of shared_of (modules_of g) n parts → AreReachedInterfaces files (names m 1) parts
   parts_reached n parts m at_n (within, (c, size, own, shares)) =
       let many = as_many files g kept in
       let long = modules_within files g kept in

@@ -46,7 +46,7 @@ marked_interfaces (true ∷ marks) (file ∷ files) = interface_in file ∷ mark
 marked_interfaces (false ∷ marks) (file ∷ files) = marked_interfaces marks files
 
 -- the interfaces of all modules of the tree that the module of this name reaches, in the order of the files
-pub record AreReached (files : List SeenFile) (m : List ℕ) (reached : List ModuleInterface) : Type 0 where
+pub record AreReachedInterfaces (files : List SeenFile) (m : List ℕ) (reached : List ModuleInterface) : Type 0 where
   pub marks : List Bool
   pub size : length marks ≡ length files
   pub those : (k : ℕ) (file : SeenFile) → slice_get files k ≡ Some file → (slice_index_or marks k false ≡ true) ↔ ReachesName files m (names file 1)

@@ -23,13 +23,13 @@ all_seen (s ∷ sources) [] = []
 all_seen (s ∷ sources) (m ∷ modules) = seen_in s m.value ∷ all_seen sources modules
 
 -- the parts of a source are those of its file
-pub record IsSeen (s : Source) (parts : ModuleParts) : Type 0 where
+pub record IsSourceRead (s : Source) (parts : ModuleParts) : Type 0 where
   pub reads : IsOutcome s.bytes.items (Reads parts.tokens)
   pub scopes : AreScopes s.bytes.items parts.tokens (rows_in parts.table) parts.scopes
   pub interface : arc_value parts.interface ≡ interface_in (seen_in s parts)
 
 -- so for all, and the graph is that of the files' imports
-pub record AreSeen (sources : List Source) (modules : List (Box ModuleParts Global)) (graph : ImportGraph) : Type 0 where
+pub record AreSourcesRead (sources : List Source) (modules : List (Box ModuleParts Global)) (graph : ImportGraph) : Type 0 where
   pub as_many : length modules ≡ length sources
-  pub each : (k : ℕ) (s : Source) (m : Box ModuleParts Global) → slice_get sources k ≡ Some s → slice_get modules k ≡ Some m → IsSeen s m.value
+  pub each : (k : ℕ) (s : Source) (m : Box ModuleParts Global) → slice_get sources k ≡ Some s → slice_get modules k ≡ Some m → IsSourceRead s m.value
   pub kept : AreFilesOfGraph (files_of (all_seen sources modules)) graph

@@ -6,14 +6,14 @@ use Rattle.proto_wire.specs.Messages.{piece_of}
 use Rattle.proto_wire.specs.Records.{Piece}
 use Rattle.proto_wire.proofs.PieceLaws.{some_from_test}
 use Rattle.proto_wire.proofs.PieceReadings.{records_found, stop_found}
-use Rattle.proto_wire.proofs.RowLaws.{Reaches-start, Reaches-step, Reaches-fault, Reaches-end}
+use Rattle.proto_wire.proofs.RowLaws.{IsSplit-start, IsSplit-step, IsSplit-fault, IsSplit-end}
 use Rattle.proto_wire.proofs.MessageLaws.{IsClean-push, fault_of-end, fault_of-inside}
 use Rattle.proto_wire.proofs.FaultLaws.{UnlessMemory-from, UnlessMemory-then}
 use Rattle.proto_wire.proofs.message.read_into.Goals as goal
 
 pub loop-rest-init : goal.loop-rest-init
 loop-rest-init g c = record {
-  read = ([], tt, λ before h. rw append-nil h, Reaches-start c.args.start c.args.bytes.now);
+  read = ([], tt, λ before h. rw append-nil h, IsSplit-start c.args.start c.args.bytes.now);
   inside = refl;
 }
 
@@ -26,7 +26,7 @@ returns-in_err-wire-clause-err g c =
     rw (p.1, p.2)
     (UnlessMemory-from fault
     (fault_of-end inside c.args.start c.args.bytes.now read.0 (Some fault) read.1
-    (stop_found c.args.start c.args.bytes.now read.0 fault (Reaches-fault c.args.start c.args.bytes.now read.0 c.loop-rest.at c.loop-rest.rest.now fault read.3 (some_from_test _ (sym c.loop-rest-test.ensures)) c.in_err-wire.ensures.exact))))
+    (stop_found c.args.start c.args.bytes.now read.0 fault (IsSplit-fault c.args.start c.args.bytes.now read.0 c.loop-rest.at c.loop-rest.rest.now fault read.3 (some_from_test _ (sym c.loop-rest-test.ensures)) c.in_err-wire.ensures.exact))))
 
 pub returns-in_err-take-clause-err : goal.returns-in_err-take-clause-err
 returns-in_err-take-clause-err g c =
@@ -39,7 +39,7 @@ returns-in_err-take-clause-err g c =
     rw (p.1, p.2)
     (UnlessMemory-then fault c.in_err-take.ensures.err
     (λ e. fault_of-inside inside c.args.start c.args.bytes.now read.0 taken _ here.after.now fault read.1
-    (Reaches-step c.args.start c.args.bytes.now read.0 c.loop-rest.at c.loop-rest.rest.now taken here.after.now read.3 here.ensures.exact) e))
+    (IsSplit-step c.args.start c.args.bytes.now read.0 c.loop-rest.at c.loop-rest.rest.now taken here.after.now read.3 here.ensures.exact) e))
 
 pub loop-rest-preserved : goal.loop-rest-preserved
 loop-rest-preserved g c =
@@ -52,7 +52,7 @@ loop-rest-preserved g c =
         read.0 ++ taken ∷ [],
         IsClean-push g.M.Message.fault_in read.0 taken read.1 c.in_ok-take.ensures.clean,
         λ before h. subst (λ (ps : List Piece). g.M.Message.means now ps) (append_assoc before read.0 (taken ∷ [])) (c.in_ok-take.ensures.means (before ++ read.0) (read.2 before h)),
-        Reaches-step c.args.start c.args.bytes.now read.0 c.loop-rest.at c.loop-rest.rest.now taken here.after.now read.3 here.ensures.exact,
+        IsSplit-step c.args.start c.args.bytes.now read.0 c.loop-rest.at c.loop-rest.rest.now taken here.after.now read.3 here.ensures.exact,
       );
       inside = omega (arith, here.ensures.shorter);
     }
@@ -60,10 +60,10 @@ loop-rest-preserved g c =
 pub returns-clause-clean : goal.returns-clause-clean
 returns-clause-clean g c =
     let read = c.loop-rest.invariant.read in
-    fault_of-end g.M.Message.fault_in c.args.start c.args.bytes.now read.0 None read.1 (records_found c.args.start c.args.bytes.now read.0 (Reaches-end c.args.start c.args.bytes.now read.0 c.loop-rest.at c.loop-rest.rest.now read.3 (eqb-true _ _ (sym c.loop-rest-test.ensures))))
+    fault_of-end g.M.Message.fault_in c.args.start c.args.bytes.now read.0 None read.1 (records_found c.args.start c.args.bytes.now read.0 (IsSplit-end c.args.start c.args.bytes.now read.0 c.loop-rest.at c.loop-rest.rest.now read.3 (eqb-true _ _ (sym c.loop-rest-test.ensures))))
 
 pub returns-clause-means : goal.returns-clause-means
 returns-clause-means g c =
     let read = c.loop-rest.invariant.read in
-    let whole = records_found c.args.start c.args.bytes.now read.0 (Reaches-end c.args.start c.args.bytes.now read.0 c.loop-rest.at c.loop-rest.rest.now read.3 (eqb-true _ _ (sym c.loop-rest-test.ensures))) in
+    let whole = records_found c.args.start c.args.bytes.now read.0 (IsSplit-end c.args.start c.args.bytes.now read.0 c.loop-rest.at c.loop-rest.rest.now read.3 (eqb-true _ _ (sym c.loop-rest-test.ensures))) in
     λ before h. rw whole (read.2 before h)

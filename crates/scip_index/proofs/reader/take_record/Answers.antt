@@ -6,28 +6,28 @@ use Rattle.proto_wire.specs.Records.{Piece, IsFirst}
 use Rattle.proto_wire.specs.Messages.{piece_of, each_of, if_field, field_fault, message_fault, records_inside, in_record, of_record, IsFaultBehind}
 use Rattle.proto_wire.proofs.FaultLaws.{UnlessMemory-from, UnlessMemory-then}
 use Rattle.proto_wire.proofs.MessageSteps.{each_of-push}
-use Rattle.proto_wire.proofs.RowLaws.{Reaches-step, Reaches-fault}
+use Rattle.proto_wire.proofs.RowLaws.{IsSplit-step, IsSplit-fault}
 use Rattle.proto_wire.proofs.MessageLaws.{IsClean-push}
 use Rattle.scip_index.specs.Plain.{plain_document, plain_metadata, plain_symbol, PlainMetadata, PlainSymbol}
 use Rattle.scip_index.specs.Meaning.{metadata_of, metadata_fault, document_of, document_fault, symbol_of, symbol_fault, merged, index_fault}
-use Rattle.scip_index.specs.Streaming.{Stands, documents_in}
+use Rattle.scip_index.specs.Streaming.{ReaderStands, documents_in}
 use Rattle.scip_index.proofs.MeaningLaws.{AddsMessages-map, IsMerged-from, IsMerged-to, mapped-push}
 use Rattle.scip_index.proofs.StreamingLaws.{at_most_one}
 use Rattle.scip_index.proofs.reader.take_record.Goals as goal
 
 -- a fault inside a record that was read is the index's
 stops_inside : (fault : WireFault) (bytes : List ℕ) (front : List Piece) (at : ℕ) (rest : List ℕ) (metadata : Option PlainMetadata) (externals : List PlainSymbol) (p : Piece) (after : List ℕ) (inner : Option WireFault)
-    → Stands bytes front at rest metadata externals → IsFirst at rest (Ok (p, after)) → Stops fault inner → (inner ≡ Some fault → index_fault p ≡ Some fault) → UnlessMemory fault (IsFaultBehind index_fault 0 bytes front fault)
+    → ReaderStands bytes front at rest metadata externals → IsFirst at rest (Ok (p, after)) → Stops fault inner → (inner ≡ Some fault → index_fault p ≡ Some fault) → UnlessMemory fault (IsFaultBehind index_fault 0 bytes front fault)
 stops_inside fault bytes front at rest metadata externals p after inner s read h go =
     UnlessMemory-then fault h
-    (λ e. in_record p _ after (Reaches-step 0 bytes front at rest p after s.reached read) (go e))
+    (λ e. in_record p _ after (IsSplit-step 0 bytes front at rest p after s.reached read) (go e))
 
 pub returns-in_err-wire-clause-err : goal.returns-in_err-wire-clause-err
 returns-in_err-wire-clause-err c =
     let q = err_from_is_err_and c.from_residual.result c.from_residual.ensures.1 in
     let fault = c.in_err-wire.field-0.0 in
     rw (q.1, q.2)
-    (λ bytes front s. UnlessMemory-from fault (of_record (Reaches-fault 0 bytes front c.args.at c.args.rest.now fault s.reached c.requires.some c.in_err-wire.ensures.exact)))
+    (λ bytes front s. UnlessMemory-from fault (of_record (IsSplit-fault 0 bytes front c.args.at c.args.rest.now fault s.reached c.requires.some c.in_err-wire.ensures.exact)))
 
 pub returns-in_err-merge_message-clause-err : goal.returns-in_err-merge_message-clause-err
 returns-in_err-merge_message-clause-err c =
@@ -67,7 +67,7 @@ returns-clause-taken c = λ bytes front s.
     let symbols = AddsMessages-map plain_symbol symbol_of (if_field 3 p.wire (records_inside p)) c.args.externals.now.items c.take_messages-2.new.messages.items c.in_ok-take_messages-2.ensures.means in (
       p,
       record {
-        reached = Reaches-step 0 bytes front c.args.at c.args.rest.now p here.after.now s.reached here.ensures.exact;
+        reached = IsSplit-step 0 bytes front c.args.at c.args.rest.now p here.after.now s.reached here.ensures.exact;
         clean = IsClean-push index_fault front p s.clean (rw (c.in_ok-merge_message.ensures.clean, c.in_ok-take_messages.ensures.clean, c.in_ok-take_messages-2.ensures.clean) refl);
         metadata_is = after ∙ ap (merged metadata_of) (sym (each_of-push 1 records_inside front p));
         externals_are = symbols ∙ ap (λ xs. xs ++ map symbol_of (if_field 3 p.wire (records_inside p))) s.externals_are ∙ sym (mapped-push 3 symbol_of front p);
