@@ -150,8 +150,8 @@ module _ {X : Type 0} (K : Kind X) where
   o-map f h [] w = o-nothing
   o-map f h (y ∷ ys) w = o-both (w y) (o-map f h ys w)
 
-  pub o-listed : {Y : Type 0} (f : Y → Piece) (l : OneOrMore Y) → ((y : Y) → Ordered K (f y)) → Ordered K (both (f l.first) (each_after f l.rest.items))
-  o-listed f l w = o-both (w l.first) (o-each (λ y. both token (f y)) l.rest.items (λ y. o-both o-token (w y)))
+  pub o-separated : {Y : Type 0} (f : Y → Piece) (l : OneOrMore Y) → ((y : Y) → Ordered K (f y)) → Ordered K (both (f l.first) (each_after f l.rest.items))
+  o-separated f l w = o-both (w l.first) (o-each (λ y. both token (f y)) l.rest.items (λ y. o-both o-token (w y)))
 
   pub o-is : {p q : Piece} → p ≡ q → Ordered K q → Ordered K p
   o-is e m = subst (Ordered K) (sym e) m

@@ -25,7 +25,7 @@ use Rattle.ob_decls.specs.Types.{part_here, record_row, in_record, open_arrays, 
 use Rattle.ob_decls.proofs.TypeLayers as told
 use Rattle.ob_decls.specs.Types.{declared_row, name_part}
 use Rattle.ob_decls.proofs.LinedKinds.{Kind}
-use Rattle.ob_decls.proofs.LinedPieces.{Beside, Headed, Later, Ordered, h-before, h-both, h-tells, l-both, l-token, l-within, n-headed, n-is, n-later, n-nothing, o-both, o-declaring, o-each, o-headed, o-is, o-listed, o-map, o-nothing, o-so, o-there, o-token, o-within}
+use Rattle.ob_decls.proofs.LinedPieces.{Beside, Headed, Later, Ordered, h-before, h-both, h-tells, l-both, l-token, l-within, n-headed, n-is, n-later, n-nothing, o-both, o-declaring, o-each, o-headed, o-is, o-separated, o-map, o-nothing, o-so, o-there, o-token, o-within}
 use Rattle.ob_decls.proofs.LinedExpressions.{o-expr}
 use Rattle.ob_decls.proofs.LinedStatements.{h-qualident, o-qualident}
 
@@ -73,7 +73,7 @@ module _ {X : Type 0} (K : Kind X) where
   pub o-parameters : (p : Parameters) → Ordered K (parameters_piece p)
   unfolding parameters_piece
   o-parameters p =
-      o-both K (o-token K) (o-both K (o-there K (λ l. both (section_piece l.first) (each_after section_piece l.rest.items)) p.sections (λ l. o-listed K section_piece l o-section)) (o-both K (o-token K) (o-there K (λ q. both token (qualident_piece q)) p.result (λ q. o-both K (o-token K) (o-qualident K q)))))
+      o-both K (o-token K) (o-both K (o-there K (λ l. both (section_piece l.first) (each_after section_piece l.rest.items)) p.sections (λ l. o-separated K section_piece l o-section)) (o-both K (o-token K) (o-there K (λ q. both token (qualident_piece q)) p.result (λ q. o-both K (o-token K) (o-qualident K q)))))
 
   o-lengths : (l : ExprList) → Ordered K (lengths_piece l)
   o-lengths l = o-is K (told.lengths_out l) (o-both K (o-expr K (out-ExprList l).first) (o-each K (λ e. both (tells (part_here parts.Array) token) (expr_piece e)) (out-ExprList l).rest.items (λ e. o-both K (o-part parts.Array (l-token K)) (o-expr K e))))

@@ -31,7 +31,7 @@ use Rattle.ob_decls.specs.Statements.{qualident_piece}
 use Rattle.ob_decls.specs.Types.{is_lone, part_here, record_row, in_record, open_arrays, section_inner, section_piece, identdef_piece, parameter_piece, parameters_piece, type_name_piece, lengths_piece, type_piece, fields_piece, record_piece, var_piece}
 use Rattle.ob_decls.proofs.TypeLayers as told
 use Rattle.ob_decls.proofs.Mirrored.{declares_it}
-use Rattle.ob_decls.proofs.Named.{Named, named_as, n-nothing, n-word, n-declared, n-both, n-three, n-first_declares, n-type_use, n-held, n-tells, n-within, n-declaring, n-opening, n-there, n-so, n-each, n-map, n-separated}
+use Rattle.ob_decls.proofs.Named.{Named, named_as, n-nothing, n-word, n-declared, n-both, n-three, n-first_declares, n-type_use, n-held, n-tells, n-within, n-declaring, n-opens_block, n-there, n-so, n-each, n-map, n-separated}
 use Rattle.ob_decls.proofs.NamedExpressions.{n-expr}
 use Rattle.ob_decls.proofs.NamedStatements.{n-qualident}
 
@@ -121,7 +121,7 @@ type_held (layers.ArrayOf lengths of) = n-held constructs.ArrayType (n-tells _ (
     (n-both (n-word kinds.Array) (n-both (n-lengths lengths.value) (n-both (n-word kinds.Of) (n-within _ of.value.1)))))
 type_held (layers.RecordOf r) = n-held constructs.RecordType (n-tells _ (λ c k. refl) (λ c k. refl) r.1)
 type_held (layers.PointerTo t) = n-held constructs.PointerType (n-tells _ (λ c k. refl) (λ c k. refl) (n-both (n-word kinds.Pointer) (n-both (n-word kinds.To) (n-within _ t.value.1))))
-type_held (layers.ProcOf p) = n-held constructs.ProcedureType (n-tells _ (λ c k. refl) (λ c k. refl) (n-opening (n-both (n-word kinds.Procedure) (n-there parameters_piece parameters_outline p n-parameters))))
+type_held (layers.ProcOf p) = n-held constructs.ProcedureType (n-tells _ (λ c k. refl) (λ c k. refl) (n-opens_block (n-both (n-word kinds.Procedure) (n-there parameters_piece parameters_outline p n-parameters))))
 
 abbrev fields_told : Fields-F TypeForm Fields Record VarDecl → Piece
 fields_told f = both (declaring sorts.Field (var_piece f.first)) (both (each_after (λ v. declaring sorts.Field (var_piece v)) f.rest.items) (if_so f.closing_semicolon token))

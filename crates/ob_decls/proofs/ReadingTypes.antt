@@ -28,7 +28,7 @@ use Rattle.ob_decls.proofs.TypeLayers as told
 use Rattle.ob_decls.proofs.Reading.{Reads, never, on_word, on_construct, on_list, maybe, r-until, r-both, r-past, r-then, r-held, r-at, r-layer, r-none, r-some}
 use Rattle.ob_decls.proofs.ReadingLists.{r-there, r-map, r-so, each_told, there_told}
 use Rattle.ob_decls.proofs.ReadingNames.{itself, on_words, not_the_first, none_behind, r-qualident}
-use Rattle.ob_decls.proofs.ReadingParameters.{r-listed, r-identdef}
+use Rattle.ob_decls.proofs.ReadingParameters.{r-separated, r-identdef}
 use Rattle.ob_decls.proofs.ReadingTypeForms.{r-lengths, named_same, array_same, record_same, pointer_same, procedure_same}
 
 -- each part can be read
@@ -196,7 +196,7 @@ star_ends : (s : Out) → on_words (kinds.Comma ∷ kinds.Star ∷ []) s ≡ fal
 star_ends s i = not_the_first kinds.Star [] s (none_behind kinds.Comma (kinds.Star ∷ []) s i)
 
 var_held : (y : WithVarDecl) → Reads var_parts var_shown never (var_parts (var_of y)) (var_shown (var_of y))
-var_held y = r-until (r-at (λ z. z.names) (r-listed kinds.Comma (on_words (kinds.Comma ∷ kinds.Star ∷ [])) r-identdef (λ s. refl) (λ s. refl) star_ends y.names)) (λ s i. refl) (λ z s i. refl) (r-past kinds.Colon (r-at (λ z. z.form) y.form.1))
+var_held y = r-until (r-at (λ z. z.names) (r-separated kinds.Comma (on_words (kinds.Comma ∷ kinds.Star ∷ [])) r-identdef (λ s. refl) (λ s. refl) star_ends y.names)) (λ s i. refl) (λ z s i. refl) (r-past kinds.Colon (r-at (λ z. z.form) y.form.1))
 
 var_layer : (x : VarDecl-F TypeForm Fields Record VarDecl) (y : WithVarDecl) → var_of y ≡ x → HeldVarDecl (roll-VarDecl x)
 var_layer x y is = r-layer out-VarDecl var_parts var_shown var_told var_tells var_out (roll-VarDecl x) (var_of y) (out-roll-VarDecl x ∙ sym is) (var_held y)

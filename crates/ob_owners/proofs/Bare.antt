@@ -60,8 +60,8 @@ pub b-map : {X Y : Type 0} (f : Y → Piece) (h : X → Y) (xs : List X) → ((x
 b-map f h [] w = b-nothing
 b-map f h (x ∷ xs) w = b-both (w x) (b-map f h xs w)
 
-pub b-listed : {X : Type 0} (f : X → Piece) (l : OneOrMore X) → ((x : X) → Bare (f x)) → Bare (both (f l.first) (each_after f l.rest.items))
-b-listed f l w = b-both (w l.first) (b-each (λ x. both token (f x)) l.rest.items (λ x. b-both b-token (w x)))
+pub b-separated : {X : Type 0} (f : X → Piece) (l : OneOrMore X) → ((x : X) → Bare (f x)) → Bare (both (f l.first) (each_after f l.rest.items))
+b-separated f l w = b-both (w l.first) (b-each (λ x. both token (f x)) l.rest.items (λ x. b-both b-token (w x)))
 
 pub b-is : {p q : Piece} → p ≡ q → Bare q → Bare p
 b-is {p} {q} e m = subst Bare (sym e) m

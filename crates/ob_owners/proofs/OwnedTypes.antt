@@ -22,7 +22,7 @@ use Rattle.ob_decls.specs.Expressions.{each_after, expr_piece}
 use Rattle.ob_decls.specs.Statements.{qualident_piece}
 use Rattle.ob_decls.specs.Types.{part_here, record_row, in_record, open_arrays, section_inner, section_piece, identdef_piece, parameter_piece, parameters_piece, type_name_piece, lengths_piece, type_piece, fields_piece, record_piece, var_piece}
 use Rattle.ob_decls.proofs.TypeLayers as told
-use Rattle.ob_owners.proofs.Bare.{Bare, b-is, b-nothing, b-token, b-both, b-tells, b-first, b-there, b-so, b-each, b-listed, b-declaring, b-opening, b-declared}
+use Rattle.ob_owners.proofs.Bare.{Bare, b-is, b-nothing, b-token, b-both, b-tells, b-first, b-there, b-so, b-each, b-separated, b-declaring, b-opens_block, b-declared}
 use Rattle.ob_owners.proofs.BareExpressions.{b-expr}
 use Rattle.ob_owners.proofs.BareStatements.{b-qualident}
 use Rattle.ob_owners.proofs.Owned.{Declares, Free, Held, d-held, d-is, f-bare, f-both, f-declaring, f-is, f-map, h-bare, h-behind, h-is, h-record, h-tells, h-within}
@@ -53,7 +53,7 @@ b-section s = (b-declaring sorts.Parameter (b-both (b-so s.variable b-token) (b-
 pub b-parameters : (p : Parameters) → Bare (parameters_piece p)
 unfolding parameters_piece
 b-parameters p =
-    b-both b-token (b-both (b-there (λ l. both (section_piece l.first) (each_after section_piece l.rest.items)) p.sections (λ l. b-listed section_piece l b-section)) (b-both b-token (b-there (λ q. both token (qualident_piece q)) p.result (λ q. b-both b-token (b-qualident q)))))
+    b-both b-token (b-both (b-there (λ l. both (section_piece l.first) (each_after section_piece l.rest.items)) p.sections (λ l. b-separated section_piece l b-section)) (b-both b-token (b-there (λ q. both token (qualident_piece q)) p.result (λ q. b-both b-token (b-qualident q)))))
 
 b-lengths : (l : ExprList) → Bare (lengths_piece l)
 b-lengths l = b-is (told.lengths_out l) (b-both (b-expr (out-ExprList l).first) (b-each (λ e. both (tells (part_here parts.Array) token) (expr_piece e)) (out-ExprList l).rest.items (λ e. b-both (b-tells _ (λ c k. refl) b-token) (b-expr e))))
@@ -109,7 +109,7 @@ type_held (layers.Named q) = h-bare (b-type_name q)
 type_held (layers.ArrayOf lengths of) = h-tells _ (λ c k. refl) (h-behind b-token (h-behind (b-lengths lengths.value) (h-behind b-token (h-within _ (λ c k. refl) of.value.1))))
 type_held (layers.RecordOf r) = h-tells _ (λ c k. refl) r.1
 type_held (layers.PointerTo t) = h-tells _ (λ c k. refl) (h-behind b-token (h-behind b-token (h-within _ (λ c k. refl) t.value.1)))
-type_held (layers.ProcOf p) = h-bare (b-tells _ (λ c k. refl) (b-opening (b-both b-token (b-there parameters_piece p b-parameters))))
+type_held (layers.ProcOf p) = h-bare (b-tells _ (λ c k. refl) (b-opens_block (b-both b-token (b-there parameters_piece p b-parameters))))
 
 abbrev fields_told : Fields-F TypeForm Fields Record VarDecl → Piece
 fields_told f = both (declaring sorts.Field (var_piece f.first)) (both (each_after (λ v. declaring sorts.Field (var_piece v)) f.rest.items) (if_so f.closing_semicolon token))

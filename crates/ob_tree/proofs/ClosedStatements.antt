@@ -22,7 +22,7 @@ use Rattle.ob_tree.specs.Names.{qualident_outline}
 use Rattle.ob_tree.specs.Expressions.{expr_outline}
 use Rattle.ob_tree.specs.Statements.{label_outline, label_range_outline, case_outline, stmt_outline, block_outline, branch_outline, for_outline}
 use Rattle.ob_tree.proofs.StatementLayers.{case_shown, stmt_shown, block_shown, branch_shown, for_shown, case_out, stmt_out, block_out, branch_out, for_out}
-use Rattle.ob_tree.proofs.Closed.{IsClosed, With, closed-both, closed-construct, closed-there, closed-map, closed-listed}
+use Rattle.ob_tree.proofs.Closed.{IsClosed, With, closed-both, closed-construct, closed-there, closed-map, closed-separated}
 use Rattle.ob_tree.proofs.ClosedExpressions.{closed-designator, closed-expr}
 
 module _ (P : Out → Type 0) (closed : IsClosed P) where
@@ -98,7 +98,7 @@ module _ (P : Out → Type 0) (closed : IsClosed P) where
 
   case_held : (y : WithCase) → P (case_shown (case_of y))
   case_held layers.Nothing = closed.nothing
-  case_held (layers.Labelled ranges body) = closed-both P closed (closed-listed P closed kinds.Comma label_range_outline ranges range_held) (closed-both P closed (closed.a_word kinds.Colon) body.value.1)
+  case_held (layers.Labelled ranges body) = closed-both P closed (closed-separated P closed kinds.Comma label_range_outline ranges range_held) (closed-both P closed (closed.a_word kinds.Colon) body.value.1)
 
   stmt_held : (y : WithStmt) → P (stmt_shown (stmt_of y))
   stmt_held layers.Empty = closed-construct P closed constructs.EmptyStatement closed.nothing
