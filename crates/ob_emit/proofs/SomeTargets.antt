@@ -57,7 +57,7 @@ use Rattle.ob_types.specs.Shapes.{base_of, field_of, named_here, shape}
 use Rattle.ob_types.specs.World.{World, declaration_there, declarer_from, exported, exported_at, field_at, form_of, home_of, if_exported, is_of_record, item_of, meaning, sort_of, sort_there, text}
 use Rattle.scip_symbol.specs.declared.kind.DescriptorKind.{DescriptorKind}
 use Rattle.scip_symbol.specs.declared.kind.DescriptorKind.TheVariants.{Term, TypeName, Method}
-use Rattle.ob_emit.specs.Symbols.{declared_symbol, external_symbol, imported_symbol, is_imported_name as is_imported_target, kind_of, module_symbol, stands_for_something, symbol_of}
+use Rattle.ob_emit.specs.Symbols.{declared_symbol, external_symbol, imported_symbol, is_of_another_module as is_imported_target, kind_of, module_symbol, stands_for_something, symbol_of}
 use Rattle.ob_emit.proofs.Naming.{found_there}
 use Rattle.ob_emit.proofs.Numbered.{position_there}
 use Rattle.ob_emit.proofs.SeenOrder.{number_there}
