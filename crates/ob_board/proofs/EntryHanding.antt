@@ -25,7 +25,7 @@ use Rattle.oscip_tree.specs.Trees.{ModuleFile}
 use Rattle.scip_index.specs.Plain.{PlainDocument, PlainIndex, PlainSymbol}
 use Rattle.ob_board.specs.declared.entry.Entry.{Entry}
 use Rattle.work_board.specs.Graphs.{row_at}
-use Rattle.board_workers.specs.Parts.{AreTreeEntries as AreAtBoard, IsJob}
+use Rattle.board_workers.specs.Parts.{AreEntries as AreAtBoard, IsJob}
 use Rattle.tree_board.specs.Boards.{modules_of}
 use Rattle.tree_board.specs.Reached.{interface_in, marked_interfaces, names, seen_of, AreReachedInterfaces, SeenFile}
 use Rattle.tree_board.specs.Seen.{all_seen, seen_in, AreSourcesRead, IsSourceRead}
