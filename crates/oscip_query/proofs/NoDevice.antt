@@ -10,18 +10,18 @@ use Rattle.proto_wire.specs.declared.record.WireValue.{WireValue}
 use Rattle.proto_wire.specs.declared.record.WireValue.TheVariants.{Varint, Eight, Bytes, Four}
 use Rattle.proto_wire.specs.Messages.{field_fault, first_of, message_fault, message_fault_given, numbers_fault, numbers_fault_given, text_fault, text_fault_given, IsFaultBehind, IsFirstFault, in_record, of_record}
 use Rattle.proto_wire.specs.Packed.{packed, IsPackedOutcome}
-use Rattle.proto_wire.specs.Records.{Piece}
+use Rattle.proto_wire.specs.Records.{PayloadRecord}
 use Rattle.proto_wire.specs.Varints.{IsNoVarint}
 use Rattle.proto_wire.proofs.MessageLaws.{first_fault_iff}
 use Rattle.proto_wire.proofs.PackedReadings.{packed_read}
 use Rattle.scip_index.specs.Meaning.{document_fault, index_fault, metadata_fault, occurrence_fault, symbol_fault, tool_fault}
 
 -- no record has this fault inside
-abbrev pub IsNever : (Piece → Option WireFault) → Type 0
-IsNever inside = (p : Piece) → inside p ≡ Some Device → ⊥
+abbrev pub IsNever : (PayloadRecord → Option WireFault) → Type 0
+IsNever inside = (p : PayloadRecord) → inside p ≡ Some Device → ⊥
 
 -- nor then does a message
-pub first_never : (inside : Piece → Option WireFault) → IsNever inside → (start : ℕ) (bytes : List ℕ) → IsFirstFault inside start bytes Device → ⊥
+pub first_never : (inside : PayloadRecord → Option WireFault) → IsNever inside → (start : ℕ) (bytes : List ℕ) → IsFirstFault inside start bytes Device → ⊥
 first_never inside never start bytes h = behind h.2
   where
     behind : IsFaultBehind inside start bytes h.0 Device → ⊥
@@ -48,7 +48,7 @@ numbers_given (Bytes count) at payload e = go (packed at payload) (packed_read a
     go (Err fault) is f = subst (IsNoVarint at is.rest) (same_Some fault Device f) is.no_varint
 numbers_given Four at payload e = absurd cc
 
-message_given : (inside : Piece → Option WireFault) → IsNever inside → (v : WireValue) (body : ℕ) (payload : List ℕ) → message_fault_given inside v body payload ≡ Some Device → ⊥
+message_given : (inside : PayloadRecord → Option WireFault) → IsNever inside → (v : WireValue) (body : ℕ) (payload : List ℕ) → message_fault_given inside v body payload ≡ Some Device → ⊥
 message_given inside never (Varint n) body payload e = absurd cc
 message_given inside never Eight body payload e = absurd cc
 message_given inside never (Bytes count) body payload e = first_never inside never body payload ((first_fault_iff inside body payload Device).0 e)
@@ -68,13 +68,13 @@ either : (a b : Option WireFault) → (a ≡ Some Device → ⊥) → (b ≡ Som
 either None b first later e = later e
 either (Some fault) b first later e = first e
 
-text : (k : ℕ) (p : Piece) → field_fault k p.wire (text_fault p) ≡ Some Device → ⊥
+text : (k : ℕ) (p : PayloadRecord) → field_fault k p.wire (text_fault p) ≡ Some Device → ⊥
 text k p = field k p.wire (text_fault p) (text_given p.wire.value p.wire.at p.payload)
 
-numbers : (k : ℕ) (p : Piece) → field_fault k p.wire (numbers_fault p) ≡ Some Device → ⊥
+numbers : (k : ℕ) (p : PayloadRecord) → field_fault k p.wire (numbers_fault p) ≡ Some Device → ⊥
 numbers k p = field k p.wire (numbers_fault p) (numbers_given p.wire.value p.wire.at p.payload)
 
-message : (inside : Piece → Option WireFault) → IsNever inside → (k : ℕ) (p : Piece) → field_fault k p.wire (message_fault inside p) ≡ Some Device → ⊥
+message : (inside : PayloadRecord → Option WireFault) → IsNever inside → (k : ℕ) (p : PayloadRecord) → field_fault k p.wire (message_fault inside p) ≡ Some Device → ⊥
 message inside never k p = field k p.wire (message_fault inside p) (message_given inside never p.wire.value p.wire.body p.payload)
 
 -- ---- the messages of an index

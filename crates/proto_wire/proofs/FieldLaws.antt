@@ -8,7 +8,7 @@ use Rattle.proto_wire.specs.declared.fault.WireFault.TheVariants.{BadText}
 use Rattle.proto_wire.specs.declared.record.WireValue.{WireValue}
 use Rattle.proto_wire.specs.declared.record.WireValue.TheVariants.{Bytes}
 use Rattle.proto_wire.specs.Messages.{field_fault, text_fault, text_fault_given}
-use Rattle.proto_wire.specs.Records.{Piece}
+use Rattle.proto_wire.specs.Records.{PayloadRecord}
 
 pub text-good : (value : WireValue) (count at : ℕ) (payload : List ℕ) → value ≡ Bytes count → IsUtf8 payload → text_fault_given value at payload ≡ None
 text-good value count at payload e h = rw (e, is_utf8-from_IsUtf8 payload h) refl
@@ -16,12 +16,12 @@ text-good value count at payload e h = rw (e, is_utf8-from_IsUtf8 payload h) ref
 pub text-bad : (value : WireValue) (count at : ℕ) (payload : List ℕ) → value ≡ Bytes count → (IsUtf8 payload → ⊥) → text_fault_given value at payload ≡ Some (BadText at)
 text-bad value count at payload e h = rw (e, false_from_ne_true (is_utf8 payload) (λ t. h (IsUtf8-from_is_utf8 payload t))) refl
 
-field_fault-hit : (k : ℕ) (p : Piece) (fault : Option WireFault) → p.wire.field ≡ k → field_fault k p.wire fault ≡ fault
+field_fault-hit : (k : ℕ) (p : PayloadRecord) (fault : Option WireFault) → p.wire.field ≡ k → field_fault k p.wire fault ≡ fault
 unfolding field_fault
 field_fault-hit k p fault e = rw (eq-eqb p.wire.field k e) refl
 
-pub text_at-good : (k : ℕ) (p : Piece) (count : ℕ) → p.wire.field ≡ k → p.wire.value ≡ Bytes count → IsUtf8 p.payload → field_fault k p.wire (text_fault p) ≡ None
+pub text_at-good : (k : ℕ) (p : PayloadRecord) (count : ℕ) → p.wire.field ≡ k → p.wire.value ≡ Bytes count → IsUtf8 p.payload → field_fault k p.wire (text_fault p) ≡ None
 text_at-good k p count e v h = field_fault-hit k p (text_fault p) e ∙ text-good p.wire.value count p.wire.at p.payload v h
 
-pub text_at-bad : (k : ℕ) (p : Piece) (count : ℕ) → p.wire.field ≡ k → p.wire.value ≡ Bytes count → (IsUtf8 p.payload → ⊥) → field_fault k p.wire (text_fault p) ≡ Some (BadText p.wire.at)
+pub text_at-bad : (k : ℕ) (p : PayloadRecord) (count : ℕ) → p.wire.field ≡ k → p.wire.value ≡ Bytes count → (IsUtf8 p.payload → ⊥) → field_fault k p.wire (text_fault p) ≡ Some (BadText p.wire.at)
 text_at-bad k p count e v h = field_fault-hit k p (text_fault p) e ∙ text-bad p.wire.value count p.wire.at p.payload v h

@@ -9,7 +9,7 @@ use Rattle.std.proofs.lemmas.Bool.{eq-eqb}
 use Rattle.proto_wire.specs.declared.record.WireValue.TheVariants.{Varint, Bytes}
 use Rattle.proto_wire.specs.Messages.{if_field, each_of, latest, number_in, numbers_in, bytes_in}
 use Rattle.proto_wire.specs.Packed.{int32, packed, packed_from, ArePacked, IsPackedOutcome}
-use Rattle.proto_wire.specs.Records.{Piece}
+use Rattle.proto_wire.specs.Records.{PayloadRecord}
 use Rattle.proto_wire.specs.Varints.{varint, varint_in}
 use Rattle.proto_wire.specs.Writing.{CarryAll, bits_of, number_fields, text_fields, packing, packed_fields, payload_fields}
 use Rattle.proto_wire.proofs.VarintLaws.{varint-again, varint-some}
@@ -53,38 +53,38 @@ packed-again at zs fits = packed_from-again (length (packing zs)) at zs (omega a
 pub packed_is : (zs : List ℤ) → AllByRecursion (FitsSigned w32) zs → ArePacked (packing zs) zs
 packed_is zs fits = subst (IsPackedOutcome 0 (packing zs)) (packed-again 0 zs fits) (packed_read 0 (packing zs))
 
-pub if_field-hit : {X : Type 0} (k : ℕ) (p : Piece) (xs : List X) → p.wire.field ≡ k → if_field k p.wire xs ≡ xs
+pub if_field-hit : {X : Type 0} (k : ℕ) (p : PayloadRecord) (xs : List X) → p.wire.field ≡ k → if_field k p.wire xs ≡ xs
 unfolding if_field
 if_field-hit k p xs e = rw (eq-eqb p.wire.field k e) refl
 
-each_of-one : {X : Type 0} (k : ℕ) (gives : Piece → List X) (p : Piece) (x : X) → p.wire.field ≡ k → gives p ≡ x ∷ [] → each_of k gives (p ∷ []) ≡ x ∷ []
+each_of-one : {X : Type 0} (k : ℕ) (gives : PayloadRecord → List X) (p : PayloadRecord) (x : X) → p.wire.field ≡ k → gives p ≡ x ∷ [] → each_of k gives (p ∷ []) ≡ x ∷ []
 unfolding each_of
 each_of-one k gives p x e g = rw (if_field-hit k p (gives p) e, g) refl
 
-each_of-row : {X : Type 0} (k : ℕ) (gives : Piece → List X) (p : Piece) (xs : List X) → p.wire.field ≡ k → gives p ≡ xs → each_of k gives (p ∷ []) ≡ xs
+each_of-row : {X : Type 0} (k : ℕ) (gives : PayloadRecord → List X) (p : PayloadRecord) (xs : List X) → p.wire.field ≡ k → gives p ≡ xs → each_of k gives (p ∷ []) ≡ xs
 unfolding each_of
 each_of-row k gives p xs e g = rw (if_field-hit k p (gives p) e, g) (append-nil xs)
 
-each_of-nil : {X : Type 0} (k : ℕ) (gives : Piece → List X) → each_of k gives [] ≡ []
+each_of-nil : {X : Type 0} (k : ℕ) (gives : PayloadRecord → List X) → each_of k gives [] ≡ []
 unfolding each_of
 each_of-nil k gives = refl
 
-bytes_carried : (p : Piece) (bytes : List ℕ) → (p.wire.value ≡ Bytes (length bytes)) × (p.payload ≡ bytes) → bytes_in p ≡ bytes ∷ []
+bytes_carried : (p : PayloadRecord) (bytes : List ℕ) → (p.wire.value ≡ Bytes (length bytes)) × (p.payload ≡ bytes) → bytes_in p ≡ bytes ∷ []
 bytes_carried p bytes h = rw (h.0, h.1) refl
 
 -- a text that was written is read again
-pub text-given : (k : ℕ) (t : List ℕ) (ps : List Piece) → CarryAll ps (text_fields k t) → latest [] (each_of k bytes_in ps) ≡ t
+pub text-given : (k : ℕ) (t : List ℕ) (ps : List PayloadRecord) → CarryAll ps (text_fields k t) → latest [] (each_of k bytes_in ps) ≡ t
 text-given k [] [] h = rw (each_of-nil k bytes_in) refl
 text-given k [] (p ∷ ps) h = absurd h
 text-given k (b ∷ t) [] h = absurd h
 text-given k (b ∷ t) (p ∷ []) h = rw (each_of-one k bytes_in p (b ∷ t) h.0.number (bytes_carried p (b ∷ t) h.0.content)) refl
 text-given k (b ∷ t) (p ∷ q ∷ ps) h = absurd h.1
 
-number_carried : (p : Piece) (z : ℤ) → FitsSigned w32 z → p.wire.value ≡ Varint (bits_of z) → number_in p ≡ z ∷ []
+number_carried : (p : PayloadRecord) (z : ℤ) → FitsSigned w32 z → p.wire.value ≡ Varint (bits_of z) → number_in p ≡ z ∷ []
 number_carried p z fits h = rw h (ap (λ (y : ℤ). y ∷ []) (int32-again z fits))
 
 -- a number that was written is read again
-pub number-given : (k : ℕ) (z : ℤ) (ps : List Piece) → FitsSigned w32 z → CarryAll ps (number_fields k z) → latest (pos 0) (each_of k number_in ps) ≡ z
+pub number-given : (k : ℕ) (z : ℤ) (ps : List PayloadRecord) → FitsSigned w32 z → CarryAll ps (number_fields k z) → latest (pos 0) (each_of k number_in ps) ≡ z
 number-given k (pos zero) [] fits h = rw (each_of-nil k number_in) refl
 number-given k (pos zero) (p ∷ ps) fits h = absurd h
 number-given k (pos (suc n)) [] fits h = absurd h
@@ -94,11 +94,11 @@ number-given k (negsuc n) [] fits h = absurd h
 number-given k (negsuc n) (p ∷ []) fits h = rw (each_of-one k number_in p (negsuc n) h.0.number (number_carried p (negsuc n) fits h.0.content)) refl
 number-given k (negsuc n) (p ∷ q ∷ ps) fits h = absurd h.1
 
-numbers_carried : (p : Piece) (zs : List ℤ) → AllByRecursion (FitsSigned w32) zs → (p.wire.value ≡ Bytes (length (packing zs))) × (p.payload ≡ packing zs) → numbers_in p ≡ zs
+numbers_carried : (p : PayloadRecord) (zs : List ℤ) → AllByRecursion (FitsSigned w32) zs → (p.wire.value ≡ Bytes (length (packing zs))) × (p.payload ≡ packing zs) → numbers_in p ≡ zs
 numbers_carried p zs fits h = rw (h.0, h.1, packed-again p.wire.at zs fits) refl
 
 -- packed numbers that were written are read again
-pub packed-given : (k : ℕ) (zs : List ℤ) (ps : List Piece) → AllByRecursion (FitsSigned w32) zs → CarryAll ps (packed_fields k zs) → each_of k numbers_in ps ≡ zs
+pub packed-given : (k : ℕ) (zs : List ℤ) (ps : List PayloadRecord) → AllByRecursion (FitsSigned w32) zs → CarryAll ps (packed_fields k zs) → each_of k numbers_in ps ≡ zs
 packed-given k [] [] fits h = each_of-nil k numbers_in
 packed-given k [] (p ∷ ps) fits h = absurd h
 packed-given k (z ∷ zs) [] fits h = absurd h
@@ -106,7 +106,7 @@ packed-given k (z ∷ zs) (p ∷ []) fits h = each_of-row k numbers_in p (z ∷ 
 packed-given k (z ∷ zs) (p ∷ q ∷ ps) fits h = absurd h.1
 
 -- texts that were written are read again
-pub payloads-given : (k : ℕ) (ts : List (List ℕ)) (ps : List Piece) → CarryAll ps (payload_fields k ts) → each_of k bytes_in ps ≡ ts
+pub payloads-given : (k : ℕ) (ts : List (List ℕ)) (ps : List PayloadRecord) → CarryAll ps (payload_fields k ts) → each_of k bytes_in ps ≡ ts
 unfolding each_of
 payloads-given k [] [] h = refl
 payloads-given k [] (p ∷ ps) h = absurd h

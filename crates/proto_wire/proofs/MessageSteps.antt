@@ -6,20 +6,20 @@ use Rattle.std.proofs.lemmas.List.{append-nil}
 use Rattle.std.proofs.lemmas.Bool.{ne_eqb}
 use Rattle.proto_wire.specs.declared.fault.WireFault.{WireFault}
 use Rattle.proto_wire.specs.declared.record.WireValue.TheVariants.{Bytes}
-use Rattle.proto_wire.specs.Records.{Piece}
-use Rattle.proto_wire.specs.Readings.{pieces_of}
+use Rattle.proto_wire.specs.Records.{PayloadRecord}
+use Rattle.proto_wire.specs.Readings.{payload_records}
 use Rattle.proto_wire.specs.Messages.{if_field, each_of, latest, records_inside, IsClean}
 use Rattle.proto_wire.specs.Writing.{Field, FieldFits, payload_fields, spelling, pieces_at, Carries, CarryAll}
 use Rattle.proto_wire.proofs.PieceReadings.{records_found}
 use Rattle.proto_wire.proofs.WritingLaws.{records_again}
 use Rattle.proto_wire.proofs.GivenLaws.{if_field-hit}
 
-pub each_of-append : {X : Type 0} (k : ℕ) (gives : Piece → List X) (ps qs : List Piece) → each_of k gives (ps ++ qs) ≡ each_of k gives ps ++ each_of k gives qs
+pub each_of-append : {X : Type 0} (k : ℕ) (gives : PayloadRecord → List X) (ps qs : List PayloadRecord) → each_of k gives (ps ++ qs) ≡ each_of k gives ps ++ each_of k gives qs
 unfolding each_of
 each_of-append k gives [] qs = refl
 each_of-append k gives (p ∷ ps) qs = ap (λ xs. if_field k p.wire (gives p) ++ xs) (each_of-append k gives ps qs) ∙ sym (append_assoc (if_field k p.wire (gives p)) (each_of k gives ps) (each_of k gives qs))
 
-pub each_of-push : {X : Type 0} (k : ℕ) (gives : Piece → List X) (front : List Piece) (p : Piece) → each_of k gives (front ++ p ∷ []) ≡ each_of k gives front ++ if_field k p.wire (gives p)
+pub each_of-push : {X : Type 0} (k : ℕ) (gives : PayloadRecord → List X) (front : List PayloadRecord) (p : PayloadRecord) → each_of k gives (front ++ p ∷ []) ≡ each_of k gives front ++ if_field k p.wire (gives p)
 unfolding each_of
 each_of-push k gives [] p = append-nil (if_field k p.wire (gives p))
 each_of-push k gives (q ∷ front) p = ap (λ xs. if_field k q.wire (gives q) ++ xs) (each_of-push k gives front p) ∙ sym (append_assoc (if_field k q.wire (gives q)) (each_of k gives front) (if_field k p.wire (gives p)))
@@ -29,10 +29,10 @@ latest-append old [] ys = refl
 latest-append old (x ∷ xs) ys = latest-append x xs ys
 
 -- the latest of a field, after a record more
-pub latest-push : {X : Type 0} (k : ℕ) (old : X) (gives : Piece → List X) (front : List Piece) (p : Piece) → latest old (each_of k gives (front ++ p ∷ [])) ≡ latest (latest old (each_of k gives front)) (if_field k p.wire (gives p))
+pub latest-push : {X : Type 0} (k : ℕ) (old : X) (gives : PayloadRecord → List X) (front : List PayloadRecord) (p : PayloadRecord) → latest old (each_of k gives (front ++ p ∷ [])) ≡ latest (latest old (each_of k gives front)) (if_field k p.wire (gives p))
 latest-push k old gives front p = ap (latest old) (each_of-push k gives front p) ∙ latest-append old (each_of k gives front) (if_field k p.wire (gives p))
 
-pub if_field-miss : {X : Type 0} (k : ℕ) (p : Piece) (xs : List X) → (p.wire.field ≡ k → ⊥) → if_field k p.wire xs ≡ []
+pub if_field-miss : {X : Type 0} (k : ℕ) (p : PayloadRecord) (xs : List X) → (p.wire.field ≡ k → ⊥) → if_field k p.wire xs ≡ []
 unfolding if_field
 if_field-miss k p xs e = rw (ne_eqb p.wire.field k e) refl
 
@@ -41,7 +41,7 @@ abbrev pub HaveNumber : ℕ → List Field → Type 0
 HaveNumber j fs = AllByRecursion (λ f. f.number ≡ j) fs
 
 -- records of another field give nothing
-pub each_of-miss : {X : Type 0} (k j : ℕ) (gives : Piece → List X) (ps : List Piece) (fs : List Field) → CarryAll ps fs → HaveNumber j fs → (j ≡ k → ⊥) → each_of k gives ps ≡ []
+pub each_of-miss : {X : Type 0} (k j : ℕ) (gives : PayloadRecord → List X) (ps : List PayloadRecord) (fs : List Field) → CarryAll ps fs → HaveNumber j fs → (j ≡ k → ⊥) → each_of k gives ps ≡ []
 unfolding each_of
 each_of-miss k j gives [] [] h same apart = refl
 each_of-miss k j gives [] (f ∷ fs) h same apart = absurd h
@@ -50,26 +50,26 @@ each_of-miss k j gives (p ∷ ps) (f ∷ fs) h same apart =
     rw (if_field-miss k p (gives p) (λ e. apart (sym same.0 ∙ sym h.0.number ∙ e)), each_of-miss k j gives ps fs h.1 same.1 apart) refl
 
 -- fields that are written are read again, and nothing else
-pub pieces-again : (at : ℕ) (fs : List Field) → AllByRecursion FieldFits fs → pieces_of at (spelling fs) ≡ (pieces_at at fs, None)
+pub pieces-again : (at : ℕ) (fs : List Field) → AllByRecursion FieldFits fs → payload_records at (spelling fs) ≡ (pieces_at at fs, None)
 pieces-again at fs fits = records_found at (spelling fs) (pieces_at at fs) (records_again at fs fits)
 
 -- what carries two rows of fields is two rows
-pub CarryAll-split : (ps : List Piece) (fs gs : List Field) → CarryAll ps (fs ++ gs) → (front : List Piece) × (back : List Piece) × (ps ≡ front ++ back) × CarryAll front fs × CarryAll back gs
+pub CarryAll-split : (ps : List PayloadRecord) (fs gs : List Field) → CarryAll ps (fs ++ gs) → (front : List PayloadRecord) × (back : List PayloadRecord) × (ps ≡ front ++ back) × CarryAll front fs × CarryAll back gs
 CarryAll-split ps [] gs h = ([], ps, refl, tt, h)
 CarryAll-split [] (f ∷ fs) gs h = absurd h
 CarryAll-split (p ∷ ps) (f ∷ fs) gs h =
     let others = CarryAll-split ps fs gs h.1 in
-    (p ∷ others.0, others.1, ap (λ (qs : List Piece). p ∷ qs) others.2, (h.0, others.3), others.4)
+    (p ∷ others.0, others.1, ap (λ (qs : List PayloadRecord). p ∷ qs) others.2, (h.0, others.3), others.4)
 
 -- every record of a message with these bytes says this value, wherever it stands
-abbrev pub Restores : {V : Type 0} → (List Piece → V) → V → List ℕ → Type 0
-Restores of v bytes = (start : ℕ) → of (pieces_of start bytes).0 ≡ v
+abbrev pub Restores : {V : Type 0} → (List PayloadRecord → V) → V → List ℕ → Type 0
+Restores of v bytes = (start : ℕ) → of (payload_records start bytes).0 ≡ v
 
-inside_carried : (p : Piece) (bytes : List ℕ) → (p.wire.value ≡ Bytes (length bytes)) × (p.payload ≡ bytes) → records_inside p ≡ (pieces_of p.wire.body bytes).0 ∷ []
+inside_carried : (p : PayloadRecord) (bytes : List ℕ) → (p.wire.value ≡ Bytes (length bytes)) × (p.payload ≡ bytes) → records_inside p ≡ (payload_records p.wire.body bytes).0 ∷ []
 inside_carried p bytes h = rw (h.0, h.1) refl
 
 -- messages that were written are read again
-pub messages-given : {V : Type 0} (k : ℕ) (of : List Piece → V) (written : V → List ℕ) (vs : List V) (ps : List Piece) → AllByRecursion (λ v. Restores of v (written v)) vs → CarryAll ps (payload_fields k (map written vs)) → map of (each_of k records_inside ps) ≡ vs
+pub messages-given : {V : Type 0} (k : ℕ) (of : List PayloadRecord → V) (written : V → List ℕ) (vs : List V) (ps : List PayloadRecord) → AllByRecursion (λ v. Restores of v (written v)) vs → CarryAll ps (payload_fields k (map written vs)) → map of (each_of k records_inside ps) ≡ vs
 unfolding each_of
 messages-given k of written [] [] restores h = refl
 messages-given k of written [] (p ∷ ps) restores h = absurd h
@@ -78,7 +78,7 @@ messages-given k of written (v ∷ vs) (p ∷ ps) restores h =
     rw (if_field-hit k p (records_inside p) h.0.number, inside_carried p (written v) h.0.content, messages-given k of written vs ps restores.1 h.1) (ap (λ x. x ∷ vs) (restores.0 p.wire.body))
 
 -- fields that leave no fault in any record that carries them
-pub IsClean-from : (inside : Piece → Option WireFault) (ps : List Piece) (fs : List Field) → CarryAll ps fs → AllByRecursion (λ f. (p : Piece) → Carries p f → inside p ≡ None) fs → IsClean inside ps
+pub IsClean-from : (inside : PayloadRecord → Option WireFault) (ps : List PayloadRecord) (fs : List Field) → CarryAll ps fs → AllByRecursion (λ f. (p : PayloadRecord) → Carries p f → inside p ≡ None) fs → IsClean inside ps
 IsClean-from inside [] [] h none = tt
 IsClean-from inside [] (f ∷ fs) h none = absurd h
 IsClean-from inside (p ∷ ps) [] h none = absurd h

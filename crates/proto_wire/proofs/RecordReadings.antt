@@ -8,7 +8,7 @@ use Rattle.proto_wire.specs.declared.record.WireValue.{WireValue}
 use Rattle.proto_wire.specs.declared.record.WireValue.TheVariants.{Varint, Eight, Bytes, Four}
 use Rattle.proto_wire.specs.Faults.{◌>>=◌, Gives, Shows}
 use Rattle.proto_wire.specs.Varints.{IsVarint, IsNoVarint, varint_in}
-use Rattle.proto_wire.specs.Records.{Piece, IsField, IsKey, IsValue, IsRecord, HasKey, IsTruncated, in_key, in_varint, in_eight, in_length, in_payload, in_four, IsTooLong, as_key, as_varint, as_length, IsGroup, IsNoField, IsWrongRecord, IsFirst}
+use Rattle.proto_wire.specs.Records.{PayloadRecord, IsField, IsKey, IsValue, IsRecord, HasKey, IsTruncated, in_key, in_varint, in_eight, in_length, in_payload, in_four, IsTooLong, as_key, as_varint, as_length, IsGroup, IsNoField, IsWrongRecord, IsFirst}
 use Rattle.proto_wire.specs.Readings.{piece, is_field, fixed_in, payload_in, value_in, record_in}
 use Rattle.proto_wire.proofs.VarintReadings.{varint_found, open_found, long_found, VarintRead, varint_read, varint_bytes}
 
@@ -69,7 +69,7 @@ value_found Four kind size content payload rest field at body here h e =
     rw (h.0, h.1, h.3) (fixed_found 4 Four field at body here content rest h.2 same)
 
 -- a record is found, whatever follows it
-pub record_found : (at : ℕ) (bytes rest : List ℕ) (p : Piece) → IsRecord at bytes p → record_in at (bytes ++ rest) ≡ Ok (p, rest)
+pub record_found : (at : ℕ) (bytes rest : List ℕ) (p : PayloadRecord) → IsRecord at bytes p → record_in at (bytes ++ rest) ≡ Ok (p, rest)
 record_found at bytes rest p r =
     let whole : bytes ++ rest ≡ r.key ++ ((r.size ++ r.content) ++ rest) = ap (λ (bs : List ℕ). bs ++ rest) r.form ∙ append_assoc r.key (r.size ++ r.content) rest in
     let here : p.wire.body ≡ (at + length r.key) + length r.size = omega (arith, r.at_body) in
@@ -78,7 +78,7 @@ record_found at bytes rest p r =
     ∙ ap (λ (place : ℕ). Ok (piece p.wire.field p.wire.value place p.wire.body p.payload, rest)) (sym r.at_key)
 
 -- a record isn't empty
-pub record_bytes : (at : ℕ) (bytes : List ℕ) (p : Piece) → IsRecord at bytes p → 0 < length bytes
+pub record_bytes : (at : ℕ) (bytes : List ℕ) (p : PayloadRecord) → IsRecord at bytes p → 0 < length bytes
 record_bytes at bytes p r = omega (arith, ap length r.form, length-append r.key (r.size ++ r.content), varint_bytes r.key (8 * p.wire.field + r.kind) r.is_key.is_varint)
 
 has_key_found : (at : ℕ) (bytes rest : List ℕ) (kind : ℕ) → (k : HasKey bytes kind rest) → record_in at bytes ≡ value_in kind k.field at (at + length k.key) rest
@@ -267,14 +267,14 @@ unfolding record_in
 record_read at bytes = behind_key at bytes (varint_in 10 at bytes) (varint_read at bytes)
 
 -- the function gives exactly what stands in front
-pub first_iff : (at : ℕ) (bytes : List ℕ) (o : Result (Piece × List ℕ) WireFault) → (record_in at bytes ≡ o) ↔ IsFirst at bytes o
+pub first_iff : (at : ℕ) (bytes : List ℕ) (o : Result (PayloadRecord × List ℕ) WireFault) → (record_in at bytes ≡ o) ↔ IsFirst at bytes o
 first_iff at bytes o = (λ e. subst (IsFirst at bytes) e (record_read at bytes), first_found at bytes o)
   where
-    first_found : (at : ℕ) (bytes : List ℕ) (o : Result (Piece × List ℕ) WireFault) → IsFirst at bytes o → record_in at bytes ≡ o
+    first_found : (at : ℕ) (bytes : List ℕ) (o : Result (PayloadRecord × List ℕ) WireFault) → IsFirst at bytes o → record_in at bytes ≡ o
     first_found at bytes (Ok x) h = ap (record_in at) h.1 ∙ record_found at h.0 x.1 x.0 h.2
     first_found at bytes (Err fault) h = wrong_found at bytes fault h
 
 -- an answer that the function gives is what stands in front
-pub first_told : {X : Type 0} (view : X → Piece × List ℕ) (at : ℕ) (bytes : List ℕ) (result : Result X WireFault) → Gives view result (record_in at bytes) → Shows view result (IsFirst at bytes)
+pub first_told : {X : Type 0} (view : X → PayloadRecord × List ℕ) (at : ℕ) (bytes : List ℕ) (result : Result X WireFault) → Gives view result (record_in at bytes) → Shows view result (IsFirst at bytes)
 first_told view at bytes (Ok x) e = (first_iff at bytes (Ok (view x))).0 e
 first_told view at bytes (Err fault) e = (first_iff at bytes (Err fault)).0 e

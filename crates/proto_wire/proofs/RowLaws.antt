@@ -2,13 +2,13 @@
 use Rattle.std.proofs.Common.{◌≡◌, ℕ, ◌+◌, ◌-◌, ◌<◌, List, [], ◌∷◌, ◌++◌, length, Ok, Err, refl, sym, ap, ◌∙◌, subst, append_assoc, arith}
 use Rattle.std.proofs.lemmas.List.{append-nil, length-append}
 use Rattle.proto_wire.specs.declared.fault.WireFault.{WireFault}
-use Rattle.proto_wire.specs.Records.{Piece, IsRecord, AreRecords, IsFirst, IsWrongRecord, IsStopped, IsSplit}
+use Rattle.proto_wire.specs.Records.{PayloadRecord, IsRecord, AreRecords, IsFirst, IsWrongRecord, IsStopped, IsSplit}
 
 pub IsSplit-start : (start : ℕ) (bytes : List ℕ) → IsSplit start bytes [] start bytes
 IsSplit-start start bytes = record { good = []; form = refl; are_records = refl; here = omega arith }
 
 -- records, and one more
-AreRecords-push : (at : ℕ) (good first : List ℕ) (front : List Piece) (p : Piece) → AreRecords at good front → IsRecord (at + length good) first p → AreRecords at (good ++ first) (front ++ p ∷ [])
+AreRecords-push : (at : ℕ) (good first : List ℕ) (front : List PayloadRecord) (p : PayloadRecord) → AreRecords at good front → IsRecord (at + length good) first p → AreRecords at (good ++ first) (front ++ p ∷ [])
 AreRecords-push at good first [] p h r =
     let place : at + length good ≡ at = omega (arith, ap length h) in
     (first, [], ap (λ (bs : List ℕ). bs ++ first) h ∙ sym (append-nil first), subst (λ (here : ℕ). IsRecord here first p) place r, refl)
@@ -21,7 +21,7 @@ AreRecords-push at good first (q ∷ front) p h r =
       AreRecords-push (at + length h.0) h.1 first front p h.4 (subst (λ (here : ℕ). IsRecord here first p) place r),
     )
 
-pub IsSplit-step : (start : ℕ) (bytes : List ℕ) (front : List Piece) (at : ℕ) (rest : List ℕ) (p : Piece) (after : List ℕ) → IsSplit start bytes front at rest → IsFirst at rest (Ok (p, after))
+pub IsSplit-step : (start : ℕ) (bytes : List ℕ) (front : List PayloadRecord) (at : ℕ) (rest : List ℕ) (p : PayloadRecord) (after : List ℕ) → IsSplit start bytes front at rest → IsFirst at rest (Ok (p, after))
     → IsSplit start bytes (front ++ p ∷ []) (at + (length rest - length after)) after
 IsSplit-step start bytes front at rest p after so_far h = record {
   good = so_far.good ++ h.0;
@@ -30,7 +30,7 @@ IsSplit-step start bytes front at rest p after so_far h = record {
   here = omega (arith, so_far.here, ap length h.1, length-append h.0 after, length-append so_far.good h.0);
 }
 
-pub IsSplit-fault : (start : ℕ) (bytes : List ℕ) (front : List Piece) (at : ℕ) (rest : List ℕ) (fault : WireFault) → IsSplit start bytes front at rest → 0 < length rest → IsFirst at rest (Err fault) → IsStopped start bytes front fault
+pub IsSplit-fault : (start : ℕ) (bytes : List ℕ) (front : List PayloadRecord) (at : ℕ) (rest : List ℕ) (fault : WireFault) → IsSplit start bytes front at rest → 0 < length rest → IsFirst at rest (Err fault) → IsStopped start bytes front fault
 IsSplit-fault start bytes front at rest fault so_far some wrong = record {
   good = so_far.good;
   rest = rest;
@@ -44,7 +44,7 @@ no_bytes : (bytes : List ℕ) → length bytes ≡ 0 → bytes ≡ []
 no_bytes [] e = refl
 no_bytes (b ∷ bytes) e = absurd (omega arith)
 
-pub IsSplit-end : (start : ℕ) (bytes : List ℕ) (front : List Piece) (at : ℕ) (rest : List ℕ) → IsSplit start bytes front at rest → length rest ≡ 0 → AreRecords start bytes front
+pub IsSplit-end : (start : ℕ) (bytes : List ℕ) (front : List PayloadRecord) (at : ℕ) (rest : List ℕ) → IsSplit start bytes front at rest → length rest ≡ 0 → AreRecords start bytes front
 IsSplit-end start bytes front at rest so_far none =
     let whole : bytes ≡ so_far.good = so_far.form ∙ ap (λ (bs : List ℕ). so_far.good ++ bs) (no_bytes rest none) ∙ append-nil so_far.good in
     subst (λ (bs : List ℕ). AreRecords start bs front) (sym whole) so_far.are_records

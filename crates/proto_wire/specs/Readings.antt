@@ -8,10 +8,10 @@ use Rattle.proto_wire.specs.declared.record.WireRecord.{WireRecord}
 use Rattle.proto_wire.specs.declared.record.WireValue.{WireValue}
 use Rattle.proto_wire.specs.declared.record.WireValue.TheVariants.{Varint, Eight, Bytes, Four}
 use Rattle.proto_wire.specs.Faults.{◌>>=◌}
-use Rattle.proto_wire.specs.Records.{Piece}
+use Rattle.proto_wire.specs.Records.{PayloadRecord}
 use Rattle.proto_wire.specs.Varints.{varint_in}
 
-abbrev pub piece : ℕ → WireValue → ℕ → ℕ → List ℕ → Piece
+abbrev pub piece : ℕ → WireValue → ℕ → ℕ → List ℕ → PayloadRecord
 piece field value at body payload = record { wire = record { field = field; value = value; at = at; body = body }; payload = payload }
 
 -- a field number
@@ -19,23 +19,23 @@ abbrev pub is_field : ℕ → Bool
 is_field n = nat_lt 0 n && nat_le n 536870911
 
 -- a number of bytes without a length of their own, and what follows them
-abbrev pub fixed_in : ℕ → WireValue → ℕ → ℕ → ℕ → List ℕ → Result (Piece × List ℕ) WireFault
+abbrev pub fixed_in : ℕ → WireValue → ℕ → ℕ → ℕ → List ℕ → Result (PayloadRecord × List ℕ) WireFault
 fixed_in count value field at body bytes = if nat_lt (length bytes) count then Err (Truncated at) else Ok (piece field value at body [], drop count bytes)
 
 -- a varint, and what follows it
-abbrev pub varint_value_in : ℕ → ℕ → ℕ → List ℕ → Result (Piece × List ℕ) WireFault
+abbrev pub varint_value_in : ℕ → ℕ → ℕ → List ℕ → Result (PayloadRecord × List ℕ) WireFault
 varint_value_in field at body bytes = do
   n ← varint_in 10 at bytes
   Ok (piece field (Varint n.0) at body [], n.1)
 
 -- a length and so many bytes, and what follows them
-abbrev pub payload_in : ℕ → ℕ → ℕ → List ℕ → Result (Piece × List ℕ) WireFault
+abbrev pub payload_in : ℕ → ℕ → ℕ → List ℕ → Result (PayloadRecord × List ℕ) WireFault
 payload_in field at body bytes = do
   n ← varint_in 10 at bytes
   if nat_lt (length n.1) n.0 then Err (Truncated at) else Ok (piece field (Bytes n.0) at (body + (length bytes - length n.1)) (take n.0 n.1), drop n.0 n.1)
 
 -- the value of this wire type at the front, and what follows it
-unfoldable pub value_in : ℕ → ℕ → ℕ → ℕ → List ℕ → Result (Piece × List ℕ) WireFault
+unfoldable pub value_in : ℕ → ℕ → ℕ → ℕ → List ℕ → Result (PayloadRecord × List ℕ) WireFault
 value_in kind field at body bytes =
     if kind == 0 then varint_value_in field at body bytes
     else (if kind == 1 then fixed_in 8 Eight field at body bytes
@@ -44,26 +44,26 @@ value_in kind field at body bytes =
     else Err (Group at))))
 
 -- the record at the front, with the offset of its key, and what follows it
-unfoldable pub record_in : ℕ → List ℕ → Result (Piece × List ℕ) WireFault
+unfoldable pub record_in : ℕ → List ℕ → Result (PayloadRecord × List ℕ) WireFault
 record_in at bytes = do
   key ← varint_in 10 at bytes
   if is_field (key.0 / 8) then value_in (key.0 % 8) (key.0 / 8) at (at + (length bytes - length key.1)) key.1 else Err (ZeroField at)
 
 -- a record and the others, or its fault
-abbrev pub followed : Result (Piece × List ℕ) WireFault → (List ℕ → List Piece × Option WireFault) → List Piece × Option WireFault
+abbrev pub followed : Result (PayloadRecord × List ℕ) WireFault → (List ℕ → List PayloadRecord × Option WireFault) → List PayloadRecord × Option WireFault
 followed (Ok first) others = (first.0 ∷ (others first.1).0, (others first.1).1)
 followed (Err fault) others = ([], Some fault)
 
 -- the records from the left, at most so many, and the fault that stops them
-unfoldable pub pieces_from : ℕ → ℕ → List ℕ → List Piece × Option WireFault
-pieces_from most at [] = ([], None)
-pieces_from zero at (b ∷ bytes) = ([], None)
-pieces_from (suc most) at (b ∷ bytes) = followed (record_in at (b ∷ bytes)) (λ rest. pieces_from most (at + (suc (length bytes) - length rest)) rest)
+unfoldable pub payload_records_from : ℕ → ℕ → List ℕ → List PayloadRecord × Option WireFault
+payload_records_from most at [] = ([], None)
+payload_records_from zero at (b ∷ bytes) = ([], None)
+payload_records_from (suc most) at (b ∷ bytes) = followed (record_in at (b ∷ bytes)) (λ rest. payload_records_from most (at + (suc (length bytes) - length rest)) rest)
 
 -- the records from the left, the first at this offset, and the fault that stops them
-unfoldable pub pieces_of : ℕ → List ℕ → List Piece × Option WireFault
-pieces_of at bytes = pieces_from (length bytes) at bytes
+unfoldable pub payload_records : ℕ → List ℕ → List PayloadRecord × Option WireFault
+payload_records at bytes = payload_records_from (length bytes) at bytes
 
 -- a record of the code, with its bytes, and what follows it
-abbrev pub piece_view : WireRecord × Bor (List ℕ) × Bor (List ℕ) → Piece × List ℕ
-piece_view x = (record { wire = x.0; payload = x.1.now }, x.2.now)
+abbrev pub payload_record_view : WireRecord × Bor (List ℕ) × Bor (List ℕ) → PayloadRecord × List ℕ
+payload_record_view x = (record { wire = x.0; payload = x.1.now }, x.2.now)

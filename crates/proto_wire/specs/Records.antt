@@ -8,7 +8,7 @@ use Rattle.proto_wire.specs.declared.record.WireValue.TheVariants.{Varint, Eight
 use Rattle.proto_wire.specs.Varints.{IsVarint, EndsInside, IsLong}
 
 -- a record, with its bytes where it has a length
-pub record Piece : Type 0 where
+pub record PayloadRecord : Type 0 where
   pub wire : WireRecord
   pub payload : List ℕ
 
@@ -32,7 +32,7 @@ IsValue (Bytes count) kind size content payload = (kind ≡ 2) × IsVarint size 
 IsValue Four kind size content payload = (kind ≡ 5) × (size ≡ []) × (length content ≡ 4) × (payload ≡ [])
 
 -- the bytes, the first of which has this offset, are this record: a key, a length where the wire type has one, and the rest
-pub record IsRecord (at : ℕ) (bytes : List ℕ) (p : Piece) : Type 0 where
+pub record IsRecord (at : ℕ) (bytes : List ℕ) (p : PayloadRecord) : Type 0 where
   pub kind : ℕ
   pub key : List ℕ
   pub size : List ℕ
@@ -44,13 +44,13 @@ pub record IsRecord (at : ℕ) (bytes : List ℕ) (p : Piece) : Type 0 where
   pub at_body : p.wire.body ≡ at + (length key + length size)
 
 -- the bytes, the first of which has this offset, are these records in a row
-abbrev pub AreRecords : ℕ → List ℕ → List Piece → Type 0
+abbrev pub AreRecords : ℕ → List ℕ → List PayloadRecord → Type 0
 AreRecords at bytes [] = bytes ≡ []
 AreRecords at bytes (p ∷ ps) = (first rest : List ℕ) × (bytes ≡ first ++ rest) × IsRecord at first p × AreRecords (at + length first) rest ps
 
 -- the bytes are the records of this list in a row
 abbrev pub Records : List ℕ → List WireRecord → Type 0
-Records bytes list = (pieces : List Piece) × AreRecords 0 bytes pieces × (list ≡ map (λ p. p.wire) pieces)
+Records bytes list = (pieces : List PayloadRecord) × AreRecords 0 bytes pieces × (list ≡ map (λ p. p.wire) pieces)
 
 -- a key of this wire type stands in front of the rest
 pub record HasKey (bytes : List ℕ) (kind : ℕ) (rest : List ℕ) : Type 0 where
@@ -103,12 +103,12 @@ IsWrongRecord at bytes Device = ⊥
 IsWrongRecord at bytes Memory = ⊥
 
 -- what stands in front of bytes: a record and what follows it, or the fault of a record that is wrong
-abbrev pub IsFirst : ℕ → List ℕ → Result (Piece × List ℕ) WireFault → Type 0
+abbrev pub IsFirst : ℕ → List ℕ → Result (PayloadRecord × List ℕ) WireFault → Type 0
 IsFirst at bytes (Ok x) = (first : List ℕ) × (bytes ≡ first ++ x.1) × IsRecord at first x.0
 IsFirst at bytes (Err fault) = IsWrongRecord at bytes fault
 
 -- these good records stand in front, and the one behind them has this fault
-pub record IsStopped (at : ℕ) (bytes : List ℕ) (before : List Piece) (fault : WireFault) : Type 0 where
+pub record IsStopped (at : ℕ) (bytes : List ℕ) (before : List PayloadRecord) (fault : WireFault) : Type 0 where
   pub good : List ℕ
   pub rest : List ℕ
   pub form : bytes ≡ good ++ rest
@@ -117,7 +117,7 @@ pub record IsStopped (at : ℕ) (bytes : List ℕ) (before : List Piece) (fault 
   pub is_wrong : IsWrongRecord (at + length good) rest fault
 
 -- these good records stand in front, and then this rest, whose first byte has this offset
-pub record IsSplit (start : ℕ) (bytes : List ℕ) (front : List Piece) (at : ℕ) (rest : List ℕ) : Type 0 where
+pub record IsSplit (start : ℕ) (bytes : List ℕ) (front : List PayloadRecord) (at : ℕ) (rest : List ℕ) : Type 0 where
   pub good : List ℕ
   pub form : bytes ≡ good ++ rest
   pub are_records : AreRecords start good front
@@ -126,4 +126,4 @@ pub record IsSplit (start : ℕ) (bytes : List ℕ) (front : List Piece) (at : �
 -- what bytes are: records in a row, or the fault of the first record that is wrong
 abbrev pub IsOutcome : List ℕ → Result (List WireRecord) WireFault → Type 0
 IsOutcome bytes (Ok list) = Records bytes list
-IsOutcome bytes (Err fault) = (before : List Piece) × IsStopped 0 bytes before fault
+IsOutcome bytes (Err fault) = (before : List PayloadRecord) × IsStopped 0 bytes before fault

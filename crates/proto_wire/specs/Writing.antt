@@ -4,7 +4,7 @@ use Rattle.std.specs.List.{flat_map}
 use Rattle.std.specs.Int.{w64, cast_unsigned}
 use Rattle.proto_wire.specs.declared.record.WireValue.TheVariants.{Varint, Bytes}
 use Rattle.proto_wire.specs.Varints.{varint}
-use Rattle.proto_wire.specs.Records.{Piece, IsField}
+use Rattle.proto_wire.specs.Records.{PayloadRecord, IsField}
 use Rattle.proto_wire.specs.Readings.{piece}
 
 -- what a record carries
@@ -53,30 +53,30 @@ pub record FieldFits (f : Field) : Type 0 where
   pub is_field : IsField f.number
   pub content : ContentFits f.content
 
-abbrev pub placed : ℕ → ℕ → Content → Piece
+abbrev pub placed : ℕ → ℕ → Content → PayloadRecord
 placed at k (Number n) = piece k (Varint n) at (at + length (key_of k 0)) []
 placed at k (Payload bytes) = piece k (Bytes (length bytes)) at (at + length (head_of k (length bytes))) bytes
 
 -- the record of the field, with its key at this offset
-abbrev pub piece_at : ℕ → Field → Piece
+abbrev pub piece_at : ℕ → Field → PayloadRecord
 piece_at at f = placed at f.number f.content
 
 -- the records of these fields in a row, the first at this offset
-abbrev pub pieces_at : ℕ → List Field → List Piece
+abbrev pub pieces_at : ℕ → List Field → List PayloadRecord
 pieces_at at [] = []
 pieces_at at (f ∷ fs) = piece_at at f ∷ pieces_at (at + length (spelled f)) fs
 
 -- the record carries the field, wherever it stands
-abbrev pub CarriesContent : Piece → Content → Type 0
+abbrev pub CarriesContent : PayloadRecord → Content → Type 0
 CarriesContent p (Number n) = p.wire.value ≡ Varint n
 CarriesContent p (Payload bytes) = (p.wire.value ≡ Bytes (length bytes)) × (p.payload ≡ bytes)
 
-pub record Carries (p : Piece) (f : Field) : Type 0 where
+pub record Carries (p : PayloadRecord) (f : Field) : Type 0 where
   pub number : p.wire.field ≡ f.number
   pub content : CarriesContent p f.content
 
 -- each record carries its field
-abbrev pub CarryAll : List Piece → List Field → Type 0
+abbrev pub CarryAll : List PayloadRecord → List Field → Type 0
 CarryAll [] [] = Unit {0}
 CarryAll [] (f ∷ fs) = ⊥
 CarryAll (p ∷ ps) [] = ⊥

@@ -5,7 +5,7 @@ ghost use Rattle.std.specs.Result.{result_err, result_unwrap_or};
 ghost use Rattle.std.specs.String.{string_bytes};
 ghost use Rattle.proto_wire.specs.Faults.{Stops, Tells};
 ghost use Rattle.proto_wire.specs.Packed.{int32, packed, IsPackedOutcome};
-ghost use Rattle.proto_wire.specs.Messages.{piece_of, latest, if_field, field_fault, number_given, numbers_in, numbers_fault, bytes_in, text_fault};
+ghost use Rattle.proto_wire.specs.Messages.{payload_record, latest, if_field, field_fault, number_given, numbers_in, numbers_fault, bytes_in, text_fault};
 
 use crate::fault::WireFault;
 use crate::record::{WireRecord, WireValue};
@@ -56,9 +56,9 @@ pub fn take_numbers(
     wire: &WireRecord,
     payload: &[u8],
 ) -> Result<(), WireFault>
-    ensures clean { let p = piece_of wire.now payload.now in OnOk result (field_fault field wire.now (numbers_fault p) ≡ None) }
-    ensures numbers { let p = piece_of wire.now payload.now in OnOk result (numbers.new.items ≡ numbers.old.items ++ if_field field wire.now (numbers_in p)) }
-    ensures err { let p = piece_of wire.now payload.now in IfErr result (λ e. Stops e (field_fault field wire.now (numbers_fault p))) }
+    ensures clean { let p = payload_record wire.now payload.now in OnOk result (field_fault field wire.now (numbers_fault p) ≡ None) }
+    ensures numbers { let p = payload_record wire.now payload.now in OnOk result (numbers.new.items ≡ numbers.old.items ++ if_field field wire.now (numbers_in p)) }
+    ensures err { let p = payload_record wire.now payload.now in IfErr result (λ e. Stops e (field_fault field wire.now (numbers_fault p))) }
 {
     if wire.field != field {
         return Ok(());
@@ -96,9 +96,9 @@ pub fn take_text(
     wire: &WireRecord,
     payload: &[u8],
 ) -> Result<(), WireFault>
-    ensures clean { let p = piece_of wire.now payload.now in OnOk result (field_fault field wire.now (text_fault p) ≡ None) }
-    ensures text { let p = piece_of wire.now payload.now in OnOk result (string_bytes text.new ≡ latest (string_bytes text.old) (if_field field wire.now (bytes_in p))) }
-    ensures err { let p = piece_of wire.now payload.now in IfErr result (λ e. Stops e (field_fault field wire.now (text_fault p))) }
+    ensures clean { let p = payload_record wire.now payload.now in OnOk result (field_fault field wire.now (text_fault p) ≡ None) }
+    ensures text { let p = payload_record wire.now payload.now in OnOk result (string_bytes text.new ≡ latest (string_bytes text.old) (if_field field wire.now (bytes_in p))) }
+    ensures err { let p = payload_record wire.now payload.now in IfErr result (λ e. Stops e (field_fault field wire.now (text_fault p))) }
     ensures kept { OnErr result (string_bytes text.new ≡ string_bytes text.old) }
 {
     if wire.field != field {
@@ -123,9 +123,9 @@ pub fn take_texts(
     wire: &WireRecord,
     payload: &[u8],
 ) -> Result<(), WireFault>
-    ensures clean { let p = piece_of wire.now payload.now in OnOk result (field_fault field wire.now (text_fault p) ≡ None) }
-    ensures texts { let p = piece_of wire.now payload.now in OnOk result (map string_bytes texts.new.items ≡ map string_bytes texts.old.items ++ if_field field wire.now (bytes_in p)) }
-    ensures err { let p = piece_of wire.now payload.now in IfErr result (λ e. Stops e (field_fault field wire.now (text_fault p))) }
+    ensures clean { let p = payload_record wire.now payload.now in OnOk result (field_fault field wire.now (text_fault p) ≡ None) }
+    ensures texts { let p = payload_record wire.now payload.now in OnOk result (map string_bytes texts.new.items ≡ map string_bytes texts.old.items ++ if_field field wire.now (bytes_in p)) }
+    ensures err { let p = payload_record wire.now payload.now in IfErr result (λ e. Stops e (field_fault field wire.now (text_fault p))) }
     ensures kept { OnErr result (texts.new.items ≡ texts.old.items) }
 {
     if wire.field != field {

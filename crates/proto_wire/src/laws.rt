@@ -5,9 +5,9 @@ ghost use Rattle.std.specs.List.{AllByRecursion};
 ghost use Rattle.proto_wire.specs.declared.fault.WireFault.{WireFault};
 ghost use Rattle.proto_wire.specs.declared.record.WireRecord.{WireRecord};
 ghost use Rattle.proto_wire.specs.Varints.{IsVarint, varint};
-ghost use Rattle.proto_wire.specs.Records.{AreRecords, IsFirst, IsOutcome, IsRecord, IsStopped, Piece};
+ghost use Rattle.proto_wire.specs.Records.{AreRecords, IsFirst, IsOutcome, IsRecord, IsStopped, PayloadRecord};
 ghost use Rattle.proto_wire.specs.Packed.{ArePacked, IsPackedOutcome, packed};
-ghost use Rattle.proto_wire.specs.Readings.{pieces_of, record_in};
+ghost use Rattle.proto_wire.specs.Readings.{payload_records, record_in};
 ghost use Rattle.proto_wire.specs.Messages.{bytes_in, each_of, fault_of, latest, number_in, numbers_in, IsClean, IsFirstFault};
 ghost use Rattle.proto_wire.specs.Writing.{CarryAll, Field, FieldFits, number_fields, packed_fields, packing, payload_fields, piece_at, pieces_at, spelled, spelling, text_fields};
 
@@ -45,17 +45,17 @@ pub fn some_packed_outcome()
 /// What the functions say that contracts of messages cite: the record in front, the records from the left with the fault that
 /// stops them, and the numbers of a payload.
 pub fn readings()
-    ensures first { (at : ℕ) (bytes : List ℕ) (o : Result (Piece × List ℕ) WireFault) → (record_in at bytes ≡ o) ↔ IsFirst at bytes o }
-    ensures records { (at : ℕ) (bytes : List ℕ) (pieces : List Piece) → (pieces_of at bytes ≡ (pieces, None)) ↔ AreRecords at bytes pieces }
-    ensures stopped { (at : ℕ) (bytes : List ℕ) (before : List Piece) (fault : WireFault) → (pieces_of at bytes ≡ (before, Some fault)) ↔ IsStopped at bytes before fault }
+    ensures first { (at : ℕ) (bytes : List ℕ) (o : Result (PayloadRecord × List ℕ) WireFault) → (record_in at bytes ≡ o) ↔ IsFirst at bytes o }
+    ensures records { (at : ℕ) (bytes : List ℕ) (pieces : List PayloadRecord) → (payload_records at bytes ≡ (pieces, None)) ↔ AreRecords at bytes pieces }
+    ensures stopped { (at : ℕ) (bytes : List ℕ) (before : List PayloadRecord) (fault : WireFault) → (payload_records at bytes ≡ (before, Some fault)) ↔ IsStopped at bytes before fault }
     ensures numbers { (at : ℕ) (payload : List ℕ) (o : Result (List ℤ) WireFault) → (packed at payload ≡ o) ↔ IsPackedOutcome at payload o }
 {}
 
 /// What contracts of messages say of faults, by a function, of whatever is looked for inside the records: there is none exactly
 /// where the bytes are records without one, and this one exactly where it is the first, behind records without one.
 pub fn faults_of_messages()
-    ensures none { (inside : Piece → Option WireFault) (start : ℕ) (bytes : List ℕ) → (fault_of inside start bytes ≡ None) ↔ ((pieces : List Piece) × AreRecords start bytes pieces × IsClean inside pieces) }
-    ensures first { (inside : Piece → Option WireFault) (start : ℕ) (bytes : List ℕ) (fault : WireFault) → (fault_of inside start bytes ≡ Some fault) ↔ IsFirstFault inside start bytes fault }
+    ensures none { (inside : PayloadRecord → Option WireFault) (start : ℕ) (bytes : List ℕ) → (fault_of inside start bytes ≡ None) ↔ ((pieces : List PayloadRecord) × AreRecords start bytes pieces × IsClean inside pieces) }
+    ensures first { (inside : PayloadRecord → Option WireFault) (start : ℕ) (bytes : List ℕ) (fault : WireFault) → (fault_of inside start bytes ≡ Some fault) ↔ IsFirstFault inside start bytes fault }
 {}
 
 /// What is written of a field is its record and nothing else, whatever follows; so are fields in a row, and numbers that are
@@ -70,8 +70,8 @@ pub fn what_is_written_is_read()
 
 /// Records that carry what was written of a field of a message give it again.
 pub fn what_is_written_is_given()
-    ensures number { (k : ℕ) (z : ℤ) (ps : List Piece) → FitsSigned w32 z → CarryAll ps (number_fields k z) → latest (pos 0) (each_of k number_in ps) ≡ z }
-    ensures text { (k : ℕ) (text : List ℕ) (ps : List Piece) → CarryAll ps (text_fields k text) → latest [] (each_of k bytes_in ps) ≡ text }
-    ensures numbers { (k : ℕ) (zs : List ℤ) (ps : List Piece) → AllByRecursion (FitsSigned w32) zs → CarryAll ps (packed_fields k zs) → each_of k numbers_in ps ≡ zs }
-    ensures payloads { (k : ℕ) (payloads : List (List ℕ)) (ps : List Piece) → CarryAll ps (payload_fields k payloads) → each_of k bytes_in ps ≡ payloads }
+    ensures number { (k : ℕ) (z : ℤ) (ps : List PayloadRecord) → FitsSigned w32 z → CarryAll ps (number_fields k z) → latest (pos 0) (each_of k number_in ps) ≡ z }
+    ensures text { (k : ℕ) (text : List ℕ) (ps : List PayloadRecord) → CarryAll ps (text_fields k text) → latest [] (each_of k bytes_in ps) ≡ text }
+    ensures numbers { (k : ℕ) (zs : List ℤ) (ps : List PayloadRecord) → AllByRecursion (FitsSigned w32) zs → CarryAll ps (packed_fields k zs) → each_of k numbers_in ps ≡ zs }
+    ensures payloads { (k : ℕ) (payloads : List (List ℕ)) (ps : List PayloadRecord) → CarryAll ps (payload_fields k payloads) → each_of k bytes_in ps ≡ payloads }
 {}

@@ -2,9 +2,9 @@
 ghost use Rattle.std.specs.Prelude.{◌≡◌, ◌<◌, ◌+◌, ◌^◌, ◌++◌, ◌∷◌, [], List, Option, None, length, OnOk, OnErr, IfOk, IfErr};
 ghost use Rattle.proto_wire.specs.declared.fault.WireFault.{WireFault};
 ghost use Rattle.proto_wire.specs.Faults.{Stops};
-ghost use Rattle.proto_wire.specs.Records.{Piece};
-ghost use Rattle.proto_wire.specs.Readings.{pieces_of};
-ghost use Rattle.proto_wire.specs.Messages.{AddsMessages, IsMerged, if_field, field_fault, fault_of, message_fault, records_inside, piece_of};
+ghost use Rattle.proto_wire.specs.Records.{PayloadRecord};
+ghost use Rattle.proto_wire.specs.Readings.{payload_records};
+ghost use Rattle.proto_wire.specs.Messages.{AddsMessages, IsMerged, if_field, field_fault, fault_of, message_fault, records_inside, payload_record};
 
 use crate::fault::WireFault;
 use crate::record::{WireRecord, WireValue, record_at_front};
@@ -13,10 +13,10 @@ use std::alloc::Global;
 /// A message that takes in one record after the other; the records of bytes that are merged into it follow those that it has.
 pub trait Message {
     /// The message is what these records say.
-    ghost means: { Self → List Piece → Type 0 };
+    ghost means: { Self → List PayloadRecord → Type 0 };
 
     /// The first fault inside a record.
-    ghost fault_in: { Piece → Option WireFault };
+    ghost fault_in: { PayloadRecord → Option WireFault };
 
     /// A message of no records.
     fn blank(alloc: Global) -> Self
@@ -26,9 +26,9 @@ pub trait Message {
     /// no use.
     fn take(&mut self, alloc: Global, wire: &WireRecord, payload: &[u8]) -> Result<(), WireFault>
         requires { wire.now.body + length payload.now < 2 ^ 64 }
-        ensures clean { OnOk result (fault_in (piece_of wire.now payload.now) ≡ None) }
-        ensures means { OnOk result ((front : List Piece) → means self.old front → means self.new (front ++ piece_of wire.now payload.now ∷ [])) }
-        ensures err { IfErr result (λ e. Stops e (fault_in (piece_of wire.now payload.now))) };
+        ensures clean { OnOk result (fault_in (payload_record wire.now payload.now) ≡ None) }
+        ensures means { OnOk result ((front : List PayloadRecord) → means self.old front → means self.new (front ++ payload_record wire.now payload.now ∷ [])) }
+        ensures err { IfErr result (λ e. Stops e (fault_in (payload_record wire.now payload.now))) };
 }
 
 /// Takes in all records of the bytes, the first of which has this offset in the whole input. Refuses with the first fault of
@@ -41,7 +41,7 @@ fn read_into<M: Message>(
 ) -> Result<(), WireFault>
     requires { start + length bytes.now < 2 ^ 64 }
     ensures clean { OnOk result (fault_of M.fault_in start bytes.now ≡ None) }
-    ensures means { OnOk result ((front : List Piece) → M.means message.old front → M.means message.new (front ++ (pieces_of start bytes.now).0)) }
+    ensures means { OnOk result ((front : List PayloadRecord) → M.means message.old front → M.means message.new (front ++ (payload_records start bytes.now).0)) }
     ensures err { IfErr result (λ e. Stops e (fault_of M.fault_in start bytes.now)) }
 {
     let mut at = start;
@@ -64,7 +64,7 @@ pub fn read_message<M: Message + Drop>(
 ) -> Result<M, WireFault>
     requires { start + length bytes.now < 2 ^ 64 }
     ensures clean { OnOk result (fault_of M.fault_in start bytes.now ≡ None) }
-    ensures means { IfOk result (λ m. M.means m (pieces_of start bytes.now).0) }
+    ensures means { IfOk result (λ m. M.means m (payload_records start bytes.now).0) }
     ensures err { IfErr result (λ e. Stops e (fault_of M.fault_in start bytes.now)) }
 {
     let mut message = M::blank(alloc);
@@ -83,9 +83,9 @@ pub fn take_messages<M: Message + Drop>(
     payload: &[u8],
 ) -> Result<(), WireFault>
     requires { wire.now.body + length payload.now < 2 ^ 64 }
-    ensures clean { let p = piece_of wire.now payload.now in OnOk result (field_fault field wire.now (message_fault M.fault_in p) ≡ None) }
-    ensures means { let p = piece_of wire.now payload.now in OnOk result (AddsMessages M.means (if_field field wire.now (records_inside p)) messages.old.items messages.new.items) }
-    ensures err { let p = piece_of wire.now payload.now in IfErr result (λ e. Stops e (field_fault field wire.now (message_fault M.fault_in p))) }
+    ensures clean { let p = payload_record wire.now payload.now in OnOk result (field_fault field wire.now (message_fault M.fault_in p) ≡ None) }
+    ensures means { let p = payload_record wire.now payload.now in OnOk result (AddsMessages M.means (if_field field wire.now (records_inside p)) messages.old.items messages.new.items) }
+    ensures err { let p = payload_record wire.now payload.now in IfErr result (λ e. Stops e (field_fault field wire.now (message_fault M.fault_in p))) }
     ensures kept { OnErr result (messages.new.items ≡ messages.old.items) }
 {
     if wire.field != field {
@@ -110,9 +110,9 @@ pub fn merge_message<M: Message + Drop>(
     payload: &[u8],
 ) -> Result<(), WireFault>
     requires { wire.now.body + length payload.now < 2 ^ 64 }
-    ensures clean { let p = piece_of wire.now payload.now in OnOk result (field_fault field wire.now (message_fault M.fault_in p) ≡ None) }
-    ensures means { let p = piece_of wire.now payload.now in OnOk result ((front : List (List Piece)) → IsMerged M.means message.old front → IsMerged M.means message.new (front ++ if_field field wire.now (records_inside p))) }
-    ensures err { let p = piece_of wire.now payload.now in IfErr result (λ e. Stops e (field_fault field wire.now (message_fault M.fault_in p))) }
+    ensures clean { let p = payload_record wire.now payload.now in OnOk result (field_fault field wire.now (message_fault M.fault_in p) ≡ None) }
+    ensures means { let p = payload_record wire.now payload.now in OnOk result ((front : List (List PayloadRecord)) → IsMerged M.means message.old front → IsMerged M.means message.new (front ++ if_field field wire.now (records_inside p))) }
+    ensures err { let p = payload_record wire.now payload.now in IfErr result (λ e. Stops e (field_fault field wire.now (message_fault M.fault_in p))) }
 {
     if wire.field != field {
         return Ok(());

@@ -4,7 +4,7 @@ ghost use Rattle.proto_wire.specs.declared.record.WireRecord.{WireRecord};
 ghost use Rattle.proto_wire.specs.declared.fault.WireFault.{WireFault};
 ghost use Rattle.proto_wire.specs.Faults.{Gives, Shows, Tells};
 ghost use Rattle.proto_wire.specs.Records.{IsFirst, IsOutcome};
-ghost use Rattle.proto_wire.specs.Readings.{piece_view, fixed_in, payload_in, record_in, value_in};
+ghost use Rattle.proto_wire.specs.Readings.{payload_record_view, fixed_in, payload_in, record_in, value_in};
 
 use crate::fault::WireFault;
 use crate::varint::varint_at_front;
@@ -68,7 +68,7 @@ fn fixed_at_front(
     count: usize,
     bytes: &[u8],
 ) -> Result<(WireRecord, &[u8], &[u8]), WireFault>
-    ensures value { Gives piece_view result (fixed_in count value key.field key.at key.body bytes.now) }
+    ensures value { Gives payload_record_view result (fixed_in count value key.field key.at key.body bytes.now) }
     ensures shorter { IfOk result (λ x. length x.2.now ≤ length bytes.now) }
     ensures inside { IfOk result (λ x. x.0.body + length x.1.now ≤ key.body) }
 {
@@ -81,7 +81,7 @@ fn fixed_at_front(
 /// A length and so many bytes, and what follows them.
 fn payload_at_front(key: Key, bytes: &[u8]) -> Result<(WireRecord, &[u8], &[u8]), WireFault>
     requires { key.body + length bytes.now < 2 ^ 64 }
-    ensures value { Gives piece_view result (payload_in key.field key.at key.body bytes.now) }
+    ensures value { Gives payload_record_view result (payload_in key.field key.at key.body bytes.now) }
     ensures shorter { IfOk result (λ x. length x.2.now ≤ length bytes.now) }
     ensures inside { IfOk result (λ x. x.0.body + length x.1.now ≤ key.body + length bytes.now) }
 {
@@ -107,7 +107,7 @@ fn value_at_front(
     bytes: &[u8],
 ) -> Result<(WireRecord, &[u8], &[u8]), WireFault>
     requires { key.body + length bytes.now < 2 ^ 64 }
-    ensures value { Gives piece_view result (value_in kind key.field key.at key.body bytes.now) }
+    ensures value { Gives payload_record_view result (value_in kind key.field key.at key.body bytes.now) }
     ensures shorter { IfOk result (λ x. length x.2.now ≤ length bytes.now) }
     ensures inside { IfOk result (λ x. x.0.body + length x.1.now ≤ key.body + length bytes.now) }
 {
@@ -127,7 +127,7 @@ fn value_at_front(
 #[tactic(auto, unfolding(crate::specs::Readings::record_in))]
 fn first_record(at: usize, bytes: &[u8]) -> Result<(WireRecord, &[u8], &[u8]), WireFault>
     requires { at + length bytes.now < 2 ^ 64 }
-    ensures value { Gives piece_view result (record_in at bytes.now) }
+    ensures value { Gives payload_record_view result (record_in at bytes.now) }
     ensures shorter { IfOk result (λ x. length x.2.now < length bytes.now) }
     ensures inside { IfOk result (λ x. x.0.body + length x.1.now ≤ at + length bytes.now) }
 {
@@ -148,7 +148,7 @@ fn first_record(at: usize, bytes: &[u8]) -> Result<(WireRecord, &[u8], &[u8]), W
 pub fn record_at_front(at: usize, bytes: &[u8]) -> Result<(WireRecord, &[u8], &[u8]), WireFault>
     requires { at + length bytes.now < 2 ^ 64 }
     // It is the record that stands in front, with what follows it, or the fault of the one that is wrong.
-    ensures exact { Shows piece_view result (IsFirst at bytes.now) }
+    ensures exact { Shows payload_record_view result (IsFirst at bytes.now) }
     ensures shorter { IfOk result (λ x. length x.2.now < length bytes.now) }
     ensures inside { IfOk result (λ x. x.0.body + length x.1.now ≤ at + length bytes.now) }
 {

@@ -7,8 +7,8 @@ use Rattle.std.specs.List.{AllByRecursion}
 use Rattle.std.specs.Str.{IsUtf8}
 use Rattle.std.proofs.lemmas.List.{length-append}
 use Rattle.proto_wire.specs.declared.fault.WireFault.{WireFault}
-use Rattle.proto_wire.specs.Records.{Piece, IsField}
-use Rattle.proto_wire.specs.Readings.{pieces_of}
+use Rattle.proto_wire.specs.Records.{PayloadRecord, IsField}
+use Rattle.proto_wire.specs.Readings.{payload_records}
 use Rattle.proto_wire.specs.Messages.{fault_of, numbers_fault, text_fault, message_fault}
 use Rattle.proto_wire.specs.Writing.{Content, Number, Payload, Field, payload_field, number_fields, text_fields, packing, packed_fields, payload_fields, spelled, spelling, head_of, ContentFits, FieldFits, pieces_at, Carries, CarryAll}
 use Rattle.proto_wire.proofs.FieldLaws.{text-good}
@@ -37,26 +37,26 @@ abbrev NumberFits : Content → Type 0
 NumberFits (Number n) = n < 2 ^ 64
 NumberFits (Payload bytes) = Unit {0}
 
-pub record IsGood (inside : Piece → Option WireFault) (f : Field) : Type 0 where
+pub record IsGood (inside : PayloadRecord → Option WireFault) (f : Field) : Type 0 where
   pub is_field : IsField f.number
   pub fits : NumberFits f.content
-  pub none : (p : Piece) → Carries p f → inside p ≡ None
+  pub none : (p : PayloadRecord) → Carries p f → inside p ≡ None
 
-abbrev pub AreGood : (Piece → Option WireFault) → List Field → Type 0
+abbrev pub AreGood : (PayloadRecord → Option WireFault) → List Field → Type 0
 AreGood inside fs = AllByRecursion (IsGood inside) fs
 
-pub both : (inside : Piece → Option WireFault) (fs gs : List Field) → AreGood inside fs → AreGood inside gs → AreGood inside (fs ++ gs)
+pub both : (inside : PayloadRecord → Option WireFault) (fs gs : List Field) → AreGood inside fs → AreGood inside gs → AreGood inside (fs ++ gs)
 both inside [] gs h k = k
 both inside (f ∷ fs) gs h k = (h.0, both inside fs gs h.1 k)
 
 -- a fault of a record of this field is all that is looked for in it
-abbrev pub Passes : (Piece → Option WireFault) → ℕ → (Piece → Option WireFault) → Type 0
-Passes inside k fault = (p : Piece) → p.wire.field ≡ k → fault p ≡ None → inside p ≡ None
+abbrev pub Passes : (PayloadRecord → Option WireFault) → ℕ → (PayloadRecord → Option WireFault) → Type 0
+Passes inside k fault = (p : PayloadRecord) → p.wire.field ≡ k → fault p ≡ None → inside p ≡ None
 
 is_field_of : (k : ℕ) → 0 < k → k < 100 → IsField k
 is_field_of k some most = record { some = some; most = omega arith }
 
-pub text_good : (inside : Piece → Option WireFault) (k : ℕ) (t : List ℕ) → 0 < k → k < 100 → IsUtf8 t → Passes inside k text_fault → AreGood inside (text_fields k t)
+pub text_good : (inside : PayloadRecord → Option WireFault) (k : ℕ) (t : List ℕ) → 0 < k → k < 100 → IsUtf8 t → Passes inside k text_fault → AreGood inside (text_fields k t)
 text_good inside k [] some most utf8 passes = tt
 text_good inside k (b ∷ t) some most utf8 passes = (
   record {
@@ -67,7 +67,7 @@ text_good inside k (b ∷ t) some most utf8 passes = (
   tt,
 )
 
-pub texts_good : (inside : Piece → Option WireFault) (k : ℕ) (ts : List (List ℕ)) → 0 < k → k < 100 → AllByRecursion IsUtf8 ts → Passes inside k text_fault → AreGood inside (payload_fields k ts)
+pub texts_good : (inside : PayloadRecord → Option WireFault) (k : ℕ) (ts : List (List ℕ)) → 0 < k → k < 100 → AllByRecursion IsUtf8 ts → Passes inside k text_fault → AreGood inside (payload_fields k ts)
 texts_good inside k [] some most utf8 passes = tt
 texts_good inside k (t ∷ ts) some most utf8 passes = (
   record {
@@ -78,27 +78,27 @@ texts_good inside k (t ∷ ts) some most utf8 passes = (
   texts_good inside k ts some most utf8.1 passes,
 )
 
-pub number_good : (inside : Piece → Option WireFault) (k : ℕ) (z : ℤ) → 0 < k → k < 100 → FitsSigned w32 z → ((p : Piece) → p.wire.field ≡ k → inside p ≡ None) → AreGood inside (number_fields k z)
+pub number_good : (inside : PayloadRecord → Option WireFault) (k : ℕ) (z : ℤ) → 0 < k → k < 100 → FitsSigned w32 z → ((p : PayloadRecord) → p.wire.field ≡ k → inside p ≡ None) → AreGood inside (number_fields k z)
 number_good inside k (pos zero) some most fits passes = tt
 number_good inside k (pos (suc n)) some most fits passes = (record { is_field = is_field_of k some most; fits = bits-fit (pos (suc n)) fits; none = λ p h. passes p h.number }, tt)
 number_good inside k (negsuc n) some most fits passes = (record { is_field = is_field_of k some most; fits = bits-fit (negsuc n) fits; none = λ p h. passes p h.number }, tt)
 
-numbers_clean : (p : Piece) (k : ℕ) (zs : List ℤ) → AllByRecursion (FitsSigned w32) zs → Carries p (payload_field k (packing zs)) → numbers_fault p ≡ None
+numbers_clean : (p : PayloadRecord) (k : ℕ) (zs : List ℤ) → AllByRecursion (FitsSigned w32) zs → Carries p (payload_field k (packing zs)) → numbers_fault p ≡ None
 numbers_clean p k zs fits h = rw (h.content.0, h.content.1, packed-again p.wire.at zs fits) refl
 
-pub packed_good : (inside : Piece → Option WireFault) (k : ℕ) (zs : List ℤ) → 0 < k → k < 100 → AllByRecursion (FitsSigned w32) zs → Passes inside k numbers_fault → AreGood inside (packed_fields k zs)
+pub packed_good : (inside : PayloadRecord → Option WireFault) (k : ℕ) (zs : List ℤ) → 0 < k → k < 100 → AllByRecursion (FitsSigned w32) zs → Passes inside k numbers_fault → AreGood inside (packed_fields k zs)
 packed_good inside k [] some most fits passes = tt
 packed_good inside k (z ∷ zs) some most fits passes = (record { is_field = is_field_of k some most; fits = tt; none = λ p h. passes p h.number (numbers_clean p k (z ∷ zs) fits h) }, tt)
 
 -- ---- a message that is read again, wherever it stands
 
-abbrev pub IsAgain : {V : Type 0} → (Piece → Option WireFault) → (List Piece → V) → V → List ℕ → Type 0
-IsAgain inside of v bytes = (start : ℕ) → (fault_of inside start bytes ≡ None) × (of (pieces_of start bytes).0 ≡ v)
+abbrev pub IsAgain : {V : Type 0} → (PayloadRecord → Option WireFault) → (List PayloadRecord → V) → V → List ℕ → Type 0
+IsAgain inside of v bytes = (start : ℕ) → (fault_of inside start bytes ≡ None) × (of (payload_records start bytes).0 ≡ v)
 
-message_clean : (inner : Piece → Option WireFault) (p : Piece) (k : ℕ) (bytes : List ℕ) → ((start : ℕ) → fault_of inner start bytes ≡ None) → Carries p (payload_field k bytes) → message_fault inner p ≡ None
+message_clean : (inner : PayloadRecord → Option WireFault) (p : PayloadRecord) (k : ℕ) (bytes : List ℕ) → ((start : ℕ) → fault_of inner start bytes ≡ None) → Carries p (payload_field k bytes) → message_fault inner p ≡ None
 message_clean inner p k bytes none h = rw (h.content.0, h.content.1) (none p.wire.body)
 
-pub messages_good : {V : Type 0} (inside inner : Piece → Option WireFault) (of : List Piece → V) (k : ℕ) (written : V → List ℕ) (vs : List V) → 0 < k → k < 100 → AllByRecursion (λ v. IsAgain inner of v (written v)) vs → Passes inside k (message_fault inner) → AreGood inside (payload_fields k (map written vs))
+pub messages_good : {V : Type 0} (inside inner : PayloadRecord → Option WireFault) (of : List PayloadRecord → V) (k : ℕ) (written : V → List ℕ) (vs : List V) → 0 < k → k < 100 → AllByRecursion (λ v. IsAgain inner of v (written v)) vs → Passes inside k (message_fault inner) → AreGood inside (payload_fields k (map written vs))
 messages_good inside inner of k written [] some most again passes = tt
 messages_good inside inner of k written (v ∷ vs) some most again passes = (
   record {
@@ -109,11 +109,11 @@ messages_good inside inner of k written (v ∷ vs) some most again passes = (
   messages_good inside inner of k written vs some most again.1 passes,
 )
 
-pub restores : {V : Type 0} (inner : Piece → Option WireFault) (of : List Piece → V) (written : V → List ℕ) (vs : List V) → AllByRecursion (λ v. IsAgain inner of v (written v)) vs → AllByRecursion (λ v. Restores of v (written v)) vs
+pub restores : {V : Type 0} (inner : PayloadRecord → Option WireFault) (of : List PayloadRecord → V) (written : V → List ℕ) (vs : List V) → AllByRecursion (λ v. IsAgain inner of v (written v)) vs → AllByRecursion (λ v. Restores of v (written v)) vs
 restores inner of written [] again = tt
 restores inner of written (v ∷ vs) again = (λ start. (again.0 start).1, restores inner of written vs again.1)
 
-pub option_restores : {V : Type 0} (inner : Piece → Option WireFault) (of : List Piece → V) (written : V → List ℕ) (o : Option V) → AllByRecursion (λ v. IsAgain inner of v (written v)) (option_to_list o) → IfSome o (λ v. Restores of v (written v))
+pub option_restores : {V : Type 0} (inner : PayloadRecord → Option WireFault) (of : List PayloadRecord → V) (written : V → List ℕ) (o : Option V) → AllByRecursion (λ v. IsAgain inner of v (written v)) (option_to_list o) → IfSome o (λ v. Restores of v (written v))
 option_restores inner of written None again = tt
 option_restores inner of written (Some v) again = λ start. (again.0 start).1
 
@@ -135,7 +135,7 @@ payload_short k bytes rest h =
     let one = length-append (head_of k (length bytes)) bytes in
     (omega (arith, h, whole, one), omega (arith, h, whole, one))
 
-pub each_again : {V : Type 0} (inner : Piece → Option WireFault) (of : List Piece → V) (written : V → List ℕ) (Fits : V → Type 0) (k : ℕ) (vs : List V) → ((v : V) → Fits v → length (written v) < 2 ^ 64 → IsAgain inner of v (written v)) → AllByRecursion Fits vs
+pub each_again : {V : Type 0} (inner : PayloadRecord → Option WireFault) (of : List PayloadRecord → V) (written : V → List ℕ) (Fits : V → Type 0) (k : ℕ) (vs : List V) → ((v : V) → Fits v → length (written v) < 2 ^ 64 → IsAgain inner of v (written v)) → AllByRecursion Fits vs
     → length (spelling (payload_fields k (map written vs))) < 2 ^ 64 → AllByRecursion (λ v. IsAgain inner of v (written v)) vs
 each_again inner of written Fits k [] go fits short = tt
 each_again inner of written Fits k (v ∷ vs) go fits short =
@@ -146,22 +146,22 @@ content_fits : (k : ℕ) (content : Content) (rest : List ℕ) → NumberFits co
 content_fits k (Number n) rest fits h = (fits, omega (arith, h, length-append (spelled (record { number = k; content = Number n })) rest))
 content_fits k (Payload bytes) rest fits h = payload_short k bytes rest h
 
-all_fit : (inside : Piece → Option WireFault) (fs : List Field) → AreGood inside fs → length (spelling fs) < 2 ^ 64 → AllByRecursion FieldFits fs
+all_fit : (inside : PayloadRecord → Option WireFault) (fs : List Field) → AreGood inside fs → length (spelling fs) < 2 ^ 64 → AllByRecursion FieldFits fs
 all_fit inside [] good short = tt
 all_fit inside (f ∷ fs) good short =
     let here = content_fits f.number f.content (spelling fs) good.0.fits short in
     (record { is_field = good.0.is_field; content = here.0 }, all_fit inside fs good.1 here.1)
 
-none_left : (inside : Piece → Option WireFault) (fs : List Field) → AreGood inside fs → AllByRecursion (λ f. (p : Piece) → Carries p f → inside p ≡ None) fs
+none_left : (inside : PayloadRecord → Option WireFault) (fs : List Field) → AreGood inside fs → AllByRecursion (λ f. (p : PayloadRecord) → Carries p f → inside p ≡ None) fs
 none_left inside [] good = tt
 none_left inside (f ∷ fs) good = (good.0.none, none_left inside fs good.1)
 
 -- good fields are read again, where the records that carry them say the message
-pub again_from : {V : Type 0} (inside : Piece → Option WireFault) (of : List Piece → V) (v : V) (fs : List Field) → AreGood inside fs → length (spelling fs) < 2 ^ 64 → ((ps : List Piece) → CarryAll ps fs → of ps ≡ v) → IsAgain inside of v (spelling fs)
+pub again_from : {V : Type 0} (inside : PayloadRecord → Option WireFault) (of : List PayloadRecord → V) (v : V) (fs : List Field) → AreGood inside fs → length (spelling fs) < 2 ^ 64 → ((ps : List PayloadRecord) → CarryAll ps fs → of ps ≡ v) → IsAgain inside of v (spelling fs)
 again_from inside of v fs good short said =
     λ start.
     let read = pieces-again start fs (all_fit inside fs good short) in
     let carried = carry_again start fs in (
       fault_of-end inside start (spelling fs) (pieces_at start fs) None (IsClean-from inside (pieces_at start fs) fs carried (none_left inside fs good)) read,
-      ap (λ (x : List Piece × Option WireFault). of x.0) read ∙ said (pieces_at start fs) carried,
+      ap (λ (x : List PayloadRecord × Option WireFault). of x.0) read ∙ said (pieces_at start fs) carried,
     )

@@ -3,8 +3,8 @@ use Rattle.std.proofs.Common.{◌≡◌, ℕ, List, Option, Some, None, Result, 
 use Rattle.std.specs.Prelude.{IfErr, IfOk, OnOk}
 use Rattle.proto_wire.specs.declared.fault.WireFault.{WireFault}
 use Rattle.proto_wire.specs.Faults.{Stops, Tells}
-use Rattle.proto_wire.specs.Records.{Piece}
-use Rattle.proto_wire.specs.Readings.{pieces_of}
+use Rattle.proto_wire.specs.Records.{PayloadRecord}
+use Rattle.proto_wire.specs.Readings.{payload_records}
 use Rattle.proto_wire.specs.Messages.{fault_of}
 use Rattle.proto_wire.proofs.FaultLaws.{UnlessMemory-then}
 use Rattle.proto_wire.proofs.PieceReadings.{records_found}
@@ -14,14 +14,14 @@ use Rattle.scip_index.specs.Plain.{plain_index, PlainIndex}
 use Rattle.scip_index.specs.Meaning.{index_fault, index_of, Means, IsIndexOutcome}
 
 -- the index that clean records say is the one that the bytes mean
-pub means_from : (bytes : List ℕ) (i : PlainIndex) → fault_of index_fault 0 bytes ≡ None → i ≡ index_of (pieces_of 0 bytes).0 → Means bytes i
+pub means_from : (bytes : List ℕ) (i : PlainIndex) → fault_of index_fault 0 bytes ≡ None → i ≡ index_of (payload_records 0 bytes).0 → Means bytes i
 means_from bytes i clean said =
     let h = (no_fault_iff index_fault 0 bytes).0 clean in
     let found = records_found 0 bytes h.0 h.1 in
-    record { pieces = h.0; are_records = h.1; clean = h.2; said = said ∙ ap (λ (x : List Piece × Option WireFault). index_of x.0) found }
+    record { pieces = h.0; are_records = h.1; clean = h.2; said = said ∙ ap (λ (x : List PayloadRecord × Option WireFault). index_of x.0) found }
 
-said_of : (bytes : List ℕ) (i : PlainIndex) → Means bytes i → i ≡ index_of (pieces_of 0 bytes).0
-said_of bytes i m = m.said ∙ sym (ap (λ (x : List Piece × Option WireFault). index_of x.0) (records_found 0 bytes m.pieces m.are_records))
+said_of : (bytes : List ℕ) (i : PlainIndex) → Means bytes i → i ≡ index_of (payload_records 0 bytes).0
+said_of bytes i m = m.said ∙ sym (ap (λ (x : List PayloadRecord × Option WireFault). index_of x.0) (records_found 0 bytes m.pieces m.are_records))
 
 -- bytes mean one index
 pub one_meaning : (bytes : List ℕ) (i j : PlainIndex) → Means bytes i → Means bytes j → i ≡ j
@@ -46,7 +46,7 @@ pub some_outcome : (bytes : List ℕ) → (o : Result PlainIndex WireFault) × I
 some_outcome bytes = told (fault_of index_fault 0 bytes) refl
   where
     told : (found : Option WireFault) → fault_of index_fault 0 bytes ≡ found → (o : Result PlainIndex WireFault) × IsIndexOutcome bytes o
-    told None clean = (Ok (index_of (pieces_of 0 bytes).0), means_from bytes (index_of (pieces_of 0 bytes).0) clean refl)
+    told None clean = (Ok (index_of (payload_records 0 bytes).0), means_from bytes (index_of (payload_records 0 bytes).0) clean refl)
     told (Some fault) is = (Err fault, (first_fault_iff index_fault 0 bytes fault).0 is)
 
 pub tells-then : {X Y : Type 0} (view : X → Y) (result : Result X WireFault) (P Q : Result Y WireFault → Type 0) → Tells view result P → ((o : Result Y WireFault) → P o → Q o) → Tells view result Q
@@ -54,7 +54,7 @@ tells-then view (Ok x) P Q h go = go (Ok (view x)) h
 tells-then view (Err fault) P Q h go = UnlessMemory-then fault h (go (Err fault))
 
 -- what the loop over records says is the outcome of the bytes
-pub index_told : (bytes : List ℕ) (result : Result Index WireFault) → OnOk result (fault_of index_fault 0 bytes ≡ None) → IfOk result (λ i. plain_index i ≡ index_of (pieces_of 0 bytes).0) → IfErr result (λ e. Stops e (fault_of index_fault 0 bytes))
+pub index_told : (bytes : List ℕ) (result : Result Index WireFault) → OnOk result (fault_of index_fault 0 bytes ≡ None) → IfOk result (λ i. plain_index i ≡ index_of (payload_records 0 bytes).0) → IfErr result (λ e. Stops e (fault_of index_fault 0 bytes))
     → Tells plain_index result (IsIndexOutcome bytes)
 index_told bytes (Ok i) clean said err = means_from bytes (plain_index i) clean said
 index_told bytes (Err fault) clean said err = UnlessMemory-then fault err (λ e. (first_fault_iff index_fault 0 bytes fault).0 e)

@@ -4,8 +4,8 @@ use Rattle.std.specs.Prelude.{◌==◌, IfSome, if◌then◌else◌}
 use Rattle.std.specs.Option.{option_to_list}
 use Rattle.std.proofs.lemmas.Bool.{cases_Bool, eq-eqb}
 use Rattle.std.proofs.lemmas.List.{append-nil}
-use Rattle.proto_wire.specs.Records.{Piece}
-use Rattle.proto_wire.specs.Readings.{pieces_of}
+use Rattle.proto_wire.specs.Records.{PayloadRecord}
+use Rattle.proto_wire.specs.Readings.{payload_records}
 use Rattle.proto_wire.specs.Messages.{each_of, if_field, records_inside}
 use Rattle.proto_wire.specs.Writing.{Field, payload_field, payload_fields, Carries, CarryAll}
 use Rattle.proto_wire.proofs.GivenLaws.{if_field-hit}
@@ -18,11 +18,11 @@ select k [] = []
 select k (f ∷ fs) = if f.number == k then f ∷ select k fs else select k fs
 
 -- the records of this number
-unfoldable picked : ℕ → List Piece → List Piece
+unfoldable picked : ℕ → List PayloadRecord → List PayloadRecord
 picked k [] = []
 picked k (p ∷ ps) = if p.wire.field == k then p ∷ picked k ps else picked k ps
 
-carry_picked : (k : ℕ) (ps : List Piece) (fs : List Field) → CarryAll ps fs → CarryAll (picked k ps) (select k fs)
+carry_picked : (k : ℕ) (ps : List PayloadRecord) (fs : List Field) → CarryAll ps fs → CarryAll (picked k ps) (select k fs)
 unfolding picked select
 carry_picked k [] [] h = tt
 carry_picked k [] (f ∷ fs) h = absurd h
@@ -33,7 +33,7 @@ carry_picked k (p ∷ ps) (f ∷ fs) h =
       | inr e ↦ rw (ap (λ (n : ℕ). n == k) h.0.number ∙ e, e) (carry_picked k ps fs h.1)
     ]
 
-each_of_picked : {X : Type 0} (k : ℕ) (gives : Piece → List X) (ps : List Piece) → each_of k gives ps ≡ each_of k gives (picked k ps)
+each_of_picked : {X : Type 0} (k : ℕ) (gives : PayloadRecord → List X) (ps : List PayloadRecord) → each_of k gives ps ≡ each_of k gives (picked k ps)
 unfolding each_of if_field picked
 each_of_picked k gives [] = refl
 each_of_picked k gives (p ∷ ps) =
@@ -43,7 +43,7 @@ each_of_picked k gives (p ∷ ps) =
     ]
 
 -- what the records of a message give is what those of one row of fields give
-pub row_said : {X Y : Type 0} (f : List X → Y) (k : ℕ) (gives : Piece → List X) (fs row : List Field) (ps : List Piece) (v : Y) → CarryAll ps fs → select k fs ≡ row → ((qs : List Piece) → CarryAll qs row → f (each_of k gives qs) ≡ v) → f (each_of k gives ps) ≡ v
+pub row_said : {X Y : Type 0} (f : List X → Y) (k : ℕ) (gives : PayloadRecord → List X) (fs row : List Field) (ps : List PayloadRecord) (v : Y) → CarryAll ps fs → select k fs ≡ row → ((qs : List PayloadRecord) → CarryAll qs row → f (each_of k gives qs) ≡ v) → f (each_of k gives ps) ≡ v
 row_said f k gives fs row ps v h e given =
     ap f (each_of_picked k gives ps) ∙ given (picked k ps) (subst (λ (gs : List Field). CarryAll (picked k ps) gs) e (carry_picked k ps fs h))
 
@@ -79,19 +79,19 @@ payload_number k [] = tt
 payload_number k (x ∷ xs) = (refl, payload_number k xs)
 
 -- the records of a message that was written, in the one record that carries it
-one_inside : (k : ℕ) (p : Piece) (bytes : List ℕ) → Carries p (payload_field k bytes) → each_of k records_inside (p ∷ []) ≡ (pieces_of p.wire.body bytes).0 ∷ []
+one_inside : (k : ℕ) (p : PayloadRecord) (bytes : List ℕ) → Carries p (payload_field k bytes) → each_of k records_inside (p ∷ []) ≡ (payload_records p.wire.body bytes).0 ∷ []
 unfolding each_of
 one_inside k p bytes h = rw (if_field-hit k p (records_inside p) h.number, h.content.0, h.content.1) refl
 
-each_of_none : {X : Type 0} (k : ℕ) (gives : Piece → List X) → each_of k gives [] ≡ []
+each_of_none : {X : Type 0} (k : ℕ) (gives : PayloadRecord → List X) → each_of k gives [] ≡ []
 unfolding each_of
 each_of_none k gives = refl
 
 -- a singular message that was written is read again
-pub merged_given : {V : Type 0} (k : ℕ) (of : List Piece → V) (written : V → List ℕ) (o : Option V) (qs : List Piece) → IfSome o (λ v. Restores of v (written v)) → CarryAll qs (payload_fields k (map written (option_to_list o))) → merged of (each_of k records_inside qs) ≡ o
+pub merged_given : {V : Type 0} (k : ℕ) (of : List PayloadRecord → V) (written : V → List ℕ) (o : Option V) (qs : List PayloadRecord) → IfSome o (λ v. Restores of v (written v)) → CarryAll qs (payload_fields k (map written (option_to_list o))) → merged of (each_of k records_inside qs) ≡ o
 merged_given k of written None [] r h = ap (merged of) (each_of_none k records_inside)
 merged_given k of written None (p ∷ qs) r h = absurd h
 merged_given k of written (Some v) [] r h = absurd h
 merged_given k of written (Some v) (p ∷ []) r h =
-    ap (merged of) (one_inside k p (written v) h.0) ∙ ap Some (ap of (append-nil (pieces_of p.wire.body (written v)).0) ∙ r p.wire.body)
+    ap (merged of) (one_inside k p (written v) h.0) ∙ ap Some (ap of (append-nil (payload_records p.wire.body (written v)).0) ∙ r p.wire.body)
 merged_given k of written (Some v) (p ∷ q ∷ qs) r h = absurd h.1

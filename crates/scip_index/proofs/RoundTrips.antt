@@ -1,7 +1,7 @@
 -- What is written means the message that was written, and has no fault, wherever it stands.
 use Rattle.std.proofs.Common.{◌≡◌, ℕ, ◌^◌, ◌<◌, pos, List, [], ◌++◌, length, map, None, refl, sym, subst, arith}
 use Rattle.std.specs.Option.{option_to_list}
-use Rattle.proto_wire.specs.Records.{Piece}
+use Rattle.proto_wire.specs.Records.{PayloadRecord}
 use Rattle.proto_wire.specs.Messages.{each_of, field_fault, latest, number_in, numbers_in, numbers_fault, bytes_in, text_fault, message_fault, records_inside}
 use Rattle.proto_wire.specs.Writing.{CarryAll, number_fields, text_fields, packed_fields, payload_fields}
 use Rattle.proto_wire.proofs.GivenLaws.{text-given, number-given, packed-given, payloads-given}
@@ -24,7 +24,7 @@ occurrence_symbol_passes : Passes occurrence_fault 2 text_fault
 unfolding field_fault
 occurrence_symbol_passes p e h = rw (e, h) refl
 
-occurrence_roles_pass : (p : Piece) → p.wire.field ≡ 3 → occurrence_fault p ≡ None
+occurrence_roles_pass : (p : PayloadRecord) → p.wire.field ≡ 3 → occurrence_fault p ≡ None
 unfolding field_fault
 occurrence_roles_pass p e = rw e refl
 
@@ -47,7 +47,7 @@ occurrence_good o fits =
     (number_good inside 3 o.symbol_roles (omega arith) (omega arith) fits.symbol_roles occurrence_roles_pass))
     (packed_good inside 7 o.enclosing_range (omega arith) (omega arith) fits.enclosing_range occurrence_enclosing_passes)
 
-occurrence_said : (o : PlainOccurrence) → OccurrenceFits o → (ps : List Piece) → CarryAll ps (occurrence_fields o) → occurrence_of ps ≡ o
+occurrence_said : (o : PlainOccurrence) → OccurrenceFits o → (ps : List PayloadRecord) → CarryAll ps (occurrence_fields o) → occurrence_of ps ≡ o
 occurrence_said o fits ps h =
     let a = packed_fields 1 o.range in
     let b = text_fields 2 o.symbol in
@@ -90,7 +90,7 @@ symbol_name_passes : Passes symbol_fault 6 text_fault
 unfolding field_fault
 symbol_name_passes p e h = rw (e, h) refl
 
-symbol_said : (s : PlainSymbol) (ps : List Piece) → CarryAll ps (symbol_fields s) → symbol_of ps ≡ s
+symbol_said : (s : PlainSymbol) (ps : List PayloadRecord) → CarryAll ps (symbol_fields s) → symbol_of ps ≡ s
 symbol_said s ps h =
     let a = text_fields 1 s.symbol in
     let b = text_fields 6 s.display_name in
@@ -126,7 +126,7 @@ document_language_passes : Passes document_fault 4 text_fault
 unfolding field_fault
 document_language_passes p e h = rw (e, h) refl
 
-document_encoding_passes : (p : Piece) → p.wire.field ≡ 6 → document_fault p ≡ None
+document_encoding_passes : (p : PayloadRecord) → p.wire.field ≡ 6 → document_fault p ≡ None
 unfolding field_fault
 document_encoding_passes p e = rw e refl
 
@@ -196,7 +196,7 @@ tool_arguments_pass : Passes tool_fault 3 text_fault
 unfolding field_fault
 tool_arguments_pass p e h = rw (e, h) refl
 
-tool_said : (t : PlainTool) (ps : List Piece) → CarryAll ps (tool_fields t) → tool_of ps ≡ t
+tool_said : (t : PlainTool) (ps : List PayloadRecord) → CarryAll ps (tool_fields t) → tool_of ps ≡ t
 tool_said t ps h =
     let a = text_fields 1 t.name in
     let b = text_fields 2 t.version in
@@ -224,7 +224,7 @@ tool_again t fits short =
 
 -- ---- metadata
 
-metadata_version_passes : (p : Piece) → p.wire.field ≡ 1 → metadata_fault p ≡ None
+metadata_version_passes : (p : PayloadRecord) → p.wire.field ≡ 1 → metadata_fault p ≡ None
 unfolding field_fault
 metadata_version_passes p e = rw e refl
 
@@ -236,7 +236,7 @@ metadata_root_passes : Passes metadata_fault 3 text_fault
 unfolding field_fault
 metadata_root_passes p e h = rw (e, h) refl
 
-metadata_encoding_passes : (p : Piece) → p.wire.field ≡ 4 → metadata_fault p ≡ None
+metadata_encoding_passes : (p : PayloadRecord) → p.wire.field ≡ 4 → metadata_fault p ≡ None
 unfolding field_fault
 metadata_encoding_passes p e = rw e refl
 

@@ -8,8 +8,8 @@ use Rattle.std.proofs.lemmas.List.{append-nil, length-append}
 use Rattle.proto_wire.specs.declared.fault.WireFault.{WireFault}
 use Rattle.proto_wire.specs.declared.record.WireValue.{WireValue}
 use Rattle.proto_wire.specs.declared.record.WireValue.TheVariants.{Varint, Eight, Bytes, Four}
-use Rattle.proto_wire.specs.Records.{Piece, IsSplit}
-use Rattle.proto_wire.specs.Readings.{pieces_of}
+use Rattle.proto_wire.specs.Records.{PayloadRecord, IsSplit}
+use Rattle.proto_wire.specs.Readings.{payload_records}
 use Rattle.proto_wire.specs.Messages.{AddsMessages, each_of, if_field, records_inside, records_inside_given, IsClean, MeansEach}
 use Rattle.proto_wire.proofs.PieceReadings.{records_found}
 use Rattle.proto_wire.proofs.RowLaws.{IsSplit-start, IsSplit-end}
@@ -18,7 +18,7 @@ use Rattle.scip_index.specs.Plain.{plain_document, PlainDocument, PlainIndex, Pl
 use Rattle.scip_index.specs.Meaning.{index_fault, index_of, Means}
 use Rattle.scip_index.specs.Streaming.{documents_in, given, HasDocuments, ReaderStands}
 
-each_length : {M : Type 0} (Means : M → List Piece → Type 0) (ms : List M) (given : List (List Piece)) → MeansEach Means ms given → length ms ≡ length given
+each_length : {M : Type 0} (Means : M → List PayloadRecord → Type 0) (ms : List M) (given : List (List PayloadRecord)) → MeansEach Means ms given → length ms ≡ length given
 each_length Means [] [] h = refl
 each_length Means [] (ps ∷ given) h = absurd h
 each_length Means (m ∷ ms) [] h = absurd h
@@ -30,7 +30,7 @@ inside_one Eight body payload = omega arith
 inside_one (Bytes count) body payload = omega arith
 inside_one Four body payload = omega arith
 
-given_one : (k : ℕ) (p : Piece) → length (if_field k p.wire (records_inside p)) ≤ 1
+given_one : (k : ℕ) (p : PayloadRecord) → length (if_field k p.wire (records_inside p)) ≤ 1
 unfolding if_field
 given_one k p =
     elim (cases_Bool (p.wire.field == k)) [
@@ -38,7 +38,7 @@ given_one k p =
       | inr e ↦ rw e (omega arith)
     ]
 
-pub at_most_one : {M : Type 0} {Means : M → List Piece → Type 0} (k : ℕ) (p : Piece) (new : List M) → AddsMessages Means (if_field k p.wire (records_inside p)) [] new → length new ≤ 1
+pub at_most_one : {M : Type 0} {Means : M → List PayloadRecord → Type 0} (k : ℕ) (p : PayloadRecord) (new : List M) → AddsMessages Means (if_field k p.wire (records_inside p)) [] new → length new ≤ 1
 at_most_one {M} {Means} k p new h = omega (arith, ap length h.1, each_length Means h.0 (if_field k p.wire (records_inside p)) h.2, given_one k p)
 
 pub not_none : {X : Type 0} (o : Option X) (P : Type 0) → true ≡ is_some o → IfNone o P
@@ -54,27 +54,27 @@ no_value None e = refl
 no_value (Some x) e = absurd cc
 
 -- the bytes that are read
-read_bytes : (bytes : List ℕ) (front : List Piece) (at : ℕ) (rest : List ℕ) (r : IsSplit 0 bytes front at rest) → take at bytes ≡ r.good
+read_bytes : (bytes : List ℕ) (front : List PayloadRecord) (at : ℕ) (rest : List ℕ) (r : IsSplit 0 bytes front at rest) → take at bytes ≡ r.good
 read_bytes bytes front at rest r =
     let here : at ≡ length r.good = omega (arith, r.here) in
     ap (λ (n : ℕ). take n bytes) here ∙ ap (λ (bs : List ℕ). take (length r.good) bs) r.form ∙ take-append_seam r.good rest
 
 -- their records
-pub read_so_far : (bytes : List ℕ) (front : List Piece) (at : ℕ) (rest : List ℕ) → IsSplit 0 bytes front at rest → pieces_of 0 (take at bytes) ≡ (front, None)
-read_so_far bytes front at rest r = ap (pieces_of 0) (read_bytes bytes front at rest r) ∙ records_found 0 r.good front r.are_records
+pub read_so_far : (bytes : List ℕ) (front : List PayloadRecord) (at : ℕ) (rest : List ℕ) → IsSplit 0 bytes front at rest → payload_records 0 (take at bytes) ≡ (front, None)
+read_so_far bytes front at rest r = ap (payload_records 0) (read_bytes bytes front at rest r) ∙ records_found 0 r.good front r.are_records
 
-pub given_is : (bytes : List ℕ) (at : ℕ) (refusal : Option WireFault) (front : List Piece) (rest : List ℕ) → IsSplit 0 bytes front at rest → given (record { bytes = bytes; at = at; refusal = refusal }) ≡ documents_in front
-given_is bytes at refusal front rest r = ap (λ (x : List Piece × Option WireFault). documents_in x.0) (read_so_far bytes front at rest r)
+pub given_is : (bytes : List ℕ) (at : ℕ) (refusal : Option WireFault) (front : List PayloadRecord) (rest : List ℕ) → IsSplit 0 bytes front at rest → given (record { bytes = bytes; at = at; refusal = refusal }) ≡ documents_in front
+given_is bytes at refusal front rest r = ap (λ (x : List PayloadRecord × Option WireFault). documents_in x.0) (read_so_far bytes front at rest r)
 
 -- the bytes that are read mean an index with the documents that are given
-pub read_means : (bytes : List ℕ) (at : ℕ) (refusal : Option WireFault) (front : List Piece) (rest : List ℕ) → IsSplit 0 bytes front at rest → IsClean index_fault front
+pub read_means : (bytes : List ℕ) (at : ℕ) (refusal : Option WireFault) (front : List PayloadRecord) (rest : List ℕ) → IsSplit 0 bytes front at rest → IsClean index_fault front
     → HasDocuments (take at bytes) (given (record { bytes = bytes; at = at; refusal = refusal }))
 read_means bytes at refusal front rest r clean =
     subst (λ (read : List ℕ). HasDocuments read (given (record { bytes = bytes; at = at; refusal = refusal }))) (sym (read_bytes bytes front at rest r))
     (index_of front, record { pieces = front; are_records = r.are_records; clean = clean; said = refl }, sym (given_is bytes at refusal front rest r))
 
 -- at the end the bytes mean what the reader keeps and gave
-pub ended : (bytes : List ℕ) (front : List Piece) (at : ℕ) (rest : List ℕ) (metadata : Option PlainMetadata) (externals : List PlainSymbol) → ReaderStands bytes front at rest metadata externals → length rest ≡ 0
+pub ended : (bytes : List ℕ) (front : List PayloadRecord) (at : ℕ) (rest : List ℕ) (metadata : Option PlainMetadata) (externals : List PlainSymbol) → ReaderStands bytes front at rest metadata externals → length rest ≡ 0
     → (i : PlainIndex) × Means bytes i × (i.metadata ≡ metadata) × (i.external_symbols ≡ externals) × (i.documents ≡ documents_in front)
 ended bytes front at rest metadata externals s none = (
   index_of front,
@@ -85,7 +85,7 @@ ended bytes front at rest metadata externals s none = (
 )
 
 -- a reader that comes to a shorter rest has read on
-pub onward : {X : Type 0} (bytes : List ℕ) (front more : List Piece) (at next : ℕ) (rest after : List ℕ) (document : Option X) → IsSplit 0 bytes front at rest → IsSplit 0 bytes more next after
+pub onward : {X : Type 0} (bytes : List ℕ) (front more : List PayloadRecord) (at next : ℕ) (rest after : List ℕ) (document : Option X) → IsSplit 0 bytes front at rest → IsSplit 0 bytes more next after
     → IfSome document (λ _. length after < length rest) → IfSome document (λ _. (at < next) × (next ≤ length bytes))
 onward bytes front more at next rest after None r s h = tt
 onward bytes front more at next rest after (Some x) r s h =
@@ -99,7 +99,7 @@ unfolding each_of
 fresh bytes = record { reached = IsSplit-start 0 bytes; clean = tt; metadata_is = refl; externals_are = refl }
 
 -- where no document came, all are given
-pub all_given : (bytes : List ℕ) (front more : List Piece) (at : ℕ) (rest : List ℕ) (metadata : Option PlainMetadata) (externals : List PlainSymbol) (document : Option Document) (before : List PlainDocument) → ReaderStands bytes (front ++ more) at rest metadata externals
+pub all_given : (bytes : List ℕ) (front more : List PayloadRecord) (at : ℕ) (rest : List ℕ) (metadata : Option PlainMetadata) (externals : List PlainSymbol) (document : Option Document) (before : List PlainDocument) → ReaderStands bytes (front ++ more) at rest metadata externals
     → documents_in (front ++ more) ≡ documents_in front ++ map plain_document (option_to_list document) → IfNone document (length rest ≡ 0) → before ≡ documents_in front → IfNone document (HasDocuments bytes before)
 all_given bytes front more at rest metadata externals None before s d none b =
     let e = ended bytes (front ++ more) at rest metadata externals s none in

@@ -5,7 +5,7 @@ ghost use Rattle.std.specs.Result.{result_err};
 ghost use Rattle.proto_wire.specs.declared.fault.WireFault.{WireFault};
 ghost use Rattle.proto_wire.specs.Faults.{Tells, UnlessMemory};
 ghost use Rattle.proto_wire.specs.Messages.{IsFaultBehind, IsFirstFault};
-ghost use Rattle.proto_wire.specs.Records.{Piece};
+ghost use Rattle.proto_wire.specs.Records.{PayloadRecord};
 ghost use Rattle.scip_index.specs.Plain.{plain_document, plain_metadata, plain_symbol};
 ghost use Rattle.scip_index.specs.Meaning.{index_fault};
 ghost use Rattle.scip_index.specs.Streaming.{documents_in, given, HasDocuments, IsFaultAfter, IsRestOutcome, ReaderStands};
@@ -33,12 +33,12 @@ fn take_record<'a>(
 ) -> Result<(Option<Document>, usize, &'a [u8]), WireFault>
     requires some { 0 < length rest.now }
     requires inside { at + length rest.now < 2 ^ 64 }
-    ensures taken { IfOk result (λ x. (bytes : List ℕ) (front : List Piece) →
+    ensures taken { IfOk result (λ x. (bytes : List ℕ) (front : List PayloadRecord) →
         ReaderStands bytes front at rest.now (option_map plain_metadata metadata.old) (map plain_symbol externals.old.items) →
-        (p : Piece) × ReaderStands bytes (front ++ p ∷ []) x.1 x.2.now (option_map plain_metadata metadata.new) (map plain_symbol externals.new.items)
+        (p : PayloadRecord) × ReaderStands bytes (front ++ p ∷ []) x.1 x.2.now (option_map plain_metadata metadata.new) (map plain_symbol externals.new.items)
         × (documents_in (front ++ p ∷ []) ≡ documents_in front ++ map plain_document (option_to_list x.0))) }
     ensures shorter { IfOk result (λ x. (length x.2.now < length rest.now) × (x.1 + length x.2.now ≡ at + length rest.now)) }
-    ensures err { IfErr result (λ e. (bytes : List ℕ) (front : List Piece) →
+    ensures err { IfErr result (λ e. (bytes : List ℕ) (front : List PayloadRecord) →
         ReaderStands bytes front at rest.now (option_map plain_metadata metadata.old) (map plain_symbol externals.old.items) → UnlessMemory e (IsFaultBehind index_fault 0 bytes front e)) }
 {
     let (wire, payload, after) = record_at_front(at, rest)?;
@@ -58,13 +58,13 @@ fn next_document<'a>(
     externals: &mut Vec<SymbolInfo>,
 ) -> Result<(Option<Document>, usize, &'a [u8]), WireFault>
     requires { at + length rest.now < 2 ^ 64 }
-    ensures found { IfOk result (λ x. (bytes : List ℕ) (front : List Piece) →
+    ensures found { IfOk result (λ x. (bytes : List ℕ) (front : List PayloadRecord) →
         ReaderStands bytes front at rest.now (option_map plain_metadata metadata.old) (map plain_symbol externals.old.items) →
-        (more : List Piece) × ReaderStands bytes (front ++ more) x.1 x.2.now (option_map plain_metadata metadata.new) (map plain_symbol externals.new.items)
+        (more : List PayloadRecord) × ReaderStands bytes (front ++ more) x.1 x.2.now (option_map plain_metadata metadata.new) (map plain_symbol externals.new.items)
         × (documents_in (front ++ more) ≡ documents_in front ++ map plain_document (option_to_list x.0))
         × (IfNone x.0 (length x.2.now ≡ 0))) }
     ensures shorter { IfOk result (λ x. IfSome x.0 (λ _. length x.2.now < length rest.now)) }
-    ensures err { IfErr result (λ e. (bytes : List ℕ) (front : List Piece) →
+    ensures err { IfErr result (λ e. (bytes : List ℕ) (front : List PayloadRecord) →
         ReaderStands bytes front at rest.now (option_map plain_metadata metadata.old) (map plain_symbol externals.old.items) → UnlessMemory e (IsFaultAfter bytes (documents_in front) e)) }
 {
     let mut place = at;
@@ -89,10 +89,10 @@ fn read_rest(
     externals: &mut Vec<SymbolInfo>,
 ) -> Result<(), WireFault>
     requires { at + length rest.now < 2 ^ 64 }
-    ensures read { OnOk result ((bytes : List ℕ) (front : List Piece) →
+    ensures read { OnOk result ((bytes : List ℕ) (front : List PayloadRecord) →
         ReaderStands bytes front at rest.now (option_map plain_metadata metadata.old) (map plain_symbol externals.old.items) →
         IsRestOutcome bytes (Ok (option_map plain_metadata metadata.new, map plain_symbol externals.new.items))) }
-    ensures err { IfErr result (λ e. (bytes : List ℕ) (front : List Piece) →
+    ensures err { IfErr result (λ e. (bytes : List ℕ) (front : List PayloadRecord) →
         ReaderStands bytes front at rest.now (option_map plain_metadata metadata.old) (map plain_symbol externals.old.items) → UnlessMemory e (IsFirstFault index_fault 0 bytes e)) }
 {
     let mut place = at;

@@ -3,7 +3,7 @@ ghost use Rattle.std.specs.Prelude.{◌≡◌, IfErr, IfOk, None, OnOk, Result};
 ghost use Rattle.proto_wire.specs.declared.fault.WireFault.{WireFault};
 ghost use Rattle.proto_wire.specs.Faults.{Stops, Tells};
 ghost use Rattle.proto_wire.specs.Messages.{fault_of};
-ghost use Rattle.proto_wire.specs.Readings.{pieces_of};
+ghost use Rattle.proto_wire.specs.Readings.{payload_records};
 ghost use Rattle.scip_index.specs.Plain.{plain_document, plain_index, plain_metadata, plain_occurrence, plain_symbol, plain_tool, PlainIndex};
 ghost use Rattle.scip_index.specs.Meaning.{document_fault, document_of, index_fault, index_of, metadata_fault, metadata_of, occurrence_fault, occurrence_of, symbol_fault, symbol_of, tool_fault, tool_of, IsIndexOutcome};
 
@@ -155,7 +155,7 @@ impl Message for Index {
 /// Reads the index, without what its clauses add.
 fn index_in(alloc: Global, bytes: &[u8]) -> Result<Index, WireFault>
     ensures clean { OnOk result (fault_of index_fault 0 bytes.now ≡ None) }
-    ensures means { IfOk result (λ i. plain_index i ≡ index_of (pieces_of 0 bytes.now).0) }
+    ensures means { IfOk result (λ i. plain_index i ≡ index_of (payload_records 0 bytes.now).0) }
     ensures err { IfErr result (λ e. Stops e (fault_of index_fault 0 bytes.now)) }
 {
     read_message(alloc, 0, bytes)

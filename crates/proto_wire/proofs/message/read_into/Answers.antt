@@ -2,8 +2,8 @@ use Rattle.std.proofs.Common.{◌++◌, ◌∷◌, [], Some, None, List, subst, 
 use Rattle.std.proofs.lemmas.Result.{err_from_is_err_and}
 use Rattle.std.proofs.lemmas.List.{append-nil}
 use Rattle.std.proofs.lemmas.Bool.{eqb-true}
-use Rattle.proto_wire.specs.Messages.{piece_of}
-use Rattle.proto_wire.specs.Records.{Piece}
+use Rattle.proto_wire.specs.Messages.{payload_record}
+use Rattle.proto_wire.specs.Records.{PayloadRecord}
 use Rattle.proto_wire.proofs.PieceLaws.{some_from_test}
 use Rattle.proto_wire.proofs.PieceReadings.{records_found, stop_found}
 use Rattle.proto_wire.proofs.RowLaws.{IsSplit-start, IsSplit-step, IsSplit-fault, IsSplit-end}
@@ -35,7 +35,7 @@ returns-in_err-take-clause-err g c =
     let inside = g.M.Message.fault_in in
     let fault = c.in_err-take.field-0.0 in
     let here = c.in_ok-wire in
-    let taken = piece_of here.wire here.payload.now in
+    let taken = payload_record here.wire here.payload.now in
     rw (p.1, p.2)
     (UnlessMemory-then fault c.in_err-take.ensures.err
     (λ e. fault_of-inside inside c.args.start c.args.bytes.now read.0 taken _ here.after.now fault read.1
@@ -45,13 +45,13 @@ pub loop-rest-preserved : goal.loop-rest-preserved
 loop-rest-preserved g c =
     let read = c.loop-rest.invariant.read in
     let here = c.in_ok-wire in
-    let taken = piece_of here.wire here.payload.now in
+    let taken = payload_record here.wire here.payload.now in
     let now = c.take.new.self in
     record {
       read = (
         read.0 ++ taken ∷ [],
         IsClean-push g.M.Message.fault_in read.0 taken read.1 c.in_ok-take.ensures.clean,
-        λ before h. subst (λ (ps : List Piece). g.M.Message.means now ps) (append_assoc before read.0 (taken ∷ [])) (c.in_ok-take.ensures.means (before ++ read.0) (read.2 before h)),
+        λ before h. subst (λ (ps : List PayloadRecord). g.M.Message.means now ps) (append_assoc before read.0 (taken ∷ [])) (c.in_ok-take.ensures.means (before ++ read.0) (read.2 before h)),
         IsSplit-step c.args.start c.args.bytes.now read.0 c.loop-rest.at c.loop-rest.rest.now taken here.after.now read.3 here.ensures.exact,
       );
       inside = omega (arith, here.ensures.shorter);

@@ -2,7 +2,7 @@ use Rattle.std.proofs.Common.{◌++◌, ◌∷◌, [], Ok, Err, sym, arith}
 use Rattle.std.proofs.lemmas.Result.{err_from_is_err_and}
 use Rattle.std.proofs.lemmas.List.{map_push}
 use Rattle.std.proofs.lemmas.Bool.{eqb-true}
-use Rattle.proto_wire.specs.Records.{Piece}
+use Rattle.proto_wire.specs.Records.{PayloadRecord}
 use Rattle.proto_wire.proofs.FaultLaws.{UnlessMemory-from}
 use Rattle.proto_wire.proofs.PieceLaws.{some_from_test}
 use Rattle.proto_wire.proofs.RowLaws.{IsSplit-start, IsSplit-step, IsSplit-fault, IsSplit-end}
@@ -27,7 +27,7 @@ pub loop-rest-preserved : goal.loop-rest-preserved
 loop-rest-preserved c =
     let read = c.loop-rest.invariant.read in
     let here = c.in_ok-record in
-    let p : Piece = record { wire = here.record; payload = here.field-0-1.now } in
+    let p : PayloadRecord = record { wire = here.record; payload = here.field-0-1.now } in
     record {
       read = (read.0 ++ p ∷ [], rw c.in_ok-push.ensures.items (rw read.1 (sym (map_push _ read.0 p))), IsSplit-step 0 c.args.bytes.now read.0 c.loop-rest.at c.loop-rest.rest.now p here.after.now read.2 here.ensures.exact);
       inside = omega (arith, here.ensures.shorter);

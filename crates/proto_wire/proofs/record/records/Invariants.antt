@@ -1,10 +1,10 @@
 use Rattle.std.proofs.Common.{◌≡◌, ◌+◌, ◌≤◌, List, length, map}
-use Rattle.proto_wire.specs.Records.{Piece, IsSplit}
+use Rattle.proto_wire.specs.Records.{PayloadRecord, IsSplit}
 use Rattle.proto_wire.proofs.record.records.Given as goal
 
 abbrev pub invariant-loop-rest : goal.invariant-loop-rest
 invariant-loop-rest l = record {
-  read : (front : List Piece) × (l.found.items ≡ map (λ p. p.wire) front) × IsSplit 0 l.bytes front l.at l.rest;
+  read : (front : List PayloadRecord) × (l.found.items ≡ map (λ p. p.wire) front) × IsSplit 0 l.bytes front l.at l.rest;
   inside : l.at + length l.rest ≤ length l.bytes;
 }
 

@@ -4,7 +4,7 @@ use Rattle.std.specs.Option.{option_to_list}
 use Rattle.std.proofs.lemmas.Result.{err_from_is_err_and}
 use Rattle.std.proofs.lemmas.List.{append-nil}
 use Rattle.std.proofs.lemmas.Bool.{eqb-true}
-use Rattle.proto_wire.specs.Records.{Piece}
+use Rattle.proto_wire.specs.Records.{PayloadRecord}
 use Rattle.proto_wire.proofs.FaultLaws.{UnlessMemory-then}
 use Rattle.scip_index.specs.Plain.{plain_document, plain_metadata, plain_symbol, PlainDocument}
 use Rattle.scip_index.specs.Streaming.{ReaderStands, documents_in}
@@ -28,7 +28,7 @@ returns-then-is_some-clause-found c = λ bytes front s.
     let metadata = option_map plain_metadata c.take_record.new.metadata in
     let externals = map plain_symbol c.take_record.new.externals.items in (
       k.0 ++ t.0 ∷ [],
-      subst (λ (ps : List Piece). ReaderStands bytes ps here.next here.after.now metadata externals) same t.1,
+      subst (λ (ps : List PayloadRecord). ReaderStands bytes ps here.next here.after.now metadata externals) same t.1,
       ap documents_in (sym same) ∙ t.2 ∙ ap (λ (ds : List PlainDocument). ds ++ map plain_document (option_to_list here.document)) k.2,
       not_none here.document _ c.if-is_some.ensures,
     )
@@ -45,7 +45,7 @@ records-preserved c =
           let metadata = option_map plain_metadata c.take_record.new.metadata in
           let externals = map plain_symbol c.take_record.new.externals.items in (
             k.0 ++ t.0 ∷ [],
-            subst (λ (ps : List Piece). ReaderStands bytes ps here.next here.after.now metadata externals) same t.1,
+            subst (λ (ps : List PayloadRecord). ReaderStands bytes ps here.next here.after.now metadata externals) same t.1,
             ap documents_in (sym same) ∙ t.2 ∙ ap (λ (ds : List PlainDocument). ds ++ map plain_document (option_to_list here.document)) k.2
                 ∙ ap (λ ds. documents_in front ++ map plain_document ds) none ∙ append-nil (documents_in front),
           );

@@ -2,7 +2,7 @@ use Rattle.std.proofs.Common.{◌++◌, ◌∷◌, [], List, map, sym, subst, ap
 use Rattle.std.specs.Prelude.{option_map}
 use Rattle.std.proofs.lemmas.Result.{err_from_is_err_and}
 use Rattle.std.proofs.lemmas.Bool.{eqb-true}
-use Rattle.proto_wire.specs.Records.{Piece}
+use Rattle.proto_wire.specs.Records.{PayloadRecord}
 use Rattle.proto_wire.proofs.FaultLaws.{UnlessMemory-then}
 use Rattle.scip_index.specs.Plain.{plain_metadata, plain_symbol}
 use Rattle.scip_index.specs.Streaming.{ReaderStands}
@@ -28,7 +28,7 @@ records-preserved c =
           let metadata = option_map plain_metadata c.take_record.new.metadata in
           let externals = map plain_symbol c.take_record.new.externals.items in (
             k.0 ++ t.0 ∷ [],
-            subst (λ (ps : List Piece). ReaderStands bytes ps here.next here.after.now metadata externals) same t.1,
+            subst (λ (ps : List PayloadRecord). ReaderStands bytes ps here.next here.after.now metadata externals) same t.1,
           );
       inside = omega (arith, here.ensures.shorter.1, c.records.invariant.inside);
     }

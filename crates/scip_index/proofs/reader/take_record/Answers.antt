@@ -2,8 +2,8 @@ use Rattle.std.proofs.Common.{◌≡◌, ◌++◌, [], ℕ, List, map, Option, S
 use Rattle.std.proofs.lemmas.Result.{err_from_is_err_and}
 use Rattle.proto_wire.specs.declared.fault.WireFault.{WireFault}
 use Rattle.proto_wire.specs.Faults.{Stops, UnlessMemory}
-use Rattle.proto_wire.specs.Records.{Piece, IsFirst}
-use Rattle.proto_wire.specs.Messages.{piece_of, each_of, if_field, field_fault, message_fault, records_inside, in_record, of_record, IsFaultBehind}
+use Rattle.proto_wire.specs.Records.{PayloadRecord, IsFirst}
+use Rattle.proto_wire.specs.Messages.{payload_record, each_of, if_field, field_fault, message_fault, records_inside, in_record, of_record, IsFaultBehind}
 use Rattle.proto_wire.proofs.FaultLaws.{UnlessMemory-from, UnlessMemory-then}
 use Rattle.proto_wire.proofs.MessageSteps.{each_of-push}
 use Rattle.proto_wire.proofs.RowLaws.{IsSplit-step, IsSplit-fault}
@@ -16,7 +16,7 @@ use Rattle.scip_index.proofs.StreamingLaws.{at_most_one}
 use Rattle.scip_index.proofs.reader.take_record.Goals as goal
 
 -- a fault inside a record that was read is the index's
-stops_inside : (fault : WireFault) (bytes : List ℕ) (front : List Piece) (at : ℕ) (rest : List ℕ) (metadata : Option PlainMetadata) (externals : List PlainSymbol) (p : Piece) (after : List ℕ) (inner : Option WireFault)
+stops_inside : (fault : WireFault) (bytes : List ℕ) (front : List PayloadRecord) (at : ℕ) (rest : List ℕ) (metadata : Option PlainMetadata) (externals : List PlainSymbol) (p : PayloadRecord) (after : List ℕ) (inner : Option WireFault)
     → ReaderStands bytes front at rest metadata externals → IsFirst at rest (Ok (p, after)) → Stops fault inner → (inner ≡ Some fault → index_fault p ≡ Some fault) → UnlessMemory fault (IsFaultBehind index_fault 0 bytes front fault)
 stops_inside fault bytes front at rest metadata externals p after inner s read h go =
     UnlessMemory-then fault h
@@ -33,7 +33,7 @@ pub returns-in_err-merge_message-clause-err : goal.returns-in_err-merge_message-
 returns-in_err-merge_message-clause-err c =
     let q = err_from_is_err_and c.from_residual-in_err-merge_message.result c.from_residual-in_err-merge_message.ensures.1 in
     let here = c.in_ok-wire in
-    let p = piece_of here.wire here.payload.now in
+    let p = payload_record here.wire here.payload.now in
     rw (q.1, q.2)
     (λ bytes front s. stops_inside c.in_err-merge_message.field-0.0 bytes front c.args.at c.args.rest.now _ _ p here.after.now (field_fault 1 p.wire (message_fault metadata_fault p)) s here.ensures.exact c.in_err-merge_message.ensures.err
     (λ e. rw e refl))
@@ -42,7 +42,7 @@ pub returns-in_err-take_messages-clause-err : goal.returns-in_err-take_messages-
 returns-in_err-take_messages-clause-err c =
     let q = err_from_is_err_and c.from_residual-in_err-take_messages.result c.from_residual-in_err-take_messages.ensures.1 in
     let here = c.in_ok-wire in
-    let p = piece_of here.wire here.payload.now in
+    let p = payload_record here.wire here.payload.now in
     rw (q.1, q.2)
     (λ bytes front s. stops_inside c.in_err-take_messages.field-0.0 bytes front c.args.at c.args.rest.now _ _ p here.after.now (field_fault 2 p.wire (message_fault document_fault p)) s here.ensures.exact c.in_err-take_messages.ensures.err
     (λ e. rw (c.in_ok-merge_message.ensures.clean, e) refl))
@@ -51,7 +51,7 @@ pub returns-in_err-take_messages-2-clause-err : goal.returns-in_err-take_message
 returns-in_err-take_messages-2-clause-err c =
     let q = err_from_is_err_and c.from_residual-in_err-take_messages-2.result c.from_residual-in_err-take_messages-2.ensures.1 in
     let here = c.in_ok-wire in
-    let p = piece_of here.wire here.payload.now in
+    let p = payload_record here.wire here.payload.now in
     rw (q.1, q.2)
     (λ bytes front s. stops_inside c.in_err-take_messages-2.field-0.0 bytes front c.args.at c.args.rest.now _ _ p here.after.now (field_fault 3 p.wire (message_fault symbol_fault p)) s here.ensures.exact c.in_err-take_messages-2.ensures.err
     (λ e. rw (c.in_ok-merge_message.ensures.clean, c.in_ok-take_messages.ensures.clean, e) refl))
@@ -59,7 +59,7 @@ returns-in_err-take_messages-2-clause-err c =
 pub returns-clause-taken : goal.returns-clause-taken
 returns-clause-taken c = λ bytes front s.
     let here = c.in_ok-wire in
-    let p = piece_of here.wire here.payload.now in
+    let p = payload_record here.wire here.payload.now in
     let given = each_of 1 records_inside front in
     let before = IsMerged-to plain_metadata metadata_of c.args.metadata.now given s.metadata_is in
     let after = IsMerged-from plain_metadata metadata_of c.merge_message.new.message (given ++ if_field 1 p.wire (records_inside p)) (c.in_ok-merge_message.ensures.means given before) in
@@ -78,5 +78,5 @@ returns-clause-taken c = λ bytes front s.
 pub sole-requires : goal.sole-requires
 sole-requires c =
     let here = c.in_ok-wire in
-    let p = piece_of here.wire here.payload.now in
+    let p = payload_record here.wire here.payload.now in
     at_most_one 2 p c.take_messages.new.messages.items (rw c.new-documents.ensures.items at c.in_ok-take_messages.ensures.means)

@@ -1,5 +1,5 @@
 use Rattle.std.proofs.Common.{refl}
-use Rattle.proto_wire.specs.Messages.{piece_of, each_of, if_field, records_inside}
+use Rattle.proto_wire.specs.Messages.{payload_record, each_of, if_field, records_inside}
 use Rattle.std.specs.Prelude.{◌++◌}
 use Rattle.std.proofs.Common.{ap}
 use Rattle.scip_index.specs.Plain.{plain_tool, PlainMetadata}
@@ -9,7 +9,7 @@ use Rattle.scip_index.proofs.reading.MetadataMessage.take.Goals as goal
 
 pub returns-clause-means : goal.returns-clause-means
 returns-clause-means c = λ front h.
-    let p = piece_of c.args.wire.now c.args.payload.now in
+    let p = payload_record c.args.wire.now c.args.payload.now in
     let given = each_of 2 records_inside front in
     let before = IsMerged-to plain_tool tool_of c.args.self.now.tool_info given (ap (λ (m : PlainMetadata). m.tool_info) h) in
     let after = IsMerged-from plain_tool tool_of c.merge_message.new.message (given ++ if_field 2 p.wire (records_inside p)) (c.in_ok-merge_message.ensures.means given before) in
