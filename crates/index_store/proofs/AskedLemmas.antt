@@ -17,7 +17,7 @@ use Rattle.index_store.specs.Asked.{covering_span, nearer, nearer_of, nearest, p
 use Rattle.index_store.specs.Queries.{Covers, PlacedOccurrence, HasPath, IsNearest, IsSymbolAt, NoneCovers, PlainPlace, all_found, is_definition, is_local, is_sought, place_given, place_of, places_of}
 use Rattle.index_store.specs.Spans.{is_before, is_in, is_nearer, span_of}
 use Rattle.index_store.specs.Stores.{AreWhole, IsStoreOf, Tables, covering_in, coverings_under, mention_given, mention_of, mentions_under, said_covering, said_mention}
-use Rattle.index_store.specs.Tables.{number_of, rows_at, rows_under, text_at}
+use Rattle.index_store.specs.Tables.{text_number, rows_at, rows_under, text_at}
 use Rattle.index_store.proofs.TableLemmas.{bytes_same, same_bytes, text_among, under_number}
 
 -- ---- positions and spans in order
@@ -252,7 +252,7 @@ nearest_is P at best (r ∷ rows) c h all e =
     nearest_is P at (nearer covering_span at best r) rows c (λ b. nearer_is P at best r b h (all 0 r (omega arith))) (λ k d l. all (suc k) d (omega (arith, l))) e
 
 -- what a store of the index answers, where it has the path
-pub nearest_here : (index : PlainIndex) (t : Tables) (path : List ℕ) (at : Position) (n : ℕ) (near : Option Covering) → AreWhole t → IsStoreOf index t → number_of t.paths path ≡ Some n → near ≡ nearest (rows_at t.coverings n) at
+pub nearest_here : (index : PlainIndex) (t : Tables) (path : List ℕ) (at : Position) (n : ℕ) (near : Option Covering) → AreWhole t → IsStoreOf index t → text_number t.paths path ≡ Some n → near ≡ nearest (rows_at t.coverings n) at
     → HasPath index path × IsSymbolAt (all_found index) path at (option_map (λ c. text_at t.symbols c.symbol) near)
 nearest_here index t path at n near whole store there is =
     let under : rows_under t.paths t.coverings path ≡ rows_at t.coverings n = under_number t.paths t.coverings path n whole.of_paths there in (

@@ -16,7 +16,7 @@ use Rattle.scip_index.specs.Plain.{PlainDocument, plain_document, plain_occurren
 use Rattle.index_store.specs.Queries.{PlacedOccurrence, found_at, found_in, is_definition}
 use Rattle.index_store.specs.Spans.{span_of}
 use Rattle.index_store.specs.Stores.{AreWhole, IsMentionOf, Keeps, Mentioned, Tables, covering_given, covering_in, coverings_under, mention_of, mentions_under, paths_of, said_covering, said_mention}
-use Rattle.index_store.specs.Tables.{IsEntered, number_of, rows_at, rows_under, text_at}
+use Rattle.index_store.specs.Tables.{IsEntered, text_number, rows_at, rows_under, text_at}
 use Rattle.index_store.proofs.TableLemmas.{number_last, number_there, text_among, text_kept, under_added, under_pushed}
 
 -- ---- a text more, behind which all numbers stay
@@ -145,7 +145,7 @@ mentions_with t n m = set t.mentions n (rows_at t.mentions n ++ m ∷ [])
 abbrev pub coverings_with : Tables → ℕ → Covering → List (List Covering)
 coverings_with t n c = set t.coverings n (rows_at t.coverings n ++ c ∷ [])
 
-module _ (paths : List (List ℕ)) (found : List PlacedOccurrence) (t : Tables) (f : PlacedOccurrence) (m : Mention) (symbol : ℕ) (whole : AreWhole t) (k : Keeps paths found t) (at_path : number_of t.paths f.path ≡ Some m.path) (at_symbol : number_of t.symbols f.occurrence.symbol ≡ Some symbol)
+module _ (paths : List (List ℕ)) (found : List PlacedOccurrence) (t : Tables) (f : PlacedOccurrence) (m : Mention) (symbol : ℕ) (whole : AreWhole t) (k : Keeps paths found t) (at_path : text_number t.paths f.path ≡ Some m.path) (at_symbol : text_number t.symbols f.occurrence.symbol ≡ Some symbol)
     (placed : span_of f.occurrence.range ≡ Some m.span) (defines : m.defines ≡ is_definition f.occurrence) where
   mentions_more : (s : List ℕ) → map (said_mention t.paths) (rows_under t.symbols (mentions_with t symbol m) s) ≡ flat_map (mention_of s) (found ++ f ∷ [])
   mentions_more s =
@@ -191,7 +191,7 @@ module _ {A : Type 0} (texts : List (List ℕ)) (rows : List (List A)) (text : L
   entered_whole (inl (at, t, r)) = rw (t, r) long
   entered_whole (inr (new, t, r, last)) = rw (t, r) (let e = length-append texts (text ∷ []) in let f = length-append rows ([] ∷ []) in omega (arith, e, f, long))
 
-  pub entered_number : IsEntered texts rows text more_texts more_rows n → number_of more_texts text ≡ Some n
+  pub entered_number : IsEntered texts rows text more_texts more_rows n → text_number more_texts text ≡ Some n
   entered_number (inl (at, t, r)) = rw t at
   entered_number (inr (new, t, r, last)) = rw (t, last) (number_last texts text new)
 
@@ -220,12 +220,12 @@ module _ (t : Tables) (symbol : List ℕ) (ss : List (List ℕ)) (ms : List (Lis
   pub covered_whole : (c : Covering) → AreWhole (record { paths = t.paths; coverings = set t.coverings m.path (rows_at t.coverings m.path ++ c ∷ []); symbols = ss; mentions = set ms n (rows_at ms n ++ m ∷ []) })
   covered_whole c = record { of_paths = whole.of_paths ∙ sym (length-set t.coverings m.path (rows_at t.coverings m.path ++ c ∷ [])); of_symbols = bare_whole.of_symbols }
 
-  module _ (paths : List (List ℕ)) (found : List PlacedOccurrence) (f : PlacedOccurrence) (k : Keeps paths found t) (at : number_of t.paths f.path ≡ Some m.path) (is : IsMentionOf f symbol m) where
+  module _ (paths : List (List ℕ)) (found : List PlacedOccurrence) (f : PlacedOccurrence) (k : Keeps paths found t) (at : text_number t.paths f.path ≡ Some m.path) (is : IsMentionOf f symbol m) where
     kept_entered : Keeps paths found (record { paths = t.paths; coverings = t.coverings; symbols = ss; mentions = ms })
     kept_entered = symbol_entered paths found t symbol ss ms n whole k entered
 
-    number_more : number_of ss f.occurrence.symbol ≡ Some n
-    number_more = ap (number_of ss) is.named ∙ entered_number t.symbols t.mentions symbol ss ms n whole.of_symbols entered
+    number_more : text_number ss f.occurrence.symbol ≡ Some n
+    number_more = ap (text_number ss) is.named ∙ entered_number t.symbols t.mentions symbol ss ms n whole.of_symbols entered
 
     pub bare_mentioned : eqb (length symbol) 0 ≡ true → Keeps paths (found ++ f ∷ []) (record { paths = t.paths; coverings = t.coverings; symbols = ss; mentions = set ms n (rows_at ms n ++ m ∷ []) })
     bare_mentioned e =

@@ -20,9 +20,9 @@ abbrev pub rows_at : {A : Type 0} → List (List A) → ℕ → List A
 rows_at rows n = slice_index_or rows n []
 
 -- the number of a text
-abbrev pub number_of : List (List ℕ) → List ℕ → Option ℕ
-number_of [] text = None
-number_of (t ∷ texts) text = if bytes_eq text t then Some 0 else option_map (λ n. n + 1) (number_of texts text)
+abbrev pub text_number : List (List ℕ) → List ℕ → Option ℕ
+text_number [] text = None
+text_number (t ∷ texts) text = if bytes_eq text t then Some 0 else option_map (λ n. n + 1) (text_number texts text)
 
 -- the rows under a text
 abbrev pub rows_under : {A : Type 0} → List (List ℕ) → List (List A) → List ℕ → List A
@@ -33,5 +33,5 @@ rows_under (t ∷ texts) (r ∷ rows) text = if bytes_eq text t then r else rows
 -- the text was there with this number, or it stands behind the others now, with no rows
 abbrev pub IsEntered : {A : Type 0} → List (List ℕ) → List (List A) → List ℕ → List (List ℕ) → List (List A) → ℕ → Type 0
 IsEntered texts rows text more_texts more_rows n =
-    ((number_of texts text ≡ Some n) × (more_texts ≡ texts) × (more_rows ≡ rows))
-    ⊎ ((number_of texts text ≡ None) × (more_texts ≡ texts ++ text ∷ []) × (more_rows ≡ rows ++ [] ∷ []) × (n ≡ length texts))
+    ((text_number texts text ≡ Some n) × (more_texts ≡ texts) × (more_rows ≡ rows))
+    ⊎ ((text_number texts text ≡ None) × (more_texts ≡ texts ++ text ∷ []) × (more_rows ≡ rows ++ [] ∷ []) × (n ≡ length texts))

@@ -8,7 +8,7 @@ ghost use Rattle.scip_index.specs.Streaming.{given};
 ghost use Rattle.scip_index.specs.Plain.{plain_document, plain_occurrence};
 ghost use Rattle.index_store.specs.Queries.{PlacedOccurrence, found_at, found_in, is_definition};
 ghost use Rattle.index_store.specs.Stores.{paths_of, tables_of, AreWhole, IsMentionOf, IsStoreOfBytes, Keeps};
-ghost use Rattle.index_store.specs.Tables.{number_of, texts_in};
+ghost use Rattle.index_store.specs.Tables.{text_number, texts_in};
 
 use crate::row::{Covering, Mention};
 use crate::span::span_of;
@@ -54,7 +54,7 @@ impl Draft {
         requires within { mention.path < length (texts_in self.old.by_path) }
         ensures whole { OnOk result (AreWhole (tables_of self.new)) }
         ensures paths { texts_in self.new.by_path ≡ texts_in self.old.by_path }
-        ensures kept { (paths : List (List ℕ)) (found : List PlacedOccurrence) (f : PlacedOccurrence) → Keeps paths found (tables_of self.old) → number_of (texts_in self.old.by_path) f.path ≡ Some mention.path → IsMentionOf f symbol.now mention → OnOk result (Keeps paths (found ++ f ∷ []) (tables_of self.new)) }
+        ensures kept { (paths : List (List ℕ)) (found : List PlacedOccurrence) (f : PlacedOccurrence) → Keeps paths found (tables_of self.old) → text_number (texts_in self.old.by_path) f.path ≡ Some mention.path → IsMentionOf f symbol.now mention → OnOk result (Keeps paths (found ++ f ∷ []) (tables_of self.new)) }
     {
         let number = self.by_symbol.enter(alloc, symbol)?;
         self.by_symbol.push(number, mention)?;
@@ -74,7 +74,7 @@ impl Draft {
         requires within { path < length (texts_in self.old.by_path) }
         ensures whole { OnOk result (AreWhole (tables_of self.new)) }
         ensures paths { texts_in self.new.by_path ≡ texts_in self.old.by_path }
-        ensures kept { (paths : List (List ℕ)) (found : List PlacedOccurrence) (name : List ℕ) → Keeps paths found (tables_of self.old) → number_of (texts_in self.old.by_path) name ≡ Some path → OnOk result (Keeps paths (found ++ found_at name (plain_occurrence occurrence.now) ∷ []) (tables_of self.new)) }
+        ensures kept { (paths : List (List ℕ)) (found : List PlacedOccurrence) (name : List ℕ) → Keeps paths found (tables_of self.old) → text_number (texts_in self.old.by_path) name ≡ Some path → OnOk result (Keeps paths (found ++ found_at name (plain_occurrence occurrence.now) ∷ []) (tables_of self.new)) }
     {
         match span_of(occurrence.range.as_slice()) {
             None => Ok(()),

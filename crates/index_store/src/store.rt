@@ -95,7 +95,7 @@ impl Store {
     pub fn symbol_at(&self, path: &str, at: Position) -> Result<Option<&str>, StoreFault>
         ensures exact { (index : PlainIndex) → IsStoreOf index self.now → IsSymbolAnswer index path.now at (answered (option_map (λ symbol. symbol.now)) result) }
     {
-        match self.by_path.number_of(path) {
+        match self.by_path.text_number(path) {
             None => Err(StoreFault::NoDocument),
             Some(number) => match nearest(self.by_path.rows(number), at) {
                 None => Ok(None),
@@ -118,7 +118,7 @@ impl Store {
             path,
         };
         let alloc = self.by_symbol.allocator();
-        match self.by_symbol.number_of(symbol) {
+        match self.by_symbol.text_number(symbol) {
             None => Ok(Vec::new(alloc)),
             Some(number) => {
                 places_asked(alloc, asked, &self.by_path, self.by_symbol.rows(number))
@@ -134,7 +134,7 @@ impl Store {
     ) -> Result<Vec<Place<'a>>, StoreFault>
         ensures exact { (index : PlainIndex) → IsStoreOf index self.now → ArePlacesAnswer index path.now (places_wanted defines index path.now symbol.now) (answered (λ places. map plain_place places.items) result) }
     {
-        match self.by_path.number_of(path) {
+        match self.by_path.text_number(path) {
             None => Err(StoreFault::NoDocument),
             Some(_) => Ok(self.places_of(path, symbol, defines)?),
         }

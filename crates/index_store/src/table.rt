@@ -1,7 +1,7 @@
 //! Rows under texts.
 ghost use Rattle.std.specs.Prelude.{◌≡◌, ◌<◌, ◌++◌, [], ◌∷◌, length, map, slice_set, IfOk, OnOk, None};
 ghost use Rattle.std.specs.String.{string_bytes};
-ghost use Rattle.index_store.specs.Tables.{number_of, rows_at, rows_in, text_at, texts_in, IsEntered};
+ghost use Rattle.index_store.specs.Tables.{text_number, rows_at, rows_in, text_at, texts_in, IsEntered};
 
 use indexmap::IndexSet;
 use std::alloc::{AllocError, Global};
@@ -15,7 +15,7 @@ pub(crate) struct Table<T: Drop> {
 
 /// Puts a text behind the others.
 fn add_text(texts: &mut IndexSet<String>, alloc: Global, text: &str) -> Result<(), AllocError>
-    requires { number_of (map string_bytes texts.old.keys) text.now ≡ None }
+    requires { text_number (map string_bytes texts.old.keys) text.now ≡ None }
     ensures { OnOk result (map string_bytes texts.new.keys ≡ map string_bytes texts.old.keys ++ text.now ∷ []) }
 {
     let text = String::from_str(alloc, text)?;
@@ -39,14 +39,14 @@ impl<T: Drop> Table<T> {
         *self.rows.allocator()
     }
 
-    pub(crate) fn number_of(&self, text: &str) -> Option<usize>
-        ensures { result ≡ number_of (texts_in self.now) text.now }
+    pub(crate) fn text_number(&self, text: &str) -> Option<usize>
+        ensures { result ≡ text_number (texts_in self.now) text.now }
     {
         self.texts.get_index_of(text)
     }
 
     fn add(&mut self, alloc: Global, text: &str) -> Result<usize, AllocError>
-        requires new { number_of (texts_in self.old) text.now ≡ None }
+        requires new { text_number (texts_in self.old) text.now ≡ None }
         requires as_many { length (texts_in self.old) ≡ length (rows_in self.old) }
         ensures texts { OnOk result (texts_in self.new ≡ texts_in self.old ++ text.now ∷ []) }
         ensures rows { OnOk result (rows_in self.new ≡ rows_in self.old ++ [] ∷ []) }
@@ -63,7 +63,7 @@ impl<T: Drop> Table<T> {
         requires as_many { length (texts_in self.old) ≡ length (rows_in self.old) }
         ensures { IfOk result (IsEntered (texts_in self.old) (rows_in self.old) text.now (texts_in self.new) (rows_in self.new)) }
     {
-        match self.number_of(text) {
+        match self.text_number(text) {
             Some(number) => Ok(number),
             None => self.add(alloc, text),
         }

@@ -9,7 +9,7 @@ use Rattle.proto_wire.specs.declared.record.WireValue.TheVariants.{Bytes}
 use Rattle.proto_wire.specs.Records.{PayloadRecord}
 use Rattle.proto_wire.specs.Readings.{payload_records}
 use Rattle.proto_wire.specs.Messages.{if_field, each_of, latest, records_inside, IsClean}
-use Rattle.proto_wire.specs.Writing.{Field, FieldFits, payload_fields, spelling, pieces_at, Carries, CarryAll}
+use Rattle.proto_wire.specs.Writing.{Field, FieldFits, payload_fields, spelled_fields, pieces_at, Carries, CarryAll}
 use Rattle.proto_wire.proofs.PieceReadings.{records_found}
 use Rattle.proto_wire.proofs.WritingLaws.{records_again}
 use Rattle.proto_wire.proofs.GivenLaws.{if_field-hit}
@@ -50,8 +50,8 @@ each_of-miss k j gives (p ∷ ps) (f ∷ fs) h same apart =
     rw (if_field-miss k p (gives p) (λ e. apart (sym same.0 ∙ sym h.0.number ∙ e)), each_of-miss k j gives ps fs h.1 same.1 apart) refl
 
 -- fields that are written are read again, and nothing else
-pub pieces-again : (at : ℕ) (fs : List Field) → AllByRecursion FieldFits fs → payload_records at (spelling fs) ≡ (pieces_at at fs, None)
-pieces-again at fs fits = records_found at (spelling fs) (pieces_at at fs) (records_again at fs fits)
+pub pieces-again : (at : ℕ) (fs : List Field) → AllByRecursion FieldFits fs → payload_records at (spelled_fields fs) ≡ (pieces_at at fs, None)
+pieces-again at fs fits = records_found at (spelled_fields fs) (pieces_at at fs) (records_again at fs fits)
 
 -- what carries two rows of fields is two rows
 pub CarryAll-split : (ps : List PayloadRecord) (fs gs : List Field) → CarryAll ps (fs ++ gs) → (front : List PayloadRecord) × (back : List PayloadRecord) × (ps ≡ front ++ back) × CarryAll front fs × CarryAll back gs

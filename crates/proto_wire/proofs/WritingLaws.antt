@@ -5,7 +5,7 @@ use Rattle.std.proofs.lemmas.List.{append-nil, length-append}
 use Rattle.proto_wire.specs.Varints.{varint, IsVarint}
 use Rattle.proto_wire.specs.Records.{IsField, IsKey, IsRecord, AreRecords}
 use Rattle.proto_wire.specs.Readings.{record_in}
-use Rattle.proto_wire.specs.Writing.{Content, Number, Payload, Field, key_of, spelled_as, spelled, spelling, ContentFits, FieldFits, placed, piece_at, pieces_at, Carries, CarryAll}
+use Rattle.proto_wire.specs.Writing.{Content, Number, Payload, Field, key_of, spelled_as, spelled, spelled_fields, ContentFits, FieldFits, placed, piece_at, pieces_at, Carries, CarryAll}
 use Rattle.proto_wire.proofs.VarintLaws.{varint-again}
 use Rattle.proto_wire.proofs.VarintReadings.{VarintRead, varint_read}
 use Rattle.proto_wire.proofs.RecordReadings.{record_found}
@@ -54,9 +54,9 @@ pub record-again : (at : ℕ) (f : Field) (rest : List ℕ) → FieldFits f → 
 record-again at f rest fits = record_found at (spelled f) rest (piece_at at f) (record_again at f fits)
 
 -- fields that are written are records in a row
-pub records_again : (at : ℕ) (fs : List Field) → AllByRecursion FieldFits fs → AreRecords at (spelling fs) (pieces_at at fs)
+pub records_again : (at : ℕ) (fs : List Field) → AllByRecursion FieldFits fs → AreRecords at (spelled_fields fs) (pieces_at at fs)
 records_again at [] fits = refl
-records_again at (f ∷ fs) fits = (spelled f, spelling fs, refl, record_again at f fits.0, records_again (at + length (spelled f)) fs fits.1)
+records_again at (f ∷ fs) fits = (spelled f, spelled_fields fs, refl, record_again at f fits.0, records_again (at + length (spelled f)) fs fits.1)
 
 -- each of them carries its field
 pub carry_again : (at : ℕ) (fs : List Field) → CarryAll (pieces_at at fs) fs

@@ -40,8 +40,8 @@ abbrev pub spelled : Field → List ℕ
 spelled f = spelled_as f.number f.content
 
 -- the records of these fields in a row
-abbrev pub spelling : List Field → List ℕ
-spelling fields = flat_map spelled fields
+abbrev pub spelled_fields : List Field → List ℕ
+spelled_fields fields = flat_map spelled fields
 
 -- a number fits 64 bits, and so does a length
 abbrev pub ContentFits : Content → Type 0

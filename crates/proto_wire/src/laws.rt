@@ -9,7 +9,7 @@ ghost use Rattle.proto_wire.specs.Records.{AreRecords, IsFirst, IsOutcome, IsRec
 ghost use Rattle.proto_wire.specs.Packed.{ArePacked, IsPackedOutcome, packed};
 ghost use Rattle.proto_wire.specs.Readings.{payload_records, record_in};
 ghost use Rattle.proto_wire.specs.Messages.{bytes_in, each_of, fault_of, latest, number_in, numbers_in, IsClean, IsFirstFault};
-ghost use Rattle.proto_wire.specs.Writing.{CarryAll, Field, FieldFits, number_fields, packed_fields, packing, payload_fields, piece_at, pieces_at, spelled, spelling, text_fields};
+ghost use Rattle.proto_wire.specs.Writing.{CarryAll, Field, FieldFits, number_fields, packed_fields, packing, payload_fields, piece_at, pieces_at, spelled, spelled_fields, text_fields};
 
 /// At most one varint stands in front of bytes, and it stands for one number.
 pub fn one_varint()
@@ -63,7 +63,7 @@ pub fn faults_of_messages()
 pub fn what_is_written_is_read()
     ensures one { (at : ℕ) (f : Field) → FieldFits f → IsRecord at (spelled f) (piece_at at f) }
     ensures followed { (at : ℕ) (f : Field) (rest : List ℕ) → FieldFits f → record_in at (spelled f ++ rest) ≡ Ok (piece_at at f, rest) }
-    ensures records { (at : ℕ) (fs : List Field) → AllByRecursion FieldFits fs → AreRecords at (spelling fs) (pieces_at at fs) }
+    ensures records { (at : ℕ) (fs : List Field) → AllByRecursion FieldFits fs → AreRecords at (spelled_fields fs) (pieces_at at fs) }
     ensures carried { (at : ℕ) (fs : List Field) → CarryAll (pieces_at at fs) fs }
     ensures numbers { (zs : List ℤ) → AllByRecursion (FitsSigned w32) zs → ArePacked (packing zs) zs }
 {}

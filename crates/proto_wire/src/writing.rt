@@ -6,7 +6,7 @@ ghost use Rattle.std.specs.List.{AllByRecursion};
 ghost use Rattle.std.specs.Option.{option_to_list};
 ghost use Rattle.std.specs.String.{string_bytes};
 ghost use Rattle.proto_wire.specs.Records.{IsField};
-ghost use Rattle.proto_wire.specs.Writing.{number_fields, packed_fields, payload_field, payload_fields, spelled, spelling, text_fields};
+ghost use Rattle.proto_wire.specs.Writing.{number_fields, packed_fields, payload_field, payload_fields, spelled, spelled_fields, text_fields};
 
 use crate::encoding::{bits_of, push_number, push_packing, push_payload};
 use crate::scratch::Scratch;
@@ -16,7 +16,7 @@ use std::alloc::AllocError;
 /// Where memory is refused, nothing is said of the bytes.
 pub fn put_number(out: &mut Vec<u8>, field: u32, number: i32) -> Result<(), AllocError>
     requires { IsField field }
-    ensures bytes { OnOk result (out.new.items ≡ out.old.items ++ spelling (number_fields field number)) }
+    ensures bytes { OnOk result (out.new.items ≡ out.old.items ++ spelled_fields (number_fields field number)) }
     // As any such number.
     ensures fits { FitsSigned w32 number }
 {
@@ -30,7 +30,7 @@ pub fn put_number(out: &mut Vec<u8>, field: u32, number: i32) -> Result<(), Allo
 /// Where memory is refused, nothing is said of the bytes.
 pub fn put_text(out: &mut Vec<u8>, field: u32, text: &str) -> Result<(), AllocError>
     requires { IsField field }
-    ensures { OnOk result (out.new.items ≡ out.old.items ++ spelling (text_fields field text.now)) }
+    ensures { OnOk result (out.new.items ≡ out.old.items ++ spelled_fields (text_fields field text.now)) }
 {
     if text.is_empty() {
         return Ok(());
@@ -47,7 +47,7 @@ pub fn put_packed(
     numbers: &[i32],
 ) -> Result<(), AllocError>
     requires { IsField field }
-    ensures bytes { OnOk result (out.new.items ≡ out.old.items ++ spelling (packed_fields field numbers.now)) }
+    ensures bytes { OnOk result (out.new.items ≡ out.old.items ++ spelled_fields (packed_fields field numbers.now)) }
     // As any such numbers.
     ensures fits { OnOk result (AllByRecursion (FitsSigned w32) numbers.now) }
 {
@@ -101,7 +101,7 @@ pub fn put_messages<M: Written>(
     messages: &[M],
 ) -> Result<(), AllocError>
     requires { IsField field }
-    ensures bytes { OnOk result (out.new.items ≡ out.old.items ++ spelling (payload_fields field (map M.written messages.now))) }
+    ensures bytes { OnOk result (out.new.items ≡ out.old.items ++ spelled_fields (payload_fields field (map M.written messages.now))) }
     ensures fits { OnOk result (AllByRecursion M.fits messages.now) }
 {
     for message in messages {
@@ -119,7 +119,7 @@ pub fn put_message<M: Written>(
     message: &Option<M>,
 ) -> Result<(), AllocError>
     requires { IsField field }
-    ensures bytes { OnOk result (out.new.items ≡ out.old.items ++ spelling (payload_fields field (map M.written (option_to_list message.now)))) }
+    ensures bytes { OnOk result (out.new.items ≡ out.old.items ++ spelled_fields (payload_fields field (map M.written (option_to_list message.now)))) }
     ensures fits { OnOk result (IfSome message.now M.fits) }
 {
     match message {
@@ -132,7 +132,7 @@ pub fn put_message<M: Written>(
 /// Where memory is refused, nothing is said of the bytes.
 pub fn put_texts(out: &mut Vec<u8>, field: u32, texts: &[String]) -> Result<(), AllocError>
     requires { IsField field }
-    ensures { OnOk result (out.new.items ≡ out.old.items ++ spelling (payload_fields field (map string_bytes texts.now))) }
+    ensures { OnOk result (out.new.items ≡ out.old.items ++ spelled_fields (payload_fields field (map string_bytes texts.now))) }
 {
     for text in texts {
         push_payload(out, field, text.as_bytes())?;

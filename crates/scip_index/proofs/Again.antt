@@ -10,13 +10,13 @@ use Rattle.proto_wire.specs.declared.fault.WireFault.{WireFault}
 use Rattle.proto_wire.specs.Records.{PayloadRecord, IsField}
 use Rattle.proto_wire.specs.Readings.{payload_records}
 use Rattle.proto_wire.specs.Messages.{fault_of, numbers_fault, text_fault, message_fault}
-use Rattle.proto_wire.specs.Writing.{Content, Number, Payload, Field, payload_field, number_fields, text_fields, packing, packed_fields, payload_fields, spelled, spelling, head_of, ContentFits, FieldFits, pieces_at, Carries, CarryAll}
+use Rattle.proto_wire.specs.Writing.{Content, Number, Payload, Field, payload_field, number_fields, text_fields, packing, packed_fields, payload_fields, spelled, spelled_fields, head_of, ContentFits, FieldFits, pieces_at, Carries, CarryAll}
 use Rattle.proto_wire.proofs.FieldLaws.{text-good}
 use Rattle.proto_wire.proofs.GivenLaws.{bits-fit, packed-again}
 use Rattle.proto_wire.proofs.WritingLaws.{carry_again}
 use Rattle.proto_wire.proofs.MessageLaws.{fault_of-end}
 use Rattle.proto_wire.proofs.MessageSteps.{HaveNumber, Restores, pieces-again, IsClean-from}
-use Rattle.scip_index.proofs.WritingSteps.{spelling-append}
+use Rattle.scip_index.proofs.WritingSteps.{spelled_fields-append}
 
 pub text_number : (k : ℕ) (t : List ℕ) → HaveNumber k (text_fields k t)
 text_number k [] = tt
@@ -123,11 +123,11 @@ option_fits Fits (Some v) h = (h, tt)
 
 -- ---- what is inside is no longer than the whole
 
-pub short_left : (fs gs : List Field) → length (spelling (fs ++ gs)) < 2 ^ 64 → length (spelling fs) < 2 ^ 64
-short_left fs gs h = omega (arith, h, ap length (spelling-append fs gs), length-append (spelling fs) (spelling gs))
+pub short_left : (fs gs : List Field) → length (spelled_fields (fs ++ gs)) < 2 ^ 64 → length (spelled_fields fs) < 2 ^ 64
+short_left fs gs h = omega (arith, h, ap length (spelled_fields-append fs gs), length-append (spelled_fields fs) (spelled_fields gs))
 
-pub short_right : (fs gs : List Field) → length (spelling (fs ++ gs)) < 2 ^ 64 → length (spelling gs) < 2 ^ 64
-short_right fs gs h = omega (arith, h, ap length (spelling-append fs gs), length-append (spelling fs) (spelling gs))
+pub short_right : (fs gs : List Field) → length (spelled_fields (fs ++ gs)) < 2 ^ 64 → length (spelled_fields gs) < 2 ^ 64
+short_right fs gs h = omega (arith, h, ap length (spelled_fields-append fs gs), length-append (spelled_fields fs) (spelled_fields gs))
 
 payload_short : (k : ℕ) (bytes rest : List ℕ) → length (spelled (payload_field k bytes) ++ rest) < 2 ^ 64 → (length bytes < 2 ^ 64) × (length rest < 2 ^ 64)
 payload_short k bytes rest h =
@@ -136,20 +136,20 @@ payload_short k bytes rest h =
     (omega (arith, h, whole, one), omega (arith, h, whole, one))
 
 pub each_again : {V : Type 0} (inner : PayloadRecord → Option WireFault) (of : List PayloadRecord → V) (written : V → List ℕ) (Fits : V → Type 0) (k : ℕ) (vs : List V) → ((v : V) → Fits v → length (written v) < 2 ^ 64 → IsAgain inner of v (written v)) → AllByRecursion Fits vs
-    → length (spelling (payload_fields k (map written vs))) < 2 ^ 64 → AllByRecursion (λ v. IsAgain inner of v (written v)) vs
+    → length (spelled_fields (payload_fields k (map written vs))) < 2 ^ 64 → AllByRecursion (λ v. IsAgain inner of v (written v)) vs
 each_again inner of written Fits k [] go fits short = tt
 each_again inner of written Fits k (v ∷ vs) go fits short =
-    let s = payload_short k (written v) (spelling (payload_fields k (map written vs))) short in
+    let s = payload_short k (written v) (spelled_fields (payload_fields k (map written vs))) short in
     (go v fits.0 s.0, each_again inner of written Fits k vs go fits.1 s.1)
 
 content_fits : (k : ℕ) (content : Content) (rest : List ℕ) → NumberFits content → length (spelled (record { number = k; content = content }) ++ rest) < 2 ^ 64 → ContentFits content × (length rest < 2 ^ 64)
 content_fits k (Number n) rest fits h = (fits, omega (arith, h, length-append (spelled (record { number = k; content = Number n })) rest))
 content_fits k (Payload bytes) rest fits h = payload_short k bytes rest h
 
-all_fit : (inside : PayloadRecord → Option WireFault) (fs : List Field) → AreGood inside fs → length (spelling fs) < 2 ^ 64 → AllByRecursion FieldFits fs
+all_fit : (inside : PayloadRecord → Option WireFault) (fs : List Field) → AreGood inside fs → length (spelled_fields fs) < 2 ^ 64 → AllByRecursion FieldFits fs
 all_fit inside [] good short = tt
 all_fit inside (f ∷ fs) good short =
-    let here = content_fits f.number f.content (spelling fs) good.0.fits short in
+    let here = content_fits f.number f.content (spelled_fields fs) good.0.fits short in
     (record { is_field = good.0.is_field; content = here.0 }, all_fit inside fs good.1 here.1)
 
 none_left : (inside : PayloadRecord → Option WireFault) (fs : List Field) → AreGood inside fs → AllByRecursion (λ f. (p : PayloadRecord) → Carries p f → inside p ≡ None) fs
@@ -157,11 +157,11 @@ none_left inside [] good = tt
 none_left inside (f ∷ fs) good = (good.0.none, none_left inside fs good.1)
 
 -- good fields are read again, where the records that carry them say the message
-pub again_from : {V : Type 0} (inside : PayloadRecord → Option WireFault) (of : List PayloadRecord → V) (v : V) (fs : List Field) → AreGood inside fs → length (spelling fs) < 2 ^ 64 → ((ps : List PayloadRecord) → CarryAll ps fs → of ps ≡ v) → IsAgain inside of v (spelling fs)
+pub again_from : {V : Type 0} (inside : PayloadRecord → Option WireFault) (of : List PayloadRecord → V) (v : V) (fs : List Field) → AreGood inside fs → length (spelled_fields fs) < 2 ^ 64 → ((ps : List PayloadRecord) → CarryAll ps fs → of ps ≡ v) → IsAgain inside of v (spelled_fields fs)
 again_from inside of v fs good short said =
     λ start.
     let read = pieces-again start fs (all_fit inside fs good short) in
     let carried = carry_again start fs in (
-      fault_of-end inside start (spelling fs) (pieces_at start fs) None (IsClean-from inside (pieces_at start fs) fs carried (none_left inside fs good)) read,
+      fault_of-end inside start (spelled_fields fs) (pieces_at start fs) None (IsClean-from inside (pieces_at start fs) fs carried (none_left inside fs good)) read,
       ap (λ (x : List PayloadRecord × Option WireFault). of x.0) read ∙ said (pieces_at start fs) carried,
     )

@@ -7,7 +7,7 @@ use Rattle.std.specs.String.{string_bytes}
 use Rattle.std.proofs.lemmas.Str.{IsUtf8-string_bytes}
 use Rattle.std.specs.Option.{option_to_list}
 use Rattle.std.proofs.lemmas.List.Concat.{flat_map-append}
-use Rattle.proto_wire.specs.Writing.{Field, spelled, spelling}
+use Rattle.proto_wire.specs.Writing.{Field, spelled, spelled_fields}
 
 pub map-after : {A B C : Type 0} (f : A → B) (g : B → C) (xs : List A) → map (λ x. g (f x)) xs ≡ map g (map f xs)
 map-after f g [] = refl
@@ -17,8 +17,8 @@ pub option-after : {A B C : Type 0} (f : A → B) (g : B → C) (o : Option A) �
 option-after f g None = refl
 option-after f g (Some x) = refl
 
-pub spelling-append : (fs gs : List Field) → spelling (fs ++ gs) ≡ spelling fs ++ spelling gs
-spelling-append fs gs = flat_map-append spelled fs gs
+pub spelled_fields-append : (fs gs : List Field) → spelled_fields (fs ++ gs) ≡ spelled_fields fs ++ spelled_fields gs
+spelled_fields-append fs gs = flat_map-append spelled fs gs
 
 pub all-map : {A B : Type 0} (P : B → Type 0) (f : A → B) (xs : List A) → AllByRecursion (λ x. P (f x)) xs → AllByRecursion P (map f xs)
 all-map P f [] h = tt
@@ -36,4 +36,4 @@ pub ok-then : {T E : Type 0} (r : Result T E) {P Q : Type 0} → OnOk r P → (P
 ok-then (Ok x) h go = go h
 ok-then (Err e) h go = tt
 
-pub ruleset steps = (map-after, option-after, spelling-append)
+pub ruleset steps = (map-after, option-after, spelled_fields-append)

@@ -1,7 +1,7 @@
 -- One message after another.
 use Rattle.std.proofs.Common.{◌++◌, map, ap, ◌∙◌, subst, take_all}
 use Rattle.std.specs.List.{AllByRecursion}
-use Rattle.proto_wire.specs.Writing.{payload_fields, spelling}
+use Rattle.proto_wire.specs.Writing.{payload_fields, spelled_fields}
 use Rattle.proto_wire.proofs.EachLaws.{each-more, put-more}
 use Rattle.proto_wire.proofs.writing.put_messages.Goals as goal
 
@@ -17,7 +17,7 @@ loop-message-preserved g c =
 pub returns-clause-bytes : goal.returns-clause-bytes
 returns-clause-bytes g c =
     c.loop-message.invariant.bytes
-    ∙ ap (λ xs. c.args.out.now.items ++ spelling (payload_fields c.args.field (map g.M.Written.written xs))) (take_all c.loop-message.message-index c.args.messages.now c.loop-message-test.false)
+    ∙ ap (λ xs. c.args.out.now.items ++ spelled_fields (payload_fields c.args.field (map g.M.Written.written xs))) (take_all c.loop-message.message-index c.args.messages.now c.loop-message-test.false)
 
 pub returns-clause-fits : goal.returns-clause-fits
 returns-clause-fits g c = subst (AllByRecursion g.M.Written.fits) (take_all c.loop-message.message-index c.args.messages.now c.loop-message-test.false) c.loop-message.invariant.fits

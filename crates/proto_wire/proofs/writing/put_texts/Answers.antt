@@ -1,7 +1,7 @@
 -- One text after another.
 use Rattle.std.proofs.Common.{◌++◌, map, ap, ◌∙◌, take_all}
 use Rattle.std.specs.String.{string_bytes}
-use Rattle.proto_wire.specs.Writing.{payload_field, payload_fields, spelled, spelling}
+use Rattle.proto_wire.specs.Writing.{payload_field, payload_fields, spelled, spelled_fields}
 use Rattle.proto_wire.proofs.EachLaws.{put-more}
 use Rattle.proto_wire.proofs.writing.put_texts.Goals as goal
 
@@ -13,4 +13,4 @@ loop-text-preserved c =
 
 pub returns : goal.returns
 returns c =
-    c.loop-text.invariant ∙ ap (λ xs. c.args.out.now.items ++ spelling (payload_fields c.args.field (map string_bytes xs))) (take_all c.loop-text.text-index c.args.texts.now c.loop-text-test.false)
+    c.loop-text.invariant ∙ ap (λ xs. c.args.out.now.items ++ spelled_fields (payload_fields c.args.field (map string_bytes xs))) (take_all c.loop-text.text-index c.args.texts.now c.loop-text-test.false)

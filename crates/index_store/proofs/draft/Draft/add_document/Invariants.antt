@@ -3,12 +3,12 @@ use Rattle.std.proofs.Common.{◌≡◌, ◌++◌, [], ◌∷◌, Some, List, �
 use Rattle.scip_index.specs.Plain.{plain_document, plain_occurrence}
 use Rattle.index_store.specs.Queries.{PlacedOccurrence, found_at}
 use Rattle.index_store.specs.Stores.{tables_of, AreWhole, Keeps}
-use Rattle.index_store.specs.Tables.{number_of, texts_in}
+use Rattle.index_store.specs.Tables.{text_number, texts_in}
 use Rattle.index_store.proofs.draft.Draft.add_document.Given as goal
 
 abbrev pub invariant-loop-occurrence : goal.invariant-loop-occurrence
 invariant-loop-occurrence l =
     let name = (plain_document l.document).relative_path in
     AreWhole (tables_of l.self)
-    × (number_of (texts_in l.self.by_path) name ≡ Some l.path)
+    × (text_number (texts_in l.self.by_path) name ≡ Some l.path)
     × ((paths : List (List ℕ)) (found : List PlacedOccurrence) → Keeps paths found (tables_of l.fn.self) → Keeps (paths ++ name ∷ []) (found ++ map (found_at name) (map plain_occurrence (take l.occurrence-index l.document.occurrences.items))) (tables_of l.self))
