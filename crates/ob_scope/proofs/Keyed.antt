@@ -54,9 +54,9 @@ entry_is p q m n e f = cc
 -- equal keys say one thing
 pub key_one : (a b : Key) → key_eq a b ≡ true → entry_said a ≡ entry_said b
 key_one a b e =
-    entry_is a.place b.place a.name.now b.name.now
-    (place_one a.place b.place (and_left (place_eq a.place b.place) (bytes_eq a.name.now b.name.now) e))
-    ((bytes_eq-Decides a.name.now b.name.now).0 (and_right (place_eq a.place b.place) (bytes_eq a.name.now b.name.now) e))
+    entry_is a.place b.place a.name.bytes.now b.name.bytes.now
+    (place_one a.place b.place (and_left (place_eq a.place b.place) (bytes_eq a.name.bytes.now b.name.bytes.now) e))
+    ((bytes_eq-Decides a.name.bytes.now b.name.bytes.now).0 (and_right (place_eq a.place b.place) (bytes_eq a.name.bytes.now b.name.bytes.now) e))
 
 both_true : (a b : Bool) → a ≡ true → b ≡ true → a && b ≡ true
 both_true a b e f = rw (e, f) refl
@@ -64,20 +64,20 @@ both_true a b e f = rw (e, f) refl
 -- keys that say one thing are equal
 pub key_same : (a b : Key) → entry_said a ≡ entry_said b → key_eq a b ≡ true
 key_same a b e =
-    both_true (place_eq a.place b.place) (bytes_eq a.name.now b.name.now)
+    both_true (place_eq a.place b.place) (bytes_eq a.name.bytes.now b.name.bytes.now)
     (subst (λ (p : Scope). place_eq a.place p ≡ true) (ap (λ (x : Seat). x.place) e) (place_same a.place))
-    ((bytes_eq-Decides a.name.now b.name.now).1 (ap (λ (x : Seat). x.name) e))
+    ((bytes_eq-Decides a.name.bytes.now b.name.bytes.now).1 (ap (λ (x : Seat). x.name) e))
 
 -- ---- what a table has
 
 -- where a table finds no key, it has none
-pub no_entry : (keys : List Key) (k : Key) → list_any (key_eq k) keys ≡ false → HasNoEntry keys k.place k.name.now
+pub no_entry : (keys : List Key) (k : Key) → list_any (key_eq k) keys ≡ false → HasNoEntry keys k.place k.name.bytes.now
 no_entry keys k none i x there says =
     let here : key_eq k (get_or keys i k) ≡ true = key_same k (get_or keys i k) (sym says ∙ ap entry_said (sym (get_or_from_slice_get keys i x k there))) in
     false≢true (sym none ∙ list_any_at (key_eq k) keys i k (slice_get_within keys i x there) here)
 
 -- the place of a key
-pub entry_at : (keys : List Key) (k : Key) (i : ℕ) → position (key_eq k) keys ≡ Some i → IsEntryAt keys k.place k.name.now i
+pub entry_at : (keys : List Key) (k : Key) (i : ℕ) → position (key_eq k) keys ≡ Some i → IsEntryAt keys k.place k.name.bytes.now i
 entry_at keys k i e =
     let p = position-Some (key_eq k) keys i k e in
     record { key = get_or keys i k; there = slice_get-get_or keys i k p.0; says = sym (key_one k (get_or keys i k) p.1) }
@@ -161,10 +161,10 @@ module _ (name : ℕ → List ℕ) (members : List Member) where
       }
 
 -- what a search of a key answers
-pub entry_found : (keys : List Key) (k : Key) (r : Option ℕ) → r ≡ position (key_eq k) keys → IfSome r (IsEntryAt keys k.place k.name.now)
+pub entry_found : (keys : List Key) (k : Key) (r : Option ℕ) → r ≡ position (key_eq k) keys → IfSome r (IsEntryAt keys k.place k.name.bytes.now)
 entry_found keys k None e = tt
 entry_found keys k (Some i) e = entry_at keys k i (sym e)
 
-pub entry_none : (keys : List Key) (k : Key) (r : Option ℕ) → is_some r ≡ list_any (key_eq k) keys → IfNone r (HasNoEntry keys k.place k.name.now)
+pub entry_none : (keys : List Key) (k : Key) (r : Option ℕ) → is_some r ≡ list_any (key_eq k) keys → IfNone r (HasNoEntry keys k.place k.name.bytes.now)
 entry_none keys k None e = no_entry keys k (sym e)
 entry_none keys k (Some i) e = tt

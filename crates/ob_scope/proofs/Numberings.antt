@@ -1,5 +1,5 @@
 -- Names that are numbered one after another.
-use Rattle.std.proofs.Common.{◌≡◌, ℕ, ◌+◌, ◌<◌, ◌≤◌, inl, inr, Bool, true, false, List, [], ◌∷◌, ◌++◌, length, take, get_or, Some, None, Bor, refl, sym, ap, ◌∙◌, subst, length-append, arith, ⊎_elim}
+use Rattle.std.proofs.Common.{◌≡◌, ℕ, ◌+◌, ◌<◌, ◌≤◌, inl, inr, Bool, true, false, List, [], ◌∷◌, ◌++◌, length, take, get_or, Some, None, refl, sym, ap, ◌∙◌, subst, length-append, arith, ⊎_elim}
 use Rattle.std.specs.Prelude.{slice_get, slice_index, if◌then◌else◌, ◌||◌}
 use Rattle.std.specs.List.{list_any, position_or_len}
 use Rattle.std.specs.Str.{bytes_eq}
@@ -9,6 +9,7 @@ use Rattle.std.proofs.lemmas.Option.{slice_get_within}
 use Rattle.std.proofs.lemmas.Slice.Eq.{bytes_eq-Decides}
 use Rattle.std.proofs.Math.Seq.{get_or-append_seam}
 use Rattle.ob_scope.specs.declared.members.Member.{Member}
+use Rattle.ob_scope.specs.declared.numbering.Name.{Name}
 use Rattle.ob_scope.specs.Sights.{name_number, AreNumbered}
 use Rattle.ob_scope.proofs.Elements.{some_one}
 use Rattle.ob_scope.proofs.Keyed.{front_get, get_front}
@@ -55,12 +56,12 @@ module _ {X : Type 0} (p : X → Bool) where
   ]
 
 -- the test of a text
-abbrev pub is_text : List ℕ → Bor (List ℕ) → Bool
-is_text text y = bytes_eq text y.now
+abbrev pub is_text : List ℕ → Name → Bool
+is_text text y = bytes_eq text y.bytes.now
 
 module _ (name : ℕ → List ℕ) (members : List Member) where
   -- the names stay, where those that are numbered keep their numbers
-  more : (i n : ℕ) (m : Member) (names later : List (Bor (List ℕ))) (numbers : List ℕ) → AreNumbered name (take i members) names numbers → slice_get members i ≡ Some m → length (take i members) ≡ i → length names ≤ length later
+  more : (i n : ℕ) (m : Member) (names later : List Name) (numbers : List ℕ) → AreNumbered name (take i members) names numbers → slice_get members i ≡ Some m → length (take i members) ≡ i → length names ≤ length later
       → ((text : List ℕ) → name_number names text < length names → name_number later text ≡ name_number names text) → n ≡ name_number later (name m.number) → n < length later
       → AreNumbered name (take (i + 1) members) later (numbers ++ n ∷ [])
   more i n m names later numbers a at long grown kept is within = record {
@@ -107,19 +108,19 @@ module _ (name : ℕ → List ℕ) (members : List Member) where
           let same : k ≡ i = omega arith in
           (same, some_one m x (sym at ∙ ap (slice_get members) (sym same) ∙ u.1))
 
-  pub numbered_more : (i n : ℕ) (m : Member) (k : Bor (List ℕ)) (names later : List (Bor (List ℕ))) (numbers : List ℕ) → AreNumbered name (take i members) names numbers → slice_get members i ≡ Some m → k.now ≡ name m.number
-      → n ≡ name_number names k.now → later ≡ (if list_any (is_text k.now) names then names else names ++ k ∷ []) → AreNumbered name (take (i + 1) members) later (numbers ++ n ∷ [])
-  numbered_more i n m k names later numbers a at text is keys = elim (cases_Bool (list_any (is_text k.now) names)) [
+  pub numbered_more : (i n : ℕ) (m : Member) (k : Name) (names later : List Name) (numbers : List ℕ) → AreNumbered name (take i members) names numbers → slice_get members i ≡ Some m → k.bytes.now ≡ name m.number
+      → n ≡ name_number names k.bytes.now → later ≡ (if list_any (is_text k.bytes.now) names then names else names ++ k ∷ []) → AreNumbered name (take (i + 1) members) later (numbers ++ n ∷ [])
+  numbered_more i n m k names later numbers a at text is keys = elim (cases_Bool (list_any (is_text k.bytes.now) names)) [
     | inl old ↦ (
         let same : later ≡ names = keys ∙ ap (λ (b : Bool). if b then names else names ++ k ∷ []) old in
-        let within : name_number names k.now < length names = found_within (is_text k.now) names old in
+        let within : name_number names k.bytes.now < length names = found_within (is_text k.bytes.now) names old in
         rw same (more i n m names names numbers a at long (omega arith) (λ t l. refl) (is ∙ ap (name_number names) text) (rw is within)))
     | inr new ↦ (
         let grown : later ≡ names ++ k ∷ [] = keys ∙ ap (λ (b : Bool). if b then names else names ++ k ∷ []) new in
         let longer = length-append names (k ∷ []) in
-        let own : is_text k.now k ≡ true = (bytes_eq-Decides k.now k.now).1 refl in
-        let last : name_number (names ++ k ∷ []) k.now ≡ length names = found_last (is_text k.now) names k new own in
-        let none : name_number names k.now ≡ length names = not_found (is_text k.now) names new in
+        let own : is_text k.bytes.now k ≡ true = (bytes_eq-Decides k.bytes.now k.bytes.now).1 refl in
+        let last : name_number (names ++ k ∷ []) k.bytes.now ≡ length names = found_last (is_text k.bytes.now) names k new own in
+        let none : name_number names k.bytes.now ≡ length names = not_found (is_text k.bytes.now) names new in
         rw grown (more i n m names (names ++ k ∷ []) numbers a at long (omega arith) (λ t l. found_stays (is_text t) names k l)
         (is ∙ none ∙ sym last ∙ ap (name_number (names ++ k ∷ [])) text) (let e = is in omega arith)))
   ]
@@ -134,5 +135,5 @@ numbered_none name = record {
   within = λ k m e. absurd (let f : None ≡ Some m = e in cc);
 }
 
-pub numbered_all : (name : ℕ → List ℕ) (members : List Member) (i : ℕ) (names : List (Bor (List ℕ))) (numbers : List ℕ) → length members ≤ i → AreNumbered name (take i members) names numbers → AreNumbered name members names numbers
+pub numbered_all : (name : ℕ → List ℕ) (members : List Member) (i : ℕ) (names : List Name) (numbers : List ℕ) → length members ≤ i → AreNumbered name (take i members) names numbers → AreNumbered name members names numbers
 numbered_all name members i names numbers past a = subst (λ (ms : List Member). AreNumbered name ms names numbers) (take_all i members past) a

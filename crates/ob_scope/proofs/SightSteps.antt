@@ -1,11 +1,12 @@
 -- A sight after one step.
-use Rattle.std.proofs.Common.{◌≡◌, ℕ, zero, suc, ◌+◌, ◌<◌, ◌≤◌, List, [], ◌∷◌, ◌++◌, length, get_or, Bor, Option, Some, None, refl, sym, ap, ◌∙◌, subst, arith}
+use Rattle.std.proofs.Common.{◌≡◌, ℕ, zero, suc, ◌+◌, ◌<◌, ◌≤◌, List, [], ◌∷◌, ◌++◌, length, get_or, Option, Some, None, refl, sym, ap, ◌∙◌, subst, arith}
 use Rattle.std.specs.Prelude.{slice_get, slice_index, slice_index_or, slice_set, IfNone, IfSome}
 use Rattle.std.proofs.lemmas.List.{length-set}
 use Rattle.std.proofs.lemmas.Option.{slice_get-get_or, get_or_from_slice_get}
 use Rattle.ob_decls.specs.declared.rows.Block.{Block}
 use Rattle.ob_decls.specs.Order.{AscendBy}
 use Rattle.ob_scope.specs.declared.members.Member.{Member}
+use Rattle.ob_scope.specs.declared.numbering.Name.{Name}
 use Rattle.ob_scope.specs.declared.members.Scope.TheVariants as places
 use Rattle.ob_scope.specs.declared.opened.Open.{Open}
 use Rattle.ob_scope.specs.declared.sight.Sight.{Sight}
@@ -109,7 +110,7 @@ pub walk_by : (members : List Member) (st su : List ℕ) (ea eb : List (Option �
 walk_by members st su ea eb from start at e f g h =
     subst (λ (x : List ℕ). Walks members x eb start at) e (subst (λ (y : List (Option ℕ)). Walks members st y start at) f (subst (λ (z : Option ℕ). Walks members st ea z at) g h))
 
-module _ (name : ℕ → List ℕ) (blocks : List Block) (members : List Member) (names : List (Bor (List ℕ))) (numbers : List ℕ) (numbered : AreNumbered name members names numbers) (ascend : AscendBy (λ (b : Block). b.first) blocks)
+module _ (name : ℕ → List ℕ) (blocks : List Block) (members : List Member) (names : List Name) (numbers : List ℕ) (numbered : AreNumbered name members names numbers) (ascend : AscendBy (λ (b : Block). b.first) blocks)
     (block token : ℕ) (s : Sight) (h : IsSight blocks members numbers (length names) s) (front : IsFrontBefore members s.next token) (opened : Open)
     (e : Enters blocks block s.«open».stack.items s.«open».fresh opened.stack.items opened.fresh) where
   seen : AreSeen blocks members numbers opened.stack.items opened.fresh s.next s.latest.items s.earlier.items

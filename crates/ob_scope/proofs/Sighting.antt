@@ -1,5 +1,5 @@
 -- What is seen, from member to member and from block to block.
-use Rattle.std.proofs.Common.{◌≡◌, ℕ, ◌+◌, ◌-◌, ◌<◌, ◌≤◌, ◌⊎◌, inl, inr, List, length, get_or, Option, Some, None, Bor, refl, sym, ap, ◌∙◌, subst, arith, ⊎_elim}
+use Rattle.std.proofs.Common.{◌≡◌, ℕ, ◌+◌, ◌-◌, ◌<◌, ◌≤◌, ◌⊎◌, inl, inr, List, length, get_or, Option, Some, None, refl, sym, ap, ◌∙◌, subst, arith, ⊎_elim}
 use Rattle.std.specs.Prelude.{slice_get, slice_index, slice_index_or, slice_set, Contains}
 use Rattle.std.specs.Str.{bytes_eq}
 use Rattle.std.proofs.lemmas.Bool.{cases_lt, cases_eq}
@@ -9,6 +9,7 @@ use Rattle.std.proofs.lemmas.Slice.Eq.{bytes_eq-Decides}
 use Rattle.ob_decls.specs.declared.rows.Block.{Block}
 use Rattle.ob_decls.specs.Order.{AscendBy}
 use Rattle.ob_scope.specs.declared.members.Member.{Member}
+use Rattle.ob_scope.specs.declared.numbering.Name.{Name}
 use Rattle.ob_scope.specs.declared.members.Scope.{Scope}
 use Rattle.ob_scope.specs.declared.members.Scope.TheVariants as places
 use Rattle.ob_scope.specs.Looked.{use_in, IsResolved}
@@ -196,16 +197,16 @@ seen_none blocks members numbers stack fresh latest earlier no_latest no_earlier
 -- ---- numbers of names
 
 -- texts of one number are one
-same_text : (names : List (Bor (List ℕ))) (a b : List ℕ) → name_number names a ≡ name_number names b → name_number names a < length names → a ≡ b
+same_text : (names : List Name) (a b : List ℕ) → name_number names a ≡ name_number names b → name_number names a < length names → a ≡ b
 same_text names a b e within =
     let x = slice_there names (name_number names a) within in
-    let first = (bytes_eq-Decides a (get_or names (name_number names a) x.0).now).0 (passes_at_first (λ (y : Bor (List ℕ)). bytes_eq a y.now) names x.0 within) in
-    let second = (bytes_eq-Decides b (get_or names (name_number names b) x.0).now).0 (passes_at_first (λ (y : Bor (List ℕ)). bytes_eq b y.now) names x.0 (rw (← e) within)) in
-    first ∙ ap (λ (n : ℕ). (get_or names n x.0).now) e ∙ sym second
+    let first = (bytes_eq-Decides a (get_or names (name_number names a) x.0).bytes.now).0 (passes_at_first (λ (y : Name). bytes_eq a y.bytes.now) names x.0 within) in
+    let second = (bytes_eq-Decides b (get_or names (name_number names b) x.0).bytes.now).0 (passes_at_first (λ (y : Name). bytes_eq b y.bytes.now) names x.0 (rw (← e) within)) in
+    first ∙ ap (λ (n : ℕ). (get_or names n x.0).bytes.now) e ∙ sym second
 
 -- ---- what a use resolves to
 
-module _ (name : ℕ → List ℕ) (blocks : List Block) (members : List Member) (names : List (Bor (List ℕ))) (numbers : List ℕ) (numbered : AreNumbered name members names numbers)
+module _ (name : ℕ → List ℕ) (blocks : List Block) (members : List Member) (names : List Name) (numbers : List ℕ) (numbered : AreNumbered name members names numbers)
     (stack : List ℕ) (fresh j : ℕ) (latest earlier : List (Option ℕ)) (s : AreSeen blocks members numbers stack fresh j latest earlier)
     (ascend : AscendBy (λ (b : Block). b.first) blocks) (opened : IsOpen blocks stack fresh) (block token : ℕ) (last : IsInnermost stack block) (front : IsFrontBefore members j token) where
   -- what the use sees is seen here

@@ -18,7 +18,7 @@ entry_of name m = record { place = m.place; name = name m.number }
 
 -- what a key says
 abbrev pub entry_said : Key → Seat
-entry_said k = record { place = k.place; name = k.name.now }
+entry_said k = record { place = k.place; name = k.name.bytes.now }
 
 -- the keys say what the members declare, one by one, and nothing is declared twice
 pub record IsIndex (name : ℕ → List ℕ) (members : List Member) (keys : List Key) : Type 0 where

@@ -1,10 +1,10 @@
 -- What is known on the way through members and uses in the order of tokens: which blocks are open, and which members may be seen.
 use Rattle.std.specs.Prelude.{◌≡◌, ◌⊎◌, ℕ, ◌+◌, ◌-◌, ◌<◌, ◌≤◌, List, length, slice_get, slice_index, slice_index_or, Option, Some, None, Contains}
-use Rattle.std.specs.Borrow.{Bor}
 use Rattle.std.specs.List.{position_or_len}
 use Rattle.std.specs.Str.{bytes_eq}
 use Rattle.ob_decls.specs.declared.rows.Block.{Block as BlockRow}
 use Rattle.ob_scope.specs.declared.members.Member.{Member}
+use Rattle.ob_scope.specs.declared.numbering.Name.{Name}
 use Rattle.ob_scope.specs.declared.members.Scope.{Scope}
 use Rattle.ob_scope.specs.declared.members.Scope.TheVariants.{Block, Record}
 use Rattle.ob_scope.specs.Scope.{IsAround, IsDirectlyIn}
@@ -12,11 +12,11 @@ use Rattle.ob_scope.specs.Scope.{IsAround, IsDirectlyIn}
 -- ---- names
 
 -- the number of a text: its first place among the names
-abbrev pub name_number : List (Bor (List ℕ)) → List ℕ → ℕ
-name_number names text = position_or_len (λ y. bytes_eq text y.now) names
+abbrev pub name_number : List Name → List ℕ → ℕ
+name_number names text = position_or_len (λ y. bytes_eq text y.bytes.now) names
 
 -- for each member the number of its name
-pub record AreNumbered (name : ℕ → List ℕ) (members : List Member) (names : List (Bor (List ℕ))) (numbers : List ℕ) : Type 0 where
+pub record AreNumbered (name : ℕ → List ℕ) (members : List Member) (names : List Name) (numbers : List ℕ) : Type 0 where
   pub as_many : length numbers ≡ length members
   pub each : (k : ℕ) (m : Member) → slice_get members k ≡ Some m → slice_index numbers k ≡ name_number names (name m.number)
   pub within : (k : ℕ) (m : Member) → slice_get members k ≡ Some m → slice_index numbers k < length names

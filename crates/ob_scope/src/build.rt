@@ -52,7 +52,7 @@ fn aliases_of(
     requires as_many { length counts.now ≡ length members.now }
     ensures { IfOk result (λ v. AreAliasesOf (text_at text.now.bytes.now text.now.tokens.now) members.now counts.now imports.now (length imports.now) v.items) }
 {
-    let mut aliases = Vec::new(alloc);
+    let mut aliases = Vec::with_capacity(alloc, imports.len())?;
     for i in 0..imports.len() {
         let item = imports[i];
         aliases.push(Alias {

@@ -1,5 +1,5 @@
 //! What a module declares, each identifier with its place.
-ghost use Rattle.std.specs.Prelude.{◌≡◌, IfNone, IfOk, IfSome};
+ghost use Rattle.std.specs.Prelude.{◌≡◌, true, IfNone, IfOk, IfSome};
 ghost use Rattle.ob_decls.specs.declared.rows.Declarer.{Declarer};
 ghost use Rattle.ob_scope.specs.declared.members.Member.{Member};
 ghost use Rattle.ob_decls.specs.Order.{AscendBy, HasNoneBy, IsPlaceBy};
@@ -44,6 +44,32 @@ fn place_of_declarer(declarers: &[Declarer], first: u32) -> Option<usize>
     declarers.binary_search_by_key(&first, |by| by.first).ok()
 }
 
+/// Whether the construct at this place begins with this token.
+fn begins_at(declarers: &[Declarer], at: usize, first: u32) -> bool
+    ensures { result ≡ true → IsPlaceBy (λ (d : Declarer). d.first) declarers.now first at }
+{
+    match declarers.get(at) {
+        Some(by) => by.first == first,
+        None => false,
+    }
+}
+
+/// The same place, which mostly is this one or the one behind it.
+fn place_near(declarers: &[Declarer], near: usize, first: u32) -> Option<usize>
+    requires { AscendBy (λ (d : Declarer). d.first) declarers.now }
+    ensures found { IfSome result (IsPlaceBy (λ (d : Declarer). d.first) declarers.now first) }
+    ensures none { IfNone result (HasNoneBy (λ (d : Declarer). d.first) declarers.now first) }
+{
+    if begins_at(declarers, near, first) {
+        return Some(near);
+    }
+    let next = near.saturating_add(1);
+    if begins_at(declarers, next, first) {
+        return Some(next);
+    }
+    place_of_declarer(declarers, first)
+}
+
 /// The place of the member of this token.
 pub(crate) fn place_of_member(members: &[Member], number: u32) -> Option<usize>
     requires { AscendBy (λ (m : Member). m.number) members.now }
@@ -55,21 +81,22 @@ pub(crate) fn place_of_member(members: &[Member], number: u32) -> Option<usize>
         .ok()
 }
 
-/// The construct that declares and begins with this token.
-fn declarer_at(declarers: &[Declarer], first: u32) -> Option<Declarer>
+/// The construct that declares and begins with this token. It is looked for near a place, and its own is near the next one.
+fn declarer_at(declarers: &[Declarer], near: &mut usize, first: u32) -> Option<Declarer>
     requires { AscendBy (λ (d : Declarer). d.first) declarers.now }
     ensures { result ≡ declarer_at declarers.now first }
 {
-    let at = place_of_declarer(declarers, first)?;
+    let at = place_near(declarers, *near, first)?;
+    *near = at;
     Some(declarers[at])
 }
 
 /// An identifier, as what and where its construct declares it.
-fn member_by(declarers: &[Declarer], declared: Declared) -> Option<Member>
+fn member_by(declarers: &[Declarer], near: &mut usize, declared: Declared) -> Option<Member>
     requires { AscendBy (λ (d : Declarer). d.first) declarers.now }
     ensures { result ≡ member_by declared (declarer_at declarers.now declared.declared_by) }
 {
-    match declarer_at(declarers, declared.declared_by) {
+    match declarer_at(declarers, near, declared.declared_by) {
         Some(by) => Some(Member {
             place: scope_of(by),
             number: declared.number,
@@ -88,9 +115,11 @@ pub(crate) fn members_by(
     requires { AscendBy (λ (d : Declarer). d.first) declarers.now }
     ensures { IfOk result (λ v. v.items ≡ members_by declarers.now declared.now) }
 {
-    let mut members = Vec::new(alloc);
+    let mut members = Vec::with_capacity(alloc, declared.len())?;
+    // Identifiers stand in the order of the constructs that declare them.
+    let mut near = 0;
     for row in declared {
-        if let Some(member) = member_by(declarers, *row) {
+        if let Some(member) = member_by(declarers, &mut near, *row) {
             members.push(member)?;
         }
     }

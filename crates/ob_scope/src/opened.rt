@@ -50,8 +50,8 @@ fn begin(opened: &mut Open, block: u32) -> Result<(), AllocError>
     Ok(())
 }
 
-/// Makes this block the innermost one that is open.
-pub(crate) fn enter(opened: &mut Open, blocks: &[Block], block: u32) -> Result<(), AllocError>
+/// Makes this block the innermost one that is open, where it may not be so yet.
+fn reach(opened: &mut Open, blocks: &[Block], block: u32) -> Result<(), AllocError>
     requires ascend { AscendBy (λ (b : Block). b.first) blocks.now }
     requires chain { IsOpen blocks.now opened.old.stack.items opened.old.fresh }
     ensures { OnOk result (Enters blocks.now block opened.old.stack.items opened.old.fresh opened.new.stack.items opened.new.fresh) }
@@ -61,10 +61,22 @@ pub(crate) fn enter(opened: &mut Open, blocks: &[Block], block: u32) -> Result<(
         return Ok(());
     }
     match outer_of(blocks, block) {
-        Some(outer) => enter(opened, blocks, outer)?,
+        Some(outer) => reach(opened, blocks, outer)?,
         None => opened.stack.clear(),
     }
     begin(opened, block)
+}
+
+/// Makes this block the innermost one that is open. Mostly it is so already.
+pub(crate) fn enter(opened: &mut Open, blocks: &[Block], block: u32) -> Result<(), AllocError>
+    requires ascend { AscendBy (λ (b : Block). b.first) blocks.now }
+    requires chain { IsOpen blocks.now opened.old.stack.items opened.old.fresh }
+    ensures { OnOk result (Enters blocks.now block opened.old.stack.items opened.old.fresh opened.new.stack.items opened.new.fresh) }
+{
+    if is_innermost(opened.stack.as_slice(), block) {
+        return Ok(());
+    }
+    reach(opened, blocks, block)
 }
 
 /// The place of a block among those that are open.

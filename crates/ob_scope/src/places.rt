@@ -5,6 +5,7 @@ ghost use Rattle.ob_scope.specs.Texts.{text_at};
 ghost use Rattle.ob_scope.specs.Places.{entry_of, entry_said, HasNoEntry, IsEntryAt, IsIndex, TellsTwice};
 
 use crate::members::{Member, Scope};
+use crate::numbering::Name;
 use crate::text::Text;
 use indexmap::IndexSet;
 use std::alloc::Global;
@@ -13,7 +14,7 @@ use std::alloc::Global;
 #[derive(Clone, Copy, PartialEq, Eq, Hash)]
 pub(crate) struct Key<'a> {
     pub(crate) place: Scope,
-    pub(crate) name: &'a [u8],
+    pub(crate) name: Name<'a>,
 }
 
 /// Why there is no index: the members at these two places are declared twice, or memory ran out.
@@ -30,7 +31,9 @@ fn key_of<'a>(text: &Text<'a>, member: &Member) -> Key<'a>
 {
     Key {
         place: member.place,
-        name: text.of(member.number),
+        name: Name {
+            bytes: text.of(member.number),
+        },
     }
 }
 
@@ -44,7 +47,9 @@ pub(crate) fn index_of<'a>(
     ensures index { IfOk result (λ index. IsIndex (text_at text.now.bytes.now text.now.tokens.now) members.now index.keys) }
     ensures fault { IfErr result (TellsTwice (text_at text.now.bytes.now text.now.tokens.now) members.now) }
 {
-    let mut index = IndexSet::new(alloc);
+    let Ok(mut index) = IndexSet::with_capacity(alloc, members.len()) else {
+        return Err(IndexFault::Memory);
+    };
     for i in 0..members.len() {
         let key = key_of(text, &members[i]);
         match index.insert_full(key) {
@@ -61,5 +66,6 @@ pub(crate) fn member_in(index: &IndexSet<Key>, place: Scope, name: &[u8]) -> Opt
     ensures found { IfSome result (IsEntryAt index.now.keys place name.now) }
     ensures none { IfNone result (HasNoEntry index.now.keys place name.now) }
 {
+    let name = Name { bytes: name };
     index.get_index_of(&Key { place, name })
 }
