@@ -17,7 +17,8 @@ use std::alloc::{AllocError, Global};
 pub fn table_of(alloc: Global, module: &Module) -> Result<Table, AllocError>
     ensures exact { IfOk result (λ t. rows_in t ≡ rows_of «module».now) }
 {
-    let mut draft = Draft::new(alloc);
+    // The name behind END is the last token but one.
+    let mut draft = Draft::new(alloc, module.end_name);
     let outermost = Context {
         block: 0,
         declarer: 0,

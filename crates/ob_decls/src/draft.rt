@@ -219,24 +219,39 @@ pub(crate) fn block_from(inside: Context, first: u32) -> Context
     }
 }
 
+/// No text has more tokens.
+const MOST_TOKENS: usize = 16_777_216;
+
+/// A list with room for so many rows. Where memory is refused there is no room, and the rows ask for it one by one.
+fn with_room<T: Drop>(alloc: Global, rows: usize) -> Vec<T>
+    ensures { result.items ≡ [] }
+{
+    match Vec::with_capacity(alloc, rows) {
+        Ok(list) => list,
+        Err(_) => Vec::new(alloc),
+    }
+}
+
 impl Draft {
-    /// Before the first token.
+    /// Before the first token of about so many. Lists have room for the rows that so many tokens mostly have, so that they
+    /// need not grow row by row.
     #[tactic(auto, unfolding(crate::specs::Drafts::stage_of, crate::specs::Parts::no_rows))]
-    pub(crate) fn new(alloc: Global) -> Draft
+    pub(crate) fn new(alloc: Global, tokens: u32) -> Draft
         ensures { stage_of result ≡ start }
     {
+        let tokens = (tokens as usize).min(MOST_TOKENS);
         Draft {
             number: 0,
             refused: false,
-            declarers: Vec::new(alloc),
-            declared: Vec::new(alloc),
-            uses: Vec::new(alloc),
+            declarers: with_room(alloc, tokens / 16),
+            declared: with_room(alloc, tokens / 10),
+            uses: with_room(alloc, tokens / 4),
             blocks: Vec::new(alloc),
             imports: Vec::new(alloc),
-            parts: Vec::new(alloc),
+            parts: with_room(alloc, tokens / 16),
             records: Vec::new(alloc),
-            designators: Vec::new(alloc),
-            selectors: Vec::new(alloc),
+            designators: with_room(alloc, tokens / 4),
+            selectors: with_room(alloc, tokens / 8),
             ends: Vec::new(alloc),
         }
     }
