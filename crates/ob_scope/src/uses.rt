@@ -1,5 +1,5 @@
 //! What all uses mean, and how many uses each import qualifies.
-ghost use Rattle.std.specs.Prelude.{◌≡◌, ◌<◌, ◌≤◌, ℕ, [], length, slice_index, IfOk, OnOk};
+ghost use Rattle.std.specs.Prelude.{◌≡◌, ◌+◌, ◌^◌, ◌<◌, ℕ, [], length, slice_index, slice_set, IfOk, OnOk};
 ghost use Rattle.ob_scan.specs.Spelling.{AreInText};
 ghost use Rattle.ob_decls.specs.declared.rows.Block.{Block};
 ghost use Rattle.ob_decls.specs.declared.rows.Used.{Used};
@@ -43,15 +43,14 @@ pub(crate) fn is_import(sort: Sort) -> bool
     }
 }
 
-/// 1 where the member is an import that qualifies the use.
-fn counted_for(member: Member, used: Used) -> u64
-    ensures value { result ≡ counted_for member used }
-    ensures one { result ≤ 1 }
+/// Counts a use for the member at this place, where that is an import that qualifies it.
+fn count(counts: &mut [u64], at: usize, member: Member, used: Used)
+    requires place { at < length counts.old }
+    requires small { slice_index counts.old at + 1 < 2 ^ 64 }
+    ensures { counts.new ≡ slice_set counts.old at (slice_index counts.old at + counted_for member used) }
 {
     if used.member.is_some() && is_import(member.sort) {
-        1
-    } else {
-        0
+        counts[at] += 1;
     }
 }
 
@@ -89,7 +88,7 @@ fn find_each(
                 used: used.number,
                 declared: member.number,
             })?;
-            counts[at] += counted_for(member, used);
+            count(counts, at, member, used);
         }
     }
     Ok(())

@@ -6,7 +6,6 @@ use Rattle.ob_scope.specs.Texts.{text_at}
 use Rattle.ob_scope.proofs.Elements.{some_one}
 use Rattle.ob_scope.proofs.Meanings.{means_as}
 use Rattle.ob_scope.proofs.Finding.{meant_none, meant_other, meant_more, counted_none, counted_other, counted_more}
-use Rattle.std.proofs.lemmas.Grind.{elements}
 use Rattle.ob_scope.proofs.uses.find_each.Goals as goal
 use Rattle.ob_scope.proofs.uses.find_each.Goals.{in-Some+in_ok-push, in_default}
 
@@ -29,11 +28,17 @@ bounds-members-at c =
     let h = rw c.in-Some.is at c.in_ok-at.ensures.found in
     slice_get_within c.args.members.now c.in-Some.at h.member h.there
 
-pub bounds-counts-at : goal.bounds-counts-at
-bounds-counts-at c =
+pub count-requires-clause-place : goal.count-requires-clause-place
+count-requires-clause-place c =
     let h = rw c.in-Some.is at c.in_ok-at.ensures.found in
     let within = slice_get_within c.args.members.now c.in-Some.at h.member h.there in
     let long = c.loop-k.invariant.counted.as_many in
+    omega arith
+
+pub count-requires-clause-small : goal.count-requires-clause-small
+count-requires-clause-small c =
+    let few = c.loop-k.invariant.counted.small c.in-Some.at in
+    let less = c.loop-k-test.true in
     omega arith
 
 pub loop-k-preserved : goal.loop-k-preserved
@@ -52,7 +57,7 @@ loop-k-preserved c =
           let within : i < length members = slice_get_within members i h.member h.there in
           let there = slice_get-get_or members i _ within in
           let means = means_as name blocks members _ h.member _ (some_one h.member _ (sym h.there ∙ there)) h.means in
-          rw (w.meanings-is, w.counts-is, w.in_ok-push.ensures.items, w.counted_for.ensures.value)
+          rw (w.meanings-is, w.counts-is, w.in_ok-push.ensures.items, w.count.ensures)
           (record {
             meant = meant_more name blocks members uses k c.loop-k.meanings.items _ _ c.requires.uses once c.loop-k.invariant.meant at means;
             sight = c.in_ok-at.ensures.sight;
@@ -72,9 +77,3 @@ loop-k-preserved c =
 
 pub offset_bounds-members-at : goal.offset_bounds-members-at
 offset_bounds-members-at c = grind (arith, elements)
-
-pub offset_bounds-counts-at : goal.offset_bounds-counts-at
-offset_bounds-counts-at c = grind (arith, elements)
-
-pub bounds-counts-at-in-Some : goal.bounds-counts-at-in-Some
-bounds-counts-at-in-Some c = grind (arith, elements)
