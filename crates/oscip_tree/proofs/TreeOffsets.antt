@@ -64,8 +64,8 @@ pub parse_in_text : StandIn → (bytes : List ℕ) (fault : ParseFault) → HasP
 parse_in_text law bytes (parses.Syntax at) (ts, reads, h) = place_in_text bytes ts at (law bytes ts reads.1) (syntax_place bytes ts at h)
 parse_in_text law bytes (parses.EndName at) (ts, reads, h) =
     let wrong = h.first.is_wrong in
-    start_in_text bytes ts _ at wrong.pair.end (law bytes ts reads.1) wrong.pair.end_there wrong.first_passes
-parse_in_text law bytes (parses.TooDeep at) (ts, reads, h) = start_in_text bytes ts h.0.number at h.0.token (law bytes ts reads.1) h.0.there h.0.first_passes
+    start_in_text bytes ts _ at wrong.pair.end (law bytes ts reads.1) wrong.pair.end_there wrong.begins
+parse_in_text law bytes (parses.TooDeep at) (ts, reads, h) = start_in_text bytes ts h.0.number at h.0.token (law bytes ts reads.1) h.0.there h.0.begins
 parse_in_text law bytes parses.Memory h = omega arith
 
 pub scope_in_text : StandIn → (bytes : List ℕ) (fault : ScopeFault) → HasScopeFault fault bytes → scope_offset fault ≤ length bytes
