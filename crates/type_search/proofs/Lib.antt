@@ -1,2 +1,4 @@
 pub mod Opening
 pub mod Finding
+pub mod Leading
+pub mod Coming

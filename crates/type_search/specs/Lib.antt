@@ -1,1 +1,3 @@
 pub mod Searches
+pub mod Leading
+pub mod Extending

@@ -53,10 +53,15 @@ pub record IsNewlyMet {D : Type 0} (same : D → D → Bool) (d : D) (before aft
   pub last : after ≡ before ++ d ∷ []
   pub few : length before < 2 ^ 63
 
+-- a declaration was met before, and none is met anew
+pub record IsMetAgain {D : Type 0} (same : D → D → Bool) (d : D) (before after : List D) : Type 0 where
+  pub among : list_any (same d) before ≡ true
+  pub unchanged : after ≡ before
+
 -- a declaration is met for the first time, behind those that were met before, or it was among them
 abbrev pub IsMet : {D : Type 0} → (D → D → Bool) → D → List D → List D → Bool → Type 0
 IsMet same d before after true = IsNewlyMet same d before after
-IsMet same d before after false = list_any (same d) before ≡ true
+IsMet same d before after false = IsMetAgain same d before after
 
 module _ {N D R : Type 0} (same : D → D → Bool) (shape : N → Shape N D R) where
   -- from a type names lead through type declarations that weren't met before to a type that is no name; with what was met before and is met after

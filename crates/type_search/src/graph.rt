@@ -1,5 +1,5 @@
 //! Graphs of types.
-ghost use Rattle.std.specs.Prelude.{◌≡◌, ◌<◌, ℕ, List, Option, Some};
+ghost use Rattle.std.specs.Prelude.{◌≡◌, ◌<◌, ℕ, List, Option, Some, true};
 ghost use Rattle.type_search.specs.declared.shape.Shape.{Shape};
 ghost use Rattle.type_search.specs.declared.shape.Shape.TheVariants as shapes;
 
@@ -12,7 +12,7 @@ pub trait TypeGraph {
 
     type Declaration: Copy + Eq + Hash + Drop;
 
-    type Record: Copy + Drop;
+    type Record: Copy + Eq + Hash + Drop;
 
     type Field: Copy + Drop;
 
@@ -45,4 +45,7 @@ pub trait TypeGraph {
     ghost pointed: { (g : Self) (n m : Self.Node) → shape g n ≡ shapes.Pointer m → depth g m < depth g n };
 
     ghost based: { (g : Self) (n m : Self.Node) (r : Self.Record) → shape g n ≡ shapes.Record r → base_of g r ≡ Some m → depth g m < depth g n };
+
+    /// One declaration gives one type.
+    ghost named: { (g : Self) (n m x y : Self.Node) (c d : Self.Declaration) → shape g n ≡ shapes.Named c x → shape g m ≡ shapes.Named d y → Self.Declaration.eq c d ≡ true → x ≡ y };
 }

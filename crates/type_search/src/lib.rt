@@ -4,6 +4,7 @@
 //! names come back to one another. No search costs more than the names that it passes, each one look-up.
 #![tactic(auto)]
 
+mod ends;
 mod fields;
 mod graph;
 pub mod laws;

@@ -9,7 +9,7 @@ use std::alloc::{AllocError, Global};
 use std::hash::Hash;
 
 /// Notes a declaration, and tells whether it wasn't met before.
-fn meet<D: Copy + Eq + Hash + Drop>(
+pub(crate) fn meet<D: Copy + Eq + Hash + Drop>(
     met: &mut IndexSet<D>,
     declaration: D,
 ) -> Result<bool, AllocError>

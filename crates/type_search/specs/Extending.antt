@@ -1,0 +1,50 @@
+-- Records to which types lead, and the fields that they have of their own or by their bases.
+use Rattle.std.specs.Prelude.{◌≡◌, ℕ, zero, suc, true, Option, Some, None, IfSome, IfNone}
+use Rattle.type_search.specs.declared.shape.Shape.{Shape}
+use Rattle.type_search.specs.declared.shape.Shape.TheVariants as shapes
+use Rattle.type_search.specs.Leading.{LeadsTo}
+
+-- the record that a type is
+abbrev pub record_in : {N D R : Type 0} → Shape N D R → Option R
+record_in (shapes.Array n) = None
+record_in (shapes.Pointer n) = None
+record_in (shapes.Record r) = Some r
+record_in shapes.Procedure = None
+record_in (shapes.Named d n) = None
+record_in shapes.Unknown = None
+
+module _ {N D R : Type 0} (shape : N → Shape N D R) where
+  -- a type leads to a record by names and pointers
+  pub record IsOf (n : N) (r : R) : Type 0 where
+    pub at : N
+    pub leads : LeadsTo shape true n at
+    pub is : record_in (shape at) ≡ Some r
+
+  pub record IsRecordOf (n : N) (o : Option R) : Type 0 where
+    pub some : IfSome o (IsOf n)
+    pub none : IfNone o ((r : R) → IsOf n r → ⊥)
+
+  module _ (base : R → Option N) where
+    -- a record's base leads to another
+    pub record Extends (r above : R) : Type 0 where
+      pub by : N
+      pub is_base : base r ≡ Some by
+      pub is_of : IsOf by above
+
+    pub record IsAbove (r : R) (o : Option R) : Type 0 where
+      pub some : IfSome o (Extends r)
+      pub none : IfNone o ((above : R) → Extends r above → ⊥)
+
+    module _ {F : Type 0} (field : R → Option F) where
+      -- the field that a name means in a record: its own, or else that of its base, so many bases up
+      pub data Has : ℕ → R → F → Type 0 where
+        own_field : {r : R} {f : F} → field r ≡ Some f → Has zero r f
+        base_field : {k : ℕ} {r above : R} {f : F} → field r ≡ None → Extends r above → Has k above f → Has (suc k) r f
+
+      pub record HasField (r : R) (f : F) : Type 0 where
+        pub bases : ℕ
+        pub has : Has bases r f
+
+      pub record IsFieldOf (r : R) (o : Option F) : Type 0 where
+        pub some : IfSome o (HasField r)
+        pub none : IfNone o ((f : F) → HasField r f → ⊥)

@@ -1,0 +1,44 @@
+-- Where types lead by names, and by pointers too where these are followed.
+use Rattle.std.specs.Prelude.{◌≡◌, ℕ, zero, suc, List, Bool, true, Option, Some, None, if◌then◌else◌, IfSome, IfNone}
+use Rattle.std.specs.List.{All}
+use Rattle.indexmap.specs.IndexMap.{get, IndexMap}
+use Rattle.type_search.specs.declared.shape.Shape.{Shape}
+use Rattle.type_search.specs.declared.shape.Shape.TheVariants as shapes
+
+-- the type to which a name leads, or a pointer where pointers are followed
+abbrev pub next_of : {N D R : Type 0} → Bool → Shape N D R → Option N
+next_of pointers (shapes.Array n) = None
+next_of pointers (shapes.Pointer n) = if pointers then Some n else None
+next_of pointers (shapes.Record r) = None
+next_of pointers shapes.Procedure = None
+next_of pointers (shapes.Named d n) = Some n
+next_of pointers shapes.Unknown = None
+
+module _ {N D R : Type 0} (shape : N → Shape N D R) (pointers : Bool) where
+  -- in so many steps from a type to one that leads no further
+  pub data Leads : ℕ → N → N → Type 0 where
+    ends : {n : N} → next_of pointers (shape n) ≡ None → Leads zero n n
+    on : {k : ℕ} {n m last : N} → next_of pointers (shape n) ≡ Some m → Leads k m last → Leads (suc k) n last
+
+  pub record LeadsTo (n last : N) : Type 0 where
+    pub steps : ℕ
+    pub leads : Leads steps n last
+
+  -- the type to which a type leads, or none where it comes back to itself
+  pub record IsEnd (n : N) (end : Option N) : Type 0 where
+    pub some : IfSome end (LeadsTo n)
+    pub none : IfNone end ((last : N) → LeadsTo n last → ⊥)
+
+  module _ (same : D → D → Bool) where
+    -- the same of the type that the name of a declaration gives, told by any that is equal to it
+    abbrev pub IsEndOf : Option N → D → Type 0
+    IsEndOf end d = (c : D) (n m : N) → same d c ≡ true → shape n ≡ shapes.Named c m → IsEnd m end
+
+    -- where a type leads all declarations lead that were met on the way
+    pub record AreEnded (n : N) (met : List D) (end : Option N) : Type 0 where
+      pub is : IsEnd n end
+      pub each : All (IsEndOf end) met
+
+    -- what is kept of declarations is where they lead
+    pub record AreEnds {S : Type 0} (kept : IndexMap D (Option N) S) : Type 0 where
+      pub each : (d : D) (end : Option N) → get same kept d ≡ Some end → (n m : N) → shape n ≡ shapes.Named d m → IsEnd m end
