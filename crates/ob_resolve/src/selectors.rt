@@ -10,6 +10,7 @@ use ob_decls::{Selector, Step};
 use ob_targets::{Known, Target};
 use ob_types::Types;
 use std::alloc::{AllocError, Global};
+use type_search::Finder;
 
 /// What a selector leads to: what its name stands for, if it is a dot and a name, and what is known behind it.
 #[derive(Clone, Copy, Drop)]
@@ -33,29 +34,34 @@ fn begins_designator(selectors: &[Selector], place: usize, selector: Selector) -
 
 /// What a dot and a name lead to.
 fn led_by_name(
-    alloc: Global,
-    types: &Types<'_>,
+    finder: &mut Finder<'_, Types<'_>>,
     before: Known,
     name: u32,
 ) -> Result<Led, AllocError>
-    ensures { IfOk result (IsLed types.now before (steps.Field name)) }
+    ensures types { finder.new ≡ finder.old }
+    ensures led { IfOk result (IsLed finder.old before (steps.Field name)) }
 {
-    let target = selected(alloc, types, before, name)?;
+    let target = selected(finder, before, name)?;
     Ok(Led {
         target,
-        known: known_of(types, target),
+        known: known_of(finder.graph(), target),
     })
 }
 
 /// What a selector leads to.
-fn taken(alloc: Global, types: &Types<'_>, before: Known, step: Step) -> Result<Led, AllocError>
-    ensures { IfOk result (IsLed types.now before step) }
+fn taken(
+    finder: &mut Finder<'_, Types<'_>>,
+    before: Known,
+    step: Step,
+) -> Result<Led, AllocError>
+    ensures types { finder.new ≡ finder.old }
+    ensures led { IfOk result (IsLed finder.old before step) }
 {
     let known = match step {
-        Step::Field(name) => return led_by_name(alloc, types, before, name),
-        Step::Elements(count) => elements_of(alloc, types, before, count)?,
-        Step::Target => target_of(alloc, types, before)?,
-        Step::Arguments(guard) => guard_of(types, guard),
+        Step::Field(name) => return led_by_name(finder, before, name),
+        Step::Elements(count) => elements_of(finder, before, count)?,
+        Step::Target => target_of(finder, before)?,
+        Step::Arguments(guard) => guard_of(finder.graph(), guard),
     };
     Ok(Led {
         target: Target::Unresolved,
@@ -83,11 +89,12 @@ pub(crate) fn selected_targets(alloc: Global, types: &Types<'_>) -> Result<Vec<T
     ensures { IfOk result (λ v. AreNamed types.now (length types.now.rows.selectors) v.items) }
 {
     let selectors = types.table().selectors();
+    let mut finder = Finder::new(alloc, types);
     let mut targets = Vec::new(alloc);
     let mut behind = Known::Nothing;
     for place in 0..selectors.len() {
         let before = known_before(types, selectors, place, behind);
-        let led = taken(alloc, types, before, selectors[place].step)?;
+        let led = taken(&mut finder, before, selectors[place].step)?;
         targets.push(led.target)?;
         behind = led.known;
     }

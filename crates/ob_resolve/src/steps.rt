@@ -9,14 +9,20 @@ ghost use Rattle.ob_targets.specs.Steps.{Follows, StepsTo, Levels, Selects};
 use crate::meaning::{exported_target, field_target};
 use ob_targets::{Known, Target};
 use ob_types::{Node, Types};
-use std::alloc::{AllocError, Global};
-use type_search::{element, find_field, target};
+use std::alloc::AllocError;
+use type_search::Finder;
 
 /// What a field's name stands for at a type.
-fn field_at(alloc: Global, types: &Types<'_>, node: Node, name: u32) -> Result<Target, AllocError>
-    ensures { IfOk result (Selects types.now (knowns.Typed node) name) }
+fn field_at(
+    finder: &mut Finder<'_, Types<'_>>,
+    node: Node,
+    name: u32,
+) -> Result<Target, AllocError>
+    ensures types { finder.new ≡ finder.old }
+    ensures selects { IfOk result (Selects finder.old (knowns.Typed node) name) }
 {
-    match find_field(alloc, types, node, types.text(name))? {
+    let text = finder.graph().text(name);
+    match finder.find_field(node, text)? {
         Some(field) => Ok(field_target(field)),
         None => Ok(Target::Unresolved),
     }
@@ -24,28 +30,29 @@ fn field_at(alloc: Global, types: &Types<'_>, node: Node, name: u32) -> Result<T
 
 /// What a name behind a dot stands for.
 pub(crate) fn selected(
-    alloc: Global,
-    types: &Types<'_>,
+    finder: &mut Finder<'_, Types<'_>>,
     known: Known,
     name: u32,
 ) -> Result<Target, AllocError>
-    ensures { IfOk result (Selects types.now known name) }
+    ensures types { finder.new ≡ finder.old }
+    ensures selects { IfOk result (Selects finder.old known name) }
 {
     match known {
         Known::Nothing => Ok(Target::Unresolved),
-        Known::Module(item) => Ok(exported_target(types, item, name)),
-        Known::Typed(node) => field_at(alloc, types, node, name),
+        Known::Module(item) => Ok(exported_target(finder.graph(), item, name)),
+        Known::Typed(node) => field_at(finder, node, name),
     }
 }
 
 /// What is known of an element of what is known.
-fn element_of(alloc: Global, types: &Types<'_>, known: Known) -> Result<Known, AllocError>
-    ensures { IfOk result (Follows (HasElement same (shape types.now)) known) }
+fn element_of(finder: &mut Finder<'_, Types<'_>>, known: Known) -> Result<Known, AllocError>
+    ensures types { finder.new ≡ finder.old }
+    ensures follows { IfOk result (Follows (HasElement same (shape finder.old)) known) }
 {
     match known {
         Known::Nothing => Ok(Known::Nothing),
         Known::Module(_) => Ok(Known::Nothing),
-        Known::Typed(node) => match element(alloc, types, node)? {
+        Known::Typed(node) => match finder.element(node)? {
             Some(next) => Ok(Known::Typed(next)),
             None => Ok(Known::Nothing),
         },
@@ -54,28 +61,32 @@ fn element_of(alloc: Global, types: &Types<'_>, known: Known) -> Result<Known, A
 
 /// What is known behind so many expressions between brackets.
 pub(crate) fn elements_of(
-    alloc: Global,
-    types: &Types<'_>,
+    finder: &mut Finder<'_, Types<'_>>,
     known: Known,
     count: u32,
 ) -> Result<Known, AllocError>
-    ensures { IfOk result (Levels types.now count known) }
+    ensures types { finder.new ≡ finder.old }
+    ensures levels { IfOk result (Levels finder.old count known) }
 {
     let mut at = known;
     for _level in 0..count {
-        at = element_of(alloc, types, at)?;
+        at = element_of(finder, at)?;
     }
     Ok(at)
 }
 
 /// What is known of the target of what is known.
-pub(crate) fn target_of(alloc: Global, types: &Types<'_>, known: Known) -> Result<Known, AllocError>
-    ensures { IfOk result (Follows (HasTarget same (shape types.now)) known) }
+pub(crate) fn target_of(
+    finder: &mut Finder<'_, Types<'_>>,
+    known: Known,
+) -> Result<Known, AllocError>
+    ensures types { finder.new ≡ finder.old }
+    ensures follows { IfOk result (Follows (HasTarget same (shape finder.old)) known) }
 {
     match known {
         Known::Nothing => Ok(Known::Nothing),
         Known::Module(_) => Ok(Known::Nothing),
-        Known::Typed(node) => match target(alloc, types, node)? {
+        Known::Typed(node) => match finder.target(node)? {
             Some(next) => Ok(Known::Typed(next)),
             None => Ok(Known::Nothing),
         },

@@ -5,3 +5,4 @@ pub mod Homes
 pub mod Parted
 pub mod Depths
 pub mod DepthLaws
+pub mod NameLaws

@@ -31,7 +31,7 @@ pub enum Named {
 }
 
 /// A record type, by its RECORD.
-#[derive(Clone, Copy, Drop)]
+#[derive(Clone, Copy, PartialEq, Eq, Hash, Drop)]
 pub enum Record {
     Own(u32),
     Other { reached: u32, record: u32 },

@@ -233,6 +233,7 @@ impl TypeGraph for Types<'_> {
     ghost use Rattle.ob_types.specs.Depths.{depth, height};
     ghost use Rattle.ob_types.specs.Shapes.{base_of, field_of, shape};
     ghost use Rattle.ob_types.specs.DepthLaws.{based, deep, pointed};
+    ghost use Rattle.ob_types.specs.NameLaws.{named_once, told_apart};
 
     ghost shape = { shape };
 
@@ -261,4 +262,8 @@ impl TypeGraph for Types<'_> {
     ghost pointed = { pointed };
 
     ghost based = { based };
+
+    ghost named = { named_once };
+
+    ghost told_apart = { told_apart };
 }

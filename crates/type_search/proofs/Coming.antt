@@ -9,7 +9,9 @@ use Rattle.type_search.specs.declared.shape.Shape.TheVariants as shapes
 use Rattle.type_search.specs.Searches.{element_of, target_of, HasElement, HasTarget, IsPlain, Opens, OpensTo, plain, through, Finds, own, pointed, inherited}
 use Rattle.type_search.specs.Leading.{next_of, ends, on, IsEnd, Leads, LeadsTo}
 use Rattle.type_search.specs.Extending.{record_in, IsOf, Extends, Has, own_field, base_field, HasField, IsFieldOf, IsRecordOf}
+use Rattle.type_search.proofs.Extending.{of_once}
 use Rattle.type_search.proofs.Leading.{leads_once, leads_to_once}
+use Rattle.type_search.proofs.Opening.{field_found, opens_leads, opens_plain, IsFieldAt}
 
 bool_cases : (b : Bool) → (b ≡ true) ⊎ (b ≡ false)
 bool_cases true = inl refl
@@ -49,25 +51,6 @@ module _ {N D R : Type 0} (same : D → D → Bool) (shape : N → Shape N D R) 
   none_behind Left k i d l = absurd (omega (arith, l))
 
   -- ---- types that open to others
-
-  leads_plain : (pointers : Bool) (s : Shape N D R) → pointers ≡ false → IsPlain s → next_of pointers s ≡ None
-  leads_plain true s e p = cc
-  leads_plain false (shapes.Array n) e p = refl
-  leads_plain false (shapes.Pointer n) e p = refl
-  leads_plain false (shapes.Record r) e p = refl
-  leads_plain false shapes.Procedure e p = refl
-  leads_plain false (shapes.Named d n) e p = absurd p
-  leads_plain false shapes.Unknown e p = absurd p
-
-  pub opens_leads : (met after : List D) (n m : N) → Opens same shape met n after m → LeadsTo shape false n m
-  opens_leads met after n m (plain p) = record { steps = zero; leads = ends (leads_plain false (shape n) refl p) }
-  opens_leads met after n m (through {m = x} {d = d} e new rest) =
-      let r = opens_leads (met ++ d ∷ []) after x m rest in
-      record { steps = suc r.steps; leads = on (ap (next_of false) e) r.leads }
-
-  opens_plain : (met after : List D) (n m : N) → Opens same shape met n after m → IsPlain (shape m)
-  opens_plain met after n m (plain p) = p
-  opens_plain met after n m (through {m = x} {d = d} e new rest) = opens_plain (met ++ d ∷ []) after x m rest
 
   record OpensFrom (met : List D) (n m : N) : Type 0 where
     after : List D
@@ -116,14 +99,14 @@ module _ {N D R : Type 0} (same : D → D → Bool) (shape : N → Shape N D R) 
     comes_once : (j k : ℕ) (n : N) (f h : F) → Comes j n f → Comes k n h → j ≡ k
     comes_once j k n f h (here e p) (here e' q) = refl
     comes_once j k n f h (here {r = r} e p) (along {m = m} q rest) = no_next n m r e q
-    comes_once j k n f h (here {r = r} {f = f} e p) (up {r = s} e' q b rest) = absurd (let one = one_record n r s e e' in let g : Some f ≡ None = sym p ∙ ap field one ∙ q in cc)
+    comes_once j k n f h (here {r = r} {f = v} e p) (up {r = s} e' q b rest) = absurd (let one = one_record n r s e e' in let g : Some v ≡ None = sym p ∙ ap field one ∙ q in cc)
     comes_once j k n f h (along {m = m} q rest) (here {r = r} e p) = no_next n m r e q
     comes_once j k n f h (along {k = i} {m = x} p rest) (along {k = l} {m = y} q other) =
         let g : Some x ≡ Some y = sym p ∙ q in
         let one : x ≡ y = cc in
         ap suc (comes_once i l x f h rest (subst (λ (v : N). Comes l v h) (sym one) other))
     comes_once j k n f h (along {m = m} q rest) (up {r = r} e p b other) = no_next n m r e q
-    comes_once j k n f h (up {r = s} e' q b rest) (here {r = r} {f = f'} e p) = absurd (let one = one_record n r s e e' in let g : Some f' ≡ None = sym p ∙ ap field one ∙ q in cc)
+    comes_once j k n f h (up {r = s} e' q b rest) (here {r = r} {f = v} e p) = absurd (let one = one_record n r s e e' in let g : Some v ≡ None = sym p ∙ ap field one ∙ q in cc)
     comes_once j k n f h (up {r = r} e p b other) (along {m = m} q rest) = no_next n m r e q
     comes_once j k n f h (up {k = i} {m = x} {r = r} e p b rest) (up {k = l} {m = y} {r = s} e' q c other) =
         let one = one_record n r s e e' in
@@ -192,37 +175,70 @@ module _ {N D R : Type 0} (same : D → D → Bool) (shape : N → Shape N D R) 
         let l = leads_comes x.is_of.leads.steps there.steps x.by x.is_of.at f x.is_of.leads.leads there.comes in
         record { steps = suc l.steps; comes = up e p x.is_base l.comes }
 
-    -- a type leads to a record that has the field
-    pub record IsFieldAt (n : N) (f : F) : Type 0 where
-      pub of : R
-      pub is_of : IsOf shape n of
-      pub has : HasField shape base field of f
-
-    pub finds_field : (n : N) (f : F) → IsFieldAt n f → Finds same shape field base [] n f
+    pub finds_field : (n : N) (f : F) → IsFieldAt same shape field base n f → Finds same shape field base [] n f
     finds_field n f h =
         let there = has_comes h.has.bases h.is_of.at h.of f (record_is (shape h.is_of.at) h.of h.is_of.is) h.has.has in
         let l = leads_comes h.is_of.leads.steps there.steps n h.is_of.at f h.is_of.leads.leads there.comes in
         comes_finds [] l.steps n f l.comes (none_behind (λ j x. Comes j x f) l.steps)
 
-    opens_of : (met after : List D) (n m : N) (r : R) → Opens same shape met n after m → IsOf shape m r → IsOf shape n r
-    opens_of met after n m r (plain p) h = h
-    opens_of met after n m r (through {m = x} {d = d} e new rest) h =
-        let t = opens_of (met ++ d ∷ []) after x m r rest h in
-        record { at = t.at; leads = record { steps = suc t.leads.steps; leads = on (ap (next_of true) e) t.leads.leads }; is = t.is }
+    -- ---- what is told of a field
 
-    record_of_itself : (m : N) (r : R) → shape m ≡ shapes.Record r → IsOf shape m r
-    record_of_itself m r e = record { at = m; leads = record { steps = zero; leads = ends (ap (next_of true) e) }; is = ap record_in e }
+    pub field_told : (n : N) (r : R) (of : Option R) (o : Option F) → of ≡ Some r → IsRecordOf shape n of → IsFieldOf shape base field r o →
+        IfSome o (λ f. Finds same shape field base [] n f) × IfNone o ((f : F) → Finds same shape field base [] n f → ⊥)
+    field_told n r of (Some f) is at h = (finds_field n f (record { of = r; is_of = subst (λ (v : Option R). IfSome v (IsOf shape n)) is at.some; has = h.some }), tt)
+    field_told n r of None is at h = (
+      tt,
+      λ f g. (
+          let a = field_found same shape field base [] n f g in
+          let there : IsOf shape n r = subst (λ (v : Option R). IfSome v (IsOf shape n)) is at.some in
+          h.none f (subst (λ (x : R). HasField shape base field x f) (of_once shape n a.of r a.is_of there) a.has)),
+    )
 
-    pub field_found : (met : List D) (n : N) (f : F) → Finds same shape field base met n f → IsFieldAt n f
-    field_found met n f (own {after = a} {m = m} {r = r} o e p) = record { of = r; is_of = opens_of met a n m r o (record_of_itself m r e); has = record { bases = zero; has = own_field p } }
-    field_found met n f (pointed {after = a} {m = m} {next = x} o e rest) =
-        let h = field_found a x f rest in
-        let at_pointer : IsOf shape m h.of = record { at = h.is_of.at; leads = record { steps = suc h.is_of.leads.steps; leads = on (ap (next_of true) e) h.is_of.leads.leads }; is = h.is_of.is } in
-        record { of = h.of; is_of = opens_of met a n m h.of o at_pointer; has = h.has }
-    field_found met n f (inherited {after = a} {m = m} {next = x} {r = r} o e p b rest) =
-        let h = field_found a x f rest in
-        record {
-          of = r;
-          is_of = opens_of met a n m r o (record_of_itself m r e);
-          has = record { bases = suc h.has.bases; has = base_field p (record { by = x; is_base = b; is_of = h.is_of }) h.has.has };
-        }
+    pub no_field_told : (n : N) (of : Option R) → of ≡ None → IsRecordOf shape n of → (f : F) → Finds same shape field base [] n f → ⊥
+    no_field_told n of is at f g =
+        let a = field_found same shape field base [] n f g in
+        subst (λ (v : Option R). IfNone v ((r : R) → IsOf shape n r → ⊥)) is at.none a.of a.is_of
+
+  -- ---- what is told of a part
+
+  element_plain : (s : Shape N D R) (m : N) → element_of s ≡ Some m → IsPlain s
+  element_plain (shapes.Array n) m e = tt
+  element_plain (shapes.Pointer n) m e = tt
+  element_plain (shapes.Record r) m e = tt
+  element_plain shapes.Procedure m e = tt
+  element_plain (shapes.Named d n) m e = absurd (cc)
+  element_plain shapes.Unknown m e = absurd (cc)
+
+  target_plain : (s : Shape N D R) (m : N) → target_of s ≡ Some m → IsPlain s
+  target_plain (shapes.Array n) m e = tt
+  target_plain (shapes.Pointer n) m e = tt
+  target_plain (shapes.Record r) m e = tt
+  target_plain shapes.Procedure m e = tt
+  target_plain (shapes.Named d n) m e = absurd (cc)
+  target_plain shapes.Unknown m e = absurd (cc)
+
+  end_is : (n m : N) (end : Option N) → end ≡ Some m → IsEnd shape false n end → LeadsTo shape false n m
+  end_is n m end is e = subst (λ (v : Option N). IfSome v (LeadsTo shape false n)) is e.some
+
+  -- of two types that a type comes to the parts are the same
+  same_part : (part : Shape N D R → Option N) (n a b x : N) → OpensTo same shape n a → part (shape a) ≡ Some x → LeadsTo shape false n b → part (shape b) ≡ Some x
+  same_part part n a b x o is l =
+      let one : a ≡ b = leads_to_once shape false n a b (opens_leads same shape [] o.met n a o.opens) l in
+      subst (λ (v : N). part (shape v) ≡ Some x) one is
+
+  pub element_told : (n m : N) (end o : Option N) → end ≡ Some m → IsEnd shape false n end → o ≡ element_of (shape m) → IfSome o (HasElement same shape n) × IfNone o ((x : N) → HasElement same shape n x → ⊥)
+  element_told n m end (Some x) is e told = (record { array = m; opens = opens_to n m (end_is n m end is e) (element_plain (shape m) x (sym told)); is = sym told }, tt)
+  element_told n m end None is e told = (tt, λ x h. (let f : None ≡ Some x = told ∙ same_part element_of n h.array m x h.opens h.is (end_is n m end is e) in cc))
+
+  pub target_told : (n m : N) (end o : Option N) → end ≡ Some m → IsEnd shape false n end → o ≡ target_of (shape m) → IfSome o (HasTarget same shape n) × IfNone o ((x : N) → HasTarget same shape n x → ⊥)
+  target_told n m end (Some x) is e told = (record { pointer = m; opens = opens_to n m (end_is n m end is e) (target_plain (shape m) x (sym told)); is = sym told }, tt)
+  target_told n m end None is e told = (tt, λ x h. (let f : None ≡ Some x = told ∙ same_part target_of n h.pointer m x h.opens h.is (end_is n m end is e) in cc))
+
+  closed : (n m : N) (end : Option N) → end ≡ None → IsEnd shape false n end → OpensTo same shape n m → ⊥
+  closed n m end is e o = subst (λ (v : Option N). IfNone v ((last : N) → LeadsTo shape false n last → ⊥)) is e.none m (opens_leads same shape [] o.met n m o.opens)
+
+  pub no_element : (n : N) (end : Option N) → end ≡ None → IsEnd shape false n end → (m : N) → HasElement same shape n m → ⊥
+  no_element n end is e m h = closed n h.array end is e h.opens
+
+  pub no_target : (n : N) (end : Option N) → end ≡ None → IsEnd shape false n end → (m : N) → HasTarget same shape n m → ⊥
+  no_target n end is e m h = closed n h.pointer end is e h.opens

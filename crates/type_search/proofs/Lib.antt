@@ -2,3 +2,4 @@ pub mod Opening
 pub mod Finding
 pub mod Leading
 pub mod Coming
+pub mod Extending

@@ -3,8 +3,6 @@ use Rattle.std.specs.Prelude.{◌≡◌, List, [], ◌∷◌, ◌++◌, ◌<◌,
 use Rattle.std.specs.List.{list_any}
 use Rattle.type_search.specs.declared.shape.Shape.{Shape}
 use Rattle.type_search.specs.declared.shape.Shape.TheVariants as shapes
-use Rattle.type_search.specs.declared.fields.Step.{Step}
-use Rattle.type_search.specs.declared.fields.Step.TheVariants as steps
 
 -- a type is no name
 abbrev pub IsPlain : {N D R : Type 0} → Shape N D R → Type 0
@@ -31,21 +29,6 @@ target_of (shapes.Record r) = None
 target_of shapes.Procedure = None
 target_of (shapes.Named d n) = None
 target_of shapes.Unknown = None
-
--- what a search for a field comes to in a record with this field, if any, and this base, if any
-abbrev pub search_in_record : {N F : Type 0} → Option F → Option N → Step N F
-search_in_record (Some f) b = steps.Found f
-search_in_record None (Some n) = steps.Next n
-search_in_record None None = steps.Nothing
-
--- the same at a type
-abbrev pub step_of : {N D R F : Type 0} → (R → Option F) → (R → Option N) → Shape N D R → Step N F
-step_of field base (shapes.Array n) = steps.Nothing
-step_of field base (shapes.Pointer n) = steps.Next n
-step_of field base (shapes.Record r) = search_in_record (field r) (base r)
-step_of field base shapes.Procedure = steps.Nothing
-step_of field base (shapes.Named d n) = steps.Nothing
-step_of field base shapes.Unknown = steps.Nothing
 
 -- a declaration wasn't met before, and is the last that was met
 pub record IsNewlyMet {D : Type 0} (same : D → D → Bool) (d : D) (before after : List D) : Type 0 where

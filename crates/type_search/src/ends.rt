@@ -4,7 +4,7 @@ ghost use Rattle.std.specs.List.{All};
 ghost use Rattle.type_search.specs.Leading.{AreEnded, AreEnds, IsEnd, IsEndOf};
 
 use crate::graph::TypeGraph;
-use crate::search::meet;
+use crate::meet::meet;
 use crate::shape::Shape;
 use indexmap::{IndexMap, IndexSet};
 use std::alloc::AllocError;

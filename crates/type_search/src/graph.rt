@@ -48,4 +48,7 @@ pub trait TypeGraph {
 
     /// One declaration gives one type.
     ghost named: { (g : Self) (n m x y : Self.Node) (c d : Self.Declaration) → shape g n ≡ shapes.Named c x → shape g m ≡ shapes.Named d y → Self.Declaration.eq c d ≡ true → x ≡ y };
+
+    /// Records that are equal are one.
+    ghost told_apart: { (r s : Self.Record) → Self.Record.eq r s ≡ true → r ≡ s };
 }

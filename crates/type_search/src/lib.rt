@@ -5,13 +5,14 @@
 #![tactic(auto)]
 
 mod ends;
-mod fields;
+mod finder;
 mod graph;
 pub mod laws;
-mod search;
+mod meet;
+mod parts;
+mod records;
 mod shape;
 
-pub use fields::find_field;
+pub use finder::Finder;
 pub use graph::TypeGraph;
-pub use search::{element, open, target};
 pub use shape::Shape;

@@ -10,7 +10,7 @@ pub returns-in-Module : goal.returns-in-Module
 returns-in-Module c = follows_module _ _ _ c.in-Module.is
 
 pub returns-in-Some : goal.returns-in-Some
-returns-in-Some c = follows_there (λ eq. HasElement eq (shape c.args.types.now)) _ _ _ c.in_ok-next-in-Typed.field-0 c.in-Typed.is c.in-Some.is c.in_ok-next-in-Typed.ensures.found
+returns-in-Some c = follows_there (λ eq. HasElement eq (shape c.args.finder.now)) _ _ _ c.in_ok-next-in-Typed.field-0 c.in-Typed.is c.in-Some.is c.in_ok-next-in-Typed.ensures.found
 
 pub returns-in-None : goal.returns-in-None
-returns-in-None c = follows_nowhere (λ eq. HasElement eq (shape c.args.types.now)) _ _ c.in_ok-next-in-Typed.field-0 c.in-Typed.is c.in-None.is c.in_ok-next-in-Typed.ensures.none
+returns-in-None c = follows_nowhere (λ eq. HasElement eq (shape c.args.finder.now)) _ _ c.in_ok-next-in-Typed.field-0 c.in-Typed.is c.in-None.is c.in_ok-next-in-Typed.ensures.none

@@ -1,0 +1,164 @@
+-- Records and their bases.
+use Rattle.std.proofs.Common.{◌≡◌, ℕ, zero, suc, ◌+◌, ◌<◌, List, [], ◌∷◌, ◌++◌, length, Bool, true, false, Option, Some, None, refl, sym, ap, ◌∙◌, subst, arith}
+use Rattle.std.specs.Prelude.{IfNone, IfSome}
+use Rattle.std.specs.List.{list_any, All}
+use Rattle.std.proofs.lemmas.List.Elements.{All-push}
+use Rattle.std.proofs.lemmas.List.Folds.{Any-from_list_any}
+use Rattle.type_search.specs.declared.shape.Shape.{Shape}
+use Rattle.type_search.specs.Searches.{IsMet, IsMetAgain, IsNewlyMet}
+use Rattle.type_search.specs.Leading.{IsEnd, LeadsTo}
+use Rattle.type_search.specs.Extending.{record_in, base_field, own_field, Extends, Has, HasField, IsAbove, IsFieldOf, IsOf, IsRecordOf}
+use Rattle.type_search.proofs.Leading.{leads_to_once}
+
+module _ {N D R : Type 0} (shape : N → Shape N D R) where
+  pub of_once : (n : N) (r s : R) → IsOf shape n r → IsOf shape n s → r ≡ s
+  of_once n r s a b =
+      let one : a.at ≡ b.at = leads_to_once shape true n a.at b.at a.leads b.leads in
+      let e : Some r ≡ Some s = sym a.is ∙ ap (λ (x : N). record_in (shape x)) one ∙ b.is in
+      cc
+
+  -- what is a record where the type leads is its record
+  pub of_end : (n m : N) (end : Option N) (o : Option R) → end ≡ Some m → IsEnd shape true n end → o ≡ record_in (shape m) → IsRecordOf shape n o
+  of_end n m end o is e told = by o told
+    where
+      there : LeadsTo shape true n m
+      there = subst (λ (v : Option N). IfSome v (LeadsTo shape true n)) is e.some
+
+      by : (v : Option R) → v ≡ record_in (shape m) → IsRecordOf shape n v
+      by (Some r) told = record { some = record { at = m; leads = there; is = sym told }; none = tt }
+      by None told = record {
+        some = tt;
+        none = λ r h. (
+            let one : h.at ≡ m = leads_to_once shape true n h.at m h.leads there in
+            let f : None ≡ Some r = told ∙ ap (λ (x : N). record_in (shape x)) (sym one) ∙ h.is in
+            cc);
+      }
+
+  pub of_none : (n : N) (end : Option N) → end ≡ None → IsEnd shape true n end → IsRecordOf shape n None
+  of_none n end is e = record { some = tt; none = λ r h. subst (λ (v : Option N). IfNone v ((last : N) → LeadsTo shape true n last → ⊥)) is e.none h.at h.leads }
+
+  module _ (base : R → Option N) where
+    extends_once : (r s t : R) → Extends shape base r s → Extends shape base r t → s ≡ t
+    extends_once r s t a b =
+        let e : Some a.by ≡ Some b.by = sym a.is_base ∙ b.is_base in
+        let one : a.by ≡ b.by = cc in
+        of_once b.by s t (subst (λ (x : N). IsOf shape x s) one a.is_of) b.is_of
+
+    -- what is above a record by its base
+    pub above_by : (r : R) (b : Option N) (x : N) (o : Option R) → b ≡ base r → b ≡ Some x → IsRecordOf shape x o → IsAbove shape base r o
+    above_by r b x o told is of = by o of
+      where
+        is_base : base r ≡ Some x
+        is_base = sym told ∙ is
+
+        by : (v : Option R) → IsRecordOf shape x v → IsAbove shape base r v
+        by (Some s) of = record { some = record { by = x; is_base = is_base; is_of = of.some }; none = tt }
+        by None of = record {
+          some = tt;
+          none = λ s h. (
+              let e : Some h.by ≡ Some x = sym h.is_base ∙ is_base in
+              let one : h.by ≡ x = cc in
+              of.none s (subst (λ (y : N). IsOf shape y s) one h.is_of));
+        }
+
+    pub none_above : (r : R) (b : Option N) → b ≡ base r → b ≡ None → IsAbove shape base r None
+    none_above r b told is = record { some = tt; none = λ s h. (let e : None ≡ Some h.by = sym is ∙ told ∙ h.is_base in cc) }
+
+    module _ {F : Type 0} (field : R → Option F) where
+      -- a name means one field in a record, so many bases up
+      pub has_once : (j k : ℕ) (r : R) (f h : F) → Has shape base field j r f → Has shape base field k r h → (j ≡ k) × (f ≡ h)
+      has_once j k r f h (own_field p) (own_field q) = (refl, (let e : Some f ≡ Some h = sym p ∙ q in cc))
+      has_once j k r f h (own_field p) (base_field q x rest) = absurd (let e : Some f ≡ None = sym p ∙ q in cc)
+      has_once j k r f h (base_field p x rest) (own_field q) = absurd (let e : Some h ≡ None = sym q ∙ p in cc)
+      has_once j k r f h (base_field {k = i} {above = s} p x rest) (base_field {k = l} {above = t} q y other) =
+          let one : t ≡ s = extends_once r t s y x in
+          let e = has_once i l s f h rest (subst (λ (v : R). Has shape base field l v h) one other) in
+          (ap suc e.0, e.1)
+
+      -- so many bases up from one record to another, which have no field of the name
+      pub data Rises : ℕ → R → R → Type 0 where
+        nowhere : {r : R} → Rises zero r r
+        higher : {k : ℕ} {r s above : R} → Rises k r s → field s ≡ None → Extends shape base s above → Rises (suc k) r above
+
+      down : (s k : ℕ) (r t : R) (f : F) → Rises s r t → Has shape base field k t f → HasField shape base field r f
+      down s k r t f nowhere h = record { bases = k; has = h }
+      down s k r t f (higher {k = j} {s = x} p none e) h = down j (suc k) r x f p (base_field none e h)
+
+      record Still (s k : ℕ) (t : R) (f : F) : Type 0 where
+        bases : ℕ
+        has : Has shape base field bases t f
+        fewer : bases + s ≡ k
+
+      one_up : (k : ℕ) (x t : R) (f : F) → field x ≡ None → Extends shape base x t → Has shape base field k x f → Still 1 k t f
+      one_up k x t f none e (own_field p) = absurd (let g : None ≡ Some f = sym none ∙ p in cc)
+      one_up k x t f none e (base_field {k = i} {above = y} p z h) = record { bases = i; has = subst (λ (v : R). Has shape base field i v f) (extends_once x y t z e) h; fewer = omega arith }
+
+      still : (s k : ℕ) (r t : R) (f : F) → Rises s r t → Has shape base field k r f → Still s k t f
+      still s k r t f nowhere h = record { bases = k; has = h; fewer = omega arith }
+      still s k r t f (higher {k = j} {s = x} p none e) h =
+          let a = still j k r x f p h in
+          let b = one_up a.bases x t f none e a.has in
+          let m : a.bases + j ≡ k = a.fewer in
+          let n : b.bases + 1 ≡ a.bases = b.fewer in
+          record { bases = b.bases; has = b.has; fewer = omega (arith, m, n) }
+
+      -- what is found at the last is found at the first
+      pub field_same : (s : ℕ) (r t : R) (o : Option F) → Rises s r t → IsFieldOf shape base field t o → IsFieldOf shape base field r o
+      field_same s r t (Some f) p h = record { some = down s h.some.bases r t f p h.some.has; none = tt }
+      field_same s r t None p h = record { some = tt; none = λ f g. (let x = still s g.bases r t f p g.has in h.none f (record { bases = x.bases; has = x.has })) }
+
+      -- a search that comes back finds nothing
+      comes_back : (s : ℕ) (r : R) (f : F) → Rises (suc s) r r → HasField shape base field r f → ⊥
+      comes_back s r f p h =
+          let x = still (suc s) h.bases r r f p h.has in
+          let a : x.bases + suc s ≡ h.bases = x.fewer in
+          let b : x.bases ≡ h.bases = (has_once x.bases h.bases r f f x.has h.has).0 in
+          omega (arith, a, b)
+
+      pub own_is : (r : R) (f : F) (o : Option F) → o ≡ field r → o ≡ Some f → IsFieldOf shape base field r (Some f)
+      own_is r f o told is = record { some = record { bases = zero; has = own_field (sym told ∙ is) }; none = tt }
+
+      pub nothing_above : (r : R) (v : Option F) (o : Option R) → v ≡ field r → v ≡ None → o ≡ None → IsAbove shape base r o → IsFieldOf shape base field r None
+      nothing_above r v o told without is above = record { some = tt; none = λ f h. go f h.bases h.has }
+        where
+          closed : (s : R) → Extends shape base r s → ⊥
+          closed = subst (λ (v : Option R). IfNone v ((s : R) → Extends shape base r s → ⊥)) is above.none
+
+          go : (f : F) (k : ℕ) → Has shape base field k r f → ⊥
+          go f k (own_field p) = let g : None ≡ Some f = sym without ∙ told ∙ p in cc
+          go f k (base_field {above = s} p e h) = closed s e
+
+      module _ (same : R → R → Bool) (apart : (r s : R) → same r s ≡ true → r ≡ s) where
+        pub record IsRisen (now r : R) : Type 0 where
+          pub steps : ℕ
+          pub rises : Rises steps r now
+
+        -- a search from the first record stands before the second, and has met these
+        pub record Climbs (from now : R) (met : List R) : Type 0 where
+          pub steps : ℕ
+          pub rises : Rises steps from now
+          pub each : All (λ (r : R). (j : ℕ) × Rises (suc j) r now) met
+
+        pub climbs_nowhere : (from : R) (met : List R) → met ≡ [] → Climbs from from met
+        climbs_nowhere from met e = record { steps = zero; rises = nowhere; each = subst (λ (rs : List R). All (λ (r : R). (j : ℕ) × Rises (suc j) r from) rs) (sym e) (λ k d l. absurd (omega (arith, l))) }
+
+        pub met_again : (from now : R) (met after : List R) (b : Bool) → b ≡ false → IsMet same now met after b → Climbs from now met → IsFieldOf shape base field from None
+        met_again from now met after b is noted w =
+            let again : IsMetAgain same now met after = subst (IsMet same now met after) is noted in
+            let a = Any-from_list_any (same now) met again.among in
+            let p : (j : ℕ) × Rises (suc j) a.1 now = subst (λ (r : R). (j : ℕ) × Rises (suc j) r now) a.3 (w.each a.0 a.1 a.2) in
+            let one : now ≡ a.1 = apart now a.1 a.4 in
+            let q : Rises (suc p.0) now now = subst (λ (r : R). Rises (suc p.0) r now) (sym one) p.1 in
+            field_same w.steps from now None w.rises (record { some = tt; none = λ f h. comes_back p.0 now f q h })
+
+        pub climbs_on : (from now above : R) (met after : List R) (b : Bool) (v : Option F) (o : Option R) → b ≡ true → IsMet same now met after b → v ≡ field now → v ≡ None → o ≡ Some above → IsAbove shape base now o → Climbs from now met → Climbs from above after
+        climbs_on from now above met after b v o is noted told without is_some ups w =
+            let none : field now ≡ None = sym told ∙ without in
+            let fresh : IsNewlyMet same now met after = subst (IsMet same now met after) is noted in
+            let e : Extends shape base now above = subst (λ (v : Option R). IfSome v (Extends shape base now)) is_some ups.some in
+            record {
+              steps = suc w.steps;
+              rises = higher w.rises none e;
+              each = subst (λ (rs : List R). All (λ (r : R). (j : ℕ) × Rises (suc j) r above) rs) (sym fresh.last)
+                  (All-push (λ (r : R). (j : ℕ) × Rises (suc j) r above) met now (λ k d l. (let p = w.each k d l in (suc p.0, higher p.1 none e))) (zero, higher nowhere none e));
+            }

@@ -1,0 +1,11 @@
+use Rattle.std.proofs.Common.{ap, ◌∙◌}
+use Rattle.type_search.specs.Extending.{record_in}
+use Rattle.type_search.proofs.Extending.{of_end, of_none}
+use Rattle.type_search.proofs.records.record_of.Goals as goal
+
+pub returns-in-None-clause-is : goal.returns-in-None-clause-is
+returns-in-None-clause-is g c = of_none (g.G.TypeGraph.shape c.args.graph.now) c.args.from c.in_ok-end_of.field-0 c.in-None.is c.in_ok-end_of.ensures.end
+
+pub returns-in-Some-clause-is : goal.returns-in-Some-clause-is
+returns-in-Some-clause-is g c =
+    of_end (g.G.TypeGraph.shape c.args.graph.now) c.args.from c.in-Some.node c.in_ok-end_of.field-0 c.record_in.result c.in-Some.is c.in_ok-end_of.ensures.end (c.record_in.ensures ∙ ap record_in c.shape.ensures)

@@ -1,0 +1,84 @@
+//! Searches in a graph of types, which keep what they come to.
+ghost use Rattle.std.specs.Prelude.{◌≡◌, [], IfOk, IfSome, IfNone};
+ghost use Rattle.type_search.specs.Searches.{Finds, HasElement, HasTarget};
+
+use crate::graph::TypeGraph;
+use crate::parts::{element_in, target_in};
+use crate::records::find_in;
+use indexmap::IndexMap;
+use std::alloc::{AllocError, Global};
+use std::marker::Model;
+
+/// Searches in a graph of types. What they come to by names and pointers is kept, so that each declaration is passed once, however many
+/// searches come to it. A contract sees the graph.
+#[derive(Drop)]
+pub struct Finder<'a, G: TypeGraph> {
+    graph: &'a G,
+    /// Where declarations lead by names.
+    by_names: IndexMap<G::Declaration, Option<G::Node>>,
+    /// Where they lead by names and pointers.
+    by_pointers: IndexMap<G::Declaration, Option<G::Node>>,
+}
+
+impl<'a, G: TypeGraph> Model for Finder<'a, G> {
+    ghost use Rattle.std.specs.Prelude.{false, true};
+    ghost use Rattle.type_search.specs.Leading.{AreEnds};
+
+    ghost Value = { G };
+
+    ghost view = { λ f. f.graph.now };
+
+    ghost invariant = { λ f. AreEnds (G.shape f.graph.now) false G.Declaration.eq f.by_names × AreEnds (G.shape f.graph.now) true G.Declaration.eq f.by_pointers };
+}
+
+impl<'a, G: TypeGraph> Finder<'a, G> {
+    /// Searches in this graph.
+    pub fn new(alloc: Global, graph: &'a G) -> Finder<'a, G>
+        ensures { result ≡ graph.now }
+    {
+        Finder {
+            graph,
+            by_names: IndexMap::new(alloc),
+            by_pointers: IndexMap::new(alloc),
+        }
+    }
+
+    /// The graph.
+    pub fn graph(&self) -> &'a G
+        ensures { result.now ≡ self.now }
+    {
+        self.graph
+    }
+
+    /// The type of the elements of the array that a type opens to, or none where it opens to no array.
+    pub fn element(&mut self, from: G::Node) -> Result<Option<G::Node>, AllocError>
+        ensures graph { self.new ≡ self.old }
+        ensures found { IfOk result (λ o. IfSome o (HasElement G.Declaration.eq (G.shape self.old) from)) }
+        ensures none { IfOk result (λ o. IfNone o ((n : G.Node) → HasElement G.Declaration.eq (G.shape self.old) from n → ⊥)) }
+    {
+        element_in(self.graph, &mut self.by_names, from)
+    }
+
+    /// The target of the pointer that a type opens to, or none where it opens to no pointer.
+    pub fn target(&mut self, from: G::Node) -> Result<Option<G::Node>, AllocError>
+        ensures graph { self.new ≡ self.old }
+        ensures found { IfOk result (λ o. IfSome o (HasTarget G.Declaration.eq (G.shape self.old) from)) }
+        ensures none { IfOk result (λ o. IfNone o ((n : G.Node) → HasTarget G.Declaration.eq (G.shape self.old) from n → ⊥)) }
+    {
+        target_in(self.graph, &mut self.by_names, from)
+    }
+
+    /// The field that a name means at a type: of the record that it opens to, through pointers, or else of its base, all in one search;
+    /// or none.
+    pub fn find_field(
+        &mut self,
+        from: G::Node,
+        name: &'a [u8],
+    ) -> Result<Option<G::Field>, AllocError>
+        ensures graph { self.new ≡ self.old }
+        ensures found { IfOk result (λ o. IfSome o (λ f. Finds G.Declaration.eq (G.shape self.old) (λ r. G.field_of self.old r name.now) (G.base_of self.old) [] from f)) }
+        ensures none { IfOk result (λ o. IfNone o ((f : G.Field) → Finds G.Declaration.eq (G.shape self.old) (λ r. G.field_of self.old r name.now) (G.base_of self.old) [] from f → ⊥)) }
+    {
+        find_in(self.graph, &mut self.by_pointers, from, name)
+    }
+}
