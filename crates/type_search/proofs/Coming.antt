@@ -1,5 +1,5 @@
 -- Searches that note what they meet come to what types and records lead to.
-use Rattle.std.proofs.Common.{◌≡◌, ℕ, zero, suc, ◌+◌, ◌≤◌, List, [], ◌∷◌, ◌++◌, length, Bool, true, false, Option, Some, None, refl, sym, ap, ◌∙◌, subst, arith, ◌⊎◌, inl, inr}
+use Rattle.std.proofs.Common.{◌≡◌, ℕ, zero, suc, ◌≤◌, List, [], ◌∷◌, ◌++◌, Bool, true, false, Option, Some, None, refl, sym, ap, ◌∙◌, subst, arith, ◌⊎◌, inl, inr}
 use Rattle.std.specs.Prelude.{IfNone, IfSome}
 use Rattle.std.specs.List.{list_any, All}
 use Rattle.std.proofs.lemmas.List.Elements.{All-push}
@@ -8,10 +8,10 @@ use Rattle.type_search.specs.declared.shape.Shape.{Shape}
 use Rattle.type_search.specs.declared.shape.Shape.TheVariants as shapes
 use Rattle.type_search.specs.Searches.{element_of, target_of, HasElement, HasTarget, IsPlain, Opens, OpensTo, plain, through, Finds, own, pointed, inherited}
 use Rattle.type_search.specs.Leading.{next_of, ends, on, IsEnd, Leads, LeadsTo}
-use Rattle.type_search.specs.Extending.{record_in, IsOf, Extends, Has, own_field, base_field, HasField, IsFieldOf, IsRecordOf}
+use Rattle.type_search.specs.Extending.{record_in, IsOf, Has, own_field, base_field, HasField, IsFieldOf, IsRecordOf}
 use Rattle.type_search.proofs.Extending.{of_once}
 use Rattle.type_search.proofs.Leading.{leads_once, leads_to_once}
-use Rattle.type_search.proofs.Opening.{field_found, opens_leads, opens_plain, IsFieldAt}
+use Rattle.type_search.proofs.Opening.{field_found, opens_leads, IsFieldAt}
 
 bool_cases : (b : Bool) → (b ≡ true) ⊎ (b ≡ false)
 bool_cases true = inl refl

@@ -1,14 +1,23 @@
 -- Records and their bases.
-use Rattle.std.proofs.Common.{◌≡◌, ℕ, zero, suc, ◌+◌, ◌<◌, List, [], ◌∷◌, ◌++◌, length, Bool, true, false, Option, Some, None, refl, sym, ap, ◌∙◌, subst, arith}
-use Rattle.std.specs.Prelude.{IfNone, IfSome}
-use Rattle.std.specs.List.{list_any, All}
+use Rattle.std.proofs.Common.{◌≡◌, ℕ, zero, suc, ◌+◌, List, [], Bool, true, false, Option, Some, None, refl, sym, ap, ◌∙◌, subst, arith, cond, Bor}
+use Rattle.std.specs.Map.{lookup}
+use Rattle.std.specs.Str.{bytes_eq}
+use Rattle.std.proofs.lemmas.Slice.Eq.{bytes_eq-Decides}
+use Rattle.indexmap.specs.IndexMap.{get, IndexMap}
+use Rattle.std.specs.Prelude.{◌&&◌, IfNone, IfSome}
+use Rattle.std.specs.List.{All}
 use Rattle.std.proofs.lemmas.List.Elements.{All-push}
 use Rattle.std.proofs.lemmas.List.Folds.{Any-from_list_any}
 use Rattle.type_search.specs.declared.shape.Shape.{Shape}
 use Rattle.type_search.specs.Searches.{IsMet, IsMetAgain, IsNewlyMet}
 use Rattle.type_search.specs.Leading.{IsEnd, LeadsTo}
-use Rattle.type_search.specs.Extending.{record_in, base_field, own_field, Extends, Has, HasField, IsAbove, IsFieldOf, IsOf, IsRecordOf}
+use Rattle.type_search.specs.Extending.{record_in, base_field, own_field, Extends, Has, HasField, AreFieldsOf, AreFound, IsAbove, IsFieldOf, IsOf, IsRecordOf, Use, same_use}
 use Rattle.type_search.proofs.Leading.{leads_to_once}
+
+both_true : (a b : Bool) → a && b ≡ true → (a ≡ true) × (b ≡ true)
+both_true true true e = (refl, refl)
+both_true true false e = absurd cc
+both_true false b e = absurd cc
 
 module _ {N D R : Type 0} (shape : N → Shape N D R) where
   pub of_once : (n : N) (r s : R) → IsOf shape n r → IsOf shape n s → r ≡ s
@@ -142,14 +151,32 @@ module _ {N D R : Type 0} (shape : N → Shape N D R) where
         pub climbs_nowhere : (from : R) (met : List R) → met ≡ [] → Climbs from from met
         climbs_nowhere from met e = record { steps = zero; rises = nowhere; each = subst (λ (rs : List R). All (λ (r : R). (j : ℕ) × Rises (suc j) r from) rs) (sym e) (λ k d l. absurd (omega (arith, l))) }
 
-        pub met_again : (from now : R) (met after : List R) (b : Bool) → b ≡ false → IsMet same now met after b → Climbs from now met → IsFieldOf shape base field from None
+        -- what a name means at the last it means in all that were passed
+        pub passed : (from now : R) (met : List R) (o : Option F) → Climbs from now met → IsFieldOf shape base field now o → AreFieldsOf shape base field from met o
+        passed from now met o w h = record {
+          is = field_same w.steps from now o w.rises h;
+          each = λ k d l. (let p = w.each k d l in field_same (suc p.0) _ now o p.1 h);
+        }
+
+        pub met_again : (from now : R) (met after : List R) (b : Bool) → b ≡ false → IsMet same now met after b → Climbs from now met → AreFieldsOf shape base field from after None
         met_again from now met after b is noted w =
             let again : IsMetAgain same now met after = subst (IsMet same now met after) is noted in
             let a = Any-from_list_any (same now) met again.among in
             let p : (j : ℕ) × Rises (suc j) a.1 now = subst (λ (r : R). (j : ℕ) × Rises (suc j) r now) a.3 (w.each a.0 a.1 a.2) in
             let one : now ≡ a.1 = apart now a.1 a.4 in
             let q : Rises (suc p.0) now now = subst (λ (r : R). Rises (suc p.0) r now) (sym one) p.1 in
-            field_same w.steps from now None w.rises (record { some = tt; none = λ f h. comes_back p.0 now f q h })
+            subst (λ (rs : List R). AreFieldsOf shape base field from rs None) (sym again.unchanged) (passed from now met None w (record { some = tt; none = λ f h. comes_back p.0 now f q h }))
+
+        pub none_left : (from now : R) (met after : List R) (b : Bool) (v : Option F) (o : Option R) → b ≡ true → IsMet same now met after b → v ≡ field now → v ≡ None → o ≡ None → IsAbove shape base now o → Climbs from now met →
+            AreFieldsOf shape base field from after None
+        none_left from now met after b v o is noted told without no_more above w =
+            let fresh : IsNewlyMet same now met after = subst (IsMet same now met after) is noted in
+            let here = nothing_above now v o told without no_more above in
+            let all = passed from now met None w here in
+            record {
+              is = all.is;
+              each = subst (λ (rs : List R). All (λ (s : R). IsFieldOf shape base field s None) rs) (sym fresh.last) (All-push (λ (s : R). IsFieldOf shape base field s None) met now all.each here);
+            }
 
         pub climbs_on : (from now above : R) (met after : List R) (b : Bool) (v : Option F) (o : Option R) → b ≡ true → IsMet same now met after b → v ≡ field now → v ≡ None → o ≡ Some above → IsAbove shape base now o → Climbs from now met → Climbs from above after
         climbs_on from now above met after b v o is noted told without is_some ups w =
@@ -162,3 +189,33 @@ module _ {N D R : Type 0} (shape : N → Shape N D R) where
               each = subst (λ (rs : List R). All (λ (r : R). (j : ℕ) × Rises (suc j) r above) rs) (sym fresh.last)
                   (All-push (λ (r : R). (j : ℕ) × Rises (suc j) r above) met now (λ k d l. (let p = w.each k d l in (suc p.0, higher p.1 none e))) (zero, higher nowhere none e));
             }
+
+  -- ---- what is kept
+
+  module _ (base : R → Option N) {F S : Type 0} (field : R → List ℕ → Option F) (same : R → R → Bool) (apart : (r s : R) → same r s ≡ true → r ≡ s) where
+    pub found_more : (old new : IndexMap (Use shape base) (Option F) S) (r : R) (name : Bor (List ℕ)) (o : Option F) → AreFound shape base field same old →
+        ((u : Use shape base) → get (same_use shape base same) new u ≡ cond (same_use shape base same (r, name) u) (Some o) (get (same_use shape base same) old u)) →
+        IsFieldOf shape base (λ (s : R). field s name.now) r o → AreFound shape base field same new
+    found_more old new r name o are adds is = record { each = λ u v e. at u v (same_use shape base same (r, name) u) refl (sym (adds u) ∙ e) }
+      where
+        at : (u : Use shape base) (v : Option F) (b : Bool) → same_use shape base same (r, name) u ≡ b → cond b (Some o) (get (same_use shape base same) old u) ≡ Some v → IsFieldOf shape base (λ (s : R). field s u.1.now) u.0 v
+        at u v false s e = are.each u v e
+        at u v true s e =
+            let both = both_true (same r u.0) (bytes_eq name.now u.1.now) s in
+            let one_record : r ≡ u.0 = apart r u.0 both.0 in
+            let one_name : name.now ≡ u.1.now = (bytes_eq-Decides name.now u.1.now).0 both.1 in
+            let one : o ≡ v = cc in
+            subst (λ (x : Option F). IsFieldOf shape base (λ (t : R). field t u.1.now) u.0 x) one
+            (subst (λ (x : R). IsFieldOf shape base (λ (t : R). field t u.1.now) x o) one_record
+            (subst (λ (x : List ℕ). IsFieldOf shape base (λ (t : R). field t x) r o) one_name is))
+
+    pub found_all : (old new : IndexMap (Use shape base) (Option F) S) → new.entries ≡ old.entries → AreFound shape base field same old → AreFound shape base field same new
+    found_all old new e are = record { each = λ u o is. are.each u o (sym (ap (lookup (same_use shape base same u)) e) ∙ is) }
+
+    pub found_none : (found : IndexMap (Use shape base) (Option F) S) → found.entries ≡ [] → AreFound shape base field same found
+    found_none found e = record { each = λ u o is. absurd (let f : None ≡ Some o = sym (ap (lookup (same_use shape base same u)) e) ∙ is in cc) }
+
+    -- what is kept of the record at which a search stands
+    pub passed_kept : (found : IndexMap (Use shape base) (Option F) S) (from now : R) (name : Bor (List ℕ)) (met : List R) (o : Option F) → AreFound shape base field same found →
+        get (same_use shape base same) found (now, name) ≡ Some o → Climbs base (λ (r : R). field r name.now) same apart from now met → AreFieldsOf shape base (λ (r : R). field r name.now) from met o
+    passed_kept found from now name met o are is w = passed base (λ (r : R). field r name.now) same apart from now met o w (are.each (now, name) o is)

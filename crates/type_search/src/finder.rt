@@ -18,17 +18,20 @@ pub struct Finder<'a, G: TypeGraph> {
     by_names: IndexMap<G::Declaration, Option<G::Node>>,
     /// Where they lead by names and pointers.
     by_pointers: IndexMap<G::Declaration, Option<G::Node>>,
+    /// What names mean in records.
+    found: IndexMap<(G::Record, &'a [u8]), Option<G::Field>>,
 }
 
 impl<'a, G: TypeGraph> Model for Finder<'a, G> {
     ghost use Rattle.std.specs.Prelude.{false, true};
+    ghost use Rattle.type_search.specs.Extending.{AreFound};
     ghost use Rattle.type_search.specs.Leading.{AreEnds};
 
     ghost Value = { G };
 
     ghost view = { λ f. f.graph.now };
 
-    ghost invariant = { λ f. AreEnds (G.shape f.graph.now) false G.Declaration.eq f.by_names × AreEnds (G.shape f.graph.now) true G.Declaration.eq f.by_pointers };
+    ghost invariant = { λ f. AreEnds (G.shape f.graph.now) false G.Declaration.eq f.by_names × AreEnds (G.shape f.graph.now) true G.Declaration.eq f.by_pointers × AreFound (G.shape f.graph.now) (G.base_of f.graph.now) (G.field_of f.graph.now) G.Record.eq f.found };
 }
 
 impl<'a, G: TypeGraph> Finder<'a, G> {
@@ -40,6 +43,7 @@ impl<'a, G: TypeGraph> Finder<'a, G> {
             graph,
             by_names: IndexMap::new(alloc),
             by_pointers: IndexMap::new(alloc),
+            found: IndexMap::new(alloc),
         }
     }
 
@@ -79,6 +83,12 @@ impl<'a, G: TypeGraph> Finder<'a, G> {
         ensures found { IfOk result (λ o. IfSome o (λ f. Finds G.Declaration.eq (G.shape self.old) (λ r. G.field_of self.old r name.now) (G.base_of self.old) [] from f)) }
         ensures none { IfOk result (λ o. IfNone o ((f : G.Field) → Finds G.Declaration.eq (G.shape self.old) (λ r. G.field_of self.old r name.now) (G.base_of self.old) [] from f → ⊥)) }
     {
-        find_in(self.graph, &mut self.by_pointers, from, name)
+        find_in(
+            self.graph,
+            &mut self.by_pointers,
+            &mut self.found,
+            from,
+            name,
+        )
     }
 }

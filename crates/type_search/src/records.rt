@@ -1,6 +1,7 @@
 //! Records to which types lead, and their fields.
 ghost use Rattle.std.specs.Prelude.{◌≡◌, [], IfOk, IfSome, IfNone, true};
-ghost use Rattle.type_search.specs.Extending.{record_in, IsAbove, IsFieldOf, IsRecordOf};
+ghost use Rattle.std.specs.List.{All};
+ghost use Rattle.type_search.specs.Extending.{record_in, AreFieldsOf, AreFound, IsAbove, IsFieldOf, IsRecordOf};
 ghost use Rattle.type_search.specs.Leading.{AreEnds};
 ghost use Rattle.type_search.specs.Searches.{Finds};
 
@@ -57,26 +58,32 @@ fn record_above<G: TypeGraph>(
     }
 }
 
-/// The field that a name means in a record: its own, or else that of its base.
-fn field_of<G: TypeGraph>(
+/// The field that a name means in a record: its own, or else that of its base, up to a record whose field is kept; and the records
+/// that are passed on the way.
+fn field_of<'a, G: TypeGraph>(
     graph: &G,
     kept: &mut IndexMap<G::Declaration, Option<G::Node>>,
+    found: &IndexMap<(G::Record, &'a [u8]), Option<G::Field>>,
     met: &mut IndexSet<G::Record>,
     from: G::Record,
-    name: &[u8],
+    name: &'a [u8],
 ) -> Result<Option<G::Field>, AllocError>
     requires kept { AreEnds (G.shape graph.now) true G.Declaration.eq kept.old }
+    requires found { AreFound (G.shape graph.now) (G.base_of graph.now) (G.field_of graph.now) G.Record.eq found.now }
     requires none_met { met.old.keys ≡ [] }
     ensures kept { AreEnds (G.shape graph.now) true G.Declaration.eq kept.new }
-    ensures is { IfOk result (IsFieldOf (G.shape graph.now) (G.base_of graph.now) (λ r. G.field_of graph.now r name.now) from) }
+    ensures fields { IfOk result (AreFieldsOf (G.shape graph.now) (G.base_of graph.now) (λ r. G.field_of graph.now r name.now) from met.new.keys) }
 {
     let mut record = from;
     'records: loop {
-        if !meet(met, record)? {
-            return Ok(None);
-        }
         if let Some(field) = graph.field(record, name) {
             return Ok(Some(field));
+        }
+        if let Some(field) = found.get(&(record, name)) {
+            return Ok(*field);
+        }
+        if !meet(met, record)? {
+            return Ok(None);
         }
         match record_above(graph, kept, record)? {
             None => return Ok(None),
@@ -85,23 +92,63 @@ fn field_of<G: TypeGraph>(
     }
 }
 
-/// The field that a name means at a type: of the record to which it leads, or else of its base.
-pub(crate) fn find_in<G: TypeGraph>(
+/// Keeps what a name means in the first of these records, and in those that follow it at distances that double.
+fn keep_field<'a, G: TypeGraph>(
+    graph: &G,
+    found: &mut IndexMap<(G::Record, &'a [u8]), Option<G::Field>>,
+    met: &[G::Record],
+    name: &'a [u8],
+    field: Option<G::Field>,
+) -> Result<(), AllocError>
+    requires found { AreFound (G.shape graph.now) (G.base_of graph.now) (G.field_of graph.now) G.Record.eq found.old }
+    requires met { All (λ r. IsFieldOf (G.shape graph.now) (G.base_of graph.now) (λ s. G.field_of graph.now s name.now) r field) met.now }
+    ensures { AreFound (G.shape graph.now) (G.base_of graph.now) (G.field_of graph.now) G.Record.eq found.new }
+{
+    let mut at = 0;
+    'kept: while at < met.len() {
+        found.insert((met[at], name), field)?;
+        at = at.saturating_mul(2).saturating_add(1);
+    }
+    Ok(())
+}
+
+/// The field that a name means in a record, which is kept for the searches that follow.
+fn field_kept<'a, G: TypeGraph>(
     graph: &G,
     kept: &mut IndexMap<G::Declaration, Option<G::Node>>,
-    from: G::Node,
-    name: &[u8],
+    found: &mut IndexMap<(G::Record, &'a [u8]), Option<G::Field>>,
+    from: G::Record,
+    name: &'a [u8],
 ) -> Result<Option<G::Field>, AllocError>
-    requires { AreEnds (G.shape graph.now) true G.Declaration.eq kept.old }
+    requires kept { AreEnds (G.shape graph.now) true G.Declaration.eq kept.old }
+    requires found { AreFound (G.shape graph.now) (G.base_of graph.now) (G.field_of graph.now) G.Record.eq found.old }
     ensures kept { AreEnds (G.shape graph.now) true G.Declaration.eq kept.new }
+    ensures found { AreFound (G.shape graph.now) (G.base_of graph.now) (G.field_of graph.now) G.Record.eq found.new }
+    ensures is { IfOk result (IsFieldOf (G.shape graph.now) (G.base_of graph.now) (λ r. G.field_of graph.now r name.now) from) }
+{
+    let mut met = IndexSet::new(*kept.allocator());
+    let field = field_of(graph, kept, found, &mut met, from, name)?;
+    keep_field(graph, found, met.as_slice(), name, field)?;
+    Ok(field)
+}
+
+/// The field that a name means at a type: of the record to which it leads, or else of its base.
+pub(crate) fn find_in<'a, G: TypeGraph>(
+    graph: &G,
+    kept: &mut IndexMap<G::Declaration, Option<G::Node>>,
+    found: &mut IndexMap<(G::Record, &'a [u8]), Option<G::Field>>,
+    from: G::Node,
+    name: &'a [u8],
+) -> Result<Option<G::Field>, AllocError>
+    requires kept { AreEnds (G.shape graph.now) true G.Declaration.eq kept.old }
+    requires found { AreFound (G.shape graph.now) (G.base_of graph.now) (G.field_of graph.now) G.Record.eq found.old }
+    ensures kept { AreEnds (G.shape graph.now) true G.Declaration.eq kept.new }
+    ensures fields { AreFound (G.shape graph.now) (G.base_of graph.now) (G.field_of graph.now) G.Record.eq found.new }
     ensures found { IfOk result (λ o. IfSome o (λ f. Finds G.Declaration.eq (G.shape graph.now) (λ r. G.field_of graph.now r name.now) (G.base_of graph.now) [] from f)) }
     ensures none { IfOk result (λ o. IfNone o ((f : G.Field) → Finds G.Declaration.eq (G.shape graph.now) (λ r. G.field_of graph.now r name.now) (G.base_of graph.now) [] from f → ⊥)) }
 {
     match record_of(graph, kept, from)? {
         None => Ok(None),
-        Some(record) => {
-            let mut met = IndexSet::new(*kept.allocator());
-            field_of(graph, kept, &mut met, record, name)
-        }
+        Some(record) => field_kept(graph, kept, found, record, name),
     }
 }
