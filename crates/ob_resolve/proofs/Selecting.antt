@@ -65,9 +65,10 @@ module _ (w : World) where
   pub nothing_passed : (ts : List Target) (o : Known) → ts ≡ [] → Passed 0 ts o
   nothing_passed ts o is = rw is (record { named = record { as_many = refl; each = λ i s t there none. absurd (let f : None ≡ Some t = none in cc) }; known = tt })
 
-  pub one_passed : (selectors : List Selector) (place : ℕ) (s : Selector) (ts : List Target) (before o : Known) (led : Led) → selectors ≡ w.rows.selectors → slice_get selectors place ≡ Some s →
-      Passed place ts o → Knows w place before → IsLed w before s.step led → Passed (place + 1) (ts ++ led.target ∷ []) led.known
-  one_passed selectors place s ts before o led are there_is p knows is =
+  pub one_passed : (selectors : List Selector) (place : ℕ) (s : Selector) (ts : List Target) (before o : Known) (led : Led) (v : World) → v ≡ w → selectors ≡ w.rows.selectors → slice_get selectors place ≡ Some s →
+      Passed place ts o → Knows w place before → IsLed v before s.step led → Passed (place + 1) (ts ++ led.target ∷ []) led.known
+  one_passed selectors place s ts before o led v same_world are there_is p knows is_led =
+      let is : IsLed w before s.step led = subst (λ (u : World). IsLed u before s.step led) same_world is_led in
       let there : slice_get w.rows.selectors place ≡ Some s = subst (λ (xs : List Selector). slice_get xs place ≡ Some s) are there_is in
       rw (add-one place) (record {
         named = record {

@@ -49,11 +49,7 @@ fn led_by_name(
 }
 
 /// What a selector leads to.
-fn taken(
-    finder: &mut Finder<'_, Types<'_>>,
-    before: Known,
-    step: Step,
-) -> Result<Led, AllocError>
+fn taken(finder: &mut Finder<'_, Types<'_>>, before: Known, step: Step) -> Result<Led, AllocError>
     ensures types { finder.new ≡ finder.old }
     ensures led { IfOk result (IsLed finder.old before step) }
 {

@@ -13,11 +13,7 @@ use std::alloc::AllocError;
 use type_search::Finder;
 
 /// What a field's name stands for at a type.
-fn field_at(
-    finder: &mut Finder<'_, Types<'_>>,
-    node: Node,
-    name: u32,
-) -> Result<Target, AllocError>
+fn field_at(finder: &mut Finder<'_, Types<'_>>, node: Node, name: u32) -> Result<Target, AllocError>
     ensures types { finder.new ≡ finder.old }
     ensures selects { IfOk result (Selects finder.old (knowns.Typed node) name) }
 {

@@ -7,15 +7,20 @@ use Rattle.ob_resolve.proofs.selectors.selected_targets.Goals as goal
 
 pub loop-place-preserved : goal.loop-place-preserved
 loop-place-preserved c =
-    rw c.in_ok-push.ensures.items (one_passed c.args.types.now c.selectors-selectors.result.now c.loop-place.place _ c.loop-place.targets.items c.known_before-before.result c.loop-place.behind c.in_ok-led.led
-    (c.selectors-selectors.ensures ∙ ap (λ (r : Rows). r.selectors) c.table.ensures) (slice_get-get_or c.selectors-selectors.result.now c.loop-place.place _ c.loop-place-test.true)
-    c.loop-place.invariant c.known_before-before.ensures c.in_ok-led.ensures)
+    let there = c.loop-place.invariant.types in
+    record {
+      types = c.in_ok-led.ensures.types ∙ there;
+      passed = rw c.in_ok-push.ensures.items (one_passed c.args.types.now c.selectors-selectors.result.now c.loop-place.place _ c.loop-place.targets.items c.known_before-before.result c.loop-place.behind c.in_ok-led.led c.loop-place.finder there
+          (c.selectors-selectors.ensures ∙ ap (λ (r : Rows). r.selectors) c.table.ensures) (slice_get-get_or c.selectors-selectors.result.now c.loop-place.place _ c.loop-place-test.true)
+          c.loop-place.invariant.passed c.known_before-before.ensures
+          c.in_ok-led.ensures.led);
+    }
 
 pub loop-place-init : goal.loop-place-init
-loop-place-init c = nothing_passed c.args.types.now c.new-targets.result.items _ c.new-targets.ensures.items
+loop-place-init c = record { types = c.new-finder.ensures; passed = nothing_passed c.args.types.now c.new-targets.result.items _ c.new-targets.ensures.items }
 
 pub returns : goal.returns
 returns c =
     let same = c.selectors-selectors.ensures ∙ ap (λ (r : Rows). r.selectors) c.table.ensures in
     let all : c.loop-place.place ≡ length c.args.types.now.rows.selectors = omega (arith, ap length same, c.loop-place-test.false, c.loop-place.auto.place-end) in
-    subst (λ (n : ℕ). AreNamed c.args.types.now n c.loop-place.targets.items) all c.loop-place.invariant.named
+    subst (λ (n : ℕ). AreNamed c.args.types.now n c.loop-place.targets.items) all c.loop-place.invariant.passed.named
