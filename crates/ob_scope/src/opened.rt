@@ -88,13 +88,13 @@ fn place_of_open(stack: &[u32], block: u32) -> Option<usize>
     stack.binary_search_by_key(&block, |block| *block).ok()
 }
 
-/// Whether a place is an open block.
-pub(crate) fn is_open(stack: &[u32], place: Scope) -> bool
+/// Whether a scope is an open block.
+pub(crate) fn is_open(stack: &[u32], scope: Scope) -> bool
     requires { AscendBy (λ (b : ℕ). b) stack.now }
-    ensures yes { result ≡ true → IsOpenScope stack.now place }
-    ensures no { IsOpenScope stack.now place → result ≡ true }
+    ensures yes { result ≡ true → IsOpenScope stack.now scope }
+    ensures no { IsOpenScope stack.now scope → result ≡ true }
 {
-    match place {
+    match scope {
         Scope::Block(block) => place_of_open(stack, block).is_some(),
         Scope::Record(_) => false,
     }

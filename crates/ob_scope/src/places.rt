@@ -62,10 +62,10 @@ pub(crate) fn index_of<'a>(
 }
 
 /// The place of the member of this name that is declared here.
-pub(crate) fn member_in(index: &IndexSet<Key>, place: Scope, name: &[u8]) -> Option<usize>
-    ensures found { IfSome result (IsEntryAt index.now.keys place name.now) }
-    ensures none { IfNone result (HasNoEntry index.now.keys place name.now) }
+pub(crate) fn member_in(index: &IndexSet<Key>, scope: Scope, name: &[u8]) -> Option<usize>
+    ensures found { IfSome result (IsEntryAt index.now.keys scope name.now) }
+    ensures none { IfNone result (HasNoEntry index.now.keys scope name.now) }
 {
     let name = Name { bytes: name };
-    index.get_index_of(&Key { place, name })
+    index.get_index_of(&Key { place: scope, name })
 }
