@@ -1,6 +1,7 @@
 -- Records and their bases.
 use Rattle.std.proofs.Common.{◌≡◌, ℕ, zero, suc, ◌+◌, List, [], Bool, true, false, Option, Some, None, refl, sym, ap, ◌∙◌, subst, arith, cond, Bor}
 use Rattle.std.specs.Map.{lookup}
+use Rattle.std.specs.Option.{option_copied}
 use Rattle.std.specs.Str.{bytes_eq}
 use Rattle.std.proofs.lemmas.Slice.Eq.{bytes_eq-Decides}
 use Rattle.indexmap.specs.IndexMap.{get, IndexMap}
@@ -11,7 +12,7 @@ use Rattle.std.proofs.lemmas.List.Folds.{Any-from_list_any}
 use Rattle.type_search.specs.declared.shape.Shape.{Shape}
 use Rattle.type_search.specs.Searches.{IsMet, IsMetAgain, IsNewlyMet}
 use Rattle.type_search.specs.Leading.{IsEnd, LeadsTo}
-use Rattle.type_search.specs.Extending.{record_in, base_field, own_field, Extends, Has, HasField, AreFieldsOf, AreFound, IsAbove, IsFieldOf, IsOf, IsRecordOf, Use, same_use}
+use Rattle.type_search.specs.Extending.{record_in, base_field, own_field, risen, came_back, Extends, Has, HasField, AreFieldsOf, AreFound, IsAbove, IsFieldOf, IsNext, IsOf, IsRecordOf, Use, same_use}
 use Rattle.type_search.proofs.Leading.{leads_to_once}
 
 both_true : (a b : Bool) → a && b ≡ true → (a ≡ true) × (b ≡ true)
@@ -127,14 +128,14 @@ module _ {N D R : Type 0} (shape : N → Shape N D R) where
       pub own_is : (r : R) (f : F) (o : Option F) → o ≡ field r → o ≡ Some f → IsFieldOf shape base field r (Some f)
       own_is r f o told is = record { some = record { bases = zero; has = own_field (sym told ∙ is) }; none = tt }
 
-      pub nothing_above : (r : R) (v : Option F) (o : Option R) → v ≡ field r → v ≡ None → o ≡ None → IsAbove shape base r o → IsFieldOf shape base field r None
-      nothing_above r v o told without is above = record { some = tt; none = λ f h. go f h.bases h.has }
+      nothing_above : (r : R) (o : Option R) → field r ≡ None → o ≡ None → IsAbove shape base r o → IsFieldOf shape base field r None
+      nothing_above r o none is above = record { some = tt; none = λ f h. go f h.bases h.has }
         where
           closed : (s : R) → Extends shape base r s → ⊥
           closed = subst (λ (v : Option R). IfNone v ((s : R) → Extends shape base r s → ⊥)) is above.none
 
           go : (f : F) (k : ℕ) → Has shape base field k r f → ⊥
-          go f k (own_field p) = let g : None ≡ Some f = sym without ∙ told ∙ p in cc
+          go f k (own_field p) = let g : None ≡ Some f = sym none ∙ p in cc
           go f k (base_field {above = s} p e h) = closed s e
 
       module _ (same : R → R → Bool) (apart : (r s : R) → same r s ≡ true → r ≡ s) where
@@ -158,30 +159,25 @@ module _ {N D R : Type 0} (shape : N → Shape N D R) where
           each = λ k d l. (let p = w.each k d l in field_same (suc p.0) _ now o p.1 h);
         }
 
-        pub met_again : (from now : R) (met after : List R) (b : Bool) → b ≡ false → IsMet same now met after b → Climbs from now met → AreFieldsOf shape base field from after None
-        met_again from now met after b is noted w =
-            let again : IsMetAgain same now met after = subst (IsMet same now met after) is noted in
+        met_again : (from now : R) (met after : List R) → IsMetAgain same now met after → Climbs from now met → AreFieldsOf shape base field from after None
+        met_again from now met after again w =
             let a = Any-from_list_any (same now) met again.among in
             let p : (j : ℕ) × Rises (suc j) a.1 now = subst (λ (r : R). (j : ℕ) × Rises (suc j) r now) a.3 (w.each a.0 a.1 a.2) in
             let one : now ≡ a.1 = apart now a.1 a.4 in
             let q : Rises (suc p.0) now now = subst (λ (r : R). Rises (suc p.0) r now) (sym one) p.1 in
             subst (λ (rs : List R). AreFieldsOf shape base field from rs None) (sym again.unchanged) (passed from now met None w (record { some = tt; none = λ f h. comes_back p.0 now f q h }))
 
-        pub none_left : (from now : R) (met after : List R) (b : Bool) (v : Option F) (o : Option R) → b ≡ true → IsMet same now met after b → v ≡ field now → v ≡ None → o ≡ None → IsAbove shape base now o → Climbs from now met →
-            AreFieldsOf shape base field from after None
-        none_left from now met after b v o is noted told without no_more above w =
-            let fresh : IsNewlyMet same now met after = subst (IsMet same now met after) is noted in
-            let here = nothing_above now v o told without no_more above in
+        none_left : (from now : R) (met after : List R) (o : Option R) → IsNewlyMet same now met after → field now ≡ None → o ≡ None → IsAbove shape base now o → Climbs from now met → AreFieldsOf shape base field from after None
+        none_left from now met after o fresh none no_more above w =
+            let here = nothing_above now o none no_more above in
             let all = passed from now met None w here in
             record {
               is = all.is;
               each = subst (λ (rs : List R). All (λ (s : R). IsFieldOf shape base field s None) rs) (sym fresh.last) (All-push (λ (s : R). IsFieldOf shape base field s None) met now all.each here);
             }
 
-        pub climbs_on : (from now above : R) (met after : List R) (b : Bool) (v : Option F) (o : Option R) → b ≡ true → IsMet same now met after b → v ≡ field now → v ≡ None → o ≡ Some above → IsAbove shape base now o → Climbs from now met → Climbs from above after
-        climbs_on from now above met after b v o is noted told without is_some ups w =
-            let none : field now ≡ None = sym told ∙ without in
-            let fresh : IsNewlyMet same now met after = subst (IsMet same now met after) is noted in
+        climbs_on : (from now above : R) (met after : List R) (o : Option R) → IsNewlyMet same now met after → field now ≡ None → o ≡ Some above → IsAbove shape base now o → Climbs from now met → Climbs from above after
+        climbs_on from now above met after o fresh none is_some ups w =
             let e : Extends shape base now above = subst (λ (v : Option R). IfSome v (Extends shape base now)) is_some ups.some in
             record {
               steps = suc w.steps;
@@ -189,6 +185,28 @@ module _ {N D R : Type 0} (shape : N → Shape N D R) where
               each = subst (λ (rs : List R). All (λ (r : R). (j : ℕ) × Rises (suc j) r above) rs) (sym fresh.last)
                   (All-push (λ (r : R). (j : ℕ) × Rises (suc j) r above) met now (λ k d l. (let p = w.each k d l in (suc p.0, higher p.1 none e))) (zero, higher nowhere none e));
             }
+
+        -- a search whose next record is none has come to its end
+        pub ends_here : (from now : R) (met after : List R) (v : Option (Option F)) (o : Option R) → v ≡ None → IfNone v (field now ≡ None) → o ≡ None → IsNext shape base same now met after o → Climbs from now met →
+            AreFieldsOf shape base field from after None
+        ends_here from now met after v o unknown none is (risen fresh above) w = none_left from now met after o fresh (subst (λ (x : Option (Option F)). IfNone x (field now ≡ None)) unknown none) is above w
+        ends_here from now met after v o unknown none is (came_back again e) w = met_again from now met after again w
+
+        -- and goes on where there is one
+        pub goes_on : (from now above : R) (met after : List R) (v : Option (Option F)) (o : Option R) → v ≡ None → IfNone v (field now ≡ None) → o ≡ Some above → IsNext shape base same now met after o → Climbs from now met →
+            Climbs from above after
+        goes_on from now above met after v o unknown none is (risen fresh ups) w = climbs_on from now above met after o fresh (subst (λ (x : Option (Option F)). IfNone x (field now ≡ None)) unknown none) is ups w
+        goes_on from now above met after v o unknown none is (came_back again e) w = absurd (let f : Some above ≡ None = sym is ∙ e in cc)
+
+        -- what is known of the record at which a search stands
+        pub known_here : (from now : R) (met : List R) (v : Option (Option F)) (o : Option F) → v ≡ Some o → IfSome v (IsFieldOf shape base field now) → Climbs from now met → AreFieldsOf shape base field from met o
+        known_here from now met v o known told w = passed from now met o w (subst (λ (x : Option (Option F)). IfSome x (IsFieldOf shape base field now)) known told)
+
+        pub met_anew : (now : R) (met after : List R) (b : Bool) (o : Option R) → b ≡ true → IsMet same now met after b → IsAbove shape base now o → IsNext shape base same now met after o
+        met_anew now met after b o is noted above = risen (subst (IsMet same now met after) is noted) above
+
+        pub met_before : (now : R) (met after : List R) (b : Bool) → b ≡ false → IsMet same now met after b → IsNext shape base same now met after None
+        met_before now met after b is noted = came_back (subst (IsMet same now met after) is noted) refl
 
   -- ---- what is kept
 
@@ -215,7 +233,8 @@ module _ {N D R : Type 0} (shape : N → Shape N D R) where
     pub found_none : (found : IndexMap (Use shape base) (Option F) S) → found.entries ≡ [] → AreFound shape base field same found
     found_none found e = record { each = λ u o is. absurd (let f : None ≡ Some o = sym (ap (lookup (same_use shape base same u)) e) ∙ is in cc) }
 
-    -- what is kept of the record at which a search stands
-    pub passed_kept : (found : IndexMap (Use shape base) (Option F) S) (from now : R) (name : Bor (List ℕ)) (met : List R) (o : Option F) → AreFound shape base field same found →
-        get (same_use shape base same) found (now, name) ≡ Some o → Climbs base (λ (r : R). field r name.now) same apart from now met → AreFieldsOf shape base (λ (r : R). field r name.now) from met o
-    passed_kept found from now name met o are is w = passed base (λ (r : R). field r name.now) same apart from now met o w (are.each (now, name) o is)
+    -- what is told of a record by what is kept
+    pub kept_is : (found : IndexMap (Use shape base) (Option F) S) (now : R) (name : Bor (List ℕ)) (v : Option (Bor (Option F))) → AreFound shape base field same found → option_copied v ≡ get (same_use shape base same) found (now, name) →
+        IfSome (option_copied v) (IsFieldOf shape base (λ (r : R). field r name.now) now)
+    kept_is found now name None are e = tt
+    kept_is found now name (Some o) are e = are.each (now, name) o.now (sym e)

@@ -7,6 +7,7 @@ use Rattle.indexmap.specs.IndexMap.{get, IndexMap}
 use Rattle.type_search.specs.declared.shape.Shape.{Shape}
 use Rattle.type_search.specs.declared.shape.Shape.TheVariants as shapes
 use Rattle.type_search.specs.Leading.{LeadsTo}
+use Rattle.type_search.specs.Searches.{IsMetAgain, IsNewlyMet}
 
 -- the record that a type is
 abbrev pub record_in : {N D R : Type 0} → Shape N D R → Option R
@@ -38,6 +39,11 @@ module _ {N D R : Type 0} (shape : N → Shape N D R) where
     pub record IsAbove (r : R) (o : Option R) : Type 0 where
       pub some : IfSome o (Extends r)
       pub none : IfNone o ((above : R) → Extends r above → ⊥)
+
+    -- a record is met for the first time, and this is above it, if any; or it was met before, and there is none
+    pub data IsNext (same : R → R → Bool) (r : R) (before after : List R) (o : Option R) : Type 0 where
+      risen : IsNewlyMet same r before after → IsAbove r o → IsNext same r before after o
+      came_back : IsMetAgain same r before after → o ≡ None → IsNext same r before after o
 
     module _ {F : Type 0} (field : R → Option F) where
       -- the field that a name means in a record: its own, or else that of its base, so many bases up

@@ -65,6 +65,24 @@ fn keep<G: TypeGraph>(
     Ok(())
 }
 
+/// Where a type leads, which is kept of all declarations that are met.
+fn end_met<G: TypeGraph>(
+    graph: &G,
+    pointers: bool,
+    kept: &mut IndexMap<G::Declaration, Option<G::Node>>,
+    met: &mut IndexSet<G::Declaration>,
+    from: G::Node,
+) -> Result<Option<G::Node>, AllocError>
+    requires kept { AreEnds (G.shape graph.now) pointers G.Declaration.eq kept.old }
+    requires none_met { met.old.keys ≡ [] }
+    ensures kept { AreEnds (G.shape graph.now) pointers G.Declaration.eq kept.new }
+    ensures end { IfOk result (IsEnd (G.shape graph.now) pointers from) }
+{
+    let end = walk(graph, pointers, kept, met, from)?;
+    keep(graph, pointers, kept, met.as_slice(), end)?;
+    Ok(end)
+}
+
 /// The type to which a type leads by names, and by pointers where these are followed, or none where it comes back to itself.
 pub(crate) fn end_of<G: TypeGraph>(
     graph: &G,
@@ -77,7 +95,5 @@ pub(crate) fn end_of<G: TypeGraph>(
     ensures end { IfOk result (IsEnd (G.shape graph.now) pointers from) }
 {
     let mut met = IndexSet::new(*kept.allocator());
-    let end = walk(graph, pointers, kept, &mut met, from)?;
-    keep(graph, pointers, kept, met.as_slice(), end)?;
-    Ok(end)
+    end_met(graph, pointers, kept, &mut met, from)
 }

@@ -1,7 +1,7 @@
 //! Records to which types lead, and their fields.
-ghost use Rattle.std.specs.Prelude.{◌≡◌, [], IfOk, IfSome, IfNone, true};
+ghost use Rattle.std.specs.Prelude.{◌≡◌, [], IfOk, IfSome, IfNone, None, true};
 ghost use Rattle.std.specs.List.{All};
-ghost use Rattle.type_search.specs.Extending.{record_in, AreFieldsOf, AreFound, IsAbove, IsFieldOf, IsRecordOf};
+ghost use Rattle.type_search.specs.Extending.{record_in, AreFieldsOf, AreFound, IsAbove, IsFieldOf, IsNext, IsRecordOf};
 ghost use Rattle.type_search.specs.Leading.{AreEnds};
 ghost use Rattle.type_search.specs.Searches.{Finds};
 
@@ -58,6 +58,41 @@ fn record_above<G: TypeGraph>(
     }
 }
 
+/// What a name means in a record, where the record has the field itself, or where it is kept.
+fn field_here<'a, G: TypeGraph>(
+    graph: &G,
+    found: &IndexMap<(G::Record, &'a [u8]), Option<G::Field>>,
+    record: G::Record,
+    name: &'a [u8],
+) -> Option<Option<G::Field>>
+    requires { AreFound (G.shape graph.now) (G.base_of graph.now) (G.field_of graph.now) G.Record.eq found.now }
+    ensures some { IfSome result (IsFieldOf (G.shape graph.now) (G.base_of graph.now) (λ r. G.field_of graph.now r name.now) «record») }
+    ensures none { IfNone result (G.field_of graph.now «record» name.now ≡ None) }
+{
+    match graph.field(record, name) {
+        Some(field) => Some(Some(field)),
+        None => found.get(&(record, name)).copied(),
+    }
+}
+
+/// Notes a record, and tells the one above it, or none where there is none or the record was met before.
+fn climb<G: TypeGraph>(
+    graph: &G,
+    kept: &mut IndexMap<G::Declaration, Option<G::Node>>,
+    met: &mut IndexSet<G::Record>,
+    record: G::Record,
+) -> Result<Option<G::Record>, AllocError>
+    requires { AreEnds (G.shape graph.now) true G.Declaration.eq kept.old }
+    ensures kept { AreEnds (G.shape graph.now) true G.Declaration.eq kept.new }
+    ensures next { IfOk result (IsNext (G.shape graph.now) (G.base_of graph.now) G.Record.eq «record» met.old.keys met.new.keys) }
+{
+    if meet(met, record)? {
+        record_above(graph, kept, record)
+    } else {
+        Ok(None)
+    }
+}
+
 /// The field that a name means in a record: its own, or else that of its base, up to a record whose field is kept; and the records
 /// that are passed on the way.
 fn field_of<'a, G: TypeGraph>(
@@ -76,16 +111,10 @@ fn field_of<'a, G: TypeGraph>(
 {
     let mut record = from;
     'records: loop {
-        if let Some(field) = graph.field(record, name) {
-            return Ok(Some(field));
+        if let Some(field) = field_here(graph, found, record, name) {
+            return Ok(field);
         }
-        if let Some(field) = found.get(&(record, name)) {
-            return Ok(*field);
-        }
-        if !meet(met, record)? {
-            return Ok(None);
-        }
-        match record_above(graph, kept, record)? {
+        match climb(graph, kept, met, record)? {
             None => return Ok(None),
             Some(above) => record = above,
         }
@@ -112,6 +141,27 @@ fn keep_field<'a, G: TypeGraph>(
     Ok(())
 }
 
+/// The field that a name means in a record, which is kept of it and of some of the records that are met.
+fn field_met<'a, G: TypeGraph>(
+    graph: &G,
+    kept: &mut IndexMap<G::Declaration, Option<G::Node>>,
+    found: &mut IndexMap<(G::Record, &'a [u8]), Option<G::Field>>,
+    met: &mut IndexSet<G::Record>,
+    from: G::Record,
+    name: &'a [u8],
+) -> Result<Option<G::Field>, AllocError>
+    requires kept { AreEnds (G.shape graph.now) true G.Declaration.eq kept.old }
+    requires found { AreFound (G.shape graph.now) (G.base_of graph.now) (G.field_of graph.now) G.Record.eq found.old }
+    requires none_met { met.old.keys ≡ [] }
+    ensures kept { AreEnds (G.shape graph.now) true G.Declaration.eq kept.new }
+    ensures found { AreFound (G.shape graph.now) (G.base_of graph.now) (G.field_of graph.now) G.Record.eq found.new }
+    ensures is { IfOk result (IsFieldOf (G.shape graph.now) (G.base_of graph.now) (λ r. G.field_of graph.now r name.now) from) }
+{
+    let field = field_of(graph, kept, found, met, from, name)?;
+    keep_field(graph, found, met.as_slice(), name, field)?;
+    Ok(field)
+}
+
 /// The field that a name means in a record, which is kept for the searches that follow.
 fn field_kept<'a, G: TypeGraph>(
     graph: &G,
@@ -127,9 +177,7 @@ fn field_kept<'a, G: TypeGraph>(
     ensures is { IfOk result (IsFieldOf (G.shape graph.now) (G.base_of graph.now) (λ r. G.field_of graph.now r name.now) from) }
 {
     let mut met = IndexSet::new(*kept.allocator());
-    let field = field_of(graph, kept, found, &mut met, from, name)?;
-    keep_field(graph, found, met.as_slice(), name, field)?;
-    Ok(field)
+    field_met(graph, kept, found, &mut met, from, name)
 }
 
 /// The field that a name means at a type: of the record to which it leads, or else of its base.

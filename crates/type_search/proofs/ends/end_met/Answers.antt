@@ -1,7 +1,7 @@
 use Rattle.std.proofs.Common.{List, sym, subst}
 use Rattle.std.specs.List.{All}
 use Rattle.type_search.specs.Leading.{IsEndOf}
-use Rattle.type_search.proofs.ends.end_of.Goals as goal
+use Rattle.type_search.proofs.ends.end_met.Goals as goal
 
 pub keep-requires-clause-met : goal.keep-requires-clause-met
 keep-requires-clause-met g c =

@@ -1,7 +1,7 @@
 use Rattle.std.proofs.Common.{List, sym, subst}
 use Rattle.std.specs.List.{All}
 use Rattle.type_search.specs.Extending.{IsFieldOf}
-use Rattle.type_search.proofs.records.field_kept.Goals as goal
+use Rattle.type_search.proofs.records.field_met.Goals as goal
 
 pub keep_field-requires-clause-met : goal.keep_field-requires-clause-met
 keep_field-requires-clause-met g c =
