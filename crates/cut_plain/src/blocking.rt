@@ -63,7 +63,7 @@ fn make_move(
     let current = descent.current[at as usize];
     let leaving = graph.residual_arcs(at);
     if current < leaving.len() {
-        let step = opposite(leaving[current]);
+        let step = opposite(leaving[current].step);
         if climbs(graph, step, levels) {
             let tail = graph.tail(step);
             descent.path.push(step)?;

@@ -1,15 +1,16 @@
 -- Arcs whose flow alone has changed.
-use Rattle.std.proofs.Common.{◌≡◌, ℕ, zero, suc, ◌<◌, ◌≤◌, cond, List, [], ◌∷◌, length, get_or, refl, sym, ap, ◌∙◌, subst, arith}
+use Rattle.std.proofs.Common.{◌≡◌, ℕ, zero, suc, ◌<◌, cond, List, [], ◌∷◌, length, get_or, refl, sym, ap, ◌∙◌, subst, arith}
 use Rattle.std.specs.Prelude.{All, map}
 use Rattle.std.specs.Global.{Vec}
 use Rattle.std.proofs.lemmas.List.{length-map, get_or-map}
 use Rattle.cut_residual.specs.declared.arc.Arc.{Arc}
+use Rattle.cut_residual.specs.declared.arc.OutArc.{OutArc}
 use Rattle.cut_residual.specs.declared.arc.ResidualArc.{ResidualArc}
 use Rattle.cut_residual.specs.Flows.{AreSameArcs, emptied}
 use Rattle.cut_residual.specs.Graphs.{no_arc, tail}
-use Rattle.cut_residual.specs.Groups.{AreGrouped, group_at, lists}
+use Rattle.cut_residual.specs.Groups.{group_at, lists}
 
-pub group_is : (groups : List (Vec ResidualArc)) (u : ℕ) (g : Vec ResidualArc) → g ≡ get_or groups u g → u < length groups → group_at (lists groups) u ≡ g.items
+pub group_is : (groups : List (Vec OutArc)) (u : ℕ) (g : Vec OutArc) → g ≡ get_or groups u g → u < length groups → group_at (lists groups) u ≡ g.items
 group_is groups u g e h = get_or-map (λ v. v.items) groups u g [] h ∙ ap (λ v. v.items) (sym e)
 
 arc_emptied : (arcs : List Arc) (k : ℕ) → get_or (map emptied arcs) k no_arc ≡ emptied (get_or arcs k no_arc)
@@ -24,10 +25,10 @@ module _ (old new : List Arc) (same : AreSameArcs old new) where
   pub same_length : length new ≡ length old
   same_length = sym (length-map new emptied) ∙ ap length same ∙ length-map old emptied
 
-  same_tail : (s : ResidualArc) → tail new s ≡ tail old s
+  pub same_tail : (s : ResidualArc) → tail new s ≡ tail old s
   same_tail s = sym (tail_emptied new s) ∙ ap (λ v. tail v s) same ∙ tail_emptied old s
 
-  between_kept : (n : ℕ) → All (λ r. (r.from < n) × (r.to < n)) old → All (λ r. (r.from < n) × (r.to < n)) new
+  pub between_kept : (n : ℕ) → All (λ r. (r.from < n) × (r.to < n)) old → All (λ r. (r.from < n) × (r.to < n)) new
   between_kept n all k d h =
       let len = same_length in
       let in_old : k < length old = omega arith in
@@ -37,14 +38,3 @@ module _ (old new : List Arc) (same : AreSameArcs old new) where
       let t : (get_or new k d).to ≡ (get_or old k d).to = ap (λ v. v.to) e in
       let was = all k d in_old in
       (subst (λ v. v < n) (sym f) was.0, subst (λ v. v < n) (sym t) was.1)
-
-  pub kept_on : (groups : List (Vec ResidualArc)) → All (λ r. r.flow ≤ r.capacity) new → AreGrouped old groups → AreGrouped new groups
-  kept_on groups within kept = record {
-    graph = record { within = within; between = between_kept (length groups) kept.graph.between; few_nodes = kept.graph.few_nodes };
-    grouped = record {
-      each = λ u s in_u. (
-        λ h. let was = (kept.grouped.each u s in_u).0 h in (subst (λ n. s.arc < n) (sym same_length) was.0, same_tail s ∙ was.1),
-        λ h. (kept.grouped.each u s in_u).1 (subst (λ n. s.arc < n) same_length h.0, sym (same_tail s) ∙ h.1),
-      );
-    };
-  }

@@ -1,5 +1,6 @@
 pub mod Augmenting
 pub mod Grouping
 pub mod Keeping
+pub mod Listing
 pub mod Searching
 pub mod Walking

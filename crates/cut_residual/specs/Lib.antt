@@ -1,5 +1,6 @@
 pub mod Graphs
 pub mod Flows
+pub mod OutArcs
 pub mod Groups
 pub mod Trees
 pub mod Searches

@@ -1,7 +1,7 @@
-//! More flow along a path.
-ghost use Rattle.std.specs.Prelude.{ℕ, ◌≡◌, ◌≢◌, ◌<◌, ◌≤◌, ◌^◌, All, AllPairs};
-ghost use Rattle.cut_residual.specs.Flows.{AreSameArcs, RaisesBy, pushed};
-ghost use Rattle.cut_residual.specs.Graphs.{HasArc, IsResidualWalk, residual, room};
+//! More flow over an arc, and how much can go along a path.
+ghost use Rattle.std.specs.Prelude.{ℕ, ◌≡◌, ◌<◌, ◌≤◌, ◌^◌, All};
+ghost use Rattle.cut_residual.specs.Flows.{pushed};
+ghost use Rattle.cut_residual.specs.Graphs.{HasArc, residual, room};
 
 use crate::{Arc, ResidualArc};
 
@@ -53,19 +53,4 @@ pub(crate) fn least_residual(arcs: &[Arc], path: &[ResidualArc]) -> u64
         }
     }
     least
-}
-
-/// Sends this amount along the path.
-pub(crate) fn send(arcs: &mut [Arc], path: &[ResidualArc], amount: u64)
-    requires within { All (λ r. r.flow ≤ r.capacity) arcs.old }
-    requires known { All (HasArc arcs.old) path.now }
-    requires left { All (λ s. amount ≤ residual arcs.old s) path.now }
-    requires once { AllPairs (λ s t. s.arc ≢ t.arc) path.now }
-    ensures same { AreSameArcs arcs.old arcs.new }
-    ensures within { All (λ r. r.flow ≤ r.capacity) arcs.new }
-    ensures raises { (a b : ℕ) → a ≢ b → IsResidualWalk arcs.old a path.now b → RaisesBy arcs.old arcs.new a b amount }
-{
-    for step in path {
-        arcs[step.arc] = push(arcs[step.arc], step.forward, amount);
-    }
 }

@@ -1,33 +1,38 @@
 //! The graph as a type.
-ghost use Rattle.std.specs.Prelude.{ℕ, ◌≡◌, ◌≢◌, ◌<◌, ◌≤◌, ◌^◌, ◌↔◌, All, AllPairs, Contains, IfOk, slice_set};
+ghost use Rattle.std.specs.Prelude.{ℕ, ◌≡◌, ◌≢◌, ◌<◌, ◌≤◌, ◌^◌, All, AllPairs, Contains, IfOk, map, slice_set};
 ghost use Rattle.cut_residual.specs.declared.arc.ResidualArc.{ResidualArc};
 ghost use Rattle.cut_residual.specs.Flows.{pushed, AreSameArcs, RaisesBy};
 ghost use Rattle.cut_residual.specs.Graphs.{arc_of, head, residual, tail, HasArc, IsGraph, IsResidualWalk};
+ghost use Rattle.cut_residual.specs.OutArcs.{step_of, IsOutOf};
 
-use crate::augment::{least_residual, push, residual_of, send};
-use crate::groups::groups_of;
-use crate::{Arc, ResidualArc};
+use crate::arc::out_of;
+use crate::augment::{least_residual, push, residual_of};
+use crate::groups::{Grouped, Indexes, Row, groups_of, in_row};
+use crate::{Arc, OutArc, ResidualArc};
 use std::alloc::{AllocError, Global};
 use std::marker::Model;
 
 /// A graph whose arcs carry a flow, with the residual arcs that leave from each node: forwards over what is left of an arc,
-/// backwards over its flow.
+/// backwards over its flow. They stand in one list, those of a node together, each with its head and what is left of it. The graph
+/// also has for each node where its own begin, and for each arc the places of its two among those of their nodes.
 #[derive(Drop)]
 pub struct ResidualGraph {
+    nodes: u32,
     arcs: Vec<Arc>,
-    residual_arcs: Vec<Vec<ResidualArc>>,
+    begins: Vec<usize>,
+    outs: Vec<OutArc>,
+    indexes: Vec<Indexes>,
 }
 
 impl Model for ResidualGraph {
-    ghost use Rattle.std.specs.Prelude.{length};
     ghost use Rattle.cut_residual.specs.Graphs.{Graph};
-    ghost use Rattle.cut_residual.specs.Groups.{AreGrouped};
+    ghost use Rattle.cut_residual.specs.OutArcs.{AreListed};
 
     ghost Value = { Graph };
 
-    ghost view = { λ g. record { nodes = length g.residual_arcs.items; arcs = g.arcs.items } };
+    ghost view = { λ g. record { nodes = g.nodes; arcs = g.arcs.items } };
 
-    ghost invariant = { λ g. AreGrouped g.arcs.items g.residual_arcs.items };
+    ghost invariant = { λ g. AreListed g.arcs.items g.nodes g.begins.items g.outs.items g.indexes.items };
 }
 
 impl ResidualGraph {
@@ -38,10 +43,14 @@ impl ResidualGraph {
         requires between { All (λ r. (r.from < nodes) × (r.to < nodes)) arcs.items }
         ensures { IfOk result (λ g. g ≡ record { nodes = nodes; arcs = arcs.items }) }
     {
-        let residual_arcs = groups_of(alloc, &arcs, nodes)?;
+        let Grouped { groups, indexes } = groups_of(alloc, &arcs, nodes)?;
+        let Row { begins, outs } = in_row(alloc, &groups, arcs.len().saturating_mul(2))?;
         Ok(ResidualGraph {
+            nodes,
             arcs,
-            residual_arcs,
+            begins,
+            outs,
+            indexes,
         })
     }
 
@@ -57,7 +66,7 @@ impl ResidualGraph {
     pub fn nodes(&self) -> u32
         ensures { result ≡ self.now.nodes }
     {
-        self.residual_arcs.len() as u32
+        self.nodes
     }
 
     /// The arcs with their flow.
@@ -67,12 +76,15 @@ impl ResidualGraph {
         &self.arcs
     }
 
-    /// The residual arcs that leave from a node, with something left of them or not.
-    pub fn residual_arcs(&self, node: u32) -> &[ResidualArc]
+    /// The residual arcs that leave from a node, with something left of them or not: one run of the list that has them all.
+    pub fn residual_arcs(&self, node: u32) -> &[OutArc]
         requires { node < self.now.nodes }
-        ensures { (s : ResidualArc) → Contains result.now s ↔ (HasArc self.now.arcs s × (tail self.now.arcs s ≡ node)) }
+        ensures each { All (IsOutOf self.now node) result.now }
+        ensures all { (s : ResidualArc) → HasArc self.now.arcs s → tail self.now.arcs s ≡ node → Contains (map step_of result.now) s }
     {
-        &self.residual_arcs[node as usize]
+        let begin = self.begins[node as usize];
+        let end = self.begins[node as usize + 1];
+        &self.outs[begin..end]
     }
 
     /// The node that a residual arc leaves from.
@@ -111,7 +123,40 @@ impl ResidualGraph {
         ensures arcs { self.new.arcs ≡ slice_set self.old.arcs step.arc (pushed (arc_of self.old.arcs step) step.forward amount) }
         ensures same { AreSameArcs self.old.arcs self.new.arcs }
     {
-        self.arcs[step.arc] = push(self.arcs[step.arc], step.forward, amount);
+        let arc = push(self.arcs[step.arc], step.forward, amount);
+        let indexes = self.indexes[step.arc];
+        let forth = self.begins[arc.from as usize] + indexes.forward;
+        let back = self.begins[arc.to as usize] + indexes.backward;
+        self.arcs[step.arc] = arc;
+        self.outs[forth] = out_of(
+            arc,
+            ResidualArc {
+                arc: step.arc,
+                forward: true,
+            },
+        );
+        self.outs[back] = out_of(
+            arc,
+            ResidualArc {
+                arc: step.arc,
+                forward: false,
+            },
+        );
+    }
+
+    /// Sends this amount along the path.
+    fn send_along(&mut self, path: &[ResidualArc], amount: u64)
+        requires known { All (HasArc self.old.arcs) path.now }
+        requires left { All (λ s. amount ≤ residual self.old.arcs s) path.now }
+        requires once { AllPairs (λ s t. s.arc ≢ t.arc) path.now }
+        ensures nodes { self.new.nodes ≡ self.old.nodes }
+        ensures same { AreSameArcs self.old.arcs self.new.arcs }
+        ensures raises { (a b : ℕ) → a ≢ b → IsResidualWalk self.old.arcs a path.now b → RaisesBy self.old.arcs self.new.arcs a b amount }
+    {
+        self.keeps();
+        for step in path {
+            self.send(*step, amount);
+        }
     }
 
     /// Sends along the path the most that each of its steps has left, and answers how much that is: 2^64 - 1 where it has no
@@ -126,7 +171,7 @@ impl ResidualGraph {
         ensures raises { (a b : ℕ) → a ≢ b → IsResidualWalk self.old.arcs a path.now b → RaisesBy self.old.arcs self.new.arcs a b result }
     {
         let amount = least_residual(&self.arcs, path);
-        send(&mut self.arcs, path, amount);
+        self.send_along(path, amount);
         amount
     }
 }

@@ -12,7 +12,7 @@ mod order;
 mod paths;
 mod searches;
 
-pub use arc::{Arc, ResidualArc};
+pub use arc::{Arc, OutArc, ResidualArc};
 pub use found::Searched;
 pub use graph::ResidualGraph;
 pub use order::{order_of, places_of};

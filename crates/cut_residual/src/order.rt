@@ -44,13 +44,12 @@ fn release(
     ensures counts { OnOk result (vec_len counts.new ≡ graph.now.nodes) }
     ensures free { OnOk result (All (λ n. n < graph.now.nodes) free.new.items) }
 {
-    for step in graph.residual_arcs(node) {
-        if step.forward {
-            let head = graph.head(*step);
-            let left = counts[head as usize].saturating_sub(1);
-            counts[head as usize] = left;
+    for out in graph.residual_arcs(node) {
+        if out.step.forward {
+            let left = counts[out.head as usize].saturating_sub(1);
+            counts[out.head as usize] = left;
             if left == 0 {
-                free.push(head)?;
+                free.push(out.head)?;
             }
         }
     }

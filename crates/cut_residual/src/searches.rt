@@ -1,21 +1,19 @@
 //! The search from a node over what is left of the arcs.
-ghost use Rattle.std.specs.Prelude.{ℕ, [], ◌≡◌, ◌<◌, ◌+◌, ◌↔◌, IsTrue, IfOk, OnOk, length, vec_len};
-ghost use Rattle.cut_residual.specs.Graphs.{AreClosed, AreReached, HasArc, head};
+ghost use Rattle.std.specs.Prelude.{ℕ, [], ◌≡◌, ◌<◌, ◌+◌, ◌↔◌, false, IsTrue, IfOk, OnOk, length, vec_len};
+ghost use Rattle.cut_residual.specs.Graphs.{is_seen, AreClosed, AreReached};
 ghost use Rattle.cut_residual.specs.Searches.{IsSearchOf};
-ghost use Rattle.cut_residual.specs.Trees.{LeadsOn, Searching, visit_at};
+ghost use Rattle.cut_residual.specs.Trees.{Searching, visit_at};
 
 use crate::found::Visit;
-use crate::{ResidualArc, ResidualGraph, Searched};
+use crate::{OutArc, ResidualArc, ResidualGraph, Searched};
 use std::alloc::{AllocError, Global};
 
-/// Whether the search goes on by this step: something can go over it, to a node that isn't marked.
-fn leads_on(graph: &ResidualGraph, step: ResidualArc, next: u32, seen: &[bool]) -> bool
-    requires known { HasArc graph.now.arcs step }
-    requires next { next ≡ head graph.now.arcs step }
-    requires seen { next < length seen.now }
-    ensures { IsTrue result ↔ LeadsOn graph.now.arcs step seen.now }
+/// Whether the search goes on by this residual arc: something can go over it, to a node that isn't marked.
+fn leads_on(out: OutArc, seen: &[bool]) -> bool
+    requires { out.head < length seen.now }
+    ensures { IsTrue result ↔ ((0 < out.residual) × (is_seen seen.now out.head ≡ false)) }
 {
-    !seen[next as usize] && graph.residual(step) > 0
+    !seen[out.head as usize] && out.residual > 0
 }
 
 /// Marks the nodes that a step leads on to from the node at this place, and gives each a place.
@@ -38,14 +36,13 @@ fn visit(
 {
     let node = places[place].node;
     let level = levels[node as usize].saturating_add(1);
-    for step in graph.residual_arcs(node) {
-        let next = graph.head(*step);
-        if leads_on(graph, *step, next, seen) {
-            seen[next as usize] = true;
-            levels[next as usize] = level;
+    for out in graph.residual_arcs(node) {
+        if leads_on(*out, seen) {
+            seen[out.head as usize] = true;
+            levels[out.head as usize] = level;
             places.push(Visit {
-                node: next,
-                step: *step,
+                node: out.head,
+                step: out.step,
                 parent: place,
             })?;
         }

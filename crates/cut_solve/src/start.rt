@@ -28,9 +28,9 @@ fn add_leaving(graph: &ResidualGraph, node: u32, numbers: &mut Vec<u32>) -> Resu
     requires numbers { All (λ k. k < length graph.now.arcs) numbers.old.items }
     ensures { OnOk result (All (λ k. k < length graph.now.arcs) numbers.new.items) }
 {
-    for step in graph.residual_arcs(node) {
-        if step.forward {
-            numbers.push(step.arc as u32)?;
+    for out in graph.residual_arcs(node) {
+        if out.step.forward {
+            numbers.push(out.step.arc as u32)?;
         }
     }
     Ok(())

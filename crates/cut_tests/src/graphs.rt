@@ -132,7 +132,12 @@ fn told(alloc: Global, rows: &[Row], nodes: u32, node: u32) -> Result<String, Al
         return Err(AllocError);
     }
     let mut text = format!(in alloc; "{} arcs, {nodes} nodes, ", graph.arcs().len())?;
-    tell_steps(&mut text, &graph, graph.residual_arcs(A))?;
+    let leaving: Vec<ResidualArc> = graph
+        .residual_arcs(A)
+        .iter()
+        .map(|out| out.step)
+        .collect(alloc)?;
+    tell_steps(&mut text, &graph, &leaving)?;
     tell_path(&mut text, alloc, &mut graph, node)?;
     tell_flows(&mut text, &graph)?;
     Ok(text)

@@ -38,9 +38,9 @@ fn spread(
 {
     let none = graph.nodes();
     let label = labels[node as usize].saturating_add(1);
-    for step in graph.residual_arcs(node) {
-        let before = graph.head(*step);
-        if labels[before as usize] == none && graph.residual(opposite(*step)) > 0 {
+    for out in graph.residual_arcs(node) {
+        let before = out.head;
+        if labels[before as usize] == none && graph.residual(opposite(out.step)) > 0 {
             labels[before as usize] = label;
             reached.push(before)?;
         }

@@ -2,11 +2,11 @@
 //! counts how far it is from the end at least; then what is stuck is taken back. In rounds the labels are made anew as distances, so nodes from
 //! which nothing gets to the end are told at once.
 ghost use Rattle.std.specs.Prelude.{◌≡◌, ◌<◌, All, IfOk, IfSome, OnOk, length};
-ghost use Rattle.cut_residual.specs.Graphs.{HasArc};
+ghost use Rattle.cut_residual.specs.OutArcs.{IsOutOf};
 ghost use Rattle.cut_trial.specs.Trials.{HasOtherFlow};
 
 use crate::distances::distances_to;
-use cut_residual::{ResidualArc, ResidualGraph, order_of};
+use cut_residual::{OutArc, ResidualGraph, order_of};
 use std::alloc::{AllocError, Global};
 use std::marker::Model;
 
@@ -52,51 +52,51 @@ fn with_excess(
 
 impl Trial {
     /// The residual arc at this place of those that leave from a node, if there is one.
-    fn step_at(&self, node: u32, place: usize) -> Option<ResidualArc>
+    fn out_at(&self, node: u32, place: usize) -> Option<OutArc>
         requires { node < self.now.nodes }
-        ensures { IfSome result (HasArc self.now.arcs) }
+        ensures { IfSome result (IsOutOf self.now node) }
     {
-        let steps = self.graph.residual_arcs(node);
-        if place < steps.len() {
-            Some(steps[place])
+        let outs = self.graph.residual_arcs(node);
+        if place < outs.len() {
+            Some(outs[place])
         } else {
             None
         }
     }
 
-    /// Sends over a step what is left of it, and at most this amount. A node that had no excess waits then.
-    fn send(&mut self, step: ResidualArc, most: u64) -> Result<(), AllocError>
-        requires { HasArc self.old.arcs step }
+    /// Sends over a residual arc of a node what is left of it, and at most this amount. A node that had no excess waits then.
+    fn send(&mut self, node: u32, out: OutArc, most: u64) -> Result<(), AllocError>
+        requires node { node < self.old.nodes }
+        requires out { IsOutOf self.old node out }
         ensures { OnOk result (HasOtherFlow self.old self.new) }
     {
-        let (tail, head) = (self.graph.tail(step), self.graph.head(step));
-        let amount = self.graph.residual(step).min(most);
-        self.graph.send(step, amount);
-        let left = self.excesses[tail as usize].saturating_sub(amount);
-        self.excesses[tail as usize] = left;
-        let before = self.excesses[head as usize];
-        self.excesses[head as usize] = before.saturating_add(amount);
+        let amount = out.residual.min(most);
+        self.graph.send(out.step, amount);
+        let left = self.excesses[node as usize].saturating_sub(amount);
+        self.excesses[node as usize] = left;
+        let before = self.excesses[out.head as usize];
+        self.excesses[out.head as usize] = before.saturating_add(amount);
         if before == 0 {
-            self.waiting.push(head)?;
+            self.waiting.push(out.head)?;
         }
         Ok(())
     }
 
-    /// Sends the excess of its tail over a step that leads one label down. Answers the label that it leads to, and 2^32 - 1 where nothing
-    /// is left of it.
-    fn push(&mut self, step: ResidualArc) -> Result<u32, AllocError>
-        requires { HasArc self.old.arcs step }
+    /// Sends the excess of a node over a residual arc that leads one label down. Answers the label that it leads to, and 2^32 - 1 where
+    /// nothing is left of it.
+    fn push(&mut self, node: u32, out: OutArc) -> Result<u32, AllocError>
+        requires node { node < self.old.nodes }
+        requires out { IsOutOf self.old node out }
         ensures { OnOk result (HasOtherFlow self.old self.new) }
     {
-        let (tail, head) = (self.graph.tail(step), self.graph.head(step));
-        let label = self.labels[head as usize];
-        let excess = self.excesses[tail as usize];
-        if self.graph.residual(step) == 0 {
+        if out.residual == 0 {
             return Ok(u32::MAX);
         }
-        if excess > 0 && label.saturating_add(1) == self.labels[tail as usize] {
-            self.send(step, excess)?;
-            if self.graph.residual(step) == 0 {
+        let label = self.labels[out.head as usize];
+        let excess = self.excesses[node as usize];
+        if excess > 0 && label.saturating_add(1) == self.labels[node as usize] {
+            self.send(node, out, excess)?;
+            if excess >= out.residual {
                 return Ok(u32::MAX);
             }
         }
@@ -111,13 +111,13 @@ impl Trial {
     {
         let mut least = u32::MAX;
         for place in 0..self.graph.residual_arcs(node).len() {
-            let Some(step) = self.step_at(node, place) else {
+            let Some(out) = self.out_at(node, place) else {
                 return Ok(least);
             };
             if self.excesses[node as usize] == 0 {
                 return Ok(least);
             }
-            let label = self.push(step)?;
+            let label = self.push(node, out)?;
             least = least.min(label);
         }
         Ok(least)
@@ -174,11 +174,11 @@ impl Trial {
         ensures { OnOk result (HasOtherFlow self.old self.new) }
     {
         for place in 0..self.graph.residual_arcs(start).len() {
-            let Some(step) = self.step_at(start, place) else {
+            let Some(out) = self.out_at(start, place) else {
                 return Ok(());
             };
-            if step.forward {
-                self.send(step, u64::MAX)?;
+            if out.step.forward {
+                self.send(start, out, u64::MAX)?;
             }
         }
         Ok(())
@@ -190,15 +190,15 @@ impl Trial {
         ensures { OnOk result (HasOtherFlow self.old self.new) }
     {
         for place in 0..self.graph.residual_arcs(node).len() {
-            let Some(step) = self.step_at(node, place) else {
+            let Some(out) = self.out_at(node, place) else {
                 return Ok(());
             };
             let excess = self.excesses[node as usize];
             if excess == 0 {
                 return Ok(());
             }
-            if !step.forward {
-                self.send(step, excess)?;
+            if !out.step.forward {
+                self.send(node, out, excess)?;
             }
         }
         Ok(())

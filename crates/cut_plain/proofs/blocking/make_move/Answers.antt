@@ -1,8 +1,9 @@
 use Rattle.std.proofs.Common.{◌≡◌, ◌≢◌, ◌∙◌, ◌++◌, [], ◌∷◌, length-set, get_or, sym, ap, subst}
 use Rattle.std.specs.Prelude.{All, AllPairs}
-use Rattle.std.proofs.lemmas.List.Elements.{All-push, Contains-get_or}
+use Rattle.std.proofs.lemmas.List.Elements.{All-push}
 use Rattle.cut_residual.specs.declared.arc.ResidualArc.{ResidualArc}
-use Rattle.cut_residual.specs.Graphs.{no_residual_arc, head, HasArc, IsResidualWalk}
+use Rattle.cut_residual.specs.Graphs.{head, HasArc, IsResidualWalk}
+use Rattle.cut_residual.specs.OutArcs.{no_out_arc}
 use Rattle.cut_plain.specs.Levels.{Climbs, LeadsBack}
 use Rattle.cut_plain.proofs.Descending.{All-front, head_opposite, leads_forth, leads_off, leads_on, once_reversed}
 use Rattle.cut_plain.proofs.blocking.make_move.Goals as goal
@@ -23,20 +24,20 @@ returns-then-at-from-clause-rises c =
 
 pub climbs-requires-clause-known : goal.climbs-requires-clause-known
 climbs-requires-clause-known c =
-    let s = get_or c.residual_arcs-leaving.result.now c.index-current.result.now no_residual_arc in
-    let own = (c.residual_arcs-leaving.ensures s).0 (Contains-get_or c.residual_arcs-leaving.result.now c.index-current.result.now no_residual_arc c.if-current-leaving.true) in
-    rw c.opposite-step.ensures own.0
+    let s = (get_or c.residual_arcs-leaving.result.now c.index-current.result.now no_out_arc).step in
+    let own = c.residual_arcs-leaving.ensures.each c.index-current.result.now no_out_arc c.if-current-leaving.true in
+    rw c.opposite-step.ensures own.known
 
 pub returns-then-climbs-clause-descent : goal.returns-then-climbs-clause-descent
 returns-then-climbs-clause-descent c =
     let w = c.requires.descent in
     let arcs = c.args.graph.now.arcs in
     let path = c.args.descent.now.path.items in
-    let s = get_or c.residual_arcs-leaving.result.now c.index-current.result.now no_residual_arc in
-    let own = (c.residual_arcs-leaving.ensures s).0 (Contains-get_or c.residual_arcs-leaving.result.now c.index-current.result.now no_residual_arc c.if-current-leaving.true) in
+    let s = (get_or c.residual_arcs-leaving.result.now c.index-current.result.now no_out_arc).step in
+    let own = c.residual_arcs-leaving.ensures.each c.index-current.result.now no_out_arc c.if-current-leaving.true in
     let o = c.opposite-step.result in
-    let comes : head arcs o ≡ c.args.descent.now.at = ap (head arcs) c.opposite-step.ensures ∙ head_opposite arcs s ∙ own.1 in
-    let known : HasArc arcs o = subst (HasArc arcs) (sym c.opposite-step.ensures) own.0 in
+    let comes : head arcs o ≡ c.args.descent.now.at = ap (head arcs) c.opposite-step.ensures ∙ head_opposite arcs s ∙ own.leaves in
+    let known : HasArc arcs o = subst (HasArc arcs) (sym c.opposite-step.ensures) own.known in
     let items = c.in_ok-push.ensures.items in
     let leaves = c.tail-tail.ensures.is in
     record {

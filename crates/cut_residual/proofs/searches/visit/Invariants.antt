@@ -1,13 +1,14 @@
-use Rattle.std.proofs.Common.{ℕ, [], ◌≡◌, ◌≤◌, vec_len}
+use Rattle.std.proofs.Common.{ℕ, [], ◌≡◌, ◌≤◌, map, vec_len}
+use Rattle.cut_residual.specs.OutArcs.{step_of}
 use Rattle.cut_residual.specs.Trees.{Searching, visit_at}
 use Rattle.cut_residual.proofs.searches.visit.Given as goal
 
-abbrev pub invariant-loop-step : goal.invariant-loop-step
-invariant-loop-step l = record {
+abbrev pub invariant-loop-out : goal.invariant-loop-out
+invariant-loop-out l = record {
   seen_size : vec_len l.seen ≡ l.graph.nodes;
   levels_size : vec_len l.levels ≡ l.graph.nodes;
   longer : vec_len l.fn.places ≤ vec_len l.places;
   same_place : visit_at l.places.items l.place ≡ visit_at l.fn.places.items l.place;
   search : (start : ℕ) → Searching l.graph start l.fn.seen.items l.fn.places.items l.place [] 0 →
-      Searching l.graph start l.seen.items l.places.items l.place l.step-items l.step-index;
+      Searching l.graph start l.seen.items l.places.items l.place (map step_of l.out-items) l.out-index;
 }

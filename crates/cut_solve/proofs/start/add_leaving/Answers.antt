@@ -1,22 +1,22 @@
 use Rattle.std.proofs.Common.{ℕ, ◌<◌, length, subst, sym, arith}
 use Rattle.std.specs.Global.{Vec}
 use Rattle.std.specs.Prelude.{All}
-use Rattle.std.proofs.lemmas.List.Elements.{All-push, Contains-get_or}
-use Rattle.cut_residual.specs.Graphs.{no_residual_arc}
+use Rattle.std.proofs.lemmas.List.Elements.{All-push}
+use Rattle.cut_residual.specs.OutArcs.{no_out_arc}
 use Rattle.cut_solve.proofs.start.add_leaving.Goals as goal
-use Rattle.cut_solve.proofs.start.add_leaving.Goals.{then-step+in_ok-push, else-step}
+use Rattle.cut_solve.proofs.start.add_leaving.Goals.{then-out+in_ok-push, else-out}
 
-pub overflow_cast-step : goal.overflow_cast-step
-overflow_cast-step c =
-    let known = ((c.residual_arcs-step-items.ensures _).0 (Contains-get_or c.residual_arcs-step-items.result.now c.loop-step.step-index no_residual_arc c.loop-step-test.true)).0 in
+pub overflow_cast-out : goal.overflow_cast-out
+overflow_cast-out c =
+    let known = (c.residual_arcs-out-items.ensures.each c.loop-out.out-index no_out_arc c.loop-out-test.true).known in
     let few = c.requires.few in
     omega arith
 
-pub loop-step-preserved : goal.loop-step-preserved
-loop-step-preserved c =
-    let known = ((c.residual_arcs-step-items.ensures _).0 (Contains-get_or c.residual_arcs-step-items.result.now c.loop-step.step-index no_residual_arc c.loop-step-test.true)).0 in
-    elim c.if-step.branch [
-      | then-step+in_ok-push w ↦ subst (λ (v : Vec ℕ). All (λ k. k < length c.args.graph.now.arcs) v.items) (sym w.numbers-is)
-          (subst (All (λ k. k < length c.args.graph.now.arcs)) (sym w.in_ok-push.ensures.items) (All-push (λ k. k < length c.args.graph.now.arcs) c.loop-step.numbers.items _ c.loop-step.invariant known))
-      | else-step w ↦ subst (λ (v : Vec ℕ). All (λ k. k < length c.args.graph.now.arcs) v.items) (sym w.numbers-is) c.loop-step.invariant
+pub loop-out-preserved : goal.loop-out-preserved
+loop-out-preserved c =
+    let known = (c.residual_arcs-out-items.ensures.each c.loop-out.out-index no_out_arc c.loop-out-test.true).known in
+    elim c.if-out.branch [
+      | then-out+in_ok-push w ↦ subst (λ (v : Vec ℕ). All (λ k. k < length c.args.graph.now.arcs) v.items) (sym w.numbers-is)
+          (subst (All (λ k. k < length c.args.graph.now.arcs)) (sym w.in_ok-push.ensures.items) (All-push (λ k. k < length c.args.graph.now.arcs) c.loop-out.numbers.items _ c.loop-out.invariant known))
+      | else-out w ↦ subst (λ (v : Vec ℕ). All (λ k. k < length c.args.graph.now.arcs) v.items) (sym w.numbers-is) c.loop-out.invariant
     ]
