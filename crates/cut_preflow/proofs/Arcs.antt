@@ -131,16 +131,16 @@ back net s arc e =
       residual_is = pick_false (is_forward arc) _ _ e;
     }
 
-half_even : (i : ℕ) → (2 * i) / 2 ≡ i
+pub half_even : (i : ℕ) → (2 * i) / 2 ≡ i
 half_even i = omega arith
 
-half_odd : (i : ℕ) → (2 * i + 1) / 2 ≡ i
+pub half_odd : (i : ℕ) → (2 * i + 1) / 2 ≡ i
 half_odd i = omega arith
 
-even_forward : (i : ℕ) → is_forward (2 * i) ≡ true
+pub even_forward : (i : ℕ) → is_forward (2 * i) ≡ true
 even_forward i = eq_true ((2 * i) % 2) 0 (omega arith)
 
-odd_back : (i : ℕ) → is_forward (2 * i + 1) ≡ false
+pub odd_back : (i : ℕ) → is_forward (2 * i + 1) ≡ false
 odd_back i = go ((2 * i + 1) % 2) (omega arith)
   where
     go : (r : ℕ) → r ≡ 1 → (r == 0) ≡ false

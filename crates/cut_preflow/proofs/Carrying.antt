@@ -5,7 +5,6 @@ use Rattle.std.proofs.lemmas.Bool.Decides.{nat_tests}
 use Rattle.std.proofs.lemmas.List.{length-set}
 use Rattle.cut_net.specs.declared.priced.Priced.{Priced}
 use Rattle.cut_preflow.specs.declared.ends.Ends.{Ends}
-use Rattle.cut_preflow.specs.NodeArcs.{AreArcs}
 use Rattle.cut_preflow.specs.Preflow.{FlowNetwork, State, count, import_at, flow_at, inflow, outflow, excess, is_forward, tail, head, residual, is_active, push_amount, pushed}
 use Rattle.cut_preflow.specs.Kept.{IsValidPreflow}
 use Rattle.cut_preflow.specs.Trace.{IsSound, IsWithinLimits, flow_network}
@@ -109,18 +108,17 @@ by_excesses ends imports s xs are v =
     same_more (nat_lt v ends.nodes) (v == ends.source) (not (v == ends.sink)) (get_or xs v 0) (excess (flow_network ends imports) s v)
     (λ low other. are v (lt_from v ends.nodes low) (not_eq_from v ends.source other))
 
-pub indexed_from : (ends : Ends) (imports : List Priced) (s : State) (arcs : List (List ℕ)) (xs : List ℕ) (active : List Bool) → length arcs ≡ ends.nodes → AreArcs imports arcs → ((v : ℕ) → v < ends.nodes → v ≢ ends.source → get_or xs v 0 ≡ excess (flow_network ends imports) s v) → AreActive ends xs active → IsIndexed (flow_network ends imports) s arcs xs active
-indexed_from ends imports s arcs xs active listed arcs_are are by = record {
-  each_listed = listed;
-  arcs_are = arcs_are;
+pub indexed_from : (ends : Ends) (imports : List Priced) (s : State) (nodes : ℕ) (xs : List ℕ) (active : List Bool) → nodes ≡ ends.nodes → ((v : ℕ) → v < ends.nodes → v ≢ ends.source → get_or xs v 0 ≡ excess (flow_network ends imports) s v) → AreActive ends xs active → IsIndexed (flow_network ends imports) s nodes xs active
+indexed_from ends imports s nodes xs active same are by = record {
+  nodes_are = same;
   each_counted = by.each_counted;
   excesses_are = are;
   each_tested = by.each_tested;
   active_are = λ v. by.active_are v ∙ by_excesses ends imports s xs are v;
 }
 
-pub active_from_index : (ends : Ends) (imports : List Priced) (s : State) (arcs : List (List ℕ)) (xs : List ℕ) (active : List Bool) → IsIndexed (flow_network ends imports) s arcs xs active → AreActive ends xs active
-active_from_index ends imports s arcs xs active is = record {
+pub active_from_index : (ends : Ends) (imports : List Priced) (s : State) (nodes : ℕ) (xs : List ℕ) (active : List Bool) → IsIndexed (flow_network ends imports) s nodes xs active → AreActive ends xs active
+active_from_index ends imports s nodes xs active is = record {
   each_counted = is.each_counted;
   each_tested = is.each_tested;
   active_are = λ v. is.active_are v ∙ sym (by_excesses ends imports s xs is.excesses_are v);
@@ -138,8 +136,8 @@ pub record Carries (net : FlowNetwork) (xs : List ℕ) (from to amount : ℕ) : 
   pub pays : amount ≤ get_or xs from 0
   pub fits : to ≢ net.source → get_or xs to 0 + amount < 2 ^ 64
 
-pub carries : (net : FlowNetwork) (s : State) (arcs : List (List ℕ)) (xs : List ℕ) (active : List Bool) (arc : ℕ) → IsSound net s → IsIndexed net s arcs xs active → Pushable net s arc → Carries net xs (tail net arc) (head net arc) (push_amount net s arc)
-carries net s arcs xs active arc sound is can = record {
+pub carries : (net : FlowNetwork) (s : State) (nodes : ℕ) (xs : List ℕ) (active : List Bool) (arc : ℕ) → IsSound net s → IsIndexed net s nodes xs active → Pushable net s arc → Carries net xs (tail net arc) (head net arc) (push_amount net s arc)
+carries net s nodes xs active arc sound is can = record {
   from_low = can.active.low;
   to_low = to_low;
   pays = omega (arith, is.excesses_are (tail net arc) can.active.low can.active.not_source, (moves net s arc can).paid);
@@ -157,28 +155,27 @@ carries net s arcs xs active arc sound is can = record {
     apart e = let same = ap (λ v. get_or s.label v 0) e in omega (arith, can.downhill, same)
 
 -- after a push that applies they are those of the state after it
-pub pushed_indexed : (ends : Ends) (imports : List Priced) (s : State) (arcs : List (List ℕ)) (xs ys : List ℕ) (before after : List Bool) (arc : ℕ) → IsSound (flow_network ends imports) s → IsIndexed (flow_network ends imports) s arcs xs before → Pushable (flow_network ends imports) s arc →
+pub pushed_indexed : (ends : Ends) (imports : List Priced) (s : State) (nodes : ℕ) (xs ys : List ℕ) (before after : List Bool) (arc : ℕ) → IsSound (flow_network ends imports) s → IsIndexed (flow_network ends imports) s nodes xs before → Pushable (flow_network ends imports) s arc →
     ys ≡ carried ends.source xs (tail (flow_network ends imports) arc) (head (flow_network ends imports) arc) (push_amount (flow_network ends imports) s arc) → AreActive ends ys after →
-    IsIndexed (flow_network ends imports) (after_push (flow_network ends imports) s arc) arcs ys after
-pushed_indexed ends imports s arcs xs ys before after arc sound is can same by =
-    indexed_from ends imports (after_push net s arc) arcs ys after is.each_listed is.arcs_are are by
+    IsIndexed (flow_network ends imports) (after_push (flow_network ends imports) s arc) nodes ys after
+pushed_indexed ends imports s nodes xs ys before after arc sound is can same by =
+    indexed_from ends imports (after_push net s arc) nodes ys after is.nodes_are are by
   where
     net : FlowNetwork
     net = flow_network ends imports
 
     are : (v : ℕ) → v < ends.nodes → v ≢ ends.source → get_or ys v 0 ≡ excess (flow_network ends imports) (after_push net s arc) v
     are v low ne =
-        let may = carries net s arcs xs before arc sound is can in
+        let may = carries net s nodes xs before arc sound is can in
         let at = carried_at ends.source xs (tail net arc) (head net arc) (push_amount net s arc) v (omega (arith, may.from_low, is.each_counted)) (omega (arith, may.to_low, is.each_counted)) may.pays ne in
         let was = is.excesses_are v low ne in
         let now = ap (λ zs. get_or zs v 0) same in
         omega (arith, at, was, now, push_carries net s arc sound can v low ne)
 
 -- a relabel changes none of it
-pub relabelled_indexed : (net : FlowNetwork) (s : State) (labels : List ℕ) (arcs : List (List ℕ)) (xs : List ℕ) (active : List Bool) → IsIndexed net s arcs xs active → IsIndexed net (record { flow = s.flow; label = labels }) arcs xs active
-relabelled_indexed net s labels arcs xs active is = record {
-  each_listed = is.each_listed;
-  arcs_are = is.arcs_are;
+pub relabelled_indexed : (net : FlowNetwork) (s : State) (labels : List ℕ) (nodes : ℕ) (xs : List ℕ) (active : List Bool) → IsIndexed net s nodes xs active → IsIndexed net (record { flow = s.flow; label = labels }) nodes xs active
+relabelled_indexed net s labels nodes xs active is = record {
+  nodes_are = is.nodes_are;
   each_counted = is.each_counted;
   excesses_are = is.excesses_are;
   each_tested = is.each_tested;

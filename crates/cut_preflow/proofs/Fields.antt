@@ -6,12 +6,12 @@ use Rattle.cut_preflow.specs.Trace.{Trace, flow_network, state_of, IsTrace, IsSo
 use Rattle.cut_preflow.proofs.Histories.{played_sound, played_state}
 
 abbrev pub net_of : Inside → FlowNetwork
-net_of q = flow_network q.ends q.imports.items
+net_of q = flow_network q.ends q.graph.imports
 
 abbrev pub fields_of : Inside → State
-fields_of q = record { flow = q.flows.items; label = q.labels.items }
+fields_of q = record { flow = q.graph.flow; label = q.labels.items }
 
-module _ (q : Inside) (is : IsTrace (net_of q) q.flows.items q.labels.items q.history.items) where
+module _ (q : Inside) (is : IsTrace (net_of q) q.graph.flow q.labels.items q.history.items) where
   pub sound_fields : IsSound (net_of q) (fields_of q)
   sound_fields = played_sound (net_of q) (fields_of q) q.history.items is
 

@@ -18,10 +18,9 @@ pub mod Sound
 pub mod Histories
 pub mod Playing
 pub mod Settling
-pub mod Searching
 pub mod Longer
 pub mod Carrying
 pub mod Saturating
-pub mod Leaving
+pub mod Graphs
 pub mod Fields
 pub mod Exchanging

@@ -4,7 +4,6 @@ use Rattle.cut_net.specs.declared.priced.Priced.{Priced}
 use Rattle.cut_preflow.specs.declared.ends.Ends.{Ends}
 use Rattle.cut_preflow.specs.Total.{total}
 use Rattle.cut_preflow.specs.Preflow.{import_in, into, opening, opening_flows}
-use Rattle.cut_preflow.specs.NodeArcs.{AreArcs}
 use Rattle.cut_preflow.specs.Trace.{flow_network}
 use Rattle.cut_preflow.specs.Indexed.{AreActive, IsIndexed, brought}
 use Rattle.cut_preflow.proofs.Choices.{choice_le, choice_same, choice_other}
@@ -40,9 +39,9 @@ saturate_same source imports xs k v from was =
     omega (arith, flow, next, choice_le ((import_in imports k).to == v) (get_or (opening_flows source imports) k 0), was)
 
 -- what is at hand at the opening
-pub opening_indexed : (ends : Ends) (imports : List Priced) (arcs : List (List ℕ)) (xs : List ℕ) (active : List Bool) → length arcs ≡ ends.nodes → AreArcs imports arcs →
+pub opening_indexed : (ends : Ends) (imports : List Priced) (nodes : ℕ) (xs : List ℕ) (active : List Bool) → nodes ≡ ends.nodes →
     ((v : ℕ) → v ≢ ends.source → get_or xs v 0 ≡ into imports (opening_flows ends.source imports) v) → AreActive ends xs active →
-    IsIndexed (flow_network ends imports) (opening (flow_network ends imports)) arcs xs active
-opening_indexed ends imports arcs xs active listed are comes by =
-    indexed_from ends imports (opening (flow_network ends imports)) arcs xs active listed are
+    IsIndexed (flow_network ends imports) (opening (flow_network ends imports)) nodes xs active
+opening_indexed ends imports nodes xs active same comes by =
+    indexed_from ends imports (opening (flow_network ends imports)) nodes xs active same
     (λ v low ne. omega (arith, comes v ne, opening_outflow (flow_network ends imports) v ne)) by

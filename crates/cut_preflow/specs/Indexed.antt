@@ -1,13 +1,11 @@
--- What a preflow has at hand beside its flows and labels: the arcs of each node, its excess, and the active nodes.
+-- What a preflow has at hand beside its flows and labels: a graph of its nodes, the excess of each, and the active ones.
 use Rattle.std.specs.Prelude.{◌≡◌, ◌≢◌, ℕ, ◌+◌, ◌-◌, ◌<◌, Bool, false, not, ◌&&◌, ◌==◌, nat_lt, if◌then◌else◌, List, length, slice_index, slice_index_or, slice_set}
 use Rattle.cut_preflow.specs.declared.ends.Ends.{Ends}
-use Rattle.cut_preflow.specs.NodeArcs.{AreArcs}
 use Rattle.cut_preflow.specs.Preflow.{FlowNetwork, State, excess, is_active}
 
--- the arcs are those of each node, the excesses those of each node but the source, and the active nodes those of the state
-pub record IsIndexed (net : FlowNetwork) (s : State) (arcs : List (List ℕ)) (excesses : List ℕ) (active : List Bool) : Type 0 where
-  pub each_listed : length arcs ≡ net.nodes
-  pub arcs_are : AreArcs net.imports arcs
+-- the graph has the network's nodes, the excesses are those of each node but the source, and the active nodes those of the state
+pub record IsIndexed (net : FlowNetwork) (s : State) (nodes : ℕ) (excesses : List ℕ) (active : List Bool) : Type 0 where
+  pub nodes_are : nodes ≡ net.nodes
   pub each_counted : length excesses ≡ net.nodes
   pub excesses_are : (v : ℕ) → v < net.nodes → v ≢ net.source → slice_index excesses v ≡ excess net s v
   pub each_tested : length active ≡ net.nodes

@@ -8,6 +8,6 @@ pub mod Shares
 pub mod Settled
 pub mod Side
 pub mod Flows
-pub mod NodeArcs
+pub mod FlowGraphs
 pub mod NodeSets
 pub mod Indexed

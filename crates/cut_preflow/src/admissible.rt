@@ -1,13 +1,16 @@
 //! What a push or a relabel of a preflow would do.
 ghost use Rattle.std.specs.Prelude.{◌≡◌, ◌<◌, ◌≤◌, ◌↔◌, ℕ, Some, None, IfSome, IsNone, IsSome, true, length, if◌then◌else◌};
-ghost use Rattle.cut_preflow.specs.Preflow.{applies, can_push, push_amount, relabel_target, smaller};
+ghost use Rattle.cut_preflow.specs.FlowGraphs.{IsArcFrom, number_of_out};
+ghost use Rattle.cut_preflow.specs.Preflow.{applies, can_push, is_active, push_amount, relabel_target, smaller};
 ghost use Rattle.cut_preflow.specs.Kept.{IsQuiet};
 ghost use Rattle.cut_preflow.specs.Bound.{most_changes};
-ghost use Rattle.cut_preflow.specs.Trace.{state_of};
+ghost use Rattle.cut_preflow.specs.Trace.{carried_in, state_of};
 ghost use Rattle.cut_preflow.specs.Relabels.{LeadsTo};
 
 use crate::Step;
+use crate::flow_graph::number_of;
 use crate::preflow_core::PreflowCore;
+use cut_residual::OutArc;
 
 /// The smaller of a label and what there was so far.
 fn smaller(least: Option<u32>, label: u32) -> u32
@@ -45,9 +48,9 @@ impl PreflowCore {
         ensures none { IsNone result → (label : ℕ) → LeadsTo self.now.net (state_of self.now) node label → ⊥ }
     {
         let mut least = None;
-        for arc in self.arcs_from(node) {
-            if self.residual(*arc) > 0 {
-                let label = self.label(self.head(*arc));
+        for out in self.outs_from(node) {
+            if out.residual > 0 {
+                let label = self.label(out.head);
                 least = Some(smaller(least, label));
             }
         }
@@ -70,6 +73,16 @@ impl PreflowCore {
         }
     }
 
+    /// Whether a push over an arc of an active node applies.
+    fn can_push(&self, out: OutArc, node: u32) -> bool
+        requires out { IsArcFrom (carried_in self.now.net (state_of self.now)) node out }
+        requires active { is_active self.now.net (state_of self.now) node ≡ true }
+        requires node { node < self.now.net.nodes }
+        ensures { result ≡ can_push self.now.net (state_of self.now) (number_of_out out) }
+    {
+        out.residual > 0 && u64::from(self.label(node)) == u64::from(self.label(out.head)) + 1
+    }
+
     /// A step that applies, unless the preflow is quiet: a push of an active node, or else its relabel.
     pub(crate) fn next_step(&self) -> Option<Step>
         ensures some { IfSome result (λ step. applies self.now.net (state_of self.now) step ≡ true) }
@@ -79,9 +92,11 @@ impl PreflowCore {
         let node = self.next_node()?;
         self.keeps();
         let _ = self.history();
-        for arc in self.arcs_from(node) {
-            if self.push_amount(*arc).is_some() {
-                return Some(Step::Push { arc: *arc });
+        for out in self.outs_from(node) {
+            if self.can_push(*out, node) {
+                return Some(Step::Push {
+                    arc: number_of(out.step),
+                });
             }
         }
         Some(Step::Relabel { node })

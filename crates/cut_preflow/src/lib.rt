@@ -1,5 +1,5 @@
 //! Preflows on a network: pushes and relabels one event at a time, with the events that were applied kept as a history.
-//! Stands on `cut_net`, and on `cut_part` for what a greatest flow is.
+//! Stands on `cut_net`, on `cut_residual` for its residual graph, and on `cut_part` for what a greatest flow is.
 //! Its contract: the state is the run of a legal history, whatever events came, and each step is counted in one share; once quiet, its flow and its side are those of cuts.
 #![tactic(auto)]
 
@@ -7,13 +7,12 @@ mod admissible;
 mod ends;
 mod event;
 mod excesses;
+mod flow_graph;
 pub mod laws;
-mod node_arcs;
 mod node_set;
 mod preflow;
 mod preflow_core;
 mod share;
-mod sides;
 mod sums;
 mod tour;
 

@@ -1,35 +1,34 @@
 //! A preflow with its history, before its steps are counted.
-ghost use Rattle.std.specs.Prelude.{◌≡◌, ◌≢◌, ◌+◌, ◌*◌, ◌/◌, ◌<◌, ◌≤◌, ◌↔◌, ℕ, true, false, IfOk, IfSome, IsNone, Contains, length, replicate, slice_set, []};
-ghost use Rattle.cut_preflow.specs.Preflow.{count, head, import_at, residual, tail, flow_at, label_at, excess, inflow, outflow, is_active, applies, after, opening, opening_flows, is_legal};
+ghost use Rattle.std.specs.Prelude.{◌≡◌, ◌≢◌, ◌+◌, ◌*◌, ◌/◌, ◌<◌, ◌≤◌, ◌↔◌, ℕ, true, false, All, IfOk, IfSome, IsNone, Contains, length, map, replicate, slice_set, []};
+ghost use Rattle.cut_preflow.specs.Preflow.{count, head, import_at, residual, tail, flow_at, label_at, excess, inflow, outflow, is_active, applies, after, opening, is_legal};
+ghost use Rattle.cut_preflow.specs.FlowGraphs.{IsArcFrom, number_of_out};
 ghost use Rattle.cut_preflow.specs.Kept.{IsFlowNetwork, IsQuiet};
 ghost use Rattle.cut_preflow.specs.Bound.{most_changes};
 ghost use Rattle.cut_preflow.specs.Flows.{AreEnds, AreNear, AreReached, HasFlow, IsShutOff, network_between};
 ghost use Rattle.cut_preflow.specs.Side.{has};
-ghost use Rattle.cut_preflow.specs.Trace.{state_of, step_outcome, history_after, IsSound, IsWithinLimits, flow_network};
+ghost use Rattle.cut_preflow.specs.Trace.{carried_in, state_of, step_outcome, history_after, IsSound, IsWithinLimits, flow_network};
 
 use crate::ends::Ends;
 use crate::excesses::{move_excess, saturate};
-use crate::node_arcs::arcs_of;
+use crate::flow_graph::FlowGraph;
 use crate::node_set::NodeSet;
-use crate::sums::{excess, head, residual, tail};
 use crate::tour::Tour;
 use crate::{Event, Outcome, Step};
 use cut_net::{Net, Priced};
+use cut_residual::OutArc;
 use std::alloc::{AllocError, Global};
 use std::marker::Model;
 
 /// A preflow on a network between two of its modules (Goldberg and Tarjan 1988, section 3): a flow for each import and a label for each
 /// module, with the events that were applied. Contracts see the network and the events: flows and labels are what these lead to.
-/// So that a step goes over the arcs of one node alone, it also has the arcs of each node, the excess of each node but the source,
-/// and the nodes that are active; and an order in which these take their turns.
+/// The imports and their flows are a residual graph, in which the arcs of a node stand together, so a step goes over these alone. It also
+/// has the excess of each node but the source, and the nodes that are active; and an order in which these take their turns.
 #[derive(Drop)]
 pub(crate) struct PreflowCore {
     ends: Ends,
-    imports: Vec<Priced>,
-    flows: Vec<u64>,
+    graph: FlowGraph,
     labels: Vec<u32>,
     history: Vec<Event>,
-    arcs: Vec<Vec<u32>>,
     excesses: Vec<u64>,
     active: NodeSet,
     tour: Tour,
@@ -37,24 +36,13 @@ pub(crate) struct PreflowCore {
 
 impl Model for PreflowCore {
     ghost use Rattle.cut_preflow.specs.Indexed.{IsIndexed};
-    ghost use Rattle.cut_preflow.specs.NodeArcs.{lists};
     ghost use Rattle.cut_preflow.specs.Trace.{Trace, flow_network, state_with, IsTrace};
 
     ghost Value = { Trace };
 
-    ghost view = { λ p. record { net = flow_network p.ends p.imports.items; history = p.history.items } };
+    ghost view = { λ p. record { net = flow_network p.ends p.graph.imports; history = p.history.items } };
 
-    ghost invariant = { λ p. IsTrace (flow_network p.ends p.imports.items) p.flows.items p.labels.items p.history.items × IsIndexed (flow_network p.ends p.imports.items) (state_with p.flows.items p.labels.items) (lists p.arcs.items) p.excesses.items p.active };
-}
-
-/// The flows of the opening: the imports out of the source are saturated.
-fn opening_flows(alloc: Global, source: u32, imports: &[Priced]) -> Result<Vec<u64>, AllocError>
-    ensures { IfOk result (λ flows. flows.items ≡ opening_flows source imports.now) }
-{
-    imports
-        .iter()
-        .map(|i| if i.from == source { i.amount } else { 0 })
-        .collect(alloc)
+    ghost invariant = { λ p. IsTrace (flow_network p.ends p.graph.imports) p.graph.flow p.labels.items p.history.items × IsIndexed (flow_network p.ends p.graph.imports) (state_with p.graph.flow p.labels.items) p.graph.nodes p.excesses.items p.active };
 }
 
 /// The labels of the opening: the source's is the number of nodes.
@@ -73,23 +61,20 @@ fn before_turns(alloc: Global, ends: Ends, imports: Vec<Priced>) -> Result<Prefl
     requires limits { IsWithinLimits (flow_network ends imports.items) }
     ensures { IfOk result (λ p. p ≡ record { net = flow_network ends imports.items; history = [] }) }
 {
-    let flows = opening_flows(alloc, ends.source, imports.as_slice())?;
+    let graph = FlowGraph::opened(alloc, ends, imports.as_slice())?;
     let labels = opening_labels(alloc, ends)?;
-    let arcs = arcs_of(alloc, imports.as_slice(), ends.nodes)?;
-    let tour = Tour::along(alloc, imports.as_slice(), arcs.as_slice(), ends.nodes)?;
+    let order = graph.order(alloc)?;
     let mut excesses = vec![in alloc; 0u64; ends.nodes as usize]?;
     let mut active = NodeSet::new(alloc, ends.nodes)?;
     saturate(ends, imports.as_slice(), &mut excesses, &mut active);
     Ok(PreflowCore {
         ends,
-        imports,
-        flows,
+        graph,
         labels,
         history: Vec::new(alloc),
-        arcs,
         excesses,
         active,
-        tour,
+        tour: Tour::through(order),
     })
 }
 
@@ -202,7 +187,7 @@ impl PreflowCore {
         ensures shut { IsQuiet self.now.net (state_of self.now) → IsShutOff self.now.net (state_of self.now) }
     {
         // Using a field makes the facts of the type known here.
-        let _ = &self.flows;
+        let _ = &self.labels;
     }
 
     /// The events that were applied, in order, each at a place where it applies. They are never more than the bound.
@@ -229,7 +214,7 @@ impl PreflowCore {
         ensures value { result ≡ flow_at (state_of self.now) import }
         ensures fits { result ≤ (import_at self.now.net import).amount }
     {
-        self.flows[import as usize]
+        self.graph.flow(import)
     }
 
     /// The excess of a node: what enters it less what leaves it. Of the source, 0 where more leaves it than enters it; it isn't kept, but
@@ -240,7 +225,7 @@ impl PreflowCore {
         ensures exact { node ≢ self.now.net.source → outflow self.now.net (state_of self.now) node + result ≡ inflow self.now.net (state_of self.now) node }
     {
         if node == self.ends.source {
-            excess(self.imports.as_slice(), self.flows.as_slice(), node)
+            self.graph.excess(node)
         } else {
             self.excesses[node as usize]
         }
@@ -259,15 +244,17 @@ impl PreflowCore {
     pub(crate) fn count(&self) -> usize
         ensures { result ≡ count self.now.net }
     {
-        self.imports.len()
+        self.graph.count()
     }
 
-    /// The arcs that leave from a node.
-    pub(crate) fn arcs_from(&self, node: u32) -> &[u32]
+    /// The arcs that leave from a node, each with its head and what is left of it.
+    pub(crate) fn outs_from(&self, node: u32) -> &[OutArc]
         requires { node < self.now.net.nodes }
-        ensures { (a : ℕ) → Contains result.now a ↔ ((a < 2 * count self.now.net) × (tail self.now.net a ≡ node)) }
+        ensures each { All (IsArcFrom (carried_in self.now.net (state_of self.now)) node) result.now }
+        ensures arcs { (a : ℕ) → Contains (map number_of_out result.now) a ↔ ((a < 2 * count self.now.net) × (tail self.now.net a ≡ node)) }
+        ensures few { count self.now.net ≤ 65536 }
     {
-        &self.arcs[node as usize]
+        self.graph.outs_from(node)
     }
 
     /// The node that an arc leads from.
@@ -276,7 +263,7 @@ impl PreflowCore {
         ensures value { result ≡ tail self.now.net arc }
         ensures low { result < self.now.net.nodes }
     {
-        tail(self.imports.as_slice(), arc)
+        self.graph.tail(arc)
     }
 
     /// The node that an arc leads to.
@@ -285,7 +272,7 @@ impl PreflowCore {
         ensures value { result ≡ head self.now.net arc }
         ensures low { result < self.now.net.nodes }
     {
-        head(self.imports.as_slice(), arc)
+        self.graph.head(arc)
     }
 
     /// How much more an arc can carry.
@@ -293,7 +280,7 @@ impl PreflowCore {
         requires { arc / 2 < count self.now.net }
         ensures { result ≡ residual self.now.net (state_of self.now) arc }
     {
-        residual(self.imports.as_slice(), self.flows.as_slice(), arc)
+        self.graph.residual(arc)
     }
 
     /// Whether a node other than the two ends has excess.
@@ -312,7 +299,7 @@ impl PreflowCore {
         ensures { result ≡ most_changes self.now.net }
     {
         self.keeps();
-        let (nodes, imports) = (u64::from(self.ends.nodes), self.imports.len() as u64);
+        let (nodes, imports) = (u64::from(self.ends.nodes), self.graph.count() as u64);
         4 * nodes * nodes * imports + 2 * nodes * imports + 4 * nodes * nodes
     }
 
@@ -332,7 +319,7 @@ impl PreflowCore {
         ensures end { IsQuiet self.now.net (state_of self.now) → IfOk result (λ m. has m.items self.now.net.sink ≡ false) }
     {
         self.keeps();
-        self.reach(*self.arcs.allocator())
+        self.graph.reach(*self.labels.allocator(), self.ends.source)
     }
 
     /// Pushes over an arc, where that applies.
@@ -350,14 +337,7 @@ impl PreflowCore {
         let Ok(()) = self.history.push(event) else {
             return Outcome::Refused;
         };
-        let i = (arc / 2) as usize;
-        let flow = self.flows[i];
-        let next = if arc % 2 == 0 {
-            flow + amount
-        } else {
-            flow - amount
-        };
-        self.flows[i] = next;
+        self.graph.send(arc, amount);
         move_excess(
             self.ends,
             &mut self.excesses,

@@ -1,77 +1,43 @@
-//! Sums and arcs, over the imports, their flows and the nodes' labels.
-ghost use Rattle.std.specs.Prelude.{◌≡◌, ◌-◌, ◌/◌, ◌^◌, ◌<◌, length, slice_index};
+//! Sums of flows over arcs.
+ghost use Rattle.std.specs.Prelude.{◌≡◌, ◌-◌, ◌^◌, ◌<◌, length, slice_index};
 ghost use Rattle.cut_preflow.specs.Total.{total};
-ghost use Rattle.cut_preflow.specs.Preflow.{into, out_of, tail_in, head_in, residual_in};
+ghost use Rattle.cut_preflow.specs.FlowGraphs.{flows_of, imports_of};
+ghost use Rattle.cut_preflow.specs.Preflow.{into, out_of};
 
-use cut_net::Priced;
+use cut_residual::Arc;
 
 /// What enters a node.
-fn inflow(imports: &[Priced], flows: &[u64], node: u32) -> u64
-    requires one_each { length imports.now ≡ length flows.now }
-    requires fits { total (length flows.now) (λ i. slice_index flows.now i) < 2 ^ 64 }
-    ensures { result ≡ into imports.now flows.now node }
+fn inflow(arcs: &[Arc], node: u32) -> u64
+    requires { total (length arcs.now) (λ i. slice_index (flows_of arcs.now) i) < 2 ^ 64 }
+    ensures { result ≡ into (imports_of arcs.now) (flows_of arcs.now) node }
 {
     let mut sum = 0u64;
-    for i in 0..imports.len() {
-        if imports[i].to == node {
-            sum += flows[i];
+    for arc in arcs {
+        if arc.to == node {
+            sum += arc.flow;
         }
     }
     sum
 }
 
 /// What leaves a node.
-fn outflow(imports: &[Priced], flows: &[u64], node: u32) -> u64
-    requires one_each { length imports.now ≡ length flows.now }
-    requires fits { total (length flows.now) (λ i. slice_index flows.now i) < 2 ^ 64 }
-    ensures { result ≡ out_of imports.now flows.now node }
+fn outflow(arcs: &[Arc], node: u32) -> u64
+    requires { total (length arcs.now) (λ i. slice_index (flows_of arcs.now) i) < 2 ^ 64 }
+    ensures { result ≡ out_of (imports_of arcs.now) (flows_of arcs.now) node }
 {
     let mut sum = 0u64;
-    for i in 0..imports.len() {
-        if imports[i].from == node {
-            sum += flows[i];
+    for arc in arcs {
+        if arc.from == node {
+            sum += arc.flow;
         }
     }
     sum
 }
 
 /// What enters a node less what leaves it, and 0 where more leaves it.
-pub(crate) fn excess(imports: &[Priced], flows: &[u64], node: u32) -> u64
-    requires one_each { length imports.now ≡ length flows.now }
-    requires fits { total (length flows.now) (λ i. slice_index flows.now i) < 2 ^ 64 }
-    ensures { result ≡ into imports.now flows.now node - out_of imports.now flows.now node }
+pub(crate) fn excess(arcs: &[Arc], node: u32) -> u64
+    requires { total (length arcs.now) (λ i. slice_index (flows_of arcs.now) i) < 2 ^ 64 }
+    ensures { result ≡ into (imports_of arcs.now) (flows_of arcs.now) node - out_of (imports_of arcs.now) (flows_of arcs.now) node }
 {
-    inflow(imports, flows, node).saturating_sub(outflow(imports, flows, node))
-}
-
-/// The node that an arc leads from.
-pub(crate) fn tail(imports: &[Priced], arc: u32) -> u32
-    requires { arc / 2 < length imports.now }
-    ensures { result ≡ tail_in imports.now arc }
-{
-    let import = &imports[(arc / 2) as usize];
-    if arc % 2 == 0 { import.from } else { import.to }
-}
-
-/// The node that an arc leads to.
-pub(crate) fn head(imports: &[Priced], arc: u32) -> u32
-    requires { arc / 2 < length imports.now }
-    ensures { result ≡ head_in imports.now arc }
-{
-    let import = &imports[(arc / 2) as usize];
-    if arc % 2 == 0 { import.to } else { import.from }
-}
-
-/// How much more an arc can carry.
-pub(crate) fn residual(imports: &[Priced], flows: &[u64], arc: u32) -> u64
-    requires within { arc / 2 < length imports.now }
-    requires one_each { length imports.now ≡ length flows.now }
-    ensures { result ≡ residual_in imports.now flows.now arc }
-{
-    let flow = flows[(arc / 2) as usize];
-    if arc % 2 == 0 {
-        imports[(arc / 2) as usize].amount.saturating_sub(flow)
-    } else {
-        flow
-    }
+    inflow(arcs, node).saturating_sub(outflow(arcs, node))
 }

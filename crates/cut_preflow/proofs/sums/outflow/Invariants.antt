@@ -1,7 +1,8 @@
 use Rattle.std.proofs.Common.{◌≡◌, ◌==◌, if◌then◌else◌, slice_index}
+use Rattle.cut_preflow.specs.FlowGraphs.{flows_of, imports_of}
 use Rattle.cut_preflow.specs.Total.{total}
 use Rattle.cut_preflow.specs.Preflow.{import_in}
 use Rattle.cut_preflow.proofs.sums.outflow.Given as goal
 
-abbrev pub invariant-loop-i : goal.invariant-loop-i
-invariant-loop-i l = l.sum ≡ total l.i (λ i. if (import_in l.imports i).from == l.node then slice_index l.flows i else 0)
+abbrev pub invariant-loop-arc : goal.invariant-loop-arc
+invariant-loop-arc l = l.sum ≡ total l.arc-index (λ i. if (import_in (imports_of l.arcs) i).from == l.node then slice_index (flows_of l.arcs) i else 0)

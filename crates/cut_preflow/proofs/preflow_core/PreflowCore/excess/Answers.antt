@@ -1,17 +1,12 @@
-use Rattle.std.proofs.Common.{◌≡◌, ◌<◌, ◌+◌, ◌∙◌, sym, ap, length, arith}
+use Rattle.std.proofs.Common.{◌≡◌, ◌<◌, ◌+◌, ap, length, arith}
 use Rattle.std.proofs.lemmas.List.{get_or_read}
 use Rattle.cut_preflow.specs.Preflow.{inflow, outflow}
 use Rattle.cut_preflow.proofs.Fields.{fields_of, net_of, seen, sound_fields}
 use Rattle.cut_preflow.proofs.Sound.{flows_fit}
 use Rattle.cut_preflow.proofs.preflow_core.PreflowCore.excess.Goals as goal
 
-pub excess-requires-clause-one_each : goal.excess-requires-clause-one_each
-excess-requires-clause-one_each c =
-    ap length c.as_slice.ensures.value ∙ sym (sound_fields c.self.inside c.self.invariant.0).kept.flows ∙ sym (ap length c.as_slice-then-node-self.ensures.value)
-
-pub excess-requires-clause-fits : goal.excess-requires-clause-fits
-excess-requires-clause-fits c =
-    rw (c.as_slice-then-node-self.ensures.value) (flows_fit (net_of c.self.inside) (fields_of c.self.inside) (sound_fields c.self.inside c.self.invariant.0))
+pub excess-requires : goal.excess-requires
+excess-requires c = flows_fit (net_of c.self.inside) (fields_of c.self.inside) (sound_fields c.self.inside c.self.invariant.0)
 
 pub returns-else-node-self-clause-exact : goal.returns-else-node-self-clause-exact
 returns-else-node-self-clause-exact c = λ _.

@@ -6,5 +6,5 @@ use Rattle.cut_preflow.proofs.preflow_core.PreflowCore.history.Goals as goal
 
 pub returns-clause-few : goal.returns-clause-few
 returns-clause-few c =
-    let few = legal_le (flow_network c.self.inside.ends c.self.inside.imports.items) c.self.inside.history.items c.self.invariant.0.network c.self.invariant.0.legal in
+    let few = legal_le (flow_network c.self.inside.ends c.self.inside.graph.imports) c.self.inside.history.items c.self.invariant.0.network c.self.invariant.0.legal in
     subst (λ p. length p.history ≤ most_changes p.net) c.self.view_is few

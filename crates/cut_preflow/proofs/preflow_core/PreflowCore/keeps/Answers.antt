@@ -5,7 +5,7 @@ use Rattle.cut_preflow.proofs.preflow_core.PreflowCore.keeps.Goals as goal
 use Rattle.cut_preflow.proofs.preflow_core.PreflowCore.keeps.Goals.{After-self}
 
 sound : (c : After-self) → IsSound c.args.self.now.net (state_of c.args.self.now)
-sound c = played_keeps c.self.inside.ends c.self.inside.imports.items c.self.inside.flows.items c.self.inside.labels.items c.self.inside.history.items c.args.self.now c.self.invariant.0 c.self.view_is
+sound c = played_keeps c.self.inside.ends c.self.inside.graph.imports c.self.inside.graph.flow c.self.inside.labels.items c.self.inside.history.items c.args.self.now c.self.invariant.0 c.self.view_is
 
 pub returns-clause-sound : goal.returns-clause-sound
 returns-clause-sound c = sound c

@@ -14,18 +14,18 @@ sound ends imports flows labels history p = played_sound (flow_network ends impo
 pub index-requires : goal.index-requires
 index-requires c =
     let size = ap (λ p. p.net.nodes) c.self.view_is in
-    omega (arith, c.requires, size, (sound c.self.inside.ends c.self.inside.imports.items c.self.inside.flows.items c.self.inside.labels.items c.self.inside.history.items c.self.invariant.0).kept.labels, c.self.inside.labels.ok.0)
+    omega (arith, c.requires, size, (sound c.self.inside.ends c.self.inside.graph.imports c.self.inside.graph.flow c.self.inside.labels.items c.self.inside.history.items c.self.invariant.0).kept.labels, c.self.inside.labels.ok.0)
 
 pub returns-clause-value : goal.returns-clause-value
 returns-clause-value c =
     let size = ap (λ p. p.net.nodes) c.self.view_is in
-    let within : c.args.node < length c.self.inside.labels.items = omega (arith, c.requires, size, (sound c.self.inside.ends c.self.inside.imports.items c.self.inside.flows.items c.self.inside.labels.items c.self.inside.history.items c.self.invariant.0).kept.labels) in
+    let within : c.args.node < length c.self.inside.labels.items = omega (arith, c.requires, size, (sound c.self.inside.ends c.self.inside.graph.imports c.self.inside.graph.flow c.self.inside.labels.items c.self.inside.history.items c.self.invariant.0).kept.labels) in
     get_or_read c.self.inside.labels.items c.args.node c.index.result.now within c.index.ensures 0
-    ∙ ap (λ t. label_at t c.args.node) (played_state (flow_network c.self.inside.ends c.self.inside.imports.items) (record { flow = c.self.inside.flows.items; label = c.self.inside.labels.items }) c.self.inside.history.items c.self.invariant.0)
+    ∙ ap (λ t. label_at t c.args.node) (played_state (flow_network c.self.inside.ends c.self.inside.graph.imports) (record { flow = c.self.inside.graph.flow; label = c.self.inside.labels.items }) c.self.inside.history.items c.self.invariant.0)
     ∙ ap (λ p. label_at (state_of p) c.args.node) c.self.view_is
 
 pub returns-clause-low : goal.returns-clause-low
 returns-clause-low c =
     let size = ap (λ p. p.net.nodes) c.self.view_is in
-    let within : c.args.node < length c.self.inside.labels.items = omega (arith, c.requires, size, (sound c.self.inside.ends c.self.inside.imports.items c.self.inside.flows.items c.self.inside.labels.items c.self.inside.history.items c.self.invariant.0).kept.labels) in
-    omega (arith, get_or_read c.self.inside.labels.items c.args.node c.index.result.now within c.index.ensures 0, (sound c.self.inside.ends c.self.inside.imports.items c.self.inside.flows.items c.self.inside.labels.items c.self.inside.history.items c.self.invariant.0).kept.low c.args.node (omega (arith, c.requires, size)), ap (λ p. p.net.nodes) c.self.view_is)
+    let within : c.args.node < length c.self.inside.labels.items = omega (arith, c.requires, size, (sound c.self.inside.ends c.self.inside.graph.imports c.self.inside.graph.flow c.self.inside.labels.items c.self.inside.history.items c.self.invariant.0).kept.labels) in
+    omega (arith, get_or_read c.self.inside.labels.items c.args.node c.index.result.now within c.index.ensures 0, (sound c.self.inside.ends c.self.inside.graph.imports c.self.inside.graph.flow c.self.inside.labels.items c.self.inside.history.items c.self.invariant.0).kept.low c.args.node (omega (arith, c.requires, size)), ap (λ p. p.net.nodes) c.self.view_is)

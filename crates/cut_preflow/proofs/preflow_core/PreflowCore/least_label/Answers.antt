@@ -1,33 +1,44 @@
-use Rattle.std.proofs.Common.{◌≡◌, ◌∙◌, length, sym, ap, subst, arith}
-use Rattle.cut_preflow.specs.Preflow.{label_at}
+use Rattle.std.proofs.Common.{◌≡◌, ◌∙◌, map, get_or, length, sym, ap, subst, arith}
+use Rattle.std.proofs.lemmas.List.{get_or-map, length-map}
+use Rattle.cut_residual.specs.OutArcs.{no_out_arc}
+use Rattle.cut_preflow.specs.FlowGraphs.{number_of_out}
+use Rattle.cut_preflow.specs.Preflow.{head, label_at, residual}
 use Rattle.cut_preflow.specs.Trace.{state_of}
 use Rattle.cut_preflow.proofs.Least.{Lowest, Lowest-more, Lowest-no, Lowest-none, Lowest-skip, Lowest-some}
 use Rattle.cut_preflow.proofs.preflow_core.PreflowCore.least_label.Goals as goal
-use Rattle.cut_preflow.proofs.preflow_core.PreflowCore.least_label.Goals.{After-loop-arc, then-residual-gt0, else-residual-gt0}
+use Rattle.cut_preflow.proofs.preflow_core.PreflowCore.least_label.Goals.{After-loop-out, then-out-gt0, else-out-gt0}
 
-pub loop-arc-init : goal.loop-arc-init
-loop-arc-init c = Lowest-none c.args.self.now.net (state_of c.args.self.now) c.arcs_from-arc-items.result.now
+pub label-label-requires : goal.label-label-requires
+label-label-requires c = (c.outs_from-out-items.ensures.each c.loop-out.out-index no_out_arc c.loop-out-test.true).arc.low
 
-pub loop-arc-preserved : goal.loop-arc-preserved
-loop-arc-preserved c =
+pub loop-out-init : goal.loop-out-init
+loop-out-init c = Lowest-none c.args.self.now.net (state_of c.args.self.now) (map number_of_out c.outs_from-out-items.result.now)
+
+pub loop-out-preserved : goal.loop-out-preserved
+loop-out-preserved c =
     let net = c.args.self.now.net in
     let s = state_of c.args.self.now in
-    let arcs = c.arcs_from-arc-items.result.now in
-    elim c.if-residual-gt0.branch [
-      | then-residual-gt0 w ↦
-          let at = sym (w.label-label.ensures.value ∙ ap (label_at s) w.head.ensures.value) in
+    let outs = c.outs_from-out-items.result.now in
+    let arcs = map number_of_out outs in
+    let k = c.loop-out.out-index in
+    let out = c.outs_from-out-items.ensures.each k no_out_arc c.loop-out-test.true in
+    let number = get_or-map number_of_out outs k no_out_arc 0 c.loop-out-test.true in
+    let left : residual net s (get_or arcs k 0) ≡ (get_or outs k no_out_arc).residual = ap (residual net s) number ∙ sym out.arc.residual_is in
+    elim c.if-out-gt0.branch [
+      | then-out-gt0 w ↦
+          let at : label_at s (head net (get_or arcs k 0)) ≡ w.label-label.result = ap (λ a. label_at s (head net a)) number ∙ ap (label_at s) (sym out.arc.head_is) ∙ sym w.label-label.ensures.value in
           rw (w.least-is, w.smaller.ensures)
-          (Lowest-more net s arcs c.loop-arc.arc-index c.loop-arc.least w.label-label.result c.loop-arc.invariant (omega (arith, c.residual.ensures, w.if-residual-gt0.true)) at)
-      | else-residual-gt0 w ↦ rw (w.least-is) (Lowest-skip net s arcs c.loop-arc.arc-index c.loop-arc.least c.loop-arc.invariant (omega (arith, c.residual.ensures, w.if-residual-gt0.false)))
+          (Lowest-more net s arcs k c.loop-out.least w.label-label.result c.loop-out.invariant (omega (arith, left, w.if-out-gt0.true)) at)
+      | else-out-gt0 w ↦ rw (w.least-is) (Lowest-skip net s arcs k c.loop-out.least c.loop-out.invariant (omega (arith, left, w.if-out-gt0.false)))
     ]
 
-whole : (c : After-loop-arc) → Lowest c.args.self.now.net (state_of c.args.self.now) c.arcs_from-arc-items.result.now (length c.arcs_from-arc-items.result.now) c.loop-arc.least
+whole : (c : After-loop-out) → Lowest c.args.self.now.net (state_of c.args.self.now) (map number_of_out c.outs_from-out-items.result.now) (length (map number_of_out c.outs_from-out-items.result.now)) c.loop-out.least
 whole c =
-    let all : c.loop-arc.arc-index ≡ length c.arcs_from-arc-items.result.now = omega (arith, c.loop-arc-test.false, c.loop-arc.auto.arc-index-end) in
-    subst (λ k. Lowest c.args.self.now.net (state_of c.args.self.now) c.arcs_from-arc-items.result.now k c.loop-arc.least) all c.loop-arc.invariant
+    let all : c.loop-out.out-index ≡ length (map number_of_out c.outs_from-out-items.result.now) = omega (arith, c.loop-out-test.false, c.loop-out.auto.out-index-end, length-map c.outs_from-out-items.result.now number_of_out) in
+    subst (λ k. Lowest c.args.self.now.net (state_of c.args.self.now) (map number_of_out c.outs_from-out-items.result.now) k c.loop-out.least) all c.loop-out.invariant
 
 pub returns-clause-some : goal.returns-clause-some
-returns-clause-some c = Lowest-some c.args.self.now.net (state_of c.args.self.now) c.arcs_from-arc-items.result.now c.args.node c.arcs_from-arc-items.ensures c.loop-arc.least (whole c)
+returns-clause-some c = Lowest-some c.args.self.now.net (state_of c.args.self.now) (map number_of_out c.outs_from-out-items.result.now) c.args.node c.outs_from-out-items.ensures.arcs c.loop-out.least (whole c)
 
 pub returns-clause-none : goal.returns-clause-none
-returns-clause-none c = Lowest-no c.args.self.now.net (state_of c.args.self.now) c.arcs_from-arc-items.result.now c.args.node c.arcs_from-arc-items.ensures c.loop-arc.least (whole c)
+returns-clause-none c = Lowest-no c.args.self.now.net (state_of c.args.self.now) (map number_of_out c.outs_from-out-items.result.now) c.args.node c.outs_from-out-items.ensures.arcs c.loop-out.least (whole c)

@@ -1,16 +1,24 @@
-use Rattle.std.proofs.Common.{◌≡◌, ◌∙◌, ◌+◌, ◌-◌, ◌/◌, ◌%◌, ◌<◌, Some, None, if◌then◌else◌, get_or, vec_len, sym, ap, subst, arith}
-use Rattle.std.proofs.lemmas.List.{get_or_read}
+use Rattle.std.proofs.Common.{◌≡◌, ◌∙◌, ◌+◌, ◌-◌, ◌/◌, ◌%◌, ℕ, false, inl, inr, Some, None, if◌then◌else◌, sym, ap, subst, arith}
 use Rattle.cut_preflow.specs.declared.event.Outcome.TheVariants.{Moved, Stale}
-use Rattle.cut_preflow.specs.NodeArcs.{lists}
 use Rattle.cut_preflow.specs.Indexed.{IsIndexed, carried}
-use Rattle.cut_preflow.specs.Preflow.{can_push, head, push_amount, tail}
-use Rattle.cut_preflow.specs.Trace.{step_outcome, state_of}
-use Rattle.cut_preflow.proofs.Arcs.{pushable_from}
+use Rattle.cut_preflow.specs.FlowGraphs.{Carried}
+use Rattle.cut_preflow.specs.Preflow.{can_push, flow_at, head, is_forward, push_amount, tail}
+use Rattle.cut_preflow.specs.Trace.{IsTrace, flow_network, state_of, state_with, step_outcome}
+use Rattle.cut_preflow.proofs.Arcs.{eq_from, eq_true, pushable_from}
+use Rattle.cut_preflow.proofs.Choices.{pick_false, pick_true, true_or_false}
+use Rattle.cut_preflow.proofs.Kept.{moves}
 use Rattle.cut_preflow.proofs.Carrying.{Carries, active_from_index, carries, pushed_indexed}
 use Rattle.cut_preflow.proofs.Fields.{fields_of, net_of, sound_fields, unseen}
 use Rattle.cut_preflow.proofs.Playing.{PushFits, push_fits, push_played, pushed_flow, some_from}
 use Rattle.cut_preflow.proofs.preflow_core.PreflowCore.push.Goals as goal
-use Rattle.cut_preflow.proofs.preflow_core.PreflowCore.push.Goals.{In-Ok, then-arc-eq0, else-arc-eq0}
+use Rattle.cut_preflow.proofs.preflow_core.PreflowCore.push.Goals.{In-Ok}
+
+-- an odd number's arc goes backwards
+odd_back_of : (arc : ℕ) → (arc % 2 ≡ 0 → ⊥) → is_forward arc ≡ false
+odd_back_of arc odd = elim (true_or_false (is_forward arc)) [
+  | inl e ↦ absurd (odd (eq_from (arc % 2) 0 e))
+  | inr e ↦ e
+]
 
 fits_of : (c : In-Ok) → PushFits (net_of c.self.inside) (fields_of c.self.inside) c.args.arc c.in-Some.amount
 fits_of c =
@@ -30,35 +38,26 @@ carries_of c =
     let xs = c.self.inside.excesses.items in
     let arc = c.args.arc in
     let fits = fits_of c in
-    let may = carries net s (lists c.self.inside.arcs.items) xs c.self.inside.active arc (sound_fields c.self.inside c.self.invariant.0) c.self.invariant.1 (pushable_from net s arc fits.on) in
+    let may = carries net s c.self.inside.graph.nodes xs c.self.inside.active arc (sound_fields c.self.inside c.self.invariant.0) c.self.invariant.1 (pushable_from net s arc fits.on) in
     subst (λ x. Carries net xs x c.head-to.result c.in-Some.amount) (sym (from_is c))
     (subst (λ x. Carries net xs (tail net arc) x c.in-Some.amount) (sym (to_is c))
     (subst (λ x. Carries net xs (tail net arc) (head net arc) x) (sym fits.is) may))
 
-within : (c : In-Ok) → c.args.arc / 2 < vec_len c.self.inside.flows
-within c = omega (arith, (fits_of c).below, c.self.inside.flows.ok.0)
+pub send-requires-clause-known : goal.send-requires-clause-known
+send-requires-clause-known c =
+    let ok = (goal.at.send-requires-clause-known c).In-Ok in
+    (pushable_from (net_of c.self.inside) (fields_of c.self.inside) c.args.arc (fits_of ok).on).below
 
-pub index-flow-requires : goal.index-flow-requires
-index-flow-requires c = within (goal.at.index-flow-requires c).In-Ok
-
-pub overflow_add-next : goal.overflow_add-next
-overflow_add-next c =
-    let fits = fits_of (goal.at.overflow_add-next c).In-Ok in
-    let is : c.index-flow.result.now ≡ get_or c.self.inside.flows.items (c.args.arc / 2) 0 = get_or_read c.self.inside.flows.items (c.args.arc / 2) c.index-flow.result.now fits.below c.index-flow.ensures 0 in
-    omega (arith, is, fits.ahead c.if-arc-eq0.true)
-
-pub overflow_sub-next : goal.overflow_sub-next
-overflow_sub-next c =
-    let fits = fits_of (goal.at.overflow_sub-next c).In-Ok in
-    let is : c.index-flow.result.now ≡ get_or c.self.inside.flows.items (c.args.arc / 2) 0 = get_or_read c.self.inside.flows.items (c.args.arc / 2) c.index-flow.result.now fits.below c.index-flow.ensures 0 in
-    omega (arith, is, fits.back c.if-arc-eq0.false)
-
-pub index_mut-requires : goal.index_mut-requires
-index_mut-requires c = within (goal.at.index_mut-requires c).In-Ok
+pub send-requires-clause-left : goal.send-requires-clause-left
+send-requires-clause-left c =
+    let fits = fits_of (goal.at.send-requires-clause-left c).In-Ok in
+    let net = net_of c.self.inside in
+    let s = fields_of c.self.inside in
+    omega (arith, fits.is, (moves net s c.args.arc (pushable_from net s c.args.arc fits.on)).fits)
 
 pub move_excess-requires-clause-active : goal.move_excess-requires-clause-active
 move_excess-requires-clause-active c =
-    active_from_index c.self.inside.ends c.self.inside.imports.items (fields_of c.self.inside) (lists c.self.inside.arcs.items) c.self.inside.excesses.items c.self.inside.active c.self.invariant.1
+    active_from_index c.self.inside.ends c.self.inside.graph.imports (fields_of c.self.inside) c.self.inside.graph.nodes c.self.inside.excesses.items c.self.inside.active c.self.invariant.1
 
 pub move_excess-requires-clause-pays : goal.move_excess-requires-clause-pays
 move_excess-requires-clause-pays c = (carries_of (goal.at.move_excess-requires-clause-pays c).In-Ok).pays
@@ -73,21 +72,23 @@ invariant_of-self-2 c =
     let net = net_of q in
     let s = fields_of q in
     let arc = c.args.arc in
+    let amount = c.in-Some.amount in
     let fits = fits_of ok in
-    let is : c.index-flow.result.now ≡ get_or q.flows.items (arc / 2) 0 = get_or_read q.flows.items (arc / 2) c.index-flow.result.now fits.below c.index-flow.ensures 0 in
-    let ahead : arc % 2 ≡ 0 → c.if-arc-eq0.next ≡ get_or q.flows.items (arc / 2) 0 + c.in-Some.amount = λ even. elim c.if-arc-eq0.branch [ then-arc-eq0 w ↦ omega (arith, is) | else-arc-eq0 w ↦ absurd (w.if-arc-eq0.false even) ] in
-    let back : (arc % 2 ≡ 0 → ⊥) → c.if-arc-eq0.next ≡ get_or q.flows.items (arc / 2) 0 - c.in-Some.amount = λ odd. elim c.if-arc-eq0.branch [ then-arc-eq0 w ↦ absurd (odd w.if-arc-eq0.true) | else-arc-eq0 w ↦ omega (arith, is) ] in
-    let flow = pushed_flow net s arc c.in-Some.amount c.if-arc-eq0.next fits ahead back in
+    let next = if is_forward arc then flow_at s (arc / 2) + amount else flow_at s (arc / 2) - amount in
+    let ahead : arc % 2 ≡ 0 → next ≡ flow_at s (arc / 2) + amount = λ even. pick_true (is_forward arc) _ _ (eq_true (arc % 2) 0 even) in
+    let back : (arc % 2 ≡ 0 → ⊥) → next ≡ flow_at s (arc / 2) - amount = λ odd. pick_false (is_forward arc) _ _ (odd_back_of arc odd) in
+    let flow = pushed_flow net s arc amount next fits ahead back in
     let same : c.move_excess.new.excesses.items ≡ carried q.ends.source q.excesses.items (tail net arc) (head net arc) (push_amount net s arc) =
     c.move_excess.ensures.excesses
-    ∙ ap (λ x. carried q.ends.source q.excesses.items x c.head-to.result c.in-Some.amount) (from_is ok)
-    ∙ ap (λ x. carried q.ends.source q.excesses.items (tail net arc) x c.in-Some.amount) (to_is ok)
+    ∙ ap (λ x. carried q.ends.source q.excesses.items x c.head-to.result amount) (from_is ok)
+    ∙ ap (λ x. carried q.ends.source q.excesses.items (tail net arc) x amount) (to_is ok)
     ∙ ap (λ x. carried q.ends.source q.excesses.items (tail net arc) (head net arc) x) fits.is in
-    let at = pushed_indexed q.ends q.imports.items s (lists q.arcs.items) q.excesses.items c.move_excess.new.excesses.items q.active c.move_excess.new.active arc (sound_fields q c.self.invariant.0) c.self.invariant.1 (pushable_from net s arc fits.on) same c.move_excess.ensures.active in
-    rw (c.in-Ok.ensures.items) (
-      push_played net s q.history.items c.args.event arc c.in-Some.amount c.if-arc-eq0.next c.self.invariant.0 c.requires fits ahead back,
-      subst (λ ys. IsIndexed net (record { flow = ys; label = q.labels.items }) (lists q.arcs.items) c.move_excess.new.excesses.items c.move_excess.new.active) (sym flow) at,
-    )
+    let at = pushed_indexed q.ends q.graph.imports s q.graph.nodes q.excesses.items c.move_excess.new.excesses.items q.active c.move_excess.new.active arc (sound_fields q c.self.invariant.0) c.self.invariant.1 (pushable_from net s arc fits.on) same c.move_excess.ensures.active in
+    subst (λ (g : Carried). IsTrace (flow_network q.ends g.imports) g.flow q.labels.items c.push.new.self.items × IsIndexed (flow_network q.ends g.imports) (state_with g.flow q.labels.items) g.nodes c.move_excess.new.excesses.items c.move_excess.new.active) (sym c.send.ensures)
+    (rw (c.in-Ok.ensures.items) (
+      push_played net s q.history.items c.args.event arc amount next c.self.invariant.0 c.requires fits ahead back,
+      subst (λ ys. IsIndexed net (record { flow = ys; label = q.labels.items }) q.graph.nodes c.move_excess.new.excesses.items c.move_excess.new.active) (sym flow) at,
+    ))
 
 pub returns-clause-outcome : goal.returns-clause-outcome
 returns-clause-outcome c = λ _.

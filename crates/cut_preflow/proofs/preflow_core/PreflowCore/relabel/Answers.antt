@@ -1,5 +1,4 @@
 use Rattle.std.proofs.Common.{◌≡◌, Some, sym, arith, set}
-use Rattle.cut_preflow.specs.NodeArcs.{lists}
 use Rattle.cut_preflow.specs.Preflow.{relabel_target}
 use Rattle.cut_preflow.proofs.Carrying.{relabelled_indexed}
 use Rattle.cut_preflow.proofs.Fields.{fields_of, net_of, sound_fields, unseen}
@@ -19,5 +18,5 @@ pub invariant_of-self-2 : goal.invariant_of-self-2
 invariant_of-self-2 c =
     rw (c.in-Ok.ensures.items) (
       relabel_played (net_of c.self.inside) (fields_of c.self.inside) c.self.inside.history.items c.args.event c.args.node c.in-Some.label c.self.invariant.0 c.requires (raises (goal.at.invariant_of-self-2 c).In-Ok),
-      relabelled_indexed (net_of c.self.inside) (fields_of c.self.inside) (set c.self.inside.labels.items c.args.node c.in-Some.label) (lists c.self.inside.arcs.items) c.self.inside.excesses.items c.self.inside.active c.self.invariant.1,
+      relabelled_indexed (net_of c.self.inside) (fields_of c.self.inside) (set c.self.inside.labels.items c.args.node c.in-Some.label) c.self.inside.graph.nodes c.self.inside.excesses.items c.self.inside.active c.self.invariant.1,
     )

@@ -1,0 +1,23 @@
+use Rattle.std.proofs.Common.{◌≡◌, ◌<◌, ◌*◌, map, ap, subst, arith}
+use Rattle.std.specs.Prelude.{◌↔◌, All, Contains}
+use Rattle.cut_preflow.specs.FlowGraphs.{IsArcFrom, number_of_out}
+use Rattle.cut_preflow.specs.Preflow.{count, tail}
+use Rattle.cut_preflow.specs.Trace.{carried_in}
+use Rattle.cut_preflow.proofs.Fields.{seen}
+use Rattle.cut_preflow.proofs.Graphs.{numbers_are}
+use Rattle.cut_preflow.proofs.preflow_core.PreflowCore.outs_from.Goals as goal
+
+pub outs_from-requires : goal.outs_from-requires
+outs_from-requires c =
+    let nodes = ap (λ p. p.net.nodes) c.self.view_is in
+    omega (arith, c.requires, nodes, c.self.invariant.1.nodes_are)
+
+pub returns-clause-each : goal.returns-clause-each
+returns-clause-each c =
+    seen c.self.inside c.self.invariant.0 c.args.self.now c.self.view_is (λ net s. All (IsArcFrom (carried_in net s) c.args.node) c.outs_from.result.now)
+    (subst (λ n. All (IsArcFrom (record { nodes = n; imports = c.self.inside.graph.imports; flow = c.self.inside.graph.flow }) c.args.node) c.outs_from.result.now) c.self.invariant.1.nodes_are c.outs_from.ensures.each)
+
+pub returns-clause-arcs : goal.returns-clause-arcs
+returns-clause-arcs c a =
+    subst (λ p. Contains (map number_of_out c.outs_from.result.now) a ↔ ((a < 2 * count p.net) × (tail p.net a ≡ c.args.node))) c.self.view_is
+    (numbers_are c.self.inside.graph c.args.node c.outs_from.result.now c.outs_from.ensures.each c.outs_from.ensures.all a)

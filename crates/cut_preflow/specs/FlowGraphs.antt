@@ -1,0 +1,52 @@
+-- A network's imports as the arcs of a residual graph.
+use Rattle.std.specs.Prelude.{◌≡◌, ℕ, ◌+◌, ◌*◌, ◌<◌, ◌==◌, if◌then◌else◌, List, length, map}
+use Rattle.cut_net.specs.declared.priced.Priced.{Priced}
+use Rattle.cut_residual.specs.declared.arc.Arc.{Arc}
+use Rattle.cut_residual.specs.declared.arc.OutArc.{OutArc}
+use Rattle.cut_residual.specs.declared.arc.ResidualArc.{ResidualArc}
+use Rattle.cut_preflow.specs.Preflow.{tail_in, head_in, residual_in}
+
+-- what contracts see of a residual graph: its nodes, the imports, and the flow on each
+pub record Carried : Type 0 where
+  pub nodes : ℕ
+  pub imports : List Priced
+  pub flow : List ℕ
+
+-- the import of an arc, and its flow
+abbrev pub import_of : Arc → Priced
+import_of r = record { from = r.from; to = r.to; amount = r.capacity }
+
+abbrev pub flow_of : Arc → ℕ
+flow_of r = r.flow
+
+abbrev pub imports_of : List Arc → List Priced
+imports_of arcs = map import_of arcs
+
+abbrev pub flows_of : List Arc → List ℕ
+flows_of arcs = map flow_of arcs
+
+-- the arc of an import, saturated where that leaves from the source
+abbrev pub arc_opened : ℕ → Priced → Arc
+arc_opened source i = record { from = i.from; to = i.to; capacity = i.amount; flow = if i.from == source then i.amount else 0 }
+
+abbrev pub arcs_opened : ℕ → List Priced → List Arc
+arcs_opened source imports = map (arc_opened source) imports
+
+-- the number of a residual arc: 2 i forwards, 2 i + 1 backwards
+abbrev pub number_of : ResidualArc → ℕ
+number_of s = if s.forward then 2 * s.arc else 2 * s.arc + 1
+
+abbrev pub number_of_out : OutArc → ℕ
+number_of_out a = number_of a.step
+
+-- an arc with its head and what is left of it
+pub record IsArc (g : Carried) (a : OutArc) : Type 0 where
+  pub known : number_of_out a < 2 * length g.imports
+  pub head_is : a.head ≡ head_in g.imports (number_of_out a)
+  pub residual_is : a.residual ≡ residual_in g.imports g.flow (number_of_out a)
+  pub low : a.head < g.nodes
+
+-- and one that leaves from the node
+pub record IsArcFrom (g : Carried) (v : ℕ) (a : OutArc) : Type 0 where
+  pub arc : IsArc g a
+  pub leaves : tail_in g.imports (number_of_out a) ≡ v

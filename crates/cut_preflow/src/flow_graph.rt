@@ -1,0 +1,163 @@
+//! The imports of a network with the flow on each, as a residual graph.
+ghost use Rattle.std.specs.Prelude.{◌≡◌, ◌+◌, ◌-◌, ◌*◌, ◌/◌, ◌^◌, ◌<◌, ◌≤◌, ℕ, All, Contains, IfOk, if◌then◌else◌, length, map, slice_index, slice_set};
+ghost use Rattle.cut_residual.specs.declared.arc.ResidualArc.{ResidualArc};
+ghost use Rattle.cut_preflow.specs.Total.{total};
+ghost use Rattle.cut_preflow.specs.FlowGraphs.{IsArcFrom, arcs_opened, number_of, number_of_out};
+ghost use Rattle.cut_preflow.specs.Side.{IsReach};
+ghost use Rattle.cut_preflow.specs.Preflow.{import_in, into, is_forward, opening_flows, out_of, tail_in, head_in, residual_in};
+
+use crate::ends::Ends;
+use crate::sums::excess;
+use cut_net::Priced;
+use cut_residual::{Arc, OutArc, ResidualArc, ResidualGraph, order_of, search};
+use std::alloc::{AllocError, Global};
+use std::marker::Model;
+
+/// The residual graph of a network's imports. Contracts see how many nodes there are, the imports, and the flow on each.
+#[derive(Drop)]
+pub(crate) struct FlowGraph {
+    graph: ResidualGraph,
+}
+
+impl Model for FlowGraph {
+    ghost use Rattle.std.specs.Prelude.{◌≤◌, length};
+    ghost use Rattle.cut_preflow.specs.FlowGraphs.{Carried, flows_of, imports_of};
+
+    ghost Value = { Carried };
+
+    ghost view = { λ f. record { nodes = f.graph.nodes; imports = imports_of f.graph.arcs; flow = flows_of f.graph.arcs } };
+
+    ghost invariant = { λ f. length f.graph.arcs ≤ 65536 };
+}
+
+/// The arcs of the opening: those of the imports out of the source are saturated.
+fn arcs_opened(alloc: Global, source: u32, imports: &[Priced]) -> Result<Vec<Arc>, AllocError>
+    ensures { IfOk result (λ arcs. arcs.items ≡ arcs_opened source imports.now) }
+{
+    imports
+        .iter()
+        .map(|i| Arc {
+            from: i.from,
+            to: i.to,
+            capacity: i.amount,
+            flow: if i.from == source { i.amount } else { 0 },
+        })
+        .collect(alloc)
+}
+
+/// The residual arc of this number.
+fn step_of(arc: u32) -> ResidualArc
+    ensures { result ≡ record { arc = arc / 2; forward = is_forward arc } }
+{
+    ResidualArc {
+        arc: (arc / 2) as usize,
+        forward: arc % 2 == 0,
+    }
+}
+
+/// The number of a residual arc.
+pub(crate) fn number_of(step: ResidualArc) -> u32
+    requires { step.arc < 65536 }
+    ensures { result ≡ number_of step }
+{
+    let arc = step.arc as u32;
+    if step.forward { 2 * arc } else { 2 * arc + 1 }
+}
+
+impl FlowGraph {
+    /// The imports out of the source carry their weight, and the others nothing. Fails where memory is refused.
+    pub(crate) fn opened(
+        alloc: Global,
+        ends: Ends,
+        imports: &[Priced],
+    ) -> Result<FlowGraph, AllocError>
+        requires between { (i : ℕ) → i < length imports.now → ((import_in imports.now i).from < ends.nodes) × ((import_in imports.now i).to < ends.nodes) }
+        requires few { length imports.now ≤ 65536 }
+        ensures { IfOk result (λ f. f ≡ record { nodes = ends.nodes; imports = imports.now; flow = opening_flows ends.source imports.now }) }
+    {
+        let arcs = arcs_opened(alloc, ends.source, imports)?;
+        let graph = ResidualGraph::new(alloc, arcs, ends.nodes)?;
+        Ok(FlowGraph { graph })
+    }
+
+    /// The nodes in an order along the imports.
+    pub(crate) fn order(&self, alloc: Global) -> Result<Vec<u32>, AllocError> {
+        order_of(alloc, &self.graph)
+    }
+
+    /// How many imports there are.
+    pub(crate) fn count(&self) -> usize
+        ensures is { result ≡ length self.now.imports }
+        ensures few { result ≤ 65536 }
+    {
+        self.graph.arcs().len()
+    }
+
+    /// The flow on an import.
+    pub(crate) fn flow(&self, import: u32) -> u64
+        requires { import < length self.now.imports }
+        ensures { result ≡ slice_index self.now.flow import }
+    {
+        self.graph.arcs()[import as usize].flow
+    }
+
+    /// The node that an arc leads from.
+    pub(crate) fn tail(&self, arc: u32) -> u32
+        requires { arc / 2 < length self.now.imports }
+        ensures { result ≡ tail_in self.now.imports arc }
+    {
+        self.graph.tail(step_of(arc))
+    }
+
+    /// The node that an arc leads to.
+    pub(crate) fn head(&self, arc: u32) -> u32
+        requires { arc / 2 < length self.now.imports }
+        ensures { result ≡ head_in self.now.imports arc }
+    {
+        self.graph.head(step_of(arc))
+    }
+
+    /// How much more an arc can carry.
+    pub(crate) fn residual(&self, arc: u32) -> u64
+        requires { arc / 2 < length self.now.imports }
+        ensures { result ≡ residual_in self.now.imports self.now.flow arc }
+    {
+        self.graph.residual(step_of(arc))
+    }
+
+    /// The arcs that leave from a node, each with its head and what is left of it: one run of memory.
+    pub(crate) fn outs_from(&self, node: u32) -> &[OutArc]
+        requires { node < self.now.nodes }
+        ensures each { All (IsArcFrom self.now node) result.now }
+        ensures all { (a : ℕ) → a < 2 * length self.now.imports → tail_in self.now.imports a ≡ node → Contains (map number_of_out result.now) a }
+    {
+        self.graph.residual_arcs(node)
+    }
+
+    /// Sends an amount over an arc that has as much left.
+    pub(crate) fn send(&mut self, arc: u32, amount: u64)
+        requires known { arc / 2 < length self.old.imports }
+        requires left { amount ≤ residual_in self.old.imports self.old.flow arc }
+        ensures { self.new ≡ record self.old { flow = slice_set self.old.flow (arc / 2) (if is_forward arc then slice_index self.old.flow (arc / 2) + amount else slice_index self.old.flow (arc / 2) - amount) } }
+    {
+        self.graph.send(step_of(arc), amount);
+    }
+
+    /// Marks all that the source reaches by arcs with something left. Fails where memory is refused.
+    pub(crate) fn reach(&self, alloc: Global, source: u32) -> Result<Vec<bool>, AllocError>
+        requires { source < self.now.nodes }
+        ensures size { IfOk result (λ marks. length marks.items ≡ self.now.nodes) }
+        ensures reach { IfOk result (λ marks. IsReach self.now.imports self.now.flow source marks.items) }
+    {
+        let found = search(alloc, &self.graph, source)?;
+        Ok(found.seen)
+    }
+
+    /// What enters a node less what leaves it, and 0 where more leaves it; summed over all imports.
+    pub(crate) fn excess(&self, node: u32) -> u64
+        requires { total (length self.now.flow) (λ i. slice_index self.now.flow i) < 2 ^ 64 }
+        ensures { result ≡ into self.now.imports self.now.flow node - out_of self.now.imports self.now.flow node }
+    {
+        excess(self.graph.arcs(), node)
+    }
+}
