@@ -1,5 +1,5 @@
 //! The excess of each node, and the set of the active nodes.
-ghost use Rattle.std.specs.Prelude.{◌≡◌, ◌≢◌, ◌+◌, ◌^◌, ◌<◌, ◌≤◌, ℕ, length, slice_index, slice_set};
+ghost use Rattle.std.specs.Prelude.{◌≡◌, ◌≢◌, ◌+◌, ◌^◌, ◌<◌, ◌≤◌, ℕ, IfOk, length, slice_index, slice_set};
 ghost use Rattle.cut_preflow.specs.Total.{total};
 ghost use Rattle.cut_preflow.specs.Preflow.{import_in, into, opening_flows};
 ghost use Rattle.cut_preflow.specs.Indexed.{AreActive, brought, carried};
@@ -7,6 +7,14 @@ ghost use Rattle.cut_preflow.specs.Indexed.{AreActive, brought, carried};
 use crate::ends::Ends;
 use crate::node_set::NodeSet;
 use cut_net::Priced;
+use std::alloc::{AllocError, Global};
+
+/// The excess of each node, and the active nodes.
+#[derive(Drop)]
+pub(crate) struct Excesses {
+    pub(crate) each: Vec<u64>,
+    pub(crate) active: NodeSet,
+}
 
 /// Writes the excess of a node. The node becomes active or not by it, where it is neither end.
 fn write(ends: Ends, excesses: &mut Vec<u64>, active: &mut NodeSet, node: u32, excess: u64)
@@ -68,12 +76,7 @@ pub(crate) fn move_excess(
 }
 
 /// Brings to each node what the imports out of the source bring to it at the opening.
-pub(crate) fn saturate(
-    ends: Ends,
-    imports: &[Priced],
-    excesses: &mut Vec<u64>,
-    active: &mut NodeSet,
-)
+fn saturate(ends: Ends, imports: &[Priced], excesses: &mut Vec<u64>, active: &mut NodeSet)
     requires nodes { (i : ℕ) → i < length imports.now → (import_in imports.now i).to < ends.nodes }
     requires weights { total (length imports.now) (λ i. (import_in imports.now i).amount) < 2 ^ 64 }
     requires none { (v : ℕ) → slice_index excesses.old.items v ≡ 0 }
@@ -86,4 +89,21 @@ pub(crate) fn saturate(
             add_excess(ends, excesses, active, import.to, import.amount);
         }
     }
+}
+
+/// The excess of each node at the opening, and the active nodes. Fails where memory is refused.
+pub(crate) fn excesses_opened(
+    alloc: Global,
+    ends: Ends,
+    imports: &[Priced],
+) -> Result<Excesses, AllocError>
+    requires nodes { (i : ℕ) → i < length imports.now → (import_in imports.now i).to < ends.nodes }
+    requires weights { total (length imports.now) (λ i. (import_in imports.now i).amount) < 2 ^ 64 }
+    ensures each { IfOk result (λ e. (v : ℕ) → v ≢ ends.source → slice_index e.each.items v ≡ into imports.now (opening_flows ends.source imports.now) v) }
+    ensures active { IfOk result (λ e. AreActive ends e.each.items e.active) }
+{
+    let mut each = vec![in alloc; 0u64; ends.nodes as usize]?;
+    let mut active = NodeSet::new(alloc, ends.nodes)?;
+    saturate(ends, imports, &mut each, &mut active);
+    Ok(Excesses { each, active })
 }

@@ -9,7 +9,7 @@ ghost use Rattle.cut_preflow.specs.Side.{has};
 ghost use Rattle.cut_preflow.specs.Trace.{carried_in, state_of, step_outcome, history_after, IsSound, IsWithinLimits, flow_network};
 
 use crate::ends::Ends;
-use crate::excesses::{move_excess, saturate};
+use crate::excesses::{excesses_opened, move_excess};
 use crate::flow_graph::FlowGraph;
 use crate::node_set::NodeSet;
 use crate::tour::Tour;
@@ -64,16 +64,14 @@ fn before_turns(alloc: Global, ends: Ends, imports: Vec<Priced>) -> Result<Prefl
     let graph = FlowGraph::opened(alloc, ends, imports.as_slice())?;
     let labels = opening_labels(alloc, ends)?;
     let order = graph.order(alloc)?;
-    let mut excesses = vec![in alloc; 0u64; ends.nodes as usize]?;
-    let mut active = NodeSet::new(alloc, ends.nodes)?;
-    saturate(ends, imports.as_slice(), &mut excesses, &mut active);
+    let excesses = excesses_opened(alloc, ends, imports.as_slice())?;
     Ok(PreflowCore {
         ends,
         graph,
         labels,
         history: Vec::new(alloc),
-        excesses,
-        active,
+        excesses: excesses.each,
+        active: excesses.active,
         tour: Tour::through(order),
     })
 }

@@ -1,10 +1,9 @@
-use Rattle.std.proofs.Common.{◌≡◌, ◌∙◌, refl, sym, ap, subst, arith}
+use Rattle.std.proofs.Common.{◌≡◌, ◌∙◌, refl, sym, ap, subst}
 use Rattle.cut_preflow.specs.FlowGraphs.{Carried}
 use Rattle.cut_preflow.specs.Indexed.{IsIndexed}
 use Rattle.cut_preflow.specs.Preflow.{into, opening, opening_flows}
 use Rattle.cut_preflow.specs.Trace.{IsTrace, flow_network, state_with}
 use Rattle.cut_preflow.proofs.Saturating.{opening_indexed}
-use Rattle.std.proofs.lemmas.Grind.{common_steps}
 use Rattle.cut_preflow.proofs.preflow_core.before_turns.Goals as goal
 
 pub invariant_of-result : goal.invariant_of-result
@@ -16,16 +15,10 @@ invariant_of-result c =
     let opened : c.in_ok-graph.graph ≡ record { nodes = ends.nodes; imports = imports; flow = opening_flows ends.source imports } =
     c.in_ok-graph.ensures ∙ ap (λ xs. record { nodes = ends.nodes; imports = xs; flow = opening_flows ends.source xs }) c.as_slice.ensures.value in
     let state : record { flow = opening_flows ends.source imports; label = c.in_ok-labels.labels.items } ≡ opening net = λ i. record { flow = opening_flows ends.source imports; label = labels i } in
-    let at = opening_indexed ends imports ends.nodes c.saturate.new.excesses.items c.saturate.new.active refl
-    (λ v ne. c.saturate.ensures.excesses v ne ∙ ap (λ xs. into xs (opening_flows ends.source xs) v) c.as_slice-2.ensures.value) c.saturate.ensures.active in
-    subst (λ (g : Carried). IsTrace (flow_network ends g.imports) g.flow c.in_ok-labels.labels.items c.new-2.result.items × IsIndexed (flow_network ends g.imports) (state_with g.flow c.in_ok-labels.labels.items) g.nodes c.saturate.new.excesses.items c.saturate.new.active) (sym opened)
-    (rw (c.new-2.ensures.items) (
+    let at = opening_indexed ends imports ends.nodes c.in_ok-excesses.excesses.each.items c.in_ok-excesses.excesses.active refl
+    (λ v ne. c.in_ok-excesses.ensures.each v ne ∙ ap (λ xs. into xs (opening_flows ends.source xs) v) c.as_slice-2.ensures.value) c.in_ok-excesses.ensures.active in
+    subst (λ (g : Carried). IsTrace (flow_network ends g.imports) g.flow c.in_ok-labels.labels.items c.new.result.items × IsIndexed (flow_network ends g.imports) (state_with g.flow c.in_ok-labels.labels.items) g.nodes c.in_ok-excesses.excesses.each.items c.in_ok-excesses.excesses.active) (sym opened)
+    (rw (c.new.ensures.items) (
       (record { network = c.requires.network; limits = c.requires.limits; flows_are = refl; labels_are = labels; legal = refl }),
-      (subst (λ s. IsIndexed net s ends.nodes c.saturate.new.excesses.items c.saturate.new.active) (sym state) at),
+      (subst (λ s. IsIndexed net s ends.nodes c.in_ok-excesses.excesses.each.items c.in_ok-excesses.excesses.active) (sym state) at),
     ))
-
-pub saturate-requires-clause-none : goal.saturate-requires-clause-none
-saturate-requires-clause-none c = grind (arith, common_steps)
-
-pub saturate-requires-clause-active : goal.saturate-requires-clause-active
-saturate-requires-clause-active c = grind (arith, common_steps)
