@@ -40,11 +40,11 @@ told_apart (records.Other i d) (records.Other j f) e = let both = both_true (nat
 
 -- ---- what a declaration gives
 
-abbrev Gives : World → Named → Node → Type 0
-Gives w (named.Own k) n = option_map nodes.Own (form_at w k) ≡ Some n
-Gives w (named.Other i d) n = nodes.Other i d 0 ≡ n
+abbrev GivesNode : World → Named → Node → Type 0
+GivesNode w (named.Own k) n = option_map nodes.Own (form_at w k) ≡ Some n
+GivesNode w (named.Other i d) n = nodes.Other i d 0 ≡ n
 
-gives_once : (w : World) (d : Named) (n m : Node) → Gives w d n → Gives w d m → n ≡ m
+gives_once : (w : World) (d : Named) (n m : Node) → GivesNode w d n → GivesNode w d m → n ≡ m
 gives_once w (named.Own k) n m p q = let e : Some n ≡ Some m = sym p ∙ q in cc
 gives_once w (named.Other i d) n m p q = sym p ∙ q
 
@@ -54,7 +54,7 @@ IsGiven w (shapes.Array n) = Unit {0}
 IsGiven w (shapes.Pointer n) = Unit {0}
 IsGiven w (shapes.Record r) = Unit {0}
 IsGiven w shapes.Procedure = Unit {0}
-IsGiven w (shapes.Named d n) = Gives w d n
+IsGiven w (shapes.Named d n) = GivesNode w d n
 IsGiven w shapes.Unknown = Unit {0}
 
 abbrev IsGivenIf : World → Option TypeShape → Type 0
@@ -141,4 +141,4 @@ given : (w : World) (n : Node) (s : TypeShape) → shape w n ≡ s → IsGiven w
 given w n s e = subst (IsGiven w) e (shape_given w n)
 
 pub named_once : (w : World) (n m x y : Node) (c d : Named) → shape w n ≡ shapes.Named c x → shape w m ≡ shapes.Named d y → (named_equal.eq-value).it c d ≡ true → x ≡ y
-named_once w n m x y c d p q e = gives_once w d x y (subst (λ (v : Named). Gives w v x) (one_declaration c d e) (given w n (shapes.Named c x) p)) (given w m (shapes.Named d y) q)
+named_once w n m x y c d p q e = gives_once w d x y (subst (λ (v : Named). GivesNode w v x) (one_declaration c d e) (given w n (shapes.Named c x) p)) (given w m (shapes.Named d y) q)

@@ -7,8 +7,8 @@ use Rattle.std.proofs.lemmas.List.Folds.{Any-from_list_any}
 use Rattle.type_search.specs.declared.shape.Shape.{Shape}
 use Rattle.type_search.specs.declared.shape.Shape.TheVariants as shapes
 use Rattle.type_search.specs.Searches.{element_of, target_of, HasElement, HasTarget, IsPlain, Opens, OpensTo, plain, through, Finds, own, pointed, inherited}
-use Rattle.type_search.specs.Leading.{next_of, ends, on, IsEnd, Leads, LeadsTo}
-use Rattle.type_search.specs.Extending.{record_in, IsOf, Has, own_field, base_field, HasField, IsFieldOf, IsRecordOf}
+use Rattle.type_search.specs.Leading.{next_of, ends, on, IsTypeEnd, TypeLeads, TypeLeadsTo}
+use Rattle.type_search.specs.Extending.{shape_record, LeadsToRecord, Has, own_field, base_field, HasField, IsFieldIn, IsRecordOf}
 use Rattle.type_search.proofs.Extending.{of_once}
 use Rattle.type_search.proofs.Leading.{leads_once, leads_to_once}
 use Rattle.type_search.proofs.Opening.{field_found, opens_leads, IsFieldAt}
@@ -69,17 +69,17 @@ module _ {N D R : Type 0} (same : D → D → Bool) (shape : N → Shape N D R) 
   by_name (shapes.Named d n) m e = record { declaration = d; is = ap (λ (v : N). shapes.Named d v) (let f : n ≡ m = cc in f) }
   by_name shapes.Unknown m e = cc
 
-  leads_opens : (met : List D) (k : ℕ) (n m : N) → Leads shape false k n m → IsPlain (shape m) → All (IsBehind (λ j x. Leads shape false j x m) k) met → OpensFrom met n m
+  leads_opens : (met : List D) (k : ℕ) (n m : N) → TypeLeads shape false k n m → IsPlain (shape m) → All (IsBehind (λ j x. TypeLeads shape false j x m) k) met → OpensFrom met n m
   leads_opens met k n m (ends e) p all = record { after = met; opens = plain p }
   leads_opens met k n m (on {k = j} {m = x} e rest) p all =
       let name = by_name (shape n) x e in
-      let Left : ℕ → N → Type 0 = λ i y. Leads shape false i y m in
+      let Left : ℕ → N → Type 0 = λ i y. TypeLeads shape false i y m in
       let new = fresh Left (λ a b y u v. (leads_once shape false a b y m m u v).0) j n x name.declaration met name.is rest all in
       let r = leads_opens (met ++ name.declaration ∷ []) j x m rest p (with_next Left j n x name.declaration met name.is rest all) in
       record { after = r.after; opens = through name.is new r.opens }
 
-  pub opens_to : (n m : N) → LeadsTo shape false n m → IsPlain (shape m) → OpensTo same shape n m
-  opens_to n m l p = let r = leads_opens [] l.steps n m l.leads p (none_behind (λ j x. Leads shape false j x m) l.steps) in record { met = r.after; opens = r.opens }
+  pub opens_to : (n m : N) → TypeLeadsTo shape false n m → IsPlain (shape m) → OpensTo same shape n m
+  opens_to n m l p = let r = leads_opens [] l.steps n m l.leads p (none_behind (λ j x. TypeLeads shape false j x m) l.steps) in record { met = r.after; opens = r.opens }
 
   -- ---- fields
 
@@ -156,7 +156,7 @@ module _ {N D R : Type 0} (same : D → D → Bool) (shape : N → Shape N D R) 
       steps : ℕ
       comes : Comes steps n f
 
-    record_is : (s : Shape N D R) (r : R) → record_in s ≡ Some r → s ≡ shapes.Record r
+    record_is : (s : Shape N D R) (r : R) → shape_record s ≡ Some r → s ≡ shapes.Record r
     record_is (shapes.Array n) r e = cc
     record_is (shapes.Pointer n) r e = cc
     record_is (shapes.Record t) r e = ap (λ (v : R). shapes.Record v) (let f : t ≡ r = cc in f)
@@ -164,7 +164,7 @@ module _ {N D R : Type 0} (same : D → D → Bool) (shape : N → Shape N D R) 
     record_is (shapes.Named d n) r e = cc
     record_is shapes.Unknown r e = cc
 
-    leads_comes : (k j : ℕ) (n m : N) (f : F) → Leads shape true k n m → Comes j m f → ComesTo n f
+    leads_comes : (k j : ℕ) (n m : N) (f : F) → TypeLeads shape true k n m → Comes j m f → ComesTo n f
     leads_comes k j n m f (ends e) c = record { steps = j; comes = c }
     leads_comes k j n m f (on {k = i} {m = x} e rest) c = let r = leads_comes i j x m f rest c in record { steps = suc r.steps; comes = along e r.comes }
 
@@ -183,21 +183,21 @@ module _ {N D R : Type 0} (same : D → D → Bool) (shape : N → Shape N D R) 
 
     -- ---- what is told of a field
 
-    pub field_told : (n : N) (r : R) (of : Option R) (o : Option F) → of ≡ Some r → IsRecordOf shape n of → IsFieldOf shape base field r o →
+    pub field_told : (n : N) (r : R) (of : Option R) (o : Option F) → of ≡ Some r → IsRecordOf shape n of → IsFieldIn shape base field r o →
         IfSome o (λ f. Finds same shape field base [] n f) × IfNone o ((f : F) → Finds same shape field base [] n f → ⊥)
-    field_told n r of (Some f) is at h = (finds_field n f (record { of = r; is_of = subst (λ (v : Option R). IfSome v (IsOf shape n)) is at.some; has = h.some }), tt)
+    field_told n r of (Some f) is at h = (finds_field n f (record { of = r; is_of = subst (λ (v : Option R). IfSome v (LeadsToRecord shape n)) is at.some; has = h.some }), tt)
     field_told n r of None is at h = (
       tt,
       λ f g. (
           let a = field_found same shape field base [] n f g in
-          let there : IsOf shape n r = subst (λ (v : Option R). IfSome v (IsOf shape n)) is at.some in
+          let there : LeadsToRecord shape n r = subst (λ (v : Option R). IfSome v (LeadsToRecord shape n)) is at.some in
           h.none f (subst (λ (x : R). HasField shape base field x f) (of_once shape n a.of r a.is_of there) a.has)),
     )
 
     pub no_field_told : (n : N) (of : Option R) → of ≡ None → IsRecordOf shape n of → (f : F) → Finds same shape field base [] n f → ⊥
     no_field_told n of is at f g =
         let a = field_found same shape field base [] n f g in
-        subst (λ (v : Option R). IfNone v ((r : R) → IsOf shape n r → ⊥)) is at.none a.of a.is_of
+        subst (λ (v : Option R). IfNone v ((r : R) → LeadsToRecord shape n r → ⊥)) is at.none a.of a.is_of
 
   -- ---- what is told of a part
 
@@ -217,28 +217,28 @@ module _ {N D R : Type 0} (same : D → D → Bool) (shape : N → Shape N D R) 
   target_plain (shapes.Named d n) m e = absurd (cc)
   target_plain shapes.Unknown m e = absurd (cc)
 
-  end_is : (n m : N) (end : Option N) → end ≡ Some m → IsEnd shape false n end → LeadsTo shape false n m
-  end_is n m end is e = subst (λ (v : Option N). IfSome v (LeadsTo shape false n)) is e.some
+  end_is : (n m : N) (end : Option N) → end ≡ Some m → IsTypeEnd shape false n end → TypeLeadsTo shape false n m
+  end_is n m end is e = subst (λ (v : Option N). IfSome v (TypeLeadsTo shape false n)) is e.some
 
   -- of two types that a type comes to the parts are the same
-  same_part : (part : Shape N D R → Option N) (n a b x : N) → OpensTo same shape n a → part (shape a) ≡ Some x → LeadsTo shape false n b → part (shape b) ≡ Some x
+  same_part : (part : Shape N D R → Option N) (n a b x : N) → OpensTo same shape n a → part (shape a) ≡ Some x → TypeLeadsTo shape false n b → part (shape b) ≡ Some x
   same_part part n a b x o is l =
       let one : a ≡ b = leads_to_once shape false n a b (opens_leads same shape [] o.met n a o.opens) l in
       subst (λ (v : N). part (shape v) ≡ Some x) one is
 
-  pub element_told : (n m : N) (end o : Option N) → end ≡ Some m → IsEnd shape false n end → o ≡ element_of (shape m) → IfSome o (HasElement same shape n) × IfNone o ((x : N) → HasElement same shape n x → ⊥)
+  pub element_told : (n m : N) (end o : Option N) → end ≡ Some m → IsTypeEnd shape false n end → o ≡ element_of (shape m) → IfSome o (HasElement same shape n) × IfNone o ((x : N) → HasElement same shape n x → ⊥)
   element_told n m end (Some x) is e told = (record { array = m; opens = opens_to n m (end_is n m end is e) (element_plain (shape m) x (sym told)); is = sym told }, tt)
   element_told n m end None is e told = (tt, λ x h. (let f : None ≡ Some x = told ∙ same_part element_of n h.array m x h.opens h.is (end_is n m end is e) in cc))
 
-  pub target_told : (n m : N) (end o : Option N) → end ≡ Some m → IsEnd shape false n end → o ≡ target_of (shape m) → IfSome o (HasTarget same shape n) × IfNone o ((x : N) → HasTarget same shape n x → ⊥)
+  pub target_told : (n m : N) (end o : Option N) → end ≡ Some m → IsTypeEnd shape false n end → o ≡ target_of (shape m) → IfSome o (HasTarget same shape n) × IfNone o ((x : N) → HasTarget same shape n x → ⊥)
   target_told n m end (Some x) is e told = (record { pointer = m; opens = opens_to n m (end_is n m end is e) (target_plain (shape m) x (sym told)); is = sym told }, tt)
   target_told n m end None is e told = (tt, λ x h. (let f : None ≡ Some x = told ∙ same_part target_of n h.pointer m x h.opens h.is (end_is n m end is e) in cc))
 
-  closed : (n m : N) (end : Option N) → end ≡ None → IsEnd shape false n end → OpensTo same shape n m → ⊥
-  closed n m end is e o = subst (λ (v : Option N). IfNone v ((last : N) → LeadsTo shape false n last → ⊥)) is e.none m (opens_leads same shape [] o.met n m o.opens)
+  closed : (n m : N) (end : Option N) → end ≡ None → IsTypeEnd shape false n end → OpensTo same shape n m → ⊥
+  closed n m end is e o = subst (λ (v : Option N). IfNone v ((last : N) → TypeLeadsTo shape false n last → ⊥)) is e.none m (opens_leads same shape [] o.met n m o.opens)
 
-  pub no_element : (n : N) (end : Option N) → end ≡ None → IsEnd shape false n end → (m : N) → HasElement same shape n m → ⊥
+  pub no_element : (n : N) (end : Option N) → end ≡ None → IsTypeEnd shape false n end → (m : N) → HasElement same shape n m → ⊥
   no_element n end is e m h = closed n h.array end is e h.opens
 
-  pub no_target : (n : N) (end : Option N) → end ≡ None → IsEnd shape false n end → (m : N) → HasTarget same shape n m → ⊥
+  pub no_target : (n : N) (end : Option N) → end ≡ None → IsTypeEnd shape false n end → (m : N) → HasTarget same shape n m → ⊥
   no_target n end is e m h = closed n h.pointer end is e h.opens

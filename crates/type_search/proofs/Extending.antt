@@ -11,8 +11,8 @@ use Rattle.std.proofs.lemmas.List.Elements.{All-push}
 use Rattle.std.proofs.lemmas.List.Folds.{Any-from_list_any}
 use Rattle.type_search.specs.declared.shape.Shape.{Shape}
 use Rattle.type_search.specs.Searches.{IsMet, IsMetAgain, IsNewlyMet}
-use Rattle.type_search.specs.Leading.{IsEnd, LeadsTo}
-use Rattle.type_search.specs.Extending.{record_in, base_field, own_field, risen, came_back, Extends, Has, HasField, AreFieldsOf, AreFound, IsAbove, IsFieldOf, IsNext, IsOf, IsRecordOf, Use, same_use}
+use Rattle.type_search.specs.Leading.{IsTypeEnd, TypeLeadsTo}
+use Rattle.type_search.specs.Extending.{shape_record, base_field, own_field, risen, came_back, Extends, Has, HasField, AreFieldsOf, AreFound, IsAbove, IsFieldIn, IsNextAbove, LeadsToRecord, IsRecordOf, Use, same_use}
 use Rattle.type_search.proofs.Leading.{leads_to_once}
 
 both_true : (a b : Bool) → a && b ≡ true → (a ≡ true) × (b ≡ true)
@@ -21,38 +21,38 @@ both_true true false e = absurd cc
 both_true false b e = absurd cc
 
 module _ {N D R : Type 0} (shape : N → Shape N D R) where
-  pub of_once : (n : N) (r s : R) → IsOf shape n r → IsOf shape n s → r ≡ s
+  pub of_once : (n : N) (r s : R) → LeadsToRecord shape n r → LeadsToRecord shape n s → r ≡ s
   of_once n r s a b =
       let one : a.at ≡ b.at = leads_to_once shape true n a.at b.at a.leads b.leads in
-      let e : Some r ≡ Some s = sym a.is ∙ ap (λ (x : N). record_in (shape x)) one ∙ b.is in
+      let e : Some r ≡ Some s = sym a.is ∙ ap (λ (x : N). shape_record (shape x)) one ∙ b.is in
       cc
 
   -- what is a record where the type leads is its record
-  pub of_end : (n m : N) (end : Option N) (o : Option R) → end ≡ Some m → IsEnd shape true n end → o ≡ record_in (shape m) → IsRecordOf shape n o
+  pub of_end : (n m : N) (end : Option N) (o : Option R) → end ≡ Some m → IsTypeEnd shape true n end → o ≡ shape_record (shape m) → IsRecordOf shape n o
   of_end n m end o is e told = by o told
     where
-      there : LeadsTo shape true n m
-      there = subst (λ (v : Option N). IfSome v (LeadsTo shape true n)) is e.some
+      there : TypeLeadsTo shape true n m
+      there = subst (λ (v : Option N). IfSome v (TypeLeadsTo shape true n)) is e.some
 
-      by : (v : Option R) → v ≡ record_in (shape m) → IsRecordOf shape n v
+      by : (v : Option R) → v ≡ shape_record (shape m) → IsRecordOf shape n v
       by (Some r) told = record { some = record { at = m; leads = there; is = sym told }; none = tt }
       by None told = record {
         some = tt;
         none = λ r h. (
             let one : h.at ≡ m = leads_to_once shape true n h.at m h.leads there in
-            let f : None ≡ Some r = told ∙ ap (λ (x : N). record_in (shape x)) (sym one) ∙ h.is in
+            let f : None ≡ Some r = told ∙ ap (λ (x : N). shape_record (shape x)) (sym one) ∙ h.is in
             cc);
       }
 
-  pub of_none : (n : N) (end : Option N) → end ≡ None → IsEnd shape true n end → IsRecordOf shape n None
-  of_none n end is e = record { some = tt; none = λ r h. subst (λ (v : Option N). IfNone v ((last : N) → LeadsTo shape true n last → ⊥)) is e.none h.at h.leads }
+  pub of_none : (n : N) (end : Option N) → end ≡ None → IsTypeEnd shape true n end → IsRecordOf shape n None
+  of_none n end is e = record { some = tt; none = λ r h. subst (λ (v : Option N). IfNone v ((last : N) → TypeLeadsTo shape true n last → ⊥)) is e.none h.at h.leads }
 
   module _ (base : R → Option N) where
     extends_once : (r s t : R) → Extends shape base r s → Extends shape base r t → s ≡ t
     extends_once r s t a b =
         let e : Some a.by ≡ Some b.by = sym a.is_base ∙ b.is_base in
         let one : a.by ≡ b.by = cc in
-        of_once b.by s t (subst (λ (x : N). IsOf shape x s) one a.is_of) b.is_of
+        of_once b.by s t (subst (λ (x : N). LeadsToRecord shape x s) one a.is_of) b.is_of
 
     -- what is above a record by its base
     pub above_by : (r : R) (b : Option N) (x : N) (o : Option R) → b ≡ base r → b ≡ Some x → IsRecordOf shape x o → IsAbove shape base r o
@@ -68,7 +68,7 @@ module _ {N D R : Type 0} (shape : N → Shape N D R) where
           none = λ s h. (
               let e : Some h.by ≡ Some x = sym h.is_base ∙ is_base in
               let one : h.by ≡ x = cc in
-              of.none s (subst (λ (y : N). IsOf shape y s) one h.is_of));
+              of.none s (subst (λ (y : N). LeadsToRecord shape y s) one h.is_of));
         }
 
     pub none_above : (r : R) (b : Option N) → b ≡ base r → b ≡ None → IsAbove shape base r None
@@ -113,7 +113,7 @@ module _ {N D R : Type 0} (shape : N → Shape N D R) where
           record { bases = b.bases; has = b.has; fewer = omega (arith, m, n) }
 
       -- what is found at the last is found at the first
-      pub field_same : (s : ℕ) (r t : R) (o : Option F) → Rises s r t → IsFieldOf shape base field t o → IsFieldOf shape base field r o
+      pub field_same : (s : ℕ) (r t : R) (o : Option F) → Rises s r t → IsFieldIn shape base field t o → IsFieldIn shape base field r o
       field_same s r t (Some f) p h = record { some = down s h.some.bases r t f p h.some.has; none = tt }
       field_same s r t None p h = record { some = tt; none = λ f g. (let x = still s g.bases r t f p g.has in h.none f (record { bases = x.bases; has = x.has })) }
 
@@ -125,10 +125,10 @@ module _ {N D R : Type 0} (shape : N → Shape N D R) where
           let b : x.bases ≡ h.bases = (has_once x.bases h.bases r f f x.has h.has).0 in
           omega (arith, a, b)
 
-      pub own_is : (r : R) (f : F) (o : Option F) → o ≡ field r → o ≡ Some f → IsFieldOf shape base field r (Some f)
+      pub own_is : (r : R) (f : F) (o : Option F) → o ≡ field r → o ≡ Some f → IsFieldIn shape base field r (Some f)
       own_is r f o told is = record { some = record { bases = zero; has = own_field (sym told ∙ is) }; none = tt }
 
-      nothing_above : (r : R) (o : Option R) → field r ≡ None → o ≡ None → IsAbove shape base r o → IsFieldOf shape base field r None
+      nothing_above : (r : R) (o : Option R) → field r ≡ None → o ≡ None → IsAbove shape base r o → IsFieldIn shape base field r None
       nothing_above r o none is above = record { some = tt; none = λ f h. go f h.bases h.has }
         where
           closed : (s : R) → Extends shape base r s → ⊥
@@ -153,7 +153,7 @@ module _ {N D R : Type 0} (shape : N → Shape N D R) where
         climbs_nowhere from met e = record { steps = zero; rises = nowhere; each = subst (λ (rs : List R). All (λ (r : R). (j : ℕ) × Rises (suc j) r from) rs) (sym e) (λ k d l. absurd (omega (arith, l))) }
 
         -- what a name means at the last it means in all that were passed
-        pub passed : (from now : R) (met : List R) (o : Option F) → Climbs from now met → IsFieldOf shape base field now o → AreFieldsOf shape base field from met o
+        pub passed : (from now : R) (met : List R) (o : Option F) → Climbs from now met → IsFieldIn shape base field now o → AreFieldsOf shape base field from met o
         passed from now met o w h = record {
           is = field_same w.steps from now o w.rises h;
           each = λ k d l. (let p = w.each k d l in field_same (suc p.0) _ now o p.1 h);
@@ -173,7 +173,7 @@ module _ {N D R : Type 0} (shape : N → Shape N D R) where
             let all = passed from now met None w here in
             record {
               is = all.is;
-              each = subst (λ (rs : List R). All (λ (s : R). IsFieldOf shape base field s None) rs) (sym fresh.last) (All-push (λ (s : R). IsFieldOf shape base field s None) met now all.each here);
+              each = subst (λ (rs : List R). All (λ (s : R). IsFieldIn shape base field s None) rs) (sym fresh.last) (All-push (λ (s : R). IsFieldIn shape base field s None) met now all.each here);
             }
 
         climbs_on : (from now above : R) (met after : List R) (o : Option R) → IsNewlyMet same now met after → field now ≡ None → o ≡ Some above → IsAbove shape base now o → Climbs from now met → Climbs from above after
@@ -187,25 +187,25 @@ module _ {N D R : Type 0} (shape : N → Shape N D R) where
             }
 
         -- a search whose next record is none has come to its end
-        pub ends_here : (from now : R) (met after : List R) (v : Option (Option F)) (o : Option R) → v ≡ None → IfNone v (field now ≡ None) → o ≡ None → IsNext shape base same now met after o → Climbs from now met →
+        pub ends_here : (from now : R) (met after : List R) (v : Option (Option F)) (o : Option R) → v ≡ None → IfNone v (field now ≡ None) → o ≡ None → IsNextAbove shape base same now met after o → Climbs from now met →
             AreFieldsOf shape base field from after None
         ends_here from now met after v o unknown none is (risen fresh above) w = none_left from now met after o fresh (subst (λ (x : Option (Option F)). IfNone x (field now ≡ None)) unknown none) is above w
         ends_here from now met after v o unknown none is (came_back again e) w = met_again from now met after again w
 
         -- and goes on where there is one
-        pub goes_on : (from now above : R) (met after : List R) (v : Option (Option F)) (o : Option R) → v ≡ None → IfNone v (field now ≡ None) → o ≡ Some above → IsNext shape base same now met after o → Climbs from now met →
+        pub goes_on : (from now above : R) (met after : List R) (v : Option (Option F)) (o : Option R) → v ≡ None → IfNone v (field now ≡ None) → o ≡ Some above → IsNextAbove shape base same now met after o → Climbs from now met →
             Climbs from above after
         goes_on from now above met after v o unknown none is (risen fresh ups) w = climbs_on from now above met after o fresh (subst (λ (x : Option (Option F)). IfNone x (field now ≡ None)) unknown none) is ups w
         goes_on from now above met after v o unknown none is (came_back again e) w = absurd (let f : Some above ≡ None = sym is ∙ e in cc)
 
         -- what is known of the record at which a search stands
-        pub known_here : (from now : R) (met : List R) (v : Option (Option F)) (o : Option F) → v ≡ Some o → IfSome v (IsFieldOf shape base field now) → Climbs from now met → AreFieldsOf shape base field from met o
-        known_here from now met v o known told w = passed from now met o w (subst (λ (x : Option (Option F)). IfSome x (IsFieldOf shape base field now)) known told)
+        pub known_here : (from now : R) (met : List R) (v : Option (Option F)) (o : Option F) → v ≡ Some o → IfSome v (IsFieldIn shape base field now) → Climbs from now met → AreFieldsOf shape base field from met o
+        known_here from now met v o known told w = passed from now met o w (subst (λ (x : Option (Option F)). IfSome x (IsFieldIn shape base field now)) known told)
 
-        pub met_anew : (now : R) (met after : List R) (b : Bool) (o : Option R) → b ≡ true → IsMet same now met after b → IsAbove shape base now o → IsNext shape base same now met after o
+        pub met_anew : (now : R) (met after : List R) (b : Bool) (o : Option R) → b ≡ true → IsMet same now met after b → IsAbove shape base now o → IsNextAbove shape base same now met after o
         met_anew now met after b o is noted above = risen (subst (IsMet same now met after) is noted) above
 
-        pub met_before : (now : R) (met after : List R) (b : Bool) → b ≡ false → IsMet same now met after b → IsNext shape base same now met after None
+        pub met_before : (now : R) (met after : List R) (b : Bool) → b ≡ false → IsMet same now met after b → IsNextAbove shape base same now met after None
         met_before now met after b is noted = came_back (subst (IsMet same now met after) is noted) refl
 
   -- ---- what is kept
@@ -213,19 +213,19 @@ module _ {N D R : Type 0} (shape : N → Shape N D R) where
   module _ (base : R → Option N) {F S : Type 0} (field : R → List ℕ → Option F) (same : R → R → Bool) (apart : (r s : R) → same r s ≡ true → r ≡ s) where
     pub found_more : (old new : IndexMap (Use shape base) (Option F) S) (r : R) (name : Bor (List ℕ)) (o : Option F) → AreFound shape base field same old →
         ((u : Use shape base) → get (same_use shape base same) new u ≡ cond (same_use shape base same (r, name) u) (Some o) (get (same_use shape base same) old u)) →
-        IsFieldOf shape base (λ (s : R). field s name.now) r o → AreFound shape base field same new
+        IsFieldIn shape base (λ (s : R). field s name.now) r o → AreFound shape base field same new
     found_more old new r name o are adds is = record { each = λ u v e. at u v (same_use shape base same (r, name) u) refl (sym (adds u) ∙ e) }
       where
-        at : (u : Use shape base) (v : Option F) (b : Bool) → same_use shape base same (r, name) u ≡ b → cond b (Some o) (get (same_use shape base same) old u) ≡ Some v → IsFieldOf shape base (λ (s : R). field s u.1.now) u.0 v
+        at : (u : Use shape base) (v : Option F) (b : Bool) → same_use shape base same (r, name) u ≡ b → cond b (Some o) (get (same_use shape base same) old u) ≡ Some v → IsFieldIn shape base (λ (s : R). field s u.1.now) u.0 v
         at u v false s e = are.each u v e
         at u v true s e =
             let both = both_true (same r u.0) (bytes_eq name.now u.1.now) s in
             let one_record : r ≡ u.0 = apart r u.0 both.0 in
             let one_name : name.now ≡ u.1.now = (bytes_eq-Decides name.now u.1.now).0 both.1 in
             let one : o ≡ v = cc in
-            subst (λ (x : Option F). IsFieldOf shape base (λ (t : R). field t u.1.now) u.0 x) one
-            (subst (λ (x : R). IsFieldOf shape base (λ (t : R). field t u.1.now) x o) one_record
-            (subst (λ (x : List ℕ). IsFieldOf shape base (λ (t : R). field t x) r o) one_name is))
+            subst (λ (x : Option F). IsFieldIn shape base (λ (t : R). field t u.1.now) u.0 x) one
+            (subst (λ (x : R). IsFieldIn shape base (λ (t : R). field t u.1.now) x o) one_record
+            (subst (λ (x : List ℕ). IsFieldIn shape base (λ (t : R). field t x) r o) one_name is))
 
     pub found_all : (old new : IndexMap (Use shape base) (Option F) S) → new.entries ≡ old.entries → AreFound shape base field same old → AreFound shape base field same new
     found_all old new e are = record { each = λ u o is. are.each u o (sym (ap (lookup (same_use shape base same u)) e) ∙ is) }
@@ -235,6 +235,6 @@ module _ {N D R : Type 0} (shape : N → Shape N D R) where
 
     -- what is told of a record by what is kept
     pub kept_is : (found : IndexMap (Use shape base) (Option F) S) (now : R) (name : Bor (List ℕ)) (v : Option (Bor (Option F))) → AreFound shape base field same found → option_copied v ≡ get (same_use shape base same) found (now, name) →
-        IfSome (option_copied v) (IsFieldOf shape base (λ (r : R). field r name.now) now)
+        IfSome (option_copied v) (IsFieldIn shape base (λ (r : R). field r name.now) now)
     kept_is found now name None are e = tt
     kept_is found now name (Some o) are e = are.each (now, name) o.now (sym e)

@@ -7,22 +7,22 @@ use Rattle.std.proofs.lemmas.List.Folds.{Any-from_list_any}
 use Rattle.indexmap.specs.IndexMap.{get, IndexMap}
 use Rattle.type_search.specs.declared.shape.Shape.{Shape}
 use Rattle.type_search.specs.declared.shape.Shape.TheVariants as shapes
-use Rattle.type_search.specs.Leading.{next_of, ends, on, AreEnded, AreEnds, IsEnd, IsEndOf, Leads, LeadsTo}
+use Rattle.type_search.specs.Leading.{next_of, ends, on, AreEnded, AreTypeEnds, IsTypeEnd, IsTypeEndOf, TypeLeads, TypeLeadsTo}
 use Rattle.type_search.specs.Searches.{IsMet, IsMetAgain, IsNewlyMet}
 
 module _ {N D R : Type 0} (shape : N → Shape N D R) (pointers : Bool) where
   -- a type leads to one, in one number of steps
-  pub leads_once : (j k : ℕ) (n x y : N) → Leads shape pointers j n x → Leads shape pointers k n y → (j ≡ k) × (x ≡ y)
+  pub leads_once : (j k : ℕ) (n x y : N) → TypeLeads shape pointers j n x → TypeLeads shape pointers k n y → (j ≡ k) × (x ≡ y)
   leads_once j k n x y (ends e) (ends f) = (refl, refl)
   leads_once j k n x y (ends e) (on {m = m} f q) = absurd (let g : None ≡ Some m = sym e ∙ f in cc)
   leads_once j k n x y (on {m = m} e p) (ends f) = absurd (let g : None ≡ Some m = sym f ∙ e in cc)
   leads_once j k n x y (on {k = i} {m = u} e p) (on {k = l} {m = v} f q) =
       let g : Some u ≡ Some v = sym e ∙ f in
       let h : u ≡ v = cc in
-      let r = leads_once i l u x y p (subst (λ (w : N). Leads shape pointers l w y) (sym h) q) in
+      let r = leads_once i l u x y p (subst (λ (w : N). TypeLeads shape pointers l w y) (sym h) q) in
       (ap suc r.0, r.1)
 
-  pub leads_to_once : (n x y : N) → LeadsTo shape pointers n x → LeadsTo shape pointers n y → x ≡ y
+  pub leads_to_once : (n x y : N) → TypeLeadsTo shape pointers n x → TypeLeadsTo shape pointers n y → x ≡ y
   leads_to_once n x y p q = (leads_once p.steps q.steps n x y p.leads q.leads).1
 
   -- so many steps from one type to another
@@ -31,24 +31,24 @@ module _ {N D R : Type 0} (shape : N → Shape N D R) (pointers : Bool) where
     more : {k : ℕ} {n m last : N} → Passes k n m → next_of pointers (shape m) ≡ Some last → Passes (suc k) n last
 
   -- what the last leads to the first leads to
-  back : (s k : ℕ) (n m last : N) → Passes s n m → Leads shape pointers k m last → LeadsTo shape pointers n last
+  back : (s k : ℕ) (n m last : N) → Passes s n m → TypeLeads shape pointers k m last → TypeLeadsTo shape pointers n last
   back s k n m last none l = record { steps = k; leads = l }
   back s k n m last (more {k = j} {m = x} p e) l = back j (suc k) n x last p (on e l)
 
   -- and the other way round, in so many steps fewer
   pub record Rest (s k : ℕ) (m last : N) : Type 0 where
     pub steps : ℕ
-    pub leads : Leads shape pointers steps m last
+    pub leads : TypeLeads shape pointers steps m last
     pub fewer : steps + s ≡ k
 
-  rest_of : (j k : ℕ) (x m last : N) → next_of pointers (shape x) ≡ Some m → Leads shape pointers k x last → Rest 1 k m last
+  rest_of : (j k : ℕ) (x m last : N) → next_of pointers (shape x) ≡ Some m → TypeLeads shape pointers k x last → Rest 1 k m last
   rest_of j k x m last e (ends f) = absurd (let g : None ≡ Some m = sym f ∙ e in cc)
   rest_of j k x m last e (on {k = i} {m = y} f l) =
       let g : Some y ≡ Some m = sym f ∙ e in
       let h : y ≡ m = cc in
-      record { steps = i; leads = subst (λ (w : N). Leads shape pointers i w last) h l; fewer = omega arith }
+      record { steps = i; leads = subst (λ (w : N). TypeLeads shape pointers i w last) h l; fewer = omega arith }
 
-  pub forth : (s k : ℕ) (n m last : N) → Passes s n m → Leads shape pointers k n last → Rest s k m last
+  pub forth : (s k : ℕ) (n m last : N) → Passes s n m → TypeLeads shape pointers k n last → Rest s k m last
   forth s k n m last none l = record { steps = k; leads = l; fewer = omega arith }
   forth s k n m last (more {k = j} {m = x} p e) l =
       let f = forth j k n x last p l in
@@ -58,21 +58,21 @@ module _ {N D R : Type 0} (shape : N → Shape N D R) (pointers : Bool) where
       record { steps = g.steps; leads = g.leads; fewer = omega (arith, a, b) }
 
   -- a type that comes back to itself leads to none
-  round : (s : ℕ) (n last : N) → Passes (suc s) n n → LeadsTo shape pointers n last → ⊥
+  round : (s : ℕ) (n last : N) → Passes (suc s) n n → TypeLeadsTo shape pointers n last → ⊥
   round s n last p l =
       let r = forth (suc s) l.steps n n last p l.leads in
       let a : r.steps + suc s ≡ l.steps = r.fewer in
       let b : r.steps ≡ l.steps = (leads_once r.steps l.steps n last last r.leads l.leads).0 in
       omega (arith, a, b)
 
-  pub round_end : (s : ℕ) (n : N) → Passes (suc s) n n → IsEnd shape pointers n None
+  pub round_end : (s : ℕ) (n : N) → Passes (suc s) n n → IsTypeEnd shape pointers n None
   round_end s n p = record { some = tt; none = λ last l. round s n last p l }
 
-  pub here_end : (n : N) → next_of pointers (shape n) ≡ None → IsEnd shape pointers n (Some n)
+  pub here_end : (n : N) → next_of pointers (shape n) ≡ None → IsTypeEnd shape pointers n (Some n)
   here_end n e = record { some = record { steps = zero; leads = ends e }; none = tt }
 
   -- the end of a type to which this one leads is its end
-  pub same_end : (s : ℕ) (n m : N) (end : Option N) → Passes s n m → IsEnd shape pointers m end → IsEnd shape pointers n end
+  pub same_end : (s : ℕ) (n m : N) (end : Option N) → Passes s n m → IsTypeEnd shape pointers m end → IsTypeEnd shape pointers n end
   same_end s n m (Some last) p e = record { some = back s e.some.steps n m last p e.some.leads; none = tt }
   same_end s n m None p e = record { some = tt; none = λ last l. (let r = forth s l.steps n m last p l.leads in e.none last (record { steps = r.steps; leads = r.leads })) }
 
@@ -113,13 +113,13 @@ module _ {N D R : Type 0} (shape : N → Shape N D R) (pointers : Bool) where
           each = subst (λ (ds : List D). All (IsPassed next) ds) (sym fresh.last) (All-push (IsPassed next) met d (λ k c l. passed_on node next led _ (w.each k c l)) here);
         }
 
-    passed_ends : (node : N) (end : Option N) → IsEnd shape pointers node end → (d : D) → IsPassed node d → IsEndOf shape pointers same end d
+    passed_ends : (node : N) (end : Option N) → IsTypeEnd shape pointers node end → (d : D) → IsPassed node d → IsTypeEndOf shape pointers same end d
     passed_ends node end e d p c n m is_same is =
         let one : p.next ≡ m = named p.of n p.next m d c p.is is is_same in
-        subst (λ (x : N). IsEnd shape pointers x end) one (same_end p.steps p.next node end p.passes e)
+        subst (λ (x : N). IsTypeEnd shape pointers x end) one (same_end p.steps p.next node end p.passes e)
 
     -- where the last leads all lead that were passed
-    pub ended : (from node : N) (met : List D) (end : Option N) → Walks from node met → IsEnd shape pointers node end → AreEnded shape pointers same from met end
+    pub ended : (from node : N) (met : List D) (end : Option N) → Walks from node met → IsTypeEnd shape pointers node end → AreEnded shape pointers same from met end
     ended from node met end w e = record { is = same_end w.steps from node end w.passes e; each = λ k d l. passed_ends node end e _ (w.each k d l) }
 
     -- a type that leads no further
@@ -127,7 +127,7 @@ module _ {N D R : Type 0} (shape : N → Shape N D R) (pointers : Bool) where
     ended_here from node met e w = ended from node met (Some node) w (here_end node e)
 
     -- a name whose declaration is kept
-    pub ended_kept : {S : Type 0} (kept : IndexMap D (Option N) S) (from node next : N) (met : List D) (d : D) (end : Option N) → AreEnds shape pointers same kept → shape node ≡ shapes.Named d next →
+    pub ended_kept : {S : Type 0} (kept : IndexMap D (Option N) S) (from node next : N) (met : List D) (d : D) (end : Option N) → AreTypeEnds shape pointers same kept → shape node ≡ shapes.Named d next →
         get same kept d ≡ Some end → Walks from node met → AreEnded shape pointers same from met end
     ended_kept kept from node next met d end are e is w =
         ended from node met end w (same_end 1 node next end (more none (ap (next_of pointers) e)) (are.each d end is node next e))
@@ -145,19 +145,19 @@ module _ {N D R : Type 0} (shape : N → Shape N D R) (pointers : Bool) where
         (ended from node met None w (same_end 1 node next None (more none led) (round_end p.steps next goes_round)))
 
   -- one declaration more is kept
-  pub keeps_more : {S : Type 0} (same : D → D → Bool) (old new : IndexMap D (Option N) S) (d : D) (end : Option N) → AreEnds shape pointers same old →
-      ((c : D) → get same new c ≡ cond (same d c) (Some end) (get same old c)) → IsEndOf shape pointers same end d → AreEnds shape pointers same new
+  pub keeps_more : {S : Type 0} (same : D → D → Bool) (old new : IndexMap D (Option N) S) (d : D) (end : Option N) → AreTypeEnds shape pointers same old →
+      ((c : D) → get same new c ≡ cond (same d c) (Some end) (get same old c)) → IsTypeEndOf shape pointers same end d → AreTypeEnds shape pointers same new
   keeps_more same old new d end are adds is = record { each = λ c kept e. at c kept (same d c) refl (sym (adds c) ∙ e) }
     where
-      at : (c : D) (kept : Option N) (b : Bool) → same d c ≡ b → cond b (Some end) (get same old c) ≡ Some kept → (n m : N) → shape n ≡ shapes.Named c m → IsEnd shape pointers m kept
+      at : (c : D) (kept : Option N) (b : Bool) → same d c ≡ b → cond b (Some end) (get same old c) ≡ Some kept → (n m : N) → shape n ≡ shapes.Named c m → IsTypeEnd shape pointers m kept
       at c kept false s e n m h = are.each c kept e n m h
-      at c kept true s e n m h = let one : end ≡ kept = cc in subst (λ (o : Option N). IsEnd shape pointers m o) one (is c n m s h)
+      at c kept true s e n m h = let one : end ≡ kept = cc in subst (λ (o : Option N). IsTypeEnd shape pointers m o) one (is c n m s h)
 
   -- what is kept stays kept, and at first nothing is
-  pub keeps_all : {S : Type 0} (same : D → D → Bool) (old new : IndexMap D (Option N) S) → new.entries ≡ old.entries → AreEnds shape pointers same old → AreEnds shape pointers same new
+  pub keeps_all : {S : Type 0} (same : D → D → Bool) (old new : IndexMap D (Option N) S) → new.entries ≡ old.entries → AreTypeEnds shape pointers same old → AreTypeEnds shape pointers same new
   keeps_all same old new e are = record { each = λ d end is. are.each d end (sym (ap (lookup (same d)) e) ∙ is) }
 
-  pub keeps_none : {S : Type 0} (same : D → D → Bool) (kept : IndexMap D (Option N) S) → kept.entries ≡ [] → AreEnds shape pointers same kept
+  pub keeps_none : {S : Type 0} (same : D → D → Bool) (kept : IndexMap D (Option N) S) → kept.entries ≡ [] → AreTypeEnds shape pointers same kept
   keeps_none same kept e = record { each = λ d end is. absurd (let f : None ≡ Some end = sym (ap (lookup (same d)) e) ∙ is in cc) }
 
 -- one of these four shapes leads no further

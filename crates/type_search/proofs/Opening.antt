@@ -3,8 +3,8 @@ use Rattle.std.proofs.Common.{◌≡◌, zero, suc, List, [], ◌∷◌, ◌++�
 use Rattle.type_search.specs.declared.shape.Shape.{Shape}
 use Rattle.type_search.specs.declared.shape.Shape.TheVariants as shapes
 use Rattle.type_search.specs.Searches.{element_of, target_of, HasElement, HasTarget, IsPlain, Opens, OpensTo, plain, through, Finds, own, pointed, inherited}
-use Rattle.type_search.specs.Leading.{next_of, ends, on, LeadsTo}
-use Rattle.type_search.specs.Extending.{record_in, IsOf, own_field, base_field, HasField}
+use Rattle.type_search.specs.Leading.{next_of, ends, on, TypeLeadsTo}
+use Rattle.type_search.specs.Extending.{shape_record, LeadsToRecord, own_field, base_field, HasField}
 use Rattle.type_search.proofs.Leading.{leads_to_once}
 
 module _ {N D R : Type 0} (same : D → D → Bool) (shape : N → Shape N D R) where
@@ -17,7 +17,7 @@ module _ {N D R : Type 0} (same : D → D → Bool) (shape : N → Shape N D R) 
   leads_plain false (shapes.Named d n) e p = absurd p
   leads_plain false shapes.Unknown e p = absurd p
 
-  pub opens_leads : (met after : List D) (n m : N) → Opens same shape met n after m → LeadsTo shape false n m
+  pub opens_leads : (met after : List D) (n m : N) → Opens same shape met n after m → TypeLeadsTo shape false n m
   opens_leads met after n m (plain p) = record { steps = zero; leads = ends (leads_plain false (shape n) refl p) }
   opens_leads met after n m (through {m = x} {d = d} e new rest) =
       let r = opens_leads (met ++ d ∷ []) after x m rest in
@@ -50,23 +50,23 @@ module _ {N D R : Type 0} (same : D → D → Bool) (shape : N → Shape N D R) 
     -- a type leads to a record that has the field
     pub record IsFieldAt (n : N) (f : F) : Type 0 where
       pub of : R
-      pub is_of : IsOf shape n of
+      pub is_of : LeadsToRecord shape n of
       pub has : HasField shape base field of f
 
-    opens_of : (met after : List D) (n m : N) (r : R) → Opens same shape met n after m → IsOf shape m r → IsOf shape n r
+    opens_of : (met after : List D) (n m : N) (r : R) → Opens same shape met n after m → LeadsToRecord shape m r → LeadsToRecord shape n r
     opens_of met after n m r (plain p) h = h
     opens_of met after n m r (through {m = x} {d = d} e new rest) h =
         let t = opens_of (met ++ d ∷ []) after x m r rest h in
         record { at = t.at; leads = record { steps = suc t.leads.steps; leads = on (ap (next_of true) e) t.leads.leads }; is = t.is }
 
-    record_of_itself : (m : N) (r : R) → shape m ≡ shapes.Record r → IsOf shape m r
-    record_of_itself m r e = record { at = m; leads = record { steps = zero; leads = ends (ap (next_of true) e) }; is = ap record_in e }
+    record_of_itself : (m : N) (r : R) → shape m ≡ shapes.Record r → LeadsToRecord shape m r
+    record_of_itself m r e = record { at = m; leads = record { steps = zero; leads = ends (ap (next_of true) e) }; is = ap shape_record e }
 
     pub field_found : (met : List D) (n : N) (f : F) → Finds same shape field base met n f → IsFieldAt n f
     field_found met n f (own {after = a} {m = m} {r = r} o e p) = record { of = r; is_of = opens_of met a n m r o (record_of_itself m r e); has = record { bases = zero; has = own_field p } }
     field_found met n f (pointed {after = a} {m = m} {next = x} o e rest) =
         let h = field_found a x f rest in
-        let at_pointer : IsOf shape m h.of = record { at = h.is_of.at; leads = record { steps = suc h.is_of.leads.steps; leads = on (ap (next_of true) e) h.is_of.leads.leads }; is = h.is_of.is } in
+        let at_pointer : LeadsToRecord shape m h.of = record { at = h.is_of.at; leads = record { steps = suc h.is_of.leads.steps; leads = on (ap (next_of true) e) h.is_of.leads.leads }; is = h.is_of.is } in
         record { of = h.of; is_of = opens_of met a n m h.of o at_pointer; has = h.has }
     field_found met n f (inherited {after = a} {m = m} {next = x} {r = r} o e p b rest) =
         let h = field_found a x f rest in

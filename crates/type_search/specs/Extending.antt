@@ -6,44 +6,44 @@ use Rattle.std.specs.Str.{bytes_eq}
 use Rattle.indexmap.specs.IndexMap.{get, IndexMap}
 use Rattle.type_search.specs.declared.shape.Shape.{Shape}
 use Rattle.type_search.specs.declared.shape.Shape.TheVariants as shapes
-use Rattle.type_search.specs.Leading.{LeadsTo}
+use Rattle.type_search.specs.Leading.{TypeLeadsTo}
 use Rattle.type_search.specs.Searches.{IsMetAgain, IsNewlyMet}
 
 -- the record that a type is
-abbrev pub record_in : {N D R : Type 0} → Shape N D R → Option R
-record_in (shapes.Array n) = None
-record_in (shapes.Pointer n) = None
-record_in (shapes.Record r) = Some r
-record_in shapes.Procedure = None
-record_in (shapes.Named d n) = None
-record_in shapes.Unknown = None
+abbrev pub shape_record : {N D R : Type 0} → Shape N D R → Option R
+shape_record (shapes.Array n) = None
+shape_record (shapes.Pointer n) = None
+shape_record (shapes.Record r) = Some r
+shape_record shapes.Procedure = None
+shape_record (shapes.Named d n) = None
+shape_record shapes.Unknown = None
 
 module _ {N D R : Type 0} (shape : N → Shape N D R) where
   -- a type leads to a record by names and pointers
-  pub record IsOf (n : N) (r : R) : Type 0 where
+  pub record LeadsToRecord (n : N) (r : R) : Type 0 where
     pub at : N
-    pub leads : LeadsTo shape true n at
-    pub is : record_in (shape at) ≡ Some r
+    pub leads : TypeLeadsTo shape true n at
+    pub is : shape_record (shape at) ≡ Some r
 
   pub record IsRecordOf (n : N) (o : Option R) : Type 0 where
-    pub some : IfSome o (IsOf n)
-    pub none : IfNone o ((r : R) → IsOf n r → ⊥)
+    pub some : IfSome o (LeadsToRecord n)
+    pub none : IfNone o ((r : R) → LeadsToRecord n r → ⊥)
 
   module _ (base : R → Option N) where
     -- a record's base leads to another
     pub record Extends (r above : R) : Type 0 where
       pub by : N
       pub is_base : base r ≡ Some by
-      pub is_of : IsOf by above
+      pub is_of : LeadsToRecord by above
 
     pub record IsAbove (r : R) (o : Option R) : Type 0 where
       pub some : IfSome o (Extends r)
       pub none : IfNone o ((above : R) → Extends r above → ⊥)
 
     -- a record is met for the first time, and this is above it, if any; or it was met before, and there is none
-    pub data IsNext (same : R → R → Bool) (r : R) (before after : List R) (o : Option R) : Type 0 where
-      risen : IsNewlyMet same r before after → IsAbove r o → IsNext same r before after o
-      came_back : IsMetAgain same r before after → o ≡ None → IsNext same r before after o
+    pub data IsNextAbove (same : R → R → Bool) (r : R) (before after : List R) (o : Option R) : Type 0 where
+      risen : IsNewlyMet same r before after → IsAbove r o → IsNextAbove same r before after o
+      came_back : IsMetAgain same r before after → o ≡ None → IsNextAbove same r before after o
 
     module _ {F : Type 0} (field : R → Option F) where
       -- the field that a name means in a record: its own, or else that of its base, so many bases up
@@ -55,14 +55,14 @@ module _ {N D R : Type 0} (shape : N → Shape N D R) where
         pub bases : ℕ
         pub has : Has bases r f
 
-      pub record IsFieldOf (r : R) (o : Option F) : Type 0 where
+      pub record IsFieldIn (r : R) (o : Option F) : Type 0 where
         pub some : IfSome o (HasField r)
         pub none : IfNone o ((f : F) → HasField r f → ⊥)
 
       -- what a name means in a record it means in these
       pub record AreFieldsOf (r : R) (met : List R) (o : Option F) : Type 0 where
-        pub is : IsFieldOf r o
-        pub each : All (λ (s : R). IsFieldOf s o) met
+        pub is : IsFieldIn r o
+        pub each : All (λ (s : R). IsFieldIn s o) met
 
     -- a record and a name in it
     abbrev pub Use : Type 0
@@ -73,4 +73,4 @@ module _ {N D R : Type 0} (shape : N → Shape N D R) where
 
     -- what is kept of records and names is what the names mean there
     pub record AreFound {F S : Type 0} (field : R → List ℕ → Option F) (same : R → R → Bool) (found : IndexMap Use (Option F) S) : Type 0 where
-      pub each : (u : Use) (o : Option F) → get (same_use same) found u ≡ Some o → IsFieldOf (λ (r : R). field r u.1.now) u.0 o
+      pub each : (u : Use) (o : Option F) → get (same_use same) found u ≡ Some o → IsFieldIn (λ (r : R). field r u.1.now) u.0 o

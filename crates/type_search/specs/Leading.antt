@@ -16,29 +16,29 @@ next_of pointers shapes.Unknown = None
 
 module _ {N D R : Type 0} (shape : N → Shape N D R) (pointers : Bool) where
   -- in so many steps from a type to one that leads no further
-  pub data Leads : ℕ → N → N → Type 0 where
-    ends : {n : N} → next_of pointers (shape n) ≡ None → Leads zero n n
-    on : {k : ℕ} {n m last : N} → next_of pointers (shape n) ≡ Some m → Leads k m last → Leads (suc k) n last
+  pub data TypeLeads : ℕ → N → N → Type 0 where
+    ends : {n : N} → next_of pointers (shape n) ≡ None → TypeLeads zero n n
+    on : {k : ℕ} {n m last : N} → next_of pointers (shape n) ≡ Some m → TypeLeads k m last → TypeLeads (suc k) n last
 
-  pub record LeadsTo (n last : N) : Type 0 where
+  pub record TypeLeadsTo (n last : N) : Type 0 where
     pub steps : ℕ
-    pub leads : Leads steps n last
+    pub leads : TypeLeads steps n last
 
   -- the type to which a type leads, or none where it comes back to itself
-  pub record IsEnd (n : N) (end : Option N) : Type 0 where
-    pub some : IfSome end (LeadsTo n)
-    pub none : IfNone end ((last : N) → LeadsTo n last → ⊥)
+  pub record IsTypeEnd (n : N) (end : Option N) : Type 0 where
+    pub some : IfSome end (TypeLeadsTo n)
+    pub none : IfNone end ((last : N) → TypeLeadsTo n last → ⊥)
 
   module _ (same : D → D → Bool) where
     -- the same of the type that the name of a declaration gives, told by any that is equal to it
-    abbrev pub IsEndOf : Option N → D → Type 0
-    IsEndOf end d = (c : D) (n m : N) → same d c ≡ true → shape n ≡ shapes.Named c m → IsEnd m end
+    abbrev pub IsTypeEndOf : Option N → D → Type 0
+    IsTypeEndOf end d = (c : D) (n m : N) → same d c ≡ true → shape n ≡ shapes.Named c m → IsTypeEnd m end
 
     -- where a type leads all declarations lead that were met on the way
     pub record AreEnded (n : N) (met : List D) (end : Option N) : Type 0 where
-      pub is : IsEnd n end
-      pub each : All (IsEndOf end) met
+      pub is : IsTypeEnd n end
+      pub each : All (IsTypeEndOf end) met
 
     -- what is kept of declarations is where they lead
-    pub record AreEnds {S : Type 0} (kept : IndexMap D (Option N) S) : Type 0 where
-      pub each : (d : D) (end : Option N) → get same kept d ≡ Some end → (n m : N) → shape n ≡ shapes.Named d m → IsEnd m end
+    pub record AreTypeEnds {S : Type 0} (kept : IndexMap D (Option N) S) : Type 0 where
+      pub each : (d : D) (end : Option N) → get same kept d ≡ Some end → (n m : N) → shape n ≡ shapes.Named d m → IsTypeEnd m end

@@ -1,7 +1,7 @@
 //! Where types lead, kept for the searches that follow.
 ghost use Rattle.std.specs.Prelude.{◌≡◌, [], IfOk};
 ghost use Rattle.std.specs.List.{All};
-ghost use Rattle.type_search.specs.Leading.{AreEnded, AreEnds, IsEnd, IsEndOf};
+ghost use Rattle.type_search.specs.Leading.{AreEnded, AreTypeEnds, IsTypeEnd, IsTypeEndOf};
 
 use crate::graph::TypeGraph;
 use crate::meet::meet;
@@ -18,7 +18,7 @@ fn walk<G: TypeGraph>(
     met: &mut IndexSet<G::Declaration>,
     from: G::Node,
 ) -> Result<Option<G::Node>, AllocError>
-    requires kept { AreEnds (G.shape graph.now) pointers G.Declaration.eq kept.now }
+    requires kept { AreTypeEnds (G.shape graph.now) pointers G.Declaration.eq kept.now }
     requires none_met { met.old.keys ≡ [] }
     ensures { IfOk result (AreEnded (G.shape graph.now) pointers G.Declaration.eq from met.new.keys) }
 {
@@ -55,9 +55,9 @@ fn keep<G: TypeGraph>(
     met: &[G::Declaration],
     end: Option<G::Node>,
 ) -> Result<(), AllocError>
-    requires kept { AreEnds (G.shape graph.now) pointers G.Declaration.eq kept.old }
-    requires met { All (IsEndOf (G.shape graph.now) pointers G.Declaration.eq end) met.now }
-    ensures { AreEnds (G.shape graph.now) pointers G.Declaration.eq kept.new }
+    requires kept { AreTypeEnds (G.shape graph.now) pointers G.Declaration.eq kept.old }
+    requires met { All (IsTypeEndOf (G.shape graph.now) pointers G.Declaration.eq end) met.now }
+    ensures { AreTypeEnds (G.shape graph.now) pointers G.Declaration.eq kept.new }
 {
     for declaration in met {
         kept.insert(*declaration, end)?;
@@ -73,10 +73,10 @@ fn end_met<G: TypeGraph>(
     met: &mut IndexSet<G::Declaration>,
     from: G::Node,
 ) -> Result<Option<G::Node>, AllocError>
-    requires kept { AreEnds (G.shape graph.now) pointers G.Declaration.eq kept.old }
+    requires kept { AreTypeEnds (G.shape graph.now) pointers G.Declaration.eq kept.old }
     requires none_met { met.old.keys ≡ [] }
-    ensures kept { AreEnds (G.shape graph.now) pointers G.Declaration.eq kept.new }
-    ensures end { IfOk result (IsEnd (G.shape graph.now) pointers from) }
+    ensures kept { AreTypeEnds (G.shape graph.now) pointers G.Declaration.eq kept.new }
+    ensures end { IfOk result (IsTypeEnd (G.shape graph.now) pointers from) }
 {
     let end = walk(graph, pointers, kept, met, from)?;
     keep(graph, pointers, kept, met.as_slice(), end)?;
@@ -90,9 +90,9 @@ pub(crate) fn end_of<G: TypeGraph>(
     kept: &mut IndexMap<G::Declaration, Option<G::Node>>,
     from: G::Node,
 ) -> Result<Option<G::Node>, AllocError>
-    requires { AreEnds (G.shape graph.now) pointers G.Declaration.eq kept.old }
-    ensures kept { AreEnds (G.shape graph.now) pointers G.Declaration.eq kept.new }
-    ensures end { IfOk result (IsEnd (G.shape graph.now) pointers from) }
+    requires { AreTypeEnds (G.shape graph.now) pointers G.Declaration.eq kept.old }
+    ensures kept { AreTypeEnds (G.shape graph.now) pointers G.Declaration.eq kept.new }
+    ensures end { IfOk result (IsTypeEnd (G.shape graph.now) pointers from) }
 {
     let mut met = IndexSet::new(*kept.allocator());
     end_met(graph, pointers, kept, &mut met, from)

@@ -25,13 +25,13 @@ pub struct Finder<'a, G: TypeGraph> {
 impl<'a, G: TypeGraph> Model for Finder<'a, G> {
     ghost use Rattle.std.specs.Prelude.{false, true};
     ghost use Rattle.type_search.specs.Extending.{AreFound};
-    ghost use Rattle.type_search.specs.Leading.{AreEnds};
+    ghost use Rattle.type_search.specs.Leading.{AreTypeEnds};
 
     ghost Value = { G };
 
     ghost view = { λ f. f.graph.now };
 
-    ghost invariant = { λ f. AreEnds (G.shape f.graph.now) false G.Declaration.eq f.by_names × AreEnds (G.shape f.graph.now) true G.Declaration.eq f.by_pointers × AreFound (G.shape f.graph.now) (G.base_of f.graph.now) (G.field_of f.graph.now) G.Record.eq f.found };
+    ghost invariant = { λ f. AreTypeEnds (G.shape f.graph.now) false G.Declaration.eq f.by_names × AreTypeEnds (G.shape f.graph.now) true G.Declaration.eq f.by_pointers × AreFound (G.shape f.graph.now) (G.base_of f.graph.now) (G.field_of f.graph.now) G.Record.eq f.found };
 }
 
 impl<'a, G: TypeGraph> Finder<'a, G> {

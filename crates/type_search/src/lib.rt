@@ -1,7 +1,7 @@
 //! Types followed through their names, over any graph of types.
-//! Stands on std, and on `indexmap` for the declarations that a search has met.
+//! Stands on std, and on `indexmap` for what searches meet and keep.
 //! Its contract: a step answers exactly the type or the field that the rules of look-up give, and none where they give none, also where
-//! names come back to one another. No search costs more than the names that it passes, each one look-up.
+//! names come back to one another. What a search comes to is kept for those that follow.
 #![tactic(auto)]
 
 mod ends;

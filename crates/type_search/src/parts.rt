@@ -1,6 +1,6 @@
 //! The elements of arrays and the targets of pointers.
 ghost use Rattle.std.specs.Prelude.{◌≡◌, false, IfOk, IfSome, IfNone};
-ghost use Rattle.type_search.specs.Leading.{AreEnds};
+ghost use Rattle.type_search.specs.Leading.{AreTypeEnds};
 ghost use Rattle.type_search.specs.Searches.{element_of, target_of, HasElement, HasTarget};
 
 use crate::ends::end_of;
@@ -43,8 +43,8 @@ pub(crate) fn element_in<G: TypeGraph>(
     kept: &mut IndexMap<G::Declaration, Option<G::Node>>,
     from: G::Node,
 ) -> Result<Option<G::Node>, AllocError>
-    requires { AreEnds (G.shape graph.now) false G.Declaration.eq kept.old }
-    ensures kept { AreEnds (G.shape graph.now) false G.Declaration.eq kept.new }
+    requires { AreTypeEnds (G.shape graph.now) false G.Declaration.eq kept.old }
+    ensures kept { AreTypeEnds (G.shape graph.now) false G.Declaration.eq kept.new }
     ensures found { IfOk result (λ o. IfSome o (HasElement G.Declaration.eq (G.shape graph.now) from)) }
     ensures none { IfOk result (λ o. IfNone o ((n : G.Node) → HasElement G.Declaration.eq (G.shape graph.now) from n → ⊥)) }
 {
@@ -60,8 +60,8 @@ pub(crate) fn target_in<G: TypeGraph>(
     kept: &mut IndexMap<G::Declaration, Option<G::Node>>,
     from: G::Node,
 ) -> Result<Option<G::Node>, AllocError>
-    requires { AreEnds (G.shape graph.now) false G.Declaration.eq kept.old }
-    ensures kept { AreEnds (G.shape graph.now) false G.Declaration.eq kept.new }
+    requires { AreTypeEnds (G.shape graph.now) false G.Declaration.eq kept.old }
+    ensures kept { AreTypeEnds (G.shape graph.now) false G.Declaration.eq kept.new }
     ensures found { IfOk result (λ o. IfSome o (HasTarget G.Declaration.eq (G.shape graph.now) from)) }
     ensures none { IfOk result (λ o. IfNone o ((n : G.Node) → HasTarget G.Declaration.eq (G.shape graph.now) from n → ⊥)) }
 {

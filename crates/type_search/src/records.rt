@@ -1,8 +1,8 @@
 //! Records to which types lead, and their fields.
 ghost use Rattle.std.specs.Prelude.{◌≡◌, [], IfOk, IfSome, IfNone, None, true};
 ghost use Rattle.std.specs.List.{All};
-ghost use Rattle.type_search.specs.Extending.{record_in, AreFieldsOf, AreFound, IsAbove, IsFieldOf, IsNext, IsRecordOf};
-ghost use Rattle.type_search.specs.Leading.{AreEnds};
+ghost use Rattle.type_search.specs.Extending.{shape_record, AreFieldsOf, AreFound, IsAbove, IsFieldIn, IsNextAbove, IsRecordOf};
+ghost use Rattle.type_search.specs.Leading.{AreTypeEnds};
 ghost use Rattle.type_search.specs.Searches.{Finds};
 
 use crate::ends::end_of;
@@ -13,8 +13,8 @@ use indexmap::{IndexMap, IndexSet};
 use std::alloc::AllocError;
 
 /// The record that a type is.
-fn record_in<N: Copy + Drop, D: Copy + Drop, R: Copy + Drop>(shape: Shape<N, D, R>) -> Option<R>
-    ensures { result ≡ record_in shape }
+fn shape_record<N: Copy + Drop, D: Copy + Drop, R: Copy + Drop>(shape: Shape<N, D, R>) -> Option<R>
+    ensures { result ≡ shape_record shape }
 {
     match shape {
         Shape::Record(record) => Some(record),
@@ -32,13 +32,13 @@ fn record_of<G: TypeGraph>(
     kept: &mut IndexMap<G::Declaration, Option<G::Node>>,
     from: G::Node,
 ) -> Result<Option<G::Record>, AllocError>
-    requires { AreEnds (G.shape graph.now) true G.Declaration.eq kept.old }
-    ensures kept { AreEnds (G.shape graph.now) true G.Declaration.eq kept.new }
+    requires { AreTypeEnds (G.shape graph.now) true G.Declaration.eq kept.old }
+    ensures kept { AreTypeEnds (G.shape graph.now) true G.Declaration.eq kept.new }
     ensures is { IfOk result (IsRecordOf (G.shape graph.now) from) }
 {
     match end_of(graph, true, kept, from)? {
         None => Ok(None),
-        Some(node) => Ok(record_in(graph.shape(node))),
+        Some(node) => Ok(shape_record(graph.shape(node))),
     }
 }
 
@@ -48,8 +48,8 @@ fn record_above<G: TypeGraph>(
     kept: &mut IndexMap<G::Declaration, Option<G::Node>>,
     record: G::Record,
 ) -> Result<Option<G::Record>, AllocError>
-    requires { AreEnds (G.shape graph.now) true G.Declaration.eq kept.old }
-    ensures kept { AreEnds (G.shape graph.now) true G.Declaration.eq kept.new }
+    requires { AreTypeEnds (G.shape graph.now) true G.Declaration.eq kept.old }
+    ensures kept { AreTypeEnds (G.shape graph.now) true G.Declaration.eq kept.new }
     ensures is { IfOk result (IsAbove (G.shape graph.now) (G.base_of graph.now) «record») }
 {
     match graph.base(record) {
@@ -66,7 +66,7 @@ fn field_here<'a, G: TypeGraph>(
     name: &'a [u8],
 ) -> Option<Option<G::Field>>
     requires { AreFound (G.shape graph.now) (G.base_of graph.now) (G.field_of graph.now) G.Record.eq found.now }
-    ensures some { IfSome result (IsFieldOf (G.shape graph.now) (G.base_of graph.now) (λ r. G.field_of graph.now r name.now) «record») }
+    ensures some { IfSome result (IsFieldIn (G.shape graph.now) (G.base_of graph.now) (λ r. G.field_of graph.now r name.now) «record») }
     ensures none { IfNone result (G.field_of graph.now «record» name.now ≡ None) }
 {
     match graph.field(record, name) {
@@ -82,9 +82,9 @@ fn climb<G: TypeGraph>(
     met: &mut IndexSet<G::Record>,
     record: G::Record,
 ) -> Result<Option<G::Record>, AllocError>
-    requires { AreEnds (G.shape graph.now) true G.Declaration.eq kept.old }
-    ensures kept { AreEnds (G.shape graph.now) true G.Declaration.eq kept.new }
-    ensures next { IfOk result (IsNext (G.shape graph.now) (G.base_of graph.now) G.Record.eq «record» met.old.keys met.new.keys) }
+    requires { AreTypeEnds (G.shape graph.now) true G.Declaration.eq kept.old }
+    ensures kept { AreTypeEnds (G.shape graph.now) true G.Declaration.eq kept.new }
+    ensures next { IfOk result (IsNextAbove (G.shape graph.now) (G.base_of graph.now) G.Record.eq «record» met.old.keys met.new.keys) }
 {
     if meet(met, record)? {
         record_above(graph, kept, record)
@@ -103,10 +103,10 @@ fn field_of<'a, G: TypeGraph>(
     from: G::Record,
     name: &'a [u8],
 ) -> Result<Option<G::Field>, AllocError>
-    requires kept { AreEnds (G.shape graph.now) true G.Declaration.eq kept.old }
+    requires kept { AreTypeEnds (G.shape graph.now) true G.Declaration.eq kept.old }
     requires found { AreFound (G.shape graph.now) (G.base_of graph.now) (G.field_of graph.now) G.Record.eq found.now }
     requires none_met { met.old.keys ≡ [] }
-    ensures kept { AreEnds (G.shape graph.now) true G.Declaration.eq kept.new }
+    ensures kept { AreTypeEnds (G.shape graph.now) true G.Declaration.eq kept.new }
     ensures fields { IfOk result (AreFieldsOf (G.shape graph.now) (G.base_of graph.now) (λ r. G.field_of graph.now r name.now) from met.new.keys) }
 {
     let mut record = from;
@@ -130,7 +130,7 @@ fn keep_field<'a, G: TypeGraph>(
     field: Option<G::Field>,
 ) -> Result<(), AllocError>
     requires found { AreFound (G.shape graph.now) (G.base_of graph.now) (G.field_of graph.now) G.Record.eq found.old }
-    requires met { All (λ r. IsFieldOf (G.shape graph.now) (G.base_of graph.now) (λ s. G.field_of graph.now s name.now) r field) met.now }
+    requires met { All (λ r. IsFieldIn (G.shape graph.now) (G.base_of graph.now) (λ s. G.field_of graph.now s name.now) r field) met.now }
     ensures { AreFound (G.shape graph.now) (G.base_of graph.now) (G.field_of graph.now) G.Record.eq found.new }
 {
     let mut at = 0;
@@ -150,12 +150,12 @@ fn field_met<'a, G: TypeGraph>(
     from: G::Record,
     name: &'a [u8],
 ) -> Result<Option<G::Field>, AllocError>
-    requires kept { AreEnds (G.shape graph.now) true G.Declaration.eq kept.old }
+    requires kept { AreTypeEnds (G.shape graph.now) true G.Declaration.eq kept.old }
     requires found { AreFound (G.shape graph.now) (G.base_of graph.now) (G.field_of graph.now) G.Record.eq found.old }
     requires none_met { met.old.keys ≡ [] }
-    ensures kept { AreEnds (G.shape graph.now) true G.Declaration.eq kept.new }
+    ensures kept { AreTypeEnds (G.shape graph.now) true G.Declaration.eq kept.new }
     ensures found { AreFound (G.shape graph.now) (G.base_of graph.now) (G.field_of graph.now) G.Record.eq found.new }
-    ensures is { IfOk result (IsFieldOf (G.shape graph.now) (G.base_of graph.now) (λ r. G.field_of graph.now r name.now) from) }
+    ensures is { IfOk result (IsFieldIn (G.shape graph.now) (G.base_of graph.now) (λ r. G.field_of graph.now r name.now) from) }
 {
     let field = field_of(graph, kept, found, met, from, name)?;
     keep_field(graph, found, met.as_slice(), name, field)?;
@@ -170,11 +170,11 @@ fn field_kept<'a, G: TypeGraph>(
     from: G::Record,
     name: &'a [u8],
 ) -> Result<Option<G::Field>, AllocError>
-    requires kept { AreEnds (G.shape graph.now) true G.Declaration.eq kept.old }
+    requires kept { AreTypeEnds (G.shape graph.now) true G.Declaration.eq kept.old }
     requires found { AreFound (G.shape graph.now) (G.base_of graph.now) (G.field_of graph.now) G.Record.eq found.old }
-    ensures kept { AreEnds (G.shape graph.now) true G.Declaration.eq kept.new }
+    ensures kept { AreTypeEnds (G.shape graph.now) true G.Declaration.eq kept.new }
     ensures found { AreFound (G.shape graph.now) (G.base_of graph.now) (G.field_of graph.now) G.Record.eq found.new }
-    ensures is { IfOk result (IsFieldOf (G.shape graph.now) (G.base_of graph.now) (λ r. G.field_of graph.now r name.now) from) }
+    ensures is { IfOk result (IsFieldIn (G.shape graph.now) (G.base_of graph.now) (λ r. G.field_of graph.now r name.now) from) }
 {
     let mut met = IndexSet::new(*kept.allocator());
     field_met(graph, kept, found, &mut met, from, name)
@@ -188,9 +188,9 @@ pub(crate) fn find_in<'a, G: TypeGraph>(
     from: G::Node,
     name: &'a [u8],
 ) -> Result<Option<G::Field>, AllocError>
-    requires kept { AreEnds (G.shape graph.now) true G.Declaration.eq kept.old }
+    requires kept { AreTypeEnds (G.shape graph.now) true G.Declaration.eq kept.old }
     requires found { AreFound (G.shape graph.now) (G.base_of graph.now) (G.field_of graph.now) G.Record.eq found.old }
-    ensures kept { AreEnds (G.shape graph.now) true G.Declaration.eq kept.new }
+    ensures kept { AreTypeEnds (G.shape graph.now) true G.Declaration.eq kept.new }
     ensures fields { AreFound (G.shape graph.now) (G.base_of graph.now) (G.field_of graph.now) G.Record.eq found.new }
     ensures found { IfOk result (λ o. IfSome o (λ f. Finds G.Declaration.eq (G.shape graph.now) (λ r. G.field_of graph.now r name.now) (G.base_of graph.now) [] from f)) }
     ensures none { IfOk result (λ o. IfNone o ((f : G.Field) → Finds G.Declaration.eq (G.shape graph.now) (λ r. G.field_of graph.now r name.now) (G.base_of graph.now) [] from f → ⊥)) }

@@ -1,5 +1,5 @@
 use Rattle.std.proofs.Common.{sym, subst}
-use Rattle.type_search.specs.Leading.{IsEndOf}
+use Rattle.type_search.specs.Leading.{IsTypeEndOf}
 use Rattle.type_search.proofs.Leading.{keeps_all, keeps_more}
 use Rattle.type_search.proofs.ends.keep.Goals as goal
 
@@ -10,5 +10,5 @@ pub loop-declaration-preserved : goal.loop-declaration-preserved
 loop-declaration-preserved g c =
     keeps_more (g.G.TypeGraph.shape c.args.graph.now) c.args.pointers g.G.Declaration.PartialEq.eq c.loop-declaration.kept c.insert.new.self c.declaration-item.result c.args.end c.loop-declaration.invariant
     c.in_ok-insert.ensures.updates.0
-    (subst (IsEndOf (g.G.TypeGraph.shape c.args.graph.now) c.args.pointers g.G.Declaration.PartialEq.eq c.args.end) (sym c.declaration-item.is)
+    (subst (IsTypeEndOf (g.G.TypeGraph.shape c.args.graph.now) c.args.pointers g.G.Declaration.PartialEq.eq c.args.end) (sym c.declaration-item.is)
     (c.requires.met c.loop-declaration.declaration-index c.declaration-item.result c.loop-declaration-test.true))

@@ -1,6 +1,6 @@
 use Rattle.std.proofs.Common.{Option, sym, subst}
 use Rattle.std.specs.Prelude.{IfSome}
-use Rattle.type_search.specs.Extending.{IsFieldOf}
+use Rattle.type_search.specs.Extending.{IsFieldIn}
 use Rattle.type_search.proofs.Extending.{kept_is, own_is}
 use Rattle.type_search.proofs.records.field_here.Goals as goal
 
@@ -14,5 +14,5 @@ returns-in-None-clause-some g c =
     let shape = g.G.TypeGraph.shape c.args.graph.now in
     let base = g.G.TypeGraph.base_of c.args.graph.now in
     let field = λ (r : g.row.G-Record.Denot). g.G.TypeGraph.field_of c.args.graph.now r c.args.name.now in
-    subst (λ (o : Option (Option g.row.G-Field.Denot)). IfSome o (IsFieldOf shape base field c.args.«record»)) (sym c.copied.ensures)
+    subst (λ (o : Option (Option g.row.G-Field.Denot)). IfSome o (IsFieldIn shape base field c.args.«record»)) (sym c.copied.ensures)
     (kept_is shape base (g.G.TypeGraph.field_of c.args.graph.now) g.G.Record.PartialEq.eq g.met.G.TypeGraph.told_apart c.args.found.now c.args.«record» c.args.name c.get.result c.requires c.get.ensures.value)

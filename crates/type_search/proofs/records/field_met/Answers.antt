@@ -1,6 +1,6 @@
 use Rattle.std.proofs.Common.{List, sym, subst}
 use Rattle.std.specs.List.{All}
-use Rattle.type_search.specs.Extending.{IsFieldOf}
+use Rattle.type_search.specs.Extending.{IsFieldIn}
 use Rattle.type_search.proofs.records.field_met.Goals as goal
 
 pub keep_field-requires-clause-met : goal.keep_field-requires-clause-met
@@ -8,4 +8,4 @@ keep_field-requires-clause-met g c =
     let shape = g.G.TypeGraph.shape c.args.graph.now in
     let base = g.G.TypeGraph.base_of c.args.graph.now in
     let field = λ (r : g.row.G-Record.Denot). g.G.TypeGraph.field_of c.args.graph.now r c.args.name.now in
-    subst (λ (rs : List g.row.G-Record.Denot). All (λ r. IsFieldOf shape base field r c.in_ok-field.field) rs) (sym c.as_slice.ensures.keys) c.in_ok-field.ensures.fields.each
+    subst (λ (rs : List g.row.G-Record.Denot). All (λ r. IsFieldIn shape base field r c.in_ok-field.field) rs) (sym c.as_slice.ensures.keys) c.in_ok-field.ensures.fields.each

@@ -1,11 +1,11 @@
 use Rattle.std.proofs.Common.{true, ◌-◌, ◌^◌, length}
-use Rattle.type_search.specs.Leading.{AreEnds}
+use Rattle.type_search.specs.Leading.{AreTypeEnds}
 use Rattle.type_search.proofs.Extending.{Climbs}
 use Rattle.type_search.proofs.records.field_of.Given as goal
 
 abbrev pub invariant-records : goal.invariant-records
 invariant-records g l = record {
-  kept : AreEnds (g.G.TypeGraph.shape l.graph) true g.G.Declaration.PartialEq.eq l.kept;
+  kept : AreTypeEnds (g.G.TypeGraph.shape l.graph) true g.G.Declaration.PartialEq.eq l.kept;
   climbs : Climbs (g.G.TypeGraph.shape l.graph) (g.G.TypeGraph.base_of l.graph) (λ r. g.G.TypeGraph.field_of l.graph r l.name) g.G.Record.PartialEq.eq g.met.G.TypeGraph.told_apart l.fn.from l.«record» l.met.keys;
 }
 

@@ -1,7 +1,7 @@
 use Rattle.std.proofs.lemmas.Result.{IfOk-weaker}
 use Rattle.std.proofs.Common.{[]}
 use Rattle.std.specs.Prelude.{IfNone, IfSome}
-use Rattle.type_search.specs.Extending.{IsFieldOf}
+use Rattle.type_search.specs.Extending.{IsFieldIn}
 use Rattle.type_search.specs.Searches.{Finds}
 use Rattle.type_search.proofs.Coming.{field_told, no_field_told}
 use Rattle.type_search.proofs.records.find_in.Goals as goal
@@ -19,7 +19,7 @@ returns-in-Some-clause-found g c =
     let base = g.G.TypeGraph.base_of c.args.graph.now in
     let field = λ (r : g.row.G-Record.Denot). g.G.TypeGraph.field_of c.args.graph.now r c.args.name.now in
     let finds = Finds g.G.Declaration.PartialEq.eq shape field base [] c.args.from in
-    IfOk-weaker c.field_kept.result (IsFieldOf shape base field c.in-Some.«record») (λ o. IfSome o finds)
+    IfOk-weaker c.field_kept.result (IsFieldIn shape base field c.in-Some.«record») (λ o. IfSome o finds)
     (λ o h. (field_told g.G.Declaration.PartialEq.eq shape (g.met.G.TypeGraph.named c.args.graph.now) field base c.args.from c.in-Some.«record» c.in_ok-record_of.field-0 o c.in-Some.is c.in_ok-record_of.ensures.is h).0) c.field_kept.ensures.is
 
 pub returns-in-Some-clause-none : goal.returns-in-Some-clause-none
@@ -28,5 +28,5 @@ returns-in-Some-clause-none g c =
     let base = g.G.TypeGraph.base_of c.args.graph.now in
     let field = λ (r : g.row.G-Record.Denot). g.G.TypeGraph.field_of c.args.graph.now r c.args.name.now in
     let finds = Finds g.G.Declaration.PartialEq.eq shape field base [] c.args.from in
-    IfOk-weaker c.field_kept.result (IsFieldOf shape base field c.in-Some.«record») (λ o. IfNone o ((f : g.row.G-Field.Denot) → finds f → ⊥))
+    IfOk-weaker c.field_kept.result (IsFieldIn shape base field c.in-Some.«record») (λ o. IfNone o ((f : g.row.G-Field.Denot) → finds f → ⊥))
     (λ o h. (field_told g.G.Declaration.PartialEq.eq shape (g.met.G.TypeGraph.named c.args.graph.now) field base c.args.from c.in-Some.«record» c.in_ok-record_of.field-0 o c.in-Some.is c.in_ok-record_of.ensures.is h).1) c.field_kept.ensures.is

@@ -1,5 +1,5 @@
 use Rattle.std.proofs.Common.{ap, ◌∙◌}
-use Rattle.type_search.specs.Extending.{record_in}
+use Rattle.type_search.specs.Extending.{shape_record}
 use Rattle.type_search.proofs.Extending.{of_end, of_none}
 use Rattle.type_search.proofs.records.record_of.Goals as goal
 
@@ -8,4 +8,4 @@ returns-in-None-clause-is g c = of_none (g.G.TypeGraph.shape c.args.graph.now) c
 
 pub returns-in-Some-clause-is : goal.returns-in-Some-clause-is
 returns-in-Some-clause-is g c =
-    of_end (g.G.TypeGraph.shape c.args.graph.now) c.args.from c.in-Some.node c.in_ok-end_of.field-0 c.record_in.result c.in-Some.is c.in_ok-end_of.ensures.end (c.record_in.ensures ∙ ap record_in c.shape.ensures)
+    of_end (g.G.TypeGraph.shape c.args.graph.now) c.args.from c.in-Some.node c.in_ok-end_of.field-0 c.shape_record.result c.in-Some.is c.in_ok-end_of.ensures.end (c.shape_record.ensures ∙ ap shape_record c.shape.ensures)
