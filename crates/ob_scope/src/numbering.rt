@@ -44,8 +44,8 @@ pub(crate) fn number_names<'a>(
     requires { AreInText text.now.bytes.now text.now.tokens.now }
     ensures { IfOk result (λ r. AreNumbered (text_at text.now.bytes.now text.now.tokens.now) members.now r.names.keys r.numbers.items) }
 {
-    let mut names = IndexSet::new(alloc);
     let mut numbers = Vec::with_capacity(alloc, members.len())?;
+    let mut names = IndexSet::new(alloc);
     for i in 0..members.len() {
         let bytes = text.of(members[i].number);
         match names.insert_full(Name { bytes }) {

@@ -113,9 +113,9 @@ fn found_with(
     ensures meant { IfOk result (λ f. AreMeant (text_at text.now.bytes.now text.now.tokens.now) blocks.now members.now uses.now (length uses.now) f.meanings.items) }
     ensures counted { IfOk result (λ f. AreCounted (text_at text.now.bytes.now text.now.tokens.now) blocks.now members.now uses.now (length uses.now) f.counts.items) }
 {
-    let mut sight = no_sight(alloc, named.names.len(), members.len())?;
     let mut meanings = Vec::with_capacity(alloc, uses.len())?;
     let mut counts = vec![in alloc; 0u64; members.len()]?;
+    let mut sight = no_sight(alloc, named.names.len(), members.len())?;
     find_each(
         text,
         index,
