@@ -6,6 +6,7 @@ use Rattle.ob_scope.specs.Texts.{text_at}
 use Rattle.ob_scope.proofs.Elements.{some_one}
 use Rattle.ob_scope.proofs.Meanings.{means_as}
 use Rattle.ob_scope.proofs.Finding.{meant_none, meant_other, meant_more, counted_none, counted_other, counted_more}
+use Rattle.std.proofs.lemmas.Grind.{elements}
 use Rattle.ob_scope.proofs.uses.find_each.Goals as goal
 use Rattle.ob_scope.proofs.uses.find_each.Goals.{in-Some+in_ok-push, in_default}
 
