@@ -1,5 +1,7 @@
 -- Types that lead to others.
-use Rattle.std.proofs.Common.{◌≡◌, ℕ, zero, suc, ◌+◌, List, [], Bool, true, false, cond, Option, Some, None, refl, sym, ap, ◌∙◌, subst, arith, ◌⊎◌, inl, inr}
+use Rattle.std.proofs.Common.{◌∷◌, [], ◌≡◌, ℕ, zero, suc, ◌+◌, List, Bool, true, false, cond, Option, Some, None, refl, sym, ap, ◌∙◌, subst, arith, ◌⊎◌, inl, inr, ◌-◌, ◌*◌, ◌^◌, ◌<◌, length, length-append}
+use Rattle.std.proofs.Math.Nat.{mul_comm}
+use Rattle.std.proofs.lemmas.Nat.{mul-add-lt}
 use Rattle.std.specs.List.{All}
 use Rattle.std.specs.Map.{lookup}
 use Rattle.std.proofs.lemmas.List.Elements.{All-push}
@@ -9,6 +11,21 @@ use Rattle.type_search.specs.declared.shape.Shape.{Shape}
 use Rattle.type_search.specs.declared.shape.Shape.TheVariants as shapes
 use Rattle.type_search.specs.Leading.{next_of, ends, on, AreEnded, AreTypeEnds, IsTypeEnd, IsTypeEndOf, TypeLeads, TypeLeadsTo}
 use Rattle.type_search.specs.Searches.{IsMet, IsMetAgain, IsNewlyMet}
+
+-- fewer declarations are left, whatever the depth
+fewer : (k j h x y : ℕ) → k < j → x < h → k * h + x < j * h + y
+fewer k j h x y l m =
+    let s : k * h + x < h * j = mul-add-lt k h x j l m in
+    let t : h * j ≡ j * h = mul_comm h j in
+    omega (arith, s, t)
+
+-- so each name leaves less to do
+pub met_less : {D : Type 0} (same : D → D → Bool) (met after : List D) (d : D) (b : Bool) (h x y : ℕ) → b ≡ true → IsMet same d met after b → x < h → (2 ^ 63 - length after) * h + x < (2 ^ 63 - length met) * h + y
+met_less same met after d b h x y is noted deep =
+    let fresh : IsNewlyMet same d met after = subst (IsMet same d met after) is noted in
+    let few : length met < 2 ^ 63 = fresh.few in
+    let grown : length after ≡ length met + 1 = ap length fresh.last ∙ length-append met (d ∷ []) in
+    fewer (2 ^ 63 - length after) (2 ^ 63 - length met) h x y (omega (arith, grown, few)) deep
 
 module _ {N D R : Type 0} (shape : N → Shape N D R) (pointers : Bool) where
   -- a type leads to one, in one number of steps

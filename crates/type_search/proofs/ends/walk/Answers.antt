@@ -1,5 +1,5 @@
-use Rattle.std.proofs.Common.{sym, ◌∙◌}
-use Rattle.type_search.proofs.Leading.{ended_again, ended_here, ended_kept, followed, no_further, not_followed, walks_nowhere, walks_on, walks_through}
+use Rattle.std.proofs.Common.{sym, ◌∙◌, arith}
+use Rattle.type_search.proofs.Leading.{ended_again, ended_here, ended_kept, followed, met_less, no_further, not_followed, walks_nowhere, walks_on, walks_through}
 use Rattle.type_search.proofs.ends.walk.Goals as goal
 
 pub types-init : goal.types-init
@@ -34,3 +34,11 @@ pub returns-in-Array : goal.returns-in-Array
 returns-in-Array g c =
     ended_here (g.G.TypeGraph.shape c.args.graph.now) c.args.pointers g.G.Declaration.PartialEq.eq (g.met.G.TypeGraph.named c.args.graph.now) c.args.from c.types.node c.types.met.keys
     (rw (sym c.shape.ensures) (no_further c.args.pointers _ c.in-Array.is)) c.types.invariant
+
+pub types-smaller-in-Named : goal.types-smaller-in-Named
+types-smaller-in-Named g c =
+    met_less g.G.Declaration.PartialEq.eq c.types.met.keys c.meet.new.met.keys c.in-Named.declaration c.in_ok-meet-in-Named.field-0 (g.G.TypeGraph.height c.args.graph.now) (g.G.TypeGraph.depth c.args.graph.now c.in-Named.next)
+    (g.G.TypeGraph.depth c.args.graph.now c.types.node) c.if-not-branch.false c.in_ok-meet-in-Named.ensures (g.met.G.TypeGraph.deep c.args.graph.now c.in-Named.next)
+
+pub types-smaller : goal.types-smaller
+types-smaller g c = omega (arith, g.met.G.TypeGraph.pointed c.args.graph.now c.types.node c.in-Pointer.next (sym c.shape.ensures ∙ c.in-Pointer.is))

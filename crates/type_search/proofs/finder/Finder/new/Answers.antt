@@ -1,0 +1,13 @@
+use Rattle.std.proofs.Common.{false, true}
+use Rattle.type_search.proofs.Extending.{found_none}
+use Rattle.type_search.proofs.Leading.{keeps_none}
+use Rattle.type_search.proofs.finder.Finder.new.Goals as goal
+
+pub invariant_of-result : goal.invariant_of-result
+invariant_of-result g c =
+    let shape = g.G.TypeGraph.shape c.args.graph.now in
+    let same = g.G.Declaration.PartialEq.eq in (
+      keeps_none shape false same c.new.result c.new.ensures.empty,
+      keeps_none shape true same c.new-2.result c.new-2.ensures.empty,
+      found_none shape (g.G.TypeGraph.base_of c.args.graph.now) (g.G.TypeGraph.field_of c.args.graph.now) g.G.Record.PartialEq.eq g.met.G.TypeGraph.told_apart c.new-3.result c.new-3.ensures.empty,
+    )
