@@ -1,5 +1,5 @@
 //! The program: reads files, runs one engine on the real standard output, and ends with a status.
-//! Stands on `oscip_job` for the command line and on `oscip_run` for the files, the engines and the faults.
+//! Stands on `oscip_job` for the command line, on `oscip_run` for the files, the engines and the faults, and on `index_run` for the engines that index.
 //! Its contract: what an engine puts is what the definitions say of its inputs, and nothing else.
 #![tactic(auto)]
 
@@ -10,10 +10,11 @@ ghost use Rattle.oscip_job.specs.Jobs.{is_crossings_job, is_net_job, is_query_jo
 
 use byte_sink::ToWrite;
 use cut_solve::OpenGate;
+use index_run::{OpenBoard, answer_index, unresolved_to};
 use oscip_job::{Indexing, Job, JobFault, Output, job_of};
 use oscip_run::{
-    OpenBoard, RunFault, answer, answer_crossings, answer_index, answer_question, answer_tree,
-    fault_line, read_file, sources_of, status_of, status_of_run, status_of_words, unresolved_to,
+    RunFault, answer, answer_crossings, answer_question, answer_tree, fault_line, read_file,
+    sources_of, status_of, status_of_run, status_of_words,
 };
 use oscip_tree::Source;
 use std::alloc::Global;

@@ -7,6 +7,3 @@ pub mod JobRuns
 pub mod NoRefusal
 pub mod WithoutPrices
 pub mod CrossingRuns
-pub mod IndexRuns
-pub mod Packages
-pub mod SameBytes

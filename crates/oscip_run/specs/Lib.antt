@@ -8,4 +8,3 @@ pub mod Endings
 pub mod Files
 pub mod AskedRuns
 pub mod CrossingRuns
-pub mod IndexRuns

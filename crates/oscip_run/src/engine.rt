@@ -26,7 +26,7 @@ use std::sync::Wait;
 use std::thread::Threads;
 
 /// How many threads at most read the files of a tree for a command that asks for no number of workers.
-pub(crate) const READERS: u32 = 4;
+pub const READERS: u32 = 4;
 
 /// The name of a module, and no text where the network has no such module.
 fn name_or_none(net: &Net, node: u32) -> &str

@@ -1,10 +1,8 @@
-//! Laws of runs: no tree is read and refused, what is made of a tree is put in one way, and without prices a cut is what it was
-//! before there were any.
+//! Laws of runs: no tree is read and refused, and without prices a cut is what it was before there were any.
 //! Each function is a law: its body is empty, and its contract is proved.
-ghost use Rattle.std.specs.Prelude.{◌≡◌, ℕ, List, None, Ok, Option, Some};
+ghost use Rattle.std.specs.Prelude.{ℕ, List, None};
 ghost use Rattle.cut_net.specs.Network.{Network};
 ghost use Rattle.oscip_run.specs.CutRuns.{IsCutText, IsPlainCutText};
-ghost use Rattle.oscip_run.specs.IndexRuns.{IsHexRun, IsIndexRun, IsUnresolvedRun};
 ghost use Rattle.oscip_run.specs.PricedInputs.{IsNetOfPricedText, IsNetOfPricedTree};
 ghost use Rattle.oscip_run.specs.Runs.{IsNetOfText, IsRefusedTree};
 ghost use Rattle.oscip_run.specs.declared.fault.RunFault.{RunFault};
@@ -15,17 +13,6 @@ ghost use Rattle.oscip_tree.specs.declared.source.Source.{Source};
 pub fn no_refusal_of_a_tree()
     ensures { (sources : List Source) (net : Network) (fault : RunFault) →
         IsNetOfTree sources net → IsRefusedTree sources fault → ⊥ }
-{}
-
-/// Two runs on one tree that end well leave a sink of known bytes with the same bytes. The runs that `index_to`, `index_hex_to`
-/// and `unresolved_to` answer for name no workers, so it is so for every two numbers of workers and whatever turns they take.
-pub fn same_bytes()
-    ensures index { (sources : List Source) (package_name root before : List ℕ) (new other : Option (List ℕ)) →
-        IsIndexRun sources package_name root (Some before) new (Ok tt) → IsIndexRun sources package_name root (Some before) other (Ok tt) → new ≡ other }
-    ensures hex { (sources : List Source) (package_name root before : List ℕ) (new other : Option (List ℕ)) →
-        IsHexRun sources package_name root (Some before) new (Ok tt) → IsHexRun sources package_name root (Some before) other (Ok tt) → new ≡ other }
-    ensures unresolved { (sources : List Source) (before : List ℕ) (new other : Option (List ℕ)) →
-        IsUnresolvedRun sources (Some before) new (Ok tt) → IsUnresolvedRun sources (Some before) other (Ok tt) → new ≡ other }
 {}
 
 /// Where no prices are given nothing is pinned, and the report is of a cut: a cheapest one of all sets of imports, with a flow that

@@ -1,5 +1,5 @@
-//! Runs: the files and folders that a job names, the engines that cut, check, draw, index and answer questions over any sink, and how a run ends.
-//! Stands on `oscip_job`, `oscip_tree`, `oscip_query`, `ob_board`, `oscip_index` and the `cut_` crates, with `thiserror` for its faults.
+//! Runs: the files and folders that a job names, the engines that cut, check, draw and answer questions over any sink, and how a run ends.
+//! Stands on `oscip_job`, `oscip_tree`, `oscip_query` and the `cut_` crates, with `thiserror` for its faults.
 //! Its contract: what an engine puts is what the definitions say of its inputs, and nothing else.
 #![tactic(auto)]
 
@@ -11,7 +11,6 @@ mod engine;
 mod fault;
 mod files;
 mod folder;
-mod indexing;
 pub mod laws;
 mod priced;
 mod run;
@@ -20,9 +19,8 @@ pub use asking::answer_question;
 pub use crossing::{answer_crossings, crossings_tree};
 pub use drawing::{dot_net_bytes, dot_tree};
 pub use ending::{status_of_run, status_of_words};
-pub use engine::{check_net_bytes, check_tree, cut_net_bytes, cut_tree};
+pub use engine::{READERS, check_net_bytes, check_tree, cut_net_bytes, cut_tree};
 pub use fault::{RunFault, fault_line, status_of};
 pub use files::read_file;
 pub use folder::sources_of;
-pub use indexing::{OpenBoard, answer_index, index_hex_to, index_to, unresolved_to};
 pub use run::{answer, answer_tree};

@@ -1,8 +1,9 @@
 //! Indexes by two workers, whose gate sees each module that they take.
 use crate::inputs::{THREE, TWO, sources};
 use cut_solve::Gate;
+use index_run::index_to;
 use ob_board::{BoardGate, IndexOptions};
-use oscip_run::{RunFault, index_to};
+use oscip_run::RunFault;
 use oscip_tree::{Source, in_order};
 use std::alloc::AllocError;
 use std::process::Abort;

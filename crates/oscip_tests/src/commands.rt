@@ -8,10 +8,9 @@ use crate::inputs::{
     FOUR, FOUR_BLOCKED, FOUR_CROSSINGS, FOUR_CUT, FOUR_DOT, FOUR_PINS, ONE, ONE_HEX, ONE_INDEX,
     SIX, SIX_BLOCKED, SIX_CUT, SIX_DOT, SIX_PINS, WRONG, WRONG_LINE, sources,
 };
+use index_run::{OpenBoard, answer_index, unresolved_to};
 use oscip_job::{Job, JobFault, job_of};
-use oscip_run::{
-    OpenBoard, RunFault, answer, answer_crossings, answer_index, answer_tree, unresolved_to,
-};
+use oscip_run::{RunFault, answer, answer_crossings, answer_tree};
 use oscip_tree::{Source, in_order};
 use std::alloc::{AllocError, Global};
 use std::process::Abort;

@@ -5,16 +5,15 @@ ghost use Rattle.byte_sink.specs.Sinks.{failures_by};
 ghost use Rattle.ob_board.specs.Unresolved.{plain_unresolved};
 ghost use Rattle.oscip_job.specs.Jobs.{IsPackage, MayWork};
 ghost use Rattle.oscip_run.specs.Faults.{is_device};
-ghost use Rattle.oscip_run.specs.IndexRuns.{unresolved_line, unresolved_lines, IsHexRun, IsIndexingRun, IsIndexRun, IsUnresolvedRun};
+ghost use Rattle.index_run.specs.IndexRuns.{unresolved_line, unresolved_lines, IsHexRun, IsIndexingRun, IsIndexRun, IsUnresolvedRun};
 ghost use Rattle.oscip_tree.specs.Sources.{ArePathsInOrder};
 ghost use Rattle.scip_symbol.specs.Outcomes.{is_wrong_part};
 
-use crate::RunFault;
-use crate::engine::READERS;
 use byte_sink::{Sink, put_all};
 use ob_board::{BoardGate, IndexOptions, Unresolved, index_tree, unresolved_in_tree};
 use oscip_index::{hex_line, put_index};
 use oscip_job::{Indexing, Output};
+use oscip_run::{READERS, RunFault};
 use oscip_tree::Source;
 use std::alloc::{AllocError, Global};
 use std::sync::Wait;

@@ -1,6 +1,6 @@
-use Rattle.oscip_run.specs.IndexRuns.{IsHexText, IsIndexText, IsUnresolvedText}
-use Rattle.oscip_run.proofs.SameBytes.{hex_once, index_once, puts_same, unresolved_once}
-use Rattle.oscip_run.proofs.laws.same_bytes.Goals as goal
+use Rattle.index_run.specs.IndexRuns.{IsHexText, IsIndexText, IsUnresolvedText}
+use Rattle.index_run.proofs.SameBytes.{hex_once, index_once, puts_same, unresolved_once}
+use Rattle.index_run.proofs.laws.same_bytes.Goals as goal
 
 pub returns-clause-index : goal.returns-clause-index
 returns-clause-index c = λ sources package_name root before new other. puts_same (IsIndexText sources package_name root) (index_once sources package_name root) before new other

@@ -2,11 +2,11 @@ use Rattle.std.proofs.Common.{◌≡◌, Err, List, inl, map, ap, ◌∙◌}
 use Rattle.std.proofs.lemmas.Result.{err_from_is_err_and}
 use Rattle.ob_board.specs.Unresolved.{plain_unresolved}
 use Rattle.ob_board.specs.declared.unresolved.Unresolved.{Unresolved}
-use Rattle.oscip_run.specs.IndexRuns.{unresolved_lines, IsUnresolvedRun, IsUnresolvedText}
+use Rattle.index_run.specs.IndexRuns.{unresolved_lines, IsUnresolvedRun, IsUnresolvedText}
 use Rattle.oscip_run.specs.declared.fault.RunFault.{RunFault}
 use Rattle.oscip_run.proofs.CheckRuns.{refused_tree, Keeps-same}
-use Rattle.oscip_run.proofs.IndexRuns.{broken}
-use Rattle.oscip_run.proofs.indexing.unresolved_to.Goals as goal
+use Rattle.index_run.proofs.IndexRuns.{broken}
+use Rattle.index_run.proofs.indexing.unresolved_to.Goals as goal
 
 pub returns-in_err-rows-clause-run : goal.returns-in_err-rows-clause-run
 returns-in_err-rows-clause-run g c =

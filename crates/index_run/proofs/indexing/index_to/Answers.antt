@@ -1,13 +1,13 @@
 use Rattle.std.proofs.Common.{Err, inl}
 use Rattle.std.proofs.lemmas.Result.{err_from_is_err_and}
 use Rattle.std.specs.String.{string_bytes}
-use Rattle.oscip_run.specs.IndexRuns.{IsIndexRun, IsIndexText}
+use Rattle.index_run.specs.IndexRuns.{IsIndexRun, IsIndexText}
 use Rattle.oscip_run.specs.declared.fault.RunFault.{RunFault}
 use Rattle.oscip_run.proofs.CheckRuns.{refused_tree, Keeps-same}
-use Rattle.oscip_run.proofs.IndexRuns.{broken, index_text}
+use Rattle.index_run.proofs.IndexRuns.{broken, index_text}
 use Rattle.scip_index.specs.Plain.{plain_index}
 use Rattle.scip_index.specs.Written.{written}
-use Rattle.oscip_run.proofs.indexing.index_to.Goals as goal
+use Rattle.index_run.proofs.indexing.index_to.Goals as goal
 
 pub returns-in_err-index-clause-run : goal.returns-in_err-index-clause-run
 returns-in_err-index-clause-run g c =

@@ -6,7 +6,7 @@ use Rattle.byte_sink.specs.Sinks.{AppendsFront}
 use Rattle.hex.specs.Hex.{encode_lower}
 use Rattle.ob_board.specs.Indexes.{IsIndex}
 use Rattle.oscip_run.specs.Faults.{of_sink}
-use Rattle.oscip_run.specs.IndexRuns.{IsHexText, IsIndexText, IsTextRun}
+use Rattle.index_run.specs.IndexRuns.{IsHexText, IsIndexText, IsTextRun}
 use Rattle.oscip_tree.specs.declared.source.Source.{Source}
 use Rattle.scip_index.specs.Plain.{PlainIndex}
 use Rattle.scip_index.specs.Written.{written}

@@ -2,9 +2,9 @@ use Rattle.std.proofs.Common.{◌≡◌, ◌++◌, ℕ, List, codes, ap, sym, su
 use Rattle.std.proofs.lemmas.Result.{err_from_is_err_and}
 use Rattle.std.specs.String.{string_bytes}
 use Rattle.hex.specs.Hex.{encode_lower}
-use Rattle.oscip_run.specs.IndexRuns.{IsHexText, IsIndexText}
-use Rattle.oscip_run.proofs.IndexRuns.{broken, hex_text}
-use Rattle.oscip_run.proofs.indexing.index_hex_to.Goals as goal
+use Rattle.index_run.specs.IndexRuns.{IsHexText, IsIndexText}
+use Rattle.index_run.proofs.IndexRuns.{broken, hex_text}
+use Rattle.index_run.proofs.indexing.index_hex_to.Goals as goal
 
 pub returns-in_err-hex_line-clause-run : goal.returns-in_err-hex_line-clause-run
 returns-in_err-hex_line-clause-run g c =

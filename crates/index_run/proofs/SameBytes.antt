@@ -3,7 +3,7 @@ use Rattle.std.proofs.Common.{◌≡◌, ℕ, List, ◌++◌, Option, Some, None
 use Rattle.std.specs.Prelude.{codes}
 use Rattle.hex.specs.Hex.{encode_lower}
 use Rattle.ob_board.proofs.OneIndex.{one_index, one_unresolved}
-use Rattle.oscip_run.specs.IndexRuns.{unresolved_lines, IsHexText, IsIndexText, IsUnresolvedText, PutsText}
+use Rattle.index_run.specs.IndexRuns.{unresolved_lines, IsHexText, IsIndexText, IsUnresolvedText, PutsText}
 use Rattle.oscip_tree.specs.declared.source.Source.{Source}
 use Rattle.scip_index.specs.Written.{written}
 

@@ -1,0 +1,3 @@
+pub mod IndexRuns
+pub mod Packages
+pub mod SameBytes

@@ -1,0 +1,16 @@
+//! Laws of indexing runs: what is put of a tree is put in one way.
+//! Each function is a law: its body is empty, and its contract is proved.
+ghost use Rattle.std.specs.Prelude.{◌≡◌, ℕ, List, Ok, Option, Some};
+ghost use Rattle.index_run.specs.IndexRuns.{IsHexRun, IsIndexRun, IsUnresolvedRun};
+ghost use Rattle.oscip_tree.specs.declared.source.Source.{Source};
+
+/// Two runs on one tree that end well leave a sink of known bytes with the same bytes. The runs that `index_to`, `index_hex_to`
+/// and `unresolved_to` answer for name no workers, so it is so for every two numbers of workers and whatever turns they take.
+pub fn same_bytes()
+    ensures index { (sources : List Source) (package_name root before : List ℕ) (new other : Option (List ℕ)) →
+        IsIndexRun sources package_name root (Some before) new (Ok tt) → IsIndexRun sources package_name root (Some before) other (Ok tt) → new ≡ other }
+    ensures hex { (sources : List Source) (package_name root before : List ℕ) (new other : Option (List ℕ)) →
+        IsHexRun sources package_name root (Some before) new (Ok tt) → IsHexRun sources package_name root (Some before) other (Ok tt) → new ≡ other }
+    ensures unresolved { (sources : List Source) (before : List ℕ) (new other : Option (List ℕ)) →
+        IsUnresolvedRun sources (Some before) new (Ok tt) → IsUnresolvedRun sources (Some before) other (Ok tt) → new ≡ other }
+{}
