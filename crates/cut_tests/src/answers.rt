@@ -260,7 +260,7 @@ fn told_answered(
 }
 
 /// What is told of what was found of these names. No answer may fall.
-fn told(
+pub(crate) fn told(
     alloc: Global,
     net: &Net,
     names: (&str, &str),
@@ -275,7 +275,7 @@ fn told(
 }
 
 /// Checks that the solver finds the same by so many workers, but for the flow, of which there may be several.
-fn is_solved<R: Abort + Threads + Wait + AllocGlobal + Sync>(
+pub(crate) fn is_solved<R: Abort + Threads + Wait + AllocGlobal + Sync>(
     rt: &R,
     net: &Net,
     names: (&str, &str),

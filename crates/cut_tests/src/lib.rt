@@ -10,6 +10,8 @@ mod answers;
 #[cfg(test)]
 mod gates;
 #[cfg(test)]
+mod generated;
+#[cfg(test)]
 mod graphs;
 #[cfg(test)]
 mod networks;
