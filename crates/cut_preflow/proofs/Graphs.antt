@@ -11,7 +11,7 @@ use Rattle.cut_residual.specs.Flows.{pushed}
 use Rattle.cut_residual.proofs.Walking.{along, reaches_itself}
 use Rattle.cut_residual.specs.Graphs.{AreClosed, AreReached, HasArc, head, no_arc, residual, tail}
 use Rattle.cut_residual.specs.OutArcs.{IsOutOf, no_out_arc, step_of}
-use Rattle.cut_preflow.specs.FlowGraphs.{Carried, IsArcFrom, arc_opened, arcs_opened, flow_of, flows_of, import_of, imports_of, number_of, number_of_out}
+use Rattle.cut_preflow.specs.FlowGraphs.{Carried, IsArcFrom, arc_opened, arcs_opened, flow_of, flows_of, import_of, imports_of, arc_number, out_arc_number}
 use Rattle.cut_preflow.specs.Preflow.{head_in, import_in, is_forward, opening_flows, residual_in, tail_in}
 use Rattle.cut_preflow.specs.Side.{IsReach, has}
 use Rattle.cut_preflow.proofs.Arcs.{eq_from, eq_true, even_forward, half_even, half_odd, odd_back}
@@ -46,7 +46,7 @@ pub known_is : (arcs : List Arc) (a : ℕ) → a / 2 < length (imports_of arcs) 
 known_is arcs a low = let len = length-map arcs import_of in omega arith
 
 -- a residual arc is that of its number
-number_step : (s : ResidualArc) → numbered (number_of s) ≡ s
+number_step : (s : ResidualArc) → numbered (arc_number s) ≡ s
 number_step s = go s.arc s.forward
   where
     go : (k : ℕ) (f : Bool) → numbered (if f then 2 * k else 2 * k + 1) ≡ record { arc = k; forward = f }
@@ -54,7 +54,7 @@ number_step s = go s.arc s.forward
     go k false = λ i. record { arc = half_odd k i; forward = odd_back k i }
 
 -- and a number that of its residual arc
-step_number : (a : ℕ) → number_of (numbered a) ≡ a
+step_number : (a : ℕ) → arc_number (numbered a) ≡ a
 step_number a = elim (true_or_false (is_forward a)) [
   | inl e ↦ pick_true (is_forward a) (2 * (a / 2)) (2 * (a / 2) + 1) e ∙ (let even = eq_from (a % 2) 0 e in omega arith)
   | inr e ↦ pick_false (is_forward a) (2 * (a / 2)) (2 * (a / 2) + 1) e ∙ (let odd : a % 2 ≢ 0 = λ even. (let on = eq_true (a % 2) 0 even in cc) in omega arith)
@@ -71,7 +71,7 @@ arc_low k false m low = omega arith
 pub arc_from : (nodes : ℕ) (arcs : List Arc) (v : ℕ) (a : OutArc) → IsOutOf (record { nodes = nodes; arcs = arcs }) v a →
     IsArcFrom (record { nodes = nodes; imports = imports_of arcs; flow = flows_of arcs }) v a
 arc_from nodes arcs v a out =
-    let n = number_of a.step in
+    let n = arc_number a.step in
     let is = number_step a.step in
     let len = length-map arcs import_of in
     let below = number_low a.step.arc a.step.forward (length arcs) out.known in
@@ -85,28 +85,28 @@ arc_from nodes arcs v a out =
       leaves = tail_is arcs n ∙ ap (tail arcs) is ∙ out.leaves;
     }
 
-contains_number : (outs : List OutArc) (s : ResidualArc) → Contains (map step_of outs) s → Contains (map number_of_out outs) (number_of s)
+contains_number : (outs : List OutArc) (s : ResidualArc) → Contains (map step_of outs) s → Contains (map out_arc_number outs) (arc_number s)
 contains_number outs s (j, in_map, at) =
     let len = length-map outs step_of in
-    let size = length-map outs number_of_out in
+    let size = length-map outs out_arc_number in
     let in_outs : j < length outs = omega arith in
-    (j, omega arith, get_or-map number_of_out outs j no_out_arc (number_of s) in_outs ∙ ap number_of (sym (get_or-map step_of outs j no_out_arc s in_outs) ∙ at))
+    (j, omega arith, get_or-map out_arc_number outs j no_out_arc (arc_number s) in_outs ∙ ap arc_number (sym (get_or-map step_of outs j no_out_arc s in_outs) ∙ at))
 
 pub arcs_all : (nodes : ℕ) (arcs : List Arc) (v : ℕ) (outs : List OutArc) → ((s : ResidualArc) → HasArc arcs s → tail arcs s ≡ v → Contains (map step_of outs) s) →
-    (a : ℕ) → a < 2 * length (imports_of arcs) → tail_in (imports_of arcs) a ≡ v → Contains (map number_of_out outs) a
+    (a : ℕ) → a < 2 * length (imports_of arcs) → tail_in (imports_of arcs) a ≡ v → Contains (map out_arc_number outs) a
 arcs_all nodes arcs v outs all a low leaves =
     let len = length-map arcs import_of in
-    subst (Contains (map number_of_out outs)) (step_number a)
+    subst (Contains (map out_arc_number outs)) (step_number a)
     (contains_number outs (numbered a) (all (numbered a) (known_is arcs a (omega arith)) (sym (tail_is arcs a) ∙ leaves)))
 
 -- the numbers of a node's arcs are those that leave from it
-pub numbers_are : (g : Carried) (v : ℕ) (outs : List OutArc) → All (IsArcFrom g v) outs → ((a : ℕ) → a < 2 * length g.imports → tail_in g.imports a ≡ v → Contains (map number_of_out outs) a) →
-    (a : ℕ) → Contains (map number_of_out outs) a ↔ ((a < 2 * length g.imports) × (tail_in g.imports a ≡ v))
+pub numbers_are : (g : Carried) (v : ℕ) (outs : List OutArc) → All (IsArcFrom g v) outs → ((a : ℕ) → a < 2 * length g.imports → tail_in g.imports a ≡ v → Contains (map out_arc_number outs) a) →
+    (a : ℕ) → Contains (map out_arc_number outs) a ↔ ((a < 2 * length g.imports) × (tail_in g.imports a ≡ v))
 numbers_are g v outs each all a = (
   λ (j, in_map, at).
-      let len = length-map outs number_of_out in
+      let len = length-map outs out_arc_number in
       let in_outs : j < length outs = omega arith in
-      let is : number_of_out (get_or outs j no_out_arc) ≡ a = sym (get_or-map number_of_out outs j no_out_arc a in_outs) ∙ at in
+      let is : out_arc_number (get_or outs j no_out_arc) ≡ a = sym (get_or-map out_arc_number outs j no_out_arc a in_outs) ∙ at in
       let from = each j no_out_arc in_outs in
       subst (λ n. (n < 2 * length g.imports) × (tail_in g.imports n ≡ v)) is (from.arc.known, from.leaves),
   λ (low, leaves). all a low leaves,
@@ -164,7 +164,7 @@ reach_is nodes arcs source marks low reached closed =
       least = λ side on shut v h.
           let (in_nodes, (path, way)) = (reached.each v).0 h in
           along (λ n. side n ≡ true) arcs (λ s known left from.
-          let n = number_of s in
+          let n = arc_number s in
           let is = number_step s in
           let below = number_low s.arc s.forward (length arcs) known in
           subst (λ u. side u ≡ true) (head_is arcs n ∙ ap (head arcs) is)

@@ -33,20 +33,20 @@ abbrev pub arcs_opened : ℕ → List Priced → List Arc
 arcs_opened source imports = map (arc_opened source) imports
 
 -- the number of a residual arc: 2 i forwards, 2 i + 1 backwards
-abbrev pub number_of : ResidualArc → ℕ
-number_of s = if s.forward then 2 * s.arc else 2 * s.arc + 1
+abbrev pub arc_number : ResidualArc → ℕ
+arc_number s = if s.forward then 2 * s.arc else 2 * s.arc + 1
 
-abbrev pub number_of_out : OutArc → ℕ
-number_of_out a = number_of a.step
+abbrev pub out_arc_number : OutArc → ℕ
+out_arc_number a = arc_number a.step
 
 -- an arc with its head and what is left of it
 pub record IsArc (g : Carried) (a : OutArc) : Type 0 where
-  pub known : number_of_out a < 2 * length g.imports
-  pub head_is : a.head ≡ head_in g.imports (number_of_out a)
-  pub residual_is : a.residual ≡ residual_in g.imports g.flow (number_of_out a)
+  pub known : out_arc_number a < 2 * length g.imports
+  pub head_is : a.head ≡ head_in g.imports (out_arc_number a)
+  pub residual_is : a.residual ≡ residual_in g.imports g.flow (out_arc_number a)
   pub low : a.head < g.nodes
 
 -- and one that leaves from the node
 pub record IsArcFrom (g : Carried) (v : ℕ) (a : OutArc) : Type 0 where
   pub arc : IsArc g a
-  pub leaves : tail_in g.imports (number_of_out a) ≡ v
+  pub leaves : tail_in g.imports (out_arc_number a) ≡ v

@@ -1,6 +1,6 @@
 //! What a push or a relabel of a preflow would do.
 ghost use Rattle.std.specs.Prelude.{◌≡◌, ◌<◌, ◌≤◌, ◌↔◌, ℕ, Some, None, IfSome, IsNone, IsSome, true, length, if◌then◌else◌};
-ghost use Rattle.cut_preflow.specs.FlowGraphs.{IsArcFrom, number_of_out};
+ghost use Rattle.cut_preflow.specs.FlowGraphs.{IsArcFrom, out_arc_number};
 ghost use Rattle.cut_preflow.specs.Preflow.{applies, can_push, is_active, push_amount, relabel_target, smaller};
 ghost use Rattle.cut_preflow.specs.Kept.{IsQuiet};
 ghost use Rattle.cut_preflow.specs.Bound.{most_changes};
@@ -8,7 +8,7 @@ ghost use Rattle.cut_preflow.specs.Trace.{carried_in, state_of};
 ghost use Rattle.cut_preflow.specs.Relabels.{LeadsTo};
 
 use crate::Step;
-use crate::flow_graph::number_of;
+use crate::flow_graph::arc_number;
 use crate::preflow_core::PreflowCore;
 use cut_residual::OutArc;
 
@@ -78,7 +78,7 @@ impl PreflowCore {
         requires out { IsArcFrom (carried_in self.now.net (state_of self.now)) node out }
         requires active { is_active self.now.net (state_of self.now) node ≡ true }
         requires node { node < self.now.net.nodes }
-        ensures { result ≡ can_push self.now.net (state_of self.now) (number_of_out out) }
+        ensures { result ≡ can_push self.now.net (state_of self.now) (out_arc_number out) }
     {
         out.residual > 0 && u64::from(self.label(node)) == u64::from(self.label(out.head)) + 1
     }
@@ -95,7 +95,7 @@ impl PreflowCore {
         for out in self.outs_from(node) {
             if self.can_push(*out, node) {
                 return Some(Step::Push {
-                    arc: number_of(out.step),
+                    arc: arc_number(out.step),
                 });
             }
         }

@@ -2,7 +2,7 @@
 ghost use Rattle.std.specs.Prelude.{◌≡◌, ◌+◌, ◌-◌, ◌*◌, ◌/◌, ◌^◌, ◌<◌, ◌≤◌, ℕ, All, Contains, IfOk, if◌then◌else◌, length, map, slice_index, slice_set};
 ghost use Rattle.cut_residual.specs.declared.arc.ResidualArc.{ResidualArc};
 ghost use Rattle.cut_preflow.specs.Total.{total};
-ghost use Rattle.cut_preflow.specs.FlowGraphs.{IsArcFrom, arcs_opened, number_of, number_of_out};
+ghost use Rattle.cut_preflow.specs.FlowGraphs.{IsArcFrom, arcs_opened, arc_number, out_arc_number};
 ghost use Rattle.cut_preflow.specs.Side.{IsReach};
 ghost use Rattle.cut_preflow.specs.Preflow.{import_in, into, is_forward, opening_flows, out_of, tail_in, head_in, residual_in};
 
@@ -56,9 +56,9 @@ fn step_of(arc: u32) -> ResidualArc
 }
 
 /// The number of a residual arc.
-pub(crate) fn number_of(step: ResidualArc) -> u32
+pub(crate) fn arc_number(step: ResidualArc) -> u32
     requires { step.arc < 65536 }
-    ensures { result ≡ number_of step }
+    ensures { result ≡ arc_number step }
 {
     let arc = step.arc as u32;
     if step.forward { 2 * arc } else { 2 * arc + 1 }
@@ -129,7 +129,7 @@ impl FlowGraph {
     pub(crate) fn outs_from(&self, node: u32) -> &[OutArc]
         requires { node < self.now.nodes }
         ensures each { All (IsArcFrom self.now node) result.now }
-        ensures all { (a : ℕ) → a < 2 * length self.now.imports → tail_in self.now.imports a ≡ node → Contains (map number_of_out result.now) a }
+        ensures all { (a : ℕ) → a < 2 * length self.now.imports → tail_in self.now.imports a ≡ node → Contains (map out_arc_number result.now) a }
     {
         self.graph.residual_arcs(node)
     }

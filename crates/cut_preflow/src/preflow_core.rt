@@ -1,7 +1,7 @@
 //! A preflow with its history, before its steps are counted.
 ghost use Rattle.std.specs.Prelude.{◌≡◌, ◌≢◌, ◌+◌, ◌*◌, ◌/◌, ◌<◌, ◌≤◌, ◌↔◌, ℕ, true, false, All, IfOk, IfSome, IsNone, Contains, length, map, replicate, slice_set, []};
 ghost use Rattle.cut_preflow.specs.Preflow.{count, head, import_at, residual, tail, flow_at, label_at, excess, inflow, outflow, is_active, applies, after, opening, is_legal};
-ghost use Rattle.cut_preflow.specs.FlowGraphs.{IsArcFrom, number_of_out};
+ghost use Rattle.cut_preflow.specs.FlowGraphs.{IsArcFrom, out_arc_number};
 ghost use Rattle.cut_preflow.specs.Kept.{IsFlowNetwork, IsQuiet};
 ghost use Rattle.cut_preflow.specs.Bound.{most_changes};
 ghost use Rattle.cut_preflow.specs.Flows.{AreEnds, AreNear, AreReached, HasFlow, IsShutOff, network_between};
@@ -249,7 +249,7 @@ impl PreflowCore {
     pub(crate) fn outs_from(&self, node: u32) -> &[OutArc]
         requires { node < self.now.net.nodes }
         ensures each { All (IsArcFrom (carried_in self.now.net (state_of self.now)) node) result.now }
-        ensures arcs { (a : ℕ) → Contains (map number_of_out result.now) a ↔ ((a < 2 * count self.now.net) × (tail self.now.net a ≡ node)) }
+        ensures arcs { (a : ℕ) → Contains (map out_arc_number result.now) a ↔ ((a < 2 * count self.now.net) × (tail self.now.net a ≡ node)) }
         ensures few { count self.now.net ≤ 65536 }
     {
         self.graph.outs_from(node)

@@ -1,6 +1,6 @@
 use Rattle.std.proofs.Common.{◌≡◌, ◌<◌, ◌*◌, map, length, get_or, subst}
 use Rattle.std.specs.Prelude.{Contains}
-use Rattle.cut_preflow.specs.FlowGraphs.{Carried, IsArcFrom, number_of_out}
+use Rattle.cut_preflow.specs.FlowGraphs.{Carried, IsArcFrom, out_arc_number}
 use Rattle.cut_preflow.specs.Preflow.{tail_in}
 use Rattle.cut_preflow.proofs.Graphs.{arc_from, arcs_all}
 use Rattle.cut_preflow.proofs.flow_graph.FlowGraph.outs_from.Goals as goal
@@ -13,5 +13,5 @@ returns-clause-each c k d low =
 
 pub returns-clause-all : goal.returns-clause-all
 returns-clause-all c a =
-    subst (λ (g : Carried). a < 2 * length g.imports → tail_in g.imports a ≡ c.args.node → Contains (map number_of_out c.residual_arcs.result.now) a) c.self.view_is
+    subst (λ (g : Carried). a < 2 * length g.imports → tail_in g.imports a ≡ c.args.node → Contains (map out_arc_number c.residual_arcs.result.now) a) c.self.view_is
     (arcs_all c.self.inside.graph.nodes c.self.inside.graph.arcs c.args.node c.residual_arcs.result.now c.residual_arcs.ensures.all a)

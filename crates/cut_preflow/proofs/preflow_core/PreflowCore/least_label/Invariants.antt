@@ -1,8 +1,8 @@
 use Rattle.std.proofs.Common.{map}
-use Rattle.cut_preflow.specs.FlowGraphs.{number_of_out}
+use Rattle.cut_preflow.specs.FlowGraphs.{out_arc_number}
 use Rattle.cut_preflow.specs.Trace.{state_of}
 use Rattle.cut_preflow.proofs.Least.{Lowest}
 use Rattle.cut_preflow.proofs.preflow_core.PreflowCore.least_label.Given as goal
 
 abbrev pub invariant-loop-out : goal.invariant-loop-out
-invariant-loop-out l = Lowest l.self.net (state_of l.self) (map number_of_out l.out-items) l.out-index l.least
+invariant-loop-out l = Lowest l.self.net (state_of l.self) (map out_arc_number l.out-items) l.out-index l.least

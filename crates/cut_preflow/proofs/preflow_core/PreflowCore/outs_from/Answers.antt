@@ -1,6 +1,6 @@
 use Rattle.std.proofs.Common.{◌≡◌, ◌<◌, ◌*◌, map, ap, subst, arith}
 use Rattle.std.specs.Prelude.{◌↔◌, All, Contains}
-use Rattle.cut_preflow.specs.FlowGraphs.{IsArcFrom, number_of_out}
+use Rattle.cut_preflow.specs.FlowGraphs.{IsArcFrom, out_arc_number}
 use Rattle.cut_preflow.specs.Preflow.{count, tail}
 use Rattle.cut_preflow.specs.Trace.{carried_in}
 use Rattle.cut_preflow.proofs.Fields.{seen}
@@ -19,5 +19,5 @@ returns-clause-each c =
 
 pub returns-clause-arcs : goal.returns-clause-arcs
 returns-clause-arcs c a =
-    subst (λ p. Contains (map number_of_out c.outs_from.result.now) a ↔ ((a < 2 * count p.net) × (tail p.net a ≡ c.args.node))) c.self.view_is
+    subst (λ p. Contains (map out_arc_number c.outs_from.result.now) a ↔ ((a < 2 * count p.net) × (tail p.net a ≡ c.args.node))) c.self.view_is
     (numbers_are c.self.inside.graph c.args.node c.outs_from.result.now c.outs_from.ensures.each c.outs_from.ensures.all a)
