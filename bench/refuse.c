@@ -2,9 +2,9 @@
 
    With REFUSE_AT the one of that number; where it does, it makes the file REFUSE_NOTE.
    With REFUSE_EACH every REFUSE_STEPth one, each in a child process that goes on from there, so that what comes before isn't run
-   again; while threads run, from where the first of them started. A child that has started threads STARTS times since has told what
-   it had to tell of the call to which memory was refused, and ends well. How each ended is written into the file REFUSE_EACH: a line with
-   its number, its status as of wait and how many bytes it said, and then these bytes. */
+   again; while threads are still to be joined, from where the first of them started. A child that has started threads STARTS times
+   since has told what it had to tell of the call to which memory was refused, and ends well. How each ended is written into the file
+   REFUSE_EACH: a line with its number, its status as of wait and how many bytes it said, and then these bytes. */
 #define _GNU_SOURCE
 #include <dlfcn.h>
 #include <errno.h>
@@ -86,7 +86,7 @@ static int refused(void) {
     return 1;
 }
 
-/* Before the first thread starts: for each allocation until no thread runs any more a child to which it is refused. */
+/* Before the first thread starts: for each allocation until all threads are joined a child to which it is refused. */
 static void refuse_in_threads(void) {
     int status = 0;
     for (long number = count + step - count % step;; number += step) {
@@ -115,41 +115,32 @@ void *realloc(void *old, size_t size) {
     return refused() ? NULL : next(old, size);
 }
 
-struct thread {
-    void *(*body)(void *);
-    void *given;
-};
-
-static void end(void *unused) {
-    (void)unused;
-    if (--threads == 0 && is_child && count < at) _exit(PAST);
-}
-
-static void *run(void *it) {
-    struct thread thread = *(struct thread *)it;
-    free(it);
-    void *result;
-    pthread_cleanup_push(end, NULL);
-    result = thread.body(thread.given);
-    pthread_cleanup_pop(1);
-    return result;
-}
-
-/* Counts the threads that run. */
+/* Counts the threads that were started and are still to be joined: a child has none of them, so it can't join them. */
 int pthread_create(pthread_t *id, const pthread_attr_t *how, void *(*body)(void *), void *given) {
     static int (*next)(pthread_t *, const pthread_attr_t *, void *(*)(void *), void *);
     if (!next) next = (int (*)(pthread_t *, const pthread_attr_t *, void *(*)(void *), void *))dlsym(RTLD_NEXT, "pthread_create");
     if (ends >= 0 && !is_child && !threads) refuse_in_threads();
     if (is_child && was_refused && ++starts == STARTS) _exit(0);
-    struct thread *it = next_malloc()(sizeof *it);
-    if (!it) return EAGAIN;
-    it->body = body;
-    it->given = given;
     ++threads;
-    int status = next(id, how, run, it);
-    if (status) {
-        --threads;
-        free(it);
-    }
+    int status = next(id, how, body, given);
+    if (status) --threads;
     return status;
+}
+
+/* A child that joins its last thread before the allocation that is to be refused came past the threads. */
+static int past(int status) {
+    if (!status && --threads == 0 && is_child && count < at) _exit(PAST);
+    return status;
+}
+
+int pthread_join(pthread_t id, void **result) {
+    static int (*next)(pthread_t, void **);
+    if (!next) next = (int (*)(pthread_t, void **))dlsym(RTLD_NEXT, "pthread_join");
+    return past(next(id, result));
+}
+
+int pthread_detach(pthread_t id) {
+    static int (*next)(pthread_t);
+    if (!next) next = (int (*)(pthread_t))dlsym(RTLD_NEXT, "pthread_detach");
+    return past(next(id));
 }
