@@ -1,0 +1,153 @@
+//! Jobs of the program, run on what is in memory, with what they put and how they end in a digest.
+ghost use Rattle.std.specs.Prelude.{◌≡◌, true};
+ghost use Rattle.oscip_job.specs.Jobs.{is_query_job};
+
+use crate::digest::Digest;
+use cut_solve::OpenGate;
+use index_run::{OpenBoard, index_to, unresolved_to};
+use ob_board::IndexOptions;
+use oscip_job::{Job, Question};
+use oscip_run::{
+    RunFault, answer_question, check_net_bytes, check_tree, cut_net_bytes, cut_tree, status_of,
+    status_of_run,
+};
+use oscip_tree::{Source, in_order};
+use std::alloc::{AllocError, Global};
+use std::sync::Wait;
+use std::thread::Threads;
+
+/// Why a workload stopped.
+#[derive(Clone, Copy, Debug)]
+pub enum Stopped {
+    /// Memory ran out.
+    Memory,
+    /// There is no workload of the name.
+    Words,
+    /// The files of a tree don't stand in order.
+    Order,
+}
+
+impl From<AllocError> for Stopped {
+    fn from(_error: AllocError) -> Stopped {
+        Stopped::Memory
+    }
+}
+
+/// The status of a run that only puts something.
+fn status_of_puts(ended: &Result<(), RunFault>) -> u8 {
+    match ended {
+        Ok(()) => 0,
+        Err(fault) => status_of(fault),
+    }
+}
+
+/// Makes the index of a tree with one worker.
+pub fn index<R: Threads + Wait + AllocGlobal + Sync>(
+    rt: &R,
+    sources: &[Source],
+    digest: &mut Digest,
+) -> Result<(), Stopped> {
+    if !in_order(sources) {
+        return Err(Stopped::Order);
+    }
+    let alloc = rt.alloc();
+    let (package, root) = (String::new(alloc), String::new(alloc));
+    let options = IndexOptions { package, root };
+    let ended = index_to(rt, alloc, sources, &options, 1, &OpenBoard, digest);
+    digest.end(status_of_puts(&ended));
+    Ok(())
+}
+
+/// Tells what means nothing in a tree.
+pub fn unresolved<R: Threads + AllocGlobal + Sync>(
+    rt: &R,
+    sources: &[Source],
+    digest: &mut Digest,
+) -> Result<(), Stopped> {
+    if !in_order(sources) {
+        return Err(Stopped::Order);
+    }
+    let ended = unresolved_to(rt, rt.alloc(), sources, digest);
+    digest.end(status_of_puts(&ended));
+    Ok(())
+}
+
+/// Checks a report on a tree.
+fn check_in_tree<R: Threads + AllocGlobal + Sync>(
+    rt: &R,
+    sources: &[Source],
+    report: &[u8],
+    prices: Option<&[u8]>,
+    digest: &mut Digest,
+) -> Result<(), Stopped> {
+    if !in_order(sources) {
+        return Err(Stopped::Order);
+    }
+    let ended = check_tree(rt, rt.alloc(), sources, report, prices, digest);
+    digest.end(status_of_run(&ended));
+    Ok(())
+}
+
+/// Cuts a tree between two modules with one worker, and checks the report.
+pub fn cut_in_tree<R: Threads + Wait + AllocGlobal + Sync>(
+    rt: &R,
+    sources: &[Source],
+    a: &str,
+    b: &str,
+    prices: Option<&[u8]>,
+    digest: &mut Digest,
+) -> Result<(), Stopped> {
+    if !in_order(sources) {
+        return Err(Stopped::Order);
+    }
+    let mut report = Vec::new(rt.alloc());
+    let ended = cut_tree(
+        rt,
+        rt.alloc(),
+        sources,
+        a,
+        b,
+        1,
+        &OpenGate,
+        prices,
+        &mut report,
+    );
+    digest.end(status_of_puts(&ended));
+    digest.add(report.as_slice());
+    check_in_tree(rt, sources, report.as_slice(), prices, digest)
+}
+
+/// Cuts a network between two modules with one worker, and checks the report.
+pub fn cut_in_net<R: Threads + Wait + AllocGlobal + Sync>(
+    rt: &R,
+    network: &[u8],
+    a: &str,
+    b: &str,
+    digest: &mut Digest,
+) {
+    let alloc = rt.alloc();
+    let mut report = Vec::new(alloc);
+    let ended = cut_net_bytes(rt, alloc, network, a, b, 1, &OpenGate, None, &mut report);
+    digest.end(status_of_puts(&ended));
+    digest.add(report.as_slice());
+    let ended = check_net_bytes(alloc, network, report.as_slice(), None, digest);
+    digest.end(status_of_run(&ended));
+}
+
+/// Answers the question of a job.
+fn answer(alloc: Global, job: &Job, index: &[u8], digest: &mut Digest)
+    requires { is_query_job job.now ≡ true }
+{
+    let ended = answer_question(alloc, job, index, digest);
+    digest.end(status_of_puts(&ended));
+}
+
+/// Asks an index where what stands at a place is defined.
+pub fn define(alloc: Global, question: Question, index: &[u8], digest: &mut Digest) {
+    answer(alloc, &Job::Def(question), index, digest)
+}
+
+/// Asks an index where what stands at a place is used.
+pub fn refer(alloc: Global, question: Question, index: &[u8], digest: &mut Digest) {
+    answer(alloc, &Job::Refs(question), index, digest)
+}
