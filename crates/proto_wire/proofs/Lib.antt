@@ -14,3 +14,4 @@ pub mod GivenLaws
 pub mod MessageSteps
 pub mod SinkLaws
 pub mod EachLaws
+pub mod InsideLaws

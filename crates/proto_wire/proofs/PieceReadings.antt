@@ -65,7 +65,7 @@ abbrev pub PiecesRead : ℕ → List ℕ → List PayloadRecord → Option WireF
 PiecesRead at bytes pieces None = AreRecords at bytes pieces
 PiecesRead at bytes pieces (Some fault) = IsStopped at bytes pieces fault
 
-PiecesRead-cons : (at : ℕ) (bytes first rest : List ℕ) (p : PayloadRecord) (pieces : List PayloadRecord) (end : Option WireFault) → bytes ≡ first ++ rest → IsRecord at first p → PiecesRead (at + length first) rest pieces end → PiecesRead at bytes (p ∷ pieces) end
+pub PiecesRead-cons : (at : ℕ) (bytes first rest : List ℕ) (p : PayloadRecord) (pieces : List PayloadRecord) (end : Option WireFault) → bytes ≡ first ++ rest → IsRecord at first p → PiecesRead (at + length first) rest pieces end → PiecesRead at bytes (p ∷ pieces) end
 PiecesRead-cons at bytes first rest p pieces None form r others = (first, rest, form, r, others)
 PiecesRead-cons at bytes first rest p pieces (Some fault) form r others =
     let place : (at + length first) + length others.good ≡ at + length (first ++ others.good) = omega (arith, length-append first others.good) in

@@ -1,5 +1,5 @@
 //! The fields of a message, each taken from one record. A record of another field or wire type is passed over.
-ghost use Rattle.std.specs.Prelude.{◌≡◌, ◌++◌, [], ℤ, List, None, Result, OnOk, OnErr, IfErr, map};
+ghost use Rattle.std.specs.Prelude.{◌≡◌, ◌++◌, [], ℤ, List, None, Some, Result, OnOk, OnErr, IfErr, map};
 ghost use Rattle.proto_wire.specs.declared.fault.WireFault.{WireFault};
 ghost use Rattle.std.specs.Result.{result_err, result_unwrap_or};
 ghost use Rattle.std.specs.String.{string_bytes};
@@ -10,9 +10,9 @@ ghost use Rattle.proto_wire.specs.Messages.{payload_record, latest, if_field, fi
 use crate::fault::WireFault;
 use crate::record::{WireRecord, WireValue};
 use crate::varint::varint_at_front;
-use std::alloc::Global;
+use std::alloc::{AllocError, Global};
 
-fn int32(number: u64) -> i32
+pub(crate) fn int32(number: u64) -> i32
     ensures { result ≡ int32 number }
 {
     ((number % (1 << 32)) as u32).cast_signed()
@@ -73,6 +73,54 @@ pub fn take_numbers(
     }
 }
 
+/// Refuses as `push_packed` does, and keeps no number.
+fn check_packed(payload: &[u8], at: usize) -> Result<(), WireFault>
+    ensures clean { OnOk result (result_err (packed at payload.now) ≡ None) }
+    ensures err { IfErr result (λ e. result_err (packed at payload.now) ≡ Some e) }
+{
+    let mut rest = payload;
+    while !rest.is_empty() {
+        let (_, after) = varint_at_front(at, rest)?;
+        rest = after;
+    }
+    Ok(())
+}
+
+/// Refuses as `take_numbers` does where the record is of this repeated field, and keeps no number.
+#[tactic(auto, unfolding(crate::specs::Messages::field_fault))]
+pub fn check_numbers(field: u32, wire: &WireRecord, payload: &[u8]) -> Result<(), WireFault>
+    ensures clean { let p = payload_record wire.now payload.now in OnOk result (field_fault field wire.now (numbers_fault p) ≡ None) }
+    ensures err { let p = payload_record wire.now payload.now in IfErr result (λ e. field_fault field wire.now (numbers_fault p) ≡ Some e) }
+{
+    if wire.field != field {
+        return Ok(());
+    }
+    match wire.value {
+        WireValue::Bytes(_) => check_packed(payload, wire.at),
+        WireValue::Varint(_) | WireValue::Eight | WireValue::Four => Ok(()),
+    }
+}
+
+/// Adds the numbers of the record, packed or not, if it is of this repeated field: of a payload that is no row of varints none.
+/// Fails where memory is refused; some are then added.
+#[tactic(auto, unfolding(crate::specs::Messages::if_field))]
+pub(crate) fn push_given(
+    field: u32,
+    numbers: &mut Vec<i32>,
+    wire: &WireRecord,
+    payload: &[u8],
+) -> Result<(), AllocError>
+    ensures numbers { let p = payload_record wire.now payload.now in OnOk result (numbers.new.items ≡ numbers.old.items ++ if_field field wire.now (numbers_in p)) }
+{
+    match check_numbers(field, wire, payload) {
+        Err(_) => Ok(()),
+        Ok(()) => match take_numbers(field, numbers, wire, payload) {
+            Ok(()) => Ok(()),
+            Err(_) => Err(AllocError),
+        },
+    }
+}
+
 /// Takes the number of the record, if it is of this field.
 #[tactic(auto, unfolding(crate::specs::Messages::if_field))]
 pub fn take_number(field: u32, number: &mut i32, wire: &WireRecord)
@@ -84,6 +132,23 @@ pub fn take_number(field: u32, number: &mut i32, wire: &WireRecord)
     if let WireValue::Varint(given) = wire.value {
         *number = int32(given);
     }
+}
+
+/// Refuses as `take_text` does where the record is of this field, and copies no text.
+#[tactic(auto, unfolding(crate::specs::Messages::field_fault))]
+pub fn check_text(field: u32, wire: &WireRecord, payload: &[u8]) -> Result<(), WireFault>
+    ensures clean { let p = payload_record wire.now payload.now in OnOk result (field_fault field wire.now (text_fault p) ≡ None) }
+    ensures err { let p = payload_record wire.now payload.now in IfErr result (λ e. field_fault field wire.now (text_fault p) ≡ Some e) }
+{
+    if wire.field != field {
+        return Ok(());
+    }
+    if let WireValue::Bytes(_) = wire.value {
+        let Ok(_) = std::str::from_utf8(payload) else {
+            return Err(WireFault::BadText { at: wire.at });
+        };
+    }
+    Ok(())
 }
 
 /// Takes the text of the record, if it is of this field.

@@ -6,6 +6,7 @@
 mod encoding;
 mod fault;
 mod field;
+mod inside;
 pub mod laws;
 mod message;
 mod record;
@@ -15,8 +16,11 @@ mod writer;
 mod writing;
 
 pub use fault::WireFault;
-pub use field::{packed_values, take_number, take_numbers, take_text, take_texts};
-pub use message::{Message, merge_message, read_message, take_messages};
+pub use field::{
+    check_numbers, check_text, packed_values, take_number, take_numbers, take_text, take_texts,
+};
+pub use inside::{Inside, last_bytes, last_number, next_message, numbers_inside};
+pub use message::{Message, check_message, merge_message, read_message, take_messages};
 pub use record::{WireRecord, WireValue, record_at_front, records};
 pub use scratch::Scratch;
 pub use writer::Writer;

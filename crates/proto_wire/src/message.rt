@@ -98,6 +98,27 @@ pub fn take_messages<M: Message + Drop>(
     Ok(())
 }
 
+/// Refuses as `take_messages` does where the record is of this field, and keeps no message.
+#[tactic(auto, unfolding(crate::specs::Messages::field_fault))]
+pub fn check_message<M: Message + Drop>(
+    alloc: Global,
+    field: u32,
+    wire: &WireRecord,
+    payload: &[u8],
+) -> Result<(), WireFault>
+    requires { wire.now.body + length payload.now < 2 ^ 64 }
+    ensures clean { let p = payload_record wire.now payload.now in OnOk result (field_fault field wire.now (message_fault M.fault_in p) ≡ None) }
+    ensures err { let p = payload_record wire.now payload.now in IfErr result (λ e. Stops e (field_fault field wire.now (message_fault M.fault_in p))) }
+{
+    if wire.field != field {
+        return Ok(());
+    }
+    if let WireValue::Bytes(_) = wire.value {
+        let _message: M = read_message(alloc, wire.body, payload)?;
+    }
+    Ok(())
+}
+
 /// Merges the message that the record carries, if it is of this singular field, into the one that there was. A record of
 /// another field or wire type changes nothing. Refuses with the first fault of the message, and with `Memory`; there is then
 /// no message.

@@ -26,12 +26,17 @@ fn varint_within(most: u8, at: usize, bytes: &[u8]) -> Result<(u64, &[u8]), Wire
 }
 
 /// The number at the front, of at most ten bytes, and what follows it. Bits beyond 64 are dropped. The fault has this offset.
+/// A number of one byte, as nearly every key and length is, is answered with no further call.
 /// Protocol Buffers encoding, "Base 128 Varints".
+#[tactic(auto, unfolding(crate::specs::Varints::varint_in))]
 pub(crate) fn varint_at_front(at: usize, bytes: &[u8]) -> Result<(u64, &[u8]), WireFault>
     ensures value { Gives (λ x. (x.0, x.1.now)) result (varint_in 10 at bytes.now) }
     ensures shorter { IfOk result (λ x. length x.1.now < length bytes.now) }
 {
-    varint_within(10, at, bytes)
+    match bytes {
+        [only, rest @ ..] if *only < 128 => Ok((u64::from(*only), rest)),
+        _ => varint_within(10, at, bytes),
+    }
 }
 
 /// Writes a number at the end, in its shortest form.

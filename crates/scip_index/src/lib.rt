@@ -3,6 +3,7 @@
 //! Its contract: what is written of an index means it and no other; what is read is exactly what the bytes mean, or their first fault.
 #![tactic(auto)]
 
+mod checking;
 mod index;
 pub mod laws;
 mod reader;
@@ -10,6 +11,7 @@ mod reading;
 mod writer;
 mod writing;
 
+pub use checking::check;
 pub use index::{Document, Index, Metadata, Occurrence, SymbolInfo, ToolInfo};
 pub use reader::IndexReader;
 pub use reading::from_bytes;

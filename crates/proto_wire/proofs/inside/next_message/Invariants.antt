@@ -1,0 +1,14 @@
+use Rattle.std.proofs.Common.{◌≡◌, ◌≤◌, ◌+◌, ◌++◌, [], length, pos}
+use Rattle.proto_wire.specs.Inside.{records_of}
+use Rattle.proto_wire.specs.Messages.{bytes_in, each_of, latest, number_in, numbers_in, records_inside}
+use Rattle.proto_wire.proofs.inside.next_message.Given as goal
+
+abbrev pub invariant-loop-wire : goal.invariant-loop-wire
+invariant-loop-wire l = record {
+  same : each_of l.field records_inside (records_of l.initial.rest) ≡ each_of l.field records_inside (records_of l.rest);
+  within : l.rest.start + length l.rest.bytes.now ≡ l.initial.rest.start + length l.initial.rest.bytes.now;
+  shorter : length l.rest.bytes.now ≤ length l.initial.rest.bytes.now;
+}
+
+abbrev pub decreases-loop-wire : goal.decreases-loop-wire
+decreases-loop-wire l = length l.rest.bytes.now

@@ -1,0 +1,150 @@
+//! Whether bytes mean an index: each message is checked record by record, and none is made.
+ghost use Rattle.std.specs.Prelude.{◌≡◌, IfErr, OnOk, None, ℕ, List, Unit};
+ghost use Rattle.proto_wire.specs.Faults.{Stops, UnlessMemory};
+ghost use Rattle.proto_wire.specs.Messages.{fault_of, IsFirstFault};
+ghost use Rattle.proto_wire.specs.Readings.{payload_records};
+ghost use Rattle.scip_index.specs.Meaning.{document_fault, index_fault, index_of, metadata_fault, occurrence_fault, symbol_fault, tool_fault, Means};
+
+use proto_wire::{
+    Message, WireFault, WireRecord, check_message, check_numbers, check_text, read_message,
+};
+use std::alloc::Global;
+
+/// An `Occurrence` that is checked alone.
+#[derive(Drop)]
+struct CheckedOccurrence;
+
+impl Message for CheckedOccurrence {
+    ghost means = { λ _ _. Unit {0} };
+
+    ghost fault_in = { occurrence_fault };
+
+    fn blank(_alloc: Global) -> CheckedOccurrence {
+        CheckedOccurrence
+    }
+
+    fn take(&mut self, _alloc: Global, wire: &WireRecord, payload: &[u8]) -> Result<(), WireFault> {
+        check_numbers(1, wire, payload)?;
+        check_text(2, wire, payload)?;
+        check_numbers(7, wire, payload)
+    }
+}
+
+/// A `SymbolInfo` that is checked alone.
+#[derive(Drop)]
+struct CheckedSymbol;
+
+impl Message for CheckedSymbol {
+    ghost means = { λ _ _. Unit {0} };
+
+    ghost fault_in = { symbol_fault };
+
+    fn blank(_alloc: Global) -> CheckedSymbol {
+        CheckedSymbol
+    }
+
+    fn take(&mut self, _alloc: Global, wire: &WireRecord, payload: &[u8]) -> Result<(), WireFault> {
+        check_text(1, wire, payload)?;
+        check_text(6, wire, payload)
+    }
+}
+
+/// A `Document` that is checked alone.
+#[derive(Drop)]
+struct CheckedDocument;
+
+impl Message for CheckedDocument {
+    ghost means = { λ _ _. Unit {0} };
+
+    ghost fault_in = { document_fault };
+
+    fn blank(_alloc: Global) -> CheckedDocument {
+        CheckedDocument
+    }
+
+    fn take(&mut self, alloc: Global, wire: &WireRecord, payload: &[u8]) -> Result<(), WireFault> {
+        check_text(1, wire, payload)?;
+        check_message::<CheckedOccurrence>(alloc, 2, wire, payload)?;
+        check_message::<CheckedSymbol>(alloc, 3, wire, payload)?;
+        check_text(4, wire, payload)
+    }
+}
+
+/// A `ToolInfo` that is checked alone.
+#[derive(Drop)]
+struct CheckedTool;
+
+impl Message for CheckedTool {
+    ghost means = { λ _ _. Unit {0} };
+
+    ghost fault_in = { tool_fault };
+
+    fn blank(_alloc: Global) -> CheckedTool {
+        CheckedTool
+    }
+
+    fn take(&mut self, _alloc: Global, wire: &WireRecord, payload: &[u8]) -> Result<(), WireFault> {
+        check_text(1, wire, payload)?;
+        check_text(2, wire, payload)?;
+        check_text(3, wire, payload)
+    }
+}
+
+/// A `Metadata` that is checked alone.
+#[derive(Drop)]
+struct CheckedMetadata;
+
+impl Message for CheckedMetadata {
+    ghost means = { λ _ _. Unit {0} };
+
+    ghost fault_in = { metadata_fault };
+
+    fn blank(_alloc: Global) -> CheckedMetadata {
+        CheckedMetadata
+    }
+
+    fn take(&mut self, alloc: Global, wire: &WireRecord, payload: &[u8]) -> Result<(), WireFault> {
+        check_message::<CheckedTool>(alloc, 2, wire, payload)?;
+        check_text(3, wire, payload)
+    }
+}
+
+/// An `Index` that is checked alone.
+#[derive(Drop)]
+struct CheckedIndex;
+
+impl Message for CheckedIndex {
+    ghost means = { λ _ _. Unit {0} };
+
+    ghost fault_in = { index_fault };
+
+    fn blank(_alloc: Global) -> CheckedIndex {
+        CheckedIndex
+    }
+
+    fn take(&mut self, alloc: Global, wire: &WireRecord, payload: &[u8]) -> Result<(), WireFault> {
+        check_message::<CheckedMetadata>(alloc, 1, wire, payload)?;
+        check_message::<CheckedDocument>(alloc, 2, wire, payload)?;
+        check_message::<CheckedSymbol>(alloc, 3, wire, payload)
+    }
+}
+
+/// Checks the bytes, without what its clauses add.
+fn check_index(alloc: Global, bytes: &[u8]) -> Result<(), WireFault>
+    ensures clean { OnOk result (fault_of index_fault 0 bytes.now ≡ None) }
+    ensures err { IfErr result (λ e. Stops e (fault_of index_fault 0 bytes.now)) }
+{
+    let _index: CheckedIndex = read_message(alloc, 0, bytes)?;
+    Ok(())
+}
+
+/// Checks that the bytes mean an index, and makes none.
+/// Refuses with the first fault of the bytes, as `from_bytes` does. Takes no memory.
+pub fn check(alloc: Global, bytes: &[u8]) -> Result<(), WireFault>
+    // They mean the index that their records say.
+    ensures means { OnOk result (Means bytes.now (index_of (payload_records 0 bytes.now).0)) }
+    // It is their first fault.
+    ensures fault { IfErr result (λ e. UnlessMemory e (IsFirstFault index_fault 0 bytes.now e)) }
+{
+    check_index(alloc, bytes)
+}
