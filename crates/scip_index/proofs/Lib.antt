@@ -6,3 +6,4 @@ pub mod Again
 pub mod RoundTrips
 pub mod PartLaws
 pub mod StreamingLaws
+pub mod CheckedLaws

@@ -27,7 +27,7 @@ said_of bytes i m = m.said ∙ sym (ap (λ (x : List PayloadRecord × Option Wir
 pub one_meaning : (bytes : List ℕ) (i j : PlainIndex) → Means bytes i → Means bytes j → i ≡ j
 one_meaning bytes i j m n = said_of bytes i m ∙ sym (said_of bytes j n)
 
-no_fault : (bytes : List ℕ) (i : PlainIndex) → Means bytes i → fault_of index_fault 0 bytes ≡ None
+pub no_fault : (bytes : List ℕ) (i : PlainIndex) → Means bytes i → fault_of index_fault 0 bytes ≡ None
 no_fault bytes i m = fault_of-end index_fault 0 bytes m.pieces None m.clean (records_found 0 bytes m.pieces m.are_records)
 
 same_fault : (x y : WireFault) → ◌≡◌ {A = Option WireFault} (Some x) (Some y) → x ≡ y

@@ -1,5 +1,5 @@
 //! Whether bytes mean an index: each message is checked record by record, and none is made.
-ghost use Rattle.std.specs.Prelude.{◌≡◌, IfErr, OnOk, None, ℕ, List, Unit};
+ghost use Rattle.std.specs.Prelude.{◌≡◌, IfErr, OnOk, None};
 ghost use Rattle.proto_wire.specs.Faults.{Stops, UnlessMemory};
 ghost use Rattle.proto_wire.specs.Messages.{fault_of, IsFirstFault};
 ghost use Rattle.proto_wire.specs.Readings.{payload_records};

@@ -1,0 +1,110 @@
+-- What checked bytes keep: they mean what their records say, and the paths of their documents are UTF-8.
+use Rattle.std.proofs.Common.{◌≡◌, ℕ, List, [], ◌∷◌, ◌++◌, Option, Some, None, Result, Ok, Err, refl, sym, subst, inl, inr}
+use Rattle.std.specs.Prelude.{◌==◌, IfErr, OnOk}
+use Rattle.std.specs.List.{AllByRecursion}
+use Rattle.std.specs.Str.{IsUtf8, is_utf8}
+use Rattle.std.proofs.lemmas.Bool.{cases_Bool}
+use Rattle.std.proofs.lemmas.Str.{IsUtf8-from_ascii, IsUtf8-from_is_utf8}
+use Rattle.std.proofs.lemmas.Str.Ascii.{IsAscii-nil}
+use Rattle.proto_wire.specs.declared.fault.WireFault.{WireFault}
+use Rattle.proto_wire.specs.declared.fault.WireFault.TheVariants.{BadText}
+use Rattle.proto_wire.specs.declared.record.WireValue.{WireValue}
+use Rattle.proto_wire.specs.declared.record.WireValue.TheVariants.{Varint, Eight, Bytes, Four}
+use Rattle.proto_wire.specs.Faults.{Stops, UnlessMemory}
+use Rattle.proto_wire.specs.Records.{PayloadRecord}
+use Rattle.proto_wire.specs.Readings.{payload_records}
+use Rattle.proto_wire.specs.Messages.{bytes_given, bytes_in, each_of, fault_of, field_fault, first_of, if_field, latest, message_fault, message_fault_given, records_inside, records_inside_given, text_fault, text_fault_given, IsClean, IsFirstFault}
+use Rattle.proto_wire.proofs.FaultLaws.{UnlessMemory-then}
+use Rattle.proto_wire.proofs.MessageLaws.{first_fault_iff, no_fault_iff}
+use Rattle.proto_wire.proofs.PieceReadings.{records_found}
+use Rattle.scip_index.specs.Meaning.{document_fault, index_fault, index_of, metadata_fault, occurrence_fault, symbol_fault, Means}
+use Rattle.scip_index.proofs.OutcomeLaws.{means_from}
+
+-- bytes without a fault mean what their records say
+pub checked_means : (bytes : List ℕ) (result : Result (Unit {0}) WireFault) → OnOk result (fault_of index_fault 0 bytes ≡ None) → OnOk result (Means bytes (index_of (payload_records 0 bytes).0))
+checked_means bytes (Ok x) clean = means_from bytes (index_of (payload_records 0 bytes).0) clean refl
+checked_means bytes (Err fault) clean = tt
+
+pub checked_fault : (bytes : List ℕ) (result : Result (Unit {0}) WireFault) → IfErr result (λ e. Stops e (fault_of index_fault 0 bytes)) → IfErr result (λ e. UnlessMemory e (IsFirstFault index_fault 0 bytes e))
+checked_fault bytes (Ok x) err = tt
+checked_fault bytes (Err fault) err = UnlessMemory-then fault err (λ e. (first_fault_iff index_fault 0 bytes fault).0 e)
+
+-- ---- paths
+
+former : (first later : Option WireFault) → first_of first later ≡ None → first ≡ None
+former None later e = refl
+former (Some fault) later e = absurd cc
+
+latter : (first later : Option WireFault) → first_of first later ≡ None → later ≡ None
+latter None later e = e
+latter (Some fault) later e = absurd cc
+
+-- the records of clean bytes have no fault inside
+clean_records : (inside : PayloadRecord → Option WireFault) (start : ℕ) (bytes : List ℕ) → fault_of inside start bytes ≡ None → IsClean inside (payload_records start bytes).0
+clean_records inside start bytes clean =
+    let h = (no_fault_iff inside start bytes).0 clean in
+    subst (λ (x : List PayloadRecord × Option WireFault). IsClean inside x.0) (sym (records_found start bytes h.0 h.1)) h.2
+
+all_append : {X : Type 0} (P : X → Type 0) (xs ys : List X) → AllByRecursion P xs → AllByRecursion P ys → AllByRecursion P (xs ++ ys)
+all_append P [] ys a b = b
+all_append P (x ∷ xs) ys a b = (a.0, all_append P xs ys a.1 b)
+
+text_given : (value : WireValue) (at : ℕ) (payload : List ℕ) → text_fault_given value at payload ≡ None → AllByRecursion IsUtf8 (bytes_given value payload)
+text_given (Varint n) at payload e = tt
+text_given Eight at payload e = tt
+text_given (Bytes count) at payload e = elim (cases_Bool (is_utf8 payload)) [
+  | inl good ↦ (IsUtf8-from_is_utf8 payload good, tt)
+  | inr bad ↦ let no : Some (BadText at) ≡ None = rw bad at e in absurd cc
+]
+text_given Four at payload e = tt
+
+text_of_field : (k : ℕ) (p : PayloadRecord) → field_fault k p.wire (text_fault p) ≡ None → AllByRecursion IsUtf8 (if_field k p.wire (bytes_in p))
+unfolding field_fault if_field
+text_of_field k p e = elim (cases_Bool (p.wire.field == k)) [
+  | inl here ↦ rw here (text_given p.wire.value p.wire.at p.payload (rw here at e))
+  | inr other ↦ rw other tt
+]
+
+texts_of_document : (pieces : List PayloadRecord) → IsClean document_fault pieces → AllByRecursion IsUtf8 (each_of 1 bytes_in pieces)
+unfolding each_of
+texts_of_document [] clean = tt
+texts_of_document (p ∷ pieces) clean =
+    all_append IsUtf8 (if_field 1 p.wire (bytes_in p)) (each_of 1 bytes_in pieces)
+    (text_of_field 1 p (former (field_fault 1 p.wire (text_fault p)) (first_of (field_fault 2 p.wire (message_fault occurrence_fault p)) (first_of (field_fault 3 p.wire (message_fault symbol_fault p)) (field_fault 4 p.wire (text_fault p)))) clean.0))
+    (texts_of_document pieces clean.1)
+
+latest_text : (old : List ℕ) (texts : List (List ℕ)) → IsUtf8 old → AllByRecursion IsUtf8 texts → IsUtf8 (latest old texts)
+latest_text old [] h all = h
+latest_text old (t ∷ texts) h all = latest_text t texts all.0 all.1
+
+abbrev pub HasPathText : List PayloadRecord → Type 0
+HasPathText pieces = IsUtf8 (latest [] (each_of 1 bytes_in pieces))
+
+path_text : (pieces : List PayloadRecord) → IsClean document_fault pieces → HasPathText pieces
+path_text pieces clean = latest_text [] (each_of 1 bytes_in pieces) (IsUtf8-from_ascii [] IsAscii-nil) (texts_of_document pieces clean)
+
+document_given : (value : WireValue) (body : ℕ) (payload : List ℕ) → message_fault_given document_fault value body payload ≡ None → AllByRecursion HasPathText (records_inside_given value body payload)
+document_given (Varint n) body payload e = tt
+document_given Eight body payload e = tt
+document_given (Bytes count) body payload e = (path_text (payload_records body payload).0 (clean_records document_fault body payload e), tt)
+document_given Four body payload e = tt
+
+document_of_field : (p : PayloadRecord) → field_fault 2 p.wire (message_fault document_fault p) ≡ None → AllByRecursion HasPathText (if_field 2 p.wire (records_inside p))
+unfolding field_fault if_field
+document_of_field p e = elim (cases_Bool (p.wire.field == 2)) [
+  | inl here ↦ rw here (document_given p.wire.value p.wire.body p.payload (rw here at e))
+  | inr other ↦ rw other tt
+]
+
+documents_texts : (pieces : List PayloadRecord) → IsClean index_fault pieces → AllByRecursion HasPathText (each_of 2 records_inside pieces)
+unfolding each_of
+documents_texts [] clean = tt
+documents_texts (p ∷ pieces) clean =
+    let behind = first_of (field_fault 2 p.wire (message_fault document_fault p)) (field_fault 3 p.wire (message_fault symbol_fault p)) in
+    let both = latter (field_fault 1 p.wire (message_fault metadata_fault p)) behind clean.0 in
+    all_append HasPathText (if_field 2 p.wire (records_inside p)) (each_of 2 records_inside pieces)
+    (document_of_field p (former (field_fault 2 p.wire (message_fault document_fault p)) (field_fault 3 p.wire (message_fault symbol_fault p)) both)) (documents_texts pieces clean.1)
+
+-- the paths of the documents of bytes that mean an index are UTF-8
+pub paths_are_texts : (bytes : List ℕ) → fault_of index_fault 0 bytes ≡ None → AllByRecursion HasPathText (each_of 2 records_inside (payload_records 0 bytes).0)
+paths_are_texts bytes clean = documents_texts (payload_records 0 bytes).0 (clean_records index_fault 0 bytes clean)
