@@ -217,6 +217,13 @@ symbol_of : (path : List ℕ) (at : Position) (found : List PlacedOccurrence) (b
 symbol_of path at found None h = h
 symbol_of path at found (Some x) (f, n, is) = (f, x.0, n, is)
 
+-- the symbol of the nearest of what is kept of these occurrences is that at the position
+pub found_symbol : (path : List ℕ) (at : Position) (found : List PlacedOccurrence) → IsSymbolAt found path at (option_map (λ x. x.1) (fold (nearer pair_span at) None (flat_map (covering_in path) found)))
+found_symbol path at found = symbol_of path at found (fold (nearer pair_span at) None (flat_map (covering_in path) found)) (best_of_all path at [] found None none_yet)
+  where
+    none_yet : IsBest path at [] None
+    none_yet = λ g other (k, l, is) covers. omega (arith, l)
+
 -- the symbol of the nearest row is that at the position
 pub nearest_symbol : (path : List ℕ) (at : Position) (found : List PlacedOccurrence) (symbols : List (List ℕ)) (rows : List Covering) → map (said_covering symbols) rows ≡ flat_map (covering_in path) found
     → IsSymbolAt found path at (option_map (λ c. text_at symbols c.symbol) (nearest rows at))
@@ -269,7 +276,7 @@ eq_flip a b = elim (cases_Bool (bytes_eq b a)) [
 ]
 
 -- whether an occurrence is wanted
-abbrev is_wanted : Bool → List ℕ → List ℕ → PlacedOccurrence → Bool
+abbrev pub is_wanted : Bool → List ℕ → List ℕ → PlacedOccurrence → Bool
 is_wanted defines path symbol f = is_sought path symbol f && (if defines then is_definition f.occurrence else not (is_definition f.occurrence))
 
 swap : (a b : Bool) → (a && b) ≡ (b && a)
@@ -302,7 +309,7 @@ if_first : (b : Bool) (f : PlacedOccurrence) (rest : List PlacedOccurrence) → 
 if_first true f rest = refl
 if_first false f rest = refl
 
-all_asked : (defines : Bool) (path symbol : List ℕ) (found : List PlacedOccurrence) → flat_map (place_asked defines (is_local symbol) path) (flat_map (mention_of symbol) found) ≡ places_of (filter (is_wanted defines path symbol) found)
+pub all_asked : (defines : Bool) (path symbol : List ℕ) (found : List PlacedOccurrence) → flat_map (place_asked defines (is_local symbol) path) (flat_map (mention_of symbol) found) ≡ places_of (filter (is_wanted defines path symbol) found)
 all_asked defines path symbol [] = refl
 all_asked defines path symbol (f ∷ found) =
     flat_map-append (place_asked defines (is_local symbol) path) (mention_of symbol f) (flat_map (mention_of symbol) found)

@@ -2,3 +2,4 @@ pub mod TableLemmas
 pub mod StoreLemmas
 pub mod AskedLemmas
 pub mod OneSymbol
+pub mod DirectLaws

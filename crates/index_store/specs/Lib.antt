@@ -3,3 +3,4 @@ pub mod Tables
 pub mod Queries
 pub mod Stores
 pub mod Asked
+pub mod Direct

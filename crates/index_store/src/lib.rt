@@ -3,6 +3,7 @@
 //! Its contract: the answers are exactly those that all occurrences of the index give, in its order, or no document has the path.
 #![tactic(auto)]
 
+mod direct;
 mod draft;
 mod fault;
 pub mod laws;
@@ -14,6 +15,7 @@ mod span;
 mod store;
 mod table;
 
+pub use direct::{definitions_in_bytes, references_in_bytes, symbol_in_bytes};
 pub use fault::StoreFault;
 pub use place::{Place, Position};
 pub use store::Store;

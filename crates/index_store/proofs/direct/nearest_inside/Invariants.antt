@@ -1,0 +1,16 @@
+use Rattle.std.proofs.Common.{◌≡◌, ◌+◌, length, map}
+use Rattle.std.specs.Prelude.{option_map}
+use Rattle.proto_wire.specs.Inside.{records_of}
+use Rattle.proto_wire.specs.Messages.{each_of, records_inside}
+use Rattle.scip_index.specs.Meaning.{occurrence_of}
+use Rattle.index_store.specs.Direct.{nearest_of, said_near}
+use Rattle.index_store.proofs.direct.nearest_inside.Given as goal
+
+abbrev pub invariant-loop-occurrence : goal.invariant-loop-occurrence
+invariant-loop-occurrence l = record {
+  same : nearest_of l.at (option_map said_near l.initial.best) (map occurrence_of (each_of 2 records_inside (records_of l.document))) ≡ nearest_of l.at (option_map said_near l.best) (map occurrence_of (each_of 2 records_inside (records_of l.rest)));
+  within : l.rest.start + length l.rest.bytes.now ≡ l.document.start + length l.document.bytes.now;
+}
+
+abbrev pub decreases-loop-occurrence : goal.decreases-loop-occurrence
+decreases-loop-occurrence l = length l.rest.bytes.now

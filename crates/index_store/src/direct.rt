@@ -1,0 +1,301 @@
+//! Questions to the bytes of an index, with no store: the records are walked, and no message and no table is made.
+ghost use Rattle.std.specs.Prelude.{◌≡◌, ◌<◌, ◌+◌, ◌^◌, ◌++◌, [], IfOk, None, OnOk, fold, length, map, option_map};
+ghost use Rattle.std.specs.Str.{IsUtf8, bytes_eq};
+ghost use Rattle.std.specs.Option.{option_to_list};
+ghost use Rattle.std.specs.List.{flat_map};
+ghost use Rattle.proto_wire.specs.Inside.{records_of};
+ghost use Rattle.proto_wire.specs.Messages.{bytes_in, each_of, latest};
+ghost use Rattle.scip_index.specs.Meaning.{document_of, occurrence_of, Means};
+ghost use Rattle.scip_index.specs.Plain.{PlainIndex};
+ghost use Rattle.index_store.specs.Asked.{nearer, places_wanted};
+ghost use Rattle.index_store.specs.Direct.{covering_of, documents_of, has_document, is_sought_occurrence, nearest_at, nearest_of, pair_span, place_of_symbol, places_in_document, said_near, HaveTextPaths, IsSymbolFound};
+ghost use Rattle.index_store.specs.Queries.{answered, definitions, is_definition, is_local, plain_place, references};
+ghost use Rattle.index_store.specs.Spans.{span_of};
+
+use crate::span::{Span, is_in, is_nearer, span_of};
+use crate::{Place, Position, StoreFault};
+use proto_wire::{Inside, last_bytes, last_number, next_message, numbers_inside};
+use std::alloc::{AllocError, Global};
+
+/// A span with its symbol.
+#[derive(Clone, Copy)]
+struct Near<'a> {
+    span: Span,
+    symbol: &'a [u8],
+}
+
+/// The span of an occurrence, whose numbers are put in the place of those that are there.
+fn span_inside(occurrence: Inside<'_>, numbers: &mut Vec<i32>) -> Result<Option<Span>, AllocError>
+    requires { occurrence.start + length occurrence.bytes.now < 2 ^ 64 }
+    ensures { IfOk result (λ s. s ≡ span_of (occurrence_of (records_of occurrence.entry)).range) }
+{
+    numbers_inside(1, occurrence, numbers)?;
+    Ok(span_of(numbers.as_slice()))
+}
+
+/// The span and the symbol of an occurrence that has both.
+fn near_inside<'a>(
+    occurrence: Inside<'a>,
+    numbers: &mut Vec<i32>,
+) -> Result<Option<Near<'a>>, AllocError>
+    requires { occurrence.start + length occurrence.bytes.now < 2 ^ 64 }
+    ensures { IfOk result (λ n. option_to_list (option_map said_near n) ≡ covering_of (occurrence_of (records_of occurrence.entry))) }
+{
+    let symbol = last_bytes(2, occurrence);
+    if symbol.is_empty() {
+        return Ok(None);
+    }
+    match span_inside(occurrence, numbers)? {
+        None => Ok(None),
+        Some(span) => Ok(Some(Near { span, symbol })),
+    }
+}
+
+/// The nearest so far, and one more.
+fn nearer_of_two<'a>(at: Position, best: Option<Near<'a>>, row: Near<'a>) -> Option<Near<'a>>
+    ensures { option_map said_near result ≡ nearer pair_span at (option_map said_near best.entry) (said_near row.entry) }
+{
+    if !is_in(at, row.span) {
+        return best;
+    }
+    match best {
+        Some(other) if !is_nearer(row.span, other.span) => Some(other),
+        _ => Some(row),
+    }
+}
+
+/// The nearest so far, and the occurrences of a document.
+fn nearest_inside<'a>(
+    document: Inside<'a>,
+    at: Position,
+    best: Option<Near<'a>>,
+    numbers: &mut Vec<i32>,
+) -> Result<Option<Near<'a>>, AllocError>
+    requires { document.start + length document.bytes.now < 2 ^ 64 }
+    ensures { IfOk result (λ n. option_map said_near n ≡ nearest_of at (option_map said_near best.entry) (document_of (records_of document.entry)).occurrences) }
+{
+    let mut rest = document;
+    let mut best = best;
+    while let Some(occurrence) = next_message(2, &mut rest) {
+        if let Some(row) = near_inside(occurrence, numbers)? {
+            best = nearer_of_two(at, best, row);
+        }
+    }
+    Ok(best)
+}
+
+/// Whether a text of the field is this one.
+fn has_text(field: u32, message: Inside<'_>, text: &[u8]) -> bool
+    requires { message.start + length message.bytes.now < 2 ^ 64 }
+    ensures { result ≡ bytes_eq (latest [] (each_of field bytes_in (records_of message.entry))) text.now }
+{
+    last_bytes(field, message) == text
+}
+
+/// What is found of a path: whether a document has it, and the nearest there.
+#[derive(Clone, Copy)]
+struct Search<'a> {
+    has_path: bool,
+    best: Option<Near<'a>>,
+}
+
+/// The nearest of the occurrences of the documents that have the path.
+fn search_documents<'a>(
+    alloc: Global,
+    index: Inside<'a>,
+    path: &str,
+    at: Position,
+) -> Result<Search<'a>, AllocError>
+    requires { index.start + length index.bytes.now < 2 ^ 64 }
+    ensures has { IfOk result (λ s. s.has_path ≡ has_document path.now (documents_of index.entry)) }
+    ensures nearest { IfOk result (λ s. option_map said_near s.best ≡ fold (nearest_at path.now at) None (documents_of index.entry)) }
+{
+    let mut rest = index;
+    let mut numbers = Vec::new(alloc);
+    let mut found = Search {
+        has_path: false,
+        best: None,
+    };
+    while let Some(document) = next_message(2, &mut rest) {
+        if has_text(1, document, path.as_bytes()) {
+            found.has_path = true;
+            found.best = nearest_inside(document, at, found.best, &mut numbers)?;
+        }
+    }
+    Ok(found)
+}
+
+/// The symbol of the occurrence at a position of a document, as `Store::symbol_at` tells it, of the index that the bytes mean.
+/// Refuses with `NoDocument` where no document has the path, and with `Memory`.
+pub fn symbol_in_bytes<'a>(
+    alloc: Global,
+    bytes: &'a [u8],
+    path: &str,
+    at: Position,
+) -> Result<Option<&'a [u8]>, StoreFault>
+    ensures exact { (index : PlainIndex) → Means bytes.now index → IsSymbolFound index path.now at (answered (option_map (λ symbol. symbol.now)) result) }
+{
+    let found = search_documents(alloc, Inside { start: 0, bytes }, path, at)?;
+    if !found.has_path {
+        return Err(StoreFault::NoDocument);
+    }
+    match found.best {
+        None => Ok(None),
+        Some(near) => Ok(Some(near.symbol)),
+    }
+}
+
+/// What is asked of a symbol: where it is defined, or else where it is used, and in which documents.
+#[derive(Clone, Copy)]
+struct Sought<'s> {
+    symbol: &'s [u8],
+    defines: bool,
+    /// Whether the documents of the path alone are looked at.
+    local: bool,
+    path: &'s [u8],
+}
+
+fn is_local(symbol: &[u8]) -> bool
+    ensures { result ≡ is_local symbol.now }
+{
+    symbol.starts_with(b"local ")
+}
+
+/// Whether the lowest bit of an occurrence's roles is set.
+fn is_definition(occurrence: Inside<'_>) -> bool
+    requires { occurrence.start + length occurrence.bytes.now < 2 ^ 64 }
+    ensures { result ≡ is_definition (occurrence_of (records_of occurrence.entry)) }
+{
+    last_number(3, occurrence).cast_unsigned() % 2 == 1
+}
+
+/// Whether an occurrence is of the symbol and one of those that are asked for.
+fn is_sought(occurrence: Inside<'_>, sought: Sought<'_>) -> bool
+    requires { occurrence.start + length occurrence.bytes.now < 2 ^ 64 }
+    ensures { result ≡ is_sought_occurrence sought.entry.defines sought.entry.symbol.now (occurrence_of (records_of occurrence.entry)) }
+{
+    has_text(2, occurrence, sought.symbol) && is_definition(occurrence) == sought.defines
+}
+
+/// Adds the place of an occurrence, if it is asked for.
+fn add_occurrence<'a>(
+    occurrence: Inside<'_>,
+    path: &'a str,
+    sought: Sought<'_>,
+    numbers: &mut Vec<i32>,
+    places: &mut Vec<Place<'a>>,
+) -> Result<(), AllocError>
+    requires { occurrence.start + length occurrence.bytes.now < 2 ^ 64 }
+    ensures { OnOk result (map plain_place places.new.items ≡ map plain_place places.old.items ++ place_of_symbol sought.entry.defines sought.entry.symbol.now path.now (occurrence_of (records_of occurrence.entry))) }
+{
+    if is_sought(occurrence, sought) {
+        if let Some(span) = span_inside(occurrence, numbers)? {
+            places.push(Place {
+                path,
+                start: span.start,
+                end: span.end,
+            })?;
+        }
+    }
+    Ok(())
+}
+
+/// Adds the places of a document's occurrences that are asked for.
+fn add_occurrences<'a>(
+    document: Inside<'_>,
+    path: &'a str,
+    sought: Sought<'_>,
+    numbers: &mut Vec<i32>,
+    places: &mut Vec<Place<'a>>,
+) -> Result<(), AllocError>
+    requires { document.start + length document.bytes.now < 2 ^ 64 }
+    ensures { OnOk result (map plain_place places.new.items ≡ map plain_place places.old.items ++ flat_map (place_of_symbol sought.entry.defines sought.entry.symbol.now path.now) (document_of (records_of document.entry)).occurrences) }
+{
+    let mut rest = document;
+    while let Some(occurrence) = next_message(2, &mut rest) {
+        add_occurrence(occurrence, path, sought, numbers, places)?;
+    }
+    Ok(())
+}
+
+/// Adds the places of a document that are asked for.
+fn add_document<'a>(
+    document: Inside<'a>,
+    sought: Sought<'_>,
+    numbers: &mut Vec<i32>,
+    places: &mut Vec<Place<'a>>,
+) -> Result<(), AllocError>
+    requires { document.start + length document.bytes.now < 2 ^ 64 }
+    ensures { IsUtf8 (document_of (records_of document.entry)).relative_path → OnOk result (map plain_place places.new.items ≡ map plain_place places.old.items ++ places_in_document sought.entry.defines sought.entry.local sought.entry.path.now sought.entry.symbol.now (document_of (records_of document.entry))) }
+{
+    let path = last_bytes(1, document);
+    if sought.local && path != sought.path {
+        return Ok(());
+    }
+    match std::str::from_utf8(path) {
+        Err(_) => Ok(()),
+        Ok(path) => add_occurrences(document, path, sought, numbers, places),
+    }
+}
+
+/// The places of the documents of an index that are asked for.
+fn places_sought<'a>(
+    alloc: Global,
+    index: Inside<'a>,
+    sought: Sought<'_>,
+) -> Result<Vec<Place<'a>>, AllocError>
+    requires { index.start + length index.bytes.now < 2 ^ 64 }
+    ensures { HaveTextPaths (documents_of index.entry) → IfOk result (λ places. map plain_place places.items ≡ flat_map (places_in_document sought.entry.defines sought.entry.local sought.entry.path.now sought.entry.symbol.now) (documents_of index.entry)) }
+{
+    let mut rest = index;
+    let mut numbers = Vec::new(alloc);
+    let mut places = Vec::new(alloc);
+    while let Some(document) = next_message(2, &mut rest) {
+        add_document(document, sought, &mut numbers, &mut places)?;
+    }
+    Ok(places)
+}
+
+/// The places of a symbol that are asked for.
+fn places_in_bytes<'a>(
+    alloc: Global,
+    bytes: &'a [u8],
+    path: &str,
+    symbol: &[u8],
+    defines: bool,
+) -> Result<Vec<Place<'a>>, AllocError>
+    ensures { (index : PlainIndex) → Means bytes.now index → IfOk result (λ places. map plain_place places.items ≡ places_wanted defines index path.now symbol.now) }
+{
+    let sought = Sought {
+        symbol,
+        defines,
+        local: is_local(symbol),
+        path: path.as_bytes(),
+    };
+    places_sought(alloc, Inside { start: 0, bytes }, sought)
+}
+
+/// The places where a symbol is defined, as `Store::definitions` tells them, of the index that the bytes mean. Fails where memory
+/// is refused.
+pub fn definitions_in_bytes<'a>(
+    alloc: Global,
+    bytes: &'a [u8],
+    path: &str,
+    symbol: &[u8],
+) -> Result<Vec<Place<'a>>, AllocError>
+    ensures { (index : PlainIndex) → Means bytes.now index → IfOk result (λ places. map plain_place places.items ≡ definitions index path.now symbol.now) }
+{
+    places_in_bytes(alloc, bytes, path, symbol, true)
+}
+
+/// The places where a symbol is used and not defined; otherwise as `definitions_in_bytes`.
+pub fn references_in_bytes<'a>(
+    alloc: Global,
+    bytes: &'a [u8],
+    path: &str,
+    symbol: &[u8],
+) -> Result<Vec<Place<'a>>, AllocError>
+    ensures { (index : PlainIndex) → Means bytes.now index → IfOk result (λ places. map plain_place places.items ≡ references index path.now symbol.now) }
+{
+    places_in_bytes(alloc, bytes, path, symbol, false)
+}
