@@ -12,7 +12,8 @@ use Rattle.scip_index.specs.Plain.{PlainIndex}
 use Rattle.index_store.specs.declared.fault.StoreFault.{StoreFault}
 use Rattle.index_store.specs.declared.fault.StoreFault.TheVariants as store
 use Rattle.index_store.specs.declared.place.Position.{Position}
-use Rattle.index_store.specs.Queries.{PlainPlace, ArePlacesAnswer, IsSymbolAnswer}
+use Rattle.index_store.specs.Direct.{IsSymbolFound}
+use Rattle.index_store.specs.Queries.{PlainPlace}
 use Rattle.oscip_query.specs.declared.asking.Which.{Which}
 use Rattle.oscip_query.specs.declared.fault.QueryFault.{QueryFault}
 use Rattle.oscip_query.specs.declared.fault.QueryFault.TheVariants.{Wire, NoDocument, Device, Memory}
@@ -38,19 +39,14 @@ refused_index bytes path at which known Device h = absurd h
 refused_index bytes path at which known Memory h = inl (Keeps-refl known)
 
 -- a path that no document has
-pub refused_path : (bytes path : List ℕ) (at : Position) (which : Which) (known : Option (List ℕ)) (index : PlainIndex) → Means bytes index → (fault : StoreFault) → IsSymbolAnswer index path at (Err fault)
+pub refused_path : (bytes path : List ℕ) (at : Position) (which : Which) (known : Option (List ℕ)) (index : PlainIndex) → Means bytes index → (fault : StoreFault) → IsSymbolFound index path at (Err fault)
     → IsQueryRun bytes path at which known known (Err (of_store fault))
 refused_path bytes path at which known index means store.NoDocument h = ((index, means, h), Keeps-refl known)
-refused_path bytes path at which known index means store.Memory h = absurd h
-
-pub refused_places : (bytes path : List ℕ) (at : Position) (which : Which) (known : Option (List ℕ)) (index : PlainIndex) → Means bytes index → (wanted : List PlainPlace) (fault : StoreFault)
-    → ArePlacesAnswer index path wanted (Err fault) → IsQueryRun bytes path at which known known (Err (of_store fault))
-refused_places bytes path at which known index means wanted store.NoDocument h = ((index, means, h), Keeps-refl known)
-refused_places bytes path at which known index means wanted store.Memory h = inl (Keeps-refl known)
+refused_path bytes path at which known index means store.Memory h = inl (Keeps-refl known)
 
 -- the lines of the places that are told
 pub answer : (bytes path : List ℕ) (at : Position) (which : Which) (index : PlainIndex) (symbol : Option (List ℕ)) (places : List PlainPlace) → Means bytes index
-    → IsSymbolAnswer index path at (Ok symbol) → places ≡ places_told which index path symbol → IsAnswerText bytes path at which (place_lines places)
+    → IsSymbolFound index path at (Ok symbol) → places ≡ places_told which index path symbol → IsAnswerText bytes path at which (place_lines places)
 answer bytes path at which index symbol places means at_position told =
     record { index = index; means = means; has_path = at_position.0; symbol = symbol; stands = at_position.1; lines = rw told refl }
 

@@ -1,18 +1,18 @@
 //! Questions to the bytes of an index.
-ghost use Rattle.std.specs.Prelude.{◌≡◌, ℕ, List, map, IfErr, IfOk};
+ghost use Rattle.std.specs.Prelude.{◌≡◌, map, IfErr, IfOk, OnOk};
 ghost use Rattle.byte_sink.specs.Sinks.{failures_by};
+ghost use Rattle.scip_index.specs.Meaning.{Means};
 ghost use Rattle.scip_index.specs.Plain.{PlainIndex};
-ghost use Rattle.index_store.specs.Queries.{answered, plain_place, ArePlacesAnswer};
-ghost use Rattle.index_store.specs.Stores.{IsStoreOf, IsStoreOfBytes};
+ghost use Rattle.index_store.specs.Queries.{plain_place};
 ghost use Rattle.oscip_query.specs.Asking.{places_asked, IsQueryRun, IsRefusedIndex};
 ghost use Rattle.oscip_query.specs.Faults.{is_device};
 
 use crate::QueryFault;
 use crate::lines::put_lines;
 use byte_sink::Sink;
-use index_store::{Place, Position, Store, StoreFault};
-use scip_index::IndexReader;
-use std::alloc::Global;
+use index_store::{Place, Position, definitions_in_bytes, references_in_bytes, symbol_in_bytes};
+use scip_index::check;
+use std::alloc::{AllocError, Global};
 
 /// Which places of a symbol are asked for.
 #[derive(Clone, Copy, Debug, PartialEq, Eq)]
@@ -23,46 +23,47 @@ pub enum Which {
     References,
 }
 
-/// The store of the index that the bytes mean.
-fn store_of(alloc: Global, bytes: &[u8]) -> Result<Store, QueryFault>
-    ensures exact { IfOk result (IsStoreOfBytes bytes.now) }
+/// Refuses bytes that mean no index, with their first fault.
+fn check_index(alloc: Global, bytes: &[u8]) -> Result<(), QueryFault>
+    ensures means { OnOk result ((index : PlainIndex) × Means bytes.now index) }
     ensures fault { IfErr result (IsRefusedIndex bytes.now) }
 {
-    let reader = IndexReader::new(alloc, bytes);
-    Ok(Store::from_reader(alloc, reader)?)
+    check(alloc, bytes)?;
+    Ok(())
 }
 
 /// The places of a symbol that are asked for.
 fn places_of<'a>(
-    store: &'a Store,
+    alloc: Global,
+    bytes: &'a [u8],
     path: &str,
-    symbol: &str,
+    symbol: &[u8],
     which: Which,
-) -> Result<Vec<Place<'a>>, StoreFault>
-    ensures exact { (index : PlainIndex) → IsStoreOf index store.now → ArePlacesAnswer index path.now (places_asked which index path.now symbol.now) (answered (λ places. map plain_place places.items) result) }
+) -> Result<Vec<Place<'a>>, AllocError>
+    ensures exact { (index : PlainIndex) → Means bytes.now index → IfOk result (λ places. map plain_place places.items ≡ places_asked which index path.now symbol.now) }
 {
     match which {
-        Which::Definitions => store.definitions(path, symbol),
-        Which::References => store.references(path, symbol),
+        Which::Definitions => definitions_in_bytes(alloc, bytes, path, symbol),
+        Which::References => references_in_bytes(alloc, bytes, path, symbol),
     }
 }
 
-/// Puts the lines of the places that the store of an index tells.
+/// Puts the lines of the places that bytes tell which mean an index.
 fn put_answer<S: Sink>(
     alloc: Global,
-    store: &Store,
+    bytes: &[u8],
     path: &str,
     at: Position,
     which: Which,
     sink: &mut S,
 ) -> Result<(), QueryFault>
-    ensures run { (bytes : List ℕ) → IsStoreOfBytes bytes store.now → IsQueryRun bytes path.now at which (S.taken sink.old) (S.taken sink.new) result }
+    ensures run { (index : PlainIndex) → Means bytes.now index → IsQueryRun bytes.now path.now at which (S.taken sink.old) (S.taken sink.new) result }
     ensures failures { S.failures sink.new ≡ failures_by is_device result (S.failures sink.old) }
 {
-    let Some(symbol) = store.symbol_at(path, at)? else {
+    let Some(symbol) = symbol_in_bytes(alloc, bytes, path, at)? else {
         return Ok(());
     };
-    let places = places_of(store, path, symbol, which)?;
+    let places = places_of(alloc, bytes, path, symbol, which)?;
     put_lines(alloc, places.as_slice(), sink)?;
     Ok(())
 }
@@ -87,6 +88,6 @@ pub fn query<S: Sink>(
     // Device is answered where the sink counted a failure, and nowhere else.
     ensures failures { S.failures sink.new ≡ failures_by is_device result (S.failures sink.old) }
 {
-    let store = store_of(alloc, index)?;
-    put_answer(alloc, &store, path, at, which, sink)
+    check_index(alloc, index)?;
+    put_answer(alloc, index, path, at, which, sink)
 }
