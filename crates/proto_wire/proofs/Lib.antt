@@ -15,3 +15,4 @@ pub mod MessageSteps
 pub mod SinkLaws
 pub mod EachLaws
 pub mod InsideLaws
+mod ShortRecords

@@ -17,6 +17,7 @@ pub struct Inside<'a> {
 }
 
 /// The next record with its payload, and what follows it; none at the end, or where a record is wrong.
+#[inline(always)]
 fn next_record<'a>(rest: &mut Inside<'a>) -> Option<(WireRecord, &'a [u8])>
     requires { rest.old.start + length rest.old.bytes.now < 2 ^ 64 }
     ensures none { IfNone result (records_of rest.old ≡ []) }

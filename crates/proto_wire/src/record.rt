@@ -1,5 +1,5 @@
 //! Wire records: a key and a value.
-ghost use Rattle.std.specs.Prelude.{◌≡◌, ◌<◌, ◌≤◌, ◌+◌, ◌-◌, ◌^◌, List, Result, length, IfOk};
+ghost use Rattle.std.specs.Prelude.{◌≡◌, ◌<◌, ◌≤◌, ◌+◌, ◌-◌, ◌^◌, List, Result, length, IfOk, IfSome, Ok};
 ghost use Rattle.proto_wire.specs.declared.record.WireRecord.{WireRecord};
 ghost use Rattle.proto_wire.specs.declared.fault.WireFault.{WireFault};
 ghost use Rattle.proto_wire.specs.Faults.{Gives, Shows, Tells};
@@ -124,6 +124,7 @@ fn value_at_front(
 }
 
 /// The record at the front, its bytes where it has a length, and what follows.
+#[inline(never)]
 #[tactic(auto, unfolding(crate::specs::Readings::record_in))]
 fn first_record(at: usize, bytes: &[u8]) -> Result<(WireRecord, &[u8], &[u8]), WireFault>
     requires { at + length bytes.now < 2 ^ 64 }
@@ -141,10 +142,63 @@ fn first_record(at: usize, bytes: &[u8]) -> Result<(WireRecord, &[u8], &[u8]), W
     value_at_front(Key { field, at, body }, key % 8, rest)
 }
 
+/// The record at the front, where its key is one byte and a number or a length of one byte follows, as nearly all are: none of the
+/// varints is walked.
+#[inline(always)]
+fn short_record(at: usize, bytes: &[u8]) -> Option<(WireRecord, &[u8], &[u8])>
+    requires { at + length bytes.now < 2 ^ 64 }
+    ensures exact { IfSome result (λ x. IsFirst at bytes.now (Ok (payload_record_view x))) }
+    ensures shorter { IfSome result (λ x. length x.2.now < length bytes.now) }
+    ensures inside { IfSome result (λ x. x.0.body + length x.1.now ≤ at + length bytes.now) }
+{
+    let [key, next, rest @ ..] = bytes else {
+        return None;
+    };
+    let (key, next) = (*key, *next);
+    if key < 8 || key >= 128 || next >= 128 {
+        return None;
+    }
+    let field = u32::from(key / 8);
+    let count = usize::from(next);
+    match key % 8 {
+        0 => {
+            let value = WireValue::Varint(u64::from(next));
+            let body = at + 1;
+            Some((
+                WireRecord {
+                    field,
+                    value,
+                    at,
+                    body,
+                },
+                &[],
+                rest,
+            ))
+        }
+        2 if count <= rest.len() => {
+            let value = WireValue::Bytes(count);
+            let body = at + 2;
+            let (payload, after) = rest.split_at(count);
+            Some((
+                WireRecord {
+                    field,
+                    value,
+                    at,
+                    body,
+                },
+                payload,
+                after,
+            ))
+        }
+        _ => None,
+    }
+}
+
 /// The record at the front of the bytes, the first of which has this offset in the whole input; its payload, which is empty
 /// where its wire type has no length; and the bytes behind it.
 /// Refuses with `Truncated`, `LongVarint`, `ZeroField` and `Group`, with that offset: what comes first in the record is told.
 /// Protocol Buffers encoding, "Message Structure".
+#[inline(always)]
 pub fn record_at_front(at: usize, bytes: &[u8]) -> Result<(WireRecord, &[u8], &[u8]), WireFault>
     requires { at + length bytes.now < 2 ^ 64 }
     // It is the record that stands in front, with what follows it, or the fault of the one that is wrong.
@@ -152,7 +206,10 @@ pub fn record_at_front(at: usize, bytes: &[u8]) -> Result<(WireRecord, &[u8], &[
     ensures shorter { IfOk result (λ x. length x.2.now < length bytes.now) }
     ensures inside { IfOk result (λ x. x.0.body + length x.1.now ≤ at + length bytes.now) }
 {
-    first_record(at, bytes)
+    match short_record(at, bytes) {
+        Some(found) => Ok(found),
+        None => first_record(at, bytes),
+    }
 }
 
 /// The records of the bytes, in a row. Refuses with the fault of the first record that is wrong, and the offset of its key:
