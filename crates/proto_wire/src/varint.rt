@@ -26,7 +26,7 @@ fn varint_within(most: u8, at: usize, bytes: &[u8]) -> Result<(u64, &[u8]), Wire
 }
 
 /// The number at the front, of at most ten bytes, and what follows it. Bits beyond 64 are dropped. The fault has this offset.
-/// A number of one byte, as nearly every key and length is, is answered with no further call.
+/// A number of one byte or two, as nearly all are, is answered with no further call.
 /// Protocol Buffers encoding, "Base 128 Varints".
 #[tactic(auto, unfolding(crate::specs::Varints::varint_in))]
 pub(crate) fn varint_at_front(at: usize, bytes: &[u8]) -> Result<(u64, &[u8]), WireFault>
@@ -35,6 +35,9 @@ pub(crate) fn varint_at_front(at: usize, bytes: &[u8]) -> Result<(u64, &[u8]), W
 {
     match bytes {
         [only, rest @ ..] if *only < 128 => Ok((u64::from(*only), rest)),
+        [low, high, rest @ ..] if *high < 128 => {
+            Ok((u64::from(*low % 128) + 128 * u64::from(*high), rest))
+        }
         _ => varint_within(10, at, bytes),
     }
 }
