@@ -28,6 +28,11 @@ found_again : (at : ℕ) (bytes : List ℕ) (pieces : List PayloadRecord) (end :
 found_again at bytes pieces None h = records_found at bytes pieces h
 found_again at bytes pieces (Some fault) h = stop_found at bytes pieces fault h
 
+pub none_left : (at : ℕ) (bytes : List ℕ) → length bytes ≡ 0 → (payload_records at bytes).0 ≡ []
+unfolding payload_records
+none_left at [] none = ap (λ (found : List PayloadRecord × Option WireFault). found.0) (ended 0 at [] refl)
+none_left at (b ∷ bytes) none = absurd (omega arith)
+
 -- the first one, and then those behind it
 pub first_then : (at : ℕ) (bytes : List ℕ) (p : PayloadRecord) (after : List ℕ) → IsFirst at bytes (Ok (p, after)) → (payload_records at bytes).0 ≡ p ∷ (payload_records (at + (length bytes - length after)) after).0
 first_then at bytes p after h =

@@ -26,6 +26,9 @@ fn next_record<'a>(rest: &mut Inside<'a>) -> Option<(WireRecord, &'a [u8])>
     ensures within { rest.new.start + length rest.new.bytes.now ≡ rest.old.start + length rest.old.bytes.now }
     ensures inside { IfSome result (λ x. x.0.body + length x.1.now ≤ rest.old.start + length rest.old.bytes.now) }
 {
+    if rest.bytes.is_empty() {
+        return None;
+    }
     match record_at_front(rest.start, rest.bytes) {
         Err(_) => None,
         Ok((wire, payload, after)) => {

@@ -3,7 +3,6 @@ use Rattle.std.proofs.lemmas.Result.{err_from_is_err_and}
 use Rattle.std.proofs.lemmas.Bool.{eqb-true}
 use Rattle.proto_wire.specs.Packed.{int32}
 use Rattle.proto_wire.proofs.PieceLaws.{some_from_test}
-use Rattle.proto_wire.proofs.FaultLaws.{UnlessMemory-from}
 use Rattle.proto_wire.proofs.PackedLaws.{Counts-start, Counts-step, Counts-fault, Counts-end}
 use Rattle.proto_wire.proofs.field.check_packed.Goals as goal
 

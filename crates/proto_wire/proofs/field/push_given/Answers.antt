@@ -1,4 +1,4 @@
-use Rattle.std.proofs.Common.{◌++◌, ◌∙◌, ap, sym}
+use Rattle.std.proofs.Common.{sym}
 use Rattle.std.proofs.lemmas.List.{append-nil}
 use Rattle.proto_wire.specs.Messages.{payload_record}
 use Rattle.proto_wire.proofs.InsideLaws.{numbers_none}

@@ -1,4 +1,4 @@
-use Rattle.std.proofs.Common.{List, [], ℕ, ◌∙◌, sym, arith}
+use Rattle.std.proofs.Common.{◌∙◌, sym}
 use Rattle.proto_wire.specs.Inside.{records_of}
 use Rattle.proto_wire.specs.Messages.{bytes_in, payload_record}
 use Rattle.proto_wire.proofs.InsideLaws.{latest_none, latest_then}

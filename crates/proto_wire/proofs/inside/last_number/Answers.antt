@@ -1,4 +1,4 @@
-use Rattle.std.proofs.Common.{List, [], ℕ, ◌∙◌, sym, to_z, of_z, w32}
+use Rattle.std.proofs.Common.{◌∙◌, sym, to_z, w32}
 use Rattle.std.proofs.lemmas.Int.{to_z-of_z}
 use Rattle.proto_wire.specs.Inside.{records_of}
 use Rattle.proto_wire.specs.Messages.{number_in, payload_record}

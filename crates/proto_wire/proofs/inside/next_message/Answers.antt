@@ -1,4 +1,4 @@
-use Rattle.std.proofs.Common.{List, [], ◌++◌, ◌∙◌, ap, sym, arith}
+use Rattle.std.proofs.Common.{List, ◌++◌, ◌∙◌, ap, arith}
 use Rattle.proto_wire.specs.Inside.{records_of}
 use Rattle.proto_wire.specs.Records.{PayloadRecord}
 use Rattle.proto_wire.specs.Messages.{each_of, records_inside, payload_record}

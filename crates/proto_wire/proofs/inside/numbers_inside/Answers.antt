@@ -1,4 +1,4 @@
-use Rattle.std.proofs.Common.{List, [], ◌++◌, ℤ, ◌∙◌, ap, sym, append_assoc}
+use Rattle.std.proofs.Common.{List, ◌++◌, ℤ, ◌∙◌, ap, sym, append_assoc}
 use Rattle.std.proofs.lemmas.List.{append-nil}
 use Rattle.proto_wire.specs.Inside.{records_of}
 use Rattle.proto_wire.specs.Messages.{each_of, if_field, numbers_in, payload_record}

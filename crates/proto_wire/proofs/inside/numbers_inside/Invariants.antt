@@ -1,6 +1,6 @@
-use Rattle.std.proofs.Common.{◌≡◌, ◌≤◌, ◌+◌, ◌++◌, [], length, pos}
+use Rattle.std.proofs.Common.{◌≡◌, ◌+◌, ◌++◌, length}
 use Rattle.proto_wire.specs.Inside.{records_of}
-use Rattle.proto_wire.specs.Messages.{bytes_in, each_of, latest, number_in, numbers_in, records_inside}
+use Rattle.proto_wire.specs.Messages.{each_of, numbers_in}
 use Rattle.proto_wire.proofs.inside.numbers_inside.Given as goal
 
 abbrev pub invariant-loop-wire : goal.invariant-loop-wire

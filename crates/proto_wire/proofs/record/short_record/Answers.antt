@@ -1,4 +1,4 @@
-use Rattle.std.proofs.Common.{◌≡◌, sym, arith}
+use Rattle.std.proofs.Common.{arith}
 use Rattle.proto_wire.proofs.ShortRecords.{number_in_front, payload_in_front}
 use Rattle.proto_wire.proofs.record.short_record.Goals as goal
 
