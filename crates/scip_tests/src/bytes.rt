@@ -1,8 +1,10 @@
 //! Bytes as records, as packed numbers and as indexes. They are worked by hand from the encoding, or stand in its description.
 use crate::told::is_told;
-use index_store::{Position, Store};
+use index_store::{
+    Position, Store, StoreFault, definitions_in_bytes, references_in_bytes, symbol_in_bytes,
+};
 use proto_wire::{WireFault, WireRecord, WireValue, packed_values, records};
-use scip_index::{Index, IndexReader, from_bytes, to_bytes};
+use scip_index::{Index, IndexReader, check, from_bytes, to_bytes};
 use std::alloc::{AllocError, Global};
 use std::test::Fail;
 
@@ -19,6 +21,8 @@ enum As {
     Rest,
     /// An index that is put into a store: the symbol at the eighth column of the first line of its document `a`.
     Store,
+    /// An index that is checked and asked without a store: in how many places the symbol there is defined, and in how many used.
+    Checked,
 }
 
 /// An index of another producer: a document with an unpacked range and an unknown field 99, and then metadata.
@@ -228,6 +232,21 @@ const ROWS: &[(As, &[u8], &str)] = &[
         b"\x12\x1a\x0a\x01a\x12\x15\x0a\x10\x00\x80\x80\x80\x80\xf8\xff\xff\xff\xff\x01\xff\xff\xff\xff\x07\x12\x01s",
         "no symbol",
     ),
+    (As::Checked, FOREIGN, "1 defined, 0 used"),
+    // Two documents of one path, of whose two occurrences neither is a definition, and a third occurrence in a document of another path.
+    (
+        As::Checked,
+        b"\x12\x0f\x0a\x01a\x12\x0a\x0a\x03\x00\x07\x08\x12\x01s\x18\x00\x12\x0d\x12\x08\x0a\x03\x01\x00\x02\x12\x01s\x0a\x01a\x12\x0f\x12\x0a\x0a\x03\x02\x00\x02\x12\x01s\x18\x03\x0a\x01b",
+        "1 defined, 2 used",
+    ),
+    (As::Checked, b"\x12\x03\x0a\x01a", "no symbol"),
+    (As::Checked, TWO, "no symbol"),
+    (As::Checked, b"", "no document"),
+    (
+        As::Checked,
+        b"\x12\x05\x12\x03\x0a\x01\x80",
+        "the record at 4 is cut off",
+    ),
 ];
 
 fn told_fault(alloc: Global, fault: WireFault) -> Result<String, AllocError> {
@@ -297,6 +316,21 @@ fn told_store(alloc: Global, index: Index) -> Result<String, AllocError> {
     }
 }
 
+fn told_places(alloc: Global, bytes: &[u8], symbol: &[u8]) -> Result<String, AllocError> {
+    let defined = definitions_in_bytes(alloc, bytes, "a", symbol)?;
+    let used = references_in_bytes(alloc, bytes, "a", symbol)?;
+    format!(in alloc; "{} defined, {} used", defined.len(), used.len())
+}
+
+fn told_checked(alloc: Global, bytes: &[u8]) -> Result<String, AllocError> {
+    match symbol_in_bytes(alloc, bytes, "a", Position { line: 0, column: 7 }) {
+        Ok(Some(symbol)) => told_places(alloc, bytes, symbol),
+        Ok(None) => String::from_str(alloc, "no symbol"),
+        Err(StoreFault::NoDocument) => String::from_str(alloc, "no document"),
+        Err(StoreFault::Memory) => Err(AllocError),
+    }
+}
+
 fn told(alloc: Global, way: As, bytes: &[u8]) -> Result<String, AllocError> {
     match way {
         As::Records => match records(alloc, bytes) {
@@ -311,6 +345,10 @@ fn told(alloc: Global, way: As, bytes: &[u8]) -> Result<String, AllocError> {
         },
         As::Store => match from_bytes(alloc, bytes) {
             Ok(index) => told_store(alloc, index),
+            Err(fault) => told_fault(alloc, fault),
+        },
+        As::Checked => match check(alloc, bytes) {
+            Ok(()) => told_checked(alloc, bytes),
             Err(fault) => told_fault(alloc, fault),
         },
     }
