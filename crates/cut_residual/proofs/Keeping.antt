@@ -1,17 +1,11 @@
 -- Arcs whose flow alone has changed.
 use Rattle.std.proofs.Common.{◌≡◌, ℕ, zero, suc, ◌<◌, cond, List, [], ◌∷◌, length, get_or, refl, sym, ap, ◌∙◌, subst, arith}
 use Rattle.std.specs.Prelude.{All, map}
-use Rattle.std.specs.Global.{Vec}
 use Rattle.std.proofs.lemmas.List.{length-map, get_or-map}
 use Rattle.cut_residual.specs.declared.arc.Arc.{Arc}
-use Rattle.cut_residual.specs.declared.arc.OutArc.{OutArc}
 use Rattle.cut_residual.specs.declared.arc.ResidualArc.{ResidualArc}
 use Rattle.cut_residual.specs.Flows.{AreSameArcs, emptied}
 use Rattle.cut_residual.specs.Graphs.{no_arc, tail}
-use Rattle.cut_residual.specs.Groups.{group_at, lists}
-
-pub group_is : (groups : List (Vec OutArc)) (u : ℕ) (g : Vec OutArc) → g ≡ get_or groups u g → u < length groups → group_at (lists groups) u ≡ g.items
-group_is groups u g e h = get_or-map (λ v. v.items) groups u g [] h ∙ ap (λ v. v.items) (sym e)
 
 arc_emptied : (arcs : List Arc) (k : ℕ) → get_or (map emptied arcs) k no_arc ≡ emptied (get_or arcs k no_arc)
 arc_emptied [] k = refl

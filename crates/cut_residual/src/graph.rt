@@ -7,7 +7,7 @@ ghost use Rattle.cut_residual.specs.OutArcs.{step_of, IsOutOf};
 
 use crate::arc::out_of;
 use crate::augment::{least_residual, push, residual_of};
-use crate::groups::{Grouped, Indexes, Row, groups_of, in_row};
+use crate::groups::{Indexes, begins_of, count_all, placed};
 use crate::{Arc, OutArc, ResidualArc};
 use std::alloc::{AllocError, Global};
 use std::marker::Model;
@@ -43,14 +43,15 @@ impl ResidualGraph {
         requires between { All (λ r. (r.from < nodes) × (r.to < nodes)) arcs.items }
         ensures { IfOk result (λ g. g ≡ record { nodes = nodes; arcs = arcs.items }) }
     {
-        let Grouped { groups, indexes } = groups_of(alloc, &arcs, nodes)?;
-        let Row { begins, outs } = in_row(alloc, &groups, arcs.len().saturating_mul(2))?;
+        let counted = count_all(alloc, &arcs, nodes)?;
+        let begins = begins_of(alloc, &counted.sizes)?;
+        let outs = placed(alloc, &arcs, nodes, &begins, &counted)?;
         Ok(ResidualGraph {
             nodes,
             arcs,
             begins,
             outs,
-            indexes,
+            indexes: counted.indexes,
         })
     }
 
