@@ -1,21 +1,33 @@
 -- A number that is read is the one that was written.
-use Rattle.std.proofs.Common.{◌≡◌, ℕ, zero, suc, ◌^◌, ◌<◌, true, eqb, List, ◌||◌, not, length, get_or, Some, Result, Ok, Err, refl, sym, ap, arith, rules, inl, inr}
+use Rattle.std.proofs.Common.{◌≡◌, ℕ, zero, suc, ◌+◌, ◌-◌, ◌*◌, ◌^◌, ◌<◌, ◌≤◌, Bool, true, false, eqb, List, ◌&&◌, ◌||◌, not, length, take, get_or, Some, None, Result, Ok, Err, refl, sym, ap, ◌∙◌, arith, rules, inl, inr}
 use Rattle.std.specs.Result.{result_ok}
 use Rattle.std.specs.List.{list_all}
-use Rattle.std.specs.Char.{is_ascii_digit}
 use Rattle.std.specs.Str.{IsUtf8}
 use Rattle.std.specs.Str.Parse.{digits_value, ParsesUnsigned}
+use Rattle.std.specs.Char.{is_ascii_digit}
+use Rattle.std.specs.Int.{IsInRange}
 use Rattle.std.specs.Fmt.{decimal}
+use Rattle.std.proofs.lemmas.List.{take_all}
+use Rattle.std.proofs.lemmas.List.Folds.{list_all_more}
+use Rattle.std.proofs.lemmas.Int.Digits.{digits_value_more}
+use Rattle.std.proofs.lemmas.Str.{digit_value_digit}
 use Rattle.std.proofs.lemmas.Bool.{and_parts, and_from, cases_lt, ltb-true, lt-ltb, le-ltb}
 use Rattle.std.proofs.lemmas.Bool.Decides.{nat_tests}
 use Rattle.std.proofs.lemmas.Option.{cond_some}
 use Rattle.std.proofs.lemmas.Str.{IsUtf8-from_ascii}
-use Rattle.std.proofs.lemmas.Str.Parse.{IsNumeralModel, numerals_by_value, parse_digits}
+use Rattle.std.proofs.lemmas.Str.Parse.{IsNumeralModel, digits_value-take-le, numerals_by_value, parse_digits}
 use Rattle.std.proofs.lemmas.Fmt.{IsAscii-from_digits, decimal-digits_value, digits_decimal, digits_value-decimal, decimal_digit, decimal_nonempty, first_decimal}
-use Rattle.texts.specs.Fields.{is_plain_number, number_of}
+use Rattle.texts.specs.Fields.{digits_of, is_plain_number, number_of}
 
 pub own : IsNumeralModel (λ ds. list_all is_ascii_digit ds ≡ true) (digits_value 10)
 own = numerals_by_value _ (search rules)
+
+digit_range : (c : ℕ) → is_ascii_digit c ≡ true → IsInRange 48 57 c
+digit_range c e = grind (arith, nat_tests)
+
+and_false : (b : Bool) → (b && false) ≡ false
+and_false true = refl
+and_false false = refl
 
 -- only the text of one digit may begin with a zero
 lead : (first len : ℕ) → (not (eqb first 48) || eqb len 1) ≡ true → first ≡ 48 → len ≡ 1
@@ -36,6 +48,32 @@ number_read {E} bs (Err e) plain h =
       | inl lt ↦ absurd (p (some, lt))
       | inr le ↦ rw (plain, le-ltb _ _ le) refl
     ]
+
+-- one digit more is read
+module _ (bytes : List ℕ) (i : ℕ) (in_bytes : i < length bytes) (so_far : list_all is_ascii_digit (take i bytes) ≡ true) (digit : is_ascii_digit (get_or bytes i 0) ≡ true) where
+  pub digits_still : list_all is_ascii_digit (take (i + 1) bytes) ≡ true
+  digits_still = list_all_more is_ascii_digit bytes i 0 in_bytes ∙ and_from _ _ so_far digit
+
+  pub value_now : digits_value 10 (take (i + 1) bytes) ≡ digits_value 10 (take i bytes) * 10 + (get_or bytes i 0 - 48)
+  value_now =
+      let value = digits_value_more 10 bytes i in_bytes in
+      let is = digit_value_digit (get_or bytes i 0) (digit_range (get_or bytes i 0) digit) in
+      omega arith
+
+  -- what is above 64 bits stays above them
+  pub too_much : 2 ^ 64 ≤ digits_value 10 (take (i + 1) bytes) → digits_of bytes ≡ None
+  unfolding digits_of
+  too_much more =
+      let within = digits_value-take-le 10 bytes (i + 1) (omega arith) in
+      rw (le-ltb (digits_value 10 bytes) (2 ^ 64) (omega arith), and_false (list_all is_ascii_digit bytes)) refl
+
+pub digits_end : (bytes : List ℕ) (i value : ℕ) → length bytes ≤ i → list_all is_ascii_digit (take i bytes) ≡ true → value ≡ digits_value 10 (take i bytes) → value < 2 ^ 64 → Some value ≡ digits_of bytes
+unfolding digits_of
+digits_end bytes i value past digits is fits =
+    let whole : take i bytes ≡ bytes = take_all i bytes past in
+    let all : list_all is_ascii_digit bytes ≡ true = ap (list_all is_ascii_digit) (sym whole) ∙ digits in
+    let same : value ≡ digits_value 10 bytes = is ∙ ap (digits_value 10) whole in
+    rw (all, lt-ltb (digits_value 10 bytes) (2 ^ 64) (omega arith)) (ap Some same)
 
 pub number_takes : (text : List ℕ) (n : ℕ) → number_of text ≡ Some n → (text ≡ decimal n) × (n < 2 ^ 64)
 unfolding number_of

@@ -21,6 +21,10 @@ is_plain_number text = list_all is_ascii_digit text && (nat_lt 0 (length text) &
 unfoldable pub number_of : List ℕ → Option ℕ
 number_of text = if is_plain_number text && nat_lt (digits_value 10 text) (2 ^ 64) then Some (digits_value 10 text) else None
 
+-- the number below 2 ^ 64 that digits write, with leading zeros or not
+unfoldable pub digits_of : List ℕ → Option ℕ
+digits_of text = if list_all is_ascii_digit text && nat_lt (digits_value 10 text) (2 ^ 64) then Some (digits_value 10 text) else None
+
 -- an identifier (Oberon-07 report, section 3): a letter, and then letters and digits
 abbrev pub is_name : List ℕ → Bool
 is_name [] = false

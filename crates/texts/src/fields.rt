@@ -2,7 +2,7 @@
 ghost use Rattle.std.specs.Prelude.{◌≡◌, ◌==◌, ℕ, option_map};
 ghost use Rattle.std.specs.List.{list_all, position};
 ghost use Rattle.std.specs.Char.{is_ascii_alphanumeric, is_ascii_digit};
-ghost use Rattle.texts.specs.Fields.{cut_at, is_name, is_plain_number, named, number_of};
+ghost use Rattle.texts.specs.Fields.{cut_at, digits_of, is_name, named, number_of};
 
 fn place_of(bytes: &[u8], byte: u8) -> Option<usize>
     ensures { result ≡ position (λ b. b == byte) bytes.now }
@@ -37,29 +37,31 @@ pub fn is_identifier(bytes: &[u8]) -> bool
     }
 }
 
-fn is_digits(bytes: &[u8]) -> bool
-    ensures { result ≡ list_all is_ascii_digit bytes.now }
+/// The number up to 2^64 - 1 of which the bytes are the decimal digits, or none: each byte is tested and counted in one pass.
+#[tactic(auto, unfolding(crate::specs::Fields::digits_of))]
+fn digits_in(bytes: &[u8]) -> Option<u64>
+    ensures { result ≡ digits_of bytes.now }
 {
-    bytes.iter().all(|b| b.is_ascii_digit())
-}
-
-fn is_plain(bytes: &[u8]) -> bool
-    ensures { result ≡ is_plain_number bytes.now }
-{
-    is_digits(bytes) && !bytes.is_empty() && (bytes[0] != b'0' || bytes.len() == 1)
+    let mut value = 0u64;
+    for byte in bytes {
+        if !byte.is_ascii_digit() {
+            return None;
+        }
+        let digit = u64::from(*byte - b'0');
+        value = value.checked_mul(10)?.checked_add(digit)?;
+    }
+    Some(value)
 }
 
 /// The number up to 2^64 - 1 of which the bytes are the decimal digits, without a leading zero; or none.
-#[tactic(auto, unfolding(crate::specs::Fields::number_of))]
+#[tactic(auto, unfolding(crate::specs::Fields::number_of, crate::specs::Fields::digits_of))]
 pub fn number_in(bytes: &[u8]) -> Option<u64>
     ensures { result ≡ number_of bytes.now }
 {
-    if !is_plain(bytes) {
-        return None;
-    }
-    match std::str::from_utf8(bytes) {
-        Err(_) => None,
-        Ok(text) => text.parse().ok(),
+    if !bytes.is_empty() && (bytes[0] != b'0' || bytes.len() == 1) {
+        digits_in(bytes)
+    } else {
+        None
     }
 }
 
@@ -70,8 +72,6 @@ pub fn name_in(bytes: &[u8]) -> Option<&str>
     if !is_identifier(bytes) {
         return None;
     }
-    match std::str::from_utf8(bytes) {
-        Err(_) => None,
-        Ok(name) => Some(name),
-    }
+    // An identifier is ASCII, so it is text, and no byte needs another look.
+    Some(unsafe { std::str::from_utf8_unchecked(bytes) })
 }
