@@ -1,1 +1,2 @@
 pub mod Other
+pub mod Passing

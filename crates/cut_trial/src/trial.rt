@@ -1,9 +1,9 @@
 //! A preflow that is run for its flow alone (Goldberg and Tarjan 1988): as long as a node with excess has a label below the number of nodes, which
 //! counts how far it is from the end at least; then what is stuck is taken back. In rounds the labels are made anew as distances, so nodes from
 //! which nothing gets to the end are told at once.
-ghost use Rattle.std.specs.Prelude.{◌≡◌, ◌<◌, All, IfOk, IfSome, OnOk, length};
-ghost use Rattle.cut_residual.specs.OutArcs.{IsOutOf};
-ghost use Rattle.cut_trial.specs.Trials.{HasOtherFlow};
+ghost use Rattle.std.specs.Prelude.{◌≡◌, ◌<◌, ◌≤◌, ◌^◌, ℕ, All, IfOk, IfSome, OnOk, length};
+ghost use Rattle.cut_residual.specs.OutArcs.{IsOutOf, out_at};
+ghost use Rattle.cut_trial.specs.Trials.{label_at, HasOtherFlow, LeadsDown};
 
 use crate::distances::distances_to;
 use cut_residual::{OutArc, ResidualGraph, order_of};
@@ -28,6 +28,41 @@ impl Model for Trial {
     ghost view = { λ t. t.graph };
 
     ghost invariant = { λ t. IsTrial t.graph.nodes t.excesses.items t.labels.items t.waiting.items };
+}
+
+/// Where residual arcs are passed by, up to one that leads a label down.
+#[derive(Clone, Copy)]
+struct Down {
+    /// The place of that one, and the number of residual arcs where none does.
+    place: usize,
+    /// The least label that one with something left leads to of those that are passed by, and 2^32 - 1 where none has something left.
+    passed: u32,
+}
+
+/// From this place on, the first residual arc that leads down to a node from this label: something is left of it, and the label there is one less.
+/// Those that are passed by are only looked at, so nothing of them is copied, and no list is looked up again.
+fn first_down(outs: &[OutArc], labels: &[u32], label: u32, start: usize) -> Down
+    requires { All (λ a. a.head < length labels.now) outs.now }
+    ensures found { result.place < length outs.now → LeadsDown labels.now label (out_at outs.now result.place) }
+    ensures none_before { (p : ℕ) → start ≤ p → p < result.place → LeadsDown labels.now label (out_at outs.now p) → ⊥ }
+    ensures passed { (p : ℕ) → start ≤ p → p < result.place → 0 < (out_at outs.now p).residual → result.passed ≤ label_at labels.now (out_at outs.now p).head }
+    ensures most { (m : ℕ) → m < 2 ^ 32 → ((p : ℕ) → start ≤ p → p < result.place → 0 < (out_at outs.now p).residual → m ≤ label_at labels.now (out_at outs.now p).head) → m ≤ result.passed }
+{
+    let mut passed = u32::MAX;
+    for place in start..outs.len() {
+        let out = &outs[place];
+        if out.residual > 0 {
+            let below = labels[out.head as usize];
+            if below.saturating_add(1) == label {
+                return Down { place, passed };
+            }
+            passed = passed.min(below);
+        }
+    }
+    Down {
+        place: outs.len(),
+        passed,
+    }
 }
 
 /// The nodes with excess, the last first, without the end.
@@ -62,6 +97,14 @@ impl Trial {
         } else {
             None
         }
+    }
+
+    /// From this place on, the first residual arc of a node that leads one label down.
+    fn next_down(&self, node: u32, start: usize) -> Down
+        requires { node < self.now.nodes }
+    {
+        let label = self.labels[node as usize];
+        first_down(self.graph.residual_arcs(node), &self.labels, label, start)
     }
 
     /// Sends over a residual arc of a node what is left of it, and at most this amount. A node that had no excess waits then.
@@ -110,15 +153,19 @@ impl Trial {
         ensures { OnOk result (HasOtherFlow self.old self.new) }
     {
         let mut least = u32::MAX;
-        for place in 0..self.graph.residual_arcs(node).len() {
-            let Some(out) = self.out_at(node, place) else {
-                return Ok(least);
-            };
+        let mut next = 0;
+        for _ in 0..self.graph.residual_arcs(node).len() {
             if self.excesses[node as usize] == 0 {
                 return Ok(least);
             }
+            let down = self.next_down(node, next);
+            least = least.min(down.passed);
+            let Some(out) = self.out_at(node, down.place) else {
+                return Ok(least);
+            };
             let label = self.push(node, out)?;
             least = least.min(label);
+            next = down.place.saturating_add(1);
         }
         Ok(least)
     }
