@@ -11,3 +11,4 @@ pub mod TextSteps
 pub mod Words
 pub mod ChainNames
 pub mod Rows
+pub mod NearEnds

@@ -65,6 +65,13 @@ abbrev pub is_after : Option Priced → Priced → Bool
 is_after None next = true
 is_after (Some last) next = comes_before last next
 
+-- the modules of two names; the first that is unknown is the fault
+unfoldable pub ends_named : Network → List ℕ → List ℕ → Result (ℕ × ℕ) ReportLineFault
+ends_named net m n = do
+  x ← ok_or (index_of net m) faults.UnknownName
+  y ← ok_or (index_of net n) faults.UnknownName
+  Ok (x, y)
+
 -- the import between two names
 unfoldable pub import_of : Network → Option Priced → List ℕ → List ℕ → ℕ → Result Priced ReportLineFault
 import_of net last m n amount = do

@@ -2,10 +2,11 @@
 ghost use Rattle.std.specs.Prelude.{◌≡◌, ◌+◌, ◌<◌, ◌^◌, None, Some, length};
 ghost use Rattle.cut_report.specs.Lines.{line_seen, words_of};
 ghost use Rattle.cut_report.specs.Reading.{outcome_of};
-ghost use Rattle.cut_report.specs.Drafts.{chain_of, finish_of, going_on, import_of, is_after, last_import, numbered_by, opened_by, claimed_part, shut_by, read_so_far_of, step, text_step, Gives, GivesAt};
+ghost use Rattle.cut_report.specs.Drafts.{chain_of, ends_named, finish_of, going_on, import_of, is_after, last_import, numbered_by, opened_by, claimed_part, shut_by, read_so_far_of, step, text_step, Gives, GivesAt};
 
 use crate::fault::ReportLineFault;
 use crate::line::{Line, line_in};
+use crate::near::{ends_near, place_behind};
 use crate::{Report, ReportFault};
 use cut_net::{Answer, Cut, Net, Priced};
 use std::alloc::Global;
@@ -41,8 +42,21 @@ fn comes_after(last: Option<Priced>, next: Priced) -> bool
     }
 }
 
+/// The modules of two names, which are looked for where the imports go on behind those that are read, and then among all.
+#[tactic(auto, unfolding(crate::specs::Drafts::ends_named))]
+fn ends_in(net: &Net, read: &[Priced], from: &str, to: &str) -> Result<(u32, u32), ReportLineFault>
+    ensures { result ≡ ends_named net.now from.now to.now }
+{
+    if let Some(ends) = ends_near(net, place_behind(net, last_in(read)), from, to) {
+        return Ok(ends);
+    }
+    let from = net.index_of(from).ok_or(ReportLineFault::UnknownName)?;
+    let to = net.index_of(to).ok_or(ReportLineFault::UnknownName)?;
+    Ok((from, to))
+}
+
 /// The import between two names, which is to come after the last of those that are read.
-#[tactic(auto, unfolding(crate::specs::Drafts::import_of))]
+#[tactic(auto, unfolding(crate::specs::Drafts::import_of, crate::specs::Drafts::ends_named))]
 fn import_in(
     net: &Net,
     read: &[Priced],
@@ -52,8 +66,7 @@ fn import_in(
 ) -> Result<Priced, ReportLineFault>
     ensures { result ≡ import_of net.now (last_import None read.now) from.now to.now amount }
 {
-    let from = net.index_of(from).ok_or(ReportLineFault::UnknownName)?;
-    let to = net.index_of(to).ok_or(ReportLineFault::UnknownName)?;
+    let (from, to) = ends_in(net, read, from, to)?;
     let next = Priced { from, to, amount };
     if comes_after(last_in(read), next) {
         Ok(next)

@@ -7,6 +7,7 @@ mod draft;
 mod fault;
 pub mod laws;
 mod line;
+mod near;
 mod reader;
 mod report;
 mod writer;
