@@ -133,7 +133,7 @@ fn tallies_of(alloc: Global, imports: &[Priced], modules: u32) -> Result<Tallies
 {
     let mut leaving = vec![in alloc; 0; modules as usize]?;
     let mut entering = vec![in alloc; 0; modules as usize]?;
-    let mut copied = Vec::new(alloc);
+    let mut copied = Vec::with_capacity(alloc, imports.len())?;
     for import in imports {
         add_at(&mut leaving, import.from as usize, import.amount);
         add_at(&mut entering, import.to as usize, import.amount);

@@ -31,7 +31,7 @@ pub struct NetPart {
 pub fn turned_imports(alloc: Global, imports: &[Priced]) -> Result<Vec<Priced>, AllocError>
     ensures { IfOk result (λ v. v.items ≡ map turned imports.now) }
 {
-    let mut all = Vec::new(alloc);
+    let mut all = Vec::with_capacity(alloc, imports.len())?;
     for i in imports {
         all.push(Priced {
             from: i.to,
@@ -45,7 +45,7 @@ pub fn turned_imports(alloc: Global, imports: &[Priced]) -> Result<Vec<Priced>, 
 fn arcs_of(alloc: Global, imports: &[Priced]) -> Result<Vec<Arc>, AllocError>
     ensures { IfOk result (λ arcs. arcs.items ≡ map open_arc imports.now) }
 {
-    let mut arcs = Vec::new(alloc);
+    let mut arcs = Vec::with_capacity(alloc, imports.len())?;
     for i in imports {
         arcs.push(Arc {
             from: i.from,
@@ -81,7 +81,7 @@ fn both(alloc: Global, some: &[bool], others: &[bool]) -> Result<Vec<bool>, Allo
     ensures size { IfOk result (λ marks. length marks.items ≡ length some.now) }
     ensures both { IfOk result (λ marks. (m : ℕ) → is_seen marks.items m ≡ (is_seen some.now m && is_seen others.now m)) }
 {
-    let mut marks = Vec::new(alloc);
+    let mut marks = Vec::with_capacity(alloc, some.len())?;
     for m in 0..some.len() {
         let mark = some[m] & others[m];
         marks.push(mark)?;
@@ -233,7 +233,7 @@ pub fn lines_whole(
     requires { AreBetween lines.now (length numbers.now) }
     ensures { IfOk result (λ v. v.items ≡ lines_whole numbers.now lines.now) }
 {
-    let mut all = Vec::new(alloc);
+    let mut all = Vec::with_capacity(alloc, lines.len())?;
     for line in lines {
         all.push(line_whole(*line, numbers))?;
     }

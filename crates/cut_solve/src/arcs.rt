@@ -10,7 +10,7 @@ use std::alloc::{AllocError, Global};
 pub(crate) fn arcs_of(alloc: Global, imports: &[Priced]) -> Result<Vec<Arc>, AllocError>
     ensures { IfOk result (λ arcs. arcs.items ≡ map empty_of imports.now) }
 {
-    let mut arcs = Vec::new(alloc);
+    let mut arcs = Vec::with_capacity(alloc, imports.len())?;
     for i in imports {
         arcs.push(Arc {
             from: i.from,
@@ -35,7 +35,7 @@ pub fn graph_of(alloc: Global, net: &Net) -> Result<ResidualGraph, AllocError>
 pub(crate) fn flows_of(alloc: Global, arcs: &[Arc]) -> Result<Vec<Priced>, AllocError>
     ensures { IfOk result (λ imports. imports.items ≡ map flow_line arcs.now) }
 {
-    let mut imports = Vec::new(alloc);
+    let mut imports = Vec::with_capacity(alloc, arcs.len())?;
     for arc in arcs {
         imports.push(Priced {
             from: arc.from,

@@ -23,7 +23,7 @@ fn reversed_arcs(alloc: Global, imports: &[Priced], near: &[bool]) -> Result<Vec
     requires between { AreBetween imports.now (length near.now) }
     ensures { IfOk result (λ arcs. arcs.items ≡ map (reversed_of near.now) imports.now) }
 {
-    let mut arcs = Vec::new(alloc);
+    let mut arcs = Vec::with_capacity(alloc, imports.len())?;
     for i in imports {
         let capacity = if leaves(*i, near) { 0 } else { 1 };
         arcs.push(Arc {

@@ -27,7 +27,7 @@ fn carrying<L: NetworkLedger>(
     ensures { IfOk result (λ arcs. arcs.items ≡ carrying imports.now (state_of preflow.now.trace).flow) }
 {
     preflow.keeps();
-    let mut arcs = Vec::new(alloc);
+    let mut arcs = Vec::with_capacity(alloc, imports.len())?;
     for number in 0..imports.len() {
         let import = imports[number];
         arcs.push(Arc {
