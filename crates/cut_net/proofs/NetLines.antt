@@ -1,5 +1,9 @@
 -- A line of a network that is read is the one that was written.
-use Rattle.std.proofs.Common.{◌≡◌, ◌≢◌, ℕ, ◌<◌, ◌^◌, true, List, ◌∷◌, ◌++◌, Option, Some, None, refl, sym, ap, ◌∙◌, codes}
+use Rattle.std.proofs.Common.{◌≡◌, ◌≢◌, ℕ, ◌<◌, ◌^◌, true, false, List, ◌∷◌, ◌++◌, length, take, drop, get_or, Option, Some, None, refl, sym, ap, ◌∙◌, arith, codes}
+use Rattle.std.specs.Str.{bytes_eq}
+use Rattle.std.proofs.Math.Seq.{drop-append_seam, take-append_seam}
+use Rattle.std.proofs.lemmas.Bool.{false≢true}
+use Rattle.std.proofs.lemmas.List.{take-append-drop}
 use Rattle.std.specs.Prelude.{option_map, option_and_then}
 use Rattle.std.specs.Option.{option_map_or}
 use Rattle.std.specs.Fmt.{decimal}
@@ -23,6 +27,35 @@ word_takes word piece fields e =
 pub word_again : (word fields : List ℕ) → without 32 word ≡ true → after_word word (word ++ 32 ∷ fields) ≡ Some fields
 unfolding after_word
 word_again word fields e = rw (cut_again 32 word fields e, (bytes_eq-Decides word word).1 refl) refl
+
+none_unless : {A : Type 0} (o : Option A) → ((x : A) → o ≡ Some x → ⊥) → o ≡ None
+none_unless None h = refl
+none_unless (Some x) h = absurd (h x refl)
+
+module _ (word piece : List ℕ) where
+  front : (fields : List ℕ) → after_word word piece ≡ Some fields → (take (length word) piece ≡ word) × (drop (length word) piece ≡ 32 ∷ fields)
+  front fields is =
+      let whole = word_takes word piece fields is in
+      (ap (take (length word)) whole ∙ take-append_seam word (32 ∷ fields), ap (drop (length word)) whole ∙ drop-append_seam word (32 ∷ fields))
+
+  -- the piece begins otherwise
+  pub word_missing : bytes_eq (take (length word) piece) word ≡ false → after_word word piece ≡ None
+  word_missing differs = none_unless (after_word word piece) (λ fields is. false≢true (sym differs ∙ (bytes_eq-Decides (take (length word) piece) word).1 (front fields is).0))
+
+  -- nothing stands behind the word
+  pub word_alone : length (drop (length word) piece) ≡ 0 → after_word word piece ≡ None
+  word_alone none = none_unless (after_word word piece) (λ fields is. let len = ap length (front fields is).1 in omega arith)
+
+  -- another byte stands behind the word
+  pub word_joined : (b : ℕ) (more : List ℕ) → drop (length word) piece ≡ b ∷ more → b ≢ 32 → after_word word piece ≡ None
+  word_joined b more behind differs = none_unless (after_word word piece) (λ fields is. differs (ap (λ (v : List ℕ). get_or v 0 0) (sym behind ∙ (front fields is).1)))
+
+  pub word_there : (b : ℕ) (fields : List ℕ) → without 32 word ≡ true → bytes_eq (take (length word) piece) word ≡ true → drop (length word) piece ≡ b ∷ fields → b ≡ 32 → after_word word piece ≡ Some fields
+  word_there b fields no_blank same behind blank =
+      let begins : take (length word) piece ≡ word = (bytes_eq-Decides (take (length word) piece) word).0 same in
+      let ends : drop (length word) piece ≡ 32 ∷ fields = behind ∙ ap (λ n. n ∷ fields) blank in
+      let whole : piece ≡ word ++ 32 ∷ fields = sym (take-append-drop (length word) piece) ∙ ap (λ v. v ++ drop (length word) piece) begins ∙ ap (λ v. word ++ v) ends in
+      ap (after_word word) whole ∙ word_again word fields no_blank
 
 pub map_some : {A B P : Type 0} (f : A → B) (o : Option A) (y : B) → option_map f o ≡ Some y → ((x : A) → o ≡ Some x → f x ≡ y → P) → P
 map_some f (Some x) y e go = go x refl cc

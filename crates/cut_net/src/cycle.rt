@@ -12,7 +12,7 @@ use std::alloc::{AllocError, Global};
 pub(crate) fn pairs_of(alloc: Global, imports: &[Priced]) -> Result<Vec<Edge>, AllocError>
     ensures { IfOk result (λ pairs. pairs.items ≡ map edge_of imports.now) }
 {
-    let mut pairs = Vec::new(alloc);
+    let mut pairs = Vec::with_capacity(alloc, imports.len())?;
     for import in imports {
         pairs.push(Edge {
             from: import.from,

@@ -1,5 +1,6 @@
 //! The lines of a network's text.
-ghost use Rattle.std.specs.Prelude.{◌≡◌, None, option_map};
+ghost use Rattle.std.specs.Prelude.{◌≡◌, ◌==◌, true, not, None, option_map};
+ghost use Rattle.std.specs.List.{list_all};
 ghost use Rattle.cut_net.specs.NetReading.{after_word, import_of, line_of_piece, line_said, module_of};
 
 use texts::fields::{cut_at_byte, name_in, number_in};
@@ -12,13 +13,14 @@ pub(crate) enum Line<'a> {
     Import(&'a str, &'a str, u64),
 }
 
-#[tactic(auto, unfolding(crate::specs::NetReading::after_word))]
-/// The fields after the word that a line begins with.
+/// The fields after the word that a line begins with. The word has no blank, so none is looked for: it stands right behind the word or nowhere.
 pub(crate) fn fields_after<'a>(word: &[u8], piece: &'a [u8]) -> Option<&'a [u8]>
+    requires { list_all (λ b. not (b == 32)) word.now ≡ true }
     ensures { option_map (λ fields. fields.now) result ≡ after_word word.now piece.now }
 {
-    let (first, fields) = cut_at_byte(piece, b' ')?;
-    if first == word { Some(fields) } else { None }
+    let rest = piece.strip_prefix(word)?;
+    let (blank, fields) = rest.split_first()?;
+    if *blank == b' ' { Some(fields) } else { None }
 }
 
 fn module_in(fields: &[u8]) -> Option<Line<'_>>

@@ -18,7 +18,7 @@ use std::alloc::{AllocError, Global};
 pub(crate) fn copied(alloc: Global, names: &[String]) -> Result<Vec<String>, AllocError>
     ensures { IfOk result (λ copies. texts copies.items ≡ texts names.now) }
 {
-    let mut copies = Vec::new(alloc);
+    let mut copies = Vec::with_capacity(alloc, names.len())?;
     for name in names {
         copies.push(String::from_str(alloc, name.as_str())?)?;
     }
@@ -54,7 +54,7 @@ fn numbers_of(alloc: Global, old: &[String], names: &[String]) -> Result<Vec<u32
     ensures size { IfOk result (λ numbers. vec_len numbers ≡ length old.now) }
     ensures numbers { IfOk result (λ numbers. (k : ℕ) → k < length numbers.items → (slice_index numbers.items k < length (texts names.now)) × (slice_index_or (texts names.now) (slice_index numbers.items k) [] ≡ slice_index_or (texts old.now) k [])) }
 {
-    let mut numbers = Vec::new(alloc);
+    let mut numbers = Vec::with_capacity(alloc, old.len())?;
     for name in old {
         numbers.push(number_of(names, name.as_str()))?;
     }
