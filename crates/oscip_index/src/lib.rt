@@ -5,6 +5,8 @@
 
 mod hexadecimal;
 mod putting;
+mod records;
 
 pub use hexadecimal::hex_line;
 pub use putting::put_index;
+pub use records::put_written;

@@ -48,7 +48,7 @@ fn put_parts<S: Sink>(alloc: Global, index: Index, sink: &mut S) -> Result<(), W
 }
 
 /// Why a writer stopped: its sink failed, or memory ran out.
-fn stopped_by(fault: &WireFault) -> SinkFault
+pub(crate) fn stopped_by(fault: &WireFault) -> SinkFault
     ensures { is_device result ≡ is_failure fault.now }
 {
     match fault {

@@ -1,0 +1,81 @@
+//! An index whose documents are written already, put into a sink.
+ghost use Rattle.std.specs.Prelude.{◌≡◌, ◌++◌, None, OnOk, Some, map};
+ghost use Rattle.std.specs.List.{flat_map};
+ghost use Rattle.byte_sink.specs.Sinks.{failures_after, Puts};
+ghost use Rattle.scip_index.specs.declared.writer.Stage.TheVariants.{Fresh, Open};
+ghost use Rattle.scip_index.specs.Plain.{plain_metadata, plain_symbol};
+ghost use Rattle.scip_index.specs.Written.{externals_part, metadata_part};
+
+use crate::putting::stopped_by;
+use byte_sink::{Sink, SinkFault, put_all};
+use scip_index::{IndexWriter, Metadata, SymbolInfo};
+use std::alloc::Global;
+
+/// Puts the metadata's record. At a refusal a front of it is taken.
+fn put_metadata<S: Sink>(
+    writer: &mut IndexWriter,
+    metadata: &Metadata,
+    sink: &mut S,
+) -> Result<(), SinkFault>
+    requires stage { writer.old.stage ≡ Fresh }
+    requires well { writer.old.refusal ≡ None }
+    ensures puts { Puts (S.taken sink.old) (S.taken sink.new) result (metadata_part (Some (plain_metadata metadata.now))) }
+    ensures failures { S.failures sink.new ≡ failures_after result (S.failures sink.old) }
+    ensures stage { OnOk result (writer.new.stage ≡ Open) }
+    ensures well { OnOk result (writer.new.refusal ≡ None) }
+{
+    match writer.metadata(metadata, sink) {
+        Ok(()) => Ok(()),
+        Err(fault) => Err(stopped_by(&fault)),
+    }
+}
+
+/// Puts the records of documents as they are, one after the other, each given up once it is put. At a refusal a front of them is
+/// taken.
+fn put_records<S: Sink>(records: Vec<Vec<u8>>, sink: &mut S) -> Result<(), SinkFault>
+    ensures puts { Puts (S.taken sink.old) (S.taken sink.new) result (flat_map (λ row. row.items) records.items) }
+    ensures failures { S.failures sink.new ≡ failures_after result (S.failures sink.old) }
+{
+    for record in records {
+        put_all(sink, &record)?;
+    }
+    Ok(())
+}
+
+/// Puts the records of the external symbols. At a refusal a front of them is taken.
+fn put_externals<S: Sink>(
+    writer: &mut IndexWriter,
+    external_symbols: &[SymbolInfo],
+    sink: &mut S,
+) -> Result<(), SinkFault>
+    requires stage { writer.old.stage ≡ Open }
+    requires well { writer.old.refusal ≡ None }
+    ensures puts { Puts (S.taken sink.old) (S.taken sink.new) result (externals_part (map plain_symbol external_symbols.now)) }
+    ensures failures { S.failures sink.new ≡ failures_after result (S.failures sink.old) }
+{
+    match writer.end(external_symbols, sink) {
+        Ok(()) => Ok(()),
+        Err(fault) => Err(stopped_by(&fault)),
+    }
+}
+
+/// Puts an index in its parts: what it says of itself, the records of its documents as they are, each given up once it is put, and
+/// its external symbols (scip.proto). At a refusal a front of them is taken.
+pub fn put_written<S: Sink>(
+    alloc: Global,
+    metadata: &Metadata,
+    records: Vec<Vec<u8>>,
+    external_symbols: &[SymbolInfo],
+    sink: &mut S,
+) -> Result<(), SinkFault>
+    // All parts at Ok, and a front of them at a refusal.
+    ensures puts { Puts (S.taken sink.old) (S.taken sink.new) result
+        (metadata_part (Some (plain_metadata metadata.now)) ++ flat_map (λ row. row.items) records.items ++ externals_part (map plain_symbol external_symbols.now)) }
+    // Device is answered where the sink counted a failure, and nowhere else.
+    ensures failures { S.failures sink.new ≡ failures_after result (S.failures sink.old) }
+{
+    let mut writer = IndexWriter::new(alloc);
+    put_metadata(&mut writer, metadata, sink)?;
+    put_records(records, sink)?;
+    put_externals(&mut writer, external_symbols, sink)
+}
