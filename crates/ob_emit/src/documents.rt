@@ -24,7 +24,7 @@ use scip_index::{Document, Occurrence, SymbolInfo};
 use std::alloc::{AllocError, Global};
 
 /// Whether no symbol's text can hold this package.
-fn is_bad(package_name: &str) -> bool
+pub(crate) fn is_bad(package_name: &str) -> bool
     ensures { result ≡ is_wrong_part package_name.now }
 {
     package_name == "." || package_name.starts_with(' ')
@@ -164,7 +164,7 @@ fn document_with(
 }
 
 /// The document of a module at this path, in a package that no symbol's text refuses.
-fn document_in(
+pub(crate) fn document_in(
     alloc: Global,
     path: &str,
     types: &Types<'_>,
