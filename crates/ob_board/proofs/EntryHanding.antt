@@ -36,7 +36,7 @@ use Rattle.ob_board.specs.Entries.{AreAllNamed, AreEntriesOf, IsEntry, IsEntryOf
 use Rattle.ob_board.specs.Found.{IsAtHand}
 use Rattle.ob_board.specs.Indexes.{AreTreeEntries, IsIndex, IsMadeOf}
 
-member : {X : Type 0} (xs : List X) (k : ℕ) (x : X) → slice_get xs k ≡ Some x → Contains xs x
+pub member : {X : Type 0} (xs : List X) (k : ℕ) (x : X) → slice_get xs k ≡ Some x → Contains xs x
 member xs k x at = (k, slice_get_within xs k x at, get_or_from_slice_get xs k x x at)
 
 some_one : {X : Type 0} (x y : X) → Some x ≡ Some y → x ≡ y
@@ -49,7 +49,7 @@ head_or_tail : {X : Type 0} (y : X) (xs : List X) (x : X) → Contains (y ∷ xs
 head_or_tail y xs x (zero, l, e) = inl e
 head_or_tail y xs x (suc k, l, e) = inr (k, omega arith, e)
 
-at_seen : (sources : List Source) (modules : List (Box ModuleParts Global)) (k : ℕ) (s : Source) (m : Box ModuleParts Global) → slice_get sources k ≡ Some s → slice_get modules k ≡ Some m
+pub at_seen : (sources : List Source) (modules : List (Box ModuleParts Global)) (k : ℕ) (s : Source) (m : Box ModuleParts Global) → slice_get sources k ≡ Some s → slice_get modules k ≡ Some m
     → slice_get (all_seen sources modules) k ≡ Some (seen_in s m.value)
 at_seen [] modules k s m p q = absurd (none_some s p)
 at_seen (a ∷ sources) [] k s m p q = absurd (none_some m q)

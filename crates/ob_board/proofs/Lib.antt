@@ -2,6 +2,7 @@ pub mod Identifiers
 pub mod Rowing
 pub mod Handing
 pub mod EntryHanding
+pub mod RecordHanding
 pub mod AtHand
 pub mod OneTree
 pub mod OneExternals

@@ -62,7 +62,7 @@ fn interfaces(
 }
 
 /// Whether the names of all modules ascend.
-fn names_ascend(alloc: Global, modules: &[Box<ModuleParts>]) -> Result<bool, AllocError>
+pub(crate) fn names_ascend(alloc: Global, modules: &[Box<ModuleParts>]) -> Result<bool, AllocError>
     ensures { IfOk result (λ by_name. OnTrue by_name (AreByName (interfaces_of modules.now))) }
 {
     let all = interfaces(alloc, modules)?;
@@ -124,7 +124,7 @@ pub fn entries<G: BoardGate + Sync, R: Threads + Wait + Sync>(
 }
 
 /// What an index says of itself.
-fn metadata(alloc: Global, root: &str) -> Result<Metadata, AllocError>
+pub(crate) fn metadata(alloc: Global, root: &str) -> Result<Metadata, AllocError>
     ensures { IfOk result (λ m. plain_metadata m ≡ own_metadata root.now) }
 {
     let tool = ToolInfo {

@@ -11,8 +11,10 @@ pub mod laws;
 mod listing;
 mod made;
 mod named_index;
+mod recorded;
 mod rows;
 mod unresolved;
+mod writing;
 mod written;
 
 pub use board_workers::BoardGate;
@@ -20,3 +22,4 @@ pub use entry::Entry;
 pub use indexing::{IndexOptions, entries, index_tree};
 pub use listing::unresolved_in_tree;
 pub use unresolved::Unresolved;
+pub use writing::{WrittenIndex, written_index};

@@ -10,9 +10,10 @@ ghost use Rattle.ob_types.specs.Homes.{AreByName};
 ghost use Rattle.scip_index.specs.Plain.{plain_document, plain_symbol};
 ghost use Rattle.scip_symbol.specs.Outcomes.{is_wrong_part};
 ghost use Rattle.ob_board.specs.Entries.{AreAllNamed, IsWritten, IsWrittenBy};
+ghost use Rattle.ob_board.specs.Records.{IsRecorded, IsRecordedBy};
 
 use ob_emit::laws::{names_of_references, names_of_scopes};
-use ob_emit::{EmitFault, document, externals};
+use ob_emit::{EmitFault, document, document_record, externals};
 use ob_interface::Interface;
 use ob_resolve::references;
 use ob_scan::laws::tokens_in_text;
@@ -89,4 +90,70 @@ pub(crate) fn write_module(
     let written = written_by(alloc, source.path.as_str(), &types, package_name);
     drop(types);
     written
+}
+
+/// The record of a module's document, and the symbols that it names of modules outside of the tree.
+#[derive(Drop)]
+pub(crate) struct WrittenRecord {
+    pub(crate) bytes: Vec<u8>,
+    pub(crate) externals: Vec<SymbolInfo>,
+}
+
+/// The record of a module at this path, by what its names and types mean.
+fn recorded_by(
+    alloc: Global,
+    path: &str,
+    types: &Types<'_>,
+    package_name: &str,
+) -> Result<WrittenRecord, AllocError>
+    requires short { length types.now.bytes < 2 ^ 31 }
+    requires spelled { Spells types.now.bytes types.now.tokens }
+    requires named { HaveNames types.now }
+    requires package { is_wrong_part package_name.now ≡ false }
+    ensures { IfOk result (λ w. IsRecordedBy types.now path.now package_name.now w.bytes.items (map plain_symbol w.externals.items)) }
+{
+    names_of_references();
+    types.keeps();
+    let refs = references(alloc, types)?;
+    match document_record(alloc, path, types, refs.as_slice(), package_name) {
+        Ok(bytes) => {
+            let externals = externals(alloc, types, refs.as_slice())?;
+            Ok(WrittenRecord { bytes, externals })
+        }
+        Err(EmitFault::Memory) => Err(AllocError),
+        Err(EmitFault::BadPackage) => unreachable!(),
+    }
+}
+
+/// The record of a module, by its parts and the interfaces of what it reaches, told whether it is known that the names of these
+/// ascend. No message is made on the way: what `write_module` answers, as bytes.
+pub(crate) fn record_module(
+    alloc: Global,
+    source: &Source,
+    parts: &ModuleParts,
+    reached: &[Arc<Interface>],
+    by_name: bool,
+    package_name: &str,
+) -> Result<WrittenRecord, AllocError>
+    requires spelled { IsOutcome source.now.bytes.items (Reads parts.now.tokens) }
+    requires scoped { AreScopes source.now.bytes.items parts.now.tokens (rows_in parts.now.table) parts.now.scopes }
+    requires named { AreAllNamed (map arc_value reached.now) }
+    requires by_name { OnTrue by_name (AreByName (map arc_value reached.now)) }
+    requires package { is_wrong_part package_name.now ≡ false }
+    ensures { IfOk result (λ w. IsRecorded source.now parts.now (map arc_value reached.now) package_name.now w.bytes.items (map plain_symbol w.externals.items)) }
+{
+    tokens_in_text();
+    names_of_scopes();
+    let types = Types::with_order(
+        alloc,
+        source.bytes.as_slice(),
+        parts.tokens.as_slice(),
+        &parts.table,
+        &parts.scopes,
+        reached,
+        by_name,
+    )?;
+    let recorded = recorded_by(alloc, source.path.as_str(), &types, package_name);
+    drop(types);
+    recorded
 }

@@ -1,0 +1,161 @@
+-- Entries with the records of their documents: of one module, and of all.
+use Rattle.std.proofs.Common.{◌≡◌, ℕ, zero, suc, List, [], ◌∷◌, ◌++◌, length, get_or, map, None, Some, Result, Ok, Err, refl, sym, ap, ap₂, ◌∙◌, subst}
+use Rattle.std.specs.Prelude.{slice_get, Box, IfOk}
+use Rattle.std.specs.Global.{Vec}
+use Rattle.std.specs.List.{flat_map}
+use Rattle.std.specs.declared.alloc.Global.{Global}
+use Rattle.std.proofs.lemmas.Option.{get_or_from_slice_get, slice_get-get_or, slice_get_within}
+use Rattle.ob_emit.specs.Documents.{document_of}
+use Rattle.ob_emit.specs.Externals.{AreExternalRows, AreExternals}
+use Rattle.ob_decls.specs.Declaring.{rows_in}
+use Rattle.ob_imports.specs.Graphs.{ImportGraph}
+use Rattle.ob_interface.specs.Interfaces.{ModuleInterface}
+use Rattle.ob_types.specs.World.{world}
+use Rattle.std.specs.Arc.{arc_value}
+use Rattle.std.specs.String.{string_bytes}
+use Rattle.oscip_tree.specs.declared.parts.ModuleParts.{ModuleParts}
+use Rattle.oscip_tree.specs.declared.parts.TreeParts.{TreeParts}
+use Rattle.oscip_tree.specs.declared.source.Source.{Source}
+use Rattle.oscip_tree.specs.Parts.{ArePartsOfTree}
+use Rattle.oscip_tree.specs.Trees.{ModuleFile}
+use Rattle.scip_index.specs.Plain.{plain_metadata, plain_symbol, PlainDocument, PlainIndex, PlainSymbol}
+use Rattle.scip_index.specs.Written.{document_part, documents_part}
+use Rattle.work_board.specs.Graphs.{row_at}
+use Rattle.board_workers.specs.Parts.{AreEntries as AreAtBoard, IsJob}
+use Rattle.tree_board.specs.Boards.{modules_of}
+use Rattle.tree_board.specs.Reached.{names, SeenFile}
+use Rattle.tree_board.specs.Seen.{all_seen, seen_in, AreSourcesRead}
+use Rattle.tree_board.proofs.Shared.{parts_reached}
+use Rattle.ob_board.specs.Entries.{IsEntryOf, PlainEntry}
+use Rattle.ob_board.specs.Found.{IsAtHand}
+use Rattle.ob_board.specs.Records.{documents_in, with_document, AreRecordsOf, AreTreeRecords, IsRecorded, IsRecordedOf, PlainRecorded}
+use Rattle.ob_board.specs.WrittenIndexes.{IsWrittenIndex}
+use Rattle.ob_board.specs.declared.writing.WrittenIndex.{WrittenIndex}
+use Rattle.ob_board.specs.Indexes.{own_metadata}
+use Rattle.ob_board.proofs.EntryHanding.{at_seen, entries_all, entries_told, externals_of_tree, index_told, made_entry, member}
+
+-- the entry of a module, of the record of its document
+pub made_recorded : (all : List SeenFile) (package_name : List ℕ) (s : Source) (parts : ModuleParts) (reached : List ModuleInterface) (r : PlainRecorded) → IsAtHand all s parts reached →
+    IsRecorded s parts reached package_name r.bytes r.externals → r.name ≡ names (seen_in s parts) 1 → r.interface ≡ arc_value parts.interface → IsRecordedOf all package_name r.name r
+made_recorded all package_name s parts reached r hand w named shared =
+    let d = document_of (world s.bytes.items parts.tokens (rows_in parts.table) parts.scopes reached) (string_bytes s.path) package_name w.refs in
+    record {
+      document = d;
+      bytes_are = w.bytes_are;
+      entry = made_entry all package_name s parts reached (with_document r d) hand
+          (record { refs = w.refs; references = w.references; are = record { document_is = refl; externals_are = w.externals_are; rows = w.rows } }) named shared;
+    }
+
+-- ---- the entries, with their documents
+
+-- a document for each
+abbrev AreDocuments : List PlainRecorded → Type 0
+AreDocuments all = (k : ℕ) (r : PlainRecorded) → slice_get all k ≡ Some r → PlainDocument
+
+entries_with : (all : List PlainRecorded) → AreDocuments all → List PlainEntry
+entries_with [] d = []
+entries_with (r ∷ all) d = with_document r (d zero r refl) ∷ entries_with all (λ k x at. d (suc k) x at)
+
+with_as_many : (all : List PlainRecorded) (d : AreDocuments all) → length (entries_with all d) ≡ length all
+unfolding entries_with
+with_as_many [] d = refl
+with_as_many (r ∷ all) d = ap suc (with_as_many all (λ k x at. d (suc k) x at))
+
+with_externals : (all : List PlainRecorded) (d : AreDocuments all) → flat_map (λ (e : PlainEntry). e.externals) (entries_with all d) ≡ flat_map (λ (r : PlainRecorded). r.externals) all
+unfolding entries_with
+with_externals [] d = refl
+with_externals (r ∷ all) d = ap (λ (rows : List PlainSymbol). r.externals ++ rows) (with_externals all (λ k x at. d (suc k) x at))
+
+with_bytes : (all : List PlainRecorded) (d : AreDocuments all) → ((k : ℕ) (r : PlainRecorded) (at : slice_get all k ≡ Some r) → r.bytes ≡ document_part (d k r at)) →
+    documents_part (documents_in (entries_with all d)) ≡ flat_map (λ (r : PlainRecorded). r.bytes) all
+unfolding entries_with
+with_bytes [] d are = refl
+with_bytes (r ∷ all) d are =
+    ap₂ (λ (a b : List ℕ). a ++ b) (sym (are zero r refl)) (with_bytes all (λ k x at. d (suc k) x at) (λ k x at. are (suc k) x at))
+
+-- an entry is that of the bytes at its place
+with_at : (all : List PlainRecorded) (d : AreDocuments all) (k : ℕ) (e : PlainEntry) → slice_get (entries_with all d) k ≡ Some e →
+    (r : PlainRecorded) × (at : slice_get all k ≡ Some r) × (with_document r (d k r at) ≡ e)
+unfolding entries_with
+with_at [] d k e at = absurd (no_one at)
+  where
+    no_one : {x : PlainEntry} → None ≡ Some x → ⊥
+    no_one e = cc
+with_at (r ∷ all) d zero e at = (r, refl, some_one at)
+  where
+    some_one : {x y : PlainEntry} → Some x ≡ Some y → x ≡ y
+    some_one e = cc
+with_at (r ∷ all) d (suc k) e at = with_at all (λ j x p. d (suc j) x p) k e at
+
+module _ (sources : List Source) (modules : List (Box ModuleParts Global)) (g : ImportGraph) (seen : AreSourcesRead sources modules g) (package_name : List ℕ) where
+  abbrev files : List SeenFile
+  files = all_seen sources modules
+
+  pub recorded_at_hand : (n : ℕ) (s : Source) (m : Box ModuleParts Global) (parts : List ModuleInterface) → slice_get sources n ≡ Some s → slice_get modules n ≡ Some m
+      → IsJob (λ (x : List ℕ) (r : PlainRecorded). IsRecordedOf files package_name x r) (λ (r : PlainRecorded). r.interface) (modules_of g) n parts → IsAtHand files s m.value parts
+  recorded_at_hand n s m parts p q job =
+      let at = at_seen sources modules n s m p q in
+      record {
+        is_of_tree = member files n (seen_in s m.value) at;
+        is_seen = seen.each n s m p q;
+        are_reached = parts_reached (λ (x : List ℕ) (r : PlainRecorded). IsRecordedOf files package_name x r) (λ (r : PlainRecorded). r.interface) files g seen.kept
+            (λ x r is. (is.entry.file, is.entry.is_of_tree, is.entry.named, is.entry.entry.interface_is)) n parts (seen_in s m.value) at job;
+      }
+
+  -- the records of all modules
+  pub records_all : (all : List PlainRecorded) → AreAtBoard (λ (x : List ℕ) (r : PlainRecorded). IsRecordedOf files package_name x r) (modules_of g) all →
+      AreRecordsOf files package_name (flat_map (λ (r : PlainRecorded). r.bytes) all) (flat_map (λ (r : PlainRecorded). r.externals) all)
+  records_all all are =
+      let own : (k : ℕ) (r : PlainRecorded) → slice_get all k ≡ Some r → IsRecordedOf files package_name (row_at (modules_of g).names k) r =
+      λ k r at. subst (IsRecordedOf files package_name (row_at (modules_of g).names k)) (get_or_from_slice_get all k r r at) (are.own k r (slice_get_within all k r at)) in
+      let d : AreDocuments all = λ k r at. (own k r at).document in
+      let es = entries_with all d in
+      let size : length es ≡ length (modules_of g).names = with_as_many all d ∙ are.size in
+      record {
+        entries = es;
+        are_entries = entries_all sources modules g seen package_name es (record {
+          size = size;
+          own = λ n e lt.
+              let (r, at, same) = with_at all d n (get_or es n e) (slice_get-get_or es n e lt) in
+              subst (IsEntryOf files package_name (row_at (modules_of g).names n)) same (own n r at).entry;
+        });
+        bytes_are = with_bytes all d (λ k r at. (own k r at).bytes_are);
+        externals_are = with_externals all d;
+      }
+
+-- what is gathered of them
+pub gathered : {T E : Type 0} (all : List SeenFile) (package_name bytes : List ℕ) (rows : List PlainSymbol) (result : Result T E) (bytes_of : T → List ℕ) (rows_of : T → List PlainSymbol) →
+    IfOk result (λ t. bytes_of t ≡ bytes) → IfOk result (λ t. rows_of t ≡ rows) → AreRecordsOf all package_name bytes rows → IfOk result (λ t. AreRecordsOf all package_name (bytes_of t) (rows_of t))
+gathered all package_name bytes rows (Ok t) bytes_of rows_of e f are = rw (e, f) are
+gathered all package_name bytes rows (Err fault) bytes_of rows_of e f are = tt
+
+-- those of the parts of a tree are the tree's
+pub records_told : (sources : List Source) (package_name : List ℕ) (modules : List ModuleFile) (tree : TreeParts) (bytes : List ℕ) (rows : List PlainSymbol) → ArePartsOfTree sources modules tree →
+    AreRecordsOf (all_seen sources tree.modules.items) package_name bytes rows → AreTreeRecords sources package_name bytes rows
+records_told sources package_name modules tree bytes rows are of = record {
+  entries = of.entries;
+  are_entries = entries_told sources package_name modules tree of.entries are of.are_entries;
+  bytes_are = of.bytes_are;
+  externals_are = of.externals_are;
+}
+
+pub externals_gathered : (sources : List Source) (package_name bytes : List ℕ) (rows : List PlainSymbol) → AreTreeRecords sources package_name bytes rows → AreExternalRows rows
+externals_gathered sources package_name bytes rows of = subst AreExternalRows of.externals_are (externals_of_tree sources package_name of.entries of.are_entries)
+
+-- the parts of an index of what is gathered of a tree are those of the tree's
+pub written_told : (sources : List Source) (package_name root : List ℕ) (w : WrittenIndex) (records : List (Vec ℕ)) (rows : List PlainSymbol) →
+    AreTreeRecords sources package_name (flat_map (λ (row : Vec ℕ). row.items) records) rows →
+    plain_metadata w.metadata ≡ own_metadata root → w.records.items ≡ records → AreExternals rows (map plain_symbol w.external_symbols.items) → IsWrittenIndex sources package_name root w
+written_told sources package_name root w records rows of metadata same externals =
+    let index : PlainIndex = record { metadata = Some (own_metadata root); documents = documents_in of.entries; external_symbols = map plain_symbol w.external_symbols.items } in
+    record {
+      index = index;
+      is_index = index_told sources package_name root of.entries index of.are_entries (record {
+        metadata = refl;
+        documents = refl;
+        externals = subst (λ (xs : List PlainSymbol). AreExternals xs index.external_symbols) (sym of.externals_are) externals;
+      });
+      metadata = ap Some (sym metadata);
+      documents = of.bytes_are ∙ ap (flat_map (λ (row : Vec ℕ). row.items)) (sym same);
+      externals = refl;
+    }
