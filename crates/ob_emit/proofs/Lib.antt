@@ -15,6 +15,7 @@ pub mod SomeTargets
 pub mod Paths
 pub mod Positions
 pub mod Rows
+pub mod RowsWritten
 pub mod SeenLists
 pub mod SeenOrder
 pub mod SeenOwners

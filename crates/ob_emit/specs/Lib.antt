@@ -3,4 +3,5 @@ pub mod Documents
 pub mod Externals
 pub mod Made
 pub mod Named
+pub mod Places
 pub mod Symbols

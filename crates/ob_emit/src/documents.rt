@@ -164,7 +164,7 @@ fn document_with(
 }
 
 /// The document of a module at this path, in a package that no symbol's text refuses.
-pub(crate) fn document_in(
+fn document_in(
     alloc: Global,
     path: &str,
     types: &Types<'_>,

@@ -13,7 +13,7 @@ use ob_types::Types;
 use std::alloc::{AllocError, Global};
 
 /// The line and the column of an offset.
-fn place_at(lines: &Lines, offset: u32) -> Position
+pub(crate) fn place_at(lines: &Lines, offset: u32) -> Position
     ensures line { (bytes : List ℕ) → lines.now ≡ line_starts bytes → offset ≤ length bytes → result.line ≡ line_number bytes offset }
     ensures column { (bytes : List ℕ) → lines.now ≡ line_starts bytes → offset ≤ length bytes → result.column ≡ column_of bytes offset }
 {
@@ -42,7 +42,7 @@ fn range_by(
 }
 
 /// Where a token begins and where it ends; both are 0 beyond the last.
-fn ends_of(types: &Types<'_>, number: usize) -> (u32, u32)
+pub(crate) fn ends_of(types: &Types<'_>, number: usize) -> (u32, u32)
     ensures start { result.0 ≡ (token_at types.now.tokens number).start }
     ensures end { result.1 ≡ (token_at types.now.tokens number).end }
 {

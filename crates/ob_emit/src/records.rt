@@ -1,29 +1,248 @@
-//! The document of a module as the bytes of its record.
-ghost use Rattle.std.specs.Prelude.{◌≡◌, ◌<◌, ◌^◌, ◌↔◌, IfOk, Err, length, true};
+//! The document of a module as the bytes of its record. No message is made on the way: an occurrence is put from numbers and from
+//! the text of its symbol, which is kept once for each target, so that it takes no memory of its own. The bytes are those of what
+//! `documents` answers.
+ghost use Rattle.std.specs.Prelude.{◌≡◌, ◌++◌, ◌<◌, ◌^◌, ◌↔◌, ℕ, List, IfOk, OnOk, Err, length, map, pos, true};
+ghost use Rattle.std.specs.List.{filter_map};
+ghost use Rattle.std.specs.Option.{option_to_list};
+ghost use Rattle.ob_scan.specs.Position.{line_starts};
 ghost use Rattle.ob_scan.specs.Spelling.{AreInText};
-ghost use Rattle.scip_index.specs.Plain.{plain_document};
-ghost use Rattle.scip_index.specs.Written.{document_part};
+ghost use Rattle.ob_targets.specs.declared.target.Target.TheVariants.{External};
+ghost use Rattle.ob_types.specs.World.{text};
+ghost use Rattle.proto_wire.specs.Writing.{payload_field, payload_fields, spelled, spelled_fields};
+ghost use Rattle.scip_index.specs.Written.{document_part, written_document, written_occurrence, written_symbol};
 ghost use Rattle.scip_symbol.specs.Outcomes.{is_wrong_part};
 ghost use Rattle.ob_emit.specs.declared.fault.EmitFault.TheVariants.{BadPackage};
-ghost use Rattle.ob_emit.specs.Documents.{document_of};
-ghost use Rattle.ob_emit.specs.Named.{AreOfNames, HaveNames};
+ghost use Rattle.ob_emit.specs.Documents.{document_of, enclosing_range, occurrence, range_of, symbol_row};
+ghost use Rattle.ob_emit.specs.Made.{AreSymbolTexts};
+ghost use Rattle.ob_emit.specs.Named.{AreOfNames, HaveNames, IsName};
 
 use crate::EmitFault;
-use crate::documents::{document_in, is_bad};
+use crate::documents::is_bad;
+use crate::own_texts::Texts;
+use crate::path::name_of;
+use crate::pieces::{Place, Shown};
+use crate::places::{enclosing_range, range_of};
+use ob_scan::{Lines, lines};
 use ob_targets::Reference;
 use ob_types::Types;
-use proto_wire::{Scratch, push_message};
-use scip_index::Document;
+use proto_wire::{Scratch, Writer, push_message, put_number, put_text};
 use std::alloc::{AllocError, Global};
 
-/// The record of a document.
-fn record_of(alloc: Global, document: &Document) -> Result<Vec<u8>, AllocError>
-    ensures { IfOk result (λ v. v.items ≡ document_part (plain_document document.now)) }
+/// Puts the record of an occurrence of this symbol.
+fn push_place(
+    scratch: &mut Scratch,
+    out: &mut Vec<u8>,
+    types: &Types<'_>,
+    lines: &Lines,
+    reference: &Reference,
+    symbol: &str,
+) -> Result<(), AllocError>
+    requires in_text { AreInText types.now.bytes types.now.tokens }
+    requires short { length types.now.bytes < 2 ^ 31 }
+    requires lined { lines.now ≡ line_starts types.now.bytes }
+    ensures { OnOk result (out.new.items ≡ out.old.items ++ spelled (payload_field 2 (written_occurrence
+        (record { range = range_of types.now reference.now.number; symbol = symbol.now; symbol_roles = pos reference.now.role; enclosing_range = enclosing_range types.now reference.now })))) }
+{
+    let place = Place {
+        range: range_of(types, lines, reference.number),
+        symbol,
+        symbol_roles: i32::from(reference.role),
+        enclosing_range: enclosing_range(types, lines, reference),
+    };
+    push_message(scratch, out, 2, &place)
+}
+
+/// Puts the record of an identifier's occurrence, if it has one, where the text of its symbol has to be made.
+fn push_unknown(
+    alloc: Global,
+    scratch: &mut Scratch,
+    out: &mut Vec<u8>,
+    types: &Types<'_>,
+    texts: &Texts<'_>,
+    lines: &Lines,
+    reference: &Reference,
+) -> Result<(), AllocError>
+    requires in_text { AreInText types.now.bytes types.now.tokens }
+    requires short { length types.now.bytes < 2 ^ 31 }
+    requires lined { lines.now ≡ line_starts types.now.bytes }
+    requires named { HaveNames types.now }
+    requires external { (item name : ℕ) → reference.now.target ≡ External item name → IsName (text types.now name) }
+    ensures { (package_name : List ℕ) → AreSymbolTexts types.now package_name texts.now →
+        OnOk result (out.new.items ≡ out.old.items ++ spelled_fields (payload_fields 2 (map written_occurrence (option_to_list (occurrence types.now package_name reference.now))))) }
+{
+    match texts.symbol(alloc, types, reference.target)? {
+        None => Ok(()),
+        Some(symbol) => push_place(scratch, out, types, lines, reference, symbol.as_str()),
+    }
+}
+
+/// Puts the record of an identifier's occurrence, if it has one.
+fn push_occurrence(
+    alloc: Global,
+    scratch: &mut Scratch,
+    out: &mut Vec<u8>,
+    types: &Types<'_>,
+    texts: &Texts<'_>,
+    lines: &Lines,
+    reference: &Reference,
+) -> Result<(), AllocError>
+    requires in_text { AreInText types.now.bytes types.now.tokens }
+    requires short { length types.now.bytes < 2 ^ 31 }
+    requires lined { lines.now ≡ line_starts types.now.bytes }
+    requires named { HaveNames types.now }
+    requires external { (item name : ℕ) → reference.now.target ≡ External item name → IsName (text types.now name) }
+    ensures { (package_name : List ℕ) → AreSymbolTexts types.now package_name texts.now →
+        OnOk result (out.new.items ≡ out.old.items ++ spelled_fields (payload_fields 2 (map written_occurrence (option_to_list (occurrence types.now package_name reference.now))))) }
+{
+    match texts.known(types, reference.target) {
+        Some(Some(symbol)) => push_place(scratch, out, types, lines, reference, symbol),
+        Some(None) => Ok(()),
+        None => push_unknown(alloc, scratch, out, types, texts, lines, reference),
+    }
+}
+
+/// Puts the records of the occurrences of identifiers, in their order.
+fn push_occurrences(
+    alloc: Global,
+    scratch: &mut Scratch,
+    out: &mut Vec<u8>,
+    types: &Types<'_>,
+    texts: &Texts<'_>,
+    refs: &[Reference],
+) -> Result<(), AllocError>
+    requires in_text { AreInText types.now.bytes types.now.tokens }
+    requires short { length types.now.bytes < 2 ^ 31 }
+    requires named { HaveNames types.now }
+    requires of_names { AreOfNames types.now refs.now }
+    ensures { (package_name : List ℕ) → AreSymbolTexts types.now package_name texts.now →
+        OnOk result (out.new.items ≡ out.old.items ++ spelled_fields (payload_fields 2 (map written_occurrence (filter_map (occurrence types.now package_name) refs.now)))) }
+{
+    let lines = lines(alloc, types.bytes())?;
+    for reference in refs {
+        push_occurrence(alloc, scratch, out, types, texts, &lines, reference)?;
+    }
+    Ok(())
+}
+
+/// Puts the record of a symbol that an identifier declares.
+fn push_shown(
+    scratch: &mut Scratch,
+    out: &mut Vec<u8>,
+    types: &Types<'_>,
+    reference: &Reference,
+    symbol: &str,
+) -> Result<(), AllocError>
+    requires { IsName (text types.now reference.now.number) }
+    ensures { OnOk result (out.new.items ≡ out.old.items ++ spelled (payload_field 3 (written_symbol (record { symbol = symbol.now; display_name = text types.now reference.now.number })))) }
+{
+    let shown = Shown {
+        symbol,
+        display_name: name_of(types.text(reference.number)),
+    };
+    push_message(scratch, out, 3, &shown)
+}
+
+/// Puts the record of the symbol of what an identifier declares, if it declares something that has one.
+fn push_symbol(
+    alloc: Global,
+    scratch: &mut Scratch,
+    out: &mut Vec<u8>,
+    types: &Types<'_>,
+    texts: &Texts<'_>,
+    reference: &Reference,
+) -> Result<(), AllocError>
+    requires named { HaveNames types.now }
+    requires own { IsName (text types.now reference.now.number) }
+    requires external { (item name : ℕ) → reference.now.target ≡ External item name → IsName (text types.now name) }
+    ensures { (package_name : List ℕ) → AreSymbolTexts types.now package_name texts.now →
+        OnOk result (out.new.items ≡ out.old.items ++ spelled_fields (payload_fields 3 (map written_symbol (option_to_list (symbol_row types.now package_name reference.now))))) }
+{
+    if reference.role != 1 {
+        return Ok(());
+    }
+    match texts.symbol(alloc, types, reference.target)? {
+        None => Ok(()),
+        Some(symbol) => push_shown(scratch, out, types, reference, symbol.as_str()),
+    }
+}
+
+/// Puts the records of the symbols of what identifiers declare, in their order.
+fn push_symbols(
+    alloc: Global,
+    scratch: &mut Scratch,
+    out: &mut Vec<u8>,
+    types: &Types<'_>,
+    texts: &Texts<'_>,
+    refs: &[Reference],
+) -> Result<(), AllocError>
+    requires named { HaveNames types.now }
+    requires of_names { AreOfNames types.now refs.now }
+    ensures { (package_name : List ℕ) → AreSymbolTexts types.now package_name texts.now →
+        OnOk result (out.new.items ≡ out.old.items ++ spelled_fields (payload_fields 3 (map written_symbol (filter_map (symbol_row types.now package_name) refs.now)))) }
+{
+    for reference in refs {
+        push_symbol(alloc, scratch, out, types, texts, reference)?;
+    }
+    Ok(())
+}
+
+/// Puts the bytes of a module's document.
+fn push_document(
+    alloc: Global,
+    out: &mut Vec<u8>,
+    path: &str,
+    types: &Types<'_>,
+    texts: &Texts<'_>,
+    refs: &[Reference],
+) -> Result<(), AllocError>
+    requires in_text { AreInText types.now.bytes types.now.tokens }
+    requires short { length types.now.bytes < 2 ^ 31 }
+    requires named { HaveNames types.now }
+    requires of_names { AreOfNames types.now refs.now }
+    ensures { (package_name : List ℕ) → AreSymbolTexts types.now package_name texts.now →
+        OnOk result (out.new.items ≡ out.old.items ++ written_document (document_of types.now path.now package_name refs.now)) }
 {
     let mut scratch = Scratch::new(alloc);
-    let mut out = Vec::new(alloc);
-    push_message(&mut scratch, &mut out, 2, document)?;
-    Ok(out)
+    put_text(out, 1, path)?;
+    push_occurrences(alloc, &mut scratch, out, types, texts, refs)?;
+    push_symbols(alloc, &mut scratch, out, types, texts, refs)?;
+    put_text(out, 4, "Oberon")?;
+    put_number(out, 6, 1)
+}
+
+/// The bytes of a module's document at this path, in a package that no symbol's text refuses.
+fn bytes_in(
+    alloc: Global,
+    path: &str,
+    types: &Types<'_>,
+    refs: &[Reference],
+    package_name: &str,
+) -> Result<Vec<u8>, AllocError>
+    requires in_text { AreInText types.now.bytes types.now.tokens }
+    requires short { length types.now.bytes < 2 ^ 31 }
+    requires named { HaveNames types.now }
+    requires of_names { AreOfNames types.now refs.now }
+    ensures { IfOk result (λ v. v.items ≡ written_document (document_of types.now path.now package_name.now refs.now)) }
+{
+    /// Room for an occurrence, so that the bytes mostly needn't be moved as they grow.
+    const OCCURRENCE: usize = 48;
+    let texts = Texts::new(alloc, types, refs, package_name)?;
+    let mut bytes = Vec::with_capacity(alloc, refs.len().saturating_mul(OCCURRENCE))?;
+    push_document(alloc, &mut bytes, path, types, &texts, refs)?;
+    Ok(bytes)
+}
+
+/// The record of a document with these bytes.
+fn record_of(alloc: Global, bytes: &[u8]) -> Result<Vec<u8>, AllocError>
+    ensures { IfOk result (λ v. v.items ≡ spelled (payload_field 2 bytes.now)) }
+{
+    /// Room for the key and the length.
+    const HEAD: usize = 11;
+    let mut record = Vec::with_capacity(alloc, bytes.len().saturating_add(HEAD))?;
+    match Writer::new().message(alloc, 2, bytes, &mut record) {
+        Ok(()) => Ok(record),
+        Err(_) => Err(AllocError),
+    }
 }
 
 /// The record of a module's document at this path, in a package that no symbol's text refuses.
@@ -40,8 +259,8 @@ fn record_in(
     requires of_names { AreOfNames types.now refs.now }
     ensures { IfOk result (λ v. v.items ≡ document_part (document_of types.now path.now package_name.now refs.now)) }
 {
-    let document = document_in(alloc, path, types, refs, package_name)?;
-    record_of(alloc, &document)
+    let bytes = bytes_in(alloc, path, types, refs, package_name)?;
+    record_of(alloc, bytes.as_slice())
 }
 
 /// The record of the document that `document` answers, as it stands in an index (scip.proto, `Index.documents`): its key, its

@@ -1,0 +1,11 @@
+use Rattle.std.proofs.Common.{append_assoc}
+use Rattle.std.proofs.lemmas.List.Concat.{flat_map-append}
+use Rattle.scip_index.specs.Written.{written_document}
+use Rattle.scip_index.proofs.WritingSteps.{ok-then}
+use Rattle.ob_emit.proofs.records.push_document.Goals as goal
+
+pub returns : goal.returns
+unfolding written_document
+returns c = λ p made.
+    ok-then c.put_number.result c.put_number.ensures.bytes
+    (λ e. rw (e, c.in_ok-put_text-2.ensures, c.in_ok-push_symbols.ensures p made, c.in_ok-push_occurrences.ensures p made, c.in_ok-put_text.ensures) (simp (flat_map-append, append_assoc)))

@@ -1,0 +1,16 @@
+-- What stands for a name of an external module is a name, and a record more is the next reference's.
+use Rattle.scip_index.specs.Written.{written_occurrence}
+use Rattle.ob_emit.specs.Documents.{occurrence}
+use Rattle.ob_emit.proofs.Rows.{external_named}
+use Rattle.ob_emit.proofs.RowsWritten.{put_row, rows_put}
+use Rattle.ob_emit.proofs.records.push_occurrences.Goals as goal
+
+pub push_occurrence-requires-clause-external : goal.push_occurrence-requires-clause-external
+push_occurrence-requires-clause-external c = external_named c.args.types.now c.args.refs.now c.requires.of_names c.loop-reference.reference-index _ c.loop-reference-test.true
+
+pub loop-reference-preserved : goal.loop-reference-preserved
+loop-reference-preserved c = λ p made.
+    put_row 2 written_occurrence (occurrence c.args.types.now p) c.args.refs.now c.loop-reference.reference-index _ _ _ _ c.loop-reference-test.true (c.loop-reference.invariant p made) (c.in_ok-push_occurrence.ensures p made)
+
+pub returns : goal.returns
+returns c = λ p made. rows_put 2 written_occurrence (occurrence c.args.types.now p) c.args.refs.now c.loop-reference.reference-index _ _ c.loop-reference-test.false (c.loop-reference.invariant p made)

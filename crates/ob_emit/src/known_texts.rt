@@ -1,0 +1,104 @@
+//! The texts of symbols that are kept already, lent and not copied.
+ghost use Rattle.std.specs.Prelude.{◌≡◌, ℕ, List, IfSome};
+ghost use Rattle.std.specs.Option.{option_map};
+ghost use Rattle.std.specs.String.{string_bytes};
+ghost use Rattle.scip_symbol.specs.SymbolTexts.{plain_text};
+ghost use Rattle.ob_emit.specs.Made.{named_symbol, AreSymbolTexts};
+ghost use Rattle.ob_emit.specs.Symbols.{declared_symbol, imported_symbol, module_symbol, symbol_of};
+
+use crate::own::place_of;
+use crate::own_texts::Texts;
+use ob_targets::Target;
+use ob_types::Types;
+
+/// A text, if there is one.
+fn lent(text: &Option<String>) -> Option<&str>
+    ensures { option_map (λ t. t.now) result ≡ option_map string_bytes text.now }
+{
+    match text {
+        Some(text) => Some(text.as_str()),
+        None => None,
+    }
+}
+
+impl Texts<'_> {
+    /// The text of the symbol of what this token declares, if it has one.
+    fn known_declared(&self, types: &Types<'_>, number: u32) -> Option<&str>
+        ensures { (package_name : List ℕ) → AreSymbolTexts types.now package_name self.now →
+            option_map (λ t. t.now) result ≡ option_map plain_text (declared_symbol types.now package_name number) }
+    {
+        match place_of(types.table(), number) {
+            Some(at) => match self.declared.get(at) {
+                Some(text) => lent(text),
+                None => None,
+            },
+            None => None,
+        }
+    }
+
+    /// The text of the symbol of a declaration of a module that is reached, if it has one, where that is known.
+    fn known_imported(
+        &self,
+        types: &Types<'_>,
+        reached: u32,
+        declaration: u32,
+    ) -> Option<Option<&str>>
+        ensures { (package_name : List ℕ) → AreSymbolTexts types.now package_name self.now →
+            IfSome result (λ text. option_map (λ t. t.now) text ≡ option_map plain_text (imported_symbol types.now package_name reached declaration)) }
+    {
+        match self.outer.imported.get(&(reached, declaration)) {
+            Some(text) => Some(lent(text)),
+            None => None,
+        }
+    }
+
+    /// That of the module that an import item names.
+    fn known_module(&self, types: &Types<'_>, item: u32) -> Option<Option<&str>>
+        ensures { (package_name : List ℕ) → AreSymbolTexts types.now package_name self.now →
+            IfSome result (λ text. option_map (λ t. t.now) text ≡ option_map plain_text (module_symbol types.now package_name item)) }
+    {
+        match self.outer.modules.get(&item) {
+            Some(text) => Some(lent(text)),
+            None => None,
+        }
+    }
+
+    /// That of a name of a module that isn't in the tree.
+    fn known_external<'s>(
+        &'s self,
+        types: &Types<'_>,
+        item: u32,
+        name: &'s [u8],
+    ) -> Option<Option<&'s str>>
+        ensures { (package_name : List ℕ) → AreSymbolTexts types.now package_name self.now →
+            IfSome result (λ text. option_map (λ t. t.now) text ≡ option_map plain_text (named_symbol types.now item name.now)) }
+    {
+        match self.outer.names.get(&(item, name)) {
+            Some(text) => Some(lent(text)),
+            None => None,
+        }
+    }
+
+    /// The text of the symbol of what an identifier stands for, if that has one, where it is known: what `symbol` answers, without
+    /// a copy.
+    pub(crate) fn known<'s>(
+        &'s self,
+        types: &'s Types<'_>,
+        target: Target,
+    ) -> Option<Option<&'s str>>
+        ensures { (package_name : List ℕ) → AreSymbolTexts types.now package_name self.now →
+            IfSome result (λ text. option_map (λ t. t.now) text ≡ option_map plain_text (symbol_of types.now package_name target)) }
+    {
+        match target {
+            Target::Declared(number) => Some(self.known_declared(types, number)),
+            Target::Imported {
+                reached,
+                declaration,
+            } => self.known_imported(types, reached, declaration),
+            Target::External { item, name } => self.known_external(types, item, types.text(name)),
+            Target::Own => Some(Some(self.own.as_str())),
+            Target::Module(item) => self.known_module(types, item),
+            Target::Predeclared | Target::Unresolved => Some(None),
+        }
+    }
+}

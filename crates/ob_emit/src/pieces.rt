@@ -1,0 +1,69 @@
+//! The pieces of a document as bytes: its occurrences and its symbols, each written from what is borrowed.
+ghost use Rattle.std.specs.Prelude.{◌≡◌, ◌++◌, OnOk};
+ghost use Rattle.proto_wire.specs.Records.{IsField};
+ghost use Rattle.proto_wire.specs.Writing.{packed_fields, spelled_fields};
+ghost use Rattle.scip_index.specs.Written.{written_occurrence, written_symbol};
+ghost use Rattle.ob_emit.specs.Places.{numbers_of, place_told, shown_told};
+
+use crate::places::Range;
+use proto_wire::{Scratch, Written, put_number, put_packed, put_text};
+use std::alloc::AllocError;
+
+/// An occurrence (scip.proto, `Occurrence`).
+#[derive(Clone, Copy)]
+pub(crate) struct Place<'a> {
+    pub(crate) range: Range,
+    pub(crate) symbol: &'a str,
+    pub(crate) symbol_roles: i32,
+    pub(crate) enclosing_range: Range,
+}
+
+/// A symbol and the name to show for it (scip.proto, `SymbolInformation`).
+#[derive(Clone, Copy)]
+pub(crate) struct Shown<'a> {
+    pub(crate) symbol: &'a str,
+    pub(crate) display_name: &'a str,
+}
+
+/// Puts the numbers of a range behind the bytes, unless there are none.
+fn put_range(
+    scratch: &mut Scratch,
+    out: &mut Vec<u8>,
+    field: u32,
+    range: &Range,
+) -> Result<(), AllocError>
+    requires { IsField field }
+    ensures { OnOk result (out.new.items ≡ out.old.items ++ spelled_fields (packed_fields field (numbers_of range.now))) }
+{
+    match range {
+        Range::Nowhere => Ok(()),
+        Range::OnLine(numbers) => put_packed(scratch, out, field, numbers),
+        Range::OverLines(numbers) => put_packed(scratch, out, field, numbers),
+    }
+}
+
+impl Written for Place<'_> {
+    ghost written = { λ p. written_occurrence (place_told p) };
+
+    ghost fits = { λ _. Unit {0} };
+
+    #[tactic(auto, unfolding(scip_index::specs::Written::written_occurrence))]
+    fn push_into(&self, scratch: &mut Scratch, out: &mut Vec<u8>) -> Result<(), AllocError> {
+        put_range(scratch, out, 1, &self.range)?;
+        put_text(out, 2, self.symbol)?;
+        put_number(out, 3, self.symbol_roles)?;
+        put_range(scratch, out, 7, &self.enclosing_range)
+    }
+}
+
+impl Written for Shown<'_> {
+    ghost written = { λ s. written_symbol (shown_told s) };
+
+    ghost fits = { λ _. Unit {0} };
+
+    #[tactic(auto, unfolding(scip_index::specs::Written::written_symbol))]
+    fn push_into(&self, _scratch: &mut Scratch, out: &mut Vec<u8>) -> Result<(), AllocError> {
+        put_text(out, 1, self.symbol)?;
+        put_text(out, 6, self.display_name)
+    }
+}
