@@ -1,18 +1,30 @@
 -- From what the lower crates promise to what a run that indexes a tree is.
-use Rattle.std.proofs.Common.{◌++◌, ℕ, List, Option, Err, codes, refl, inr}
+use Rattle.std.proofs.Common.{◌≡◌, ◌++◌, ℕ, List, Option, Some, Err, codes, map, refl, sym, ◌∙◌, inr}
+use Rattle.std.specs.Global.{Vec}
+use Rattle.std.specs.List.{flat_map}
 use Rattle.byte_sink.specs.declared.sink.SinkFault.{SinkFault}
 use Rattle.byte_sink.specs.declared.sink.SinkFault.TheVariants as sink
 use Rattle.byte_sink.specs.Sinks.{AppendsFront}
 use Rattle.hex.specs.Hex.{encode_lower}
-use Rattle.ob_board.specs.Indexes.{IsIndex}
+use Rattle.ob_board.specs.WrittenIndexes.{IsWrittenIndex}
+use Rattle.ob_board.specs.declared.writing.WrittenIndex.{WrittenIndex}
 use Rattle.oscip_run.specs.Faults.{of_sink}
 use Rattle.index_run.specs.IndexRuns.{IsHexText, IsIndexText, IsTextRun}
 use Rattle.oscip_tree.specs.declared.source.Source.{Source}
-use Rattle.scip_index.specs.Plain.{PlainIndex}
-use Rattle.scip_index.specs.Written.{written}
+use Rattle.scip_index.specs.Plain.{plain_metadata, plain_symbol, PlainIndex}
+use Rattle.scip_index.specs.Written.{documents_part, externals_part, metadata_part, written}
 
-pub index_text : (sources : List Source) (package_name root : List ℕ) (index : PlainIndex) → IsIndex sources package_name root index → IsIndexText sources package_name root (written index)
-index_text sources package_name root index is = record { index = index; is_index = is; text_is = refl }
+-- the parts of an index that is written
+abbrev pub parts_text : WrittenIndex → List ℕ
+parts_text w = metadata_part (Some (plain_metadata w.metadata)) ++ flat_map (λ (row : Vec ℕ). row.items) w.records.items ++ externals_part (map plain_symbol w.external_symbols.items)
+
+pub index_text : ((i : PlainIndex) → written i ≡ metadata_part i.metadata ++ documents_part i.documents ++ externals_part i.external_symbols)
+    → (sources : List Source) (package_name root : List ℕ) (w : WrittenIndex) → IsWrittenIndex sources package_name root w → IsIndexText sources package_name root (parts_text w)
+index_text law sources package_name root w is = record {
+  index = is.index;
+  is_index = is.is_index;
+  text_is = sym (law is.index ∙ rw (is.metadata, is.documents, is.externals) refl);
+}
 
 pub hex_text : (sources : List Source) (package_name root bytes : List ℕ) → IsIndexText sources package_name root bytes → IsHexText sources package_name root (encode_lower bytes ++ codes "\n")
 hex_text sources package_name root bytes is = record { bytes = bytes; is_index = is; text_is = refl }

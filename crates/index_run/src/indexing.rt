@@ -10,11 +10,14 @@ ghost use Rattle.oscip_tree.specs.Sources.{ArePathsInOrder};
 ghost use Rattle.scip_symbol.specs.Outcomes.{is_wrong_part};
 
 use byte_sink::{Sink, put_all};
-use ob_board::{BoardGate, IndexOptions, Unresolved, index_tree, unresolved_in_tree};
-use oscip_index::{hex_line, put_index};
+use ob_board::{
+    BoardGate, IndexOptions, Unresolved, WrittenIndex, unresolved_in_tree, written_index,
+};
+use oscip_index::{hex_line, put_written};
 use oscip_job::{Indexing, Output};
 use oscip_run::{READERS, RunFault};
 use oscip_tree::Source;
+use scip_index::laws::in_parts;
 use std::alloc::{AllocError, Global};
 use std::sync::Wait;
 use std::thread::Threads;
@@ -49,8 +52,14 @@ pub fn index_to<R: Threads + Wait + Sync, G: BoardGate + Sync, S: Sink>(
     // Device is answered where the sink counted a failure, and nowhere else.
     ensures failures { S.failures sink.new ≡ failures_by is_device result (S.failures sink.old) }
 {
-    let index = index_tree(rt, alloc, sources, options, workers, gate)?;
-    put_index(alloc, index, sink)?;
+    in_parts();
+    let parts = written_index(rt, alloc, sources, options, workers, gate)?;
+    let WrittenIndex {
+        metadata,
+        records,
+        external_symbols,
+    } = parts;
+    put_written(alloc, &metadata, records, external_symbols.as_slice(), sink)?;
     Ok(())
 }
 
