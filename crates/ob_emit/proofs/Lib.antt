@@ -22,3 +22,5 @@ pub mod SeenOwners
 pub mod SeenPaths
 pub mod SeenSymbols
 pub mod Texting
+pub mod ShortUses
+pub mod LinesWalked

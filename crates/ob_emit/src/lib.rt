@@ -23,6 +23,8 @@ mod records;
 mod steps;
 mod symbol_texts;
 mod there;
+mod uses;
+mod walking;
 
 pub use documents::document;
 pub use fault::EmitFault;

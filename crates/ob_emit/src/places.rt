@@ -2,11 +2,13 @@
 ghost use Rattle.std.specs.Prelude.{◌≡◌, ◌<◌, ◌^◌, length};
 ghost use Rattle.ob_scan.specs.Position.{line_starts};
 ghost use Rattle.ob_scan.specs.Spelling.{AreInText};
-ghost use Rattle.ob_emit.specs.Documents.{construct_range, enclosing_range, range_by, range_of, span_of};
-ghost use Rattle.ob_emit.specs.Places.{numbers_of};
+ghost use Rattle.ob_emit.specs.Documents.{construct_range, enclosing_range, range_of, span_of};
+ghost use Rattle.ob_emit.specs.Places.{numbers_in, numbers_of, SpanFits};
+ghost use Rattle.ob_emit.specs.Walks.{IsAt};
 
 use crate::own::declarer_of;
 use crate::ranges::{ends_of, place_at};
+use crate::walking::{Walk, place_from};
 use ob_scan::Lines;
 use ob_targets::{Reference, Target};
 use ob_types::Types;
@@ -22,14 +24,21 @@ pub(crate) enum Range {
     OverLines([i32; 4]),
 }
 
+/// The line and the column of a start, and those of an end.
+#[derive(Clone, Copy)]
+pub(crate) struct Span {
+    pub(crate) line: u32,
+    pub(crate) column: u32,
+    pub(crate) last: u32,
+    pub(crate) end: u32,
+}
+
 /// A range as numbers.
-fn range_by(line: u32, column: u32, last: u32, end: u32) -> Range
-    requires line { line < 2 ^ 31 }
-    requires column { column < 2 ^ 31 }
-    requires last { last < 2 ^ 31 }
-    requires end { end < 2 ^ 31 }
-    ensures { numbers_of result ≡ range_by line column last end }
+pub(crate) fn range_by(span: &Span) -> Range
+    requires { SpanFits span.now }
+    ensures { numbers_of result ≡ numbers_in span.now }
 {
+    let (line, column, last, end) = (span.line, span.column, span.last, span.end);
     if line == last {
         Range::OnLine([line as i32, column as i32, end as i32])
     } else {
@@ -37,18 +46,24 @@ fn range_by(line: u32, column: u32, last: u32, end: u32) -> Range
     }
 }
 
-/// The range from the start of a token to the end of another.
-fn span_of(types: &Types<'_>, lines: &Lines, first: usize, last: usize) -> Range
+/// From the start of a token to the end of another.
+fn span_of(types: &Types<'_>, lines: &Lines, first: usize, last: usize) -> Span
     requires in_text { AreInText types.now.bytes types.now.tokens }
     requires short { length types.now.bytes < 2 ^ 31 }
     requires lined { lines.now ≡ line_starts types.now.bytes }
-    ensures { numbers_of result ≡ span_of types.now first last }
+    ensures numbers { numbers_in result ≡ span_of types.now first last }
+    ensures fits { SpanFits result }
 {
     let (start, _) = ends_of(types, first);
     let (_, end) = ends_of(types, last);
     let from = place_at(lines, start);
     let to = place_at(lines, end);
-    range_by(from.line, from.column, to.line, to.column)
+    Span {
+        line: from.line,
+        column: from.column,
+        last: to.line,
+        end: to.column,
+    }
 }
 
 /// The range of the construct that declares a target.
@@ -60,12 +75,12 @@ fn construct_range(types: &Types<'_>, lines: &Lines, target: Target) -> Range
 {
     match target {
         Target::Declared(number) => match declarer_of(types, number) {
-            Some(by) => span_of(types, lines, by.first as usize, by.last as usize),
+            Some(by) => range_by(&span_of(types, lines, by.first as usize, by.last as usize)),
             None => Range::Nowhere,
         },
         Target::Own => {
             let last = types.tokens().len().saturating_sub(1);
-            span_of(types, lines, 0, last)
+            range_by(&span_of(types, lines, 0, last))
         }
         Target::Imported { .. } => Range::Nowhere,
         Target::External { .. } => Range::Nowhere,
@@ -88,12 +103,24 @@ pub(crate) fn enclosing_range(types: &Types<'_>, lines: &Lines, reference: &Refe
     construct_range(types, lines, reference.target)
 }
 
-/// The range of a token.
-pub(crate) fn range_of(types: &Types<'_>, lines: &Lines, number: u32) -> Range
+/// Where a token stands, told where an offset was looked up last.
+pub(crate) fn token_span(types: &Types<'_>, lines: &Lines, walk: &mut Walk, number: u32) -> Span
     requires in_text { AreInText types.now.bytes types.now.tokens }
     requires short { length types.now.bytes < 2 ^ 31 }
     requires lined { lines.now ≡ line_starts types.now.bytes }
-    ensures { numbers_of result ≡ range_of types.now number }
+    requires at { IsAt types.now.bytes walk.old }
+    ensures at { IsAt types.now.bytes walk.new }
+    ensures numbers { numbers_in result ≡ range_of types.now number }
+    ensures fits { SpanFits result }
 {
-    span_of(types, lines, number as usize, number as usize)
+    let (start, end) = ends_of(types, number as usize);
+    let bytes = types.bytes();
+    let from = place_from(lines, bytes, walk, start);
+    let to = place_from(lines, bytes, walk, end);
+    Span {
+        line: from.line,
+        column: from.column,
+        last: to.line,
+        end: to.column,
+    }
 }

@@ -15,13 +15,16 @@ ghost use Rattle.ob_emit.specs.declared.fault.EmitFault.TheVariants.{BadPackage}
 ghost use Rattle.ob_emit.specs.Documents.{document_of, enclosing_range, occurrence, range_of, symbol_row};
 ghost use Rattle.ob_emit.specs.Made.{AreSymbolTexts};
 ghost use Rattle.ob_emit.specs.Named.{AreOfNames, HaveNames, IsName};
+ghost use Rattle.ob_emit.specs.Walks.{IsAt};
 
 use crate::EmitFault;
 use crate::documents::is_bad;
 use crate::own_texts::Texts;
 use crate::path::name_of;
 use crate::pieces::{Place, Shown};
-use crate::places::{enclosing_range, range_of};
+use crate::places::{enclosing_range, range_by, token_span};
+use crate::uses::{is_short, push_use};
+use crate::walking::{Walk, front};
 use ob_scan::{Lines, lines};
 use ob_targets::Reference;
 use ob_types::Types;
@@ -34,17 +37,24 @@ fn push_place(
     out: &mut Vec<u8>,
     types: &Types<'_>,
     lines: &Lines,
+    walk: &mut Walk,
     reference: &Reference,
     symbol: &str,
 ) -> Result<(), AllocError>
     requires in_text { AreInText types.now.bytes types.now.tokens }
     requires short { length types.now.bytes < 2 ^ 31 }
     requires lined { lines.now ≡ line_starts types.now.bytes }
-    ensures { OnOk result (out.new.items ≡ out.old.items ++ spelled (payload_field 2 (written_occurrence
+    requires at { IsAt types.now.bytes walk.old }
+    ensures at { IsAt types.now.bytes walk.new }
+    ensures bytes { OnOk result (out.new.items ≡ out.old.items ++ spelled (payload_field 2 (written_occurrence
         (record { range = range_of types.now reference.now.number; symbol = symbol.now; symbol_roles = pos reference.now.role; enclosing_range = enclosing_range types.now reference.now })))) }
 {
+    let span = token_span(types, lines, walk, reference.number);
+    if is_short(&span, symbol, reference.role) {
+        return push_use(out, &span, symbol, reference.role);
+    }
     let place = Place {
-        range: range_of(types, lines, reference.number),
+        range: range_by(&span),
         symbol,
         symbol_roles: i32::from(reference.role),
         enclosing_range: enclosing_range(types, lines, reference),
@@ -60,19 +70,22 @@ fn push_unknown(
     types: &Types<'_>,
     texts: &Texts<'_>,
     lines: &Lines,
+    walk: &mut Walk,
     reference: &Reference,
 ) -> Result<(), AllocError>
     requires in_text { AreInText types.now.bytes types.now.tokens }
     requires short { length types.now.bytes < 2 ^ 31 }
     requires lined { lines.now ≡ line_starts types.now.bytes }
+    requires at { IsAt types.now.bytes walk.old }
     requires named { HaveNames types.now }
     requires external { (item name : ℕ) → reference.now.target ≡ External item name → IsName (text types.now name) }
-    ensures { (package_name : List ℕ) → AreSymbolTexts types.now package_name texts.now →
+    ensures at { IsAt types.now.bytes walk.new }
+    ensures bytes { (package_name : List ℕ) → AreSymbolTexts types.now package_name texts.now →
         OnOk result (out.new.items ≡ out.old.items ++ spelled_fields (payload_fields 2 (map written_occurrence (option_to_list (occurrence types.now package_name reference.now))))) }
 {
     match texts.symbol(alloc, types, reference.target)? {
         None => Ok(()),
-        Some(symbol) => push_place(scratch, out, types, lines, reference, symbol.as_str()),
+        Some(symbol) => push_place(scratch, out, types, lines, walk, reference, symbol.as_str()),
     }
 }
 
@@ -84,20 +97,23 @@ fn push_occurrence(
     types: &Types<'_>,
     texts: &Texts<'_>,
     lines: &Lines,
+    walk: &mut Walk,
     reference: &Reference,
 ) -> Result<(), AllocError>
     requires in_text { AreInText types.now.bytes types.now.tokens }
     requires short { length types.now.bytes < 2 ^ 31 }
     requires lined { lines.now ≡ line_starts types.now.bytes }
+    requires at { IsAt types.now.bytes walk.old }
     requires named { HaveNames types.now }
     requires external { (item name : ℕ) → reference.now.target ≡ External item name → IsName (text types.now name) }
-    ensures { (package_name : List ℕ) → AreSymbolTexts types.now package_name texts.now →
+    ensures at { IsAt types.now.bytes walk.new }
+    ensures bytes { (package_name : List ℕ) → AreSymbolTexts types.now package_name texts.now →
         OnOk result (out.new.items ≡ out.old.items ++ spelled_fields (payload_fields 2 (map written_occurrence (option_to_list (occurrence types.now package_name reference.now))))) }
 {
     match texts.known(types, reference.target) {
-        Some(Some(symbol)) => push_place(scratch, out, types, lines, reference, symbol),
+        Some(Some(symbol)) => push_place(scratch, out, types, lines, walk, reference, symbol),
         Some(None) => Ok(()),
-        None => push_unknown(alloc, scratch, out, types, texts, lines, reference),
+        None => push_unknown(alloc, scratch, out, types, texts, lines, walk, reference),
     }
 }
 
@@ -118,8 +134,11 @@ fn push_occurrences(
         OnOk result (out.new.items ≡ out.old.items ++ spelled_fields (payload_fields 2 (map written_occurrence (filter_map (occurrence types.now package_name) refs.now)))) }
 {
     let lines = lines(alloc, types.bytes())?;
+    let mut walk = front(types.bytes());
     for reference in refs {
-        push_occurrence(alloc, scratch, out, types, texts, &lines, reference)?;
+        push_occurrence(
+            alloc, scratch, out, types, texts, &lines, &mut walk, reference,
+        )?;
     }
     Ok(())
 }

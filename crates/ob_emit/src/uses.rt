@@ -1,0 +1,98 @@
+//! Occurrences that declare nothing and take few bytes, as most do. Their lengths are known before they are written, so that they are
+//! put where they stand; what `pieces` puts, byte for byte.
+ghost use Rattle.std.specs.Prelude.{◌≡◌, ◌++◌, ◌<◌, ◌==◌, ◌+◌, ◌∷◌, [], OnOk, length, pos, if◌then◌else◌};
+ghost use Rattle.std.specs.Bool.{OnTrue};
+ghost use Rattle.proto_wire.specs.Writing.{number_fields, payload_field, spelled, spelled_fields};
+ghost use Rattle.scip_index.specs.Written.{written_occurrence};
+ghost use Rattle.ob_emit.specs.Places.{front_of, use_told, IsShort};
+
+use crate::places::Span;
+use std::alloc::AllocError;
+
+/// Whether an occurrence takes so few bytes.
+pub(crate) fn is_short(span: &Span, symbol: &str, role: u8) -> bool
+    ensures { OnTrue result (IsShort span.now (length symbol.now) role) }
+{
+    if span.last != span.line {
+        return false;
+    }
+    if span.line >= 16_384 {
+        return false;
+    }
+    if span.column >= 128 {
+        return false;
+    }
+    if span.end >= 128 {
+        return false;
+    }
+    if symbol.is_empty() {
+        return false;
+    }
+    if symbol.len() >= 100 {
+        return false;
+    }
+    if role >= 128 {
+        return false;
+    }
+    role != 1
+}
+
+/// Puts what stands in front of a symbol of so many bytes, where so many stand behind the range.
+#[tactic(auto, using(crate::proofs::ShortUses::front_low, crate::proofs::ShortUses::front_high))]
+fn push_front(
+    out: &mut Vec<u8>,
+    line: u32,
+    column: u32,
+    end: u32,
+    size: u8,
+    rest: u8,
+) -> Result<(), AllocError>
+    requires line { line < 16384 }
+    requires column { column < 128 }
+    requires end { end < 128 }
+    requires rest { rest < 120 }
+    ensures { OnOk result (out.new.items ≡ out.old.items ++ (front_of line column end rest ++ 18 ∷ size ∷ [])) }
+{
+    let (column, end) = (column as u8, end as u8);
+    if line < 128 {
+        out.extend_from_slice(&[18, rest + 5, 10, 3, line as u8, column, end, 18, size])
+    } else {
+        let (low, high) = ((line % 128) as u8 + 128, (line / 128) as u8);
+        out.extend_from_slice(&[18, rest + 6, 10, 4, low, high, column, end, 18, size])
+    }
+}
+
+/// How many bytes a role takes.
+fn role_size(role: u8) -> u8
+    ensures { result ≡ (if role == 0 then 0 else 2) }
+{
+    if role == 0 { 0 } else { 2 }
+}
+
+/// Puts a role, if there is one.
+fn push_role(out: &mut Vec<u8>, role: u8) -> Result<(), AllocError>
+    requires { role < 128 }
+    ensures { OnOk result (out.new.items ≡ out.old.items ++ spelled_fields (number_fields 3 (pos role))) }
+{
+    if role == 0 {
+        return Ok(());
+    }
+    out.extend_from_slice(&[24, role])
+}
+
+/// Puts the record of such an occurrence.
+pub(crate) fn push_use(
+    out: &mut Vec<u8>,
+    span: &Span,
+    symbol: &str,
+    role: u8,
+) -> Result<(), AllocError>
+    requires { IsShort span.now (length symbol.now) role }
+    ensures { OnOk result (out.new.items ≡ out.old.items ++ spelled (payload_field 2 (written_occurrence (use_told span.now.line span.now.column span.now.end symbol.now role)))) }
+{
+    let size = symbol.len() as u8;
+    let rest = size + 2 + role_size(role);
+    push_front(out, span.line, span.column, span.end, size, rest)?;
+    out.extend_from_slice(symbol.as_bytes())?;
+    push_role(out, role)
+}
