@@ -16,7 +16,7 @@ pub(crate) struct Walk {
 }
 
 /// How far it pays to look at the bytes.
-const NEAR: u32 = 256;
+const NEAR: u32 = 64;
 
 /// The front of a text.
 pub(crate) fn front(bytes: &[u8]) -> Walk
