@@ -19,6 +19,7 @@ impl Cursor {
     pub(crate) const ALL: Cursor = Cursor { at: 0 };
 
     /// The next of these tokens, and those after it.
+    #[inline(always)]
     #[tactic(auto, unfolding(crate::specs::Gives::ahead))]
     pub(crate) fn next(self, tokens: &[Token]) -> Option<(Leaf, Cursor)>
         ensures { seen tokens.now result ≡ uncons (ahead tokens.now self) }
