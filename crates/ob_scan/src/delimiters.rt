@@ -5,6 +5,7 @@ ghost use Rattle.ob_scan.specs.Tables.{two_byte_delimiter, single_of};
 
 use crate::Kind;
 
+#[inline(always)]
 fn two_byte_delimiter(first: u8, second: u8) -> Option<Kind>
     ensures { result ≡ two_byte_delimiter first second }
 {
@@ -17,6 +18,7 @@ fn two_byte_delimiter(first: u8, second: u8) -> Option<Kind>
     }
 }
 
+#[inline(always)]
 fn single_of(byte: u8) -> Option<Kind>
     ensures { result ≡ single_of byte }
 {
@@ -47,6 +49,7 @@ fn single_of(byte: u8) -> Option<Kind>
     }
 }
 
+#[inline(always)]
 fn single(byte: u8) -> Option<(Kind, usize)>
     ensures { result ≡ single_in byte }
 {
@@ -54,6 +57,7 @@ fn single(byte: u8) -> Option<(Kind, usize)>
 }
 
 /// The delimiter in front and its length, two bytes before one.
+#[inline(always)]
 pub(crate) fn delimiter(rest: &[u8]) -> Option<(Kind, usize)>
     ensures { result ≡ delimiter_of rest.now }
 {

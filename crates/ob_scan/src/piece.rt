@@ -21,7 +21,7 @@ pub(crate) enum Piece {
     Nothing(Reason),
 }
 
-fn begins_blank(rest: &[u8]) -> bool
+pub(crate) fn begins_blank(rest: &[u8]) -> bool
     ensures { result ≡ begins_blank rest.now }
 {
     match rest {
@@ -102,6 +102,7 @@ fn string_piece(rest: &[u8]) -> Piece
     }
 }
 
+#[inline(always)]
 fn delimiter_piece(rest: &[u8]) -> Piece
     requires some { 0 < length rest.now }
     requires no_blank { begins_blank rest.now ≡ false }

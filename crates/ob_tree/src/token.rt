@@ -18,6 +18,7 @@ pub enum Leaf {
 }
 
 /// The token of this number and kind.
+#[inline(always)]
 pub fn leaf_at(number: u32, kind: Kind) -> Leaf
     ensures { result ≡ leaf_of number kind }
 {
