@@ -1,3 +1,4 @@
+pub mod Capitals
 pub mod Closings
 pub mod Continuing
 pub mod LineStarts

@@ -1,6 +1,7 @@
 -- What the private functions of the scanner answer.
-use Rattle.std.specs.Prelude.{◌≡◌, ◌+◌, ◌≤◌, ◌<◌, ℕ, zero, suc, List, [], ◌∷◌, length, drop, Option, Some, None, option_map, ◌==◌, ◌&&◌, if◌then◌else◌}
+use Rattle.std.specs.Prelude.{◌≡◌, ◌+◌, ◌≤◌, ◌<◌, ℕ, zero, suc, List, [], ◌∷◌, length, drop, Option, Some, None, option_map, Bool, false, ◌==◌, ◌&&◌, if◌then◌else◌}
 use Rattle.std.specs.List.{position}
+use Rattle.std.specs.Char.{is_ascii_uppercase}
 use Rattle.ob_scan.specs.declared.kind.Kind.{Kind}
 use Rattle.ob_scan.specs.declared.comment.Mark.{Mark}
 use Rattle.ob_scan.specs.declared.comment.Mark.TheVariants.{Opens, Closes, Neither}
@@ -46,6 +47,12 @@ IsCommentLen bs (Some n) = (2 ≤ n) × (n ≤ length bs) × (after_comment 1 (d
 abbrev pub first_of : {X : Type 0} → Option X → Option X → Option X
 first_of None y = y
 first_of (Some x) y = Some x
+
+-- the second letter is a capital
+abbrev pub has_second_capital : List ℕ → Bool
+has_second_capital [] = false
+has_second_capital (b ∷ []) = false
+has_second_capital (b ∷ c ∷ bs) = is_ascii_uppercase c
 
 -- the length of the string in front, of which the first quote is read
 abbrev pub string_len : List ℕ → Option ℕ

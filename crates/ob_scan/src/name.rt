@@ -3,7 +3,7 @@ ghost use Rattle.std.specs.Prelude.{◌≡◌, ◌≤◌, ◌==◌, length, take
 ghost use Rattle.std.specs.List.{position, prefix_len};
 ghost use Rattle.std.specs.Char.{is_ascii_alphanumeric};
 ghost use Rattle.ob_scan.specs.declared.kind.Kind.TheVariants.{Ident};
-ghost use Rattle.ob_scan.specs.Pieces.{string_len};
+ghost use Rattle.ob_scan.specs.Pieces.{has_second_capital, string_len};
 ghost use Rattle.ob_scan.specs.Tables.{word_of};
 
 use crate::Kind;
@@ -19,11 +19,26 @@ pub(crate) fn name_len(rest: &[u8]) -> usize
         .count()
 }
 
-/// A reserved word's kind, or that of identifiers.
+/// Whether the second letter is a capital, as that of each reserved word is, and of few other names.
+fn has_second_capital(name: &[u8]) -> bool
+    ensures { result ≡ has_second_capital name.now }
+{
+    match name {
+        [_, second, ..] => second.is_ascii_uppercase(),
+        _ => false,
+    }
+}
+
+/// A reserved word's kind, or that of identifiers. Most names are told from reserved words by their second letter, with no look
+/// at the table.
 pub(crate) fn name_kind(name: &[u8]) -> Kind
     ensures { result ≡ unwrap_or (word_of name.now) Ident }
 {
-    word_of(name).unwrap_or(Kind::Ident)
+    if has_second_capital(name) {
+        word_of(name).unwrap_or(Kind::Ident)
+    } else {
+        Kind::Ident
+    }
 }
 
 fn quote_in(bytes: &[u8]) -> Option<usize>
