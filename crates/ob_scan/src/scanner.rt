@@ -1,5 +1,5 @@
 //! From bytes to tokens.
-ghost use Rattle.std.specs.Prelude.{◌≡◌, ◌≤◌, length, IfSome};
+ghost use Rattle.std.specs.Prelude.{◌≡◌, ◌≤◌, [], length, IfSome};
 ghost use Rattle.ob_scan.specs.Spelling.{IsOutcome, Outcome, outcome_of};
 
 use crate::piece::{Piece, begins_blank, next_piece};
@@ -8,11 +8,22 @@ use std::alloc::Global;
 
 const MAX_BYTES: usize = 16_777_216;
 
+/// A list with room for the tokens that so many bytes mostly have, so that it need not grow token by token. Where memory is
+/// refused there is no room, and the tokens ask for it one by one.
+fn with_room(alloc: Global, bytes: usize) -> Vec<Token>
+    ensures { result.items ≡ [] }
+{
+    match Vec::with_capacity(alloc, bytes / 4) {
+        Ok(tokens) => tokens,
+        Err(_) => Vec::new(alloc),
+    }
+}
+
 fn tokens_in(alloc: Global, bytes: &[u8]) -> Result<Tokens, ScanFault>
     requires { length bytes.now ≤ 16777216 }
     ensures { IfSome (outcome_of result) (IsOutcome bytes.now) }
 {
-    let mut tokens = Vec::new(alloc);
+    let mut tokens = with_room(alloc, bytes.len());
     let mut at = 0;
     'pieces: while at < bytes.len() {
         let rest = &bytes[at..];

@@ -5,7 +5,7 @@ use Rattle.std.proofs.lemmas.Grind.{common_steps}
 use Rattle.ob_scan.proofs.scanner.tokens_in.Goals as goal
 
 pub pieces-init : goal.pieces-init
-pieces-init c = record { within = omega arith; so_far = begun _ _ c.new-tokens.ensures.items }
+pieces-init c = record { within = omega arith; so_far = begun _ _ c.with_room-tokens.ensures }
 
 pub pieces-preserved-then-begins_blank : goal.pieces-preserved-then-begins_blank
 pieces-preserved-then-begins_blank c = record { within = omega arith; so_far = one_gap _ _ _ _ c.pieces.invariant.within c.pieces.invariant.so_far (blank (sym c.begins_blank.ensures ∙ c.if-begins_blank.true)) }
