@@ -3,6 +3,7 @@ pub mod Marks
 pub mod Placed
 pub mod Referring
 pub mod Selecting
+pub mod Sorting
 pub mod Stepping
 pub mod Within
 pub mod WrittenNames

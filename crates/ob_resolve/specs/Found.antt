@@ -7,11 +7,13 @@ use Rattle.ob_targets.specs.Targets.{is_written}
 use Rattle.ob_targets.specs.declared.target.Reference.{Reference}
 use Rattle.ob_resolve.specs.declared.found.Found.{Found}
 use Rattle.ob_resolve.specs.Selected.{AreNamed}
+use Rattle.ob_resolve.specs.Sorted.{AreSorts}
 
--- where each token stands, whether it is written, and what the name of each selector stands for
+-- where each token stands, whether it is written, what is kept of what it is declared as, and what the name of each selector stands for
 pub record IsFound (w : World) (f : Found) : Type 0 where
   pub standings : (k : ℕ) → k < length w.tokens → slice_get f.standings.items k ≡ Some (standing w.rows k)
   pub written : (k : ℕ) → k < length w.tokens → slice_get f.written.items k ≡ Some (is_written w.rows k)
+  pub sorts : AreSorts w f.sorts.items
   pub selected : AreNamed w (length w.rows.selectors) f.selected.items
 
 -- what the identifier of this token stands for, and its role

@@ -1,3 +1,4 @@
 pub mod Found
 pub mod Marked
 pub mod Selected
+pub mod Sorted

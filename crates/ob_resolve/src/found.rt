@@ -3,8 +3,10 @@ ghost use Rattle.std.specs.Prelude.{IfOk};
 ghost use Rattle.ob_resolve.specs.Found.{IsFound};
 
 use crate::selectors::selected_targets;
+use crate::sorts::sorts_of;
 use crate::standings::standings;
 use crate::written::written_names;
+use ob_decls::Sort;
 use ob_targets::{Standing, Target};
 use ob_types::Types;
 use std::alloc::{AllocError, Global};
@@ -16,6 +18,8 @@ pub(crate) struct Found {
     pub(crate) standings: Vec<Standing>,
     /// Whether each token is a name that is written.
     pub(crate) written: Vec<bool>,
+    /// What each token is declared as, where that is kept.
+    pub(crate) sorts: Vec<Option<Sort>>,
     /// What the name of each selector stands for.
     pub(crate) selected: Vec<Target>,
 }
@@ -27,10 +31,12 @@ pub(crate) fn find_all(alloc: Global, types: &Types<'_>) -> Result<Found, AllocE
     let count = types.tokens().len();
     let standings = standings(alloc, types.table(), count)?;
     let written = written_names(alloc, types.table(), count)?;
-    let selected = selected_targets(alloc, types)?;
+    let sorts = sorts_of(alloc, types, count)?;
+    let selected = selected_targets(alloc, types, sorts.as_slice())?;
     Ok(Found {
         standings,
         written,
+        sorts,
         selected,
     })
 }

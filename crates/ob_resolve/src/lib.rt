@@ -7,6 +7,7 @@ mod found;
 mod meaning;
 mod refs;
 mod selectors;
+mod sorts;
 mod standing_for;
 mod standings;
 mod steps;

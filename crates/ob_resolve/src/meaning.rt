@@ -2,7 +2,10 @@
 ghost use Rattle.std.specs.Prelude.{◌≡◌};
 ghost use Rattle.ob_targets.specs.Targets.{declared_target, used_target, exported_target, second_target, end_target, field_target, known_of, typed, holds_value, use_role, value_role};
 ghost use Rattle.ob_targets.specs.Steps.{guard_of};
+ghost use Rattle.ob_types.specs.World.{form_of};
+ghost use Rattle.ob_resolve.specs.Sorted.{AreSorts};
 
+use crate::sorts::sort_of;
 use ob_decls::{Sort, TypeName};
 use ob_targets::{Known, Target, is_predeclared};
 use ob_types::{Field, Node, Types};
@@ -120,12 +123,31 @@ fn typed(sort: Option<Sort>, node: Option<Node>) -> Known
     }
 }
 
+/// What is known of an identifier of the module that is declared as this. Only what holds a value has its type looked up.
+fn known_here(types: &Types<'_>, sort: Option<Sort>, declared: u32) -> Known
+    ensures { result ≡ typed sort (form_of types.now declared) }
+{
+    match sort {
+        None => Known::Nothing,
+        Some(sort) => {
+            if holds_value(sort) {
+                typed(Some(sort), types.form(declared))
+            } else {
+                Known::Nothing
+            }
+        }
+    }
+}
+
 /// What is known of a target.
-pub(crate) fn known_of(types: &Types<'_>, target: Target) -> Known
+pub(crate) fn known_of(types: &Types<'_>, sorts: &[Option<Sort>], target: Target) -> Known
+    requires { AreSorts types.now sorts.now }
     ensures { result ≡ known_of types.now target }
 {
     match target {
-        Target::Declared(declared) => typed(types.sort(declared), types.form(declared)),
+        Target::Declared(declared) => {
+            known_here(types, sort_of(types, sorts, declared), declared)
+        }
         Target::Imported {
             reached,
             declaration,
@@ -182,11 +204,17 @@ fn value_role(sort: Option<Sort>, written: bool) -> u8
 }
 
 /// The role of a use of a target.
-pub(crate) fn use_role(types: &Types<'_>, target: Target, written: bool) -> u8
+pub(crate) fn use_role(
+    types: &Types<'_>,
+    sorts: &[Option<Sort>],
+    target: Target,
+    written: bool,
+) -> u8
+    requires { AreSorts types.now sorts.now }
     ensures { result ≡ use_role types.now target written }
 {
     match target {
-        Target::Declared(declared) => value_role(types.sort(declared), written),
+        Target::Declared(declared) => value_role(sort_of(types, sorts, declared), written),
         Target::Imported {
             reached,
             declaration,

@@ -3,10 +3,11 @@ ghost use Rattle.std.specs.Prelude.{◌≡◌, ◌<◌, IfOk, Some, slice_get, l
 ghost use Rattle.ob_decls.specs.declared.rows.Step.TheVariants as steps;
 ghost use Rattle.ob_targets.specs.Steps.{begins_designator, Knows};
 ghost use Rattle.ob_resolve.specs.Selected.{AreNamed, IsBehind, IsLed};
+ghost use Rattle.ob_resolve.specs.Sorted.{AreSorts};
 
 use crate::meaning::{guard_of, known_of, used_target};
 use crate::steps::{elements_of, selected, target_of};
-use ob_decls::{Selector, Step};
+use ob_decls::{Selector, Sort, Step};
 use ob_targets::{Known, Target};
 use ob_types::Types;
 use std::alloc::{AllocError, Global};
@@ -35,26 +36,34 @@ fn begins_designator(selectors: &[Selector], place: usize, selector: Selector) -
 /// What a dot and a name lead to.
 fn led_by_name(
     finder: &mut Finder<'_, Types<'_>>,
+    sorts: &[Option<Sort>],
     before: Known,
     name: u32,
 ) -> Result<Led, AllocError>
+    requires { AreSorts finder.old sorts.now }
     ensures types { finder.new ≡ finder.old }
     ensures led { IfOk result (IsLed finder.old before (steps.Field name)) }
 {
     let target = selected(finder, before, name)?;
     Ok(Led {
         target,
-        known: known_of(finder.graph(), target),
+        known: known_of(finder.graph(), sorts, target),
     })
 }
 
 /// What a selector leads to.
-fn taken(finder: &mut Finder<'_, Types<'_>>, before: Known, step: Step) -> Result<Led, AllocError>
+fn taken(
+    finder: &mut Finder<'_, Types<'_>>,
+    sorts: &[Option<Sort>],
+    before: Known,
+    step: Step,
+) -> Result<Led, AllocError>
+    requires { AreSorts finder.old sorts.now }
     ensures types { finder.new ≡ finder.old }
     ensures led { IfOk result (IsLed finder.old before step) }
 {
     let known = match step {
-        Step::Field(name) => return led_by_name(finder, before, name),
+        Step::Field(name) => return led_by_name(finder, sorts, before, name),
         Step::Elements(count) => elements_of(finder, before, count)?,
         Step::Target => target_of(finder, before)?,
         Step::Arguments(guard) => guard_of(finder.graph(), guard),
@@ -66,7 +75,14 @@ fn taken(finder: &mut Finder<'_, Types<'_>>, before: Known, step: Step) -> Resul
 }
 
 /// What is known before the selector at this place, by what is known behind the one before it.
-fn known_before(types: &Types<'_>, selectors: &[Selector], place: usize, behind: Known) -> Known
+fn known_before(
+    types: &Types<'_>,
+    sorts: &[Option<Sort>],
+    selectors: &[Selector],
+    place: usize,
+    behind: Known,
+) -> Known
+    requires sorts { AreSorts types.now sorts.now }
     requires same { selectors.now ≡ types.now.rows.selectors }
     requires within { place < length selectors.now }
     requires behind { IsBehind types.now place behind }
@@ -74,14 +90,19 @@ fn known_before(types: &Types<'_>, selectors: &[Selector], place: usize, behind:
 {
     let selector = selectors[place];
     if begins_designator(selectors, place, selector) {
-        known_of(types, used_target(types, selector.of))
+        known_of(types, sorts, used_target(types, selector.of))
     } else {
         behind
     }
 }
 
 /// What the names behind the dots of all designators stand for, by the places of their selectors.
-pub(crate) fn selected_targets(alloc: Global, types: &Types<'_>) -> Result<Vec<Target>, AllocError>
+pub(crate) fn selected_targets(
+    alloc: Global,
+    types: &Types<'_>,
+    sorts: &[Option<Sort>],
+) -> Result<Vec<Target>, AllocError>
+    requires { AreSorts types.now sorts.now }
     ensures { IfOk result (λ v. AreNamed types.now (length types.now.rows.selectors) v.items) }
 {
     let selectors = types.table().selectors();
@@ -89,8 +110,8 @@ pub(crate) fn selected_targets(alloc: Global, types: &Types<'_>) -> Result<Vec<T
     let mut targets = Vec::new(alloc);
     let mut behind = Known::Nothing;
     for place in 0..selectors.len() {
-        let before = known_before(types, selectors, place, behind);
-        let led = taken(&mut finder, before, selectors[place].step)?;
+        let before = known_before(types, sorts, selectors, place, behind);
+        let led = taken(&mut finder, sorts, before, selectors[place].step)?;
         targets.push(led.target)?;
         behind = led.known;
     }

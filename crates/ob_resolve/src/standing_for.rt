@@ -60,7 +60,8 @@ fn ending(types: &Types<'_>, number: u32, end: usize) -> Reference
 }
 
 /// An identifier that is looked up.
-fn used(types: &Types<'_>, number: u32, written: bool) -> Reference
+fn used(types: &Types<'_>, found: &Found, number: u32, written: bool) -> Reference
+    requires found { IsFound types.now found.now }
     requires written { written ≡ is_written types.now.rows number }
     ensures { (at : ℕ) → standing types.now.rows number ≡ standings.Use at → IsReference types.now number result }
 {
@@ -68,7 +69,7 @@ fn used(types: &Types<'_>, number: u32, written: bool) -> Reference
     Reference {
         number,
         target,
-        role: use_role(types, target, written),
+        role: use_role(types, found.sorts.as_slice(), target, written),
     }
 }
 
@@ -89,13 +90,14 @@ fn selected(
     Reference {
         number,
         target,
-        role: use_role(types, target, written),
+        role: use_role(types, found.sorts.as_slice(), target, written),
     }
 }
 
 /// A name behind a dot in a qualident, by the use before the dot.
-fn second(types: &Types<'_>, number: u32, first: usize) -> Reference
-    requires { standing types.now.rows number ≡ standings.Second first }
+fn second(types: &Types<'_>, found: &Found, number: u32, first: usize) -> Reference
+    requires found { IsFound types.now found.now }
+    requires stands { standing types.now.rows number ≡ standings.Second first }
     ensures { IsReference types.now number result }
 {
     let uses = types.table().uses();
@@ -103,7 +105,7 @@ fn second(types: &Types<'_>, number: u32, first: usize) -> Reference
     Reference {
         number,
         target,
-        role: use_role(types, target, false),
+        role: use_role(types, found.sorts.as_slice(), target, false),
     }
 }
 
@@ -128,9 +130,9 @@ pub(crate) fn referred(types: &Types<'_>, found: &Found, number: u32) -> Referen
             role: 1,
         },
         Standing::End(end) => ending(types, number, end),
-        Standing::Use(_) => used(types, number, written),
+        Standing::Use(_) => used(types, found, number, written),
         Standing::Selected(selector) => selected(types, found, number, selector, written),
-        Standing::Second(first) => second(types, number, first),
+        Standing::Second(first) => second(types, found, number, first),
         Standing::Nowhere => Reference {
             number,
             target: Target::Unresolved,

@@ -23,11 +23,11 @@ imported-requires c = stands_as c.args.types.now c.args.found.now c.args.number 
 pub ending-requires : goal.ending-requires
 ending-requires c = stands_as c.args.types.now c.args.found.now c.args.number _ _ _ c.requires.found c.requires.within c.index-standing.ensures c.in-End.is
 
-pub second-requires : goal.second-requires
-second-requires c = stands_as c.args.types.now c.args.found.now c.args.number _ _ _ c.requires.found c.requires.within c.index-standing.ensures c.in-Second.is
+pub second-requires-clause-stands : goal.second-requires-clause-stands
+second-requires-clause-stands c = stands_as c.args.types.now c.args.found.now c.args.number _ _ _ c.requires.found c.requires.within c.index-standing.ensures c.in-Second.is
 
 pub used-requires : goal.used-requires
-used-requires c = record { written = written_as c.args.types.now c.args.found.now c.args.number _ _ c.requires.found c.requires.within c.index-written.ensures }
+used-requires c = record { found = c.requires.found; written = written_as c.args.types.now c.args.found.now c.args.number _ _ c.requires.found c.requires.within c.index-written.ensures }
 
 pub selected-requires-clause-written : goal.selected-requires-clause-written
 selected-requires-clause-written c = written_as c.args.types.now c.args.found.now c.args.number _ _ c.requires.found c.requires.within c.index-written.ensures
