@@ -65,12 +65,12 @@ const SHAPES: &[Shape] = &[
 
 /// Seeded numbers: the linear congruence of MMIX (Knuth 1998).
 #[derive(Drop)]
-struct Seed {
-    state: u64,
+pub(crate) struct Seed {
+    pub(crate) state: u64,
 }
 
 impl Seed {
-    fn below(&mut self, count: u32) -> u32
+    pub(crate) fn below(&mut self, count: u32) -> u32
         requires { 0 < count }
         ensures { result < count }
     {
@@ -82,7 +82,7 @@ impl Seed {
     }
 
     /// Of eight weights three are 0.
-    fn weight(&mut self) -> u64 {
+    pub(crate) fn weight(&mut self) -> u64 {
         match self.below(8) {
             0..=2 => 0,
             3 => 1_000_000_007,

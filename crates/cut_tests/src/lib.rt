@@ -1,18 +1,25 @@
-//! Tests of the public calls of `cut_residual`, `cut_net`, `cut_part`, `cut_preflow`, `cut_check`, `cut_solve` and `cut_plain`, of what no
-//! command shows: sinks that fail, calls that the solver makes, its workers at gates, `plain`, prices upon prices, and verdicts on what no
-//! report says. What `cut-net` and `check-net` print stands in `rows/`.
-//! Stands on those seven, on `byte_sink` and on `test_doubles`.
+//! Tests of the public calls of `cut_residual`, `cut_net`, `cut_part`, `cut_trial`, `cut_preflow`, `cut_check`, `cut_solve` and `cut_plain`, of
+//! what no command shows: sinks that fail, calls that the solver makes, its workers at gates, `plain`, prices upon prices, verdicts on what no
+//! report says, and that the order of residual arcs and the flow of the trial are what they were. What `cut-net` and `check-net` print
+//! stands in `rows/`.
+//! Stands on those eight, on `byte_sink` and on `test_doubles`.
 //! It has nothing but tests: worked networks and cuts, each with what is known of it.
 #![tactic(auto)]
 
 #[cfg(test)]
 mod answers;
 #[cfg(test)]
+mod drawn;
+#[cfg(test)]
+mod earlier;
+#[cfg(test)]
 mod gates;
 #[cfg(test)]
 mod generated;
 #[cfg(test)]
 mod graphs;
+#[cfg(test)]
+mod listed;
 #[cfg(test)]
 mod networks;
 #[cfg(test)]
@@ -21,6 +28,8 @@ mod preflows;
 mod sinks;
 #[cfg(test)]
 mod told;
+#[cfg(test)]
+mod trials;
 #[cfg(test)]
 mod verdicts;
 #[cfg(test)]

@@ -1,0 +1,337 @@
+//! The trial as it was before it passed by arcs in one loop: it looks up one residual arc after the other. The trial of today is compared with it,
+//! so its steps stay as they are. Nothing is proved of it but that it is safe.
+ghost use Rattle.std.specs.Prelude.{◌≡◌, ◌<◌, All, IfOk, IfSome, OnOk, length, not, vec_len};
+ghost use Rattle.cut_residual.specs.Graphs.{HasArc};
+ghost use Rattle.cut_residual.specs.OutArcs.{IsOutOf};
+
+use cut_residual::{OutArc, ResidualArc, ResidualGraph, order_of};
+use std::alloc::{AllocError, Global};
+use std::marker::Model;
+
+/// For each node how many residual arcs lead from it to the end at least, and the number of nodes where none do; and the nodes from which some
+/// do, the nearest first.
+#[derive(Drop)]
+struct Distances {
+    labels: Vec<u32>,
+    reached: Vec<u32>,
+}
+
+/// The same arc the other way.
+fn opposite(step: ResidualArc) -> ResidualArc
+    ensures { result ≡ record { arc = step.arc; forward = not step.forward } }
+{
+    ResidualArc {
+        forward: !step.forward,
+        ..step
+    }
+}
+
+/// Labels the nodes without a label that have a residual arc to this node, and adds them to those that were reached.
+fn spread(
+    graph: &ResidualGraph,
+    node: u32,
+    labels: &mut Vec<u32>,
+    reached: &mut Vec<u32>,
+) -> Result<(), AllocError>
+    requires node { node < graph.now.nodes }
+    requires labels { vec_len labels.old ≡ graph.now.nodes }
+    requires reached { All (λ n. n < graph.now.nodes) reached.old.items }
+    ensures labels { OnOk result (vec_len labels.new ≡ graph.now.nodes) }
+    ensures reached { OnOk result (All (λ n. n < graph.now.nodes) reached.new.items) }
+{
+    let none = graph.nodes();
+    let label = labels[node as usize].saturating_add(1);
+    for out in graph.residual_arcs(node) {
+        let before = out.head;
+        if labels[before as usize] == none && graph.residual(opposite(out.step)) > 0 {
+            labels[before as usize] = label;
+            reached.push(before)?;
+        }
+    }
+    Ok(())
+}
+
+/// The distances to the end.
+fn distances_to(alloc: Global, graph: &ResidualGraph, end: u32) -> Result<Distances, AllocError>
+    requires { end < graph.now.nodes }
+    ensures labels { IfOk result (λ d. vec_len d.labels ≡ graph.now.nodes) }
+    ensures reached { IfOk result (λ d. All (λ n. n < graph.now.nodes) d.reached.items) }
+{
+    let nodes = graph.nodes();
+    let mut labels = vec![in alloc; nodes; nodes as usize]?;
+    let mut reached = Vec::new(alloc);
+    labels[end as usize] = 0;
+    reached.push(end)?;
+    for place in 0..nodes as usize {
+        if place >= reached.len() {
+            return Ok(Distances { labels, reached });
+        }
+        let node = reached[place];
+        spread(graph, node, &mut labels, &mut reached)?;
+    }
+    Ok(Distances { labels, reached })
+}
+
+/// A graph with its flow, and for each node its excess and its label; those that wait have excess.
+#[derive(Drop)]
+struct Trial {
+    graph: ResidualGraph,
+    excesses: Vec<u64>,
+    labels: Vec<u32>,
+    waiting: Vec<u32>,
+}
+
+impl Model for Trial {
+    ghost use Rattle.cut_residual.specs.Graphs.{Graph};
+    ghost use Rattle.cut_trial.specs.Trials.{IsTrial};
+
+    ghost Value = { Graph };
+
+    ghost view = { λ t. t.graph };
+
+    ghost invariant = { λ t. IsTrial t.graph.nodes t.excesses.items t.labels.items t.waiting.items };
+}
+
+/// The nodes with excess, the last first, without the end.
+fn with_excess(
+    alloc: Global,
+    nodes: &[u32],
+    excesses: &[u64],
+    end: u32,
+) -> Result<Vec<u32>, AllocError>
+    requires { All (λ n. n < length excesses.now) nodes.now }
+    ensures { IfOk result (λ found. All (λ n. n < length excesses.now) found.items) }
+{
+    let mut found = Vec::new(alloc);
+    for back in 0..nodes.len() {
+        let node = nodes[nodes.len() - 1 - back];
+        if node != end && excesses[node as usize] > 0 {
+            found.push(node)?;
+        }
+    }
+    Ok(found)
+}
+
+impl Trial {
+    /// The residual arc at this place of those that leave from a node, if there is one.
+    fn out_at(&self, node: u32, place: usize) -> Option<OutArc>
+        requires { node < self.now.nodes }
+        ensures { IfSome result (IsOutOf self.now node) }
+    {
+        let outs = self.graph.residual_arcs(node);
+        if place < outs.len() {
+            Some(outs[place])
+        } else {
+            None
+        }
+    }
+
+    /// Sends over a residual arc of a node what is left of it, and at most this amount. A node that had no excess waits then.
+    fn send(&mut self, node: u32, out: OutArc, most: u64) -> Result<(), AllocError>
+        requires node { node < self.old.nodes }
+        requires out { IsOutOf self.old node out }
+        ensures { OnOk result (self.new.nodes ≡ self.old.nodes) }
+    {
+        let amount = out.residual.min(most);
+        self.graph.send(out.step, amount);
+        let left = self.excesses[node as usize].saturating_sub(amount);
+        self.excesses[node as usize] = left;
+        let before = self.excesses[out.head as usize];
+        self.excesses[out.head as usize] = before.saturating_add(amount);
+        if before == 0 {
+            self.waiting.push(out.head)?;
+        }
+        Ok(())
+    }
+
+    /// Sends the excess of a node over a residual arc that leads one label down. Answers the label that it leads to, and 2^32 - 1 where
+    /// nothing is left of it.
+    fn push(&mut self, node: u32, out: OutArc) -> Result<u32, AllocError>
+        requires node { node < self.old.nodes }
+        requires out { IsOutOf self.old node out }
+        ensures { OnOk result (self.new.nodes ≡ self.old.nodes) }
+    {
+        if out.residual == 0 {
+            return Ok(u32::MAX);
+        }
+        let label = self.labels[out.head as usize];
+        let excess = self.excesses[node as usize];
+        if excess > 0 && label.saturating_add(1) == self.labels[node as usize] {
+            self.send(node, out, excess)?;
+            if excess >= out.residual {
+                return Ok(u32::MAX);
+            }
+        }
+        Ok(label)
+    }
+
+    /// Sends on what a node has too much, one label down. Where something is left in the end, answers the least label that it could still
+    /// go to.
+    fn push_all(&mut self, node: u32) -> Result<u32, AllocError>
+        requires { node < self.old.nodes }
+        ensures { OnOk result (self.new.nodes ≡ self.old.nodes) }
+    {
+        let mut least = u32::MAX;
+        for place in 0..self.graph.residual_arcs(node).len() {
+            let Some(out) = self.out_at(node, place) else {
+                return Ok(least);
+            };
+            if self.excesses[node as usize] == 0 {
+                return Ok(least);
+            }
+            let label = self.push(node, out)?;
+            least = least.min(label);
+        }
+        Ok(least)
+    }
+
+    /// Sends on what a node has too much. Where something is left, its label is raised, and it waits again where that stays below the
+    /// number of nodes. Answers whether it was raised.
+    fn discharge(&mut self, node: u32) -> Result<bool, AllocError>
+        requires { node < self.old.nodes }
+        ensures { OnOk result (self.new.nodes ≡ self.old.nodes) }
+    {
+        let label = self.push_all(node)?.saturating_add(1);
+        if self.excesses[node as usize] == 0 {
+            return Ok(false);
+        }
+        self.labels[node as usize] = label;
+        if label < self.graph.nodes() {
+            self.waiting.push(node)?;
+        }
+        Ok(true)
+    }
+
+    /// Discharges those that wait, in turn, until none do or as many were raised as there are nodes.
+    fn discharge_all(&mut self, end: u32) -> Result<(), AllocError>
+        ensures { OnOk result (self.new.nodes ≡ self.old.nodes) }
+    {
+        let mut raised = 0u32;
+        for place in 0..usize::MAX {
+            if place >= self.waiting.len() || raised >= self.graph.nodes() {
+                return Ok(());
+            }
+            let node = self.waiting[place];
+            if node != end && self.discharge(node)? {
+                raised = raised.saturating_add(1);
+            }
+        }
+        Ok(())
+    }
+
+    /// Labels all nodes by their distances to the end, lets those wait from which something may still get there, and answers whether there is one.
+    fn label_all(&mut self, alloc: Global, end: u32) -> Result<bool, AllocError>
+        requires { end < self.old.nodes }
+        ensures { OnOk result (self.new ≡ self.old) }
+    {
+        let distances = distances_to(alloc, &self.graph, end)?;
+        self.waiting = with_excess(alloc, &distances.reached, &self.excesses, end)?;
+        self.labels = distances.labels;
+        Ok(!self.waiting.is_empty())
+    }
+
+    /// Sends everything over the arcs that leave from the start.
+    fn open(&mut self, start: u32) -> Result<(), AllocError>
+        requires { start < self.old.nodes }
+        ensures { OnOk result (self.new.nodes ≡ self.old.nodes) }
+    {
+        for place in 0..self.graph.residual_arcs(start).len() {
+            let Some(out) = self.out_at(start, place) else {
+                return Ok(());
+            };
+            if out.step.forward {
+                self.send(start, out, u64::MAX)?;
+            }
+        }
+        Ok(())
+    }
+
+    /// Sends what a node has too much back over the arcs that lead to it.
+    fn take_back(&mut self, node: u32) -> Result<(), AllocError>
+        requires { node < self.old.nodes }
+        ensures { OnOk result (self.new.nodes ≡ self.old.nodes) }
+    {
+        for place in 0..self.graph.residual_arcs(node).len() {
+            let Some(out) = self.out_at(node, place) else {
+                return Ok(());
+            };
+            let excess = self.excesses[node as usize];
+            if excess == 0 {
+                return Ok(());
+            }
+            if !out.step.forward {
+                self.send(node, out, excess)?;
+            }
+        }
+        Ok(())
+    }
+
+    /// Takes back what is stuck, from the last node of the order to the first.
+    fn take_all_back(&mut self, order: &[u32], end: u32) -> Result<(), AllocError>
+        requires { All (λ n. n < self.old.nodes) order.now }
+        ensures { OnOk result (self.new.nodes ≡ self.old.nodes) }
+    {
+        for back in 0..order.len() {
+            let node = order[order.len() - 1 - back];
+            if node != end {
+                self.take_back(node)?;
+            }
+        }
+        Ok(())
+    }
+
+    /// Rounds until nothing more gets to the end.
+    fn run(&mut self, alloc: Global, end: u32) -> Result<(), AllocError>
+        requires { end < self.old.nodes }
+        ensures { OnOk result (self.new.nodes ≡ self.old.nodes) }
+    {
+        for _ in 0..u64::MAX {
+            if !self.label_all(alloc, end)? {
+                return Ok(());
+            }
+            self.discharge_all(end)?;
+        }
+        Ok(())
+    }
+
+    /// Sends everything from the start, gets to the end what it can in rounds, and takes back what is stuck.
+    fn settle(
+        &mut self,
+        alloc: Global,
+        order: &[u32],
+        start: u32,
+        end: u32,
+    ) -> Result<(), AllocError>
+        requires order { All (λ n. n < self.old.nodes) order.now }
+        requires start { start < self.old.nodes }
+        requires end { end < self.old.nodes }
+        ensures { OnOk result (self.new.nodes ≡ self.old.nodes) }
+    {
+        self.open(start)?;
+        self.run(alloc, end)?;
+        self.take_all_back(order, end)
+    }
+}
+
+/// A flow from the start to the end over the arcs of a graph that carries none, as great as a preflow finds it. That is so where
+/// the arcs have no cycle; in any case no flow is above its arc's capacity. Fails where memory is refused.
+pub(crate) fn trial_flow(
+    alloc: Global,
+    graph: ResidualGraph,
+    start: u32,
+    end: u32,
+) -> Result<ResidualGraph, AllocError>
+    requires start { start < graph.nodes }
+    requires end { end < graph.nodes }
+{
+    let nodes = graph.nodes();
+    let order = order_of(alloc, &graph)?;
+    let mut trial = Trial {
+        graph,
+        excesses: vec![in alloc; 0u64; nodes as usize]?,
+        labels: vec![in alloc; nodes; nodes as usize]?,
+        waiting: Vec::new(alloc),
+    };
+    trial.settle(alloc, &order, start, end)?;
+    Ok(trial.graph)
+}
