@@ -118,6 +118,8 @@ pub struct Maker {
     pub width: u64,
     /// What stands behind the module's own names, and nothing where it is 0: so names are shared with other modules or not.
     pub apart: u64,
+    /// Whether some of its procedures use names that nothing declares.
+    pub undeclared: bool,
     /// The numbers of the modules that it imports.
     pub imports: Vec<u64>,
     /// How many procedures there are so far.
@@ -143,6 +145,7 @@ impl Maker {
             random: Random::new(seed),
             width,
             apart,
+            undeclared: false,
             imports: Vec::new(alloc),
             procedures: 0,
             own: 0,

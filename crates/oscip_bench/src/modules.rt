@@ -19,6 +19,8 @@ pub struct Shape {
     pub apart: bool,
     /// Whether each file stands in a folder, so that the names of the modules don't ascend.
     pub folders: bool,
+    /// Whether every sixteenth procedure uses a field and a name that nothing declares.
+    pub undeclared: bool,
 }
 
 /// The number of one of the modules that a module imports: each comes from another part of those before it.
@@ -151,6 +153,9 @@ fn put_procedure(maker: &mut Maker) -> Result<(), AllocError> {
     maker.put(b"\n  PROCEDURE ")?;
     maker.procedure(number)?;
     put_head(maker)?;
+    if maker.undeclared && number % 16 == 0 {
+        maker.expand(b"    $v := $p.missing + absent;\n")?;
+    }
     put_statements(maker)?;
     maker.put(b"  END ")?;
     maker.procedure(number)?;
@@ -207,6 +212,7 @@ fn source_of(alloc: Global, seed: u64, shape: &Shape, module: u64) -> Result<Sou
         0
     };
     let mut maker = Maker::new(alloc, seed.wrapping_mul(4099) ^ module, shape.width, apart);
+    maker.undeclared = shape.undeclared;
     for nth in 0..shape.imports.min(module) {
         let other = imported(seed, module, shape.imports, nth);
         maker.imports.push(other)?;

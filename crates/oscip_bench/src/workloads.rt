@@ -23,6 +23,7 @@ const SMALL: Shape = Shape {
     width: 3,
     apart: false,
     folders: false,
+    undeclared: false,
 };
 
 /// Some larger modules in folders, with names of their own.
@@ -33,6 +34,7 @@ const MIDDLE: Shape = Shape {
     width: 9,
     apart: true,
     folders: true,
+    undeclared: false,
 };
 
 /// One very large module.
@@ -43,9 +45,10 @@ const LARGE: Shape = Shape {
     width: 12,
     apart: false,
     folders: false,
+    undeclared: false,
 };
 
-/// Modules with little in them, each of which reaches nearly all before it.
+/// Modules with little in them, each of which reaches some seven of ten before it.
 const DENSE: Shape = Shape {
     modules: 2800,
     bytes: 100,
@@ -53,6 +56,7 @@ const DENSE: Shape = Shape {
     width: 1,
     apart: false,
     folders: false,
+    undeclared: false,
 };
 
 /// A shape with this part of the modules, in hundredths.
@@ -103,6 +107,10 @@ fn unresolved_in<R: Threads + Wait + AllocGlobal + Sync>(
     shape: Shape,
     digest: &mut Digest,
 ) -> Result<(), Stopped> {
+    let shape = Shape {
+        undeclared: true,
+        ..shape
+    };
     let sources = tree_of(rt.alloc(), seed, &shape)?;
     jobs::unresolved(rt, sources.as_slice(), digest)
 }
@@ -250,7 +258,7 @@ pub fn net<R: Threads + Wait + AllocGlobal + Sync>(
     Ok(())
 }
 
-/// Deep nests, fields behind many bases, modules that reach nearly all others, and an index of empty records.
+/// Deep nests, fields behind many bases, modules that reach most others, and an index of empty records.
 pub fn awkward<R: Threads + Wait + AllocGlobal + Sync>(
     rt: &R,
     seed: u64,
