@@ -24,7 +24,8 @@ use ob_tree::expression::{
 use ob_tree::token::Leaf;
 use std::alloc::Global;
 
-/// An expression, itself a level, in a box.
+/// An expression, itself a level, in a box. It is laid out at its callers, so a level takes no more calls than without the box.
+#[inline(always)]
 #[cycle(expressions)]
 pub(crate) fn expression(
     alloc: Global,
