@@ -8,12 +8,15 @@ use std::alloc::Global;
 
 const MAX_BYTES: usize = 16_777_216;
 
-/// A list with room for the tokens that so many bytes mostly have, so that it need not grow token by token. Where memory is
-/// refused there is no room, and the tokens ask for it one by one.
+/// How many tokens a list has room for at first, at most.
+const ROOM: usize = 4096;
+
+/// A list with room for the tokens that so many bytes mostly have, up to those of a module of usual size, so that it need not
+/// grow token by token. Where memory is refused there is no room, and the tokens ask for it one by one.
 fn with_room(alloc: Global, bytes: usize) -> Vec<Token>
     ensures { result.items ≡ [] }
 {
-    match Vec::with_capacity(alloc, bytes / 4) {
+    match Vec::with_capacity(alloc, (bytes / 4).min(ROOM)) {
         Ok(tokens) => tokens,
         Err(_) => Vec::new(alloc),
     }
