@@ -1,5 +1,5 @@
 //! Questions to an index: what a position means, and where that is defined and used; by a store that is made of it once, or by its bytes alone.
-//! Stands on `scip_index`, on `proto_wire` for the faults of bytes, with `indexmap` for its tables and `thiserror` for its fault.
+//! Stands on `scip_index`, on `proto_wire` for the records of bytes and their faults, with `indexmap` for its tables and `thiserror` for its fault.
 //! Its contract: the answers are exactly those that all occurrences of the index give, in its order, or no document has the path.
 #![tactic(auto)]
 
