@@ -1,6 +1,7 @@
 pub mod Capitals
 pub mod Closings
 pub mod Continuing
+pub mod LaneRuns
 pub mod LineStarts
 pub mod LineTables
 pub mod Marks

@@ -35,6 +35,19 @@ start_more bytes at e = one_more bytes at true e
 pub start_same : (bytes : List ℕ) (at : ℕ) → ends_line bytes at ≡ false → starts_to bytes (at + 1) ≡ starts_to bytes at
 start_same bytes at e = one_more bytes at false e ∙ append-nil _
 
+-- where no line ends between two places, no more lines begin
+pub start_none : (bytes : List ℕ) (at more : ℕ) → ((k : ℕ) → at ≤ k → k < at + more → ends_line bytes k ≡ false) → starts_to bytes (at + more) ≡ starts_to bytes at
+start_none bytes at zero none = rw add-zero refl
+start_none bytes at (suc more) none =
+    let next : (at + more) + 1 ≡ at + suc more = omega arith in
+    rw (sym next) (start_same bytes (at + more) (none (at + more) (omega arith) (omega arith)) ∙ start_none bytes at more (λ k from to. none k from (omega (arith, to))))
+
+-- the same, by the places
+pub start_passed : (bytes : List ℕ) (from to : ℕ) → from ≤ to → ((k : ℕ) → from ≤ k → k < to → ends_line bytes k ≡ false) → starts_to bytes to ≡ starts_to bytes from
+start_passed bytes from to le none =
+    let there : from + (to - from) ≡ to = omega (arith, le) in
+    subst (λ (t : ℕ). starts_to bytes t ≡ starts_to bytes from) there (start_none bytes from (to - from) (λ k at before. none k at (omega (arith, le, before))))
+
 range_rises : (n : ℕ) → IsNonDecreasing (range_with_len 0 n)
 range_rises n i j d le lt =
     let in_range : j < n = subst (λ (m : ℕ). j < m) (length-range_with_len 0 n) lt in

@@ -1,5 +1,5 @@
 -- What the private functions of the scanner answer.
-use Rattle.std.specs.Prelude.{◌≡◌, ◌+◌, ◌≤◌, ◌<◌, ℕ, zero, suc, List, [], ◌∷◌, length, drop, Option, Some, None, option_map, Bool, false, ◌==◌, ◌&&◌, if◌then◌else◌}
+use Rattle.std.specs.Prelude.{◌≡◌, ◌+◌, ◌≤◌, ◌<◌, ℕ, zero, suc, List, [], ◌∷◌, length, drop, Option, Some, None, option_map, Bool, false, ◌==◌, ◌&&◌, ◌||◌, not, if◌then◌else◌}
 use Rattle.std.specs.List.{position}
 use Rattle.std.specs.Char.{is_ascii_uppercase}
 use Rattle.ob_scan.specs.declared.kind.Kind.{Kind}
@@ -53,6 +53,10 @@ abbrev pub has_second_capital : List ℕ → Bool
 has_second_capital [] = false
 has_second_capital (b ∷ []) = false
 has_second_capital (b ∷ c ∷ bs) = is_ascii_uppercase c
+
+-- no line ends with this byte
+abbrev pub ends_no_line : ℕ → Bool
+ends_no_line b = not ((b == 10) || (b == 13))
 
 -- the length of the string in front, of which the first quote is read
 abbrev pub string_len : List ℕ → Option ℕ

@@ -7,6 +7,7 @@ mod comment;
 mod delimiters;
 mod fault;
 mod kind;
+mod lanes;
 pub mod laws;
 mod line_ends;
 mod line_table;
