@@ -30,6 +30,14 @@ impl Lines {
         Lines { starts }
     }
 
+    /// The offsets of the lines' first bytes, in order, of which the first is 0.
+    pub fn starts(&self) -> &[u32]
+        ensures offsets { result.now ≡ self.now }
+        ensures table { IsLineTable self.now }
+    {
+        self.starts.as_slice()
+    }
+
     /// The line and the column of an offset in the text that these are the lines of. It may be the offset of the text's end.
     pub fn position(&self, offset: u32) -> Position
         ensures { (bytes : List ℕ) → self.now ≡ line_starts bytes → offset ≤ length bytes → IsPosition bytes offset result.line result.column }
