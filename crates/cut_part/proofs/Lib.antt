@@ -9,6 +9,7 @@ pub mod Numbering
 pub mod Parts
 pub mod PinnedParts
 pub mod PrintedBetween
+pub mod Reaching
 pub mod Renumbering
 pub mod Sums
 pub mod Tallies

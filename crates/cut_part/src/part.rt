@@ -5,12 +5,12 @@ ghost use Rattle.cut_net.specs.Network.{name_of, texts};
 ghost use Rattle.cut_net.specs.WellFormed.{AreBetween};
 ghost use Rattle.cut_residual.specs.Graphs.{is_seen};
 ghost use Rattle.cut_part.specs.Inside.{inside, IsBetween};
-ghost use Rattle.cut_part.specs.Marks.{lines_whole, open_arc, with_ends, AreChained, IsNumbering, IsPart};
+ghost use Rattle.cut_part.specs.Marks.{lines_whole, with_ends, IsNumbering, IsPart};
 ghost use Rattle.cut_part.specs.Renumbering.{renumbered};
 ghost use Rattle.cut_part.specs.Turning.{turned};
 
+use crate::reach::chained;
 use cut_net::{Net, Priced};
-use cut_residual::{Arc, ResidualGraph, search};
 use std::alloc::{AllocError, Global};
 
 /// The network between two modules: those on a chain of imports from the one to the other, with all imports between these. Both modules
@@ -40,39 +40,6 @@ pub fn turned_imports(alloc: Global, imports: &[Priced]) -> Result<Vec<Priced>, 
         })?;
     }
     Ok(all)
-}
-
-fn arcs_of(alloc: Global, imports: &[Priced]) -> Result<Vec<Arc>, AllocError>
-    ensures { IfOk result (λ arcs. arcs.items ≡ map open_arc imports.now) }
-{
-    let mut arcs = Vec::with_capacity(alloc, imports.len())?;
-    for i in imports {
-        arcs.push(Arc {
-            from: i.from,
-            to: i.to,
-            capacity: 1,
-            flow: 0,
-        })?;
-    }
-    Ok(arcs)
-}
-
-/// Marks the modules to which a chain of imports leads from the start.
-fn chained(
-    alloc: Global,
-    imports: &[Priced],
-    modules: u32,
-    start: u32,
-) -> Result<Vec<bool>, AllocError>
-    requires between { AreBetween imports.now modules }
-    requires start { start < modules }
-    ensures size { IfOk result (λ marks. length marks.items ≡ modules) }
-    ensures chained { IfOk result (λ marks. AreChained imports.now start marks.items) }
-{
-    let arcs = arcs_of(alloc, imports)?;
-    let graph = ResidualGraph::new(alloc, arcs, modules)?;
-    let found = search(alloc, &graph, start)?;
-    Ok(found.seen)
 }
 
 /// Marks what both mark.
