@@ -1,6 +1,7 @@
 pub mod Answered
 pub mod Certificate
 pub mod Chains
+pub mod Counting
 pub mod Cycles
 pub mod Duality
 pub mod Ends

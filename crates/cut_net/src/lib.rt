@@ -14,6 +14,7 @@ pub mod laws;
 mod lines;
 mod net;
 mod numbering;
+mod ordering;
 mod pin_chain;
 mod price_fault;
 mod price_lines;

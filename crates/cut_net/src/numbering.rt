@@ -12,6 +12,7 @@ ghost use Rattle.cut_net.specs.WellFormed.{AreBetween, AreNamesInOrder};
 use crate::Priced;
 use crate::draft::NetDraft;
 use crate::net::place_of;
+use crate::ordering::{in_order, is_ascending};
 use std::alloc::{AllocError, Global};
 
 /// The same names.
@@ -91,11 +92,19 @@ fn numbered(alloc: Global, draft: &NetDraft, names: &[String]) -> Result<Vec<Pri
     Ok(imports)
 }
 
-/// Puts imports in ascending order by their modules.
+/// Puts imports in ascending order by their modules. They are listed by counting where that can be done, which takes no comparisons but the last look at
+/// the list; else they are sorted.
 pub fn put_in_order(imports: &mut Vec<Priced>)
     ensures same { IsPermutation imports.old.items imports.new.items }
     ensures ascending { IsDistinct same_ends imports.old.items → IsAscending imports.new.items }
 {
+    if is_ascending(imports) {
+        return;
+    }
+    if let Ok(Some(listed)) = in_order(*imports.allocator(), imports) {
+        *imports = listed;
+        return;
+    }
     imports.sort_unstable_by_key(|import| (import.from, import.to));
 }
 
