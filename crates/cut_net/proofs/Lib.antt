@@ -9,6 +9,7 @@ pub mod FlatMaps
 pub mod Fronts
 pub mod LineSearch
 pub mod LineStops
+pub mod Listed
 pub mod ListFronts
 pub mod ListSums
 pub mod Members

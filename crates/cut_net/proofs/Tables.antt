@@ -162,10 +162,10 @@ lines_kept names more (e ∷ es) kept h =
     let rest = lines_kept names more es kept (All-tail (IsPlaced names) e es h) in
     rw (first, second, rest) refl
 
-filter_module : (lines : List NetLine) (m : List ℕ) → filter is_import (lines ++ Module m ∷ []) ≡ filter is_import lines
+pub filter_module : (lines : List NetLine) (m : List ℕ) → filter is_import (lines ++ Module m ∷ []) ≡ filter is_import lines
 filter_module lines m = filter-append is_import lines (Module m ∷ []) ∙ append-nil (filter is_import lines)
 
-filter_import : (lines : List NetLine) (m n : List ℕ) (w : ℕ) → filter is_import (lines ++ Import m n w ∷ []) ≡ filter is_import lines ++ Import m n w ∷ []
+pub filter_import : (lines : List NetLine) (m n : List ℕ) (w : ℕ) → filter is_import (lines ++ Import m n w ∷ []) ≡ filter is_import lines ++ Import m n w ∷ []
 filter_import lines m n w = filter-append is_import lines (Import m n w ∷ [])
 
 pub apart_module : (lines : List NetLine) (m : List ℕ) → AllPairs AreOfTwoImports lines → AllPairs AreOfTwoImports (lines ++ Module m ∷ [])

@@ -5,6 +5,7 @@ pub mod Cuts
 pub mod Lines
 pub mod WellFormed
 pub mod NetText
+pub mod NetList
 pub mod NetReading
 pub mod Pins
 pub mod Prices

@@ -12,9 +12,9 @@ use crate::lines::{Line, line_in};
 use indexmap::{IndexMap, IndexSet};
 use std::alloc::{AllocError, AllocFailed, Global};
 
-const MOST_NAMES: usize = 8192;
+pub(crate) const MOST_NAMES: usize = 8192;
 
-const MOST_IMPORTS: usize = 65536;
+pub(crate) const MOST_IMPORTS: usize = 65536;
 
 /// What is wrong with a line.
 pub(crate) enum NetLineFault {
@@ -71,7 +71,11 @@ pub(crate) struct NetDraft {
 }
 
 /// The place of a name among those that came, where it is now if it is new.
-fn note_name(alloc: Global, names: &mut IndexSet<String>, name: &str) -> Result<usize, AllocError>
+pub(crate) fn note_name(
+    alloc: Global,
+    names: &mut IndexSet<String>,
+    name: &str,
+) -> Result<usize, AllocError>
     ensures names { OnOk result (texts names.new.keys ≡ noted (texts names.old.keys) name.now) }
     ensures within { IfOk result (λ at. at < length (texts names.new.keys)) }
     ensures place { IfOk result (λ at. slice_index_or (texts names.new.keys) at [] ≡ name.now) }

@@ -22,6 +22,7 @@ mod priced;
 mod prices;
 mod reading;
 mod standing;
+mod straight;
 
 pub use answer::Answer;
 pub use cut::Cut;

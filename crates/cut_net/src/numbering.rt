@@ -27,7 +27,7 @@ pub(crate) fn copied(alloc: Global, names: &[String]) -> Result<Vec<String>, All
 }
 
 /// The names in ascending order.
-fn sorted(alloc: Global, names: &[String]) -> Result<Vec<String>, AllocError>
+pub(crate) fn sorted(alloc: Global, names: &[String]) -> Result<Vec<String>, AllocError>
     requires once { IsDistinct bytes_eq (texts names.now) }
     ensures ascending { IfOk result (λ sorted. AreNamesInOrder (texts sorted.items)) }
     ensures same { IfOk result (λ sorted. IsPermutation (texts names.now) (texts sorted.items)) }
@@ -48,7 +48,11 @@ fn number_of(names: &[String], name: &str) -> u32
 }
 
 /// For each name, in the order of coming, its number.
-fn numbers_of(alloc: Global, old: &[String], names: &[String]) -> Result<Vec<u32>, AllocError>
+pub(crate) fn numbers_of(
+    alloc: Global,
+    old: &[String],
+    names: &[String],
+) -> Result<Vec<u32>, AllocError>
     requires ascending { AreNamesInOrder (texts names.now) }
     requires few { length names.now ≤ 8192 }
     requires same { IsPermutation (texts old.now) (texts names.now) }
@@ -63,7 +67,7 @@ fn numbers_of(alloc: Global, old: &[String], names: &[String]) -> Result<Vec<u32
 }
 
 /// An import by the numbers of its modules, from the places of their names in the order of coming.
-fn renumbered(numbers: &[u32], ends: (usize, usize), amount: u64) -> Priced
+pub(crate) fn renumbered(numbers: &[u32], ends: (usize, usize), amount: u64) -> Priced
     requires placed { (ends.0 < length numbers.now) × (ends.1 < length numbers.now) }
     ensures between { (old names : List (List ℕ)) → ((k : ℕ) → k < length numbers.now → (slice_index numbers.now k < length names) × (slice_index_or names (slice_index numbers.now k) [] ≡ slice_index_or old k [])) → (result.from < length names) × (result.to < length names) }
     ensures line { (old names : List (List ℕ)) → ((k : ℕ) → k < length numbers.now → (slice_index numbers.now k < length names) × (slice_index_or names (slice_index numbers.now k) [] ≡ slice_index_or old k [])) → import_line names result ≡ entry_line old (ends, amount) }

@@ -11,6 +11,7 @@ ghost use Rattle.cut_net.specs.WellFormed.{AreBetween, IsAcyclic, Leads};
 use crate::cycle::cycle_of;
 use crate::draft::NetDraft;
 use crate::numbering::{fits, lists_of, names_at};
+use crate::straight::straight_lists;
 use crate::{Net, NetFault, Priced};
 use std::alloc::{AllocError, Global};
 
@@ -47,13 +48,16 @@ fn lists_by(
     Ok(lists_of(alloc, draft)?)
 }
 
-/// The same, with the tables made and dropped here.
+/// The same, with the tables made and dropped here, and only for a text that isn't read straight on.
 fn lists_in(alloc: Global, bytes: &[u8]) -> Result<(Vec<String>, Vec<Priced>), NetFault>
     ensures text { IfOk result (λ lists. NetText bytes.now (net_of lists.0.items lists.1.items)) }
     ensures few_names { IfOk result (λ lists. length lists.0.items ≤ 8192) }
     ensures few_imports { IfOk result (λ lists. length lists.1.items ≤ 65536) }
     ensures fault { IfErr result (λ fault. IfSome (fault_said fault) (IsNetOutcome bytes.now)) }
 {
+    if let Some(lists) = straight_lists(alloc, bytes)? {
+        return Ok(lists);
+    }
     let mut draft = NetDraft::new(alloc);
     lists_by(alloc, bytes, &mut draft)
 }

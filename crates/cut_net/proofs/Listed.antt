@@ -1,0 +1,198 @@
+-- Lines that are listed with no look for an import among those before it. Where their imports come in order, each before the next, none stands twice.
+use Rattle.std.proofs.Common.{◌≡◌, ℕ, ◌+◌, ◌<◌, ◌≤◌, suc, true, false, eqb, ltb, ◌&&◌, ◌||◌, List, [], ◌∷◌, ◌++◌, length, get_or, map, refl, sym, ap, ◌∙◌, arith, inl, inr, subst}
+use Rattle.std.specs.Prelude.{AllPairs, IsPermutation, filter}
+use Rattle.std.specs.List.{IsDistinct}
+use Rattle.std.proofs.lemmas.Bool.{false≢true}
+use Rattle.std.proofs.lemmas.Bool.Decides.{nat_tests}
+use Rattle.std.proofs.lemmas.List.{get_or-map, length-map, length_push, map_push}
+use Rattle.std.proofs.lemmas.List.Elements.{All-nil, All-push, Contains-get_or, Contains-push_cases}
+use Rattle.std.proofs.lemmas.List.Kept.{AllPairs-cons}
+use Rattle.std.proofs.lemmas.List.Sorted.{IsPermutation-sym, length_permutation}
+use Rattle.std.proofs.lemmas.Map.Keys.{IsDistinct-from_apart, IsDistinct-IsPermutation, apart_from_distinct}
+use Rattle.texts.specs.Fields.{is_name}
+use Rattle.digraph.proofs.Members.{in_filter, no_member}
+use Rattle.cut_net.specs.declared.priced.Priced.{Priced}
+use Rattle.cut_net.specs.Cuts.{same_ends}
+use Rattle.cut_net.specs.Lines.{IsAscending}
+use Rattle.cut_net.specs.NetList.{AreListed}
+use Rattle.cut_net.specs.NetReading.{entry_line, import_line, noted, AreTablesOf}
+use Rattle.cut_net.specs.NetText.{NetLine, Module, Import, is_import, pieces_of, AreOfTwoImports, IsNetLine, NetText, Spell}
+use Rattle.cut_net.specs.Network.{unpinned}
+use Rattle.cut_net.specs.WellFormed.{AreBetween, AreNamesInOrder}
+use Rattle.cut_net.proofs.Fronts.{good_lines}
+use Rattle.cut_net.proofs.Networks.{ends_flip, net_is, once_moved, same_name}
+use Rattle.cut_net.proofs.Tables.{filter_import, filter_module, kept_both, kept_one, names_import, names_module, noted_longer, noted_kept, AreEnds, AreKept}
+
+-- the list of no lines
+pub listed_none : AreListed [] [] []
+unfolding IsDistinct
+listed_none = record {
+  each = All-nil IsNetLine;
+  are_names = record { once = tt; named = λ x. (λ there. no_member x there, λ has. no_member has.0 has.1) };
+  few_names = omega arith;
+  few_imports = omega arith;
+  placed = λ i there. no_member i there;
+  listed = refl;
+}
+
+-- ---- one line more
+
+placed_more : (names more : List (List ℕ)) (imports : List Priced) → AreKept names more → AreBetween imports (length names) → AreBetween imports (length more)
+placed_more names more imports kept h i there = let p = h i there in (omega (arith, kept.0, p.0), omega (arith, kept.0, p.1))
+
+lines_kept : (names more : List (List ℕ)) (imports : List Priced) → AreKept names more → AreBetween imports (length names) → map (import_line names) imports ≡ map (import_line more) imports
+lines_kept names more [] kept h = refl
+lines_kept names more (i ∷ is) kept h =
+    let p = h i (0, omega arith, refl) in
+    let first : get_or more i.from [] ≡ get_or names i.from [] = kept.1 i.from p.0 in
+    let second : get_or more i.to [] ≡ get_or names i.to [] = kept.1 i.to p.1 in
+    let rest = lines_kept names more is kept (λ j (k, l, at). h j (suc k, omega arith, at)) in
+    rw (first, second, rest) refl
+
+module _ (lines : List NetLine) (names : List (List ℕ)) (imports : List Priced) (h : AreListed lines names imports) where
+  pub listed_module : (m : List ℕ) → is_name m ≡ true → length (noted names m) ≤ 8192 → AreListed (lines ++ Module m ∷ []) (noted names m) imports
+  listed_module m good few = record {
+    each = All-push IsNetLine lines (Module m) h.each good;
+    are_names = names_module lines names m h.are_names;
+    few_names = few;
+    few_imports = h.few_imports;
+    placed = placed_more names (noted names m) imports (kept_one names m) h.placed;
+    listed = filter_module lines m ∙ h.listed ∙ lines_kept names (noted names m) imports (kept_one names m) h.placed;
+  }
+
+  module _ (middle more : List (List ℕ)) (m n : List ℕ) (w i j : ℕ) (ends : AreEnds names middle more m n i j) where
+    all_noted : more ≡ noted (noted names m) n
+    all_noted = ends.second ∙ ap (λ (t : List (List ℕ)). noted t n) ends.first
+
+    kept : AreKept names more
+    kept = rw all_noted (kept_both names m n)
+
+    from_low : i < length more
+    from_low =
+        let lt = ends.first_within in
+        let longer : length middle ≤ length more = rw ends.second (noted_longer middle n) in
+        omega arith
+
+    from_is : get_or more i [] ≡ m
+    from_is = (let stays : get_or more i [] ≡ get_or middle i [] = rw ends.second (noted_kept middle n i ends.first_within) in stays ∙ ends.first_place)
+
+    new : Priced
+    new = record { from = i; to = j; amount = w }
+
+    pub listed_import : IsNetLine (Import m n w) → length more ≤ 8192 → length imports + 1 ≤ 65536
+        → AreListed (lines ++ Import m n w ∷ []) more (imports ++ (record { from = i; to = j; amount = w }) ∷ [])
+    listed_import good few few_imports =
+        let last : Import m n w ≡ import_line more (record { from = i; to = j; amount = w }) = rw (from_is, ends.second_place) refl in
+        record {
+          each = All-push IsNetLine lines (Import m n w) h.each good;
+          are_names = rw all_noted (names_import lines names m n w h.are_names);
+          few_names = few;
+          few_imports = omega (arith, length_push imports (record { from = i; to = j; amount = w }));
+          placed = λ x there. elim (Contains-push_cases imports (record { from = i; to = j; amount = w }) x there) [
+            | inl old ↦ placed_more names more imports kept h.placed x old
+            | inr same ↦ subst (λ (t : Priced). (t.from < length more) × (t.to < length more)) same (from_low, ends.second_within)
+          ];
+          listed = filter_import lines m n w ∙ ap (λ (t : List NetLine). t ++ Import m n w ∷ []) (h.listed ∙ lines_kept names more imports kept h.placed)
+              ∙ ap (λ (t : NetLine). map (import_line more) imports ++ t ∷ []) last ∙ sym (map_push (import_line more) imports (record { from = i; to = j; amount = w }));
+        }
+
+-- ---- imports in order
+
+other_ends : (a b c d : ℕ) → (ltb a c || (eqb a c && ltb b d)) ≡ true → (eqb a c && eqb b d) ≡ false
+other_ends a b c d before = grind (arith, nat_tests)
+
+ascending_once : (imports : List Priced) → IsAscending imports → IsDistinct same_ends imports
+ascending_once imports up = IsDistinct-from_apart same_ends imports (λ i j d less within.
+    other_ends (get_or imports i d).from (get_or imports i d).to (get_or imports j d).from (get_or imports j d).to (up i j d less within))
+
+-- a line of a module is apart from all
+modules_apart : (l k : NetLine) → (is_import l ≡ true → is_import k ≡ true → AreOfTwoImports l k) → AreOfTwoImports l k
+modules_apart (Module _) (Module _) h = tt
+modules_apart (Module _) (Import _ _ _) h = tt
+modules_apart (Import _ _ _) (Module _) h = tt
+modules_apart (Import _ _ _) (Import _ _ _) h = h refl refl
+
+-- so where those of imports are apart, all are
+all_apart : (lines : List NetLine) → AllPairs AreOfTwoImports (filter is_import lines) → AllPairs AreOfTwoImports lines
+all_apart [] pairs = λ i j d less within. absurd (omega arith)
+all_apart (Module m ∷ lines) pairs =
+    AllPairs-cons AreOfTwoImports (Module m) lines (λ k d l. modules_apart (Module m) (get_or lines k d) (λ a b. absurd (false≢true a))) (all_apart lines pairs)
+all_apart (Import m n w ∷ lines) pairs =
+    let first = Import m n w in
+    AllPairs-cons AreOfTwoImports first lines
+    (λ k d l. modules_apart first (get_or lines k d) (λ a b.
+    let (p, in_rest, at) = in_filter is_import lines (get_or lines k d) b (Contains-get_or lines k d l) in
+    subst (AreOfTwoImports first) at (pairs 0 (suc p) (get_or lines k d) (omega arith) (omega arith))))
+    (all_apart lines (λ i j d less within. pairs (suc i) (suc j) d (omega arith) (omega arith)))
+
+-- the places of names with the amount
+abbrev as_entry : Priced → (ℕ × ℕ) × ℕ
+as_entry i = ((i.from, i.to), i.amount)
+
+entries_say : (names : List (List ℕ)) (imports : List Priced) → map (import_line names) imports ≡ map (entry_line names) (map as_entry imports)
+entries_say names [] = refl
+entries_say names (i ∷ is) = ap (λ (t : List NetLine). import_line names i ∷ t) (entries_say names is)
+
+module _ (lines : List NetLine) (old names : List (List ℕ)) (imports list ordered : List Priced) (h : AreListed lines old imports) (same : IsPermutation old names)
+    (renumbered : map (import_line names) list ≡ map (import_line old) imports) (between : AreBetween list (length names)) (moved : IsPermutation list ordered) (up : IsAscending ordered) where
+  list_once : IsDistinct same_ends list
+  list_once = IsDistinct-IsPermutation same_ends ends_flip ordered list (IsPermutation-sym list ordered moved) (ascending_once ordered up)
+
+  said_apart : (i j : Priced) → i.from < length names → i.to < length names → j.from < length names → j.to < length names → same_ends i j ≡ false → AreOfTwoImports (import_line names i) (import_line names j)
+  said_apart i j a b c d differ first second =
+      let once = once_moved old names same h.are_names.once in
+      let from = same_name names once i.from j.from a c first in
+      let to = same_name names once i.to j.to b d second in
+      false≢true (sym differ ∙ both_same i.from i.to j.from j.to from to)
+    where
+      both_same : (a b c d : ℕ) → a ≡ c → b ≡ d → (eqb a c && eqb b d) ≡ true
+      both_same a b c d first second = grind (arith, nat_tests)
+
+  lines_apart : AllPairs AreOfTwoImports lines
+  lines_apart =
+      let lines_are : filter is_import lines ≡ map (import_line names) list = h.listed ∙ sym renumbered in
+      let long = length-map list (import_line names) in
+      let pairs : AllPairs AreOfTwoImports (map (import_line names) list) = λ i j d less within.
+      let none : Priced = record { from = 0; to = 0; amount = 0 } in
+      let in_i : i < length list = omega arith in
+      let in_j : j < length list = omega arith in
+      let one = get_or-map (import_line names) list i none d in_i in
+      let two = get_or-map (import_line names) list j none d in_j in
+      let p = between (get_or list i none) (Contains-get_or list i none in_i) in
+      let q = between (get_or list j none) (Contains-get_or list j none in_j) in
+      rw (one, two) (said_apart (get_or list i none) (get_or list j none) p.0 p.1 q.0 q.1 (apart_from_distinct same_ends list i j none list_once less in_j)) in
+      all_apart lines (rw lines_are pairs)
+
+  tables : AreTablesOf lines old (map as_entry imports)
+  tables =
+      let long = length-map imports as_entry in
+      let few = h.few_imports in
+      record {
+        each = h.each;
+        apart = lines_apart;
+        are_names = h.are_names;
+        few_names = h.few_names;
+        few_imports = omega arith;
+        placed = λ k d l.
+            let none : Priced = record { from = 0; to = 0; amount = 0 } in
+            let in_k : k < length imports = omega arith in
+            rw (get_or-map as_entry imports k none d in_k) (h.placed (get_or imports k none) (Contains-get_or imports k none in_k));
+        listed = h.listed ∙ entries_say old imports;
+      }
+
+  pub listed_text : (bytes : List ℕ) → AreNamesInOrder names → Spell (pieces_of bytes) lines → NetText bytes (unpinned names ordered)
+  listed_text bytes ascend spelled = record {
+    lines = lines;
+    spelled = spelled;
+    good = good_lines lines old (map as_entry imports) tables;
+    is_net = net_is lines old names (map as_entry imports) list tables (renumbered ∙ entries_say old imports) ordered ascend same between moved up;
+  }
+
+  pub few_ordered : length ordered ≤ 65536
+  few_ordered =
+      let a = length_permutation list ordered moved in
+      let b = ap length renumbered in
+      let c = length-map list (import_line names) in
+      let d = length-map imports (import_line old) in
+      let few = h.few_imports in
+      omega arith

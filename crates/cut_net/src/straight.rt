@@ -1,0 +1,159 @@
+//! A network's text read straight on, with no look for an import among those before it. Where its lines have no other fault, its imports are put in order, and
+//! if each comes before the next, none stands twice. Any other text is left to the tables of `draft`, which tell the first fault.
+ghost use Rattle.std.specs.Prelude.{◌≡◌, ◌≤◌, ◌++◌, ◌∷◌, [], ℕ, true, IfOk, IfSome, List, length, map};
+ghost use Rattle.cut_net.specs.NetList.{AreNumbersOf, IsList, IsListOf};
+ghost use Rattle.cut_net.specs.NetReading.{import_line, line_said, net_of};
+ghost use Rattle.cut_net.specs.NetText.{IsNetLine, NetLine, NetText, Module, Import, Spell};
+ghost use Rattle.cut_net.specs.WellFormed.{AreBetween};
+
+use crate::Priced;
+use crate::draft::{MOST_IMPORTS, MOST_NAMES, note_name};
+use crate::lines::{Line, line_in};
+use crate::numbering::{numbers_of, put_in_order, renumbered, sorted};
+use crate::ordering::is_ascending;
+use indexmap::IndexSet;
+use std::alloc::{AllocError, Global};
+
+/// The names of the lines so far, and their imports by the places of the names.
+#[derive(Drop)]
+pub(crate) struct LineList {
+    pub(crate) names: IndexSet<String>,
+    pub(crate) imports: Vec<Priced>,
+}
+
+impl LineList {
+    /// The list of no lines.
+    fn new(alloc: Global) -> LineList
+        ensures { IsList [] result }
+    {
+        LineList {
+            names: IndexSet::new(alloc),
+            imports: Vec::new(alloc),
+        }
+    }
+
+    /// Notes a module. False where its name is one too many.
+    fn add_module(&mut self, alloc: Global, name: &str) -> Result<bool, AllocError>
+        ensures { IfOk result (λ noted. noted ≡ true → (before : List NetLine) → IsList before self.old → IsNetLine (Module name.now) → IsList (before ++ Module name.now ∷ []) self.new) }
+    {
+        note_name(alloc, &mut self.names, name)?;
+        if self.names.len() > MOST_NAMES {
+            return Ok(false);
+        }
+        Ok(true)
+    }
+
+    /// Notes an import. False where it or one of its names is one too many.
+    fn add_import(
+        &mut self,
+        alloc: Global,
+        importer: &str,
+        imported: &str,
+        weight: u64,
+    ) -> Result<bool, AllocError>
+        ensures { IfOk result (λ noted. noted ≡ true → (before : List NetLine) → IsList before self.old → IsNetLine (Import importer.now imported.now weight) → IsList (before ++ Import importer.now imported.now weight ∷ []) self.new) }
+    {
+        let from = note_name(alloc, &mut self.names, importer)?;
+        let to = note_name(alloc, &mut self.names, imported)?;
+        if self.names.len() > MOST_NAMES || self.imports.len() >= MOST_IMPORTS {
+            return Ok(false);
+        }
+        self.imports.push(Priced {
+            from: from as u32,
+            to: to as u32,
+            amount: weight,
+        })?;
+        Ok(true)
+    }
+
+    fn add(&mut self, alloc: Global, line: Line<'_>) -> Result<bool, AllocError>
+        ensures { IfOk result (λ noted. noted ≡ true → (before : List NetLine) → IsList before self.old → IsNetLine (line_said line.entry) → IsList (before ++ line_said line.entry ∷ []) self.new) }
+    {
+        match line {
+            Line::Module(name) => self.add_module(alloc, name),
+            Line::Import(importer, imported, weight) => {
+                self.add_import(alloc, importer, imported, weight)
+            }
+        }
+    }
+
+    /// Notes what the bytes between two line ends say, if they say anything. False where they have a fault.
+    fn take(&mut self, alloc: Global, piece: &[u8]) -> Result<bool, AllocError>
+        ensures { IfOk result (λ noted. noted ≡ true → (before : List NetLine) → IsList before self.old → (more : List NetLine) × Spell (piece.now ∷ []) more × IsList (before ++ more) self.new) }
+    {
+        if piece.is_empty() {
+            return Ok(true);
+        }
+        let Some(line) = line_in(piece) else {
+            return Ok(false);
+        };
+        let noted = self.add(alloc, line)?;
+        Ok(noted)
+    }
+}
+
+/// Fills the list of no lines with those that the bytes spell. False where one has a fault.
+fn fill(alloc: Global, bytes: &[u8], list: &mut LineList) -> Result<bool, AllocError>
+    requires { IsList [] list.old }
+    ensures { IfOk result (λ whole. whole ≡ true → IsListOf bytes.now list.new) }
+{
+    for piece in bytes.split(|b| *b == b'\n') {
+        if !list.take(alloc, piece)? {
+            return Ok(false);
+        }
+    }
+    Ok(true)
+}
+
+/// The imports by other numbers of their modules.
+fn renumbered_all(
+    alloc: Global,
+    numbers: &[u32],
+    imports: &[Priced],
+) -> Result<Vec<Priced>, AllocError>
+    requires { AreBetween imports.now (length numbers.now) }
+    ensures between { IfOk result (λ list. (old names : List (List ℕ)) → AreNumbersOf old names numbers.now → AreBetween list.items (length names)) }
+    ensures lines { IfOk result (λ list. (old names : List (List ℕ)) → AreNumbersOf old names numbers.now → map (import_line names) list.items ≡ map (import_line old) imports.now) }
+{
+    let mut list = Vec::with_capacity(alloc, imports.len())?;
+    for import in imports {
+        let ends = (import.from as usize, import.to as usize);
+        list.push(renumbered(numbers, ends, import.amount))?;
+    }
+    Ok(list)
+}
+
+/// The names and the imports of the network of the lines of a list. None where two of them are of one import.
+fn ordered(alloc: Global, list: &LineList) -> Result<Option<(Vec<String>, Vec<Priced>)>, AllocError>
+    requires { (lines : List NetLine) × IsList lines list.now }
+    ensures text { IfOk result (λ found. IfSome found (λ lists. (bytes : List ℕ) → IsListOf bytes list.now → NetText bytes (net_of lists.0.items lists.1.items))) }
+    ensures few_names { IfOk result (λ found. IfSome found (λ lists. length lists.0.items ≤ 8192)) }
+    ensures few_imports { IfOk result (λ found. IfSome found (λ lists. length lists.1.items ≤ 65536)) }
+{
+    let names = sorted(alloc, list.names.as_slice())?;
+    let numbers = numbers_of(alloc, list.names.as_slice(), &names)?;
+    let mut imports = renumbered_all(alloc, &numbers, &list.imports)?;
+    put_in_order(&mut imports);
+    if is_ascending(&imports) {
+        Ok(Some((names, imports)))
+    } else {
+        Ok(None)
+    }
+}
+
+/// The names and the imports of the network of the lines that the bytes spell. None where a line has a fault.
+pub(crate) fn straight_lists(
+    alloc: Global,
+    bytes: &[u8],
+) -> Result<Option<(Vec<String>, Vec<Priced>)>, AllocError>
+    ensures text { IfOk result (λ found. IfSome found (λ lists. NetText bytes.now (net_of lists.0.items lists.1.items))) }
+    ensures few_names { IfOk result (λ found. IfSome found (λ lists. length lists.0.items ≤ 8192)) }
+    ensures few_imports { IfOk result (λ found. IfSome found (λ lists. length lists.1.items ≤ 65536)) }
+{
+    let mut list = LineList::new(alloc);
+    if fill(alloc, bytes, &mut list)? {
+        ordered(alloc, &list)
+    } else {
+        Ok(None)
+    }
+}
