@@ -1,7 +1,7 @@
+pub mod Arriving
 pub mod Ascending
 pub mod EdgeOrder
 pub mod LeastChains
-pub mod Predecessors
 pub mod Rounds
 pub mod Loops
 pub mod Members

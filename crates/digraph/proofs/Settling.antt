@@ -1,14 +1,14 @@
 -- Marks that are taken away one by one, until each marked node leads to a marked one.
 use Rattle.std.proofs.Common.{◌≡◌, ℕ, zero, suc, ◌+◌, ◌*◌, ◌<◌, ◌≤◌, inl, inr, List, [], ◌∷◌, ◌++◌, length, refl, sym, ◌∙◌, ap, subst, arith, Bool, true, false, length-append}
-use Rattle.std.specs.Prelude.{Contains, slice_index_or, slice_set, replicate, Vec}
-use Rattle.std.specs.declared.alloc.Global.{Global}
+use Rattle.std.specs.Prelude.{Contains, slice_index_or, slice_set, replicate}
 use Rattle.std.proofs.lemmas.Bool.{cases_eq, cases_lt, false≢true}
 use Rattle.std.proofs.lemmas.Bool.Decides.{nat_tests}
-use Rattle.std.proofs.lemmas.List.{get_or_default, get_or-set_same, get_or-set_other, get_or-replicate, get_or-map, length-set}
+use Rattle.std.proofs.lemmas.List.{get_or_default, get_or-set_same, get_or-set_other, get_or-replicate, length-set}
 use Rattle.std.proofs.lemmas.List.Elements.{Contains-get_or, Contains-append_left, Contains-append_right, Contains-push_cases}
 use Rattle.digraph.specs.declared.edge.Edge.{Edge}
 use Rattle.digraph.specs.Cycle.{EachLeadsToMember, IsNext}
-use Rattle.digraph.specs.Marks.{none_there, edge_at, marked, mark_count, lists, place_at, row_at, work_left, StartsFrom, ArePassed, LeadsToMarked, AreStarts, ArePredecessors, IsSettling}
+use Rattle.digraph.specs.Marks.{none_there, edge_at, marked, mark_count, place_at, work_left, StartsFrom, ArePassed, LeadsToMarked, AreStarts, IsSettling}
+use Rattle.digraph.specs.Arrivals.{AreWaitingFor}
 use Rattle.digraph.specs.Edges.{AreBetween, IsAscending, Leads, comes_before}
 
 -- the place of an edge between two nodes
@@ -176,11 +176,11 @@ settling_placed edges nodes marks places again v p s on later leads passed =
       greatest = s.greatest;
     }
 
--- a node that leads to no marked one loses its mark, and its predecessors are looked at again
-pub settling_without : (edges : List Edge) (nodes : ℕ) (marks : List Bool) (places again : List ℕ) (rows : List (List ℕ)) (v : ℕ) → IsSettling edges nodes marks places (again ++ v ∷ [])
-    → ArePredecessors edges rows (length edges) → marked marks v ≡ true → ArePassed edges marks v (place_at places v) (length edges)
-    → IsSettling edges nodes (slice_set marks v false) places (again ++ row_at rows v)
-settling_without edges nodes marks places again rows v s are on none =
+-- a node that leads to no marked one loses its mark, and those that wait for it are looked at again
+pub settling_without : (edges : List Edge) (nodes : ℕ) (marks : List Bool) (places again row : List ℕ) (v : ℕ) → IsSettling edges nodes marks places (again ++ v ∷ [])
+    → AreWaitingFor edges places v row → marked marks v ≡ true → ArePassed edges marks v (place_at places v) (length edges)
+    → IsSettling edges nodes (slice_set marks v false) places (again ++ row)
+settling_without edges nodes marks places again row v s are on none =
     let in_marks : v < length marks = marked_below marks v on in
     let in_nodes : v < nodes = (let e = s.size in omega arith) in
     let own : marked (slice_set marks v false) v ≡ false = get_or-set_same marks v false false in_marks in
@@ -202,15 +202,14 @@ settling_without edges nodes marks places again rows v s are on none =
         | inl e ↦ absurd (false≢true (sym own ∙ ap (marked (slice_set marks v false)) (sym e) ∙ h))
         | inr ne ↦ elim (s.waits u (sym (other u ne) ∙ h)) [
           | inl listed ↦ elim (Contains-push_cases again v u listed) [
-            | inl still ↦ inl (Contains-append_left again (row_at rows v) u still)
+            | inl still ↦ inl (Contains-append_left again row u still)
             | inr same ↦ absurd (ne (sym same))
           ]
           | inr old ↦
               let p = place_at places u in
               let to = (edge_at edges p).to in
               elim (cases_eq to v) [
-                | inl e ↦ inl (Contains-append_right again (row_at rows v) u
-                    (subst (λ (t : ℕ). Contains (row_at rows t) u) e (subst (λ (f : ℕ). Contains (row_at rows to) f) old.from (are.all p old.within))))
+                | inl e ↦ inl (Contains-append_right again row u (subst (Contains row) old.from (are.all p old.within e (ap (place_at places) old.from))))
                 | inr differs ↦ inr (record { within = old.within; from = old.from; to = other to differs ∙ old.to })
               ]
         ]
@@ -269,6 +268,3 @@ work_less edges marks again row v on few =
 -- what was read is what stands at the node's place
 pub read_place : (places : List ℕ) (v r : ℕ) → r ≡ slice_index_or places v r → v < length places → r ≡ place_at places v
 read_place places v r is l = is ∙ get_or_default places v r 0 l
-
-pub read_row : (rows : List (Vec ℕ Global)) (v : ℕ) (r : Vec ℕ Global) (row : List ℕ) → v < length rows → r ≡ slice_index_or rows v r → row ≡ r.items → row_at (lists rows) v ≡ row
-read_row rows v r row l is value = get_or-map (λ (x : Vec ℕ Global). x.items) rows v r [] l ∙ ap (λ (x : Vec ℕ Global). x.items) (sym is) ∙ sym value

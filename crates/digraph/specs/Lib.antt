@@ -1,3 +1,4 @@
+pub mod Arrivals
 pub mod Chains
 pub mod Cycle
 pub mod Edges

@@ -55,11 +55,6 @@ lists rows = map (λ r. r.items) rows
 abbrev pub row_at : List (List ℕ) → ℕ → List ℕ
 row_at rows v = slice_index_or rows v []
 
--- the first count edges each have the node that they lead from in the row of the one that they lead to
-pub record ArePredecessors (edges : List Edge) (rows : List (List ℕ)) (count : ℕ) : Type 0 where
-  pub all : (k : ℕ) → k < count → Contains (row_at rows (edge_at edges k).to) (edge_at edges k).from
-  pub few : (v : ℕ) → length (row_at rows v) ≤ count
-
 -- each marked node is to be looked at again or leads to a marked one from its place, and only nodes are unmarked
 -- that are in no set of nodes each of which leads to a member
 pub record IsSettling (edges : List Edge) (nodes : ℕ) (marks : List Bool) (places again : List ℕ) : Type 0 where

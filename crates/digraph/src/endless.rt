@@ -1,11 +1,12 @@
 //! The greatest set of nodes each of which leads to a member.
 ghost use Rattle.std.specs.Prelude.{ℕ, ◌≡◌, ◌<◌, ◌≤◌, ◌+◌, ◌++◌, List, [], ◌∷◌, Contains, false, true, length, slice_set, vec_len, IfOk, IfSome, IfNone, OnOk};
 ghost use Rattle.digraph.specs.Cycle.{IsEndless, IsNext};
-ghost use Rattle.digraph.specs.Marks.{edge_at, marked, place_at, row_at, lists, work_left, StartsFrom, ArePassed, ArePredecessors, AreStarts, IsSettling, LeadsToMarked};
+ghost use Rattle.digraph.specs.Marks.{edge_at, marked, place_at, work_left, StartsFrom, ArePassed, AreStarts, IsSettling, LeadsToMarked};
+ghost use Rattle.digraph.specs.Arrivals.{AreArrivals};
 ghost use Rattle.digraph.specs.Edges.{AreBetween, IsAscending, Leads};
 
 use crate::Edge;
-use crate::rows::rows_of;
+use crate::arrivals::{Arrivals, arrivals_of};
 use std::alloc::{AllocError, Global};
 
 /// The nodes from which edges may still go on for ever, while they are sought, and in the end those from which they do.
@@ -74,19 +75,20 @@ fn marked_from(edges: &[Edge], marks: &[bool], node: u32, start: usize) -> Optio
 }
 
 impl Endless {
-    /// Looks at a node again: goes on to its next edge to a marked node, or takes its mark away.
+    /// Looks at a node again: goes on to its next edge to a marked node, or takes its mark away. Of the nodes that lead to it, those are looked at again then whose
+    /// edge at their place leads to it.
     fn look(
         &mut self,
         edges: &[Edge],
-        predecessors: &[Vec<u32>],
+        arrivals: &Arrivals,
         node: u32,
         again: &mut Vec<u32>,
     ) -> Result<(), AllocError>
         requires ascending { IsAscending edges.now }
-        requires between { AreBetween edges.now (length predecessors.now) }
-        requires predecessors { ArePredecessors edges.now (lists predecessors.now) (length edges.now) }
-        requires settling { IsSettling edges.now (length predecessors.now) self.old.marks.items self.old.places.items (again.old.items ++ node ∷ []) }
-        ensures settling { OnOk result (IsSettling edges.now (length predecessors.now) self.new.marks.items self.new.places.items again.new.items) }
+        requires between { AreBetween edges.now (vec_len self.old.marks) }
+        requires arrivals { AreArrivals edges.now (vec_len self.old.marks) arrivals.now.last.items arrivals.now.before.items (length edges.now) }
+        requires settling { IsSettling edges.now (vec_len self.old.marks) self.old.marks.items self.old.places.items (again.old.items ++ node ∷ []) }
+        ensures settling { OnOk result (IsSettling edges.now (vec_len self.old.marks) self.new.marks.items self.new.places.items again.new.items) }
         ensures less { OnOk result (work_left edges.now self.new.marks.items again.new.items ≤ work_left edges.now self.old.marks.items again.old.items) }
     {
         if !is_marked(self.marks.as_slice(), node) {
@@ -97,7 +99,7 @@ impl Endless {
             Some(place) => self.places[node as usize] = place,
             None => {
                 self.marks[node as usize] = false;
-                again.extend_from_slice(predecessors[node as usize].as_slice())?;
+                arrivals.add_waiting(edges, &self.places, node, again)?;
             }
         }
         Ok(())
@@ -111,10 +113,10 @@ impl Endless {
         requires begun { (again : List ℕ) → ((v : ℕ) → v < nodes → Contains again v) → IsSettling edges.now nodes self.old.marks.items self.old.places.items again }
         ensures { OnOk result (IsSettling edges.now nodes self.new.marks.items self.new.places.items []) }
     {
-        let predecessors = rows_of(alloc, edges, nodes)?;
+        let arrivals = arrivals_of(alloc, edges, nodes)?;
         let mut again = each_node(alloc, nodes)?;
         while let Some(node) = again.pop() {
-            self.look(edges, predecessors.as_slice(), node, &mut again)?;
+            self.look(edges, &arrivals, node, &mut again)?;
         }
         Ok(())
     }

@@ -5,6 +5,7 @@
 //! fewer edges.
 #![tactic(auto)]
 
+mod arrivals;
 mod edge;
 mod endless;
 pub mod laws;

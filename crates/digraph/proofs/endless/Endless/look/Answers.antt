@@ -1,15 +1,16 @@
 -- The three ways in which a node is looked at again.
-use Rattle.std.proofs.Common.{◌≡◌, ℕ, ◌++◌, ◌<◌, ◌≤◌, List, Bool, true, false, length, sym, ap, ◌∙◌, subst, arith}
+use Rattle.std.proofs.Common.{◌≡◌, ℕ, ◌<◌, ◌≤◌, List, Bool, true, false, length, sym, ap, ◌∙◌, subst, arith}
 use Rattle.std.specs.Prelude.{slice_set}
-use Rattle.digraph.specs.Marks.{ArePassed, LeadsToMarked, IsSettling, StartsFrom, lists, marked, place_at, row_at, work_left}
-use Rattle.digraph.proofs.Settling.{marked_below, read_place, read_row, settling_unmarked, settling_placed, settling_without, work_less}
+use Rattle.digraph.specs.Marks.{ArePassed, LeadsToMarked, IsSettling, StartsFrom, marked, place_at, work_left}
+use Rattle.digraph.specs.Arrivals.{AreWaitingFor}
+use Rattle.digraph.proofs.Settling.{marked_below, read_place, settling_unmarked, settling_placed, settling_without, work_less}
 use Rattle.digraph.proofs.endless.Endless.look.Goals as goal
 
 pub returns-then-not-is_marked-clause-settling : goal.returns-then-not-is_marked-clause-settling
 returns-then-not-is_marked-clause-settling c =
     let marks = c.args.self.now.marks.items in
     let off : marked marks c.args.node ≡ false = ap (λ (m : List Bool). marked m c.args.node) (sym c.as_slice.ensures.value) ∙ sym c.is_marked.ensures ∙ c.if-not-is_marked.true in
-    settling_unmarked c.args.edges.now (length c.args.predecessors.now) marks c.args.self.now.places.items c.args.again.now.items c.args.node c.requires.settling off
+    settling_unmarked c.args.edges.now c.args.self.now.marks.len marks c.args.self.now.places.items c.args.again.now.items c.args.node c.requires.settling off
 
 pub returns-in-Some-clause-settling : goal.returns-in-Some-clause-settling
 returns-in-Some-clause-settling c =
@@ -23,46 +24,39 @@ returns-in-Some-clause-settling c =
     let in_marks : v < length marks = marked_below marks v on in
     let here : v < length places = (let e = s.size in let f = s.placed in omega arith) in
     let start : c.index-start.result.now ≡ place_at places v = read_place places v c.index-start.result.now c.index-start.ensures here in
-    settling_placed edges (length c.args.predecessors.now) marks places c.args.again.now.items v p s on
+    settling_placed edges c.args.self.now.marks.len marks places c.args.again.now.items v p s on
     (subst (λ (n : ℕ). n ≤ p) start c.in-Some.ensures.after)
     (subst (λ (m : List Bool). LeadsToMarked edges m v p) c.as_slice-2.ensures.value c.in-Some.ensures.leads)
     (subst (λ (n : ℕ). ArePassed edges marks v n p) start (subst (λ (m : List Bool). ArePassed edges m v c.index-start.result.now p) c.as_slice-2.ensures.value c.in-Some.ensures.passed))
 
-pub returns-in_ok-extend_from_slice-in-None-clause-settling : goal.returns-in_ok-extend_from_slice-in-None-clause-settling
-returns-in_ok-extend_from_slice-in-None-clause-settling c =
+pub returns-in_ok-add_waiting-in-None-clause-settling : goal.returns-in_ok-add_waiting-in-None-clause-settling
+returns-in_ok-add_waiting-in-None-clause-settling c =
     let edges = c.args.edges.now in
     let marks = c.args.self.now.marks.items in
     let places = c.args.self.now.places.items in
-    let rows = c.args.predecessors.now in
     let v = c.args.node in
     let s = c.requires.settling in
     let on : marked marks v ≡ true = ap (λ (m : List Bool). marked m v) (sym c.as_slice.ensures.value) ∙ sym c.is_marked.ensures ∙ c.if-not-is_marked.false in
     let in_marks : v < length marks = marked_below marks v on in
     let here : v < length places = (let e = s.size in let f = s.placed in omega arith) in
-    let in_rows : v < length rows = (let e = s.size in omega arith) in
     let start : c.index-start.result.now ≡ place_at places v = read_place places v c.index-start.result.now c.index-start.ensures here in
-    let row : row_at (lists rows) v ≡ c.as_slice-in-None.result.now = read_row rows v c.index-predecessors-node.result c.as_slice-in-None.result.now in_rows c.index-predecessors-node.is c.as_slice-in-None.ensures.value in
-    let new : c.extend_from_slice.new.self.items ≡ c.args.again.now.items ++ row_at (lists rows) v = c.in_ok-extend_from_slice-in-None.ensures.items ∙ ap (λ (r : List ℕ). c.args.again.now.items ++ r) (sym row) in
+    let (row, waiting, new) = c.in_ok-add_waiting-in-None.ensures in
+    let are = subst (λ (p : List ℕ). AreWaitingFor edges p v row) c.deref.ensures.value waiting in
     let none : ArePassed edges marks v (place_at places v) (length edges) =
     subst (λ (n : ℕ). ArePassed edges marks v n (length edges)) start
     (subst (λ (m : List Bool). ArePassed edges m v c.index-start.result.now (length edges)) c.as_slice-2.ensures.value c.in-None.ensures.none) in
-    subst (λ (a : List ℕ). IsSettling edges (length rows) (slice_set marks v false) places a) (sym new)
-    (settling_without edges (length rows) marks places c.args.again.now.items (lists rows) v s c.requires.predecessors on none)
+    subst (λ (a : List ℕ). IsSettling edges c.args.self.now.marks.len (slice_set marks v false) places a) (sym new)
+    (settling_without edges c.args.self.now.marks.len marks places c.args.again.now.items row v s are on none)
 
-pub returns-in_ok-extend_from_slice-in-None-clause-less : goal.returns-in_ok-extend_from_slice-in-None-clause-less
-returns-in_ok-extend_from_slice-in-None-clause-less c =
+pub returns-in_ok-add_waiting-in-None-clause-less : goal.returns-in_ok-add_waiting-in-None-clause-less
+returns-in_ok-add_waiting-in-None-clause-less c =
     let edges = c.args.edges.now in
     let marks = c.args.self.now.marks.items in
-    let rows = c.args.predecessors.now in
     let v = c.args.node in
-    let s = c.requires.settling in
     let on : marked marks v ≡ true = ap (λ (m : List Bool). marked m v) (sym c.as_slice.ensures.value) ∙ sym c.is_marked.ensures ∙ c.if-not-is_marked.false in
-    let in_marks : v < length marks = marked_below marks v on in
-    let in_rows : v < length rows = (let e = s.size in omega arith) in
-    let row : row_at (lists rows) v ≡ c.as_slice-in-None.result.now = read_row rows v c.index-predecessors-node.result c.as_slice-in-None.result.now in_rows c.index-predecessors-node.is c.as_slice-in-None.ensures.value in
-    let few : length c.as_slice-in-None.result.now ≤ length edges = subst (λ (r : List ℕ). length r ≤ length edges) row (c.requires.predecessors.few v) in
-    subst (λ (a : List ℕ). work_left edges (slice_set marks v false) a ≤ work_left edges marks c.args.again.now.items) (sym c.in_ok-extend_from_slice-in-None.ensures.items)
-    (work_less edges marks c.args.again.now.items c.as_slice-in-None.result.now v on few)
+    let (row, waiting, new) = c.in_ok-add_waiting-in-None.ensures in
+    subst (λ (a : List ℕ). work_left edges (slice_set marks v false) a ≤ work_left edges marks c.args.again.now.items) (sym new)
+    (work_less edges marks c.args.again.now.items row v on waiting.few)
 
 pub index-start-requires : goal.index-start-requires
 index-start-requires c =
@@ -103,12 +97,3 @@ index_mut-requires-in-None c =
     let on : marked marks v ≡ true = ap (λ (m : List Bool). marked m v) (sym c.as_slice.ensures.value) ∙ sym c.is_marked.ensures ∙ c.if-not-is_marked.false in
     let in_marks : v < length marks = marked_below marks v on in
     omega (arith, in_marks, c.args.self.now.marks.ok.0)
-
-pub bounds-predecessors-node : goal.bounds-predecessors-node
-bounds-predecessors-node c =
-    let marks = c.args.self.now.marks.items in
-    let v = c.args.node in
-    let s = c.requires.settling in
-    let on : marked marks v ≡ true = ap (λ (m : List Bool). marked m v) (sym c.as_slice.ensures.value) ∙ sym c.is_marked.ensures ∙ c.if-not-is_marked.false in
-    let in_marks : v < length marks = marked_below marks v on in
-    omega (arith, in_marks, s.size)

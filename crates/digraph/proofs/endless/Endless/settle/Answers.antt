@@ -1,10 +1,8 @@
 -- Until no node is to be looked at again.
 use Rattle.std.proofs.Common.{◌≡◌, ℕ, [], ◌∷◌, List, length, refl, sym, subst, arith}
-use Rattle.std.specs.Prelude.{Vec}
-use Rattle.std.specs.declared.alloc.Global.{Global}
 use Rattle.digraph.specs.Edges.{AreBetween}
-use Rattle.digraph.specs.Marks.{ArePredecessors, IsSettling, lists}
-use Rattle.digraph.proofs.Predecessors.{rows_predecessors}
+use Rattle.digraph.specs.Arrivals.{AreArrivals}
+use Rattle.digraph.specs.Marks.{IsSettling}
 use Rattle.digraph.proofs.endless.Endless.settle.Goals as goal
 
 empty : (xs : List ℕ) → length xs ≡ 0 → xs ≡ []
@@ -19,22 +17,24 @@ look-requires-clause-ascending c = c.requires.ascending
 
 pub look-requires-clause-between : goal.look-requires-clause-between
 look-requires-clause-between c =
-    let ok = c.in_ok-predecessors.predecessors.ok in
-    let size = c.in_ok-predecessors.ensures.size in
-    let len : c.args.nodes ≡ length c.as_slice.result.now = (let e = c.as_slice.ensures.len in omega arith) in
+    let ok = c.loop-node.self.marks.ok in
+    let size = c.loop-node.invariant.size in
+    let len : c.args.nodes ≡ c.loop-node.self.marks.len = omega arith in
     subst (λ (n : ℕ). AreBetween c.args.edges.now n) len c.requires.between
 
-pub look-requires-clause-predecessors : goal.look-requires-clause-predecessors
-look-requires-clause-predecessors c =
-    let edges = c.args.edges.now in
-    subst (λ (rows : List (Vec ℕ Global)). ArePredecessors edges (lists rows) (length edges)) (sym c.as_slice.ensures.value)
-    (rows_predecessors edges (lists c.in_ok-predecessors.predecessors.items) c.in_ok-predecessors.ensures.rows)
+pub look-requires-clause-arrivals : goal.look-requires-clause-arrivals
+look-requires-clause-arrivals c =
+    let ok = c.loop-node.self.marks.ok in
+    let size = c.loop-node.invariant.size in
+    let len : c.args.nodes ≡ c.loop-node.self.marks.len = omega arith in
+    let a = c.in_ok-arrivals.arrivals in
+    subst (λ (n : ℕ). AreArrivals c.args.edges.now n a.last.items a.before.items (length c.args.edges.now)) len c.in_ok-arrivals.ensures
 
 pub loop-node-preserved : goal.loop-node-preserved
 loop-node-preserved c =
-    let ok = c.in_ok-predecessors.predecessors.ok in
-    let size = c.in_ok-predecessors.ensures.size in
-    let len : c.args.nodes ≡ length c.as_slice.result.now = (let e = c.as_slice.ensures.len in omega arith) in
+    let ok = c.loop-node.self.marks.ok in
+    let size = c.loop-node.invariant.size in
+    let len : c.args.nodes ≡ c.loop-node.self.marks.len = omega arith in
     subst (λ (n : ℕ). IsSettling c.args.edges.now n c.look.new.self.marks.items c.look.new.self.places.items c.look.new.again.items) (sym len) c.in_ok-look.ensures.settling
 
 pub returns : goal.returns
