@@ -1,4 +1,5 @@
 pub mod Augmenting
+pub mod Following
 pub mod Grouping
 pub mod Keeping
 pub mod Listing

@@ -8,7 +8,75 @@ use Rattle.std.proofs.lemmas.List.Sums.{sum_by-set}
 use Rattle.cut_residual.specs.declared.arc.ResidualArc.{ResidualArc}
 use Rattle.cut_residual.specs.declared.found.Visit.{Visit}
 use Rattle.cut_residual.specs.Graphs.{no_residual_arc, AreClosed, Graph, HasResidual, HasArc, head, is_seen, tail}
-use Rattle.cut_residual.specs.Trees.{LeadsOn, Searching, no_place}
+use Rattle.cut_residual.specs.Trees.{IsTree, LeadsOn, Searching, no_place}
+
+-- a node more in the tree of a search
+pub tree_more : (g : Graph) (start : ℕ) (seen : List Bool) (places : List Visit) (place : ℕ) (s : ResidualArc) → IsTree g start seen places → place < length places → HasArc g.arcs s →
+    tail g.arcs s ≡ (get_or places place no_place).node → head g.arcs s < g.nodes → LeadsOn g.arcs s seen →
+    IsTree g start (set seen (head g.arcs s) true) (places ++ (record { node = head g.arcs s; step = s; parent = place }) ∷ [])
+tree_more g start seen places place s tree in_place known leaves in_to on =
+    let to = head g.arcs s in
+    let new : Visit = record { node = head g.arcs (s); step = s; parent = place } in
+    let size = tree.size in
+    let in_seen : to < length seen = omega arith in
+    let marked : get_or (set seen to true) to false ≡ true = get_or-set_same seen to true false in_seen in
+    let kept : (m : ℕ) → is_seen seen m ≡ true → is_seen (set seen to true) m ≡ true = λ m h. elim (cases_eq m to) [
+      | inl e ↦ rw e marked
+      | inr ne ↦ get_or-set_other seen to m true false ne ∙ h
+    ] in
+    let old : (m : ℕ) → m ≢ to → is_seen (set seen to true) m ≡ true → is_seen seen m ≡ true =
+    λ m ne h. sym (get_or-set_other seen to m true false ne) ∙ h in
+    let len : length (places ++ new ∷ []) ≡ length places + 1 = length_push places new in
+    let same : (p : ℕ) → p < length places → get_or (places ++ new ∷ []) p no_place ≡ get_or places p no_place = λ p h. get_or_append_left places (new ∷ []) no_place p h in
+    let last : get_or (places ++ new ∷ []) (length places) no_place ≡ new = get_or_push places new no_place (length places) refl in
+    record {
+      size = length-set seen to true ∙ tree.size;
+      first = ap (λ v. v.node) (same 0 (omega arith)) ∙ tree.first;
+      found = λ p h in_p. elim (cases_eq p (length places)) [
+        | inl e ↦
+            let p_is : get_or (places ++ new ∷ []) p no_place ≡ new = ap (λ v. get_or (places ++ new ∷ []) v no_place) e ∙ last in
+            let place_is = same place in_place in
+            record {
+              earlier = rw p_is (omega arith);
+              known = rw p_is known;
+              left = rw p_is on.0;
+              leaves = rw p_is (leaves ∙ ap (λ v. v.node) (sym place_is));
+              comes = rw p_is refl;
+            }
+        | inr ne ↦
+            let in_old : p < length places = omega arith in
+            let p_is = same p in_old in
+            let f = tree.found p h in_old in
+            let earlier = f.earlier in
+            let q_is = same (get_or places p no_place).parent (omega arith) in
+            record {
+              earlier = rw p_is f.earlier;
+              known = rw p_is f.known;
+              left = rw p_is f.left;
+              leaves = rw p_is (f.leaves ∙ ap (λ v. v.node) (sym q_is));
+              comes = rw p_is f.comes;
+            }
+      ];
+      once = λ p q h in_q e. elim (cases_eq q (length places)) [
+        | inl at_end ↦
+            let q_is : get_or (places ++ new ∷ []) q no_place ≡ new = ap (λ v. get_or (places ++ new ∷ []) v no_place) at_end ∙ last in
+            let p_is = same p (omega arith) in
+            let node_is : (get_or places p no_place).node ≡ to = ap (λ v. v.node) (sym p_is) ∙ e ∙ ap (λ v. v.node) q_is in
+            both_ways _ on.1 (subst (λ v. is_seen seen v ≡ true) node_is (tree.listed p (omega arith)).1)
+        | inr ne ↦ tree.once p q h (omega arith) (ap (λ v. v.node) (sym (same p (omega arith))) ∙ e ∙ ap (λ v. v.node) (same q (omega arith)))
+      ];
+      listed = λ p h. elim (cases_eq p (length places)) [
+        | inl e ↦
+            let p_is : get_or (places ++ new ∷ []) p no_place ≡ new = ap (λ v. get_or (places ++ new ∷ []) v no_place) e ∙ last in
+            rw p_is (in_to, marked)
+        | inr ne ↦ let l = tree.listed p (omega arith) in rw (same p (omega arith)) (l.0, kept _ l.1)
+      ];
+      placed = λ m h. elim (cases_eq m to) [
+        | inl e ↦ (length places, omega arith, ap (λ v. v.node) last ∙ sym e)
+        | inr ne ↦ let at_p = tree.placed m (old m ne h) in (at_p.0, omega arith, ap (λ v. v.node) (same at_p.0 at_p.1) ∙ at_p.2)
+      ];
+      started = kept start tree.started;
+    }
 
 module _ (g : Graph) (start : ℕ) (seen : List Bool) (places : List Visit) (place : ℕ) (group : List ResidualArc) (k : ℕ) (z : Searching g start seen places place group k) where
   pub searching_no : (LeadsOn g.arcs (get_or group k no_residual_arc) seen → ⊥) → Searching g start seen places place group (k + 1)
@@ -47,54 +115,7 @@ module _ (g : Graph) (start : ℕ) (seen : List Bool) (places : List Visit) (pla
       let same : (p : ℕ) → p < length places → get_or (places ++ new ∷ []) p no_place ≡ get_or places p no_place = λ p h. get_or_append_left places (new ∷ []) no_place p h in
       let last : get_or (places ++ new ∷ []) (length places) no_place ≡ new = get_or_push places new no_place (length places) refl in
       record {
-        tree = record {
-          size = length-set seen to true ∙ z.tree.size;
-          first = ap (λ v. v.node) (same 0 (omega arith)) ∙ z.tree.first;
-          found = λ p h in_p. elim (cases_eq p (length places)) [
-            | inl e ↦
-                let p_is : get_or (places ++ new ∷ []) p no_place ≡ new = ap (λ v. get_or (places ++ new ∷ []) v no_place) e ∙ last in
-                let place_is = same place in_place in
-                record {
-                  earlier = rw p_is (omega arith);
-                  known = rw p_is known;
-                  left = rw p_is on.0;
-                  leaves = rw p_is (leaves ∙ ap (λ v. v.node) (sym place_is));
-                  comes = rw p_is refl;
-                }
-            | inr ne ↦
-                let in_old : p < length places = omega arith in
-                let p_is = same p in_old in
-                let f = z.tree.found p h in_old in
-                let earlier = f.earlier in
-                let q_is = same (get_or places p no_place).parent (omega arith) in
-                record {
-                  earlier = rw p_is f.earlier;
-                  known = rw p_is f.known;
-                  left = rw p_is f.left;
-                  leaves = rw p_is (f.leaves ∙ ap (λ v. v.node) (sym q_is));
-                  comes = rw p_is f.comes;
-                }
-          ];
-          once = λ p q h in_q e. elim (cases_eq q (length places)) [
-            | inl at_end ↦
-                let q_is : get_or (places ++ new ∷ []) q no_place ≡ new = ap (λ v. get_or (places ++ new ∷ []) v no_place) at_end ∙ last in
-                let p_is = same p (omega arith) in
-                let node_is : (get_or places p no_place).node ≡ to = ap (λ v. v.node) (sym p_is) ∙ e ∙ ap (λ v. v.node) q_is in
-                both_ways _ on.1 (subst (λ v. is_seen seen v ≡ true) node_is (z.tree.listed p (omega arith)).1)
-            | inr ne ↦ z.tree.once p q h (omega arith) (ap (λ v. v.node) (sym (same p (omega arith))) ∙ e ∙ ap (λ v. v.node) (same q (omega arith)))
-          ];
-          listed = λ p h. elim (cases_eq p (length places)) [
-            | inl e ↦
-                let p_is : get_or (places ++ new ∷ []) p no_place ≡ new = ap (λ v. get_or (places ++ new ∷ []) v no_place) e ∙ last in
-                rw p_is (in_to, marked)
-            | inr ne ↦ let l = z.tree.listed p (omega arith) in rw (same p (omega arith)) (l.0, kept _ l.1)
-          ];
-          placed = λ m h. elim (cases_eq m to) [
-            | inl e ↦ (length places, omega arith, ap (λ v. v.node) last ∙ sym e)
-            | inr ne ↦ let at_p = z.tree.placed m (old m ne h) in (at_p.0, omega arith, ap (λ v. v.node) (same at_p.0 at_p.1) ∙ at_p.2)
-          ];
-          started = kept start z.tree.started;
-        };
+        tree = tree_more g start seen places place s z.tree in_place known leaves in_to on;
         counted =
             let sum = sum_by-set (λ v. cond v 1 0) seen to true false in_seen in
             let none : cond {A = ℕ} (get_or seen to false) 1 0 ≡ 0 = ap (λ (v : Bool). cond {A = ℕ} v 1 0) on.1 in

@@ -4,3 +4,4 @@ pub mod OutArcs
 pub mod Groups
 pub mod Trees
 pub mod Searches
+pub mod Spreading

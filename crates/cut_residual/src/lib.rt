@@ -11,6 +11,7 @@ mod groups;
 mod order;
 mod paths;
 mod searches;
+mod spread;
 
 pub use arc::{Arc, OutArc, ResidualArc};
 pub use found::Searched;
@@ -18,3 +19,4 @@ pub use graph::ResidualGraph;
 pub use order::{order_of, places_of};
 pub use paths::path_to;
 pub use searches::search;
+pub use spread::marks;

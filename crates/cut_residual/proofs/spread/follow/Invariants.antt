@@ -1,0 +1,15 @@
+use Rattle.std.proofs.Common.{◌≡◌, ◌≤◌, ◌+◌, ◌*◌, ◌++◌, ◌∷◌, [], ℕ, length, vec_len}
+use Rattle.cut_residual.specs.Spreading.{left_over, IsFollowing, IsSpreading, LeavesFrom}
+use Rattle.cut_residual.proofs.spread.follow.Given as goal
+
+abbrev pub invariant-loop-next : goal.invariant-loop-next
+invariant-loop-next l = record {
+  size : vec_len l.seen ≡ vec_len l.fn.seen;
+  within : l.next ≤ length l.arcs * 2;
+  own : (n : ℕ) → l.next ≡ n + 1 → LeavesFrom l.arcs l.node n;
+  following : (start : ℕ) → IsSpreading l.arcs start l.fn.seen.items (l.fn.waiting.items ++ l.node ∷ []) → IsFollowing l.arcs start l.seen.items l.waiting.items l.node l.next;
+  same : left_over l.seen.items l.waiting.items ≡ left_over l.fn.seen.items l.fn.waiting.items;
+}
+
+abbrev pub decreases-loop-next : goal.decreases-loop-next
+decreases-loop-next l = l.next
