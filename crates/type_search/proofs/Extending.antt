@@ -1,19 +1,24 @@
 -- Records and their bases.
-use Rattle.std.proofs.Common.{◌≡◌, ℕ, zero, suc, ◌+◌, List, [], Bool, true, false, Option, Some, None, refl, sym, ap, ◌∙◌, subst, arith, cond, Bor}
+use Rattle.std.proofs.Common.{◌≡◌, ℕ, zero, suc, ◌+◌, List, [], ◌∷◌, Bool, true, false, Option, Some, None, refl, sym, ap, ◌∙◌, subst, arith, cond, Bor}
 use Rattle.std.specs.Map.{lookup}
 use Rattle.std.specs.Option.{option_copied}
 use Rattle.std.specs.Str.{bytes_eq}
 use Rattle.std.proofs.lemmas.Slice.Eq.{bytes_eq-Decides}
 use Rattle.indexmap.specs.IndexMap.{get, IndexMap}
 use Rattle.std.specs.Prelude.{◌&&◌, IfNone, IfSome}
-use Rattle.std.specs.List.{All}
+use Rattle.std.specs.List.{All, list_any}
 use Rattle.std.proofs.lemmas.List.Elements.{All-push}
 use Rattle.std.proofs.lemmas.List.Folds.{Any-from_list_any}
 use Rattle.type_search.specs.declared.shape.Shape.{Shape}
-use Rattle.type_search.specs.Searches.{IsMet, IsMetAgain, IsNewlyMet}
+use Rattle.type_search.specs.Searches.{IsMetAgain}
 use Rattle.type_search.specs.Leading.{IsTypeEnd, TypeLeadsTo}
-use Rattle.type_search.specs.Extending.{shape_record, base_field, own_field, risen, came_back, Extends, Has, HasField, AreFieldsOf, AreFound, IsAbove, IsFieldIn, IsNextAbove, LeadsToRecord, IsRecordOf, Use, same_use}
+use Rattle.type_search.specs.Extending.{shape_record, base_field, marked, own_field, risen, came_back, unmarked, Extends, Has, HasField, AreAbove, AreFieldsOf, AreFound, IsAbove, IsFieldIn, IsNextAbove, IsPassed, LeadsToRecord, IsRecordOf, Use, same_use}
 use Rattle.type_search.proofs.Leading.{leads_to_once}
+
+-- what holds anyway holds of what there is
+pub some_any : {X P : Type 0} → P → (o : Option X) → IfSome o (λ x. P)
+some_any p None = tt
+some_any p (Some x) = p
 
 both_true : (a b : Bool) → a && b ≡ true → (a ≡ true) × (b ≡ true)
 both_true true true e = (refl, refl)
@@ -167,23 +172,24 @@ module _ {N D R : Type 0} (shape : N → Shape N D R) where
             let q : Rises (suc p.0) now now = subst (λ (r : R). Rises (suc p.0) r now) (sym one) p.1 in
             subst (λ (rs : List R). AreFieldsOf shape base field from rs None) (sym again.unchanged) (passed from now met None w (record { some = tt; none = λ f h. comes_back p.0 now f q h }))
 
-        none_left : (from now : R) (met after : List R) (o : Option R) → IsNewlyMet same now met after → field now ≡ None → o ≡ None → IsAbove shape base now o → Climbs from now met → AreFieldsOf shape base field from after None
+        -- what holds of all marks and of a record that is passed holds of the marks behind it
+        marks_on : (P : R → Type 0) (now : R) (before after : List R) → IsPassed now before after → All P before → P now → All P after
+        marks_on P now before after (marked e) each here = subst (All P) (sym e) (All-push P before now each here)
+        marks_on P now before after (unmarked e) each here = subst (All P) (sym e) each
+
+        none_left : (from now : R) (met after : List R) (o : Option R) → IsPassed now met after → field now ≡ None → o ≡ None → IsAbove shape base now o → Climbs from now met → AreFieldsOf shape base field from after None
         none_left from now met after o fresh none no_more above w =
             let here = nothing_above now o none no_more above in
             let all = passed from now met None w here in
-            record {
-              is = all.is;
-              each = subst (λ (rs : List R). All (λ (s : R). IsFieldIn shape base field s None) rs) (sym fresh.last) (All-push (λ (s : R). IsFieldIn shape base field s None) met now all.each here);
-            }
+            record { is = all.is; each = marks_on (λ (s : R). IsFieldIn shape base field s None) now met after fresh all.each here }
 
-        climbs_on : (from now above : R) (met after : List R) (o : Option R) → IsNewlyMet same now met after → field now ≡ None → o ≡ Some above → IsAbove shape base now o → Climbs from now met → Climbs from above after
+        climbs_on : (from now above : R) (met after : List R) (o : Option R) → IsPassed now met after → field now ≡ None → o ≡ Some above → IsAbove shape base now o → Climbs from now met → Climbs from above after
         climbs_on from now above met after o fresh none is_some ups w =
             let e : Extends shape base now above = subst (λ (v : Option R). IfSome v (Extends shape base now)) is_some ups.some in
             record {
               steps = suc w.steps;
               rises = higher w.rises none e;
-              each = subst (λ (rs : List R). All (λ (r : R). (j : ℕ) × Rises (suc j) r above) rs) (sym fresh.last)
-                  (All-push (λ (r : R). (j : ℕ) × Rises (suc j) r above) met now (λ k d l. (let p = w.each k d l in (suc p.0, higher p.1 none e))) (zero, higher nowhere none e));
+              each = marks_on (λ (r : R). (j : ℕ) × Rises (suc j) r above) now met after fresh (λ k d l. (let p = w.each k d l in (suc p.0, higher p.1 none e))) (zero, higher nowhere none e);
             }
 
         -- a search whose next record is none has come to its end
@@ -202,13 +208,34 @@ module _ {N D R : Type 0} (shape : N → Shape N D R) where
         pub known_here : (from now : R) (met : List R) (v : Option (Option F)) (o : Option F) → v ≡ Some o → IfSome v (IsFieldIn shape base field now) → Climbs from now met → AreFieldsOf shape base field from met o
         known_here from now met v o known told w = passed from now met o w (subst (λ (x : Option (Option F)). IfSome x (IsFieldIn shape base field now)) known told)
 
-        pub met_anew : (now : R) (met after : List R) (b : Bool) (o : Option R) → b ≡ true → IsMet same now met after b → IsAbove shape base now o → IsNextAbove shape base same now met after o
-        met_anew now met after b o is noted above = risen (subst (IsMet same now met after) is noted) above
+        pub passed_anew : (now : R) (met after : List R) (o : Option R) → IsPassed now met after → IsAbove shape base now o → IsNextAbove shape base same now met after o
+        passed_anew now met after o passes above = risen passes above
 
-        pub met_before : (now : R) (met after : List R) (b : Bool) → b ≡ false → IsMet same now met after b → IsNextAbove shape base same now met after None
-        met_before now met after b is noted = came_back (subst (IsMet same now met after) is noted) refl
+        pub marked_before : (now : R) (met : List R) (b : Bool) → b ≡ true → (b ≡ true → list_any (same now) met ≡ true) → IsNextAbove shape base same now met met None
+        marked_before now met b is among = came_back (record { among = among is; unchanged = refl }) refl
 
   -- ---- what is kept
+
+  module _ (base : R → Option N) {S : Type 0} (same : R → R → Bool) (apart : (r s : R) → same r s ≡ true → r ≡ s) where
+    pub above_more : (old new : IndexMap R (Option R) S) (r : R) (o : Option R) → AreAbove shape base same old →
+        ((s : R) → get same new s ≡ cond (same r s) (Some o) (get same old s)) → IsAbove shape base r o → AreAbove shape base same new
+    above_more old new r o are adds is = record { each = λ s v e. at s v (same r s) refl (sym (adds s) ∙ e) }
+      where
+        at : (s : R) (v : Option R) (b : Bool) → same r s ≡ b → cond b (Some o) (get same old s) ≡ Some v → IsAbove shape base s v
+        at s v false t e = are.each s v e
+        at s v true t e =
+            let one : o ≡ v = cc in
+            subst (λ (x : Option R). IsAbove shape base s x) one (subst (λ (x : R). IsAbove shape base x o) (apart r s t) is)
+
+    pub above_all : (old new : IndexMap R (Option R) S) → new.entries ≡ old.entries → AreAbove shape base same old → AreAbove shape base same new
+    above_all old new e are = record { each = λ r o is. are.each r o (sym (ap (lookup (same r)) e) ∙ is) }
+
+    pub above_none : (kept : IndexMap R (Option R) S) → kept.entries ≡ [] → AreAbove shape base same kept
+    above_none kept e = record { each = λ r o is. absurd (let f : None ≡ Some o = sym (ap (lookup (same r)) e) ∙ is in cc) }
+
+    -- what is told of a record by what is kept
+    pub above_is : (kept : IndexMap R (Option R) S) (r : R) (v : Option (Bor (Option R))) (o : Bor (Option R)) → AreAbove shape base same kept → option_copied v ≡ get same kept r → v ≡ Some o → IsAbove shape base r o.now
+    above_is kept r v o are e is = are.each r o.now (sym (sym (ap option_copied is) ∙ e))
 
   module _ (base : R → Option N) {F S : Type 0} (field : R → List ℕ → Option F) (same : R → R → Bool) (apart : (r s : R) → same r s ≡ true → r ≡ s) where
     pub found_more : (old new : IndexMap (Use shape base) (Option F) S) (r : R) (name : Bor (List ℕ)) (o : Option F) → AreFound shape base field same old →

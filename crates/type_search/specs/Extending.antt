@@ -1,5 +1,5 @@
 -- Records to which types lead, and the fields that they have of their own or by their bases.
-use Rattle.std.specs.Prelude.{◌≡◌, ℕ, zero, suc, List, Bool, true, ◌&&◌, Option, Some, None, IfSome, IfNone}
+use Rattle.std.specs.Prelude.{◌≡◌, ℕ, zero, suc, List, [], ◌∷◌, ◌++◌, Bool, true, ◌&&◌, Option, Some, None, IfSome, IfNone}
 use Rattle.std.specs.Borrow.{Bor}
 use Rattle.std.specs.List.{All}
 use Rattle.std.specs.Str.{bytes_eq}
@@ -7,7 +7,7 @@ use Rattle.indexmap.specs.IndexMap.{get, IndexMap}
 use Rattle.type_search.specs.declared.shape.Shape.{Shape}
 use Rattle.type_search.specs.declared.shape.Shape.TheVariants as shapes
 use Rattle.type_search.specs.Leading.{TypeLeadsTo}
-use Rattle.type_search.specs.Searches.{IsMetAgain, IsNewlyMet}
+use Rattle.type_search.specs.Searches.{IsMetAgain}
 
 -- the record that a type is
 abbrev pub shape_record : {N D R : Type 0} → Shape N D R → Option R
@@ -17,6 +17,11 @@ shape_record (shapes.Record r) = Some r
 shape_record shapes.Procedure = None
 shape_record (shapes.Named d n) = None
 shape_record shapes.Unknown = None
+
+-- a record is passed: it is the last that is marked, or the marks are as they were
+pub data IsPassed {R : Type 0} (r : R) (before after : List R) : Type 0 where
+  marked : after ≡ before ++ r ∷ [] → IsPassed r before after
+  unmarked : after ≡ before → IsPassed r before after
 
 module _ {N D R : Type 0} (shape : N → Shape N D R) where
   -- a type leads to a record by names and pointers
@@ -40,9 +45,13 @@ module _ {N D R : Type 0} (shape : N → Shape N D R) where
       pub some : IfSome o (Extends r)
       pub none : IfNone o ((above : R) → Extends r above → ⊥)
 
-    -- a record is met for the first time, and this is above it, if any; or it was met before, and there is none
+    -- what is kept of records is above them
+    pub record AreAbove {S : Type 0} (same : R → R → Bool) (kept : IndexMap R (Option R) S) : Type 0 where
+      pub each : (r : R) (o : Option R) → get same kept r ≡ Some o → IsAbove r o
+
+    -- a record is passed, and this is above it, if any; or it is among the marks, and there is none
     pub data IsNextAbove (same : R → R → Bool) (r : R) (before after : List R) (o : Option R) : Type 0 where
-      risen : IsNewlyMet same r before after → IsAbove r o → IsNextAbove same r before after o
+      risen : IsPassed r before after → IsAbove r o → IsNextAbove same r before after o
       came_back : IsMetAgain same r before after → o ≡ None → IsNextAbove same r before after o
 
     module _ {F : Type 0} (field : R → Option F) where

@@ -18,20 +18,22 @@ pub struct Finder<'a, G: TypeGraph> {
     by_names: IndexMap<G::Declaration, Option<G::Node>>,
     /// Where they lead by names and pointers.
     by_pointers: IndexMap<G::Declaration, Option<G::Node>>,
+    /// The records to which the bases of records lead.
+    aboves: IndexMap<G::Record, Option<G::Record>>,
     /// What names mean in records.
     found: IndexMap<(G::Record, &'a [u8]), Option<G::Field>>,
 }
 
 impl<'a, G: TypeGraph> Model for Finder<'a, G> {
     ghost use Rattle.std.specs.Prelude.{false, true};
-    ghost use Rattle.type_search.specs.Extending.{AreFound};
+    ghost use Rattle.type_search.specs.Extending.{AreAbove, AreFound};
     ghost use Rattle.type_search.specs.Leading.{AreTypeEnds};
 
     ghost Value = { G };
 
     ghost view = { λ f. f.graph.now };
 
-    ghost invariant = { λ f. AreTypeEnds (G.shape f.graph.now) false G.Declaration.eq f.by_names × AreTypeEnds (G.shape f.graph.now) true G.Declaration.eq f.by_pointers × AreFound (G.shape f.graph.now) (G.base_of f.graph.now) (G.field_of f.graph.now) G.Record.eq f.found };
+    ghost invariant = { λ f. AreTypeEnds (G.shape f.graph.now) false G.Declaration.eq f.by_names × AreTypeEnds (G.shape f.graph.now) true G.Declaration.eq f.by_pointers × AreAbove (G.shape f.graph.now) (G.base_of f.graph.now) G.Record.eq f.aboves × AreFound (G.shape f.graph.now) (G.base_of f.graph.now) (G.field_of f.graph.now) G.Record.eq f.found };
 }
 
 impl<'a, G: TypeGraph> Finder<'a, G> {
@@ -43,6 +45,7 @@ impl<'a, G: TypeGraph> Finder<'a, G> {
             graph,
             by_names: IndexMap::new(alloc),
             by_pointers: IndexMap::new(alloc),
+            aboves: IndexMap::new(alloc),
             found: IndexMap::new(alloc),
         }
     }
@@ -86,6 +89,7 @@ impl<'a, G: TypeGraph> Finder<'a, G> {
         find_in(
             self.graph,
             &mut self.by_pointers,
+            &mut self.aboves,
             &mut self.found,
             from,
             name,

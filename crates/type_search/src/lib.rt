@@ -12,6 +12,7 @@ mod meet;
 mod parts;
 mod records;
 mod shape;
+mod way;
 
 pub use finder::Finder;
 pub use graph::TypeGraph;

@@ -1,15 +1,15 @@
 //! Records to which types lead, and their fields.
-ghost use Rattle.std.specs.Prelude.{◌≡◌, [], IfOk, IfSome, IfNone, None, true};
+ghost use Rattle.std.specs.Prelude.{◌≡◌, ◌<◌, ◌^◌, [], true, IfOk, IfSome, IfNone, None};
 ghost use Rattle.std.specs.List.{All};
-ghost use Rattle.type_search.specs.Extending.{shape_record, AreFieldsOf, AreFound, IsAbove, IsFieldIn, IsNextAbove, IsRecordOf};
+ghost use Rattle.type_search.specs.Extending.{shape_record, AreAbove, AreFieldsOf, AreFound, IsAbove, IsFieldIn, IsNextAbove, IsRecordOf};
 ghost use Rattle.type_search.specs.Leading.{AreTypeEnds};
 ghost use Rattle.type_search.specs.Searches.{Finds};
 
 use crate::ends::end_of;
 use crate::graph::TypeGraph;
-use crate::meet::meet;
 use crate::shape::Shape;
-use indexmap::{IndexMap, IndexSet};
+use crate::way::{Way, comes_back, no_way, pass};
+use indexmap::IndexMap;
 use std::alloc::AllocError;
 
 /// The record that a type is.
@@ -75,90 +75,119 @@ fn field_here<'a, G: TypeGraph>(
     }
 }
 
-/// Notes a record, and tells the one above it, or none where there is none or the record was met before.
+/// The record to which the base of a record leads, which is kept: each search behind that base comes by here.
+fn above_kept<G: TypeGraph>(
+    graph: &G,
+    kept: &mut IndexMap<G::Declaration, Option<G::Node>>,
+    aboves: &mut IndexMap<G::Record, Option<G::Record>>,
+    record: G::Record,
+) -> Result<Option<G::Record>, AllocError>
+    requires kept { AreTypeEnds (G.shape graph.now) true G.Declaration.eq kept.old }
+    requires aboves { AreAbove (G.shape graph.now) (G.base_of graph.now) G.Record.eq aboves.old }
+    ensures kept { AreTypeEnds (G.shape graph.now) true G.Declaration.eq kept.new }
+    ensures aboves { AreAbove (G.shape graph.now) (G.base_of graph.now) G.Record.eq aboves.new }
+    ensures is { IfOk result (IsAbove (G.shape graph.now) (G.base_of graph.now) «record») }
+{
+    if let Some(above) = aboves.get(&record) {
+        return Ok(*above);
+    }
+    let above = record_above(graph, kept, record)?;
+    aboves.insert(record, above)?;
+    Ok(above)
+}
+
+/// Passes a record, and tells the one above it, or none where there is none or the search came back.
 fn climb<G: TypeGraph>(
     graph: &G,
     kept: &mut IndexMap<G::Declaration, Option<G::Node>>,
-    met: &mut IndexSet<G::Record>,
+    aboves: &mut IndexMap<G::Record, Option<G::Record>>,
+    way: &mut Way<G::Record>,
     record: G::Record,
 ) -> Result<Option<G::Record>, AllocError>
-    requires { AreTypeEnds (G.shape graph.now) true G.Declaration.eq kept.old }
+    requires kept { AreTypeEnds (G.shape graph.now) true G.Declaration.eq kept.old }
+    requires aboves { AreAbove (G.shape graph.now) (G.base_of graph.now) G.Record.eq aboves.old }
     ensures kept { AreTypeEnds (G.shape graph.now) true G.Declaration.eq kept.new }
-    ensures next { IfOk result (IsNextAbove (G.shape graph.now) (G.base_of graph.now) G.Record.eq «record» met.old.keys met.new.keys) }
+    ensures aboves { AreAbove (G.shape graph.now) (G.base_of graph.now) G.Record.eq aboves.new }
+    ensures next { IfOk result (IsNextAbove (G.shape graph.now) (G.base_of graph.now) G.Record.eq «record» way.old.marks.items way.new.marks.items) }
+    ensures passed { IfOk result (λ o. IfSome o (λ _. (way.old.passed < way.new.passed) × (way.new.passed < 2 ^ 64))) }
 {
-    if meet(met, record)? {
-        record_above(graph, kept, record)
-    } else {
-        Ok(None)
+    if comes_back(way, record) {
+        return Ok(None);
     }
+    pass(way, record)?;
+    above_kept(graph, kept, aboves, record)
 }
 
-/// The field that a name means in a record: its own, or else that of its base, up to a record whose field is kept; and the records
-/// that are passed on the way.
+/// The field that a name means in a record: its own, or else that of its base, up to a record whose field is kept; and some of
+/// the records that are passed on the way.
 fn field_of<'a, G: TypeGraph>(
     graph: &G,
     kept: &mut IndexMap<G::Declaration, Option<G::Node>>,
+    aboves: &mut IndexMap<G::Record, Option<G::Record>>,
     found: &IndexMap<(G::Record, &'a [u8]), Option<G::Field>>,
-    met: &mut IndexSet<G::Record>,
+    way: &mut Way<G::Record>,
     from: G::Record,
     name: &'a [u8],
 ) -> Result<Option<G::Field>, AllocError>
     requires kept { AreTypeEnds (G.shape graph.now) true G.Declaration.eq kept.old }
+    requires aboves { AreAbove (G.shape graph.now) (G.base_of graph.now) G.Record.eq aboves.old }
     requires found { AreFound (G.shape graph.now) (G.base_of graph.now) (G.field_of graph.now) G.Record.eq found.now }
-    requires none_met { met.old.keys ≡ [] }
+    requires none_passed { way.old.marks.items ≡ [] }
     ensures kept { AreTypeEnds (G.shape graph.now) true G.Declaration.eq kept.new }
-    ensures fields { IfOk result (AreFieldsOf (G.shape graph.now) (G.base_of graph.now) (λ r. G.field_of graph.now r name.now) from met.new.keys) }
+    ensures aboves { AreAbove (G.shape graph.now) (G.base_of graph.now) G.Record.eq aboves.new }
+    ensures fields { IfOk result (AreFieldsOf (G.shape graph.now) (G.base_of graph.now) (λ r. G.field_of graph.now r name.now) from way.new.marks.items) }
 {
     let mut record = from;
     'records: loop {
         if let Some(field) = field_here(graph, found, record, name) {
             return Ok(field);
         }
-        match climb(graph, kept, met, record)? {
+        match climb(graph, kept, aboves, way, record)? {
             None => return Ok(None),
             Some(above) => record = above,
         }
     }
 }
 
-/// Keeps what a name means in the first of these records, and in those that follow it at distances that double.
+/// Keeps what a name means in these records.
 fn keep_field<'a, G: TypeGraph>(
     graph: &G,
     found: &mut IndexMap<(G::Record, &'a [u8]), Option<G::Field>>,
-    met: &[G::Record],
+    marks: &[G::Record],
     name: &'a [u8],
     field: Option<G::Field>,
 ) -> Result<(), AllocError>
     requires found { AreFound (G.shape graph.now) (G.base_of graph.now) (G.field_of graph.now) G.Record.eq found.old }
-    requires met { All (λ r. IsFieldIn (G.shape graph.now) (G.base_of graph.now) (λ s. G.field_of graph.now s name.now) r field) met.now }
+    requires marks { All (λ r. IsFieldIn (G.shape graph.now) (G.base_of graph.now) (λ s. G.field_of graph.now s name.now) r field) marks.now }
     ensures { AreFound (G.shape graph.now) (G.base_of graph.now) (G.field_of graph.now) G.Record.eq found.new }
 {
-    let mut at = 0;
-    'kept: while at < met.len() {
-        found.insert((met[at], name), field)?;
-        at = at.saturating_mul(2).saturating_add(1);
+    for record in marks {
+        found.insert((*record, name), field)?;
     }
     Ok(())
 }
 
-/// The field that a name means in a record, which is kept of it and of some of the records that are met.
-fn field_met<'a, G: TypeGraph>(
+/// The field that a name means in a record, which is kept of it and of some of the records that are passed.
+fn field_passed<'a, G: TypeGraph>(
     graph: &G,
     kept: &mut IndexMap<G::Declaration, Option<G::Node>>,
+    aboves: &mut IndexMap<G::Record, Option<G::Record>>,
     found: &mut IndexMap<(G::Record, &'a [u8]), Option<G::Field>>,
-    met: &mut IndexSet<G::Record>,
+    way: &mut Way<G::Record>,
     from: G::Record,
     name: &'a [u8],
 ) -> Result<Option<G::Field>, AllocError>
     requires kept { AreTypeEnds (G.shape graph.now) true G.Declaration.eq kept.old }
+    requires aboves { AreAbove (G.shape graph.now) (G.base_of graph.now) G.Record.eq aboves.old }
     requires found { AreFound (G.shape graph.now) (G.base_of graph.now) (G.field_of graph.now) G.Record.eq found.old }
-    requires none_met { met.old.keys ≡ [] }
+    requires none_passed { way.old.marks.items ≡ [] }
     ensures kept { AreTypeEnds (G.shape graph.now) true G.Declaration.eq kept.new }
+    ensures aboves { AreAbove (G.shape graph.now) (G.base_of graph.now) G.Record.eq aboves.new }
     ensures found { AreFound (G.shape graph.now) (G.base_of graph.now) (G.field_of graph.now) G.Record.eq found.new }
     ensures is { IfOk result (IsFieldIn (G.shape graph.now) (G.base_of graph.now) (λ r. G.field_of graph.now r name.now) from) }
 {
-    let field = field_of(graph, kept, found, met, from, name)?;
-    keep_field(graph, found, met.as_slice(), name, field)?;
+    let field = field_of(graph, kept, aboves, found, way, from, name)?;
+    keep_field(graph, found, way.marks.as_slice(), name, field)?;
     Ok(field)
 }
 
@@ -166,37 +195,43 @@ fn field_met<'a, G: TypeGraph>(
 fn field_kept<'a, G: TypeGraph>(
     graph: &G,
     kept: &mut IndexMap<G::Declaration, Option<G::Node>>,
+    aboves: &mut IndexMap<G::Record, Option<G::Record>>,
     found: &mut IndexMap<(G::Record, &'a [u8]), Option<G::Field>>,
     from: G::Record,
     name: &'a [u8],
 ) -> Result<Option<G::Field>, AllocError>
     requires kept { AreTypeEnds (G.shape graph.now) true G.Declaration.eq kept.old }
+    requires aboves { AreAbove (G.shape graph.now) (G.base_of graph.now) G.Record.eq aboves.old }
     requires found { AreFound (G.shape graph.now) (G.base_of graph.now) (G.field_of graph.now) G.Record.eq found.old }
     ensures kept { AreTypeEnds (G.shape graph.now) true G.Declaration.eq kept.new }
+    ensures aboves { AreAbove (G.shape graph.now) (G.base_of graph.now) G.Record.eq aboves.new }
     ensures found { AreFound (G.shape graph.now) (G.base_of graph.now) (G.field_of graph.now) G.Record.eq found.new }
     ensures is { IfOk result (IsFieldIn (G.shape graph.now) (G.base_of graph.now) (λ r. G.field_of graph.now r name.now) from) }
 {
-    let mut met = IndexSet::new(*kept.allocator());
-    field_met(graph, kept, found, &mut met, from, name)
+    let mut way = no_way(*kept.allocator());
+    field_passed(graph, kept, aboves, found, &mut way, from, name)
 }
 
 /// The field that a name means at a type: of the record to which it leads, or else of its base.
 pub(crate) fn find_in<'a, G: TypeGraph>(
     graph: &G,
     kept: &mut IndexMap<G::Declaration, Option<G::Node>>,
+    aboves: &mut IndexMap<G::Record, Option<G::Record>>,
     found: &mut IndexMap<(G::Record, &'a [u8]), Option<G::Field>>,
     from: G::Node,
     name: &'a [u8],
 ) -> Result<Option<G::Field>, AllocError>
     requires kept { AreTypeEnds (G.shape graph.now) true G.Declaration.eq kept.old }
+    requires aboves { AreAbove (G.shape graph.now) (G.base_of graph.now) G.Record.eq aboves.old }
     requires found { AreFound (G.shape graph.now) (G.base_of graph.now) (G.field_of graph.now) G.Record.eq found.old }
     ensures kept { AreTypeEnds (G.shape graph.now) true G.Declaration.eq kept.new }
+    ensures aboves { AreAbove (G.shape graph.now) (G.base_of graph.now) G.Record.eq aboves.new }
     ensures fields { AreFound (G.shape graph.now) (G.base_of graph.now) (G.field_of graph.now) G.Record.eq found.new }
     ensures found { IfOk result (λ o. IfSome o (λ f. Finds G.Declaration.eq (G.shape graph.now) (λ r. G.field_of graph.now r name.now) (G.base_of graph.now) [] from f)) }
     ensures none { IfOk result (λ o. IfNone o ((f : G.Field) → Finds G.Declaration.eq (G.shape graph.now) (λ r. G.field_of graph.now r name.now) (G.base_of graph.now) [] from f → ⊥)) }
 {
     match record_of(graph, kept, from)? {
         None => Ok(None),
-        Some(record) => field_kept(graph, kept, found, record, name),
+        Some(record) => field_kept(graph, kept, aboves, found, record, name),
     }
 }

@@ -1,4 +1,5 @@
-use Rattle.std.proofs.Common.{true, ◌-◌, ◌^◌, length}
+use Rattle.std.proofs.Common.{true, ◌-◌, ◌^◌}
+use Rattle.type_search.specs.Extending.{AreAbove}
 use Rattle.type_search.specs.Leading.{AreTypeEnds}
 use Rattle.type_search.proofs.Extending.{Climbs}
 use Rattle.type_search.proofs.records.field_of.Given as goal
@@ -6,8 +7,9 @@ use Rattle.type_search.proofs.records.field_of.Given as goal
 abbrev pub invariant-records : goal.invariant-records
 invariant-records g l = record {
   kept : AreTypeEnds (g.G.TypeGraph.shape l.graph) true g.G.Declaration.PartialEq.eq l.kept;
-  climbs : Climbs (g.G.TypeGraph.shape l.graph) (g.G.TypeGraph.base_of l.graph) (λ r. g.G.TypeGraph.field_of l.graph r l.name) g.G.Record.PartialEq.eq g.met.G.TypeGraph.told_apart l.fn.from l.«record» l.met.keys;
+  aboves : AreAbove (g.G.TypeGraph.shape l.graph) (g.G.TypeGraph.base_of l.graph) g.G.Record.PartialEq.eq l.aboves;
+  climbs : Climbs (g.G.TypeGraph.shape l.graph) (g.G.TypeGraph.base_of l.graph) (λ r. g.G.TypeGraph.field_of l.graph r l.name) g.G.Record.PartialEq.eq g.met.G.TypeGraph.told_apart l.fn.from l.«record» l.way.marks.items;
 }
 
 abbrev pub decreases-records : goal.decreases-records
-decreases-records g l = 2 ^ 63 - length l.met.keys
+decreases-records g l = 2 ^ 64 - l.way.passed

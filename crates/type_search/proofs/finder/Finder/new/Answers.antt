@@ -1,5 +1,5 @@
 use Rattle.std.proofs.Common.{false, true}
-use Rattle.type_search.proofs.Extending.{found_none}
+use Rattle.type_search.proofs.Extending.{above_none, found_none}
 use Rattle.type_search.proofs.Leading.{keeps_none}
 use Rattle.type_search.proofs.finder.Finder.new.Goals as goal
 
@@ -9,5 +9,6 @@ invariant_of-result g c =
     let same = g.G.Declaration.PartialEq.eq in (
       keeps_none shape false same c.new.result c.new.ensures.empty,
       keeps_none shape true same c.new-2.result c.new-2.ensures.empty,
-      found_none shape (g.G.TypeGraph.base_of c.args.graph.now) (g.G.TypeGraph.field_of c.args.graph.now) g.G.Record.PartialEq.eq g.met.G.TypeGraph.told_apart c.new-3.result c.new-3.ensures.empty,
+      above_none shape (g.G.TypeGraph.base_of c.args.graph.now) g.G.Record.PartialEq.eq g.met.G.TypeGraph.told_apart c.new-3.result c.new-3.ensures.empty,
+      found_none shape (g.G.TypeGraph.base_of c.args.graph.now) (g.G.TypeGraph.field_of c.args.graph.now) g.G.Record.PartialEq.eq g.met.G.TypeGraph.told_apart c.new-4.result c.new-4.ensures.empty,
     )
