@@ -1,5 +1,5 @@
 -- Records and their bases.
-use Rattle.std.proofs.Common.{◌≡◌, ℕ, zero, suc, ◌+◌, List, [], ◌∷◌, Bool, true, false, Option, Some, None, refl, sym, ap, ◌∙◌, subst, arith, cond, Bor}
+use Rattle.std.proofs.Common.{◌≡◌, ℕ, zero, suc, ◌+◌, List, [], Bool, true, false, Option, Some, None, refl, sym, ap, ◌∙◌, subst, arith, cond, Bor}
 use Rattle.std.specs.Map.{lookup}
 use Rattle.std.specs.Option.{option_copied}
 use Rattle.std.specs.Str.{bytes_eq}
@@ -9,6 +9,7 @@ use Rattle.std.specs.Prelude.{◌&&◌, IfNone, IfSome}
 use Rattle.std.specs.List.{All, list_any}
 use Rattle.std.proofs.lemmas.List.Elements.{All-push}
 use Rattle.std.proofs.lemmas.List.Folds.{Any-from_list_any}
+use Rattle.type_search.specs.declared.name.Name.{Name}
 use Rattle.type_search.specs.declared.shape.Shape.{Shape}
 use Rattle.type_search.specs.Searches.{IsMetAgain}
 use Rattle.type_search.specs.Leading.{IsTypeEnd, TypeLeadsTo}
@@ -238,20 +239,20 @@ module _ {N D R : Type 0} (shape : N → Shape N D R) where
     above_is kept r v o are e is = are.each r o.now (sym (sym (ap option_copied is) ∙ e))
 
   module _ (base : R → Option N) {F S : Type 0} (field : R → List ℕ → Option F) (same : R → R → Bool) (apart : (r s : R) → same r s ≡ true → r ≡ s) where
-    pub found_more : (old new : IndexMap (Use shape base) (Option F) S) (r : R) (name : Bor (List ℕ)) (o : Option F) → AreFound shape base field same old →
+    pub found_more : (old new : IndexMap (Use shape base) (Option F) S) (r : R) (name : Name) (o : Option F) → AreFound shape base field same old →
         ((u : Use shape base) → get (same_use shape base same) new u ≡ cond (same_use shape base same (r, name) u) (Some o) (get (same_use shape base same) old u)) →
-        IsFieldIn shape base (λ (s : R). field s name.now) r o → AreFound shape base field same new
+        IsFieldIn shape base (λ (s : R). field s name.bytes.now) r o → AreFound shape base field same new
     found_more old new r name o are adds is = record { each = λ u v e. at u v (same_use shape base same (r, name) u) refl (sym (adds u) ∙ e) }
       where
-        at : (u : Use shape base) (v : Option F) (b : Bool) → same_use shape base same (r, name) u ≡ b → cond b (Some o) (get (same_use shape base same) old u) ≡ Some v → IsFieldIn shape base (λ (s : R). field s u.1.now) u.0 v
+        at : (u : Use shape base) (v : Option F) (b : Bool) → same_use shape base same (r, name) u ≡ b → cond b (Some o) (get (same_use shape base same) old u) ≡ Some v → IsFieldIn shape base (λ (s : R). field s u.1.bytes.now) u.0 v
         at u v false s e = are.each u v e
         at u v true s e =
-            let both = both_true (same r u.0) (bytes_eq name.now u.1.now) s in
+            let both = both_true (same r u.0) (bytes_eq name.bytes.now u.1.bytes.now) s in
             let one_record : r ≡ u.0 = apart r u.0 both.0 in
-            let one_name : name.now ≡ u.1.now = (bytes_eq-Decides name.now u.1.now).0 both.1 in
+            let one_name : name.bytes.now ≡ u.1.bytes.now = (bytes_eq-Decides name.bytes.now u.1.bytes.now).0 both.1 in
             let one : o ≡ v = cc in
-            subst (λ (x : Option F). IsFieldIn shape base (λ (t : R). field t u.1.now) u.0 x) one
-            (subst (λ (x : R). IsFieldIn shape base (λ (t : R). field t u.1.now) x o) one_record
+            subst (λ (x : Option F). IsFieldIn shape base (λ (t : R). field t u.1.bytes.now) u.0 x) one
+            (subst (λ (x : R). IsFieldIn shape base (λ (t : R). field t u.1.bytes.now) x o) one_record
             (subst (λ (x : List ℕ). IsFieldIn shape base (λ (t : R). field t x) r o) one_name is))
 
     pub found_all : (old new : IndexMap (Use shape base) (Option F) S) → new.entries ≡ old.entries → AreFound shape base field same old → AreFound shape base field same new
@@ -261,7 +262,7 @@ module _ {N D R : Type 0} (shape : N → Shape N D R) where
     found_none found e = record { each = λ u o is. absurd (let f : None ≡ Some o = sym (ap (lookup (same_use shape base same u)) e) ∙ is in cc) }
 
     -- what is told of a record by what is kept
-    pub kept_is : (found : IndexMap (Use shape base) (Option F) S) (now : R) (name : Bor (List ℕ)) (v : Option (Bor (Option F))) → AreFound shape base field same found → option_copied v ≡ get (same_use shape base same) found (now, name) →
-        IfSome (option_copied v) (IsFieldIn shape base (λ (r : R). field r name.now) now)
+    pub kept_is : (found : IndexMap (Use shape base) (Option F) S) (now : R) (name : Name) (v : Option (Bor (Option F))) → AreFound shape base field same found → option_copied v ≡ get (same_use shape base same) found (now, name) →
+        IfSome (option_copied v) (IsFieldIn shape base (λ (r : R). field r name.bytes.now) now)
     kept_is found now name None are e = tt
     kept_is found now name (Some o) are e = are.each (now, name) o.now (sym e)

@@ -1,9 +1,9 @@
 -- Records to which types lead, and the fields that they have of their own or by their bases.
 use Rattle.std.specs.Prelude.{◌≡◌, ℕ, zero, suc, List, [], ◌∷◌, ◌++◌, Bool, true, ◌&&◌, Option, Some, None, IfSome, IfNone}
-use Rattle.std.specs.Borrow.{Bor}
 use Rattle.std.specs.List.{All}
 use Rattle.std.specs.Str.{bytes_eq}
 use Rattle.indexmap.specs.IndexMap.{get, IndexMap}
+use Rattle.type_search.specs.declared.name.Name.{Name}
 use Rattle.type_search.specs.declared.shape.Shape.{Shape}
 use Rattle.type_search.specs.declared.shape.Shape.TheVariants as shapes
 use Rattle.type_search.specs.Leading.{TypeLeadsTo}
@@ -75,11 +75,11 @@ module _ {N D R : Type 0} (shape : N → Shape N D R) where
 
     -- a record and a name in it
     abbrev pub Use : Type 0
-    Use = R × Bor (List ℕ)
+    Use = R × Name
 
     abbrev pub same_use : (R → R → Bool) → Use → Use → Bool
-    same_use same a b = same a.0 b.0 && bytes_eq a.1.now b.1.now
+    same_use same a b = same a.0 b.0 && bytes_eq a.1.bytes.now b.1.bytes.now
 
     -- what is kept of records and names is what the names mean there
     pub record AreFound {F S : Type 0} (field : R → List ℕ → Option F) (same : R → R → Bool) (found : IndexMap Use (Option F) S) : Type 0 where
-      pub each : (u : Use) (o : Option F) → get (same_use same) found u ≡ Some o → IsFieldIn (λ (r : R). field r u.1.now) u.0 o
+      pub each : (u : Use) (o : Option F) → get (same_use same) found u ≡ Some o → IsFieldIn (λ (r : R). field r u.1.bytes.now) u.0 o

@@ -3,6 +3,7 @@ ghost use Rattle.std.specs.Prelude.{◌≡◌, [], IfOk, IfSome, IfNone};
 ghost use Rattle.type_search.specs.Searches.{Finds, HasElement, HasTarget};
 
 use crate::graph::TypeGraph;
+use crate::name::Name;
 use crate::parts::{element_in, target_in};
 use crate::records::find_in;
 use indexmap::IndexMap;
@@ -21,7 +22,7 @@ pub struct Finder<'a, G: TypeGraph> {
     /// The records to which the bases of records lead.
     aboves: IndexMap<G::Record, Option<G::Record>>,
     /// What names mean in records.
-    found: IndexMap<(G::Record, &'a [u8]), Option<G::Field>>,
+    found: IndexMap<(G::Record, Name<'a>), Option<G::Field>>,
 }
 
 impl<'a, G: TypeGraph> Model for Finder<'a, G> {

@@ -9,6 +9,7 @@ mod finder;
 mod graph;
 pub mod laws;
 mod meet;
+mod name;
 mod parts;
 mod records;
 mod shape;

@@ -7,6 +7,7 @@ ghost use Rattle.type_search.specs.Searches.{Finds};
 
 use crate::ends::end_of;
 use crate::graph::TypeGraph;
+use crate::name::Name;
 use crate::shape::Shape;
 use crate::way::{Way, comes_back, no_way, pass};
 use indexmap::IndexMap;
@@ -61,7 +62,7 @@ fn record_above<G: TypeGraph>(
 /// What a name means in a record, where the record has the field itself, or where it is kept.
 fn field_here<'a, G: TypeGraph>(
     graph: &G,
-    found: &IndexMap<(G::Record, &'a [u8]), Option<G::Field>>,
+    found: &IndexMap<(G::Record, Name<'a>), Option<G::Field>>,
     record: G::Record,
     name: &'a [u8],
 ) -> Option<Option<G::Field>>
@@ -71,7 +72,7 @@ fn field_here<'a, G: TypeGraph>(
 {
     match graph.field(record, name) {
         Some(field) => Some(Some(field)),
-        None => found.get(&(record, name)).copied(),
+        None => found.get(&(record, Name { bytes: name })).copied(),
     }
 }
 
@@ -124,7 +125,7 @@ fn field_of<'a, G: TypeGraph>(
     graph: &G,
     kept: &mut IndexMap<G::Declaration, Option<G::Node>>,
     aboves: &mut IndexMap<G::Record, Option<G::Record>>,
-    found: &IndexMap<(G::Record, &'a [u8]), Option<G::Field>>,
+    found: &IndexMap<(G::Record, Name<'a>), Option<G::Field>>,
     way: &mut Way<G::Record>,
     from: G::Record,
     name: &'a [u8],
@@ -152,7 +153,7 @@ fn field_of<'a, G: TypeGraph>(
 /// Keeps what a name means in these records.
 fn keep_field<'a, G: TypeGraph>(
     graph: &G,
-    found: &mut IndexMap<(G::Record, &'a [u8]), Option<G::Field>>,
+    found: &mut IndexMap<(G::Record, Name<'a>), Option<G::Field>>,
     marks: &[G::Record],
     name: &'a [u8],
     field: Option<G::Field>,
@@ -162,7 +163,7 @@ fn keep_field<'a, G: TypeGraph>(
     ensures { AreFound (G.shape graph.now) (G.base_of graph.now) (G.field_of graph.now) G.Record.eq found.new }
 {
     for record in marks {
-        found.insert((*record, name), field)?;
+        found.insert((*record, Name { bytes: name }), field)?;
     }
     Ok(())
 }
@@ -172,7 +173,7 @@ fn field_passed<'a, G: TypeGraph>(
     graph: &G,
     kept: &mut IndexMap<G::Declaration, Option<G::Node>>,
     aboves: &mut IndexMap<G::Record, Option<G::Record>>,
-    found: &mut IndexMap<(G::Record, &'a [u8]), Option<G::Field>>,
+    found: &mut IndexMap<(G::Record, Name<'a>), Option<G::Field>>,
     way: &mut Way<G::Record>,
     from: G::Record,
     name: &'a [u8],
@@ -196,7 +197,7 @@ fn field_kept<'a, G: TypeGraph>(
     graph: &G,
     kept: &mut IndexMap<G::Declaration, Option<G::Node>>,
     aboves: &mut IndexMap<G::Record, Option<G::Record>>,
-    found: &mut IndexMap<(G::Record, &'a [u8]), Option<G::Field>>,
+    found: &mut IndexMap<(G::Record, Name<'a>), Option<G::Field>>,
     from: G::Record,
     name: &'a [u8],
 ) -> Result<Option<G::Field>, AllocError>
@@ -217,7 +218,7 @@ pub(crate) fn find_in<'a, G: TypeGraph>(
     graph: &G,
     kept: &mut IndexMap<G::Declaration, Option<G::Node>>,
     aboves: &mut IndexMap<G::Record, Option<G::Record>>,
-    found: &mut IndexMap<(G::Record, &'a [u8]), Option<G::Field>>,
+    found: &mut IndexMap<(G::Record, Name<'a>), Option<G::Field>>,
     from: G::Node,
     name: &'a [u8],
 ) -> Result<Option<G::Field>, AllocError>

@@ -15,4 +15,4 @@ returns-in-None-clause-some g c =
     let base = g.G.TypeGraph.base_of c.args.graph.now in
     let field = λ (r : g.row.G-Record.Denot). g.G.TypeGraph.field_of c.args.graph.now r c.args.name.now in
     subst (λ (o : Option (Option g.row.G-Field.Denot)). IfSome o (IsFieldIn shape base field c.args.«record»)) (sym c.copied.ensures)
-    (kept_is shape base (g.G.TypeGraph.field_of c.args.graph.now) g.G.Record.PartialEq.eq g.met.G.TypeGraph.told_apart c.args.found.now c.args.«record» c.args.name c.get.result c.requires c.get.ensures.value)
+    (kept_is shape base (g.G.TypeGraph.field_of c.args.graph.now) g.G.Record.PartialEq.eq g.met.G.TypeGraph.told_apart c.args.found.now c.args.«record» (record { bytes = c.args.name }) c.get.result c.requires c.get.ensures.value)
