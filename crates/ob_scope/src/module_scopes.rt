@@ -1,5 +1,5 @@
 //! The scopes of a module, and their readers.
-ghost use Rattle.std.specs.Prelude.{◌≡◌, ℕ, true, Some, IfOk, IfSome, IfNone, Contains, map};
+ghost use Rattle.std.specs.Prelude.{◌≡◌, ◌<◌, ◌≤◌, ℕ, true, Some, IfOk, IfSome, IfNone, Contains, map, slice_get};
 ghost use Rattle.ob_decls.specs.Order.{AscendBy, HasNoneBy, IsPlaceBy};
 ghost use Rattle.ob_scope.specs.Crossings.{IsAliasFor};
 ghost use Rattle.ob_scope.specs.Kept.{alias_of, AreValidScopes};
@@ -51,6 +51,60 @@ fn place_of_use(rows: &[Resolution], used: u32) -> Option<usize>
     rows.binary_search_by_key(&used, |row| row.used).ok()
 }
 
+/// Whether all rows before a place are of uses before this one.
+fn are_before(rows: &[Resolution], at: usize, used: u32) -> bool
+    requires { AscendBy (λ (m : Resolution). m.used) rows.now }
+    ensures { result ≡ true → (i : ℕ) (m : Resolution) → i < at → slice_get rows.now i ≡ Some m → m.used < used }
+{
+    match at.checked_sub(1) {
+        Some(last) => match rows.get(last) {
+            Some(row) => row.used < used,
+            None => false,
+        },
+        None => true,
+    }
+}
+
+/// Whether all rows from a place on are of uses behind this one.
+fn are_behind(rows: &[Resolution], at: usize, used: u32) -> bool
+    requires { AscendBy (λ (m : Resolution). m.used) rows.now }
+    ensures { result ≡ true → (i : ℕ) (m : Resolution) → at ≤ i → slice_get rows.now i ≡ Some m → used < m.used }
+{
+    match rows.get(at) {
+        Some(row) => used < row.used,
+        None => true,
+    }
+}
+
+/// Whether the row at this place is of this use.
+fn is_at(rows: &[Resolution], at: usize, used: u32) -> bool
+    ensures { result ≡ true → IsPlaceBy (λ (m : Resolution). m.used) rows.now used at }
+{
+    match rows.get(at) {
+        Some(row) => row.used == used,
+        None => false,
+    }
+}
+
+/// The place of the row of a use, which is at this place or would be, where uses are asked for in order; the place behind it is left.
+fn place_near(rows: &[Resolution], near: &mut usize, used: u32) -> Option<usize>
+    requires { AscendBy (λ (m : Resolution). m.used) rows.now }
+    ensures found { IfSome result (IsPlaceBy (λ (m : Resolution). m.used) rows.now used) }
+    ensures none { IfNone result (HasNoneBy (λ (m : Resolution). m.used) rows.now used) }
+{
+    let at = *near;
+    if is_at(rows, at, used) {
+        *near = at.saturating_add(1);
+        return Some(at);
+    }
+    if are_before(rows, at, used) && are_behind(rows, at, used) {
+        return None;
+    }
+    let at = place_of_use(rows, used)?;
+    *near = at.saturating_add(1);
+    Some(at)
+}
+
 /// The place of the alias of a token.
 fn place_of_alias(aliases: &[Alias], decl: u32) -> Option<usize>
     requires { AscendBy (λ (a : Alias). a.decl) aliases.now }
@@ -84,6 +138,16 @@ impl Scopes {
         ensures none { IfNone result ((declared : ℕ) → Contains self.now.meanings (record { used = used; declared = declared }) → ⊥) }
     {
         let at = place_of_use(self.meanings.as_slice(), used)?;
+        Some(self.meanings[at].declared)
+    }
+
+    /// What `resolve` answers, without a search where uses are asked for in order: the row at this place is looked at first, and the
+    /// place behind that of the answer is left there. A walk begins with 0.
+    pub fn resolve_near(&self, near: &mut usize, used: u32) -> Option<u32>
+        ensures found { IfSome result (λ declared. Contains self.now.meanings (record { used = used; declared = declared })) }
+        ensures none { IfNone result ((declared : ℕ) → Contains self.now.meanings (record { used = used; declared = declared }) → ⊥) }
+    {
+        let at = place_near(self.meanings.as_slice(), near, used)?;
         Some(self.meanings[at].declared)
     }
 
