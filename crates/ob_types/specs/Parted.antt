@@ -1,12 +1,12 @@
 -- What a module is known by, as a world, and its indexes.
 use Rattle.std.specs.Prelude.{◌≡◌, ℕ, ◌+◌, ◌<◌, ◌^◌, nat_eq, List, Option, map, length, Bool, ◌&&◌}
 use Rattle.std.specs.Arc.{arc_value}
-use Rattle.std.specs.Borrow.{Bor}
 use Rattle.std.specs.Str.{bytes_eq}
 use Rattle.indexmap.specs.IndexMap.{get, IndexMap}
 use Rattle.ob_decls.specs.declared.rows.Import.{Import}
 use Rattle.ob_decls.specs.Declaring.{rows_in}
 use Rattle.ob_interface.specs.Interfaces.{ModuleInterface}
+use Rattle.ob_types.specs.declared.name.Name.{Name}
 use Rattle.ob_types.specs.declared.parts.Parts.{Parts}
 use Rattle.ob_types.specs.Homes.{home_in}
 use Rattle.ob_types.specs.World.{World, field_at, text}
@@ -21,14 +21,14 @@ home_by w modules i = home_in modules (text w i.imported)
 
 -- a record and a name in it
 abbrev pub FieldKey : Type 0
-FieldKey = ℕ × Bor (List ℕ)
+FieldKey = ℕ × Name
 
 abbrev pub same_field : FieldKey → FieldKey → Bool
-same_field a b = nat_eq a.0 b.0 && bytes_eq a.1.now b.1.now
+same_field a b = nat_eq a.0 b.0 && bytes_eq a.1.bytes.now b.1.bytes.now
 
 -- the fields by their records and names
 abbrev pub AreFields : {S : Type 0} → World → IndexMap FieldKey ℕ S → Type 0
-AreFields w fields = (key : FieldKey) → get same_field fields key ≡ field_at w key.0 key.1.now
+AreFields w fields = (key : FieldKey) → get same_field fields key ≡ field_at w key.0 key.1.bytes.now
 
 -- the places of all parts of forms, and the one behind them, and those of all import items are numbers of 32 bits
 pub record IsFew (p : Parts) : Type 0 where

@@ -15,6 +15,7 @@ ghost use Rattle.ob_types.specs.Shapes.{exported_type, home_meant, is_type, know
 ghost use Rattle.ob_types.specs.World.{field_at, form_of, home, home_of, meaning, text};
 
 use crate::homes::Homes;
+use crate::name::Name;
 use crate::names::{fields_of, item_homes};
 use crate::nodes::{Named, Node, Record};
 use crate::parts::Parts;
@@ -29,7 +30,7 @@ pub(crate) struct Indexed<'a> {
     pub(crate) parts: Parts<'a>,
     pub(crate) homes: Homes<'a>,
     pub(crate) item_homes: Vec<Option<u32>>,
-    pub(crate) fields: Box<IndexMap<(u32, &'a [u8]), u32>>,
+    pub(crate) fields: Box<IndexMap<(u32, Name<'a>), u32>>,
     ghost in_text: { AreInText parts.bytes.now parts.tokens.now },
     ghost few: { IsFew parts },
     ghost homes_are: { homes ≡ (world_of parts).reached },
@@ -148,7 +149,7 @@ impl<'a> Indexed<'a> {
     pub(crate) fn field_at(&self, record: u32, name: &[u8]) -> Option<u32>
         ensures { result ≡ field_at (world_of self.now.parts) «record» name.now }
     {
-        self.fields.get(&(record, name)).copied()
+        self.fields.get(&(record, Name { bytes: name })).copied()
     }
 
     /// The type of what a token declares, by where it is written.

@@ -5,6 +5,7 @@
 
 mod homes;
 mod indexed;
+mod name;
 mod names;
 mod nodes;
 mod parts;

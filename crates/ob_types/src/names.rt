@@ -9,6 +9,7 @@ ghost use Rattle.ob_types.specs.Parted.{home_by, same_field, world_of, AreFields
 ghost use Rattle.ob_types.specs.World.{declarer_from, is_of_record, text};
 
 use crate::homes::Homes;
+use crate::name::Name;
 use crate::parts::Parts;
 use indexmap::IndexMap;
 use ob_decls::Declared;
@@ -40,16 +41,17 @@ fn record_of(parts: &Parts<'_>, first: u32) -> Option<u32>
 /// Puts a declared identifier before the others, if it is a field.
 fn add_field<'a>(
     parts: &Parts<'a>,
-    fields: &mut IndexMap<(u32, &'a [u8]), u32>,
+    fields: &mut IndexMap<(u32, Name<'a>), u32>,
     row: Declared,
 ) -> Result<(), AllocError>
     requires { AreInText parts.now.bytes.now parts.now.tokens.now }
-    ensures { OnOk result ((key : FieldKey) → get same_field fields.new key ≡ (if is_of_record (world_of parts.now) key.0 row && bytes_eq (text (world_of parts.now) row.number) key.1.now then Some row.number else get same_field fields.old key)) }
+    ensures { OnOk result ((key : FieldKey) → get same_field fields.new key ≡ (if is_of_record (world_of parts.now) key.0 row && bytes_eq (text (world_of parts.now) row.number) key.1.bytes.now then Some row.number else get same_field fields.old key)) }
 {
     match record_of(parts, row.declared_by) {
         None => Ok(()),
         Some(record) => {
-            fields.insert((record, parts.text(row.number)), row.number)?;
+            let bytes = parts.text(row.number);
+            fields.insert((record, Name { bytes }), row.number)?;
             Ok(())
         }
     }
@@ -60,7 +62,7 @@ fn add_field<'a>(
 pub(crate) fn fields_of<'a>(
     alloc: Global,
     parts: &Parts<'a>,
-) -> Result<Box<IndexMap<(u32, &'a [u8]), u32>>, AllocError>
+) -> Result<Box<IndexMap<(u32, Name<'a>), u32>>, AllocError>
     requires { AreInText parts.now.bytes.now parts.now.tokens.now }
     ensures { IfOk result (λ fields. AreFields (world_of parts.now) fields.value) }
 {

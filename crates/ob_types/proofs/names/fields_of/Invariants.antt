@@ -11,7 +11,7 @@ use Rattle.ob_types.proofs.names.fields_of.Given as goal
 abbrev pub invariant-rows : goal.invariant-rows
 invariant-rows l = record {
   within : l.at ≤ length l.rows;
-  fields : (key : FieldKey) → get same_field (l.fields).value key ≡ option_map (λ (d : Declared). d.number) (find (λ (d : Declared). is_of_record (world_of l.fn.parts) key.0 d && bytes_eq (text (world_of l.fn.parts) d.number) key.1.now) (drop l.at l.rows));
+  fields : (key : FieldKey) → get same_field (l.fields).value key ≡ option_map (λ (d : Declared). d.number) (find (λ (d : Declared). is_of_record (world_of l.fn.parts) key.0 d && bytes_eq (text (world_of l.fn.parts) d.number) key.1.bytes.now) (drop l.at l.rows));
 }
 
 abbrev pub decreases-rows : goal.decreases-rows

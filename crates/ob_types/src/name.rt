@@ -1,0 +1,22 @@
+//! Names of fields.
+ghost use Rattle.std.specs.Prelude.{◌∷◌, []};
+ghost use Rattle.std.specs.Cmp.Rules.{hashing};
+ghost use Rattle.std.proofs.Common.{rules};
+
+use std::hash::{Hash, Hasher};
+
+/// A name. It is hashed as a whole, where a slice is hashed byte by byte.
+#[derive(Clone, Copy, PartialEq, Eq)]
+pub(crate) struct Name<'a> {
+    pub(crate) bytes: &'a [u8],
+}
+
+impl Hash for Name<'_> {
+    ghost hash_input = { λ n. n.bytes.now ∷ [] };
+
+    ghost respects_eq = { Prim.search (hashing, rules) };
+
+    fn hash<H: Hasher>(&self, state: &mut H) {
+        state.write(self.bytes);
+    }
+}
