@@ -1,5 +1,5 @@
 -- The first row of a number.
-use Rattle.std.proofs.Common.{◌≡◌, ℕ, ◌<◌, ◌≤◌, List, [], ◌∷◌, length, get_or, Bool, true, false, Option, Some, None, Bor, refl, sym, ap, ◌∙◌, subst, arith, ◌⊎◌, inl, inr}
+use Rattle.std.proofs.Common.{◌≡◌, ℕ, ◌-◌, ◌<◌, ◌≤◌, List, [], ◌∷◌, length, get_or, Bool, true, false, Option, Some, None, Bor, refl, sym, ap, ◌∙◌, subst, arith, ◌⊎◌, inl, inr}
 use Rattle.std.specs.Prelude.{Contains, IfSome, IfNone, position, find, slice_get, nat_eq, nat_lt}
 use Rattle.std.specs.List.{position_or_len}
 use Rattle.std.specs.List.Sorted.{IsPartitionPoint}
@@ -57,6 +57,9 @@ unequal a k h = not_true (nat_eq a k) (λ t. h (eqb-true a k t))
 above : (a k : ℕ) → nat_lt a k ≡ false → nat_eq a k ≡ false → k < a
 above a k e f = grind (arith, nat_tests)
 
+lower : (a k : ℕ) → nat_lt a k ≡ true → a < k
+lower a k e = grind (arith, nat_tests)
+
 below : (a k : ℕ) → nat_lt a k ≡ true → nat_eq a k ≡ false
 below a k e = grind (arith, nat_tests)
 
@@ -103,6 +106,28 @@ module _ {X : Type 0} (n : X → ℕ) (xs : List X) (k : ℕ) where
             let same : j ≡ i = omega (arith, m, o) in
             let one : get_or xs j d ≡ get_or xs i e = ap (λ (m : ℕ). get_or xs m d) same ∙ get_or_same xs i d e l in
             ap (λ (y : X). nat_eq (n y) k) one ∙ other
+
+  -- where the last row's number is smaller, or there is no row, none has it
+  pub placed_before : RiseBy n xs → (x : X) → slice_get xs (length xs - 1) ≡ Some x → nat_lt (n x) k ≡ true → position (λ y. nat_eq (n y) k) xs ≡ None
+  placed_before rise x last test = position_not (λ y. nat_eq (n y) k) xs (λ j d l. at j d l (cases_lt j (length xs - 1)))
+    where
+      less : n x < k
+      less = lower (n x) k test
+
+      at : (j : ℕ) (d : X) → j < length xs → (j < length xs - 1) ⊎ (length xs - 1 ≤ j) → nat_eq (n (get_or xs j d)) k ≡ false
+      at j d l (inl b) =
+          let up : n (get_or xs j d) ≤ n x = rise j (length xs - 1) (get_or xs j d) x b (slice_get-get_or xs j d l) last in
+          differ (n (get_or xs j d)) k (omega (arith, up, less))
+      at j d l (inr e) =
+          let same : length xs - 1 ≡ j = omega (arith, l, e) in
+          let one : get_or xs j d ≡ x = get_or_from_slice_get xs j x d (ap (slice_get xs) (sym same) ∙ last) in
+          differ (n (get_or xs j d)) k (omega (arith, ap n one, less))
+
+  pub placed_none : slice_get xs (length xs - 1) ≡ None → position (λ y. nat_eq (n y) k) xs ≡ None
+  placed_none e = position_not (λ y. nat_eq (n y) k) xs (λ j d l. absurd (
+      let there : slice_get xs (length xs - 1) ≡ Some (get_or xs (length xs - 1) d) = slice_get-get_or xs (length xs - 1) d (omega (arith, l)) in
+      let f : None ≡ Some (get_or xs (length xs - 1) d) = sym e ∙ there in
+      cc))
 
 -- what a look-up of a use tells
 pub meant : (ms : List Meaning) (used : ℕ) (o : Option ℕ) → AscendBy (λ (m : Meaning). m.used) ms → IfSome o (λ d. Contains ms (record { used = used; declared = d })) → IfNone o ((d : ℕ) → Contains ms (record { used = used; declared = d }) → ⊥)

@@ -43,6 +43,14 @@ impl<'a> Parts<'a> {
         self.scopes.resolve(used)
     }
 
+    /// The same, without a search where uses are asked for in order.
+    pub(crate) fn meaning_near(&self, near: &mut usize, used: u32) -> Option<u32>
+        ensures { result ≡ meaning (world_of self.now) used }
+    {
+        self.scopes.keeps();
+        self.scopes.resolve_near(near, used)
+    }
+
     /// The row of a declared identifier.
     pub(crate) fn declared(&self, number: u32) -> Option<Declared>
         ensures { result ≡ declared_at (world_of self.now) number }

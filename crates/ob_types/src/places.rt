@@ -1,5 +1,5 @@
 //! The first row of a number, among rows whose numbers don't fall.
-ghost use Rattle.std.specs.Prelude.{◌≡◌, ◌<◌, ◌^◌, ◌==◌, length, position};
+ghost use Rattle.std.specs.Prelude.{◌≡◌, ◌<◌, ◌^◌, ◌==◌, None, true, length, position};
 ghost use Rattle.ob_decls.specs.Order.{RiseBy};
 ghost use Rattle.ob_decls.specs.declared.rows.FormPart.{FormPart as PartRow};
 ghost use Rattle.ob_decls.specs.declared.rows.Import.{Import as ImportItem};
@@ -23,12 +23,26 @@ pub(crate) fn place_of_form(parts: &[FormPart], first: u32) -> Option<u32>
     }
 }
 
+/// Whether no alias stands so late: import items stand before all else that a module declares.
+fn are_before(imports: &[Import], alias: u32) -> bool
+    requires { RiseBy (λ (i : ImportItem). i.alias) imports.now }
+    ensures { result ≡ true → position (λ (i : ImportItem). i.alias == alias) imports.now ≡ None }
+{
+    match imports.last() {
+        Some(item) => item.alias < alias,
+        None => true,
+    }
+}
+
 /// The place of the import item of an alias.
 pub(crate) fn place_of_alias(imports: &[Import], alias: u32) -> Option<u32>
     requires rise { RiseBy (λ (i : ImportItem). i.alias) imports.now }
     requires few { length imports.now < 2 ^ 32 }
     ensures { result ≡ position (λ (i : ImportItem). i.alias == alias) imports.now }
 {
+    if are_before(imports, alias) {
+        return None;
+    }
     let at = imports.partition_point(|item| item.alias < alias);
     if at >= imports.len() {
         return None;

@@ -108,6 +108,14 @@ impl<'a> Types<'a> {
         self.indexed.parts.meaning(used)
     }
 
+    /// What `meaning` answers, without a search where uses are asked for in order: the row at this place is looked at first, and the place
+    /// behind that of the answer is left there. A walk begins with 0.
+    pub fn meaning_near(&self, near: &mut usize, used: u32) -> Option<u32>
+        ensures { result ≡ meaning self.now used }
+    {
+        self.indexed.parts.meaning_near(near, used)
+    }
+
     /// What this token is declared as.
     pub fn sort(&self, declared: u32) -> Option<Sort>
         ensures { result ≡ sort_of self.now declared }
