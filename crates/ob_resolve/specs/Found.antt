@@ -8,12 +8,15 @@ use Rattle.ob_targets.specs.declared.target.Reference.{Reference}
 use Rattle.ob_resolve.specs.declared.found.Found.{Found}
 use Rattle.ob_resolve.specs.Selected.{AreNamed}
 use Rattle.ob_resolve.specs.Sorted.{AreSorts}
+use Rattle.ob_resolve.specs.Used.{AreUsed}
 
--- where each token stands, whether it is written, what is kept of what it is declared as, and what the name of each selector stands for
+-- where each token stands, whether it is written, what is kept of what it is declared as, and what each use and the name of each selector
+-- stand for
 pub record IsFound (w : World) (f : Found) : Type 0 where
   pub standings : (k : ℕ) → k < length w.tokens → slice_get f.standings.items k ≡ Some (standing w.rows k)
   pub written : (k : ℕ) → k < length w.tokens → slice_get f.written.items k ≡ Some (is_written w.rows k)
   pub sorts : AreSorts w f.sorts.items
+  pub used : AreUsed w f.used.items
   pub selected : AreNamed w (length w.rows.selectors) f.selected.items
 
 -- what the identifier of this token stands for, and its role

@@ -2,3 +2,4 @@ pub mod Found
 pub mod Marked
 pub mod Selected
 pub mod Sorted
+pub mod Used

@@ -5,6 +5,7 @@ ghost use Rattle.ob_resolve.specs.Found.{IsFound};
 use crate::selectors::selected_targets;
 use crate::sorts::sorts_of;
 use crate::standings::standings;
+use crate::used::used_targets;
 use crate::written::written_names;
 use ob_decls::Sort;
 use ob_targets::{Standing, Target};
@@ -20,6 +21,8 @@ pub(crate) struct Found {
     pub(crate) written: Vec<bool>,
     /// What each token is declared as, where that is kept.
     pub(crate) sorts: Vec<Option<Sort>>,
+    /// What each use stands for.
+    pub(crate) used: Vec<Target>,
     /// What the name of each selector stands for.
     pub(crate) selected: Vec<Target>,
 }
@@ -32,11 +35,19 @@ pub(crate) fn find_all(alloc: Global, types: &Types<'_>) -> Result<Found, AllocE
     let standings = standings(alloc, types.table(), count)?;
     let written = written_names(alloc, types.table(), count)?;
     let sorts = sorts_of(alloc, types, count)?;
-    let selected = selected_targets(alloc, types, sorts.as_slice())?;
+    let used = used_targets(alloc, types)?;
+    let selected = selected_targets(
+        alloc,
+        types,
+        sorts.as_slice(),
+        standings.as_slice(),
+        used.as_slice(),
+    )?;
     Ok(Found {
         standings,
         written,
         sorts,
+        used,
         selected,
     })
 }

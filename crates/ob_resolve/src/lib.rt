@@ -11,6 +11,7 @@ mod sorts;
 mod standing_for;
 mod standings;
 mod steps;
+mod used;
 mod written;
 
 pub use refs::{Refs, references};

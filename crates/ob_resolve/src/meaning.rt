@@ -2,7 +2,7 @@
 ghost use Rattle.std.specs.Prelude.{◌≡◌};
 ghost use Rattle.ob_targets.specs.Targets.{declared_target, used_target, exported_target, second_target, end_target, field_target, known_of, typed, holds_value, use_role, value_role};
 ghost use Rattle.ob_targets.specs.Steps.{guard_of};
-ghost use Rattle.ob_types.specs.World.{form_of};
+ghost use Rattle.ob_types.specs.World.{form_of, meaning};
 ghost use Rattle.ob_resolve.specs.Sorted.{AreSorts};
 
 use crate::sorts::sort_of;
@@ -21,11 +21,12 @@ fn declared_target(types: &Types<'_>, declared: u32) -> Target
     }
 }
 
-/// What a use stands for.
-pub(crate) fn used_target(types: &Types<'_>, used: u32) -> Target
+/// What a use stands for that means this.
+fn target_meant(types: &Types<'_>, used: u32, meant: Option<u32>) -> Target
+    requires { meant ≡ meaning types.now used }
     ensures { result ≡ used_target types.now used }
 {
-    match types.meaning(used) {
+    match meant {
         Some(declared) => declared_target(types, declared),
         None => {
             if is_predeclared(types.text(used)) {
@@ -35,6 +36,20 @@ pub(crate) fn used_target(types: &Types<'_>, used: u32) -> Target
             }
         }
     }
+}
+
+/// What a use stands for.
+pub(crate) fn used_target(types: &Types<'_>, used: u32) -> Target
+    ensures { result ≡ used_target types.now used }
+{
+    target_meant(types, used, types.meaning(used))
+}
+
+/// The same, without a search where uses are asked for in order.
+pub(crate) fn used_near(types: &Types<'_>, near: &mut usize, used: u32) -> Target
+    ensures { result ≡ used_target types.now used }
+{
+    target_meant(types, used, types.meaning_near(near, used))
 }
 
 /// What a name behind the dot stands for that a module's alias stands before.

@@ -4,11 +4,13 @@ ghost use Rattle.ob_decls.specs.declared.rows.Step.TheVariants as steps;
 ghost use Rattle.ob_targets.specs.Steps.{begins_designator, Knows};
 ghost use Rattle.ob_resolve.specs.Selected.{AreNamed, IsBehind, IsLed};
 ghost use Rattle.ob_resolve.specs.Sorted.{AreSorts};
+ghost use Rattle.ob_resolve.specs.Used.{AreUsed};
 
-use crate::meaning::{guard_of, known_of, used_target};
+use crate::meaning::{guard_of, known_of};
 use crate::steps::{elements_of, selected, target_of};
+use crate::used::used_by;
 use ob_decls::{Selector, Sort, Step};
-use ob_targets::{Known, Target};
+use ob_targets::{Known, Standing, Target};
 use ob_types::Types;
 use std::alloc::{AllocError, Global};
 use type_search::Finder;
@@ -78,11 +80,14 @@ fn taken(
 fn known_before(
     types: &Types<'_>,
     sorts: &[Option<Sort>],
+    standings: &[Standing],
+    used: &[Target],
     selectors: &[Selector],
     place: usize,
     behind: Known,
 ) -> Known
     requires sorts { AreSorts types.now sorts.now }
+    requires used { AreUsed types.now used.now }
     requires same { selectors.now ≡ types.now.rows.selectors }
     requires within { place < length selectors.now }
     requires behind { IsBehind types.now place behind }
@@ -90,7 +95,7 @@ fn known_before(
 {
     let selector = selectors[place];
     if begins_designator(selectors, place, selector) {
-        known_of(types, sorts, used_target(types, selector.of))
+        known_of(types, sorts, used_by(types, standings, used, selector.of))
     } else {
         behind
     }
@@ -101,16 +106,19 @@ pub(crate) fn selected_targets(
     alloc: Global,
     types: &Types<'_>,
     sorts: &[Option<Sort>],
+    standings: &[Standing],
+    used: &[Target],
 ) -> Result<Vec<Target>, AllocError>
-    requires { AreSorts types.now sorts.now }
+    requires sorts { AreSorts types.now sorts.now }
+    requires used { AreUsed types.now used.now }
     ensures { IfOk result (λ v. AreNamed types.now (length types.now.rows.selectors) v.items) }
 {
     let selectors = types.table().selectors();
     let mut finder = Finder::new(alloc, types);
-    let mut targets = Vec::new(alloc);
+    let mut targets = Vec::with_capacity(alloc, selectors.len())?;
     let mut behind = Known::Nothing;
     for place in 0..selectors.len() {
-        let before = known_before(types, sorts, selectors, place, behind);
+        let before = known_before(types, sorts, standings, used, selectors, place, behind);
         let led = taken(&mut finder, sorts, before, selectors[place].step)?;
         targets.push(led.target)?;
         behind = led.known;

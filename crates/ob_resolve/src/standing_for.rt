@@ -9,7 +9,8 @@ ghost use Rattle.ob_targets.specs.declared.target.Target.TheVariants as targets;
 ghost use Rattle.ob_resolve.specs.Found.{IsFound, IsReference};
 
 use crate::found::Found;
-use crate::meaning::{end_target, second_target, use_role, used_target};
+use crate::meaning::{end_target, second_target, use_role};
+use crate::used::used_at;
 use ob_decls::Import;
 use ob_targets::{Reference, Standing, Target};
 use ob_types::Types;
@@ -60,12 +61,12 @@ fn ending(types: &Types<'_>, number: u32, end: usize) -> Reference
 }
 
 /// An identifier that is looked up.
-fn used(types: &Types<'_>, found: &Found, number: u32, written: bool) -> Reference
+fn used(types: &Types<'_>, found: &Found, number: u32, place: usize, written: bool) -> Reference
     requires found { IsFound types.now found.now }
     requires written { written ≡ is_written types.now.rows number }
     ensures { (at : ℕ) → standing types.now.rows number ≡ standings.Use at → IsReference types.now number result }
 {
-    let target = used_target(types, number);
+    let target = used_at(types, found.used.as_slice(), place, number);
     Reference {
         number,
         target,
@@ -101,7 +102,8 @@ fn second(types: &Types<'_>, found: &Found, number: u32, first: usize) -> Refere
     ensures { IsReference types.now number result }
 {
     let uses = types.table().uses();
-    let target = second_target(types, number, used_target(types, uses[first].number));
+    let before = used_at(types, found.used.as_slice(), first, uses[first].number);
+    let target = second_target(types, number, before);
     Reference {
         number,
         target,
@@ -130,7 +132,7 @@ pub(crate) fn referred(types: &Types<'_>, found: &Found, number: u32) -> Referen
             role: 1,
         },
         Standing::End(end) => ending(types, number, end),
-        Standing::Use(_) => used(types, found, number, written),
+        Standing::Use(place) => used(types, found, number, place, written),
         Standing::Selected(selector) => selected(types, found, number, selector, written),
         Standing::Second(first) => second(types, found, number, first),
         Standing::Nowhere => Reference {

@@ -17,7 +17,7 @@ loop-place-preserved c =
     }
 
 pub loop-place-init : goal.loop-place-init
-loop-place-init c = record { types = c.new-finder.ensures; passed = nothing_passed c.args.types.now c.new-targets.result.items _ c.new-targets.ensures.items }
+loop-place-init c = record { types = c.new-finder.ensures; passed = nothing_passed c.args.types.now c.in_ok-targets.targets.items _ c.in_ok-targets.ensures.items }
 
 pub returns : goal.returns
 returns c =

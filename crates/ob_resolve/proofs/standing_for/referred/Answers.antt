@@ -10,7 +10,7 @@ returns-in-Declaration c = declaration_refers c.args.types.now c.args.number c.i
     (stands_as c.args.types.now c.args.found.now c.args.number _ _ _ c.requires.found c.requires.within c.index-standing.ensures c.in-Declaration.is)
 
 pub returns-in-Use : goal.returns-in-Use
-returns-in-Use c = c.used.ensures c.in-Use.field-0
+returns-in-Use c = c.used.ensures c.in-Use.place
     (stands_as c.args.types.now c.args.found.now c.args.number _ _ _ c.requires.found c.requires.within c.index-standing.ensures c.in-Use.is)
 
 pub returns-in-Nowhere : goal.returns-in-Nowhere

@@ -9,4 +9,4 @@ pub returns : goal.returns
 returns c = second_refers c.args.types.now c.args.number c.args.first (get_or c.uses-uses.result.now c.args.first _) _ _ c.requires.stands
     (read_row c.uses-uses.result.now c.args.types.now.rows.uses c.args.first _ (c.uses-uses.ensures ∙ ap (λ (r : Rows). r.uses) c.table.ensures)
     (stands_placed c.args.types.now c.args.number (standings.Second c.args.first) c.requires.stands))
-    (c.second_target-target.ensures ∙ ap (second_target c.args.types.now c.args.number) c.used_target.ensures) c.use_role.ensures
+    (c.second_target-target.ensures ∙ ap (second_target c.args.types.now c.args.number) c.used_at-before.ensures) c.use_role.ensures

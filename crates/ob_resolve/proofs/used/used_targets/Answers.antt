@@ -1,0 +1,22 @@
+-- One more use.
+use Rattle.std.proofs.Common.{ap, ◌∙◌, map}
+use Rattle.std.proofs.lemmas.List.{take_all}
+use Rattle.ob_decls.specs.Parts.{Rows}
+use Rattle.ob_decls.specs.declared.rows.Used.{Used}
+use Rattle.ob_types.proofs.Ascending.{mapped_more}
+use Rattle.ob_targets.specs.Targets.{used_target}
+use Rattle.ob_resolve.proofs.used.used_targets.Goals as goal
+
+pub loop-row-init : goal.loop-row-init
+loop-row-init c = c.in_ok-targets.ensures.items
+
+pub loop-row-preserved : goal.loop-row-preserved
+loop-row-preserved c =
+    rw c.in_ok-push.ensures.items
+    (mapped_more (λ (u : Used). used_target c.args.types.now u.number) c.uses-uses.result.now c.loop-row.row-index _ _ _ c.loop-row-test.true c.loop-row.invariant
+    c.used_near.ensures)
+
+pub returns : goal.returns
+returns c =
+    c.loop-row.invariant
+    ∙ ap (map (λ (u : Used). used_target c.args.types.now u.number)) (take_all c.loop-row.row-index c.uses-uses.result.now c.loop-row-test.false ∙ c.uses-uses.ensures ∙ ap (λ (r : Rows). r.uses) c.table.ensures)

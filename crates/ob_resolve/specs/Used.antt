@@ -1,0 +1,10 @@
+-- What is kept of what uses stand for.
+use Rattle.std.specs.Prelude.{◌≡◌, List, map}
+use Rattle.ob_decls.specs.declared.rows.Used.{Used}
+use Rattle.ob_types.specs.World.{World}
+use Rattle.ob_targets.specs.declared.target.Target.{Target}
+use Rattle.ob_targets.specs.Targets.{used_target}
+
+-- these are the targets of all uses, in order
+abbrev pub AreUsed : World → List Target → Type 0
+AreUsed w targets = targets ≡ map (λ (u : Used). used_target w u.number) w.rows.uses
