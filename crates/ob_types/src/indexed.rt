@@ -1,5 +1,5 @@
 //! A module's parts with their indexes.
-#![tactic(auto, unfolding(crate::specs::World::home, crate::specs::World::home_of, crate::specs::World::form_of, crate::specs::Shapes::type_there, crate::specs::Shapes::exported_type, crate::specs::Shapes::own_type, crate::specs::Shapes::home_meant, crate::specs::Shapes::named_here))]
+#![tactic(auto, unfolding(crate::specs::World::home, crate::specs::World::home_of, crate::specs::World::form_of, crate::specs::World::declarer_of, crate::specs::World::sort_of, crate::specs::World::form_at, crate::specs::Shapes::type_there, crate::specs::Shapes::exported_type, crate::specs::Shapes::own_type, crate::specs::Shapes::home_meant, crate::specs::Shapes::named_here))]
 
 ghost use Rattle.std.specs.Prelude.{◌≡◌, Some, None, IfOk, OnOk, if◌then◌else◌, map};
 ghost use Rattle.std.specs.Arc.{arc_value};
@@ -11,7 +11,7 @@ ghost use Rattle.ob_types.specs.declared.nodes.Named.TheVariants as named;
 ghost use Rattle.type_search.specs.declared.shape.Shape.TheVariants as shapes;
 ghost use Rattle.ob_types.specs.Homes.{AreByName};
 ghost use Rattle.ob_types.specs.Parted.{home_by, world_of, AreFields, IsFew};
-ghost use Rattle.ob_types.specs.Shapes.{exported_type, home_meant, is_type, known, named_here, own_type, type_as, type_there, TypeShape};
+ghost use Rattle.ob_types.specs.Shapes.{exported_type, home_meant, is_type, known, named_here, own_type, type_there, TypeShape};
 ghost use Rattle.ob_types.specs.World.{field_at, form_of, home, home_of, meaning, text};
 
 use crate::homes::Homes;
@@ -183,24 +183,18 @@ impl<'a> Indexed<'a> {
         self.type_there(reached, declaration)
     }
 
-    /// The type that the module itself declares with this token, if it declares one.
-    fn type_as(&self, declared: u32, sort: Sort) -> Option<Shape<Node, Named, Record>>
-        ensures { result ≡ type_as (world_of self.now.parts) declared sort }
+    /// The type that the module itself declares with this token: what it is declared as is told before its form is looked for.
+    fn own_type(&self, declared: u32) -> Option<Shape<Node, Named, Record>>
+        ensures { result ≡ own_type (world_of self.now.parts) declared }
     {
-        if is_type(sort) {
-            let place = self.parts.form_at(declared)?;
+        let row = self.parts.declared(declared)?;
+        let by = self.parts.declarer(row.declared_by)?;
+        if is_type(by.sort) {
+            let place = self.parts.form_from(row.declared_by)?;
             Some(Shape::Named(Named::Own(declared), Node::Own(place)))
         } else {
             None
         }
-    }
-
-    /// The type that the module itself declares with this token.
-    fn own_type(&self, declared: u32) -> Option<Shape<Node, Named, Record>>
-        ensures { result ≡ own_type (world_of self.now.parts) declared }
-    {
-        let sort = self.parts.sort(declared)?;
-        self.type_as(declared, sort)
     }
 
     /// The place of the module that the alias which a use means stands for.

@@ -83,7 +83,7 @@ impl<'a> Parts<'a> {
     }
 
     /// The place of the first part of the form that a construct gives.
-    fn form_from(&self, first: u32) -> Option<u32>
+    pub(crate) fn form_from(&self, first: u32) -> Option<u32>
         requires { IsFew self.now }
         ensures { result ≡ form_from (world_of self.now) first }
     {
