@@ -9,7 +9,7 @@ use Rattle.std.proofs.lemmas.Bool.Decides.{nat_tests}
 use Rattle.std.proofs.lemmas.List.Elements.{Contains-get_or}
 use Rattle.std.proofs.lemmas.List.Folds.{find_at}
 use Rattle.std.proofs.lemmas.List.Sums.{position_or_len_is}
-use Rattle.std.proofs.lemmas.Option.{slice_get-get_or, slice_get_past, get_or_from_slice_get}
+use Rattle.std.proofs.lemmas.Option.{slice_get-get_or, slice_get_past, slice_get_within, get_or_from_slice_get}
 use Rattle.ob_decls.specs.Order.{AscendBy, RiseBy}
 use Rattle.ob_scope.specs.Scoped.{Meaning}
 
@@ -74,6 +74,9 @@ module _ {X : Type 0} (n : X → ℕ) (xs : List X) (k : ℕ) where
       differ (n (get_or xs j x)) k (omega (arith, less, here))) (equal (n (get_or xs i x)) k here)
       ∙ ap (λ (y : X). Some y) is
 
+  pub found_here : AscendBy n xs → (x : X) (i : ℕ) → slice_get xs i ≡ Some x → n x ≡ k → find (λ y. nat_eq (n y) k) xs ≡ Some x
+  found_here a x i there here = found a x (i, slice_get_within xs i x there, get_or_from_slice_get xs i x x there) here
+
   none_found : ((y : X) → Contains xs y → n y ≡ k → ⊥) → find (λ y. nat_eq (n y) k) xs ≡ None
   none_found none = find_not (λ y. nat_eq (n y) k) xs (λ j d l. not_true _ (λ t. none (get_or xs j d) (Contains-get_or xs j d l) (eqb-true (n (get_or xs j d)) k t)))
 
@@ -106,6 +109,13 @@ module _ {X : Type 0} (n : X → ℕ) (xs : List X) (k : ℕ) where
             let same : j ≡ i = omega (arith, m, o) in
             let one : get_or xs j d ≡ get_or xs i e = ap (λ (m : ℕ). get_or xs m d) same ∙ get_or_same xs i d e l in
             ap (λ (y : X). nat_eq (n y) k) one ∙ other
+
+  -- the first of the rows of a number
+  pub placed_first : (i : ℕ) (x : X) → slice_get xs i ≡ Some x → n x ≡ k → ((j : ℕ) (y : X) → j < i → slice_get xs j ≡ Some y → n y < k) → position (λ y. nat_eq (n y) k) xs ≡ Some i
+  placed_first i x there here before =
+      let l = slice_get_within xs i x there in
+      position_is (λ y. nat_eq (n y) k) xs i x l (λ j h. differ (n (get_or xs j x)) k (before j (get_or xs j x) h (slice_get-get_or xs j x (omega (arith, h, l)))))
+      (equal (n (get_or xs i x)) k (ap n (get_or_from_slice_get xs i x x there) ∙ here))
 
   -- where the last row's number is smaller, or there is no row, none has it
   pub placed_before : RiseBy n xs → (x : X) → slice_get xs (length xs - 1) ≡ Some x → nat_lt (n x) k ≡ true → position (λ y. nat_eq (n y) k) xs ≡ None

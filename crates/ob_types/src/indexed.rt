@@ -188,9 +188,10 @@ impl<'a> Indexed<'a> {
         ensures { result ≡ own_type (world_of self.now.parts) declared }
     {
         let row = self.parts.declared(declared)?;
-        let by = self.parts.declarer(row.declared_by)?;
+        let place = self.parts.hints.place(declared);
+        let by = self.parts.declarer(place, row.declared_by)?;
         if is_type(by.sort) {
-            let place = self.parts.form_from(row.declared_by)?;
+            let place = self.parts.form_from(place, row.declared_by)?;
             Some(Shape::Named(Named::Own(declared), Node::Own(place)))
         } else {
             None

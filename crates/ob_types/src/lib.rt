@@ -3,6 +3,7 @@
 //! Its contract: what a name, a place in a form, a record and a field stand for is exactly what the rows and the interfaces say.
 #![tactic(auto)]
 
+mod hints;
 mod homes;
 mod indexed;
 mod name;

@@ -31,23 +31,25 @@ pub(crate) fn item_homes(
     Ok(places)
 }
 
-/// The record in which a construct's identifiers are fields.
-fn record_of(parts: &Parts<'_>, first: u32) -> Option<u32>
+/// The record in which the identifiers of the construct are fields that begins with this token; it is likely to declare the identifier at
+/// this place.
+fn record_of(parts: &Parts<'_>, place: usize, first: u32) -> Option<u32>
     ensures { result ≡ option_and_then (λ (c : Construct). c.of_record) (declarer_from (world_of parts.now) first) }
 {
-    parts.declarer(first)?.of_record
+    parts.declarer(place, first)?.of_record
 }
 
 /// Puts a declared identifier before the others, if it is a field.
 fn add_field<'a>(
     parts: &Parts<'a>,
     fields: &mut IndexMap<(u32, Name<'a>), u32>,
+    place: usize,
     row: Declared,
 ) -> Result<(), AllocError>
     requires { AreInText parts.now.bytes.now parts.now.tokens.now }
     ensures { OnOk result ((key : FieldKey) → get same_field fields.new key ≡ (if is_of_record (world_of parts.now) key.0 row && bytes_eq (text (world_of parts.now) row.number) key.1.bytes.now then Some row.number else get same_field fields.old key)) }
 {
-    match record_of(parts, row.declared_by) {
+    match record_of(parts, place, row.declared_by) {
         None => Ok(()),
         Some(record) => {
             let bytes = parts.text(row.number);
@@ -71,7 +73,7 @@ pub(crate) fn fields_of<'a>(
     let mut at = rows.len();
     'rows: while at > 0 {
         at -= 1;
-        add_field(parts, &mut fields, rows[at])?;
+        add_field(parts, &mut fields, at, rows[at])?;
     }
     Ok(fields)
 }

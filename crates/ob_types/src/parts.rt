@@ -6,7 +6,8 @@ ghost use Rattle.ob_scan.specs.Spelling.{AreInText};
 ghost use Rattle.ob_types.specs.Parted.{world_of, IsFew};
 ghost use Rattle.ob_types.specs.World.{declared_at, declarer_from, declarer_of, form_at, form_from, item_of, meaning, owner_at, record_at, sort_of, text};
 
-use crate::places::{place_of_alias, place_of_form};
+use crate::hints::Hints;
+use crate::places::{declared_here, declarer_here, form_here, place_of_alias, place_of_form};
 use ob_decls::{Declared, Declarer, FormPart, Record, Sort, Table};
 use ob_interface::Interface;
 use ob_scan::Token;
@@ -21,6 +22,7 @@ pub(crate) struct Parts<'a> {
     pub(crate) table: &'a Table,
     pub(crate) scopes: &'a Scopes,
     pub(crate) reached: &'a [Arc<Interface>],
+    pub(crate) hints: Hints,
 }
 
 impl<'a> Parts<'a> {
@@ -56,15 +58,22 @@ impl<'a> Parts<'a> {
         ensures { result ≡ declared_at (world_of self.now) number }
     {
         self.table.keeps();
-        self.table.declaration(number).copied()
+        match declared_here(self.table.declared(), self.hints.place(number), number) {
+            Some(row) => Some(row),
+            None => self.table.declaration(number).copied(),
+        }
     }
 
-    /// The construct that declares and begins with this token.
-    pub(crate) fn declarer(&self, first: u32) -> Option<Declarer>
+    /// The construct that declares the identifier at this place, if it begins with this token, or any that begins so.
+    pub(crate) fn declarer(&self, place: usize, first: u32) -> Option<Declarer>
         ensures { result ≡ declarer_from (world_of self.now) first }
     {
         self.table.keeps();
-        self.table.declarer(first).copied()
+        let at = self.hints.at(place).declarer as usize;
+        match declarer_here(self.table.declarers(), at, first) {
+            Some(row) => Some(row),
+            None => self.table.declarer(first).copied(),
+        }
     }
 
     /// The construct that declares this token.
@@ -72,7 +81,7 @@ impl<'a> Parts<'a> {
         ensures { result ≡ declarer_of (world_of self.now) number }
     {
         let row = self.declared(number)?;
-        self.declarer(row.declared_by)
+        self.declarer(self.hints.place(number), row.declared_by)
     }
 
     /// What a token is declared as.
@@ -82,13 +91,17 @@ impl<'a> Parts<'a> {
         Some(self.declarer_of(number)?.sort)
     }
 
-    /// The place of the first part of the form that a construct gives.
-    pub(crate) fn form_from(&self, first: u32) -> Option<u32>
+    /// The place of the first part of the form that a construct gives, which is likely to declare the identifier at this place.
+    pub(crate) fn form_from(&self, place: usize, first: u32) -> Option<u32>
         requires { IsFew self.now }
         ensures { result ≡ form_from (world_of self.now) first }
     {
         self.table.keeps();
-        place_of_form(self.table.parts(), first)
+        let at = self.hints.at(place).form as usize;
+        match form_here(self.table.parts(), at, first) {
+            Some(form) => Some(form),
+            None => place_of_form(self.table.parts(), first),
+        }
     }
 
     /// The place of the first part of the form of the type of what a token declares.
@@ -97,7 +110,7 @@ impl<'a> Parts<'a> {
         ensures { result ≡ form_at (world_of self.now) number }
     {
         let row = self.declared(number)?;
-        self.form_from(row.declared_by)
+        self.form_from(self.hints.place(number), row.declared_by)
     }
 
     /// The place of the import item whose alias a token declares.

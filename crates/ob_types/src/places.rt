@@ -1,10 +1,62 @@
-//! The first row of a number, among rows whose numbers don't fall.
-ghost use Rattle.std.specs.Prelude.{◌≡◌, ◌<◌, ◌^◌, ◌==◌, None, true, length, position};
-ghost use Rattle.ob_decls.specs.Order.{RiseBy};
+//! Rows of a number, where they are likely to stand, and the first of them among rows whose numbers don't fall.
+ghost use Rattle.std.specs.Prelude.{◌≡◌, ◌<◌, ◌^◌, ◌==◌, ℕ, IfSome, None, Some, find, true, length, position, slice_get};
+ghost use Rattle.ob_decls.specs.Order.{AscendBy, RiseBy};
+ghost use Rattle.ob_decls.specs.declared.rows.Declared.{Declared as DeclaredRow};
+ghost use Rattle.ob_decls.specs.declared.rows.Declarer.{Declarer as DeclarerRow};
 ghost use Rattle.ob_decls.specs.declared.rows.FormPart.{FormPart as PartRow};
 ghost use Rattle.ob_decls.specs.declared.rows.Import.{Import as ImportItem};
 
-use ob_decls::{FormPart, Import};
+use ob_decls::{Declared, Declarer, FormPart, Import};
+
+/// The row at a place, if it is of this identifier.
+pub(crate) fn declared_here(rows: &[Declared], at: usize, number: u32) -> Option<Declared>
+    requires { AscendBy (λ (d : DeclaredRow). d.number) rows.now }
+    ensures { IfSome result (λ row. find (λ (d : DeclaredRow). d.number == number) rows.now ≡ Some row) }
+{
+    let row = rows.get(at)?;
+    if row.number == number {
+        Some(*row)
+    } else {
+        None
+    }
+}
+
+/// The row at a place, if its construct begins with this token.
+pub(crate) fn declarer_here(rows: &[Declarer], at: usize, first: u32) -> Option<Declarer>
+    requires { AscendBy (λ (c : DeclarerRow). c.first) rows.now }
+    ensures { IfSome result (λ row. find (λ (c : DeclarerRow). c.first == first) rows.now ≡ Some row) }
+{
+    let row = rows.get(at)?;
+    if row.first == first { Some(*row) } else { None }
+}
+
+/// Whether the row before a place, if there is one, is of an earlier construct.
+fn is_first(parts: &[FormPart], at: usize, first: u32) -> bool
+    requires { RiseBy (λ (p : PartRow). p.declared_by) parts.now }
+    ensures { result ≡ true → (j : ℕ) (p : PartRow) → j < at → slice_get parts.now j ≡ Some p → p.declared_by < first }
+{
+    match at.checked_sub(1) {
+        Some(last) => match parts.get(last) {
+            Some(part) => part.declared_by < first,
+            None => false,
+        },
+        None => true,
+    }
+}
+
+/// The place itself, if the form of this construct begins there.
+pub(crate) fn form_here(parts: &[FormPart], at: usize, first: u32) -> Option<u32>
+    requires rise { RiseBy (λ (p : PartRow). p.declared_by) parts.now }
+    requires few { length parts.now < 2 ^ 32 }
+    ensures { IfSome result (λ place. position (λ (p : PartRow). p.declared_by == first) parts.now ≡ Some place) }
+{
+    let part = parts.get(at)?;
+    if part.declared_by == first && is_first(parts, at, first) {
+        Some(at as u32)
+    } else {
+        None
+    }
+}
 
 /// The place of the first part of the form that a construct gives.
 pub(crate) fn place_of_form(parts: &[FormPart], first: u32) -> Option<u32>

@@ -11,6 +11,7 @@ ghost use Rattle.ob_types.specs.Homes.{AreByName};
 ghost use Rattle.ob_types.specs.World.{exported, form_of, home_of, item_of, meaning, owner_at, owner_there, sort_of, sort_there, text, world};
 ghost use Rattle.ob_types.specs.Shapes.{named_here, type_of_field};
 
+use crate::hints::hints_of;
 use crate::indexed::Indexed;
 use crate::nodes::{Field, Named, Node, Record};
 use crate::parts::Parts;
@@ -81,6 +82,7 @@ impl<'a> Types<'a> {
             table,
             scopes,
             reached,
+            hints: hints_of(alloc, table, tokens.len())?,
         };
         let indexed = Indexed::new(alloc, parts, by_name)?;
         Ok(Types { indexed })

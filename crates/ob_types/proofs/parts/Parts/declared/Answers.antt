@@ -4,6 +4,6 @@ use Rattle.ob_types.specs.World.{declared_at}
 use Rattle.ob_types.proofs.Firsts.{told}
 use Rattle.ob_types.proofs.parts.Parts.declared.Goals as goal
 
-pub returns : goal.returns
+pub returns-in-None : goal.returns-in-None
 unfolding declared_at
-returns c = c.copied.ensures ∙ told (λ (d : Declared). d.number) _ c.args.number _ c.keeps.ensures.declared c.declaration.ensures.found c.declaration.ensures.number c.declaration.ensures.none
+returns-in-None c = c.copied.ensures ∙ told (λ (d : Declared). d.number) _ c.args.number _ c.keeps.ensures.declared c.declaration.ensures.found c.declaration.ensures.number c.declaration.ensures.none

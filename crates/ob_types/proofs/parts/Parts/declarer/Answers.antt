@@ -4,6 +4,6 @@ use Rattle.ob_types.specs.World.{declarer_from}
 use Rattle.ob_types.proofs.Firsts.{told}
 use Rattle.ob_types.proofs.parts.Parts.declarer.Goals as goal
 
-pub returns : goal.returns
+pub returns-in-None : goal.returns-in-None
 unfolding declarer_from
-returns c = c.copied.ensures ∙ told (λ (d : Declarer). d.first) _ c.args.first _ c.keeps.ensures.declarers c.declarer.ensures.found c.declarer.ensures.number c.declarer.ensures.none
+returns-in-None c = c.copied.ensures ∙ told (λ (d : Declarer). d.first) _ c.args.first _ c.keeps.ensures.declarers c.declarer.ensures.found c.declarer.ensures.number c.declarer.ensures.none
