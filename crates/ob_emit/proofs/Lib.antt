@@ -23,4 +23,4 @@ pub mod SeenPaths
 pub mod SeenSymbols
 pub mod Texting
 pub mod ShortUses
-pub mod LinesWalked
+pub mod LinesNear

@@ -5,4 +5,4 @@ pub mod Made
 pub mod Named
 pub mod Places
 pub mod Symbols
-pub mod Walks
+pub mod LinesFound

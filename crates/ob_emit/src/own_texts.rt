@@ -34,7 +34,12 @@ pub(crate) struct Texts<'a> {
 fn local_text(alloc: Global, number: usize) -> Result<String, AllocError>
     ensures { IfOk result (λ text. string_bytes text ≡ codes "local " ++ decimal number) }
 {
-    Ok(format!(in alloc; "local {number}")?)
+    /// Room for the word and for a number of 32 bits.
+    const ROOM: usize = 16;
+    let mut text = String::with_capacity(alloc, ROOM)?;
+    text.push_str("local ")?;
+    write!(text, "{number}")?;
+    Ok(text)
 }
 
 /// The text of a declaration of the module's block.

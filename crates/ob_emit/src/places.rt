@@ -1,15 +1,14 @@
 //! Where identifiers stand, as numbers that take no memory: what `ranges` answers, without a list for each.
-ghost use Rattle.std.specs.Prelude.{◌≡◌, ◌<◌, ◌^◌, length};
+ghost use Rattle.std.specs.Prelude.{◌≡◌, ◌≤◌, ◌<◌, ◌^◌, ℕ, List, length};
 ghost use Rattle.ob_scan.specs.Position.{line_starts};
 ghost use Rattle.ob_scan.specs.Spelling.{AreInText};
-ghost use Rattle.ob_emit.specs.Documents.{construct_range, enclosing_range, range_of, span_of};
+ghost use Rattle.ob_emit.specs.Documents.{column_of, construct_range, enclosing_range, line_number, range_of, span_of};
 ghost use Rattle.ob_emit.specs.Places.{numbers_in, numbers_of, SpanFits};
-ghost use Rattle.ob_emit.specs.Walks.{IsAt};
 
 use crate::own::declarer_of;
-use crate::ranges::{ends_of, place_at};
-use crate::walking::{Walk, place_from};
-use ob_scan::Lines;
+use crate::ranges::ends_of;
+use crate::text_lines::LineTable;
+use ob_scan::Position;
 use ob_targets::{Reference, Target};
 use ob_types::Types;
 
@@ -46,8 +45,16 @@ pub(crate) fn range_by(span: &Span) -> Range
     }
 }
 
-/// From the start of a token to the end of another.
-fn span_of(types: &Types<'_>, lines: &Lines, first: usize, last: usize) -> Span
+/// The line and the column of an offset, sought first near the line that was found last.
+fn place_near(lines: &LineTable, near: &mut u32, offset: u32) -> Position
+    ensures line { (bytes : List ℕ) → lines.now ≡ line_starts bytes → offset ≤ length bytes → result.line ≡ line_number bytes offset }
+    ensures column { (bytes : List ℕ) → lines.now ≡ line_starts bytes → offset ≤ length bytes → result.column ≡ column_of bytes offset }
+{
+    lines.position_near(near, offset)
+}
+
+/// From the start of a token to the end of another, sought first near a line.
+fn span_of(types: &Types<'_>, lines: &LineTable, near: &mut u32, first: usize, last: usize) -> Span
     requires in_text { AreInText types.now.bytes types.now.tokens }
     requires short { length types.now.bytes < 2 ^ 31 }
     requires lined { lines.now ≡ line_starts types.now.bytes }
@@ -56,8 +63,8 @@ fn span_of(types: &Types<'_>, lines: &Lines, first: usize, last: usize) -> Span
 {
     let (start, _) = ends_of(types, first);
     let (_, end) = ends_of(types, last);
-    let from = place_at(lines, start);
-    let to = place_at(lines, end);
+    let from = place_near(lines, near, start);
+    let to = place_near(lines, near, end);
     Span {
         line: from.line,
         column: from.column,
@@ -66,21 +73,25 @@ fn span_of(types: &Types<'_>, lines: &Lines, first: usize, last: usize) -> Span
     }
 }
 
-/// The range of the construct that declares a target.
-fn construct_range(types: &Types<'_>, lines: &Lines, target: Target) -> Range
+/// The range of the construct that declares a target, sought first near a line.
+fn construct_range(types: &Types<'_>, lines: &LineTable, near: u32, target: Target) -> Range
     requires in_text { AreInText types.now.bytes types.now.tokens }
     requires short { length types.now.bytes < 2 ^ 31 }
     requires lined { lines.now ≡ line_starts types.now.bytes }
     ensures { numbers_of result ≡ construct_range types.now target }
 {
+    let mut line = near;
     match target {
         Target::Declared(number) => match declarer_of(types, number) {
-            Some(by) => range_by(&span_of(types, lines, by.first as usize, by.last as usize)),
+            Some(by) => {
+                let (first, last) = (by.first as usize, by.last as usize);
+                range_by(&span_of(types, lines, &mut line, first, last))
+            }
             None => Range::Nowhere,
         },
         Target::Own => {
             let last = types.tokens().len().saturating_sub(1);
-            range_by(&span_of(types, lines, 0, last))
+            range_by(&span_of(types, lines, &mut line, 0, last))
         }
         Target::Imported { .. } => Range::Nowhere,
         Target::External { .. } => Range::Nowhere,
@@ -90,8 +101,13 @@ fn construct_range(types: &Types<'_>, lines: &Lines, target: Target) -> Range
     }
 }
 
-/// The range of the whole declaration, if an identifier is declared here.
-pub(crate) fn enclosing_range(types: &Types<'_>, lines: &Lines, reference: &Reference) -> Range
+/// The range of the whole declaration, if an identifier is declared here, sought first near a line.
+pub(crate) fn enclosing_range(
+    types: &Types<'_>,
+    lines: &LineTable,
+    near: u32,
+    reference: &Reference,
+) -> Range
     requires in_text { AreInText types.now.bytes types.now.tokens }
     requires short { length types.now.bytes < 2 ^ 31 }
     requires lined { lines.now ≡ line_starts types.now.bytes }
@@ -100,27 +116,16 @@ pub(crate) fn enclosing_range(types: &Types<'_>, lines: &Lines, reference: &Refe
     if reference.role != 1 {
         return Range::Nowhere;
     }
-    construct_range(types, lines, reference.target)
+    construct_range(types, lines, near, reference.target)
 }
 
-/// Where a token stands, told where an offset was looked up last.
-pub(crate) fn token_span(types: &Types<'_>, lines: &Lines, walk: &mut Walk, number: u32) -> Span
+/// Where a token stands, sought first near the line that was found last.
+pub(crate) fn token_span(types: &Types<'_>, lines: &LineTable, near: &mut u32, number: u32) -> Span
     requires in_text { AreInText types.now.bytes types.now.tokens }
     requires short { length types.now.bytes < 2 ^ 31 }
     requires lined { lines.now ≡ line_starts types.now.bytes }
-    requires at { IsAt types.now.bytes walk.old }
-    ensures at { IsAt types.now.bytes walk.new }
     ensures numbers { numbers_in result ≡ range_of types.now number }
     ensures fits { SpanFits result }
 {
-    let (start, end) = ends_of(types, number as usize);
-    let bytes = types.bytes();
-    let from = place_from(lines, bytes, walk, start);
-    let to = place_from(lines, bytes, walk, end);
-    Span {
-        line: from.line,
-        column: from.column,
-        last: to.line,
-        end: to.column,
-    }
+    span_of(types, lines, near, number as usize, number as usize)
 }

@@ -15,7 +15,6 @@ ghost use Rattle.ob_emit.specs.declared.fault.EmitFault.TheVariants.{BadPackage}
 ghost use Rattle.ob_emit.specs.Documents.{document_of, enclosing_range, occurrence, range_of, symbol_row};
 ghost use Rattle.ob_emit.specs.Made.{AreSymbolTexts};
 ghost use Rattle.ob_emit.specs.Named.{AreOfNames, HaveNames, IsName};
-ghost use Rattle.ob_emit.specs.Walks.{IsAt};
 
 use crate::EmitFault;
 use crate::documents::is_bad;
@@ -23,9 +22,8 @@ use crate::own_texts::Texts;
 use crate::path::name_of;
 use crate::pieces::{Place, Shown};
 use crate::places::{enclosing_range, range_by, token_span};
+use crate::text_lines::{LineTable, line_table};
 use crate::uses::{is_short, push_use};
-use crate::walking::{Walk, front};
-use ob_scan::{Lines, lines};
 use ob_targets::Reference;
 use ob_types::Types;
 use proto_wire::{Scratch, Writer, push_message, put_number, put_text};
@@ -36,20 +34,18 @@ fn push_place(
     scratch: &mut Scratch,
     out: &mut Vec<u8>,
     types: &Types<'_>,
-    lines: &Lines,
-    walk: &mut Walk,
+    lines: &LineTable,
+    near: &mut u32,
     reference: &Reference,
     symbol: &str,
 ) -> Result<(), AllocError>
     requires in_text { AreInText types.now.bytes types.now.tokens }
     requires short { length types.now.bytes < 2 ^ 31 }
     requires lined { lines.now ≡ line_starts types.now.bytes }
-    requires at { IsAt types.now.bytes walk.old }
-    ensures at { IsAt types.now.bytes walk.new }
-    ensures bytes { OnOk result (out.new.items ≡ out.old.items ++ spelled (payload_field 2 (written_occurrence
+    ensures { OnOk result (out.new.items ≡ out.old.items ++ spelled (payload_field 2 (written_occurrence
         (record { range = range_of types.now reference.now.number; symbol = symbol.now; symbol_roles = pos reference.now.role; enclosing_range = enclosing_range types.now reference.now })))) }
 {
-    let span = token_span(types, lines, walk, reference.number);
+    let span = token_span(types, lines, near, reference.number);
     if is_short(&span, symbol, reference.role) {
         return push_use(out, &span, symbol, reference.role);
     }
@@ -57,7 +53,7 @@ fn push_place(
         range: range_by(&span),
         symbol,
         symbol_roles: i32::from(reference.role),
-        enclosing_range: enclosing_range(types, lines, reference),
+        enclosing_range: enclosing_range(types, lines, *near, reference),
     };
     push_message(scratch, out, 2, &place)
 }
@@ -69,23 +65,21 @@ fn push_unknown(
     out: &mut Vec<u8>,
     types: &Types<'_>,
     texts: &Texts<'_>,
-    lines: &Lines,
-    walk: &mut Walk,
+    lines: &LineTable,
+    near: &mut u32,
     reference: &Reference,
 ) -> Result<(), AllocError>
     requires in_text { AreInText types.now.bytes types.now.tokens }
     requires short { length types.now.bytes < 2 ^ 31 }
     requires lined { lines.now ≡ line_starts types.now.bytes }
-    requires at { IsAt types.now.bytes walk.old }
     requires named { HaveNames types.now }
     requires external { (item name : ℕ) → reference.now.target ≡ External item name → IsName (text types.now name) }
-    ensures at { IsAt types.now.bytes walk.new }
-    ensures bytes { (package_name : List ℕ) → AreSymbolTexts types.now package_name texts.now →
+    ensures { (package_name : List ℕ) → AreSymbolTexts types.now package_name texts.now →
         OnOk result (out.new.items ≡ out.old.items ++ spelled_fields (payload_fields 2 (map written_occurrence (option_to_list (occurrence types.now package_name reference.now))))) }
 {
     match texts.symbol(alloc, types, reference.target)? {
         None => Ok(()),
-        Some(symbol) => push_place(scratch, out, types, lines, walk, reference, symbol.as_str()),
+        Some(symbol) => push_place(scratch, out, types, lines, near, reference, symbol.as_str()),
     }
 }
 
@@ -96,24 +90,22 @@ fn push_occurrence(
     out: &mut Vec<u8>,
     types: &Types<'_>,
     texts: &Texts<'_>,
-    lines: &Lines,
-    walk: &mut Walk,
+    lines: &LineTable,
+    near: &mut u32,
     reference: &Reference,
 ) -> Result<(), AllocError>
     requires in_text { AreInText types.now.bytes types.now.tokens }
     requires short { length types.now.bytes < 2 ^ 31 }
     requires lined { lines.now ≡ line_starts types.now.bytes }
-    requires at { IsAt types.now.bytes walk.old }
     requires named { HaveNames types.now }
     requires external { (item name : ℕ) → reference.now.target ≡ External item name → IsName (text types.now name) }
-    ensures at { IsAt types.now.bytes walk.new }
-    ensures bytes { (package_name : List ℕ) → AreSymbolTexts types.now package_name texts.now →
+    ensures { (package_name : List ℕ) → AreSymbolTexts types.now package_name texts.now →
         OnOk result (out.new.items ≡ out.old.items ++ spelled_fields (payload_fields 2 (map written_occurrence (option_to_list (occurrence types.now package_name reference.now))))) }
 {
     match texts.known(types, reference.target) {
-        Some(Some(symbol)) => push_place(scratch, out, types, lines, walk, reference, symbol),
+        Some(Some(symbol)) => push_place(scratch, out, types, lines, near, reference, symbol),
         Some(None) => Ok(()),
-        None => push_unknown(alloc, scratch, out, types, texts, lines, walk, reference),
+        None => push_unknown(alloc, scratch, out, types, texts, lines, near, reference),
     }
 }
 
@@ -133,11 +125,11 @@ fn push_occurrences(
     ensures { (package_name : List ℕ) → AreSymbolTexts types.now package_name texts.now →
         OnOk result (out.new.items ≡ out.old.items ++ spelled_fields (payload_fields 2 (map written_occurrence (filter_map (occurrence types.now package_name) refs.now)))) }
 {
-    let lines = lines(alloc, types.bytes())?;
-    let mut walk = front(types.bytes());
+    let lines = line_table(alloc, types.bytes())?;
+    let mut near = 0;
     for reference in refs {
         push_occurrence(
-            alloc, scratch, out, types, texts, &lines, &mut walk, reference,
+            alloc, scratch, out, types, texts, &lines, &mut near, reference,
         )?;
     }
     Ok(())
@@ -161,6 +153,28 @@ fn push_shown(
     push_message(scratch, out, 3, &shown)
 }
 
+/// Puts the record of the symbol of what an identifier declares, if that has one, where its text has to be made.
+fn push_unknown_symbol(
+    alloc: Global,
+    scratch: &mut Scratch,
+    out: &mut Vec<u8>,
+    types: &Types<'_>,
+    texts: &Texts<'_>,
+    reference: &Reference,
+) -> Result<(), AllocError>
+    requires named { HaveNames types.now }
+    requires declares { reference.now.role ≡ 1 }
+    requires own { IsName (text types.now reference.now.number) }
+    requires external { (item name : ℕ) → reference.now.target ≡ External item name → IsName (text types.now name) }
+    ensures { (package_name : List ℕ) → AreSymbolTexts types.now package_name texts.now →
+        OnOk result (out.new.items ≡ out.old.items ++ spelled_fields (payload_fields 3 (map written_symbol (option_to_list (symbol_row types.now package_name reference.now))))) }
+{
+    match texts.symbol(alloc, types, reference.target)? {
+        None => Ok(()),
+        Some(symbol) => push_shown(scratch, out, types, reference, symbol.as_str()),
+    }
+}
+
 /// Puts the record of the symbol of what an identifier declares, if it declares something that has one.
 fn push_symbol(
     alloc: Global,
@@ -179,9 +193,10 @@ fn push_symbol(
     if reference.role != 1 {
         return Ok(());
     }
-    match texts.symbol(alloc, types, reference.target)? {
-        None => Ok(()),
-        Some(symbol) => push_shown(scratch, out, types, reference, symbol.as_str()),
+    match texts.known(types, reference.target) {
+        Some(Some(symbol)) => push_shown(scratch, out, types, reference, symbol),
+        Some(None) => Ok(()),
+        None => push_unknown_symbol(alloc, scratch, out, types, texts, reference),
     }
 }
 

@@ -11,8 +11,8 @@ returns-clause-fits c =
     let starts : s ≤ length w.bytes = start_within w.bytes w.tokens c.args.first s c.requires.in_text c.ends_of-start.ensures.start in
     let ends : e ≤ length w.bytes = end_within w.bytes w.tokens c.args.last e c.requires.in_text c.ends_of-end.ensures.end in
     record {
-      line = line_fits w.bytes s (2 ^ 31) c.place_at-from.result.line (c.place_at-from.ensures.line w.bytes c.requires.lined starts) starts c.requires.short;
-      column = column_fits w.bytes s (2 ^ 31) c.place_at-from.result.column (c.place_at-from.ensures.column w.bytes c.requires.lined starts) starts c.requires.short;
-      last = line_fits w.bytes e (2 ^ 31) c.place_at-to.result.line (c.place_at-to.ensures.line w.bytes c.requires.lined ends) ends c.requires.short;
-      end = column_fits w.bytes e (2 ^ 31) c.place_at-to.result.column (c.place_at-to.ensures.column w.bytes c.requires.lined ends) ends c.requires.short;
+      line = line_fits w.bytes s (2 ^ 31) c.place_near-from.result.line (c.place_near-from.ensures.line w.bytes c.requires.lined starts) starts c.requires.short;
+      column = column_fits w.bytes s (2 ^ 31) c.place_near-from.result.column (c.place_near-from.ensures.column w.bytes c.requires.lined starts) starts c.requires.short;
+      last = line_fits w.bytes e (2 ^ 31) c.place_near-to.result.line (c.place_near-to.ensures.line w.bytes c.requires.lined ends) ends c.requires.short;
+      end = column_fits w.bytes e (2 ^ 31) c.place_near-to.result.column (c.place_near-to.ensures.column w.bytes c.requires.lined ends) ends c.requires.short;
     }

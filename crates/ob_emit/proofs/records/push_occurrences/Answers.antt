@@ -9,11 +9,8 @@ pub push_occurrence-requires-clause-external : goal.push_occurrence-requires-cla
 push_occurrence-requires-clause-external c = external_named c.args.types.now c.args.refs.now c.requires.of_names c.loop-reference.reference-index _ c.loop-reference-test.true
 
 pub loop-reference-preserved : goal.loop-reference-preserved
-loop-reference-preserved c = record {
-  at = c.in_ok-push_occurrence.ensures.at;
-  bytes = λ p made.
-      put_row 2 written_occurrence (occurrence c.args.types.now p) c.args.refs.now c.loop-reference.reference-index _ _ _ _ c.loop-reference-test.true (c.loop-reference.invariant.bytes p made) (c.in_ok-push_occurrence.ensures.bytes p made);
-}
+loop-reference-preserved c = λ p made.
+    put_row 2 written_occurrence (occurrence c.args.types.now p) c.args.refs.now c.loop-reference.reference-index _ _ _ _ c.loop-reference-test.true (c.loop-reference.invariant p made) (c.in_ok-push_occurrence.ensures p made)
 
 pub returns : goal.returns
-returns c = λ p made. rows_put 2 written_occurrence (occurrence c.args.types.now p) c.args.refs.now c.loop-reference.reference-index _ _ c.loop-reference-test.false (c.loop-reference.invariant.bytes p made)
+returns c = λ p made. rows_put 2 written_occurrence (occurrence c.args.types.now p) c.args.refs.now c.loop-reference.reference-index _ _ c.loop-reference-test.false (c.loop-reference.invariant p made)

@@ -4,11 +4,7 @@ use Rattle.proto_wire.specs.Writing.{payload_fields, spelled_fields}
 use Rattle.scip_index.specs.Written.{written_occurrence}
 use Rattle.ob_emit.specs.Documents.{occurrence}
 use Rattle.ob_emit.specs.Made.{AreSymbolTexts}
-use Rattle.ob_emit.specs.Walks.{IsAt}
 use Rattle.ob_emit.proofs.records.push_occurrences.Given as goal
 
 abbrev pub invariant-loop-reference : goal.invariant-loop-reference
-invariant-loop-reference l = record {
-  at : IsAt l.types.bytes l.walk;
-  bytes : (p : List ℕ) → AreSymbolTexts l.types p l.texts → l.out.items ≡ l.initial.out.items ++ spelled_fields (payload_fields 2 (map written_occurrence (filter_map (occurrence l.types p) (take l.reference-index l.refs))));
-}
+invariant-loop-reference l = (p : List ℕ) → AreSymbolTexts l.types p l.texts → l.out.items ≡ l.initial.out.items ++ spelled_fields (payload_fields 2 (map written_occurrence (filter_map (occurrence l.types p) (take l.reference-index l.refs))))
