@@ -1,14 +1,19 @@
 -- Texts by what they stand for, one more.
-use Rattle.std.proofs.Common.{◌≡◌, ℕ, List, Bool, true, false, cond, Option, Some, String, Global, refl, sym, ap, ◌∙◌, eqb-true}
-use Rattle.std.specs.Prelude.{nat_eq, ◌&&◌}
+use Rattle.std.proofs.Common.{◌≡◌, ◌<◌, ◌++◌, ◌∷◌, [], ℕ, List, length, Bool, true, false, cond, Option, None, Some, String, Global, inl, inr, refl, sym, ap, subst, ◌∙◌, eqb-true, arith}
+use Rattle.std.specs.Prelude.{nat_eq, slice_get, ◌&&◌}
+use Rattle.std.proofs.lemmas.Bool.{cases_lt}
+use Rattle.std.proofs.lemmas.List.{length-append}
+use Rattle.std.proofs.lemmas.Option.{slice_get_within}
+use Rattle.ob_emit.proofs.Texting.{get_front, get_last}
 use Rattle.std.specs.Option.{option_map}
 use Rattle.std.specs.String.{string_bytes}
 use Rattle.std.specs.Str.{bytes_eq}
 use Rattle.std.proofs.lemmas.Slice.Eq.{bytes_eq-Decides}
 use Rattle.indexmap.specs.IndexMap.{get, IndexMap}
 use Rattle.ob_types.specs.World.{World}
+use Rattle.ob_emit.specs.declared.imported_kept.ImportedText.{ImportedText}
 use Rattle.scip_symbol.specs.SymbolTexts.{plain_text}
-use Rattle.ob_emit.specs.Made.{same_name, same_place, named_symbol, AreExternal, AreImported, AreTextsByKey, AreModules, NameKey}
+use Rattle.ob_emit.specs.Made.{same_name, named_symbol, AreExternal, AreImported, AreTextsByKey, AreModules, NameKey}
 use Rattle.ob_emit.specs.Symbols.{imported_symbol, module_symbol}
 
 module _ {K S : Type 0} (same : K → K → Bool) (text_of : K → Option (List ℕ)) (one : (a b : K) → same a b ≡ true → text_of a ≡ text_of b) (old new : IndexMap K (Option (String Global)) S) (k : K) (v : Option (String Global)) where
@@ -28,20 +33,37 @@ both_true true true e = (refl, refl)
 both_true true false e = absurd cc
 both_true false b e = absurd cc
 
-module _ {S : Type 0} (w : World) (p : List ℕ) (old new : IndexMap (ℕ × ℕ) (Option (String Global)) S) (i d : ℕ) (v : Option (String Global)) where
-  one_place : (a b : ℕ × ℕ) → same_place a b ≡ true → option_map plain_text (imported_symbol w p a.0 a.1) ≡ option_map plain_text (imported_symbol w p b.0 b.1)
-  one_place a b e =
-      let both = both_true (nat_eq a.0 b.0) (nat_eq a.1 b.1) e in
-      ap (λ (n : ℕ). option_map plain_text (imported_symbol w p n a.1)) (eqb-true a.0 b.0 both.0) ∙ ap (λ (n : ℕ). option_map plain_text (imported_symbol w p b.0 n)) (eqb-true a.1 b.1 both.1)
+-- texts of what other modules declare, one more
+module _ (w : World) (p : List ℕ) (texts : List ImportedText) where
+  pub imported_none : texts ≡ [] → AreImported w p texts
+  imported_none is slot row at = absurd (let e : None ≡ Some row = sym (ap (λ (rows : List ImportedText). slice_get rows slot) is) ∙ at in cc)
 
-  pub imported_more : AreImported w p old → ((q : ℕ × ℕ) → get same_place new q ≡ cond (same_place (i, d) q) (Some v) (get same_place old q)) → option_map string_bytes v ≡ option_map plain_text (imported_symbol w p i d)
-      → AreImported w p new
-  imported_more = kept_more same_place (λ (key : ℕ × ℕ). option_map plain_text (imported_symbol w p key.0 key.1)) one_place old new (i, d) v
+  pub imported_more : (one : ImportedText) → AreImported w p texts → option_map string_bytes one.text ≡ option_map plain_text (imported_symbol w p one.reached one.declaration) → AreImported w p (texts ++ one ∷ [])
+  imported_more one are is slot row at = elim (cases_lt slot (length texts)) [
+    | inl below ↦ are slot row (sym (get_front texts one slot below) ∙ at)
+    | inr above ↦ (
+        let within : slot < length (texts ++ one ∷ []) = slice_get_within (texts ++ one ∷ []) slot row at in
+        let last : slot ≡ length texts = omega (arith, length-append texts (one ∷ []), above, within) in
+        let there : Some one ≡ Some row = sym (get_last texts one) ∙ (ap (slice_get (texts ++ one ∷ [])) (sym last) ∙ at) in
+        let same : one ≡ row = cc in
+        subst (λ (r : ImportedText). option_map string_bytes r.text ≡ option_map plain_text (imported_symbol w p r.reached r.declaration)) same is)
+  ]
 
-module _ {S : Type 0} (w : World) (p : List ℕ) (old new : IndexMap ℕ (Option (String Global)) S) (item : ℕ) (v : Option (String Global)) where
-  pub modules_more : AreModules w p old → ((q : ℕ) → get nat_eq new q ≡ cond (nat_eq item q) (Some v) (get nat_eq old q)) → option_map string_bytes v ≡ option_map plain_text (module_symbol w p item) → AreModules w p new
-  modules_more =
-      kept_more nat_eq (λ (n : ℕ). option_map plain_text (module_symbol w p n)) (λ a b e. ap (λ (n : ℕ). option_map plain_text (module_symbol w p n)) (eqb-true a b e)) old new item v
+-- modules' texts, one more
+pub modules_none : (w : World) (p : List ℕ) → AreModules w p []
+modules_none w p item text at = absurd (let e : None ≡ Some text = at in cc)
+
+pub modules_more : (w : World) (p : List ℕ) (texts : List (Option (String Global))) (v : Option (String Global)) → AreModules w p texts → option_map string_bytes v ≡ option_map plain_text (module_symbol w p (length texts))
+    → AreModules w p (texts ++ v ∷ [])
+modules_more w p texts v are is item text at = elim (cases_lt item (length texts)) [
+  | inl below ↦ are item text (sym (get_front texts v item below) ∙ at)
+  | inr above ↦ (
+      let within : item < length (texts ++ v ∷ []) = slice_get_within (texts ++ v ∷ []) item text at in
+      let last : item ≡ length texts = omega (arith, length-append texts (v ∷ []), above, within) in
+      let there : Some v ≡ Some text = sym (get_last texts v) ∙ (ap (slice_get (texts ++ v ∷ [])) (sym last) ∙ at) in
+      let same : v ≡ text = cc in
+      ap (option_map string_bytes) (sym same) ∙ is ∙ ap (λ (n : ℕ). option_map plain_text (module_symbol w p n)) (sym last))
+]
 
 module _ {S : Type 0} (w : World) (old new : IndexMap NameKey (Option (String Global)) S) (key : NameKey) (v : Option (String Global)) where
   one_name : (a b : NameKey) → same_name a b ≡ true → option_map plain_text (named_symbol w a.0 a.1.now) ≡ option_map plain_text (named_symbol w b.0 b.1.now)

@@ -24,3 +24,4 @@ pub mod SeenSymbols
 pub mod Texting
 pub mod ShortUses
 pub mod LinesNear
+pub mod RowsMarked

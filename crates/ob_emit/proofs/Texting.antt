@@ -28,12 +28,12 @@ use Rattle.ob_emit.specs.Symbols.{declared_symbol, descriptor, global, imported_
 use Rattle.ob_emit.proofs.Paths.{text_more}
 use Rattle.scip_symbol.specs.SymbolTexts.{Global, plain_text}
 
-get_front : {X : Type 0} (xs : List X) (y : X) (i : ℕ) → i < length xs → slice_get (xs ++ y ∷ []) i ≡ slice_get xs i
+pub get_front : {X : Type 0} (xs : List X) (y : X) (i : ℕ) → i < length xs → slice_get (xs ++ y ∷ []) i ≡ slice_get xs i
 get_front [] y i l = absurd (omega (arith, l))
 get_front (x ∷ xs) y zero l = refl
 get_front (x ∷ xs) y (suc i) l = get_front xs y i (omega (arith, l))
 
-get_last : {X : Type 0} (xs : List X) (y : X) → slice_get (xs ++ y ∷ []) (length xs) ≡ Some y
+pub get_last : {X : Type 0} (xs : List X) (y : X) → slice_get (xs ++ y ∷ []) (length xs) ≡ Some y
 get_last [] y = refl
 get_last (x ∷ xs) y = get_last xs y
 
@@ -95,17 +95,22 @@ joined : {X : Type 0} (f : Option X → Option (List ℕ)) (o : Option (Option X
 joined f None x e = absurd (let none : None ≡ Some x = e in cc)
 joined f (Some v) x e = some_one (f v) x e
 
-pub declared_text : {Z : Type 0} (w : World) (p : List ℕ) (k at : ℕ) (rows : Rows) (o : Option ℕ) (items : List (Option (String Z))) → AreMade w p (length w.rows.declared) (map (option_map string_bytes) items)
-    → rows ≡ w.rows → o ≡ position (λ (d : Declared). d.number == k) rows.declared → o ≡ Some at
+pub declared_text : {Z : Type 0} (w : World) (p : List ℕ) (k at : ℕ) (ds : List Declared) (o : Option ℕ) (items : List (Option (String Z))) → AreMade w p (length w.rows.declared) (map (option_map string_bytes) items)
+    → ds ≡ w.rows.declared → o ≡ position (λ (d : Declared). d.number == k) ds → o ≡ Some at
     → option_and_then (option_map string_bytes) (slice_get items at) ≡ option_map plain_text (declared_symbol w p k)
-declared_text w p k at rows o items made same h is =
-    let e : position (λ (d : Declared). d.number == k) w.rows.declared ≡ Some at = ap (λ (r : Rows). position (λ (d : Declared). d.number == k) r.declared) (sym same) ∙ (sym h ∙ is) in
+declared_text w p k at ds o items made same h is =
+    let e : position (λ (d : Declared). d.number == k) w.rows.declared ≡ Some at = ap (position (λ (d : Declared). d.number == k)) (sym same) ∙ (sym h ∙ is) in
     let l : at < length w.rows.declared = place_within w.rows.declared k at e in
     let d = slice_there w.rows.declared at l in
     let there : option_map (option_map string_bytes) (slice_get items at) ≡ Some (option_map plain_text (symbol_at w p at d.0)) = sym (slice_get-map (option_map string_bytes) items at) ∙ made.each at d.0 l d.1 in
     let text_is : option_and_then (option_map string_bytes) (slice_get items at) ≡ option_map plain_text (symbol_at w p at d.0) = joined (option_map string_bytes) (slice_get items at) _ there in
     text_is ∙ ap (option_map plain_text) (sym (
     ap (λ (q : Option ℕ). option_and_then (λ (i : ℕ). option_and_then (symbol_at w p i) (slice_get w.rows.declared i)) q) e ∙ ap (λ (q : Option Declared). option_and_then (symbol_at w p at) q) d.1))
+
+pub no_text : (w : World) (p : List ℕ) (k : ℕ) (ds : List Declared) (o : Option ℕ) → ds ≡ w.rows.declared → o ≡ position (λ (d : Declared). d.number == k) ds → o ≡ None → option_map plain_text (declared_symbol w p k) ≡ None
+no_text w p k ds o same h is =
+    let e : position (λ (d : Declared). d.number == k) w.rows.declared ≡ None = ap (position (λ (d : Declared). d.number == k)) (sym same) ∙ (sym h ∙ is) in
+    rw e refl
 
 pub declared_nothing : (w : World) (p : List ℕ) (k : ℕ) (rows : Rows) (o : Option ℕ) → rows ≡ w.rows → o ≡ position (λ (d : Declared). d.number == k) rows.declared → o ≡ None
     → None ≡ option_map plain_text (declared_symbol w p k)

@@ -6,3 +6,4 @@ pub mod Named
 pub mod Places
 pub mod Symbols
 pub mod LinesFound
+pub mod RowsCut

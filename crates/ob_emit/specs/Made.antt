@@ -17,6 +17,7 @@ use Rattle.scip_symbol.specs.SymbolTexts.{PlainDescriptor, PlainSymbol, parts_te
 use Rattle.scip_symbol.specs.declared.kind.DescriptorKind.TheVariants.{Term}
 use Rattle.ob_emit.specs.declared.steps.StepRow.{StepRow}
 use Rattle.ob_emit.specs.declared.fronts.Fronts.{Fronts}
+use Rattle.ob_emit.specs.declared.imported_kept.ImportedText.{ImportedText}
 use Rattle.ob_emit.specs.declared.outer_texts.Outer.{Outer}
 use Rattle.ob_emit.specs.declared.own_texts.Texts.{Texts}
 use Rattle.ob_emit.specs.Symbols.{PathStep, descriptor, global, imported_symbol, module_path, module_symbol, scheme, symbol_at}
@@ -64,17 +65,13 @@ pub record AreFronts (package_name : List ℕ) (f : Fronts) : Type 0 where
 abbrev pub AreTextsByKey : {K S : Type 0} → (K → K → Bool) → (K → Option (List ℕ)) → IndexMap K (Option (String Global)) S → Type 0
 AreTextsByKey same text_of texts = (key : _) (text : Option (String Global)) → get same texts key ≡ Some text → option_map string_bytes text ≡ text_of key
 
--- places of modules, with places of declarations in them, that are one
-abbrev pub same_place : ℕ × ℕ → ℕ × ℕ → Bool
-same_place a b = nat_eq a.0 b.0 && nat_eq a.1 b.1
+-- texts of what other modules declare, with the places of the module and of the declaration
+abbrev pub AreImported : World → List ℕ → List ImportedText → Type 0
+AreImported w package_name texts = (slot : ℕ) (row : ImportedText) → slice_get texts slot ≡ Some row → option_map string_bytes row.text ≡ option_map plain_text (imported_symbol w package_name row.reached row.declaration)
 
--- texts of what other modules declare, by the places of the module and of the declaration
-abbrev pub AreImported : {S : Type 0} → World → List ℕ → IndexMap (ℕ × ℕ) (Option (String Global)) S → Type 0
-AreImported w package_name texts = AreTextsByKey same_place (λ (key : ℕ × ℕ). option_map plain_text (imported_symbol w package_name key.0 key.1)) texts
-
--- texts of modules, by the places of the import items that name them
-abbrev pub AreModules : {S : Type 0} → World → List ℕ → IndexMap ℕ (Option (String Global)) S → Type 0
-AreModules w package_name texts = AreTextsByKey nat_eq (λ (item : ℕ). option_map plain_text (module_symbol w package_name item)) texts
+-- texts of modules, in the order of the import items that name them
+abbrev pub AreModules : World → List ℕ → List (Option (String Global)) → Type 0
+AreModules w package_name texts = (item : ℕ) (text : Option (String Global)) → slice_get texts item ≡ Some text → option_map string_bytes text ≡ option_map plain_text (module_symbol w package_name item)
 
 -- the symbol of a name of a module that isn't in the tree, by the import item that names the module and the name's text
 abbrev pub named_symbol : World → ℕ → List ℕ → Option PlainSymbol
@@ -93,8 +90,8 @@ AreExternal w texts = AreTextsByKey same_name (λ (key : NameKey). option_map pl
 
 -- the texts of what stands outside of a module, in this package
 pub record AreOuter (w : World) (package_name : List ℕ) (t : Outer) : Type 0 where
-  pub imported : AreImported w package_name t.imported
-  pub modules : AreModules w package_name t.modules
+  pub imported : AreImported w package_name ((t.imported).texts).items
+  pub modules : AreModules w package_name (t.modules).items
   pub names : AreExternal w t.names
 
 -- the texts of a module's symbols in this package
@@ -102,6 +99,7 @@ pub record AreSymbolTexts (w : World) (package_name : List ℕ) (t : Texts) : Ty
   pub fronts : AreFronts package_name t.fronts
   pub own : string_bytes t.own ≡ plain_text (global package_name (module_path (text w own_name)))
   pub declared : AreMade w package_name (length w.rows.declared) (map (option_map string_bytes) (t.declared).items)
+  pub places : (t.places).declared.now ≡ w.rows.declared
   pub outer : AreOuter w package_name (t.outer).value
 
 -- ---- what stands outside, each once

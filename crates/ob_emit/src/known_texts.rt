@@ -6,7 +6,6 @@ ghost use Rattle.scip_symbol.specs.SymbolTexts.{plain_text};
 ghost use Rattle.ob_emit.specs.Made.{named_symbol, AreSymbolTexts};
 ghost use Rattle.ob_emit.specs.Symbols.{declared_symbol, imported_symbol, module_symbol, symbol_of};
 
-use crate::own::place_of;
 use crate::own_texts::Texts;
 use ob_targets::Target;
 use ob_types::Types;
@@ -27,7 +26,8 @@ impl Texts<'_> {
         ensures { (package_name : List ℕ) → AreSymbolTexts types.now package_name self.now →
             option_map (λ t. t.now) result ≡ option_map plain_text (declared_symbol types.now package_name number) }
     {
-        match place_of(types.table(), number) {
+        let _ = types;
+        match self.places.place_of(number) {
             Some(at) => match self.declared.get(at) {
                 Some(text) => lent(text),
                 None => None,
@@ -40,13 +40,15 @@ impl Texts<'_> {
     fn known_imported(
         &self,
         types: &Types<'_>,
+        slot: usize,
         reached: u32,
         declaration: u32,
     ) -> Option<Option<&str>>
         ensures { (package_name : List ℕ) → AreSymbolTexts types.now package_name self.now →
             IfSome result (λ text. option_map (λ t. t.now) text ≡ option_map plain_text (imported_symbol types.now package_name reached declaration)) }
     {
-        match self.outer.imported.get(&(reached, declaration)) {
+        let _ = types;
+        match self.outer.imported.at(slot, reached, declaration) {
             Some(text) => Some(lent(text)),
             None => None,
         }
@@ -57,7 +59,7 @@ impl Texts<'_> {
         ensures { (package_name : List ℕ) → AreSymbolTexts types.now package_name self.now →
             IfSome result (λ text. option_map (λ t. t.now) text ≡ option_map plain_text (module_symbol types.now package_name item)) }
     {
-        match self.outer.modules.get(&item) {
+        match self.outer.modules.get(item as usize) {
             Some(text) => Some(lent(text)),
             None => None,
         }
@@ -80,11 +82,12 @@ impl Texts<'_> {
     }
 
     /// The text of the symbol of what an identifier stands for, if that has one, where it is known: what `symbol` answers, without
-    /// a copy.
+    /// a copy. Of what another module declares it is known if it stands at this slot, as `meet` tells.
     pub(crate) fn known<'s>(
         &'s self,
         types: &'s Types<'_>,
         target: Target,
+        slot: usize,
     ) -> Option<Option<&'s str>>
         ensures { (package_name : List ℕ) → AreSymbolTexts types.now package_name self.now →
             IfSome result (λ text. option_map (λ t. t.now) text ≡ option_map plain_text (symbol_of types.now package_name target)) }
@@ -94,7 +97,7 @@ impl Texts<'_> {
             Target::Imported {
                 reached,
                 declaration,
-            } => self.known_imported(types, reached, declaration),
+            } => self.known_imported(types, slot, reached, declaration),
             Target::External { item, name } => self.known_external(types, item, types.text(name)),
             Target::Own => Some(Some(self.own.as_str())),
             Target::Module(item) => self.known_module(types, item),

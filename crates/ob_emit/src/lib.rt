@@ -7,6 +7,7 @@
 mod documents;
 mod fault;
 mod fronts;
+mod imported_kept;
 mod imported_texts;
 mod known_texts;
 pub mod laws;
@@ -20,6 +21,7 @@ mod pieces;
 mod places;
 mod ranges;
 mod records;
+mod row_places;
 mod steps;
 mod symbol_texts;
 mod text_lines;

@@ -1,67 +1,44 @@
 //! The texts of the symbols of what references stand for outside of a module, each made once.
 ghost use Rattle.std.specs.Prelude.{◌≡◌, ℕ, List, IfOk, OnOk, []};
 ghost use Rattle.ob_targets.specs.declared.target.Target.TheVariants.{External};
-ghost use Rattle.ob_types.specs.World.{text, World};
-ghost use Rattle.ob_emit.specs.Made.{front_text, AreExternal, AreFronts, AreImported, AreModules, AreOuter};
-ghost use Rattle.ob_emit.specs.Named.{HaveNames, AreOfNames, IsName};
+ghost use Rattle.ob_types.specs.World.{text};
+ghost use Rattle.ob_emit.specs.Made.{front_text, AreExternal, AreFronts, AreModules, AreOuter};
+ghost use Rattle.ob_emit.specs.Named.{HaveNames, IsName};
 
 use crate::fronts::Fronts;
-use crate::imported_texts::imported_text;
+use crate::imported_kept::ImportedTexts;
 use crate::module_texts::{external_text, item_text};
 use indexmap::IndexMap;
-use ob_targets::{Reference, Target};
+use ob_targets::Target;
 use ob_types::Types;
 use std::alloc::{AllocError, Global};
 
 /// The texts of what references stand for outside of the module; what has no symbol has none.
 #[derive(Drop)]
 pub(crate) struct Outer<'a> {
-    /// Those of what other modules declare, by the places of the module and of the declaration.
-    pub(crate) imported: IndexMap<(u32, u32), Option<String>>,
-    /// Those of modules, by the places of the import items that name them.
-    pub(crate) modules: IndexMap<u32, Option<String>>,
+    /// Those of what other modules declare.
+    pub(crate) imported: ImportedTexts,
+    /// Those of modules, in the order of the import items that name them.
+    pub(crate) modules: Vec<Option<String>>,
     /// Those of names of modules that aren't in the tree, by the place of the import item that names the module and the name.
     pub(crate) names: IndexMap<(u32, &'a [u8]), Option<String>>,
 }
 
-/// Adds the text of a declaration of a module that is reached, if it isn't there yet.
-fn add_imported(
-    alloc: Global,
-    types: &Types<'_>,
-    front: &str,
-    texts: &mut IndexMap<(u32, u32), Option<String>>,
-    key: (u32, u32),
-) -> Result<(), AllocError>
-    requires { HaveNames types.now }
-    ensures { (package_name : List ℕ) → front.now ≡ front_text package_name → AreImported types.now package_name texts.old →
-        OnOk result (AreImported types.now package_name texts.new) }
-{
-    if texts.contains_key(&key) {
-        return Ok(());
-    }
-    let text = imported_text(alloc, types, front, key.0, key.1)?;
-    texts.insert(key, text)?;
-    Ok(())
-}
-
-/// Adds the text of the module that an import item names, if it isn't there yet.
-fn add_module(
+/// The texts of the modules that import items name, in order.
+fn module_texts(
     alloc: Global,
     types: &Types<'_>,
     fronts: &Fronts,
-    texts: &mut IndexMap<u32, Option<String>>,
-    item: u32,
-) -> Result<(), AllocError>
+) -> Result<Vec<Option<String>>, AllocError>
     requires { HaveNames types.now }
-    ensures { (package_name : List ℕ) → AreFronts package_name fronts.now → AreModules types.now package_name texts.old →
-        OnOk result (AreModules types.now package_name texts.new) }
+    ensures { (package_name : List ℕ) → AreFronts package_name fronts.now → IfOk result (λ texts. AreModules types.now package_name texts.items) }
 {
-    if texts.contains_key(&item) {
-        return Ok(());
+    let count = types.table().imports().len().min(u32::MAX as usize);
+    let mut texts = Vec::with_capacity(alloc, count)?;
+    for item in 0..count as u32 {
+        texts.push(item_text(alloc, types, fronts, item)?)?;
     }
-    let text = item_text(alloc, types, fronts, item)?;
-    texts.insert(item, text)?;
-    Ok(())
+    Ok(texts)
 }
 
 /// Adds the text of a name of a module that isn't in the tree, if it isn't there yet.
@@ -71,40 +48,46 @@ fn add_name<'a>(
     outside: &str,
     texts: &mut IndexMap<(u32, &'a [u8]), Option<String>>,
     key: (u32, &'a [u8]),
-) -> Result<(), AllocError>
+) -> Result<usize, AllocError>
     requires named { HaveNames types.now }
     requires of_name { IsName key.1.now }
     ensures { outside.now ≡ front_text [] → AreExternal types.now texts.old → OnOk result (AreExternal types.now texts.new) }
 {
     if texts.contains_key(&key) {
-        return Ok(());
+        return Ok(0);
     }
     let text = external_text(alloc, types, outside, key.0, key.1)?;
     texts.insert(key, text)?;
-    Ok(())
+    Ok(0)
 }
 
 impl<'a> Outer<'a> {
-    /// No texts, boxed, so that they are handed on as one pointer.
-    fn new(alloc: Global) -> Result<Box<Outer<'a>>, AllocError>
-        ensures { (w : World) (package_name : List ℕ) → IfOk result (λ texts. AreOuter w package_name texts.value) }
+    /// The texts of modules alone, boxed, so that they are handed on as one pointer.
+    pub(crate) fn new(
+        alloc: Global,
+        types: &Types<'a>,
+        fronts: &Fronts,
+    ) -> Result<Box<Outer<'a>>, AllocError>
+        requires { HaveNames types.now }
+        ensures { (package_name : List ℕ) → AreFronts package_name fronts.now → IfOk result (λ texts. AreOuter types.now package_name texts.value) }
     {
         let texts = Outer {
-            imported: IndexMap::new(alloc),
-            modules: IndexMap::new(alloc),
+            imported: ImportedTexts::new(alloc)?,
+            modules: module_texts(alloc, types, fronts)?,
             names: IndexMap::new(alloc),
         };
         Ok(Box::new(alloc, texts)?)
     }
 
-    /// Adds the text of what this stands for, if that is outside of the module.
-    fn add(
+    /// Adds the text of what this stands for, if that is declared outside of the module and isn't there yet, and tells where it
+    /// stands.
+    pub(crate) fn meet(
         &mut self,
         alloc: Global,
         types: &Types<'a>,
         fronts: &Fronts,
         target: Target,
-    ) -> Result<(), AllocError>
+    ) -> Result<usize, AllocError>
         requires named { HaveNames types.now }
         requires external { (item name : ℕ) → target ≡ External item name → IsName (text types.now name) }
         ensures { (package_name : List ℕ) → AreFronts package_name fronts.now → AreOuter types.now package_name self.old →
@@ -114,13 +97,9 @@ impl<'a> Outer<'a> {
             Target::Imported {
                 reached,
                 declaration,
-            } => add_imported(
-                alloc,
-                types,
-                fronts.tree.as_str(),
-                &mut self.imported,
-                (reached, declaration),
-            ),
+            } => self
+                .imported
+                .meet(alloc, types, fronts.tree.as_str(), reached, declaration),
             Target::External { item, name } => add_name(
                 alloc,
                 types,
@@ -128,29 +107,11 @@ impl<'a> Outer<'a> {
                 &mut self.names,
                 (item, types.text(name)),
             ),
-            Target::Module(item) => add_module(alloc, types, fronts, &mut self.modules, item),
-            Target::Declared(_) => Ok(()),
-            Target::Own => Ok(()),
-            Target::Predeclared => Ok(()),
-            Target::Unresolved => Ok(()),
+            Target::Module(_) => Ok(0),
+            Target::Declared(_) => Ok(0),
+            Target::Own => Ok(0),
+            Target::Predeclared => Ok(0),
+            Target::Unresolved => Ok(0),
         }
     }
-}
-
-/// The texts of all that references stand for outside of the module.
-pub(crate) fn outer_texts<'a>(
-    alloc: Global,
-    types: &Types<'a>,
-    fronts: &Fronts,
-    refs: &[Reference],
-) -> Result<Box<Outer<'a>>, AllocError>
-    requires named { HaveNames types.now }
-    requires of_names { AreOfNames types.now refs.now }
-    ensures { (package_name : List ℕ) → AreFronts package_name fronts.now → IfOk result (λ texts. AreOuter types.now package_name texts.value) }
-{
-    let mut texts = Outer::new(alloc)?;
-    for reference in refs {
-        texts.add(alloc, types, fronts, reference.target)?;
-    }
-    Ok(texts)
 }

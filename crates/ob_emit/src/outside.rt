@@ -98,13 +98,17 @@ fn external_row(
     }
 }
 
-/// What tells apart what stands outside: the place of an import item, with a name of its module, or without one for the module itself.
+/// What tells apart what stands outside: the place of an import item, with a name of its module, or without one for the module itself;
+/// a module of the tree has none, so that it isn't looked up.
 fn outside_key<'a>(types: &Types<'a>, target: Target) -> Option<(u32, Option<&'a [u8]>)>
     ensures { option_and_then (outside_row types.now) result ≡ external_row types.now target }
 {
     match target {
         Target::External { item, name } => Some((item, Some(types.text(name)))),
-        Target::Module(item) => Some((item, None)),
+        Target::Module(item) => match types.home(item) {
+            Some(_) => None,
+            None => Some((item, None)),
+        },
         Target::Declared(_) => None,
         Target::Imported { .. } => None,
         Target::Own => None,

@@ -1,11 +1,9 @@
 //! The module's own declarations, by their tokens.
-ghost use Rattle.std.specs.Prelude.{◌≡◌, ◌==◌, find, position, slice_get};
+ghost use Rattle.std.specs.Prelude.{◌≡◌, ◌==◌, find, slice_get};
 ghost use Rattle.std.specs.Option.{option_map};
 ghost use Rattle.ob_decls.specs.declared.rows.Declared.{Declared};
 ghost use Rattle.ob_decls.specs.declared.rows.Declarer.{Declarer};
 ghost use Rattle.ob_decls.specs.Declaring.{rows_in};
-ghost use Rattle.ob_decls.specs.Order.{AscendBy, HasNoneBy, IsPlaceBy};
-ghost use Rattle.std.specs.Prelude.{IfSome, IfNone};
 ghost use Rattle.ob_types.specs.World.{declarer_of, owner_at};
 ghost use Rattle.ob_emit.specs.Made.{step_told};
 ghost use Rattle.ob_emit.specs.Symbols.{is_local, own_step, own_step_by, own_steps};
@@ -28,25 +26,6 @@ fn declared_at(table: &Table, number: u32) -> Option<Declared>
 {
     table.keeps();
     table.declaration(number).copied()
-}
-
-/// The place among all of the identifier that this token declares, if there is a row of that number.
-fn place_by_number(declared: &[Declared], number: u32) -> Option<usize>
-    requires { AscendBy (λ (d : Declared). d.number) declared.now }
-    ensures found { IfSome result (IsPlaceBy (λ (d : Declared). d.number) declared.now number) }
-    ensures none { IfNone result (HasNoneBy (λ (d : Declared). d.number) declared.now number) }
-{
-    declared
-        .binary_search_by_key(&number, |row| row.number)
-        .ok()
-}
-
-/// The place of the identifier that this token declares.
-pub(crate) fn place_of(table: &Table, number: u32) -> Option<usize>
-    ensures { result ≡ position (λ (d : Declared). d.number == number) (rows_in table.now).declared }
-{
-    table.keeps();
-    place_by_number(table.declared(), number)
 }
 
 /// The import item at a place.

@@ -1,21 +1,24 @@
 //! The texts of a module's symbols, each made once.
-ghost use Rattle.std.specs.Prelude.{◌≡◌, ◌++◌, IfOk, Some, slice_get, take, length, map, count_by, codes};
+ghost use Rattle.std.specs.Prelude.{◌≡◌, ◌++◌, IfOk, OnOk, Some, slice_get, take, length, map, count_by, codes};
 ghost use Rattle.std.specs.Fmt.{decimal};
 ghost use Rattle.std.specs.Option.{option_map};
 ghost use Rattle.std.specs.String.{string_bytes};
 ghost use Rattle.std.specs.Prelude.{List, ℕ};
 ghost use Rattle.scip_symbol.specs.SymbolTexts.{plain_text, PlainDescriptor};
 ghost use Rattle.ob_emit.specs.Made.{front_text, path_text, AreMade, AreSymbolTexts};
-ghost use Rattle.ob_emit.specs.Named.{HaveNames, AreOfNames};
+ghost use Rattle.ob_emit.specs.Named.{HaveNames, AreOfNames, IsName};
+ghost use Rattle.ob_targets.specs.declared.target.Target.TheVariants.{External};
+ghost use Rattle.ob_types.specs.World.{text};
 ghost use Rattle.ob_emit.specs.Symbols.{is_local, own_path, symbol_at};
 
 use crate::fronts::Fronts;
 use crate::module_texts::module_text;
-use crate::outer_texts::{Outer, outer_texts};
+use crate::outer_texts::Outer;
 use crate::own::is_local;
 use crate::path::path_text;
+use crate::row_places::RowPlaces;
 use ob_decls::Declared;
-use ob_targets::Reference;
+use ob_targets::{Reference, Target};
 use ob_types::Types;
 use std::alloc::{AllocError, Global};
 
@@ -27,6 +30,8 @@ pub(crate) struct Texts<'a> {
     pub(crate) own: String,
     /// The texts of what the module declares, by place; an import item has none.
     pub(crate) declared: Vec<Option<String>>,
+    /// The places of what the module declares, by tokens.
+    pub(crate) places: RowPlaces<'a>,
     pub(crate) outer: Box<Outer<'a>>,
 }
 
@@ -102,7 +107,56 @@ fn declared_texts(
     Ok(texts)
 }
 
+/// The places of what a module declares, by tokens.
+fn places_in<'a>(alloc: Global, types: &Types<'a>) -> Result<RowPlaces<'a>, AllocError>
+    ensures { IfOk result (λ p. p.declared.now ≡ types.now.rows.declared) }
+{
+    let table = types.table();
+    table.keeps();
+    RowPlaces::new(alloc, table.declared(), types.tokens().len())
+}
+
 impl<'a> Texts<'a> {
+    /// The texts of the symbols in a package that a module has, whatever its references are.
+    pub(crate) fn begun(
+        alloc: Global,
+        types: &Types<'a>,
+        package_name: &str,
+    ) -> Result<Texts<'a>, AllocError>
+        requires { HaveNames types.now }
+        ensures { IfOk result (AreSymbolTexts types.now package_name.now) }
+    {
+        let fronts = Fronts::new(alloc, package_name)?;
+        let name = types.text(types.table().own_name());
+        let own = module_text(alloc, fronts.tree.as_str(), name)?;
+        let declared = declared_texts(alloc, types, fronts.tree.as_str())?;
+        let places = places_in(alloc, types)?;
+        let outer = Outer::new(alloc, types, &fronts)?;
+        Ok(Texts {
+            fronts,
+            own,
+            declared,
+            places,
+            outer,
+        })
+    }
+
+    /// Adds the text of what this stands for, if that is declared outside of the module and isn't there yet, and tells where it
+    /// stands.
+    pub(crate) fn meet(
+        &mut self,
+        alloc: Global,
+        types: &Types<'a>,
+        target: Target,
+    ) -> Result<usize, AllocError>
+        requires named { HaveNames types.now }
+        requires external { (item name : ℕ) → target ≡ External item name → IsName (text types.now name) }
+        ensures { (package_name : List ℕ) → AreSymbolTexts types.now package_name self.old →
+            OnOk result (AreSymbolTexts types.now package_name self.new) }
+    {
+        self.outer.meet(alloc, types, &self.fronts, target)
+    }
+
     /// The texts of the symbols in a package that a module with these references needs.
     pub(crate) fn new(
         alloc: Global,
@@ -114,16 +168,10 @@ impl<'a> Texts<'a> {
         requires of_names { AreOfNames types.now refs.now }
         ensures { IfOk result (AreSymbolTexts types.now package_name.now) }
     {
-        let fronts = Fronts::new(alloc, package_name)?;
-        let name = types.text(types.table().own_name());
-        let own = module_text(alloc, fronts.tree.as_str(), name)?;
-        let declared = declared_texts(alloc, types, fronts.tree.as_str())?;
-        let outer = outer_texts(alloc, types, &fronts, refs)?;
-        Ok(Texts {
-            fronts,
-            own,
-            declared,
-            outer,
-        })
+        let mut texts = Texts::begun(alloc, types, package_name)?;
+        for reference in refs {
+            texts.meet(alloc, types, reference.target)?;
+        }
+        Ok(texts)
     }
 }

@@ -83,8 +83,8 @@ fn push_unknown(
     }
 }
 
-/// Puts the record of an identifier's occurrence, if it has one.
-fn push_occurrence(
+/// Puts the record of an identifier's occurrence, if it has one, by the texts that are kept.
+fn push_kept(
     alloc: Global,
     scratch: &mut Scratch,
     out: &mut Vec<u8>,
@@ -93,6 +93,7 @@ fn push_occurrence(
     lines: &LineTable,
     near: &mut u32,
     reference: &Reference,
+    slot: usize,
 ) -> Result<(), AllocError>
     requires in_text { AreInText types.now.bytes types.now.tokens }
     requires short { length types.now.bytes < 2 ^ 31 }
@@ -102,27 +103,54 @@ fn push_occurrence(
     ensures { (package_name : List ℕ) → AreSymbolTexts types.now package_name texts.now →
         OnOk result (out.new.items ≡ out.old.items ++ spelled_fields (payload_fields 2 (map written_occurrence (option_to_list (occurrence types.now package_name reference.now))))) }
 {
-    match texts.known(types, reference.target) {
+    match texts.known(types, reference.target, slot) {
         Some(Some(symbol)) => push_place(scratch, out, types, lines, near, reference, symbol),
         Some(None) => Ok(()),
         None => push_unknown(alloc, scratch, out, types, texts, lines, near, reference),
     }
 }
 
-/// Puts the records of the occurrences of identifiers, in their order.
-fn push_occurrences(
+/// Puts the record of an identifier's occurrence, if it has one. The text of its symbol is made where it isn't kept yet.
+fn push_occurrence<'a>(
     alloc: Global,
     scratch: &mut Scratch,
     out: &mut Vec<u8>,
-    types: &Types<'_>,
-    texts: &Texts<'_>,
+    types: &Types<'a>,
+    texts: &mut Texts<'a>,
+    lines: &LineTable,
+    near: &mut u32,
+    reference: &Reference,
+) -> Result<(), AllocError>
+    requires in_text { AreInText types.now.bytes types.now.tokens }
+    requires short { length types.now.bytes < 2 ^ 31 }
+    requires lined { lines.now ≡ line_starts types.now.bytes }
+    requires named { HaveNames types.now }
+    requires external { (item name : ℕ) → reference.now.target ≡ External item name → IsName (text types.now name) }
+    ensures texts { (package_name : List ℕ) → AreSymbolTexts types.now package_name texts.old → OnOk result (AreSymbolTexts types.now package_name texts.new) }
+    ensures bytes { (package_name : List ℕ) → AreSymbolTexts types.now package_name texts.old →
+        OnOk result (out.new.items ≡ out.old.items ++ spelled_fields (payload_fields 2 (map written_occurrence (option_to_list (occurrence types.now package_name reference.now))))) }
+{
+    let slot = texts.meet(alloc, types, reference.target)?;
+    push_kept(
+        alloc, scratch, out, types, texts, lines, near, reference, slot,
+    )
+}
+
+/// Puts the records of the occurrences of identifiers, in their order.
+fn push_occurrences<'a>(
+    alloc: Global,
+    scratch: &mut Scratch,
+    out: &mut Vec<u8>,
+    types: &Types<'a>,
+    texts: &mut Texts<'a>,
     refs: &[Reference],
 ) -> Result<(), AllocError>
     requires in_text { AreInText types.now.bytes types.now.tokens }
     requires short { length types.now.bytes < 2 ^ 31 }
     requires named { HaveNames types.now }
     requires of_names { AreOfNames types.now refs.now }
-    ensures { (package_name : List ℕ) → AreSymbolTexts types.now package_name texts.now →
+    ensures texts { (package_name : List ℕ) → AreSymbolTexts types.now package_name texts.old → OnOk result (AreSymbolTexts types.now package_name texts.new) }
+    ensures bytes { (package_name : List ℕ) → AreSymbolTexts types.now package_name texts.old →
         OnOk result (out.new.items ≡ out.old.items ++ spelled_fields (payload_fields 2 (map written_occurrence (filter_map (occurrence types.now package_name) refs.now)))) }
 {
     let lines = line_table(alloc, types.bytes())?;
@@ -193,7 +221,7 @@ fn push_symbol(
     if reference.role != 1 {
         return Ok(());
     }
-    match texts.known(types, reference.target) {
+    match texts.known(types, reference.target, 0) {
         Some(Some(symbol)) => push_shown(scratch, out, types, reference, symbol),
         Some(None) => Ok(()),
         None => push_unknown_symbol(alloc, scratch, out, types, texts, reference),
@@ -221,19 +249,19 @@ fn push_symbols(
 }
 
 /// Puts the bytes of a module's document.
-fn push_document(
+fn push_document<'a>(
     alloc: Global,
     out: &mut Vec<u8>,
     path: &str,
-    types: &Types<'_>,
-    texts: &Texts<'_>,
+    types: &Types<'a>,
+    texts: &mut Texts<'a>,
     refs: &[Reference],
 ) -> Result<(), AllocError>
     requires in_text { AreInText types.now.bytes types.now.tokens }
     requires short { length types.now.bytes < 2 ^ 31 }
     requires named { HaveNames types.now }
     requires of_names { AreOfNames types.now refs.now }
-    ensures { (package_name : List ℕ) → AreSymbolTexts types.now package_name texts.now →
+    ensures { (package_name : List ℕ) → AreSymbolTexts types.now package_name texts.old →
         OnOk result (out.new.items ≡ out.old.items ++ written_document (document_of types.now path.now package_name refs.now)) }
 {
     let mut scratch = Scratch::new(alloc);
@@ -260,9 +288,9 @@ fn bytes_in(
 {
     /// Room for an occurrence, so that the bytes mostly needn't be moved as they grow.
     const OCCURRENCE: usize = 48;
-    let texts = Texts::new(alloc, types, refs, package_name)?;
+    let mut texts = Texts::begun(alloc, types, package_name)?;
     let mut bytes = Vec::with_capacity(alloc, refs.len().saturating_mul(OCCURRENCE))?;
-    push_document(alloc, &mut bytes, path, types, &texts, refs)?;
+    push_document(alloc, &mut bytes, path, types, &mut texts, refs)?;
     Ok(bytes)
 }
 

@@ -11,7 +11,6 @@ ghost use Rattle.ob_types.specs.World.{text};
 
 use crate::imported_texts::imported_text;
 use crate::module_texts::{external_text, item_text};
-use crate::own::place_of;
 use crate::own_texts::Texts;
 use ob_targets::Target;
 use ob_types::Types;
@@ -38,7 +37,8 @@ impl Texts<'_> {
         ensures { (package_name : List ℕ) → AreSymbolTexts types.now package_name self.now →
             IfOk result (λ text. option_map string_bytes text ≡ option_map plain_text (declared_symbol types.now package_name number)) }
     {
-        let Some(at) = place_of(types.table(), number) else {
+        let _ = types;
+        let Some(at) = self.places.place_of(number) else {
             return Ok(None);
         };
         match self.declared.get(at) {
@@ -59,7 +59,7 @@ impl Texts<'_> {
         ensures { (package_name : List ℕ) → AreSymbolTexts types.now package_name self.now →
             IfOk result (λ text. option_map string_bytes text ≡ option_map plain_text (imported_symbol types.now package_name reached declaration)) }
     {
-        match self.outer.imported.get(&(reached, declaration)) {
+        match self.outer.imported.kept(reached, declaration) {
             Some(text) => copied(text),
             None => imported_text(
                 alloc,
@@ -82,7 +82,7 @@ impl Texts<'_> {
         ensures { (package_name : List ℕ) → AreSymbolTexts types.now package_name self.now →
             IfOk result (λ text. option_map string_bytes text ≡ option_map plain_text (module_symbol types.now package_name item)) }
     {
-        match self.outer.modules.get(&item) {
+        match self.outer.modules.get(item as usize) {
             Some(text) => copied(text),
             None => item_text(alloc, types, &self.fronts, item),
         }

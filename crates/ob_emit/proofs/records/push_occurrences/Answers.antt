@@ -10,7 +10,13 @@ push_occurrence-requires-clause-external c = external_named c.args.types.now c.a
 
 pub loop-reference-preserved : goal.loop-reference-preserved
 loop-reference-preserved c = λ p made.
-    put_row 2 written_occurrence (occurrence c.args.types.now p) c.args.refs.now c.loop-reference.reference-index _ _ _ _ c.loop-reference-test.true (c.loop-reference.invariant p made) (c.in_ok-push_occurrence.ensures p made)
+    let before = c.loop-reference.invariant p made in (
+      c.in_ok-push_occurrence.ensures.texts p before.0,
+      put_row 2 written_occurrence (occurrence c.args.types.now p) c.args.refs.now c.loop-reference.reference-index _ _ _ _ c.loop-reference-test.true before.1 (c.in_ok-push_occurrence.ensures.bytes p before.0),
+    )
 
-pub returns : goal.returns
-returns c = λ p made. rows_put 2 written_occurrence (occurrence c.args.types.now p) c.args.refs.now c.loop-reference.reference-index _ _ c.loop-reference-test.false (c.loop-reference.invariant p made)
+pub returns-clause-bytes : goal.returns-clause-bytes
+returns-clause-bytes c = λ p made. rows_put 2 written_occurrence (occurrence c.args.types.now p) c.args.refs.now c.loop-reference.reference-index _ _ c.loop-reference-test.false (c.loop-reference.invariant p made).1
+
+pub returns-clause-texts : goal.returns-clause-texts
+returns-clause-texts c = λ p made. (c.loop-reference.invariant p made).0

@@ -10,7 +10,7 @@ pub returns-in-Some : goal.returns-in-Some
 returns-in-Some c = λ p made.
     let outer : AreOuter c.args.types.now p c.deref.result.now = subst (AreOuter c.args.types.now p) (sym c.deref.ensures) made.outer in
     subst (λ (t : Option (List ℕ)). IfOk c.copied.result (λ (more : Option (String Global)). option_map string_bytes more ≡ t))
-    (outer.imported (c.args.reached, c.args.declaration) c.in-Some.text.now (sym c.in-Some.ensures.value)) c.copied.ensures
+    (c.in-Some.ensures c.args.types.now p outer.imported) c.copied.ensures
 
 pub returns-in-None : goal.returns-in-None
 returns-in-None c = λ p made. c.imported_text.ensures p (c.as_str.ensures.value ∙ made.fronts.tree)

@@ -4,7 +4,6 @@ use Rattle.std.specs.Prelude.{slice_get}
 use Rattle.std.specs.Option.{option_and_then, option_map}
 use Rattle.std.specs.String.{string_bytes}
 use Rattle.std.proofs.lemmas.Option.{slice_get_read}
-use Rattle.ob_decls.specs.Declaring.{rows_in}
 use Rattle.ob_emit.proofs.Texting.{declared_text}
 use Rattle.ob_emit.proofs.own_texts.Texts.known_declared.Goals as goal
 
@@ -14,4 +13,4 @@ returns-in-Some-get c = λ p made.
     let text = c.in-Some-get.text.now in
     let at = c.in-Some.at in
     let there = ap (option_and_then (option_map string_bytes)) (sym (slice_get_read c.deref.result.now _ at text refl c.in-Some-get.ensures.lookup.3.0 c.in-Some-get.ensures.lookup.1) ∙ ap (λ (xs : List (Option (String Global))). slice_get xs at) c.deref.ensures.value) in
-    c.lent.ensures ∙ there ∙ declared_text c.args.types.now p c.args.number at (rows_in c.table.result.now) c.place_of.result all made.declared c.table.ensures c.place_of.ensures c.in-Some.is
+    c.lent.ensures ∙ there ∙ declared_text c.args.types.now p c.args.number at c.args.self.now.places.declared.now c.place_of.result all made.declared made.places c.place_of.ensures c.in-Some.is

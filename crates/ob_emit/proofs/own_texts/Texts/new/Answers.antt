@@ -1,22 +1,6 @@
--- The texts' parts.
-use Rattle.std.proofs.Common.{List, ℕ, ap, sym, ◌∙◌, subst, ◌++◌}
-use Rattle.ob_types.specs.World.{text}
-use Rattle.ob_emit.specs.Made.{front_text, path_text}
-use Rattle.ob_emit.specs.Named.{IsName}
-use Rattle.ob_emit.specs.Symbols.{module_path}
-use Rattle.ob_emit.proofs.Naming.{own_named}
+-- What stands for a name of an external module is a name, and each turn adds a text.
+use Rattle.ob_emit.proofs.Rows.{external_named}
 use Rattle.ob_emit.proofs.own_texts.Texts.new.Goals as goal
 
-pub module_text-requires : goal.module_text-requires
-module_text-requires c = subst IsName (sym (c.text-name.ensures ∙ ap (text c.args.types.now) c.own_name.ensures)) (own_named c.args.types.now c.requires.named)
-
-pub returns : goal.returns
-returns c = record {
-  fronts = c.in_ok-fronts.ensures;
-  own =
-      c.in_ok-own.ensures
-      ∙ (ap (λ (x : List ℕ). x ++ path_text (module_path c.text-name.result.now)) (c.as_str.ensures.value ∙ c.in_ok-fronts.ensures.tree)
-      ∙ ap (λ (x : List ℕ). front_text c.args.package_name.now ++ path_text (module_path x)) (c.text-name.ensures ∙ ap (text c.args.types.now) c.own_name.ensures));
-  declared = c.in_ok-declared.ensures c.args.package_name.now (c.as_str-2.ensures.value ∙ c.in_ok-fronts.ensures.tree);
-  outer = c.in_ok-outer.ensures c.args.package_name.now c.in_ok-fronts.ensures;
-}
+pub meet-requires-clause-external : goal.meet-requires-clause-external
+meet-requires-clause-external c = external_named c.args.types.now c.args.refs.now c.requires.of_names c.loop-reference.reference-index _ c.loop-reference-test.true

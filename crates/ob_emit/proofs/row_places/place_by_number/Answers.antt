@@ -3,7 +3,7 @@ use Rattle.std.proofs.Common.{rules}
 use Rattle.std.proofs.lemmas.Fn.{always_returns_same}
 use Rattle.ob_decls.specs.declared.rows.Declared.{Declared}
 use Rattle.ob_decls.proofs.Searched.{searched_found, searched_none}
-use Rattle.ob_emit.proofs.own.place_by_number.Goals as goal
+use Rattle.ob_emit.proofs.row_places.place_by_number.Goals as goal
 
 pub returns-clause-found : goal.returns-clause-found
 returns-clause-found c =

@@ -1,7 +1,0 @@
--- One text more, or all as it was.
-use Rattle.ob_emit.proofs.KeptTexts.{modules_more}
-use Rattle.ob_emit.proofs.outer_texts.add_module.Goals as goal
-
-pub returns : goal.returns
-returns c = λ p fronts before.
-    modules_more c.args.types.now p c.args.texts.now c.insert.new.self c.args.item c.in_ok-text.text before c.in_ok-insert.ensures.updates.0 (c.in_ok-text.ensures p fronts)

@@ -1,0 +1,123 @@
+//! The places of declarations by their tokens. A search among all rows takes steps by their number; here a mark at each sixteenth token
+//! tells between which rows the token's stands, at most sixteen.
+ghost use Rattle.std.specs.Prelude.{◌≡◌, ◌==◌, ◌<◌, IfNone, IfOk, IfSome, position};
+ghost use Rattle.ob_decls.specs.declared.rows.Declared.{Declared};
+ghost use Rattle.ob_decls.specs.Order.{AscendBy, HasNoneBy, IsPlaceBy};
+ghost use Rattle.ob_emit.specs.RowsCut.{AreBefore, AreBehind, AreCuts, IsCut};
+
+use ob_decls::Declared;
+use std::alloc::{AllocError, Global};
+
+/// How many tokens stand between two marks.
+const STRIDE: usize = 16;
+
+/// Declarations in the order of their tokens, with marks among them.
+#[derive(Drop)]
+pub(crate) struct RowPlaces<'a> {
+    pub(crate) declared: &'a [Declared],
+    /// For each stride of tokens the place of the first declaration from there on.
+    firsts: Vec<usize>,
+    ghost ascend: { AscendBy (λ (d : Declared). d.number) declared.now },
+    ghost cuts: { AreCuts declared.now firsts.items },
+}
+
+/// The place of the first declaration from a token on, sought from a place on that has none behind it.
+fn first_from(declared: &[Declared], from: usize, number: usize) -> usize
+    requires ascend { AscendBy (λ (d : Declared). d.number) declared.now }
+    requires before { AreBefore declared.now number from }
+    ensures { IsCut declared.now number result }
+{
+    let mut place = from;
+    'rows: while place < declared.len() && (declared[place].number as usize) < number {
+        place += 1;
+    }
+    place
+}
+
+/// The places of the first declarations from each of so many marks on.
+fn firsts_of(alloc: Global, declared: &[Declared], count: usize) -> Result<Vec<usize>, AllocError>
+    requires ascend { AscendBy (λ (d : Declared). d.number) declared.now }
+    requires few { count < 4294967296 }
+    ensures { IfOk result (λ firsts. AreCuts declared.now firsts.items) }
+{
+    let mut firsts = Vec::with_capacity(alloc, count)?;
+    let mut place = 0;
+    for mark in 0..count {
+        place = first_from(declared, place, mark * STRIDE);
+        firsts.push(place)?;
+    }
+    Ok(firsts)
+}
+
+/// The place among these of the declaration of this number, if there is one.
+fn place_between(declared: &[Declared], low: usize, high: usize, number: u32) -> Option<usize>
+    requires before { AreBefore declared.now number low }
+    requires behind { AreBehind declared.now number high }
+    ensures found { IfSome result (IsPlaceBy (λ (d : Declared). d.number) declared.now number) }
+    ensures none { IfNone result (HasNoneBy (λ (d : Declared). d.number) declared.now number) }
+{
+    for at in low..high {
+        if let Some(row) = declared.get(at) {
+            if row.number == number {
+                return Some(at);
+            }
+        }
+    }
+    None
+}
+
+/// The place among all of the declaration of this number, if there is one.
+fn place_by_number(declared: &[Declared], number: u32) -> Option<usize>
+    requires { AscendBy (λ (d : Declared). d.number) declared.now }
+    ensures found { IfSome result (IsPlaceBy (λ (d : Declared). d.number) declared.now number) }
+    ensures none { IfNone result (HasNoneBy (λ (d : Declared). d.number) declared.now number) }
+{
+    declared
+        .binary_search_by_key(&number, |row| row.number)
+        .ok()
+}
+
+impl<'a> RowPlaces<'a> {
+    /// Those of declarations in a text of so many tokens.
+    pub(crate) fn new(
+        alloc: Global,
+        declared: &'a [Declared],
+        tokens: usize,
+    ) -> Result<RowPlaces<'a>, AllocError>
+        requires { AscendBy (λ (d : Declared). d.number) declared.now }
+        ensures { IfOk result (λ p. p.declared.now ≡ declared.now) }
+    {
+        let count = tokens.min(u32::MAX as usize) / STRIDE + 2;
+        let firsts = firsts_of(alloc, declared, count)?;
+        Ok(RowPlaces { declared, firsts })
+    }
+
+    /// The marks before and behind a token.
+    fn bounds(&self, number: u32) -> Option<(usize, usize)>
+        ensures before { IfSome result (λ b. AreBefore self.now.declared.now number b.0) }
+        ensures behind { IfSome result (λ b. AreBehind self.now.declared.now number b.1) }
+    {
+        let mark = number as usize / STRIDE;
+        let low = *self.firsts.get(mark)?;
+        let high = *self.firsts.get(mark + 1)?;
+        Some((low, high))
+    }
+
+    /// Where the declaration of this number is sought, and found.
+    fn sought(&self, number: u32) -> Option<usize>
+        ensures found { IfSome result (IsPlaceBy (λ (d : Declared). d.number) self.now.declared.now number) }
+        ensures none { IfNone result (HasNoneBy (λ (d : Declared). d.number) self.now.declared.now number) }
+    {
+        match self.bounds(number) {
+            Some((low, high)) => place_between(self.declared, low, high, number),
+            None => place_by_number(self.declared, number),
+        }
+    }
+
+    /// The place of the declaration of this number, if there is one.
+    pub(crate) fn place_of(&self, number: u32) -> Option<usize>
+        ensures { result ≡ position (λ (d : Declared). d.number == number) self.now.declared.now }
+    {
+        self.sought(number)
+    }
+}
