@@ -1,15 +1,18 @@
 //! What is found of a module: its interface, and its identifiers that stand for nothing.
 ghost use Rattle.std.specs.Prelude.{◌≡◌, map, All, IfOk, List};
 ghost use Rattle.std.specs.Arc.{arc_value};
+ghost use Rattle.std.specs.Bool.{OnTrue};
 ghost use Rattle.std.specs.Str.{IsUtf8};
 ghost use Rattle.ob_decls.specs.Declaring.{rows_in};
 ghost use Rattle.ob_scan.specs.Spelling.{AreInText, Spells};
 ghost use Rattle.ob_scope.specs.Texts.{text_at};
 ghost use Rattle.ob_targets.specs.declared.target.Reference.{Reference};
 ghost use Rattle.ob_targets.specs.Refers.{unresolved, AreReferences};
+ghost use Rattle.ob_types.specs.Homes.{AreByName};
 ghost use Rattle.ob_types.specs.World.{world};
 ghost use Rattle.work_board.specs.Graphs.{row_at};
 ghost use Rattle.tree_board.specs.Seen.{all_seen, AreSourcesRead};
+ghost use Rattle.ob_board.specs.Entries.{interfaces_of};
 ghost use Rattle.ob_board.specs.Found.{IsAtHand};
 ghost use Rattle.ob_board.specs.Unresolved.{plain_unresolved};
 
@@ -96,42 +99,48 @@ fn unresolved_by(alloc: Global, types: &Types<'_>) -> Result<Vec<u32>, AllocErro
     numbers
 }
 
-/// The same, by what its parts and the interfaces of what it reaches say.
+/// The same, by what its parts and the interfaces of what it reaches say, told whether it is known that the names of these ascend.
 fn numbers_of(
     alloc: Global,
     source: &Source,
     parts: &ModuleParts,
     reached: &[Arc<Interface>],
+    by_name: bool,
 ) -> Result<Vec<u32>, AllocError>
     requires in_text { AreInText source.now.bytes.items parts.now.tokens }
+    requires by_name { OnTrue by_name (AreByName (map arc_value reached.now)) }
     ensures { IfOk result (λ numbers. (refs : List Reference) × (numbers.items ≡ unresolved refs)
         × AreReferences (world source.now.bytes.items parts.now.tokens (rows_in parts.now.table) parts.now.scopes (map arc_value reached.now)) refs) }
 {
-    let types = Types::new(
+    let types = Types::with_order(
         alloc,
         source.bytes.as_slice(),
         parts.tokens.as_slice(),
         &parts.table,
         &parts.scopes,
         reached,
+        by_name,
     )?;
     let numbers = unresolved_by(alloc, &types);
     drop(types);
     numbers
 }
 
-/// What is found of a module by its parts and the interfaces of what it reaches.
+/// What is found of a module by its parts and the interfaces of what it reaches, told whether it is known that the names of these
+/// ascend.
 fn found_in<F: NamedFiles>(
     alloc: Global,
     source: &Source,
     parts: &ModuleParts,
     reached: &[Arc<Interface>],
+    by_name: bool,
 ) -> Result<Found<F>, AllocError>
-    requires { IsAtHand F.files source.now parts.now (map arc_value reached.now) }
+    requires at_hand { IsAtHand F.files source.now parts.now (map arc_value reached.now) }
+    requires by_name { OnTrue by_name (AreByName (map arc_value reached.now)) }
     ensures { IfOk result (λ found. found.name ≡ text_at source.now.bytes.items parts.now.tokens 1) }
 {
     tokens_in_text();
-    let numbers = numbers_of(alloc, source, parts, reached)?;
+    let numbers = numbers_of(alloc, source, parts, reached, by_name)?;
     let bytes = source.bytes.as_slice();
     let rows = rows_of(
         alloc,
@@ -157,31 +166,39 @@ pub(crate) struct Finding<'a, F: NamedFiles> {
     sources: &'a [Source],
     modules: &'a [Box<ModuleParts>],
     graph: &'a Graph,
+    /// Whether the names of the modules are known to ascend.
+    by_name: bool,
     of: PhantomData<F>,
 }
 
 impl<'a, F: NamedFiles> Model for Finding<'a, F> {
     ghost use Rattle.std.specs.Prelude.{◌≡◌};
     ghost use Rattle.ob_imports.specs.Graphs.{ImportGraph};
+    ghost use Rattle.ob_types.specs.Homes.{AreByName};
+    ghost use Rattle.std.specs.Bool.{OnTrue};
+    ghost use Rattle.ob_board.specs.Entries.{interfaces_of};
     ghost use Rattle.tree_board.specs.Seen.{all_seen, AreSourcesRead};
 
     ghost Value = { ImportGraph };
 
     ghost view = { λ w. w.graph.now };
 
-    ghost invariant = { λ w. (F.files ≡ all_seen w.sources.now w.modules.now) × AreSourcesRead w.sources.now w.modules.now w.graph.now };
+    ghost invariant = { λ w. (F.files ≡ all_seen w.sources.now w.modules.now) × AreSourcesRead w.sources.now w.modules.now w.graph.now
+        × OnTrue w.by_name (AreByName (interfaces_of w.modules.now)) };
 }
 
 impl<'a, F: NamedFiles> Finding<'a, F> {
-    /// What finds it of the modules of these files.
+    /// What finds it of the modules of these files, told whether the names of the modules are known to ascend.
     pub(crate) fn new(
         alloc: Global,
         sources: &'a [Source],
         modules: &'a [Box<ModuleParts>],
         graph: &'a Graph,
+        by_name: bool,
     ) -> Finding<'a, F>
         requires files { F.files ≡ all_seen sources.now modules.now }
         requires seen { AreSourcesRead sources.now modules.now graph.now }
+        requires by_name { OnTrue by_name (AreByName (interfaces_of modules.now)) }
         ensures { result ≡ graph.now }
     {
         Finding {
@@ -189,6 +206,7 @@ impl<'a, F: NamedFiles> Finding<'a, F> {
             sources,
             modules,
             graph,
+            by_name,
             of: PhantomData,
         }
     }
@@ -208,6 +226,7 @@ impl<F: NamedFiles> Work for Finding<'_, F> {
             &self.sources[place],
             &self.modules[place],
             parts,
+            self.by_name,
         )?;
         Ok(found)
     }

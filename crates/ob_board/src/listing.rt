@@ -8,6 +8,7 @@ ghost use Rattle.ob_board.specs.Unresolved.{plain_unresolved, AreUnresolved, IsU
 use crate::Unresolved;
 use crate::files::NamedFiles;
 use crate::found::{Finding, Found};
+use crate::indexing::names_ascend;
 use board_workers::entries_alone;
 use oscip_tree::{Source, TreeFault, TreeParts, tree_parts};
 use std::alloc::{AllocError, Global};
@@ -37,8 +38,15 @@ fn listed<F: NamedFiles>(
     requires seen { AreSourcesRead sources.now tree.now.modules.items tree.now.graph }
     ensures { IfOk result (λ rows. IsUnresolvedOf F.files (map plain_unresolved rows.items)) }
 {
+    let by_name = names_ascend(alloc, tree.modules.as_slice())?;
     let graph = board_graph(alloc, &tree.graph)?;
-    let work = Finding::<F>::new(alloc, sources, tree.modules.as_slice(), &tree.graph);
+    let work = Finding::<F>::new(
+        alloc,
+        sources,
+        tree.modules.as_slice(),
+        &tree.graph,
+        by_name,
+    );
     let all = entries_alone(alloc, &graph, &work);
     drop(graph);
     joined(alloc, all?)

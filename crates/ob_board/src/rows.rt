@@ -64,6 +64,9 @@ pub(crate) fn rows_of(
     requires texts { All (λ k. IsUtf8 (text_at bytes.now tokens.now k)) numbers.now }
     ensures { IfOk result (λ rows. AreUnresolvedRows path.now bytes.now tokens.now numbers.now (map plain_unresolved rows.items)) }
 {
+    if numbers.is_empty() {
+        return Ok(Vec::new(alloc));
+    }
     let lines = lines(alloc, bytes)?;
     let mut rows = Vec::new(alloc);
     for number in numbers {

@@ -17,5 +17,5 @@ rows_of-requires-clause-texts g c =
     λ k d lt.
     let x = get_or c.as_slice-2.result.now k d in
     let has : Contains (unresolved refs) x = subst (λ (ks : List ℕ). Contains ks x) whole (Contains-get_or c.as_slice-2.result.now k d lt) in
-    let text : IsUtf8 (text_at bytes ts x) = texts_of bytes ts refs c.requires.is_seen.reads.1 are.numbers x has in
+    let text : IsUtf8 (text_at bytes ts x) = texts_of bytes ts refs c.requires.at_hand.is_seen.reads.1 are.numbers x has in
     subst (λ (bs : List ℕ). IsUtf8 (text_at bs c.as_slice.result.now x)) (sym c.as_slice-bytes.ensures.value) (subst (λ (us : List Token). IsUtf8 (text_at bytes us x)) (sym c.as_slice.ensures) text)
