@@ -1,78 +1,33 @@
-//! Where the lines of a text begin, found many bytes at a time, and lines told from where the last one was.
+//! Lines told from where the last one was.
 ghost use Rattle.std.specs.Prelude.{◌≡◌, ◌≤◌, ◌<◌, ◌^◌, ℕ, List, false, length, slice_index, leb, IfNone, IfOk, IfSome};
 ghost use Rattle.std.specs.Bool.{OnTrue};
 ghost use Rattle.ob_scan.specs.Position.{ends_line, line_starts, IsLineTable, IsPosition};
-ghost use Rattle.ob_emit.specs.LinesFound.{HasNoEnd, IsInLine, IsNextEnd};
+ghost use Rattle.ob_emit.specs.LinesFound.{IsInLine};
 
-use memchr::memchr2;
-use ob_scan::Position;
+use ob_scan::{Lines, Position, lines};
 use std::alloc::{AllocError, Global};
 use std::marker::Model;
 
-/// Where the lines of a text begin: what `ob_scan::lines` answers, made faster, and stepped through.
+/// Where the lines of a text begin, stepped through: an offset near the last one is mostly in its line or in one of the next.
 #[derive(Drop)]
 pub(crate) struct LineTable {
-    starts: Vec<u32>,
+    lines: Lines,
 }
 
 impl Model for LineTable {
     ghost use Rattle.std.specs.Prelude.{List, ℕ};
-    ghost use Rattle.ob_scan.specs.Position.{IsLineTable};
 
     ghost Value = { List ℕ };
 
-    ghost view = { λ t. t.starts.items };
-
-    ghost invariant = { λ t. IsLineTable t.starts.items };
-}
-
-/// Whether a line ends with this byte.
-fn ends_line(bytes: &[u8], at: usize) -> bool
-    requires { at < length bytes.now }
-    ensures { result ≡ ends_line bytes.now at }
-{
-    match bytes[at] {
-        b'\n' => true,
-        b'\r' => bytes.get(at + 1) != Some(&b'\n'),
-        _ => false,
-    }
-}
-
-/// The first byte from an offset on with which a line may end.
-fn next_end(bytes: &[u8], from: usize) -> Option<usize>
-    requires { from ≤ length bytes.now }
-    ensures some { IfSome result (IsNextEnd bytes.now from) }
-    ensures none { IfNone result (HasNoEnd bytes.now from (length bytes.now)) }
-{
-    match memchr2(b'\n', b'\r', &bytes[from..]) {
-        Some(ahead) => Some(from + ahead),
-        None => None,
-    }
-}
-
-/// Where the lines of a text begin, in order.
-fn starts_of(alloc: Global, bytes: &[u8]) -> Result<Vec<u32>, AllocError>
-    requires { length bytes.now < 2 ^ 31 }
-    ensures { IfOk result (λ v. v.items ≡ line_starts bytes.now) }
-{
-    let mut starts = vec![in alloc; 0]?;
-    let mut from = 0;
-    'ends: while let Some(at) = next_end(bytes, from) {
-        if ends_line(bytes, at) {
-            starts.push(at as u32 + 1)?;
-        }
-        from = at + 1;
-    }
-    Ok(starts)
+    ghost view = { λ t. t.lines };
 }
 
 /// The table of the lines of a text.
 pub(crate) fn line_table(alloc: Global, bytes: &[u8]) -> Result<LineTable, AllocError>
-    requires { length bytes.now < 2 ^ 31 }
     ensures { IfOk result (λ t. t ≡ line_starts bytes.now) }
 {
     Ok(LineTable {
-        starts: starts_of(alloc, bytes)?,
+        lines: lines(alloc, bytes)?,
     })
 }
 
@@ -122,7 +77,7 @@ impl LineTable {
     pub(crate) fn position_near(&self, near: &mut u32, offset: u32) -> Position
         ensures { (bytes : List ℕ) → self.now ≡ line_starts bytes → offset ≤ length bytes → IsPosition bytes offset result.line result.column }
     {
-        let starts = self.starts.as_slice();
+        let starts = self.lines.starts();
         let line = line_near(starts, *near as usize, offset);
         *near = line as u32;
         Position {
