@@ -2,6 +2,8 @@
 
 ghost use Rattle.std.specs.Prelude.{◌≡◌, IfOk};
 ghost use Rattle.ob_decls.specs.Declaring.{rows_in, rows_of};
+ghost use Rattle.ob_decls.specs.Drafts.{drafted};
+ghost use Rattle.ob_tree.specs.declared.declaration.Module.{Module};
 
 use crate::draft::{Context, Draft};
 use crate::order::rise;
@@ -29,6 +31,27 @@ pub fn table_of(alloc: Global, module: &Module) -> Result<Table, AllocError>
     if draft.refused {
         return Err(AllocError);
     }
+    rise(draft.parts.as_slice())?;
+    Ok(Table {
+        declarers: draft.declarers,
+        declared: draft.declared,
+        uses: draft.uses,
+        blocks: draft.blocks,
+        imports: draft.imports,
+        parts: draft.parts,
+        records: draft.records,
+        designators: draft.designators,
+        selectors: draft.selectors,
+        ends: draft.ends,
+    })
+}
+
+/// The table of a draft whose rows are those of a module. AllocError is never answered: that the parts of one form stand
+/// together is looked at before, and no module breaks it.
+pub fn table_from(draft: Draft) -> Result<Table, AllocError>
+    requires { (m : Module) × (drafted draft ≡ rows_of m) }
+    ensures { IfOk result (λ t. rows_in t ≡ drafted draft) }
+{
     rise(draft.parts.as_slice())?;
     Ok(Table {
         declarers: draft.declarers,

@@ -11,33 +11,45 @@ use std::alloc::{AllocError, Global};
 
 /// What is around a part of a tree.
 #[derive(Clone, Copy)]
-pub(crate) struct Context {
+pub struct Context {
     /// The first token of the block.
-    pub(crate) block: u32,
+    pub block: u32,
     /// The first token of the innermost construct that declares.
-    pub(crate) declarer: u32,
+    pub declarer: u32,
     /// The RECORD of the innermost record, or 0.
-    pub(crate) of_record: u32,
+    pub of_record: u32,
     /// Whether POINTER TO stands directly before it.
-    pub(crate) is_target: bool,
+    pub is_target: bool,
 }
 
 /// The rows so far, and the number of the next token. A draft that was refused memory, or a number that no row can hold, says
 /// nothing of its rows from then on.
 #[derive(Drop)]
-pub(crate) struct Draft {
-    pub(crate) number: u32,
-    pub(crate) refused: bool,
-    pub(crate) declarers: Vec<Declarer>,
-    pub(crate) declared: Vec<Declared>,
-    pub(crate) uses: Vec<Used>,
-    pub(crate) blocks: Vec<Block>,
-    pub(crate) imports: Vec<Import>,
-    pub(crate) parts: Vec<FormPart>,
-    pub(crate) records: Vec<Record>,
-    pub(crate) designators: Vec<Designator>,
-    pub(crate) selectors: Vec<Selector>,
-    pub(crate) ends: Vec<End>,
+pub struct Draft {
+    /// The number of the next token, from 0.
+    pub number: u32,
+    /// Whether memory was refused, or a number that no row can hold.
+    pub refused: bool,
+    /// The constructs that declare.
+    pub declarers: Vec<Declarer>,
+    /// The identifiers that are declared.
+    pub declared: Vec<Declared>,
+    /// Those that are looked up.
+    pub uses: Vec<Used>,
+    /// The blocks.
+    pub blocks: Vec<Block>,
+    /// The import items.
+    pub imports: Vec<Import>,
+    /// The parts of forms.
+    pub parts: Vec<FormPart>,
+    /// The records.
+    pub records: Vec<Record>,
+    /// The designators.
+    pub designators: Vec<Designator>,
+    /// Their selectors.
+    pub selectors: Vec<Selector>,
+    /// The names behind END.
+    pub ends: Vec<End>,
 }
 
 /// Adds a row behind the others, or keeps that memory was refused.
@@ -52,7 +64,7 @@ fn add_row<T: Drop>(rows: &mut Vec<T>, row: T, refused: &mut bool)
 impl Draft {
     /// Passes a token, of which there are 2^32 - 1 at most.
     #[tactic(auto, using(crate::proofs::Steps::growing), unfolding(crate::specs::Drafts::stage_of, crate::specs::Drafts::passed, crate::specs::Drafts::added, crate::specs::Drafts::closed, crate::specs::Parts::joined))]
-    pub(crate) fn pass(&mut self)
+    pub fn pass(&mut self)
         ensures { ComesTo passed self.old self.new }
     {
         match self.number.checked_add(1) {
@@ -63,7 +75,7 @@ impl Draft {
 
     /// Adds an identifier that is declared.
     #[tactic(auto, using(crate::proofs::Steps::growing), unfolding(crate::specs::Drafts::stage_of, crate::specs::Drafts::passed, crate::specs::Drafts::added, crate::specs::Drafts::closed, crate::specs::Parts::joined))]
-    pub(crate) fn add_declared(&mut self, row: Declared)
+    pub fn add_declared(&mut self, row: Declared)
         ensures { ComesTo (added (one_declared row)) self.old self.new }
     {
         add_row(&mut self.declared, row, &mut self.refused);
@@ -71,7 +83,7 @@ impl Draft {
 
     /// Adds an identifier that is looked up.
     #[tactic(auto, using(crate::proofs::Steps::growing), unfolding(crate::specs::Drafts::stage_of, crate::specs::Drafts::passed, crate::specs::Drafts::added, crate::specs::Drafts::closed, crate::specs::Parts::joined))]
-    pub(crate) fn add_used(&mut self, row: Used)
+    pub fn add_used(&mut self, row: Used)
         ensures { ComesTo (added (one_used row)) self.old self.new }
     {
         add_row(&mut self.uses, row, &mut self.refused);
@@ -79,7 +91,7 @@ impl Draft {
 
     /// Adds a block that begins with the next token.
     #[tactic(auto, using(crate::proofs::Steps::growing), unfolding(crate::specs::Drafts::stage_of, crate::specs::Drafts::passed, crate::specs::Drafts::added, crate::specs::Drafts::closed, crate::specs::Parts::joined))]
-    pub(crate) fn add_block(&mut self, row: Block)
+    pub fn add_block(&mut self, row: Block)
         ensures { ComesTo (added (one_block row)) self.old self.new }
     {
         add_row(&mut self.blocks, row, &mut self.refused);
@@ -95,7 +107,7 @@ impl Draft {
 
     /// Adds a part of a form.
     #[tactic(auto, using(crate::proofs::Steps::growing), unfolding(crate::specs::Drafts::stage_of, crate::specs::Drafts::passed, crate::specs::Drafts::added, crate::specs::Drafts::closed, crate::specs::Parts::joined))]
-    pub(crate) fn add_part(&mut self, row: FormPart)
+    pub fn add_part(&mut self, row: FormPart)
         ensures { ComesTo (added (one_part row)) self.old self.new }
     {
         add_row(&mut self.parts, row, &mut self.refused);
@@ -103,7 +115,7 @@ impl Draft {
 
     /// Adds a record.
     #[tactic(auto, using(crate::proofs::Steps::growing), unfolding(crate::specs::Drafts::stage_of, crate::specs::Drafts::passed, crate::specs::Drafts::added, crate::specs::Drafts::closed, crate::specs::Parts::joined))]
-    pub(crate) fn add_record(&mut self, row: Record)
+    pub fn add_record(&mut self, row: Record)
         ensures { ComesTo (added (one_record row)) self.old self.new }
     {
         add_row(&mut self.records, row, &mut self.refused);
@@ -111,7 +123,7 @@ impl Draft {
 
     /// Adds a designator.
     #[tactic(auto, using(crate::proofs::Steps::growing), unfolding(crate::specs::Drafts::stage_of, crate::specs::Drafts::passed, crate::specs::Drafts::added, crate::specs::Drafts::closed, crate::specs::Parts::joined))]
-    pub(crate) fn add_designator(&mut self, row: Designator)
+    pub fn add_designator(&mut self, row: Designator)
         ensures { ComesTo (added (one_designator row)) self.old self.new }
     {
         add_row(&mut self.designators, row, &mut self.refused);
@@ -119,7 +131,7 @@ impl Draft {
 
     /// Adds a selector.
     #[tactic(auto, using(crate::proofs::Steps::growing), unfolding(crate::specs::Drafts::stage_of, crate::specs::Drafts::passed, crate::specs::Drafts::added, crate::specs::Drafts::closed, crate::specs::Parts::joined))]
-    pub(crate) fn add_selector(&mut self, row: Selector)
+    pub fn add_selector(&mut self, row: Selector)
         ensures { ComesTo (added (these_selectors (row ∷ []))) self.old self.new }
     {
         add_row(&mut self.selectors, row, &mut self.refused);
@@ -135,7 +147,7 @@ impl Draft {
 
     /// Gives the row in this place, and answers the place behind it.
     #[tactic(auto, using(crate::proofs::Steps::growing), unfolding(crate::specs::Drafts::stage_of, crate::specs::Drafts::passed, crate::specs::Drafts::added, crate::specs::Drafts::settled, crate::specs::Parts::joined))]
-    pub(crate) fn settle(&mut self, at: usize, row: Selector) -> usize
+    pub fn settle(&mut self, at: usize, row: Selector) -> usize
         ensures row { ComesTo (settled at row) self.old self.new }
         ensures place { self.new.refused ≡ false → result ≡ at + 1 }
     {
@@ -153,7 +165,7 @@ impl Draft {
 
     /// Begins a construct that declares, whose last token isn't known yet.
     #[tactic(auto, using(crate::proofs::Steps::growing), unfolding(crate::specs::Drafts::stage_of, crate::specs::Drafts::passed, crate::specs::Drafts::added, crate::specs::Drafts::closed, crate::specs::Parts::joined))]
-    pub(crate) fn open(&mut self, row: Declarer) -> usize
+    pub fn open(&mut self, row: Declarer) -> usize
         ensures row { ComesTo (added (one_declarer row)) self.old self.new }
         ensures place { result ≡ length self.old.declarers.items }
     {
@@ -164,7 +176,7 @@ impl Draft {
 
     /// Ends the construct of this row, behind its last token.
     #[tactic(auto, using(crate::proofs::Steps::growing), unfolding(crate::specs::Drafts::stage_of, crate::specs::Drafts::passed, crate::specs::Drafts::added, crate::specs::Drafts::closed, crate::specs::Parts::joined))]
-    pub(crate) fn close(&mut self, at: usize, row: Declarer)
+    pub fn close(&mut self, at: usize, row: Declarer)
         ensures { ComesTo (closed at row) self.old self.new }
     {
         if at < self.declarers.len() {
@@ -177,7 +189,7 @@ impl Draft {
 }
 
 /// The row of a construct that declares as this and begins with this token.
-pub(crate) fn declarer_at(sort: Sort, inside: Context, first: u32) -> Declarer
+pub fn declarer_at(sort: Sort, inside: Context, first: u32) -> Declarer
     ensures { result ≡ declarer sort inside first 0 }
 {
     let of_record = match sort {
@@ -199,7 +211,7 @@ pub(crate) fn declarer_at(sort: Sort, inside: Context, first: u32) -> Declarer
 }
 
 /// What is around the parts of a construct that declares and begins with this token.
-pub(crate) fn declaring_from(inside: Context, first: u32) -> Context
+pub fn declaring_from(inside: Context, first: u32) -> Context
     ensures { result ≡ declaring_at inside first }
 {
     Context {
@@ -210,7 +222,7 @@ pub(crate) fn declaring_from(inside: Context, first: u32) -> Context
 }
 
 /// What is around the parts of a block that begins with this token.
-pub(crate) fn block_from(inside: Context, first: u32) -> Context
+pub fn block_from(inside: Context, first: u32) -> Context
     ensures { result ≡ in_block inside first }
 {
     Context {
@@ -236,7 +248,7 @@ impl Draft {
     /// Before the first token of about so many. Lists have room for the rows that so many tokens mostly have, so that they
     /// need not grow row by row.
     #[tactic(auto, unfolding(crate::specs::Drafts::stage_of, crate::specs::Parts::no_rows))]
-    pub(crate) fn new(alloc: Global, tokens: u32) -> Draft
+    pub fn new(alloc: Global, tokens: u32) -> Draft
         ensures { stage_of result ≡ start }
     {
         let tokens = (tokens as usize).min(MOST_TOKENS);
@@ -260,7 +272,7 @@ impl Draft {
 impl Draft {
     /// The number of the token that stands so many tokens behind this one.
     #[tactic(auto, unfolding(crate::specs::Drafts::stage_of))]
-    pub(crate) fn behind(&mut self, number: u32, by: u32) -> u32
+    pub fn behind(&mut self, number: u32, by: u32) -> u32
         ensures stage { ComesTo (λ s. s) self.old self.new }
         ensures number { self.new.refused ≡ false → result ≡ number + by }
     {

@@ -1,6 +1,6 @@
 //! One walk over a tree, which carries the number of the next token.
 
-pub(crate) mod declarations;
-mod expressions;
-mod statements;
-mod types;
+pub mod declarations;
+pub mod expressions;
+pub mod statements;
+pub mod types;

@@ -151,7 +151,7 @@ fn walk_procedure_inner(draft: &mut Draft, inside: Context, procedure: &ProcDecl
 
 /// The name behind the END of a procedure.
 #[tactic(auto, using(crate::proofs::DeclarationLayers::sections_made))]
-fn walk_procedure_end(draft: &mut Draft, inside: Context)
+pub fn walk_procedure_end(draft: &mut Draft, inside: Context)
     ensures { ComesTo (after (tells procedure_end token) inside) draft.old draft.new }
 {
     let number = draft.number;
@@ -258,7 +258,7 @@ fn walk_import(draft: &mut Draft, inside: Context, import: ImportItem)
 
 /// IMPORT up to its semicolon.
 #[tactic(auto, using(crate::proofs::DeclarationLayers::sections_made))]
-fn walk_imports(draft: &mut Draft, inside: Context, imports: &Option<OneOrMore<ImportItem>>)
+pub fn walk_imports(draft: &mut Draft, inside: Context, imports: &Option<OneOrMore<ImportItem>>)
     ensures { ComesTo (after (if_there imports_piece imports.now) inside) draft.old draft.new }
 {
     match imports {
@@ -291,7 +291,7 @@ fn walk_module_body(draft: &mut Draft, inside: Context, body: &Option<StatementS
 
 /// The name behind the END of a module.
 #[tactic(auto, using(crate::proofs::DeclarationLayers::sections_made))]
-fn walk_module_end(draft: &mut Draft, inside: Context)
+pub fn walk_module_end(draft: &mut Draft, inside: Context)
     ensures { ComesTo (after (tells module_end token) inside) draft.old draft.new }
 {
     let number = draft.number;

@@ -14,7 +14,7 @@ use ob_tree::expression::{
 use std::alloc::AllocError;
 
 /// The name behind a dot that follows this token, if one does.
-pub(crate) fn member_at(draft: &mut Draft, member: Option<u32>, head: u32) -> Option<u32>
+pub fn member_at(draft: &mut Draft, member: Option<u32>, head: u32) -> Option<u32>
     ensures stage { ComesTo (λ s. s) draft.old draft.new }
     ensures member { draft.new.refused ≡ false → result ≡ behind_dot member head }
 {
@@ -26,7 +26,7 @@ pub(crate) fn member_at(draft: &mut Draft, member: Option<u32>, head: u32) -> Op
 
 /// An identifier that is looked up and is no pointer's target.
 #[tactic(auto, using(crate::proofs::Steps::steps))]
-pub(crate) fn walk_used(draft: &mut Draft, inside: Context, member: Option<u32>)
+pub fn walk_used(draft: &mut Draft, inside: Context, member: Option<u32>)
     ensures { ComesTo (after (used member) inside) draft.old draft.new }
 {
     let number = draft.number;

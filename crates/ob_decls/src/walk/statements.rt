@@ -13,7 +13,7 @@ use ob_tree::name::Qualident;
 use ob_tree::statement::{Branch, Case, For, Label, LabelRange, StatementSequence, Stmt};
 
 #[tactic(auto, using(crate::proofs::StatementLayers::labels_made))]
-pub(crate) fn walk_qualident(draft: &mut Draft, inside: Context, name: Qualident)
+pub fn walk_qualident(draft: &mut Draft, inside: Context, name: Qualident)
     ensures { ComesTo (after (qualident_piece name) inside) draft.old draft.new }
 {
     walk_used(draft, inside, name.member);
@@ -67,7 +67,7 @@ fn walk_step(draft: &mut Draft, inside: Context, by: &Option<Expr>)
 
 /// The variable of a FOR, which is written.
 #[tactic(auto, using(crate::proofs::StatementLayers::labels_made))]
-fn walk_for_variable(draft: &mut Draft, inside: Context)
+pub fn walk_for_variable(draft: &mut Draft, inside: Context)
     ensures { ComesTo (after variable_piece inside) draft.old draft.new }
 {
     let head = draft.number;

@@ -16,7 +16,7 @@ use ob_tree::expression::ExprList;
 use ob_tree::name::{Identdef, Qualident};
 
 #[tactic(auto, using(crate::proofs::TypeLayers::names_made))]
-pub(crate) fn walk_identdef(draft: &mut Draft, inside: Context, name: Identdef)
+pub fn walk_identdef(draft: &mut Draft, inside: Context, name: Identdef)
     ensures { ComesTo (after (identdef_piece name) inside) draft.old draft.new }
 {
     let number = draft.number;
