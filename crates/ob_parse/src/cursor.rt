@@ -7,7 +7,7 @@ use ob_tree::token::{Leaf, leaf_at};
 
 /// What is still to be read of a text's tokens: those from the one of this number on. It holds no token, and so has no lifetime.
 #[derive(Clone, Copy)]
-pub(crate) struct Cursor {
+pub struct Cursor {
     at: u32,
 }
 
@@ -16,12 +16,12 @@ impl Cursor {
     ghost use Rattle.ob_parse.specs.Gives.{ahead, seen};
 
     /// All tokens of a text.
-    pub(crate) const ALL: Cursor = Cursor { at: 0 };
+    pub const ALL: Cursor = Cursor { at: 0 };
 
     /// The next of these tokens, and those after it.
     #[inline(always)]
     #[tactic(auto, unfolding(crate::specs::Gives::ahead))]
-    pub(crate) fn next(self, tokens: &[Token]) -> Option<(Leaf, Cursor)>
+    pub fn next(self, tokens: &[Token]) -> Option<(Leaf, Cursor)>
         ensures { seen tokens.now result ≡ uncons (ahead tokens.now self) }
     {
         let token = tokens.get(self.at as usize)?;
@@ -30,7 +30,7 @@ impl Cursor {
     }
 
     /// The number of the next token, or how many there are where there is none.
-    pub(crate) fn number(self) -> u32
+    pub fn number(self) -> u32
         ensures { result ≡ self.at }
     {
         self.at

@@ -21,7 +21,7 @@ use ob_tree::token::Leaf;
 use std::alloc::Global;
 
 /// Whether a label begins here.
-pub(crate) fn begins_label(tokens: &[Token], input: Cursor) -> bool
+pub fn begins_label(tokens: &[Token], input: Cursor) -> bool
     ensures { result ≡ front label_first (uncons (ahead tokens.now input)) }
 {
     match input.next(tokens) {

@@ -1,23 +1,23 @@
-//! From the tokens of an Oberon-07 module to its syntax tree.
+//! From the tokens of an Oberon-07 module to its syntax tree, by readers that others may use.
 //! Stands on `ob_scan` and `ob_tree`, with `thiserror` for its faults.
 //! Its contract: the one tree that derives the tokens, of at most 200 levels and with right END names, or why there is none.
 #![tactic(auto)]
 
-mod cursor;
+pub mod cursor;
 mod declarations;
 mod ends;
 mod expressions;
 mod fault;
-mod labels;
+pub mod labels;
 pub mod laws;
-mod modules;
-mod names;
-mod operators;
+pub mod modules;
+pub mod names;
+pub mod operators;
 mod parameters;
-mod parser;
-mod statements;
-mod stop;
-mod tokens;
+pub mod parser;
+pub mod statements;
+pub mod stop;
+pub mod tokens;
 mod types;
 
 pub use fault::ParseFault;

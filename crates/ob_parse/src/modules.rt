@@ -77,7 +77,7 @@ fn import_list(
 
 /// The imports, if IMPORT stands here.
 #[tactic(auto, unfolding(crate::specs::ReadModules::imports_at))]
-fn imports(
+pub fn imports(
     alloc: Global,
     tokens: &[Token],
     input: Cursor,

@@ -12,7 +12,7 @@ use ob_tree::name::{Identdef, Qualident};
 
 /// A qualified identifier, behind its first name.
 #[tactic(auto, unfolding(ob_tree::specs::Names::qualident_outline, crate::specs::ReadNames::qualident_after, crate::specs::Forms::name_at))]
-pub(crate) fn qualident_after(
+pub fn qualident_after(
     tokens: &[Token],
     head: u32,
     input: Cursor,
@@ -36,7 +36,7 @@ pub(crate) fn qualident_after(
 
 /// A qualified identifier.
 #[tactic(auto, unfolding(crate::specs::ReadNames::qualident_after, crate::specs::ReadNames::qualident_at, crate::specs::Forms::name_at))]
-pub(crate) fn qualident(tokens: &[Token], input: Cursor) -> Result<(Qualident, Cursor), Stop>
+pub fn qualident(tokens: &[Token], input: Cursor) -> Result<(Qualident, Cursor), Stop>
     ensures { Gives tokens.now (λ x. (qualident_outline x.0, ahead tokens.now x.1)) result (readers.qualident_at (ahead tokens.now input)) }
 {
     let (head, rest) = identifier(tokens, input)?;
@@ -45,7 +45,7 @@ pub(crate) fn qualident(tokens: &[Token], input: Cursor) -> Result<(Qualident, C
 
 /// A declaring identifier.
 #[tactic(auto, using(crate::proofs::Stars::star_read), unfolding(ob_tree::specs::Names::identdef_outline, crate::specs::ReadNames::identdef_at, crate::specs::ReadNames::identdef_after))]
-pub(crate) fn identdef(tokens: &[Token], input: Cursor) -> Result<(Identdef, Cursor), Stop>
+pub fn identdef(tokens: &[Token], input: Cursor) -> Result<(Identdef, Cursor), Stop>
     ensures { Gives tokens.now (λ x. (identdef_outline x.0, ahead tokens.now x.1)) result (readers.identdef_at (ahead tokens.now input)) }
 {
     let (name, rest) = identifier(tokens, input)?;

@@ -15,7 +15,7 @@ use ob_tree::token::Leaf;
 
 /// The relation that stands here, if one does.
 #[tactic(auto, unfolding(crate::specs::ReadExpressions::relation_at))]
-pub(crate) fn relation(tokens: &[Token], input: Cursor) -> Option<(Relation, Cursor)>
+pub fn relation(tokens: &[Token], input: Cursor) -> Option<(Relation, Cursor)>
     ensures { seen tokens.now result ≡ relation_at (ahead tokens.now input) }
 {
     let (leaf, rest) = input.next(tokens)?;
@@ -35,7 +35,7 @@ pub(crate) fn relation(tokens: &[Token], input: Cursor) -> Option<(Relation, Cur
 
 /// The sign that stands here, if one does, and the tokens behind it.
 #[tactic(auto, unfolding(crate::specs::ReadExpressions::sign_at))]
-pub(crate) fn sign(tokens: &[Token], input: Cursor) -> (Option<Sign>, Cursor)
+pub fn sign(tokens: &[Token], input: Cursor) -> (Option<Sign>, Cursor)
     ensures { Ok (if_there (λ x. word (sign_kind x)) result.0, ahead tokens.now result.1) ≡ optional sign_start nothing (ahead tokens.now input) }
 {
     match input.next(tokens) {
@@ -47,7 +47,7 @@ pub(crate) fn sign(tokens: &[Token], input: Cursor) -> (Option<Sign>, Cursor)
 
 /// The operator between terms that stands here, if one does.
 #[tactic(auto, unfolding(crate::specs::ReadExpressions::add_at))]
-pub(crate) fn add_operator(tokens: &[Token], input: Cursor) -> Option<(AddOperator, Cursor)>
+pub fn add_operator(tokens: &[Token], input: Cursor) -> Option<(AddOperator, Cursor)>
     ensures { seen tokens.now result ≡ add_at (ahead tokens.now input) }
 {
     match input.next(tokens) {
@@ -60,7 +60,7 @@ pub(crate) fn add_operator(tokens: &[Token], input: Cursor) -> Option<(AddOperat
 
 /// The operator between factors that stands here, if one does.
 #[tactic(auto, unfolding(crate::specs::ReadExpressions::mul_at))]
-pub(crate) fn mul_operator(tokens: &[Token], input: Cursor) -> Option<(MulOperator, Cursor)>
+pub fn mul_operator(tokens: &[Token], input: Cursor) -> Option<(MulOperator, Cursor)>
     ensures { seen tokens.now result ≡ mul_at (ahead tokens.now input) }
 {
     match input.next(tokens) {
@@ -74,7 +74,7 @@ pub(crate) fn mul_operator(tokens: &[Token], input: Cursor) -> Option<(MulOperat
 }
 
 /// Whether a selector begins here.
-pub(crate) fn begins_selector(tokens: &[Token], input: Cursor) -> bool
+pub fn begins_selector(tokens: &[Token], input: Cursor) -> bool
     ensures { result ≡ front selector_first (uncons (ahead tokens.now input)) }
 {
     match input.next(tokens) {
@@ -87,7 +87,7 @@ pub(crate) fn begins_selector(tokens: &[Token], input: Cursor) -> bool
 }
 
 /// Whether a factor begins here.
-pub(crate) fn begins_factor(tokens: &[Token], input: Cursor) -> bool
+pub fn begins_factor(tokens: &[Token], input: Cursor) -> bool
     ensures { result ≡ front factor_first (uncons (ahead tokens.now input)) }
 {
     match input.next(tokens) {
@@ -104,7 +104,7 @@ pub(crate) fn begins_factor(tokens: &[Token], input: Cursor) -> bool
 }
 
 /// Whether an expression begins here.
-pub(crate) fn begins_expression(tokens: &[Token], input: Cursor) -> bool
+pub fn begins_expression(tokens: &[Token], input: Cursor) -> bool
     ensures { result ≡ front expr_first (uncons (ahead tokens.now input)) }
 {
     match input.next(tokens) {

@@ -42,7 +42,9 @@ fn offset_of(end: u32, tokens: &[Token], number: u32) -> u32
     }
 }
 
-fn fault_of(end: u32, tokens: &[Token], stop: Stop) -> ParseFault
+/// The fault of a text of so many bytes whose tokens the parser stops among; of a token its offset, and the text's end where
+/// none stands there.
+pub fn fault_of(end: u32, tokens: &[Token], stop: Stop) -> ParseFault
     ensures { result ≡ told end tokens.now stop }
 {
     match stop {

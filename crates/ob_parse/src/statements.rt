@@ -25,7 +25,7 @@ use ob_tree::token::Leaf;
 use std::alloc::Global;
 
 /// Whether a statement that isn't empty begins here.
-fn begins_statement(tokens: &[Token], input: Cursor) -> bool
+pub fn begins_statement(tokens: &[Token], input: Cursor) -> bool
     ensures { result ≡ front statement_first (uncons (ahead tokens.now input)) }
 {
     match input.next(tokens) {

@@ -9,7 +9,7 @@ use std::alloc::{AllocError, AllocFailed, Global};
 
 /// Why the parser stops before the end, with what is still to be read.
 #[derive(Clone, Copy)]
-pub(crate) enum Stop {
+pub enum Stop {
     /// The next token is wrong, or there is none.
     Unexpected(Cursor),
     /// A construct that begins with it is nested too deep.

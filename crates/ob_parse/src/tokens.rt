@@ -13,7 +13,7 @@ use ob_tree::token::Leaf;
 
 /// A token of this kind, which has to stand here.
 #[tactic(auto, unfolding(crate::specs::Forms::expect_at))]
-pub(crate) fn expect(tokens: &[Token], input: Cursor, kind: Kind) -> Result<Cursor, Stop>
+pub fn expect(tokens: &[Token], input: Cursor, kind: Kind) -> Result<Cursor, Stop>
     ensures { Gives tokens.now (λ rest. (word kind, ahead tokens.now rest)) result (expect_at kind (ahead tokens.now input)) }
 {
     match input.next(tokens) {
@@ -24,7 +24,7 @@ pub(crate) fn expect(tokens: &[Token], input: Cursor, kind: Kind) -> Result<Curs
 
 /// The tokens behind one of this kind, if it stands here.
 #[tactic(auto, unfolding(crate::specs::Forms::accept_at))]
-pub(crate) fn accept(tokens: &[Token], input: Cursor, kind: Kind) -> Option<Cursor>
+pub fn accept(tokens: &[Token], input: Cursor, kind: Kind) -> Option<Cursor>
     ensures { skipped tokens.now kind result ≡ accept_at kind (ahead tokens.now input) }
 {
     match input.next(tokens) {
@@ -34,7 +34,7 @@ pub(crate) fn accept(tokens: &[Token], input: Cursor, kind: Kind) -> Option<Curs
 }
 
 /// Whether a token of this kind stands here, and the tokens behind it then.
-pub(crate) fn skip(tokens: &[Token], input: Cursor, kind: Kind) -> (bool, Cursor)
+pub fn skip(tokens: &[Token], input: Cursor, kind: Kind) -> (bool, Cursor)
     ensures { Ok (if_so result.0 (word kind), ahead tokens.now result.1) ≡ optional (accept_at kind) nothing (ahead tokens.now input) }
 {
     match accept(tokens, input, kind) {
@@ -44,7 +44,7 @@ pub(crate) fn skip(tokens: &[Token], input: Cursor, kind: Kind) -> (bool, Cursor
 }
 
 /// Whether a token of this kind stands here.
-pub(crate) fn is_at(tokens: &[Token], input: Cursor, kind: Kind) -> bool
+pub fn is_at(tokens: &[Token], input: Cursor, kind: Kind) -> bool
     ensures { result ≡ front (is_word kind) (uncons (ahead tokens.now input)) }
 {
     match input.next(tokens) {
@@ -55,7 +55,7 @@ pub(crate) fn is_at(tokens: &[Token], input: Cursor, kind: Kind) -> bool
 
 /// An identifier, which has to stand here.
 #[tactic(auto, unfolding(crate::specs::Forms::identifier_at))]
-pub(crate) fn identifier(tokens: &[Token], input: Cursor) -> Result<(u32, Cursor), Stop>
+pub fn identifier(tokens: &[Token], input: Cursor) -> Result<(u32, Cursor), Stop>
     ensures { Gives tokens.now (λ x. (x.0, ahead tokens.now x.1)) result (identifier_at (ahead tokens.now input)) }
 {
     match input.next(tokens) {
@@ -65,7 +65,7 @@ pub(crate) fn identifier(tokens: &[Token], input: Cursor) -> Result<(u32, Cursor
 }
 
 /// Why the parser stops where the depth is used up: at the construct that begins here, or else at a wrong token.
-pub(crate) fn beyond(tokens: &[Token], input: Cursor, begins: bool) -> Stop
+pub fn beyond(tokens: &[Token], input: Cursor, begins: bool) -> Stop
     ensures { Fails tokens.now result (limited begins (uncons (ahead tokens.now input))) }
 {
     if begins {
