@@ -1,0 +1,312 @@
+-- Designators and selectors of parts that were told.
+use Rattle.std.proofs.Common.{◌≡◌, ℕ, zero, suc, ◌+◌, ◌≤◌, ◌<◌, Bool, true, false, List, [], ◌∷◌, ◌++◌, length, map, set, Option, Some, None, Ok, Err, refl, sym, ap, subst, ◌∙◌, arith, length-append}
+use Rattle.std.specs.Global.{Box, Vec, Global}
+use Rattle.std.specs.Prelude.{Result}
+use Rattle.ob_scan.specs.declared.kind.Kind.{Kind}
+use Rattle.ob_scan.specs.declared.kind.Kind.TheVariants as kinds
+use Rattle.ob_scan.specs.declared.token.Token.{Token}
+use Rattle.ob_tree.specs.declared.token.Leaf.{Leaf}
+use Rattle.ob_tree.specs.declared.token.Leaf.TheVariants as leafs
+use Rattle.ob_tree.specs.declared.expression.Factor.TheOpen as layers
+use Rattle.ob_tree.specs.declared.expression.Selector.{Selector}
+use Rattle.ob_tree.specs.declared.expression.Selector.TheVariants as selectors
+use Rattle.ob_tree.specs.declared.expression.Designator.{Designator}
+use Rattle.ob_tree.specs.declared.expression.ExprList.{ExprList}
+use Rattle.ob_tree.specs.Constructs as constructs
+use Rattle.ob_tree.specs.Marks.{Out, construct, word, used, each}
+use Rattle.ob_tree.specs.Marks as marks
+use Rattle.ob_tree.specs.Expressions.{selector_outline, designator_outline, expr_list_outline}
+use Rattle.ob_tree.proofs.ExpressionLayers as shown
+use Rattle.ob_decls.specs.declared.rows.Selector.{Selector as SelectorRow}
+use Rattle.ob_decls.specs.declared.rows.Step.TheVariants as steps
+use Rattle.ob_decls.specs.declared.draft.Context.{Context}
+use Rattle.ob_decls.specs.declared.draft.Draft.{Draft}
+use Rattle.ob_decls.specs.Drafts.{Stage, stage_of, after, passed, added, settled, ComesTo}
+use Rattle.ob_decls.specs.Parts.{Piece, token, both, joined, these_selectors}
+use Rattle.ob_decls.specs.Expressions.{Selected, selected, first_name, designator_piece, designator_row, expr_list_piece}
+use Rattle.ob_decls.specs.Expressions.{used as uses}
+use Rattle.ob_decls.specs.Settling.{blanks, row_at, settling}
+use Rattle.ob_decls.proofs.ExpressionLayers as told
+use Rattle.ob_decls.proofs.ExpressionLayers.{length_map}
+use Rattle.ob_decls.proofs.Settled.{map_more, settling_more, settling_none, designator_after}
+use Rattle.ob_decls.proofs.Steps.{after_both, after_token, number_of, selectors_of}
+use Rattle.ob_parse.specs.declared.cursor.Cursor.{Cursor}
+use Rattle.ob_parse.specs.declared.stop.Stop.{Stop}
+use Rattle.ob_parse.specs.declared.stop.Stop.TheVariants as stops
+use Rattle.ob_parse.proofs.Loops.{Advances}
+use Rattle.ob_parse.specs.Front.{uncons, front, is_word}
+use Rattle.ob_parse.specs.Forms.{Read, Reader, seq, node, prefixed, many, begins, expect_at, identifier_at, name_at}
+use Rattle.ob_parse.specs.Gives.{ahead, Fails}
+use Rattle.ob_parse.specs.ReadExpressions.{selector_first, selector_from, selector_with, designator_with, expr_at}
+use Rattle.ob_parse.proofs.Sound.{done}
+use Rattle.ob_table.specs.Choosing.{dot_at, is_there, Picked, picked_outline, picking, Chosen, chosen_outline, choosing, places, Counted, counted_outline}
+use Rattle.ob_table.specs.Tells.{Told, Tells, TellsBy}
+use Rattle.ob_table.proofs.Combine.{told_as, told_at, told_node, told_then, told_prefixed, told_behind, told_before, told_knowing, told_knowing_then}
+use Rattle.ob_table.proofs.FactorTrees.{bracket_after}
+use Rattle.ob_table.proofs.Lists.{Gathered, Listing, listing_begun, listing_more, listing_done}
+use Rattle.ob_table.proofs.Made.{boxed}
+
+-- ---- rows of selectors
+
+set_front : (xs ys : List SelectorRow) (at : ℕ) (row : SelectorRow) → at < length xs → set (xs ++ ys) at row ≡ set xs at row ++ ys
+set_front [] ys at row h = absurd (omega (arith, h))
+set_front (x ∷ xs) ys zero row h = refl
+set_front (x ∷ xs) ys (suc n) row h = ap (λ (zs : List SelectorRow). x ∷ zs) (set_front xs ys n row (omega (arith, h)))
+
+-- a row that has its place already may get its step later
+settled_late : (p : Piece) (c : Context) (s : Stage) (at : ℕ) (row : SelectorRow) → at < length s.rows.selectors → settled at row (after p c s) ≡ after p c (settled at row s)
+unfolding settled after joined
+settled_late p c s at row h =
+    ap (λ (zs : List SelectorRow). let t : Stage = record { number = s.number + p.width; rows = record (joined s.rows (p.rows c s.number)) { selectors = zs } } in t)
+    (set_front s.rows.selectors (p.rows c s.number).selectors at row h)
+
+settled_passed : (s : Stage) (at : ℕ) (row : SelectorRow) → settled at row (passed s) ≡ passed (settled at row s)
+unfolding settled passed
+settled_passed s at row = refl
+
+-- what a selector tells, by its layer
+pub picking_shown : {dot : Bool} (head at : ℕ) (c : Context) (x : Picked dot) (y : Selected) (s : Stage) → selected x.selector ≡ y →
+    picking head at c x s ≡ after y.piece c (settled at (row_at head y s) s)
+picking_shown head at c x y s e = ap (λ (z : Selected). after z.piece c (settled at (row_at head z s) s)) e
+
+-- ---- "^"
+
+target_picked : Picked false
+target_picked = record { selector = selectors.Target; named = ap (λ (x : Selected). is_there x.name) told.target_made }
+
+pub target_told : (ts : List Token) (c : Context) (head at : ℕ) (old mid new : Draft) (input rest : Cursor) → rest ≡ input →
+    ComesTo (settled at (record { of = head; step = steps.Target })) old mid → ComesTo passed mid new →
+    Told ts picked_outline (picking {dot = false} head at c) old new rest (Ok (construct constructs.Selector (word kinds.Caret), ahead ts input))
+unfolding target_picked
+target_told ts c head at old mid new input rest same h k = record {
+  out = construct constructs.Selector (word kinds.Caret);
+  is_read = ap (λ (i : Cursor). done (construct constructs.Selector (word kinds.Caret), ahead ts i)) (sym same);
+  telling = λ e.
+      let b = k e in
+      let a = h b.0 in (
+        a.0,
+        record {
+          tree = target_picked;
+          shows = shown.target_made;
+          comes = b.1 ∙ ap passed a.1 ∙ sym (after_token c _) ∙ sym (picking_shown head at c target_picked (told.selector_shown layers.Target) (stage_of old) told.target_made);
+        },
+      );
+}
+
+-- ---- "." ident
+
+field_picked : ℕ → Picked true
+field_picked n = record { selector = selectors.Field n; named = ap (λ (x : Selected). is_there x.name) (told.field_made n) }
+
+pub field_told : (ts : List Token) (c : Context) (head at number m : ℕ) (old first mid late new : Draft) (input behind rest : Cursor) → rest ≡ behind →
+    ComesTo (λ s. s) old first → (first.refused ≡ false → number ≡ old.number + 1) → ComesTo (settled at (record { of = head; step = steps.Field number })) first mid → ComesTo passed mid late →
+    identifier_at (ahead ts input) ≡ Ok (m, ahead ts behind) → ComesTo passed late new →
+    Told ts picked_outline (picking {dot = true} head at c) old new rest (node constructs.Selector (prefixed (word kinds.Dot) (name_at marks.selected)) (ahead ts input))
+unfolding field_picked name_at
+field_told ts c head at number m old first mid late new input behind rest equal g known h k e l = record {
+  out = construct constructs.Selector (word kinds.Dot ++ marks.selected m);
+  is_read = rw e (ap (λ (i : Cursor). done (construct constructs.Selector (word kinds.Dot ++ marks.selected m), ahead ts i)) (sym equal));
+  telling = λ q.
+      let z = l q in
+      let b = k z.0 in
+      let a = h b.0 in
+      let o = g a.0 in
+      let same : number ≡ (stage_of old).number + 1 = known a.0 ∙ ap (λ (n : ℕ). n + 1) (sym (number_of old)) in (
+        o.0,
+        record {
+          tree = field_picked m;
+          shows = shown.field_made m;
+          comes = z.1 ∙ ap passed (b.1 ∙ ap passed (a.1 ∙ ap (settled at (record { of = head; step = steps.Field number })) o.1 ∙ ap (λ (n : ℕ). settled at (record { of = head; step = steps.Field n }) (stage_of old)) same))
+              ∙ sym (after_both token token c _ ∙ after_token c _ ∙ ap passed (after_token c _))
+              ∙ sym (picking_shown head at c (field_picked m) (told.selector_shown (layers.Field m)) (stage_of old) (told.field_made m));
+        },
+      );
+}
+
+-- ---- between two words, with a row that is settled before the second
+
+settled_bracket : (p : Piece) (c : Context) (s : Stage) (at : ℕ) (row : SelectorRow) → at < length s.rows.selectors →
+    after (both token (both p token)) c (settled at row s) ≡ passed (settled at row (after p c (passed s)))
+unfolding passed
+settled_bracket p c s at row h =
+    bracket_after p c (settled at row s) ∙ ap (λ (t : Stage). passed (after p c t)) (sym (settled_passed s at row)) ∙ ap passed (sym (settled_late p c (passed s) at row h))
+
+-- what is told between two words, of which the first was passed, with a row that is settled before the second
+pub told_settled : {A : Type 0} (B : Type 0) (ts : List Token) (f : A → Out) (q : A → Piece) (c : Context) (begin end : Kind) (r : Reader) (at : ℕ) (row : SelectorRow) (old kept mid list late new : Draft) (input here : Cursor) (result : Result Cursor Stop) →
+    ComesTo (λ s. s) old kept → (kept.refused ≡ false → at < length old.selectors.items) → ComesTo passed kept mid →
+    Told ts f (λ x. after (q x) c) mid list here (r (ahead ts input)) → ComesTo (settled at row) list late →
+    TellsBy ts (λ (x : B). word end) (λ x s. passed s) late new result (expect_at end (ahead ts here)) →
+    TellsBy ts (λ (x : A × B). construct constructs.Selector (word begin ++ (f x.0 ++ word end))) (λ x s. after (both token (both (q x.0) token)) c (settled at row s)) old new result
+    (node constructs.Selector (prefixed (word begin) (seq r (expect_at end))) (ahead ts input))
+told_settled {A} B ts f q c begin end r at row old kept mid list late new input here result g known h a k b =
+    let Fact : Type 0 = at < length old.selectors.items in
+    told_at ts (λ (x : (A × B) × Fact). construct constructs.Selector (word begin ++ (f x.0.0 ++ word end))) (λ x s. passed (settled at row (after (q x.0.0) c (passed s)))) _ _ (λ x. x.0) (λ x. refl) old new result _
+    (λ x. settled_bracket (q x.0.0) c (stage_of old) at row (subst (λ (ss : List SelectorRow). at < length ss) (sym (selectors_of old)) x.1))
+    (told_node ts (λ (x : (A × B) × Fact). word begin ++ (f x.0.0 ++ word end)) _ constructs.Selector (prefixed (word begin) (seq r (expect_at end))) old new result (ahead ts input)
+    (told_prefixed ts (λ (x : (A × B) × Fact). f x.0.0 ++ word end) _ (word begin) (seq r (expect_at end)) old new result (ahead ts input)
+    (told_knowing ts (λ (x : A × B). f x.0 ++ word end) (λ x s. passed (settled at row (after (q x.0) c (passed s)))) (λ s. s) old kept new result (seq r (expect_at end) (ahead ts input)) g known
+    (told_behind ts (λ (x : A × B). f x.0 ++ word end) (λ x s. passed (settled at row (after (q x.0) c s))) passed kept mid new result (seq r (expect_at end) (ahead ts input)) h
+    (told_then ts f (λ x s. settled at row (after (q x) c s)) (λ (x : B). word end) (λ x s. passed s) r (expect_at end) mid late new here result (ahead ts input)
+    (told_before ts f (λ x. after (q x) c) (settled at row) mid list late here (r (ahead ts input)) a k) b)))))
+
+-- ---- "[" list "]"
+
+index_picked : Global → ExprList → Picked false
+index_picked g l = record { selector = selectors.Index (boxed g l); named = ap (λ (x : Selected). is_there x.name) (told.index_made (boxed g l)) }
+
+pub index_told : (ts : List Token) (c : Context) (r : Reader) (head at count : ℕ) (old kept mid list late new : Draft) (input here : Cursor) (result : Result Cursor Stop) →
+    ComesTo (λ s. s) old kept → (kept.refused ≡ false → at < length old.selectors.items) → ComesTo passed kept mid →
+    Told {T = Counted count} ts counted_outline (λ l. after (expr_list_piece l.list) c) mid list here (r (ahead ts input)) →
+    ComesTo (settled at (record { of = head; step = steps.Elements count })) list late →
+    TellsBy ts (λ (x : Unit {0}). word kinds.RightBracket) (λ x s. passed s) late new result (expect_at kinds.RightBracket (ahead ts here)) →
+    TellsBy {T = Picked false} ts picked_outline (picking head at c) old new result (node constructs.Selector (prefixed (word kinds.LeftBracket) (seq r (expect_at kinds.RightBracket))) (ahead ts input))
+unfolding index_picked
+index_told ts c r head at count old kept mid list late new input here result g known h a k b =
+    let row : SelectorRow = record { of = head; step = steps.Elements count } in
+    told_as ts (λ (x : Counted count × Unit {0}). construct constructs.Selector (word kinds.LeftBracket ++ (counted_outline x.0 ++ word kinds.RightBracket)))
+    (λ x s. after (both token (both (expr_list_piece x.0.list) token)) c (settled at row s)) picked_outline (picking head at c) (λ x. index_picked old.uses.alloc x.0.list)
+    (λ x. shown.index_made (boxed old.uses.alloc x.0.list))
+    (λ x s. picking_shown head at c (index_picked old.uses.alloc x.0.list) (told.selector_shown (layers.Index (boxed old.uses.alloc x.0.list))) s (told.index_made (boxed old.uses.alloc x.0.list))
+    ∙ ap (λ (n : ℕ). after (both token (both (expr_list_piece x.0.list) token)) c (settled at (record { of = head; step = steps.Elements n }) s)) x.0.counted)
+    old new result _
+    (told_settled (Unit {0}) ts (counted_outline {n = count}) (λ l. expr_list_piece l.list) c kinds.LeftBracket kinds.RightBracket r at row old kept mid list late new input here result g known h a k b)
+
+-- ---- the selectors of a designator
+
+-- the first selector selects a name where a dot stands
+abbrev pub FirstNamed : List Token → Cursor → Cursor → List Selector → Type 0
+FirstNamed ts input here [] = here ≡ input
+FirstNamed ts input here (x ∷ xs) = is_there (selected x).name ≡ dot_at ts input
+
+first_more : (ts : List Token) (input here next : Cursor) (xs : List Selector) (x : Selector) → is_there (selected x).name ≡ dot_at ts here → FirstNamed ts input here xs → FirstNamed ts input next (xs ++ x ∷ [])
+first_more ts input here next [] x e h = e ∙ ap (dot_at ts) h
+first_more ts input here next (y ∷ ys) x e h = h
+
+pub chosen_more : (ts : List Token) (c : Context) (head at place later : ℕ) (input here next : Cursor) (xs : List Selector) (x : Picked (dot_at ts here)) → later ≡ place + 1 →
+    (place ≡ at + length xs) × FirstNamed ts input here xs →
+    ((later ≡ at + length (xs ++ x.selector ∷ [])) × FirstNamed ts input next (xs ++ x.selector ∷ []))
+    × ((s : Stage) → settling head at (map selected (xs ++ x.selector ∷ [])) c s ≡ picking head place c x (settling head at (map selected xs) c s))
+chosen_more ts c head at place later input here next xs x e h = (
+  (omega (arith, e, h.0, length-append xs (x.selector ∷ [])), first_more ts input here next xs x.selector x.named h.1),
+  λ s.
+      let p : at + length (map selected xs) ≡ place = ap (λ (n : ℕ). at + n) (length_map selected xs) ∙ sym h.0 in
+      ap (λ (ys : List Selected). settling head at ys c s) (map_more selected xs x.selector)
+      ∙ settling_more head at (map selected xs) (selected x.selector) c s
+      ∙ ap (λ (n : ℕ). let t : Stage = settling head at (map selected xs) c s in after (selected x.selector).piece c (settled n (row_at head (selected x.selector) t) t)) p,
+)
+
+no_dot : (o : Option (Leaf × List Leaf)) → front selector_first o ≡ false → front (is_word kinds.Dot) o ≡ false
+no_dot None e = refl
+no_dot (Some (leafs.Name n, ls)) e = refl
+no_dot (Some (leafs.Value k n, ls)) e = refl
+no_dot (Some (leafs.Word kinds.Dot, ls)) e = absurd cc
+no_dot (Some (leafs.Word k, ls)) e = refl
+
+first_known : (ts : List Token) (input here : Cursor) (xs : List Selector) → front selector_first (uncons (ahead ts here)) ≡ false → FirstNamed ts input here xs → is_there (first_name (map selected xs)) ≡ dot_at ts input
+first_known ts input here [] e h = sym (no_dot (uncons (ahead ts input)) (ap (λ (i : Cursor). front selector_first (uncons (ahead ts i))) (sym h) ∙ e))
+first_known ts input here (x ∷ xs) e h = h
+
+pub chosen_done : (ts : List Token) (c : Context) (head at place count : ℕ) (old now new : Draft) (input here : Cursor) (read : Read) → front selector_first (uncons (ahead ts here)) ≡ false →
+    Told ts (λ (v : Gathered {X = Selector} (λ xs. (place ≡ at + length xs) × FirstNamed ts input here xs)). each selector_outline v.list.items) (λ v. settling head at (map selected v.list.items) c) old now here read →
+    ComesTo (λ s. s) now new → (new.refused ≡ false → place ≡ at + count) →
+    Told ts (chosen_outline {dot = dot_at ts input} {n = count}) (choosing head at c) old new here read
+chosen_done ts c head at place count old now new input here read e t h known =
+    told_as ts (λ (x : Gathered {X = Selector} (λ xs. (place ≡ at + length xs) × FirstNamed ts input here xs) × (place ≡ at + count)). each selector_outline x.0.list.items) (λ x. settling head at (map selected x.0.list.items) c)
+    (chosen_outline {dot = dot_at ts input} {n = count}) (choosing head at c)
+    (λ x. record { list = x.0.list; named = first_known ts input here x.0.list.items e x.0.so.1; counted = omega (arith, x.0.so.0, x.1) }) (λ x. refl) (λ x s. refl) old new (Ok here) read
+    (told_knowing_then ts _ _ (λ s. s) old now new here read t h known)
+
+-- what a loop over the selectors keeps
+abbrev pub ChosenListing : List Token → Reader → Context → ℕ → ℕ → ℕ → Draft → Draft → Cursor → Cursor → Type 0
+ChosenListing ts r c head at place old now input here =
+    Listing {X = Selector} ts (begins selector_first) r selector_outline (λ xs. settling head at (map selected xs) c) (λ xs. (place ≡ at + length xs) × FirstNamed ts input here xs) old now input here
+
+pub chosen_begun : (ts : List Token) (r : Reader) (c : Context) (head at : ℕ) (d : Draft) (input : Cursor) → ChosenListing ts r c head at at d d input input
+chosen_begun ts r c head at d input =
+    listing_begun ts (begins selector_first) r selector_outline (λ xs. settling head at (map selected xs) c) (λ xs. (at ≡ at + length xs) × FirstNamed ts input input xs) d input (λ s. settling_none head at c s) (omega arith, refl)
+
+pub chosen_next : (ts : List Token) (r : Reader) (c : Context) (head at place later : ℕ) → Advances (begins selector_first) r → (old now more new : Draft) (input here next : Cursor) →
+    begins selector_first (ahead ts here) ≡ Some ([], ahead ts here) → ChosenListing ts r c head at place old now input here →
+    TellsBy {T = Picked (dot_at ts here)} ts picked_outline (picking head place c) now more (Ok next) (r (ahead ts here)) → ComesTo (λ s. s) more new → (new.refused ≡ false → later ≡ place + 1) →
+    ChosenListing ts r c head at later old new input next
+chosen_next ts r c head at place later adv old now more new input here next found l t k known =
+    listing_more ts (begins selector_first) r selector_outline (λ xs. settling head at (map selected xs) c)
+    (λ xs. (place ≡ at + length xs) × FirstNamed ts input here xs) (λ xs. (later ≡ at + length xs) × FirstNamed ts input next xs)
+    (picked_outline {dot = dot_at ts here}) (picking head place c) (λ x. x.selector) [] adv (λ x. refl) old now new input here here next
+    (λ e xs x so. chosen_more ts c head at place later input here next xs x (known e) so) found l
+    (told_before ts (picked_outline {dot = dot_at ts here}) (picking head place c) (λ s. s) now more new next (r (ahead ts here)) t k)
+
+pub chosen_all : (ts : List Token) (r : Reader) (c : Context) (head at place count : ℕ) → Advances (begins selector_first) r → (old now new : Draft) (input here : Cursor) →
+    front selector_first (uncons (ahead ts here)) ≡ false → begins selector_first (ahead ts here) ≡ None → ChosenListing ts r c head at place old now input here →
+    ComesTo (λ s. s) now new → (new.refused ≡ false → place ≡ at + count) →
+    Told ts (chosen_outline {dot = dot_at ts input} {n = count}) (choosing head at c) old new here (many (begins selector_first) r (ahead ts input))
+chosen_all ts r c head at place count adv old now new input here e none l h known =
+    chosen_done ts c head at place count old now new input here _ e
+    (listing_done ts (begins selector_first) r selector_outline (λ xs. settling head at (map selected xs) c) (λ xs. (place ≡ at + length xs) × FirstNamed ts input here xs) adv old now input here none l) h known
+
+pub failed_name : (ts : List Token) (role : ℕ → Out) (e : Stop) (ls : List Leaf) → Fails ts e (identifier_at ls) → Fails ts e (name_at role ls)
+unfolding name_at
+failed_name ts role stops.Memory ls h = tt
+failed_name ts role (stops.Unexpected i) ls h = rw h refl
+failed_name ts role (stops.TooDeep i) ls h = rw h refl
+
+-- a selector that begins so
+pub told_selector : {A : Type 0} (ts : List Token) (f : A → Out) (p : A → Stage → Stage) (r : Reader) (old new : Draft) (result : Result Cursor Stop) (ls : List Leaf) (o : Option (Leaf × List Leaf)) → uncons ls ≡ o →
+    TellsBy ts f p old new result (node constructs.Selector (λ z. selector_from r o) ls) → TellsBy ts f p old new result (selector_with r ls)
+unfolding selector_with
+told_selector ts f p r old new result ls o e t = rw e t
+
+-- a selector behind this token, which is a dot or not
+pub selector_so : (ts : List Token) (c : Context) (head at : ℕ) (r : Reader) (old new : Draft) (result : Result Cursor Stop) (input : Cursor) (dot : Bool) (o : Option (Leaf × List Leaf)) →
+    uncons (ahead ts input) ≡ o → front (is_word kinds.Dot) o ≡ dot →
+    TellsBy {T = Picked dot} ts picked_outline (picking head at c) old new result (node constructs.Selector (λ z. selector_from r o) (ahead ts input)) →
+    TellsBy {T = Picked (dot_at ts input)} ts picked_outline (picking head at c) old new result (selector_with r (ahead ts input))
+selector_so ts c head at r old new result input dot o e h t =
+    told_selector ts picked_outline (picking head at c) r old new result (ahead ts input) o e
+    (subst (λ (b : Bool). TellsBy {T = Picked b} ts picked_outline (picking head at c) old new result (node constructs.Selector (λ z. selector_from r o) (ahead ts input))) (sym h ∙ ap (front (is_word kinds.Dot)) (sym e)) t)
+
+-- ---- designators
+
+blanks_places : {X : Type 0} (head : ℕ) (xs : List X) → blanks head xs ≡ places head (length xs)
+blanks_places head [] = refl
+blanks_places head (x ∷ xs) = ap (λ (zs : List SelectorRow). record { of = head; step = steps.Target } ∷ zs) (blanks_places head xs)
+
+same_use : (m n : Option ℕ) → is_there m ≡ is_there n → uses m ≡ uses n
+same_use None None e = refl
+same_use None (Some n) e = absurd cc
+same_use (Some m) None e = absurd cc
+same_use (Some m) (Some n) e = refl
+
+abbrev designator_of : {dot : Bool} {count : ℕ} → ℕ → Chosen dot count → Designator
+designator_of n x = record { head = n; selectors = x.list }
+
+chosen_after : {dot : Bool} {count : ℕ} (w : Bool) (n head at : ℕ) (member : Option ℕ) (c : Context) (s : Stage) (x : Chosen dot count) → is_there member ≡ dot → head ≡ s.number → at ≡ length s.rows.selectors →
+    after (designator_piece w (designator_of n x)) c s
+    ≡ choosing head at c x (after (uses member) c (added (these_selectors (places head count)) (added (designator_row w c head) s)))
+chosen_after {dot} {count} w n head at member c s x e h k =
+    designator_after w (designator_of n x) c s
+    ∙ ap (λ (zs : List SelectorRow). settling s.number (length s.rows.selectors) (map selected x.list.items) c (after (uses (first_name (map selected x.list.items))) c (added (these_selectors zs) (added (designator_row w c s.number) s))))
+    (blanks_places s.number x.list.items ∙ ap (places s.number) x.counted)
+    ∙ ap (λ (p : Piece). settling s.number (length s.rows.selectors) (map selected x.list.items) c (after p c (added (these_selectors (places s.number count)) (added (designator_row w c s.number) s))))
+    (same_use (first_name (map selected x.list.items)) member (x.named ∙ sym e))
+    ∙ ap (λ (z : ℕ). settling z (length s.rows.selectors) (map selected x.list.items) c (after (uses member) c (added (these_selectors (places z count)) (added (designator_row w c z) s)))) (sym h)
+    ∙ ap (λ (z : ℕ). settling head z (map selected x.list.items) c (after (uses member) c (added (these_selectors (places head count)) (added (designator_row w c head) s)))) (sym k)
+
+pub designator_told : (ts : List Token) (c : Context) (w : Bool) (d n head at count : ℕ) (member : Option ℕ) (old row room looked new : Draft) (input : Cursor) (result : Result Cursor Stop) →
+    head ≡ old.number → at ≡ length old.selectors.items → ComesTo (added (designator_row w c head)) old row → ComesTo (added (these_selectors (places head count))) row room →
+    is_there member ≡ dot_at ts input → ComesTo (after (uses member) c) room looked →
+    TellsBy {T = Chosen (dot_at ts input) count} ts chosen_outline (choosing head at c) looked new result (many (begins selector_first) (selector_with (expr_at d)) (ahead ts input)) →
+    Tells ts designator_outline (designator_piece w) c old new result (designator_with (expr_at d) n (ahead ts input))
+unfolding designator_with
+designator_told ts c w d n head at count member old row room looked new input result h k a b e u t =
+    let loop : Reader = many (begins selector_first) (selector_with (expr_at d)) in
+    let f : Chosen (dot_at ts input) count → Out = λ x. used n ++ chosen_outline x in
+    told_at ts (λ (x : Chosen (dot_at ts input) count). construct constructs.Designator (used n ++ chosen_outline x))
+    (λ x s. choosing head at c x (after (uses member) c (added (these_selectors (places head count)) (added (designator_row w c head) s))))
+    designator_outline (λ x. after (designator_piece w x) c) (λ x. designator_of n x) (λ x. shown.designator_out (designator_of n x)) old new result _
+    (λ x. chosen_after w n head at member c (stage_of old) x e (h ∙ sym (number_of old)) (k ∙ ap length (sym (selectors_of old))))
+    (told_node ts f (λ x s. choosing head at c x (after (uses member) c (added (these_selectors (places head count)) (added (designator_row w c head) s)))) constructs.Designator (prefixed (used n) loop) old new result (ahead ts input)
+    (told_prefixed ts chosen_outline (λ x s. choosing head at c x (after (uses member) c (added (these_selectors (places head count)) (added (designator_row w c head) s)))) (used n) loop old new result (ahead ts input)
+    (told_behind ts chosen_outline (λ x s. choosing head at c x (after (uses member) c (added (these_selectors (places head count)) s))) (added (designator_row w c head)) old row new result (loop (ahead ts input)) a
+    (told_behind ts chosen_outline (λ x s. choosing head at c x (after (uses member) c s)) (added (these_selectors (places head count))) row room new result (loop (ahead ts input)) b
+    (told_behind ts chosen_outline (choosing head at c) (after (uses member) c) room looked new result (loop (ahead ts input)) u t)))))

@@ -1,0 +1,173 @@
+-- Lists that a loop reads and tells, one thing after the other.
+use Rattle.std.proofs.Common.{◌≡◌, ℕ, zero, suc, ◌≤◌, ◌<◌, ◌+◌, false, List, [], ◌∷◌, ◌++◌, length, map, drop, take, Ok, Err, Some, None, refl, sym, ap, ◌∙◌, arith, append_assoc, length-append}
+use Rattle.std.proofs.lemmas.List.{append-nil, length-take}
+use Rattle.std.specs.Global.{Vec, Global}
+use Rattle.ob_scan.specs.declared.kind.Kind.{Kind}
+use Rattle.ob_scan.specs.declared.token.Token.{Token}
+use Rattle.ob_tree.specs.declared.token.Leaf.{Leaf}
+use Rattle.ob_tree.specs.Leaves.{leaves_from}
+use Rattle.ob_tree.specs.Marks.{Out, each}
+use Rattle.ob_parse.specs.declared.cursor.Cursor.{Cursor}
+use Rattle.ob_parse.specs.declared.stop.Stop.{Stop}
+use Rattle.ob_parse.specs.Forms.{Read, Reader, Start, many}
+use Rattle.ob_parse.specs.Gives.{Fails, ahead, kind_of}
+use Rattle.ob_parse.proofs.Loops.{Advances, with_front, goes_on, is_done}
+use Rattle.ob_parse.proofs.LoopEnds.{ends}
+use Rattle.ob_decls.specs.declared.draft.Draft.{Draft}
+use Rattle.ob_decls.specs.declared.draft.Context.{Context}
+use Rattle.ob_decls.specs.Parts.{Piece, token, both}
+use Rattle.ob_decls.specs.Parts.{each as pieces}
+use Rattle.ob_decls.specs.Drafts.{Stage, stage_of, after, passed, ComesTo}
+use Rattle.ob_decls.proofs.Steps.{after_both, after_each, after_nothing, after_token}
+use Rattle.ob_table.specs.Tells.{Told, TellsBy, Tells}
+use Rattle.ob_table.proofs.Combine.{told_as, told_behind}
+use Rattle.ob_table.proofs.Made.{listed}
+
+-- behind a token
+pub word_after : (p : Piece) (c : Context) (s : Stage) → after (both token p) c s ≡ after p c (passed s)
+word_after p c s = after_both token p c s ∙ ap (after p c) (after_token c s)
+
+-- ---- how many tokens are ahead
+
+pub length_leaves : (n : ℕ) (ks : List Kind) → length (leaves_from n ks) ≡ length ks
+length_leaves n [] = refl
+length_leaves n (k ∷ ks) = ap suc (length_leaves (n + 1) ks)
+
+pub length_mapped : {X Y : Type 0} (f : X → Y) (xs : List X) → length (map f xs) ≡ length xs
+length_mapped f [] = refl
+length_mapped f (x ∷ xs) = ap suc (length_mapped f xs)
+
+length_dropped : {X : Type 0} (n : ℕ) (xs : List X) → length (drop n xs) ≤ length xs
+length_dropped zero xs = omega arith
+length_dropped (suc n) [] = omega arith
+length_dropped (suc n) (x ∷ xs) = let h = length_dropped n xs in omega (arith, h)
+
+pub few_ahead : (ts : List Token) (i : Cursor) → length (ahead ts i) ≤ 4294967295
+unfolding ahead
+few_ahead ts i =
+    omega (arith, length_leaves i.at (map kind_of (drop i.at (take 4294967295 ts))), length_mapped kind_of (drop i.at (take 4294967295 ts)), length_dropped i.at (take 4294967295 ts), length-take 4294967295 ts)
+
+-- ---- what a loop keeps
+
+-- a list that is never made: its outline was read, the draft came by it, and this is so of it
+pub record IsListed {X : Type 0} (f : X → Out) (step : List X → Stage → Stage) (So : List X → Type 0) (front : Out) (left : ℕ) (old now : Draft) : Type 0 where
+  pub list : List X
+  pub shows : each f list ≡ front
+  pub comes : stage_of now ≡ step list (stage_of old)
+  pub so : So list
+  pub few : length list + left ≤ 4294967295
+
+-- so much of a list was read up to here
+pub record Listing {X : Type 0} (ts : List Token) (start : Start) (r : Reader) (f : X → Out) (step : List X → Stage → Stage) (So : List X → Type 0) (old now : Draft) (input here : Cursor) : Type 0 where
+  pub front : Out
+  pub is_read : with_front front (many start r (ahead ts here)) ≡ many start r (ahead ts input)
+  pub telling : now.refused ≡ false → (old.refused ≡ false) × IsListed f step So front (length (ahead ts here)) old now
+
+-- a list, and this is so of it
+pub record Gathered {X : Type 0} (So : List X → Type 0) : Type 0 where
+  pub list : Vec X
+  pub so : So list.items
+
+no_front : (m : Read) → with_front [] m ≡ m
+no_front (Ok x) = refl
+no_front (Err e) = refl
+
+each_push : {X : Type 0} (f : X → Out) (xs : List X) (x : X) → each f (xs ++ x ∷ []) ≡ each f xs ++ f x
+each_push f [] x = append-nil (f x)
+each_push f (y ∷ xs) x = ap (λ (o : Out). f y ++ o) (each_push f xs x) ∙ sym (append_assoc (f y) (each f xs) (f x))
+
+module _ {X : Type 0} (ts : List Token) (start : Start) (r : Reader) (f : X → Out) (step : List X → Stage → Stage) where
+  -- before the first turn
+  pub listing_begun : (So : List X → Type 0) (d : Draft) (input : Cursor) → ((s : Stage) → step [] s ≡ s) → So [] → Listing ts start r f step So d d input input
+  listing_begun So d input h k = record {
+    front = [];
+    is_read = no_front (many start r (ahead ts input));
+    telling = λ e. (e, record { list = []; shows = refl; comes = sym (h (stage_of d)); so = k; few = let few = few_ahead ts input in omega (arith, few) });
+  }
+
+  -- one turn: these marks stand in front, and behind them an item was read and told
+  pub listing_more : {A : Type 0} (So Still : List X → Type 0) (g : A → Out) (q : A → Stage → Stage) (make : A → X) (ms : Out) → Advances start r → ((a : A) → f (make a) ≡ ms ++ g a) →
+      (old now new : Draft) (input here behind next : Cursor) → (new.refused ≡ false → (xs : List X) (a : A) → So xs → Still (xs ++ make a ∷ []) × ((s : Stage) → step (xs ++ make a ∷ []) s ≡ q a (step xs s))) →
+      start (ahead ts here) ≡ Some (ms, ahead ts behind) → Listing ts start r f step So old now input here →
+      TellsBy ts g q now new (Ok next) (r (ahead ts behind)) → Listing ts start r f step Still old new input next
+  listing_more So Still g q make ms adv shown old now new input here behind next grows found l t = record {
+    front = l.front ++ (ms ++ t.out);
+    is_read = goes_on start r adv l.front (ahead ts here) (ms, ahead ts behind) (t.out, ahead ts next) (many start r (ahead ts input)) found t.is_read l.is_read;
+    telling = λ e.
+        let b = t.telling e in
+        let a = l.telling b.0 in
+        let x : X = make b.1.tree in
+        let grown = grows e a.1.list b.1.tree a.1.so in
+        let less = adv.shorter (ahead ts here) (ms, ahead ts behind) (t.out, ahead ts next) found t.is_read in (
+          a.0,
+          record {
+            list = a.1.list ++ x ∷ [];
+            shows = each_push f a.1.list x ∙ ap (λ (o : Out). each f a.1.list ++ o) (shown b.1.tree) ∙ ap (λ (o : Out). o ++ (ms ++ g b.1.tree)) a.1.shows ∙ ap (λ (o : Out). l.front ++ (ms ++ o)) b.1.shows;
+            comes = b.1.comes ∙ ap (q b.1.tree) a.1.comes ∙ sym (grown.1 (stage_of old));
+            so = grown.0;
+            few = let h = a.1.few in omega (arith, h, less, length-append a.1.list (x ∷ []));
+          },
+        );
+  }
+
+  -- a turn that fails
+  pub listing_failed : (So : List X → Type 0) (e : Stop) (ms : Out) → Advances start r → (old now : Draft) (input here behind : Cursor) → start (ahead ts here) ≡ Some (ms, ahead ts behind) →
+      Listing ts start r f step So old now input here → Fails ts e (r (ahead ts behind)) → Fails ts e (many start r (ahead ts input))
+  listing_failed So e ms adv old now input here behind found l h =
+      ends start r adv ts e l.front (ahead ts here) (ms, ahead ts behind) (many start r (ahead ts input)) found h l.is_read
+
+  -- behind the last turn
+  pub listing_done : (So : List X → Type 0) → Advances start r → (old now : Draft) (input here : Cursor) → start (ahead ts here) ≡ None → Listing ts start r f step So old now input here →
+      TellsBy ts (λ (v : Gathered So). each f v.list.items) (λ v. step v.list.items) old now (Ok here) (many start r (ahead ts input))
+  listing_done So adv old now input here none l = record {
+    out = l.front;
+    is_read = is_done start r adv l.front (ahead ts here) (many start r (ahead ts input)) none l.is_read;
+    telling = λ e. let a = l.telling e in (
+      a.0,
+      record {
+        tree = record { list = listed old.uses.alloc a.1.list (let h = a.1.few in omega (arith, h)); so = a.1.so };
+        shows = a.1.shows;
+        comes = a.1.comes;
+      },
+    );
+  }
+
+-- a turn takes tokens
+pub listing_smaller : {A : Type 0} (ts : List Token) (start : Start) (r : Reader) (g : A → Out) (q : A → Stage → Stage) (ms : Out) → Advances start r → (now new : Draft) (here behind next : Cursor) →
+    start (ahead ts here) ≡ Some (ms, ahead ts behind) → TellsBy ts g q now new (Ok next) (r (ahead ts behind)) → length (ahead ts next) < length (ahead ts here)
+listing_smaller ts start r g q ms adv now new here behind next found t = adv.shorter (ahead ts here) (ms, ahead ts behind) (t.out, ahead ts next) found t.is_read
+
+-- ---- lists of which nothing else is kept
+
+abbrev pub Any : {X : Type 0} → List X → Type 0
+Any xs = Unit {0}
+
+abbrev pub PieceListing : {X : Type 0} → List Token → Start → Reader → (X → Out) → (X → Piece) → Context → Draft → Draft → Cursor → Cursor → Type 0
+PieceListing ts start r f p c old now input here = Listing ts start r f (λ xs. after (pieces p xs) c) Any old now input here
+
+module _ {X : Type 0} (ts : List Token) (start : Start) (r : Reader) (f : X → Out) (p : X → Piece) (c : Context) where
+  pub pieces_begun : (d : Draft) (input : Cursor) → PieceListing ts start r f p c d d input input
+  pieces_begun d input = listing_begun ts start r f (λ xs. after (pieces p xs) c) Any d input (λ s. after_nothing c s) tt
+
+  pub pieces_more : {A : Type 0} (g : A → Out) (q : A → Stage → Stage) (make : A → X) (ms : Out) → Advances start r →
+      ((a : A) → f (make a) ≡ ms ++ g a) → ((a : A) (s : Stage) → after (p (make a)) c s ≡ q a s) →
+      (old now new : Draft) (input here behind next : Cursor) → start (ahead ts here) ≡ Some (ms, ahead ts behind) → PieceListing ts start r f p c old now input here →
+      TellsBy ts g q now new (Ok next) (r (ahead ts behind)) → PieceListing ts start r f p c old new input next
+  pieces_more g q make ms adv shown stepped old now new input here behind next found l t =
+      listing_more ts start r f (λ xs. after (pieces p xs) c) Any Any g q make ms adv shown old now new input here behind next
+      (λ e xs a so. (tt, λ s. after_each p xs (make a) c s ∙ stepped a (after (pieces p xs) c s))) found l t
+
+  -- the same behind a token, which is passed
+  pub pieces_behind : {A : Type 0} (g : A → Out) (q : A → Piece) (make : A → X) (ms : Out) → Advances start r →
+      ((a : A) → f (make a) ≡ ms ++ g a) → ((a : A) → p (make a) ≡ both token (q a)) →
+      (old now mid new : Draft) (input here behind next : Cursor) → start (ahead ts here) ≡ Some (ms, ahead ts behind) → PieceListing ts start r f p c old now input here →
+      ComesTo passed now mid → Tells ts g q c mid new (Ok next) (r (ahead ts behind)) → PieceListing ts start r f p c old new input next
+  pieces_behind g q make ms adv shown stepped old now mid new input here behind next found l h t =
+      pieces_more g (λ a s. after (q a) c (passed s)) make ms adv shown (λ a s. ap (λ (x : Piece). after x c s) (stepped a) ∙ word_after (q a) c s) old now new input here behind next found l
+      (told_behind ts g (λ a. after (q a) c) passed now mid new (Ok next) (r (ahead ts behind)) h t)
+
+  pub pieces_done : Advances start r → (old now : Draft) (input here : Cursor) → start (ahead ts here) ≡ None → PieceListing ts start r f p c old now input here →
+      TellsBy ts (λ (v : Vec X). each f v.items) (λ v. after (pieces p v.items) c) old now (Ok here) (many start r (ahead ts input))
+  pieces_done adv old now input here none l =
+      told_as ts (λ (v : Gathered {X = X} Any). each f v.list.items) (λ v. after (pieces p v.list.items) c) (λ v. each f v.items) (λ v. after (pieces p v.items) c) (λ v. v.list) (λ v. refl) (λ v s. refl)
+      old now (Ok here) _ (listing_done ts start r f (λ xs. after (pieces p xs) c) Any adv old now input here none l)

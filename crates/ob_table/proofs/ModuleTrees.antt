@@ -1,0 +1,170 @@
+-- Modules of parts that were told.
+use Rattle.std.proofs.Common.{◌≡◌, ℕ, List, [], ◌∷◌, ◌++◌, Option, Some, None, Result, Ok, Err, refl, sym, ap, subst, ◌∙◌}
+use Rattle.std.specs.List.{All}
+use Rattle.std.proofs.lemmas.List.Elements.{All-push}
+use Rattle.ob_scan.specs.declared.kind.Kind.TheVariants as kinds
+use Rattle.ob_scan.specs.declared.token.Token.{Token}
+use Rattle.ob_tree.specs.Constructs as constructs
+use Rattle.ob_tree.specs.declared.name.OneOrMore.{OneOrMore}
+use Rattle.ob_tree.specs.declared.statement.StatementSequence.{StatementSequence}
+use Rattle.ob_tree.specs.declared.declaration.ImportItem.{ImportItem}
+use Rattle.ob_tree.specs.declared.declaration.Module.{Module}
+use Rattle.ob_tree.specs.declared.token.Leaf.{Leaf}
+use Rattle.ob_tree.specs.Marks.{Out, construct, word, named, repeated, separated}
+use Rattle.ob_tree.specs.Marks.{if_there as shown_there}
+use Rattle.ob_tree.specs.Declaring.{declarations_outline, import_outline, module_outline}
+use Rattle.ob_tree.specs.Derives.{endings_in}
+use Rattle.ob_tree.proofs.DeclarationLayers.{module_out}
+use Rattle.ob_tree.proofs.EndNames.{module_ends}
+use Rattle.ob_decls.specs.declared.draft.Context.{Context}
+use Rattle.ob_decls.specs.declared.draft.Draft.{Draft}
+use Rattle.ob_decls.specs.Drafts.{Stage, after, passed, ComesTo}
+use Rattle.ob_decls.specs.Parts.{Piece, token, both, tells, if_there}
+use Rattle.ob_decls.specs.Declaring.{declarations_piece, imports_piece, module_end, module_piece}
+use Rattle.ob_decls.proofs.Steps.{after_both, after_token}
+use Rattle.ob_decls.proofs.DeclarationLayers as told
+use Rattle.ob_parse.specs.declared.cursor.Cursor.{Cursor}
+use Rattle.ob_parse.specs.declared.stop.Stop.{Stop}
+use Rattle.ob_parse.specs.declared.stop.Stop.TheVariants as stops
+use Rattle.ob_parse.specs.Front.{uncons}
+use Rattle.ob_parse.specs.Forms.{Refusal, Unexpected, Read, Reader, ◌>>=◌, seq, node, prefixed, expect_at, identifier_at, name_at}
+use Rattle.ob_parse.specs.Gives.{Fails, ahead, seen}
+use Rattle.ob_parse.specs.Parsed.{IsRightEnd}
+use Rattle.ob_parse.specs.ReadStatements.{block_at}
+use Rattle.ob_parse.specs.ReadModules.{imports_at, declarations_at, body_with, module_behind_name, name_then, module_at, nothing_left, all_of}
+use Rattle.ob_table.specs.DeclarationShapes.{body_outline, body_piece, ModuleParts, parts_shown, parts_step, ModuleEnd, end_shown, end_step, ModuleBehind, imports_shown, behind_shown, behind_step}
+use Rattle.ob_table.specs.Ended.{RightEnds, EndedDeclarations, EndedModule, RightName, WholeTold, TellsWhole}
+use Rattle.ob_table.specs.Tells.{Told, Tells, TellsBy}
+use Rattle.ob_table.proofs.Combine.{told_as, told_node, told_then, told_prefixed, told_behind, failed_node, failed_then, failed_prefixed}
+use Rattle.ob_table.proofs.SectionTrees.{failed_behind}
+
+pub end_told : (bytes : List ℕ) (ts : List Token) (name : ℕ) (c : Context) (old first second new : Draft) (input a b : Cursor) (result : Result Cursor Stop) →
+    TellsBy ts (λ (u : Unit {0}). word kinds.End) (λ u s. passed s) old first (Ok a) (expect_at kinds.End (ahead ts input)) →
+    TellsBy {T = RightName bytes ts name} ts (λ x. repeated name x.number) (λ x s. after (tells module_end token) c s) first second (Ok b) (name_at (repeated name) (ahead ts a)) →
+    TellsBy ts (λ (u : Unit {0}). word kinds.Dot) (λ u s. passed s) second new result (expect_at kinds.Dot (ahead ts b)) →
+    TellsBy {T = ModuleEnd bytes ts name} ts (end_shown {bytes = bytes} {ts = ts} {name = name}) (end_step {bytes = bytes} {ts = ts} {name = name} c) old new result (seq (expect_at kinds.End) (seq (name_at (repeated name)) (expect_at kinds.Dot)) (ahead ts input))
+end_told bytes ts name c old first second new input a b result t u v =
+    told_then ts (λ (u : Unit {0}). word kinds.End) (λ u s. passed s) (λ (x : RightName bytes ts name × Unit {0}). repeated name x.0.number ++ word kinds.Dot) (λ x s. passed (after (tells module_end token) c s))
+    (expect_at kinds.End) (seq (name_at (repeated name)) (expect_at kinds.Dot)) old first new a result (ahead ts input) t
+    (told_then ts (λ (x : RightName bytes ts name). repeated name x.number) (λ x s. after (tells module_end token) c s) (λ (u : Unit {0}). word kinds.Dot) (λ u s. passed s)
+    (name_at (repeated name)) (expect_at kinds.Dot) first second new b result (ahead ts a) u v)
+
+pub parts_told : (bytes : List ℕ) (ts : List Token) (name d : ℕ) (c : Context) (old first second new : Draft) (input a b : Cursor) (result : Result Cursor Stop) →
+    Tells {T = EndedDeclarations bytes ts} ts (λ x. declarations_outline x.tree) (λ x. declarations_piece x.tree) c old first (Ok a) (declarations_at d (ahead ts input)) →
+    Tells ts body_outline body_piece c first second (Ok b) (body_with (block_at d) (ahead ts a)) →
+    TellsBy {T = ModuleEnd bytes ts name} ts (end_shown {bytes = bytes} {ts = ts} {name = name}) (end_step {bytes = bytes} {ts = ts} {name = name} c) second new result (seq (expect_at kinds.End) (seq (name_at (repeated name)) (expect_at kinds.Dot)) (ahead ts b)) →
+    TellsBy {T = ModuleParts bytes ts name} ts (parts_shown {bytes = bytes} {ts = ts} {name = name}) (parts_step {bytes = bytes} {ts = ts} {name = name} c) old new result
+    (seq (declarations_at d) (seq (body_with (block_at d)) (seq (expect_at kinds.End) (seq (name_at (repeated name)) (expect_at kinds.Dot)))) (ahead ts input))
+parts_told bytes ts name d c old first second new input a b result t u v =
+    told_then ts (λ (x : EndedDeclarations bytes ts). declarations_outline x.tree) (λ x. after (declarations_piece x.tree) c)
+    (λ (x : Option StatementSequence × ModuleEnd bytes ts name). body_outline x.0 ++ end_shown {bytes = bytes} {ts = ts} {name = name} x.1) (λ x s. end_step {bytes = bytes} {ts = ts} {name = name} c x.1 (after (body_piece x.0) c s))
+    (declarations_at d) (seq (body_with (block_at d)) (seq (expect_at kinds.End) (seq (name_at (repeated name)) (expect_at kinds.Dot)))) old first new a result (ahead ts input) t
+    (told_then ts body_outline (λ x. after (body_piece x) c) (end_shown {bytes = bytes} {ts = ts} {name = name}) (end_step {bytes = bytes} {ts = ts} {name = name} c)
+    (body_with (block_at d)) (seq (expect_at kinds.End) (seq (name_at (repeated name)) (expect_at kinds.Dot))) first second new b result (ahead ts a) u v)
+
+-- ---- behind the name
+
+abbrev module_made : {bytes : List ℕ} {ts : List Token} (n : ℕ) → ModuleBehind bytes ts n → Module
+module_made n x = record { name = n; imports = x.1.0; declarations = x.1.1.0.tree; body = x.1.1.1.0; end_name = x.1.1.1.1.1.0.number }
+
+module_right : (bytes : List ℕ) (ts : List Token) (m : Module) → RightEnds bytes ts (declarations_outline m.declarations) → IsRightEnd bytes ts (m.name, m.end_name) → RightEnds bytes ts (module_outline m)
+module_right bytes ts m h k = subst (λ (es : List (ℕ × ℕ)). All (IsRightEnd bytes ts) es) (sym (module_ends m)) (All-push (IsRightEnd bytes ts) (endings_in (declarations_outline m.declarations)) (m.name, m.end_name) h k)
+
+abbrev module_of : (bytes : List ℕ) (ts : List Token) (n : ℕ) → ModuleBehind bytes ts n → EndedModule bytes ts
+module_of bytes ts n x = record { tree = module_made {bytes = bytes} {ts = ts} n x; ended = module_right bytes ts (module_made {bytes = bytes} {ts = ts} n x) x.1.1.0.ended x.1.1.1.1.1.0.right }
+
+pub behind_name_told : (bytes : List ℕ) (ts : List Token) (n d : ℕ) (c : Context) (old first second new : Draft) (input a b : Cursor) (result : Result Cursor Stop) →
+    TellsBy ts (λ (u : Unit {0}). word kinds.Semicolon) (λ u s. passed s) old first (Ok a) (expect_at kinds.Semicolon (ahead ts input)) →
+    Tells ts imports_shown (if_there imports_piece) c first second (Ok b) (imports_at (ahead ts a)) →
+    TellsBy {T = ModuleParts bytes ts n} ts (parts_shown {bytes = bytes} {ts = ts} {name = n}) (parts_step {bytes = bytes} {ts = ts} {name = n} c) second new result
+    (seq (declarations_at d) (seq (body_with (block_at d)) (seq (expect_at kinds.End) (seq (name_at (repeated n)) (expect_at kinds.Dot)))) (ahead ts b)) →
+    TellsBy {T = ModuleBehind bytes ts n} ts (behind_shown {bytes = bytes} {ts = ts} {name = n}) (behind_step {bytes = bytes} {ts = ts} {name = n} c) old new result (module_behind_name d n (ahead ts input))
+unfolding module_behind_name
+behind_name_told bytes ts n d c old first second new input a b result t u v =
+    let inner : Reader = seq (declarations_at d) (seq (body_with (block_at d)) (seq (expect_at kinds.End) (seq (name_at (repeated n)) (expect_at kinds.Dot)))) in
+    told_then ts (λ (u : Unit {0}). word kinds.Semicolon) (λ u s. passed s)
+    (λ (x : Option (OneOrMore ImportItem) × ModuleParts bytes ts n). imports_shown x.0 ++ parts_shown {bytes = bytes} {ts = ts} {name = n} x.1) (λ x s. parts_step {bytes = bytes} {ts = ts} {name = n} c x.1 (after (if_there imports_piece x.0) c s))
+    (expect_at kinds.Semicolon) (seq imports_at inner) old first new a result (ahead ts input) t
+    (told_then ts imports_shown (λ x. after (if_there imports_piece x) c) (parts_shown {bytes = bytes} {ts = ts} {name = n}) (parts_step {bytes = bytes} {ts = ts} {name = n} c) imports_at inner first second new b result (ahead ts a) u v)
+
+-- ---- modules
+
+module_step : (m : Module) (c : Context) (s : Stage) → after (module_piece m) c s ≡
+    passed (after (tells module_end token) c (passed (after (body_piece m.body) c (after (declarations_piece m.declarations) c (after (if_there imports_piece m.imports) c (passed (passed (passed s))))))))
+module_step m c s = told.module_after m c s
+
+pub module_told : (bytes : List ℕ) (ts : List Token) (n d : ℕ) (c : Context) (old first second new : Draft) (input here rest : Cursor) (result : Result Cursor Stop) →
+    TellsBy ts (λ (u : Unit {0}). word kinds.Module) (λ u s. passed s) old first (Ok here) (expect_at kinds.Module (ahead ts input)) →
+    identifier_at (ahead ts here) ≡ Ok (n, ahead ts rest) → ComesTo passed first second →
+    TellsBy {T = ModuleBehind bytes ts n} ts (behind_shown {bytes = bytes} {ts = ts} {name = n}) (behind_step {bytes = bytes} {ts = ts} {name = n} c) second new result (module_behind_name d n (ahead ts rest)) →
+    Tells {T = EndedModule bytes ts} ts (λ m. module_outline m.tree) (λ m. module_piece m.tree) c old new result (module_at d (ahead ts input))
+unfolding module_at
+module_told bytes ts n d c old first second new input here rest result t e h u =
+    told_as ts (λ (x : Unit {0} × ModuleBehind bytes ts n). construct constructs.Module (word kinds.Module ++ (named n ++ behind_shown {bytes = bytes} {ts = ts} {name = n} x.1))) (λ x s. behind_step {bytes = bytes} {ts = ts} {name = n} c x.1 (passed (passed s)))
+    (λ (m : EndedModule bytes ts). module_outline m.tree) (λ m. after (module_piece m.tree) c) (λ x. module_of bytes ts n x.1) (λ x. module_out (module_made {bytes = bytes} {ts = ts} n x.1)) (λ x s. module_step (module_made {bytes = bytes} {ts = ts} n x.1) c s) old new result _
+    (told_node ts (λ (x : Unit {0} × ModuleBehind bytes ts n). word kinds.Module ++ (named n ++ behind_shown {bytes = bytes} {ts = ts} {name = n} x.1)) (λ x s. behind_step {bytes = bytes} {ts = ts} {name = n} c x.1 (passed (passed s)))
+    constructs.Module (seq (expect_at kinds.Module) (name_then named (module_behind_name d))) old new result (ahead ts input)
+    (told_then ts (λ (u : Unit {0}). word kinds.Module) (λ u s. passed s) (λ (x : ModuleBehind bytes ts n). named n ++ behind_shown {bytes = bytes} {ts = ts} {name = n} x) (λ x s. behind_step {bytes = bytes} {ts = ts} {name = n} c x (passed s))
+    (expect_at kinds.Module) (name_then named (module_behind_name d)) old first new here result (ahead ts input) t
+    (rw e (told_prefixed ts (behind_shown {bytes = bytes} {ts = ts} {name = n}) (λ x s. behind_step {bytes = bytes} {ts = ts} {name = n} c x (passed s)) (named n) (module_behind_name d n) first new result (ahead ts rest)
+    (told_behind ts (behind_shown {bytes = bytes} {ts = ts} {name = n}) (behind_step {bytes = bytes} {ts = ts} {name = n} c) passed first second new result (module_behind_name d n (ahead ts rest)) h u)))))
+
+-- ---- all of the tokens
+
+abbrev all_out : Out → Result Out Refusal
+all_out o = Ok o
+
+left_none : (o : Out) (left : Option (Leaf × List Leaf)) → left ≡ None → nothing_left o left ≡ Ok o
+left_none o left e = rw e refl
+
+pub whole_told : {T : Type 0} (ts : List Token) (f : T → Out) (p : T → Stage → Stage) (d : ℕ) (old new : Draft) (rest : Cursor) (ls : List Leaf) → Told ts f p old new rest (module_at d ls) → uncons (ahead ts rest) ≡ None → WholeTold f p old new (all_of d ls)
+unfolding all_of
+whole_told ts f p d old new rest ls t e = record {
+  out = t.out;
+  is_read = rw t.is_read (left_none t.out (uncons (ahead ts rest)) e);
+  telling = t.telling;
+}
+
+pub whole_failed : (ts : List Token) (d : ℕ) (e : Stop) (ls : List Leaf) → Fails ts e (module_at d ls) → Fails ts e (all_of d ls)
+unfolding all_of
+whole_failed ts d stops.Memory ls f = tt
+whole_failed ts d (stops.Unexpected i) ls f = ap (λ (z : Read). z >>= λ a. nothing_left a.0 (uncons a.1)) f
+whole_failed ts d (stops.TooDeep i) ls f = ap (λ (z : Read). z >>= λ a. nothing_left a.0 (uncons a.1)) f
+
+-- something is left
+left_some : (ts : List Token) (rest : Cursor) (o : Out) (x : Leaf × List Leaf) (left : Option (Leaf × List Leaf)) → left ≡ Some x → nothing_left o left ≡ Err (Unexpected left)
+left_some ts rest o x left e = rw e refl
+
+pub whole_left : {T : Type 0} (ts : List Token) (f : T → Out) (p : T → Stage → Stage) (d : ℕ) (old new : Draft) (rest : Cursor) (ls : List Leaf) (x : Leaf × List Leaf) → Told ts f p old new rest (module_at d ls) → uncons (ahead ts rest) ≡ Some x →
+    Fails ts (stops.Unexpected rest) (all_of d ls)
+unfolding all_of
+whole_left ts f p d old new rest ls x t e = rw t.is_read (left_some ts rest t.out x (uncons (ahead ts rest)) e)
+
+-- ---- parts that fail
+
+pub semicolon_failed : (ts : List Token) (d n : ℕ) (e : Stop) (ls : List Leaf) → Fails ts e (expect_at kinds.Semicolon ls) → Fails ts e (module_behind_name d n ls)
+unfolding module_behind_name
+semicolon_failed ts d n e ls h = failed_then ts (expect_at kinds.Semicolon) _ e ls h
+
+pub imports_failed : (ts : List Token) (d n : ℕ) (old first : Draft) (input a : Cursor) (e : Stop) →
+    TellsBy ts (λ (u : Unit {0}). word kinds.Semicolon) (λ u s. passed s) old first (Ok a) (expect_at kinds.Semicolon (ahead ts input)) → Fails ts e (imports_at (ahead ts a)) → Fails ts e (module_behind_name d n (ahead ts input))
+unfolding module_behind_name
+imports_failed ts d n old first input a e t h =
+    let inner : Reader = seq (declarations_at d) (seq (body_with (block_at d)) (seq (expect_at kinds.End) (seq (name_at (repeated n)) (expect_at kinds.Dot)))) in
+    failed_behind ts (λ (u : Unit {0}). word kinds.Semicolon) (λ u s. passed s) (expect_at kinds.Semicolon) (seq imports_at inner) old first a e (ahead ts input) t (failed_then ts imports_at inner e (ahead ts a) h)
+
+pub word_failed : (ts : List Token) (d : ℕ) (e : Stop) (ls : List Leaf) → Fails ts e (expect_at kinds.Module ls) → Fails ts e (module_at d ls)
+unfolding module_at
+word_failed ts d e ls h = failed_node ts constructs.Module (seq (expect_at kinds.Module) (name_then named (module_behind_name d))) e ls (failed_then ts (expect_at kinds.Module) (name_then named (module_behind_name d)) e ls h)
+
+name_then_failed : (ts : List Token) (r : ℕ → Reader) (e : Stop) (ls : List Leaf) → Fails ts e (identifier_at ls) → Fails ts e (name_then named r ls)
+name_then_failed ts r stops.Memory ls f = tt
+name_then_failed ts r (stops.Unexpected i) ls f = ap (λ z. z >>= λ a. prefixed (named a.0) (r a.0) a.1) f
+name_then_failed ts r (stops.TooDeep i) ls f = ap (λ z. z >>= λ a. prefixed (named a.0) (r a.0) a.1) f
+
+pub own_name_failed : (ts : List Token) (d : ℕ) (old first : Draft) (input a : Cursor) (e : Stop) →
+    TellsBy ts (λ (u : Unit {0}). word kinds.Module) (λ u s. passed s) old first (Ok a) (expect_at kinds.Module (ahead ts input)) → Fails ts e (identifier_at (ahead ts a)) → Fails ts e (module_at d (ahead ts input))
+unfolding module_at
+own_name_failed ts d old first input a e t h =
+    failed_node ts constructs.Module (seq (expect_at kinds.Module) (name_then named (module_behind_name d))) e (ahead ts input)
+    (failed_behind ts (λ (u : Unit {0}). word kinds.Module) (λ u s. passed s) (expect_at kinds.Module) (name_then named (module_behind_name d)) old first a e (ahead ts input) t (name_then_failed ts (module_behind_name d) e (ahead ts a) h))

@@ -1,0 +1,340 @@
+-- Procedures of parts that were told, and lists of them.
+use Rattle.std.proofs.Common.{◌≡◌, ℕ, zero, suc, ◌-◌, Bool, List, [], ◌∷◌, ◌++◌, Option, Some, None, Result, Ok, Err, length, refl, sym, ap, subst, ◌∙◌, arith}
+use Rattle.std.specs.List.{All}
+use Rattle.std.specs.Global.{Box, Vec, Global}
+use Rattle.std.proofs.lemmas.List.{append-nil}
+use Rattle.std.proofs.lemmas.List.Elements.{All-append, All-push}
+use Rattle.ob_scan.specs.declared.kind.Kind.TheVariants as kinds
+use Rattle.ob_scan.specs.declared.token.Token.{Token}
+use Rattle.ob_tree.specs.Constructs as constructs
+use Rattle.ob_tree.specs.declared.name.Identdef.{Identdef}
+use Rattle.ob_tree.specs.declared.expression.Expr.{Expr}
+use Rattle.ob_tree.specs.declared.statement.StatementSequence.{StatementSequence}
+use Rattle.ob_tree.specs.declared.declaration.ConstDecl.{ConstDecl}
+use Rattle.ob_tree.specs.declared.declaration.TypeDecl.{TypeDecl}
+use Rattle.ob_tree.specs.declared.declaration.VarDecl.{VarDecl}
+use Rattle.ob_tree.specs.declared.declaration.Parameters.{Parameters}
+use Rattle.ob_tree.specs.declared.declaration.Declarations.{Declarations, Declarations-F, roll-Declarations, out-Declarations, out-roll-Declarations}
+use Rattle.ob_tree.specs.declared.declaration.ProcDecl.{ProcDecl, ProcDecl-F, roll-ProcDecl, out-ProcDecl, out-roll-ProcDecl}
+use Rattle.ob_tree.specs.Marks.{Out, construct, word, each, repeated, if_so}
+use Rattle.ob_tree.specs.Marks.{if_there as shown_there}
+use Rattle.ob_tree.specs.Names.{identdef_outline}
+use Rattle.ob_tree.specs.Expressions.{expr_outline}
+use Rattle.ob_tree.specs.Statements.{block_outline}
+use Rattle.ob_tree.specs.Types.{parameters_outline}
+use Rattle.ob_tree.specs.Declaring.{const_outline, type_decl_outline, variable_outline, declarations_outline, procedure_outline}
+use Rattle.ob_tree.specs.Declaring.{part as shown_part}
+use Rattle.ob_tree.specs.Derives.{endings_in}
+use Rattle.ob_tree.proofs.DeclarationLayers.{declarations_made, procedure_out}
+use Rattle.ob_tree.proofs.EndNames.{endings-append, endings-each_push, declarations_ends, procedure_ends}
+use Rattle.ob_decls.specs.declared.rows.Sort.TheVariants as sorts
+use Rattle.ob_decls.specs.declared.rows.Declarer.{Declarer}
+use Rattle.ob_decls.specs.declared.draft.Context.{Context}
+use Rattle.ob_decls.specs.declared.draft.Draft.{Draft}
+use Rattle.ob_decls.specs.Drafts.{Stage, stage_of, after, passed, added, closed, ComesTo}
+use Rattle.ob_decls.specs.Parts.{Piece, token, both, tells, if_there, declarer, declaring, declaring_at, in_block, opens_block, one_block, one_declarer}
+use Rattle.ob_decls.specs.Parts.{each as pieces}
+use Rattle.ob_decls.specs.Expressions.{expr_piece}
+use Rattle.ob_decls.specs.Statements.{block_piece}
+use Rattle.ob_decls.specs.Types.{identdef_piece, parameters_piece}
+use Rattle.ob_decls.specs.Declaring.{const_piece, type_decl_piece, variable_piece, part, procedure_end, declarations_piece, procedure_piece}
+use Rattle.ob_decls.proofs.Steps.{after_both, after_token}
+use Rattle.ob_decls.proofs.DeclarationLayers as told
+use Rattle.ob_parse.specs.declared.cursor.Cursor.{Cursor}
+use Rattle.ob_parse.specs.declared.stop.Stop.{Stop}
+use Rattle.ob_parse.specs.Front.{is_word}
+use Rattle.ob_parse.specs.Forms.{Read, Reader, seq, node, optional, nothing, many, begins, accept_at, expect_at, identifier_at, name_at, behind_name}
+use Rattle.ob_parse.specs.Gives.{Fails, ahead}
+use Rattle.ob_parse.specs.Parsed.{IsRightEnd}
+use Rattle.ob_parse.specs.ReadExpressions.{expr_at}
+use Rattle.ob_parse.specs.ReadNames.{identdef_after}
+use Rattle.ob_parse.specs.ReadStatements.{block_at}
+use Rattle.ob_parse.specs.ReadTypes.{some_parameters_at, type_at}
+use Rattle.ob_parse.specs.ReadModules.{const_with, type_decl_with, variable_with, part_with, procedures_with, declarations_with, declarations_at, body_with, procedure_named, procedure_with, procedure_at, with_semicolon}
+use Rattle.ob_parse.proofs.Stars.{star_read}
+use Rattle.ob_table.specs.DeclarationShapes.{ended_outline, ended_piece, body_outline, body_piece, returned_outline, returned_piece, behind_procedure, behind_procedure_piece, Ending, ending_shown, ending_step, Block, block_shown, block_step}
+use Rattle.ob_table.specs.Ended.{RightEnds, Ended, EndedProcedure, EndedProcedures, EndedDeclarations, RightName, procedures_outline}
+use Rattle.ob_table.specs.Tells.{Told, Tells, TellsBy}
+use Rattle.ob_table.proofs.Combine.{told_as, told_node, told_then, failed_node, failed_then}
+use Rattle.ob_table.proofs.Lists.{word_after}
+use Rattle.ob_table.proofs.Made.{boxed}
+use Rattle.ob_table.proofs.SectionTrees.{tree_told, block_told, failed_behind}
+
+-- ---- what may be absent, in a box
+
+abbrev pub box_there : {X : Type 0} → Global → Option X → Option (Box X)
+box_there g None = None
+box_there g (Some x) = Some (boxed g x)
+
+shown_boxed : {X : Type 0} (g : Global) (f : X → Out) (o : Option X) → shown_there (λ (b : Box X). f b.value) (box_there g o) ≡ shown_there f o
+shown_boxed g f None = refl
+shown_boxed g f (Some x) = refl
+
+piece_boxed : {X : Type 0} (g : Global) (p : X → Piece) (o : Option X) → if_there (λ (b : Box X). p b.value) (box_there g o) ≡ if_there p o
+piece_boxed g p None = refl
+piece_boxed g p (Some x) = refl
+
+-- ---- what stands behind the declarations, and behind the heading
+
+pub ending_told : (bytes : List ℕ) (ts : List Token) (name d : ℕ) (c : Context) (old first second third new : Draft) (input a b e : Cursor) (result : Result Cursor Stop) →
+    Tells ts body_outline body_piece c old first (Ok a) (body_with (block_at d) (ahead ts input)) →
+    Tells ts returned_outline returned_piece c first second (Ok b) (optional (accept_at kinds.Return) (expr_at d) (ahead ts a)) →
+    TellsBy ts (λ (u : Unit {0}). word kinds.End) (λ u s. passed s) second third (Ok e) (expect_at kinds.End (ahead ts b)) →
+    TellsBy {T = RightName bytes ts name} ts (λ x. repeated name x.number) (λ x s. after (tells procedure_end token) c s) third new result (name_at (repeated name) (ahead ts e)) →
+    TellsBy {T = Ending bytes ts name} ts (ending_shown {bytes = bytes} {ts = ts} {name = name}) (ending_step {bytes = bytes} {ts = ts} {name = name} c) old new result
+    (seq (body_with (block_at d)) (seq (optional (accept_at kinds.Return) (expr_at d)) (seq (expect_at kinds.End) (name_at (repeated name)))) (ahead ts input))
+ending_told bytes ts name d c old first second third new input a b e result t u v w =
+    told_then ts body_outline (λ x. after (body_piece x) c)
+    (λ (x : Option Expr × (Unit {0} × RightName bytes ts name)). returned_outline x.0 ++ (word kinds.End ++ repeated name x.1.1.number)) (λ x s. after (tells procedure_end token) c (passed (after (returned_piece x.0) c s)))
+    (body_with (block_at d)) (seq (optional (accept_at kinds.Return) (expr_at d)) (seq (expect_at kinds.End) (name_at (repeated name)))) old first new a result (ahead ts input) t
+    (told_then ts returned_outline (λ x. after (returned_piece x) c)
+    (λ (x : Unit {0} × RightName bytes ts name). word kinds.End ++ repeated name x.1.number) (λ x s. after (tells procedure_end token) c (passed s))
+    (optional (accept_at kinds.Return) (expr_at d)) (seq (expect_at kinds.End) (name_at (repeated name))) first second new b result (ahead ts a) u
+    (told_then ts (λ (u : Unit {0}). word kinds.End) (λ u s. passed s) (λ (x : RightName bytes ts name). repeated name x.number) (λ x s. after (tells procedure_end token) c s)
+    (expect_at kinds.End) (name_at (repeated name)) second third new e result (ahead ts b) v w))
+
+pub behind_heading_told : (bytes : List ℕ) (ts : List Token) (name : ℕ) (r s : Reader) (c : Context) (old mid new : Draft) (input here : Cursor) (result : Result Cursor Stop) →
+    Tells {T = EndedDeclarations bytes ts} ts (λ d. declarations_outline d.tree) (λ d. declarations_piece d.tree) c old mid (Ok here) (r (ahead ts input)) →
+    TellsBy {T = Ending bytes ts name} ts (ending_shown {bytes = bytes} {ts = ts} {name = name}) (ending_step {bytes = bytes} {ts = ts} {name = name} c) mid new result (s (ahead ts here)) →
+    TellsBy {T = Block bytes ts name} ts (block_shown {bytes = bytes} {ts = ts} {name = name}) (block_step {bytes = bytes} {ts = ts} {name = name} c) old new result (seq r s (ahead ts input))
+behind_heading_told bytes ts name r s c old mid new input here result t u =
+    told_then ts (λ (d : EndedDeclarations bytes ts). declarations_outline d.tree) (λ d. after (declarations_piece d.tree) c) (ending_shown {bytes = bytes} {ts = ts} {name = name}) (ending_step {bytes = bytes} {ts = ts} {name = name} c)
+    r s old mid new here result (ahead ts input) t u
+
+-- ---- the heading
+
+abbrev name_with : ℕ → Bool → Identdef
+name_with n b = record { name = n; starred = b }
+
+pub star_told : (ts : List Token) (n : ℕ) (b : Bool) (c : Context) (old new : Draft) (input here : Cursor) → Ok (if_so b (word kinds.Star), ahead ts here) ≡ optional (accept_at kinds.Star) nothing (ahead ts input) →
+    ComesTo (after (identdef_piece (name_with n b)) c) old new → Told {T = Bool} ts (λ x. identdef_outline (name_with n x)) (λ x. after (identdef_piece (name_with n x)) c) old new here (identdef_after n (ahead ts input))
+unfolding identdef_after identdef_outline
+star_told ts n b c old new input here e h = tree_told ts (λ x. identdef_outline (name_with n x)) (λ x. after (identdef_piece (name_with n x)) c) b old new here (identdef_after n (ahead ts input)) (rw (sym e, star_read b) refl) h
+
+-- a procedure behind PROCEDURE, with no name in the tree
+abbrev Heading : List ℕ → List Token → ℕ → Type 0
+Heading bytes ts n = Bool × (Option Parameters × (Unit {0} × Block bytes ts n))
+
+abbrev layer_of : {bytes : List ℕ} {ts : List Token} (n : ℕ) → Global → Heading bytes ts n → ProcDecl-F Declarations ProcDecl
+layer_of n g x = record {
+  name = name_with n x.0;
+  parameters = x.1.0;
+  declarations = x.1.1.1.0.tree;
+  body = box_there g x.1.1.1.1.0;
+  returned = box_there g x.1.1.1.1.1.0;
+  end_name = x.1.1.1.1.1.1.1.number;
+}
+
+-- its names after END
+procedure_right : (bytes : List ℕ) (ts : List Token) (y : ProcDecl-F Declarations ProcDecl) → RightEnds bytes ts (declarations_outline y.declarations) → IsRightEnd bytes ts (y.name.name, y.end_name) → RightEnds bytes ts (procedure_outline (roll-ProcDecl y))
+procedure_right bytes ts y h k =
+    subst (λ (es : List (ℕ × ℕ)). All (IsRightEnd bytes ts) es)
+    (sym (procedure_ends (roll-ProcDecl y) ∙ ap (λ (z : ProcDecl-F Declarations ProcDecl). endings_in (declarations_outline z.declarations) ++ (z.name.name, z.end_name) ∷ []) (out-roll-ProcDecl y)))
+    (All-push (IsRightEnd bytes ts) (endings_in (declarations_outline y.declarations)) (y.name.name, y.end_name) h k)
+
+abbrev procedure_of : (bytes : List ℕ) (ts : List Token) (n : ℕ) → Global → Heading bytes ts n → EndedProcedure bytes ts
+procedure_of bytes ts n g x = record {
+  tree = roll-ProcDecl (layer_of {bytes = bytes} {ts = ts} n g x);
+  ended = procedure_right bytes ts (layer_of {bytes = bytes} {ts = ts} n g x) x.1.1.1.0.ended x.1.1.1.1.1.1.1.right;
+}
+
+-- what stands behind PROCEDURE, by its layer
+abbrev behind_layer : ProcDecl-F Declarations ProcDecl → Out
+behind_layer p =
+    identdef_outline p.name ++ (shown_there parameters_outline p.parameters ++ (word kinds.Semicolon ++
+    (declarations_outline p.declarations ++ (shown_there (λ b. word kinds.Begin ++ block_outline b.value) p.body ++
+    (shown_there (λ e. word kinds.Return ++ expr_outline e.value) p.returned ++ (word kinds.End ++ repeated p.name.name p.end_name))))))
+
+abbrev layer_piece : ProcDecl-F Declarations ProcDecl → Piece
+layer_piece p =
+    both (identdef_piece p.name) (both (if_there parameters_piece p.parameters) (both token
+    (both (declarations_piece p.declarations) (both (if_there (λ b. both token (block_piece b.value)) p.body)
+    (both (if_there (λ e. both token (expr_piece e.value)) p.returned) (both token (tells procedure_end token)))))))
+
+abbrev heading_shown : {bytes : List ℕ} {ts : List Token} (n : ℕ) → Heading bytes ts n → Out
+heading_shown {bytes} {ts} n x = identdef_outline (name_with n x.0) ++ (shown_there parameters_outline x.1.0 ++ (word kinds.Semicolon ++ block_shown {bytes = bytes} {ts = ts} {name = n} x.1.1.1))
+
+abbrev heading_step : {bytes : List ℕ} {ts : List Token} (n : ℕ) → Context → Heading bytes ts n → Stage → Stage
+heading_step {bytes} {ts} n c x s = block_step {bytes = bytes} {ts = ts} {name = n} c x.1.1.1 (passed (after (if_there parameters_piece x.1.0) c (after (identdef_piece (name_with n x.0)) c s)))
+
+heading_made : (bytes : List ℕ) (ts : List Token) (n : ℕ) (g : Global) (x : Heading bytes ts n) → behind_procedure (procedure_of bytes ts n g x).tree ≡ heading_shown {bytes = bytes} {ts = ts} n x
+heading_made bytes ts n g x =
+    let y : ProcDecl-F Declarations ProcDecl = layer_of {bytes = bytes} {ts = ts} n g x in
+    ap (λ (z : ProcDecl-F Declarations ProcDecl). behind_layer z) (out-roll-ProcDecl y)
+    ∙ ap (λ (o : Out). identdef_outline y.name ++ (shown_there parameters_outline y.parameters ++ (word kinds.Semicolon ++ (declarations_outline y.declarations ++ (o ++
+    (shown_there (λ e. word kinds.Return ++ expr_outline e.value) y.returned ++ (word kinds.End ++ repeated y.name.name y.end_name))))))) (shown_boxed g (λ b. word kinds.Begin ++ block_outline b) x.1.1.1.1.0)
+    ∙ ap (λ (o : Out). identdef_outline y.name ++ (shown_there parameters_outline y.parameters ++ (word kinds.Semicolon ++ (declarations_outline y.declarations ++ (body_outline x.1.1.1.1.0 ++
+    (o ++ (word kinds.End ++ repeated y.name.name y.end_name))))))) (shown_boxed g (λ e. word kinds.Return ++ expr_outline e) x.1.1.1.1.1.0)
+
+parts_after : (a b d e f : Piece) (c : Context) (s : Stage) →
+    after (both a (both b (both token (both d (both e (both f (both token (tells procedure_end token)))))))) c s ≡ after (tells procedure_end token) c (passed (after f c (after e c (after d c (passed (after b c (after a c s)))))))
+parts_after a b d e f c s = simp (after_both, after_token)
+
+heading_after : (bytes : List ℕ) (ts : List Token) (n : ℕ) (g : Global) (x : Heading bytes ts n) (c : Context) (s : Stage) → after (behind_procedure_piece (procedure_of bytes ts n g x).tree) c s ≡ heading_step {bytes = bytes} {ts = ts} n c x s
+heading_after bytes ts n g x c s =
+    let y : ProcDecl-F Declarations ProcDecl = layer_of {bytes = bytes} {ts = ts} n g x in
+    ap (λ (z : ProcDecl-F Declarations ProcDecl). after (layer_piece z) c s) (out-roll-ProcDecl y)
+    ∙ ap (λ (p : Piece). after (both (identdef_piece y.name) (both (if_there parameters_piece y.parameters) (both token (both (declarations_piece y.declarations) (both p
+    (both (if_there (λ e. both token (expr_piece e.value)) y.returned) (both token (tells procedure_end token)))))))) c s) (piece_boxed g (λ b. both token (block_piece b)) x.1.1.1.1.0)
+    ∙ ap (λ (p : Piece). after (both (identdef_piece y.name) (both (if_there parameters_piece y.parameters) (both token (both (declarations_piece y.declarations) (both (body_piece x.1.1.1.1.0)
+    (both p (both token (tells procedure_end token)))))))) c s) (piece_boxed g (λ e. both token (expr_piece e)) x.1.1.1.1.1.0)
+    ∙ parts_after (identdef_piece y.name) (if_there parameters_piece y.parameters) (declarations_piece y.declarations) (body_piece x.1.1.1.1.0) (returned_piece x.1.1.1.1.1.0) c s
+
+pub named_told : (bytes : List ℕ) (ts : List Token) (n : ℕ) (expr block decls : Reader) (c : Context) (old first second third new : Draft) (input a b e : Cursor) (result : Result Cursor Stop) →
+    Told {T = Bool} ts (λ x. identdef_outline (name_with n x)) (λ x. after (identdef_piece (name_with n x)) c) old first a (identdef_after n (ahead ts input)) →
+    Tells ts (shown_there parameters_outline) (if_there parameters_piece) c first second (Ok b) (some_parameters_at (ahead ts a)) →
+    TellsBy ts (λ (u : Unit {0}). word kinds.Semicolon) (λ u s. passed s) second third (Ok e) (expect_at kinds.Semicolon (ahead ts b)) →
+    TellsBy {T = Block bytes ts n} ts (block_shown {bytes = bytes} {ts = ts} {name = n}) (block_step {bytes = bytes} {ts = ts} {name = n} c) third new result
+    (seq decls (seq (body_with block) (seq (optional (accept_at kinds.Return) expr) (seq (expect_at kinds.End) (name_at (repeated n))))) (ahead ts e)) →
+    Tells {T = EndedProcedure bytes ts} ts (λ p. behind_procedure p.tree) (λ p. behind_procedure_piece p.tree) c old new result (procedure_named expr block decls n (ahead ts input))
+unfolding procedure_named
+named_told bytes ts n expr block decls c old first second third new input a b e result t u v w =
+    let inner : Reader = seq decls (seq (body_with block) (seq (optional (accept_at kinds.Return) expr) (seq (expect_at kinds.End) (name_at (repeated n))))) in
+    told_as ts (heading_shown {bytes = bytes} {ts = ts} n) (heading_step {bytes = bytes} {ts = ts} n c) (λ (p : EndedProcedure bytes ts). behind_procedure p.tree) (λ p. after (behind_procedure_piece p.tree) c) (procedure_of bytes ts n old.uses.alloc)
+    (λ x. heading_made bytes ts n old.uses.alloc x) (λ x s. heading_after bytes ts n old.uses.alloc x c s) old new result _
+    (told_then ts (λ x. identdef_outline (name_with n x)) (λ x. after (identdef_piece (name_with n x)) c)
+    (λ (x : Option Parameters × (Unit {0} × Block bytes ts n)). shown_there parameters_outline x.0 ++ (word kinds.Semicolon ++ block_shown {bytes = bytes} {ts = ts} {name = n} x.1.1))
+    (λ x s. block_step {bytes = bytes} {ts = ts} {name = n} c x.1.1 (passed (after (if_there parameters_piece x.0) c s)))
+    (identdef_after n) (seq some_parameters_at (seq (expect_at kinds.Semicolon) inner)) old first new a result (ahead ts input) t
+    (told_then ts (shown_there parameters_outline) (λ x. after (if_there parameters_piece x) c)
+    (λ (x : Unit {0} × Block bytes ts n). word kinds.Semicolon ++ block_shown {bytes = bytes} {ts = ts} {name = n} x.1) (λ x s. block_step {bytes = bytes} {ts = ts} {name = n} c x.1 (passed s))
+    some_parameters_at (seq (expect_at kinds.Semicolon) inner) first second new b result (ahead ts a) u
+    (told_then ts (λ (u : Unit {0}). word kinds.Semicolon) (λ u s. passed s) (block_shown {bytes = bytes} {ts = ts} {name = n}) (block_step {bytes = bytes} {ts = ts} {name = n} c)
+    (expect_at kinds.Semicolon) inner second third new e result (ahead ts b) v w)))
+
+pub named_failed : (ts : List Token) (n : ℕ) (expr block decls : Reader) (c : Context) (old first : Draft) (input a : Cursor) (e : Stop) →
+    Told {T = Bool} ts (λ x. identdef_outline (name_with n x)) (λ x. after (identdef_piece (name_with n x)) c) old first a (identdef_after n (ahead ts input)) →
+    Fails ts e (some_parameters_at (ahead ts a)) → Fails ts e (procedure_named expr block decls n (ahead ts input))
+unfolding procedure_named
+named_failed ts n expr block decls c old first input a e t h =
+    failed_behind ts (λ x. identdef_outline (name_with n x)) (λ x. after (identdef_piece (name_with n x)) c) (identdef_after n) _ old first a e (ahead ts input) t (failed_then ts some_parameters_at _ e (ahead ts a) h)
+
+pub named_failed_behind : (ts : List Token) (n : ℕ) (expr block decls : Reader) (c : Context) (old first second : Draft) (input a b : Cursor) (e : Stop) →
+    Told {T = Bool} ts (λ x. identdef_outline (name_with n x)) (λ x. after (identdef_piece (name_with n x)) c) old first a (identdef_after n (ahead ts input)) →
+    Tells ts (shown_there parameters_outline) (if_there parameters_piece) c first second (Ok b) (some_parameters_at (ahead ts a)) →
+    Fails ts e (expect_at kinds.Semicolon (ahead ts b)) → Fails ts e (procedure_named expr block decls n (ahead ts input))
+unfolding procedure_named
+named_failed_behind ts n expr block decls c old first second input a b e t u h =
+    failed_behind ts (λ x. identdef_outline (name_with n x)) (λ x. after (identdef_piece (name_with n x)) c) (identdef_after n) _ old first a e (ahead ts input) t
+    (failed_behind ts (shown_there parameters_outline) (λ x. after (if_there parameters_piece x) c) some_parameters_at _ first second b e (ahead ts a) u (failed_then ts (expect_at kinds.Semicolon) _ e (ahead ts b) h))
+
+-- ---- procedures
+
+pub inner_told : (bytes : List ℕ) (ts : List Token) (r : ℕ → Reader) (n : ℕ) (c : Context) (old mid new : Draft) (input here rest : Cursor) (result : Result Cursor Stop) →
+    TellsBy ts (λ (u : Unit {0}). word kinds.Procedure) (λ u s. passed s) old mid (Ok here) (expect_at kinds.Procedure (ahead ts input)) →
+    identifier_at (ahead ts here) ≡ Ok (n, ahead ts rest) →
+    Tells {T = EndedProcedure bytes ts} ts (λ p. behind_procedure p.tree) (λ p. behind_procedure_piece p.tree) c mid new result (r n (ahead ts rest)) →
+    Tells {T = EndedProcedure bytes ts} ts (λ p. word kinds.Procedure ++ behind_procedure p.tree) (λ p. both token (behind_procedure_piece p.tree)) c old new result (seq (expect_at kinds.Procedure) (behind_name r) (ahead ts input))
+inner_told bytes ts r n c old mid new input here rest result t e u =
+    told_as ts (λ (x : Unit {0} × EndedProcedure bytes ts). word kinds.Procedure ++ behind_procedure x.1.tree) (λ x s. after (behind_procedure_piece x.1.tree) c (passed s))
+    (λ (p : EndedProcedure bytes ts). word kinds.Procedure ++ behind_procedure p.tree) (λ p. after (both token (behind_procedure_piece p.tree)) c) (λ x. x.1) (λ x. refl) (λ x s. word_after (behind_procedure_piece x.1.tree) c s) old new result _
+    (told_then ts (λ (u : Unit {0}). word kinds.Procedure) (λ u s. passed s) (λ (p : EndedProcedure bytes ts). behind_procedure p.tree) (λ p. after (behind_procedure_piece p.tree) c)
+    (expect_at kinds.Procedure) (behind_name r) old mid new here result (ahead ts input) t (rw e u))
+
+pub within_told : (bytes : List ℕ) (ts : List Token) (expr block decls : Reader) (c around : Context) (row : Declarer) (at : ℕ) (old opened blocked last new : Draft) (input rest : Cursor) →
+    row ≡ declarer sorts.Procedure c old.number 0 → around ≡ in_block (declaring_at c old.number) old.number → at ≡ length old.declarers.items →
+    ComesTo (added (one_declarer row)) old opened → ComesTo (added (one_block (record { first = old.number; outer = c.block }))) opened blocked →
+    Tells {T = EndedProcedure bytes ts} ts (λ p. word kinds.Procedure ++ behind_procedure p.tree) (λ p. both token (behind_procedure_piece p.tree)) around blocked last (Ok rest)
+    (seq (expect_at kinds.Procedure) (behind_name (procedure_named expr block decls)) (ahead ts input)) → ComesTo (closed at row) last new →
+    Tells {T = EndedProcedure bytes ts} ts (λ p. procedure_outline p.tree) (λ p. procedure_piece p.tree) c old new (Ok rest) (procedure_with expr block decls (ahead ts input))
+unfolding procedure_with
+within_told bytes ts expr block decls c around row at old opened blocked last new input rest e g h opens adds t closes =
+    let r : Reader = seq (expect_at kinds.Procedure) (behind_name (procedure_named expr block decls)) in
+    told_as ts (λ (p : EndedProcedure bytes ts). construct constructs.ProcedureDeclaration (word kinds.Procedure ++ behind_procedure p.tree)) (λ p. after (declaring sorts.Procedure (opens_block (both token (behind_procedure_piece p.tree)))) c)
+    (λ (p : EndedProcedure bytes ts). procedure_outline p.tree) (λ p. after (procedure_piece p.tree) c) (λ x. x) (λ p. procedure_out p.tree) (λ p s. ap (λ (z : Piece). after z c s) (told.procedure_told p.tree)) old new (Ok rest) _
+    (told_node ts (λ (p : EndedProcedure bytes ts). word kinds.Procedure ++ behind_procedure p.tree) (λ p. after (declaring sorts.Procedure (opens_block (both token (behind_procedure_piece p.tree)))) c) constructs.ProcedureDeclaration r old new (Ok rest) (ahead ts input)
+    (block_told ts (λ (p : EndedProcedure bytes ts). word kinds.Procedure ++ behind_procedure p.tree) (λ p. both token (behind_procedure_piece p.tree)) c around row at old opened blocked last new rest (r (ahead ts input)) e g h opens adds t closes))
+
+pub within_failed : (ts : List Token) (expr block decls : Reader) (e : Stop) (ls : List _) → Fails ts e (seq (expect_at kinds.Procedure) (behind_name (procedure_named expr block decls)) ls) → Fails ts e (procedure_with expr block decls ls)
+unfolding procedure_with
+within_failed ts expr block decls e ls h = failed_node ts constructs.ProcedureDeclaration (seq (expect_at kinds.Procedure) (behind_name (procedure_named expr block decls))) e ls h
+
+pub procedure_deeper : (d : ℕ) (ls : List _) → (d ≡ 0 → ⊥) → procedure_at d ls ≡ procedure_with (expr_at (d - 1)) (block_at (d - 1)) (declarations_at (d - 1)) ls
+unfolding procedure_at
+procedure_deeper zero ls h = absurd (h refl)
+procedure_deeper (suc n) ls h = let e : suc n - 1 ≡ n = omega arith in rw e refl
+
+-- one procedure more
+pub procedures_right : (bytes : List ℕ) (ts : List Token) (xs : List ProcDecl) (p : EndedProcedure bytes ts) → RightEnds bytes ts (procedures_outline xs) → RightEnds bytes ts (procedures_outline (xs ++ p.tree ∷ []))
+procedures_right bytes ts xs p h =
+    subst (λ (es : List (ℕ × ℕ)). All (IsRightEnd bytes ts) es)
+    (sym (endings-each_push (ended_outline procedure_outline) xs p.tree ∙ ap (λ (es : List (ℕ × ℕ)). endings_in (procedures_outline xs) ++ es) (endings-append (procedure_outline p.tree) (word kinds.Semicolon) ∙ append-nil (endings_in (procedure_outline p.tree)))))
+    (All-append (IsRightEnd bytes ts) (endings_in (procedures_outline xs)) (endings_in (procedure_outline p.tree)) h p.ended)
+
+-- ---- declarations
+
+abbrev Sections : List ℕ → List Token → Type 0
+Sections bytes ts = Option (Vec ConstDecl) × (Option (Vec TypeDecl) × (Option (Vec VarDecl) × EndedProcedures bytes ts))
+
+abbrev sections_layer : {bytes : List ℕ} {ts : List Token} → Sections bytes ts → Declarations-F Declarations ProcDecl
+sections_layer x = record { constants = x.0; types = x.1.0; variables = x.1.1.0; procedures = x.1.1.1.tree }
+
+declarations_right : (bytes : List ℕ) (ts : List Token) (y : Declarations-F Declarations ProcDecl) → RightEnds bytes ts (procedures_outline y.procedures.items) → RightEnds bytes ts (declarations_outline (roll-Declarations y))
+declarations_right bytes ts y h =
+    subst (λ (es : List (ℕ × ℕ)). All (IsRightEnd bytes ts) es)
+    (sym (declarations_ends (roll-Declarations y) ∙ ap (λ (z : Declarations-F Declarations ProcDecl). endings_in (procedures_outline z.procedures.items)) (out-roll-Declarations y))) h
+
+abbrev declarations_of : (bytes : List ℕ) (ts : List Token) → Sections bytes ts → EndedDeclarations bytes ts
+declarations_of bytes ts x = record { tree = roll-Declarations (sections_layer {bytes = bytes} {ts = ts} x); ended = declarations_right bytes ts (sections_layer {bytes = bytes} {ts = ts} x) x.1.1.1.ended }
+
+sections_after : (bytes : List ℕ) (ts : List Token) (x : Sections bytes ts) (c : Context) (s : Stage) → after (declarations_piece (declarations_of bytes ts x).tree) c s ≡
+    after (pieces (ended_piece procedure_piece) x.1.1.1.tree.items) c (after (if_there (λ v. part variable_piece v.items) x.1.1.0) c (after (if_there (λ v. part type_decl_piece v.items) x.1.0) c (after (if_there (λ v. part const_piece v.items) x.0) c s)))
+sections_after bytes ts x c s =
+    let y : Declarations-F Declarations ProcDecl = sections_layer {bytes = bytes} {ts = ts} x in
+    let p : Piece = if_there (λ v. part const_piece v.items) x.0 in
+    let q : Piece = if_there (λ v. part type_decl_piece v.items) x.1.0 in
+    let r : Piece = if_there (λ v. part variable_piece v.items) x.1.1.0 in
+    let t : Piece = pieces (ended_piece procedure_piece) x.1.1.1.tree.items in
+    ap (λ (z : Piece). after z c s) (told.declarations_out (roll-Declarations y)
+    ∙ ap (λ (z : Declarations-F Declarations ProcDecl). both (if_there (λ v. part const_piece v.items) z.constants) (both (if_there (λ v. part type_decl_piece v.items) z.types) (both (if_there (λ v. part variable_piece v.items) z.variables) (pieces (ended_piece procedure_piece) z.procedures.items)))) (out-roll-Declarations y))
+    ∙ after_both p (both q (both r t)) c s ∙ after_both q (both r t) c (after p c s) ∙ after_both r t c (after q c (after p c s))
+
+pub sections_told : (bytes : List ℕ) (ts : List Token) (expr type procedure : Reader) (c : Context) (old first second third new : Draft) (input a b e : Cursor) (result : Result Cursor Stop) →
+    Tells {T = Option (Vec ConstDecl)} ts (shown_there (λ v. shown_part kinds.Const const_outline v.items)) (if_there (λ v. part const_piece v.items)) c old first (Ok a) (part_with kinds.Const (const_with expr) (ahead ts input)) →
+    Tells {T = Option (Vec TypeDecl)} ts (shown_there (λ v. shown_part kinds.Type type_decl_outline v.items)) (if_there (λ v. part type_decl_piece v.items)) c first second (Ok b) (part_with kinds.Type (type_decl_with type) (ahead ts a)) →
+    Tells {T = Option (Vec VarDecl)} ts (shown_there (λ v. shown_part kinds.Var variable_outline v.items)) (if_there (λ v. part variable_piece v.items)) c second third (Ok e) (part_with kinds.Var (variable_with type) (ahead ts b)) →
+    Tells {T = EndedProcedures bytes ts} ts (λ v. procedures_outline v.tree.items) (λ v. pieces (ended_piece procedure_piece) v.tree.items) c third new result (procedures_with procedure (ahead ts e)) →
+    Tells {T = EndedDeclarations bytes ts} ts (λ d. declarations_outline d.tree) (λ d. declarations_piece d.tree) c old new result (declarations_with expr type procedure (ahead ts input))
+unfolding declarations_with
+sections_told bytes ts expr type procedure c old first second third new input a b e result t u v w =
+    told_as ts
+    (λ (x : Sections bytes ts). shown_there (λ v. shown_part kinds.Const const_outline v.items) x.0 ++ (shown_there (λ v. shown_part kinds.Type type_decl_outline v.items) x.1.0 ++ (shown_there (λ v. shown_part kinds.Var variable_outline v.items) x.1.1.0 ++ procedures_outline x.1.1.1.tree.items)))
+    (λ x s. after (pieces (ended_piece procedure_piece) x.1.1.1.tree.items) c (after (if_there (λ v. part variable_piece v.items) x.1.1.0) c (after (if_there (λ v. part type_decl_piece v.items) x.1.0) c (after (if_there (λ v. part const_piece v.items) x.0) c s))))
+    (λ (d : EndedDeclarations bytes ts). declarations_outline d.tree) (λ d. after (declarations_piece d.tree) c) (declarations_of bytes ts)
+    (λ x. declarations_made (sections_layer {bytes = bytes} {ts = ts} x)) (λ x s. sections_after bytes ts x c s) old new result _
+    (told_then ts (shown_there (λ (v : Vec ConstDecl). shown_part kinds.Const const_outline v.items)) (λ x. after (if_there (λ v. part const_piece v.items) x) c)
+    (λ (x : Option (Vec TypeDecl) × (Option (Vec VarDecl) × EndedProcedures bytes ts)). shown_there (λ v. shown_part kinds.Type type_decl_outline v.items) x.0 ++ (shown_there (λ v. shown_part kinds.Var variable_outline v.items) x.1.0 ++ procedures_outline x.1.1.tree.items))
+    (λ x s. after (pieces (ended_piece procedure_piece) x.1.1.tree.items) c (after (if_there (λ v. part variable_piece v.items) x.1.0) c (after (if_there (λ v. part type_decl_piece v.items) x.0) c s)))
+    (part_with kinds.Const (const_with expr)) (seq (part_with kinds.Type (type_decl_with type)) (seq (part_with kinds.Var (variable_with type)) (procedures_with procedure))) old first new a result (ahead ts input) t
+    (told_then ts (shown_there (λ (v : Vec TypeDecl). shown_part kinds.Type type_decl_outline v.items)) (λ x. after (if_there (λ v. part type_decl_piece v.items) x) c)
+    (λ (x : Option (Vec VarDecl) × EndedProcedures bytes ts). shown_there (λ v. shown_part kinds.Var variable_outline v.items) x.0 ++ procedures_outline x.1.tree.items)
+    (λ x s. after (pieces (ended_piece procedure_piece) x.1.tree.items) c (after (if_there (λ v. part variable_piece v.items) x.0) c s))
+    (part_with kinds.Type (type_decl_with type)) (seq (part_with kinds.Var (variable_with type)) (procedures_with procedure)) first second new b result (ahead ts a) u
+    (told_then ts (shown_there (λ (v : Vec VarDecl). shown_part kinds.Var variable_outline v.items)) (λ x. after (if_there (λ v. part variable_piece v.items) x) c)
+    (λ (v : EndedProcedures bytes ts). procedures_outline v.tree.items) (λ v. after (pieces (ended_piece procedure_piece) v.tree.items) c)
+    (part_with kinds.Var (variable_with type)) (procedures_with procedure) second third new e result (ahead ts b) v w)))
+
+pub first_failed : (ts : List Token) (expr type procedure : Reader) (x : Stop) (ls : List _) → Fails ts x (part_with kinds.Const (const_with expr) ls) → Fails ts x (declarations_with expr type procedure ls)
+unfolding declarations_with
+first_failed ts expr type procedure x ls h = failed_then ts (part_with kinds.Const (const_with expr)) _ x ls h
+
+pub second_failed : (ts : List Token) (expr type procedure : Reader) (c : Context) (old first : Draft) (input a : Cursor) (x : Stop) →
+    Tells {T = Option (Vec ConstDecl)} ts (shown_there (λ v. shown_part kinds.Const const_outline v.items)) (if_there (λ v. part const_piece v.items)) c old first (Ok a) (part_with kinds.Const (const_with expr) (ahead ts input)) →
+    Fails ts x (part_with kinds.Type (type_decl_with type) (ahead ts a)) → Fails ts x (declarations_with expr type procedure (ahead ts input))
+unfolding declarations_with
+second_failed ts expr type procedure c old first input a x t h =
+    failed_behind ts (shown_there (λ (v : Vec ConstDecl). shown_part kinds.Const const_outline v.items)) (λ o. after (if_there (λ v. part const_piece v.items) o) c) (part_with kinds.Const (const_with expr))
+    (seq (part_with kinds.Type (type_decl_with type)) (seq (part_with kinds.Var (variable_with type)) (procedures_with procedure))) old first a x (ahead ts input) t
+    (failed_then ts (part_with kinds.Type (type_decl_with type)) (seq (part_with kinds.Var (variable_with type)) (procedures_with procedure)) x (ahead ts a) h)
+
+pub third_failed : (ts : List Token) (expr type procedure : Reader) (c : Context) (old first second : Draft) (input a b : Cursor) (x : Stop) →
+    Tells {T = Option (Vec ConstDecl)} ts (shown_there (λ v. shown_part kinds.Const const_outline v.items)) (if_there (λ v. part const_piece v.items)) c old first (Ok a) (part_with kinds.Const (const_with expr) (ahead ts input)) →
+    Tells {T = Option (Vec TypeDecl)} ts (shown_there (λ v. shown_part kinds.Type type_decl_outline v.items)) (if_there (λ v. part type_decl_piece v.items)) c first second (Ok b) (part_with kinds.Type (type_decl_with type) (ahead ts a)) →
+    Fails ts x (part_with kinds.Var (variable_with type) (ahead ts b)) → Fails ts x (declarations_with expr type procedure (ahead ts input))
+unfolding declarations_with
+third_failed ts expr type procedure c old first second input a b x t u h =
+    failed_behind ts (shown_there (λ (v : Vec ConstDecl). shown_part kinds.Const const_outline v.items)) (λ o. after (if_there (λ v. part const_piece v.items) o) c) (part_with kinds.Const (const_with expr))
+    (seq (part_with kinds.Type (type_decl_with type)) (seq (part_with kinds.Var (variable_with type)) (procedures_with procedure))) old first a x (ahead ts input) t
+    (failed_behind ts (shown_there (λ (v : Vec TypeDecl). shown_part kinds.Type type_decl_outline v.items)) (λ o. after (if_there (λ v. part type_decl_piece v.items) o) c) (part_with kinds.Type (type_decl_with type))
+    (seq (part_with kinds.Var (variable_with type)) (procedures_with procedure)) first second b x (ahead ts a) u
+    (failed_then ts (part_with kinds.Var (variable_with type)) (procedures_with procedure) x (ahead ts b) h))

@@ -1,0 +1,21 @@
+use Rattle.std.proofs.Common.{None, refl, sym, ap, ◌∙◌}
+use Rattle.ob_scan.specs.declared.kind.Kind.TheVariants as kinds
+use Rattle.ob_tree.specs.Expressions.{expr_outline}
+use Rattle.ob_decls.specs.Expressions.{expr_piece}
+use Rattle.ob_decls.specs.Drafts.{after}
+use Rattle.ob_decls.proofs.Steps.{after_nothing}
+use Rattle.ob_parse.specs.Forms.{accept_at}
+use Rattle.ob_parse.specs.Gives.{skipped}
+use Rattle.ob_parse.specs.ReadExpressions.{expr_at}
+use Rattle.ob_table.specs.DeclarationShapes.{returned_outline, returned_piece}
+use Rattle.ob_table.proofs.Combine.{told_absent}
+use Rattle.ob_table.proofs.SectionTrees.{word_told}
+use Rattle.ob_table.proofs.declarations.returned.Goals as goal
+
+pub returns-in-None : goal.returns-in-None
+returns-in-None c =
+    told_absent c.args.source.now.tokens.now returned_outline (λ x. after (returned_piece x) c.args.inside) None (accept_at kinds.Return) _ _ c.args.input refl (λ s. after_nothing c.args.inside s) (sym c.accept.ensures ∙ ap (skipped c.args.source.now.tokens.now kinds.Return) c.in-None.is)
+
+pub returns-in-Some : goal.returns-in-Some
+returns-in-Some c =
+    word_told c.args.source.now.tokens.now expr_outline expr_piece kinds.Return (expr_at c.args.depth) c.args.inside _ _ _ c.args.input c.in-Some.rest _ (sym c.accept.ensures ∙ ap (skipped c.args.source.now.tokens.now kinds.Return) c.in-Some.is) c.pass.ensures c.expression.ensures

@@ -1,0 +1,375 @@
+use Rattle.std.proofs.Common.{◌≡◌, ◌+◌, ◌-◌, ◌++◌, suc, true, false, length, map, [], ◌∷◌, Some, None, Ok, refl, sym, ap, ◌∙◌, arith}
+use Rattle.ob_scan.specs.declared.kind.Kind.{Kind}
+use Rattle.ob_scan.specs.declared.kind.Kind.TheVariants as kinds
+use Rattle.ob_tree.specs.declared.token.Leaf.{Leaf}
+use Rattle.ob_tree.specs.declared.token.Leaf.TheVariants as leafs
+use Rattle.ob_tree.specs.declared.expression.AddOperator.{AddOperator}
+use Rattle.ob_tree.specs.declared.expression.MulOperator.{MulOperator}
+use Rattle.ob_tree.specs.declared.expression.Term.{Term}
+use Rattle.ob_tree.specs.declared.expression.Factor.{Factor}
+use Rattle.ob_tree.specs.declared.expression.Factor.TheVariants as factors
+use Rattle.ob_tree.specs.declared.expression.Element.{Element}
+use Rattle.ob_tree.specs.declared.expression.Expr.{Expr}
+use Rattle.ob_tree.specs.declared.expression.Selector.{Selector}
+use Rattle.ob_tree.specs.Constructs as constructs
+use Rattle.ob_tree.specs.Marks.{Value, word}
+use Rattle.ob_tree.specs.Expressions.{relation_kind, add_kind, mul_kind, term_outline, factor_outline, element_outline, expr_outline, selector_outline}
+use Rattle.ob_tree.proofs.ExpressionLayers.{expressions_made, value_made, nil_made, true_made, false_made}
+use Rattle.ob_decls.specs.Drafts.{after, passed}
+use Rattle.ob_decls.specs.Parts.{token, both, each}
+use Rattle.ob_decls.specs.Expressions.{term_piece, factor_piece, element_piece, expr_piece, selected}
+use Rattle.ob_decls.specs.Settling.{settling}
+use Rattle.ob_decls.proofs.Steps.{after_nothing}
+use Rattle.ob_decls.proofs.ExpressionLayers as told
+use Rattle.ob_parse.specs.declared.cursor.Cursor.{Cursor}
+use Rattle.ob_parse.specs.Front.{uncons, front}
+use Rattle.ob_parse.specs.Forms.{accept_at, expect_at, begins, optional, several, unless, limit_at}
+use Rattle.ob_parse.specs.Gives.{ahead, seen, skipped}
+use Rattle.ob_parse.specs.ReadExpressions.{relation_start, add_start, mul_start, element_with, selector_first, selector_with, designator_with, factor_with, expr_at, term_at, factor_at, negated_at}
+use Rattle.ob_parse.proofs.Loops.{mul_advances, add_advances, accept_advances, selector_advances, marked_some, marked_none, has_begun, has_not_begun}
+use Rattle.ob_parse.proofs.Somes.{not_closed}
+use Rattle.ob_parse.proofs.SoundExpressions.{expr_at_sound, element_sound, factor_at_sound, term_at_sound}
+use Rattle.ob_table.specs.Shapes.{compared_outline, compared_piece, set_outline, set_piece, high_outline, high_piece, arguments_outline, arguments_piece}
+use Rattle.ob_table.specs.Choosing.{dot_at, picked_outline, picking}
+use Rattle.ob_table.proofs.Combine.{told_absent, failed_prefixed}
+use Rattle.ob_table.proofs.CallTrees.{list_told, further_begun, further_more, further_done, some_arguments_told, call_told}
+use Rattle.ob_table.proofs.DesignatorTrees.{FirstNamed, chosen_begun, chosen_next, chosen_all, selector_so, index_told, designator_told}
+use Rattle.ob_table.proofs.Lists.{Any, pieces_begun, pieces_behind, pieces_done, listing_smaller, listing_failed}
+use Rattle.ob_table.proofs.ExpressionTrees.{expr_deeper, expr_told, expr_failed, compared_told, sum_told, sum_failed, term_told, term_failed}
+use Rattle.ob_table.proofs.FactorTrees.{some, told_factor, leaf_told, name_told, set_told, group_told, not_told, between_failed, closed, some_elements_told, element_list_told, element_told, element_failed, several_failed, high_told}
+use Rattle.ob_table.proofs.expressions.+expressions.Goals as goal
+
+pub expression-returns-then-depth-eq0 : goal.expression-returns-then-depth-eq0
+unfolding expr_at limit_at
+expression-returns-then-depth-eq0 t c = grind arith
+
+pub expression-returns-in-Ok : goal.expression-returns-in-Ok
+expression-returns-in-Ok t c =
+    rw (expr_deeper c.args.depth (ahead c.args.source.now.tokens.now c.args.input) c.if-depth-eq0.false)
+    (expr_told c.args.source.now.tokens.now c.args.inside (c.args.depth - 1) _ _ _ c.args.input c.in-Ok.here _ c.in-Ok.ensures c.compared.ensures)
+
+pub expression-returns-in-Err : goal.expression-returns-in-Err
+expression-returns-in-Err t c =
+    rw (expr_deeper c.args.depth (ahead c.args.source.now.tokens.now c.args.input) c.if-depth-eq0.false) (expr_failed c.args.source.now.tokens.now (c.args.depth - 1) _ c.args.input c.in-Err.ensures)
+
+pub compared-returns-in-None : goal.compared-returns-in-None
+compared-returns-in-None t c =
+    told_absent c.args.source.now.tokens.now compared_outline (λ x. after (compared_piece x) c.args.inside) None relation_start _ _ c.args.input refl (λ s. after_nothing c.args.inside s)
+    (marked_none relation_kind _ (sym (ap (seen c.args.source.now.tokens.now) c.in-None.is) ∙ c.relation.ensures))
+
+pub compared-returns-in-Some : goal.compared-returns-in-Some
+compared-returns-in-Some t c =
+    compared_told c.args.source.now.tokens.now c.args.inside c.args.depth _ _ _ c.args.input c.in-Some.field-0-0 c.in-Some.rest _
+    (marked_some relation_kind c.in-Some.field-0-0 (ahead c.args.source.now.tokens.now c.in-Some.rest) _ (sym (ap (seen c.args.source.now.tokens.now) c.in-Some.is) ∙ c.relation.ensures)) c.pass.ensures c.sum.ensures
+
+pub sum-returns-in-Ok : goal.sum-returns-in-Ok
+sum-returns-in-Ok t c = sum_told c.args.source.now.tokens.now c.args.inside c.args.depth _ _ _ _ c.args.input _ c.in-Ok.here _ c.signed-here.ensures c.in-Ok.ensures c.more_terms.ensures
+
+pub sum-returns-in-Err : goal.sum-returns-in-Err
+sum-returns-in-Err t c = sum_failed c.args.source.now.tokens.now c.args.inside c.args.depth _ _ _ c.args.input _ c.signed-here.ensures c.in-Err.ensures
+
+pub term-returns-in-Ok : goal.term-returns-in-Ok
+term-returns-in-Ok t c = term_told c.args.source.now.tokens.now c.args.inside c.args.depth _ _ _ c.args.input c.in-Ok.here _ c.in-Ok.ensures c.more_factors.ensures
+
+pub term-returns-in-Err : goal.term-returns-in-Err
+term-returns-in-Err t c = term_failed c.args.source.now.tokens.now c.args.depth _ c.args.input c.in-Err.ensures
+
+pub more_terms-more-init : goal.more_terms-more-init
+more_terms-more-init t c = pieces_begun c.args.source.now.tokens.now add_start (term_at c.args.depth) (λ p. word (add_kind p.0) ++ term_outline p.1) (λ p. both token (term_piece p.1)) c.args.inside _ c.args.input
+
+pub more_terms-more-smaller : goal.more_terms-more-smaller
+more_terms-more-smaller t c =
+    listing_smaller c.args.source.now.tokens.now add_start (term_at c.args.depth) term_outline (λ x. after (term_piece x) c.args.inside) (word (add_kind c.in-Some.field-0-0)) (add_advances c.args.depth _ (term_at_sound c.args.depth)) _ _ c.more.here c.in-Some.behind c.in-Ok.next
+    (marked_some add_kind c.in-Some.field-0-0 (ahead c.args.source.now.tokens.now c.in-Some.behind) _ (sym (ap (seen c.args.source.now.tokens.now) c.in-Some.is) ∙ c.add_operator.ensures)) c.in-Ok.ensures
+
+pub more_terms-more-preserved : goal.more_terms-more-preserved
+more_terms-more-preserved t c =
+    pieces_behind {X = AddOperator × Term} c.args.source.now.tokens.now add_start (term_at c.args.depth) (λ p. word (add_kind p.0) ++ term_outline p.1) (λ p. both token (term_piece p.1)) c.args.inside term_outline term_piece (λ x. (c.in-Some.field-0-0, x)) (word (add_kind c.in-Some.field-0-0)) (add_advances c.args.depth _ (term_at_sound c.args.depth)) (λ x. refl) (λ x. refl)
+    _ _ _ _ c.args.input c.more.here c.in-Some.behind c.in-Ok.next (marked_some add_kind c.in-Some.field-0-0 (ahead c.args.source.now.tokens.now c.in-Some.behind) _ (sym (ap (seen c.args.source.now.tokens.now) c.in-Some.is) ∙ c.add_operator.ensures)) c.more.invariant c.pass.ensures c.in-Ok.ensures
+
+pub more_terms-returns-in-Err : goal.more_terms-returns-in-Err
+more_terms-returns-in-Err t c =
+    listing_failed c.args.source.now.tokens.now add_start (term_at c.args.depth) (λ p. word (add_kind p.0) ++ term_outline p.1) (λ xs. after (each (λ p. both token (term_piece p.1)) xs) c.args.inside) Any c.in-Err.stop (word (add_kind c.in-Some.field-0-0)) (add_advances c.args.depth _ (term_at_sound c.args.depth)) _ _ c.args.input c.more.here c.in-Some.behind
+    (marked_some add_kind c.in-Some.field-0-0 (ahead c.args.source.now.tokens.now c.in-Some.behind) _ (sym (ap (seen c.args.source.now.tokens.now) c.in-Some.is) ∙ c.add_operator.ensures)) c.more.invariant c.in-Err.ensures
+
+pub more_terms-returns : goal.more_terms-returns
+more_terms-returns t c =
+    pieces_done c.args.source.now.tokens.now add_start (term_at c.args.depth) (λ p. word (add_kind p.0) ++ term_outline p.1) (λ p. both token (term_piece p.1)) c.args.inside (add_advances c.args.depth _ (term_at_sound c.args.depth)) _ _ c.args.input c.more.here (marked_none add_kind _ (sym (ap (seen c.args.source.now.tokens.now) c.in_default.is) ∙ c.add_operator.ensures)) c.more.invariant
+
+pub more_factors-more-init : goal.more_factors-more-init
+more_factors-more-init t c = pieces_begun c.args.source.now.tokens.now mul_start (factor_at c.args.depth) (λ p. word (mul_kind p.0) ++ factor_outline p.1) (λ p. both token (factor_piece p.1)) c.args.inside _ c.args.input
+
+pub more_factors-more-smaller : goal.more_factors-more-smaller
+more_factors-more-smaller t c =
+    listing_smaller c.args.source.now.tokens.now mul_start (factor_at c.args.depth) factor_outline (λ x. after (factor_piece x) c.args.inside) (word (mul_kind c.in-Some.field-0-0)) (mul_advances c.args.depth _ (factor_at_sound c.args.depth)) _ _ c.more.here c.in-Some.behind c.in-Ok.next
+    (marked_some mul_kind c.in-Some.field-0-0 (ahead c.args.source.now.tokens.now c.in-Some.behind) _ (sym (ap (seen c.args.source.now.tokens.now) c.in-Some.is) ∙ c.mul_operator.ensures)) c.in-Ok.ensures
+
+pub more_factors-more-preserved : goal.more_factors-more-preserved
+more_factors-more-preserved t c =
+    pieces_behind {X = MulOperator × Factor} c.args.source.now.tokens.now mul_start (factor_at c.args.depth) (λ p. word (mul_kind p.0) ++ factor_outline p.1) (λ p. both token (factor_piece p.1)) c.args.inside factor_outline factor_piece (λ x. (c.in-Some.field-0-0, x)) (word (mul_kind c.in-Some.field-0-0)) (mul_advances c.args.depth _ (factor_at_sound c.args.depth)) (λ x. refl) (λ x. refl)
+    _ _ _ _ c.args.input c.more.here c.in-Some.behind c.in-Ok.next (marked_some mul_kind c.in-Some.field-0-0 (ahead c.args.source.now.tokens.now c.in-Some.behind) _ (sym (ap (seen c.args.source.now.tokens.now) c.in-Some.is) ∙ c.mul_operator.ensures)) c.more.invariant c.pass.ensures c.in-Ok.ensures
+
+pub more_factors-returns-in-Err : goal.more_factors-returns-in-Err
+more_factors-returns-in-Err t c =
+    listing_failed c.args.source.now.tokens.now mul_start (factor_at c.args.depth) (λ p. word (mul_kind p.0) ++ factor_outline p.1) (λ xs. after (each (λ p. both token (factor_piece p.1)) xs) c.args.inside) Any c.in-Err.stop (word (mul_kind c.in-Some.field-0-0)) (mul_advances c.args.depth _ (factor_at_sound c.args.depth)) _ _ c.args.input c.more.here c.in-Some.behind
+    (marked_some mul_kind c.in-Some.field-0-0 (ahead c.args.source.now.tokens.now c.in-Some.behind) _ (sym (ap (seen c.args.source.now.tokens.now) c.in-Some.is) ∙ c.mul_operator.ensures)) c.more.invariant c.in-Err.ensures
+
+pub more_factors-returns : goal.more_factors-returns
+more_factors-returns t c =
+    pieces_done c.args.source.now.tokens.now mul_start (factor_at c.args.depth) (λ p. word (mul_kind p.0) ++ factor_outline p.1) (λ p. both token (factor_piece p.1)) c.args.inside (mul_advances c.args.depth _ (factor_at_sound c.args.depth)) _ _ c.args.input c.more.here (marked_none mul_kind _ (sym (ap (seen c.args.source.now.tokens.now) c.in_default.is) ∙ c.mul_operator.ensures)) c.more.invariant
+
+pub more_elements-more-init : goal.more_elements-more-init
+more_elements-more-init t c = pieces_begun c.args.source.now.tokens.now (accept_at kinds.Comma) (element_with (expr_at c.args.depth)) (λ e. word kinds.Comma ++ element_outline e) (λ e. both token (element_piece e)) c.args.inside _ c.args.input
+
+pub more_elements-more-smaller : goal.more_elements-more-smaller
+more_elements-more-smaller t c =
+    listing_smaller c.args.source.now.tokens.now (accept_at kinds.Comma) (element_with (expr_at c.args.depth)) element_outline (λ x. after (element_piece x) c.args.inside) (word kinds.Comma) (accept_advances c.args.depth kinds.Comma _ (element_sound c.args.depth _ (expr_at_sound c.args.depth))) _ _ c.more.here c.in-Some.behind c.in-Ok.next
+    (sym c.accept.ensures ∙ ap (skipped c.args.source.now.tokens.now kinds.Comma) c.in-Some.is) c.in-Ok.ensures
+
+pub more_elements-more-preserved : goal.more_elements-more-preserved
+more_elements-more-preserved t c =
+    pieces_behind {X = Element} c.args.source.now.tokens.now (accept_at kinds.Comma) (element_with (expr_at c.args.depth)) (λ e. word kinds.Comma ++ element_outline e) (λ e. both token (element_piece e)) c.args.inside element_outline element_piece (λ x. x) (word kinds.Comma) (accept_advances c.args.depth kinds.Comma _ (element_sound c.args.depth _ (expr_at_sound c.args.depth))) (λ x. refl) (λ x. refl)
+    _ _ _ _ c.args.input c.more.here c.in-Some.behind c.in-Ok.next (sym c.accept.ensures ∙ ap (skipped c.args.source.now.tokens.now kinds.Comma) c.in-Some.is) c.more.invariant c.pass.ensures c.in-Ok.ensures
+
+pub more_elements-returns-in-Err : goal.more_elements-returns-in-Err
+more_elements-returns-in-Err t c =
+    listing_failed c.args.source.now.tokens.now (accept_at kinds.Comma) (element_with (expr_at c.args.depth)) (λ e. word kinds.Comma ++ element_outline e) (λ xs. after (each (λ e. both token (element_piece e)) xs) c.args.inside) Any c.in-Err.stop (word kinds.Comma) (accept_advances c.args.depth kinds.Comma _ (element_sound c.args.depth _ (expr_at_sound c.args.depth))) _ _ c.args.input c.more.here c.in-Some.behind
+    (sym c.accept.ensures ∙ ap (skipped c.args.source.now.tokens.now kinds.Comma) c.in-Some.is) c.more.invariant c.in-Err.ensures
+
+pub more_elements-returns : goal.more_elements-returns
+more_elements-returns t c =
+    pieces_done c.args.source.now.tokens.now (accept_at kinds.Comma) (element_with (expr_at c.args.depth)) (λ e. word kinds.Comma ++ element_outline e) (λ e. both token (element_piece e)) c.args.inside (accept_advances c.args.depth kinds.Comma _ (element_sound c.args.depth _ (expr_at_sound c.args.depth))) _ _ c.args.input c.more.here (sym c.accept.ensures ∙ ap (skipped c.args.source.now.tokens.now kinds.Comma) c.in_default.is) c.more.invariant
+
+pub factor-returns-in-Some-Name-default : goal.factor-returns-in-Some-Name-default
+factor-returns-in-Some-Name-default t c =
+    let e : uncons (ahead c.args.source.now.tokens.now c.args.input) ≡ Some (leafs.Name c.in-Some-Name-default.number, ahead c.args.source.now.tokens.now c.in-Some-Name-default.rest) =
+    sym c.next.ensures ∙ ap (seen c.args.source.now.tokens.now) c.in-Some-Name-default.is ∙ ap (λ (l : Leaf). some (l, ahead c.args.source.now.tokens.now c.in-Some-Name-default.rest)) c.in-Some-Name-default.field-0-0-is in
+    told_factor c.args.source.now.tokens.now factor_outline (λ x. after (factor_piece x) c.args.inside) c.args.depth _ _ _ _ _ e (name_told c.args.source.now.tokens.now c.args.inside (λ z. designator_with (expr_at c.args.depth) c.in-Some-Name-default.number (ahead c.args.source.now.tokens.now c.in-Some-Name-default.rest)) _ _ _ (ahead c.args.source.now.tokens.now c.args.input) c.designator.ensures)
+
+pub factor-returns-in-Some-Value-default : goal.factor-returns-in-Some-Value-default
+factor-returns-in-Some-Value-default t c =
+    let e : uncons (ahead c.args.source.now.tokens.now c.args.input) ≡ Some (leafs.Value c.in-Some-Value-default.field-0-0-0 c.in-Some-Value-default.field-0-0-1, ahead c.args.source.now.tokens.now c.in-Some-Value-default.rest) =
+    sym c.next.ensures ∙ ap (seen c.args.source.now.tokens.now) c.in-Some-Value-default.is ∙ ap (λ (l : Leaf). some (l, ahead c.args.source.now.tokens.now c.in-Some-Value-default.rest)) c.in-Some-Value-default.field-0-0-is in
+    told_factor c.args.source.now.tokens.now factor_outline (λ x. after (factor_piece x) c.args.inside) c.args.depth _ _ (Ok c.pass_token.result) _ _ e
+    (leaf_told c.args.source.now.tokens.now c.args.inside _ _ c.pass_token.result (λ z. Ok (Value c.in-Some-Value-default.field-0-0-0 c.in-Some-Value-default.field-0-0-1 ∷ [], ahead c.args.source.now.tokens.now c.in-Some-Value-default.rest)) (ahead c.args.source.now.tokens.now c.args.input) (Value c.in-Some-Value-default.field-0-0-0 c.in-Some-Value-default.field-0-0-1 ∷ []) (factors.Value c.in-Some-Value-default.field-0-0-0 c.in-Some-Value-default.field-0-0-1)
+    (ap (λ (i : Cursor). Ok (Value c.in-Some-Value-default.field-0-0-0 c.in-Some-Value-default.field-0-0-1 ∷ [], ahead c.args.source.now.tokens.now i)) (sym c.pass_token.ensures.cursor)) (value_made c.in-Some-Value-default.field-0-0-0 c.in-Some-Value-default.field-0-0-1) (told.value_made c.in-Some-Value-default.field-0-0-0 c.in-Some-Value-default.field-0-0-1) c.pass_token.ensures.passed)
+
+pub factor-returns-in-Some-Word-Nil-default : goal.factor-returns-in-Some-Word-Nil-default
+factor-returns-in-Some-Word-Nil-default t c =
+    let e : uncons (ahead c.args.source.now.tokens.now c.args.input) ≡ Some (leafs.Word kinds.Nil, ahead c.args.source.now.tokens.now c.in-Some-Word-Nil-default.rest) =
+    sym c.next.ensures ∙ ap (seen c.args.source.now.tokens.now) c.in-Some-Word-Nil-default.is ∙ ap (λ (l : Leaf). some (l, ahead c.args.source.now.tokens.now c.in-Some-Word-Nil-default.rest)) c.in-Some-Word-Nil-default.field-0-0-is
+    ∙ ap (λ (k : Kind). some (leafs.Word k, ahead c.args.source.now.tokens.now c.in-Some-Word-Nil-default.rest)) c.in-Some-Word-Nil-default.field-0-0-0-is in
+    told_factor c.args.source.now.tokens.now factor_outline (λ x. after (factor_piece x) c.args.inside) c.args.depth _ _ (Ok c.pass_token-in-Some-Word-Nil-default.result) _ _ e
+    (leaf_told c.args.source.now.tokens.now c.args.inside _ _ c.pass_token-in-Some-Word-Nil-default.result (λ z. Ok (word kinds.Nil, ahead c.args.source.now.tokens.now c.in-Some-Word-Nil-default.rest)) (ahead c.args.source.now.tokens.now c.args.input) (word kinds.Nil) factors.Nil
+    (ap (λ (i : Cursor). Ok (word kinds.Nil, ahead c.args.source.now.tokens.now i)) (sym c.pass_token-in-Some-Word-Nil-default.ensures.cursor)) nil_made told.nil_made c.pass_token-in-Some-Word-Nil-default.ensures.passed)
+
+pub factor-returns-in-Some-Word-True-default : goal.factor-returns-in-Some-Word-True-default
+factor-returns-in-Some-Word-True-default t c =
+    let e : uncons (ahead c.args.source.now.tokens.now c.args.input) ≡ Some (leafs.Word kinds.True, ahead c.args.source.now.tokens.now c.in-Some-Word-True-default.rest) =
+    sym c.next.ensures ∙ ap (seen c.args.source.now.tokens.now) c.in-Some-Word-True-default.is ∙ ap (λ (l : Leaf). some (l, ahead c.args.source.now.tokens.now c.in-Some-Word-True-default.rest)) c.in-Some-Word-True-default.field-0-0-is
+    ∙ ap (λ (k : Kind). some (leafs.Word k, ahead c.args.source.now.tokens.now c.in-Some-Word-True-default.rest)) c.in-Some-Word-True-default.field-0-0-0-is in
+    told_factor c.args.source.now.tokens.now factor_outline (λ x. after (factor_piece x) c.args.inside) c.args.depth _ _ (Ok c.pass_token-in-Some-Word-True-default.result) _ _ e
+    (leaf_told c.args.source.now.tokens.now c.args.inside _ _ c.pass_token-in-Some-Word-True-default.result (λ z. Ok (word kinds.True, ahead c.args.source.now.tokens.now c.in-Some-Word-True-default.rest)) (ahead c.args.source.now.tokens.now c.args.input) (word kinds.True) factors.True
+    (ap (λ (i : Cursor). Ok (word kinds.True, ahead c.args.source.now.tokens.now i)) (sym c.pass_token-in-Some-Word-True-default.ensures.cursor)) true_made told.true_made c.pass_token-in-Some-Word-True-default.ensures.passed)
+
+pub factor-returns-in-Some-Word-False-default : goal.factor-returns-in-Some-Word-False-default
+factor-returns-in-Some-Word-False-default t c =
+    let e : uncons (ahead c.args.source.now.tokens.now c.args.input) ≡ Some (leafs.Word kinds.False, ahead c.args.source.now.tokens.now c.in-Some-Word-False-default.rest) =
+    sym c.next.ensures ∙ ap (seen c.args.source.now.tokens.now) c.in-Some-Word-False-default.is ∙ ap (λ (l : Leaf). some (l, ahead c.args.source.now.tokens.now c.in-Some-Word-False-default.rest)) c.in-Some-Word-False-default.field-0-0-is
+    ∙ ap (λ (k : Kind). some (leafs.Word k, ahead c.args.source.now.tokens.now c.in-Some-Word-False-default.rest)) c.in-Some-Word-False-default.field-0-0-0-is in
+    told_factor c.args.source.now.tokens.now factor_outline (λ x. after (factor_piece x) c.args.inside) c.args.depth _ _ (Ok c.pass_token-in-Some-Word-False-default.result) _ _ e
+    (leaf_told c.args.source.now.tokens.now c.args.inside _ _ c.pass_token-in-Some-Word-False-default.result (λ z. Ok (word kinds.False, ahead c.args.source.now.tokens.now c.in-Some-Word-False-default.rest)) (ahead c.args.source.now.tokens.now c.args.input) (word kinds.False) factors.False
+    (ap (λ (i : Cursor). Ok (word kinds.False, ahead c.args.source.now.tokens.now i)) (sym c.pass_token-in-Some-Word-False-default.ensures.cursor)) false_made told.false_made c.pass_token-in-Some-Word-False-default.ensures.passed)
+
+pub factor-returns-in-Some-Word-LeftBrace-default : goal.factor-returns-in-Some-Word-LeftBrace-default
+factor-returns-in-Some-Word-LeftBrace-default t c =
+    let e : uncons (ahead c.args.source.now.tokens.now c.args.input) ≡ Some (leafs.Word kinds.LeftBrace, ahead c.args.source.now.tokens.now c.in-Some-Word-LeftBrace-default.rest) =
+    sym c.next.ensures ∙ ap (seen c.args.source.now.tokens.now) c.in-Some-Word-LeftBrace-default.is ∙ ap (λ (l : Leaf). some (l, ahead c.args.source.now.tokens.now c.in-Some-Word-LeftBrace-default.rest)) c.in-Some-Word-LeftBrace-default.field-0-0-is
+    ∙ ap (λ (k : Kind). some (leafs.Word k, ahead c.args.source.now.tokens.now c.in-Some-Word-LeftBrace-default.rest)) c.in-Some-Word-LeftBrace-default.field-0-0-0-is in
+    told_factor c.args.source.now.tokens.now factor_outline (λ x. after (factor_piece x) c.args.inside) c.args.depth _ _ _ _ _ e c.set.ensures
+
+pub factor-returns-in-Some-Word-LeftParen-default : goal.factor-returns-in-Some-Word-LeftParen-default
+factor-returns-in-Some-Word-LeftParen-default t c =
+    let e : uncons (ahead c.args.source.now.tokens.now c.args.input) ≡ Some (leafs.Word kinds.LeftParen, ahead c.args.source.now.tokens.now c.in-Some-Word-LeftParen-default.rest) =
+    sym c.next.ensures ∙ ap (seen c.args.source.now.tokens.now) c.in-Some-Word-LeftParen-default.is ∙ ap (λ (l : Leaf). some (l, ahead c.args.source.now.tokens.now c.in-Some-Word-LeftParen-default.rest)) c.in-Some-Word-LeftParen-default.field-0-0-is
+    ∙ ap (λ (k : Kind). some (leafs.Word k, ahead c.args.source.now.tokens.now c.in-Some-Word-LeftParen-default.rest)) c.in-Some-Word-LeftParen-default.field-0-0-0-is in
+    told_factor c.args.source.now.tokens.now factor_outline (λ x. after (factor_piece x) c.args.inside) c.args.depth _ _ _ _ _ e c.group.ensures
+
+pub factor-returns-in-Some-Word-Tilde-default : goal.factor-returns-in-Some-Word-Tilde-default
+factor-returns-in-Some-Word-Tilde-default t c =
+    let e : uncons (ahead c.args.source.now.tokens.now c.args.input) ≡ Some (leafs.Word kinds.Tilde, ahead c.args.source.now.tokens.now c.in-Some-Word-Tilde-default.rest) =
+    sym c.next.ensures ∙ ap (seen c.args.source.now.tokens.now) c.in-Some-Word-Tilde-default.is ∙ ap (λ (l : Leaf). some (l, ahead c.args.source.now.tokens.now c.in-Some-Word-Tilde-default.rest)) c.in-Some-Word-Tilde-default.field-0-0-is
+    ∙ ap (λ (k : Kind). some (leafs.Word k, ahead c.args.source.now.tokens.now c.in-Some-Word-Tilde-default.rest)) c.in-Some-Word-Tilde-default.field-0-0-0-is in
+    told_factor c.args.source.now.tokens.now factor_outline (λ x. after (factor_piece x) c.args.inside) c.args.depth _ _ _ _ _ e c.negated.ensures
+
+pub factor-returns-in_default : goal.factor-returns-in_default
+unfolding factor_with
+factor-returns-in_default t c = grind (arith, expressions_made)
+
+pub factor-returns-in_default-2 : goal.factor-returns-in_default-2
+unfolding factor_with
+factor-returns-in_default-2 t c = grind (arith, expressions_made)
+
+pub set-returns-in-Ok : goal.set-returns-in-Ok
+set-returns-in-Ok t c = set_told c.args.source.now.tokens.now c.args.inside (optional (unless kinds.RightBrace) (several kinds.Comma (element_with (expr_at c.args.depth)))) _ _ _ _ c.args.input c.in-Ok.here _ c.pass.ensures c.in-Ok.ensures c.pass_word.ensures
+
+pub set-returns-in-Err : goal.set-returns-in-Err
+set-returns-in-Err t c = between_failed c.args.source.now.tokens.now constructs.Factor (word kinds.LeftBrace) (optional (unless kinds.RightBrace) (several kinds.Comma (element_with (expr_at c.args.depth)))) (expect_at kinds.RightBrace) _ (ahead c.args.source.now.tokens.now c.args.input) c.in-Err.ensures
+
+pub group-returns-in-Ok : goal.group-returns-in-Ok
+group-returns-in-Ok t c = group_told c.args.source.now.tokens.now c.args.inside (expr_at c.args.depth) _ _ _ _ c.args.input c.in-Ok.here _ c.pass.ensures c.in-Ok.ensures c.pass_word.ensures
+
+pub group-returns-in-Err : goal.group-returns-in-Err
+group-returns-in-Err t c = between_failed c.args.source.now.tokens.now constructs.Factor (word kinds.LeftParen) (expr_at c.args.depth) (expect_at kinds.RightParen) _ (ahead c.args.source.now.tokens.now c.args.input) c.in-Err.ensures
+
+pub negated-returns-then-depth-eq0 : goal.negated-returns-then-depth-eq0
+unfolding negated_at limit_at
+negated-returns-then-depth-eq0 t c = grind arith
+
+pub negated-returns : goal.negated-returns
+negated-returns t c = not_told c.args.source.now.tokens.now c.args.inside c.args.depth _ _ _ c.args.input _ c.if-depth-eq0.false c.pass.ensures c.factor.ensures
+
+pub elements-returns-then-is_at : goal.elements-returns-then-is_at
+elements-returns-then-is_at t c =
+    told_absent c.args.source.now.tokens.now set_outline (λ x. after (set_piece x) c.args.inside) None (unless kinds.RightBrace) _ _ c.args.input refl (λ s. after_nothing c.args.inside s) (closed kinds.RightBrace _ (sym c.is_at.ensures ∙ c.if-is_at.true))
+
+pub elements-returns : goal.elements-returns
+elements-returns t c =
+    some_elements_told c.args.source.now.tokens.now c.args.inside _ _ _ c.args.input _ (not_closed kinds.RightBrace _ (sym c.is_at.ensures ∙ c.if-is_at.false)) c.element_list.ensures
+
+pub element_list-returns-in-Ok : goal.element_list-returns-in-Ok
+element_list-returns-in-Ok t c = element_list_told c.args.source.now.tokens.now c.args.inside _ _ _ _ c.args.input c.in-Ok.here _ c.in-Ok.ensures c.more_elements.ensures
+
+pub element_list-returns-in-Err : goal.element_list-returns-in-Err
+element_list-returns-in-Err t c = several_failed c.args.source.now.tokens.now kinds.Comma _ _ _ c.in-Err.ensures
+
+pub element-returns-in-Ok : goal.element-returns-in-Ok
+element-returns-in-Ok t c = element_told c.args.source.now.tokens.now c.args.inside c.args.depth _ _ _ c.args.input c.in-Ok.here _ c.in-Ok.ensures c.high.ensures
+
+pub element-returns-in-Err : goal.element-returns-in-Err
+element-returns-in-Err t c = element_failed c.args.source.now.tokens.now c.args.depth _ c.args.input c.in-Err.ensures
+
+pub high-returns-in-None : goal.high-returns-in-None
+high-returns-in-None t c =
+    told_absent c.args.source.now.tokens.now high_outline (λ x. after (high_piece x) c.args.inside) None (accept_at kinds.DotDot) _ _ c.args.input refl (λ s. after_nothing c.args.inside s) (sym c.accept.ensures ∙ ap (skipped c.args.source.now.tokens.now kinds.DotDot) c.in-None.is)
+
+pub high-returns-in-Some : goal.high-returns-in-Some
+high-returns-in-Some t c =
+    high_told c.args.source.now.tokens.now c.args.inside c.args.depth _ _ _ c.args.input c.in-Some.rest _ (sym c.accept.ensures ∙ ap (skipped c.args.source.now.tokens.now kinds.DotDot) c.in-Some.is) c.pass.ensures c.expression.ensures
+
+pub designator-returns : goal.designator-returns
+designator-returns t c =
+    designator_told c.args.source.now.tokens.now c.args.inside c.args.is_written c.args.depth c.args.number _ _ _ _ _ _ _ _ _ c.args.input _ refl c.first_place-at.ensures c.add_designator.ensures c.open_places.ensures c.name_ahead.ensures c.walk_used.ensures c.selectors.ensures
+
+pub selectors-more-init : goal.selectors-more-init
+selectors-more-init t c = chosen_begun c.args.source.now.tokens.now (selector_with (expr_at c.args.depth)) c.args.inside c.args.head c.args.at _ c.args.input
+
+pub selectors-more-smaller : goal.selectors-more-smaller
+selectors-more-smaller t c =
+    listing_smaller c.args.source.now.tokens.now (begins selector_first) (selector_with (expr_at c.args.depth)) (picked_outline {dot = dot_at c.args.source.now.tokens.now c.more.here}) (picking c.args.head c.more.place c.args.inside) [] (selector_advances c.args.depth _ (expr_at_sound c.args.depth)) _ _ c.more.here c.more.here c.in-Ok.next
+    (has_begun selector_first (ahead c.args.source.now.tokens.now c.more.here) (sym c.begins_selector.ensures ∙ c.more-test.true)) c.in-Ok.ensures
+
+pub selectors-more-preserved : goal.selectors-more-preserved
+selectors-more-preserved t c =
+    chosen_next c.args.source.now.tokens.now (selector_with (expr_at c.args.depth)) c.args.inside c.args.head c.args.at c.more.place _ (selector_advances c.args.depth _ (expr_at_sound c.args.depth)) _ _ _ _ c.args.input c.more.here c.in-Ok.next (has_begun selector_first (ahead c.args.source.now.tokens.now c.more.here) (sym c.begins_selector.ensures ∙ c.more-test.true)) c.more.invariant c.in-Ok.ensures c.next_place-place.ensures.stage c.next_place-place.ensures.place
+
+pub selectors-returns-in-Err : goal.selectors-returns-in-Err
+selectors-returns-in-Err t c =
+    listing_failed {X = Selector} c.args.source.now.tokens.now (begins selector_first) (selector_with (expr_at c.args.depth)) selector_outline (λ xs. settling c.args.head c.args.at (map selected xs) c.args.inside)
+    (λ xs. (c.more.place ≡ c.args.at + length xs) × FirstNamed c.args.source.now.tokens.now c.args.input c.more.here xs) c.in-Err.stop [] (selector_advances c.args.depth _ (expr_at_sound c.args.depth)) _ _ c.args.input c.more.here c.more.here (has_begun selector_first (ahead c.args.source.now.tokens.now c.more.here) (sym c.begins_selector.ensures ∙ c.more-test.true)) c.more.invariant c.in-Err.ensures
+
+pub selectors-returns : goal.selectors-returns
+selectors-returns t c =
+    let none : front selector_first (uncons (ahead c.args.source.now.tokens.now c.more.here)) ≡ false = sym c.begins_selector.ensures ∙ c.more-test.false in
+    chosen_all c.args.source.now.tokens.now (selector_with (expr_at c.args.depth)) c.args.inside c.args.head c.args.at c.more.place c.args.count (selector_advances c.args.depth _ (expr_at_sound c.args.depth)) _ _ _ c.args.input c.more.here none (has_not_begun selector_first (ahead c.args.source.now.tokens.now c.more.here) none) c.more.invariant c.check_places.ensures.stage c.check_places.ensures.count
+
+pub selector-returns-in-Some-Word-Dot-default : goal.selector-returns-in-Some-Word-Dot-default
+selector-returns-in-Some-Word-Dot-default t c =
+    let e : uncons (ahead c.args.source.now.tokens.now c.args.input) ≡ Some (leafs.Word kinds.Dot, ahead c.args.source.now.tokens.now c.in-Some-Word-Dot-default.rest) =
+    sym c.next.ensures ∙ ap (seen c.args.source.now.tokens.now) c.in-Some-Word-Dot-default.is ∙ ap (λ (l : Leaf). some (l, ahead c.args.source.now.tokens.now c.in-Some-Word-Dot-default.rest)) c.in-Some-Word-Dot-default.field-0-0-is
+    ∙ ap (λ (k : Kind). some (leafs.Word k, ahead c.args.source.now.tokens.now c.in-Some-Word-Dot-default.rest)) c.in-Some-Word-Dot-default.field-0-0-0-is in
+    selector_so c.args.source.now.tokens.now c.args.inside c.args.head c.args.place (expr_at c.args.depth) _ _ c.field.result c.args.input true _ e refl c.field.ensures
+
+pub selector-returns-in-Some-Word-LeftBracket-default : goal.selector-returns-in-Some-Word-LeftBracket-default
+selector-returns-in-Some-Word-LeftBracket-default t c =
+    let e : uncons (ahead c.args.source.now.tokens.now c.args.input) ≡ Some (leafs.Word kinds.LeftBracket, ahead c.args.source.now.tokens.now c.in-Some-Word-LeftBracket-default.rest) =
+    sym c.next.ensures ∙ ap (seen c.args.source.now.tokens.now) c.in-Some-Word-LeftBracket-default.is ∙ ap (λ (l : Leaf). some (l, ahead c.args.source.now.tokens.now c.in-Some-Word-LeftBracket-default.rest)) c.in-Some-Word-LeftBracket-default.field-0-0-is
+    ∙ ap (λ (k : Kind). some (leafs.Word k, ahead c.args.source.now.tokens.now c.in-Some-Word-LeftBracket-default.rest)) c.in-Some-Word-LeftBracket-default.field-0-0-0-is in
+    selector_so c.args.source.now.tokens.now c.args.inside c.args.head c.args.place (expr_at c.args.depth) _ _ c.index.result c.args.input false _ e refl c.index.ensures
+
+pub selector-returns-in-Some-Word-Caret-default : goal.selector-returns-in-Some-Word-Caret-default
+selector-returns-in-Some-Word-Caret-default t c =
+    let e : uncons (ahead c.args.source.now.tokens.now c.args.input) ≡ Some (leafs.Word kinds.Caret, ahead c.args.source.now.tokens.now c.in-Some-Word-Caret-default.rest) =
+    sym c.next.ensures ∙ ap (seen c.args.source.now.tokens.now) c.in-Some-Word-Caret-default.is ∙ ap (λ (l : Leaf). some (l, ahead c.args.source.now.tokens.now c.in-Some-Word-Caret-default.rest)) c.in-Some-Word-Caret-default.field-0-0-is
+    ∙ ap (λ (k : Kind). some (leafs.Word k, ahead c.args.source.now.tokens.now c.in-Some-Word-Caret-default.rest)) c.in-Some-Word-Caret-default.field-0-0-0-is in
+    selector_so c.args.source.now.tokens.now c.args.inside c.args.head c.args.place (expr_at c.args.depth) _ _ (Ok c.target.result) c.args.input false _ e refl c.target.ensures
+
+pub selector-returns-in-Some-Word-LeftParen-default : goal.selector-returns-in-Some-Word-LeftParen-default
+selector-returns-in-Some-Word-LeftParen-default t c =
+    let e : uncons (ahead c.args.source.now.tokens.now c.args.input) ≡ Some (leafs.Word kinds.LeftParen, ahead c.args.source.now.tokens.now c.in-Some-Word-LeftParen-default.rest) =
+    sym c.next.ensures ∙ ap (seen c.args.source.now.tokens.now) c.in-Some-Word-LeftParen-default.is ∙ ap (λ (l : Leaf). some (l, ahead c.args.source.now.tokens.now c.in-Some-Word-LeftParen-default.rest)) c.in-Some-Word-LeftParen-default.field-0-0-is
+    ∙ ap (λ (k : Kind). some (leafs.Word k, ahead c.args.source.now.tokens.now c.in-Some-Word-LeftParen-default.rest)) c.in-Some-Word-LeftParen-default.field-0-0-0-is in
+    selector_so c.args.source.now.tokens.now c.args.inside c.args.head c.args.place (expr_at c.args.depth) _ _ c.call.result c.args.input false _ e refl c.call.ensures
+
+pub selector-returns-in_default : goal.selector-returns-in_default
+unfolding selector_with
+selector-returns-in_default t c = grind arith
+
+pub selector-returns-in_default-2 : goal.selector-returns-in_default-2
+unfolding selector_with
+selector-returns-in_default-2 t c = grind arith
+
+pub selector-returns-in_default-3 : goal.selector-returns-in_default-3
+unfolding selector_with
+selector-returns-in_default-3 t c = grind arith
+
+pub index-returns-in-Ok : goal.index-returns-in-Ok
+index-returns-in-Ok t c = index_told c.args.source.now.tokens.now c.args.inside (several kinds.Comma (expr_at c.args.depth)) c.args.head c.args.place c.in-Ok.count _ _ _ _ _ _ c.args.input c.in-Ok.here _ c.keep_place.ensures.stage c.keep_place.ensures.place c.pass.ensures c.in-Ok.ensures c.settle.ensures.row c.pass_word.ensures
+
+pub index-returns-in-Err : goal.index-returns-in-Err
+index-returns-in-Err t c = between_failed c.args.source.now.tokens.now constructs.Selector (word kinds.LeftBracket) (several kinds.Comma (expr_at c.args.depth)) (expect_at kinds.RightBracket) _ (ahead c.args.source.now.tokens.now c.args.input) c.in-Err.ensures
+
+pub call-returns-in-Ok : goal.call-returns-in-Ok
+call-returns-in-Ok t c =
+    call_told c.args.source.now.tokens.now c.args.inside c.args.depth c.args.head c.args.place _ _ _ _ _ _ _ _ _ c.args.input c.in-Ok.here _ refl c.keep_place.ensures.stage c.keep_place.ensures.place c.pass.ensures c.in-Ok.ensures c.lone_name-name.ensures.stage c.lone_name-name.ensures.name c.settle.ensures.row c.pass_word.ensures
+
+pub call-returns-in-Err : goal.call-returns-in-Err
+call-returns-in-Err t c = between_failed c.args.source.now.tokens.now constructs.Selector (word kinds.LeftParen) (optional (unless kinds.RightParen) (several kinds.Comma (expr_at c.args.depth))) (expect_at kinds.RightParen) _ (ahead c.args.source.now.tokens.now c.args.input) c.in-Err.ensures
+
+pub arguments-returns-then-is_at : goal.arguments-returns-then-is_at
+arguments-returns-then-is_at t c =
+    told_absent c.args.source.now.tokens.now arguments_outline (λ x. after (arguments_piece x) c.args.inside) None (unless kinds.RightParen) _ _ c.args.input refl (λ s. after_nothing c.args.inside s) (closed kinds.RightParen _ (sym c.is_at.ensures ∙ c.if-is_at.true))
+
+pub arguments-returns-in-Ok : goal.arguments-returns-in-Ok
+arguments-returns-in-Ok t c =
+    some_arguments_told c.args.source.now.tokens.now c.args.inside (several kinds.Comma (expr_at c.args.depth)) _ _ _ c.args.input c.in-Ok.here (not_closed kinds.RightParen _ (sym c.is_at.ensures ∙ c.if-is_at.false)) c.in-Ok.ensures
+
+pub arguments-returns-in-Err : goal.arguments-returns-in-Err
+arguments-returns-in-Err t c =
+    rw (not_closed kinds.RightParen (ahead c.args.source.now.tokens.now c.args.input) (sym c.is_at.ensures ∙ c.if-is_at.false)) (failed_prefixed c.args.source.now.tokens.now [] (several kinds.Comma (expr_at c.args.depth)) _ (ahead c.args.source.now.tokens.now c.args.input) c.in-Err.ensures)
+
+pub expression_list-returns-in-Ok : goal.expression_list-returns-in-Ok
+expression_list-returns-in-Ok t c = list_told c.args.source.now.tokens.now c.args.inside (expr_at c.args.depth) _ _ _ c.args.input c.in-Ok.here _ c.in-Ok.ensures c.more_expressions.ensures
+
+pub expression_list-returns-in-Err : goal.expression_list-returns-in-Err
+expression_list-returns-in-Err t c = several_failed c.args.source.now.tokens.now kinds.Comma (expr_at c.args.depth) _ (ahead c.args.source.now.tokens.now c.args.input) c.in-Err.ensures
+
+pub more_expressions-more-init : goal.more_expressions-more-init
+more_expressions-more-init t c = further_begun c.args.source.now.tokens.now (expr_at c.args.depth) c.args.inside _ c.args.input
+
+pub more_expressions-more-smaller : goal.more_expressions-more-smaller
+more_expressions-more-smaller t c =
+    listing_smaller c.args.source.now.tokens.now (accept_at kinds.Comma) (expr_at c.args.depth) expr_outline (λ x. after (expr_piece x) c.args.inside) (word kinds.Comma) (accept_advances c.args.depth kinds.Comma _ (expr_at_sound c.args.depth)) _ _ c.more.here c.in-Some.behind c.in-Ok.next (sym c.accept.ensures ∙ ap (skipped c.args.source.now.tokens.now kinds.Comma) c.in-Some.is) c.in-Ok.ensures
+
+pub more_expressions-more-preserved : goal.more_expressions-more-preserved
+more_expressions-more-preserved t c =
+    further_more c.args.source.now.tokens.now (expr_at c.args.depth) c.args.inside c.more.count _ (accept_advances c.args.depth kinds.Comma _ (expr_at_sound c.args.depth)) _ _ _ _ _ c.args.input c.more.here c.in-Some.behind c.in-Ok.next (sym c.accept.ensures ∙ ap (skipped c.args.source.now.tokens.now kinds.Comma) c.in-Some.is) c.more.invariant c.pass.ensures c.in-Ok.ensures c.behind-count.ensures.stage c.behind-count.ensures.number
+
+pub more_expressions-returns-in-Err : goal.more_expressions-returns-in-Err
+more_expressions-returns-in-Err t c =
+    listing_failed {X = Expr} c.args.source.now.tokens.now (accept_at kinds.Comma) (expr_at c.args.depth) (λ e. word kinds.Comma ++ expr_outline e) (λ xs. after (each (λ e. both token (expr_piece e)) xs) c.args.inside)
+    (λ xs. suc (length xs) ≡ c.more.count) c.in-Err.stop (word kinds.Comma) (accept_advances c.args.depth kinds.Comma _ (expr_at_sound c.args.depth)) _ _ c.args.input c.more.here c.in-Some.behind (sym c.accept.ensures ∙ ap (skipped c.args.source.now.tokens.now kinds.Comma) c.in-Some.is) c.more.invariant c.in-Err.ensures
+
+pub more_expressions-returns : goal.more_expressions-returns
+more_expressions-returns t c =
+    further_done c.args.source.now.tokens.now (expr_at c.args.depth) c.args.inside c.more.count (accept_advances c.args.depth kinds.Comma _ (expr_at_sound c.args.depth)) _ _ c.args.input c.more.here (sym c.accept.ensures ∙ ap (skipped c.args.source.now.tokens.now kinds.Comma) c.in_default.is) c.more.invariant

@@ -1,0 +1,124 @@
+use Rattle.std.proofs.Common.{◌≡◌, ◌+◌, ◌*◌, ◌++◌, suc, length, map}
+use Rattle.ob_scan.specs.declared.kind.Kind.TheVariants as kinds
+use Rattle.ob_tree.specs.declared.expression.AddOperator.{AddOperator}
+use Rattle.ob_tree.specs.declared.expression.MulOperator.{MulOperator}
+use Rattle.ob_tree.specs.declared.expression.Term.{Term}
+use Rattle.ob_tree.specs.declared.expression.Factor.{Factor}
+use Rattle.ob_tree.specs.declared.expression.Element.{Element}
+use Rattle.ob_tree.specs.declared.expression.Expr.{Expr}
+use Rattle.ob_tree.specs.declared.expression.Selector.{Selector}
+use Rattle.ob_decls.specs.Drafts.{after}
+use Rattle.ob_decls.specs.Settling.{settling}
+use Rattle.ob_tree.specs.Marks.{word}
+use Rattle.ob_tree.specs.Expressions.{add_kind, mul_kind, term_outline, factor_outline, element_outline, expr_outline, selector_outline}
+use Rattle.ob_decls.specs.Parts.{both, each, token}
+use Rattle.ob_decls.specs.Expressions.{term_piece, factor_piece, element_piece, expr_piece, selected}
+use Rattle.ob_parse.specs.Forms.{accept_at, begins}
+use Rattle.ob_parse.specs.Gives.{ahead}
+use Rattle.ob_parse.specs.ReadExpressions.{add_start, mul_start, element_with, selector_first, selector_with, expr_at, term_at, factor_at}
+use Rattle.ob_table.proofs.Lists.{PieceListing}
+use Rattle.ob_table.proofs.DesignatorTrees.{ChosenListing}
+use Rattle.ob_table.proofs.CallTrees.{FurtherListing}
+use Rattle.ob_table.proofs.expressions.+expressions.Given as goal
+
+abbrev pub decreases-expression : goal.decreases-expression
+decreases-expression l = 16 * l.depth + 0
+
+abbrev pub decreases-compared : goal.decreases-compared
+decreases-compared l = 16 * l.depth + 14
+
+abbrev pub decreases-sum : goal.decreases-sum
+decreases-sum l = 16 * l.depth + 13
+
+abbrev pub decreases-more_terms : goal.decreases-more_terms
+decreases-more_terms l = 16 * l.depth + 12
+
+abbrev pub decreases-term : goal.decreases-term
+decreases-term l = 16 * l.depth + 11
+
+abbrev pub decreases-more_factors : goal.decreases-more_factors
+decreases-more_factors l = 16 * l.depth + 10
+
+abbrev pub decreases-factor : goal.decreases-factor
+decreases-factor l = 16 * l.depth + 9
+
+abbrev pub decreases-set : goal.decreases-set
+decreases-set l = 16 * l.depth + 8
+
+abbrev pub decreases-group : goal.decreases-group
+decreases-group l = 16 * l.depth + 8
+
+abbrev pub decreases-negated : goal.decreases-negated
+decreases-negated l = 16 * l.depth + 8
+
+abbrev pub decreases-elements : goal.decreases-elements
+decreases-elements l = 16 * l.depth + 6
+
+abbrev pub decreases-element_list : goal.decreases-element_list
+decreases-element_list l = 16 * l.depth + 5
+
+abbrev pub decreases-more_elements : goal.decreases-more_elements
+decreases-more_elements l = 16 * l.depth + 4
+
+abbrev pub decreases-element : goal.decreases-element
+decreases-element l = 16 * l.depth + 3
+
+abbrev pub decreases-high : goal.decreases-high
+decreases-high l = 16 * l.depth + 2
+
+abbrev pub decreases-designator : goal.decreases-designator
+decreases-designator l = 16 * l.depth + 7
+
+abbrev pub invariant-more_terms-more : goal.invariant-more_terms-more
+invariant-more_terms-more l =
+    PieceListing {X = AddOperator × Term} l.fn.source.tokens.now add_start (term_at l.depth) (λ p. word (add_kind p.0) ++ term_outline p.1) (λ p. both token (term_piece p.1)) l.inside l.initial.draft l.draft l.fn.input l.here
+
+abbrev pub decreases-more_terms-more : goal.decreases-more_terms-more
+decreases-more_terms-more l = length (ahead l.fn.source.tokens.now l.here)
+
+abbrev pub invariant-more_factors-more : goal.invariant-more_factors-more
+invariant-more_factors-more l =
+    PieceListing {X = MulOperator × Factor} l.fn.source.tokens.now mul_start (factor_at l.depth) (λ p. word (mul_kind p.0) ++ factor_outline p.1) (λ p. both token (factor_piece p.1)) l.inside l.initial.draft l.draft l.fn.input l.here
+
+abbrev pub decreases-more_factors-more : goal.decreases-more_factors-more
+decreases-more_factors-more l = length (ahead l.fn.source.tokens.now l.here)
+
+abbrev pub invariant-more_elements-more : goal.invariant-more_elements-more
+invariant-more_elements-more l =
+    PieceListing {X = Element} l.fn.source.tokens.now (accept_at kinds.Comma) (element_with (expr_at l.depth)) (λ e. word kinds.Comma ++ element_outline e) (λ e. both token (element_piece e)) l.inside l.initial.draft l.draft l.fn.input l.here
+
+abbrev pub decreases-more_elements-more : goal.decreases-more_elements-more
+decreases-more_elements-more l = length (ahead l.fn.source.tokens.now l.here)
+
+abbrev pub decreases-selectors : goal.decreases-selectors
+decreases-selectors l = 16 * l.depth + 6
+
+abbrev pub decreases-selector : goal.decreases-selector
+decreases-selector l = 16 * l.depth + 5
+
+abbrev pub decreases-index : goal.decreases-index
+decreases-index l = 16 * l.depth + 4
+
+abbrev pub decreases-call : goal.decreases-call
+decreases-call l = 16 * l.depth + 4
+
+abbrev pub decreases-arguments : goal.decreases-arguments
+decreases-arguments l = 16 * l.depth + 3
+
+abbrev pub decreases-expression_list : goal.decreases-expression_list
+decreases-expression_list l = 16 * l.depth + 2
+
+abbrev pub decreases-more_expressions : goal.decreases-more_expressions
+decreases-more_expressions l = 16 * l.depth + 1
+
+abbrev pub invariant-selectors-more : goal.invariant-selectors-more
+invariant-selectors-more l = ChosenListing l.fn.source.tokens.now (selector_with (expr_at l.depth)) l.inside l.head l.at l.place l.initial.draft l.draft l.fn.input l.here
+
+abbrev pub decreases-selectors-more : goal.decreases-selectors-more
+decreases-selectors-more l = length (ahead l.fn.source.tokens.now l.here)
+
+abbrev pub invariant-more_expressions-more : goal.invariant-more_expressions-more
+invariant-more_expressions-more l = FurtherListing l.fn.source.tokens.now (expr_at l.depth) l.inside l.count l.initial.draft l.draft l.fn.input l.here
+
+abbrev pub decreases-more_expressions-more : goal.decreases-more_expressions-more
+decreases-more_expressions-more l = length (ahead l.fn.source.tokens.now l.here)

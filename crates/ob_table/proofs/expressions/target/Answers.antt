@@ -1,0 +1,6 @@
+use Rattle.ob_table.proofs.DesignatorTrees.{target_told}
+use Rattle.ob_table.proofs.CallTrees.{call_told}
+use Rattle.ob_table.proofs.expressions.target.Goals as goal
+
+pub returns : goal.returns
+returns c = target_told c.args.source.now.tokens.now c.args.inside c.args.head c.args.place _ _ _ c.args.rest _ c.pass_token.ensures.cursor c.settle.ensures.row c.pass_token.ensures.passed

@@ -1,0 +1,55 @@
+use Rattle.std.proofs.Common.{◌≡◌, [], ◌∷◌, Some, Ok, sym, ap, ◌∙◌, arith}
+use Rattle.ob_tree.specs.declared.expression.Literal.{Literal}
+use Rattle.ob_tree.specs.declared.expression.Literal.TheVariants as literals
+use Rattle.ob_tree.specs.declared.token.Leaf.{Leaf}
+use Rattle.ob_tree.specs.declared.token.Leaf.TheVariants as leafs
+use Rattle.ob_tree.specs.declared.statement.Label.TheVariants as labels
+use Rattle.ob_tree.specs.Marks.{Value}
+use Rattle.ob_tree.proofs.StatementLayers as shown
+use Rattle.ob_decls.proofs.StatementLayers as told
+use Rattle.ob_parse.specs.declared.cursor.Cursor.{Cursor}
+use Rattle.ob_parse.specs.Front.{uncons}
+use Rattle.ob_parse.specs.Gives.{ahead, seen}
+use Rattle.ob_parse.specs.ReadStatements.{case_label_at}
+use Rattle.ob_table.proofs.FactorTrees.{some}
+use Rattle.ob_table.proofs.LabelTrees.{label_seen, value_told, name_told}
+use Rattle.ob_table.proofs.labels.label.Goals as goal
+
+pub returns-in-Some-Name-default : goal.returns-in-Some-Name-default
+returns-in-Some-Name-default c =
+    let e : uncons (ahead c.args.tokens.now c.args.input) ≡ Some (leafs.Name c.in-Some-Name-default.number, ahead c.args.tokens.now c.in-Some-Name-default.rest) =
+    sym c.next.ensures ∙ ap (seen c.args.tokens.now) c.in-Some-Name-default.is ∙ ap (λ (l : Leaf). some (l, ahead c.args.tokens.now c.in-Some-Name-default.rest)) c.in-Some-Name-default.field-0-0-is in
+    name_told c.args.tokens.now c.args.inside _ _ _ _ _ (label_seen _ _ e) c.qualident_after.ensures
+
+pub returns-in-Some-Value-Integer-default-default : goal.returns-in-Some-Value-Integer-default-default
+returns-in-Some-Value-Integer-default-default c =
+    let at = c.in-Some-Value-Integer-default-default in
+    let e : uncons (ahead c.args.tokens.now c.args.input) ≡ Some (leafs.Value literals.Integer at.field-0-0-1, ahead c.args.tokens.now at.rest) =
+    sym c.next.ensures ∙ ap (seen c.args.tokens.now) at.is ∙ ap (λ (l : Leaf). some (l, ahead c.args.tokens.now at.rest)) at.field-0-0-is
+    ∙ ap (λ (k : Literal). some (leafs.Value k at.field-0-0-1, ahead c.args.tokens.now at.rest)) at.field-0-0-0-is in
+    value_told c.args.tokens.now c.args.inside _ _ c.pass_token.result (case_label_at (ahead c.args.tokens.now c.args.input)) (Value literals.Integer at.field-0-0-1 ∷ []) (labels.Integer at.field-0-0-1)
+    (label_seen _ _ e ∙ ap (λ (i : Cursor). Ok (Value literals.Integer at.field-0-0-1 ∷ [], ahead c.args.tokens.now i)) (sym c.pass_token.ensures.cursor))
+    (shown.integer_label at.field-0-0-1) (told.integer_label at.field-0-0-1) c.pass_token.ensures.passed
+
+pub returns-in-Some-Value-Text-default-default : goal.returns-in-Some-Value-Text-default-default
+returns-in-Some-Value-Text-default-default c =
+    let at = c.in-Some-Value-Text-default-default in
+    let passed = c.pass_token-in-Some-Value-Text-default-default in
+    let e : uncons (ahead c.args.tokens.now c.args.input) ≡ Some (leafs.Value literals.Text at.field-0-0-1, ahead c.args.tokens.now at.rest) =
+    sym c.next.ensures ∙ ap (seen c.args.tokens.now) at.is ∙ ap (λ (l : Leaf). some (l, ahead c.args.tokens.now at.rest)) at.field-0-0-is
+    ∙ ap (λ (k : Literal). some (leafs.Value k at.field-0-0-1, ahead c.args.tokens.now at.rest)) at.field-0-0-0-is in
+    value_told c.args.tokens.now c.args.inside _ _ passed.result (case_label_at (ahead c.args.tokens.now c.args.input)) (Value literals.Text at.field-0-0-1 ∷ []) (labels.Text at.field-0-0-1)
+    (label_seen _ _ e ∙ ap (λ (i : Cursor). Ok (Value literals.Text at.field-0-0-1 ∷ [], ahead c.args.tokens.now i)) (sym passed.ensures.cursor))
+    (shown.text_label at.field-0-0-1) (told.text_label at.field-0-0-1) passed.ensures.passed
+
+pub returns-in_default : goal.returns-in_default
+unfolding case_label_at
+returns-in_default c = grind arith
+
+pub returns-in_default-2 : goal.returns-in_default-2
+unfolding case_label_at
+returns-in_default-2 c = grind arith
+
+pub returns-in_default-3 : goal.returns-in_default-3
+unfolding case_label_at
+returns-in_default-3 c = grind arith

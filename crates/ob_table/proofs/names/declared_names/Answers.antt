@@ -1,0 +1,13 @@
+use Rattle.ob_scan.specs.declared.kind.Kind.TheVariants as kinds
+use Rattle.ob_tree.specs.Names.{identdef_outline}
+use Rattle.ob_decls.specs.Types.{identdef_piece}
+use Rattle.ob_parse.specs.ReadNames.{identdef_at}
+use Rattle.ob_table.proofs.Behind.{list_told}
+use Rattle.ob_table.proofs.FactorTrees.{several_failed}
+use Rattle.ob_table.proofs.names.declared_names.Goals as goal
+
+pub returns-in-Ok : goal.returns-in-Ok
+returns-in-Ok c = list_told c.args.tokens.now c.args.inside kinds.Comma identdef_outline identdef_piece identdef_at _ _ _ c.args.input c.in-Ok.here _ c.in-Ok.ensures c.more_declared.ensures
+
+pub returns-in-Err : goal.returns-in-Err
+returns-in-Err c = several_failed c.args.tokens.now kinds.Comma _ _ _ c.in-Err.ensures

@@ -1,0 +1,14 @@
+use Rattle.ob_scan.specs.declared.kind.Kind.TheVariants as kinds
+use Rattle.ob_parse.specs.Forms.{accept_at, expect_at, many, seq}
+use Rattle.ob_parse.specs.ReadNames.{qualident_at}
+use Rattle.ob_table.specs.TypeShapes.{formal_outline, formal_piece}
+use Rattle.ob_table.proofs.Behind.{word_told}
+use Rattle.ob_table.proofs.Combine.{failed_then}
+use Rattle.ob_table.proofs.parameters.typed.Goals as goal
+
+pub returns-in-Ok : goal.returns-in-Ok
+returns-in-Ok c =
+    word_told c.args.tokens.now c.args.inside kinds.Colon formal_outline formal_piece (seq (many (accept_at kinds.Array) (expect_at kinds.Of)) qualident_at) _ _ _ c.args.input c.in-Ok.here _ c.in-Ok.ensures c.formal_type.ensures
+
+pub returns-in-Err : goal.returns-in-Err
+returns-in-Err c = failed_then c.args.tokens.now (expect_at kinds.Colon) (seq (many (accept_at kinds.Array) (expect_at kinds.Of)) qualident_at) _ _ c.in-Err.ensures

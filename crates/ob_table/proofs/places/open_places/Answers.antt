@@ -1,0 +1,15 @@
+use Rattle.std.proofs.Common.{sym, ap, ◌∙◌, ◌∷◌, [], arith}
+use Rattle.ob_decls.specs.Drafts.{added, stage_of}
+use Rattle.ob_decls.specs.Parts.{these_selectors}
+use Rattle.ob_decls.specs.declared.rows.Step.TheVariants as steps
+use Rattle.ob_table.proofs.Room.{no_places, more_places}
+use Rattle.ob_table.proofs.places.open_places.Goals as goal
+
+pub loop-place-init : goal.loop-place-init
+loop-place-init c = λ e. (e, sym (no_places c.args.head (stage_of c.args.draft.now)))
+
+pub loop-place-preserved : goal.loop-place-preserved
+loop-place-preserved c = λ e.
+    let b = c.add_selector.ensures e in
+    let a = c.loop-place.invariant b.0 in
+    (a.0, b.1 ∙ ap (added (these_selectors (record { of = c.args.head; step = steps.Target } ∷ []))) a.1 ∙ sym (more_places c.args.head c.loop-place.place (stage_of c.args.draft.now)))

@@ -1,0 +1,7 @@
+use Rattle.ob_decls.specs.Drafts.{added, ComesTo}
+use Rattle.ob_decls.specs.Parts.{these_selectors}
+use Rattle.ob_table.specs.Choosing.{places}
+use Rattle.ob_table.proofs.places.open_places.Given as goal
+
+abbrev pub invariant-loop-place : goal.invariant-loop-place
+invariant-loop-place l = ComesTo (added (these_selectors (places l.head l.place))) l.initial.draft l.draft

@@ -1,0 +1,87 @@
+use Rattle.std.proofs.Common.{◌+◌, ◌*◌, ◌++◌, length}
+use Rattle.ob_scan.specs.declared.kind.Kind.TheVariants as kinds
+use Rattle.ob_tree.specs.declared.statement.Branch.{Branch}
+use Rattle.ob_tree.specs.declared.statement.Case.{Case}
+use Rattle.ob_tree.specs.declared.statement.Stmt.{Stmt}
+use Rattle.ob_tree.specs.Marks.{word}
+use Rattle.ob_tree.specs.Statements.{branch_outline, case_outline, stmt_outline}
+use Rattle.ob_decls.specs.Parts.{both, token}
+use Rattle.ob_decls.specs.Statements.{branch_piece, case_piece, stmt_piece}
+use Rattle.ob_parse.specs.Forms.{accept_at}
+use Rattle.ob_parse.specs.Gives.{ahead}
+use Rattle.ob_parse.specs.ReadExpressions.{expr_at}
+use Rattle.ob_parse.specs.ReadStatements.{block_at, branch_with, case_with, statement_at}
+use Rattle.ob_table.proofs.Lists.{PieceListing}
+use Rattle.ob_table.proofs.statements.+statements.Given as goal
+
+abbrev pub decreases-statement : goal.decreases-statement
+decreases-statement l = 16 * l.depth + 0
+
+abbrev pub decreases-more_statements : goal.decreases-more_statements
+decreases-more_statements l = 16 * l.depth + 1
+
+abbrev pub decreases-block : goal.decreases-block
+decreases-block l = 16 * l.depth + 2
+
+abbrev pub decreases-block_behind : goal.decreases-block_behind
+decreases-block_behind l = 16 * l.depth + 3
+
+abbrev pub decreases-branch : goal.decreases-branch
+decreases-branch l = 16 * l.depth + 3
+
+abbrev pub decreases-more_branches : goal.decreases-more_branches
+decreases-more_branches l = 16 * l.depth + 4
+
+abbrev pub decreases-case : goal.decreases-case
+decreases-case l = 16 * l.depth + 3
+
+abbrev pub decreases-more_cases : goal.decreases-more_cases
+decreases-more_cases l = 16 * l.depth + 4
+
+abbrev pub decreases-cases : goal.decreases-cases
+decreases-cases l = 16 * l.depth + 5
+
+abbrev pub decreases-for_body : goal.decreases-for_body
+decreases-for_body l = 16 * l.depth + 3
+
+abbrev pub decreases-for_limit : goal.decreases-for_limit
+decreases-for_limit l = 16 * l.depth + 4
+
+abbrev pub decreases-if_statement : goal.decreases-if_statement
+decreases-if_statement l = 16 * l.depth + 6
+
+abbrev pub decreases-case_statement : goal.decreases-case_statement
+decreases-case_statement l = 16 * l.depth + 6
+
+abbrev pub decreases-while_statement : goal.decreases-while_statement
+decreases-while_statement l = 16 * l.depth + 6
+
+abbrev pub decreases-repeat_statement : goal.decreases-repeat_statement
+decreases-repeat_statement l = 16 * l.depth + 6
+
+abbrev pub decreases-for_statement : goal.decreases-for_statement
+decreases-for_statement l = 16 * l.depth + 6
+
+abbrev pub decreases-statement_within : goal.decreases-statement_within
+decreases-statement_within l = 16 * l.depth + 7
+
+abbrev pub invariant-more_statements-more : goal.invariant-more_statements-more
+invariant-more_statements-more l =
+    PieceListing {X = Stmt} l.fn.source.tokens.now (accept_at kinds.Semicolon) (statement_at l.depth) (λ x. word kinds.Semicolon ++ stmt_outline x) (λ x. both token (stmt_piece x)) l.inside l.initial.draft l.draft l.fn.input l.here
+
+abbrev pub decreases-more_statements-more : goal.decreases-more_statements-more
+decreases-more_statements-more l = length (ahead l.fn.source.tokens.now l.here)
+
+abbrev pub invariant-more_branches-more : goal.invariant-more_branches-more
+invariant-more_branches-more l =
+    PieceListing {X = Branch} l.fn.source.tokens.now (accept_at kinds.Elsif) (branch_with (expr_at l.depth) (block_at l.depth) l.keyword) (λ x. word kinds.Elsif ++ branch_outline x l.keyword) (λ x. both token (branch_piece x)) l.inside l.initial.draft l.draft l.fn.input l.here
+
+abbrev pub decreases-more_branches-more : goal.decreases-more_branches-more
+decreases-more_branches-more l = length (ahead l.fn.source.tokens.now l.here)
+
+abbrev pub invariant-more_cases-more : goal.invariant-more_cases-more
+invariant-more_cases-more l =
+    PieceListing {X = Case} l.fn.source.tokens.now (accept_at kinds.Bar) (case_with (block_at l.depth)) (λ x. word kinds.Bar ++ case_outline x) (λ x. both token (case_piece x)) l.inside l.initial.draft l.draft l.fn.input l.here
+
+abbrev pub decreases-more_cases-more : goal.decreases-more_cases-more
+decreases-more_cases-more l = length (ahead l.fn.source.tokens.now l.here)

@@ -1,0 +1,58 @@
+use Rattle.std.proofs.Common.{◌+◌, ◌*◌, ◌++◌, length}
+use Rattle.ob_scan.specs.declared.kind.Kind.TheVariants as kinds
+use Rattle.ob_tree.specs.declared.declaration.VarDecl.{VarDecl}
+use Rattle.ob_tree.specs.Constructs as constructs
+use Rattle.ob_tree.specs.Marks.{word}
+use Rattle.ob_decls.specs.Parts.{both, token}
+use Rattle.ob_parse.specs.Forms.{node}
+use Rattle.ob_parse.specs.Gives.{ahead}
+use Rattle.ob_parse.specs.ReadTypes.{field_start, var_with, type_at}
+use Rattle.ob_table.specs.TypeShapes.{field_outline, field_piece}
+use Rattle.ob_table.proofs.Lists.{PieceListing}
+use Rattle.ob_table.proofs.types.+types.Given as goal
+
+abbrev pub decreases-type_form : goal.decreases-type_form
+decreases-type_form l = 16 * l.depth + 0
+
+abbrev pub decreases-type_behind : goal.decreases-type_behind
+decreases-type_behind l = 16 * l.depth + 1
+
+abbrev pub decreases-var_declaration : goal.decreases-var_declaration
+decreases-var_declaration l = 16 * l.depth + 2
+
+abbrev pub decreases-field_list : goal.decreases-field_list
+decreases-field_list l = 16 * l.depth + 3
+
+abbrev pub decreases-more_fields : goal.decreases-more_fields
+decreases-more_fields l = 16 * l.depth + 4
+
+abbrev pub decreases-fields : goal.decreases-fields
+decreases-fields l = 16 * l.depth + 6
+
+abbrev pub decreases-fields_behind : goal.decreases-fields_behind
+decreases-fields_behind l = 16 * l.depth + 5
+
+abbrev pub decreases-some_fields : goal.decreases-some_fields
+decreases-some_fields l = 16 * l.depth + 7
+
+abbrev pub decreases-record_parts : goal.decreases-record_parts
+decreases-record_parts l = 16 * l.depth + 8
+
+abbrev pub decreases-record : goal.decreases-record
+decreases-record l = 16 * l.depth + 9
+
+abbrev pub decreases-array : goal.decreases-array
+decreases-array l = 16 * l.depth + 2
+
+abbrev pub decreases-pointer : goal.decreases-pointer
+decreases-pointer l = 16 * l.depth + 2
+
+abbrev pub decreases-type_within : goal.decreases-type_within
+decreases-type_within l = 16 * l.depth + 10
+
+abbrev pub invariant-more_fields-more : goal.invariant-more_fields-more
+invariant-more_fields-more l =
+    PieceListing {X = VarDecl} l.fn.source.tokens.now field_start (node constructs.FieldList (var_with (type_at l.depth))) (λ v. word kinds.Semicolon ++ field_outline v) (λ v. both token (field_piece v)) l.inside l.initial.draft l.draft l.fn.input l.here
+
+abbrev pub decreases-more_fields-more : goal.decreases-more_fields-more
+decreases-more_fields-more l = length (ahead l.fn.source.tokens.now l.here)

@@ -1,0 +1,87 @@
+-- What is kept of a selector, of the selectors of a designator and of a list of expressions beside what they tell.
+use Rattle.std.specs.Prelude.{◌≡◌, ℕ, zero, suc, Bool, true, false, List, [], ◌∷◌, length, map, Option, Some, None, Result, Ok, Err}
+use Rattle.std.specs.Global.{Vec}
+use Rattle.ob_scan.specs.declared.kind.Kind.TheVariants as kinds
+use Rattle.ob_scan.specs.declared.token.Token.{Token}
+use Rattle.ob_tree.specs.declared.expression.Selector.{Selector}
+use Rattle.ob_tree.specs.declared.expression.Expr.{Expr}
+use Rattle.ob_tree.specs.declared.expression.ExprList.{ExprList}
+use Rattle.ob_tree.specs.Marks.{Out, each}
+use Rattle.ob_tree.specs.Expressions.{selector_outline, expr_list_outline}
+use Rattle.ob_parse.specs.Front.{uncons, front, is_word}
+use Rattle.ob_parse.specs.Forms.{Read}
+use Rattle.ob_parse.specs.Gives.{Fails, ahead}
+use Rattle.ob_parse.specs.declared.cursor.Cursor.{Cursor}
+use Rattle.ob_parse.specs.declared.stop.Stop.{Stop}
+use Rattle.ob_decls.specs.declared.rows.Selector.{Selector as SelectorRow}
+use Rattle.ob_decls.specs.declared.rows.Step.TheVariants as steps
+use Rattle.ob_decls.specs.declared.draft.Context.{Context}
+use Rattle.ob_decls.specs.declared.draft.Draft.{Draft}
+use Rattle.ob_decls.specs.Drafts.{Stage, after, settled}
+use Rattle.ob_decls.specs.Expressions.{Selected, selected, first_name, listed, expr_list_piece}
+use Rattle.ob_decls.specs.Settling.{row_at, settling}
+use Rattle.ob_table.specs.Shapes.{exprs_outline, exprs_piece}
+use Rattle.ob_table.specs.Tells.{Told}
+
+-- a dot stands here
+abbrev pub dot_at : List Token → Cursor → Bool
+dot_at ts i = front (is_word kinds.Dot) (uncons (ahead ts i))
+
+abbrev pub is_there : Option ℕ → Bool
+is_there None = false
+is_there (Some n) = true
+
+-- a selector that selects a name, or one that doesn't
+pub record Picked (dot : Bool) : Type 0 where
+  pub selector : Selector
+  pub named : is_there (selected selector).name ≡ dot
+
+abbrev pub picked_outline : {dot : Bool} → Picked dot → Out
+picked_outline x = selector_outline x.selector
+
+-- it is told, and its row stands in this place
+abbrev pub picking : {dot : Bool} → ℕ → ℕ → Context → Picked dot → Stage → Stage
+picking head at c x s = after (selected x.selector).piece c (settled at (row_at head (selected x.selector) s) s)
+
+-- so many selectors, of which the first selects a name, or doesn't
+pub record Chosen (dot : Bool) (count : ℕ) : Type 0 where
+  pub list : Vec Selector
+  pub named : is_there (first_name (map selected list.items)) ≡ dot
+  pub counted : length list.items ≡ count
+
+abbrev pub chosen_outline : {dot : Bool} {n : ℕ} → Chosen dot n → Out
+chosen_outline x = each selector_outline x.list.items
+
+-- their rows stand in these places
+abbrev pub choosing : {dot : Bool} {n : ℕ} → ℕ → ℕ → Context → Chosen dot n → Stage → Stage
+choosing head at c x s = settling head at (map selected x.list.items) c s
+
+-- so many places for selectors of the designator with this head
+abbrev pub places : ℕ → ℕ → List SelectorRow
+places head zero = []
+places head (suc n) = record { of = head; step = steps.Target } ∷ places head n
+
+-- so many expressions
+pub record Counted (count : ℕ) : Type 0 where
+  pub list : ExprList
+  pub counted : (listed list).count ≡ count
+
+abbrev pub counted_outline : {n : ℕ} → Counted n → Out
+counted_outline x = expr_list_outline x.list
+
+-- a list of so many expressions was read and told, or reading fails
+abbrev pub Counts : List Token → Context → Draft → Draft → Result (Cursor × ℕ) Stop → Read → Type 0
+Counts ts c old new (Ok x) read = Told {T = Counted x.1} ts counted_outline (λ l. after (expr_list_piece l.list) c) old new x.0 read
+Counts ts c old new (Err e) read = Fails ts e read
+
+-- expressions behind the first of so many, each behind a comma
+pub record Further (count : ℕ) : Type 0 where
+  pub list : Vec Expr
+  pub counted : suc (length list.items) ≡ count
+
+abbrev pub further_outline : {n : ℕ} → Further n → Out
+further_outline x = exprs_outline x.list
+
+abbrev pub CountsFurther : List Token → Context → Draft → Draft → Result (Cursor × ℕ) Stop → Read → Type 0
+CountsFurther ts c old new (Ok x) read = Told {T = Further x.1} ts further_outline (λ l. after (exprs_piece l.list) c) old new x.0 read
+CountsFurther ts c old new (Err e) read = Fails ts e read

@@ -1,0 +1,158 @@
+//! Modules (Oberon-07 report, section 11), from their tokens to their rows.
+
+ghost use Rattle.ob_scan.specs.declared.kind.Kind.TheVariants as kinds;
+ghost use Rattle.ob_tree.specs.Marks.{repeated};
+ghost use Rattle.ob_tree.specs.Declaring.{module_outline};
+ghost use Rattle.ob_decls.specs.Declaring.{module_piece, imports_piece};
+ghost use Rattle.ob_decls.specs.Drafts.{after};
+ghost use Rattle.ob_decls.specs.Parts.{if_there};
+ghost use Rattle.ob_parse.specs.Forms.{expect_at, name_at, seq};
+ghost use Rattle.ob_parse.specs.Gives.{ahead};
+ghost use Rattle.ob_parse.specs.ReadStatements.{block_at};
+ghost use Rattle.ob_parse.specs.ReadModules.{imports_at, declarations_at, body_with, module_at, module_behind_name, all_of};
+ghost use Rattle.ob_table.specs.DeclarationShapes.{ModuleEnd, end_shown, end_step, ModuleParts, parts_shown, parts_step, ModuleBehind, behind_shown, behind_step, imports_shown};
+ghost use Rattle.ob_table.specs.Ended.{EndedModule, TellsWhole};
+ghost use Rattle.ob_table.specs.Tells.{Tells, TellsBy};
+
+use crate::declarations::{body, declarations};
+use crate::ends::module_name;
+use crate::source::Source;
+use crate::words::pass_word;
+use ob_decls::draft::{Context, Draft};
+use ob_decls::walk::declarations::walk_imports;
+use ob_parse::cursor::Cursor;
+use ob_parse::modules::imports as import_lists;
+use ob_parse::stop::Stop;
+use ob_parse::tokens::identifier;
+use ob_scan::{Kind, Token};
+use std::alloc::Global;
+
+/// The imports, if IMPORT stands here. Their list is short, and made.
+fn imports(
+    alloc: Global,
+    draft: &mut Draft,
+    inside: Context,
+    tokens: &[Token],
+    input: Cursor,
+) -> Result<Cursor, Stop>
+    ensures { Tells tokens.now imports_shown (if_there imports_piece) inside draft.old draft.new result (imports_at (ahead tokens.now input)) }
+{
+    match import_lists(alloc, tokens, input) {
+        Ok((list, rest)) => {
+            walk_imports(draft, inside, &list);
+            Ok(rest)
+        }
+        Err(stop) => Err(stop),
+    }
+}
+
+/// What stands behind the statements of the module of this name.
+fn ending(
+    draft: &mut Draft,
+    inside: Context,
+    bytes: &[u8],
+    tokens: &[Token],
+    input: Cursor,
+    name: u32,
+) -> Result<Cursor, Stop>
+    ensures { TellsBy {T = ModuleEnd bytes.now tokens.now name} tokens.now end_shown (end_step inside) draft.old draft.new result
+        (seq (expect_at kinds.End) (seq (name_at (repeated name)) (expect_at kinds.Dot)) (ahead tokens.now input)) }
+{
+    match pass_word(draft, tokens, input, Kind::End) {
+        Ok(here) => match module_name(draft, inside, bytes, tokens, here, name) {
+            Ok(here) => pass_word(draft, tokens, here, Kind::Dot),
+            Err(stop) => Err(stop),
+        },
+        Err(stop) => Err(stop),
+    }
+}
+
+/// What stands behind the imports in the module of this name.
+fn parts(
+    draft: &mut Draft,
+    inside: Context,
+    bytes: &[u8],
+    source: &Source,
+    input: Cursor,
+    depth: u32,
+    name: u32,
+) -> Result<Cursor, Stop>
+    ensures { TellsBy {T = ModuleParts bytes.now source.now.tokens.now name} source.now.tokens.now parts_shown (parts_step inside) draft.old draft.new result
+        (seq (declarations_at depth) (seq (body_with (block_at depth)) (seq (expect_at kinds.End)
+        (seq (name_at (repeated name)) (expect_at kinds.Dot)))) (ahead source.now.tokens.now input)) }
+{
+    match declarations(draft, inside, bytes, source, input, depth) {
+        Ok(here) => match body(draft, inside, source, here, depth) {
+            Ok(here) => ending(draft, inside, bytes, source.tokens, here, name),
+            Err(stop) => Err(stop),
+        },
+        Err(stop) => Err(stop),
+    }
+}
+
+/// What stands behind MODULE and this name.
+fn behind(
+    alloc: Global,
+    draft: &mut Draft,
+    inside: Context,
+    bytes: &[u8],
+    source: &Source,
+    input: Cursor,
+    depth: u32,
+    name: u32,
+) -> Result<Cursor, Stop>
+    ensures { TellsBy {T = ModuleBehind bytes.now source.now.tokens.now name} source.now.tokens.now behind_shown (behind_step inside) draft.old draft.new result (module_behind_name depth name (ahead source.now.tokens.now input)) }
+{
+    match pass_word(draft, source.tokens, input, Kind::Semicolon) {
+        Ok(here) => match imports(alloc, draft, inside, source.tokens, here) {
+            Ok(here) => parts(draft, inside, bytes, source, here, depth, name),
+            Err(stop) => Err(stop),
+        },
+        Err(stop) => Err(stop),
+    }
+}
+
+/// A module, with at most so many levels in it.
+fn module(
+    alloc: Global,
+    draft: &mut Draft,
+    inside: Context,
+    bytes: &[u8],
+    source: &Source,
+    input: Cursor,
+    depth: u32,
+) -> Result<Cursor, Stop>
+    ensures { Tells {T = EndedModule bytes.now source.now.tokens.now} source.now.tokens.now (λ m. module_outline m.tree) (λ m. module_piece m.tree) inside draft.old draft.new result (module_at depth (ahead source.now.tokens.now input)) }
+{
+    match pass_word(draft, source.tokens, input, Kind::Module) {
+        Ok(here) => match identifier(source.tokens, here) {
+            Ok((name, here)) => {
+                draft.pass();
+                behind(alloc, draft, inside, bytes, source, here, depth, name)
+            }
+            Err(stop) => Err(stop),
+        },
+        Err(stop) => Err(stop),
+    }
+}
+
+/// All of the tokens, as one module.
+pub(crate) fn whole(
+    alloc: Global,
+    draft: &mut Draft,
+    inside: Context,
+    bytes: &[u8],
+    source: &Source,
+    input: Cursor,
+    depth: u32,
+) -> Result<(), Stop>
+    ensures { TellsWhole {T = EndedModule bytes.now source.now.tokens.now} source.now.tokens.now (λ m. module_outline m.tree) (λ m. after (module_piece m.tree) inside) draft.old draft.new result (all_of depth (ahead source.now.tokens.now input)) }
+{
+    match module(alloc, draft, inside, bytes, source, input, depth) {
+        Ok(here) => match here.next(source.tokens) {
+            None => Ok(()),
+            Some(_) => Err(Stop::Unexpected(here)),
+        },
+        Err(stop) => Err(stop),
+    }
+}

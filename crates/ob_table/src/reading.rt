@@ -1,0 +1,109 @@
+//! The table of a text.
+
+ghost use Rattle.std.specs.Prelude.{◌≡◌, ◌<◌, ◌^◌, length, ℕ, List, Ok, IfOk, IfErr};
+ghost use Rattle.ob_decls.specs.Declaring.{rows_in, rows_of, module_piece, outermost};
+ghost use Rattle.ob_decls.specs.Drafts.{after, stage_of, start};
+ghost use Rattle.ob_scan.specs.Spelling.{IsOutcome, Reads};
+ghost use Rattle.ob_scan.specs.declared.token.Token.{Token};
+ghost use Rattle.ob_tree.specs.Declaring.{module_outline};
+ghost use Rattle.ob_tree.specs.Leaves.{leaves_from};
+ghost use Rattle.ob_tree.specs.declared.declaration.Module.{Module};
+ghost use Rattle.ob_parse.specs.Parsed.{IsTheTree, IsFaultOf, kinds_of};
+ghost use Rattle.ob_parse.specs.ReadModules.{all_of};
+ghost use Rattle.ob_table.specs.Ended.{EndedModule, TellsWhole};
+
+use crate::modules::whole;
+use crate::source::{Source, brackets_of};
+use ob_decls::draft::{Context, Draft};
+use ob_decls::{Table, table_from, table_of};
+use ob_parse::cursor::Cursor;
+use ob_parse::parser::fault_of;
+use ob_parse::stop::Stop;
+use ob_parse::{ParseFault, parse};
+use ob_scan::{Token, Tokens};
+use ob_tree::declaration::Module;
+use std::alloc::Global;
+
+/// How many procedure declarations, types, statements that are not empty, expressions and factors after `~` may hold one another.
+const DEEPEST: u32 = 200;
+
+/// The table of what was parsed, or why there is none.
+fn table_in(alloc: Global, parsed: &Result<Module, ParseFault>) -> Result<Table, ParseFault>
+    ensures table { IfOk result (λ t. (m : Module) × (parsed.now ≡ Ok m) × (rows_in t ≡ rows_of m)) }
+    ensures fault { (bytes : List ℕ) (tokens : List Token) → IfErr parsed.now (IsFaultOf bytes tokens) → IfErr result (IsFaultOf bytes tokens) }
+{
+    match parsed {
+        Ok(module) => Ok(table_of(alloc, module)?),
+        Err(fault) => Err(*fault),
+    }
+}
+
+/// The same by way of a tree, where the pass over the tokens came to no table: memory was refused, a name after END is
+/// wrong, or the places of selectors were guessed wrong.
+fn table_by_tree(alloc: Global, bytes: &[u8], tokens: &Tokens) -> Result<Table, ParseFault>
+    requires { IsOutcome bytes.now (Reads tokens.now) }
+    ensures table { IfOk result (λ t. (m : Module) × IsTheTree bytes.now tokens.now m × (rows_in t ≡ rows_of m)) }
+    ensures fault { IfErr result (IsFaultOf bytes.now tokens.now) }
+{
+    let parsed = parse(alloc, bytes, tokens);
+    let table = table_in(alloc, &parsed);
+    // One call lets the tree go, so that its parts are no steps of this function.
+    drop(parsed);
+    table
+}
+
+/// All tokens of a text.
+fn pass_all(alloc: Global, draft: &mut Draft, bytes: &[u8], tokens: &[Token]) -> Result<(), Stop>
+    requires { length tokens.now < 2 ^ 32 }
+    ensures { TellsWhole {T = EndedModule bytes.now tokens.now} tokens.now (λ m. module_outline m.tree) (λ m. after (module_piece m.tree) outermost) draft.old draft.new result (all_of 200 (leaves_from 0 (kinds_of tokens.now))) }
+{
+    let outermost = Context {
+        block: 0,
+        declarer: 0,
+        of_record: 0,
+        is_target: false,
+    };
+    let brackets = brackets_of(alloc, tokens);
+    let source = Source {
+        tokens,
+        brackets: brackets.as_slice(),
+    };
+    whole(
+        alloc,
+        draft,
+        outermost,
+        bytes,
+        &source,
+        Cursor::ALL,
+        DEEPEST,
+    )
+}
+
+/// The table of the module that the tokens of a text of these bytes are of, or why there is none: what `table_of` answers of
+/// the tree that `parse` answers, and the faults of `parse`. No tree is made, but where memory is refused, where a name
+/// after END is wrong, and where brackets don't close in the order in which they open.
+///
+/// It recurses a few calls for each level, so at most 200 levels deep, for which a stack of 2 MiB is enough. Lists are loops.
+pub fn read_table(alloc: Global, bytes: &[u8], tokens: &Tokens) -> Result<Table, ParseFault>
+    // The tokens are those of the bytes.
+    requires { IsOutcome bytes.now (Reads tokens.now) }
+    // The rows are those of the one tree that derives them.
+    ensures table { IfOk result (λ t. (m : Module) × IsTheTree bytes.now tokens.now m × (rows_in t ≡ rows_of m)) }
+    // The fault is so.
+    ensures fault { IfErr result (IsFaultOf bytes.now tokens.now) }
+{
+    let list = tokens.as_slice();
+    let mut draft = Draft::new(alloc, list.len() as u32);
+    match pass_all(alloc, &mut draft, bytes, list) {
+        Err(stop) => {
+            drop(draft);
+            return Err(fault_of(bytes.len() as u32, list, stop));
+        }
+        Ok(()) => {}
+    }
+    if draft.refused {
+        drop(draft);
+        return table_by_tree(alloc, bytes, tokens);
+    }
+    Ok(table_from(draft)?)
+}
