@@ -1,21 +1,20 @@
 //! The scopes of one file of a tree, or its fault.
-ghost use Rattle.std.specs.Prelude.{◌≡◌, ℕ, IfErr, IfOk, List, Ok};
+ghost use Rattle.std.specs.Prelude.{◌≡◌, IfErr, IfOk};
 ghost use Rattle.ob_decls.specs.Declaring.{rows_in, rows_of};
-ghost use Rattle.ob_parse.specs.Parsed.{IsFaultOf, IsTheTree};
+ghost use Rattle.ob_parse.specs.Parsed.{IsTheTree};
 ghost use Rattle.ob_scan.specs.Spelling.{IsOutcome, Reads};
-ghost use Rattle.ob_scan.specs.declared.token.Token.{Token};
 ghost use Rattle.ob_tree.specs.declared.declaration.Module.{Module};
 ghost use Rattle.oscip_tree.specs.Trees.{parse_offset, scan_offset, scope_offset, HasParseFault, HasScanFault, HasScopeFault, IsFileFault};
 ghost use Rattle.oscip_tree.specs.TreeReading.{HasScopes};
 
 use crate::files::OfFile;
 use crate::{Source, TreeFault};
-use ob_decls::{Table, table_of};
-use ob_parse::{ParseFault, parse};
+use ob_decls::Table;
+use ob_parse::ParseFault;
 use ob_scan::laws::tokens_in_text;
 use ob_scan::{ScanFault, Tokens, position, scan};
 use ob_scope::{ScopeFault, Scopes, scopes_from};
-use ob_tree::declaration::Module;
+use ob_table::read_table;
 use std::alloc::Global;
 
 fn scan_offset(fault: ScanFault) -> u32
@@ -97,30 +96,6 @@ pub(crate) fn scope_fault(alloc: Global, source: &Source, fault: ScopeFault) -> 
     }
 }
 
-/// The table of what was parsed, or why there is none.
-fn table_in(alloc: Global, parsed: &Result<Module, ParseFault>) -> Result<Table, ParseFault>
-    ensures table { IfOk result (λ t. (m : Module) × (parsed.now ≡ Ok m) × (rows_in t ≡ rows_of m)) }
-    ensures fault { (bytes : List ℕ) (tokens : List Token) → IfErr parsed.now (IsFaultOf bytes tokens) → IfErr result (IsFaultOf bytes tokens) }
-{
-    match parsed {
-        Ok(module) => Ok(table_of(alloc, module)?),
-        Err(fault) => Err(*fault),
-    }
-}
-
-/// The table of the module that these tokens are of, or the fault of the parser.
-fn parsed_table(alloc: Global, bytes: &[u8], tokens: &Tokens) -> Result<Table, ParseFault>
-    requires { IsOutcome bytes.now (Reads tokens.now) }
-    ensures table { IfOk result (λ t. (m : Module) × IsTheTree bytes.now tokens.now m × (rows_in t ≡ rows_of m)) }
-    ensures fault { IfErr result (IsFaultOf bytes.now tokens.now) }
-{
-    let parsed = parse(alloc, bytes, tokens);
-    let table = table_in(alloc, &parsed);
-    // One call lets the tree go, so that its parts are no steps of this function.
-    drop(parsed);
-    table
-}
-
 /// The table of a file's module with these tokens.
 pub(crate) fn table_after(
     alloc: Global,
@@ -131,7 +106,7 @@ pub(crate) fn table_after(
     ensures table { IfOk result (λ t. (m : Module) × IsTheTree source.now.bytes.items tokens.now m × (rows_in t ≡ rows_of m)) }
     ensures fault { IfErr result (IsFileFault source.now) }
 {
-    match parsed_table(alloc, source.bytes.as_slice(), tokens) {
+    match read_table(alloc, source.bytes.as_slice(), tokens) {
         Ok(table) => Ok(table),
         Err(fault) => Err(parse_fault(alloc, source, fault)),
     }
