@@ -6,7 +6,7 @@ ghost use Rattle.cut_residual.specs.Graphs.{is_seen};
 ghost use Rattle.cut_solve.specs.Lines.{is_printed, reversed_of};
 
 use cut_net::Priced;
-use cut_residual::{Arc, ResidualGraph, Searched, search};
+use cut_residual::{Arc, marks};
 use std::alloc::{AllocError, Global};
 
 /// Whether the import leads out of the near modules.
@@ -43,27 +43,26 @@ pub(crate) fn far_from(
     near: &[bool],
     nodes: u32,
     to: u32,
-) -> Result<Searched, AllocError>
+) -> Result<Vec<bool>, AllocError>
     requires between { AreBetween imports.now nodes }
     requires near { length near.now ≡ nodes }
     requires to { to < nodes }
-    ensures size { IfOk result (λ far. length far.seen.items ≡ nodes) }
-    ensures far { IfOk result (λ far. (m : ℕ) → (is_seen far.seen.items m ≡ true) ↔ Chain imports.now (Outside (leaves (is_seen near.now))) m to) }
+    ensures size { IfOk result (λ far. length far.items ≡ nodes) }
+    ensures far { IfOk result (λ far. (m : ℕ) → (is_seen far.items m ≡ true) ↔ Chain imports.now (Outside (leaves (is_seen near.now))) m to) }
 {
     let arcs = reversed_arcs(alloc, imports, near)?;
-    let graph = ResidualGraph::new(alloc, arcs, nodes)?;
-    let far = search(alloc, &graph, to)?;
+    let far = marks(alloc, &arcs, nodes, to)?;
     Ok(far)
 }
 
 /// Whether the import is printed: it leaves the near modules, and the module that it leads to has a chain to the end.
-fn is_printed(i: Priced, near: &[bool], far: &Searched) -> bool
+fn is_printed(i: Priced, near: &[bool], far: &[bool]) -> bool
     requires from { i.from < length near.now }
     requires to { i.to < length near.now }
-    requires far { i.to < length far.now.seen.items }
-    ensures { result ≡ is_printed near.now far.now.seen.items i }
+    requires far { i.to < length far.now }
+    ensures { result ≡ is_printed near.now far.now i }
 {
-    leaves(i, near) && far.seen[i.to as usize]
+    leaves(i, near) && far[i.to as usize]
 }
 
 /// The printed imports, in their order.
@@ -71,11 +70,11 @@ pub(crate) fn printed_of(
     alloc: Global,
     imports: &[Priced],
     near: &[bool],
-    far: &Searched,
+    far: &[bool],
 ) -> Result<Vec<Priced>, AllocError>
     requires near { AreBetween imports.now (length near.now) }
-    requires far { AreBetween imports.now (length far.now.seen.items) }
-    ensures { IfOk result (λ printed. printed.items ≡ filter (is_printed near.now far.now.seen.items) imports.now) }
+    requires far { AreBetween imports.now (length far.now) }
+    ensures { IfOk result (λ printed. printed.items ≡ filter (is_printed near.now far.now) imports.now) }
 {
     let mut printed = Vec::new(alloc);
     for i in imports {

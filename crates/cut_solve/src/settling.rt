@@ -13,7 +13,7 @@ use crate::arcs::flow_of;
 use crate::cutting::minimum_cut;
 use cut_net::{Cut, Net, Priced};
 use cut_preflow::{NetworkLedger, Preflow};
-use cut_residual::{Arc, ResidualGraph, search};
+use cut_residual::{Arc, marks};
 use std::alloc::{AllocError, Global};
 
 /// The imports as arcs that carry the flow of a preflow on as many imports.
@@ -61,14 +61,12 @@ fn quiet_cut<L: NetworkLedger>(
     net.keeps();
     preflow.keeps();
     let arcs = carrying(alloc, net.imports(), preflow)?;
-    let graph = ResidualGraph::new(alloc, arcs, net.nodes())?;
-    graph.keeps();
-    let near = search(alloc, &graph, from)?;
-    if near.seen[to as usize] {
+    let near = marks(alloc, &arcs, net.nodes(), from)?;
+    if near[to as usize] {
         return Ok(None);
     }
-    let flow = flow_of(alloc, graph.arcs())?;
-    let cut = minimum_cut(alloc, net, &near.seen, flow, from, to)?;
+    let flow = flow_of(alloc, &arcs)?;
+    let cut = minimum_cut(alloc, net, &near, flow, from, to)?;
     Ok(Some(cut))
 }
 

@@ -1,4 +1,4 @@
-use Rattle.std.proofs.Common.{◌≡◌, ◌∙◌, ◌<◌, ℕ, true, length, sym, ap, subst, arith, sum_by}
+use Rattle.std.proofs.Common.{◌≡◌, ◌∙◌, ◌<◌, ℕ, Bool, List, true, length, sym, ap, subst, arith, sum_by}
 use Rattle.std.specs.Prelude.{◌↔◌, filter}
 use Rattle.cut_net.specs.declared.priced.Priced.{Priced}
 use Rattle.cut_net.specs.Lines.{removed_by, IsCutAnswer}
@@ -26,29 +26,29 @@ printed_of-requires-clause-near c =
 pub printed_of-requires-clause-far : goal.printed_of-requires-clause-far
 printed_of-requires-clause-far c =
     let between = subst (λ v. AreBetween v (length c.args.net.now.names)) (sym c.imports-imports.ensures) c.keeps.ensures.network.between in
-    subst (AreBetween c.imports-imports.result.now) (sym (c.in_ok-far.ensures.size ∙ c.nodes.ensures)) between
+    subst (AreBetween c.imports-imports.result.now) (sym (ap length c.deref.ensures.value ∙ c.in_ok-far.ensures.size ∙ c.nodes.ensures)) between
 
 pub weight_of-weight-requires : goal.weight_of-weight-requires
 weight_of-weight-requires c =
     let imports = c.imports-imports.result.now in
-    let most = kept_within (is_printed c.args.near.now c.in_ok-far.far.seen.items) imports in
+    let most = kept_within (is_printed c.args.near.now c.deref.result.now) imports in
     let fits : sum_by (λ (i : Priced). i.amount) imports < 18446744073709551616 = subst (λ v. sum_by (λ (i : Priced). i.amount) v < 18446744073709551616) (sym c.imports-imports.ensures) c.keeps.ensures.network.fits in
-    subst (λ v. sum_by (λ (i : Priced). i.amount) v < 18446744073709551616) (sym (c.deref.ensures.value ∙ c.in_ok-printed.ensures)) (omega arith)
+    subst (λ v. sum_by (λ (i : Priced). i.amount) v < 18446744073709551616) (sym (c.deref-2.ensures.value ∙ c.in_ok-printed.ensures)) (omega arith)
 
-chains : (c : goal.After-drop-far-4) →
-    (m : ℕ) → (is_seen c.in_ok-far.far.seen.items m ≡ true) ↔ Chain c.args.net.now.imports (Outside (leaves (is_seen c.args.near.now))) m c.args.to
-chains c = subst (λ v. (m : ℕ) → (is_seen c.in_ok-far.far.seen.items m ≡ true) ↔ Chain v (Outside (leaves (is_seen c.args.near.now))) m c.args.to) c.imports-imports.ensures c.in_ok-far.ensures.far
+chains : (c : goal.After-drop-far-2) →
+    (m : ℕ) → (is_seen c.in_ok-far.far.items m ≡ true) ↔ Chain c.args.net.now.imports (Outside (leaves (is_seen c.args.near.now))) m c.args.to
+chains c = subst (λ v. (m : ℕ) → (is_seen c.in_ok-far.far.items m ≡ true) ↔ Chain v (Outside (leaves (is_seen c.args.near.now))) m c.args.to) c.imports-imports.ensures c.in_ok-far.ensures.far
 
-printed_is : (c : goal.After-drop-far-4) → c.in_ok-printed.printed.items ≡ filter (is_printed c.args.near.now c.in_ok-far.far.seen.items) c.args.net.now.imports
-printed_is c = c.in_ok-printed.ensures ∙ ap (filter (is_printed c.args.near.now c.in_ok-far.far.seen.items)) c.imports-imports.ensures
+printed_is : (c : goal.After-drop-far-2) → c.in_ok-printed.printed.items ≡ filter (is_printed c.args.near.now c.in_ok-far.far.items) c.args.net.now.imports
+printed_is c = c.in_ok-printed.ensures ∙ ap (λ (v : List Bool). filter (is_printed c.args.near.now v) c.imports-imports.result.now) c.deref.ensures.value ∙ ap (filter (is_printed c.args.near.now c.in_ok-far.far.items)) c.imports-imports.ensures
 
 pub returns-clause-answer : goal.returns-clause-answer
 returns-clause-answer c =
     let net = c.args.net.now in
     let a = c.args.from in
     let b = c.args.to in
-    let total_is : c.weight_of-weight.result ≡ sum_by (λ (i : Priced). i.amount) c.in_ok-printed.printed.items = c.weight_of-weight.ensures ∙ ap (sum_by (λ (i : Priced). i.amount)) c.deref.ensures.value in
-    let whole = answered net a b c.args.near.now c.in_ok-far.far.seen.items c.args.flow.items c.keeps.ensures.network.imports_ascend c.keeps.ensures.network.between c.requires.from c.requires.greatest (chains c) in
+    let total_is : c.weight_of-weight.result ≡ sum_by (λ (i : Priced). i.amount) c.in_ok-printed.printed.items = c.weight_of-weight.ensures ∙ ap (sum_by (λ (i : Priced). i.amount)) c.deref-2.ensures.value in
+    let whole = answered net a b c.args.near.now c.in_ok-far.far.items c.args.flow.items c.keeps.ensures.network.imports_ascend c.keeps.ensures.network.between c.requires.from c.requires.greatest (chains c) in
     let at_printed = subst (λ v. IsCutAnswer net a b v (sum_by (λ (i : Priced). i.amount) v) c.args.flow.items) (sym (printed_is c)) whole in
     subst (λ n. IsCutAnswer net a b c.in_ok-printed.printed.items n c.args.flow.items) (sym total_is) at_printed
 
@@ -56,4 +56,4 @@ pub returns-clause-cheapest : goal.returns-clause-cheapest
 returns-clause-cheapest c =
     let net = c.args.net.now in
     subst (λ v. IsCheapest net c.args.from c.args.to (removed_by v)) (sym (printed_is c))
-    (cheapest net c.args.from c.args.to c.args.near.now c.in_ok-far.far.seen.items c.args.flow.items c.keeps.ensures.network.imports_ascend c.keeps.ensures.network.between c.requires.from c.requires.greatest (chains c))
+    (cheapest net c.args.from c.args.to c.args.near.now c.in_ok-far.far.items c.args.flow.items c.keeps.ensures.network.imports_ascend c.keeps.ensures.network.between c.requires.from c.requires.greatest (chains c))

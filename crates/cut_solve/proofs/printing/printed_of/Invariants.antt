@@ -4,4 +4,4 @@ use Rattle.cut_solve.specs.Lines.{is_printed}
 use Rattle.cut_solve.proofs.printing.printed_of.Given as goal
 
 abbrev pub invariant-loop-i : goal.invariant-loop-i
-invariant-loop-i l = l.printed.items ≡ filter (is_printed l.near l.far.seen.items) (take l.i-index l.imports)
+invariant-loop-i l = l.printed.items ≡ filter (is_printed l.near l.far) (take l.i-index l.imports)

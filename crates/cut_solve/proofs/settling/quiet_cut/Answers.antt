@@ -1,4 +1,4 @@
-use Rattle.std.proofs.Common.{◌≡◌, ◌<◌, ◌≤◌, ◌∙◌, ℕ, true, false, length, ap, sym, subst, arith}
+use Rattle.std.proofs.Common.{◌≡◌, ◌<◌, ◌≤◌, ◌∙◌, ℕ, List, true, false, length, ap, sym, subst, arith}
 use Rattle.std.specs.Prelude.{All, filter, map}
 use Rattle.std.proofs.lemmas.Bool.{both_ways}
 use Rattle.std.proofs.lemmas.List.{get_or_default}
@@ -16,6 +16,9 @@ use Rattle.cut_solve.proofs.Settled.{below_flow, carrying_between, carrying_with
 use Rattle.cut_solve.proofs.Started.{below_size}
 use Rattle.cut_solve.proofs.settling.quiet_cut.Goals as goal
 
+abbrev at : ℕ → List Arc → Graph
+at nodes arcs = record { nodes = nodes; arcs = arcs }
+
 -- what the preflow started on, as a network of the modules
 module _ (net : Network) (a b : ℕ) (p : FlowNetwork) (nodes : p.nodes ≡ length net.names) where
   pub started : p ≡ network_on (length net.names) p.imports p.source p.sink
@@ -26,29 +29,29 @@ carrying-requires-clause-imports g c =
     let p = c.args.preflow.now.trace.net in
     below_size c.args.net.now c.args.from c.args.to c.keeps.ensures.network c.requires.ends p.imports p.source p.sink c.requires.start ∙ ap length (sym c.imports.ensures)
 
-pub new-requires-clause-within : goal.new-requires-clause-within
-new-requires-clause-within g c =
+pub marks-requires-clause-within : goal.marks-requires-clause-within
+marks-requires-clause-within g c =
     let net = c.args.net.now in
     let p = c.args.preflow.now.trace.net in
     let s = state_of c.args.preflow.now.trace in
     let kept = c.keeps-2.ensures.sound.kept in
     let size = below_size net c.args.from c.args.to c.keeps.ensures.network c.requires.ends p.imports p.source p.sink c.requires.start in
     let arcs : c.in_ok-arcs.arcs.items ≡ carrying net.imports s.flow = c.in_ok-arcs.ensures ∙ ap (λ v. carrying v s.flow) c.imports.ensures in
-    subst (All (λ (r : Arc). r.flow ≤ r.capacity)) (sym arcs) (carrying_within net.imports s.flow (kept.flows ∙ size) (λ k h.
+    subst (All (λ (r : Arc). r.flow ≤ r.capacity)) (sym (c.deref.ensures.value ∙ arcs)) (carrying_within net.imports s.flow (kept.flows ∙ size) (λ k h.
     let low = c.requires.start.lowered k in
     let fits = kept.fits k (omega arith) in
     omega arith))
 
-pub new-requires-clause-between : goal.new-requires-clause-between
-new-requires-clause-between g c =
+pub marks-requires-clause-between : goal.marks-requires-clause-between
+marks-requires-clause-between g c =
     let net = c.args.net.now in
     let p = c.args.preflow.now.trace.net in
     let s = state_of c.args.preflow.now.trace in
     let kept = c.keeps-2.ensures.sound.kept in
     let size = below_size net c.args.from c.args.to c.keeps.ensures.network c.requires.ends p.imports p.source p.sink c.requires.start in
     let arcs : c.in_ok-arcs.arcs.items ≡ carrying net.imports s.flow = c.in_ok-arcs.ensures ∙ ap (λ v. carrying v s.flow) c.imports.ensures in
-    subst (λ n. All (λ (r : Arc). (r.from < n) × (r.to < n)) c.in_ok-arcs.arcs.items) (sym c.nodes.ensures)
-    (subst (All (λ (r : Arc). (r.from < length net.names) × (r.to < length net.names))) (sym arcs)
+    subst (λ n. All (λ (r : Arc). (r.from < n) × (r.to < n)) c.deref.result.now) (sym c.nodes.ensures)
+    (subst (All (λ (r : Arc). (r.from < length net.names) × (r.to < length net.names))) (sym (c.deref.ensures.value ∙ arcs))
     (carrying_between net.imports s.flow (length net.names) (kept.flows ∙ size) (λ k h. c.keeps.ensures.network.between _ (Contains-get_or net.imports k none_there h))))
 
 pub minimum_cut-requires-clause-greatest : goal.minimum_cut-requires-clause-greatest
@@ -58,12 +61,11 @@ minimum_cut-requires-clause-greatest g c =
     let b = c.args.to in
     let p = c.args.preflow.now.trace.net in
     let s = state_of c.args.preflow.now.trace in
-    let near = c.in_ok-near.near.seen.items in
+    let near = c.in_ok-near.near.items in
     let whole = started net a b p c.requires.nodes in
     let size = below_size net a b c.keeps.ensures.network c.requires.ends p.imports p.source p.sink c.requires.start in
     let arcs : c.in_ok-arcs.arcs.items ≡ carrying net.imports s.flow = c.in_ok-arcs.ensures ∙ ap (λ v. carrying v s.flow) c.imports.ensures in
-    let graph : c.in_ok-graph.graph ≡ record { nodes = length net.names; arcs = carrying net.imports s.flow } =
-    c.in_ok-graph.ensures ∙ (λ i. record { nodes = c.nodes.ensures i; arcs = arcs i }) in
+    let graph : at c.nodes.result c.deref.result.now ≡ at (length net.names) (carrying net.imports s.flow) = λ i. at (c.nodes.ensures i) ((c.deref.ensures.value ∙ arcs) i) in
     let reached : AreReached (record { nodes = length net.names; arcs = carrying net.imports s.flow }) a near = subst (λ (v : Graph). AreReached v a near) graph c.in_ok-near.ensures.reached in
     let there : b < length near = omega (arith, reached.size, c.requires.ends.to_in) in
     let unmarked : is_seen near b ≡ false = sym (get_or_default near b c.index.result.now false there) ∙ sym c.index.ensures ∙ c.if-index.false in
@@ -72,8 +74,8 @@ minimum_cut-requires-clause-greatest g c =
     let greatest = settled_greatest net a b s.flow near c.keeps.ensures.network.imports_ascend c.requires.ends.from_in (c.keeps-2.ensures.sound.kept.flows ∙ size)
     reached (subst (λ (v : Graph). AreClosed v.arcs near) graph c.in_ok-near.ensures.closed) flow.0 flow.1 unmarked in
     let lines : c.in_ok-flow.flow.items ≡ filter has_flow (map flow_line (carrying net.imports s.flow)) =
-    c.in_ok-flow.ensures ∙ ap (λ v. filter has_flow (map flow_line v)) (c.arcs.ensures ∙ ap (λ (v : Graph). v.arcs) graph) in
-    subst (λ v. IsMaximumFlow net a b v c.in_ok-flow.flow.items) (sym c.deref.ensures.value)
+    c.in_ok-flow.ensures ∙ ap (λ v. filter has_flow (map flow_line v)) (c.deref-2.ensures.value ∙ arcs) in
+    subst (λ v. IsMaximumFlow net a b v c.in_ok-flow.flow.items) (sym c.deref-3.ensures.value)
     (subst (IsMaximumFlow net a b near) (sym lines) greatest)
 
 pub returns-then-index-clause-found : goal.returns-then-index-clause-found
@@ -83,12 +85,11 @@ returns-then-index-clause-found g c = λ start.
     let b = c.args.to in
     let p = c.args.preflow.now.trace.net in
     let s = state_of c.args.preflow.now.trace in
-    let near = c.in_ok-near.near.seen.items in
+    let near = c.in_ok-near.near.items in
     let whole = started net a b p c.requires.nodes in
     let size = below_size net a b c.keeps.ensures.network c.requires.ends p.imports p.source p.sink c.requires.start in
     let arcs : c.in_ok-arcs.arcs.items ≡ carrying net.imports s.flow = c.in_ok-arcs.ensures ∙ ap (λ v. carrying v s.flow) c.imports.ensures in
-    let graph : c.in_ok-graph.graph ≡ record { nodes = length net.names; arcs = carrying net.imports s.flow } =
-    c.in_ok-graph.ensures ∙ (λ i. record { nodes = c.nodes.ensures i; arcs = arcs i }) in
+    let graph : at c.nodes.result c.deref.result.now ≡ at (length net.names) (carrying net.imports s.flow) = λ i. at (c.nodes.ensures i) ((c.deref.ensures.value ∙ arcs) i) in
     let reached : AreReached (record { nodes = length net.names; arcs = carrying net.imports s.flow }) a near = subst (λ (v : Graph). AreReached v a near) graph c.in_ok-near.ensures.reached in
     let there : b < length near = omega (arith, reached.size, c.requires.ends.to_in) in
     let marked : is_seen near b ≡ true = sym (get_or_default near b c.index.result.now false there) ∙ sym c.index.ensures ∙ c.if-index.true in
