@@ -14,7 +14,7 @@ use crate::pins::check_chain;
 use crate::weights::has_weights;
 use cut_net::laws::{certificate_with_pins, no_cut_of_pins};
 use cut_net::{Answer, Cut, Net};
-use cut_residual::{ResidualGraph, search};
+use cut_residual::marks;
 use std::alloc::{AllocError, Global};
 
 /// Whether a chain leads from the one module to the other by imports that may be used.
@@ -32,9 +32,8 @@ fn has_chain(
 {
     net.keeps();
     let arcs = arcs_of(alloc, net.imports(), allowed)?;
-    let graph = ResidualGraph::new(alloc, arcs, net.nodes())?;
-    let found = search(alloc, &graph, from)?;
-    Ok(found.seen[to as usize])
+    let seen = marks(alloc, &arcs, net.nodes(), from)?;
+    Ok(seen[to as usize])
 }
 
 /// The verdict on a cut between two modules.

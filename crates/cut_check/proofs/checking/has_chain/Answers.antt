@@ -1,27 +1,27 @@
-use Rattle.std.proofs.Common.{◌≡◌, ◌<◌, ◌∙◌, length, sym, subst, arith, false, true}
+use Rattle.std.proofs.Common.{◌≡◌, ◌<◌, ◌∙◌, List, length, sym, subst, arith, false, true}
 use Rattle.std.proofs.lemmas.List.{get_or_default}
-use Rattle.cut_residual.specs.Graphs.{AreClosed, AreReached, Graph, is_seen}
+use Rattle.cut_residual.specs.declared.arc.Arc.{Arc}
+use Rattle.cut_residual.specs.Graphs.{AreClosed, AreReached, is_seen}
 use Rattle.cut_residual.proofs.Walking.{reaches_itself}
 use Rattle.cut_check.specs.Reaching.{AreArcs}
 use Rattle.cut_check.proofs.ChainPaths.{arcs_between, chain_from_path, marked_by_chain}
 use Rattle.cut_check.proofs.checking.has_chain.Goals as goal
 
-pub new-requires-clause-between : goal.new-requires-clause-between
-new-requires-clause-between c =
-    arcs_between c.imports.result.now c.args.allowed.now c.nodes.result c.in_ok-arcs.arcs.items c.in_ok-arcs.ensures
-    (rw (c.imports.ensures, c.nodes.ensures) c.keeps.ensures.network.between)
+pub marks-requires-clause-between : goal.marks-requires-clause-between
+marks-requires-clause-between c =
+    rw c.deref.ensures.value (arcs_between c.imports.result.now c.args.allowed.now c.nodes.result c.in_ok-arcs.arcs.items c.in_ok-arcs.ensures
+    (rw (c.imports.ensures, c.nodes.ensures) c.keeps.ensures.network.between))
 
 pub returns : goal.returns
 returns c =
     let imports = c.args.net.now.imports in
     let allowed = c.args.allowed.now in
     let to = c.args.to in
-    let seen = c.in_ok-found.found.seen in
+    let seen = c.in_ok-seen.seen in
     let arcs = c.in_ok-arcs.arcs.items in
-    let graph_is : c.in_ok-graph.graph ≡ record { nodes = c.nodes.result; arcs = arcs } = c.in_ok-graph.ensures in
     let are : AreArcs imports allowed arcs = subst (λ v. AreArcs v allowed arcs) c.imports.ensures c.in_ok-arcs.ensures in
-    let reached = subst (λ (g : Graph). AreReached g c.args.from seen.items) graph_is c.in_ok-found.ensures.reached in
-    let closed = subst (λ (g : Graph). AreClosed g.arcs seen.items) graph_is c.in_ok-found.ensures.closed in
+    let reached = subst (λ (v : List Arc). AreReached (record { nodes = c.nodes.result; arcs = v }) c.args.from seen.items) c.deref.ensures.value c.in_ok-seen.ensures.reached in
+    let closed = subst (λ (v : List Arc). AreClosed v seen.items) c.deref.ensures.value c.in_ok-seen.ensures.closed in
     let count = c.nodes.ensures in
     let from_asked = c.requires.from in
     let to_asked = c.requires.to in
