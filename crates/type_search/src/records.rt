@@ -10,7 +10,7 @@ use crate::graph::TypeGraph;
 use crate::name::Name;
 use crate::shape::Shape;
 use crate::way::{Way, comes_back, no_way, pass};
-use indexmap::IndexMap;
+use indexmap::{IndexMap, IndexSet};
 use std::alloc::AllocError;
 
 /// The record that a type is.
@@ -59,10 +59,12 @@ fn record_above<G: TypeGraph>(
     }
 }
 
-/// What a name means in a record, where the record has the field itself, or where it is kept.
+/// What a name means in a record, where the record has the field itself, or where it is kept, which is asked only of names of which
+/// something is kept.
 fn field_here<'a, G: TypeGraph>(
     graph: &G,
     found: &IndexMap<(G::Record, Name<'a>), Option<G::Field>>,
+    is_kept: bool,
     record: G::Record,
     name: &'a [u8],
 ) -> Option<Option<G::Field>>
@@ -72,7 +74,13 @@ fn field_here<'a, G: TypeGraph>(
 {
     match graph.field(record, name) {
         Some(field) => Some(Some(field)),
-        None => found.get(&(record, Name { bytes: name })).copied(),
+        None => {
+            if is_kept {
+                found.get(&(record, Name { bytes: name })).copied()
+            } else {
+                None
+            }
+        }
     }
 }
 
@@ -126,6 +134,7 @@ fn field_of<'a, G: TypeGraph>(
     kept: &mut IndexMap<G::Declaration, Option<G::Node>>,
     aboves: &mut IndexMap<G::Record, Option<G::Record>>,
     found: &IndexMap<(G::Record, Name<'a>), Option<G::Field>>,
+    is_kept: bool,
     way: &mut Way<G::Record>,
     from: G::Record,
     name: &'a [u8],
@@ -140,7 +149,7 @@ fn field_of<'a, G: TypeGraph>(
 {
     let mut record = from;
     'records: loop {
-        if let Some(field) = field_here(graph, found, record, name) {
+        if let Some(field) = field_here(graph, found, is_kept, record, name) {
             return Ok(field);
         }
         match climb(graph, kept, aboves, way, record)? {
@@ -174,6 +183,7 @@ fn field_passed<'a, G: TypeGraph>(
     kept: &mut IndexMap<G::Declaration, Option<G::Node>>,
     aboves: &mut IndexMap<G::Record, Option<G::Record>>,
     found: &mut IndexMap<(G::Record, Name<'a>), Option<G::Field>>,
+    names: &mut IndexSet<Name<'a>>,
     way: &mut Way<G::Record>,
     from: G::Record,
     name: &'a [u8],
@@ -187,17 +197,22 @@ fn field_passed<'a, G: TypeGraph>(
     ensures found { AreFound (G.shape graph.now) (G.base_of graph.now) (G.field_of graph.now) G.Record.eq found.new }
     ensures is { IfOk result (IsFieldIn (G.shape graph.now) (G.base_of graph.now) (λ r. G.field_of graph.now r name.now) from) }
 {
-    let field = field_of(graph, kept, aboves, found, way, from, name)?;
+    let is_kept = names.contains(&Name { bytes: name });
+    let field = field_of(graph, kept, aboves, found, is_kept, way, from, name)?;
     keep_field(graph, found, way.marks.as_slice(), name, field)?;
+    if !is_kept {
+        names.insert(Name { bytes: name })?;
+    }
     Ok(field)
 }
 
-/// The field that a name means in a record, which is kept for the searches that follow.
+/// The field that a name means in a record: its own, or else one that is kept for the searches that follow.
 fn field_kept<'a, G: TypeGraph>(
     graph: &G,
     kept: &mut IndexMap<G::Declaration, Option<G::Node>>,
     aboves: &mut IndexMap<G::Record, Option<G::Record>>,
     found: &mut IndexMap<(G::Record, Name<'a>), Option<G::Field>>,
+    names: &mut IndexSet<Name<'a>>,
     from: G::Record,
     name: &'a [u8],
 ) -> Result<Option<G::Field>, AllocError>
@@ -209,8 +224,11 @@ fn field_kept<'a, G: TypeGraph>(
     ensures found { AreFound (G.shape graph.now) (G.base_of graph.now) (G.field_of graph.now) G.Record.eq found.new }
     ensures is { IfOk result (IsFieldIn (G.shape graph.now) (G.base_of graph.now) (λ r. G.field_of graph.now r name.now) from) }
 {
+    if let Some(field) = graph.field(from, name) {
+        return Ok(Some(field));
+    }
     let mut way = no_way(*kept.allocator());
-    field_passed(graph, kept, aboves, found, &mut way, from, name)
+    field_passed(graph, kept, aboves, found, names, &mut way, from, name)
 }
 
 /// The field that a name means at a type: of the record to which it leads, or else of its base.
@@ -219,6 +237,7 @@ pub(crate) fn find_in<'a, G: TypeGraph>(
     kept: &mut IndexMap<G::Declaration, Option<G::Node>>,
     aboves: &mut IndexMap<G::Record, Option<G::Record>>,
     found: &mut IndexMap<(G::Record, Name<'a>), Option<G::Field>>,
+    names: &mut IndexSet<Name<'a>>,
     from: G::Node,
     name: &'a [u8],
 ) -> Result<Option<G::Field>, AllocError>
@@ -233,6 +252,6 @@ pub(crate) fn find_in<'a, G: TypeGraph>(
 {
     match record_of(graph, kept, from)? {
         None => Ok(None),
-        Some(record) => field_kept(graph, kept, aboves, found, record, name),
+        Some(record) => field_kept(graph, kept, aboves, found, names, record, name),
     }
 }

@@ -9,8 +9,8 @@ returns-in-Some-clause-some g c =
     let field = λ (r : g.row.G-Record.Denot). g.G.TypeGraph.field_of c.args.graph.now r c.args.name.now in
     own_is (g.G.TypeGraph.shape c.args.graph.now) (g.G.TypeGraph.base_of c.args.graph.now) field c.args.«record» c.in-Some.field c.field.result c.field.ensures c.in-Some.is
 
-pub returns-in-None-clause-some : goal.returns-in-None-clause-some
-returns-in-None-clause-some g c =
+pub returns-then-is_kept-clause-some : goal.returns-then-is_kept-clause-some
+returns-then-is_kept-clause-some g c =
     let shape = g.G.TypeGraph.shape c.args.graph.now in
     let base = g.G.TypeGraph.base_of c.args.graph.now in
     let field = λ (r : g.row.G-Record.Denot). g.G.TypeGraph.field_of c.args.graph.now r c.args.name.now in
