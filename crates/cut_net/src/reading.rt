@@ -55,7 +55,8 @@ fn lists_in(alloc: Global, bytes: &[u8]) -> Result<(Vec<String>, Vec<Priced>), N
     ensures few_imports { IfOk result (λ lists. length lists.1.items ≤ 65536) }
     ensures fault { IfErr result (λ fault. IfSome (fault_said fault) (IsNetOutcome bytes.now)) }
 {
-    if let Some(lists) = straight_lists(alloc, bytes)? {
+    // Where memory for these lists is refused, the tables tell the fault of a line all the same.
+    if let Ok(Some(lists)) = straight_lists(alloc, bytes) {
         return Ok(lists);
     }
     let mut draft = NetDraft::new(alloc);

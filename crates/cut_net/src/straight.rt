@@ -92,14 +92,38 @@ impl LineList {
     }
 }
 
-/// Fills the list of no lines with those that the bytes spell. False where one has a fault.
+/// How many bytes are read before the imports are first looked at for one that stands twice.
+const FIRST_LOOK: usize = 4096;
+
+/// Whether no import stands twice, where memory for a look isn't refused.
+fn seem_apart(imports: &Vec<Priced>) -> bool {
+    match imports.clone() {
+        Err(_) => true,
+        Ok(mut listed) => {
+            put_in_order(&mut listed);
+            is_ascending(&listed)
+        }
+    }
+}
+
+/// Fills the list of no lines with those that the bytes spell. False where one has a fault. Each time that twice as many bytes are read
+/// the imports are looked at, so that a text in which one stands twice isn't read far behind it.
 fn fill(alloc: Global, bytes: &[u8], list: &mut LineList) -> Result<bool, AllocError>
     requires { IsList [] list.old }
     ensures { IfOk result (λ whole. whole ≡ true → IsListOf bytes.now list.new) }
 {
+    let mut read: usize = 0;
+    let mut look = FIRST_LOOK;
     for piece in bytes.split(|b| *b == b'\n') {
         if !list.take(alloc, piece)? {
             return Ok(false);
+        }
+        read = read.saturating_add(piece.len()).saturating_add(1);
+        if read >= look {
+            if !seem_apart(&list.imports) {
+                return Ok(false);
+            }
+            look = look.saturating_mul(2);
         }
     }
     Ok(true)
@@ -141,7 +165,8 @@ fn ordered(alloc: Global, list: &LineList) -> Result<Option<(Vec<String>, Vec<Pr
     }
 }
 
-/// The names and the imports of the network of the lines that the bytes spell. None where a line has a fault.
+/// The names and the imports of the network of the lines that the bytes spell. None where a line has a fault, where there are too many
+/// of them, or where an import stands twice.
 pub(crate) fn straight_lists(
     alloc: Global,
     bytes: &[u8],
