@@ -311,7 +311,9 @@ fn procedures(
     Ok(here)
 }
 
-/// A procedure, and its semicolon.
+/// A procedure, and its semicolon. Like the other parts that are laid out at their callers, it takes no call, so that a level of
+/// nesting takes as many as in the parser.
+#[inline(always)]
 #[cycle(declarations)]
 fn ended_procedure(
     draft: &mut Draft,
@@ -383,6 +385,7 @@ fn procedure_within(
 }
 
 /// What stands in the block of a procedure, with its name, which is declared outside.
+#[inline(always)]
 #[cycle(declarations)]
 fn procedure_inner(
     draft: &mut Draft,
@@ -405,6 +408,7 @@ fn procedure_inner(
 }
 
 /// What stands behind PROCEDURE and this name.
+#[inline(always)]
 #[cycle(declarations)]
 fn named_procedure(
     draft: &mut Draft,

@@ -27,7 +27,7 @@ use ob_parse::tokens::identifier;
 use ob_scan::{Kind, Token};
 use std::alloc::Global;
 
-/// The imports, if IMPORT stands here. Their list is short, and made.
+/// The imports, if IMPORT stands here. Their list is made, since the walk takes it.
 fn imports(
     alloc: Global,
     draft: &mut Draft,

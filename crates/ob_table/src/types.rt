@@ -186,7 +186,9 @@ fn more_lengths(
     Ok(here)
 }
 
-/// A type behind a token of this kind.
+/// A type behind a token of this kind. Like the other parts that are laid out at their callers, it takes no call, so that a level
+/// of nesting takes as many as in the parser.
+#[inline(always)]
 #[cycle(types)]
 fn type_behind(
     draft: &mut Draft,
@@ -270,6 +272,7 @@ fn record(
 }
 
 /// A record that names this base, behind the base.
+#[inline(always)]
 #[cycle(types)]
 fn record_parts(
     draft: &mut Draft,
@@ -326,6 +329,7 @@ fn fields(
 }
 
 /// The field lists behind the first, and the semicolon that may stand behind them.
+#[inline(always)]
 #[cycle(types)]
 fn fields_behind(
     draft: &mut Draft,
