@@ -46,8 +46,8 @@ pub fn table_of(alloc: Global, module: &Module) -> Result<Table, AllocError>
     })
 }
 
-/// The table of a draft whose rows are those of a module. AllocError is never answered: that the parts of one form stand
-/// together is looked at before, and no module breaks it.
+/// The table of a draft whose rows are those of a module. That the parts of one form stand together is looked at before it is
+/// answered, and no module breaks it.
 pub fn table_from(draft: Draft) -> Result<Table, AllocError>
     requires { (m : Module) × (drafted draft ≡ rows_of m) }
     ensures { IfOk result (λ t. rows_in t ≡ drafted draft) }

@@ -28,7 +28,7 @@ pub struct Context {
 pub struct Draft {
     /// The number of the next token, from 0.
     pub number: u32,
-    /// Whether memory was refused, or a number that no row can hold.
+    /// Whether memory was refused, or a number that no row can hold, or what fills the draft refused it.
     pub refused: bool,
     /// The constructs that declare.
     pub declarers: Vec<Declarer>,

@@ -12,6 +12,7 @@ use ob_tree::expression::Expr;
 use ob_tree::name::Qualident;
 use ob_tree::statement::{Branch, Case, For, Label, LabelRange, StatementSequence, Stmt};
 
+/// A qualified identifier that is looked up.
 #[tactic(auto, using(crate::proofs::StatementLayers::labels_made))]
 pub fn walk_qualident(draft: &mut Draft, inside: Context, name: Qualident)
     ensures { ComesTo (after (qualident_piece name) inside) draft.old draft.new }

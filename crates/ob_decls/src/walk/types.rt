@@ -15,6 +15,7 @@ use ob_tree::declaration::{Fields, ParameterSection, Parameters, Record, TypeFor
 use ob_tree::expression::ExprList;
 use ob_tree::name::{Identdef, Qualident};
 
+/// An identifier that is declared, with its star.
 #[tactic(auto, using(crate::proofs::TypeLayers::names_made))]
 pub fn walk_identdef(draft: &mut Draft, inside: Context, name: Identdef)
     ensures { ComesTo (after (identdef_piece name) inside) draft.old draft.new }
