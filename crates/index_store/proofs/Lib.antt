@@ -3,3 +3,4 @@ pub mod StoreLemmas
 pub mod AskedLemmas
 pub mod OneSymbol
 pub mod DirectLaws
+mod ShortSymbols

@@ -1,5 +1,5 @@
 //! Questions to the bytes of an index, with no store: the records are walked, and no message and no table is made.
-ghost use Rattle.std.specs.Prelude.{◌≡◌, ◌<◌, ◌+◌, ◌^◌, ◌++◌, [], IfOk, None, OnOk, fold, length, map, option_map};
+ghost use Rattle.std.specs.Prelude.{◌≡◌, ◌<◌, ◌+◌, ◌^◌, ◌++◌, [], true, IfOk, IfSome, None, OnOk, fold, length, map, option_map};
 ghost use Rattle.std.specs.Str.{IsUtf8, bytes_eq};
 ghost use Rattle.std.specs.Option.{option_to_list};
 ghost use Rattle.std.specs.List.{flat_map};
@@ -14,7 +14,9 @@ ghost use Rattle.index_store.specs.Spans.{span_of};
 
 use crate::span::{Span, is_in, is_nearer, span_of};
 use crate::{Place, Position, StoreFault};
-use proto_wire::{Inside, last_bytes, last_number, next_message, numbers_inside};
+use proto_wire::{
+    Inside, WireValue, last_bytes, last_number, next_message, next_short, numbers_inside,
+};
 use std::alloc::{AllocError, Global};
 
 /// A span with its symbol.
@@ -169,12 +171,62 @@ fn is_definition(occurrence: Inside<'_>) -> bool
     last_number(3, occurrence).cast_unsigned() % 2 == 1
 }
 
+/// How many short records are looked at behind the range and the symbol of an occurrence.
+const MOST_BEHIND: usize = 4;
+
+/// Whether what is left of an occurrence is a few short records, and no symbol.
+fn lacks_symbol(left: Inside<'_>) -> bool
+    requires { left.start + length left.bytes.now < 2 ^ 64 }
+    ensures { result ≡ true → each_of 2 bytes_in (records_of left.entry) ≡ [] }
+{
+    let mut rest = left;
+    for _ in 0..MOST_BEHIND {
+        if rest.bytes.is_empty() {
+            return true;
+        }
+        match next_short(&mut rest) {
+            Some((wire, _)) if wire.field != 2 => {}
+            _ => return false,
+        }
+    }
+    false
+}
+
+/// The symbol of an occurrence that is a range, a symbol and a few records more, each with a key and a length of one byte, as most
+/// producers write them. Of any other occurrence nothing is answered.
+#[inline(always)]
+fn short_symbol<'a>(occurrence: Inside<'a>) -> Option<&'a [u8]>
+    requires { occurrence.start + length occurrence.bytes.now < 2 ^ 64 }
+    ensures { IfSome result (λ symbol. latest [] (each_of 2 bytes_in (records_of occurrence.entry)) ≡ symbol.now) }
+{
+    let mut rest = occurrence;
+    let (range, _) = next_short(&mut rest)?;
+    let (symbol, text) = next_short(&mut rest)?;
+    match symbol.value {
+        WireValue::Bytes(_) if range.field == 1 && symbol.field == 2 && lacks_symbol(rest) => {
+            Some(text)
+        }
+        _ => None,
+    }
+}
+
+/// Whether this is the symbol of an occurrence.
+fn has_symbol(occurrence: Inside<'_>, text: &[u8]) -> bool
+    requires { occurrence.start + length occurrence.bytes.now < 2 ^ 64 }
+    ensures { result ≡ bytes_eq (latest [] (each_of 2 bytes_in (records_of occurrence.entry))) text.now }
+{
+    match short_symbol(occurrence) {
+        Some(symbol) => symbol == text,
+        None => has_text(2, occurrence, text),
+    }
+}
+
 /// Whether an occurrence is of the symbol and one of those that are asked for.
 fn is_sought(occurrence: Inside<'_>, sought: Sought<'_>) -> bool
     requires { occurrence.start + length occurrence.bytes.now < 2 ^ 64 }
     ensures { result ≡ is_sought_occurrence sought.entry.defines sought.entry.symbol.now (occurrence_of (records_of occurrence.entry)) }
 {
-    has_text(2, occurrence, sought.symbol) && is_definition(occurrence) == sought.defines
+    has_symbol(occurrence, sought.symbol) && is_definition(occurrence) == sought.defines
 }
 
 /// Adds the place of an occurrence, if it is asked for.

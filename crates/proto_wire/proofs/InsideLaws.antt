@@ -33,15 +33,19 @@ unfolding payload_records
 none_left at [] none = ap (λ (found : List PayloadRecord × Option WireFault). found.0) (ended 0 at [] refl)
 none_left at (b ∷ bytes) none = absurd (omega arith)
 
--- the first one, and then those behind it
-pub first_then : (at : ℕ) (bytes : List ℕ) (p : PayloadRecord) (after : List ℕ) → IsFirst at bytes (Ok (p, after)) → (payload_records at bytes).0 ≡ p ∷ (payload_records (at + (length bytes - length after)) after).0
-first_then at bytes p after h =
+-- the first one, and then those behind it with their fault
+pub first_whole : (at : ℕ) (bytes : List ℕ) (p : PayloadRecord) (after : List ℕ) → IsFirst at bytes (Ok (p, after))
+    → payload_records at bytes ≡ (p ∷ (payload_records (at + (length bytes - length after)) after).0, (payload_records (at + (length bytes - length after)) after).1)
+first_whole at bytes p after h =
     let count : length bytes ≡ length h.0 + length after = ap length h.1 ∙ length-append h.0 after in
     let here : ℕ = at + (length bytes - length after) in
     let place : here ≡ at + length h.0 = omega (arith, count) in
     let found = payload_records here after in
     let others = subst (λ (start : ℕ). PiecesRead start after found.0 found.1) place (pieces_read here after) in
-    ap (λ (x : List PayloadRecord × Option WireFault). x.0) (found_again at bytes (p ∷ found.0) found.1 (PiecesRead-cons at bytes h.0 after p found.0 found.1 h.1 h.2 others))
+    found_again at bytes (p ∷ found.0) found.1 (PiecesRead-cons at bytes h.0 after p found.0 found.1 h.1 h.2 others)
+
+pub first_then : (at : ℕ) (bytes : List ℕ) (p : PayloadRecord) (after : List ℕ) → IsFirst at bytes (Ok (p, after)) → (payload_records at bytes).0 ≡ p ∷ (payload_records (at + (length bytes - length after)) after).0
+first_then at bytes p after h = ap (λ (x : List PayloadRecord × Option WireFault). x.0) (first_whole at bytes p after h)
 
 -- what the first gives of a field, and then what the others give
 pub each_then : {X : Type 0} (k : ℕ) (gives : PayloadRecord → List X) (pieces : List PayloadRecord) (p : PayloadRecord) (others : List PayloadRecord) → pieces ≡ p ∷ others → each_of k gives pieces ≡ if_field k p.wire (gives p) ++ each_of k gives others

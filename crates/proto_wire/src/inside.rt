@@ -2,11 +2,11 @@
 //! A record that is wrong ends a walk, so these are for bytes that were checked; of any bytes they give what the records in front say.
 ghost use Rattle.std.specs.Prelude.{◌≡◌, ◌<◌, ◌≤◌, ◌+◌, ◌^◌, ◌∷◌, [], pos, FitsSigned, IfNone, IfSome, OnOk, length};
 ghost use Rattle.std.specs.Int.{w32};
-ghost use Rattle.proto_wire.specs.Inside.{records_of};
+ghost use Rattle.proto_wire.specs.Inside.{records_of, IsRecordBefore};
 ghost use Rattle.proto_wire.specs.Messages.{bytes_in, each_of, if_field, latest, number_given, number_in, numbers_in, payload_record, records_inside};
 
 use crate::field::{int32, push_given};
-use crate::record::{WireRecord, WireValue, record_at_front};
+use crate::record::{WireRecord, WireValue, record_at_front, short_record};
 use std::alloc::AllocError;
 
 /// The bytes of a message, and the offset of the first of them in the whole input, in bytes from 0.
@@ -37,6 +37,21 @@ fn next_record<'a>(rest: &mut Inside<'a>) -> Option<(WireRecord, &'a [u8])>
             Some((wire, payload))
         }
     }
+}
+
+/// The next record with its payload, and what follows it, where its key and its number or length take one byte each, as nearly all
+/// do; none else. A caller that knows what mostly stands in a message goes on by these, with no loop and no other form looked for.
+#[inline(always)]
+pub fn next_short<'a>(rest: &mut Inside<'a>) -> Option<(WireRecord, &'a [u8])>
+    requires { rest.old.start + length rest.old.bytes.now < 2 ^ 64 }
+    // It is the first of the records, and the others with their fault are those of what follows.
+    ensures first { IfSome result (λ x. IsRecordBefore rest.old rest.new (payload_record x.0 x.1.now)) }
+    ensures within { rest.new.start + length rest.new.bytes.now ≡ rest.old.start + length rest.old.bytes.now }
+{
+    let (wire, payload, after) = short_record(rest.start, rest.bytes)?;
+    rest.start += rest.bytes.len() - after.len();
+    rest.bytes = after;
+    Some((wire, payload))
 }
 
 /// The message that a record carries, if it is of this field.

@@ -145,7 +145,7 @@ fn first_record(at: usize, bytes: &[u8]) -> Result<(WireRecord, &[u8], &[u8]), W
 /// The record at the front, where its key is one byte and a number or a length of one byte follows, as nearly all are: none of the
 /// varints is walked.
 #[inline(always)]
-fn short_record(at: usize, bytes: &[u8]) -> Option<(WireRecord, &[u8], &[u8])>
+pub(crate) fn short_record(at: usize, bytes: &[u8]) -> Option<(WireRecord, &[u8], &[u8])>
     requires { at + length bytes.now < 2 ^ 64 }
     ensures exact { IfSome result (λ x. IsFirst at bytes.now (Ok (payload_record_view x))) }
     ensures shorter { IfSome result (λ x. length x.2.now < length bytes.now) }

@@ -7,3 +7,4 @@ pub mod RoundTrips
 pub mod PartLaws
 pub mod StreamingLaws
 pub mod CheckedLaws
+mod CleanOccurrences

@@ -1,12 +1,13 @@
 //! Whether bytes mean an index: each message is checked record by record, and none is made.
-ghost use Rattle.std.specs.Prelude.{◌≡◌, IfErr, OnOk, None};
+ghost use Rattle.std.specs.Prelude.{◌≡◌, ◌+◌, ◌<◌, ◌^◌, length, true, IfErr, OnOk, None};
 ghost use Rattle.proto_wire.specs.Faults.{Stops, UnlessMemory};
-ghost use Rattle.proto_wire.specs.Messages.{fault_of, IsFirstFault};
+ghost use Rattle.proto_wire.specs.Messages.{fault_of, field_fault, message_fault, payload_record, IsFirstFault};
 ghost use Rattle.proto_wire.specs.Readings.{payload_records};
 ghost use Rattle.scip_index.specs.Meaning.{document_fault, index_fault, index_of, metadata_fault, occurrence_fault, symbol_fault, tool_fault, Means};
 
 use proto_wire::{
-    Message, WireFault, WireRecord, check_message, check_numbers, check_text, read_message,
+    Inside, Message, WireFault, WireRecord, check_message, check_numbers, check_text, next_short,
+    read_message,
 };
 use std::alloc::Global;
 
@@ -28,6 +29,64 @@ impl Message for CheckedOccurrence {
         check_text(2, wire, payload)?;
         check_numbers(7, wire, payload)
     }
+}
+
+/// How many short records are looked at behind the range and the symbol of an occurrence.
+const MOST_BEHIND: usize = 4;
+
+/// Whether what is left of an occurrence is a few short records without a fault, and no other range or symbol.
+fn is_clean_behind(left: Inside<'_>) -> bool
+    requires { left.start + length left.bytes.now < 2 ^ 64 }
+    ensures { result ≡ true → fault_of occurrence_fault left.entry.start left.entry.bytes.now ≡ None }
+{
+    let mut rest = left;
+    for _ in 0..MOST_BEHIND {
+        if rest.bytes.is_empty() {
+            return true;
+        }
+        let Some((wire, payload)) = next_short(&mut rest) else {
+            return false;
+        };
+        if wire.field < 3 || check_numbers(7, &wire, payload).is_err() {
+            return false;
+        }
+    }
+    false
+}
+
+/// Whether an occurrence is a range, a symbol and a few records more, each with a key and a length of one byte, as most producers write
+/// them, and none has a fault. Fewer tests are made of each record then than by the walk, to which any other occurrence is left.
+fn is_clean_occurrence(occurrence: Inside<'_>) -> bool
+    requires { occurrence.start + length occurrence.bytes.now < 2 ^ 64 }
+    ensures { result ≡ true → fault_of occurrence_fault occurrence.entry.start occurrence.entry.bytes.now ≡ None }
+{
+    let mut rest = occurrence;
+    let Some((range, numbers)) = next_short(&mut rest) else {
+        return false;
+    };
+    let Some((symbol, text)) = next_short(&mut rest) else {
+        return false;
+    };
+    if range.field != 1 || symbol.field != 2 || !is_clean_behind(rest) {
+        return false;
+    }
+    check_numbers(1, &range, numbers).is_ok() && check_text(2, &symbol, text).is_ok()
+}
+
+/// Refuses the first fault of the occurrence that a record of a document carries.
+fn check_occurrence(alloc: Global, wire: &WireRecord, payload: &[u8]) -> Result<(), WireFault>
+    requires { wire.now.body + length payload.now < 2 ^ 64 }
+    ensures clean { let p = payload_record wire.now payload.now in OnOk result (field_fault 2 wire.now (message_fault occurrence_fault p) ≡ None) }
+    ensures err { let p = payload_record wire.now payload.now in IfErr result (λ e. Stops e (field_fault 2 wire.now (message_fault occurrence_fault p))) }
+{
+    let occurrence = Inside {
+        start: wire.body,
+        bytes: payload,
+    };
+    if wire.field == 2 && is_clean_occurrence(occurrence) {
+        return Ok(());
+    }
+    check_message::<CheckedOccurrence>(alloc, 2, wire, payload)
 }
 
 /// A `SymbolInfo` that is checked alone.
@@ -64,7 +123,7 @@ impl Message for CheckedDocument {
 
     fn take(&mut self, alloc: Global, wire: &WireRecord, payload: &[u8]) -> Result<(), WireFault> {
         check_text(1, wire, payload)?;
-        check_message::<CheckedOccurrence>(alloc, 2, wire, payload)?;
+        check_occurrence(alloc, wire, payload)?;
         check_message::<CheckedSymbol>(alloc, 3, wire, payload)?;
         check_text(4, wire, payload)
     }
