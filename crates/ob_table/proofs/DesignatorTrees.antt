@@ -310,3 +310,9 @@ designator_told ts c w d n head at count member old row room looked new input re
     (told_behind ts chosen_outline (λ x s. choosing head at c x (after (uses member) c (added (these_selectors (places head count)) s))) (added (designator_row w c head)) old row new result (loop (ahead ts input)) a
     (told_behind ts chosen_outline (λ x s. choosing head at c x (after (uses member) c s)) (added (these_selectors (places head count))) row room new result (loop (ahead ts input)) b
     (told_behind ts chosen_outline (choosing head at c) (after (uses member) c) room looked new result (loop (ahead ts input)) u t)))))
+
+-- where no selector stands
+pub none_chosen : (ts : List Token) (r : Reader) (c : Context) (head at count : ℕ) → Advances (begins selector_first) r → (old new : Draft) (input : Cursor) →
+    front selector_first (uncons (ahead ts input)) ≡ false → begins selector_first (ahead ts input) ≡ None → ComesTo (λ s. s) old new → (new.refused ≡ false → at ≡ at + count) →
+    Told ts (chosen_outline {dot = dot_at ts input} {n = count}) (choosing head at c) old new input (many (begins selector_first) r (ahead ts input))
+none_chosen ts r c head at count adv old new input e none h known = chosen_all ts r c head at at count adv old old new input input e none (chosen_begun ts r c head at old input) h known

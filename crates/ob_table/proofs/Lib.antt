@@ -5,6 +5,7 @@ pub mod ExpressionTrees
 pub mod FactorTrees
 pub mod DesignatorTrees
 pub mod LoneTokens
+pub mod Operands
 pub mod CallTrees
 pub mod LoneEnds
 pub mod Room

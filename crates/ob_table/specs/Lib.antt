@@ -6,3 +6,4 @@ pub mod Ended
 pub mod DeclarationShapes
 pub mod TypeShapes
 pub mod StatementShapes
+pub mod Operators

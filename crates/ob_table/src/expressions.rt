@@ -1,7 +1,7 @@
 //! Expressions (Oberon-07 report, section 8), from their tokens to their rows. Each function takes the levels that may be nested
 //! in what it reads.
 
-ghost use Rattle.std.specs.Prelude.{true, false, Ok};
+ghost use Rattle.std.specs.Prelude.{◌≡◌, true, false, Ok};
 ghost use Rattle.ob_scan.specs.declared.kind.Kind.TheVariants as kinds;
 ghost use Rattle.ob_tree.specs.Constructs as constructs;
 ghost use Rattle.ob_tree.specs.Marks as marks;
@@ -12,13 +12,15 @@ ghost use Rattle.ob_decls.specs.Drafts.{after};
 ghost use Rattle.ob_parse.specs.Forms.{many, several, optional, unless, nothing, accept_at, expect_at, name_at, begins, seq, prefixed, node};
 ghost use Rattle.ob_parse.specs.Gives.{ahead};
 ghost use Rattle.ob_parse.specs.ReadExpressions.{relation_start, sign_start, add_start, mul_start, element_with, selector_first, selector_with, designator_with, expr_at, sum_at, term_at, factor_at, negated_at};
+ghost use Rattle.ob_parse.specs.Front.{uncons, front};
+ghost use Rattle.ob_table.specs.Operators.{is_operator, operator_first};
 ghost use Rattle.ob_table.specs.Shapes.{compared_outline, compared_piece, sign_outline, sign_piece, terms_outline, terms_piece, factors_outline, factors_piece, set_outline, set_piece, elements_outline, elements_piece, high_outline, high_piece, arguments_outline, arguments_piece};
 ghost use Rattle.ob_table.specs.Choosing.{dot_at, Picked, picked_outline, picking, Chosen, chosen_outline, choosing, Counts, CountsFurther};
 ghost use Rattle.ob_table.specs.Tells.{Tells, TellsBy, Told};
 
 use crate::places::{
     check_places, first_place, keep_place, lone_name, name_ahead, next_place, open_places,
-    selectors_ahead,
+    selectors_from,
 };
 use crate::source::Source;
 use crate::words::{pass_token, pass_word};
@@ -31,10 +33,11 @@ use ob_parse::operators::{
 };
 use ob_parse::stop::Stop;
 use ob_parse::tokens::{accept, beyond, identifier, is_at};
-use ob_scan::Kind;
+use ob_scan::{Kind, Token};
 use ob_tree::token::Leaf;
 
-/// An expression, itself a level.
+/// An expression, itself a level. Most are one factor with no operator behind it: they are told by one look at the token behind,
+/// where `sum` and `term` would each look for operators of their own.
 #[cycle(expressions)]
 pub(crate) fn expression(
     draft: &mut Draft,
@@ -52,9 +55,46 @@ pub(crate) fn expression(
             begins_expression(source.tokens, input),
         ));
     }
-    match sum(draft, inside, source, input, depth - 1) {
-        Ok(here) => compared(draft, inside, source, here, depth - 1),
+    let here = signed(draft, inside, source, input);
+    match factor(draft, inside, source, here, depth - 1) {
+        Ok(here) => {
+            if !is_operator_at(source.tokens, here) {
+                return Ok(here);
+            }
+            match more_factors(draft, inside, source, here, depth - 1) {
+                Ok(here) => match more_terms(draft, inside, source, here, depth - 1) {
+                    Ok(here) => compared(draft, inside, source, here, depth - 1),
+                    Err(stop) => Err(stop),
+                },
+                Err(stop) => Err(stop),
+            }
+        }
         Err(stop) => Err(stop),
+    }
+}
+
+/// Whether this is an operator between factors, terms or simple expressions.
+#[inline(always)]
+fn is_operator(kind: Kind) -> bool
+    ensures { result ≡ is_operator kind }
+{
+    match kind {
+        Kind::Star | Kind::Slash | Kind::Div | Kind::Mod | Kind::Ampersand => true,
+        Kind::Plus | Kind::Minus | Kind::Or => true,
+        Kind::Equals | Kind::Hash | Kind::Less | Kind::LessEquals => true,
+        Kind::Greater | Kind::GreaterEquals | Kind::In | Kind::Is => true,
+        _ => false,
+    }
+}
+
+/// Whether such an operator stands here.
+#[inline(always)]
+fn is_operator_at(tokens: &[Token], input: Cursor) -> bool
+    ensures { result ≡ front operator_first (uncons (ahead tokens.now input)) }
+{
+    match input.next(tokens) {
+        Some((Leaf::Word(kind), _)) => is_operator(kind),
+        _ => false,
     }
 }
 
@@ -170,6 +210,7 @@ fn more_factors(
 }
 
 /// A factor.
+#[inline(always)]
 #[cycle(expressions)]
 fn factor(
     draft: &mut Draft,
@@ -182,7 +223,7 @@ fn factor(
 {
     match input.next(source.tokens) {
         Some((Leaf::Name(number), rest)) => {
-            let (count, _) = selectors_ahead(source, rest.number());
+            let (count, _) = selectors_from(source, rest);
             designator(draft, inside, source, number, rest, depth, false, count)
         }
         Some((Leaf::Value(_, _), rest)) => Ok(pass_token(draft, rest)),
@@ -348,6 +389,7 @@ fn high(
 
 /// A designator, behind its name. The rows of its selectors stand before those of designators inside them, so they get their
 /// places first; how many they are is guessed, and a wrong guess is a refusal.
+#[inline(always)]
 #[cycle(expressions)]
 pub(crate) fn designator(
     draft: &mut Draft,
@@ -370,10 +412,16 @@ pub(crate) fn designator(
     });
     open_places(draft, head, count);
     walk_used(draft, inside, name_ahead(source.tokens, input));
+    // What `selectors` would do where there is none, without the call.
+    if !begins_selector(source.tokens, input) {
+        check_places(draft, at, count, at);
+        return Ok(input);
+    }
     selectors(draft, inside, source, input, depth, head, at, count)
 }
 
 /// The selectors of the designator with this head: so many, whose rows have their places from this one on.
+#[inline(never)]
 #[cycle(expressions)]
 fn selectors(
     draft: &mut Draft,

@@ -14,12 +14,13 @@ use crate::source::Source;
 use ob_decls::draft::Draft;
 use ob_decls::{Selector as SelectorRow, Step, TypeName};
 use ob_parse::cursor::Cursor;
+use ob_parse::operators::begins_selector;
 use ob_parse::tokens::{accept, is_at};
 use ob_scan::{Kind, Token};
 use ob_tree::token::Leaf;
 
 /// How many selectors seem to stand from this token on, and the token behind them. It looks at the brackets that are known.
-pub(crate) fn selectors_ahead(source: &Source, from: u32) -> (u32, u32) {
+fn selectors_ahead(source: &Source, from: u32) -> (u32, u32) {
     let mut at = from;
     let mut count = 0;
     for _ in 0..source.tokens.len() {
@@ -42,6 +43,16 @@ pub(crate) fn selectors_ahead(source: &Source, from: u32) -> (u32, u32) {
         count = u32::saturating_add(count, 1);
     }
     (count, at)
+}
+
+/// The same from this place on. Most names have no selector, which one look tells.
+#[inline(always)]
+pub(crate) fn selectors_from(source: &Source, input: Cursor) -> (u32, u32) {
+    if begins_selector(source.tokens, input) {
+        selectors_ahead(source, input.number())
+    } else {
+        (0, input.number())
+    }
 }
 
 /// A name, if a dot stands here; which one doesn't matter.

@@ -17,7 +17,7 @@ ghost use Rattle.ob_table.specs.Tells.{Tells};
 
 use crate::expressions::{designator, expression};
 use crate::labels::label_ranges;
-use crate::places::selectors_ahead;
+use crate::places::selectors_from;
 use crate::source::Source;
 use crate::words::pass_word;
 use ob_decls::draft::{Context, Draft};
@@ -106,7 +106,7 @@ fn assignment(
 ) -> Result<Cursor, Stop>
     ensures { Tells source.now.tokens.now stmt_outline stmt_piece inside draft.old draft.new result (node constructs.Statement (assign_with (expr_at depth) head) (ahead source.now.tokens.now input)) }
 {
-    let (count, behind) = selectors_ahead(source, input.number());
+    let (count, behind) = selectors_from(source, input);
     let is_written = is_assign(source, behind);
     match designator(draft, inside, source, head, input, depth, is_written, count) {
         Ok(here) => assigned(draft, inside, source, here, depth, is_written),

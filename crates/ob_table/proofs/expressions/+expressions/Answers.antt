@@ -33,24 +33,40 @@ use Rattle.ob_table.specs.Shapes.{compared_outline, compared_piece, set_outline,
 use Rattle.ob_table.specs.Choosing.{dot_at, picked_outline, picking}
 use Rattle.ob_table.proofs.Combine.{told_absent, failed_prefixed}
 use Rattle.ob_table.proofs.CallTrees.{list_told, further_begun, further_more, further_done, some_arguments_told, call_told}
-use Rattle.ob_table.proofs.DesignatorTrees.{FirstNamed, chosen_begun, chosen_next, chosen_all, selector_so, index_told, designator_told}
+use Rattle.ob_table.proofs.DesignatorTrees.{FirstNamed, chosen_begun, chosen_next, chosen_all, none_chosen, selector_so, index_told, designator_told}
 use Rattle.ob_table.proofs.Lists.{Any, pieces_begun, pieces_behind, pieces_done, listing_smaller, listing_failed}
-use Rattle.ob_table.proofs.ExpressionTrees.{expr_deeper, expr_told, expr_failed, compared_told, sum_told, sum_failed, term_told, term_failed}
+use Rattle.ob_table.proofs.ExpressionTrees.{expr_deeper, compared_told, sum_told, sum_failed, term_told, term_failed}
 use Rattle.ob_table.proofs.FactorTrees.{some, told_factor, leaf_told, name_told, set_told, group_told, not_told, between_failed, closed, some_elements_told, element_list_told, element_told, element_failed, several_failed, high_told}
+use Rattle.ob_table.proofs.Operands.{lone_factor_told, operated_told, factor_fails, factors_fail, terms_fail}
 use Rattle.ob_table.proofs.expressions.+expressions.Goals as goal
 
 pub expression-returns-then-depth-eq0 : goal.expression-returns-then-depth-eq0
 unfolding expr_at limit_at
 expression-returns-then-depth-eq0 t c = grind arith
 
-pub expression-returns-in-Ok : goal.expression-returns-in-Ok
-expression-returns-in-Ok t c =
+pub expression-returns-then-not-is_operator_at : goal.expression-returns-then-not-is_operator_at
+expression-returns-then-not-is_operator_at t c =
     rw (expr_deeper c.args.depth (ahead c.args.source.now.tokens.now c.args.input) c.if-depth-eq0.false)
-    (expr_told c.args.source.now.tokens.now c.args.inside (c.args.depth - 1) _ _ _ c.args.input c.in-Ok.here _ c.in-Ok.ensures c.compared.ensures)
+    (lone_factor_told c.args.source.now.tokens.now c.args.inside (c.args.depth - 1) _ _ _ c.args.input _ c.in-Ok.here c.signed-here.ensures c.in-Ok.ensures (sym c.is_operator_at.ensures ∙ c.if-not-is_operator_at.true))
+
+pub expression-returns-in-Ok-more_terms : goal.expression-returns-in-Ok-more_terms
+expression-returns-in-Ok-more_terms t c =
+    rw (expr_deeper c.args.depth (ahead c.args.source.now.tokens.now c.args.input) c.if-depth-eq0.false)
+    (operated_told c.args.source.now.tokens.now c.args.inside (c.args.depth - 1) _ _ _ _ _ _ c.args.input _ c.in-Ok.here c.in-Ok-more_factors.here c.in-Ok-more_terms.here _ c.signed-here.ensures c.in-Ok.ensures c.in-Ok-more_factors.ensures c.in-Ok-more_terms.ensures c.compared.ensures)
+
+pub expression-returns-in-Err-more_terms : goal.expression-returns-in-Err-more_terms
+expression-returns-in-Err-more_terms t c =
+    rw (expr_deeper c.args.depth (ahead c.args.source.now.tokens.now c.args.input) c.if-depth-eq0.false)
+    (terms_fail c.args.source.now.tokens.now c.args.inside (c.args.depth - 1) _ _ _ _ _ c.more_terms.new.draft c.args.input _ c.in-Ok.here c.in-Ok-more_factors.here c.signed-here.ensures c.in-Ok.ensures c.in-Ok-more_factors.ensures c.in-Err-more_terms.ensures)
+
+pub expression-returns-in-Err-more_factors : goal.expression-returns-in-Err-more_factors
+expression-returns-in-Err-more_factors t c =
+    rw (expr_deeper c.args.depth (ahead c.args.source.now.tokens.now c.args.input) c.if-depth-eq0.false)
+    (factors_fail c.args.source.now.tokens.now c.args.inside (c.args.depth - 1) _ _ _ _ c.more_factors.new.draft c.args.input _ c.in-Ok.here c.signed-here.ensures c.in-Ok.ensures c.in-Err-more_factors.ensures)
 
 pub expression-returns-in-Err : goal.expression-returns-in-Err
 expression-returns-in-Err t c =
-    rw (expr_deeper c.args.depth (ahead c.args.source.now.tokens.now c.args.input) c.if-depth-eq0.false) (expr_failed c.args.source.now.tokens.now (c.args.depth - 1) _ c.args.input c.in-Err.ensures)
+    rw (expr_deeper c.args.depth (ahead c.args.source.now.tokens.now c.args.input) c.if-depth-eq0.false) (factor_fails c.args.source.now.tokens.now c.args.inside (c.args.depth - 1) _ _ _ c.args.input _ c.signed-here.ensures c.in-Err.ensures)
 
 pub compared-returns-in-None : goal.compared-returns-in-None
 compared-returns-in-None t c =
@@ -256,6 +272,13 @@ high-returns-in-None t c =
 pub high-returns-in-Some : goal.high-returns-in-Some
 high-returns-in-Some t c =
     high_told c.args.source.now.tokens.now c.args.inside c.args.depth _ _ _ c.args.input c.in-Some.rest _ (sym c.accept.ensures ∙ ap (skipped c.args.source.now.tokens.now kinds.DotDot) c.in-Some.is) c.pass.ensures c.expression.ensures
+
+pub designator-returns-then-not-begins_selector : goal.designator-returns-then-not-begins_selector
+designator-returns-then-not-begins_selector t c =
+    let none : front selector_first (uncons (ahead c.args.source.now.tokens.now c.args.input)) ≡ false = sym c.begins_selector.ensures ∙ c.if-not-begins_selector.true in
+    designator_told c.args.source.now.tokens.now c.args.inside c.args.is_written c.args.depth c.args.number _ _ _ _ _ _ _ _ c.check_places.new.draft c.args.input (Ok c.args.input) refl c.first_place-at.ensures c.add_designator.ensures c.open_places.ensures c.name_ahead.ensures c.walk_used.ensures
+    (none_chosen c.args.source.now.tokens.now (selector_with (expr_at c.args.depth)) c.args.inside _ c.first_place-at.result c.args.count (selector_advances c.args.depth _ (expr_at_sound c.args.depth)) _ _ c.args.input none
+    (has_not_begun selector_first (ahead c.args.source.now.tokens.now c.args.input) none) c.check_places.ensures.stage c.check_places.ensures.count)
 
 pub designator-returns : goal.designator-returns
 designator-returns t c =
