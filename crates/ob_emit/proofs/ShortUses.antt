@@ -16,6 +16,10 @@ use Rattle.ob_emit.specs.Places.{front_of, range_field, use_told}
 varint-two : (n : ℕ) → 128 ≤ n → n < 16384 → varint n ≡ (n % 128 + 128) ∷ n / 128 ∷ []
 varint-two n le lt = varint-large n le (omega arith) ∙ ap (λ (bytes : List ℕ). (n % 128 + 128) ∷ bytes) (varint-small (n / 128) (omega arith))
 
+-- and of at most 21
+varint-three : (n : ℕ) → 16384 ≤ n → n < 2097152 → varint n ≡ (n % 128 + 128) ∷ (n / 128 % 128 + 128) ∷ n / 128 / 128 ∷ []
+varint-three n le lt = varint-large n (omega arith) (omega arith) ∙ ap (λ (bytes : List ℕ). (n % 128 + 128) ∷ bytes) (varint-two (n / 128) (omega arith) (omega arith))
+
 -- the field of a range on one line of the first 128
 pub range_low : (line column end : ℕ) → line < 128 → column < 128 → end < 128 → range_field line column end ≡ 10 ∷ 3 ∷ line ∷ column ∷ end ∷ []
 range_low line column end l c e =
@@ -26,6 +30,12 @@ pub range_high : (line column end : ℕ) → 128 ≤ line → line < 16384 → c
     range_field line column end ≡ 10 ∷ 4 ∷ (line % 128 + 128) ∷ line / 128 ∷ column ∷ end ∷ []
 range_high line column end g l c e =
     rw (varint-two line g l, varint-small column c, varint-small end e, varint-small 10 (omega arith), varint-small 4 (omega arith)) refl
+
+-- on one of the first 2,097,152
+pub range_far : (line column end : ℕ) → 16384 ≤ line → line < 2097152 → column < 128 → end < 128 →
+    range_field line column end ≡ 10 ∷ 5 ∷ (line % 128 + 128) ∷ (line / 128 % 128 + 128) ∷ line / 128 / 128 ∷ column ∷ end ∷ []
+range_far line column end g l c e =
+    rw (varint-three line g l, varint-small column c, varint-small end e, varint-small 10 (omega arith), varint-small 5 (omega arith)) refl
 
 -- what stands in front of a payload of less than 128 bytes
 head_short : (count : ℕ) → count < 128 → head_of 2 count ≡ 18 ∷ count ∷ []
@@ -42,6 +52,12 @@ pub front_high : (line column end rest : ℕ) → 128 ≤ line → line < 16384 
 front_high line column end rest g l c e r =
     let count : length (range_field line column end) + rest ≡ rest + 6 = ap (λ (bytes : List ℕ). length bytes + rest) (range_high line column end g l c e) ∙ omega arith in
     ap₂ (λ (a b : List ℕ). a ++ b) (ap (head_of 2) count ∙ head_short (rest + 6) (omega arith)) (range_high line column end g l c e)
+
+pub front_far : (line column end rest : ℕ) → 16384 ≤ line → line < 2097152 → column < 128 → end < 128 → rest < 120 →
+    front_of line column end rest ≡ 18 ∷ (rest + 7) ∷ 10 ∷ 5 ∷ (line % 128 + 128) ∷ (line / 128 % 128 + 128) ∷ line / 128 / 128 ∷ column ∷ end ∷ []
+front_far line column end rest g l c e r =
+    let count : length (range_field line column end) + rest ≡ rest + 7 = ap (λ (bytes : List ℕ). length bytes + rest) (range_far line column end g l c e) ∙ omega arith in
+    ap₂ (λ (a b : List ℕ). a ++ b) (ap (head_of 2) count ∙ head_short (rest + 7) (omega arith)) (range_far line column end g l c e)
 
 -- ---- the length of what stands behind the range
 

@@ -39,10 +39,10 @@ shown_told s = record { symbol = s.symbol.now; display_name = s.display_name.now
 abbrev pub use_told : ℕ → ℕ → ℕ → List ℕ → ℕ → PlainOccurrence
 use_told line column end text role = record { range = pos line ∷ pos column ∷ pos end ∷ []; symbol = text; symbol_roles = pos role; enclosing_range = [] }
 
--- it stands within one of the first 16,384 lines and its first 128 bytes, and its symbol and its role take few bytes
+-- it stands within one of the first 2,097,152 lines and its first 128 bytes, and its symbol and its role take few bytes
 pub record IsShort (s : Span) (size role : ℕ) : Type 0 where
   pub one_line : s.last ≡ s.line
-  pub line : s.line < 16384
+  pub line : s.line < 2097152
   pub column : s.column < 128
   pub end : s.end < 128
   pub some : 0 < size

@@ -16,7 +16,7 @@ pub(crate) fn is_short(span: &Span, symbol: &str, role: u8) -> bool
     if span.last != span.line {
         return false;
     }
-    if span.line >= 16_384 {
+    if span.line >= 2_097_152 {
         return false;
     }
     if span.column >= 128 {
@@ -47,7 +47,7 @@ fn push_front(
     size: u8,
     rest: u8,
 ) -> Result<(), AllocError>
-    requires line { line < 16384 }
+    requires line { line < 2097152 }
     requires column { column < 128 }
     requires end { end < 128 }
     requires rest { rest < 120 }
@@ -56,9 +56,25 @@ fn push_front(
     let (column, end) = (column as u8, end as u8);
     if line < 128 {
         out.extend_from_slice(&[18, rest + 5, 10, 3, line as u8, column, end, 18, size])
-    } else {
+    } else if line < 16_384 {
         let (low, high) = ((line % 128) as u8 + 128, (line / 128) as u8);
         out.extend_from_slice(&[18, rest + 6, 10, 4, low, high, column, end, 18, size])
+    } else {
+        let (low, middle) = ((line % 128) as u8 + 128, (line / 128 % 128) as u8 + 128);
+        let high = (line / 128 / 128) as u8;
+        out.extend_from_slice(&[
+            18,
+            rest + 7,
+            10,
+            5,
+            low,
+            middle,
+            high,
+            column,
+            end,
+            18,
+            size,
+        ])
     }
 }
 
