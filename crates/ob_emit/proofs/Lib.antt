@@ -25,3 +25,5 @@ pub mod Texting
 pub mod ShortUses
 pub mod LinesNear
 pub mod RowsMarked
+pub mod InPlace
+pub mod NearRows

@@ -8,6 +8,7 @@ ghost use Rattle.ob_types.specs.World.{declarer_of, owner_at};
 ghost use Rattle.ob_emit.specs.Made.{step_told};
 ghost use Rattle.ob_emit.specs.Symbols.{is_local, own_step, own_step_by, own_steps};
 
+use crate::near_rows::declarer_near;
 use crate::steps::{Nested, StepRow, step_in_block, step_in_record};
 use ob_decls::{Declared, Declarer, Import, Table};
 use ob_types::Types;
@@ -35,11 +36,11 @@ pub(crate) fn import_at<'a>(types: &Types<'a>, item: u32) -> Option<&'a Import>
     types.table().imports().get(item as usize)
 }
 
-/// Whether an identifier is declared in another block than the module's.
-pub(crate) fn is_local(types: &Types<'_>, declared: &Declared) -> bool
+/// Whether an identifier is declared in another block than the module's. Its construct is sought first near the place of the last one.
+pub(crate) fn is_local(types: &Types<'_>, near: &mut usize, declared: &Declared) -> bool
     ensures { result ≡ is_local types.now declared.now }
 {
-    match declarer_from(types.table(), declared.declared_by) {
+    match declarer_near(types.table(), near, declared.declared_by) {
         Some(by) => by.block != 0,
         None => false,
     }

@@ -66,19 +66,21 @@ fn block_text(
     )
 }
 
-/// The text of the symbol of a declaration, before which so many local ones stand.
+/// The text of the symbol of a declaration, before which so many local ones stand, told whether it is local.
 fn row_text(
     alloc: Global,
     types: &Types<'_>,
     front: &str,
     row: &Declared,
+    local: bool,
     locals: usize,
 ) -> Result<Option<String>, AllocError>
-    requires { HaveNames types.now }
+    requires named { HaveNames types.now }
+    requires local { local ≡ is_local types.now row.now }
     ensures { (package_name : List ℕ) (i : ℕ) → front.now ≡ front_text package_name → locals ≡ count_by (is_local types.now) (take i types.now.rows.declared) →
         IfOk result (λ text. option_map string_bytes text ≡ option_map plain_text (symbol_at types.now package_name i row.now)) }
 {
-    if is_local(types, row) {
+    if local {
         Ok(Some(local_text(alloc, locals)?))
     } else {
         block_text(alloc, types, front, row.number)
@@ -95,12 +97,13 @@ fn declared_texts(
     ensures { (package_name : List ℕ) → front.now ≡ front_text package_name → IfOk result (λ v. AreMade types.now package_name (length types.now.rows.declared) (map (option_map string_bytes) v.items)) }
 {
     let declared = types.table().declared();
-    let mut texts = Vec::new(alloc);
-    let mut locals = 0;
+    let mut texts = Vec::with_capacity(alloc, declared.len())?;
+    let (mut locals, mut near) = (0, 0);
     for row in declared {
-        let text = row_text(alloc, types, front, row, locals)?;
+        let local = is_local(types, &mut near, row);
+        let text = row_text(alloc, types, front, row, local, locals)?;
         texts.push(text)?;
-        if is_local(types, row) {
+        if local {
             locals += 1;
         }
     }

@@ -1,12 +1,12 @@
 //! The pieces of a document as bytes: its occurrences and its symbols, each written from what is borrowed.
-ghost use Rattle.std.specs.Prelude.{◌≡◌, ◌++◌, OnOk};
-ghost use Rattle.proto_wire.specs.Records.{IsField};
+ghost use Rattle.std.specs.Prelude.{◌≡◌, ◌<◌, ◌++◌, OnOk};
 ghost use Rattle.proto_wire.specs.Writing.{packed_fields, spelled_fields};
 ghost use Rattle.scip_index.specs.Written.{written_occurrence, written_symbol};
 ghost use Rattle.ob_emit.specs.Places.{numbers_of, place_told, shown_told};
 
+use crate::in_place::put_numbers;
 use crate::places::Range;
-use proto_wire::{Scratch, Written, put_number, put_packed, put_text};
+use proto_wire::{Scratch, Written, put_number, put_text};
 use std::alloc::AllocError;
 
 /// An occurrence (scip.proto, `Occurrence`).
@@ -32,13 +32,14 @@ fn put_range(
     field: u32,
     range: &Range,
 ) -> Result<(), AllocError>
-    requires { IsField field }
+    requires some { 0 < field }
+    requires few { field < 16 }
     ensures { OnOk result (out.new.items ≡ out.old.items ++ spelled_fields (packed_fields field (numbers_of range.now))) }
 {
     match range {
         Range::Nowhere => Ok(()),
-        Range::OnLine(numbers) => put_packed(scratch, out, field, numbers),
-        Range::OverLines(numbers) => put_packed(scratch, out, field, numbers),
+        Range::OnLine(numbers) => put_numbers(scratch, out, field, numbers),
+        Range::OverLines(numbers) => put_numbers(scratch, out, field, numbers),
     }
 }
 

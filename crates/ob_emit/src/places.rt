@@ -5,7 +5,7 @@ ghost use Rattle.ob_scan.specs.Spelling.{AreInText};
 ghost use Rattle.ob_emit.specs.Documents.{column_of, construct_range, enclosing_range, line_number, range_of, span_of};
 ghost use Rattle.ob_emit.specs.Places.{numbers_in, numbers_of, SpanFits};
 
-use crate::own::declarer_of;
+use crate::near_rows::{Near, declarer_of_near};
 use crate::ranges::ends_of;
 use crate::text_lines::LineTable;
 use ob_scan::Position;
@@ -73,16 +73,16 @@ fn span_of(types: &Types<'_>, lines: &LineTable, near: &mut u32, first: usize, l
     }
 }
 
-/// The range of the construct that declares a target, sought first near a line.
-fn construct_range(types: &Types<'_>, lines: &LineTable, near: u32, target: Target) -> Range
+/// The range of the construct that declares a target, sought first near what a walk found last.
+fn construct_range(types: &Types<'_>, lines: &LineTable, near: &mut Near, target: Target) -> Range
     requires in_text { AreInText types.now.bytes types.now.tokens }
     requires short { length types.now.bytes < 2 ^ 31 }
     requires lined { lines.now ≡ line_starts types.now.bytes }
     ensures { numbers_of result ≡ construct_range types.now target }
 {
-    let mut line = near;
+    let mut line = near.line;
     match target {
-        Target::Declared(number) => match declarer_of(types, number) {
+        Target::Declared(number) => match declarer_of_near(types, near, number) {
             Some(by) => {
                 let (first, last) = (by.first as usize, by.last as usize);
                 range_by(&span_of(types, lines, &mut line, first, last))
@@ -101,11 +101,11 @@ fn construct_range(types: &Types<'_>, lines: &LineTable, near: u32, target: Targ
     }
 }
 
-/// The range of the whole declaration, if an identifier is declared here, sought first near a line.
+/// The range of the whole declaration, if an identifier is declared here, sought first near what a walk found last.
 pub(crate) fn enclosing_range(
     types: &Types<'_>,
     lines: &LineTable,
-    near: u32,
+    near: &mut Near,
     reference: &Reference,
 ) -> Range
     requires in_text { AreInText types.now.bytes types.now.tokens }

@@ -1,7 +1,7 @@
 //! The document of a module as the bytes of its record. No message is made on the way: an occurrence is put from numbers and from
 //! the text of its symbol, which is kept once for each target, so that it takes no memory of its own. The bytes are those of what
 //! `documents` answers.
-ghost use Rattle.std.specs.Prelude.{◌≡◌, ◌++◌, ◌<◌, ◌^◌, ◌↔◌, ℕ, List, IfOk, OnOk, Err, length, map, pos, true};
+ghost use Rattle.std.specs.Prelude.{◌≡◌, ◌++◌, ◌<◌, ◌^◌, ◌↔◌, ℕ, List, IfOk, OnOk, Err, length, map, pos, replicate, true};
 ghost use Rattle.std.specs.List.{filter_map};
 ghost use Rattle.std.specs.Option.{option_to_list};
 ghost use Rattle.ob_scan.specs.Position.{line_starts};
@@ -18,15 +18,18 @@ ghost use Rattle.ob_emit.specs.Named.{AreOfNames, HaveNames, IsName};
 
 use crate::EmitFault;
 use crate::documents::is_bad;
+use crate::in_place::push_in_place;
+use crate::near_rows::Near;
 use crate::own_texts::Texts;
 use crate::path::name_of;
 use crate::pieces::{Place, Shown};
 use crate::places::{enclosing_range, range_by, token_span};
+use crate::record_head::{record_behind, room_for_head};
 use crate::text_lines::{LineTable, line_table};
 use crate::uses::{is_short, push_use};
 use ob_targets::Reference;
 use ob_types::Types;
-use proto_wire::{Scratch, Writer, push_message, put_number, put_text};
+use proto_wire::{Scratch, put_number, put_text};
 use std::alloc::{AllocError, Global};
 
 /// Puts the record of an occurrence of this symbol.
@@ -35,7 +38,7 @@ fn push_place(
     out: &mut Vec<u8>,
     types: &Types<'_>,
     lines: &LineTable,
-    near: &mut u32,
+    near: &mut Near,
     reference: &Reference,
     symbol: &str,
 ) -> Result<(), AllocError>
@@ -45,7 +48,7 @@ fn push_place(
     ensures { OnOk result (out.new.items ≡ out.old.items ++ spelled (payload_field 2 (written_occurrence
         (record { range = range_of types.now reference.now.number; symbol = symbol.now; symbol_roles = pos reference.now.role; enclosing_range = enclosing_range types.now reference.now })))) }
 {
-    let span = token_span(types, lines, near, reference.number);
+    let span = token_span(types, lines, &mut near.line, reference.number);
     if is_short(&span, symbol, reference.role) {
         return push_use(out, &span, symbol, reference.role);
     }
@@ -53,9 +56,9 @@ fn push_place(
         range: range_by(&span),
         symbol,
         symbol_roles: i32::from(reference.role),
-        enclosing_range: enclosing_range(types, lines, *near, reference),
+        enclosing_range: enclosing_range(types, lines, near, reference),
     };
-    push_message(scratch, out, 2, &place)
+    push_in_place(scratch, out, 2, &place)
 }
 
 /// Puts the record of an identifier's occurrence, if it has one, where the text of its symbol has to be made.
@@ -66,7 +69,7 @@ fn push_unknown(
     types: &Types<'_>,
     texts: &Texts<'_>,
     lines: &LineTable,
-    near: &mut u32,
+    near: &mut Near,
     reference: &Reference,
 ) -> Result<(), AllocError>
     requires in_text { AreInText types.now.bytes types.now.tokens }
@@ -91,7 +94,7 @@ fn push_kept(
     types: &Types<'_>,
     texts: &Texts<'_>,
     lines: &LineTable,
-    near: &mut u32,
+    near: &mut Near,
     reference: &Reference,
     slot: usize,
 ) -> Result<(), AllocError>
@@ -118,7 +121,7 @@ fn push_occurrence<'a>(
     types: &Types<'a>,
     texts: &mut Texts<'a>,
     lines: &LineTable,
-    near: &mut u32,
+    near: &mut Near,
     reference: &Reference,
 ) -> Result<(), AllocError>
     requires in_text { AreInText types.now.bytes types.now.tokens }
@@ -154,7 +157,7 @@ fn push_occurrences<'a>(
         OnOk result (out.new.items ≡ out.old.items ++ spelled_fields (payload_fields 2 (map written_occurrence (filter_map (occurrence types.now package_name) refs.now)))) }
 {
     let lines = line_table(alloc, types.bytes())?;
-    let mut near = 0;
+    let mut near = Near::new();
     for reference in refs {
         push_occurrence(
             alloc, scratch, out, types, texts, &lines, &mut near, reference,
@@ -178,7 +181,7 @@ fn push_shown(
         symbol,
         display_name: name_of(types.text(reference.number)),
     };
-    push_message(scratch, out, 3, &shown)
+    push_in_place(scratch, out, 3, &shown)
 }
 
 /// Puts the record of the symbol of what an identifier declares, if that has one, where its text has to be made.
@@ -272,39 +275,30 @@ fn push_document<'a>(
     put_number(out, 6, 1)
 }
 
-/// The bytes of a module's document at this path, in a package that no symbol's text refuses.
-fn bytes_in(
+/// Room for an occurrence, so that the bytes mostly needn't be moved as they grow.
+const OCCURRENCE: usize = 48;
+
+/// The bytes of a module's document at this path behind so much room, in a package that no symbol's text refuses.
+fn bytes_behind(
     alloc: Global,
     path: &str,
     types: &Types<'_>,
     refs: &[Reference],
     package_name: &str,
+    room: usize,
 ) -> Result<Vec<u8>, AllocError>
     requires in_text { AreInText types.now.bytes types.now.tokens }
     requires short { length types.now.bytes < 2 ^ 31 }
     requires named { HaveNames types.now }
     requires of_names { AreOfNames types.now refs.now }
-    ensures { IfOk result (λ v. v.items ≡ written_document (document_of types.now path.now package_name.now refs.now)) }
+    ensures { IfOk result (λ v. v.items ≡ replicate room 0 ++ written_document (document_of types.now path.now package_name.now refs.now)) }
 {
-    /// Room for an occurrence, so that the bytes mostly needn't be moved as they grow.
-    const OCCURRENCE: usize = 48;
     let mut texts = Texts::begun(alloc, types, package_name)?;
-    let mut bytes = Vec::with_capacity(alloc, refs.len().saturating_mul(OCCURRENCE))?;
+    let most = refs.len().saturating_mul(OCCURRENCE).saturating_add(room);
+    let mut bytes = Vec::with_capacity(alloc, most)?;
+    bytes.resize(room, 0)?;
     push_document(alloc, &mut bytes, path, types, &mut texts, refs)?;
     Ok(bytes)
-}
-
-/// The record of a document with these bytes.
-fn record_of(alloc: Global, bytes: &[u8]) -> Result<Vec<u8>, AllocError>
-    ensures { IfOk result (λ v. v.items ≡ spelled (payload_field 2 bytes.now)) }
-{
-    /// Room for the key and the length.
-    const HEAD: usize = 11;
-    let mut record = Vec::with_capacity(alloc, bytes.len().saturating_add(HEAD))?;
-    match Writer::new().message(alloc, 2, bytes, &mut record) {
-        Ok(()) => Ok(record),
-        Err(_) => Err(AllocError),
-    }
 }
 
 /// The record of a module's document at this path, in a package that no symbol's text refuses.
@@ -321,8 +315,9 @@ fn record_in(
     requires of_names { AreOfNames types.now refs.now }
     ensures { IfOk result (λ v. v.items ≡ document_part (document_of types.now path.now package_name.now refs.now)) }
 {
-    let bytes = bytes_in(alloc, path, types, refs, package_name)?;
-    record_of(alloc, bytes.as_slice())
+    let room = room_for_head(refs.len().saturating_mul(OCCURRENCE));
+    let bytes = bytes_behind(alloc, path, types, refs, package_name, room)?;
+    record_behind(alloc, bytes, room)
 }
 
 /// The record of the document that `document` answers, as it stands in an index (scip.proto, `Index.documents`): its key, its

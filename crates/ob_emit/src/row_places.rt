@@ -67,7 +67,7 @@ fn place_between(declared: &[Declared], low: usize, high: usize, number: u32) ->
 }
 
 /// The place among all of the declaration of this number, if there is one.
-fn place_by_number(declared: &[Declared], number: u32) -> Option<usize>
+pub(crate) fn place_by_number(declared: &[Declared], number: u32) -> Option<usize>
     requires { AscendBy (λ (d : Declared). d.number) declared.now }
     ensures found { IfSome result (IsPlaceBy (λ (d : Declared). d.number) declared.now number) }
     ensures none { IfNone result (HasNoneBy (λ (d : Declared). d.number) declared.now number) }

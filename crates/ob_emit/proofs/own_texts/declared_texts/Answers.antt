@@ -10,7 +10,7 @@ use Rattle.ob_decls.specs.Parts.{Rows}
 use Rattle.ob_emit.specs.Made.{AreMade}
 use Rattle.ob_emit.proofs.Texting.{before_local, before_none, before_other}
 use Rattle.ob_emit.proofs.own_texts.declared_texts.Goals as goal
-use Rattle.ob_emit.proofs.own_texts.declared_texts.Goals.{then-is_local, else-is_local}
+use Rattle.ob_emit.proofs.own_texts.declared_texts.Goals.{then-local, else-local}
 
 pub loop-row-preserved : goal.loop-row-preserved
 loop-row-preserved c =
@@ -23,13 +23,13 @@ loop-row-preserved c =
     let made = map (option_map string_bytes) c.loop-row.texts.items in
     let text = option_map string_bytes c.in_ok-text.text in
     rw (c.in_ok-push.ensures.items, map_push (option_map string_bytes) c.loop-row.texts.items c.in_ok-text.text) (
-    elim c.if-is_local.branch [
-      | then-is_local w' ↦
+    elim c.if-local.branch [
+      | then-local w' ↦
           rw w'.locals-is
-          (before_local w c.args.front.now n c.loop-row.locals made row text c.loop-row.invariant at (λ p f. c.in_ok-text.ensures p n f c.loop-row.invariant.counted) (sym c.is_local.ensures ∙ w'.if-is_local.true))
-      | else-is_local w' ↦
+          (before_local w c.args.front.now n c.loop-row.locals made row text c.loop-row.invariant at (λ p f. c.in_ok-text.ensures p n f c.loop-row.invariant.counted) (sym c.is_local-local.ensures ∙ w'.if-local.true))
+      | else-local w' ↦
           rw w'.locals-is
-          (before_other w c.args.front.now n c.loop-row.locals made row text c.loop-row.invariant at (λ p f. c.in_ok-text.ensures p n f c.loop-row.invariant.counted) (sym c.is_local.ensures ∙ w'.if-is_local.false))
+          (before_other w c.args.front.now n c.loop-row.locals made row text c.loop-row.invariant at (λ p f. c.in_ok-text.ensures p n f c.loop-row.invariant.counted) (sym c.is_local-local.ensures ∙ w'.if-local.false))
     ])
 
 pub returns : goal.returns
@@ -40,4 +40,4 @@ returns c = λ p f.
     subst (λ (n : ℕ). AreMade w p n (map (option_map string_bytes) c.loop-row.texts.items)) all (c.loop-row.invariant.each p f)
 
 pub loop-row-init : goal.loop-row-init
-loop-row-init c = rw c.new-texts.ensures.items (before_none c.args.types.now c.args.front.now)
+loop-row-init c = rw c.in_ok-texts.ensures.items (before_none c.args.types.now c.args.front.now)

@@ -1,0 +1,14 @@
+-- The construct of the identifier that was found.
+use Rattle.std.proofs.Common.{◌∙◌}
+use Rattle.ob_decls.specs.Declaring.{rows_in}
+use Rattle.ob_emit.proofs.Declarers.{declarer_none, declarer_some}
+use Rattle.ob_emit.proofs.near_rows.declarer_of_near.Goals as goal
+
+pub returns-in_err-declared : goal.returns-in_err-declared
+returns-in_err-declared c =
+    c.from_residual.ensures ∙ declarer_none c.args.types.now (rows_in c.table.result.now) c.args.number c.declared_near.result c.table.ensures c.declared_near.ensures c.in_err-declared.was
+
+pub returns : goal.returns
+returns c =
+    declarer_some c.args.types.now (rows_in c.table.result.now) (rows_in c.table-2.result.now) c.args.number c.in_ok-declared.declared c.declared_near.result c.declarer_near.result
+    c.table.ensures c.declared_near.ensures c.in_ok-declared.was c.table-2.ensures c.declarer_near.ensures

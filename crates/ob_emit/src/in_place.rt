@@ -1,0 +1,97 @@
+//! Records written where they stand, without a buffer: their length is put in its place once it is known. What `push_message` and
+//! `put_packed` of `proto_wire` put, byte for byte.
+ghost use Rattle.std.specs.Prelude.{◌≡◌, ◌<◌, ◌+◌, ◌++◌, ◌∷◌, [], ℕ, List, OnOk, length, vec_len};
+ghost use Rattle.proto_wire.specs.Varints.{varint};
+ghost use Rattle.proto_wire.specs.Writing.{packed_fields, packing, payload_field, spelled, spelled_fields};
+
+use proto_wire::{Scratch, Written, push_message};
+use std::alloc::AllocError;
+
+/// Puts the length of what stands behind a key and one free byte, of which the key stands at this place.
+fn settle(out: &mut Vec<u8>, start: usize, size: usize) -> Result<(), AllocError>
+    requires there { start + 1 < vec_len out.old }
+    requires few { size < 16384 }
+    ensures { (old payload : List ℕ) (key : ℕ) → out.old.items ≡ (old ++ key ∷ 0 ∷ []) ++ payload → start ≡ length old →
+        OnOk result (out.new.items ≡ (old ++ key ∷ varint size) ++ payload) }
+{
+    if size < 128 {
+        out[start + 1] = size as u8;
+        return Ok(());
+    }
+    out[start + 1] = (size % 128) as u8 + 128;
+    out.insert(start + 2, (size / 128) as u8)?;
+    Ok(())
+}
+
+/// Puts a message behind the bytes as a field of this number, as `push_message` does.
+pub(crate) fn push_in_place<M: Written>(
+    scratch: &mut Scratch,
+    out: &mut Vec<u8>,
+    field: u32,
+    message: &M,
+) -> Result<(), AllocError>
+    requires some { 0 < field }
+    requires few { field < 16 }
+    ensures { OnOk result (out.new.items ≡ out.old.items ++ spelled (payload_field field (M.written message.now))) }
+{
+    /// From this length on a message goes through a buffer.
+    const LONG: usize = 16_384;
+    let start = out.len();
+    out.extend_from_slice(&[field as u8 * 8 + 2, 0])?;
+    message.push_into(scratch, out)?;
+    let size = out.len() - start - 2;
+    if size < LONG {
+        return settle(out, start, size);
+    }
+    out.truncate(start);
+    push_message(scratch, out, field, message)
+}
+
+/// Puts a number behind the bytes, in its shortest form.
+pub(crate) fn push_varint(out: &mut Vec<u8>, number: u64) -> Result<(), AllocError>
+    ensures { OnOk result (out.new.items ≡ out.old.items ++ varint number) }
+{
+    let mut rest = number;
+    while rest >= 128 {
+        out.push((rest % 128) as u8 + 128)?;
+        rest /= 128;
+    }
+    out.push(rest as u8)?;
+    Ok(())
+}
+
+/// Numbers in a row, each a varint.
+#[derive(Clone, Copy)]
+struct Numbers<'a> {
+    numbers: &'a [i32],
+}
+
+impl Written for Numbers<'_> {
+    ghost written = { λ n. packing n.numbers.now };
+
+    ghost fits = { λ _. Unit {0} };
+
+    fn push_into(&self, _scratch: &mut Scratch, out: &mut Vec<u8>) -> Result<(), AllocError> {
+        for number in self.numbers {
+            push_varint(out, i64::from(*number).cast_unsigned())?;
+        }
+        Ok(())
+    }
+}
+
+/// Puts numbers behind the bytes as one packed field of this number, as `put_packed` does.
+pub(crate) fn put_numbers(
+    scratch: &mut Scratch,
+    out: &mut Vec<u8>,
+    field: u32,
+    numbers: &[i32],
+) -> Result<(), AllocError>
+    requires some { 0 < field }
+    requires few { field < 16 }
+    ensures { OnOk result (out.new.items ≡ out.old.items ++ spelled_fields (packed_fields field numbers.now)) }
+{
+    if numbers.is_empty() {
+        return Ok(());
+    }
+    push_in_place(scratch, out, field, &Numbers { numbers })
+}

@@ -1,0 +1,57 @@
+//! The head of a document's record: its key and its length, put in front of bytes that are there already.
+ghost use Rattle.std.specs.Prelude.{◌≡◌, ◌≤◌, ◌++◌, ℕ, List, IfOk, length, vec_len};
+ghost use Rattle.proto_wire.specs.Writing.{head_of, payload_field, spelled};
+
+use crate::in_place::push_varint;
+use std::alloc::{AllocError, Global};
+
+/// How many bytes the head of about so many bytes takes: a guess, as the length isn't known yet.
+pub(crate) fn room_for_head(count: usize) -> usize {
+    if count < 16_384 {
+        3
+    } else if count < 2_097_152 {
+        4
+    } else {
+        5
+    }
+}
+
+/// The head of a document of so many bytes.
+fn head(alloc: Global, count: usize) -> Result<Vec<u8>, AllocError>
+    ensures { IfOk result (λ v. v.items ≡ head_of 2 count) }
+{
+    /// As many bytes as a head takes at most.
+    const MOST: usize = 11;
+    let mut head = Vec::with_capacity(alloc, MOST)?;
+    head.push(18)?;
+    push_varint(&mut head, count as u64)?;
+    Ok(head)
+}
+
+/// Puts these bytes in place of as many at the front.
+fn put_front(bytes: &mut [u8], head: &[u8])
+    requires { length head.now ≤ length bytes.old }
+    ensures { (front payload : List ℕ) → bytes.old ≡ front ++ payload → length head.now ≡ length front → bytes.new ≡ head.now ++ payload }
+{
+    bytes[..head.len()].copy_from_slice(head);
+}
+
+/// The record of a document whose bytes stand behind so much room: its head is put there if it fits, so that nothing is copied.
+pub(crate) fn record_behind(
+    alloc: Global,
+    bytes: Vec<u8>,
+    room: usize,
+) -> Result<Vec<u8>, AllocError>
+    requires { room ≤ vec_len bytes }
+    ensures { (front payload : List ℕ) → bytes.items ≡ front ++ payload → room ≡ length front → IfOk result (λ v. v.items ≡ spelled (payload_field 2 payload)) }
+{
+    let mut record = bytes;
+    let mut head = head(alloc, record.len() - room)?;
+    if head.len() != room {
+        head.extend_from_slice(&record[room..])?;
+        return Ok(head);
+    }
+    put_front(record.as_mut_slice(), head.as_slice());
+    record.shrink_to_fit();
+    Ok(record)
+}
