@@ -21,13 +21,13 @@ fn lent(text: &Option<String>) -> Option<&str>
 }
 
 impl Texts<'_> {
-    /// The text of the symbol of what this token declares, if it has one.
-    fn known_declared(&self, types: &Types<'_>, number: u32) -> Option<&str>
+    /// The text of the symbol of what this token declares, if it has one; its place is looked for at the slot first.
+    fn known_declared(&self, types: &Types<'_>, slot: usize, number: u32) -> Option<&str>
         ensures { (package_name : List ℕ) → AreSymbolTexts types.now package_name self.now →
             option_map (λ t. t.now) result ≡ option_map plain_text (declared_symbol types.now package_name number) }
     {
         let _ = types;
-        match self.places.place_of(number) {
+        match self.places.place_from(slot, number) {
             Some(at) => match self.declared.get(at) {
                 Some(text) => lent(text),
                 None => None,
@@ -82,7 +82,8 @@ impl Texts<'_> {
     }
 
     /// The text of the symbol of what an identifier stands for, if that has one, where it is known: what `symbol` answers, without
-    /// a copy. Of what another module declares it is known if it stands at this slot, as `meet` tells.
+    /// a copy. Of what another module declares it is known if it stands at this slot, as `meet` tells; what the module itself declares
+    /// is looked for there first.
     pub(crate) fn known<'s>(
         &'s self,
         types: &'s Types<'_>,
@@ -93,7 +94,7 @@ impl Texts<'_> {
             IfSome result (λ text. option_map (λ t. t.now) text ≡ option_map plain_text (symbol_of types.now package_name target)) }
     {
         match target {
-            Target::Declared(number) => Some(self.known_declared(types, number)),
+            Target::Declared(number) => Some(self.known_declared(types, slot, number)),
             Target::Imported {
                 reached,
                 declaration,

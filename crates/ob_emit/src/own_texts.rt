@@ -145,7 +145,7 @@ impl<'a> Texts<'a> {
     }
 
     /// Adds the text of what this stands for, if that is declared outside of the module and isn't there yet, and tells where it
-    /// stands.
+    /// stands, or where the declaration does that the module itself has.
     pub(crate) fn meet(
         &mut self,
         alloc: Global,
@@ -157,7 +157,10 @@ impl<'a> Texts<'a> {
         ensures { (package_name : List ℕ) → AreSymbolTexts types.now package_name self.old →
             OnOk result (AreSymbolTexts types.now package_name self.new) }
     {
-        self.outer.meet(alloc, types, &self.fronts, target)
+        match target {
+            Target::Declared(number) => Ok(self.places.meet(number)),
+            _ => self.outer.meet(alloc, types, &self.fronts, target),
+        }
     }
 
     /// The texts of the symbols in a package that a module with these references needs.

@@ -1,6 +1,7 @@
 //! The places of declarations by their tokens. A search among all rows takes steps by their number; here a mark at each sixteenth token
 //! tells between which rows the token's stands, at most sixteen.
 ghost use Rattle.std.specs.Prelude.{◌≡◌, ◌==◌, ◌<◌, IfNone, IfOk, IfSome, position};
+ghost use Rattle.std.specs.Bool.{OnTrue};
 ghost use Rattle.ob_decls.specs.declared.rows.Declared.{Declared};
 ghost use Rattle.ob_decls.specs.Order.{AscendBy, HasNoneBy, IsPlaceBy};
 ghost use Rattle.ob_emit.specs.RowsCut.{AreBefore, AreBehind, AreCuts, IsCut};
@@ -11,12 +12,17 @@ use std::alloc::{AllocError, Global};
 /// How many tokens stand between two marks.
 const STRIDE: usize = 16;
 
+/// How many places are remembered.
+const RECENT: usize = 128;
+
 /// Declarations in the order of their tokens, with marks among them.
 #[derive(Drop)]
 pub(crate) struct RowPlaces<'a> {
     pub(crate) declared: &'a [Declared],
     /// For each stride of tokens the place of the first declaration from there on.
     firsts: Vec<usize>,
+    /// Of those that were met last, by some bits of their tokens. Hints alone.
+    recent: Vec<usize>,
     ghost ascend: { AscendBy (λ (d : Declared). d.number) declared.now },
     ghost cuts: { AreCuts declared.now firsts.items },
 }
@@ -89,7 +95,12 @@ impl<'a> RowPlaces<'a> {
     {
         let count = tokens.min(u32::MAX as usize) / STRIDE + 2;
         let firsts = firsts_of(alloc, declared, count)?;
-        Ok(RowPlaces { declared, firsts })
+        let recent = vec![in alloc; 0; RECENT]?;
+        Ok(RowPlaces {
+            declared,
+            firsts,
+            recent,
+        })
     }
 
     /// The marks before and behind a token.
@@ -119,5 +130,51 @@ impl<'a> RowPlaces<'a> {
         ensures { result ≡ position (λ (d : Declared). d.number == number) self.now.declared.now }
     {
         self.sought(number)
+    }
+
+    /// Whether the declaration of this number stands at this place.
+    fn stands_at(&self, place: usize, number: u32) -> bool
+        ensures { OnTrue result (IsPlaceBy (λ (d : Declared). d.number) self.now.declared.now number place) }
+    {
+        match self.declared.get(place) {
+            Some(row) => row.number == number,
+            None => false,
+        }
+    }
+
+    /// The place of the declaration of this number, if there is one, looked for at this place first.
+    pub(crate) fn place_from(&self, near: usize, number: u32) -> Option<usize>
+        ensures { result ≡ position (λ (d : Declared). d.number == number) self.now.declared.now }
+    {
+        if self.stands_at(near, number) {
+            Some(near)
+        } else {
+            self.place_of(number)
+        }
+    }
+
+    /// Remembers where a declaration stands, and tells it; any place where there is none.
+    fn remember(&mut self, number: u32) -> usize
+        ensures { self.new.declared ≡ self.old.declared }
+    {
+        let place = self.place_of(number).unwrap_or(0);
+        if let Some(kept) = self.recent.get_mut(number as usize % RECENT) {
+            *kept = place;
+        }
+        place
+    }
+
+    /// Where the declaration of this number stands, if there is one: where it is remembered, or else where it is found.
+    pub(crate) fn meet(&mut self, number: u32) -> usize
+        ensures { self.new.declared ≡ self.old.declared }
+    {
+        let near = match self.recent.get(number as usize % RECENT) {
+            Some(place) => *place,
+            None => 0,
+        };
+        if self.stands_at(near, number) {
+            return near;
+        }
+        self.remember(number)
     }
 }

@@ -13,4 +13,4 @@ returns-in-Some-get c = λ p made.
     let text = c.in-Some-get.text.now in
     let at = c.in-Some.at in
     let there = ap (option_and_then (option_map string_bytes)) (sym (slice_get_read c.deref.result.now _ at text refl c.in-Some-get.ensures.lookup.3.0 c.in-Some-get.ensures.lookup.1) ∙ ap (λ (xs : List (Option (String Global))). slice_get xs at) c.deref.ensures.value) in
-    c.lent.ensures ∙ there ∙ declared_text c.args.types.now p c.args.number at c.args.self.now.places.declared.now c.place_of.result all made.declared made.places c.place_of.ensures c.in-Some.is
+    c.lent.ensures ∙ there ∙ declared_text c.args.types.now p c.args.number at c.args.self.now.places.declared.now c.place_from.result all made.declared made.places c.place_from.ensures c.in-Some.is
