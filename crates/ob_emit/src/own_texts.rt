@@ -145,7 +145,22 @@ impl<'a> Texts<'a> {
     }
 
     /// Adds the text of what this stands for, if that is declared outside of the module and isn't there yet, and tells where it
-    /// stands, or where the declaration does that the module itself has.
+    /// stands.
+    fn meet_outer(
+        &mut self,
+        alloc: Global,
+        types: &Types<'a>,
+        target: Target,
+    ) -> Result<usize, AllocError>
+        requires named { HaveNames types.now }
+        requires external { (item name : ℕ) → target ≡ External item name → IsName (text types.now name) }
+        ensures { (package_name : List ℕ) → AreSymbolTexts types.now package_name self.old →
+            OnOk result (AreSymbolTexts types.now package_name self.new) }
+    {
+        self.outer.meet(alloc, types, &self.fronts, target)
+    }
+
+    /// The same, and tells where a declaration stands that the module itself has.
     pub(crate) fn meet(
         &mut self,
         alloc: Global,
@@ -159,7 +174,7 @@ impl<'a> Texts<'a> {
     {
         match target {
             Target::Declared(number) => Ok(self.places.meet(number)),
-            _ => self.outer.meet(alloc, types, &self.fronts, target),
+            _ => self.meet_outer(alloc, types, target),
         }
     }
 
@@ -176,7 +191,7 @@ impl<'a> Texts<'a> {
     {
         let mut texts = Texts::begun(alloc, types, package_name)?;
         for reference in refs {
-            texts.meet(alloc, types, reference.target)?;
+            texts.meet_outer(alloc, types, reference.target)?;
         }
         Ok(texts)
     }
