@@ -1,9 +1,11 @@
 -- A length put in its place, behind a key and in front of a payload.
-use Rattle.std.proofs.Common.{◌≡◌, ℕ, ◌+◌, ◌*◌, ◌/◌, ◌%◌, ◌<◌, ◌≤◌, List, [], ◌∷◌, ◌++◌, length, set, sym, ap, ap₂, ◌∙◌, append_assoc, arith}
+use Rattle.std.proofs.Common.{◌≡◌, ℕ, ◌+◌, ◌*◌, ◌/◌, ◌%◌, ◌<◌, ◌≤◌, List, [], ◌∷◌, ◌++◌, length, Result, Ok, Err, refl, set, sym, ap, ap₂, ◌∙◌, append-nil, append_assoc, arith}
 use Rattle.std.specs.List.{insert}
+use Rattle.std.specs.Prelude.{OnOk, if◌then◌else◌}
+use Rattle.std.specs.Result.{is_ok}
 use Rattle.std.proofs.lemmas.List.{drop_at, length-append, set_at, take_at}
 use Rattle.proto_wire.specs.Varints.{varint}
-use Rattle.proto_wire.specs.Writing.{head_of}
+use Rattle.proto_wire.specs.Writing.{head_of, spelled_fields, text_fields}
 use Rattle.proto_wire.proofs.VarintLaws.{varint-large, varint-small}
 
 moved : (old payload : List ℕ) (key b : ℕ) → (old ++ key ∷ b ∷ []) ++ payload ≡ (old ++ key ∷ []) ++ b ∷ payload
@@ -42,3 +44,19 @@ pub headed : (old payload : List ℕ) (field key size : ℕ) → field < 16 → 
     (old ++ key ∷ varint size) ++ payload ≡ old ++ (head_of field (length payload) ++ payload)
 headed old payload field key size few k s =
     rw (k, s, varint-small (8 * field + 2) (omega arith)) (append_assoc old ((8 * field + 2) ∷ varint (length payload)) payload)
+
+-- a text that isn't empty
+pub text_put : (old text : List ℕ) (field key : ℕ) → field < 16 → key ≡ 8 * field + 2 → 0 < length text →
+    ((old ++ key ∷ []) ++ varint (length text)) ++ text ≡ old ++ spelled_fields (text_fields field text)
+text_put old [] field key few k some = absurd (omega arith)
+text_put old (b ∷ text) field key few k some =
+    let size = varint (length (b ∷ text)) in
+    let same : length (b ∷ text) ≡ length (b ∷ text) = refl in
+    ap (λ (bytes : List ℕ). bytes ++ b ∷ text) (append_assoc old (key ∷ []) size)
+    ∙ headed old (b ∷ text) field key (length (b ∷ text)) few k same
+    ∙ ap (λ (bytes : List ℕ). old ++ bytes) (sym (append-nil (head_of field (length (b ∷ text)) ++ b ∷ text)))
+
+-- what an extension leaves
+pub ok_put : {T E : Type 0} (r : Result T E) (new old more whole : List ℕ) → new ≡ (if is_ok r then old ++ more else old) → old ++ more ≡ whole → OnOk r (new ≡ whole)
+ok_put (Ok x) new old more whole e is = e ∙ is
+ok_put (Err x) new old more whole e is = tt

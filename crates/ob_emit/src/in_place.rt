@@ -2,7 +2,7 @@
 //! `put_packed` of `proto_wire` put, byte for byte.
 ghost use Rattle.std.specs.Prelude.{◌≡◌, ◌<◌, ◌+◌, ◌++◌, ◌∷◌, [], ℕ, List, OnOk, length, vec_len};
 ghost use Rattle.proto_wire.specs.Varints.{varint};
-ghost use Rattle.proto_wire.specs.Writing.{packed_fields, packing, payload_field, spelled, spelled_fields};
+ghost use Rattle.proto_wire.specs.Writing.{packed_fields, packing, payload_field, spelled, spelled_fields, text_fields};
 
 use proto_wire::{Scratch, Written, push_message};
 use std::alloc::AllocError;
@@ -58,6 +58,20 @@ pub(crate) fn push_varint(out: &mut Vec<u8>, number: u64) -> Result<(), AllocErr
     }
     out.push(rest as u8)?;
     Ok(())
+}
+
+/// Puts the bytes of a text behind the others as a field of this number, as `put_text` does.
+pub(crate) fn put_bytes(out: &mut Vec<u8>, field: u32, bytes: &[u8]) -> Result<(), AllocError>
+    requires some { 0 < field }
+    requires few { field < 16 }
+    ensures { OnOk result (out.new.items ≡ out.old.items ++ spelled_fields (text_fields field bytes.now)) }
+{
+    if bytes.is_empty() {
+        return Ok(());
+    }
+    out.push(field as u8 * 8 + 2)?;
+    push_varint(out, bytes.len() as u64)?;
+    out.extend_from_slice(bytes)
 }
 
 /// Numbers in a row, each a varint.

@@ -4,9 +4,9 @@ ghost use Rattle.proto_wire.specs.Writing.{packed_fields, spelled_fields};
 ghost use Rattle.scip_index.specs.Written.{written_occurrence, written_symbol};
 ghost use Rattle.ob_emit.specs.Places.{numbers_of, place_told, shown_told};
 
-use crate::in_place::put_numbers;
+use crate::in_place::{put_bytes, put_numbers};
 use crate::places::Range;
-use proto_wire::{Scratch, Written, put_number, put_text};
+use proto_wire::{Scratch, Written, put_number};
 use std::alloc::AllocError;
 
 /// An occurrence (scip.proto, `Occurrence`).
@@ -22,7 +22,7 @@ pub(crate) struct Place<'a> {
 #[derive(Clone, Copy)]
 pub(crate) struct Shown<'a> {
     pub(crate) symbol: &'a str,
-    pub(crate) display_name: &'a str,
+    pub(crate) display_name: &'a [u8],
 }
 
 /// Puts the numbers of a range behind the bytes, unless there are none.
@@ -51,7 +51,7 @@ impl Written for Place<'_> {
     #[tactic(auto, unfolding(scip_index::specs::Written::written_occurrence))]
     fn push_into(&self, scratch: &mut Scratch, out: &mut Vec<u8>) -> Result<(), AllocError> {
         put_range(scratch, out, 1, &self.range)?;
-        put_text(out, 2, self.symbol)?;
+        put_bytes(out, 2, self.symbol.as_bytes())?;
         put_number(out, 3, self.symbol_roles)?;
         put_range(scratch, out, 7, &self.enclosing_range)
     }
@@ -64,7 +64,7 @@ impl Written for Shown<'_> {
 
     #[tactic(auto, unfolding(scip_index::specs::Written::written_symbol))]
     fn push_into(&self, _scratch: &mut Scratch, out: &mut Vec<u8>) -> Result<(), AllocError> {
-        put_text(out, 1, self.symbol)?;
-        put_text(out, 6, self.display_name)
+        put_bytes(out, 1, self.symbol.as_bytes())?;
+        put_bytes(out, 6, self.display_name)
     }
 }

@@ -21,7 +21,6 @@ use crate::documents::is_bad;
 use crate::in_place::push_in_place;
 use crate::near_rows::Near;
 use crate::own_texts::Texts;
-use crate::path::name_of;
 use crate::pieces::{Place, Shown};
 use crate::places::{enclosing_range, range_by, token_span};
 use crate::record_head::{record_behind, room_for_head};
@@ -174,12 +173,11 @@ fn push_shown(
     reference: &Reference,
     symbol: &str,
 ) -> Result<(), AllocError>
-    requires { IsName (text types.now reference.now.number) }
     ensures { OnOk result (out.new.items ≡ out.old.items ++ spelled (payload_field 3 (written_symbol (record { symbol = symbol.now; display_name = text types.now reference.now.number })))) }
 {
     let shown = Shown {
         symbol,
-        display_name: name_of(types.text(reference.number)),
+        display_name: types.text(reference.number),
     };
     push_in_place(scratch, out, 3, &shown)
 }
@@ -195,7 +193,6 @@ fn push_unknown_symbol(
 ) -> Result<(), AllocError>
     requires named { HaveNames types.now }
     requires declares { reference.now.role ≡ 1 }
-    requires own { IsName (text types.now reference.now.number) }
     requires external { (item name : ℕ) → reference.now.target ≡ External item name → IsName (text types.now name) }
     ensures { (package_name : List ℕ) → AreSymbolTexts types.now package_name texts.now →
         OnOk result (out.new.items ≡ out.old.items ++ spelled_fields (payload_fields 3 (map written_symbol (option_to_list (symbol_row types.now package_name reference.now))))) }
@@ -216,7 +213,6 @@ fn push_symbol(
     reference: &Reference,
 ) -> Result<(), AllocError>
     requires named { HaveNames types.now }
-    requires own { IsName (text types.now reference.now.number) }
     requires external { (item name : ℕ) → reference.now.target ≡ External item name → IsName (text types.now name) }
     ensures { (package_name : List ℕ) → AreSymbolTexts types.now package_name texts.now →
         OnOk result (out.new.items ≡ out.old.items ++ spelled_fields (payload_fields 3 (map written_symbol (option_to_list (symbol_row types.now package_name reference.now))))) }

@@ -13,5 +13,5 @@ returns-clause-bytes c =
     let p = c.args.self.now in
     let roles : FitsSigned w32 p.symbol_roles = search rules in
     ok-then c.put_range-2.result c.put_range-2.ensures
-    (λ e. rw (e, c.in_ok-put_number.ensures.bytes, c.in_ok-put_text.ensures, c.in_ok-put_range.ensures)
+    (λ e. rw (e, c.in_ok-put_number.ensures.bytes, c.in_ok-put_bytes.ensures, c.as_bytes.ensures.value, c.in_ok-put_range.ensures)
     (simp (flat_map-append, append_assoc, to_z-of_z w32 p.symbol_roles roles)))
