@@ -5,8 +5,10 @@
 
 pub mod laws;
 mod narrow;
+mod order;
 mod part;
 mod reach;
 
 pub use narrow::narrowed;
+pub use order::numbers_along;
 pub use part::{NetPart, between, lines_whole, turned_imports};

@@ -1,13 +1,11 @@
 //! The network that a preflow starts on: its weights narrowed, from the end whose imports weigh less.
-ghost use Rattle.std.specs.Prelude.{◌<◌, ◌^◌, All, IfOk, OnOk, length};
+ghost use Rattle.std.specs.Prelude.{IfOk, length};
 ghost use Rattle.cut_part.specs.Narrowing.{IsNarrowed};
 ghost use Rattle.cut_preflow.specs.Flows.{AreEnds};
 ghost use Rattle.cut_solve.specs.Starts.{with_imports, IsStart};
 
-use crate::arcs::graph_of;
 use cut_net::{Net, Priced};
-use cut_part::{narrowed, turned_imports};
-use cut_residual::{ResidualGraph, order_of};
+use cut_part::{narrowed, numbers_along, turned_imports};
 use std::alloc::{AllocError, Global};
 
 /// Imports in the order of a network's, and the two modules that a preflow on them is between.
@@ -21,43 +19,13 @@ pub struct Start {
     pub sink: u32,
 }
 
-/// Adds the numbers of the arcs that leave from a node.
-fn add_leaving(graph: &ResidualGraph, node: u32, numbers: &mut Vec<u32>) -> Result<(), AllocError>
-    requires few { length graph.now.arcs < 2 ^ 32 }
-    requires node { node < graph.now.nodes }
-    requires numbers { All (λ k. k < length graph.now.arcs) numbers.old.items }
-    ensures { OnOk result (All (λ k. k < length graph.now.arcs) numbers.new.items) }
-{
-    for out in graph.residual_arcs(node) {
-        if out.step.forward {
-            numbers.push(out.step.arc as u32)?;
-        }
-    }
-    Ok(())
-}
-
-/// The numbers of the arcs in the order of the nodes that they leave from.
-fn in_order_of(alloc: Global, graph: &ResidualGraph, order: &[u32]) -> Result<Vec<u32>, AllocError>
-    requires few { length graph.now.arcs < 2 ^ 32 }
-    requires order { All (λ n. n < graph.now.nodes) order.now }
-    ensures { IfOk result (λ numbers. All (λ k. k < length graph.now.arcs) numbers.items) }
-{
-    let mut numbers = Vec::with_capacity(alloc, graph.arcs().len())?;
-    for node in order {
-        add_leaving(graph, *node, &mut numbers)?;
-    }
-    Ok(numbers)
-}
-
 /// The imports, their weights narrowed along the chains of the network.
 fn narrow(alloc: Global, net: &Net, from: u32, to: u32) -> Result<Vec<Priced>, AllocError>
     requires { AreEnds net.now from to }
     ensures { IfOk result (λ v. IsNarrowed net.now (with_imports net.now v.items) from to) }
 {
     net.keeps();
-    let graph = graph_of(alloc, net)?;
-    let order = order_of(alloc, &graph)?;
-    let order = in_order_of(alloc, &graph, &order)?;
+    let order = numbers_along(alloc, net.imports(), net.nodes())?;
     narrowed(alloc, net.imports(), net.nodes(), &order, from, to)
 }
 
