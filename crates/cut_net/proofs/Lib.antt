@@ -1,3 +1,4 @@
+pub mod Ahead
 pub mod Answered
 pub mod Certificate
 pub mod Chains

@@ -1,5 +1,5 @@
 -- Reading the text of a network straight on: the lines so far, of which two may be of one import.
-use Rattle.std.specs.Prelude.{◌≡◌, ℕ, ◌<◌, ◌≤◌, List, [], length, map, filter, slice_index, All}
+use Rattle.std.specs.Prelude.{◌≡◌, ℕ, ◌<◌, ◌≤◌, ◌++◌, List, [], length, map, filter, slice_index, All}
 use Rattle.std.specs.List.{slice_index_or}
 use Rattle.cut_net.specs.declared.priced.Priced.{Priced}
 use Rattle.cut_net.specs.declared.straight.LineList.{LineList}
@@ -27,3 +27,7 @@ IsListOf bytes list = (lines : List NetLine) × Spell (pieces_of bytes) lines ×
 -- for each of the first names of a list its place in another
 abbrev pub AreNumbersOf : List (List ℕ) → List (List ℕ) → List ℕ → Type 0
 AreNumbersOf old names numbers = (k : ℕ) → k < length numbers → (slice_index numbers k < length names) × (slice_index_or names (slice_index numbers k) [] ≡ slice_index_or old k [])
+
+-- the list is of some lines more, which are those that stand in the text before its rest
+abbrev pub GoesOn : List ℕ → List ℕ → List NetLine → LineList → Type 0
+GoesOn text rest before list = (more : List NetLine) × IsList (before ++ more) list × ((later : List NetLine) → Spell (pieces_of rest) later → Spell (pieces_of text) (more ++ later))

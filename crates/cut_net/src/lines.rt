@@ -1,8 +1,10 @@
 //! The lines of a network's text.
-ghost use Rattle.std.specs.Prelude.{◌≡◌, ◌==◌, true, not, None, option_map};
+ghost use Rattle.std.specs.Prelude.{◌≡◌, ◌==◌, ◌++◌, ◌∷◌, true, not, None, IfSome, option_map};
 ghost use Rattle.std.specs.List.{list_all};
+ghost use Rattle.cut_net.specs.NetText.{net_line, IsNetLine};
 ghost use Rattle.cut_net.specs.NetReading.{after_word, import_of, line_of_piece, line_said, module_of};
 
+use texts::ahead::{amount_ahead, behind_byte, name_ahead};
 use texts::fields::{cut_at_byte, name_in, number_in};
 
 /// What a line says.
@@ -49,4 +51,18 @@ pub(crate) fn line_in(piece: &[u8]) -> Option<Line<'_>>
         return module_in(fields);
     }
     import_in(fields_after(b"import", piece)?)
+}
+
+/// The line that the text begins with, and what stands behind its end. None where that isn't read straight on, as an empty line, or one without an end.
+pub(crate) fn line_ahead(text: &[u8]) -> Option<(Line<'_>, &[u8])>
+    ensures good { IfSome result (λ x. IsNetLine (line_said x.0)) }
+    ensures text { IfSome result (λ x. text.now ≡ net_line (line_said x.0) ++ 10 ∷ x.1.now) }
+{
+    if let Some(fields) = text.strip_prefix(b"import ") {
+        let ((importer, imported, weight), rest) = amount_ahead(fields)?;
+        return Some((Line::Import(importer, imported, weight), rest));
+    }
+    let (name, rest) = name_ahead(text.strip_prefix(b"module ")?)?;
+    let rest = behind_byte(rest, b'\n')?;
+    Some((Line::Module(name), rest))
 }

@@ -1,18 +1,19 @@
 //! A network's text read straight on, with no look for an import among those before it. Where its lines have no other fault, its imports are put in order, and
 //! if each comes before the next, none stands twice. Any other text is left to the tables of `draft`, which tell the first fault.
-ghost use Rattle.std.specs.Prelude.{◌≡◌, ◌≤◌, ◌++◌, ◌∷◌, [], ℕ, true, IfOk, IfSome, List, length, map};
-ghost use Rattle.cut_net.specs.NetList.{AreNumbersOf, IsList, IsListOf};
+ghost use Rattle.std.specs.Prelude.{◌≡◌, ◌≤◌, ◌<◌, ◌++◌, ◌∷◌, [], ℕ, true, IfOk, IfSome, List, length, map};
+ghost use Rattle.cut_net.specs.NetList.{AreNumbersOf, GoesOn, IsList, IsListOf};
 ghost use Rattle.cut_net.specs.NetReading.{import_line, line_said, net_of};
 ghost use Rattle.cut_net.specs.NetText.{IsNetLine, NetLine, NetText, Module, Import, Spell};
 ghost use Rattle.cut_net.specs.WellFormed.{AreBetween};
 
 use crate::Priced;
 use crate::draft::{MOST_IMPORTS, MOST_NAMES, note_name};
-use crate::lines::{Line, line_in};
+use crate::lines::{Line, line_ahead, line_in};
 use crate::numbering::{numbers_of, put_in_order, renumbered, sorted};
 use crate::ordering::is_ascending;
 use indexmap::IndexSet;
 use std::alloc::{AllocError, Global};
+use texts::fields::cut_at_byte;
 
 /// The names of the lines so far, and their imports by the places of the names.
 #[derive(Drop)]
@@ -90,6 +91,36 @@ impl LineList {
         let noted = self.add(alloc, line)?;
         Ok(noted)
     }
+    /// Notes the first line of a text by its end; what stands behind it. None where it has a fault.
+    fn take_first<'a>(
+        &mut self,
+        alloc: Global,
+        text: &'a [u8],
+    ) -> Result<Option<&'a [u8]>, AllocError>
+        ensures goes_on { IfOk result (λ noted. IfSome noted (λ rest. (before : List NetLine) → IsList before self.old → GoesOn text.now rest.now before self.new)) }
+        ensures shorter { IfOk result (λ noted. IfSome noted (λ rest. 0 < length text.now → length rest.now < length text.now)) }
+    {
+        let Some((piece, rest)) = cut_at_byte(text, b'\n') else {
+            let (_, rest) = text.split_at(text.len());
+            return Ok(self.take(alloc, text)?.then_some(rest));
+        };
+        Ok(self.take(alloc, piece)?.then_some(rest))
+    }
+
+    /// The same, where an end need not be found before the line is read. A line that isn't read so, as an empty one or a last one without an end, is read by its end.
+    fn take_ahead<'a>(
+        &mut self,
+        alloc: Global,
+        text: &'a [u8],
+    ) -> Result<Option<&'a [u8]>, AllocError>
+        ensures goes_on { IfOk result (λ noted. IfSome noted (λ rest. (before : List NetLine) → IsList before self.old → GoesOn text.now rest.now before self.new)) }
+        ensures shorter { IfOk result (λ noted. IfSome noted (λ rest. 0 < length text.now → length rest.now < length text.now)) }
+    {
+        let Some((line, rest)) = line_ahead(text) else {
+            return self.take_first(alloc, text);
+        };
+        Ok(self.add(alloc, line)?.then_some(rest))
+    }
 }
 
 /// How many bytes are read before the imports are first looked at for one that stands twice.
@@ -112,14 +143,14 @@ fn fill(alloc: Global, bytes: &[u8], list: &mut LineList) -> Result<bool, AllocE
     requires { IsList [] list.old }
     ensures { IfOk result (λ whole. whole ≡ true → IsListOf bytes.now list.new) }
 {
-    let mut read: usize = 0;
+    let mut rest = bytes;
     let mut look = FIRST_LOOK;
-    for piece in bytes.split(|b| *b == b'\n') {
-        if !list.take(alloc, piece)? {
+    while !rest.is_empty() {
+        let Some(behind) = list.take_ahead(alloc, rest)? else {
             return Ok(false);
-        }
-        read = read.saturating_add(piece.len()).saturating_add(1);
-        if read >= look {
+        };
+        rest = behind;
+        if bytes.len().saturating_sub(rest.len()) >= look {
             if !seem_apart(&list.imports) {
                 return Ok(false);
             }

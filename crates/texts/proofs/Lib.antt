@@ -1,3 +1,5 @@
 pub mod FieldCuts
 pub mod FieldNames
 pub mod FieldNumbers
+pub mod LaneRuns
+pub mod NamesAhead
