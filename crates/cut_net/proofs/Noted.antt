@@ -7,6 +7,7 @@ use Rattle.std.specs.Str.{bytes_eq}
 use Rattle.std.specs.String.{string_bytes, string_eq}
 use Rattle.std.proofs.lemmas.Bool.{cases_Bool}
 use Rattle.std.proofs.lemmas.List.{map_push, get_or-map, length-map}
+use Rattle.std.proofs.lemmas.List.Folds.{list_any_at}
 use Rattle.std.proofs.lemmas.List.Quantifiers.{position-Some}
 use Rattle.std.proofs.lemmas.Option.{slice_get_within, get_or_from_slice_get}
 use Rattle.std.proofs.lemmas.Slice.Eq.{bytes_eq-Decides}
@@ -41,3 +42,7 @@ module _ {Z : Type 0} where
   found_place names name at is =
       let found = position-Some (bytes_eq name) (texts names) at [] (position-map (bytes_eq name) string_bytes names ∙ is) in
       sym ((bytes_eq-Decides name (get_or (texts names) at [])).0 found.1)
+
+-- a name that stands at a place
+pub there_noted : (names : List (List ℕ)) (name : List ℕ) (at : ℕ) → at < length names → get_or names at [] ≡ name → names ≡ noted names name
+there_noted names name at within is = sym (rw (list_any_at (bytes_eq name) names at [] within ((bytes_eq-Decides name (get_or names at [])).1 (sym is))) refl)

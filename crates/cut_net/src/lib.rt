@@ -21,6 +21,7 @@ mod price_lines;
 mod priced;
 mod prices;
 mod reading;
+mod recent;
 mod standing;
 mod straight;
 

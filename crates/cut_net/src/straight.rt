@@ -7,10 +7,11 @@ ghost use Rattle.cut_net.specs.NetText.{IsNetLine, NetLine, NetText, Module, Imp
 ghost use Rattle.cut_net.specs.WellFormed.{AreBetween};
 
 use crate::Priced;
-use crate::draft::{MOST_IMPORTS, MOST_NAMES, note_name};
+use crate::draft::{MOST_IMPORTS, MOST_NAMES};
 use crate::lines::{Line, line_ahead, line_in};
 use crate::numbering::{numbers_of, put_in_order, renumbered, sorted};
 use crate::ordering::is_ascending;
+use crate::recent::Recent;
 use indexmap::IndexSet;
 use std::alloc::{AllocError, Global};
 use texts::fields::cut_at_byte;
@@ -20,24 +21,27 @@ use texts::fields::cut_at_byte;
 pub(crate) struct LineList {
     pub(crate) names: IndexSet<String>,
     pub(crate) imports: Vec<Priced>,
+    recent: Recent,
 }
 
 impl LineList {
-    /// The list of no lines.
-    fn new(alloc: Global) -> LineList
-        ensures { IsList [] result }
+    /// The list of no lines, for those of a text of so many bytes.
+    fn new(alloc: Global, bytes: usize) -> Result<LineList, AllocError>
+        ensures { IfOk result (IsList []) }
     {
-        LineList {
+        let recent = Recent::new(alloc, bytes)?;
+        Ok(LineList {
             names: IndexSet::new(alloc),
             imports: Vec::new(alloc),
-        }
+            recent,
+        })
     }
 
     /// Notes a module. False where its name is one too many.
     fn add_module(&mut self, alloc: Global, name: &str) -> Result<bool, AllocError>
         ensures { IfOk result (λ noted. noted ≡ true → (before : List NetLine) → IsList before self.old → IsNetLine (Module name.now) → IsList (before ++ Module name.now ∷ []) self.new) }
     {
-        note_name(alloc, &mut self.names, name)?;
+        self.recent.note(alloc, &mut self.names, name)?;
         if self.names.len() > MOST_NAMES {
             return Ok(false);
         }
@@ -54,8 +58,8 @@ impl LineList {
     ) -> Result<bool, AllocError>
         ensures { IfOk result (λ noted. noted ≡ true → (before : List NetLine) → IsList before self.old → IsNetLine (Import importer.now imported.now weight) → IsList (before ++ Import importer.now imported.now weight ∷ []) self.new) }
     {
-        let from = note_name(alloc, &mut self.names, importer)?;
-        let to = note_name(alloc, &mut self.names, imported)?;
+        let from = self.recent.note(alloc, &mut self.names, importer)?;
+        let to = self.recent.note(alloc, &mut self.names, imported)?;
         if self.names.len() > MOST_NAMES || self.imports.len() >= MOST_IMPORTS {
             return Ok(false);
         }
@@ -206,7 +210,7 @@ pub(crate) fn straight_lists(
     ensures few_names { IfOk result (λ found. IfSome found (λ lists. length lists.0.items ≤ 8192)) }
     ensures few_imports { IfOk result (λ found. IfSome found (λ lists. length lists.1.items ≤ 65536)) }
 {
-    let mut list = LineList::new(alloc);
+    let mut list = LineList::new(alloc, bytes.len())?;
     if fill(alloc, bytes, &mut list)? {
         ordered(alloc, &list)
     } else {

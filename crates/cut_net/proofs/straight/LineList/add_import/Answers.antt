@@ -8,7 +8,7 @@ use Rattle.cut_net.proofs.straight.LineList.add_import.Goals as goal
 
 pub returns : goal.returns
 returns c _ before h good =
-    let ends : AreEnds (texts c.args.self.now.names.keys) (texts c.note_name.new.names.keys) (texts c.note_name-2.new.names.keys) c.args.importer.now c.args.imported.now c.in_ok-from.from c.in_ok-to.to = record {
+    let ends : AreEnds (texts c.args.self.now.names.keys) (texts c.note.new.names.keys) (texts c.note-2.new.names.keys) c.args.importer.now c.args.imported.now c.in_ok-from.from c.in_ok-to.to = record {
       first = c.in_ok-from.ensures.names;
       first_within = c.in_ok-from.ensures.within;
       first_place = c.in_ok-from.ensures.place;
@@ -16,7 +16,7 @@ returns c _ before h good =
       second_within = c.in_ok-to.ensures.within;
       second_place = c.in_ok-to.ensures.place;
     } in
-    let long = length-map c.note_name-2.new.names.keys string_bytes in
+    let long = length-map c.note-2.new.names.keys string_bytes in
     let len = c.len.ensures.len in
     let ok = c.args.self.now.imports.ok.0 in
     rw c.in_ok-push.ensures.items (listed_import before _ _ h _ _ _ _ c.args.weight _ _ ends good (omega arith) (omega arith))

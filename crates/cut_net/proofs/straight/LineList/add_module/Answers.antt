@@ -8,7 +8,7 @@ use Rattle.cut_net.proofs.straight.LineList.add_module.Goals as goal
 
 pub returns : goal.returns
 returns c _ before h good =
-    let long = length-map c.note_name.new.names.keys string_bytes in
+    let long = length-map c.note.new.names.keys string_bytes in
     let len = c.len.ensures.len in
-    let few : length (noted (texts c.args.self.now.names.keys) c.args.name.now) ≤ 8192 = rw (← c.in_ok-note_name.ensures.names) (omega arith) in
-    rw c.in_ok-note_name.ensures.names (listed_module before _ _ h c.args.name.now good few)
+    let few : length (noted (texts c.args.self.now.names.keys) c.args.name.now) ≤ 8192 = rw (← c.in_ok-note.ensures.names) (omega arith) in
+    rw c.in_ok-note.ensures.names (listed_module before _ _ h c.args.name.now good few)

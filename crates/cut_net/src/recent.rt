@@ -1,0 +1,76 @@
+//! Where names were met last. Most lines name modules that were named before, and a place that is remembered is tested by one comparison, where the table hashes the name and
+//! goes through its own.
+ghost use Rattle.std.specs.Prelude.{◌≡◌, ◌<◌, [], IfOk, IfSome, OnOk, length};
+ghost use Rattle.std.specs.List.{slice_index_or};
+ghost use Rattle.cut_net.specs.NetReading.{noted};
+ghost use Rattle.cut_net.specs.Network.{texts};
+
+use crate::draft::note_name;
+use indexmap::IndexSet;
+use std::alloc::{AllocError, Global};
+
+/// There is a slot for so many bytes of a text, which have some three lines, up to a number of slots.
+const BYTES_A_SLOT: usize = 64;
+
+const MOST_SLOTS: usize = 32768;
+
+/// Places among names, each in a slot that the name chooses. Another name may have chosen it since, so a place is taken only where the name that stands there is the same.
+#[derive(Drop)]
+pub(crate) struct Recent {
+    slots: Vec<u16>,
+}
+
+/// One of so many slots, mixed from all bytes of the name. Which one it is decides nothing but the time.
+fn slot_of(name: &str, slots: usize) -> usize {
+    let mut mix = 0u64;
+    for byte in name.as_bytes() {
+        mix = mix.wrapping_mul(31).wrapping_add(u64::from(*byte));
+    }
+    let spread = mix.wrapping_mul(0x9E37_79B9_7F4A_7C15) >> 32;
+    (spread.wrapping_mul(slots as u64) >> 32) as usize
+}
+
+/// The place, where this name stands there.
+fn place_if_same(names: &IndexSet<String>, at: usize, name: &str) -> Option<usize>
+    ensures within { IfSome result (λ at. at < length (texts names.now.keys)) }
+    ensures place { IfSome result (λ at. slice_index_or (texts names.now.keys) at [] ≡ name.now) }
+{
+    let kept = names.get_index(at)?;
+    if kept.as_str() == name {
+        Some(at)
+    } else {
+        None
+    }
+}
+
+impl Recent {
+    /// Slots for the names of a text of so many bytes.
+    pub(crate) fn new(alloc: Global, bytes: usize) -> Result<Recent, AllocError> {
+        let count = (bytes / BYTES_A_SLOT).min(MOST_SLOTS);
+        let slots = vec![in alloc; 0u16; count]?;
+        Ok(Recent { slots })
+    }
+
+    /// The place of a name among those that came, where it is now if it is new.
+    pub(crate) fn note(
+        &mut self,
+        alloc: Global,
+        names: &mut IndexSet<String>,
+        name: &str,
+    ) -> Result<usize, AllocError>
+        ensures names { OnOk result (texts names.new.keys ≡ noted (texts names.old.keys) name.now) }
+        ensures within { IfOk result (λ at. at < length (texts names.new.keys)) }
+        ensures place { IfOk result (λ at. slice_index_or (texts names.new.keys) at [] ≡ name.now) }
+    {
+        let slot = slot_of(name, self.slots.len());
+        let recent = self.slots.get(slot).copied().unwrap_or(0);
+        if let Some(at) = place_if_same(names, usize::from(recent), name) {
+            return Ok(at);
+        }
+        let at = note_name(alloc, names, name)?;
+        if let Some(recent) = self.slots.get_mut(slot) {
+            *recent = u16::try_from(at).unwrap_or(0);
+        }
+        Ok(at)
+    }
+}
