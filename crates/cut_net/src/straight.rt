@@ -10,7 +10,7 @@ use crate::Priced;
 use crate::draft::{MOST_IMPORTS, MOST_NAMES};
 use crate::lines::{Line, line_ahead, line_in};
 use crate::numbering::{numbers_of, put_in_order, renumbered, sorted};
-use crate::ordering::is_ascending;
+use crate::ordering::{is_ascending, seem_apart};
 use crate::recent::Recent;
 use indexmap::IndexSet;
 use std::alloc::{AllocError, Global};
@@ -130,19 +130,8 @@ impl LineList {
 /// How many bytes are read before the imports are first looked at for one that stands twice.
 const FIRST_LOOK: usize = 4096;
 
-/// Whether no import stands twice, where memory for a look isn't refused.
-fn seem_apart(imports: &Vec<Priced>) -> bool {
-    match imports.clone() {
-        Err(_) => true,
-        Ok(mut listed) => {
-            put_in_order(&mut listed);
-            is_ascending(&listed)
-        }
-    }
-}
-
-/// Fills the list of no lines with those that the bytes spell. False where one has a fault. Each time that twice as many bytes are read
-/// the imports are looked at, so that a text in which one stands twice isn't read far behind it.
+/// Fills the list of no lines with those that the bytes spell. False where one has a fault. Each time that four times as many bytes are
+/// read the imports are looked at, if memory for that isn't refused, so that a text in which one stands twice isn't read far behind it.
 fn fill(alloc: Global, bytes: &[u8], list: &mut LineList) -> Result<bool, AllocError>
     requires { IsList [] list.old }
     ensures { IfOk result (λ whole. whole ≡ true → IsListOf bytes.now list.new) }
@@ -155,10 +144,10 @@ fn fill(alloc: Global, bytes: &[u8], list: &mut LineList) -> Result<bool, AllocE
         };
         rest = behind;
         if bytes.len().saturating_sub(rest.len()) >= look {
-            if !seem_apart(&list.imports) {
+            if !seem_apart(alloc, &list.imports).unwrap_or(true) {
                 return Ok(false);
             }
-            look = look.saturating_mul(2);
+            look = look.saturating_mul(4);
         }
     }
     Ok(true)
