@@ -11,7 +11,7 @@ use Rattle.cut_report.specs.ReportLines.{HasForm}
 use Rattle.texts.proofs.FieldCuts.{cut_takes, cut_again, cut_none, without, some_is}
 use Rattle.texts.proofs.FieldNames.{named_takes, named_again, name_without, decimal_without, without-append}
 use Rattle.texts.proofs.FieldNumbers.{number_takes, number_again}
-use Rattle.cut_report.specs.Lines.{◌>>=◌, amount_of, blocks_of, ends_of, import_under, line_of_text, line_under, words_of}
+use Rattle.cut_report.specs.Lines.{◌>>=◌, amount_of, blocks_of, ends_of, import_under, line_of_text, line_under, words_of, IsFirstLine}
 use Rattle.cut_report.proofs.Words.{joined, names_without, some_word, with_word, words_again}
 
 -- the value of a step that gave one
@@ -169,3 +169,7 @@ line_once line other h k e =
     let first = line_again line h in
     let second : line_of_text (report_line line) ≡ Some other = rw e (line_again other k) in
     some_is line other (sym first ∙ second)
+
+-- a text that begins with a line is cut behind it, and it is read
+pub line_there : (text rest : List ℕ) (line : ReportLine) → HasForm line → text ≡ report_line line ++ 10 ∷ rest → IsFirstLine text (Some line) rest
+line_there text rest line form e = (report_line line, rw e (cut_again 10 (report_line line) rest (line_without line form)), line_again line form)

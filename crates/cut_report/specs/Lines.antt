@@ -1,5 +1,5 @@
 -- A line of a report, read field by field: what the private functions of the reader give.
-use Rattle.std.specs.Prelude.{ℕ, ◌==◌, ◌&&◌, nat_lt, List, ◌∷◌, ◌++◌, codes, Option, Some, None, if◌then◌else◌}
+use Rattle.std.specs.Prelude.{ℕ, ◌≡◌, ◌==◌, ◌&&◌, nat_lt, List, ◌∷◌, ◌++◌, codes, Option, Some, None, if◌then◌else◌}
 use Rattle.std.specs.List.{list_all, slice_split}
 use Rattle.std.specs.Str.{bytes_eq}
 use Rattle.texts.specs.Fields.{cut_at, is_name, named, number_of}
@@ -68,3 +68,7 @@ line_under word fields =
 -- the line of this text
 unfoldable pub line_of_text : List ℕ → Option ReportLine
 line_of_text text = if bytes_eq text (codes "end") then Some Last else (cut_at 32 text >>= λ parts. line_under parts.0 parts.1)
+
+-- the text begins with a line, which says this, if anything, and goes on behind its end
+abbrev pub IsFirstLine : List ℕ → Option ReportLine → List ℕ → Type 0
+IsFirstLine text said rest = (line : List ℕ) × (cut_at 10 text ≡ Some (line, rest)) × (line_of_text line ≡ said)

@@ -1,11 +1,11 @@
 //! A report that is read line by line.
-ghost use Rattle.std.specs.Prelude.{◌≡◌, ◌+◌, ◌<◌, ◌^◌, None, Some, length};
-ghost use Rattle.cut_report.specs.Lines.{line_seen, words_of};
+ghost use Rattle.std.specs.Prelude.{◌≡◌, ◌+◌, ◌<◌, ◌^◌, ℕ, List, None, Some, length, option_map};
+ghost use Rattle.cut_report.specs.Lines.{line_of_text, line_seen, words_of};
 ghost use Rattle.cut_report.specs.Reading.{outcome_of};
 ghost use Rattle.cut_report.specs.Drafts.{chain_of, ends_named, finish_of, going_on, import_of, is_after, last_import, numbered_by, opened_by, claimed_part, shut_by, read_so_far_of, step, text_step, Gives, GivesAt};
 
 use crate::fault::ReportLineFault;
-use crate::line::{Line, line_in};
+use crate::line::Line;
 use crate::near::{ends_near, place_behind};
 use crate::{Report, ReportFault};
 use cut_net::{Answer, Cut, Net, Priced};
@@ -186,17 +186,17 @@ impl ReportDraft {
         }
     }
 
-    /// The draft with the line of this text, which has no LF.
+    /// The draft with a line, if a text is one.
     #[tactic(auto, unfolding(crate::specs::Drafts::text_step))]
-    fn with_text(
+    fn with_read(
         self,
         alloc: Global,
         net: &Net,
-        text: &[u8],
+        line: Option<Line>,
     ) -> Result<ReportDraft, ReportLineFault>
-        ensures { Gives read_so_far_of result (text_step net.now (read_so_far_of self) text.now) }
+        ensures { (text : List ℕ) → line_of_text text ≡ option_map line_seen line.entry → Gives read_so_far_of result (text_step net.now (read_so_far_of self) text) }
     {
-        let line = line_in(text).ok_or(ReportLineFault::BadLine)?;
+        let line = line.ok_or(ReportLineFault::BadLine)?;
         self.with_line(alloc, net, line)
     }
 
@@ -206,11 +206,11 @@ impl ReportDraft {
         alloc: Global,
         net: &Net,
         number: u64,
-        text: &[u8],
+        line: Option<Line>,
     ) -> Result<ReportDraft, ReportFault>
-        ensures { GivesAt number read_so_far_of result (text_step net.now (read_so_far_of self) text.now) }
+        ensures { (text : List ℕ) → line_of_text text ≡ option_map line_seen line.entry → GivesAt number read_so_far_of result (text_step net.now (read_so_far_of self) text) }
     {
-        match self.with_text(alloc, net, text) {
+        match self.with_read(alloc, net, line) {
             Ok(draft) => Ok(draft),
             Err(fault) => Err(fault.at(number)),
         }

@@ -1,10 +1,13 @@
 //! The lines of a report, each spelled and read by itself.
-ghost use Rattle.std.specs.Prelude.{◌≡◌, option_map};
+ghost use Rattle.std.specs.Prelude.{◌≡◌, ◌++◌, ◌∷◌, IfNone, IfSome, None, option_map};
 ghost use Rattle.std.specs.List.{list_all};
-ghost use Rattle.texts.specs.Fields.{is_name};
-ghost use Rattle.cut_report.specs.Lines.{amount_of, blocks_of, ends_of, line_of_text, line_seen, line_under, words_of};
+ghost use Rattle.texts.specs.Fields.{cut_at, is_name};
+ghost use Rattle.cut_report.specs.ReportLine.{report_line};
+ghost use Rattle.cut_report.specs.ReportLines.{HasForm};
+ghost use Rattle.cut_report.specs.Lines.{amount_of, blocks_of, ends_of, line_of_text, line_seen, line_under, words_of, IsFirstLine};
 
 use std::fmt;
+use texts::ahead::amount_ahead;
 use texts::fields::{cut_at_byte, is_identifier, name_in, number_in};
 
 /// What a line says.
@@ -122,4 +125,30 @@ pub(crate) fn line_in(text: &[u8]) -> Option<Line<'_>>
     }
     let (word, fields) = cut_at_byte(text, b' ')?;
     fields_in(word, fields)
+}
+
+/// The flow line that the text begins with, whose end need not be found before it is read, and what stands behind that. None where it begins with another line, or with one
+/// that isn't read so.
+fn flow_ahead(text: &[u8]) -> Option<(Line<'_>, &[u8])>
+    ensures form { IfSome result (λ x. HasForm (line_seen x.0)) }
+    ensures text { IfSome result (λ x. text.now ≡ report_line (line_seen x.0) ++ 10 ∷ x.1.now) }
+{
+    let fields = text.strip_prefix(b"flow ")?;
+    let ((from, to, flow), rest) = amount_ahead(fields)?;
+    if flow == 0 {
+        return None;
+    }
+    Some((Line::Flows(from, to, flow), rest))
+}
+
+/// The first line of the text, if it is one of a report, and what stands behind its end. None where no line ends in the text.
+pub(crate) fn first_line(text: &[u8]) -> Option<(Option<Line<'_>>, &[u8])>
+    ensures line { IfSome result (λ x. IsFirstLine text.now (option_map line_seen x.0) x.1.now) }
+    ensures none { IfNone result (cut_at 10 text.now ≡ None) }
+{
+    if let Some((line, rest)) = flow_ahead(text) {
+        return Some((Some(line), rest));
+    }
+    let (text, rest) = cut_at_byte(text, b'\n')?;
+    Some((line_in(text), rest))
 }

@@ -5,10 +5,10 @@ ghost use Rattle.cut_report.specs.ReportLines.{IsReportOutcome, ReportOutcome};
 ghost use Rattle.cut_report.specs.Reading.{outcome_of, IsOfText};
 
 use crate::draft::ReportDraft;
+use crate::line::first_line;
 use crate::{Report, ReportFault};
 use cut_net::Net;
 use std::alloc::Global;
-use texts::fields::cut_at_byte;
 
 /// What the bytes say, line by line.
 fn read_lines(alloc: Global, bytes: &[u8], net: &Net) -> Result<Report, ReportFault>
@@ -19,8 +19,8 @@ fn read_lines(alloc: Global, bytes: &[u8], net: &Net) -> Result<Report, ReportFa
     let mut draft = ReportDraft::Start;
     let mut before = 0;
     let mut rest = bytes;
-    while let Some((text, after)) = cut_at_byte(rest, b'\n') {
-        draft = draft.with_numbered(alloc, net, before + 1, text)?;
+    while let Some((line, after)) = first_line(rest) {
+        draft = draft.with_numbered(alloc, net, before + 1, line)?;
         before += 1;
         rest = after;
     }
