@@ -6,7 +6,7 @@ ghost use Rattle.cut_report.specs.Drafts.{chain_of, ends_named, finish_of, going
 
 use crate::fault::ReportLineFault;
 use crate::line::Line;
-use crate::near::{ends_near, place_behind};
+use crate::near::Place;
 use crate::{Report, ReportFault};
 use cut_net::{Answer, Cut, Net, Priced};
 use std::alloc::Global;
@@ -42,16 +42,22 @@ fn comes_after(last: Option<Priced>, next: Priced) -> bool
     }
 }
 
-/// The modules of two names, which are looked for where the imports go on behind those that are read, and then among all.
+/// The modules of two names, which are looked for where the imports go on behind that of the last line, and then among all.
 #[tactic(auto, unfolding(crate::specs::Drafts::ends_named))]
-fn ends_in(net: &Net, read: &[Priced], from: &str, to: &str) -> Result<(u32, u32), ReportLineFault>
+fn ends_in(
+    net: &Net,
+    place: &mut Place,
+    from: &str,
+    to: &str,
+) -> Result<(u32, u32), ReportLineFault>
     ensures { result ≡ ends_named net.now from.now to.now }
 {
-    if let Some(ends) = ends_near(net, place_behind(net, last_in(read)), from, to) {
+    if let Some(ends) = place.ends_near(net, from, to) {
         return Ok(ends);
     }
     let from = net.index_of(from).ok_or(ReportLineFault::UnknownName)?;
     let to = net.index_of(to).ok_or(ReportLineFault::UnknownName)?;
+    place.at_import(net, (from, to));
     Ok((from, to))
 }
 
@@ -60,13 +66,14 @@ fn ends_in(net: &Net, read: &[Priced], from: &str, to: &str) -> Result<(u32, u32
 fn import_in(
     net: &Net,
     read: &[Priced],
+    place: &mut Place,
     from: &str,
     to: &str,
     amount: u64,
 ) -> Result<Priced, ReportLineFault>
     ensures { result ≡ import_of net.now (last_import None read.now) from.now to.now amount }
 {
-    let (from, to) = ends_in(net, read, from, to)?;
+    let (from, to) = ends_in(net, place, from, to)?;
     let next = Priced { from, to, amount };
     if comes_after(last_in(read), next) {
         Ok(next)
@@ -137,18 +144,19 @@ fn with_more(
     to: u32,
     mut cut: Cut,
     net: &Net,
+    place: &mut Place,
     line: Line,
 ) -> Result<ReportDraft, ReportLineFault>
     ensures { Gives read_so_far_of result (going_on net.now (claimed_part from to cut) (line_seen line.entry)) }
 {
     match line {
         Line::Removes(importer, imported, weight) if cut.flow.is_empty() => {
-            let next = import_in(net, &cut.imports, importer, imported, weight)?;
+            let next = import_in(net, &cut.imports, place, importer, imported, weight)?;
             cut.imports.push(next)?;
             Ok(ReportDraft::Open(from, to, cut))
         }
         Line::Flows(importer, imported, flow) => {
-            let next = import_in(net, &cut.flow, importer, imported, flow)?;
+            let next = import_in(net, &cut.flow, place, importer, imported, flow)?;
             cut.flow.push(next)?;
             Ok(ReportDraft::Open(from, to, cut))
         }
@@ -174,13 +182,19 @@ fn with_end(from: u32, to: u32, chain: Vec<u32>, line: Line) -> Result<ReportDra
 
 impl ReportDraft {
     #[tactic(auto, unfolding(crate::specs::Drafts::step))]
-    fn with_line(self, alloc: Global, net: &Net, line: Line) -> Result<ReportDraft, ReportLineFault>
+    fn with_line(
+        self,
+        alloc: Global,
+        net: &Net,
+        place: &mut Place,
+        line: Line,
+    ) -> Result<ReportDraft, ReportLineFault>
         ensures { Gives read_so_far_of result (step net.now (read_so_far_of self) (line_seen line.entry)) }
     {
         match self {
             ReportDraft::Start => with_ends(net, line),
             ReportDraft::Named(from, to) => with_second(alloc, net, from, to, line),
-            ReportDraft::Open(from, to, cut) => with_more(from, to, cut, net, line),
+            ReportDraft::Open(from, to, cut) => with_more(from, to, cut, net, place, line),
             ReportDraft::Shut(from, to, chain) => with_end(from, to, chain, line),
             ReportDraft::Ended(_) => Err(ReportLineFault::BadLine),
         }
@@ -192,12 +206,13 @@ impl ReportDraft {
         self,
         alloc: Global,
         net: &Net,
+        place: &mut Place,
         line: Option<Line>,
     ) -> Result<ReportDraft, ReportLineFault>
         ensures { (text : List ℕ) → line_of_text text ≡ option_map line_seen line.entry → Gives read_so_far_of result (text_step net.now (read_so_far_of self) text) }
     {
         let line = line.ok_or(ReportLineFault::BadLine)?;
-        self.with_line(alloc, net, line)
+        self.with_line(alloc, net, place, line)
     }
 
     /// The same, where the text is the line of this number.
@@ -205,12 +220,13 @@ impl ReportDraft {
         self,
         alloc: Global,
         net: &Net,
+        place: &mut Place,
         number: u64,
         line: Option<Line>,
     ) -> Result<ReportDraft, ReportFault>
         ensures { (text : List ℕ) → line_of_text text ≡ option_map line_seen line.entry → GivesAt number read_so_far_of result (text_step net.now (read_so_far_of self) text) }
     {
-        match self.with_read(alloc, net, line) {
+        match self.with_read(alloc, net, place, line) {
             Ok(draft) => Ok(draft),
             Err(fault) => Err(fault.at(number)),
         }

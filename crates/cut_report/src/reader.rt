@@ -6,6 +6,7 @@ ghost use Rattle.cut_report.specs.Reading.{outcome_of, IsOfText};
 
 use crate::draft::ReportDraft;
 use crate::line::first_line;
+use crate::near::Place;
 use crate::{Report, ReportFault};
 use cut_net::Net;
 use std::alloc::Global;
@@ -17,10 +18,11 @@ fn read_lines(alloc: Global, bytes: &[u8], net: &Net) -> Result<Report, ReportFa
     ensures of_text { IsOfText result }
 {
     let mut draft = ReportDraft::Start;
+    let mut place = Place::first();
     let mut before = 0;
     let mut rest = bytes;
     while let Some((line, after)) = first_line(rest) {
-        draft = draft.with_numbered(alloc, net, before + 1, line)?;
+        draft = draft.with_numbered(alloc, net, &mut place, before + 1, line)?;
         before += 1;
         rest = after;
     }

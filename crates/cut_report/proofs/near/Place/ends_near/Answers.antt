@@ -2,7 +2,7 @@ use Rattle.std.proofs.Common.{◌∙◌, get_or, sym, arith}
 use Rattle.std.proofs.lemmas.Slice.Eq.{bytes_eq-Decides}
 use Rattle.cut_net.specs.Network.{none_there}
 use Rattle.cut_report.proofs.NearEnds.{ends_low, number_is}
-use Rattle.cut_report.proofs.near.ends_near.Goals as goal
+use Rattle.cut_report.proofs.near.Place.ends_near.Goals as goal
 
 pub name-requires : goal.name-requires
 name-requires c =
