@@ -20,12 +20,34 @@ pub(crate) struct Recent {
     slots: Vec<u16>,
 }
 
-/// One of so many slots, mixed from all bytes of the name. Which one it is decides nothing but the time.
-fn slot_of(name: &str, slots: usize) -> usize {
+/// A few bytes by themselves.
+fn few_mixed(bytes: &[u8]) -> u64 {
     let mut mix = 0u64;
-    for byte in name.as_bytes() {
-        mix = mix.wrapping_mul(31).wrapping_add(u64::from(*byte));
+    for byte in bytes {
+        mix = mix.wrapping_mul(256).wrapping_add(u64::from(*byte));
     }
+    mix
+}
+
+/// The first and the last bytes, which are all bytes of a name of up to sixteen.
+fn ends_mixed(bytes: &[u8]) -> u64 {
+    if let (Some(first), Some(last)) = (bytes.first_chunk::<8>(), bytes.last_chunk::<8>()) {
+        let (first, last) = (u64::from_le_bytes(*first), u64::from_le_bytes(*last));
+        return first.wrapping_mul(31).wrapping_add(last);
+    }
+    if let (Some(first), Some(last)) = (bytes.first_chunk::<4>(), bytes.last_chunk::<4>()) {
+        let (first, last) = (u32::from_le_bytes(*first), u32::from_le_bytes(*last));
+        return u64::from(first)
+            .wrapping_mul(31 << 32)
+            .wrapping_add(u64::from(last));
+    }
+    few_mixed(bytes)
+}
+
+/// One of so many slots, by the ends of the name. Which one it is decides nothing but the time.
+fn slot_of(name: &str, slots: usize) -> usize {
+    let bytes = name.as_bytes();
+    let mix = ends_mixed(bytes).wrapping_add(bytes.len() as u64);
     let spread = mix.wrapping_mul(0x9E37_79B9_7F4A_7C15) >> 32;
     (spread.wrapping_mul(slots as u64) >> 32) as usize
 }
