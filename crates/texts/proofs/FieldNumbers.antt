@@ -1,5 +1,5 @@
 -- A number that is read is the one that was written.
-use Rattle.std.proofs.Common.{◌≡◌, ℕ, zero, suc, ◌+◌, ◌-◌, ◌*◌, ◌^◌, ◌<◌, ◌≤◌, Bool, true, false, eqb, List, ◌&&◌, ◌||◌, not, length, take, get_or, Some, None, Result, Ok, Err, refl, sym, ap, ◌∙◌, arith, rules, inl, inr}
+use Rattle.std.proofs.Common.{◌≡◌, ℕ, zero, suc, ◌+◌, ◌-◌, ◌*◌, ◌^◌, ◌<◌, ◌≤◌, Bool, true, false, eqb, List, ◌&&◌, ◌||◌, not, length, take, get_or, Some, None, Result, Ok, Err, refl, sym, ap, ◌∙◌, arith, rules, inl, inr, drop, ◌∷◌, ◌++◌}
 use Rattle.std.specs.Result.{result_ok}
 use Rattle.std.specs.List.{list_all}
 use Rattle.std.specs.Str.{IsUtf8}
@@ -7,7 +7,8 @@ use Rattle.std.specs.Str.Parse.{digits_value, ParsesUnsigned}
 use Rattle.std.specs.Char.{is_ascii_digit}
 use Rattle.std.specs.Int.{IsInRange}
 use Rattle.std.specs.Fmt.{decimal}
-use Rattle.std.proofs.lemmas.List.{take_all}
+use Rattle.std.proofs.Math.Seq.{split_at}
+use Rattle.std.proofs.lemmas.List.{get_or-take, length-take-le, take_all}
 use Rattle.std.proofs.lemmas.List.Folds.{list_all_more}
 use Rattle.std.proofs.lemmas.Int.Digits.{digits_value_more}
 use Rattle.std.proofs.lemmas.Str.{digit_value_digit}
@@ -100,3 +101,14 @@ number_again n lt =
     let ok : is_plain_number (decimal n) ≡ true =
     and_from _ _ (digits_decimal own n lt) (and_from _ _ (lt-ltb _ _ (decimal_nonempty n lt)) (leads n lt)) in
     rw (ok, v, lt-ltb n (2 ^ 64) lt) refl
+
+-- digits before a line end are a number, where no zero leads them
+pub number_stands : (text : List ℕ) (end value : ℕ) → end < length text → get_or text end 0 ≡ 10 → list_all is_ascii_digit (take end text) ≡ true → value ≡ digits_value 10 (take end text) → value < 2 ^ 64
+    → 0 < end → (get_or text 0 0 ≡ 48 → end ≡ 1) → text ≡ decimal value ++ 10 ∷ drop (end + 1) text
+number_stands text end value within ends digits is fits some lead =
+    let long : length (take end text) ≡ end = length-take-le end text (omega arith) in
+    let first : get_or (take end text) 0 0 ≡ get_or text 0 0 = get_or-take end text 0 0 some in
+    let written = decimal-digits_value own (take end text) digits (omega arith) (λ z. long ∙ lead (sym first ∙ z)) (omega arith) in
+    let next : suc end ≡ end + 1 = omega arith in
+    split_at text end 0 within ∙ ap (λ (b : ℕ). take end text ++ b ∷ drop (suc end) text) ends ∙ ap (λ (n : ℕ). take end text ++ 10 ∷ drop n text) next
+    ∙ ap (λ (v : List ℕ). v ++ 10 ∷ drop (end + 1) text) (sym written ∙ ap decimal (sym is))

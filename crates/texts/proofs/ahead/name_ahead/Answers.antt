@@ -1,7 +1,4 @@
-use Rattle.std.proofs.Common.{◌≡◌, ◌∙◌, true, take, ap, sym}
-use Rattle.std.specs.Char.{is_ascii_alphanumeric}
-use Rattle.std.specs.List.{prefix_len}
-use Rattle.texts.specs.Fields.{is_name}
+use Rattle.std.proofs.Common.{◌∙◌, take, ap, sym}
 use Rattle.texts.proofs.FieldNames.{name_is_text}
 use Rattle.texts.proofs.NamesAhead.{run_is_name}
 use Rattle.texts.proofs.ahead.name_ahead.Goals as goal

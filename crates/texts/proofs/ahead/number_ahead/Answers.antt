@@ -1,11 +1,18 @@
-use Rattle.std.proofs.Common.{◌++◌, ◌∷◌, ◌∙◌, List, ℕ, ap, sym}
-use Rattle.texts.proofs.FieldCuts.{cut_takes, some_is}
-use Rattle.texts.proofs.FieldNumbers.{number_takes}
+use Rattle.std.proofs.Common.{◌≡◌, true, get_or, sym, arith}
+use Rattle.std.specs.Char.{is_ascii_digit}
+use Rattle.texts.proofs.FieldNumbers.{digits_still, value_now}
 use Rattle.texts.proofs.ahead.number_ahead.Goals as goal
 
-pub returns : goal.returns
-returns c =
-    let digits = c.in_ok-digits.digits.now in
-    let rest = c.in_ok-digits.rest.now in
-    cut_takes 10 c.args.text.now (digits, rest) (sym c.in_ok-digits.ensures)
-    ∙ ap (λ (v : List ℕ). v ++ 10 ∷ rest) (number_takes digits c.in_ok-number_in.field-0 (sym c.in_ok-number_in.ensures)).0
+pub loop-at-preserved : goal.loop-at-preserved
+loop-at-preserved c =
+    let i = c.loop-at.at in
+    let digit : is_ascii_digit (get_or c.args.text.now i 0) ≡ true = sym c.if-not-is_ascii_digit.ensures.value in
+    let value = value_now c.args.text.now i c.loop-at-test.true c.loop-at.invariant.digits digit in
+    let so_far = c.loop-at.invariant.so_far in
+    let sum = c.in_ok-value.ensures.1 in
+    let tens = c.in_ok-checked_mul.ensures.1 in
+    let read = c.from-digit.ensures in
+    record {
+      digits = digits_still c.args.text.now i c.loop-at-test.true c.loop-at.invariant.digits digit;
+      so_far = omega arith;
+    }
