@@ -13,6 +13,7 @@ use crate::Priced;
 use crate::draft::NetDraft;
 use crate::net::place_of;
 use crate::ordering::{in_order, is_ascending};
+use crate::recent::Recent;
 use std::alloc::{AllocError, Global};
 
 /// The same names.
@@ -47,6 +48,21 @@ fn number_of(names: &[String], name: &str) -> u32
     place_of(names, name).unwrap() as u32
 }
 
+/// The same, where the name is looked for at this number first.
+fn number_near(names: &[String], guess: usize, name: &str) -> u32
+    requires ascending { AreNamesInOrder (texts names.now) }
+    requires few { length names.now ≤ 8192 }
+    requires known { Contains (texts names.now) name.now }
+    ensures within { result < length names.now }
+    ensures place { slice_index_or (texts names.now) result [] ≡ name.now }
+{
+    if guess < names.len() && names[guess].as_str() == name {
+        guess as u32
+    } else {
+        number_of(names, name)
+    }
+}
+
 /// For each name, in the order of coming, its number.
 pub(crate) fn numbers_of(
     alloc: Global,
@@ -59,9 +75,11 @@ pub(crate) fn numbers_of(
     ensures size { IfOk result (λ numbers. vec_len numbers ≡ length old.now) }
     ensures numbers { IfOk result (λ numbers. (k : ℕ) → k < length numbers.items → (slice_index numbers.items k < length (texts names.now)) × (slice_index_or (texts names.now) (slice_index numbers.items k) [] ≡ slice_index_or (texts old.now) k [])) }
 {
+    let slots = Recent::of(alloc, names)?;
     let mut numbers = Vec::with_capacity(alloc, old.len())?;
     for name in old {
-        numbers.push(number_of(names, name.as_str()))?;
+        let name = name.as_str();
+        numbers.push(number_near(names, slots.guess(name), name))?;
     }
     Ok(numbers)
 }

@@ -14,6 +14,9 @@ const BYTES_A_SLOT: usize = 64;
 
 const MOST_SLOTS: usize = 32768;
 
+/// Of names that are known, so that few of them fall together.
+const SLOTS_A_NAME: usize = 4;
+
 /// Places among names, each in a slot that the name chooses. Another name may have chosen it since, so a place is taken only where the name that stands there is the same.
 #[derive(Drop)]
 pub(crate) struct Recent {
@@ -71,6 +74,24 @@ impl Recent {
         let count = (bytes / BYTES_A_SLOT).min(MOST_SLOTS);
         let slots = vec![in alloc; 0u16; count]?;
         Ok(Recent { slots })
+    }
+
+    /// Slots for these names, each with the place of its own or of another name.
+    pub(crate) fn of(alloc: Global, names: &[String]) -> Result<Recent, AllocError> {
+        let mut slots = vec![in alloc; 0u16; names.len().saturating_mul(SLOTS_A_NAME)]?;
+        for (at, name) in names.iter().enumerate() {
+            let slot = slot_of(name.as_str(), slots.len());
+            if let Some(kept) = slots.get_mut(slot) {
+                *kept = u16::try_from(at).unwrap_or(0);
+            }
+        }
+        Ok(Recent { slots })
+    }
+
+    /// The place that the name's slot has, which may be that of another name.
+    pub(crate) fn guess(&self, name: &str) -> usize {
+        let slot = slot_of(name, self.slots.len());
+        usize::from(self.slots.get(slot).copied().unwrap_or(0))
     }
 
     /// The place of a name among those that came, where it is now if it is new.
