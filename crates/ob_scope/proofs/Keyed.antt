@@ -18,7 +18,7 @@ use Rattle.ob_scope.specs.declared.members.Member.{Member}
 use Rattle.ob_scope.specs.declared.members.Scope.{Scope}
 use Rattle.ob_scope.specs.declared.members.Scope.TheVariants as places
 use Rattle.ob_scope.specs.Scope.{AreTwice}
-use Rattle.ob_scope.specs.Places.{Seat, entry_of, entry_said, AreFirstTwice, HasNoEntry, IsEntryAt, IsIndex}
+use Rattle.ob_scope.specs.Places.{Seat, entry_of, entry_said, AreFirstTwice, HasNoEntry, IsIndex}
 use Rattle.ob_scope.proofs.Elements.{of_slice, slice_of, some_one}
 
 abbrev pub place_eq : Scope → Scope → Bool
@@ -75,12 +75,6 @@ pub no_entry : (keys : List Key) (k : Key) → list_any (key_eq k) keys ≡ fals
 no_entry keys k none i x there says =
     let here : key_eq k (get_or keys i k) ≡ true = key_same k (get_or keys i k) (sym says ∙ ap entry_said (sym (get_or_from_slice_get keys i x k there))) in
     false≢true (sym none ∙ list_any_at (key_eq k) keys i k (slice_get_within keys i x there) here)
-
--- the place of a key
-pub entry_at : (keys : List Key) (k : Key) (i : ℕ) → position (key_eq k) keys ≡ Some i → IsEntryAt keys k.place k.name.bytes.now i
-entry_at keys k i e =
-    let p = position-Some (key_eq k) keys i k e in
-    record { key = get_or keys i k; there = slice_get-get_or keys i k p.0; says = sym (key_one k (get_or keys i k) p.1) }
 
 module _ (name : ℕ → List ℕ) (members : List Member) where
   -- a front of the members
@@ -159,12 +153,3 @@ module _ (name : ℕ → List ℕ) (members : List Member) where
           none_before = λ a b y z below last p q same. t.once a b y z below (get_front i a y (omega arith) p) (get_front i b z last q) same;
         };
       }
-
--- what a search of a key answers
-pub entry_found : (keys : List Key) (k : Key) (r : Option ℕ) → r ≡ position (key_eq k) keys → IfSome r (IsEntryAt keys k.place k.name.bytes.now)
-entry_found keys k None e = tt
-entry_found keys k (Some i) e = entry_at keys k i (sym e)
-
-pub entry_none : (keys : List Key) (k : Key) (r : Option ℕ) → is_some r ≡ list_any (key_eq k) keys → IfNone r (HasNoEntry keys k.place k.name.bytes.now)
-entry_none keys k None e = no_entry keys k (sym e)
-entry_none keys k (Some i) e = tt

@@ -18,3 +18,5 @@ pub mod Sighting
 pub mod Numberings
 pub mod SightSteps
 pub mod OneScopes
+pub mod Forwards
+pub mod Aparts

@@ -12,3 +12,5 @@ pub mod Found
 pub mod Crossings
 pub mod Sights
 pub mod Sighted
+pub mod Apart
+pub mod Forward

@@ -38,12 +38,6 @@ abbrev pub TellsTwice : (ℕ → List ℕ) → List Member → IndexFault → Ty
 TellsTwice name members (faults.Twice f s) = AreFirstTwice name members f s
 TellsTwice name members faults.Memory = Unit {0}
 
--- the key at this place says this
-pub record IsEntryAt (keys : List Key) (place : Scope) (name : List ℕ) (i : ℕ) : Type 0 where
-  pub key : Key
-  pub there : slice_get keys i ≡ Some key
-  pub says : entry_said key ≡ record { place = place; name = name }
-
 -- no key says it
 abbrev pub HasNoEntry : List Key → Scope → List ℕ → Type 0
 HasNoEntry keys place name = (i : ℕ) (k : Key) → slice_get keys i ≡ Some k → entry_said k ≡ record { place = place; name = name } → ⊥

@@ -1,5 +1,5 @@
 //! Scopes from a table.
-ghost use Rattle.std.specs.Prelude.{◌≡◌, ◌≤◌, length, IfOk, IfErr};
+ghost use Rattle.std.specs.Prelude.{◌≡◌, ◌≤◌, length, IfOk, IfErr, OnOk};
 ghost use Rattle.ob_scan.specs.Spelling.{AreInText, Spells};
 ghost use Rattle.ob_decls.specs.Declaring.{rows_in};
 ghost use Rattle.ob_decls.specs.Parts.{Rows};
@@ -7,19 +7,21 @@ ghost use Rattle.ob_scope.specs.Found.{AreAliasesOf, AreCounted, AreMeant, IsCou
 ghost use Rattle.ob_scope.specs.Identified.{AreNames};
 ghost use Rattle.ob_decls.specs.Order.{AreRowsInOrder, AscendBy};
 ghost use Rattle.ob_scope.specs.Members.{members_of};
-ghost use Rattle.ob_scope.specs.Places.{IsIndex, TellsTwice};
+ghost use Rattle.ob_scope.specs.Places.{TellsTwice};
 ghost use Rattle.ob_scope.specs.Scope.{NoneTwice};
 ghost use Rattle.ob_scope.specs.Scoped.{AreScopes, IsScopeFault};
+ghost use Rattle.ob_scope.specs.Sights.{AreNumbered};
 ghost use Rattle.ob_scope.specs.Texts.{text_at};
 ghost use Rattle.ob_scope.specs.declared.members.Member.{Member};
 
+use crate::apart::are_apart;
 use crate::identified::are_identifiers;
 use crate::members::{Member, Scope, members_by, place_of_member};
-use crate::places::{IndexFault, Key, index_of};
+use crate::numbering::{Numbered, number_names};
+use crate::places::{IndexFault, index_of};
 use crate::text::Text;
 use crate::uses::{Resolved, found_by};
 use crate::{Alias, ScopeFault, Scopes};
-use indexmap::IndexSet;
 use ob_decls::{Import, Table};
 use ob_scan::Token;
 use std::alloc::{AllocError, Global};
@@ -131,13 +133,35 @@ fn scopes_of(
     })
 }
 
-/// The scopes of a module with this table, whose members have this index.
+/// Refuses members of which two have one name and one place. A table of all is made only where the order of places doesn't tell them apart.
+fn refuse_twice(
+    alloc: Global,
+    text: &Text,
+    members: &[Member],
+    named: &Numbered,
+) -> Result<(), ScopeFault>
+    requires in_text { AreInText text.now.bytes.now text.now.tokens.now }
+    requires numbered { AreNumbered (text_at text.now.bytes.now text.now.tokens.now) members.now named.now.names.keys named.now.numbers.items }
+    ensures once { OnOk result (NoneTwice (text_at text.now.bytes.now text.now.tokens.now) members.now) }
+    ensures fault { IfErr result (λ fault. (rows : Rows) → members.now ≡ members_of rows → AreNames (text_at text.now.bytes.now text.now.tokens.now) rows
+        → IsScopeFault text.now.bytes.now text.now.tokens.now rows fault) }
+{
+    if are_apart(alloc, text, members, named)? {
+        return Ok(());
+    }
+    match index_of(alloc, text, members) {
+        Ok(_) => Ok(()),
+        Err(fault) => Err(fault_of(alloc, text, members, fault)?),
+    }
+}
+
+/// The scopes of a module with this table, whose members are told apart.
 fn scopes_with(
     alloc: Global,
     text: &Text,
     table: &Table,
     members: &[Member],
-    index: &IndexSet<Key>,
+    named: &Numbered,
 ) -> Result<Scopes, AllocError>
     requires in_text { AreInText text.now.bytes.now text.now.tokens.now }
     requires ordered { AreRowsInOrder (rows_in table.now) }
@@ -145,10 +169,10 @@ fn scopes_with(
     requires members { members.now ≡ members_of (rows_in table.now) }
     requires named { AreNames (text_at text.now.bytes.now text.now.tokens.now) (rows_in table.now) }
     requires once { NoneTwice (text_at text.now.bytes.now text.now.tokens.now) members.now }
-    requires index { IsIndex (text_at text.now.bytes.now text.now.tokens.now) members.now index.now.keys }
+    requires numbered { AreNumbered (text_at text.now.bytes.now text.now.tokens.now) members.now named.now.names.keys named.now.numbers.items }
     ensures { IfOk result (AreScopes text.now.bytes.now text.now.tokens.now (rows_in table.now)) }
 {
-    let found = found_by(alloc, text, index, table.blocks(), members, table.uses())?;
+    let found = found_by(alloc, text, table.blocks(), members, named, table.uses())?;
     scopes_of(alloc, text, table, members, found)
 }
 
@@ -167,9 +191,10 @@ fn scopes_by(
     ensures scoped { IfOk result (AreScopes text.now.bytes.now text.now.tokens.now (rows_in table.now)) }
     ensures fault { IfErr result (IsScopeFault text.now.bytes.now text.now.tokens.now (rows_in table.now)) }
 {
-    match index_of(alloc, text, members) {
-        Ok(index) => Ok(scopes_with(alloc, text, table, members, &index)?),
-        Err(fault) => Err(fault_of(alloc, text, members, fault)?),
+    let named = number_names(alloc, text, members)?;
+    match refuse_twice(alloc, text, members, &named) {
+        Ok(()) => Ok(scopes_with(alloc, text, table, members, &named)?),
+        Err(fault) => Err(fault),
     }
 }
 

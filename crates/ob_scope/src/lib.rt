@@ -4,9 +4,11 @@
 #![tactic(auto)]
 
 mod across;
+mod apart;
 mod build;
 mod entry;
 mod fault;
+mod forward;
 mod identified;
 pub mod laws;
 mod meaning;

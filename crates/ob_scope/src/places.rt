@@ -1,8 +1,8 @@
 //! An index of what is declared, by place and name.
-ghost use Rattle.std.specs.Prelude.{◌≡◌, IfOk, IfErr, IfSome, IfNone};
+ghost use Rattle.std.specs.Prelude.{◌≡◌, IfOk, IfErr};
 ghost use Rattle.ob_scan.specs.Spelling.{AreInText};
 ghost use Rattle.ob_scope.specs.Texts.{text_at};
-ghost use Rattle.ob_scope.specs.Places.{entry_of, entry_said, HasNoEntry, IsEntryAt, IsIndex, TellsTwice};
+ghost use Rattle.ob_scope.specs.Places.{entry_of, entry_said, IsIndex, TellsTwice};
 
 use crate::members::{Member, Scope};
 use crate::numbering::Name;
@@ -59,13 +59,4 @@ pub(crate) fn index_of<'a>(
         }
     }
     Ok(index)
-}
-
-/// The place of the member of this name that is declared here.
-pub(crate) fn member_in(index: &IndexSet<Key>, scope: Scope, name: &[u8]) -> Option<usize>
-    ensures found { IfSome result (IsEntryAt index.now.keys scope name.now) }
-    ensures none { IfNone result (HasNoEntry index.now.keys scope name.now) }
-{
-    let name = Name { bytes: name };
-    index.get_index_of(&Key { place: scope, name })
 }

@@ -1,74 +1,51 @@
 //! What a use means: what it resolves to, or for a target the type that is declared later.
-ghost use Rattle.std.specs.Prelude.{◌≡◌, ◌<◌, true, ℕ, Some, length, slice_get, IfOk, IfSome, IfNone, OnOk};
+ghost use Rattle.std.specs.Prelude.{◌≡◌, ◌<◌, ℕ, Some, length, slice_get, IfOk, IfSome, IfNone, OnOk};
 ghost use Rattle.ob_scan.specs.Spelling.{AreInText};
 ghost use Rattle.ob_decls.specs.declared.rows.Block.{Block};
-ghost use Rattle.ob_decls.specs.declared.rows.Sort.TheVariants as sorts;
 ghost use Rattle.ob_decls.specs.Order.{AscendBy, HasNoneBy, IsPlaceBy};
-ghost use Rattle.ob_scope.specs.Looked.{IsMeant, IsNamedIn, IsTypeAfter, MeansNothing};
-ghost use Rattle.ob_scope.specs.Places.{IsIndex};
+ghost use Rattle.indexmap.specs.IndexMap.{get};
+ghost use Rattle.ob_scope.specs.Forward.{same_type, AreTypes};
+ghost use Rattle.ob_scope.specs.Looked.{IsMeant, IsTypeAfter, MeansNothing};
 ghost use Rattle.ob_scope.specs.declared.members.Member.{Member};
-ghost use Rattle.ob_scope.specs.Scope.{IsDirectlyIn};
+ghost use Rattle.ob_scope.specs.Scope.{IsDirectlyIn, NoneTwice};
 ghost use Rattle.ob_scope.specs.Sighted.{IsFrontBefore, IsSight};
 ghost use Rattle.ob_scope.specs.Sights.{AreNumbered};
 ghost use Rattle.ob_scope.specs.Texts.{text_at};
 
-use crate::members::{Member, Scope};
-use crate::numbering::Numbered;
-use crate::places::{Key, member_in};
+use crate::members::Member;
+use crate::numbering::{Numbered, name_number};
 use crate::sight::{Sight, resolved};
 use crate::text::Text;
-use indexmap::IndexSet;
-use ob_decls::{Block, Sort, Used};
+use indexmap::IndexMap;
+use ob_decls::{Block, Used};
 use std::alloc::AllocError;
 
-/// The place of the member that has the name of this token and is declared in this block, and the member.
-fn named_in(
-    text: &Text,
-    index: &IndexSet<Key>,
-    members: &[Member],
-    block: u32,
-    number: u32,
-) -> Option<(usize, Member)>
-    requires in_text { AreInText text.now.bytes.now text.now.tokens.now }
-    requires index { IsIndex (text_at text.now.bytes.now text.now.tokens.now) members.now index.now.keys }
-    ensures found { IfSome result (IsNamedIn (text_at text.now.bytes.now text.now.tokens.now) members.now block number) }
-    ensures only { IfSome result (λ r. (i : ℕ) (m : Member) → IsNamedIn (text_at text.now.bytes.now text.now.tokens.now) members.now block number (i, m) → i ≡ r.0) }
-    ensures none { IfNone result ((i : ℕ) (m : Member) → IsNamedIn (text_at text.now.bytes.now text.now.tokens.now) members.now block number (i, m) → ⊥) }
+/// The place of the type of this name that this block declares.
+fn type_named(types: &IndexMap<(u32, usize), usize>, block: u32, number: usize) -> Option<usize>
+    ensures { result ≡ get same_type types.now (block, number) }
 {
-    let at = member_in(index, Scope::Block(block), text.of(number))?;
-    Some((at, members[at]))
-}
-
-fn is_type(sort: Sort) -> bool
-    ensures yes { result ≡ true → sort ≡ sorts.Type }
-    ensures no { sort ≡ sorts.Type → result ≡ true }
-{
-    match sort {
-        Sort::Type => true,
-        Sort::Import => false,
-        Sort::Constant => false,
-        Sort::Variable => false,
-        Sort::Procedure => false,
-        Sort::Parameter => false,
-        Sort::Field => false,
-    }
+    types.get(&(block, number)).copied()
 }
 
 /// The place of the type that has the name of this token, is declared in this block and stands behind the token.
 fn type_after(
     text: &Text,
-    index: &IndexSet<Key>,
+    types: &IndexMap<(u32, usize), usize>,
     members: &[Member],
+    named: &Numbered,
     block: u32,
-    number: u32,
+    token: u32,
 ) -> Option<usize>
     requires in_text { AreInText text.now.bytes.now text.now.tokens.now }
-    requires index { IsIndex (text_at text.now.bytes.now text.now.tokens.now) members.now index.now.keys }
-    ensures found { IfSome result (IsTypeAfter (text_at text.now.bytes.now text.now.tokens.now) members.now block number) }
-    ensures none { IfNone result ((i : ℕ) → IsTypeAfter (text_at text.now.bytes.now text.now.tokens.now) members.now block number i → ⊥) }
+    requires once { NoneTwice (text_at text.now.bytes.now text.now.tokens.now) members.now }
+    requires numbered { AreNumbered (text_at text.now.bytes.now text.now.tokens.now) members.now named.now.names.keys named.now.numbers.items }
+    requires types { AreTypes members.now named.now.numbers.items (length members.now) types.now }
+    ensures found { IfSome result (IsTypeAfter (text_at text.now.bytes.now text.now.tokens.now) members.now block token) }
+    ensures none { IfNone result ((i : ℕ) → IsTypeAfter (text_at text.now.bytes.now text.now.tokens.now) members.now block token i → ⊥) }
 {
-    let (at, member) = named_in(text, index, members, block, number)?;
-    if number < member.number && is_type(member.sort) {
+    let number = name_number(&named.names, text.of(token))?;
+    let at = type_named(types, block, number)?;
+    if token < members[at].number {
         Some(at)
     } else {
         None
@@ -98,7 +75,7 @@ pub(crate) fn outer_of(blocks: &[Block], block: u32) -> Option<u32>
 /// The place of the member that a use means. Uses are asked for in the order of their tokens.
 pub(crate) fn meaning(
     text: &Text,
-    index: &IndexSet<Key>,
+    types: &IndexMap<(u32, usize), usize>,
     blocks: &[Block],
     members: &[Member],
     named: &Numbered,
@@ -108,7 +85,8 @@ pub(crate) fn meaning(
     requires in_text { AreInText text.now.bytes.now text.now.tokens.now }
     requires blocks { AscendBy (λ (b : Block). b.first) blocks.now }
     requires members { AscendBy (λ (m : Member). m.number) members.now }
-    requires index { IsIndex (text_at text.now.bytes.now text.now.tokens.now) members.now index.now.keys }
+    requires once { NoneTwice (text_at text.now.bytes.now text.now.tokens.now) members.now }
+    requires types { AreTypes members.now named.now.numbers.items (length members.now) types.now }
     requires numbered { AreNumbered (text_at text.now.bytes.now text.now.tokens.now) members.now named.now.names.keys named.now.numbers.items }
     requires sight { IsSight blocks.now members.now named.now.numbers.items (length named.now.names.keys) sight.old }
     requires before { (k : ℕ) (m : Member) → k < sight.old.next → slice_get members.now k ≡ Some m → m.number < used.number }
@@ -117,11 +95,12 @@ pub(crate) fn meaning(
     ensures found { IfOk result (λ at. IfSome at (IsMeant (text_at text.now.bytes.now text.now.tokens.now) blocks.now members.now used)) }
     ensures none { IfOk result (λ at. IfNone at (MeansNothing (text_at text.now.bytes.now text.now.tokens.now) blocks.now members.now used)) }
 {
-    if let Some(at) = resolved(text, blocks, members, named, sight, used.block, used.number)? {
+    let at = resolved(text, blocks, members, named, sight, used.block, used.number)?;
+    if let Some(at) = at {
         return Ok(Some(at));
     }
     if !used.is_target {
         return Ok(None);
     }
-    Ok(type_after(text, index, members, used.block, used.number))
+    Ok(type_after(text, types, members, named, used.block, used.number))
 }

@@ -5,20 +5,21 @@ ghost use Rattle.ob_decls.specs.declared.rows.Block.{Block};
 ghost use Rattle.ob_decls.specs.declared.rows.Used.{Used};
 ghost use Rattle.ob_scope.specs.Found.{counted_for, is_import, AreCounted, AreMeant};
 ghost use Rattle.ob_decls.specs.Order.{AscendBy};
-ghost use Rattle.ob_scope.specs.Places.{IsIndex};
+ghost use Rattle.ob_scope.specs.Forward.{AreTypes};
+ghost use Rattle.ob_scope.specs.Scope.{NoneTwice};
 ghost use Rattle.ob_scope.specs.Sighted.{IsSight};
 ghost use Rattle.ob_scope.specs.Sights.{AreNumbered};
 ghost use Rattle.ob_scope.specs.Texts.{text_at};
 ghost use Rattle.ob_scope.specs.declared.members.Member.{Member};
 
+use crate::forward::types_of;
 use crate::meaning::Resolution;
 use crate::members::Member;
-use crate::numbering::{Numbered, number_names};
-use crate::places::Key;
+use crate::numbering::Numbered;
 use crate::resolve::meaning;
 use crate::sight::{Sight, no_sight};
 use crate::text::Text;
-use indexmap::IndexSet;
+use indexmap::IndexMap;
 use ob_decls::{Block, Sort, Used};
 use std::alloc::{AllocError, Global};
 
@@ -57,7 +58,7 @@ fn count(counts: &mut [u64], at: usize, member: Member, used: Used)
 /// Looks up each use.
 fn find_each(
     text: &Text,
-    index: &IndexSet<Key>,
+    types: &IndexMap<(u32, usize), usize>,
     blocks: &[Block],
     members: &[Member],
     named: &Numbered,
@@ -70,7 +71,8 @@ fn find_each(
     requires blocks { AscendBy (λ (b : Block). b.first) blocks.now }
     requires uses { AscendBy (λ (u : Used). u.number) uses.now }
     requires members { AscendBy (λ (m : Member). m.number) members.now }
-    requires index { IsIndex (text_at text.now.bytes.now text.now.tokens.now) members.now index.now.keys }
+    requires once { NoneTwice (text_at text.now.bytes.now text.now.tokens.now) members.now }
+    requires types { AreTypes members.now named.now.numbers.items (length members.now) types.now }
     requires numbered { AreNumbered (text_at text.now.bytes.now text.now.tokens.now) members.now named.now.names.keys named.now.numbers.items }
     requires sight { IsSight blocks.now members.now named.now.numbers.items (length named.now.names.keys) sight.old }
     requires none_yet { sight.old.next ≡ 0 }
@@ -82,7 +84,8 @@ fn find_each(
 {
     for k in 0..uses.len() {
         let used = uses[k];
-        if let Some(at) = meaning(text, index, blocks, members, named, sight, used)? {
+        let at = meaning(text, types, blocks, members, named, sight, used)?;
+        if let Some(at) = at {
             let member = members[at];
             meanings.push(Resolution {
                 used: used.number,
@@ -98,7 +101,7 @@ fn find_each(
 fn found_with(
     alloc: Global,
     text: &Text,
-    index: &IndexSet<Key>,
+    types: &IndexMap<(u32, usize), usize>,
     blocks: &[Block],
     members: &[Member],
     named: &Numbered,
@@ -108,7 +111,8 @@ fn found_with(
     requires blocks { AscendBy (λ (b : Block). b.first) blocks.now }
     requires uses { AscendBy (λ (u : Used). u.number) uses.now }
     requires members { AscendBy (λ (m : Member). m.number) members.now }
-    requires index { IsIndex (text_at text.now.bytes.now text.now.tokens.now) members.now index.now.keys }
+    requires once { NoneTwice (text_at text.now.bytes.now text.now.tokens.now) members.now }
+    requires types { AreTypes members.now named.now.numbers.items (length members.now) types.now }
     requires numbered { AreNumbered (text_at text.now.bytes.now text.now.tokens.now) members.now named.now.names.keys named.now.numbers.items }
     ensures meant { IfOk result (λ f. AreMeant (text_at text.now.bytes.now text.now.tokens.now) blocks.now members.now uses.now (length uses.now) f.meanings.items) }
     ensures counted { IfOk result (λ f. AreCounted (text_at text.now.bytes.now text.now.tokens.now) blocks.now members.now uses.now (length uses.now) f.counts.items) }
@@ -118,7 +122,7 @@ fn found_with(
     let mut sight = no_sight(alloc, named.names.len(), members.len())?;
     find_each(
         text,
-        index,
+        types,
         blocks,
         members,
         named,
@@ -134,19 +138,20 @@ fn found_with(
 pub(crate) fn found_by(
     alloc: Global,
     text: &Text,
-    index: &IndexSet<Key>,
     blocks: &[Block],
     members: &[Member],
+    named: &Numbered,
     uses: &[Used],
 ) -> Result<Resolved, AllocError>
     requires in_text { AreInText text.now.bytes.now text.now.tokens.now }
     requires blocks { AscendBy (λ (b : Block). b.first) blocks.now }
     requires uses { AscendBy (λ (u : Used). u.number) uses.now }
     requires members { AscendBy (λ (m : Member). m.number) members.now }
-    requires index { IsIndex (text_at text.now.bytes.now text.now.tokens.now) members.now index.now.keys }
+    requires once { NoneTwice (text_at text.now.bytes.now text.now.tokens.now) members.now }
+    requires numbered { AreNumbered (text_at text.now.bytes.now text.now.tokens.now) members.now named.now.names.keys named.now.numbers.items }
     ensures meant { IfOk result (λ f. AreMeant (text_at text.now.bytes.now text.now.tokens.now) blocks.now members.now uses.now (length uses.now) f.meanings.items) }
     ensures counted { IfOk result (λ f. AreCounted (text_at text.now.bytes.now text.now.tokens.now) blocks.now members.now uses.now (length uses.now) f.counts.items) }
 {
-    let named = number_names(alloc, text, members)?;
-    found_with(alloc, text, index, blocks, members, &named, uses)
+    let types = types_of(alloc, members, named.numbers.as_slice())?;
+    found_with(alloc, text, &types, blocks, members, named, uses)
 }

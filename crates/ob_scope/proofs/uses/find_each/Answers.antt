@@ -50,8 +50,8 @@ loop-k-preserved c =
     let uses = c.args.uses.now in
     let k = c.loop-k.k in
     let at = slice_get-get_or uses k _ c.loop-k-test.true in
-    let once : NoneTwice name members = c.requires.index.once in
-    elim c.match-branch-2.branch [
+    let once : NoneTwice name members = c.requires.once in
+    elim c.match-at.branch [
       | in-Some+in_ok-push w ↦ (
           let h = rw w.in-Some.is at c.in_ok-at.ensures.found in
           let i = w.in-Some.at in

@@ -1,0 +1,79 @@
+-- Members of one name whose places begin one behind the other.
+use Rattle.std.proofs.Common.{◌≡◌, ℕ, ◌+◌, ◌<◌, ◌≤◌, List, length, get_or, Some, None, refl, sym, ap, ◌∙◌, subst, arith, ⊎_elim}
+use Rattle.std.specs.Prelude.{slice_get, slice_index, slice_set}
+use Rattle.std.proofs.lemmas.Bool.{cases_lt}
+use Rattle.std.proofs.lemmas.List.{get_or-set_same, get_or-set_other}
+use Rattle.std.proofs.lemmas.Option.{slice_get_within}
+use Rattle.ob_scope.specs.declared.apart.Passed.{Passed}
+use Rattle.ob_scope.specs.declared.members.Member.{Member}
+use Rattle.ob_scope.specs.declared.members.Scope.{Scope}
+use Rattle.ob_scope.specs.declared.numbering.Name.{Name}
+use Rattle.ob_scope.specs.Apart.{IsPassed}
+use Rattle.ob_scope.specs.Scope.{AreTwice, NoneTwice}
+use Rattle.ob_scope.specs.Sights.{name_number, AreNumbered}
+
+-- of the first members, so many, the places of each name are passed, and none are twice
+pub record AreApart (name : ℕ → List ℕ) (members : List Member) (numbers : List ℕ) (passed : List Passed) (i : ℕ) : Type 0 where
+  pub reached : (k : ℕ) (m : Member) (d : Passed) → k < i → slice_get members k ≡ Some m → IsPassed (get_or passed (slice_index numbers k) d) m.place
+  pub once : (a b : ℕ) (f g : Member) → a < b → b < i → slice_get members a ≡ Some f → slice_get members b ≡ Some g → AreTwice name f g → ⊥
+
+module _ (name : ℕ → List ℕ) (members : List Member) (names : List Name) (numbers : List ℕ) (numbered : AreNumbered name members names numbers) where
+  pub apart_none : (passed : List Passed) → AreApart name members numbers passed 0
+  apart_none passed = record {
+    reached = λ k m d l e. absurd (omega arith);
+    once = λ a b f g l less p q t. absurd (omega arith);
+  }
+
+  pub apart_more : (passed : List Passed) (i : ℕ) (m : Member) (d next : Passed) → AreApart name members numbers passed i → length passed ≡ length names → slice_get members i ≡ Some m
+      → (IsPassed (get_or passed (slice_index numbers i) d) m.place → ⊥) → IsPassed next m.place → ((p : Scope) → IsPassed (get_or passed (slice_index numbers i) d) p → IsPassed next p)
+      → AreApart name members numbers (slice_set passed (slice_index numbers i) next) (i + 1)
+  apart_more passed i m d next h long at new here kept = record {
+    reached = reached_at;
+    once = λ a b f g l less p q t. ⊎_elim
+        (λ (below : b < i). h.once a b f g l below p q t)
+        (λ (past : i ≤ b). (
+        let same : b ≡ i = omega arith in
+        let last : g ≡ m = (let s : Some g ≡ Some m = sym q ∙ ap (slice_get members) same ∙ at in cc) in
+        let number : slice_index numbers a ≡ slice_index numbers i = numbered.each a f p ∙ ap (name_number names) (t.1 ∙ ap (λ (y : Member). name y.number) last) ∙ sym (numbered.each i m at) in
+        let earlier : IsPassed (get_or passed (slice_index numbers a) d) f.place = h.reached a f d (omega arith) p in
+        new (subst (λ (n : ℕ). IsPassed (get_or passed n d) m.place) number (subst (λ (s : Scope). IsPassed (get_or passed (slice_index numbers a) d) s) (t.0 ∙ ap (λ (y : Member). y.place) last) earlier))))
+        (cases_lt b i);
+  }
+    where
+      n : ℕ
+      n = slice_index numbers i
+
+      within : n < length passed
+      within = let w = numbered.within i m at in omega (arith, w, long)
+
+      at_number : (j : ℕ) (e : Passed) → j ≡ n → get_or (slice_set passed n next) j e ≡ next
+      at_number j e same = ap (λ (x : ℕ). get_or (slice_set passed n next) x e) same ∙ get_or-set_same passed n next e within
+
+      elsewhere : (j : ℕ) (e : Passed) (p : Scope) → (j ≡ n → ⊥) → IsPassed (get_or passed j e) p → IsPassed (get_or (slice_set passed n next) j e) p
+      elsewhere j e p apart was = subst (λ (r : Passed). IsPassed r p) (sym (get_or-set_other passed n j next e apart)) was
+
+      raised : (j : ℕ) (e : Passed) (p : Scope) → j ≡ n → IsPassed (get_or passed j d) p → IsPassed (get_or (slice_set passed n next) j e) p
+      raised j e p same was = subst (λ (r : Passed). IsPassed r p) (sym (at_number j e same)) (kept p (subst (λ (x : ℕ). IsPassed (get_or passed x d) p) same was))
+
+      front_at : (k : ℕ) (x : Member) (e : Passed) → k < i → slice_get members k ≡ Some x → IsPassed (get_or (slice_set passed n next) (slice_index numbers k) e) x.place
+      front_at k x e l there = ⊎_elim
+          (λ (below : slice_index numbers k < n). elsewhere (slice_index numbers k) e x.place (λ s. omega (arith, below, s)) (h.reached k x e l there))
+          (λ (above : n ≤ slice_index numbers k).
+          ⊎_elim
+          (λ (more : n < slice_index numbers k). elsewhere (slice_index numbers k) e x.place (λ s. omega (arith, more, s)) (h.reached k x e l there))
+          (λ (less : slice_index numbers k ≤ n). raised (slice_index numbers k) e x.place (omega (arith, above, less)) (h.reached k x d l there))
+          (cases_lt n (slice_index numbers k)))
+          (cases_lt (slice_index numbers k) n)
+
+      reached_at : (k : ℕ) (x : Member) (e : Passed) → k < i + 1 → slice_get members k ≡ Some x → IsPassed (get_or (slice_set passed n next) (slice_index numbers k) e) x.place
+      reached_at k x e l there = ⊎_elim
+          (λ (front : k < i). front_at k x e front there)
+          (λ (past : i ≤ k). (
+          let same : k ≡ i = omega arith in
+          let last : m ≡ x = (let s : Some m ≡ Some x = sym at ∙ ap (slice_get members) (sym same) ∙ there in cc) in
+          subst (λ (r : Passed). IsPassed r x.place) (sym (at_number (slice_index numbers k) e (ap (slice_index numbers) same)))
+          (subst (λ (y : Member). IsPassed next y.place) last here)))
+          (cases_lt k i)
+
+pub apart_all : (name : ℕ → List ℕ) (members : List Member) (numbers : List ℕ) (passed : List Passed) (i : ℕ) → AreApart name members numbers passed i → length members ≤ i → NoneTwice name members
+apart_all name members numbers passed i h past = λ a b f g l p q t. (let w = slice_get_within members b g q in h.once a b f g l (omega arith) p q t)
