@@ -1,5 +1,5 @@
 //! The blocks that are open at a token.
-ghost use Rattle.std.specs.Prelude.{◌≡◌, ◌++◌, ◌∷◌, ◌+◌, ◌≤◌, ℕ, List, [], OnOk, IfSome, IfNone, true};
+ghost use Rattle.std.specs.Prelude.{◌≡◌, ◌++◌, ◌∷◌, ◌+◌, ◌≤◌, ℕ, List, [], OnOk, IfSome, IfNone, Some, Contains, slice_get, true};
 ghost use Rattle.ob_decls.specs.declared.rows.Block.{Block};
 ghost use Rattle.ob_decls.specs.Order.{AscendBy, HasNoneBy, IsPlaceBy};
 ghost use Rattle.ob_scope.specs.Sights.{Enters, IsInnermost, IsOpen, IsOpenScope};
@@ -88,6 +88,28 @@ fn place_of_open(stack: &[u32], block: u32) -> Option<usize>
     stack.binary_search_by_key(&block, |block| *block).ok()
 }
 
+/// Whether this block is the outermost.
+fn is_outermost(stack: &[u32], block: u32) -> bool
+    ensures { result ≡ true → slice_get stack.now 0 ≡ Some block }
+{
+    match stack.first() {
+        Some(first) => *first == block,
+        None => false,
+    }
+}
+
+/// Whether a block is open. Mostly it is the innermost or the outermost one, and no search is made.
+fn is_among(stack: &[u32], block: u32) -> bool
+    requires { AscendBy (λ (b : ℕ). b) stack.now }
+    ensures yes { result ≡ true → Contains stack.now block }
+    ensures no { Contains stack.now block → result ≡ true }
+{
+    if is_innermost(stack, block) || is_outermost(stack, block) {
+        return true;
+    }
+    place_of_open(stack, block).is_some()
+}
+
 /// Whether a scope is an open block.
 pub(crate) fn is_open(stack: &[u32], scope: Scope) -> bool
     requires { AscendBy (λ (b : ℕ). b) stack.now }
@@ -95,7 +117,7 @@ pub(crate) fn is_open(stack: &[u32], scope: Scope) -> bool
     ensures no { IsOpenScope stack.now scope → result ≡ true }
 {
     match scope {
-        Scope::Block(block) => place_of_open(stack, block).is_some(),
+        Scope::Block(block) => is_among(stack, block),
         Scope::Record(_) => false,
     }
 }
