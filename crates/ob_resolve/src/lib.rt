@@ -4,6 +4,7 @@
 #![tactic(auto)]
 
 mod found;
+mod groups;
 mod meaning;
 mod refs;
 mod selectors;

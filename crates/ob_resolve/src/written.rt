@@ -5,6 +5,7 @@ ghost use Rattle.ob_resolve.specs.Marked.{with_mark};
 ghost use Rattle.ob_targets.specs.Standing.{is_token};
 ghost use Rattle.ob_targets.specs.Targets.{is_written, last_name, writes};
 
+use crate::groups::selectors_near;
 use crate::standings::name_of;
 use ob_decls::{Designator, Selector, Table};
 use std::alloc::{AllocError, Global};
@@ -22,12 +23,15 @@ fn last_name(head: u32, selectors: &[Selector]) -> u32
     last
 }
 
-/// The name that a designator writes, if it is written.
-fn written_by(table: &Table, designator: Designator) -> Option<u32>
+/// The name that a designator writes, if it is written; designators are asked for in order.
+fn written_by(table: &Table, near: &mut usize, designator: Designator) -> Option<u32>
     ensures { (k : ℕ) → writes (rows_in table.now) k designator ≡ is_token k result }
 {
     if designator.is_written {
-        Some(last_name(designator.head, table.selectors_of(designator.head)))
+        Some(last_name(
+            designator.head,
+            selectors_near(table, near, designator.head),
+        ))
     } else {
         None
     }
@@ -50,8 +54,9 @@ fn mark_written(written: &mut [bool], table: &Table)
     ensures { (k : ℕ) → k < length written.old → slice_get written.new k ≡ Some (is_written (rows_in table.now) k) }
 {
     let designators = table.designators();
+    let mut near = 0;
     for designator in designators {
-        let name = written_by(table, *designator);
+        let name = written_by(table, &mut near, *designator);
         mark_name(written, name);
     }
 }

@@ -1,0 +1,111 @@
+//! The selectors of one designator after another, where designators are asked for in order.
+ghost use Rattle.std.specs.Prelude.{◌≡◌, ◌<◌, ◌≤◌, ℕ, true, Some, nat_eq, slice_get, length, IfSome};
+ghost use Rattle.std.specs.List.{filter};
+ghost use Rattle.ob_decls.specs.Declaring.{rows_in};
+ghost use Rattle.ob_decls.specs.Order.{RiseBy};
+ghost use Rattle.ob_decls.specs.declared.rows.Selector.{Selector as Row};
+ghost use Rattle.ob_targets.specs.Targets.{selectors_of};
+
+use ob_decls::{Selector, Table};
+
+/// The first place from this one on whose selector is of this designator or a later one. Nothing is promised of it.
+fn place_from(selectors: &[Selector], from: usize, head: u32) -> usize {
+    let mut at = from;
+    'selectors: while at < selectors.len() && selectors[at].of < head {
+        at += 1;
+    }
+    at
+}
+
+/// The first place from this one on whose selector is of a later designator. Nothing is promised of it.
+fn place_behind(selectors: &[Selector], from: usize, head: u32) -> usize {
+    let mut at = from;
+    'selectors: while at < selectors.len() && selectors[at].of <= head {
+        at += 1;
+    }
+    at
+}
+
+/// Whether all selectors before a place are of earlier designators.
+fn are_before(selectors: &[Selector], at: usize, head: u32) -> bool
+    requires { RiseBy (λ (s : Row). s.of) selectors.now }
+    ensures { result ≡ true → (i : ℕ) (s : Row) → i < at → slice_get selectors.now i ≡ Some s → s.of < head }
+{
+    match at.checked_sub(1) {
+        Some(last) => match selectors.get(last) {
+            Some(row) => row.of < head,
+            None => false,
+        },
+        None => true,
+    }
+}
+
+/// Whether no selector from a place on is of an earlier designator.
+fn are_from(selectors: &[Selector], at: usize, head: u32) -> bool
+    requires { RiseBy (λ (s : Row). s.of) selectors.now }
+    ensures { result ≡ true → (i : ℕ) (s : Row) → at ≤ i → slice_get selectors.now i ≡ Some s → head ≤ s.of }
+{
+    match selectors.get(at) {
+        Some(row) => head <= row.of,
+        None => true,
+    }
+}
+
+/// Whether no selector before a place is of a later designator.
+fn are_up_to(selectors: &[Selector], end: usize, head: u32) -> bool
+    requires { RiseBy (λ (s : Row). s.of) selectors.now }
+    ensures { result ≡ true → (i : ℕ) (s : Row) → i < end → slice_get selectors.now i ≡ Some s → s.of ≤ head }
+{
+    match end.checked_sub(1) {
+        Some(last) => match selectors.get(last) {
+            Some(row) => row.of <= head,
+            None => false,
+        },
+        None => true,
+    }
+}
+
+/// Whether all selectors from a place on are of later designators.
+fn are_behind(selectors: &[Selector], end: usize, head: u32) -> bool
+    requires { RiseBy (λ (s : Row). s.of) selectors.now }
+    ensures { result ≡ true → (i : ℕ) (s : Row) → end ≤ i → slice_get selectors.now i ≡ Some s → head < s.of }
+{
+    match selectors.get(end) {
+        Some(row) => head < row.of,
+        None => true,
+    }
+}
+
+/// The selectors from one place to another, if they are all those of the designator with this head.
+fn group_there(selectors: &[Selector], at: usize, end: usize, head: u32) -> Option<&[Selector]>
+    requires { RiseBy (λ (s : Row). s.of) selectors.now }
+    ensures { IfSome result (λ g. g.now ≡ filter (λ (s : Row). nat_eq s.of head) selectors.now) }
+{
+    if at > end || end > selectors.len() {
+        return None;
+    }
+    if are_before(selectors, at, head)
+        && are_from(selectors, at, head)
+        && are_up_to(selectors, end, head)
+        && are_behind(selectors, end, head)
+    {
+        Some(&selectors[at..end])
+    } else {
+        None
+    }
+}
+
+/// The selectors of the designator with this head. They are looked for behind those of the last one.
+pub(crate) fn selectors_near<'a>(table: &'a Table, near: &mut usize, head: u32) -> &'a [Selector]
+    ensures { result.now ≡ selectors_of (rows_in table.now) head }
+{
+    table.keeps();
+    let selectors = table.selectors();
+    let at = place_from(selectors, *near, head);
+    let end = place_behind(selectors, at, head);
+    *near = end;
+    match group_there(selectors, at, end, head) {
+        Some(group) => group,
+        None => table.selectors_of(head),
+    }
+}
