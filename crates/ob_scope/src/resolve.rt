@@ -1,5 +1,5 @@
 //! What a use means: what it resolves to, or for a target the type that is declared later.
-ghost use Rattle.std.specs.Prelude.{◌≡◌, ◌<◌, ℕ, Some, length, slice_get, IfOk, IfSome, IfNone, OnOk};
+ghost use Rattle.std.specs.Prelude.{◌≡◌, ◌≤◌, ◌<◌, ℕ, Some, length, slice_get, IfOk, IfSome, IfNone, OnOk};
 ghost use Rattle.ob_scan.specs.Spelling.{AreInText};
 ghost use Rattle.ob_decls.specs.declared.rows.Block.{Block};
 ghost use Rattle.ob_decls.specs.Order.{AscendBy, HasNoneBy, IsPlaceBy};
@@ -9,7 +9,7 @@ ghost use Rattle.ob_scope.specs.Looked.{IsMeant, IsTypeAfter, MeansNothing};
 ghost use Rattle.ob_scope.specs.declared.members.Member.{Member};
 ghost use Rattle.ob_scope.specs.Scope.{IsDirectlyIn, NoneTwice};
 ghost use Rattle.ob_scope.specs.Sighted.{IsFrontBefore, IsSight};
-ghost use Rattle.ob_scope.specs.Sights.{AreNumbered};
+ghost use Rattle.ob_scope.specs.Sights.{name_number, AreNumbered};
 ghost use Rattle.ob_scope.specs.Texts.{text_at};
 
 use crate::members::Member;
@@ -35,15 +35,18 @@ fn type_after(
     named: &Numbered,
     block: u32,
     token: u32,
+    number: Option<usize>,
 ) -> Option<usize>
-    requires in_text { AreInText text.now.bytes.now text.now.tokens.now }
+    requires named { IfSome number (λ n. n ≡ name_number named.now.names.keys (text_at text.now.bytes.now text.now.tokens.now token)) }
+    requires within { IfSome number (λ n. n < length named.now.names.keys) }
+    requires unnamed { IfNone number (length named.now.names.keys ≤ name_number named.now.names.keys (text_at text.now.bytes.now text.now.tokens.now token)) }
     requires once { NoneTwice (text_at text.now.bytes.now text.now.tokens.now) members.now }
     requires numbered { AreNumbered (text_at text.now.bytes.now text.now.tokens.now) members.now named.now.names.keys named.now.numbers.items }
     requires types { AreTypes members.now named.now.numbers.items (length members.now) types.now }
     ensures found { IfSome result (IsTypeAfter (text_at text.now.bytes.now text.now.tokens.now) members.now block token) }
     ensures none { IfNone result ((i : ℕ) → IsTypeAfter (text_at text.now.bytes.now text.now.tokens.now) members.now block token i → ⊥) }
 {
-    let number = name_number(&named.names, text.of(token))?;
+    let number = number?;
     let at = type_named(types, block, number)?;
     if token < members[at].number {
         Some(at)
@@ -95,12 +98,22 @@ pub(crate) fn meaning(
     ensures found { IfOk result (λ at. IfSome at (IsMeant (text_at text.now.bytes.now text.now.tokens.now) blocks.now members.now used)) }
     ensures none { IfOk result (λ at. IfNone at (MeansNothing (text_at text.now.bytes.now text.now.tokens.now) blocks.now members.now used)) }
 {
-    let at = resolved(text, blocks, members, named, sight, used.block, used.number)?;
+    let number = name_number(&named.names, text.of(used.number));
+    let at = resolved(
+        text,
+        blocks,
+        members,
+        named,
+        sight,
+        used.block,
+        used.number,
+        number,
+    )?;
     if let Some(at) = at {
         return Ok(Some(at));
     }
     if !used.is_target {
         return Ok(None);
     }
-    Ok(type_after(text, types, members, named, used.block, used.number))
+    Ok(type_after(text, types, members, named, used.block, used.number, number))
 }

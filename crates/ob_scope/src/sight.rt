@@ -6,15 +6,14 @@ ghost use Rattle.std.specs.Prelude.{◌≡◌, ◌≤◌, ◌<◌, false, true, 
 ghost use Rattle.ob_decls.specs.declared.rows.Block.{Block};
 ghost use Rattle.ob_decls.specs.Order.{AscendBy};
 ghost use Rattle.ob_scope.specs.declared.members.Member.{Member};
-ghost use Rattle.ob_scan.specs.Spelling.{AreInText};
 ghost use Rattle.ob_scope.specs.Looked.{use_in, IsResolved};
 ghost use Rattle.ob_scope.specs.Scope.{ResolvesToNothing};
 ghost use Rattle.ob_scope.specs.Sighted.{IsFrontBefore, IsSight};
-ghost use Rattle.ob_scope.specs.Sights.{AreNumbered, AreSeen, IsOpenScope, IsStart};
+ghost use Rattle.ob_scope.specs.Sights.{name_number, AreNumbered, AreSeen, IsOpenScope, IsStart};
 ghost use Rattle.ob_scope.specs.Texts.{text_at};
 
 use crate::members::{Member, Scope};
-use crate::numbering::{Numbered, name_number};
+use crate::numbering::Numbered;
 use crate::opened::{Open, enter, is_open};
 use crate::text::Text;
 use ob_decls::Block;
@@ -156,7 +155,7 @@ fn declare_before(
     Ok(())
 }
 
-/// The place of the member that the name of this token resolves to from this block. Tokens are asked for in their order.
+/// The place of the member that the name of this token, with its number, resolves to from this block. Tokens are asked for in their order.
 pub(crate) fn resolved(
     text: &Text,
     blocks: &[Block],
@@ -165,8 +164,11 @@ pub(crate) fn resolved(
     sight: &mut Sight,
     block: u32,
     token: u32,
+    number: Option<usize>,
 ) -> Result<Option<usize>, AllocError>
-    requires in_text { AreInText text.now.bytes.now text.now.tokens.now }
+    requires named { IfSome number (λ n. n ≡ name_number named.now.names.keys (text_at text.now.bytes.now text.now.tokens.now token)) }
+    requires within { IfSome number (λ n. n < length named.now.names.keys) }
+    requires unnamed { IfNone number (length named.now.names.keys ≤ name_number named.now.names.keys (text_at text.now.bytes.now text.now.tokens.now token)) }
     requires blocks { AscendBy (λ (b : Block). b.first) blocks.now }
     requires members { AscendBy (λ (m : Member). m.number) members.now }
     requires numbered { AreNumbered (text_at text.now.bytes.now text.now.tokens.now) members.now named.now.names.keys named.now.numbers.items }
@@ -179,7 +181,7 @@ pub(crate) fn resolved(
 {
     declare_before(sight, blocks, members, named.numbers.as_slice(), token)?;
     enter(&mut sight.open, blocks, block)?;
-    let Some(number) = name_number(&named.names, text.of(token)) else {
+    let Some(number) = number else {
         return Ok(None);
     };
     let at = last_open(

@@ -13,7 +13,7 @@ returns-in_err-at-clause-none c =
     let names = c.args.named.now.names.keys in
     let numbers = c.args.named.now.numbers.items in
     let types = c.args.types.now in
-    let is : c.in_ok-number.number ≡ name_number names (name c.args.token) = c.in_ok-number.ensures.found ∙ ap (name_number names) c.of.ensures in
+    let is : c.in_ok-number.number ≡ name_number names (name c.args.token) = rw c.in_ok-number.was at c.requires.named in
     let none = sym c.type_named.ensures ∙ c.in_err-at.was in
     rw c.from_residual-in_err-at.ensures (after_undeclared members numbers name names c.requires.numbered c.requires.once types c.requires.types c.args.block c.args.token c.in_ok-number.number is none)
 
@@ -24,7 +24,7 @@ bounds-members-at c =
     let names = c.args.named.now.names.keys in
     let numbers = c.args.named.now.numbers.items in
     let types = c.args.types.now in
-    let is : c.in_ok-number.number ≡ name_number names (name c.args.token) = c.in_ok-number.ensures.found ∙ ap (name_number names) c.of.ensures in
+    let is : c.in_ok-number.number ≡ name_number names (name c.args.token) = rw c.in_ok-number.was at c.requires.named in
     at_within members numbers name names c.requires.numbered c.requires.once types c.requires.types c.args.block c.args.token c.in_ok-number.number c.in_ok-at.at (sym c.type_named.ensures ∙ c.in_ok-at.was)
 
 pub offset_bounds-members-at : goal.offset_bounds-members-at
@@ -34,7 +34,7 @@ offset_bounds-members-at c =
     let names = c.args.named.now.names.keys in
     let numbers = c.args.named.now.numbers.items in
     let types = c.args.types.now in
-    let is : c.in_ok-number.number ≡ name_number names (name c.args.token) = c.in_ok-number.ensures.found ∙ ap (name_number names) c.of.ensures in
+    let is : c.in_ok-number.number ≡ name_number names (name c.args.token) = rw c.in_ok-number.was at c.requires.named in
     let within : c.in_ok-at.at < length members = at_within members numbers name names c.requires.numbered c.requires.once types c.requires.types c.args.block c.args.token c.in_ok-number.number c.in_ok-at.at (sym c.type_named.ensures ∙ c.in_ok-at.was) in
     grind (arith, elements)
 
@@ -45,8 +45,8 @@ returns-then-token-members-clause-found c =
     let names = c.args.named.now.names.keys in
     let numbers = c.args.named.now.numbers.items in
     let types = c.args.types.now in
-    let is : c.in_ok-number.number ≡ name_number names (name c.args.token) = c.in_ok-number.ensures.found ∙ ap (name_number names) c.of.ensures in
-    after_found members numbers name names c.requires.numbered c.requires.once types c.requires.types c.args.block c.args.token c.in_ok-number.number c.in_ok-at.at _ is c.in_ok-number.ensures.within (sym c.type_named.ensures ∙ c.in_ok-at.was) c.if-token-members.true
+    let is : c.in_ok-number.number ≡ name_number names (name c.args.token) = rw c.in_ok-number.was at c.requires.named in
+    after_found members numbers name names c.requires.numbered c.requires.once types c.requires.types c.args.block c.args.token c.in_ok-number.number c.in_ok-at.at _ is (rw c.in_ok-number.was at c.requires.within) (sym c.type_named.ensures ∙ c.in_ok-at.was) c.if-token-members.true
 
 pub returns-else-token-members-clause-none : goal.returns-else-token-members-clause-none
 returns-else-token-members-clause-none c =
@@ -55,5 +55,5 @@ returns-else-token-members-clause-none c =
     let names = c.args.named.now.names.keys in
     let numbers = c.args.named.now.numbers.items in
     let types = c.args.types.now in
-    let is : c.in_ok-number.number ≡ name_number names (name c.args.token) = c.in_ok-number.ensures.found ∙ ap (name_number names) c.of.ensures in
-    after_before members numbers name names c.requires.numbered c.requires.once types c.requires.types c.args.block c.args.token c.in_ok-number.number c.in_ok-at.at _ is c.in_ok-number.ensures.within (sym c.type_named.ensures ∙ c.in_ok-at.was) c.if-token-members.false
+    let is : c.in_ok-number.number ≡ name_number names (name c.args.token) = rw c.in_ok-number.was at c.requires.named in
+    after_before members numbers name names c.requires.numbered c.requires.once types c.requires.types c.args.block c.args.token c.in_ok-number.number c.in_ok-at.at _ is (rw c.in_ok-number.was at c.requires.within) (sym c.type_named.ensures ∙ c.in_ok-at.was) c.if-token-members.false

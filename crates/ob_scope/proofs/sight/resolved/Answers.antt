@@ -37,7 +37,7 @@ returns-in_default-clause-none c =
     let numbers = c.args.named.now.numbers.items in
     let s = c.declare_before.new.sight in
     let h : IsSight blocks members numbers (length names) s = sight_as blocks members c.as_slice.result.now numbers (length c.args.sight.now.latest.items) (length names) s c.as_slice.ensures.value c.requires.sight.named c.in_ok-declare_before.ensures.sight in
-    look_unnamed name blocks members names numbers c.requires.numbered c.requires.blocks c.args.block c.args.token s h c.in_ok-declare_before.ensures.front c.enter.new.opened c.in_ok-enter.ensures (rw c.of.ensures at c.in_default.ensures.none)
+    look_unnamed name blocks members names numbers c.requires.numbered c.requires.blocks c.args.block c.args.token s h c.in_ok-declare_before.ensures.front c.enter.new.opened c.in_ok-enter.ensures (rw c.in_default.is at c.requires.unnamed)
 
 pub last_open-at-requires-clause-ascend : goal.last_open-at-requires-clause-ascend
 last_open-at-requires-clause-ascend c =
@@ -61,7 +61,7 @@ last_open-at-requires-clause-within c =
     let h : IsSight blocks members numbers (length names) s = sight_as blocks members c.as_slice.result.now numbers (length c.args.sight.now.latest.items) (length names) s c.as_slice.ensures.value c.requires.sight.named c.in_ok-declare_before.ensures.sight in
     let n = c.in-Some.number in
     let named = h.named in
-    let inside : n < length s.latest.items = (let l = c.in-Some.ensures.within in omega arith) in
+    let inside : n < length s.latest.items = (let l = rw c.in-Some.is at c.requires.within in omega arith) in
     let from : slice_index_or s.latest.items n None ≡ c.index.result.now = get_or_default s.latest.items n None c.index.result.now inside ∙ sym c.index.ensures in
     subst (λ (o : Option ℕ). IfSome o (λ i. i < length members)) from (start_within blocks members numbers (length names) s n h)
 
@@ -87,12 +87,12 @@ returns-clause-sight c =
     let h : IsSight blocks members numbers (length names) s = sight_as blocks members c.as_slice.result.now numbers (length c.args.sight.now.latest.items) (length names) s c.as_slice.ensures.value c.requires.sight.named c.in_ok-declare_before.ensures.sight in
     let n = c.in-Some.number in
     let named = h.named in
-    let inside : n < length s.latest.items = (let l = c.in-Some.ensures.within in omega arith) in
+    let inside : n < length s.latest.items = (let l = rw c.in-Some.is at c.requires.within in omega arith) in
     let from : slice_index_or s.latest.items n None ≡ c.index.result.now = get_or_default s.latest.items n None c.index.result.now inside ∙ sym c.index.ensures in
     let at = c.last_open-at.result in
     let walks = walk_by members c.as_slice-2.result.now c.enter.new.opened.stack.items c.as_slice-3.result.now s.earlier.items c.index.result.now (slice_index_or s.latest.items n None) at c.as_slice-2.ensures.value c.as_slice-3.ensures.value (sym from) c.last_open-at.ensures.start in
     let start = look_start name blocks members names numbers c.requires.numbered c.requires.blocks c.args.block c.args.token s h c.in_ok-declare_before.ensures.front c.enter.new.opened c.in_ok-enter.ensures n at walks in
-    look_sight name blocks members names numbers c.requires.numbered c.requires.blocks c.args.block c.args.token s h c.in_ok-declare_before.ensures.front c.enter.new.opened c.in_ok-enter.ensures _ n at c.in-Some.ensures.within start refl refl refl refl
+    look_sight name blocks members names numbers c.requires.numbered c.requires.blocks c.args.block c.args.token s h c.in_ok-declare_before.ensures.front c.enter.new.opened c.in_ok-enter.ensures _ n at (rw c.in-Some.is at c.requires.within) start refl refl refl refl
 
 pub returns-clause-found : goal.returns-clause-found
 returns-clause-found c =
@@ -105,12 +105,12 @@ returns-clause-found c =
     let h : IsSight blocks members numbers (length names) s = sight_as blocks members c.as_slice.result.now numbers (length c.args.sight.now.latest.items) (length names) s c.as_slice.ensures.value c.requires.sight.named c.in_ok-declare_before.ensures.sight in
     let n = c.in-Some.number in
     let named = h.named in
-    let inside : n < length s.latest.items = (let l = c.in-Some.ensures.within in omega arith) in
+    let inside : n < length s.latest.items = (let l = rw c.in-Some.is at c.requires.within in omega arith) in
     let from : slice_index_or s.latest.items n None ≡ c.index.result.now = get_or_default s.latest.items n None c.index.result.now inside ∙ sym c.index.ensures in
     let at = c.last_open-at.result in
     let walks = walk_by members c.as_slice-2.result.now c.enter.new.opened.stack.items c.as_slice-3.result.now s.earlier.items c.index.result.now (slice_index_or s.latest.items n None) at c.as_slice-2.ensures.value c.as_slice-3.ensures.value (sym from) c.last_open-at.ensures.start in
     let start = look_start name blocks members names numbers c.requires.numbered c.requires.blocks c.args.block c.args.token s h c.in_ok-declare_before.ensures.front c.enter.new.opened c.in_ok-enter.ensures n at walks in
-    let is = c.in-Some.ensures.found ∙ ap (name_number names) c.of.ensures in
+    let is = rw c.in-Some.is at c.requires.named in
     look_found name blocks members names numbers c.requires.numbered c.requires.blocks c.args.block c.args.token s h c.in_ok-declare_before.ensures.front c.enter.new.opened c.in_ok-enter.ensures n at is start
     (subst (λ (stack : List ℕ). IfSome at (λ i. (m : Member) × (slice_get members i ≡ Some m) × IsOpenScope stack m.place)) c.as_slice-2.ensures.value c.last_open-at.ensures.«open»)
 
@@ -125,10 +125,10 @@ returns-clause-none c =
     let h : IsSight blocks members numbers (length names) s = sight_as blocks members c.as_slice.result.now numbers (length c.args.sight.now.latest.items) (length names) s c.as_slice.ensures.value c.requires.sight.named c.in_ok-declare_before.ensures.sight in
     let n = c.in-Some.number in
     let named = h.named in
-    let inside : n < length s.latest.items = (let l = c.in-Some.ensures.within in omega arith) in
+    let inside : n < length s.latest.items = (let l = rw c.in-Some.is at c.requires.within in omega arith) in
     let from : slice_index_or s.latest.items n None ≡ c.index.result.now = get_or_default s.latest.items n None c.index.result.now inside ∙ sym c.index.ensures in
     let at = c.last_open-at.result in
     let walks = walk_by members c.as_slice-2.result.now c.enter.new.opened.stack.items c.as_slice-3.result.now s.earlier.items c.index.result.now (slice_index_or s.latest.items n None) at c.as_slice-2.ensures.value c.as_slice-3.ensures.value (sym from) c.last_open-at.ensures.start in
     let start = look_start name blocks members names numbers c.requires.numbered c.requires.blocks c.args.block c.args.token s h c.in_ok-declare_before.ensures.front c.enter.new.opened c.in_ok-enter.ensures n at walks in
-    let is = c.in-Some.ensures.found ∙ ap (name_number names) c.of.ensures in
+    let is = rw c.in-Some.is at c.requires.named in
     look_none name blocks members names numbers c.requires.numbered c.requires.blocks c.args.block c.args.token s h c.in_ok-declare_before.ensures.front c.enter.new.opened c.in_ok-enter.ensures n at is start
