@@ -21,7 +21,8 @@ fn declared_target(types: &Types<'_>, declared: u32) -> Target
     }
 }
 
-/// What a use stands for that means this.
+/// What a use stands for that means this. It is laid out where all uses are gone through.
+#[inline(always)]
 fn target_meant(types: &Types<'_>, used: u32, meant: Option<u32>) -> Target
     requires { meant ≡ meaning types.now used }
     ensures { result ≡ used_target types.now used }
@@ -154,7 +155,8 @@ fn known_here(types: &Types<'_>, sort: Option<Sort>, declared: u32) -> Known
     }
 }
 
-/// What is known of a target.
+/// What is known of a target. It is laid out where selectors are gone through.
+#[inline(always)]
 pub(crate) fn known_of(types: &Types<'_>, sorts: &[Option<Sort>], target: Target) -> Known
     requires { AreSorts types.now sorts.now }
     ensures { result ≡ known_of types.now target }
