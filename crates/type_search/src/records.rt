@@ -177,6 +177,15 @@ fn keep_field<'a, G: TypeGraph>(
     Ok(())
 }
 
+/// Notes that something is kept of a name, and tells whether that was so before. One look-up does both: where names were made to fall
+/// together in the table, each look-up is long.
+fn keep_name<'a>(names: &mut IndexSet<Name<'a>>, name: &'a [u8]) -> Result<bool, AllocError> {
+    match names.insert_full(Name { bytes: name }) {
+        Ok((_, is_new)) => Ok(!is_new),
+        Err(_) => Err(AllocError),
+    }
+}
+
 /// The field that a name means in a record, which is kept of it and of some of the records that are passed.
 fn field_passed<'a, G: TypeGraph>(
     graph: &G,
@@ -197,12 +206,9 @@ fn field_passed<'a, G: TypeGraph>(
     ensures found { AreFound (G.shape graph.now) (G.base_of graph.now) (G.field_of graph.now) G.Record.eq found.new }
     ensures is { IfOk result (IsFieldIn (G.shape graph.now) (G.base_of graph.now) (λ r. G.field_of graph.now r name.now) from) }
 {
-    let is_kept = names.contains(&Name { bytes: name });
+    let is_kept = keep_name(names, name)?;
     let field = field_of(graph, kept, aboves, found, is_kept, way, from, name)?;
     keep_field(graph, found, way.marks.as_slice(), name, field)?;
-    if !is_kept {
-        names.insert(Name { bytes: name })?;
-    }
     Ok(field)
 }
 
