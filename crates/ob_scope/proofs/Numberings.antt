@@ -137,3 +137,18 @@ numbered_none name = record {
 
 pub numbered_all : (name : ℕ → List ℕ) (members : List Member) (i : ℕ) (names : List Name) (numbers : List ℕ) → length members ≤ i → AreNumbered name (take i members) names numbers → AreNumbered name members names numbers
 numbered_all name members i names numbers past a = subst (λ (ms : List Member). AreNumbered name ms names numbers) (take_all i members past) a
+
+-- there are as many numbers as members
+pub numbers_long : (name : ℕ → List ℕ) (members : List Member) (i : ℕ) (names : List Name) (numbers : List ℕ) → i ≤ length members → AreNumbered name (take i members) names numbers → length numbers ≡ i
+numbers_long name members i names numbers le a = a.as_many ∙ length-take-le i members le
+
+pub last_number : (numbers later : List ℕ) (i n : ℕ) → length numbers ≡ i → later ≡ numbers ++ n ∷ [] → slice_index later i ≡ n
+last_number numbers later i n long is = rw is (subst (λ (x : ℕ). get_or (numbers ++ n ∷ []) x 0 ≡ n) long (get_or-append_seam numbers n [] 0))
+
+-- the last number is one of a name
+pub last_within : (name : ℕ → List ℕ) (members : List Member) (i n : ℕ) (m : Member) (names : List Name) (numbers later : List ℕ) → length numbers ≡ i → later ≡ numbers ++ n ∷ [] → slice_get members i ≡ Some m
+    → AreNumbered name (take (i + 1) members) names later → n < length names
+last_within name members i n m names numbers later long is at a =
+    let within : slice_index later i < length names = a.within i m (get_front name members (i + 1) i m (omega arith) at) in
+    let last = last_number numbers later i n long is in
+    omega (arith, within, last)

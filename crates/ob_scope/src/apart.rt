@@ -1,5 +1,6 @@
 //! Whether members are told apart without a table: those of one name mostly stand in places that begin one behind the other.
-ghost use Rattle.std.specs.Prelude.{◌≡◌, true, length, IfOk, IfSome};
+ghost use Rattle.std.specs.Prelude.{◌≡◌, [], true, length, take, IfOk, IfSome, OnOk};
+ghost use Rattle.ob_scan.specs.Spelling.{AreInText};
 ghost use Rattle.ob_scope.specs.Apart.{IsPassed};
 ghost use Rattle.ob_scope.specs.Scope.{NoneTwice};
 ghost use Rattle.ob_scope.specs.Sights.{AreNumbered};
@@ -7,7 +8,7 @@ ghost use Rattle.ob_scope.specs.Texts.{text_at};
 ghost use Rattle.ob_scope.specs.declared.members.Scope.{Scope as Place};
 
 use crate::members::{Member, Scope};
-use crate::numbering::Numbered;
+use crate::numbering::{Numbered, number_next};
 use crate::text::Text;
 use std::alloc::{AllocError, Global};
 
@@ -43,37 +44,49 @@ fn pass(passed: Passed, place: Scope) -> Option<Passed>
     }
 }
 
-/// Whether the places of each name begin one behind the other, from no place on.
-fn ascend(text: &Text, members: &[Member], named: &Numbered, passed: &mut [Passed]) -> bool
-    requires numbered { AreNumbered (text_at text.now.bytes.now text.now.tokens.now) members.now named.now.names.keys named.now.numbers.items }
-    requires as_many { length passed.old ≡ length named.now.names.keys }
-    ensures { result ≡ true → NoneTwice (text_at text.now.bytes.now text.now.tokens.now) members.now }
+/// Numbers the names of members, up to the first whose place doesn't begin behind the places of its name; and tells whether there is no
+/// such member.
+fn ascend<'a>(
+    text: &Text<'a>,
+    members: &[Member],
+    named: &mut Numbered<'a>,
+    passed: &mut [Passed],
+) -> Result<bool, AllocError>
+    requires in_text { AreInText text.now.bytes.now text.now.tokens.now }
+    requires no_names { named.old.names.keys ≡ [] }
+    requires no_numbers { named.old.numbers.items ≡ [] }
+    requires as_many { length passed.old ≡ length members.now }
+    ensures numbered { OnOk result (AreNumbered (text_at text.now.bytes.now text.now.tokens.now) (take (length named.new.numbers.items) members.now) named.new.names.keys named.new.numbers.items) }
+    ensures once { IfOk result (λ b. b ≡ true → NoneTwice (text_at text.now.bytes.now text.now.tokens.now) members.now) }
 {
-    let numbers = named.numbers.as_slice();
     for i in 0..members.len() {
-        let number = numbers[i];
+        let number = number_next(text, members, named, i)?;
         match pass(passed[number], members[i].place) {
             Some(next) => passed[number] = next,
-            None => return false,
+            None => return Ok(false),
         }
     }
-    true
+    Ok(true)
 }
 
-/// Whether no two members of one name are in one place, where that is told by the order in which their places begin.
-pub(crate) fn are_apart(
+/// Whether no two members of one name are in one place, where that is told by the order in which their places begin. Names are numbered
+/// as far as it tells, since of names that were made to fall together each takes long.
+pub(crate) fn are_apart<'a>(
     alloc: Global,
-    text: &Text,
+    text: &Text<'a>,
     members: &[Member],
-    named: &Numbered,
+    named: &mut Numbered<'a>,
 ) -> Result<bool, AllocError>
-    requires numbered { AreNumbered (text_at text.now.bytes.now text.now.tokens.now) members.now named.now.names.keys named.now.numbers.items }
-    ensures { IfOk result (λ b. b ≡ true → NoneTwice (text_at text.now.bytes.now text.now.tokens.now) members.now) }
+    requires in_text { AreInText text.now.bytes.now text.now.tokens.now }
+    requires no_names { named.old.names.keys ≡ [] }
+    requires no_numbers { named.old.numbers.items ≡ [] }
+    ensures numbered { OnOk result (AreNumbered (text_at text.now.bytes.now text.now.tokens.now) (take (length named.new.numbers.items) members.now) named.new.names.keys named.new.numbers.items) }
+    ensures once { IfOk result (λ b. b ≡ true → NoneTwice (text_at text.now.bytes.now text.now.tokens.now) members.now) }
 {
     let none = Passed {
         block: 0,
         record: 0,
     };
-    let mut passed = vec![in alloc; none; named.names.len()]?;
-    Ok(ascend(text, members, named, passed.as_mut_slice()))
+    let mut passed = vec![in alloc; none; members.len()]?;
+    ascend(text, members, named, passed.as_mut_slice())
 }

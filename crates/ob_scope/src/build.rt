@@ -1,5 +1,5 @@
 //! Scopes from a table.
-ghost use Rattle.std.specs.Prelude.{◌≡◌, ◌≤◌, length, IfOk, IfErr, OnOk};
+ghost use Rattle.std.specs.Prelude.{◌≡◌, ◌≤◌, [], length, take, IfOk, IfErr, OnOk};
 ghost use Rattle.ob_scan.specs.Spelling.{AreInText, Spells};
 ghost use Rattle.ob_decls.specs.Declaring.{rows_in};
 ghost use Rattle.ob_decls.specs.Parts.{Rows};
@@ -17,7 +17,7 @@ ghost use Rattle.ob_scope.specs.declared.members.Member.{Member};
 use crate::apart::are_apart;
 use crate::identified::are_identifiers;
 use crate::members::{Member, Scope, members_by, place_of_member};
-use crate::numbering::{Numbered, number_names};
+use crate::numbering::{Numbered, no_names, number_rest};
 use crate::places::{IndexFault, index_of};
 use crate::text::Text;
 use crate::uses::{Resolved, found_by};
@@ -133,15 +133,18 @@ fn scopes_of(
     })
 }
 
-/// Refuses members of which two have one name and one place. A table of all is made only where the order of places doesn't tell them apart.
-fn refuse_twice(
+/// Refuses members of which two have one name and one place. A table of all is made only where the order of places doesn't tell them
+/// apart: it tells a fault before further names are numbered.
+fn refuse_twice<'a>(
     alloc: Global,
-    text: &Text,
+    text: &Text<'a>,
     members: &[Member],
-    named: &Numbered,
+    named: &mut Numbered<'a>,
 ) -> Result<(), ScopeFault>
     requires in_text { AreInText text.now.bytes.now text.now.tokens.now }
-    requires numbered { AreNumbered (text_at text.now.bytes.now text.now.tokens.now) members.now named.now.names.keys named.now.numbers.items }
+    requires no_names { named.old.names.keys ≡ [] }
+    requires no_numbers { named.old.numbers.items ≡ [] }
+    ensures numbered { OnOk result (AreNumbered (text_at text.now.bytes.now text.now.tokens.now) (take (length named.new.numbers.items) members.now) named.new.names.keys named.new.numbers.items) }
     ensures once { OnOk result (NoneTwice (text_at text.now.bytes.now text.now.tokens.now) members.now) }
     ensures fault { IfErr result (λ fault. (rows : Rows) → members.now ≡ members_of rows → AreNames (text_at text.now.bytes.now text.now.tokens.now) rows
         → IsScopeFault text.now.bytes.now text.now.tokens.now rows fault) }
@@ -155,13 +158,13 @@ fn refuse_twice(
     }
 }
 
-/// The scopes of a module with this table, whose members are told apart.
-fn scopes_with(
+/// The scopes of a module with this table, whose members are told apart, and some of whose names are numbered.
+fn scopes_with<'a>(
     alloc: Global,
-    text: &Text,
+    text: &Text<'a>,
     table: &Table,
     members: &[Member],
-    named: &Numbered,
+    named: &mut Numbered<'a>,
 ) -> Result<Scopes, AllocError>
     requires in_text { AreInText text.now.bytes.now text.now.tokens.now }
     requires ordered { AreRowsInOrder (rows_in table.now) }
@@ -169,9 +172,10 @@ fn scopes_with(
     requires members { members.now ≡ members_of (rows_in table.now) }
     requires named { AreNames (text_at text.now.bytes.now text.now.tokens.now) (rows_in table.now) }
     requires once { NoneTwice (text_at text.now.bytes.now text.now.tokens.now) members.now }
-    requires numbered { AreNumbered (text_at text.now.bytes.now text.now.tokens.now) members.now named.now.names.keys named.now.numbers.items }
+    requires numbered { AreNumbered (text_at text.now.bytes.now text.now.tokens.now) (take (length named.old.numbers.items) members.now) named.old.names.keys named.old.numbers.items }
     ensures { IfOk result (AreScopes text.now.bytes.now text.now.tokens.now (rows_in table.now)) }
 {
+    number_rest(text, members, named)?;
     let found = found_by(alloc, text, table.blocks(), members, named, table.uses())?;
     scopes_of(alloc, text, table, members, found)
 }
@@ -191,9 +195,9 @@ fn scopes_by(
     ensures scoped { IfOk result (AreScopes text.now.bytes.now text.now.tokens.now (rows_in table.now)) }
     ensures fault { IfErr result (IsScopeFault text.now.bytes.now text.now.tokens.now (rows_in table.now)) }
 {
-    let named = number_names(alloc, text, members)?;
-    match refuse_twice(alloc, text, members, &named) {
-        Ok(()) => Ok(scopes_with(alloc, text, table, members, &named)?),
+    let mut named = no_names(alloc, members.len())?;
+    match refuse_twice(alloc, text, members, &mut named) {
+        Ok(()) => Ok(scopes_with(alloc, text, table, members, &mut named)?),
         Err(fault) => Err(fault),
     }
 }

@@ -1,5 +1,5 @@
 //! The names of members, numbered.
-ghost use Rattle.std.specs.Prelude.{◌≡◌, ◌≤◌, ◌<◌, ◌∷◌, [], length, IfOk, IfSome, IfNone};
+ghost use Rattle.std.specs.Prelude.{◌≡◌, ◌≤◌, ◌<◌, ◌+◌, ◌∷◌, ◌++◌, [], length, take, IfOk, IfSome, IfNone, OnOk};
 ghost use Rattle.std.specs.Cmp.Rules.{hashing};
 ghost use Rattle.std.proofs.Common.{rules};
 ghost use Rattle.ob_scan.specs.Spelling.{AreInText};
@@ -28,32 +28,62 @@ impl Hash for Name<'_> {
     }
 }
 
-/// The names of members, and for each member the number of its name.
+/// The names of members, in the order in which each stands first, and for each member the number of its name.
 #[derive(Drop)]
 pub(crate) struct Numbered<'a> {
     pub(crate) names: IndexSet<Name<'a>>,
     pub(crate) numbers: Vec<usize>,
 }
 
-/// Numbers the names of members, in the order in which each stands first.
-pub(crate) fn number_names<'a>(
-    alloc: Global,
+/// No names, with room for the numbers of so many members.
+pub(crate) fn no_names<'a>(alloc: Global, count: usize) -> Result<Numbered<'a>, AllocError>
+    ensures names { IfOk result (λ r. r.names.keys ≡ []) }
+    ensures numbers { IfOk result (λ r. r.numbers.items ≡ []) }
+{
+    let numbers = Vec::with_capacity(alloc, count)?;
+    let names = IndexSet::new(alloc);
+    Ok(Numbered { names, numbers })
+}
+
+/// Numbers the name of the member at this place, behind those before it, and tells the number.
+pub(crate) fn number_next<'a>(
     text: &Text<'a>,
     members: &[Member],
-) -> Result<Numbered<'a>, AllocError>
-    requires { AreInText text.now.bytes.now text.now.tokens.now }
-    ensures { IfOk result (λ r. AreNumbered (text_at text.now.bytes.now text.now.tokens.now) members.now r.names.keys r.numbers.items) }
+    named: &mut Numbered<'a>,
+    at: usize,
+) -> Result<usize, AllocError>
+    requires in_text { AreInText text.now.bytes.now text.now.tokens.now }
+    requires within { at < length members.now }
+    requires numbered { AreNumbered (text_at text.now.bytes.now text.now.tokens.now) (take at members.now) named.old.names.keys named.old.numbers.items }
+    ensures numbered { OnOk result (AreNumbered (text_at text.now.bytes.now text.now.tokens.now) (take (at + 1) members.now) named.new.names.keys named.new.numbers.items) }
+    ensures number { IfOk result (λ n. named.new.numbers.items ≡ named.old.numbers.items ++ n ∷ []) }
+    ensures grown { OnOk result (length named.new.names.keys ≤ length named.old.names.keys + 1) }
 {
-    let mut numbers = Vec::with_capacity(alloc, members.len())?;
-    let mut names = IndexSet::new(alloc);
-    for i in 0..members.len() {
-        let bytes = text.of(members[i].number);
-        match names.insert_full(Name { bytes }) {
-            Ok((number, _)) => numbers.push(number)?,
-            Err(_) => return Err(AllocError),
+    let bytes = text.of(members[at].number);
+    match named.names.insert_full(Name { bytes }) {
+        Ok((number, _)) => {
+            named.numbers.push(number)?;
+            Ok(number)
         }
+        Err(_) => Err(AllocError),
     }
-    Ok(Numbered { names, numbers })
+}
+
+/// Numbers the names of the members that have no number yet.
+pub(crate) fn number_rest<'a>(
+    text: &Text<'a>,
+    members: &[Member],
+    named: &mut Numbered<'a>,
+) -> Result<(), AllocError>
+    requires in_text { AreInText text.now.bytes.now text.now.tokens.now }
+    requires numbered { AreNumbered (text_at text.now.bytes.now text.now.tokens.now) (take (length named.old.numbers.items) members.now) named.old.names.keys named.old.numbers.items }
+    ensures { OnOk result (AreNumbered (text_at text.now.bytes.now text.now.tokens.now) members.now named.new.names.keys named.new.numbers.items) }
+{
+    let begin = named.numbers.len();
+    for i in begin..members.len() {
+        number_next(text, members, named, i)?;
+    }
+    Ok(())
 }
 
 /// The number of a name, or none where no member has it.

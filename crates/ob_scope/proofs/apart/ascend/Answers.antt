@@ -1,60 +1,94 @@
 -- Member after member.
-use Rattle.std.proofs.Common.{◌≡◌, ◌<◌, ◌∙◌, ℕ, List, length, sym, ap, subst, arith}
-use Rattle.std.specs.Prelude.{slice_index}
+use Rattle.std.proofs.Common.{◌≡◌, ◌≤◌, ◌<◌, ◌+◌, ◌++◌, ◌∷◌, ◌∙◌, [], ℕ, List, length, take, arith}
 use Rattle.std.proofs.lemmas.Grind.{elements}
 use Rattle.std.proofs.lemmas.List.{length-set}
 use Rattle.std.proofs.lemmas.Option.{slice_get-get_or}
 use Rattle.ob_scope.specs.declared.members.Member.{Member}
+use Rattle.ob_scope.specs.declared.numbering.Name.{Name}
 use Rattle.ob_scope.specs.Sights.{AreNumbered}
 use Rattle.ob_scope.specs.Texts.{text_at}
 use Rattle.ob_scope.proofs.Aparts.{apart_all, apart_more, apart_none}
 use Rattle.ob_scope.proofs.Elements.{slice_there}
+use Rattle.ob_scope.proofs.Numberings.{last_within, numbered_none, numbers_long}
 use Rattle.ob_scope.proofs.apart.ascend.Goals as goal
 
-number_within : (name : ℕ → List ℕ) (members : List Member) (names : List _) (numbers : List ℕ) → AreNumbered name members names numbers → (i : ℕ) → i < length members → slice_index numbers i < length names
-number_within name members names numbers numbered i less = let x = slice_there members i less in numbered.within i x.0 x.1
-
 pub loop-i-init : goal.loop-i-init
-loop-i-init c = record { as_many = c.requires.as_many; apart = apart_none (text_at c.args.text.now.bytes.now c.args.text.now.tokens.now) c.args.members.now c.args.named.now.names.keys c.args.named.now.numbers.items c.requires.numbered c.args.passed.now }
+loop-i-init c =
+    let name = text_at c.args.text.now.bytes.now c.args.text.now.tokens.now in
+    rw (c.requires.no_names, c.requires.no_numbers) (record {
+      as_many = c.requires.as_many;
+      few = omega arith;
+      numbered = numbered_none name;
+      apart = apart_none name c.args.members.now [] c.args.passed.now;
+    })
+
+-- the number is one of a place that is kept
+within : (name : ℕ → List ℕ) (members : List Member) (i n room : ℕ) (names more : List Name) (numbers later : List ℕ) → i < length members → room ≡ length members → length names ≤ i → AreNumbered name (take i members) names numbers
+    → AreNumbered name (take (i + 1) members) more later → later ≡ numbers ++ n ∷ [] → length more ≤ length names + 1 → n < room
+within name members i n room names more numbers later less room_is few before after is grown =
+    let at = slice_there members i less in
+    let here : n < length more = last_within name members i n at.0 more numbers later (numbers_long name members i names numbers (omega arith) before) is at.1 after in
+    omega (arith, here)
 
 pub slice_copy_out-pass : goal.slice_copy_out-pass
 slice_copy_out-pass c =
-    let within = number_within (text_at c.args.text.now.bytes.now c.args.text.now.tokens.now) c.args.members.now c.args.named.now.names.keys c.args.named.now.numbers.items c.requires.numbered c.loop-i.i c.loop-i-test.true in
-    let long = c.loop-i.invariant.as_many in
-    rw c.as_slice-numbers.ensures.value (omega (arith, within, long))
+    let name = text_at c.args.text.now.bytes.now c.args.text.now.tokens.now in
+    let l = c.loop-i.invariant in
+    let e = c.in_ok-number.ensures in
+    within name c.args.members.now c.loop-i.i c.in_ok-number.number (length c.loop-i.passed) c.loop-i.named.names.keys c.number_next.new.named.names.keys c.loop-i.named.numbers.items c.number_next.new.named.numbers.items
+    c.loop-i-test.true l.as_many l.few l.numbered e.numbered e.number e.grown
 
 pub bounds-passed-number : goal.bounds-passed-number
 bounds-passed-number c =
-    let within = number_within (text_at c.args.text.now.bytes.now c.args.text.now.tokens.now) c.args.members.now c.args.named.now.names.keys c.args.named.now.numbers.items c.requires.numbered c.loop-i.i c.loop-i-test.true in
-    let long = c.loop-i.invariant.as_many in
-    rw c.as_slice-numbers.ensures.value (omega (arith, within, long))
+    let name = text_at c.args.text.now.bytes.now c.args.text.now.tokens.now in
+    let l = c.loop-i.invariant in
+    let e = c.in_ok-number.ensures in
+    within name c.args.members.now c.loop-i.i c.in_ok-number.number (length c.loop-i.passed) c.loop-i.named.names.keys c.number_next.new.named.names.keys c.loop-i.named.numbers.items c.number_next.new.named.numbers.items
+    c.loop-i-test.true l.as_many l.few l.numbered e.numbered e.number e.grown
 
 pub offset_bounds-passed-number : goal.offset_bounds-passed-number
 offset_bounds-passed-number c =
-    let within = number_within (text_at c.args.text.now.bytes.now c.args.text.now.tokens.now) c.args.members.now c.args.named.now.names.keys c.args.named.now.numbers.items c.requires.numbered c.loop-i.i c.loop-i-test.true in
-    let long = c.loop-i.invariant.as_many in
-    let here : slice_index c.as_slice-numbers.result.now c.loop-i.i < length c.loop-i.passed = rw c.as_slice-numbers.ensures.value (omega (arith, within, long)) in
+    let name = text_at c.args.text.now.bytes.now c.args.text.now.tokens.now in
+    let l = c.loop-i.invariant in
+    let e = c.in_ok-number.ensures in
+    let here : c.in_ok-number.number < length c.loop-i.passed =
+    within name c.args.members.now c.loop-i.i c.in_ok-number.number (length c.loop-i.passed) c.loop-i.named.names.keys c.number_next.new.named.names.keys c.loop-i.named.numbers.items c.number_next.new.named.numbers.items
+    c.loop-i-test.true l.as_many l.few l.numbered e.numbered e.number e.grown
+    in
     grind (arith, elements)
 
 pub offset_bounds-passed-number-in-Some : goal.offset_bounds-passed-number-in-Some
 offset_bounds-passed-number-in-Some c =
-    let within = number_within (text_at c.args.text.now.bytes.now c.args.text.now.tokens.now) c.args.members.now c.args.named.now.names.keys c.args.named.now.numbers.items c.requires.numbered c.loop-i.i c.loop-i-test.true in
-    let long = c.loop-i.invariant.as_many in
-    let here : slice_index c.as_slice-numbers.result.now c.loop-i.i < length c.loop-i.passed = rw c.as_slice-numbers.ensures.value (omega (arith, within, long)) in
+    let name = text_at c.args.text.now.bytes.now c.args.text.now.tokens.now in
+    let l = c.loop-i.invariant in
+    let e = c.in_ok-number.ensures in
+    let here : c.in_ok-number.number < length c.loop-i.passed =
+    within name c.args.members.now c.loop-i.i c.in_ok-number.number (length c.loop-i.passed) c.loop-i.named.names.keys c.number_next.new.named.names.keys c.loop-i.named.numbers.items c.number_next.new.named.numbers.items
+    c.loop-i-test.true l.as_many l.few l.numbered e.numbered e.number e.grown
+    in
     grind (arith, elements)
 
 pub loop-i-preserved : goal.loop-i-preserved
 loop-i-preserved c =
-    rw c.as_slice-numbers.ensures.value (record {
-      as_many = length-set c.loop-i.passed (slice_index c.args.named.now.numbers.items c.loop-i.i) c.in-Some.next ∙ c.loop-i.invariant.as_many;
+    let name = text_at c.args.text.now.bytes.now c.args.text.now.tokens.now in
+    let members = c.args.members.now in
+    let less = c.loop-i-test.true in
+    let l = c.loop-i.invariant in
+    let n = c.in_ok-number.ensures in
+    let e = c.in-Some.ensures in
+    let many : length c.loop-i.passed ≡ length members = l.as_many in
+    let few : length c.loop-i.named.names.keys ≤ c.loop-i.i = l.few in
+    let grown : length c.number_next.new.named.names.keys ≤ length c.loop-i.named.names.keys + 1 = n.grown in
+    record {
+      as_many = length-set c.loop-i.passed c.in_ok-number.number c.in-Some.next ∙ many;
+      few = omega arith;
+      numbered = n.numbered;
       apart =
-          (let value : c.as_slice-numbers.result.now ≡ c.args.named.now.numbers.items = c.as_slice-numbers.ensures.value in
-          let e = c.in-Some.ensures in
-          apart_more (text_at c.args.text.now.bytes.now c.args.text.now.tokens.now) c.args.members.now c.args.named.now.names.keys c.args.named.now.numbers.items c.requires.numbered c.loop-i.passed c.loop-i.i _ _ c.in-Some.next
-          c.loop-i.invariant.apart c.loop-i.invariant.as_many (slice_get-get_or c.args.members.now c.loop-i.i _ c.loop-i-test.true)
-          (rw value at e.new) e.passed (rw value at e.kept));
-    })
+          apart_more name members c.number_next.new.named.names.keys c.loop-i.named.numbers.items c.number_next.new.named.numbers.items c.loop-i.passed c.loop-i.i c.in_ok-number.number _ _ c.in-Some.next
+          l.apart (numbers_long name members c.loop-i.i c.loop-i.named.names.keys c.loop-i.named.numbers.items (omega arith) l.numbered) n.number n.numbered (omega arith)
+          (slice_get-get_or members c.loop-i.i _ less) e.new e.passed e.kept;
+    }
 
-pub returns : goal.returns
-returns c = λ e.
-    apart_all (text_at c.args.text.now.bytes.now c.args.text.now.tokens.now) c.args.members.now c.args.named.now.numbers.items c.loop-i.passed c.loop-i.i c.loop-i.invariant.apart c.loop-i-test.false
+pub returns-clause-once : goal.returns-clause-once
+returns-clause-once c = λ e.
+    apart_all (text_at c.args.text.now.bytes.now c.args.text.now.tokens.now) c.args.members.now c.loop-i.named.numbers.items c.loop-i.passed c.loop-i.i c.loop-i.invariant.apart c.loop-i-test.false
