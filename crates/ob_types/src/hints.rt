@@ -3,6 +3,10 @@
 use ob_decls::{Declared, Declarer, FormPart, Table};
 use std::alloc::{AllocError, Global};
 
+/// At most so many tokens, and parts of forms, stand for each declared identifier in a table whose places are kept. So what is made of a
+/// table takes time by its rows.
+const MOST_EACH: usize = 256;
+
 /// Of a declared identifier the places of its construct and of the first part of its form.
 #[derive(Clone, Copy, Drop)]
 pub(crate) struct Hint {
@@ -10,7 +14,7 @@ pub(crate) struct Hint {
     pub(crate) form: u32,
 }
 
-/// Places of rows, so that most are found without a search.
+/// Places of rows, so that most are found without a search; or none.
 #[derive(Drop)]
 pub(crate) struct Hints {
     /// For each token the place of the identifier that it declares, if it declares one.
@@ -71,8 +75,21 @@ fn note_places(places: &mut [u32], rows: &[Declared]) {
     }
 }
 
-/// The places of the rows of a table, which is of so many tokens.
+/// Whether a table, which is of so many tokens, has enough declared identifiers that it is worth going over its tokens and parts of forms
+/// to keep their places.
+fn are_worth(table: &Table, tokens: usize) -> bool {
+    let most = table.declared().len().saturating_mul(MOST_EACH);
+    tokens <= most && table.parts().len() <= most
+}
+
+/// The places of the rows of a table, which is of so many tokens. None are kept where they aren't worth it; then rows are searched.
 pub(crate) fn hints_of(alloc: Global, table: &Table, tokens: usize) -> Result<Hints, AllocError> {
+    if !are_worth(table, tokens) {
+        return Ok(Hints {
+            declared: Vec::new(alloc),
+            of_declared: Vec::new(alloc),
+        });
+    }
     let of_declared = hints_of_declared(alloc, table)?;
     let mut declared = vec![in alloc; 0u32; tokens]?;
     note_places(declared.as_mut_slice(), table.declared());
