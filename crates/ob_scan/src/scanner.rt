@@ -22,6 +22,19 @@ fn with_room(alloc: Global, bytes: usize) -> Vec<Token>
     }
 }
 
+/// The list of these tokens. Where its room is twice its length or more, which it isn't where it grew token by token, it is cut to
+/// its length: who keeps the list keeps no room for tokens that a text of blanks and comments doesn't have. Where memory is refused
+/// the room stays.
+fn kept(tokens: Vec<Token>) -> Tokens
+    ensures { result ≡ tokens.items }
+{
+    let mut list = tokens;
+    if list.capacity() / 2 >= list.len() {
+        list.shrink_to_fit();
+    }
+    Tokens::of(list)
+}
+
 fn tokens_in(alloc: Global, bytes: &[u8]) -> Result<Tokens, ScanFault>
     requires { length bytes.now ≤ 16777216 }
     ensures { IfSome (outcome_of result) (IsOutcome bytes.now) }
@@ -48,7 +61,7 @@ fn tokens_in(alloc: Global, bytes: &[u8]) -> Result<Tokens, ScanFault>
             Piece::Nothing(reason) => return Err(reason.at(at as u32)),
         }
     }
-    Ok(Tokens::of(tokens))
+    Ok(kept(tokens))
 }
 
 /// The tokens of the bytes of a module, or the first fault; Memory where a growth was refused.
