@@ -31,19 +31,7 @@ pub fn table_of(alloc: Global, module: &Module) -> Result<Table, AllocError>
     if draft.refused {
         return Err(AllocError);
     }
-    rise(draft.parts.as_slice())?;
-    Ok(Table {
-        declarers: draft.declarers,
-        declared: draft.declared,
-        uses: draft.uses,
-        blocks: draft.blocks,
-        imports: draft.imports,
-        parts: draft.parts,
-        records: draft.records,
-        designators: draft.designators,
-        selectors: draft.selectors,
-        ends: draft.ends,
-    })
+    table_from(draft)
 }
 
 /// The table of a draft whose rows are those of a module. That the parts of one form stand together is looked at before it is

@@ -52,12 +52,14 @@ pub struct Draft {
     pub ends: Vec<End>,
 }
 
-/// Adds a row behind the others, or keeps that memory was refused.
+/// Adds a row behind the others, or keeps that memory was refused. Then the rows are let go, which say nothing any more: those that
+/// come behind have their room, and don't each ask for memory again.
 fn add_row<T: Drop>(rows: &mut Vec<T>, row: T, refused: &mut bool)
     ensures { refused.new ≡ false → (refused.old ≡ false) × (rows.new.items ≡ rows.old.items ++ row ∷ []) }
 {
     if rows.push(row).is_err() {
         *refused = true;
+        rows.clear();
     }
 }
 

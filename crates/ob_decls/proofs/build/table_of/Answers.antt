@@ -1,15 +1,11 @@
-use Rattle.std.proofs.Common.{List, subst}
-use Rattle.ob_decls.specs.declared.rows.FormPart.{FormPart}
-use Rattle.ob_decls.specs.Order.{RiseBy}
-use Rattle.ob_decls.proofs.LinedModules.{all_in_order}
+use Rattle.std.proofs.Common.{◌≡◌, IfOk, subst}
+use Rattle.ob_decls.specs.Declaring.{rows_in}
+use Rattle.ob_decls.specs.Parts.{Rows}
 use Rattle.ob_decls.proofs.TableRows.{rows_after}
 use Rattle.ob_decls.proofs.build.table_of.Goals as goal
 
-pub invariant_of-result : goal.invariant_of-result
-invariant_of-result c = record {
-  in_order = all_in_order c.args.module.now _ (rows_after _ _ _ _ c.new-draft.ensures (c.walk_module.ensures c.if-draft.false).1)
-      (subst (λ (ps : List FormPart). RiseBy (λ (p : FormPart). p.declared_by) ps) c.as_slice.ensures.value c.in_ok-rise.ensures);
-}
+pub table_from-requires : goal.table_from-requires
+table_from-requires c = (c.args.module.now, rows_after _ _ _ _ c.new-draft.ensures (c.walk_module.ensures c.if-draft.false).1)
 
 pub returns : goal.returns
-returns c = record { exact = rows_after _ _ _ _ c.new-draft.ensures (c.walk_module.ensures c.if-draft.false).1 }
+returns c = record { exact = subst (λ (rows : Rows). IfOk c.table_from.result (λ t. rows_in t ≡ rows)) (rows_after _ _ _ _ c.new-draft.ensures (c.walk_module.ensures c.if-draft.false).1) c.table_from.ensures }
