@@ -180,8 +180,7 @@ fn shares<E: WorkEntry>(
     requires { length marks.now ≡ length entries.now }
     ensures { IfOk result (λ parts. map arc_value parts.items ≡ shares_of E.shared_of marks.now entries.now) }
 {
-    let count = marks.iter().filter(|mark| **mark).count();
-    let mut parts = Vec::with_capacity(alloc, count)?;
+    let mut parts = Vec::new(alloc);
     for place in 0..entries.len() {
         if marks[place] {
             add_share(&mut parts, &entries[place])?;
