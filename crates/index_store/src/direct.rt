@@ -15,7 +15,8 @@ ghost use Rattle.index_store.specs.Spans.{span_of};
 use crate::span::{Span, is_in, is_nearer, span_of};
 use crate::{Place, Position, StoreFault};
 use proto_wire::{
-    Inside, WireValue, last_bytes, last_number, next_message, next_short, numbers_inside,
+    Inside, WireValue, last_bytes, last_bytes_and_number, last_bytes_and_numbers, last_number,
+    next_message, next_short, numbers_inside,
 };
 use std::alloc::{AllocError, Global};
 
@@ -43,11 +44,11 @@ fn near_inside<'a>(
     requires { occurrence.start + length occurrence.bytes.now < 2 ^ 64 }
     ensures { IfOk result (λ n. option_to_list (option_map said_near n) ≡ covering_of (occurrence_of (records_of occurrence.entry))) }
 {
-    let symbol = last_bytes(2, occurrence);
+    let symbol = last_bytes_and_numbers(2, 1, occurrence, numbers)?;
     if symbol.is_empty() {
         return Ok(None);
     }
-    match span_inside(occurrence, numbers)? {
+    match span_of(numbers.as_slice()) {
         None => Ok(None),
         Some(span) => Ok(Some(Near { span, symbol })),
     }
@@ -210,15 +211,13 @@ fn short_symbol<'a>(occurrence: Inside<'a>) -> Option<&'a [u8]>
     }
 }
 
-/// Whether this is the symbol of an occurrence.
-fn has_symbol(occurrence: Inside<'_>, text: &[u8]) -> bool
+/// Whether an occurrence of any form is of the symbol and one of those that are asked for, by one walk over its records.
+fn is_sought_at_all(occurrence: Inside<'_>, sought: Sought<'_>) -> bool
     requires { occurrence.start + length occurrence.bytes.now < 2 ^ 64 }
-    ensures { result ≡ bytes_eq (latest [] (each_of 2 bytes_in (records_of occurrence.entry))) text.now }
+    ensures { result ≡ is_sought_occurrence sought.entry.defines sought.entry.symbol.now (occurrence_of (records_of occurrence.entry)) }
 {
-    match short_symbol(occurrence) {
-        Some(symbol) => symbol == text,
-        None => has_text(2, occurrence, text),
-    }
+    let (symbol, roles) = last_bytes_and_number(2, 3, occurrence);
+    symbol == sought.symbol && (roles.cast_unsigned() % 2 == 1) == sought.defines
 }
 
 /// Whether an occurrence is of the symbol and one of those that are asked for.
@@ -226,7 +225,10 @@ fn is_sought(occurrence: Inside<'_>, sought: Sought<'_>) -> bool
     requires { occurrence.start + length occurrence.bytes.now < 2 ^ 64 }
     ensures { result ≡ is_sought_occurrence sought.entry.defines sought.entry.symbol.now (occurrence_of (records_of occurrence.entry)) }
 {
-    has_symbol(occurrence, sought.symbol) && is_definition(occurrence) == sought.defines
+    match short_symbol(occurrence) {
+        Some(symbol) => symbol == sought.symbol && is_definition(occurrence) == sought.defines,
+        None => is_sought_at_all(occurrence, sought),
+    }
 }
 
 /// Adds the place of an occurrence, if it is asked for.

@@ -16,3 +16,4 @@ pub mod SinkLaws
 pub mod EachLaws
 pub mod InsideLaws
 mod ShortRecords
+mod FiveBytes

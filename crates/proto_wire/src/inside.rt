@@ -1,6 +1,6 @@
 //! What stands inside a message, found by walking its records: no message is made, and nothing is copied.
 //! A record that is wrong ends a walk, so these are for bytes that were checked; of any bytes they give what the records in front say.
-ghost use Rattle.std.specs.Prelude.{◌≡◌, ◌<◌, ◌≤◌, ◌+◌, ◌^◌, ◌∷◌, [], pos, FitsSigned, IfNone, IfSome, OnOk, length};
+ghost use Rattle.std.specs.Prelude.{◌≡◌, ◌<◌, ◌≤◌, ◌+◌, ◌^◌, ◌∷◌, [], pos, FitsSigned, IfNone, IfOk, IfSome, OnOk, length};
 ghost use Rattle.std.specs.Int.{w32};
 ghost use Rattle.proto_wire.specs.Inside.{records_of, IsRecordBefore};
 ghost use Rattle.proto_wire.specs.Messages.{bytes_in, each_of, if_field, latest, number_given, number_in, numbers_in, payload_record, records_inside};
@@ -145,6 +145,26 @@ pub fn last_number(field: u32, message: Inside<'_>) -> i32
     last
 }
 
+/// The bytes of the last text or message of one field, or none of them, and the last number of another, or 0: one walk for both.
+pub fn last_bytes_and_number<'a>(
+    text_field: u32,
+    number_field: u32,
+    message: Inside<'a>,
+) -> (&'a [u8], i32)
+    requires { message.start + length message.bytes.now < 2 ^ 64 }
+    ensures text { result.0.now ≡ latest [] (each_of text_field bytes_in (records_of message.entry)) }
+    ensures number { result.1 ≡ latest (pos 0) (each_of number_field number_in (records_of message.entry)) }
+{
+    let mut rest = message;
+    let mut text: &[u8] = &[];
+    let mut number = 0;
+    while let Some((wire, payload)) = next_record(&mut rest) {
+        text = later_bytes(text_field, text, &wire, payload);
+        number = later_number(number_field, number, &wire);
+    }
+    (text, number)
+}
+
 /// Puts the numbers of this repeated field, packed or not, in the place of those that are there: of a payload that is no row of
 /// varints none. Fails where memory is refused; some are then there.
 pub fn numbers_inside(
@@ -161,4 +181,26 @@ pub fn numbers_inside(
         push_given(field, numbers, &wire, payload)?;
     }
     Ok(())
+}
+
+/// The bytes of the last text or message of one field, or none of them; the numbers of another are put as by `numbers_inside`, in
+/// the same walk.
+pub fn last_bytes_and_numbers<'a>(
+    text_field: u32,
+    numbers_field: u32,
+    message: Inside<'a>,
+    numbers: &mut Vec<i32>,
+) -> Result<&'a [u8], AllocError>
+    requires { message.start + length message.bytes.now < 2 ^ 64 }
+    ensures text { IfOk result (λ text. text.now ≡ latest [] (each_of text_field bytes_in (records_of message.entry))) }
+    ensures numbers { OnOk result (numbers.new.items ≡ each_of numbers_field numbers_in (records_of message.entry)) }
+{
+    let mut rest = message;
+    let mut text: &[u8] = &[];
+    numbers.clear();
+    while let Some((wire, payload)) = next_record(&mut rest) {
+        text = later_bytes(text_field, text, &wire, payload);
+        push_given(numbers_field, numbers, &wire, payload)?;
+    }
+    Ok(text)
 }

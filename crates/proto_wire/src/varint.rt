@@ -1,5 +1,5 @@
 //! Varints: groups of seven bits, least first.
-ghost use Rattle.std.specs.Prelude.{◌≡◌, ◌<◌, ◌^◌, ◌++◌, OnOk, IfOk, length};
+ghost use Rattle.std.specs.Prelude.{◌≡◌, ◌<◌, ◌%◌, ◌^◌, ◌++◌, ℕ, IfOk, IfSome, Ok, OnOk, length};
 ghost use Rattle.proto_wire.specs.Faults.{Gives};
 ghost use Rattle.proto_wire.specs.Varints.{varint, varint_in};
 
@@ -25,6 +25,83 @@ fn varint_within(most: u8, at: usize, bytes: &[u8]) -> Result<(u64, &[u8]), Wire
     }
 }
 
+/// What the lowest seven bits of a byte stand for.
+fn low(byte: u8) -> u64
+    ensures exact { result ≡ byte % 128 }
+    ensures few { result < 128 }
+{
+    u64::from(byte % 128)
+}
+
+/// The number at the front and what follows it, where at most five bytes stand for it: none of them takes a call.
+#[inline(always)]
+#[tactic(auto, unfolding(crate::specs::Varints::varint_in))]
+fn first_five(bytes: &[u8]) -> Option<(u64, &[u8])>
+    ensures five { IfSome result (λ x. (at : ℕ) → varint_in 5 at bytes.now ≡ Ok (x.0, x.1.now)) }
+    ensures ten { IfSome result (λ x. (at : ℕ) → varint_in 10 at bytes.now ≡ Ok (x.0, x.1.now)) }
+    ensures shorter { IfSome result (λ x. length x.1.now < length bytes.now) }
+{
+    match bytes {
+        [a, rest @ ..] if *a < 128 => Some((low(*a), rest)),
+        [a, b, rest @ ..] if *b < 128 => Some((low(*a) + (low(*b) << 7), rest)),
+        [a, b, c, rest @ ..] if *c < 128 => {
+            Some((low(*a) + (low(*b) << 7) + (low(*c) << 14), rest))
+        }
+        [a, b, c, d, rest @ ..] if *d < 128 => Some((
+            low(*a) + (low(*b) << 7) + (low(*c) << 14) + (low(*d) << 21),
+            rest,
+        )),
+        [a, b, c, d, e, rest @ ..] if *e < 128 => Some((
+            low(*a) + (low(*b) << 7) + (low(*c) << 14) + (low(*d) << 21) + (low(*e) << 28),
+            rest,
+        )),
+        _ => None,
+    }
+}
+
+/// The number at the front, of at most five bytes, and what follows it.
+fn last_five(at: usize, bytes: &[u8]) -> Result<(u64, &[u8]), WireFault>
+    ensures value { Gives (λ x. (x.0, x.1.now)) result (varint_in 5 at bytes.now) }
+    ensures shorter { IfOk result (λ x. length x.1.now < length bytes.now) }
+{
+    match first_five(bytes) {
+        Some(found) => Ok(found),
+        None => varint_within(5, at, bytes),
+    }
+}
+
+/// The number at the front, of more than five bytes and at most ten, and what follows it: the first five are read at once.
+fn by_fives(at: usize, bytes: &[u8]) -> Result<(u64, &[u8]), WireFault>
+    ensures value { Gives (λ x. (x.0, x.1.now)) result (varint_in 10 at bytes.now) }
+    ensures shorter { IfOk result (λ x. length x.1.now < length bytes.now) }
+{
+    match bytes {
+        [a, b, c, d, e, rest @ ..]
+            if *a >= 128 && *b >= 128 && *c >= 128 && *d >= 128 && *e >= 128 => {
+            let (high, rest) = last_five(at, rest)?;
+            let number = low(*a)
+                + (low(*b) << 7)
+                + (low(*c) << 14)
+                + (low(*d) << 21)
+                + (low(*e) << 28);
+            Ok((number + ((high % (1 << 29)) << 35), rest))
+        }
+        _ => varint_within(10, at, bytes),
+    }
+}
+
+/// The number at the front, of at most ten bytes, and what follows it. A call for each byte would take three times as long.
+#[inline(never)]
+fn long_varint(at: usize, bytes: &[u8]) -> Result<(u64, &[u8]), WireFault>
+    ensures value { Gives (λ x. (x.0, x.1.now)) result (varint_in 10 at bytes.now) }
+    ensures shorter { IfOk result (λ x. length x.1.now < length bytes.now) }
+{
+    match first_five(bytes) {
+        Some(found) => Ok(found),
+        None => by_fives(at, bytes),
+    }
+}
+
 /// The number at the front, of at most ten bytes, and what follows it. Bits beyond 64 are dropped. The fault has this offset.
 /// A number of one byte or two, as nearly all are, is answered with no further call.
 /// Protocol Buffers encoding, "Base 128 Varints".
@@ -38,7 +115,7 @@ pub(crate) fn varint_at_front(at: usize, bytes: &[u8]) -> Result<(u64, &[u8]), W
         [low, high, rest @ ..] if *high < 128 => {
             Ok((u64::from(*low % 128) + 128 * u64::from(*high), rest))
         }
-        _ => varint_within(10, at, bytes),
+        _ => long_varint(at, bytes),
     }
 }
 

@@ -1,0 +1,14 @@
+use Rattle.std.proofs.Common.{◌≡◌, ◌+◌, ◌++◌, [], length}
+use Rattle.proto_wire.specs.Inside.{records_of}
+use Rattle.proto_wire.specs.Messages.{bytes_in, each_of, latest, numbers_in}
+use Rattle.proto_wire.proofs.inside.last_bytes_and_numbers.Given as goal
+
+abbrev pub invariant-loop-wire : goal.invariant-loop-wire
+invariant-loop-wire l = record {
+  text : latest [] (each_of l.text_field bytes_in (records_of l.message)) ≡ latest l.text (each_of l.text_field bytes_in (records_of l.rest));
+  numbers : each_of l.numbers_field numbers_in (records_of l.message) ≡ l.numbers.items ++ each_of l.numbers_field numbers_in (records_of l.rest);
+  within : l.rest.start + length l.rest.bytes.now ≡ l.message.start + length l.message.bytes.now;
+}
+
+abbrev pub decreases-loop-wire : goal.decreases-loop-wire
+decreases-loop-wire l = length l.rest.bytes.now
