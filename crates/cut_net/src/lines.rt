@@ -66,3 +66,14 @@ pub(crate) fn line_ahead(text: &[u8]) -> Option<(Line<'_>, &[u8])>
     let rest = behind_byte(rest, b'\n')?;
     Some((Line::Module(name), rest))
 }
+
+/// The same, where no byte behind the first so many is looked at. None too where the line goes on there.
+pub(crate) fn line_within(text: &[u8], most: usize) -> Option<(Line<'_>, &[u8])>
+    ensures good { IfSome result (λ x. IsNetLine (line_said x.0)) }
+    ensures text { IfSome result (λ x. text.now ≡ net_line (line_said x.0) ++ 10 ∷ x.1.now) }
+{
+    let (near, _) = text.split_at(most.min(text.len()));
+    let (line, behind) = line_ahead(near)?;
+    let (_, rest) = text.split_at(near.len() - behind.len());
+    Some((line, rest))
+}

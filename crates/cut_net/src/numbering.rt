@@ -75,7 +75,7 @@ pub(crate) fn numbers_of(
     ensures size { IfOk result (λ numbers. vec_len numbers ≡ length old.now) }
     ensures numbers { IfOk result (λ numbers. (k : ℕ) → k < length numbers.items → (slice_index numbers.items k < length (texts names.now)) × (slice_index_or (texts names.now) (slice_index numbers.items k) [] ≡ slice_index_or (texts old.now) k [])) }
 {
-    let slots = Recent::of(alloc, names)?;
+    let slots = Recent::of(alloc, names);
     let mut numbers = Vec::with_capacity(alloc, old.len())?;
     for name in old {
         let name = name.as_str();

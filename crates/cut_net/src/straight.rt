@@ -8,13 +8,17 @@ ghost use Rattle.cut_net.specs.WellFormed.{AreBetween};
 
 use crate::Priced;
 use crate::draft::{MOST_IMPORTS, MOST_NAMES};
-use crate::lines::{Line, line_ahead, line_in};
+use crate::lines::{Line, line_ahead, line_in, line_within};
 use crate::numbering::{numbers_of, put_in_order, renumbered, sorted};
 use crate::ordering::{is_ascending, seem_apart};
-use crate::recent::Recent;
+use crate::recent::{Met, Recent};
 use indexmap::IndexSet;
 use std::alloc::{AllocError, Global};
+use texts::ahead::behind_byte;
 use texts::fields::cut_at_byte;
+
+/// How many bytes are read before the imports are first looked at for one that stands twice.
+const FIRST_LOOK: usize = 4096;
 
 /// The names of the lines so far, and their imports by the places of the names.
 #[derive(Drop)]
@@ -22,19 +26,23 @@ pub(crate) struct LineList {
     pub(crate) names: IndexSet<String>,
     pub(crate) imports: Vec<Priced>,
     recent: Recent,
+    met: Met,
+    /// How many bytes are read before the imports are looked at.
+    look: usize,
 }
 
 impl LineList {
     /// The list of no lines, for those of a text of so many bytes.
-    fn new(alloc: Global, bytes: usize) -> Result<LineList, AllocError>
-        ensures { IfOk result (IsList []) }
+    fn new(alloc: Global, bytes: usize) -> LineList
+        ensures { IsList [] result }
     {
-        let recent = Recent::new(alloc, bytes)?;
-        Ok(LineList {
+        LineList {
             names: IndexSet::new(alloc),
             imports: Vec::new(alloc),
-            recent,
-        })
+            recent: Recent::new(alloc, bytes),
+            met: Met::new(alloc, bytes),
+            look: FIRST_LOOK,
+        }
     }
 
     /// Notes a module. False where its name is one too many.
@@ -48,7 +56,7 @@ impl LineList {
         Ok(true)
     }
 
-    /// Notes an import. False where it or one of its names is one too many.
+    /// Notes an import. False where it or one of its names is one too many, or where it is known to stand twice.
     fn add_import(
         &mut self,
         alloc: Global,
@@ -61,6 +69,9 @@ impl LineList {
         let from = self.recent.note(alloc, &mut self.names, importer)?;
         let to = self.recent.note(alloc, &mut self.names, imported)?;
         if self.names.len() > MOST_NAMES || self.imports.len() >= MOST_IMPORTS {
+            return Ok(false);
+        }
+        if self.met.is_repeat(&self.imports, from as u32, to as u32) {
             return Ok(false);
         }
         self.imports.push(Priced {
@@ -125,30 +136,53 @@ impl LineList {
         };
         Ok(self.add(alloc, line)?.then_some(rest))
     }
+
+    /// Whether no import of the list stands twice: at once where each has a slot, else by a look, if memory for that isn't refused. The next look comes when four times as
+    /// many bytes are read.
+    fn seems_apart(&mut self, alloc: Global) -> bool
+        ensures { (lines : List NetLine) → IsList lines self.old → IsList lines self.new }
+    {
+        self.look = self.look.saturating_mul(4);
+        self.met.has_all() || seem_apart(alloc, &self.imports).unwrap_or(true)
+    }
+
+    /// Notes the next line, behind so many bytes; what stands behind its end. None where it has a fault, or where an import before it stands twice: no line is read on beyond
+    /// the place of the next look before that is done, so a text isn't read far behind such an import.
+    fn take_next<'a>(
+        &mut self,
+        alloc: Global,
+        text: &'a [u8],
+        read: usize,
+    ) -> Result<Option<&'a [u8]>, AllocError>
+        ensures goes_on { IfOk result (λ noted. IfSome noted (λ rest. (before : List NetLine) → IsList before self.old → GoesOn text.now rest.now before self.new)) }
+        ensures shorter { IfOk result (λ noted. IfSome noted (λ rest. 0 < length text.now → length rest.now < length text.now)) }
+    {
+        if let Some(rest) = behind_byte(text, b'\n') {
+            return Ok(Some(rest));
+        }
+        let near = self.look.saturating_sub(read);
+        if let Some((line, rest)) = line_within(text, near) {
+            return Ok(self.add(alloc, line)?.then_some(rest));
+        }
+        if near < text.len() && !self.seems_apart(alloc) {
+            return Ok(None);
+        }
+        self.take_ahead(alloc, text)
+    }
 }
 
-/// How many bytes are read before the imports are first looked at for one that stands twice.
-const FIRST_LOOK: usize = 4096;
-
-/// Fills the list of no lines with those that the bytes spell. False where one has a fault. Each time that four times as many bytes are
-/// read the imports are looked at, if memory for that isn't refused, so that a text in which one stands twice isn't read far behind it.
+/// Fills the list of no lines with those that the bytes spell. False where one has a fault, or where an import is seen to stand twice.
 fn fill(alloc: Global, bytes: &[u8], list: &mut LineList) -> Result<bool, AllocError>
     requires { IsList [] list.old }
     ensures { IfOk result (λ whole. whole ≡ true → IsListOf bytes.now list.new) }
 {
     let mut rest = bytes;
-    let mut look = FIRST_LOOK;
     while !rest.is_empty() {
-        let Some(behind) = list.take_ahead(alloc, rest)? else {
+        let read = bytes.len().saturating_sub(rest.len());
+        let Some(behind) = list.take_next(alloc, rest, read)? else {
             return Ok(false);
         };
         rest = behind;
-        if bytes.len().saturating_sub(rest.len()) >= look {
-            if !seem_apart(alloc, &list.imports).unwrap_or(true) {
-                return Ok(false);
-            }
-            look = look.saturating_mul(4);
-        }
     }
     Ok(true)
 }
@@ -199,7 +233,7 @@ pub(crate) fn straight_lists(
     ensures few_names { IfOk result (λ found. IfSome found (λ lists. length lists.0.items ≤ 8192)) }
     ensures few_imports { IfOk result (λ found. IfSome found (λ lists. length lists.1.items ≤ 65536)) }
 {
-    let mut list = LineList::new(alloc, bytes.len())?;
+    let mut list = LineList::new(alloc, bytes.len());
     if fill(alloc, bytes, &mut list)? {
         ordered(alloc, &list)
     } else {
