@@ -24,9 +24,9 @@ use ob_tree::expression::{
 use ob_tree::token::Leaf;
 use std::alloc::Global;
 
-/// An expression, itself a level, in a box. It is laid out at its callers, so a level takes no more calls than without the box.
-#[inline(always)]
+/// An expression, itself a level.
 #[cycle(expressions)]
+#[tactic(auto, using(ob_tree::proofs::ExpressionLayers::expressions_made), unfolding(crate::specs::ReadExpressions::expr_at, crate::specs::ReadExpressions::expr_with, crate::specs::Forms::limit_at))]
 pub(crate) fn expression(
     alloc: Global,
     tokens: &[Token],
@@ -35,27 +35,14 @@ pub(crate) fn expression(
 ) -> Result<(Box<Expr>, Cursor), Stop>
     ensures { Gives tokens.now (λ x. (expr_outline x.0.value, ahead tokens.now x.1)) result (expr_at depth (ahead tokens.now input)) }
 {
-    let (expression, input) = bare_expression(alloc, tokens, input, depth)?;
-    boxed(alloc, expression, input)
-}
-
-/// The same outside a box, for what holds it as it is: a box would be asked for and given up at once.
-#[cycle(expressions)]
-#[tactic(auto, using(ob_tree::proofs::ExpressionLayers::expressions_made), unfolding(crate::specs::ReadExpressions::expr_at, crate::specs::ReadExpressions::expr_with, crate::specs::Forms::limit_at))]
-pub(crate) fn bare_expression(
-    alloc: Global,
-    tokens: &[Token],
-    input: Cursor,
-    depth: u32,
-) -> Result<(Expr, Cursor), Stop>
-    ensures { Gives tokens.now (λ x. (expr_outline x.0, ahead tokens.now x.1)) result (expr_at depth (ahead tokens.now input)) }
-{
     if depth == 0 {
         return Err(beyond(tokens, input, begins_expression(tokens, input)));
     }
     let (left, input) = sum(alloc, tokens, input, depth - 1)?;
     let (compared, input) = compared(alloc, tokens, input, depth - 1)?;
-    Ok((Expr { left, compared }, input))
+    let left = Box::into_inner(left);
+    let expression = Expr { left, compared };
+    boxed(alloc, expression, input)
 }
 
 /// The expression behind a word, if this stands here.
@@ -88,7 +75,6 @@ fn compared(
         None => Ok((None, input)),
         Some((relation, rest)) => {
             let (right, rest) = sum(alloc, tokens, rest, depth)?;
-            let (right, rest) = boxed(alloc, right, rest)?;
             Ok((Some((relation, right)), rest))
         }
     }
@@ -105,9 +91,13 @@ pub(crate) fn expression_list(
 ) -> Result<(Box<ExprList>, Cursor), Stop>
     ensures { Gives tokens.now (λ x. (expr_list_outline x.0.value, ahead tokens.now x.1)) result (several kinds.Comma (expr_at depth) (ahead tokens.now input)) }
 {
-    let (first, here) = bare_expression(alloc, tokens, input, depth)?;
+    let (first, here) = expression(alloc, tokens, input, depth)?;
     let (rest, here) = more_expressions(alloc, tokens, here, depth)?;
-    boxed(alloc, ExprList { first, rest }, here)
+    let list = ExprList {
+        first: Box::into_inner(first),
+        rest,
+    };
+    boxed(alloc, list, here)
 }
 
 #[cycle(expressions)]
@@ -122,7 +112,7 @@ fn more_expressions(
     let mut rest = Vec::new(alloc);
     let mut here = input;
     'more: while let Some(after) = accept(tokens, here, Kind::Comma) {
-        here = keep(&mut rest, bare_expression(alloc, tokens, after, depth))?;
+        here = keep_boxed(&mut rest, expression(alloc, tokens, after, depth))?;
     }
     Ok((rest, here))
 }
@@ -135,13 +125,13 @@ fn sum(
     tokens: &[Token],
     input: Cursor,
     depth: u32,
-) -> Result<(SimpleExpression, Cursor), Stop>
-    ensures { Gives tokens.now (λ x. (sum_outline x.0, ahead tokens.now x.1)) result (sum_at depth (ahead tokens.now input)) }
+) -> Result<(Box<SimpleExpression>, Cursor), Stop>
+    ensures { Gives tokens.now (λ x. (sum_outline x.0.value, ahead tokens.now x.1)) result (sum_at depth (ahead tokens.now input)) }
 {
     let (sign, here) = sign(tokens, input);
     let (first, here) = term(alloc, tokens, here, depth)?;
     let (rest, here) = more_terms(alloc, tokens, here, depth)?;
-    Ok((SimpleExpression { sign, first, rest }, here))
+    boxed(alloc, SimpleExpression { sign, first, rest }, here)
 }
 
 #[cycle(expressions)]

@@ -14,9 +14,9 @@ ghost use Rattle.ob_tree.specs.Marks.{each_after, if_there, word};
 ghost use Rattle.ob_tree.specs.Statements.{block_outline, branch_outline, case_outline, stmt_outline};
 
 use crate::cursor::Cursor;
-use crate::expressions::{bare_expression, designator, expression, expression_behind};
+use crate::expressions::{designator, expression, expression_behind};
 use crate::labels::{begins_label, label_ranges};
-use crate::stop::{Stop, boxed, keep, keep_boxed, some};
+use crate::stop::{Stop, boxed, keep_boxed, some};
 use crate::tokens::{accept, expect, identifier};
 use ob_scan::{Kind, Token};
 use ob_tree::expression::Expr;
@@ -41,13 +41,17 @@ pub fn begins_statement(tokens: &[Token], input: Cursor) -> bool
 
 /// An empty statement, where the depth is used up.
 #[tactic(auto, using(crate::proofs::StatementSteps::made), unfolding(crate::specs::ReadStatements::statement_at, crate::specs::ReadStatements::empty_at))]
-fn empty_statement(tokens: &[Token], input: Cursor) -> Result<(Stmt, Cursor), Stop>
-    ensures { Gives tokens.now (λ x. (stmt_outline x.0, ahead tokens.now x.1)) result (statement_at 0 (ahead tokens.now input)) }
+fn empty_statement(
+    alloc: Global,
+    tokens: &[Token],
+    input: Cursor,
+) -> Result<(Box<Stmt>, Cursor), Stop>
+    ensures { Gives tokens.now (λ x. (stmt_outline x.0.value, ahead tokens.now x.1)) result (statement_at 0 (ahead tokens.now input)) }
 {
     if begins_statement(tokens, input) {
         return Err(Stop::TooDeep(input));
     }
-    Ok((Stmt::Empty, input))
+    boxed(alloc, Stmt::Empty, input)
 }
 
 /// A statement, with at most so many levels in it, itself one of them.
@@ -58,13 +62,14 @@ fn statement(
     tokens: &[Token],
     input: Cursor,
     depth: u32,
-) -> Result<(Stmt, Cursor), Stop>
-    ensures { Gives tokens.now (λ x. (stmt_outline x.0, ahead tokens.now x.1)) result (statement_at depth (ahead tokens.now input)) }
+) -> Result<(Box<Stmt>, Cursor), Stop>
+    ensures { Gives tokens.now (λ x. (stmt_outline x.0.value, ahead tokens.now x.1)) result (statement_at depth (ahead tokens.now input)) }
 {
     if depth == 0 {
-        return empty_statement(tokens, input);
+        return empty_statement(alloc, tokens, input);
     }
-    statement_within(alloc, tokens, input, depth - 1)
+    let (statement, input) = statement_within(alloc, tokens, input, depth - 1)?;
+    boxed(alloc, statement, input)
 }
 
 /// A statement whose parts have at most so many levels in them.
@@ -104,8 +109,8 @@ fn assignment(
     match accept(tokens, input, Kind::Assign) {
         None => Ok((Stmt::Call(target), input)),
         Some(rest) => {
-            let (value, rest) = bare_expression(alloc, tokens, rest, depth)?;
-            Ok((Stmt::Assign(target, value), rest))
+            let (value, rest) = expression(alloc, tokens, rest, depth)?;
+            Ok((Stmt::Assign(target, Box::into_inner(value)), rest))
         }
     }
 }
@@ -123,7 +128,11 @@ pub(crate) fn block(
 {
     let (first, here) = statement(alloc, tokens, input, depth)?;
     let (rest, here) = more_statements(alloc, tokens, here, depth)?;
-    boxed(alloc, StatementSequence { first, rest }, here)
+    let block = StatementSequence {
+        first: Box::into_inner(first),
+        rest,
+    };
+    boxed(alloc, block, here)
 }
 
 #[cycle(statements)]
@@ -138,7 +147,7 @@ fn more_statements(
     let mut rest = Vec::new(alloc);
     let mut here = input;
     'more: while let Some(after) = accept(tokens, here, Kind::Semicolon) {
-        here = keep(&mut rest, statement(alloc, tokens, after, depth))?;
+        here = keep_boxed(&mut rest, statement(alloc, tokens, after, depth))?;
     }
     Ok((rest, here))
 }

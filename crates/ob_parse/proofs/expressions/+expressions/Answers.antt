@@ -2,7 +2,7 @@ use Rattle.std.proofs.Common.{ℕ, ◌++◌, [], refl, sym, ap, ◌∙◌, arith
 use Rattle.std.proofs.lemmas.Result.{err_from_is_err_and}
 use Rattle.ob_scan.specs.declared.kind.Kind.TheVariants as kinds
 use Rattle.ob_tree.specs.Marks.{word, each, each_after}
-use Rattle.ob_tree.specs.Expressions.{mul_kind, add_kind, expr_outline, term_outline, factor_outline, element_outline, selector_outline, element_list_outline, expr_list_outline}
+use Rattle.ob_tree.specs.Expressions.{mul_kind, add_kind, expr_outline, term_outline, factor_outline, element_outline, selector_outline, element_list_outline, expr_list_outline, sum_outline}
 use Rattle.ob_parse.specs.Forms.{many, begins, accept_at, limit_at, name_at, several, unless}
 use Rattle.ob_parse.specs.Gives.{ahead, seen, skipped}
 use Rattle.ob_parse.specs.ReadExpressions.{mul_start, add_start, selector_first, element_with, selector_with, factor_at, term_at, expr_at, designator_with, expr_with, factor_with, negated_at, sum_with, term_with}
@@ -80,13 +80,13 @@ more_terms-returns t c =
 
 pub more_expressions-more-smaller : goal.more_expressions-more-smaller
 more_expressions-more-smaller t c =
-    let k = kept c.args.tokens.now expr_outline c.bare_expression.result (λ x. x) _ _ _ _ c.bare_expression.ensures c.in_ok-here.ensures in
+    let k = kept c.args.tokens.now expr_outline c.expression.result (λ b. b.value) _ _ _ _ c.expression.ensures c.in_ok-here.ensures in
     smaller (accept_at kinds.Comma) (expr_at c.args.depth) (comma_adv c.args.depth) (ahead c.args.tokens.now c.more.here) _ _
     (sym c.in-Some.ensures) k.is_read
 
 pub more_expressions-more-preserved : goal.more_expressions-more-preserved
 more_expressions-more-preserved t c =
-    let k = kept c.args.tokens.now expr_outline c.bare_expression.result (λ x. x) _ _ _ _ c.bare_expression.ensures c.in_ok-here.ensures in
+    let k = kept c.args.tokens.now expr_outline c.expression.result (λ b. b.value) _ _ _ _ c.expression.ensures c.in_ok-here.ensures in
     pushed_after (accept_at kinds.Comma) (expr_at c.args.depth) (comma_adv c.args.depth)
     expr_outline kinds.Comma c.more.rest.items _ k.item (ahead c.args.tokens.now c.more.here) (ahead c.args.tokens.now c.in-Some.after) _ _ k.items
     (sym c.in-Some.ensures) k.is_read refl c.more.invariant
@@ -96,7 +96,7 @@ more_expressions-returns-in_err-here t c =
     let p = err_from_is_err_and c.from_residual.result c.from_residual.ensures.1 in
     rw (p.1, p.2) (ends (accept_at kinds.Comma) (expr_at c.args.depth) (comma_adv c.args.depth) c.args.tokens.now c.in_err-here.field-0.0
     (each_after kinds.Comma expr_outline c.more.rest.items) (ahead c.args.tokens.now c.more.here) _ (many (accept_at kinds.Comma) (expr_at c.args.depth) (ahead c.args.tokens.now c.args.input))
-    (sym c.in-Some.ensures) (unkept c.args.tokens.now expr_outline c.bare_expression.result (λ x. x) _ _ _ _ c.bare_expression.ensures c.in_err-here.ensures) c.more.invariant)
+    (sym c.in-Some.ensures) (unkept c.args.tokens.now expr_outline c.expression.result (λ b. b.value) _ _ _ _ c.expression.ensures c.in_err-here.ensures) c.more.invariant)
 
 pub more_expressions-returns : goal.more_expressions-returns
 more_expressions-returns t c =
@@ -188,15 +188,12 @@ unfolding unless
 elements-returns-then-is_at t c = grind arith
 
 pub expression-returns : goal.expression-returns
-expression-returns t c = gives_boxed c.args.tokens.now expr_outline _ _ c.boxed.result _ c.boxed.ensures.of c.boxed.ensures.refused c.in_ok-expression.ensures
-
-pub bare_expression-returns : goal.bare_expression-returns
 unfolding expr_at expr_with limit_at
-bare_expression-returns t c = grind (arith, expressions_made)
+expression-returns t c = gives_boxed c.args.tokens.now expr_outline _ _ c.boxed.result _ c.boxed.ensures.of c.boxed.ensures.refused (grind (arith, expressions_made))
 
-pub bare_expression-returns-then-depth-eq0 : goal.bare_expression-returns-then-depth-eq0
+pub expression-returns-then-depth-eq0 : goal.expression-returns-then-depth-eq0
 unfolding expr_at expr_with limit_at
-bare_expression-returns-then-depth-eq0 t c = grind (arith, expressions_made)
+expression-returns-then-depth-eq0 t c = grind (arith, expressions_made)
 
 pub expression_list-returns : goal.expression_list-returns
 unfolding several
@@ -280,7 +277,7 @@ set-returns t c = grind (arith, expressions_made)
 
 pub sum-returns : goal.sum-returns
 unfolding sum_with
-sum-returns t c = grind (arith, expressions_made)
+sum-returns t c = gives_boxed c.args.tokens.now sum_outline _ _ c.boxed.result _ c.boxed.ensures.of c.boxed.ensures.refused (grind (arith, expressions_made))
 
 pub term-returns : goal.term-returns
 unfolding term_with

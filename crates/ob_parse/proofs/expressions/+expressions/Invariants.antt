@@ -9,19 +9,16 @@ use Rattle.ob_parse.proofs.Loops.{with_front}
 use Rattle.ob_parse.proofs.expressions.+expressions.Given as goal
 
 abbrev pub decreases-expression : goal.decreases-expression
-decreases-expression l = 16 * l.depth + 1
-
-abbrev pub decreases-bare_expression : goal.decreases-bare_expression
-decreases-bare_expression l = 16 * l.depth + 0
+decreases-expression l = 16 * l.depth + 0
 
 abbrev pub decreases-high : goal.decreases-high
-decreases-high l = 16 * l.depth + 2
+decreases-high l = 16 * l.depth + 1
 
 abbrev pub decreases-negated : goal.decreases-negated
 decreases-negated l = 16 * l.depth + 8
 
 abbrev pub decreases-element : goal.decreases-element
-decreases-element l = 16 * l.depth + 3
+decreases-element l = 16 * l.depth + 2
 
 abbrev pub decreases-more_expressions : goal.decreases-more_expressions
 decreases-more_expressions l = 16 * l.depth + 1
@@ -30,16 +27,16 @@ abbrev pub decreases-expression_list : goal.decreases-expression_list
 decreases-expression_list l = 16 * l.depth + 2
 
 abbrev pub decreases-more_elements : goal.decreases-more_elements
-decreases-more_elements l = 16 * l.depth + 4
+decreases-more_elements l = 16 * l.depth + 3
 
 abbrev pub decreases-element_list : goal.decreases-element_list
-decreases-element_list l = 16 * l.depth + 5
+decreases-element_list l = 16 * l.depth + 4
 
 abbrev pub decreases-arguments : goal.decreases-arguments
 decreases-arguments l = 16 * l.depth + 3
 
 abbrev pub decreases-elements : goal.decreases-elements
-decreases-elements l = 16 * l.depth + 6
+decreases-elements l = 16 * l.depth + 5
 
 abbrev pub decreases-selector : goal.decreases-selector
 decreases-selector l = 16 * l.depth + 5

@@ -29,13 +29,13 @@ bar_adv d = accept_advances d kinds.Bar _ (case_sound d _ (block_at_sound d))
 
 pub more_statements-more-smaller : goal.more_statements-more-smaller
 more_statements-more-smaller t c =
-    let k = kept c.args.tokens.now stmt_outline c.statement.result (λ x. x) _ _ _ _ c.statement.ensures c.in_ok-here.ensures in
+    let k = kept c.args.tokens.now stmt_outline c.statement.result (λ b. b.value) _ _ _ _ c.statement.ensures c.in_ok-here.ensures in
     smaller (accept_at kinds.Semicolon) (statement_at c.args.depth) (semicolon_adv c.args.depth) (ahead c.args.tokens.now c.more.here) _ _
     (sym c.in-Some.ensures) k.is_read
 
 pub more_statements-more-preserved : goal.more_statements-more-preserved
 more_statements-more-preserved t c =
-    let k = kept c.args.tokens.now stmt_outline c.statement.result (λ x. x) _ _ _ _ c.statement.ensures c.in_ok-here.ensures in
+    let k = kept c.args.tokens.now stmt_outline c.statement.result (λ b. b.value) _ _ _ _ c.statement.ensures c.in_ok-here.ensures in
     pushed_after (accept_at kinds.Semicolon) (statement_at c.args.depth) (semicolon_adv c.args.depth)
     stmt_outline kinds.Semicolon c.more.rest.items _ k.item (ahead c.args.tokens.now c.more.here) (ahead c.args.tokens.now c.in-Some.after) _ _ k.items
     (sym c.in-Some.ensures) k.is_read refl c.more.invariant
@@ -45,7 +45,7 @@ more_statements-returns-in_err-here t c =
     let p = err_from_is_err_and c.from_residual.result c.from_residual.ensures.1 in
     rw (p.1, p.2) (ends (accept_at kinds.Semicolon) (statement_at c.args.depth) (semicolon_adv c.args.depth) c.args.tokens.now c.in_err-here.field-0.0
     (each_after kinds.Semicolon stmt_outline c.more.rest.items) (ahead c.args.tokens.now c.more.here) _ (many (accept_at kinds.Semicolon) (statement_at c.args.depth) (ahead c.args.tokens.now c.args.input))
-    (sym c.in-Some.ensures) (unkept c.args.tokens.now stmt_outline c.statement.result (λ x. x) _ _ _ _ c.statement.ensures c.in_err-here.ensures) c.more.invariant)
+    (sym c.in-Some.ensures) (unkept c.args.tokens.now stmt_outline c.statement.result (λ b. b.value) _ _ _ _ c.statement.ensures c.in_err-here.ensures) c.more.invariant)
 
 pub more_statements-returns : goal.more_statements-returns
 more_statements-returns t c =
@@ -141,7 +141,7 @@ repeat_statement-returns t c = grind (arith, made)
 
 pub statement-returns : goal.statement-returns
 unfolding statement_at
-statement-returns t c = grind arith
+statement-returns t c = gives_boxed c.args.tokens.now stmt_outline _ _ c.boxed.result _ c.boxed.ensures.of c.boxed.ensures.refused (grind arith)
 
 pub statement-returns-then-depth-eq0 : goal.statement-returns-then-depth-eq0
 unfolding statement_at
