@@ -145,22 +145,7 @@ impl<'a> Texts<'a> {
     }
 
     /// Adds the text of what this stands for, if that is declared outside of the module and isn't there yet, and tells where it
-    /// stands.
-    fn meet_outer(
-        &mut self,
-        alloc: Global,
-        types: &Types<'a>,
-        target: Target,
-    ) -> Result<usize, AllocError>
-        requires named { HaveNames types.now }
-        requires external { (item name : ℕ) → target ≡ External item name → IsName (text types.now name) }
-        ensures { (package_name : List ℕ) → AreSymbolTexts types.now package_name self.old →
-            OnOk result (AreSymbolTexts types.now package_name self.new) }
-    {
-        self.outer.meet(alloc, types, &self.fronts, target)
-    }
-
-    /// The same, and tells where a declaration stands that the module itself has.
+    /// stands, or where the declaration does that the module itself has.
     pub(crate) fn meet(
         &mut self,
         alloc: Global,
@@ -174,7 +159,7 @@ impl<'a> Texts<'a> {
     {
         match target {
             Target::Declared(number) => Ok(self.places.meet(number)),
-            _ => self.meet_outer(alloc, types, target),
+            _ => self.outer.meet(alloc, types, &self.fronts, target),
         }
     }
 
@@ -191,7 +176,7 @@ impl<'a> Texts<'a> {
     {
         let mut texts = Texts::begun(alloc, types, package_name)?;
         for reference in refs {
-            texts.meet_outer(alloc, types, reference.target)?;
+            texts.meet(alloc, types, reference.target)?;
         }
         Ok(texts)
     }
