@@ -24,6 +24,7 @@ mod places;
 mod ranges;
 mod record_head;
 mod records;
+mod room;
 mod row_places;
 mod steps;
 mod symbol_texts;

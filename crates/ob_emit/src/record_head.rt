@@ -3,6 +3,7 @@ ghost use Rattle.std.specs.Prelude.{◌≡◌, ◌≤◌, ◌++◌, ℕ, List, I
 ghost use Rattle.proto_wire.specs.Writing.{head_of, payload_field, spelled};
 
 use crate::in_place::push_varint;
+use crate::room::cut;
 use std::alloc::{AllocError, Global};
 
 /// How many bytes the head of about so many bytes takes: a guess, as the length isn't known yet.
@@ -52,6 +53,6 @@ pub(crate) fn record_behind(
         return Ok(head);
     }
     put_front(record.as_mut_slice(), head.as_slice());
-    record.shrink_to_fit();
+    cut(&mut record);
     Ok(record)
 }

@@ -24,6 +24,7 @@ use crate::own_texts::Texts;
 use crate::pieces::{Place, Shown};
 use crate::places::{enclosing_range, range_by, token_span};
 use crate::record_head::{record_behind, room_for_head};
+use crate::room::{Ahead, room_for_symbols};
 use crate::text_lines::{LineTable, line_table};
 use crate::uses::{is_short, push_use};
 use ob_targets::Reference;
@@ -157,10 +158,13 @@ fn push_occurrences<'a>(
 {
     let lines = line_table(alloc, types.bytes())?;
     let mut near = Near::new();
+    let mut ahead = Ahead::new();
     for reference in refs {
+        let start = out.len();
         push_occurrence(
             alloc, scratch, out, types, texts, &lines, &mut near, reference,
         )?;
+        ahead.pass(out, start, types, texts, refs);
     }
     Ok(())
 }
@@ -266,6 +270,7 @@ fn push_document<'a>(
     let mut scratch = Scratch::new(alloc);
     put_text(out, 1, path)?;
     push_occurrences(alloc, &mut scratch, out, types, texts, refs)?;
+    room_for_symbols(out, types, texts, refs);
     push_symbols(alloc, &mut scratch, out, types, texts, refs)?;
     put_text(out, 4, "Oberon")?;
     put_number(out, 6, 1)
@@ -311,7 +316,8 @@ fn record_in(
     requires of_names { AreOfNames types.now refs.now }
     ensures { IfOk result (λ v. v.items ≡ document_part (document_of types.now path.now package_name.now refs.now)) }
 {
-    let room = room_for_head(refs.len().saturating_mul(OCCURRENCE));
+    let each = OCCURRENCE.saturating_add(package_name.len());
+    let room = room_for_head(refs.len().saturating_mul(each));
     let bytes = bytes_behind(alloc, path, types, refs, package_name, room)?;
     record_behind(alloc, bytes, room)
 }

@@ -10,7 +10,7 @@ returns c = λ front payload is begins.
     let size : c.len.result - c.args.room ≡ length payload = omega (arith, whole, begins, c.args.bytes.ok.0) in
     let long : length c.as_slice.result.now ≡ length front = omega (arith, begins, c.in_ok-head.head.ok.0) in
     let new = c.put_front.ensures front payload (c.as_mut_slice.ensures.value ∙ is) long in
-    c.shrink_to_fit.ensures.items
+    c.cut.ensures
     ∙ take_at c.put_front.new.bytes _ c.args.bytes.len (omega (arith, c.put_front.auto.bytes, c.as_mut_slice.ensures.len, c.args.bytes.ok.0))
     ∙ new
     ∙ ap (λ (bytes : List ℕ). bytes ++ payload) (c.as_slice.ensures.value ∙ c.in_ok-head.ensures ∙ ap (head_of 2) size)

@@ -1,4 +1,5 @@
 -- What stands for a name of an external module is a name, and a record more is the next reference's.
+use Rattle.std.proofs.Common.{◌∙◌}
 use Rattle.scip_index.specs.Written.{written_occurrence}
 use Rattle.ob_emit.specs.Documents.{occurrence}
 use Rattle.ob_emit.proofs.Rows.{external_named}
@@ -12,7 +13,7 @@ pub loop-reference-preserved : goal.loop-reference-preserved
 loop-reference-preserved c = λ p made.
     let before = c.loop-reference.invariant p made in (
       c.in_ok-push_occurrence.ensures.texts p before.0,
-      put_row 2 written_occurrence (occurrence c.args.types.now p) c.args.refs.now c.loop-reference.reference-index _ _ _ _ c.loop-reference-test.true before.1 (c.in_ok-push_occurrence.ensures.bytes p before.0),
+      put_row 2 written_occurrence (occurrence c.args.types.now p) c.args.refs.now c.loop-reference.reference-index _ _ _ _ c.loop-reference-test.true before.1 (c.pass.ensures ∙ c.in_ok-push_occurrence.ensures.bytes p before.0),
     )
 
 pub returns-clause-bytes : goal.returns-clause-bytes
