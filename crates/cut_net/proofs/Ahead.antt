@@ -1,16 +1,17 @@
 -- A text by its first line and what stands behind it.
-use Rattle.std.proofs.Common.{◌≡◌, ℕ, ◌<◌, true, false, not, eqb, List, [], ◌∷◌, ◌++◌, length, map, Option, Some, None, refl, sym, ap, subst, ◌∙◌, arith, inl, inr}
-use Rattle.std.specs.Prelude.{All, Bool, IfSome, filter, option_map}
-use Rattle.std.specs.Bool.{then_some}
+use Rattle.std.proofs.Common.{◌≡◌, ℕ, ◌+◌, ◌<◌, true, false, not, eqb, List, [], ◌∷◌, ◌++◌, length, append_assoc, Option, Some, None, refl, sym, ap, subst, ◌∙◌, arith, inl, inr}
+use Rattle.std.specs.Prelude.{All, Bool, filter, option_map, slice_get}
+use Rattle.std.proofs.Math.Seq.{get_or-append_seam, take-append_seam}
 use Rattle.std.proofs.lemmas.Bool.{and_from, and_parts, cases_Bool, not-true}
-use Rattle.std.proofs.lemmas.List.{append-nil, length-append, map-append, nil_from_length}
+use Rattle.std.proofs.lemmas.List.{append-nil, length-append, nil_from_length}
 use Rattle.std.proofs.lemmas.List.Elements.{All-cons, All-nil, filter-append}
+use Rattle.std.proofs.lemmas.Option.{slice_get-get_or}
 use Rattle.std.proofs.lemmas.List.Splits.{slice_split_at, slice_split_none}
 use Rattle.texts.specs.Fields.{cut_at, with_first}
 use Rattle.texts.proofs.FieldCuts.{cut_takes, some_is, with_some, without}
 use Rattle.texts.proofs.FieldNames.{decimal_without, name_without, without-append}
-use Rattle.cut_net.specs.NetList.{IsList, GoesOn}
-use Rattle.cut_net.specs.NetText.{NetLine, Module, Import, net_line, is_nonempty, pieces_of, IsNetLine, Spell}
+use Rattle.cut_net.specs.NetList.{GoesOn, IsList, IsRepeat, IsRepeatAt, Leaves, Repeats}
+use Rattle.cut_net.specs.NetText.{NetLine, Module, Import, net_line, is_nonempty, pieces_of, AreGood, IsNetLine, IsNetOutcome, Spell, TwiceImport}
 use Rattle.cut_net.specs.declared.straight.LineList.{LineList}
 
 no_end : (bytes : List ℕ) → without 10 bytes ≡ true → All (λ b. eqb b 10 ≡ false) bytes
@@ -62,51 +63,95 @@ none_without (b ∷ bytes) e =
 pieces_step : (line rest : List ℕ) → without 10 line ≡ true → pieces_of (line ++ 10 ∷ rest) ≡ line ∷ pieces_of rest
 pieces_step line rest e = slice_split_at (λ b. eqb b 10) line 10 rest (no_end line e) refl
 
-spell_step : (piece : List ℕ) (pieces : List (List ℕ)) (more later : List NetLine) → Spell (piece ∷ []) more → Spell pieces later → Spell (piece ∷ pieces) (more ++ later)
-spell_step piece pieces more later first rest =
-    filter-append is_nonempty (piece ∷ []) pieces ∙ ap (λ (t : List (List ℕ)). t ++ filter is_nonempty pieces) first
-    ∙ ap (λ (t : List (List ℕ)). map net_line more ++ t) rest ∙ sym (map-append net_line more later)
+-- what a text begins with, by its pieces
+line_pieces : (text rest : List ℕ) (l : NetLine) → IsNetLine l → text ≡ net_line l ++ 10 ∷ rest → pieces_of text ≡ net_line l ∷ pieces_of rest
+line_pieces text rest l good is = ap pieces_of is ∙ pieces_step (net_line l) rest (line_without l good)
+
+first_pieces : (text piece rest : List ℕ) → cut_at 10 text ≡ Some (piece, rest) → pieces_of text ≡ piece ∷ pieces_of rest
+first_pieces text piece rest e = ap pieces_of (cut_takes 10 text (piece, rest) e) ∙ pieces_step piece rest (front_without text (piece, rest) e)
+
+last_piece : (text : List ℕ) → cut_at 10 text ≡ None → pieces_of text ≡ text ∷ []
+last_piece text e = slice_split_none (λ b. eqb b 10) text (no_end text (none_without text e))
+
+-- a line end with nothing before it
+pub end_goes_on : (text rest : List ℕ) (before : List NetLine) (list : LineList) → text ≡ 10 ∷ rest → IsList before list → GoesOn text rest before list
+end_goes_on text rest before list is h = ([], [], refl, inl (ap pieces_of is ∙ pieces_step [] rest refl), subst (λ (lines : List NetLine). IsList lines list) (sym (append-nil before)) h)
 
 -- a line that is read straight on
 pub line_goes_on : (text rest : List ℕ) (before : List NetLine) (l : NetLine) (list : LineList) → IsNetLine l → text ≡ net_line l ++ 10 ∷ rest → IsList (before ++ l ∷ []) list → GoesOn text rest before list
-line_goes_on text rest before l list good is h = (
-  l ∷ [],
-  h,
-  λ later spelled. rw (is, pieces_step (net_line l) rest (line_without l good), written l) (ap (λ (t : List (List ℕ)). net_line l ∷ t) spelled),
-)
+line_goes_on text rest before l list good is h = (net_line l, l ∷ [], rw (written l) refl, inl (line_pieces text rest l good is), h)
+
+pub line_repeats : (text rest : List ℕ) (before : List NetLine) (l : NetLine) (list : LineList) → IsNetLine l → text ≡ net_line l ++ 10 ∷ rest → IsRepeat before l list → Repeats text before list
+line_repeats text rest before l list good is (twice, h) = (l, pieces_of rest, line_pieces text rest l good is, good, (twice, h))
 
 -- a line that is read between its ends
 pub piece_goes_on : (text piece rest : List ℕ) (before more : List NetLine) (list : LineList) → cut_at 10 text ≡ Some (piece, rest) → Spell (piece ∷ []) more → IsList (before ++ more) list → GoesOn text rest before list
-piece_goes_on text piece rest before more list e first h = (
-  more,
-  h,
-  λ later spelled. rw (cut_takes 10 text (piece, rest) e, pieces_step piece rest (front_without text (piece, rest) e)) (spell_step piece (pieces_of rest) more later first spelled),
-)
+piece_goes_on text piece rest before more list e first h = (piece, more, first, inl (first_pieces text piece rest e), h)
+
+pub piece_repeats : (text piece rest : List ℕ) (before : List NetLine) (l : NetLine) (list : LineList) → cut_at 10 text ≡ Some (piece, rest) → net_line l ≡ piece → IsNetLine l → IsRepeat before l list → Repeats text before list
+piece_repeats text piece rest before l list e is good (twice, h) = (l, pieces_of rest, first_pieces text piece rest e ∙ ap (λ (p : List ℕ). p ∷ pieces_of rest) (sym is), good, (twice, h))
 
 -- a last line that has no end
 pub last_goes_on : (text rest : List ℕ) (before more : List NetLine) (list : LineList) → cut_at 10 text ≡ None → rest ≡ [] → Spell (text ∷ []) more → IsList (before ++ more) list → GoesOn text rest before list
-last_goes_on text rest before more list e done first h = (
-  more,
-  h,
-  λ later spelled.
-      let none : later ≡ [] = no_lines later (subst (λ (r : List ℕ). Spell (pieces_of r) later) done spelled) in
-      rw (slice_split_none (λ b. eqb b 10) text (no_end text (none_without text e)), none, append-nil more) first,
-)
-  where
-    no_lines : (later : List NetLine) → [] ≡ map net_line later → later ≡ []
-    no_lines [] e = refl
-    no_lines (l ∷ later) e = absurd cc
+last_goes_on text rest before more list e done first h = (text, more, first, inr (last_piece text e, done), h)
 
--- what was noted
-pub if_noted : {A : Type 0} (P : A → Type 0) (b : Bool) (x : A) (o : Option A) → o ≡ then_some b x → (b ≡ true → P x) → IfSome o P
-if_noted P true x o e h = rw e (h refl)
-if_noted P false x o e h = rw e tt
+pub last_repeats : (text : List ℕ) (before : List NetLine) (l : NetLine) (list : LineList) → cut_at 10 text ≡ None → net_line l ≡ text → IsNetLine l → IsRepeat before l list → Repeats text before list
+last_repeats text before l list e is good (twice, h) = (l, [], last_piece text e ∙ ap (λ (p : List ℕ). p ∷ []) (sym is), good, (twice, h))
+
+-- ---- from piece to piece
+
+-- something stands there
+pub some_are : (bytes : List ℕ) (none : Bool) → none ≡ eqb (length bytes) 0 → none ≡ false → 0 < length bytes
+some_are [] none e h = absurd cc
+some_are (_ ∷ _) none e h = omega arith
+
+pub leaves_on : (bytes rest behind : List ℕ) (front : List (List ℕ)) (piece : List ℕ) → Leaves bytes front rest → 0 < length rest → Leaves rest (piece ∷ []) behind → Leaves bytes (front ++ piece ∷ []) behind
+leaves_on bytes rest behind front piece (inr (is, done)) some next = let none = ap length done in absurd (omega arith)
+leaves_on bytes rest behind front piece (inl is) some (inl next) = inl (is ∙ ap (λ (t : List (List ℕ)). front ++ t) next ∙ sym (append_assoc front (piece ∷ []) (pieces_of behind)))
+leaves_on bytes rest behind front piece (inl is) some (inr (next, done)) = inr (is ∙ ap (λ (t : List (List ℕ)). front ++ t) next, done)
+
+-- nothing stands behind the last piece
+pub all_spelled : (bytes rest : List ℕ) (front : List (List ℕ)) (lines : List NetLine) → length rest ≡ 0 → Leaves bytes front rest → Spell front lines → Spell (pieces_of bytes) lines
+all_spelled bytes rest front lines done (inr (is, _)) spelled = rw is spelled
+all_spelled bytes rest front lines done (inl is) spelled =
+    let whole : pieces_of bytes ≡ front ++ [] ∷ [] = is ∙ ap (λ (r : List ℕ). front ++ pieces_of r) (nil_from_length rest done) in
+    ap (filter is_nonempty) whole ∙ filter-append is_nonempty front ([] ∷ []) ∙ append-nil (filter is_nonempty front) ∙ spelled
+
+-- the next piece is of an import that a line has already
+pub repeat_at : (bytes rest : List ℕ) (front : List (List ℕ)) (lines : List NetLine) (list : LineList) (number : ℕ) → number ≡ length front + 1 → Leaves bytes front rest → 0 < length rest → Spell front lines
+    → Repeats rest lines list → IsRepeatAt bytes number list
+repeat_at bytes rest front lines list number next (inr (is, done)) more spelled r = let none = ap length done in absurd (omega arith)
+repeat_at bytes rest front lines list number next (inl is) more spelled (line, later, at, good, repeat) =
+    let whole : pieces_of bytes ≡ front ++ net_line line ∷ later = is ∙ ap (λ (t : List (List ℕ)). front ++ t) at in
+    let long = length-append front (net_line line ∷ later) in
+    record {
+      place = length front;
+      next = next;
+      before = lines;
+      line = line;
+      spelled = rw (whole, take-append_seam front (net_line line ∷ later)) spelled;
+      there = ap (λ (t : List (List ℕ)). slice_get t (length front)) whole ∙ slice_get-get_or (front ++ net_line line ∷ later) (length front) [] (omega arith)
+          ∙ ap some (get_or-append_seam front (net_line line) later []);
+      form = good;
+      repeat = repeat;
+    }
+  where
+    some : List ℕ → Option (List ℕ)
+    some x = Some x
+
+-- so that is the first fault, where those before it are good
+pub repeat_said : (bytes : List ℕ) (number : ℕ) (list : LineList) → IsRepeatAt bytes number list → ((lines : List NetLine) → IsList lines list → AreGood lines) → IsNetOutcome bytes (TwiceImport number)
+repeat_said bytes number list r good = (
+  r.place,
+  r.next,
+  record {
+    before = r.before;
+    line = r.line;
+    front = record { spelled = r.spelled; good = good r.before r.repeat.1; there = r.there };
+    form = r.form;
+    twice = r.repeat.0;
+  },
+)
 
 pub shorter_by : (text line rest : List ℕ) → text ≡ line ++ 10 ∷ rest → length rest < length text
 shorter_by text line rest e = let long = ap length e ∙ length-append line (10 ∷ rest) in omega arith
-
--- nothing stands behind the last line
-pub all_spelled : (bytes rest : List ℕ) (lines : List NetLine) → length rest ≡ 0 → ((later : List NetLine) → Spell (pieces_of rest) later → Spell (pieces_of bytes) (lines ++ later)) → Spell (pieces_of bytes) lines
-all_spelled bytes rest lines done all =
-    let none : rest ≡ [] = nil_from_length rest done in
-    subst (Spell (pieces_of bytes)) (append-nil lines) (all [] (subst (λ (r : List ℕ). Spell (pieces_of r) []) (sym none) refl))

@@ -24,7 +24,7 @@ good_lines lines names es h =
       few = record { names = names; are_names = h.are_names; few_names = h.few_names; few_imports = count };
     }
 
-spell_more : (pieces : List (List ℕ)) (piece : List ℕ) (lines more : List NetLine) → Spell pieces lines → Spell (piece ∷ []) more → Spell (pieces ++ piece ∷ []) (lines ++ more)
+pub spell_more : (pieces : List (List ℕ)) (piece : List ℕ) (lines more : List NetLine) → Spell pieces lines → Spell (piece ∷ []) more → Spell (pieces ++ piece ∷ []) (lines ++ more)
 spell_more pieces piece lines more h g =
     filter-append is_nonempty pieces (piece ∷ []) ∙ ap (λ (t : List (List ℕ)). t ++ filter is_nonempty (piece ∷ [])) h ∙ ap (λ (t : List (List ℕ)). map net_line lines ++ t) g ∙ sym (map-append net_line lines more)
 

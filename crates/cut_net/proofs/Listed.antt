@@ -1,27 +1,28 @@
 -- Lines that are listed with no look for an import among those before it. Where their imports come in order, each before the next, none stands twice.
 use Rattle.std.proofs.Common.{◌≡◌, ℕ, ◌+◌, ◌<◌, ◌≤◌, suc, true, false, eqb, ltb, ◌&&◌, ◌||◌, List, [], ◌∷◌, ◌++◌, length, get_or, map, refl, sym, ap, ◌∙◌, arith, inl, inr, subst}
-use Rattle.std.specs.Prelude.{AllPairs, IsPermutation, filter}
+use Rattle.std.specs.Prelude.{AllPairs, Contains, IsPermutation, filter}
 use Rattle.std.specs.List.{IsDistinct}
 use Rattle.std.proofs.lemmas.Bool.{false≢true}
 use Rattle.std.proofs.lemmas.Bool.Decides.{nat_tests}
 use Rattle.std.proofs.lemmas.List.{get_or-map, length-map, length_push, map_push}
 use Rattle.std.proofs.lemmas.List.Elements.{All-nil, All-push, Contains-get_or, Contains-push_cases}
 use Rattle.std.proofs.lemmas.List.Kept.{AllPairs-cons}
-use Rattle.std.proofs.lemmas.List.Sorted.{IsPermutation-sym, length_permutation}
+use Rattle.std.proofs.lemmas.List.Sorted.{IsPermutation-refl, IsPermutation-sym, length_permutation}
 use Rattle.std.proofs.lemmas.Map.Keys.{IsDistinct-from_apart, IsDistinct-IsPermutation, apart_from_distinct}
 use Rattle.texts.specs.Fields.{is_name}
-use Rattle.digraph.proofs.Members.{in_filter, no_member}
+use Rattle.digraph.proofs.Members.{from_filter, in_filter, in_map, no_member}
 use Rattle.cut_net.specs.declared.priced.Priced.{Priced}
 use Rattle.cut_net.specs.Cuts.{same_ends}
 use Rattle.cut_net.specs.Lines.{IsAscending}
-use Rattle.cut_net.specs.NetList.{AreListed}
-use Rattle.cut_net.specs.NetReading.{entry_line, import_line, noted, AreTablesOf}
-use Rattle.cut_net.specs.NetText.{NetLine, Module, Import, is_import, pieces_of, AreOfTwoImports, IsNetLine, NetText, Spell}
+use Rattle.cut_net.specs.NetList.{AreListed, HaveBetween}
+use Rattle.cut_net.specs.NetReading.{entry_line, import_line, noted, AreTablesOf, IsTwice}
+use Rattle.cut_net.specs.NetText.{NetLine, Module, Import, is_import, pieces_of, AreGood, AreOfTwoImports, IsNetLine, NetText, Spell}
 use Rattle.cut_net.specs.Network.{unpinned}
 use Rattle.cut_net.specs.WellFormed.{AreBetween, AreNamesInOrder}
 use Rattle.cut_net.proofs.Fronts.{good_lines}
 use Rattle.cut_net.proofs.Networks.{ends_flip, net_is, once_moved, same_name}
-use Rattle.cut_net.proofs.Tables.{filter_import, filter_module, kept_both, kept_one, names_import, names_module, noted_longer, noted_kept, AreEnds, AreKept}
+use Rattle.cut_net.proofs.Noted.{there_noted}
+use Rattle.cut_net.proofs.Tables.{filter_import, filter_module, kept_both, kept_one, names_import, names_module, noted_longer, noted_kept, stands_twice, AreEnds, AreKept}
 
 -- the list of no lines
 pub listed_none : AreListed [] [] []
@@ -95,6 +96,23 @@ module _ (lines : List NetLine) (names : List (List ℕ)) (imports : List Priced
           listed = filter_import lines m n w ∙ ap (λ (t : List NetLine). t ++ Import m n w ∷ []) (h.listed ∙ lines_kept names more imports kept h.placed)
               ∙ ap (λ (t : NetLine). map (import_line more) imports ++ t ∷ []) last ∙ sym (map_push (import_line more) imports (record { from = i; to = j; amount = w }));
         }
+
+-- a line whose import is listed already
+pub listed_twice : (lines : List NetLine) (names middle more : List (List ℕ)) (imports : List Priced) (m n : List ℕ) (w i j : ℕ) → AreListed lines names imports → AreEnds names middle more m n i j
+    → HaveBetween imports i j → IsTwice lines (Import m n w) × AreListed lines more imports
+listed_twice lines names middle more imports m n w i j h ends (x, there, from, to) =
+    let p = h.placed x there in
+    let in_i : i < length names = subst (λ (t : ℕ). t < length names) from p.0 in
+    let in_j : j < length names = subst (λ (t : ℕ). t < length names) to p.1 in
+    let first : get_or names i [] ≡ m = sym (noted_kept names m i in_i) ∙ ap (λ (t : List (List ℕ)). get_or t i []) (sym ends.first) ∙ ends.first_place in
+    let middle_is : middle ≡ names = ends.first ∙ sym (there_noted names m i in_i first) in
+    let more_is : more ≡ noted names n = ends.second ∙ ap (λ (t : List (List ℕ)). noted t n) middle_is in
+    let second : get_or names j [] ≡ n = sym (noted_kept names n j in_j) ∙ ap (λ (t : List (List ℕ)). get_or t j []) (sym more_is) ∙ ends.second_place in
+    let same : more ≡ names = more_is ∙ sym (there_noted names n j in_j second) in
+    let line : import_line names x ≡ Import m n x.amount = rw (from, to, first, second) refl in
+    let listed : Contains (filter is_import lines) (import_line names x) = rw h.listed (in_map (import_line names) imports x there) in
+    let stands : Contains lines (Import m n x.amount) = subst (λ (l : NetLine). Contains lines l) line (from_filter is_import lines (import_line names x) listed) in
+    (stands_twice lines m n w x.amount stands, subst (λ (t : List (List ℕ)). AreListed lines t imports) (sym same) h)
 
 -- ---- imports in order
 
@@ -196,3 +214,8 @@ module _ (lines : List NetLine) (old names : List (List ℕ)) (imports list orde
       let d = length-map imports (import_line old) in
       let few = h.few_imports in
       omega arith
+
+-- lines whose imports come in order once they are sorted
+pub listed_good : (lines : List NetLine) (names : List (List ℕ)) (imports ordered : List Priced) → AreListed lines names imports → IsPermutation imports ordered → IsAscending ordered → AreGood lines
+listed_good lines names imports ordered h moved up =
+    good_lines lines names (map as_entry imports) (tables lines names names imports imports ordered h (IsPermutation-refl names) refl h.placed moved up)

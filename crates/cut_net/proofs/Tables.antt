@@ -181,6 +181,15 @@ said_from m n k l w x e = cc
 said_to : (m n k l : List ℕ) (w x : ℕ) → Import m n w ≡ Import k l x → n ≡ l
 said_to m n k l w x e = cc
 
+-- an import that stands in a line and once more
+pub stands_twice : (lines : List NetLine) (m n : List ℕ) (w x : ℕ) → Contains lines (Import m n x) → IsTwice lines (Import m n w)
+stands_twice lines m n w x (k, lt, at) apart =
+    let old : get_or (lines ++ Import m n w ∷ []) k (Import m n x) ≡ Import m n x = get_or_append_left lines (Import m n w ∷ []) (Import m n x) k lt ∙ at in
+    let new : get_or (lines ++ Import m n w ∷ []) (length lines) (Import m n x) ≡ Import m n w = get_or_push lines (Import m n w) (Import m n x) (length lines) refl in
+    let long = length_push lines (Import m n w) in
+    let clash = apart k (length lines) (Import m n x) lt (omega arith) in
+    (rw (old, new) at clash) refl refl
+
 module _ (lines : List NetLine) (names : List (List ℕ)) (es : List ((ℕ × ℕ) × ℕ)) (h : AreTablesOf lines names es) where
   -- an import of the lines has an entry
   entry_of : (m n : List ℕ) (w : ℕ) → Contains lines (Import m n w) → (e : (ℕ × ℕ) × ℕ) × Contains es e × (entry_line names e ≡ Import m n w)
@@ -260,13 +269,7 @@ module _ (lines : List NetLine) (names : List (List ℕ)) (es : List ((ℕ × �
         let first : get_or names i [] ≡ m = sym (kept.1 i p.0) ∙ from.1 in
         let second : get_or names j [] ≡ n = sym (kept.1 j p.1) ∙ to.1 in
         let same : Import (get_or names i []) (get_or names j []) x ≡ Import m n x = cc in
-        let whole : Contains lines (Import m n x) = subst (λ (t : NetLine). Contains lines t) same (line_of_entry ((i, j), x) there) in
-        let (k, lt, at) = whole in
-        let old : get_or (lines ++ Import m n w ∷ []) k (Import m n x) ≡ Import m n x = get_or_append_left lines (Import m n w ∷ []) (Import m n x) k lt ∙ at in
-        let new : get_or (lines ++ Import m n w ∷ []) (length lines) (Import m n x) ≡ Import m n w = get_or_push lines (Import m n w) (Import m n x) (length lines) refl in
-        let long = length_push lines (Import m n w) in
-        let clash = apart k (length lines) (Import m n x) lt (omega arith) in
-        (rw (old, new) at clash) refl refl
+        stands_twice lines m n w x (subst (λ (t : NetLine). Contains lines t) same (line_of_entry ((i, j), x) there)) apart
 
     pub tables_import : (Contains (keys_of es) (i, j) → ⊥) → IsNetLine (Import m n w) → length more ≤ 8192 → length es + 1 ≤ 65536
         → AreTablesOf (lines ++ Import m n w ∷ []) more (es ++ ((i, j), w) ∷ [])

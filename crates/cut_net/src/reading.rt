@@ -56,8 +56,10 @@ fn lists_in(alloc: Global, bytes: &[u8]) -> Result<(Vec<String>, Vec<Priced>), N
     ensures fault { IfErr result (λ fault. IfSome (fault_said fault) (IsNetOutcome bytes.now)) }
 {
     // Where memory for these lists is refused, the tables tell the fault of a line all the same.
-    if let Ok(Some(lists)) = straight_lists(alloc, bytes) {
-        return Ok(lists);
+    match straight_lists(alloc, bytes) {
+        Ok(Some(lists)) => return Ok(lists),
+        Err(NetFault::TwiceImport { line }) => return Err(NetFault::TwiceImport { line }),
+        _ => {}
     }
     let mut draft = NetDraft::new(alloc);
     lists_by(alloc, bytes, &mut draft)

@@ -1,7 +1,8 @@
 //! Where names were met last. Most lines name modules that were named before, and a place that is remembered is tested by one comparison, where the table hashes the name and
 //! goes through its own. And where each import was met, so that one that stands twice is told at once.
 //! A slot is chosen by multiplicative hashing (Knuth, volume 3, 6.4), and the hash is brought into the range of the slots by one more product and a shift (Lemire 2019).
-ghost use Rattle.std.specs.Prelude.{◌≡◌, ◌<◌, [], IfOk, IfSome, OnOk, length};
+ghost use Rattle.std.specs.Prelude.{◌≡◌, ◌<◌, [], IfOk, IfSome, OnOk, length, true};
+ghost use Rattle.cut_net.specs.NetList.{HaveBetween};
 ghost use Rattle.std.specs.List.{slice_index_or};
 ghost use Rattle.cut_net.specs.NetReading.{noted};
 ghost use Rattle.cut_net.specs.Network.{texts};
@@ -150,7 +151,9 @@ pub(crate) struct Met {
 }
 
 /// Whether the import at this place has these ends.
-fn is_between(imports: &[Priced], at: usize, from: u32, to: u32) -> bool {
+fn is_between(imports: &[Priced], at: usize, from: u32, to: u32) -> bool
+    ensures { result ≡ true → HaveBetween imports.now from to }
+{
     match imports.get(at) {
         Some(import) => import.from == from && import.to == to,
         None => false,
@@ -171,8 +174,10 @@ impl Met {
         self.all
     }
 
-    /// Whether an import with these ends stands in the list already. Where none does, the place of the next one is kept, if there is a free slot.
-    pub(crate) fn is_repeat(&mut self, imports: &[Priced], from: u32, to: u32) -> bool {
+    /// Whether an import with these ends is known to stand in the list. Where none is, the place of the next one is kept, if there is a free slot.
+    pub(crate) fn is_repeat(&mut self, imports: &[Priced], from: u32, to: u32) -> bool
+        ensures { result ≡ true → HaveBetween imports.now from to }
+    {
         let mix = u64::from(from)
             .wrapping_mul(8192)
             .wrapping_add(u64::from(to));

@@ -1,21 +1,64 @@
-//! A network's text read straight on, with no look for an import among those before it. Where its lines have no other fault, its imports are put in order, and
-//! if each comes before the next, none stands twice. Any other text is left to the tables of `draft`, which tell the first fault.
-ghost use Rattle.std.specs.Prelude.{◌≡◌, ◌≤◌, ◌<◌, ◌++◌, ◌∷◌, [], ℕ, true, IfOk, IfSome, List, length, map};
-ghost use Rattle.cut_net.specs.NetList.{AreNumbersOf, GoesOn, IsList, IsListOf};
-ghost use Rattle.cut_net.specs.NetReading.{import_line, line_said, net_of};
-ghost use Rattle.cut_net.specs.NetText.{IsNetLine, NetLine, NetText, Module, Import, Spell};
+//! A network's text read straight on: each line is listed behind those before it, and the imports are put in order once all lines are read. If each comes before the
+//! next, none stands twice. A line whose import has one already is told at once, where the imports before it are seen to be apart. Any other text is left to the tables
+//! of `draft`, which tell the first fault.
+ghost use Rattle.std.specs.Prelude.{◌≡◌, ◌≤◌, ◌<◌, ◌++◌, ◌∷◌, [], ℕ, true, IfErr, IfOk, IfSome, OnOk, List, length, map};
+ghost use Rattle.cut_net.specs.NetList.{AreNumbersOf, GoesOn, IsList, IsListOf, IsRepeat, IsRepeatAt, Repeats};
+ghost use Rattle.cut_net.specs.NetReading.{fault_said, import_line, line_said, net_of};
+ghost use Rattle.cut_net.specs.NetText.{AreGood, IsNetLine, IsNetOutcome, NetLine, net_line, NetText, Module, Import, Spell};
 ghost use Rattle.cut_net.specs.WellFormed.{AreBetween};
+ghost use Rattle.cut_net.specs.declared.straight.Stop.TheVariants.{Twice};
+ghost use Rattle.cut_net.specs.declared.straight.Filled.TheVariants as filled;
 
-use crate::Priced;
 use crate::draft::{MOST_IMPORTS, MOST_NAMES};
-use crate::lines::{Line, line_ahead, line_in, line_within};
+use crate::lines::{Line, line_in, line_within};
 use crate::numbering::{numbers_of, put_in_order, renumbered, sorted};
 use crate::ordering::{is_ascending, seem_apart};
 use crate::recent::{Met, Recent};
+use crate::{NetFault, Priced};
 use indexmap::IndexSet;
-use std::alloc::{AllocError, Global};
+use std::alloc::{AllocError, AllocFailed, Global};
 use texts::ahead::behind_byte;
 use texts::fields::cut_at_byte;
+
+/// Why a text isn't read on.
+pub(crate) enum Stop {
+    /// The import of the next line stands in a line before it.
+    Twice,
+    /// The tables are to tell: there is another fault, an import before it may stand twice, or memory was refused.
+    Unread,
+}
+
+impl From<AllocError> for Stop {
+    ghost use Rattle.std.specs.Prelude.{◌≡◌};
+    ghost use Rattle.cut_net.specs.declared.straight.Stop.TheVariants.{Unread};
+
+    ghost from_gives = { λ _ stop. stop ≡ Unread };
+
+    fn from(_error: AllocError) -> Stop {
+        Stop::Unread
+    }
+}
+
+impl<T: Drop> From<AllocFailed<T>> for Stop {
+    ghost use Rattle.std.specs.Prelude.{◌≡◌};
+    ghost use Rattle.cut_net.specs.declared.straight.Stop.TheVariants.{Unread};
+
+    ghost from_gives = { λ _ stop. stop ≡ Unread };
+
+    fn from(_error: AllocFailed<T>) -> Stop {
+        Stop::Unread
+    }
+}
+
+/// How far a text was read.
+pub(crate) enum Filled {
+    /// To its end.
+    Whole,
+    /// To the line of this number, whose import stands in a line before it.
+    Twice(u64),
+    /// To where the tables are to tell.
+    Unread,
+}
 
 /// How many bytes are read before the imports are first looked at for one that stands twice.
 const FIRST_LOOK: usize = 4096;
@@ -27,6 +70,8 @@ pub(crate) struct LineList {
     pub(crate) imports: Vec<Priced>,
     recent: Recent,
     met: Met,
+    /// How many bytes the text has.
+    bytes: usize,
     /// How many bytes are read before the imports are looked at.
     look: usize,
 }
@@ -39,52 +84,67 @@ impl LineList {
         LineList {
             names: IndexSet::new(alloc),
             imports: Vec::new(alloc),
-            recent: Recent::new(alloc, bytes),
-            met: Met::new(alloc, bytes),
+            recent: Recent::new(alloc, 0),
+            met: Met::new(alloc, 0),
+            bytes,
             look: FIRST_LOOK,
         }
     }
 
-    /// Notes a module. False where its name is one too many.
-    fn add_module(&mut self, alloc: Global, name: &str) -> Result<bool, AllocError>
-        ensures { IfOk result (λ noted. noted ≡ true → (before : List NetLine) → IsList before self.old → IsNetLine (Module name.now) → IsList (before ++ Module name.now ∷ []) self.new) }
+    /// Makes the slots with the first line, so that none are made for a text that begins with a bad one.
+    fn make_slots(&mut self, alloc: Global)
+        ensures { (lines : List NetLine) → IsList lines self.old → IsList lines self.new }
+    {
+        if self.names.is_empty() {
+            self.recent = Recent::new(alloc, self.bytes);
+            self.met = Met::new(alloc, self.bytes);
+        }
+    }
+
+    /// Notes a module.
+    fn add_module(&mut self, alloc: Global, name: &str) -> Result<(), Stop>
+        ensures listed { OnOk result ((before : List NetLine) → IsList before self.old → IsNetLine (Module name.now) → IsList (before ++ Module name.now ∷ []) self.new) }
+        ensures twice { IfErr result (λ stop. stop ≡ Twice → (before : List NetLine) → IsList before self.old → IsRepeat before (Module name.now) self.new) }
     {
         self.recent.note(alloc, &mut self.names, name)?;
         if self.names.len() > MOST_NAMES {
-            return Ok(false);
+            return Err(Stop::Unread);
         }
-        Ok(true)
+        Ok(())
     }
 
-    /// Notes an import. False where it or one of its names is one too many, or where it is known to stand twice.
+    /// Notes an import.
     fn add_import(
         &mut self,
         alloc: Global,
         importer: &str,
         imported: &str,
         weight: u64,
-    ) -> Result<bool, AllocError>
-        ensures { IfOk result (λ noted. noted ≡ true → (before : List NetLine) → IsList before self.old → IsNetLine (Import importer.now imported.now weight) → IsList (before ++ Import importer.now imported.now weight ∷ []) self.new) }
+    ) -> Result<(), Stop>
+        ensures listed { OnOk result ((before : List NetLine) → IsList before self.old → IsNetLine (Import importer.now imported.now weight) → IsList (before ++ Import importer.now imported.now weight ∷ []) self.new) }
+        ensures twice { IfErr result (λ stop. stop ≡ Twice → (before : List NetLine) → IsList before self.old → IsRepeat before (Import importer.now imported.now weight) self.new) }
     {
         let from = self.recent.note(alloc, &mut self.names, importer)?;
         let to = self.recent.note(alloc, &mut self.names, imported)?;
         if self.names.len() > MOST_NAMES || self.imports.len() >= MOST_IMPORTS {
-            return Ok(false);
+            return Err(Stop::Unread);
         }
         if self.met.is_repeat(&self.imports, from as u32, to as u32) {
-            return Ok(false);
+            return Err(Stop::Twice);
         }
         self.imports.push(Priced {
             from: from as u32,
             to: to as u32,
             amount: weight,
         })?;
-        Ok(true)
+        Ok(())
     }
 
-    fn add(&mut self, alloc: Global, line: Line<'_>) -> Result<bool, AllocError>
-        ensures { IfOk result (λ noted. noted ≡ true → (before : List NetLine) → IsList before self.old → IsNetLine (line_said line.entry) → IsList (before ++ line_said line.entry ∷ []) self.new) }
+    fn add(&mut self, alloc: Global, line: Line<'_>) -> Result<(), Stop>
+        ensures listed { OnOk result ((before : List NetLine) → IsList before self.old → IsNetLine (line_said line.entry) → IsList (before ++ line_said line.entry ∷ []) self.new) }
+        ensures twice { IfErr result (λ stop. stop ≡ Twice → (before : List NetLine) → IsList before self.old → IsRepeat before (line_said line.entry) self.new) }
     {
+        self.make_slots(alloc);
         match line {
             Line::Module(name) => self.add_module(alloc, name),
             Line::Import(importer, imported, weight) => {
@@ -93,48 +153,37 @@ impl LineList {
         }
     }
 
-    /// Notes what the bytes between two line ends say, if they say anything. False where they have a fault.
-    fn take(&mut self, alloc: Global, piece: &[u8]) -> Result<bool, AllocError>
-        ensures { IfOk result (λ noted. noted ≡ true → (before : List NetLine) → IsList before self.old → (more : List NetLine) × Spell (piece.now ∷ []) more × IsList (before ++ more) self.new) }
+    /// Notes what the bytes between two line ends say, if they say anything.
+    fn take(&mut self, alloc: Global, piece: &[u8]) -> Result<(), Stop>
+        ensures listed { OnOk result ((before : List NetLine) → IsList before self.old → (more : List NetLine) × Spell (piece.now ∷ []) more × IsList (before ++ more) self.new) }
+        ensures twice { IfErr result (λ stop. stop ≡ Twice → (before : List NetLine) → IsList before self.old → (line : NetLine) × (net_line line ≡ piece.now) × IsNetLine line × IsRepeat before line self.new) }
     {
         if piece.is_empty() {
-            return Ok(true);
+            return Ok(());
         }
         let Some(line) = line_in(piece) else {
-            return Ok(false);
+            return Err(Stop::Unread);
         };
-        let noted = self.add(alloc, line)?;
-        Ok(noted)
+        self.add(alloc, line)
     }
-    /// Notes the first line of a text by its end; what stands behind it. None where it has a fault.
-    fn take_first<'a>(
-        &mut self,
-        alloc: Global,
-        text: &'a [u8],
-    ) -> Result<Option<&'a [u8]>, AllocError>
-        ensures goes_on { IfOk result (λ noted. IfSome noted (λ rest. (before : List NetLine) → IsList before self.old → GoesOn text.now rest.now before self.new)) }
-        ensures shorter { IfOk result (λ noted. IfSome noted (λ rest. 0 < length text.now → length rest.now < length text.now)) }
+
+    /// Notes the first line of a text by its end; what stands behind it.
+    fn take_first<'a>(&mut self, alloc: Global, text: &'a [u8]) -> Result<&'a [u8], Stop>
+        ensures goes_on { IfOk result (λ rest. (before : List NetLine) → IsList before self.old → GoesOn text.now rest.now before self.new) }
+        ensures shorter { IfOk result (λ rest. 0 < length text.now → length rest.now < length text.now) }
+        ensures twice { IfErr result (λ stop. stop ≡ Twice → (before : List NetLine) → IsList before self.old → Repeats text.now before self.new) }
     {
         let Some((piece, rest)) = cut_at_byte(text, b'\n') else {
             let (_, rest) = text.split_at(text.len());
-            return Ok(self.take(alloc, text)?.then_some(rest));
+            return match self.take(alloc, text) {
+                Ok(()) => Ok(rest),
+                Err(stop) => Err(stop),
+            };
         };
-        Ok(self.take(alloc, piece)?.then_some(rest))
-    }
-
-    /// The same, where an end need not be found before the line is read. A line that isn't read so, as an empty one or a last one without an end, is read by its end.
-    fn take_ahead<'a>(
-        &mut self,
-        alloc: Global,
-        text: &'a [u8],
-    ) -> Result<Option<&'a [u8]>, AllocError>
-        ensures goes_on { IfOk result (λ noted. IfSome noted (λ rest. (before : List NetLine) → IsList before self.old → GoesOn text.now rest.now before self.new)) }
-        ensures shorter { IfOk result (λ noted. IfSome noted (λ rest. 0 < length text.now → length rest.now < length text.now)) }
-    {
-        let Some((line, rest)) = line_ahead(text) else {
-            return self.take_first(alloc, text);
-        };
-        Ok(self.add(alloc, line)?.then_some(rest))
+        match self.take(alloc, piece) {
+            Ok(()) => Ok(rest),
+            Err(stop) => Err(stop),
+        }
     }
 
     /// Whether no import of the list stands twice: at once where each has a slot, else by a look, if memory for that isn't refused. The next look comes when four times as
@@ -146,45 +195,62 @@ impl LineList {
         self.met.has_all() || seem_apart(alloc, &self.imports).unwrap_or(true)
     }
 
-    /// Notes the next line, behind so many bytes; what stands behind its end. None where it has a fault, or where an import before it stands twice: no line is read on beyond
-    /// the place of the next look before that is done, so a text isn't read far behind such an import.
+    /// Notes the next line, behind so many bytes; what stands behind its end. A line is read straight on, before its end is known; but none is read on beyond the place of
+    /// the next look before that is done, so a text isn't read far behind an import that stands twice.
     fn take_next<'a>(
         &mut self,
         alloc: Global,
         text: &'a [u8],
         read: usize,
-    ) -> Result<Option<&'a [u8]>, AllocError>
-        ensures goes_on { IfOk result (λ noted. IfSome noted (λ rest. (before : List NetLine) → IsList before self.old → GoesOn text.now rest.now before self.new)) }
-        ensures shorter { IfOk result (λ noted. IfSome noted (λ rest. 0 < length text.now → length rest.now < length text.now)) }
+    ) -> Result<&'a [u8], Stop>
+        ensures goes_on { IfOk result (λ rest. (before : List NetLine) → IsList before self.old → GoesOn text.now rest.now before self.new) }
+        ensures shorter { IfOk result (λ rest. 0 < length text.now → length rest.now < length text.now) }
+        ensures twice { IfErr result (λ stop. stop ≡ Twice → (before : List NetLine) → IsList before self.old → Repeats text.now before self.new) }
     {
         if let Some(rest) = behind_byte(text, b'\n') {
-            return Ok(Some(rest));
+            return Ok(rest);
         }
         let near = self.look.saturating_sub(read);
         if let Some((line, rest)) = line_within(text, near) {
-            return Ok(self.add(alloc, line)?.then_some(rest));
+            return match self.add(alloc, line) {
+                Ok(()) => Ok(rest),
+                Err(stop) => Err(stop),
+            };
         }
         if near < text.len() && !self.seems_apart(alloc) {
-            return Ok(None);
+            return Err(Stop::Unread);
         }
-        self.take_ahead(alloc, text)
+        self.take_first(alloc, text)
     }
 }
 
-/// Fills the list of no lines with those that the bytes spell. False where one has a fault, or where an import is seen to stand twice.
-fn fill(alloc: Global, bytes: &[u8], list: &mut LineList) -> Result<bool, AllocError>
+/// Fills the list of no lines with those that the bytes spell.
+fn fill(alloc: Global, bytes: &[u8], list: &mut LineList) -> Filled
     requires { IsList [] list.old }
-    ensures { IfOk result (λ whole. whole ≡ true → IsListOf bytes.now list.new) }
+    ensures whole { result ≡ filled.Whole → IsListOf bytes.now list.new }
+    ensures twice { (line : ℕ) → result ≡ filled.Twice line → IsRepeatAt bytes.now line list.new }
 {
     let mut rest = bytes;
+    let mut line = 0;
     while !rest.is_empty() {
+        line += 1;
         let read = bytes.len().saturating_sub(rest.len());
-        let Some(behind) = list.take_next(alloc, rest, read)? else {
-            return Ok(false);
-        };
-        rest = behind;
+        match list.take_next(alloc, rest, read) {
+            Ok(behind) => rest = behind,
+            Err(Stop::Twice) => return Filled::Twice(line),
+            Err(Stop::Unread) => return Filled::Unread,
+        }
     }
-    Ok(true)
+    Filled::Whole
+}
+
+/// Whether the imports of a list are apart.
+fn are_apart(alloc: Global, list: &LineList) -> Result<bool, AllocError>
+    ensures { IfOk result (λ apart. apart ≡ true → (lines : List NetLine) → IsList lines list.now → AreGood lines) }
+{
+    let mut imports = list.imports.to_vec(alloc)?;
+    put_in_order(&mut imports);
+    Ok(is_ascending(&imports))
 }
 
 /// The imports by other numbers of their modules.
@@ -223,20 +289,26 @@ fn ordered(alloc: Global, list: &LineList) -> Result<Option<(Vec<String>, Vec<Pr
     }
 }
 
-/// The names and the imports of the network of the lines that the bytes spell. None where a line has a fault, where there are too many
-/// of them, or where an import stands twice.
+/// The names and the imports of the network of the lines that the bytes spell, or the line whose import is the first that stands twice. None where the tables are to tell.
 pub(crate) fn straight_lists(
     alloc: Global,
     bytes: &[u8],
-) -> Result<Option<(Vec<String>, Vec<Priced>)>, AllocError>
+) -> Result<Option<(Vec<String>, Vec<Priced>)>, NetFault>
     ensures text { IfOk result (λ found. IfSome found (λ lists. NetText bytes.now (net_of lists.0.items lists.1.items))) }
     ensures few_names { IfOk result (λ found. IfSome found (λ lists. length lists.0.items ≤ 8192)) }
     ensures few_imports { IfOk result (λ found. IfSome found (λ lists. length lists.1.items ≤ 65536)) }
+    ensures fault { IfErr result (λ fault. IfSome (fault_said fault) (IsNetOutcome bytes.now)) }
 {
     let mut list = LineList::new(alloc, bytes.len());
-    if fill(alloc, bytes, &mut list)? {
-        ordered(alloc, &list)
-    } else {
-        Ok(None)
+    match fill(alloc, bytes, &mut list) {
+        Filled::Whole => Ok(ordered(alloc, &list)?),
+        Filled::Twice(line) => {
+            if are_apart(alloc, &list)? {
+                Err(NetFault::TwiceImport { line })
+            } else {
+                Ok(None)
+            }
+        }
+        Filled::Unread => Ok(None),
     }
 }

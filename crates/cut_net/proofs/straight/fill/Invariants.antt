@@ -1,10 +1,10 @@
-use Rattle.std.proofs.Common.{List, ◌++◌, length}
-use Rattle.cut_net.specs.NetText.{NetLine, Spell, pieces_of}
-use Rattle.cut_net.specs.NetList.{IsList}
+use Rattle.std.proofs.Common.{ℕ, ◌≡◌, ◌+◌, ◌≤◌, List, length}
+use Rattle.cut_net.specs.NetText.{NetLine, Spell}
+use Rattle.cut_net.specs.NetList.{IsList, Leaves}
 use Rattle.cut_net.proofs.straight.fill.Given as goal
 
 abbrev pub invariant-loop-rest : goal.invariant-loop-rest
-invariant-loop-rest l = (lines : List NetLine) × IsList lines l.list × ((later : List NetLine) → Spell (pieces_of l.rest) later → Spell (pieces_of l.bytes) (lines ++ later))
+invariant-loop-rest l = (front : List (List ℕ)) × (lines : List NetLine) × (l.line ≡ length front) × (l.line + length l.rest ≤ length l.bytes) × Leaves l.bytes front l.rest × Spell front lines × IsList lines l.list
 
 abbrev pub decreases-loop-rest : goal.decreases-loop-rest
 decreases-loop-rest l = length l.rest

@@ -6,8 +6,8 @@ use Rattle.cut_net.specs.NetReading.{noted}
 use Rattle.cut_net.proofs.Listed.{listed_module}
 use Rattle.cut_net.proofs.straight.LineList.add_module.Goals as goal
 
-pub returns : goal.returns
-returns c _ before h good =
+pub returns-clause-listed : goal.returns-clause-listed
+returns-clause-listed c before h good =
     let long = length-map c.note.new.names.keys string_bytes in
     let len = c.len.ensures.len in
     let few : length (noted (texts c.args.self.now.names.keys) c.args.name.now) ≤ 8192 = rw (← c.in_ok-note.ensures.names) (omega arith) in

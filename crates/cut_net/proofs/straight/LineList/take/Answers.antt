@@ -1,10 +1,17 @@
 use Rattle.std.proofs.Common.{◌∷◌, [], refl, sym}
+use Rattle.std.proofs.lemmas.Result.{on_ok_weaker, IfErr-weaker}
+use Rattle.cut_net.specs.NetReading.{line_said}
 use Rattle.cut_net.proofs.NetLines.{line_takes}
 use Rattle.cut_net.proofs.Tables.{written_is}
 use Rattle.cut_net.proofs.straight.LineList.take.Goals as goal
 
-pub returns : goal.returns
-returns c noted before h =
+pub returns-clause-listed : goal.returns-clause-listed
+returns-clause-listed c =
     let said = line_takes c.args.piece.now _ (sym c.in-Some.ensures) in
     let written = written_is c.args.piece.now c.is_empty.result c.is_empty.ensures c.if-is_empty.false in
-    (_ ∷ [], rw (written, sym said.0) refl, c.in_ok-noted.ensures noted before h said.1)
+    on_ok_weaker c.add.result (λ listed before h. (_ ∷ [], rw (written, sym said.0) refl, listed before h said.1)) c.add.ensures.listed
+
+pub returns-clause-twice : goal.returns-clause-twice
+returns-clause-twice c =
+    let said = line_takes c.args.piece.now _ (sym c.in-Some.ensures) in
+    IfErr-weaker c.add.result _ _ (λ stop told is before h. (line_said c.in-Some.line, sym said.0, said.1, told is before h)) c.add.ensures.twice
