@@ -10,7 +10,7 @@ ghost use Rattle.ob_table.specs.Choosing.{dot_at, is_there, places};
 ghost use Rattle.ob_parse.specs.Front.{uncons};
 ghost use Rattle.ob_table.specs.LoneNames.{lone_of, named_front, IsLone};
 
-use crate::source::Source;
+use crate::source::{Source, kind_at};
 use ob_decls::draft::Draft;
 use ob_decls::{Selector as SelectorRow, Step, TypeName};
 use ob_parse::cursor::Cursor;
@@ -19,23 +19,30 @@ use ob_parse::tokens::{accept, is_at};
 use ob_scan::{Kind, Token};
 use ob_tree::token::Leaf;
 
-/// How many selectors seem to stand from this token on, and the token behind them. It looks at the brackets that are known.
+/// The token behind the selector that seems to stand here, or this one where none does. The brackets are those that are known. A
+/// dot is stepped over only with a name behind it: so the bracket that closes what is read is never passed, and no token is
+/// looked at for two designators, also in a text that is refused.
+fn behind_selector(source: &Source, at: u32) -> u32 {
+    match kind_at(source.tokens, at) {
+        Kind::Dot => match kind_at(source.tokens, at.saturating_add(1)) {
+            Kind::Ident => at.saturating_add(2),
+            _ => at,
+        },
+        Kind::Caret => at.saturating_add(1),
+        Kind::LeftBracket | Kind::LeftParen => match source.brackets.get(at as usize) {
+            None => at,
+            Some(closing) => closing.saturating_add(1),
+        },
+        _ => at,
+    }
+}
+
+/// How many selectors seem to stand from this token on, and the token behind them.
 fn selectors_ahead(source: &Source, from: u32) -> (u32, u32) {
     let mut at = from;
     let mut count = 0;
     for _ in 0..source.tokens.len() {
-        let next = match source.tokens.get(at as usize) {
-            None => at,
-            Some(token) => match token.kind {
-                Kind::Dot => at.saturating_add(2),
-                Kind::Caret => at.saturating_add(1),
-                Kind::LeftBracket | Kind::LeftParen => match source.brackets.get(at as usize) {
-                    None => at,
-                    Some(closing) => closing.saturating_add(1),
-                },
-                _ => at,
-            },
-        };
+        let next = behind_selector(source, at);
         if next <= at {
             break;
         }
@@ -73,11 +80,14 @@ pub(crate) fn first_place(draft: &Draft) -> usize
     draft.selectors.len()
 }
 
-/// Adds so many places for selectors.
+/// Adds so many places for selectors. Where memory was refused none is asked for any more.
 pub(crate) fn open_places(draft: &mut Draft, head: u32, count: u32)
     ensures { ComesTo (added (these_selectors (places head count))) draft.old draft.new }
 {
     for place in 0..count {
+        if draft.refused {
+            return;
+        }
         draft.add_selector(SelectorRow {
             of: head,
             step: Step::Target,

@@ -38,8 +38,8 @@ fn table_in(alloc: Global, parsed: &Result<Module, ParseFault>) -> Result<Table,
     }
 }
 
-/// The same by way of a tree, where the pass over the tokens came to no table: a name after END is wrong, or memory was refused,
-/// without which the brackets aren't matched and the places of selectors are guessed wrong.
+/// The same by way of a tree, where the pass over the tokens came to no table: a name after END is wrong, or memory was refused to
+/// a row, or to the brackets, without which the places of selectors are guessed wrong.
 fn table_by_tree(alloc: Global, bytes: &[u8], tokens: &Tokens) -> Result<Table, ParseFault>
     requires { IsOutcome bytes.now (Reads tokens.now) }
     ensures table { IfOk result (λ t. (m : Module) × IsTheTree bytes.now tokens.now m × (rows_in t ≡ rows_of m)) }
@@ -80,7 +80,8 @@ fn pass_all(alloc: Global, draft: &mut Draft, bytes: &[u8], tokens: &[Token]) ->
 }
 
 /// The table of the module that the tokens of a text of these bytes are of, or why there is none: what `table_of` answers of
-/// the tree that `parse` answers, and the faults of `parse`. No tree is made but where memory is refused, or where a name after END is wrong.
+/// the tree that `parse` answers, and the faults of `parse`. A tree is made only where a name after END is wrong, or where memory is
+/// refused to the rows or the brackets; where it is refused to the list of imports, that is told at once.
 ///
 /// It recurses a few calls for each level, so at most 200 levels deep, for which a stack of 2 MiB is enough. Lists are loops.
 pub fn read_table(alloc: Global, bytes: &[u8], tokens: &Tokens) -> Result<Table, ParseFault>

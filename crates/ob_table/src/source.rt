@@ -15,7 +15,7 @@ pub(crate) struct Source<'a> {
 const NONE: u32 = u32::MAX;
 
 /// The kind of a token, and that of a full stop where there is none.
-fn kind_at(tokens: &[Token], at: u32) -> Kind {
+pub(crate) fn kind_at(tokens: &[Token], at: u32) -> Kind {
     match tokens.get(at as usize) {
         Some(token) => token.kind,
         None => Kind::Dot,
