@@ -3,11 +3,14 @@
 
 Each run has to end with a status that is documented, and with one line where it refuses. Of the harmful input it prints the greatest
 resident size over the bytes, the processor seconds, and the time at twice the bytes over that at once, each time the least of three.
-It fails where memory or that ratio is above what is wanted.
+It fails where memory or that ratio is above what is wanted. Where valgrind is there, it counts the instructions of some more inputs, and fails where they are above
+what is wanted for a byte.
 
 Build the program first: (cd crates/oscip && rt run -- --help). Then: bench/hostile.py [PROGRAM [RUNS]]
 """
 import os
+import random
+import re
 import resource
 import shutil
 import subprocess
@@ -181,6 +184,63 @@ HARMFUL = [
 ]
 
 
+def apart(lines, repeat):
+    """So many lines, each of an import of its own, but that the first import stands in the line of this number too."""
+    seeded, met = random.Random(1), {}
+    while len(met) < lines:
+        met[tuple(sorted(seeded.sample(range(2_000), 2)))] = seeded.randrange(1, 50)
+    found = [b"import Module%04d Module%04d %d\n" % (*ends, weight) for ends, weight in met.items()]
+    return b"".join([*found[: repeat - 1], found[0], *found[repeat - 1 :]])
+
+
+TWICE = b"import A B 1\nimport A B 1\n"
+# The file, the command, and for each input its text and the most instructions that a byte may take, beyond those of an empty file.
+COUNTED = [
+    (
+        "net",
+        ["cut-net", "net", "A", "B"],
+        {
+            "one name behind a repeat": (TWICE + b"module " + 4_000_000 * b"a" + b"\n", 1.2),
+            "one weight behind a repeat": (TWICE + b"import A C " + 4_000_000 * b"0" + b"\n", 1.2),
+            "no line end behind a repeat": (TWICE + 4_000_000 * b"x", 1.2),
+            "a repeat in line 516": (apart(2_058, 516), 21),
+            "a repeat in line 2,061": (apart(8_237, 2_061), 18),
+            "empty lines behind a repeat": (apart(33_000, 33_000) + 3_000_000 * b"\n", 13),
+            "short lines behind a repeat behind a long one": (b"module " + 1_000_000 * b"a" + b"\n" + TWICE + 333_000 * b"module A\n", 6.1),
+            "empty lines behind an import": (b"import A B 1\n" + 4_000_000 * b"\n", 27),
+        },
+    ),
+]
+
+
+def instructions(words, folder):
+    """The instructions of a run, by valgrind."""
+    ran = subprocess.run(["valgrind", "--tool=callgrind", "--callgrind-out-file=/dev/null", *words], cwd=folder, stdin=subprocess.DEVNULL, capture_output=True)
+    return int(re.search(rb"Collected : (\d+)", ran.stderr)[1])
+
+
+def counted(program, folder):
+    """Counts the instructions of input that was made to do harm, and returns how many take more than they may."""
+    if not shutil.which("valgrind"):
+        print("without valgrind no instructions are counted")
+        return 0
+    wrong = 0
+    print("| Input | Bytes | Instructions a byte |\n|---|---|---|")
+    for path, words, inputs in COUNTED:
+        at = f"{folder}/{path}"
+        open(at, "wb").close()
+        none = instructions([program, *words], folder)
+        for name, (text, most) in inputs.items():
+            with open(at, "wb") as it:
+                it.write(text)
+            each = (instructions([program, *words], folder) - none) / len(text)
+            print(f"| {name} | {len(text):,} | {each:.1f} |", flush=True)
+            if each > most:
+                wrong += 1
+                print(f"{name}: more than {most} instructions a byte")
+    return wrong
+
+
 def harmful(program, folder):
     """Prints memory and times of input that was made to do harm, and returns how many are at fault."""
     fixed = {"one.net": b"import A B 1\n", "modules.net": b"".join(b"module M%04d\n" % it for it in range(2_000))}
@@ -216,7 +276,8 @@ def main(program=f"{HERE}/../crates/oscip/out/oscip", runs="500"):
     # threads get stacks of 2 MiB
     resource.setrlimit(resource.RLIMIT_STACK, (2 << 20, resource.getrlimit(resource.RLIMIT_STACK)[1]))
     try:
-        wrong = changing(os.path.realpath(program), folder, int(runs)) + harmful(os.path.realpath(program), folder)
+        program = os.path.realpath(program)
+        wrong = changing(program, folder, int(runs)) + harmful(program, folder) + counted(program, folder)
     finally:
         shutil.rmtree(folder)
     return 1 if wrong else 0

@@ -84,7 +84,8 @@ fn release(
 }
 
 /// The numbers of the imports of a network: those of a module together and in order, and behind all that lead to it, where no chain of imports leads back. The module
-/// that became free last comes first. Fails where memory is refused.
+/// that became free last comes first. The imports of each module stand together, as those of a network do, which ascend. Else those between the first and the last of a
+/// module count as its own, so there may be as many numbers as the product of modules and imports. Fails where memory is refused.
 pub fn numbers_along(
     alloc: Global,
     imports: &[Priced],
