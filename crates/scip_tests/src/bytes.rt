@@ -10,7 +10,7 @@ use std::test::Fail;
 
 /// What bytes are read as, and what is told of them.
 #[derive(Clone, Copy)]
-enum As {
+pub(crate) enum As {
     /// Records: the field of each, its value, where its key stands, and where its payload.
     Records,
     /// The numbers of a packed payload, whose record has offset 5.
@@ -37,7 +37,7 @@ pub(crate) const MODULE: &[u8] =
 const TWO: &[u8] =
     b"\x0a\x05\x1a\x01r\x20\x01\x12\x03\x0a\x01a\x12\x03\x0a\x01b\x1a\x06\x0a\x01x\x32\x01X\x1a\x03\x0a\x01y";
 
-const ROWS: &[(As, &[u8], &str)] = &[
+pub(crate) const ROWS: &[(As, &[u8], &str)] = &[
     // Each wire type.
     (As::Records, b"\x08\x96\x01", "1 varint 150 at 0, 1; "),
     (
@@ -73,6 +73,38 @@ const ROWS: &[(As, &[u8], &str)] = &[
         As::Records,
         b"\x08\x81\x80\x80\x80\x80\x80\x80\x80\x80\x02",
         "1 varint 1 at 0, 1; ",
+    ),
+    // Numbers of three to six bytes, cut off where they would end, and of eleven bytes.
+    (
+        As::Records,
+        b"\x08\x81\x82\x03\x08\x81\x82\x83\x04\x08\x81\x82\x83\x84\x05\x08\x81\x82\x83\x84\x85\x06",
+        "1 varint 49409 at 0, 1; 1 varint 8438017 at 4, 5; 1 varint 1350615297 at 9, 10; 1 varint 207509045505 at 15, 16; ",
+    ),
+    (
+        As::Records,
+        b"\x88\x80\x80\x00\x81\x82\x83\x84\x85\x86\x87\x88\x09",
+        "1 varint 653052939803345153 at 0, 4; ",
+    ),
+    (As::Records, b"\x08\x81\x82", "the record at 0 is cut off"),
+    (
+        As::Records,
+        b"\x08\x81\x82\x83\x84",
+        "the record at 0 is cut off",
+    ),
+    (
+        As::Records,
+        b"\x08\x81\x82\x83\x84\x85",
+        "the record at 0 is cut off",
+    ),
+    (
+        As::Records,
+        b"\x08\x81\x82\x83\x84\x85\x86\x87\x88\x89",
+        "the record at 0 is cut off",
+    ),
+    (
+        As::Records,
+        b"\x08\x81\x82\x83\x84\x85\x86\x87\x88\x89\x80\x00",
+        "the record at 0 has a varint of more than ten bytes",
     ),
     // An index, its document, and what stands in the range of that.
     (
@@ -249,7 +281,7 @@ const ROWS: &[(As, &[u8], &str)] = &[
     ),
 ];
 
-fn told_fault(alloc: Global, fault: WireFault) -> Result<String, AllocError> {
+pub(crate) fn told_fault(alloc: Global, fault: WireFault) -> Result<String, AllocError> {
     match fault {
         WireFault::Memory => Err(AllocError),
         _ => format!(in alloc; "{fault}"),
