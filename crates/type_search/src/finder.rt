@@ -6,7 +6,8 @@ use crate::graph::TypeGraph;
 use crate::name::Name;
 use crate::parts::{element_in, target_in};
 use crate::records::find_in;
-use indexmap::{IndexMap, IndexSet};
+use crate::sought::Sought;
+use indexmap::IndexMap;
 use std::alloc::{AllocError, Global};
 use std::marker::Model;
 
@@ -23,8 +24,8 @@ pub struct Finder<'a, G: TypeGraph> {
     aboves: IndexMap<G::Record, Option<G::Record>>,
     /// What names mean in records.
     found: IndexMap<(G::Record, Name<'a>), Option<G::Field>>,
-    /// The names of which something is kept there.
-    names: IndexSet<Name<'a>>,
+    /// The names of which something may be kept there.
+    sought: Sought,
 }
 
 impl<'a, G: TypeGraph> Model for Finder<'a, G> {
@@ -50,7 +51,7 @@ impl<'a, G: TypeGraph> Finder<'a, G> {
             by_pointers: IndexMap::new(alloc),
             aboves: IndexMap::new(alloc),
             found: IndexMap::new(alloc),
-            names: IndexSet::new(alloc),
+            sought: Sought::none(alloc),
         }
     }
 
@@ -95,7 +96,7 @@ impl<'a, G: TypeGraph> Finder<'a, G> {
             &mut self.by_pointers,
             &mut self.aboves,
             &mut self.found,
-            &mut self.names,
+            &mut self.sought,
             from,
             name,
         )

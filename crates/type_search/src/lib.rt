@@ -13,6 +13,7 @@ mod name;
 mod parts;
 mod records;
 mod shape;
+mod sought;
 mod way;
 
 pub use finder::Finder;

@@ -9,8 +9,9 @@ use crate::ends::end_of;
 use crate::graph::TypeGraph;
 use crate::name::Name;
 use crate::shape::Shape;
+use crate::sought::Sought;
 use crate::way::{Way, comes_back, no_way, pass};
-use indexmap::{IndexMap, IndexSet};
+use indexmap::IndexMap;
 use std::alloc::AllocError;
 
 /// The record that a type is.
@@ -60,7 +61,7 @@ fn record_above<G: TypeGraph>(
 }
 
 /// What a name means in a record, where the record has the field itself, or where it is kept, which is asked only of names of which
-/// something is kept.
+/// something may be kept.
 fn field_here<'a, G: TypeGraph>(
     graph: &G,
     found: &IndexMap<(G::Record, Name<'a>), Option<G::Field>>,
@@ -177,22 +178,13 @@ fn keep_field<'a, G: TypeGraph>(
     Ok(())
 }
 
-/// Notes that something is kept of a name, and tells whether that was so before. One look-up does both: where names were made to fall
-/// together in the table, each look-up is long.
-fn keep_name<'a>(names: &mut IndexSet<Name<'a>>, name: &'a [u8]) -> Result<bool, AllocError> {
-    match names.insert_full(Name { bytes: name }) {
-        Ok((_, is_new)) => Ok(!is_new),
-        Err(_) => Err(AllocError),
-    }
-}
-
 /// The field that a name means in a record, which is kept of it and of some of the records that are passed.
 fn field_passed<'a, G: TypeGraph>(
     graph: &G,
     kept: &mut IndexMap<G::Declaration, Option<G::Node>>,
     aboves: &mut IndexMap<G::Record, Option<G::Record>>,
     found: &mut IndexMap<(G::Record, Name<'a>), Option<G::Field>>,
-    names: &mut IndexSet<Name<'a>>,
+    sought: &mut Sought,
     way: &mut Way<G::Record>,
     from: G::Record,
     name: &'a [u8],
@@ -206,7 +198,7 @@ fn field_passed<'a, G: TypeGraph>(
     ensures found { AreFound (G.shape graph.now) (G.base_of graph.now) (G.field_of graph.now) G.Record.eq found.new }
     ensures is { IfOk result (IsFieldIn (G.shape graph.now) (G.base_of graph.now) (λ r. G.field_of graph.now r name.now) from) }
 {
-    let is_kept = keep_name(names, name)?;
+    let is_kept = sought.note(*kept.allocator(), name);
     let field = field_of(graph, kept, aboves, found, is_kept, way, from, name)?;
     keep_field(graph, found, way.marks.as_slice(), name, field)?;
     Ok(field)
@@ -218,7 +210,7 @@ fn field_kept<'a, G: TypeGraph>(
     kept: &mut IndexMap<G::Declaration, Option<G::Node>>,
     aboves: &mut IndexMap<G::Record, Option<G::Record>>,
     found: &mut IndexMap<(G::Record, Name<'a>), Option<G::Field>>,
-    names: &mut IndexSet<Name<'a>>,
+    sought: &mut Sought,
     from: G::Record,
     name: &'a [u8],
 ) -> Result<Option<G::Field>, AllocError>
@@ -234,7 +226,7 @@ fn field_kept<'a, G: TypeGraph>(
         return Ok(Some(field));
     }
     let mut way = no_way(*kept.allocator());
-    field_passed(graph, kept, aboves, found, names, &mut way, from, name)
+    field_passed(graph, kept, aboves, found, sought, &mut way, from, name)
 }
 
 /// The field that a name means at a type: of the record to which it leads, or else of its base.
@@ -243,7 +235,7 @@ pub(crate) fn find_in<'a, G: TypeGraph>(
     kept: &mut IndexMap<G::Declaration, Option<G::Node>>,
     aboves: &mut IndexMap<G::Record, Option<G::Record>>,
     found: &mut IndexMap<(G::Record, Name<'a>), Option<G::Field>>,
-    names: &mut IndexSet<Name<'a>>,
+    sought: &mut Sought,
     from: G::Node,
     name: &'a [u8],
 ) -> Result<Option<G::Field>, AllocError>
@@ -258,6 +250,6 @@ pub(crate) fn find_in<'a, G: TypeGraph>(
 {
     match record_of(graph, kept, from)? {
         None => Ok(None),
-        Some(record) => field_kept(graph, kept, aboves, found, names, record, name),
+        Some(record) => field_kept(graph, kept, aboves, found, sought, record, name),
     }
 }

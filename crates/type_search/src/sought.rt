@@ -1,0 +1,55 @@
+//! Marks of names that were sought before. No answer depends on them.
+
+use std::alloc::Global;
+
+/// 65,536 marks, in words of 64.
+const WORDS: usize = 1024;
+
+/// Marks of names, none before the first is noted. Names may share a mark, so it tells only that a name may have been sought; they are no
+/// table, in which names that were made to fall together would take long.
+#[derive(Drop)]
+pub(crate) struct Sought {
+    words: Vec<u64>,
+}
+
+/// The word of a name's mark and the mark in it, by the hash of Fowler, Noll and Vo (FNV-1a).
+fn mark_of(name: &[u8]) -> (usize, u64) {
+    let mut hash = 0xcbf2_9ce4_8422_2325_u64;
+    for byte in name {
+        hash = (hash ^ u64::from(*byte)).wrapping_mul(0x100_0000_01b3);
+    }
+    let place = (hash ^ (hash >> 32)) % 65_536;
+    ((place / 64) as usize, 1_u64 << (place % 64))
+}
+
+impl Sought {
+    pub(crate) fn none(alloc: Global) -> Sought {
+        Sought {
+            words: Vec::new(alloc),
+        }
+    }
+
+    /// Whether there are marks. Where memory for them is refused there are none.
+    fn has_marks(&mut self, alloc: Global) -> bool {
+        if self.words.is_empty()
+            && let Ok(words) = vec![in alloc; 0_u64; WORDS]
+        {
+            self.words = words;
+        }
+        !self.words.is_empty()
+    }
+
+    /// Notes a name, and tells whether it may have been noted before.
+    pub(crate) fn note(&mut self, alloc: Global, name: &[u8]) -> bool {
+        if !self.has_marks(alloc) {
+            return true;
+        }
+        let (at, mark) = mark_of(name);
+        if at >= self.words.len() {
+            return true;
+        }
+        let word = self.words[at];
+        self.words[at] = word | mark;
+        word & mark != 0
+    }
+}
