@@ -6,8 +6,10 @@ resident size over the bytes, the processor seconds, and the time at twice the b
 It fails where memory or that ratio is above what is wanted. Where valgrind is there, it counts the instructions of some more inputs, and fails where they are above
 what is wanted for a byte.
 
-Build the program first: (cd crates/oscip && rt run -- --help). Then: bench/hostile.py [PROGRAM [RUNS]]
+Build the program first: (cd crates/oscip && rt run -- --help). Then: bench/hostile.py [PROGRAM [RUNS]]. Names that fall together are
+made by `colliding.c`, which `cc` compiles.
 """
+import functools
 import os
 import random
 import re
@@ -40,6 +42,24 @@ def document(records):
 
 def module(body):
     return b"MODULE M; VAR x: SET; BEGIN " + body + b" END M."
+
+
+@functools.cache
+def colliding(count, bits):
+    """So many names that fall together in a table of names, whose numbers have so many bits."""
+    with tempfile.TemporaryDirectory() as folder:
+        subprocess.run(["cc", "-O2", "-o", f"{folder}/colliding", f"{HERE}/colliding.c"], check=True)
+        return subprocess.run([f"{folder}/colliding", str(count), str(bits)], check=True, stdout=subprocess.PIPE).stdout.split()
+
+
+def variables(first, names):
+    """A module that declares these names, each alone, behind the first ones."""
+    return b"MODULE M; VAR " + first + b"".join(b"%s: SET; " % it for it in names) + b"END M."
+
+
+def behind_a_base(names):
+    """A module that uses these names, which no record has, behind a record with a base."""
+    return b"MODULE M; TYPE B = RECORD END; R = RECORD (B) END; VAR v: R; BEGIN " + b"; ".join(b"v.%s := 1" % it for it in names) + b" END M."
 
 
 def ended(words, folder):
@@ -148,6 +168,9 @@ HARMFUL = [
             "one name": lambda k: module(4_000_000 * k * b"x"),
             "WHILE in one another": lambda k: module(400_000 * k * b"WHILE x DO "),
             "procedure types": lambda k: b"MODULE M; TYPE T = " + 200_000 * k * b"PROCEDURE (): " + b"T; END M.",
+            "dimensions": lambda k: b"MODULE M; TYPE T = ARRAY " + 1_300_000 * k * b"1, " + b"1 OF SET; END M.",
+            "names that fall together behind one that is declared twice": lambda k: variables(b"a, a: SET; ", colliding(40_000, 16)[: 20_000 * k]),
+            "names that fall together and that no record has": lambda k: behind_a_base(colliding(40_000, 16)[: 20_000 * k]),
         },
     ),
     (
