@@ -20,6 +20,8 @@ mod readings;
 #[cfg(test)]
 mod scopes;
 #[cfg(test)]
+mod searches;
+#[cfg(test)]
 mod tables;
 #[cfg(test)]
 mod tokens;

@@ -1,0 +1,200 @@
+//! What is found at a likely place beside what a search finds: both tell the same, in whatever order tokens are asked for.
+
+use crate::asked::Asked::Meanings;
+use crate::asked::{Row, are_told};
+use crate::readings::table_in;
+use crate::scopes::{told_by_tree, told_scopes};
+use ob_scan::laws::tokens_in_text;
+use ob_scan::scan;
+use ob_scope::scopes_from;
+use ob_types::{Node, Types};
+use std::alloc::{AllocError, Global};
+use std::process::Abort;
+use std::test::Fail;
+
+/// Good modules. In some a name is declared in an outer block or record behind an inner one, so that the places of one name don't ascend:
+/// before, at and behind other names, and in the last member.
+const TEXTS: &[&[u8]] = &[
+    b"MODULE M; END M.",
+    b"MODULE M; IMPORT T := Texts, U; TYPE R = RECORD (T.B) a*, b: U.X END; P = POINTER TO R; PROCEDURE p*(VAR x: T.W): R; \
+    VAR y: PROCEDURE (z: P); BEGIN y(x); RETURN z END p; BEGIN p(T.a) END M.",
+    b"MODULE M; VAR a, b: SET; PROCEDURE p; VAR q, r: SET; BEGIN q := a; r := b; c := r END p; PROCEDURE q; VAR a: SET; BEGIN \
+    a := b; q; r END q; PROCEDURE r; BEGIN p; q; r END r; BEGIN a := b; p; q; r END M.",
+    b"MODULE M; PROCEDURE p; VAR s: SET; PROCEDURE q; VAR r, p: SET; BEGIN r := p END q; BEGIN q; r; s := s END p; PROCEDURE r; BEGIN \
+    p; q; r END r; PROCEDURE s; BEGIN p; r; s END s; BEGIN s END M.",
+    b"MODULE M; TYPE P = POINTER TO R; R = RECORD a: RECORD b, c: P END; b: POINTER TO Q; a1, c: Q END; Q = RECORD (R) d: P END; \
+    PROCEDURE p; TYPE S = POINTER TO T; T = RECORD t: S; T: R END; VAR x: T; v: S; BEGIN x.t := v END p; END M.",
+    b"MODULE M; PROCEDURE p; TYPE A = POINTER TO B; B = RECORD f: A END; VAR q: A; BEGIN q.f := q END p; PROCEDURE o; PROCEDURE q; \
+    END q; PROCEDURE i; TYPE A = POINTER TO B; B = RECORD g: A END; VAR v: B; BEGIN v.g := q END i; BEGIN q; i END o; PROCEDURE q; \
+    END q; END M.",
+];
+
+/// Compares what each token means, asked for from the first or from the last on, with this place at the beginning.
+fn compare_near<R: Abort + AllocGlobal>(
+    rt: &R,
+    types: &Types,
+    tokens: u32,
+    begin: usize,
+    falls: bool,
+) {
+    let (mut near, mut near_types) = (begin, begin);
+    for at in 0..tokens {
+        let token = if falls { tokens - 1 - at } else { at };
+        let want = types.scopes().resolve(token);
+        assert_eq!(rt; types.scopes().resolve_near(&mut near, token), want);
+        assert_eq!(rt; types.meaning(token), want);
+        assert_eq!(rt; types.meaning_near(&mut near_types, token), want);
+    }
+}
+
+/// Compares them from each place on, also from one where no row stands.
+fn compare_meanings<R: Abort + AllocGlobal>(rt: &R, text: &[u8]) -> Result<(), Fail> {
+    let alloc = rt.alloc();
+    tokens_in_text();
+    let tokens = scan(alloc, text)?;
+    let table = table_in(alloc, text)?;
+    let scopes = scopes_from(alloc, &table, tokens.as_slice(), text)?;
+    let types = Types::new(alloc, text, tokens.as_slice(), &table, &scopes, &[])?;
+    let count = tokens.len() as u32;
+    for begin in 0..count {
+        compare_near(rt, &types, count, begin as usize, false);
+        compare_near(rt, &types, count, begin as usize, true);
+    }
+    Ok(())
+}
+
+#[test]
+fn a_use_means_the_same_wherever_it_is_looked_for(rt: HostRuntime) -> Result<(), Fail> {
+    for text in TEXTS {
+        compare_meanings(&rt, text)?;
+    }
+    Ok(())
+}
+
+#[test]
+fn scopes_of_a_tree_are_those_of_its_table(rt: HostRuntime) -> Result<(), Fail> {
+    for text in TEXTS {
+        let want = told_by_tree(rt.alloc(), text)?;
+        let told = told_scopes(rt.alloc(), text)?;
+        assert_eq!(rt; told.as_str(), want.as_str());
+    }
+    Ok(())
+}
+
+/// Where a type of the module's own is written.
+fn tell_node(told: &mut String, node: Option<Node>) -> Result<(), AllocError> {
+    match node {
+        Some(Node::Own(place)) => write!(told, " {place}"),
+        Some(_) => told.push_str(" elsewhere"),
+        None => told.push_str(" -"),
+    }
+}
+
+/// What is told of each of the first tokens: what it declares and means, and where its type and what holds it are.
+fn told_types(alloc: Global, types: &Types, tokens: u32) -> Result<String, AllocError> {
+    let mut told = String::new(alloc);
+    for token in 0..tokens {
+        let (sort, item) = (types.sort(token), types.item(token));
+        let (owner, meaning) = (types.owner(token), types.meaning(token));
+        write!(&mut told, "{sort:?} {item:?} {owner:?} {meaning:?}")?;
+        tell_node(&mut told, types.form(token))?;
+        told.push_str("; ")?;
+    }
+    Ok(told)
+}
+
+/// What is told of the first tokens of a text.
+fn told_of_types(alloc: Global, text: &[u8], first: u32) -> Result<String, Fail> {
+    tokens_in_text();
+    let tokens = scan(alloc, text)?;
+    let table = table_in(alloc, text)?;
+    let scopes = scopes_from(alloc, &table, tokens.as_slice(), text)?;
+    let types = Types::new(alloc, text, tokens.as_slice(), &table, &scopes, &[])?;
+    Ok(told_types(alloc, &types, first)?)
+}
+
+/// A module with these declarations and so many semicolons.
+fn with_semicolons(
+    alloc: Global,
+    declarations: &[u8],
+    count: usize,
+) -> Result<Vec<u8>, AllocError> {
+    let mut text = Vec::new(alloc);
+    text.extend_from_slice(b"MODULE M; ")?;
+    text.extend_from_slice(declarations)?;
+    text.extend_from_slice(b" BEGIN ")?;
+    for _ in 0..count {
+        text.push(b';')?;
+    }
+    text.extend_from_slice(b" END M.")?;
+    Ok(text)
+}
+
+/// Declarations of few identifiers, with the number of their tokens and those before them.
+const FEW: &[(&[u8], u32)] = &[
+    (b"IMPORT T; VAR v: T.W; w: RECORD f: SET END;", 22),
+    (
+        b"TYPE P = POINTER TO R; R = RECORD (P) a, b: ARRAY 3 OF P END;",
+        26,
+    ),
+    (b"VAR x: ARRAY 1, 2, 3, 4, 5, 6, 7, 8 OF SET;", 24),
+];
+
+/// Tokens on both sides of where places of rows are kept: at most 256 for each identifier that is declared.
+const SEMICOLONS: [usize; 10] = [0, 200, 220, 240, 260, 900, 980, 1000, 1100, 3000];
+
+#[test]
+fn types_are_the_same_where_few_names_are_declared(rt: HostRuntime) -> Result<(), Fail> {
+    for (declarations, first) in FEW {
+        let text = with_semicolons(rt.alloc(), declarations, 0)?;
+        let want = told_of_types(rt.alloc(), text.as_slice(), *first)?;
+        for count in SEMICOLONS {
+            let text = with_semicolons(rt.alloc(), declarations, count)?;
+            let told = told_of_types(rt.alloc(), text.as_slice(), *first)?;
+            assert_eq!(rt; told.as_str(), want.as_str());
+        }
+    }
+    Ok(())
+}
+
+/// Modules with the first two of one name. Before, at or behind the second of these a name is declared in an outer place behind an inner
+/// one.
+const TWICE: &[Row] = &[
+    (
+        Meanings(
+            b"MODULE M; PROCEDURE p; VAR q: SET; END p; PROCEDURE q; END q; PROCEDURE r; VAR x, x: SET; END r; END M.",
+        ),
+        "Twice { name: \"x\", first: 79, second: 82 }",
+    ),
+    (
+        Meanings(
+            b"MODULE M; PROCEDURE p; VAR q: SET; END p; PROCEDURE q; END q; PROCEDURE q; END q; END M.",
+        ),
+        "Twice { name: \"q\", first: 52, second: 72 }",
+    ),
+    (
+        Meanings(b"MODULE M; TYPE R = RECORD a: RECORD b: SET END; b: SET; c, b: SET END; END M."),
+        "TwiceField { name: \"b\", first: 48, second: 59 }",
+    ),
+    (
+        Meanings(
+            b"MODULE M; VAR x, x: SET; PROCEDURE p; VAR q: SET; END p; PROCEDURE q; END q; END M.",
+        ),
+        "Twice { name: \"x\", first: 14, second: 17 }",
+    ),
+    (
+        Meanings(b"MODULE M; PROCEDURE p; VAR q, x, x: SET; END p; PROCEDURE q; END q; END M."),
+        "Twice { name: \"x\", first: 30, second: 33 }",
+    ),
+    (
+        Meanings(
+            b"MODULE M; TYPE R = RECORD x: SET END; VAR q: SET; PROCEDURE p; VAR R: SET; END p; PROCEDURE x; VAR p: RECORD p: RECORD x, p: SET END; x, p: SET END; END x; END M.",
+        ),
+        "TwiceField { name: \"p\", first: 109, second: 137 }",
+    ),
+];
+
+#[test]
+fn the_first_two_of_one_name_are_told(rt: HostRuntime) -> Result<(), Fail> {
+    are_told(&rt, TWICE)
+}
