@@ -4,7 +4,8 @@
 Each run has to end with a status that is documented, and with one line where it refuses. Of the harmful input it prints the greatest
 resident size over the bytes, the processor seconds, and the time at twice the bytes over that at once, each time the least of three.
 It fails where memory or that ratio is above what is wanted. Where valgrind is there, it counts the instructions of some more inputs, and fails where they are above
-what is wanted for a byte.
+what is wanted for a byte. Last it gives the program an address space that is just enough: there it
+has to answer, or to tell want of memory, within some seconds.
 
 Build the program first: (cd crates/oscip && rt run -- --help). Then: bench/hostile.py [PROGRAM [RUNS]]. Names that fall together are
 made by `colliding.c`, which `cc` compiles.
@@ -22,7 +23,7 @@ import threading
 
 HERE = os.path.dirname(os.path.realpath(__file__))
 STATEMENT = b"N.x := N.x + 1;\n"
-ANSWERED, REFUSED, UNREAD, DENIED = 0, 1, 3, 5
+ANSWERED, REFUSED, UNREAD, NO_MEMORY, DENIED = 0, 1, 3, 4, 5
 # The most times that twice the bytes may take, and how long a run takes at least whose time says something.
 RATIO, LEAST_SECONDS = 3.2, 0.05
 
@@ -62,10 +63,14 @@ def behind_a_base(names):
     return b"MODULE M; TYPE B = RECORD END; R = RECORD (B) END; VAR v: R; BEGIN " + b"; ".join(b"v.%s := 1" % it for it in names) + b" END M."
 
 
-def ended(words, folder):
-    """The status, the line that is told, the processor seconds and the greatest resident size of a run."""
+def ended(words, folder, space=None):
+    """The status, the line that is told, the processor seconds and the greatest resident size of a run, in an address space of so many bytes."""
+
+    def bind():
+        resource.setrlimit(resource.RLIMIT_AS, (space, space))
+
     with tempfile.TemporaryFile() as told:
-        ran = subprocess.Popen(words, cwd=folder, stdin=subprocess.DEVNULL, stdout=subprocess.DEVNULL, stderr=told)
+        ran = subprocess.Popen(words, cwd=folder, stdin=subprocess.DEVNULL, stdout=subprocess.DEVNULL, stderr=told, preexec_fn=bind if space else None)
         _, status, used = os.wait4(ran.pid, 0)
         ran.returncode = os.waitstatus_to_exitcode(status)
         told.seek(0)
@@ -264,6 +269,36 @@ def counted(program, folder):
     return wrong
 
 
+def nested(opening, levels, closing, behind):
+    """A module with so many brackets open, each of which is closed behind a dot but the innermost, and what stands behind them."""
+    return b"MODULE M; BEGIN " + levels * opening + b"x" + closing + (levels - 1) * (b"." + closing) + behind + b" END M."
+
+
+# The text of a module, the address space, the most processor seconds, the status and what is told. `unresolved` reads it.
+BOUND = {
+    "a million `^` behind 190 parentheses and a fault": (nested(b"h(", 190, b")", 1_000_000 * b"^"), 200_000 << 10, 5, REFUSED, b"oscip: M.Mod:0:399: Syntax\n"),
+    "the same behind brackets": (nested(b"h[", 190, b"]", 1_000_000 * b"^"), 200_000 << 10, 5, REFUSED, b"oscip: M.Mod:0:399: Syntax\n"),
+    "the same behind 250 parentheses, which are too many": (nested(b"h(", 250, b")", 1_000_000 * b"^"), 200_000 << 10, 5, REFUSED, b"oscip: M.Mod:0:416: TooDeep\n"),
+    "names whose rows are refused memory": (b"MODULE M; BEGIN " + 5_000_000 * b"x;" + b" END M.", 300_000 << 10, 5, NO_MEMORY, b"oscip: Memory\n"),
+}
+
+
+def bound(program, folder):
+    """Prints seconds and memory of runs in an address space that is just enough, and returns how many are at fault."""
+    wrong = 0
+    os.makedirs(f"{folder}/bound")
+    print("| Input | Bytes | Address space | Seconds |\n|---|---|---|---|")
+    for name, (text, space, most, status, line) in BOUND.items():
+        with open(f"{folder}/bound/M.Mod", "wb") as it:
+            it.write(text)
+        ends = ended([program, "unresolved", "bound"], folder, space)
+        print(f"| {name} | {len(text):,} | {space:,} | {ends[2]:.2f} |", flush=True)
+        if ends[:2] != (status, line) or ends[2] > most:
+            wrong += 1
+            print(f"{name}: status {ends[0]}, {ends[1][:200]!r}, in place of {status}, {line!r} within {most} seconds")
+    return wrong
+
+
 def harmful(program, folder):
     """Prints memory and times of input that was made to do harm, and returns how many are at fault."""
     fixed = {"one.net": b"import A B 1\n", "modules.net": b"".join(b"module M%04d\n" % it for it in range(2_000))}
@@ -299,8 +334,8 @@ def main(program=f"{HERE}/../crates/oscip/out/oscip", runs="500"):
     # threads get stacks of 2 MiB
     resource.setrlimit(resource.RLIMIT_STACK, (2 << 20, resource.getrlimit(resource.RLIMIT_STACK)[1]))
     try:
-        program = os.path.realpath(program)
-        wrong = changing(program, folder, int(runs)) + harmful(program, folder) + counted(program, folder)
+        path = os.path.realpath(program)
+        wrong = changing(path, folder, int(runs)) + harmful(path, folder) + counted(path, folder) + bound(path, folder)
     finally:
         shutil.rmtree(folder)
     return 1 if wrong else 0
