@@ -22,9 +22,9 @@ fn with_room(alloc: Global, bytes: usize) -> Vec<Token>
     }
 }
 
-/// The list of these tokens. Where its room is twice its length or more, which it isn't where it grew token by token, it is cut to
-/// its length: who keeps the list keeps no room for tokens that a text of blanks and comments doesn't have. Where memory is refused
-/// the room stays.
+/// The list of these tokens. Where its room is twice its length or more, which it hardly is where it grew token by token, it is cut
+/// to its length: who keeps the list keeps no room for tokens that a text of blanks and comments doesn't have. Where memory is
+/// refused the room stays.
 fn kept(tokens: Vec<Token>) -> Tokens
     ensures { result ≡ tokens.items }
 {
