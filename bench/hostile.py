@@ -3,9 +3,10 @@
 
 Each run has to end with a status that is documented, and with one line where it refuses. Of the harmful input it prints the greatest
 resident size over the bytes, the processor seconds, and the time at twice the bytes over that at once, each time the least of three.
-It fails where memory or that ratio is above what is wanted. Where valgrind is there, it counts the instructions of some more inputs, and fails where they are above
-what is wanted for a byte. Last it gives the program an address space that is just enough: there it
-has to answer, or to tell want of memory, within some seconds.
+It fails where memory or that ratio is above what is wanted. Where valgrind is there, it counts the instructions of some more inputs, and
+fails where they are above what is wanted for a byte. Then it prints the times of numbers of many bytes in an index over those of as many
+bytes in numbers of one byte, and fails where a ratio is above what is wanted. Last it gives the program an address space that is just
+enough: there it has to answer, or to tell want of memory, within some seconds.
 
 Build the program first: (cd crates/oscip && rt run -- --help). Then: bench/hostile.py [PROGRAM [RUNS]]. Names that fall together are
 made by `colliding.c`, which `cc` compiles.
@@ -61,6 +62,11 @@ def variables(first, names):
 def behind_a_base(names):
     """A module that uses these names, which no record has, behind a record with a base."""
     return b"MODULE M; TYPE B = RECORD END; R = RECORD (B) END; VAR v: R; BEGIN " + b"; ".join(b"v.%s := 1" % it for it in names) + b" END M."
+
+
+def definition(records):
+    """An occurrence that defines `s` at the eighth byte of the first line, with more records behind."""
+    return record(2, record(1, b"\x00\x07\x08") + record(2, b"s") + b"\x18\x01" + records)
 
 
 def ended(words, folder, space=None):
@@ -177,6 +183,12 @@ HARMFUL = [
             "names that fall together behind one that is declared twice": lambda k: variables(b"a, a: SET; ", colliding(40_000, 16)[: 20_000 * k]),
             "names that fall together and that no record has": lambda k: behind_a_base(colliding(40_000, 16)[: 20_000 * k]),
         },
+    ),
+    (
+        "p/M.Mod",
+        ["index", "p", "out", "--workers", "1", "--package", 2_000 * "p"],
+        800,
+        {"uses of a name in a package of 2,000 letters": lambda k: module(8_000 * k * b"x := x;")},
     ),
     (
         "net",
@@ -329,13 +341,55 @@ def harmful(program, folder):
     return wrong
 
 
+TEN = 9 * b"\xff" + b"\x01"
+# Indexes that are asked for the definitions of `s`: one of numbers of many bytes, one of as many bytes in numbers of one byte, and the
+# most times that the first may take of the second.
+BESIDE = {
+    "unknown numbers of ten bytes in an occurrence": (
+        document(definition(500_000 * (b"\xf8" + 8 * b"\x80" + b"\x00" + TEN))),
+        document(definition(5_000_000 * b"\x78\x00")),
+        1.5,
+    ),
+    "unknown numbers of ten bytes in a document": (
+        document(definition(b"") + 500_000 * (b"\xf8" + 8 * b"\x80" + b"\x00" + TEN)),
+        document(definition(b"") + 5_000_000 * b"\x78\x00"),
+        1.5,
+    ),
+    "a range of numbers of three bytes": (
+        document(definition(b"") + definition(record(1, 3_000_000 * b"\xa0\x9c\x01"))),
+        document(definition(b"") + definition(record(1, 9_000_000 * b"\x01"))),
+        1.5,
+    ),
+}
+
+
+def beside(program, folder):
+    """Prints how much longer numbers of many bytes take than as many bytes in short ones, and returns how many take too long."""
+    wrong = 0
+    print("| Numbers | Seconds | Times those of one byte |\n|---|---|---|")
+    for name, (long, short, most) in BESIDE.items():
+        took = []
+        for text in (long, short):
+            with open(f"{folder}/index", "wb") as it:
+                it.write(text)
+            ends = [ended([program, "def", "index", "a", "0", "7"], folder) for _ in range(3)]
+            took.append(min(it[2] for it in ends))
+            wrong += sum(it[0] != ANSWERED for it in ends)
+        ratio = took[0] / max(took[1], 0.001)
+        print(f"| {name} | {took[0]:.2f} | {ratio:.1f} |", flush=True)
+        if ratio > most:
+            wrong += 1
+            print(f"{name}: more than {most} times")
+    return wrong
+
+
 def main(program=f"{HERE}/../crates/oscip/out/oscip", runs="500"):
     folder = tempfile.mkdtemp()
     # threads get stacks of 2 MiB
     resource.setrlimit(resource.RLIMIT_STACK, (2 << 20, resource.getrlimit(resource.RLIMIT_STACK)[1]))
     try:
         path = os.path.realpath(program)
-        wrong = changing(path, folder, int(runs)) + harmful(path, folder) + counted(path, folder) + bound(path, folder)
+        wrong = changing(path, folder, int(runs)) + harmful(path, folder) + counted(path, folder) + beside(path, folder) + bound(path, folder)
     finally:
         shutil.rmtree(folder)
     return 1 if wrong else 0
