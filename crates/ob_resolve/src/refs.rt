@@ -1,5 +1,5 @@
 //! The references of a module.
-ghost use Rattle.std.specs.Prelude.{◌≡◌, ◌<◌, [], IfOk, length};
+ghost use Rattle.std.specs.Prelude.{◌≡◌, ◌<◌, IfOk, length};
 ghost use Rattle.ob_decls.specs.Order.{AscendBy};
 ghost use Rattle.ob_scan.specs.declared.token.Token.{Token as TokenSeen};
 ghost use Rattle.ob_targets.specs.Refers.{is_identifier, unresolved, AreReferences};
@@ -65,17 +65,6 @@ fn token_number(tokens: &[Token], place: usize) -> u32
     place as u32
 }
 
-/// No references, with room for all identifiers.
-fn room_for(alloc: Global, tokens: &[Token]) -> Result<Vec<Reference>, AllocError>
-    ensures { IfOk result (λ v. v.items ≡ []) }
-{
-    let identifiers = tokens
-        .iter()
-        .filter(|token| is_identifier(token.kind))
-        .count();
-    Vec::with_capacity(alloc, identifiers)
-}
-
 /// What each identifier of a module stands for, and its role: a declaration, an import, written, read, or any other use
 /// (Oberon-07 report, sections 4 to 11; roles as in scip.proto). Refused only where memory runs out.
 pub fn references(alloc: Global, types: &Types<'_>) -> Result<Refs, AllocError>
@@ -84,7 +73,7 @@ pub fn references(alloc: Global, types: &Types<'_>) -> Result<Refs, AllocError>
     types.keeps();
     let found = find_all(alloc, types)?;
     let tokens = types.tokens();
-    let mut rows = room_for(alloc, tokens)?;
+    let mut rows = Vec::new(alloc);
     for place in 0..tokens.len() {
         if is_identifier(tokens[place].kind) {
             rows.push(referred(types, &found, token_number(tokens, place)))?;

@@ -26,7 +26,7 @@ loop-place-preserved c =
     ]
 
 pub loop-place-init : goal.loop-place-init
-loop-place-init c = none_gone c.args.types.now c.in_ok-rows.rows.items c.in_ok-rows.ensures
+loop-place-init c = none_gone c.args.types.now c.new-rows.result.items c.new-rows.ensures.items
 
 pub returns : goal.returns
 returns c = record {
