@@ -207,10 +207,10 @@ impl LineList {
         ensures shorter { IfOk result (λ rest. 0 < length text.now → length rest.now < length text.now) }
         ensures twice { IfErr result (λ stop. stop ≡ Twice → (before : List NetLine) → IsList before self.old → Repeats text.now before self.new) }
     {
-        if let Some(rest) = behind_byte(text, b'\n') {
+        let near = self.look.saturating_sub(read);
+        if let Some(rest) = behind_end(text, near) {
             return Ok(rest);
         }
-        let near = self.look.saturating_sub(read);
         if let Some((line, rest)) = line_within(text, near) {
             return match self.add(alloc, line) {
                 Ok(()) => Ok(rest),
@@ -222,6 +222,16 @@ impl LineList {
         }
         self.take_first(alloc, text)
     }
+}
+
+/// What stands behind a line end, where the text begins with one and so many bytes are left before the next look.
+fn behind_end(text: &[u8], near: usize) -> Option<&[u8]>
+    ensures { IfSome result (λ rest. text.now ≡ 10 ∷ rest.now) }
+{
+    if near == 0 {
+        return None;
+    }
+    behind_byte(text, b'\n')
 }
 
 /// Fills the list of no lines with those that the bytes spell.
