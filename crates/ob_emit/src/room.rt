@@ -12,20 +12,25 @@ const LARGE: usize = 262_144;
 /// About as many bytes as stand in a record beside its texts, and some more.
 const BESIDE: usize = 48;
 
-/// How many bytes the text takes of what this stands for, or what stands in front of it, where it isn't kept yet.
-fn text_size(types: &Types<'_>, texts: &Texts<'_>, target: Target) -> usize {
+/// How many bytes a record takes with the text of what this stands for, or this many, where that isn't found by one look.
+fn record_size(types: &Types<'_>, texts: &Texts<'_>, target: Target, mean: usize) -> usize {
     match texts.known(types, target, 0) {
         Some(Some(symbol)) => symbol.len().saturating_add(BESIDE),
         Some(None) => 0,
-        None => texts.fronts.tree.len().saturating_add(BESIDE),
+        None => mean,
     }
 }
 
-/// About as many bytes as the records of these occurrences take.
-fn occurrences_size(types: &Types<'_>, texts: &Texts<'_>, refs: &[Reference]) -> usize {
+/// About as many bytes as the records of these occurrences take, by how many one took in the mean so far.
+fn occurrences_size(
+    types: &Types<'_>,
+    texts: &Texts<'_>,
+    refs: &[Reference],
+    mean: usize,
+) -> usize {
     let mut size: usize = 0;
     for reference in refs {
-        size = size.saturating_add(text_size(types, texts, reference.target));
+        size = size.saturating_add(record_size(types, texts, reference.target, mean));
     }
     size
 }
@@ -36,7 +41,7 @@ fn symbols_size(types: &Types<'_>, texts: &Texts<'_>, refs: &[Reference]) -> usi
     for reference in refs {
         if reference.role == 1 {
             size = size
-                .saturating_add(text_size(types, texts, reference.target))
+                .saturating_add(record_size(types, texts, reference.target, BESIDE))
                 .saturating_add(types.text(reference.number).len());
         }
     }
@@ -72,7 +77,8 @@ impl Ahead {
         ensures { out.new.items ≡ out.old.items }
     {
         let left = refs.get(self.done..).unwrap_or(&[]);
-        let size = occurrences_size(types, texts, left).saturating_add(symbols_size(
+        let mean = out.len() / self.done.max(1);
+        let size = occurrences_size(types, texts, left, mean).saturating_add(symbols_size(
             types, texts, refs,
         ));
         let spare = self.longest.saturating_add(BESIDE).saturating_mul(2);
