@@ -1,4 +1,5 @@
 -- What is said unless memory ran out.
+use Rattle.std.proofs.Common.{◌≡◌, refl}
 use Rattle.proto_wire.specs.declared.fault.WireFault.{WireFault}
 use Rattle.proto_wire.specs.declared.fault.WireFault.TheVariants.{Truncated, LongVarint, Group, ZeroField, BadText, Device, Memory}
 use Rattle.proto_wire.specs.Faults.{UnlessMemory}
@@ -20,3 +21,12 @@ UnlessMemory-from (ZeroField at) h = h
 UnlessMemory-from (BadText at) h = h
 UnlessMemory-from Device h = h
 UnlessMemory-from Memory h = tt
+
+pub UnlessMemory-known : (fault : WireFault) {P : Type 0} → (fault ≡ Memory → ⊥) → UnlessMemory fault P → P
+UnlessMemory-known (Truncated at) other h = h
+UnlessMemory-known (LongVarint at) other h = h
+UnlessMemory-known (Group at) other h = h
+UnlessMemory-known (ZeroField at) other h = h
+UnlessMemory-known (BadText at) other h = h
+UnlessMemory-known Device other h = h
+UnlessMemory-known Memory other h = absurd (other refl)

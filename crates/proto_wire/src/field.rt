@@ -1,6 +1,7 @@
 //! The fields of a message, each taken from one record. A record of another field or wire type is passed over.
-ghost use Rattle.std.specs.Prelude.{◌≡◌, ◌++◌, [], ℤ, List, None, Some, Result, OnOk, OnErr, IfErr, map};
+ghost use Rattle.std.specs.Prelude.{◌≡◌, ◌++◌, ◌↔◌, [], ℤ, List, None, Some, Result, OnOk, OnErr, IfErr, length, map, take, true};
 ghost use Rattle.proto_wire.specs.declared.fault.WireFault.{WireFault};
+ghost use Rattle.proto_wire.specs.declared.fault.WireFault.TheVariants.{Memory};
 ghost use Rattle.std.specs.Result.{result_err, result_unwrap_or};
 ghost use Rattle.std.specs.String.{string_bytes};
 ghost use Rattle.proto_wire.specs.Faults.{Stops, Tells};
@@ -23,6 +24,7 @@ fn push_packed(numbers: &mut Vec<i32>, payload: &[u8], at: usize) -> Result<(), 
     ensures clean { OnOk result (result_err (packed at payload.now) ≡ None) }
     ensures numbers { OnOk result (numbers.new.items ≡ numbers.old.items ++ result_unwrap_or (packed at payload.now) []) }
     ensures err { IfErr result (λ e. Stops e (result_err (packed at payload.now))) }
+    ensures kept { take (length numbers.old.items) numbers.new.items ≡ numbers.old.items }
 {
     let mut rest = payload;
     while !rest.is_empty() {
@@ -59,6 +61,8 @@ pub fn take_numbers(
     ensures clean { let p = payload_record wire.now payload.now in OnOk result (field_fault field wire.now (numbers_fault p) ≡ None) }
     ensures numbers { let p = payload_record wire.now payload.now in OnOk result (numbers.new.items ≡ numbers.old.items ++ if_field field wire.now (numbers_in p)) }
     ensures err { let p = payload_record wire.now payload.now in IfErr result (λ e. Stops e (field_fault field wire.now (numbers_fault p))) }
+    // What was there stands in front, also after a refusal.
+    ensures kept { take (length numbers.old.items) numbers.new.items ≡ numbers.old.items }
 {
     if wire.field != field {
         return Ok(());
@@ -101,6 +105,21 @@ pub fn check_numbers(field: u32, wire: &WireRecord, payload: &[u8]) -> Result<()
     }
 }
 
+/// Whether it is want of memory.
+fn is_memory(fault: WireFault) -> bool
+    ensures { result ≡ true ↔ fault ≡ Memory }
+{
+    match fault {
+        WireFault::Memory => true,
+        WireFault::Truncated { .. }
+        | WireFault::LongVarint { .. }
+        | WireFault::Group { .. }
+        | WireFault::ZeroField { .. }
+        | WireFault::BadText { .. }
+        | WireFault::Device => false,
+    }
+}
+
 /// Adds the numbers of the record, packed or not, if it is of this repeated field: of a payload that is no row of varints none.
 /// Fails where memory is refused; some are then added.
 #[tactic(auto, unfolding(crate::specs::Messages::if_field))]
@@ -112,12 +131,14 @@ pub(crate) fn push_given(
 ) -> Result<(), AllocError>
     ensures numbers { let p = payload_record wire.now payload.now in OnOk result (numbers.new.items ≡ numbers.old.items ++ if_field field wire.now (numbers_in p)) }
 {
-    match check_numbers(field, wire, payload) {
-        Err(_) => Ok(()),
-        Ok(()) => match take_numbers(field, numbers, wire, payload) {
-            Ok(()) => Ok(()),
-            Err(_) => Err(AllocError),
-        },
+    let before = numbers.len();
+    match take_numbers(field, numbers, wire, payload) {
+        Ok(()) => Ok(()),
+        Err(fault) if is_memory(fault) => Err(AllocError),
+        Err(_) => {
+            numbers.truncate(before);
+            Ok(())
+        }
     }
 }
 

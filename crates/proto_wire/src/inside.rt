@@ -119,6 +119,33 @@ pub fn next_message<'a>(field: u32, rest: &mut Inside<'a>) -> Option<Inside<'a>>
     None
 }
 
+/// The next message of this field, as `next_message` tells it, and the bytes of the last text or message of another field on the
+/// way to it, or else those that there were: at the end, of the whole rest. One walk for both.
+pub fn next_message_and_bytes<'a>(
+    field: u32,
+    bytes_field: u32,
+    before: &'a [u8],
+    rest: &mut Inside<'a>,
+) -> (Option<Inside<'a>>, &'a [u8])
+    requires { rest.old.start + length rest.old.bytes.now < 2 ^ 64 }
+    ensures none { IfNone result.0 (each_of field records_inside (records_of rest.old) ≡ []) }
+    ensures some { IfSome result.0 (λ m. each_of field records_inside (records_of rest.old) ≡ records_of m ∷ each_of field records_inside (records_of rest.new)) }
+    ensures whole { IfNone result.0 (latest before.now (each_of bytes_field bytes_in (records_of rest.old)) ≡ result.1.now) }
+    ensures so_far { IfSome result.0 (λ _. latest before.now (each_of bytes_field bytes_in (records_of rest.old)) ≡ latest result.1.now (each_of bytes_field bytes_in (records_of rest.new))) }
+    ensures shorter { IfSome result.0 (λ _. length rest.new.bytes.now < length rest.old.bytes.now) }
+    ensures within { rest.new.start + length rest.new.bytes.now ≡ rest.old.start + length rest.old.bytes.now }
+    ensures inside { IfSome result.0 (λ m. m.start + length m.bytes.now ≤ rest.old.start + length rest.old.bytes.now) }
+{
+    let mut last = before;
+    while let Some((wire, payload)) = next_record(rest) {
+        last = later_bytes(bytes_field, last, &wire, payload);
+        if let Some(message) = message_of(field, &wire, payload) {
+            return (Some(message), last);
+        }
+    }
+    (None, last)
+}
+
 /// The bytes of the last text or message of this field, or none of them.
 pub fn last_bytes<'a>(field: u32, message: Inside<'a>) -> &'a [u8]
     requires { message.start + length message.bytes.now < 2 ^ 64 }
