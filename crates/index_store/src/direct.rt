@@ -1,5 +1,5 @@
 //! Questions to the bytes of an index, with no store: the records are walked, and no message and no table is made.
-ghost use Rattle.std.specs.Prelude.{◌≡◌, ◌<◌, ◌+◌, ◌^◌, ◌++◌, [], true, IfOk, IfSome, None, OnOk, fold, length, map, option_map};
+ghost use Rattle.std.specs.Prelude.{◌≡◌, ◌<◌, ◌+◌, ◌^◌, ◌++◌, ◌||◌, [], true, IfOk, IfSome, None, OnOk, fold, length, map, option_map};
 ghost use Rattle.std.specs.Str.{IsUtf8, bytes_eq};
 ghost use Rattle.std.specs.Option.{option_to_list};
 ghost use Rattle.std.specs.List.{flat_map};
@@ -16,7 +16,7 @@ use crate::span::{Span, is_in, is_nearer, span_of};
 use crate::{Place, Position, StoreFault};
 use proto_wire::{
     Inside, WireValue, last_bytes, last_bytes_and_number, last_bytes_and_numbers, last_number,
-    next_message, next_short, numbers_inside,
+    next_message, next_message_and_bytes, next_short, numbers_inside,
 };
 use std::alloc::{AllocError, Global};
 
@@ -67,24 +67,30 @@ fn nearer_of_two<'a>(at: Position, best: Option<Near<'a>>, row: Near<'a>) -> Opt
     }
 }
 
-/// The nearest so far, and the occurrences of a document.
-fn nearest_inside<'a>(
+/// The nearest so far, and the occurrences of a document; and the document's path: one walk for both.
+fn nearest_and_path<'a>(
     document: Inside<'a>,
     at: Position,
     best: Option<Near<'a>>,
     numbers: &mut Vec<i32>,
-) -> Result<Option<Near<'a>>, AllocError>
+) -> Result<(Option<Near<'a>>, &'a [u8]), AllocError>
     requires { document.start + length document.bytes.now < 2 ^ 64 }
-    ensures { IfOk result (λ n. option_map said_near n ≡ nearest_of at (option_map said_near best.entry) (document_of (records_of document.entry)).occurrences) }
+    ensures nearest { IfOk result (λ x. option_map said_near x.0 ≡ nearest_of at (option_map said_near best.entry) (document_of (records_of document.entry)).occurrences) }
+    ensures path { IfOk result (λ x. latest [] (each_of 1 bytes_in (records_of document.entry)) ≡ x.1.now) }
 {
     let mut rest = document;
     let mut best = best;
-    while let Some(occurrence) = next_message(2, &mut rest) {
+    let mut path: &[u8] = &[];
+    loop {
+        let (occurrence, last) = next_message_and_bytes(2, 1, path, &mut rest);
+        path = last;
+        let Some(occurrence) = occurrence else {
+            return Ok((best, path));
+        };
         if let Some(row) = near_inside(occurrence, numbers)? {
             best = nearer_of_two(at, best, row);
         }
     }
-    Ok(best)
 }
 
 /// Whether a text of the field is this one.
@@ -100,6 +106,43 @@ fn has_text(field: u32, message: Inside<'_>, text: &[u8]) -> bool
 struct Search<'a> {
     has_path: bool,
     best: Option<Near<'a>>,
+}
+
+/// Whether the first record of a document is this path, as most producers write it.
+fn begins_with(document: Inside<'_>, path: &[u8]) -> bool
+    requires { document.start + length document.bytes.now < 2 ^ 64 }
+{
+    let mut rest = document;
+    match next_short(&mut rest) {
+        Some((wire, text)) => wire.field == 1 && text == path,
+        None => false,
+    }
+}
+
+/// What was found so far, and what is found in one document more. One that begins with the path is walked once: whether it has
+/// no other path is known at its end.
+fn search_document<'a>(
+    document: Inside<'a>,
+    path: &[u8],
+    at: Position,
+    found: Search<'a>,
+    numbers: &mut Vec<i32>,
+) -> Result<Search<'a>, AllocError>
+    requires { document.start + length document.bytes.now < 2 ^ 64 }
+    ensures has { IfOk result (λ s. s.has_path ≡ (found.entry.has_path || bytes_eq (document_of (records_of document.entry)).relative_path path.now)) }
+    ensures nearest { IfOk result (λ s. option_map said_near s.best ≡ nearest_at path.now at (option_map said_near found.entry.best) (document_of (records_of document.entry))) }
+{
+    if !begins_with(document, path) && !has_text(1, document, path) {
+        return Ok(found);
+    }
+    let (best, last) = nearest_and_path(document, at, found.best, numbers)?;
+    if last != path {
+        return Ok(found);
+    }
+    Ok(Search {
+        has_path: true,
+        best,
+    })
 }
 
 /// The nearest of the occurrences of the documents that have the path.
@@ -120,10 +163,7 @@ fn search_documents<'a>(
         best: None,
     };
     while let Some(document) = next_message(2, &mut rest) {
-        if has_text(1, document, path.as_bytes()) {
-            found.has_path = true;
-            found.best = nearest_inside(document, at, found.best, &mut numbers)?;
-        }
+        found = search_document(document, path.as_bytes(), at, found, &mut numbers)?;
     }
     Ok(found)
 }
