@@ -20,8 +20,8 @@ pub use field::{
     check_numbers, check_text, packed_values, take_number, take_numbers, take_text, take_texts,
 };
 pub use inside::{
-    Inside, last_bytes, last_bytes_and_number, last_bytes_and_numbers, last_number, next_message, next_message_and_bytes,
-    next_short, numbers_inside,
+    Inside, last_bytes, last_bytes_and_number, last_bytes_and_numbers, last_number, next_message,
+    next_message_and_bytes, next_short, numbers_inside,
 };
 pub use message::{Message, check_message, merge_message, read_message, take_messages};
 pub use record::{WireRecord, WireValue, record_at_front, records};

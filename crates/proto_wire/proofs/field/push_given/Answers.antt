@@ -10,4 +10,4 @@ returns-in-Err-2 c =
     let fault = c.in-Err.fault in
     let known = UnlessMemory-known fault (λ e. let wrong = c.if-is_memory.ensures.1 e in absurd cc) c.in-Err.ensures.err in
     let none = numbers_none c.args.field (payload_record c.args.wire.now c.args.payload.now) fault known in
-    record { numbers = rw (c.truncate.ensures.items, c.len-before.ensures, c.args.numbers.now.ok.0, none) (c.in-Err.ensures.kept ∙ sym (append-nil _)); }
+    record { numbers = rw (c.truncate.ensures.items, c.len-before.ensures, c.args.numbers.now.ok.0, none) (c.in-Err.ensures.kept ∙ sym (append-nil _)) }
