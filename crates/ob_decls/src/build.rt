@@ -12,22 +12,16 @@ use crate::walk::declarations::walk_module;
 use ob_tree::declaration::Module;
 use std::alloc::{AllocError, Global};
 
-/// The table of a module. The walk recurses a few calls for each level of nesting, so a tree of `parse` needs a stack of 2 MiB;
-/// lists are loops. AllocError is answered where a growth of memory is refused, and for a tree of 2^32 tokens or more, whose
-/// numbers no row can hold. The rows stand in the order of the tokens, by a law; that the parts of one form stand together is
-/// looked at before the table is answered, and no tree breaks it.
+/// The table of a module. The walk recurses a few calls for each level of nesting: a stack of 2 MiB is enough for a tree of 200
+/// levels, and a deeper one needs more in proportion; lists are loops. AllocError is answered where a growth of memory is refused,
+/// and for a tree of 2^32 tokens or more, whose numbers no row can hold. The rows stand in the order of the tokens, by a law; that
+/// the parts of one form stand together is looked at before the table is answered, and no tree breaks it.
 pub fn table_of(alloc: Global, module: &Module) -> Result<Table, AllocError>
     ensures exact { IfOk result (λ t. rows_in t ≡ rows_of «module».now) }
 {
     // The name behind END is the last token but one.
     let mut draft = Draft::new(alloc, module.end_name);
-    let outermost = Context {
-        block: 0,
-        declarer: 0,
-        of_record: 0,
-        is_target: false,
-    };
-    walk_module(&mut draft, outermost, module);
+    walk_module(&mut draft, Context::OUTERMOST, module);
     if draft.refused {
         return Err(AllocError);
     }

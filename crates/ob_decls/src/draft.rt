@@ -22,6 +22,16 @@ pub struct Context {
     pub is_target: bool,
 }
 
+impl Context {
+    /// What is around a module.
+    pub const OUTERMOST: Context = Context {
+        block: 0,
+        declarer: 0,
+        of_record: 0,
+        is_target: false,
+    };
+}
+
 /// The rows so far, and the number of the next token. A draft that was refused memory, or a number that no row can hold, says
 /// nothing of its rows from then on.
 #[derive(Drop)]

@@ -12,6 +12,7 @@ mod table;
 pub mod walk;
 
 pub use build::{table_from, table_of};
+pub use order::{Keyed, place_of};
 pub use rows::{
     Block, Declared, Declarer, Designator, End, FormPart, Import, Part, Record, Selector, Sort,
     Step, TypeName, Used,

@@ -4,13 +4,14 @@ ghost use Rattle.std.specs.Prelude.{◌≡◌, ℕ, Contains, IfOk, IfSome, IfNo
 ghost use Rattle.std.specs.List.{filter};
 ghost use Rattle.ob_decls.specs.Order.{AscendBy, HasNoneBy, IsPlaceBy, RiseBy};
 
-use crate::rows::{Declared, Declarer, FormPart, Record, Selector};
+use crate::rows::{Block, Declared, Declarer, FormPart, Record, Selector};
 use std::alloc::AllocError;
 
 /// A row with the number by which it stands in its list.
-pub(crate) trait Numbered {
+pub trait Keyed {
     ghost number_in: { Self → ℕ };
 
+    /// That number.
     fn key(&self) -> u32
         ensures { result ≡ number_in self.now };
 }
@@ -23,7 +24,7 @@ pub(crate) trait Grouped {
         ensures { result ≡ group_in self.now };
 }
 
-impl Numbered for Declarer {
+impl Keyed for Declarer {
     ghost number_in = { λ row. row.first };
 
     fn key(&self) -> u32 {
@@ -31,7 +32,7 @@ impl Numbered for Declarer {
     }
 }
 
-impl Numbered for Declared {
+impl Keyed for Declared {
     ghost number_in = { λ row. row.number };
 
     fn key(&self) -> u32 {
@@ -39,11 +40,19 @@ impl Numbered for Declared {
     }
 }
 
-impl Numbered for Record {
+impl Keyed for Record {
     ghost number_in = { λ row. row.number };
 
     fn key(&self) -> u32 {
         self.number
+    }
+}
+
+impl Keyed for Block {
+    ghost number_in = { λ row. row.first };
+
+    fn key(&self) -> u32 {
+        self.first
     }
 }
 
@@ -75,8 +84,9 @@ pub(crate) fn rise<T: Grouped>(rows: &[T]) -> Result<(), AllocError>
     Ok(())
 }
 
-/// The place of the row that has this number.
-fn place_of<T: Numbered>(rows: &[T], number: u32) -> Option<usize>
+/// The place of the row that has this number, or none where no row has it.
+#[inline(always)]
+pub fn place_of<T: Keyed>(rows: &[T], number: u32) -> Option<usize>
     requires { AscendBy T.number_in rows.now }
     ensures found { IfSome result (IsPlaceBy T.number_in rows.now number) }
     ensures none { IfNone result (HasNoneBy T.number_in rows.now number) }
@@ -85,7 +95,7 @@ fn place_of<T: Numbered>(rows: &[T], number: u32) -> Option<usize>
 }
 
 /// The row that has this number.
-pub(crate) fn row_of<T: Numbered>(rows: &[T], number: u32) -> Option<&T>
+pub(crate) fn row_of<T: Keyed>(rows: &[T], number: u32) -> Option<&T>
     requires { AscendBy T.number_in rows.now }
     ensures found { IfSome result (λ row. Contains rows.now row.now) }
     ensures number { IfSome result (λ row. T.number_in row.now ≡ number) }

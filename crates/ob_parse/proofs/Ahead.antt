@@ -1,12 +1,18 @@
 -- The token that is next, and those after it.
-use Rattle.std.proofs.Common.{◌≡◌, ℕ, ◌+◌, ◌≤◌, ◌<◌, ◌^◌, List, ◌∷◌, length, map, drop, take, get_or, Option, Some, None, sym, ap, ◌∙◌, arith}
+use Rattle.std.proofs.Common.{◌≡◌, ℕ, suc, ◌+◌, ◌≤◌, ◌<◌, ◌^◌, List, [], ◌∷◌, length, map, drop, take, get_or, Option, Some, None, refl, sym, ap, ◌∙◌, arith}
 use Rattle.std.proofs.lemmas.List.{drop_all, drop_more, get_or-take, length-take, take_all}
+use Rattle.ob_scan.specs.declared.kind.Kind.{Kind}
 use Rattle.ob_scan.specs.declared.token.Token.{Token}
 use Rattle.ob_tree.specs.declared.token.Leaf.{Leaf}
 use Rattle.ob_tree.specs.Leaves.{leaf_of, leaves_from}
 use Rattle.ob_parse.specs.declared.cursor.Cursor.{Cursor}
 use Rattle.ob_parse.specs.Front.{uncons}
 use Rattle.ob_parse.specs.Gives.{ahead, kind_of}
+
+-- as many as there are kinds
+pub leaves_length : (n : ℕ) (kinds : List Kind) → length (leaves_from n kinds) ≡ length kinds
+leaves_length n [] = refl
+leaves_length n (k ∷ kinds) = ap suc (leaves_length (n + 1) kinds)
 
 abbrev front : ℕ → List Token → Option (Leaf × List Leaf)
 front n ts = uncons (leaves_from n (map kind_of ts))

@@ -1,14 +1,15 @@
 -- Counting ARRAY OF: no more often than there are tokens.
-use Rattle.std.proofs.Common.{◌≡◌, ℕ, zero, suc, ◌+◌, ◌<◌, ◌^◌, List, [], ◌∷◌, ◌++◌, length, drop, take, length-drop, length-take, Some, Ok, map, refl, sym, ap, ◌∙◌, append_assoc, arith}
-use Rattle.std.proofs.lemmas.List.{append-nil}
+use Rattle.std.proofs.Common.{◌≡◌, ℕ, zero, suc, ◌+◌, ◌<◌, ◌^◌, List, ◌++◌, length, drop, take, length-drop, length-take, Some, Ok, map, ap, ◌∙◌, arith}
+use Rattle.std.proofs.lemmas.List.{length-map}
 use Rattle.ob_scan.specs.declared.kind.Kind.TheVariants as kinds
 use Rattle.ob_scan.specs.declared.token.Token.{Token}
 use Rattle.ob_tree.specs.declared.token.Leaf.{Leaf}
-use Rattle.ob_tree.specs.Leaves.{leaves_from}
 use Rattle.ob_tree.specs.Marks.{Out, word, times}
+use Rattle.ob_tree.proofs.Walks.{times_more}
 use Rattle.ob_parse.specs.declared.cursor.Cursor.{Cursor}
 use Rattle.ob_parse.specs.Forms.{Read, many, accept_at, expect_at}
 use Rattle.ob_parse.specs.Gives.{ahead, kind_of}
+use Rattle.ob_parse.proofs.Ahead.{leaves_length}
 use Rattle.ob_parse.proofs.Sound.{expect_sound}
 use Rattle.ob_parse.proofs.Loops.{Advances, with_front, goes_on, smaller, accept_advances}
 
@@ -22,14 +23,10 @@ pub fewer : (ls rest after : List Leaf) → accept_at kinds.Array ls ≡ Some (w
     → length after < length ls
 fewer ls rest after e f = smaller (accept_at kinds.Array) (expect_at kinds.Of) array_advances ls (word kinds.Array, rest) (word kinds.Of, after) e f
 
-times_then : (n : ℕ) (o : Out) → times n o ++ o ≡ times (suc n) o
-times_then zero o = sym (append-nil o)
-times_then (suc n) o = append_assoc o (times n o) o ∙ ap (λ (x : Out). o ++ x) (times_then n o)
-
 once_more : (n : ℕ) (o : Out) → times (n + 1) o ≡ times n o ++ o
 once_more n o =
     let e : n + 1 ≡ suc n = omega arith in
-    ap (λ (m : ℕ). times m o) e ∙ sym (times_then n o)
+    ap (λ (m : ℕ). times m o) e ∙ times_more n o
 
 pub one_more : (n : ℕ) (ls rest after : List Leaf) (total : Read) → accept_at kinds.Array ls ≡ Some (word kinds.Array, rest) → expect_at kinds.Of rest ≡ Ok (word kinds.Of, after)
     → with_front (times n array_of) (many (accept_at kinds.Array) (expect_at kinds.Of) ls) ≡ total
@@ -38,12 +35,8 @@ one_more n ls rest after total e f h =
     ap (λ (o : Out). with_front o (many (accept_at kinds.Array) (expect_at kinds.Of) after)) (once_more n array_of)
     ∙ goes_on (accept_at kinds.Array) (expect_at kinds.Of) array_advances (times n array_of) ls (word kinds.Array, rest) (word kinds.Of, after) total e f h
 
-length-leaves_from : (n : ℕ) (ts : List Token) → length (leaves_from n (map kind_of ts)) ≡ length ts
-length-leaves_from n [] = refl
-length-leaves_from n (t ∷ ts) = ap suc (length-leaves_from (n + 1) ts)
-
 pub few_ahead : (ts : List Token) (i : Cursor) → length (ahead ts i) < 2 ^ 32
 unfolding ahead
 few_ahead ts i =
     let some = take 4294967295 ts in
-    omega (arith, length-leaves_from i.at (drop i.at some), length-drop i.at some, length-take 4294967295 ts)
+    omega (arith, leaves_length i.at (map kind_of (drop i.at some)), length-map (drop i.at some) kind_of, length-drop i.at some, length-take 4294967295 ts)

@@ -10,6 +10,7 @@ use Rattle.ob_tree.specs.Constructs.{Construct}
 use Rattle.ob_tree.specs.declared.role.Role.TheVariants.{Selects}
 use Rattle.ob_tree.specs.Marks.{Out, tokens_of, construct, word, declared, each, each_after}
 use Rattle.ob_tree.specs.Expressions.{mul_kind, add_kind}
+use Rattle.ob_tree.proofs.Walks.{each_push}
 use Rattle.ob_parse.specs.Front.{uncons, front}
 use Rattle.ob_parse.specs.Forms.{Unexpected, ◌>>=◌, Read, Reader, Front, Start, expect_at, accept_at, identifier_at, behind_name, is_something, led_by, begins, seq, prefixed, node, if_found, so_often, many, several}
 use Rattle.ob_parse.specs.ReadNames.{identdef_after, identdef_at}
@@ -70,13 +71,9 @@ is_done start r adv front ls total e h = sym h ∙ rw (many_step start r adv ls,
 
 -- ---- what a loop of the code keeps
 
-each-push : {X : Type 0} (f : X → Out) (xs : List X) (x : X) → each f (xs ++ x ∷ []) ≡ each f xs ++ f x
-each-push f [] x = append-nil (f x)
-each-push f (y ∷ xs) x = ap (λ (o : Out). f y ++ o) (each-push f xs x) ∙ sym (append_assoc (f y) (each f xs) (f x))
-
 pub pushed : {X : Type 0} (start : Start) (r : Reader) → Advances start r → (f : X → Out) (xs ys : List X) (x : X) (ls : List Leaf) (s a : Out × List Leaf) (total : Read)
     → ys ≡ xs ++ x ∷ [] → start ls ≡ Some s → r s.1 ≡ Ok a → f x ≡ s.0 ++ a.0 → with_front (each f xs) (many start r ls) ≡ total → with_front (each f ys) (many start r a.1) ≡ total
-pushed start r adv f xs ys x ls s a total y e g o h = rw (y, each-push f xs x, o) (goes_on start r adv (each f xs) ls s a total e g h)
+pushed start r adv f xs ys x ls s a total y e g o h = rw (y, each_push f xs x, o) (goes_on start r adv (each f xs) ls s a total e g h)
 
 -- the same, behind a token
 pub pushed_after : {X : Type 0} (start : Start) (r : Reader) → Advances start r

@@ -16,7 +16,8 @@ use Rattle.ob_parse.specs.Front.{uncons}
 use Rattle.ob_parse.specs.Parsed.{IsEndFault, IsFaultOf, IsFirstWrong, IsRightEnd, IsPlace, IsTokenStart, IsWrongEnd, from_token, kinds_of, start_or}
 use Rattle.ob_parse.specs.Forms.{Refusal, Unexpected, TooDeep}
 use Rattle.std.specs.Prelude.{Result}
-use Rattle.ob_parse.proofs.OneTree.{leaves_length, not_wrong, some_is}
+use Rattle.ob_parse.proofs.Ahead.{leaves_length}
+use Rattle.ob_parse.proofs.OneTree.{not_wrong, some_is}
 use Rattle.ob_parse.proofs.Whole.{never_deep}
 
 -- ---- where reading stops

@@ -25,6 +25,7 @@ use Rattle.ob_parse.specs.declared.stop.Stop.TheVariants as stops
 use Rattle.ob_parse.specs.Ends.{AreTokenNumbers, IsPlaced, deep_told, told}
 use Rattle.ob_parse.specs.Parsed.{Pair, IsOneTree, IsTheTree, IsRightEnd, IsWrongEnd, IsEndFault, IsFaultOf, IsPlace, kinds_of, bytes_of, from_token, read_left, start_or}
 use Rattle.ob_parse.specs.ReadModules.{all_of}
+use Rattle.ob_parse.proofs.Ahead.{leaves_length}
 use Rattle.ob_parse.proofs.SoundModules.{all_sound}
 use Rattle.ob_parse.proofs.Whole.{still_wrong, still_ok}
 use Rattle.ob_parse.proofs.CompleteModules.{all_again}
@@ -143,10 +144,6 @@ place_in_text bytes ts at h (inl s) =
     let token = tokens_placed bytes ts h s.number s.token in_list in
     let start : (get_or ts s.number s.token).start ≡ at = ap (λ (t : Token). t.start) here ∙ s.begins in
     omega (arith, token.0, token.1, start)
-
-pub leaves_length : (n : ℕ) (kinds : List Kind) → length (leaves_from n kinds) ≡ length kinds
-leaves_length n [] = refl
-leaves_length n (k ∷ kinds) = ap suc (leaves_length (n + 1) kinds)
 
 -- a tree of a text has no more tokens than the text has bytes
 pub few_tokens : (bytes : List ℕ) (ts : List Token) (m : Module) → AreInText bytes ts → length bytes ≤ 16777216 → Derives (kinds_of ts) m → length (spelling m) < 2 ^ 32

@@ -30,8 +30,8 @@ use ob_tree::statement::StatementSequence;
 use ob_tree::token::Leaf;
 use std::alloc::Global;
 
-/// Whether a name stands here.
-fn begins_declaration(tokens: &[Token], input: Cursor) -> bool
+/// Whether a declaration of a constant, a type or variables begins here, which is where a name stands.
+pub fn begins_declaration(tokens: &[Token], input: Cursor) -> bool
     ensures { result ≡ front is_identifier (uncons (ahead tokens.now input)) }
 {
     matches!(input.next(tokens), Some((Leaf::Name(_), _)))

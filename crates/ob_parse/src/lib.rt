@@ -4,7 +4,7 @@
 #![tactic(auto)]
 
 pub mod cursor;
-mod declarations;
+pub mod declarations;
 mod ends;
 mod expressions;
 mod fault;
@@ -18,7 +18,7 @@ pub mod parser;
 pub mod statements;
 pub mod stop;
 pub mod tokens;
-mod types;
+pub mod types;
 
 pub use fault::ParseFault;
 pub use parser::parse;

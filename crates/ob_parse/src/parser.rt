@@ -22,7 +22,7 @@ use ob_tree::walkers::endings;
 use std::alloc::Global;
 
 /// How many procedure declarations, types, statements that are not empty, expressions and factors after `~` may hold one another.
-const DEEPEST: u32 = 200;
+pub const DEEPEST: u32 = 200;
 
 #[tactic(auto, using(crate::proofs::Ahead::all_ahead))]
 fn tree_of(alloc: Global, tokens: &[Token]) -> Result<Box<Module>, Stop>

@@ -27,7 +27,7 @@ use ob_tree::token::Leaf;
 use std::alloc::Global;
 
 /// Whether a type begins here.
-fn begins_type(tokens: &[Token], input: Cursor) -> bool
+pub fn begins_type(tokens: &[Token], input: Cursor) -> bool
     ensures { result ≡ front type_first (uncons (ahead tokens.now input)) }
 {
     match input.next(tokens) {
@@ -89,8 +89,9 @@ pub(crate) fn var_declaration(
 }
 
 /// What stands behind a semicolon, if a field list begins there.
+#[inline(always)]
 #[tactic(auto, unfolding(crate::specs::ReadTypes::field_start))]
-fn next_fields(tokens: &[Token], input: Cursor) -> Option<Cursor>
+pub fn next_fields(tokens: &[Token], input: Cursor) -> Option<Cursor>
     ensures { skipped tokens.now kinds.Semicolon result ≡ field_start (ahead tokens.now input) }
 {
     match input.next(tokens) {
@@ -156,8 +157,9 @@ fn fields(
     boxed(alloc, fields, here)
 }
 
-/// The base of a record, in parentheses.
-fn base(tokens: &[Token], input: Cursor) -> Result<(Option<Qualident>, Cursor), Stop>
+/// The base of a record in parentheses, if it stands here.
+#[inline(always)]
+pub fn base(tokens: &[Token], input: Cursor) -> Result<(Option<Qualident>, Cursor), Stop>
     ensures { Gives tokens.now (λ x. (if_there (λ q. word kinds.LeftParen ++ (qualident_outline q ++ word kinds.RightParen)) x.0, ahead tokens.now x.1)) result
         (optional (accept_at kinds.LeftParen) (seq qualident_at (expect_at kinds.RightParen)) (ahead tokens.now input)) }
 {

@@ -1,9 +1,9 @@
 pub mod Capitals
 pub mod Closings
 pub mod Continuing
-pub mod LaneRuns
 pub mod LineStarts
 pub mod LineTables
+pub mod LinesPassed
 pub mod Marks
 pub mod NameTokens
 pub mod Names

@@ -16,7 +16,8 @@ use Rattle.ob_scan.specs.Tokens.{is_name, IsText, fixed, name, Stands, IsToken, 
 use Rattle.ob_scan.proofs.Texts.{listed, word_of_is}
 use Rattle.ob_scan.proofs.Shapes.{begins_paren, shape_of, word, sign, string, begins_sign, begins_string, apart, letter_digit, letter_sign, letter_quote, letter_paren, is_quote, word_all, letter_alphanumeric}
 use Rattle.ob_scan.proofs.Texts.{is_sign_byte}
-use Rattle.ob_scan.proofs.Runs.{run_covers, run_all}
+use Rattle.texts.proofs.NamesAhead.{run_passes}
+use Rattle.ob_scan.proofs.Runs.{run_covers}
 
 reserved_is : (text : List ℕ) → is_name text ≡ true → (k : Kind) → text_of k ≡ Some text → word_of text ≡ Some k
 reserved_is [] e k f = absurd cc
@@ -32,7 +33,7 @@ name_text text e = go (word_of text) refl
 
 front_name : (bs : List ℕ) → first_passes is_ascii_alphabetic bs ≡ true → is_name (take (prefix_len is_ascii_alphanumeric bs) bs) ≡ true
 front_name [] e = absurd cc
-front_name (b ∷ bs) e = rw (letter_alphanumeric b e, one-add) (and_from _ _ e (run_all is_ascii_alphanumeric bs))
+front_name (b ∷ bs) e = rw (letter_alphanumeric b e, one-add) (and_from _ _ e (run_passes is_ascii_alphanumeric bs))
 
 -- nothing longer stands there
 name_longest : (bs : List ℕ) → first_passes is_ascii_alphabetic bs ≡ true → (j : Kind) (other : List ℕ) → Stands j other bs → length other ≤ prefix_len is_ascii_alphanumeric bs

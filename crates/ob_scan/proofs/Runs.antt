@@ -1,5 +1,5 @@
 -- Runs of bytes that pass a test.
-use Rattle.std.proofs.Common.{◌≡◌, ℕ, suc, ◌+◌, ◌≤◌, Bool, true, false, List, [], ◌∷◌, ◌++◌, length, take, refl, inl, inr, zero-le, one-add, arith}
+use Rattle.std.proofs.Common.{◌≡◌, ℕ, suc, ◌+◌, ◌≤◌, Bool, true, false, List, [], ◌∷◌, ◌++◌, length, refl, inl, inr, zero-le, one-add, arith}
 use Rattle.std.specs.List.{list_all, prefix_len}
 use Rattle.std.proofs.lemmas.Bool.{and_parts, and_from, cases_Bool}
 
@@ -9,14 +9,6 @@ run_covers p [] rest e = zero-le
 run_covers p (x ∷ xs) rest e =
     let h = and_parts (p x) (list_all p xs) e in
     rw h.0 (omega (arith, run_covers p xs rest h.1))
-
-pub run_all : (p : ℕ → Bool) (xs : List ℕ) → list_all p (take (prefix_len p xs) xs) ≡ true
-run_all p [] = refl
-run_all p (x ∷ xs) =
-    elim (cases_Bool (p x)) [
-      | inl passes ↦ rw (passes, one-add) (and_from _ _ passes (run_all p xs))
-      | inr stops ↦ rw stops refl
-    ]
 
 -- a front that passes is the run, where the next byte doesn't
 pub run_stops : (p : ℕ → Bool) (xs : List ℕ) (x : ℕ) (rest : List ℕ) → list_all p xs ≡ true → p x ≡ false → prefix_len p (xs ++ x ∷ rest) ≡ length xs

@@ -1,5 +1,5 @@
 //! From the bytes of an Oberon-07 module to its tokens, and from offsets to lines and columns.
-//! Stands on std, with `thiserror` for its faults.
+//! Stands on `texts`, with `thiserror` for its faults.
 //! Its contract: the tokens spell the bytes, or at the fault's offset nothing begins, for the named reason.
 #![tactic(auto)]
 

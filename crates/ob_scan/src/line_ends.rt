@@ -2,9 +2,10 @@
 ghost use Rattle.std.specs.Prelude.{◌≡◌, ◌≤◌, ◌<◌, ℕ, false, length, IfOk};
 ghost use Rattle.ob_scan.specs.Position.{IsPosition, ends_line, line_starts};
 
-use crate::lanes::{LANES, no_line_ends_from};
+use crate::lanes::no_line_ends_from;
 use crate::{Lines, Position};
 use std::alloc::{AllocError, Global};
+use texts::lanes::LANES;
 
 fn ends_line(bytes: &[u8], at: usize) -> bool
     requires { at < length bytes.now }

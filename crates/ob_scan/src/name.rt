@@ -1,38 +1,12 @@
 //! Names, reserved words and strings in quotes (Oberon-07 report, section 3).
-ghost use Rattle.std.specs.Prelude.{◌≡◌, ◌≤◌, ◌==◌, length, take, unwrap_or, IfSome};
-ghost use Rattle.std.specs.List.{position, prefix_len};
-ghost use Rattle.std.specs.Char.{is_ascii_alphanumeric};
+ghost use Rattle.std.specs.Prelude.{◌≡◌, ◌≤◌, ◌==◌, length, unwrap_or, IfSome};
+ghost use Rattle.std.specs.List.{position};
 ghost use Rattle.ob_scan.specs.declared.kind.Kind.TheVariants.{Ident};
 ghost use Rattle.ob_scan.specs.Pieces.{has_second_capital, string_len};
 ghost use Rattle.ob_scan.specs.Tables.{word_of};
 
 use crate::Kind;
-use crate::lanes::{LANES, letters_from};
 use crate::words::word_of;
-
-fn counted_name_len(rest: &[u8]) -> usize
-    ensures value { result ≡ prefix_len is_ascii_alphanumeric rest.now }
-    ensures within { result ≤ length rest.now }
-{
-    rest.iter()
-        .take_while(|b| b.is_ascii_alphanumeric())
-        .count()
-}
-
-/// How many letters and digits stand in front. Sixteen bytes are tested at once, and bytes one by one where these are not enough.
-#[tactic(auto, using(crate::proofs::LaneRuns::short_run))]
-pub(crate) fn name_len(rest: &[u8]) -> usize
-    ensures value { result ≡ prefix_len is_ascii_alphanumeric rest.now }
-    ensures within { result ≤ length rest.now }
-{
-    if rest.len() >= LANES {
-        let letters = letters_from(rest, 0);
-        if letters < LANES {
-            return letters;
-        }
-    }
-    counted_name_len(rest)
-}
 
 /// Whether the second letter is a capital, as that of each reserved word is, and of few other names.
 fn has_second_capital(name: &[u8]) -> bool

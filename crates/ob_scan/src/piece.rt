@@ -10,8 +10,9 @@ use crate::Kind;
 use crate::comment::comment_len;
 use crate::delimiters::delimiter;
 use crate::fault::Reason;
-use crate::name::{name_kind, name_len, string_len};
+use crate::name::{name_kind, string_len};
 use crate::number::number;
+use texts::ahead::letters_of;
 
 /// What begins at a place, with its length in bytes, or why nothing does.
 #[derive(Clone, Copy)]
@@ -87,7 +88,7 @@ fn name_piece(rest: &[u8]) -> Piece
     requires { first_passes is_ascii_alphabetic rest.now ≡ true }
     ensures { IsPiece rest.now result }
 {
-    let n = name_len(rest);
+    let n = letters_of(rest);
     let (name, _) = rest.split_at(n);
     Piece::Token(name_kind(name), n)
 }

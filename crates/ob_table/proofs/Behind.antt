@@ -21,17 +21,8 @@ use Rattle.ob_parse.specs.Gives.{Fails, ahead}
 use Rattle.ob_parse.proofs.Loops.{with_front}
 use Rattle.ob_table.specs.TypeShapes.{further_outline, further_piece, list_piece, skipped_outline, skipped_piece}
 use Rattle.ob_table.specs.Tells.{Told, Tells, TellsBy}
-use Rattle.ob_table.proofs.Combine.{told_at, told_as, told_then, told_there, told_absent, told_behind, told_before}
+use Rattle.ob_table.proofs.Combine.{told_at, told_as, told_then, told_there, told_absent, told_behind, told_before, told_walked}
 use Rattle.ob_table.proofs.Lists.{word_after}
-
--- what was read first and told then
-pub told_walked : {A : Type 0} (ts : List Token) (f : A → Out) (step : A → Stage → Stage) (x : A) (old new : Draft) (rest : Cursor) (read : Read) →
-    read ≡ Ok (f x, ahead ts rest) → ComesTo (step x) old new → Told ts f step old new rest read
-told_walked ts f step x old new rest read e h = record {
-  out = f x;
-  is_read = e;
-  telling = λ q. let k = h q in (k.0, record { tree = x; shows = refl; comes = k.1 });
-}
 
 -- behind a word
 pub word_told : {A : Type 0} (ts : List Token) (c : Context) (k : Kind) (f : A → Out) (p : A → Piece) (r : Reader) (old mid new : Draft) (input here : Cursor) (result : Result Cursor Stop) →

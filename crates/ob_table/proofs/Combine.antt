@@ -135,7 +135,7 @@ told_absent ts f p none start r d here e k h = record {
   telling = λ q. (q, record { tree = none; shows = e; comes = sym (k (stage_of d)) });
 }
 
--- a tree that was made and walked after all
+-- what was read first and told then
 pub told_walked : {A : Type 0} (ts : List Token) (f : A → Out) (p : A → Stage → Stage) (tree : A) (old new : Draft) (rest : Cursor) (read : Read) → read ≡ Ok (f tree, ahead ts rest) → ComesTo (p tree) old new →
     Told ts f p old new rest read
 told_walked ts f p tree old new rest read e h = record { out = f tree; is_read = e; telling = λ q. let k = h q in (k.0, record { tree = tree; shows = refl; comes = k.1 }) }

@@ -4,10 +4,8 @@ use Rattle.std.proofs.lemmas.Option.{slice_get-get_or}
 use Rattle.ob_scan.specs.declared.token.Token.{Token}
 use Rattle.ob_tree.specs.Marks.{Out, repeated}
 use Rattle.ob_parse.specs.declared.cursor.Cursor.{Cursor}
-use Rattle.ob_parse.specs.declared.stop.Stop.{Stop}
-use Rattle.ob_parse.specs.declared.stop.Stop.TheVariants as stops
-use Rattle.ob_parse.specs.Forms.{identifier_at, name_at, behind_name, Reader, ◌>>=◌}
-use Rattle.ob_parse.specs.Gives.{Fails, ahead}
+use Rattle.ob_parse.specs.Forms.{identifier_at, name_at}
+use Rattle.ob_parse.specs.Gives.{ahead}
 use Rattle.ob_parse.specs.Parsed.{IsRightEnd, bytes_of}
 use Rattle.ob_decls.specs.declared.draft.Context.{Context}
 use Rattle.ob_decls.specs.declared.draft.Draft.{Draft}
@@ -26,13 +24,6 @@ name_told bytes ts name end step old mid new input rest read h right k = record 
   is_read = rw read refl;
   telling = λ e. let b = k e in let a = h b.0 in (a.0, record { tree = record { number = end; right = right b.0 }; shows = refl; comes = b.1 ∙ ap step a.1 });
 }
-
--- no name stands there
-pub name_failed : (ts : List Token) (e : Stop) (role : ℕ → Out) (ls : List _) → Fails ts e (identifier_at ls) → Fails ts e (name_at role ls)
-unfolding name_at
-name_failed ts stops.Memory role ls f = tt
-name_failed ts (stops.Unexpected i) role ls f = ap (λ z. z >>= λ a. Ok (role a.0, a.1)) f
-name_failed ts (stops.TooDeep i) role ls f = ap (λ z. z >>= λ a. Ok (role a.0, a.1)) f
 
 abbrev some : Token → Option Token
 some t = Some t

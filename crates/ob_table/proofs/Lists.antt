@@ -1,16 +1,14 @@
 -- Lists that a loop reads and tells, one thing after the other.
-use Rattle.std.proofs.Common.{◌≡◌, ℕ, zero, suc, ◌≤◌, ◌<◌, ◌+◌, false, List, [], ◌∷◌, ◌++◌, length, map, drop, take, Ok, Err, Some, None, refl, sym, ap, ◌∙◌, arith, append_assoc, length-append}
-use Rattle.std.proofs.lemmas.List.{append-nil, length-take}
+use Rattle.std.proofs.Common.{◌≡◌, ℕ, ◌≤◌, ◌<◌, ◌+◌, false, List, [], ◌∷◌, ◌++◌, length, Ok, Err, Some, None, refl, sym, ap, ◌∙◌, arith, length-append}
 use Rattle.std.specs.Global.{Vec, Global}
-use Rattle.ob_scan.specs.declared.kind.Kind.{Kind}
 use Rattle.ob_scan.specs.declared.token.Token.{Token}
-use Rattle.ob_tree.specs.declared.token.Leaf.{Leaf}
-use Rattle.ob_tree.specs.Leaves.{leaves_from}
 use Rattle.ob_tree.specs.Marks.{Out, each}
+use Rattle.ob_tree.proofs.Walks.{each_push}
 use Rattle.ob_parse.specs.declared.cursor.Cursor.{Cursor}
 use Rattle.ob_parse.specs.declared.stop.Stop.{Stop}
 use Rattle.ob_parse.specs.Forms.{Read, Reader, Start, many}
-use Rattle.ob_parse.specs.Gives.{Fails, ahead, kind_of}
+use Rattle.ob_parse.specs.Gives.{Fails, ahead}
+use Rattle.ob_parse.proofs.Arrays.{few_ahead}
 use Rattle.ob_parse.proofs.Loops.{Advances, with_front, goes_on, is_done}
 use Rattle.ob_parse.proofs.LoopEnds.{ends}
 use Rattle.ob_decls.specs.declared.draft.Draft.{Draft}
@@ -26,26 +24,6 @@ use Rattle.ob_table.proofs.Made.{listed}
 -- behind a token
 pub word_after : (p : Piece) (c : Context) (s : Stage) → after (both token p) c s ≡ after p c (passed s)
 word_after p c s = after_both token p c s ∙ ap (after p c) (after_token c s)
-
--- ---- how many tokens are ahead
-
-pub length_leaves : (n : ℕ) (ks : List Kind) → length (leaves_from n ks) ≡ length ks
-length_leaves n [] = refl
-length_leaves n (k ∷ ks) = ap suc (length_leaves (n + 1) ks)
-
-pub length_mapped : {X Y : Type 0} (f : X → Y) (xs : List X) → length (map f xs) ≡ length xs
-length_mapped f [] = refl
-length_mapped f (x ∷ xs) = ap suc (length_mapped f xs)
-
-length_dropped : {X : Type 0} (n : ℕ) (xs : List X) → length (drop n xs) ≤ length xs
-length_dropped zero xs = omega arith
-length_dropped (suc n) [] = omega arith
-length_dropped (suc n) (x ∷ xs) = let h = length_dropped n xs in omega (arith, h)
-
-pub few_ahead : (ts : List Token) (i : Cursor) → length (ahead ts i) ≤ 4294967295
-unfolding ahead
-few_ahead ts i =
-    omega (arith, length_leaves i.at (map kind_of (drop i.at (take 4294967295 ts))), length_mapped kind_of (drop i.at (take 4294967295 ts)), length_dropped i.at (take 4294967295 ts), length-take 4294967295 ts)
 
 -- ---- what a loop keeps
 
@@ -71,10 +49,6 @@ pub record Gathered {X : Type 0} (So : List X → Type 0) : Type 0 where
 no_front : (m : Read) → with_front [] m ≡ m
 no_front (Ok x) = refl
 no_front (Err e) = refl
-
-each_push : {X : Type 0} (f : X → Out) (xs : List X) (x : X) → each f (xs ++ x ∷ []) ≡ each f xs ++ f x
-each_push f [] x = append-nil (f x)
-each_push f (y ∷ xs) x = ap (λ (o : Out). f y ++ o) (each_push f xs x) ∙ sym (append_assoc (f y) (each f xs) (f x))
 
 module _ {X : Type 0} (ts : List Token) (start : Start) (r : Reader) (f : X → Out) (step : List X → Stage → Stage) where
   -- before the first turn

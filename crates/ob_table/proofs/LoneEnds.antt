@@ -1,6 +1,6 @@
 -- A name alone between two tokens, by the tokens ahead of both.
 use Rattle.std.proofs.Common.{◌≡◌, ℕ, zero, suc, ◌+◌, ◌-◌, ◌<◌, Bool, true, false, cond, List, [], ◌∷◌, ◌++◌, length, map, drop, take, Option, Some, None, refl, sym, ap, subst, ◌∙◌, arith, length-append}
-use Rattle.std.proofs.lemmas.List.{length-drop}
+use Rattle.std.proofs.lemmas.List.{length-drop, length-map}
 use Rattle.ob_scan.specs.declared.kind.Kind.{Kind}
 use Rattle.ob_scan.specs.declared.kind.Kind.TheVariants as kinds
 use Rattle.ob_scan.specs.declared.token.Token.{Token}
@@ -14,18 +14,18 @@ use Rattle.ob_parse.specs.declared.cursor.Cursor.{Cursor}
 use Rattle.ob_parse.specs.Front.{uncons}
 use Rattle.ob_parse.specs.Forms.{accept_at}
 use Rattle.ob_parse.specs.Gives.{ahead, kind_of}
+use Rattle.ob_parse.proofs.Ahead.{leaves_length}
 use Rattle.ob_parse.proofs.Sound.{some_is}
 use Rattle.ob_table.specs.LoneNames.{lone_of, named_front, IsLone}
 use Rattle.ob_table.specs.declared.places.Lone.{Lone}
 use Rattle.ob_table.specs.declared.places.Lone.TheVariants as lones
-use Rattle.ob_table.proofs.Lists.{length_leaves, length_mapped}
 use Rattle.ob_table.proofs.LoneTokens.{lone_long}
 
 -- ---- places
 
 length_ahead : (ts : List Token) (i : Cursor) → length (ahead ts i) ≡ length (take 4294967295 ts) - i.at
 unfolding ahead
-length_ahead ts i = length_leaves i.at (map kind_of (drop i.at (take 4294967295 ts))) ∙ length_mapped kind_of (drop i.at (take 4294967295 ts)) ∙ length-drop i.at (take 4294967295 ts)
+length_ahead ts i = leaves_length i.at (map kind_of (drop i.at (take 4294967295 ts))) ∙ length-map (drop i.at (take 4294967295 ts)) kind_of ∙ length-drop i.at (take 4294967295 ts)
 
 pub same_place : (ts : List Token) (i j : Cursor) → ahead ts i ≡ ahead ts j → 0 < length (ahead ts j) → i.at ≡ j.at
 same_place ts i j e h = omega (arith, length_ahead ts i, length_ahead ts j, ap length e, h)

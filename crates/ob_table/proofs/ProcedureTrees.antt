@@ -55,10 +55,10 @@ use Rattle.ob_parse.proofs.Stars.{star_read}
 use Rattle.ob_table.specs.DeclarationShapes.{ended_outline, ended_piece, body_outline, body_piece, returned_outline, returned_piece, behind_procedure, behind_procedure_piece, Ending, ending_shown, ending_step, Block, block_shown, block_step}
 use Rattle.ob_table.specs.Ended.{RightEnds, Ended, EndedProcedure, EndedProcedures, EndedDeclarations, RightName, procedures_outline}
 use Rattle.ob_table.specs.Tells.{Told, Tells, TellsBy}
-use Rattle.ob_table.proofs.Combine.{told_as, told_node, told_then, failed_node, failed_then}
+use Rattle.ob_table.proofs.Combine.{told_as, told_node, told_then, failed_node, failed_then, told_walked}
 use Rattle.ob_table.proofs.Lists.{word_after}
 use Rattle.ob_table.proofs.Made.{boxed}
-use Rattle.ob_table.proofs.SectionTrees.{tree_told, block_told, failed_behind}
+use Rattle.ob_table.proofs.SectionTrees.{block_told, failed_behind}
 
 -- ---- what may be absent, in a box
 
@@ -109,7 +109,7 @@ name_with n b = record { name = n; starred = b }
 pub star_told : (ts : List Token) (n : ℕ) (b : Bool) (c : Context) (old new : Draft) (input here : Cursor) → Ok (if_so b (word kinds.Star), ahead ts here) ≡ optional (accept_at kinds.Star) nothing (ahead ts input) →
     ComesTo (after (identdef_piece (name_with n b)) c) old new → Told {T = Bool} ts (λ x. identdef_outline (name_with n x)) (λ x. after (identdef_piece (name_with n x)) c) old new here (identdef_after n (ahead ts input))
 unfolding identdef_after identdef_outline
-star_told ts n b c old new input here e h = tree_told ts (λ x. identdef_outline (name_with n x)) (λ x. after (identdef_piece (name_with n x)) c) b old new here (identdef_after n (ahead ts input)) (rw (sym e, star_read b) refl) h
+star_told ts n b c old new input here e h = told_walked ts (λ x. identdef_outline (name_with n x)) (λ x. after (identdef_piece (name_with n x)) c) b old new here (identdef_after n (ahead ts input)) (rw (sym e, star_read b) refl) h
 
 -- a procedure behind PROCEDURE, with no name in the tree
 abbrev Heading : List ℕ → List Token → ℕ → Type 0

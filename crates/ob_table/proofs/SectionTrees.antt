@@ -31,6 +31,7 @@ use Rattle.ob_parse.specs.ReadModules.{is_identifier, with_semicolon, part_with}
 use Rattle.ob_table.specs.DeclarationShapes.{ended_outline, ended_piece}
 use Rattle.ob_table.specs.Tells.{Told, Tells, TellsBy}
 use Rattle.ob_table.proofs.Combine.{told_at, told_as, told_node, told_then, told_there, told_behind, told_before, failed_node, failed_then}
+use Rattle.ob_table.proofs.Behind.{declaring_told, word_there_told}
 use Rattle.ob_table.proofs.Lists.{word_after}
 
 -- where the second part fails, the whole does
@@ -38,29 +39,7 @@ pub failed_behind : {A : Type 0} (ts : List Token) (f : A → Out) (p : A → St
     TellsBy ts f p old mid (Ok here) (r ls) → Fails ts e (s (ahead ts here)) → Fails ts e (seq r s ls)
 failed_behind ts f p r s old mid here e ls t h = told_then ts f p f p r s old mid mid here (Err e) ls t h
 
--- what was read with its tree, and told then
-pub tree_told : {A : Type 0} (ts : List Token) (f : A → Out) (p : A → Stage → Stage) (x : A) (old new : Draft) (rest : Cursor) (read : Read) → read ≡ Ok (f x, ahead ts rest) → ComesTo (p x) old new → Told ts f p old new rest read
-tree_told ts f p x old new rest read e h = record {
-  out = f x;
-  is_read = e;
-  telling = λ q. let b = h q in (b.0, record { tree = x; shows = refl; comes = b.1 });
-}
-
 -- ---- constructs that declare
-
-declared_here : (sort : Sort) (p : Piece) (c around : Context) (row : Declarer) (at : ℕ) (old : Draft) → row ≡ declarer sort c old.number 0 → around ≡ declaring_at c old.number → at ≡ length old.declarers.items →
-    after (declaring sort p) c (stage_of old) ≡ closed at row (after p around (added (one_declarer row) (stage_of old)))
-unfolding stage_of
-declared_here sort p c around row at old e g h = rw (e, g, h) (after_declaring sort p c (stage_of old))
-
-pub declaring_told : {A : Type 0} (ts : List Token) (f : A → Out) (p : A → Piece) (sort : Sort) (c around : Context) (row : Declarer) (at : ℕ) (old opened last new : Draft) (rest : Cursor) (read : Read) →
-    row ≡ declarer sort c old.number 0 → around ≡ declaring_at c old.number → at ≡ length old.declarers.items →
-    ComesTo (added (one_declarer row)) old opened → Tells ts f p around opened last (Ok rest) read → ComesTo (closed at row) last new →
-    Tells ts f (λ x. declaring sort (p x)) c old new (Ok rest) read
-declaring_told ts f p sort c around row at old opened last new rest read e g h opens t closes =
-    told_at ts f (λ x s. closed at row (after (p x) around (added (one_declarer row) s))) f (λ x. after (declaring sort (p x)) c) (λ x. x) (λ x. refl) old new (Ok rest) read (λ x. declared_here sort (p x) c around row at old e g h)
-    (told_before ts f (λ x s. after (p x) around (added (one_declarer row) s)) (closed at row) old last new rest read
-    (told_behind ts f (λ x. after (p x) around) (added (one_declarer row)) old opened last (Ok rest) read opens t) closes)
 
 block_here : (p : Piece) (c around : Context) (row : Declarer) (at : ℕ) (old : Draft) → row ≡ declarer sorts.Procedure c old.number 0 → around ≡ in_block (declaring_at c old.number) old.number → at ≡ length old.declarers.items →
     after (declaring sorts.Procedure (opens_block p)) c (stage_of old) ≡ closed at row (after p around (added (one_block (record { first = old.number; outer = c.block })) (added (one_declarer row) (stage_of old))))
@@ -105,7 +84,7 @@ ended_told ts f p g q make k sort r shown stepped c around row at old opened las
     with_semicolon_told ts g q c (node k r) old mid new input here result
     (told_as ts (λ a. construct k (f a)) (λ a. after (declaring sort (p a)) c) g (λ x. after (q x) c) make shown (λ a s. ap (λ (z : Piece). after z c s) (stepped a)) old mid (Ok here) (node k r (ahead ts input))
     (told_node ts f (λ a. after (declaring sort (p a)) c) k r old mid (Ok here) (ahead ts input)
-    (declaring_told ts f p sort c around row at old opened last mid here (r (ahead ts input)) e l h opens t closes))) w
+    (declaring_told ts sort c f p row around at old opened last mid here (r (ahead ts input)) e h l opens t closes))) w
 
 pub ended_failed : (ts : List Token) (k : Construct) (r : Reader) (e : Stop) (ls : List _) → Fails ts e (r ls) → Fails ts e (with_semicolon (node k r) ls)
 ended_failed ts k r e ls h = failed_then ts (node k r) (expect_at kinds.Semicolon) e ls (failed_node ts k r e ls h)
@@ -125,19 +104,10 @@ equal_told {X} ts f p r c old mid last new input here rest result a b t =
 
 -- ---- a word and what stands behind it, if it stands there
 
-pub word_told : {X : Type 0} (ts : List Token) (f : X → Out) (p : X → Piece) (k : Kind) (r : Reader) (c : Context) (old mid new : Draft) (input rest : Cursor) (result : Result Cursor Stop) →
-    accept_at k (ahead ts input) ≡ Some (word k, ahead ts rest) → ComesTo passed old mid → Tells ts f p c mid new result (r (ahead ts rest)) →
-    Tells ts (shown_there (λ x. word k ++ f x)) (if_there (λ x. both token (p x))) c old new result (optional (accept_at k) r (ahead ts input))
-word_told {X} ts f p k r c old mid new input rest result found h t =
-    told_as ts (λ (x : X). word k ++ f x) (λ x s. after (p x) c (passed s)) (shown_there (λ (x : X). word k ++ f x)) (λ o. after (if_there (λ x. both token (p x)) o) c)
-    (λ x. Some x) (λ x. refl) (λ x s. word_after (p x) c s) old new result (optional (accept_at k) r (ahead ts input))
-    (told_there ts f (λ x s. after (p x) c (passed s)) (accept_at k) r (word k) old new rest result (ahead ts input) found
-    (told_behind ts f (λ x. after (p x) c) passed old mid new result (r (ahead ts rest)) h t))
-
 pub section_told : {X : Type 0} (ts : List Token) (f : X → Out) (p : X → Piece) (k : Kind) (r : Reader) (c : Context) (old mid new : Draft) (input rest : Cursor) (result : Result Cursor Stop) →
     accept_at k (ahead ts input) ≡ Some (word k, ahead ts rest) → ComesTo passed old mid →
     Tells {T = Vec X} ts (λ v. each (ended_outline f) v.items) (λ v. pieces (ended_piece p) v.items) c mid new result (many (begins is_identifier) (with_semicolon r) (ahead ts rest)) →
     Tells {T = Option (Vec X)} ts (shown_there (λ v. shown_part k f v.items)) (if_there (λ v. part p v.items)) c old new result (part_with k r (ahead ts input))
 unfolding part_with
 section_told {X} ts f p k r c old mid new input rest result found h t =
-    word_told {X = Vec X} ts (λ v. each (ended_outline f) v.items) (λ v. pieces (ended_piece p) v.items) k (many (begins is_identifier) (with_semicolon r)) c old mid new input rest result found h t
+    word_there_told {A = Vec X} ts c k (λ v. each (ended_outline f) v.items) (λ v. pieces (ended_piece p) v.items) (many (begins is_identifier) (with_semicolon r)) old mid new input rest result found h t

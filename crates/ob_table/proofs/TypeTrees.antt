@@ -46,9 +46,9 @@ use Rattle.ob_parse.specs.ReadTypes.{field_start, fields_with, record_with, some
 use Rattle.ob_table.specs.TypeShapes.{base_outline, base_piece, behind_outline, behind_piece, closed_outline, ended_outline, ended_piece, field_outline, field_piece, further_lengths_piece, further_outline, length_piece, list_piece, recording, some_fields_outline, some_fields_piece, some_parameters_outline, some_parameters_piece}
 use Rattle.ob_table.specs.Tells.{Tells, TellsBy}
 use Rattle.ob_table.proofs.Made.{boxed}
-use Rattle.ob_table.proofs.Combine.{told_at, told_as, told_node, told_then, told_prefixed, told_behind, failed_node, failed_prefixed, failed_then}
+use Rattle.ob_table.proofs.Combine.{told_at, told_as, told_node, told_then, told_prefixed, told_behind, told_walked, failed_node, failed_prefixed, failed_then}
 use Rattle.ob_table.proofs.Lists.{word_after}
-use Rattle.ob_table.proofs.Behind.{told_walked, pair_told, there_told, declaring_told, regrouped}
+use Rattle.ob_table.proofs.Behind.{pair_told, there_told, declaring_told, regrouped}
 
 -- ---- FieldList = IdentList ":" type; VariableDeclaration = IdentList ":" type
 

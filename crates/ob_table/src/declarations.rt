@@ -1,7 +1,7 @@
 //! Declarations: constants, types, variables and procedures (Oberon-07 report, sections 5, 6, 7 and 10), from their tokens to
 //! their rows.
 
-ghost use Rattle.std.specs.Prelude.{◌≡◌, ◌++◌, Option};
+ghost use Rattle.std.specs.Prelude.{◌++◌, Option};
 ghost use Rattle.std.specs.Global.{Vec};
 ghost use Rattle.ob_scan.specs.declared.kind.Kind.TheVariants as kinds;
 ghost use Rattle.ob_tree.specs.declared.name.Identdef.{Identdef};
@@ -22,7 +22,6 @@ ghost use Rattle.ob_decls.specs.Declaring.{const_piece, type_decl_piece, variabl
 ghost use Rattle.ob_decls.specs.Declaring as telling;
 ghost use Rattle.ob_decls.specs.Parts as parts;
 ghost use Rattle.ob_decls.specs.Parts.{both, token};
-ghost use Rattle.ob_parse.specs.Front.{front, uncons, is_word};
 ghost use Rattle.ob_parse.specs.Forms.{optional, accept_at, expect_at, name_at, behind_name, many, begins, seq};
 ghost use Rattle.ob_parse.specs.ReadExpressions.{expr_at};
 ghost use Rattle.ob_parse.specs.ReadNames.{identdef_at};
@@ -46,18 +45,11 @@ use ob_decls::draft::{Context, Draft, block_from, declarer_at, declaring_from};
 use ob_decls::walk::types::walk_identdef;
 use ob_decls::{Block as BlockRow, Sort};
 use ob_parse::cursor::Cursor;
+use ob_parse::declarations::begins_declaration;
 use ob_parse::stop::Stop;
 use ob_parse::tokens::{accept, beyond, identifier, is_at, skip};
-use ob_scan::{Kind, Token};
+use ob_scan::Kind;
 use ob_tree::name::Identdef as Name;
-use ob_tree::token::Leaf;
-
-/// Whether a name stands here.
-fn begins_declaration(tokens: &[Token], input: Cursor) -> bool
-    ensures { result ≡ front is_identifier (uncons (ahead tokens.now input)) }
-{
-    matches!(input.next(tokens), Some((Leaf::Name(_), _)))
-}
 
 /// The parts of a constant's declaration.
 fn constant(

@@ -14,7 +14,6 @@ mod places;
 mod reading;
 mod source;
 mod statements;
-mod type_parts;
 mod types;
 mod uses;
 mod words;

@@ -5,7 +5,6 @@ ghost use Rattle.ob_scan.specs.declared.kind.Kind.TheVariants as kinds;
 ghost use Rattle.ob_tree.specs.Marks.{declared, separated, word};
 ghost use Rattle.ob_tree.specs.Names.{qualident_outline};
 ghost use Rattle.ob_tree.specs.Types.{section_outline, parameters_outline};
-ghost use Rattle.ob_decls.specs.Drafts.{after, ComesTo};
 ghost use Rattle.ob_decls.specs.Parts.{both, token};
 ghost use Rattle.ob_decls.specs.Types.{open_arrays as arrays_piece, parameter_piece, parameters_piece, section_inner as inner_piece, section_piece};
 ghost use Rattle.ob_parse.specs.Forms.{accept_at, expect_at, many, name_at, optional, seq, several, unless};
@@ -16,30 +15,16 @@ ghost use Rattle.ob_table.specs.TypeShapes.{answer_outline, answer_piece, arrays
 ghost use Rattle.ob_table.specs.Tells.{Tells};
 
 use crate::names::used_qualident;
-use crate::type_parts::{add_here, add_name, skip_word};
-use crate::words::pass_word;
+use crate::words::{pass_word, skip_word};
 use ob_decls::draft::{Context, Draft, declarer_at, declaring_from};
 use ob_decls::walk::statements::walk_qualident;
-use ob_decls::{Declared, Part, Sort};
+use ob_decls::walk::types::{add_here, add_name, walk_parameter};
+use ob_decls::{Part, Sort};
 use ob_parse::cursor::Cursor;
 use ob_parse::names::qualident;
 use ob_parse::stop::Stop;
 use ob_parse::tokens::{accept, identifier, is_at};
 use ob_scan::{Kind, Token};
-
-/// Adds a parameter, which the next token names.
-#[tactic(auto, using(ob_decls::proofs::TypeLayers::names_made))]
-fn add_parameter(draft: &mut Draft, inside: Context)
-    ensures { ComesTo (after parameter_piece inside) draft.old draft.new }
-{
-    let number = draft.number;
-    draft.add_declared(Declared {
-        number,
-        exported: false,
-        declared_by: inside.declarer,
-    });
-    draft.pass()
-}
 
 /// The name of a parameter.
 fn parameter_name(
@@ -52,7 +37,7 @@ fn parameter_name(
 {
     match identifier(tokens, input) {
         Ok((_, rest)) => {
-            add_parameter(draft, inside);
+            walk_parameter(draft, inside);
             Ok(rest)
         }
         Err(stop) => Err(stop),

@@ -17,15 +17,12 @@ use crate::source::{Source, brackets_of};
 use ob_decls::draft::{Context, Draft};
 use ob_decls::{Table, table_from, table_of};
 use ob_parse::cursor::Cursor;
-use ob_parse::parser::fault_of;
+use ob_parse::parser::{DEEPEST, fault_of};
 use ob_parse::stop::Stop;
 use ob_parse::{ParseFault, parse};
 use ob_scan::{Token, Tokens};
 use ob_tree::declaration::Module;
 use std::alloc::Global;
-
-/// How many procedure declarations, types, statements that are not empty, expressions and factors after `~` may hold one another.
-const DEEPEST: u32 = 200;
 
 /// The table of what was parsed, or why there is none.
 fn table_in(alloc: Global, parsed: &Result<Module, ParseFault>) -> Result<Table, ParseFault>
@@ -57,12 +54,6 @@ fn pass_all(alloc: Global, draft: &mut Draft, bytes: &[u8], tokens: &[Token]) ->
     requires { length tokens.now < 2 ^ 32 }
     ensures { TellsWhole {T = EndedModule bytes.now tokens.now} tokens.now (λ m. module_outline m.tree) (λ m. after (module_piece m.tree) outermost) draft.old draft.new result (all_of 200 (leaves_from 0 (kinds_of tokens.now))) }
 {
-    let outermost = Context {
-        block: 0,
-        declarer: 0,
-        of_record: 0,
-        is_target: false,
-    };
     let brackets = brackets_of(alloc, tokens);
     let source = Source {
         tokens,
@@ -71,7 +62,7 @@ fn pass_all(alloc: Global, draft: &mut Draft, bytes: &[u8], tokens: &[Token]) ->
     whole(
         alloc,
         draft,
-        outermost,
+        Context::OUTERMOST,
         bytes,
         &source,
         Cursor::ALL,

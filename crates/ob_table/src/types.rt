@@ -1,20 +1,17 @@
 //! Types (Oberon-07 report, section 6), from their tokens to their rows. Each function takes the levels that may be nested in
 //! what it reads.
 
-ghost use Rattle.std.specs.Prelude.{◌≡◌};
-ghost use Rattle.ob_scan.specs.declared.kind.Kind.{Kind};
 ghost use Rattle.ob_scan.specs.declared.kind.Kind.TheVariants as kinds;
 ghost use Rattle.ob_tree.specs.Constructs as constructs;
 ghost use Rattle.ob_tree.specs.Marks.{word};
 ghost use Rattle.ob_tree.specs.Expressions.{expr_list_outline, expr_outline};
 ghost use Rattle.ob_tree.specs.Types.{type_outline, fields_outline, var_outline};
 ghost use Rattle.ob_decls.specs.Types.{fields_piece, lengths_piece, type_piece, var_piece};
-ghost use Rattle.ob_parse.specs.Front.{front, uncons};
 ghost use Rattle.ob_parse.specs.Forms.{accept_at, expect_at, many, node, nothing, optional, prefixed, seq, several, unless};
-ghost use Rattle.ob_parse.specs.Gives.{ahead, skipped};
+ghost use Rattle.ob_parse.specs.Gives.{ahead};
 ghost use Rattle.ob_parse.specs.ReadExpressions.{expr_at};
 ghost use Rattle.ob_parse.specs.ReadNames as readers;
-ghost use Rattle.ob_parse.specs.ReadTypes.{field_start, fields_with, record_with, some_parameters_at, type_at, type_first, type_with, var_with};
+ghost use Rattle.ob_parse.specs.ReadTypes.{field_start, fields_with, record_with, some_parameters_at, type_at, type_with, var_with};
 ghost use Rattle.ob_table.specs.TypeShapes.{behind_outline, behind_piece, closed_outline, ended_outline, ended_piece, field_outline, field_piece, further_lengths_piece, further_outline, more_fields_piece, recording, some_fields_outline, some_fields_piece};
 ghost use Rattle.ob_table.specs.Tells.{Tells, TellsBy};
 
@@ -22,47 +19,20 @@ use crate::expressions::expression;
 use crate::names::declared_names;
 use crate::parameters::some_parameters;
 use crate::source::Source;
-use crate::type_parts::{
-    add_here, add_record, add_type_name, base_ahead, pass_base, record_from, skip_word, type_from,
-};
-use crate::words::pass_word;
+use crate::words::{pass_word, skip_word};
 use ob_decls::draft::{Context, Draft, block_from, declarer_at, declaring_from};
+use ob_decls::walk::types::{
+    add_here, add_record, record_from, type_from, walk_base, walk_type_name,
+};
 use ob_decls::{Block, Part, Sort};
 use ob_parse::cursor::Cursor;
 use ob_parse::names::qualident_after;
 use ob_parse::stop::Stop;
 use ob_parse::tokens::{accept, beyond, is_at};
+use ob_parse::types::{base, begins_type, next_fields};
 use ob_scan::{Kind, Token};
 use ob_tree::name::Qualident;
 use ob_tree::token::Leaf;
-
-/// Whether a type begins here.
-fn begins_type(tokens: &[Token], input: Cursor) -> bool
-    ensures { result ≡ front type_first (uncons (ahead tokens.now input)) }
-{
-    match input.next(tokens) {
-        Some((Leaf::Name(_), _)) => true,
-        Some((Leaf::Word(Kind::Array), _)) => true,
-        Some((Leaf::Word(Kind::Record), _)) => true,
-        Some((Leaf::Word(Kind::Pointer), _)) => true,
-        Some((Leaf::Word(Kind::Procedure), _)) => true,
-        _ => false,
-    }
-}
-
-/// What stands behind a semicolon, if a field list begins there.
-#[tactic(auto, unfolding(ob_parse::specs::ReadTypes::field_start))]
-fn next_fields(tokens: &[Token], input: Cursor) -> Option<Cursor>
-    ensures { skipped tokens.now kinds.Semicolon result ≡ field_start (ahead tokens.now input) }
-{
-    match input.next(tokens) {
-        Some((Leaf::Word(Kind::Semicolon), rest)) => match rest.next(tokens) {
-            Some((Leaf::Name(_), _)) => Some(rest),
-            _ => None,
-        },
-        _ => None,
-    }
-}
 
 /// A type, with at most so many levels in it, itself one of them.
 #[cycle(types)]
@@ -114,7 +84,7 @@ fn named(
 {
     match qualident_after(tokens, head, input) {
         Ok((name, rest)) => {
-            add_type_name(draft, inside, name);
+            walk_type_name(draft, inside, name);
             Ok(rest)
         }
         Err(stop) => Err(stop),
@@ -262,7 +232,7 @@ fn record(
     ensures { Tells source.now.tokens.now type_outline type_piece inside draft.old draft.new result
         (node constructs.RecordType (prefixed (word kinds.Record) (record_with (type_at depth))) (ahead source.now.tokens.now input)) }
 {
-    match base_ahead(source.tokens, input) {
+    match base(source.tokens, input) {
         Ok((base, here)) => {
             add_here(draft, inside, Part::Record);
             record_parts(draft, inside, source, here, base, depth)
@@ -287,7 +257,7 @@ fn record_parts(
     let around = record_from(inside, draft.number);
     add_record(draft, inside, base);
     draft.pass();
-    pass_base(draft, around, base);
+    walk_base(draft, around, base);
     match some_fields(draft, around, source, input, depth) {
         Ok(here) => pass_word(draft, source.tokens, here, Kind::End),
         Err(stop) => Err(stop),

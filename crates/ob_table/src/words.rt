@@ -3,15 +3,16 @@
 ghost use Rattle.ob_scan.specs.declared.kind.Kind.{Kind};
 ghost use Rattle.ob_tree.specs.Marks.{word};
 ghost use Rattle.std.specs.Prelude.{◌≡◌};
-ghost use Rattle.ob_decls.specs.Drafts.{passed, ComesTo};
-ghost use Rattle.ob_parse.specs.Forms.{expect_at};
+ghost use Rattle.ob_decls.specs.Drafts.{after, passed, ComesTo};
+ghost use Rattle.ob_parse.specs.Forms.{accept_at, expect_at, nothing, optional};
 ghost use Rattle.ob_parse.specs.Gives.{ahead};
-ghost use Rattle.ob_table.specs.Tells.{TellsBy};
+ghost use Rattle.ob_table.specs.Tells.{TellsBy, Told};
+ghost use Rattle.ob_table.specs.TypeShapes.{skipped_outline, skipped_piece};
 
-use ob_decls::draft::Draft;
+use ob_decls::draft::{Context, Draft};
 use ob_parse::cursor::Cursor;
 use ob_parse::stop::Stop;
-use ob_parse::tokens::expect;
+use ob_parse::tokens::{expect, skip};
 use ob_scan::{Kind, Token};
 
 /// A token of this kind, which has to stand here.
@@ -30,6 +31,23 @@ pub(crate) fn pass_word(
         }
         Err(stop) => Err(stop),
     }
+}
+
+/// A token of this kind, if it stands here.
+pub(crate) fn skip_word(
+    draft: &mut Draft,
+    inside: Context,
+    tokens: &[Token],
+    input: Cursor,
+    kind: Kind,
+) -> Cursor
+    ensures { Told tokens.now (skipped_outline kind) (λ b. after (skipped_piece b) inside) draft.old draft.new result (optional (accept_at kind) nothing (ahead tokens.now input)) }
+{
+    let (stands, rest) = skip(tokens, input, kind);
+    if stands {
+        draft.pass();
+    }
+    rest
 }
 
 /// Behind a token that was read.

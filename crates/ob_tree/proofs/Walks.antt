@@ -29,7 +29,7 @@ each_push f (y ∷ xs) x = ap (λ (o : Out). f y ++ o) (each_push f xs x) ∙ sy
 pub items-each_push : {X : Type 0} (f : X → Out) (xs : List X) (x : X) → items_of (each f (xs ++ x ∷ [])) ≡ items_of (each f xs) ++ items_of (f x)
 items-each_push f xs x = rw (each_push, items-append) refl
 
-times_more : (n : ℕ) (o : Out) → times (suc n) o ≡ times n o ++ o
+pub times_more : (n : ℕ) (o : Out) → times (suc n) o ≡ times n o ++ o
 times_more zero o = append-nil o
 times_more (suc n) o = ap (λ (r : Out). o ++ r) (times_more n o) ∙ sym (append_assoc o (times n o) o)
 

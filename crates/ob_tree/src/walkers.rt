@@ -1,5 +1,5 @@
-//! What stands in a module's tree, by the numbers of its tokens. The walkers recurse a few calls for each level of nesting, so a
-//! tree of `parse` needs a stack of 2 MiB; lists are loops. Each call answers AllocError where a growth of memory is refused.
+//! What stands in a module's tree, by the numbers of its tokens. The walkers recurse a few calls for each level of nesting; lists
+//! are loops. Each call answers AllocError where a growth of memory is refused.
 
 ghost use Rattle.std.specs.Prelude.{◌≡◌, ◌<◌, ◌^◌, List, length, IfOk};
 ghost use Rattle.std.specs.List.{range_with_len};
@@ -45,6 +45,7 @@ fn number_of(item: Item, place: u32) -> u32
 
 /// The number of each token of a module's tree, in order: of an identifier or a literal the number that the tree
 /// carries, of a word its place from 0. The tree has fewer than 2^32 tokens. Of a tree that derives a file's tokens they are 0, 1, 2 and so on to the last.
+/// A stack of 2 MiB is enough for a tree of 200 levels, and a deeper one needs more in proportion.
 #[tactic(auto, using(crate::proofs::Passes::passes))]
 pub fn yield_of(alloc: Global, module: &Module) -> Result<Vec<u32>, AllocError>
     requires { length (spelling «module».now) < 2 ^ 32 }
@@ -61,7 +62,8 @@ pub fn yield_of(alloc: Global, module: &Module) -> Result<Vec<u32>, AllocError>
 }
 
 /// The numbers of the identifiers that a module declares, in order: those of its imports, constants, types, variables,
-/// fields, procedures and parameters, at every depth.
+/// fields, procedures and parameters, at every depth. A stack of 2 MiB is enough for a tree of 200 levels, and a deeper one needs
+/// more in proportion.
 pub fn declarations(alloc: Global, module: &Module) -> Result<Vec<u32>, AllocError>
     ensures { IfOk result (λ v. v.items ≡ declared_in (module_outline «module».now)) }
 {
@@ -71,7 +73,8 @@ pub fn declarations(alloc: Global, module: &Module) -> Result<Vec<u32>, AllocErr
 }
 
 /// The numbers of the identifiers that are looked up in a module, in order: the heads of designators and of qualified
-/// names, the names among labels, and the variables of FOR statements.
+/// names, the names among labels, and the variables of FOR statements. A stack of 2 MiB is enough for a tree of 200 levels, and a
+/// deeper one needs more in proportion.
 #[tactic(auto, using(crate::proofs::Passes::passes))]
 pub fn uses(alloc: Global, module: &Module) -> Result<Vec<u32>, AllocError>
     ensures { IfOk result (λ v. v.items ≡ used_in (module_outline «module».now)) }
@@ -88,7 +91,8 @@ pub fn uses(alloc: Global, module: &Module) -> Result<Vec<u32>, AllocError>
 }
 
 /// The names after END in order, as pairs of numbers: first of the identifier whose name has to stand there, the module's
-/// or the procedure's, and then of the one that does.
+/// or the procedure's, and then of the one that does. A stack of 2 MiB is enough for a tree of 200 levels, and a deeper one needs
+/// more in proportion.
 pub fn endings(alloc: Global, module: &Module) -> Result<Vec<(u32, u32)>, AllocError>
     ensures { IfOk result (λ v. v.items ≡ endings_in (module_outline «module».now)) }
 {

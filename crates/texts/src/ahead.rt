@@ -18,7 +18,8 @@ fn counted_letters(text: &[u8]) -> usize
 }
 
 /// How many letters and digits stand in front. Sixteen bytes are tested at once, and bytes one by one where these are not enough.
-fn letters_of(text: &[u8]) -> usize
+#[inline(always)]
+pub fn letters_of(text: &[u8]) -> usize
     ensures value { result ≡ prefix_len is_ascii_alphanumeric text.now }
     ensures within { result ≤ length text.now }
 {

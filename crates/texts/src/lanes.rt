@@ -1,4 +1,4 @@
-//! A test of sixteen bytes at once, which answers how many of them stand before the first that ends a run.
+//! Tests of sixteen bytes at once: each answers how many of them stand before the first that ends a run.
 ghost use Rattle.std.specs.Prelude.{◌≡◌, ◌+◌, ◌≤◌, ◌==◌, if◌then◌else◌, length, take, drop};
 ghost use Rattle.std.specs.Char.{is_ascii_alphanumeric};
 ghost use Rattle.std.specs.Int.{trailing_zeros, w64};
@@ -7,11 +7,11 @@ ghost use Rattle.std.specs.List.{prefix_len};
 use std::simd::prelude::*;
 
 /// How many bytes are tested at once.
-pub(crate) const LANES: usize = 16;
+pub const LANES: usize = 16;
 
 /// How many lanes stand before the first whose bit is set, of sixteen.
 #[inline(always)]
-fn before_first(marks: u64) -> usize
+pub fn before_first(marks: u64) -> usize
     ensures { result ≡ (if marks == 0 then 16 else trailing_zeros w64 marks) }
 {
     if marks == 0 {

@@ -6,4 +6,4 @@
 
 pub mod ahead;
 pub mod fields;
-mod lanes;
+pub mod lanes;

@@ -32,8 +32,10 @@ pub fn walk_identdef(draft: &mut Draft, inside: Context, name: Identdef)
     }
 }
 
+/// The name of a parameter, which has no star.
+#[inline(always)]
 #[tactic(auto, using(crate::proofs::TypeLayers::names_made))]
-fn walk_parameter(draft: &mut Draft, inside: Context)
+pub fn walk_parameter(draft: &mut Draft, inside: Context)
     ensures { ComesTo (after parameter_piece inside) draft.old draft.new }
 {
     let number = draft.number;
@@ -59,8 +61,8 @@ fn walk_open_arrays(draft: &mut Draft, inside: Context, count: u32)
 
 /// Adds a part of a form, which stands at the next token.
 #[tactic(auto, using(crate::proofs::TypeLayers::names_made))]
-fn add_here(draft: &mut Draft, inside: Context, part: Part)
-    ensures { ComesTo (added (part_here part inside draft.old.number)) draft.old draft.new }
+pub fn add_here(draft: &mut Draft, inside: Context, part: Part)
+    ensures { ComesTo (λ s. added (part_here part inside s.number) s) draft.old draft.new }
 {
     let number = draft.number;
     draft.add_part(FormPart {
@@ -70,10 +72,10 @@ fn add_here(draft: &mut Draft, inside: Context, part: Part)
     })
 }
 
-/// Adds a name as a part of a form.
+/// Adds a name as a part of a form, which stands at the next token.
 #[tactic(auto, using(crate::proofs::TypeLayers::names_made))]
-fn add_name(draft: &mut Draft, inside: Context, name: Qualident)
-    ensures { ComesTo (added (name_part name inside draft.old.number)) draft.old draft.new }
+pub fn add_name(draft: &mut Draft, inside: Context, name: Qualident)
+    ensures { ComesTo (λ s. added (name_part name inside s.number) s) draft.old draft.new }
 {
     let number = draft.number;
     let member = member_at(draft, name.member, number);
@@ -140,8 +142,9 @@ pub(crate) fn walk_parameters(draft: &mut Draft, inside: Context, parameters: &P
 }
 
 /// A name as a type; alone behind POINTER TO it is a target.
+#[inline(always)]
 #[tactic(auto, using(crate::proofs::TypeLayers::names_made))]
-fn walk_type_name(draft: &mut Draft, inside: Context, name: Qualident)
+pub fn walk_type_name(draft: &mut Draft, inside: Context, name: Qualident)
     ensures { ComesTo (after (type_name_piece name) inside) draft.old draft.new }
 {
     add_name(draft, inside, name);
@@ -198,7 +201,7 @@ fn walk_procedure_type(draft: &mut Draft, inside: Context, parameters: &Option<P
 }
 
 /// What is around a type, behind POINTER TO or elsewhere.
-fn type_from(inside: Context, is_target: bool) -> Context
+pub fn type_from(inside: Context, is_target: bool) -> Context
     ensures { result ≡ record { block = inside.block; declarer = inside.declarer; of_record = inside.of_record; is_target = is_target } }
 {
     Context {
@@ -239,6 +242,7 @@ pub(crate) fn walk_type(draft: &mut Draft, inside: Context, form: &TypeForm)
 }
 
 /// The base that a record names, whose RECORD has this number.
+#[inline(always)]
 #[tactic(auto, using(crate::proofs::Steps::steps))]
 fn base_from(draft: &mut Draft, base: Option<Qualident>, number: u32) -> Option<TypeName>
     ensures stage { ComesTo (λ s. s) draft.old draft.new }
@@ -255,9 +259,10 @@ fn base_from(draft: &mut Draft, base: Option<Qualident>, number: u32) -> Option<
 }
 
 /// Adds a record that begins with the next token.
+#[inline(always)]
 #[tactic(auto, using(crate::proofs::TypeLayers::names_made))]
-fn add_record(draft: &mut Draft, inside: Context, base: Option<Qualident>)
-    ensures { ComesTo (added (record_row base inside draft.old.number)) draft.old draft.new }
+pub fn add_record(draft: &mut Draft, inside: Context, base: Option<Qualident>)
+    ensures { ComesTo (λ s. added (record_row base inside s.number) s) draft.old draft.new }
 {
     let number = draft.number;
     let base = base_from(draft, base, number);
@@ -269,7 +274,7 @@ fn add_record(draft: &mut Draft, inside: Context, base: Option<Qualident>)
 }
 
 /// What is around the parts of a record that begins with this token.
-fn record_from(inside: Context, number: u32) -> Context
+pub fn record_from(inside: Context, number: u32) -> Context
     ensures { result ≡ in_record inside number }
 {
     Context {
@@ -279,9 +284,10 @@ fn record_from(inside: Context, number: u32) -> Context
     }
 }
 
-/// The base of a record, in parentheses.
+/// The base of a record in parentheses, if there is one.
+#[inline(always)]
 #[tactic(auto, using(crate::proofs::TypeLayers::names_made))]
-fn walk_base(draft: &mut Draft, inside: Context, base: Option<Qualident>)
+pub fn walk_base(draft: &mut Draft, inside: Context, base: Option<Qualident>)
     ensures { ComesTo (after (if_there (λ q. both token (both (qualident_piece q) token)) base) inside) draft.old draft.new }
 {
     match base {

@@ -2,7 +2,7 @@ use Rattle.std.proofs.Common.{ℕ, refl, ◌∙◌}
 use Rattle.std.proofs.lemmas.Simd.{zip2_splat, length-chunk}
 use lib.Lanes.{chunk}
 use Rattle.ob_scan.specs.Pieces.{ends_no_line}
-use Rattle.ob_scan.proofs.LaneRuns.{joined, run_is}
+use Rattle.texts.proofs.LaneRuns.{joined, run_is}
 use Rattle.ob_scan.proofs.lanes.no_line_ends_from.Goals as goal
 
 pub returns : goal.returns

@@ -1,5 +1,5 @@
 use Rattle.std.proofs.Common.{◌≤◌, ◌+◌, arith}
-use Rattle.ob_scan.proofs.LaneRuns.{lines_pass, passed_on}
+use Rattle.ob_scan.proofs.LinesPassed.{lines_pass, passed_on}
 use Rattle.ob_scan.proofs.line_ends.next_end.Goals as goal
 
 pub returns-then-passed-lt-LANES-clause-passed : goal.returns-then-passed-lt-LANES-clause-passed

@@ -4,9 +4,9 @@ use Rattle.ob_scan.proofs.piece.name_piece.Goals as goal
 
 pub returns : goal.returns
 returns c =
-    let n = c.name_len-n.ensures in
+    let n = c.letters_of-n.ensures in
     rw (c.name_kind.ensures, c.split_at.ensures.front) (
-      name_token c.args.rest.now c.name_len-n.result c.requires n.value,
+      name_token c.args.rest.now c.letters_of-n.result c.requires n.value,
       omega (arith, n.value, name_some c.args.rest.now c.requires),
       n.within,
     )

@@ -10,7 +10,7 @@ use Rattle.ob_parse.specs.ReadStatements.{block_at}
 use Rattle.ob_parse.specs.ReadModules.{body_with}
 use Rattle.ob_table.specs.DeclarationShapes.{body_outline, body_piece}
 use Rattle.ob_table.proofs.Combine.{told_absent}
-use Rattle.ob_table.proofs.SectionTrees.{word_told}
+use Rattle.ob_table.proofs.Behind.{word_there_told}
 use Rattle.ob_table.proofs.declarations.body.Goals as goal
 
 pub returns-in-None : goal.returns-in-None
@@ -21,4 +21,4 @@ returns-in-None c =
 pub returns-in-Some : goal.returns-in-Some
 unfolding body_with
 returns-in-Some c =
-    word_told c.args.source.now.tokens.now block_outline block_piece kinds.Begin (block_at c.args.depth) c.args.inside _ _ _ c.args.input c.in-Some.rest _ (sym c.accept.ensures ∙ ap (skipped c.args.source.now.tokens.now kinds.Begin) c.in-Some.is) c.pass.ensures c.block.ensures
+    word_there_told c.args.source.now.tokens.now c.args.inside kinds.Begin block_outline block_piece (block_at c.args.depth) _ _ _ c.args.input c.in-Some.rest _ (sym c.accept.ensures ∙ ap (skipped c.args.source.now.tokens.now kinds.Begin) c.in-Some.is) c.pass.ensures c.block.ensures

@@ -9,7 +9,7 @@ use Rattle.ob_parse.specs.Gives.{skipped}
 use Rattle.ob_parse.specs.ReadExpressions.{expr_at}
 use Rattle.ob_table.specs.DeclarationShapes.{returned_outline, returned_piece}
 use Rattle.ob_table.proofs.Combine.{told_absent}
-use Rattle.ob_table.proofs.SectionTrees.{word_told}
+use Rattle.ob_table.proofs.Behind.{word_there_told}
 use Rattle.ob_table.proofs.declarations.returned.Goals as goal
 
 pub returns-in-None : goal.returns-in-None
@@ -18,4 +18,4 @@ returns-in-None c =
 
 pub returns-in-Some : goal.returns-in-Some
 returns-in-Some c =
-    word_told c.args.source.now.tokens.now expr_outline expr_piece kinds.Return (expr_at c.args.depth) c.args.inside _ _ _ c.args.input c.in-Some.rest _ (sym c.accept.ensures ∙ ap (skipped c.args.source.now.tokens.now kinds.Return) c.in-Some.is) c.pass.ensures c.expression.ensures
+    word_there_told c.args.source.now.tokens.now c.args.inside kinds.Return expr_outline expr_piece (expr_at c.args.depth) _ _ _ c.args.input c.in-Some.rest _ (sym c.accept.ensures ∙ ap (skipped c.args.source.now.tokens.now kinds.Return) c.in-Some.is) c.pass.ensures c.expression.ensures

@@ -2,7 +2,8 @@ use Rattle.ob_decls.specs.Drafts.{after}
 use Rattle.ob_decls.specs.Declaring.{module_end}
 use Rattle.ob_decls.specs.Parts.{tells, token}
 use Rattle.ob_tree.specs.Marks.{repeated}
-use Rattle.ob_table.proofs.EndNames.{name_told, name_failed}
+use Rattle.ob_table.proofs.Behind.{name_failed}
+use Rattle.ob_table.proofs.EndNames.{name_told}
 use Rattle.ob_table.proofs.ends.module_name.Goals as goal
 
 pub returns-in-Ok : goal.returns-in-Ok

@@ -1,7 +1,7 @@
 use Rattle.ob_tree.specs.Names.{qualident_outline}
 use Rattle.ob_decls.specs.Drafts.{after}
 use Rattle.ob_table.specs.TypeShapes.{formal_name_piece}
-use Rattle.ob_table.proofs.Behind.{told_walked}
+use Rattle.ob_table.proofs.Combine.{told_walked}
 use Rattle.ob_table.proofs.ParameterTrees.{name_came}
 use Rattle.ob_table.proofs.parameters.formal_name.Goals as goal
 

@@ -108,7 +108,7 @@ record-returns-in-Err t c = record_failed c.args.source.now.tokens.now c.args.de
 
 pub record_parts-returns-in-Ok : goal.record_parts-returns-in-Ok
 record_parts-returns-in-Ok t c =
-    parts_told c.args.source.now.tokens.now c.args.inside _ c.args.base c.args.depth _ _ _ _ _ _ c.args.input c.in-Ok.here _ c.record_from-around.ensures c.add_record.ensures c.pass.ensures c.pass_base.ensures c.in-Ok.ensures c.pass_word.ensures
+    parts_told c.args.source.now.tokens.now c.args.inside _ c.args.base c.args.depth _ _ _ _ _ _ c.args.input c.in-Ok.here _ c.record_from-around.ensures c.add_record.ensures c.pass.ensures c.walk_base.ensures c.in-Ok.ensures c.pass_word.ensures
 
 pub record_parts-returns-in-Err : goal.record_parts-returns-in-Err
 record_parts-returns-in-Err t c = failed_then c.args.source.now.tokens.now (optional (unless kinds.End) (fields_with (type_at c.args.depth))) (expect_at kinds.End) _ _ c.in-Err.ensures
