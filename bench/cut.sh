@@ -14,6 +14,7 @@ workers=${WORKERS:-4}
 work=$(mktemp -d)
 trap 'rm -rf "$work"' EXIT
 for program in generate plain_cut; do g++ -O2 -o "$work/$program" "$here/$program.cpp"; done
+gcc -O1 -o "$work/peak" "$here/peak.c"
 
 # The solver of a package: its name, the header that it needs, and the package of Debian that has it.
 packages=
@@ -37,7 +38,7 @@ stop() {
 # A row of the table, and its ratios in the file ratios. Words: the times of the program, the plain solver and the packages.
 row() {
   python3 - "$shape" "$modules" "$(grep -c '^import ' net)" "$(grep -c '^remove ' report || true)" \
-    "$ours" "$plain" "plain $packages" "$@" <<'PY'
+    "${ours#* }" "${plain#* }" "plain $packages" "$@" <<'PY'
 import sys
 shape, modules, imports, removed, ours, plain = sys.argv[1:7]
 times = dict(zip(["oscip"] + sys.argv[7].split(), [float(word) for word in sys.argv[8:]]))
@@ -84,8 +85,8 @@ for shape in $shapes; do
       commands="$commands -- ./$package net $ends"
     done
     times=$(python3 "$here/measure.py" -- "$oscip" cut-net net $ends --workers $workers -- ./plain_cut net $ends $commands)
-    ours=$(env time -f %M "$oscip" cut-net net $ends --workers $workers 2>&1 > said)
-    plain=$(env time -f %M ./plain_cut net $ends 2>&1 > said)
+    ours=$(./peak "$oscip" cut-net net $ends --workers $workers 2>&1 > said)
+    plain=$(./peak ./plain_cut net $ends 2>&1 > said)
     row $times
   done
 done

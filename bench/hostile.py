@@ -1,15 +1,18 @@
 #!/usr/bin/env python3
 """Gives the program files that shrink and grow while it reads them, and input that was made to do harm.
 
-Each run has to end with a status that is documented, and with one line where it refuses. Of the harmful input it prints the greatest
-resident size over the bytes, the processor seconds, and the time at twice the bytes over that at once, each time the least of three.
-It fails where memory or that ratio is above what is wanted. Where valgrind is there, it counts the instructions of some more inputs, and
-fails where they are above what is wanted for a byte. Then it prints the times of numbers of many bytes in an index over those of as many
-bytes in numbers of one byte, and fails where a ratio is above what is wanted. Last it gives the program an address space that is just
-enough: there it has to answer, or to tell want of memory, within some seconds.
+Each run has to end with a status that is documented, and with one line where it refuses. Of the harmful input it tells the memory that
+the program takes beyond what it takes for its help, over the bytes, the processor seconds, and the time at twice the bytes over that at
+once, each time the least of three. Where valgrind is there, it counts the instructions of some more inputs. Then it tells the times of
+numbers of many bytes in an index over those of as many bytes in numbers of one byte. Last it gives the program an address space that is
+just enough: there it has to answer, or to tell want of memory, within some seconds.
 
-Build the program first: (cd crates/oscip && rt run -- --help). Then: bench/hostile.py [PROGRAM [RUNS]]. Names that fall together are
-made by `colliding.c`, which `cc` compiles.
+Each row ends with what is wrong, as more than it may take, or with `ok`; its bounds are what was needed when they were set, and an
+eighth to a half more. The status is 1 where something is wrong.
+
+Build the program first: (cd crates/oscip && rt run -- --help). Then: bench/hostile.py [PROGRAM [RUNS]]. `cc` compiles
+`colliding.c`, which makes names that fall together, and `peak.c`, which tells memory. The environment variable PART divides the sizes of
+the harmful input.
 """
 import functools
 import os
@@ -27,6 +30,22 @@ STATEMENT = b"N.x := N.x + 1;\n"
 ANSWERED, REFUSED, UNREAD, NO_MEMORY, DENIED = 0, 1, 3, 4, 5
 # The most times that twice the bytes may take, and how long a run takes at least whose time says something.
 RATIO, LEAST_SECONDS = 3.2, 0.05
+PART = int(os.environ.get("PART", 1))
+
+
+def many(count):
+    """So many, or a part of them."""
+    return count // PART
+
+
+def row(name, faults, *cells):
+    """Prints a row of a table, with what is wrong at its end, and returns how much that is."""
+    print("|", " | ".join([name, *cells, "; ".join(faults) or "ok"]), "|", flush=True)
+    return len(faults)
+
+
+def head(*cells):
+    print("| %s | |" % " | ".join(cells) + "\n" + "|---" * (len(cells) + 1) + "|")
 
 
 def varint(number):
@@ -70,27 +89,24 @@ def definition(records):
 
 
 def write(path, text):
-    """Writes what this function makes, in a process of its own: the greatest size of this one would count for those that it starts."""
-    writer = os.fork()
-    if writer == 0:
-        with open(path, "wb") as it:
-            it.write(text())
-        os._exit(0)
-    os.waitpid(writer, 0)
+    """Writes what this function makes."""
+    with open(path, "wb") as it:
+        it.write(text())
 
 
 def ended(words, folder, space=None):
-    """The status, the line that is told, the processor seconds and the greatest resident size of a run, in an address space of so many bytes."""
+    """The status, what is told, the processor seconds and the greatest resident size of a run by `peak`, in an address space of so many bytes."""
 
     def bind():
         resource.setrlimit(resource.RLIMIT_AS, (space, space))
 
     with tempfile.TemporaryFile() as told:
-        ran = subprocess.Popen(words, cwd=folder, stdin=subprocess.DEVNULL, stdout=subprocess.DEVNULL, stderr=told, preexec_fn=bind if space else None)
+        ran = subprocess.Popen(["./peak", *words], cwd=folder, stdin=subprocess.DEVNULL, stdout=subprocess.DEVNULL, stderr=told, preexec_fn=bind if space else None)
         _, status, used = os.wait4(ran.pid, 0)
         ran.returncode = os.waitstatus_to_exitcode(status)
         told.seek(0)
-        return ran.returncode, told.read(), used.ru_utime + used.ru_stime, used.ru_maxrss * 1024
+        *lines, peak = told.read().splitlines(keepends=True)
+        return ran.returncode, b"".join(lines), used.ru_utime + used.ru_stime, int(peak.split()[1]) * 1024
 
 
 def is_documented(status, told):
@@ -163,72 +179,66 @@ def lines_of(word, modules):
     return b"".join(b"%s M%04d M%04d 1\n" % (word, it, other) for it in range(modules) for other in range(1_000))
 
 
-# The file, the command, the most memory over the bytes, and for each input its text, of which there is once or twice as much.
+# The file, the command, and for each input the most memory over the bytes and its text, of which there is once or twice as much.
 HARMFUL = [
     (
         "index",
         ["refs", "index", "a", "0", "0"],
-        4,
         {
-            "empty occurrences": lambda k: document(25_000_000 * k * record(2, b"")),
-            "documents of one path": lambda k: 10_000_000 * k * record(2, b"\x0a\x01a"),
-            "occurrences, each with a symbol of one byte": lambda k: document(2_000_000 * k * record(2, b"\x12\x01s")),
-            "empty external symbols": lambda k: 2_000_000 * k * record(3, b""),
+            "empty occurrences": (4, lambda k: document(many(25_000_000) * k * record(2, b""))),
+            "documents of one path": (4, lambda k: many(10_000_000) * k * record(2, b"\x0a\x01a")),
+            "occurrences, each with a symbol of one byte": (4, lambda k: document(many(2_000_000) * k * record(2, b"\x12\x01s"))),
+            "empty external symbols": (4, lambda k: many(2_000_000) * k * record(3, b"")),
         },
     ),
     (
         "m/M.Mod",
         ["index", "m", "--hex"],
-        100,
         {
-            "semicolons": lambda k: module(4_000_000 * k * b";"),
-            "`^` behind a name": lambda k: module(b"x := x" + 4_000_000 * k * b"^"),
-            "`+ x`": lambda k: module(b"x := x" + 1_300_000 * k * b"+ x"),
-            "`()` behind a name": lambda k: module(b"x" + 2_000_000 * k * b"()"),
-            "import items of one name": lambda k: b"MODULE M; IMPORT " + b", ".join([b"A"] * (1_300_000 * k)) + b"; END M.",
-            "one name": lambda k: module(4_000_000 * k * b"x"),
-            "WHILE in one another": lambda k: module(400_000 * k * b"WHILE x DO "),
-            "procedure types": lambda k: b"MODULE M; TYPE T = " + 200_000 * k * b"PROCEDURE (): " + b"T; END M.",
-            "dimensions": lambda k: b"MODULE M; TYPE T = ARRAY " + 1_300_000 * k * b"1, " + b"1 OF SET; END M.",
-            "names that fall together behind one that is declared twice": lambda k: variables(b"a, a: SET; ", colliding(40_000, 16)[: 20_000 * k]),
-            "names that fall together and that no record has": lambda k: behind_a_base(colliding(40_000, 16)[: 20_000 * k]),
+            "semicolons": (100, lambda k: module(many(4_000_000) * k * b";")),
+            "`^` behind a name": (100, lambda k: module(b"x := x" + many(4_000_000) * k * b"^")),
+            "`+ x`": (100, lambda k: module(b"x := x" + many(1_300_000) * k * b"+ x")),
+            "`()` behind a name": (100, lambda k: module(b"x" + many(2_000_000) * k * b"()")),
+            "import items of one name": (100, lambda k: b"MODULE M; IMPORT " + b", ".join([b"A"] * (many(1_300_000) * k)) + b"; END M."),
+            "one name": (100, lambda k: module(many(4_000_000) * k * b"x")),
+            "WHILE in one another": (100, lambda k: module(many(400_000) * k * b"WHILE x DO ")),
+            "procedure types": (100, lambda k: b"MODULE M; TYPE T = " + many(200_000) * k * b"PROCEDURE (): " + b"T; END M."),
+            "dimensions": (100, lambda k: b"MODULE M; TYPE T = ARRAY " + many(1_300_000) * k * b"1, " + b"1 OF SET; END M."),
+            "names that fall together behind one that is declared twice": (100, lambda k: variables(b"a, a: SET; ", colliding(40_000, 16)[: 20_000 * k])),
+            "names that fall together and that no record has": (100, lambda k: behind_a_base(colliding(40_000, 16)[: 20_000 * k])),
         },
     ),
     (
         "p/M.Mod",
         ["index", "p", "out", "--workers", "1", "--package", 2_000 * "p"],
-        800,
-        {"uses of a name in a package of 2,000 letters": lambda k: module(8_000 * k * b"x := x;")},
+        {"uses of a name in a package of 2,000 letters": (800, lambda k: module(8_000 * k * b"x := x;"))},
     ),
     (
         "net",
         ["cut-net", "net", "A", "B"],
-        10,
         {
-            "empty lines of a network": lambda k: 20_000_000 * k * b"\n",
-            "lines of one module": lambda k: 4_000_000 * k * b"module M\n",
-            "one name of a network": lambda k: b"module " + 40_000_000 * k * b"A",
-            "one weight": lambda k: b"import A B " + 40_000_000 * k * b"9",
+            "empty lines of a network": (10, lambda k: many(20_000_000) * k * b"\n"),
+            "lines of one module": (10, lambda k: many(4_000_000) * k * b"module M\n"),
+            "one name of a network": (10, lambda k: b"module " + many(40_000_000) * k * b"A"),
+            "one weight": (10, lambda k: b"import A B " + many(40_000_000) * k * b"9"),
         },
     ),
     (
         "report",
         ["check-net", "modules.net", "report"],
-        20,
         {
-            "remove lines": lambda k: b"cut M0000 M0001\nweight 1\n" + lines_of(b"remove", 500 * k) + b"end\n",
-            "flow lines": lambda k: b"cut M0000 M0001\nweight 1\n" + lines_of(b"flow", 500 * k) + b"end\n",
-            "names of a `blocked` line": lambda k: b"cut M0000 M0001\nblocked" + 4_000_000 * k * b" M0000" + b"\nend\n",
-            "one weight of a report": lambda k: b"cut M0000 M0001\nweight " + 40_000_000 * k * b"9",
+            "remove lines": (20, lambda k: b"cut M0000 M0001\nweight 1\n" + lines_of(b"remove", many(500) * k) + b"end\n"),
+            "flow lines": (20, lambda k: b"cut M0000 M0001\nweight 1\n" + lines_of(b"flow", many(500) * k) + b"end\n"),
+            "names of a `blocked` line": (20, lambda k: b"cut M0000 M0001\nblocked" + many(4_000_000) * k * b" M0000" + b"\nend\n"),
+            "one weight of a report": (20, lambda k: b"cut M0000 M0001\nweight " + many(40_000_000) * k * b"9"),
         },
     ),
     (
         "prices",
         ["cut-net", "one.net", "A", "B", "--prices", "prices"],
-        10,
         {
-            "empty lines of prices": lambda k: b"pin A B" + 20_000_000 * k * b"\n",
-            "one price": lambda k: b"price A B " + 40_000_000 * k * b"9",
+            "empty lines of prices": (10, lambda k: b"pin A B" + many(20_000_000) * k * b"\n"),
+            "one price": (10, lambda k: b"price A B " + many(40_000_000) * k * b"9"),
         },
     ),
 ]
@@ -277,12 +287,12 @@ def instructions(words, folder):
 
 
 def counted(program, folder):
-    """Counts the instructions of input that was made to do harm, and returns how many take more than they may."""
+    """Counts the instructions of input that was made to do harm, and returns how much is wrong."""
     if not shutil.which("valgrind"):
         print("without valgrind no instructions are counted")
         return 0
     wrong = 0
-    print("| Input | Bytes | Instructions a byte |\n|---|---|---|")
+    head("Input", "Bytes", "Instructions a byte", "at most")
     for path, words, inputs in COUNTED:
         at = f"{folder}/{path}"
         open(at, "wb").close()
@@ -291,10 +301,7 @@ def counted(program, folder):
             write(at, text)
             size = os.path.getsize(at)
             each = (instructions([program, *words], folder) - none) / size
-            print(f"| {name} | {size:,} | {each:.1f} |", flush=True)
-            if each > most:
-                wrong += 1
-                print(f"{name}: more than {most} instructions a byte")
+            wrong += row(name, ["too many instructions"] if each > most else [], f"{size:,}", f"{each:.1f}", str(most))
     return wrong
 
 
@@ -313,46 +320,42 @@ BOUND = {
 
 
 def bound(program, folder):
-    """Prints seconds and memory of runs in an address space that is just enough, and returns how many are at fault."""
+    """Tells seconds of runs in an address space that is just enough, and returns how much is wrong."""
     wrong = 0
     os.makedirs(f"{folder}/bound")
-    print("| Input | Bytes | Address space | Seconds |\n|---|---|---|---|")
+    head("Input", "Bytes", "Address space", "Seconds", "at most")
     for name, (text, space, most, status, line) in BOUND.items():
         write(f"{folder}/bound/M.Mod", text)
         ends = ended([program, "unresolved", "bound"], folder, space)
-        print(f"| {name} | {os.path.getsize(f'{folder}/bound/M.Mod'):,} | {space:,} | {ends[2]:.2f} |", flush=True)
-        if ends[:2] != (status, line) or ends[2] > most:
-            wrong += 1
-            print(f"{name}: status {ends[0]}, {ends[1][:200]!r}, in place of {status}, {line!r} within {most} seconds")
+        faults = [f"status {ends[0]}, {ends[1][:200]!r}, in place of {status}, {line!r}"] if ends[:2] != (status, line) else []
+        faults += ["too many seconds"] if ends[2] > most else []
+        wrong += row(name, faults, f"{os.path.getsize(f'{folder}/bound/M.Mod'):,}", f"{space:,}", f"{ends[2]:.2f}", str(most))
     return wrong
 
 
 def harmful(program, folder):
-    """Prints memory and times of input that was made to do harm, and returns how many are at fault."""
+    """Tells memory and times of input that was made to do harm, and returns how much is wrong."""
     fixed = {"one.net": b"import A B 1\n", "modules.net": b"".join(b"module M%04d\n" % it for it in range(2_000))}
     for name, text in fixed.items():
         with open(f"{folder}/{name}", "wb") as it:
             it.write(text)
-    wrong = 0
-    print("| Input | Bytes | Memory | Seconds | Time at twice the bytes |\n|---|---|---|---|---|")
-    for path, words, most, inputs in HARMFUL:
+    wrong, alone = 0, ended([program, "--help"], folder)[3]
+    head("Input", "Bytes", "Memory", "at most", "Seconds", "Time at twice the bytes", "at most")
+    for path, words, inputs in HARMFUL:
         at = f"{folder}/{path}"
         os.makedirs(os.path.dirname(at), exist_ok=True)
-        for name, text in inputs.items():
-            took = []
+        for name, (most, text) in inputs.items():
+            took, faults = [], []
             for times in (1, 2):
                 write(at, lambda: text(times))
                 ends = [ended([program, *words], folder) for _ in range(3)]
                 took.append(min(it[2] for it in ends))
-                status, told, _, memory = ends[0]
-                if not is_documented(status, told):
-                    wrong += 1
-                    print(f"{name}: status {status}, {told[:200]!r}")
+                faults += [f"status {it[0]}, {it[1][:200]!r}" for it in ends if not is_documented(*it[:2])]
             size, ratio = os.path.getsize(at), took[1] / max(took[0], 0.001)
-            print(f"| {name} | {size:,} | {memory / size:.0f} | {took[1]:.2f} | {ratio:.1f} |", flush=True)
-            if memory > most * size or ratio > RATIO and took[1] > LEAST_SECONDS:
-                wrong += 1
-                print(f"{name}: more than {most} times the bytes, or {RATIO} times the time at twice the bytes")
+            memory = (max(it[3] for it in ends) - alone) / size
+            faults += ["too much memory"] if memory > most else []
+            faults += ["too long at twice the bytes"] if ratio > RATIO and took[1] > LEAST_SECONDS else []
+            wrong += row(name, faults, f"{size:,}", f"{memory:.1f}", str(most), f"{took[1]:.2f}", f"{ratio:.1f}", str(RATIO))
     return wrong
 
 
@@ -379,21 +382,19 @@ BESIDE = {
 
 
 def beside(program, folder):
-    """Prints how much longer numbers of many bytes take than as many bytes in short ones, and returns how many take too long."""
+    """Tells how much longer numbers of many bytes take than as many bytes in short ones, and returns how much is wrong."""
     wrong = 0
-    print("| Numbers | Seconds | Times those of one byte |\n|---|---|---|")
+    head("Numbers", "Seconds", "Times those of one byte", "at most")
     for name, (long, short, most) in BESIDE.items():
-        took = []
+        took, faults = [], []
         for text in (long, short):
             write(f"{folder}/index", text)
             ends = [ended([program, "def", "index", "a", "0", "7"], folder) for _ in range(3)]
             took.append(min(it[2] for it in ends))
-            wrong += sum(it[0] != ANSWERED for it in ends)
+            faults += [f"status {it[0]}, {it[1][:200]!r}" for it in ends if it[0] != ANSWERED]
         ratio = took[0] / max(took[1], 0.001)
-        print(f"| {name} | {took[0]:.2f} | {ratio:.1f} |", flush=True)
-        if ratio > most:
-            wrong += 1
-            print(f"{name}: more than {most} times")
+        faults += ["too long"] if ratio > most else []
+        wrong += row(name, faults, f"{took[0]:.2f}", f"{ratio:.1f}", str(most))
     return wrong
 
 
@@ -403,9 +404,11 @@ def main(program=f"{HERE}/../crates/oscip/out/oscip", runs="500"):
     resource.setrlimit(resource.RLIMIT_STACK, (2 << 20, resource.getrlimit(resource.RLIMIT_STACK)[1]))
     try:
         path = os.path.realpath(program)
+        subprocess.run(["cc", "-O1", "-o", f"{folder}/peak", f"{HERE}/peak.c"], check=True)
         wrong = changing(path, folder, int(runs)) + harmful(path, folder) + counted(path, folder) + beside(path, folder) + bound(path, folder)
     finally:
         shutil.rmtree(folder)
+    print(f"{wrong} wrong")
     return 1 if wrong else 0
 
 

@@ -4,6 +4,7 @@
 # Pascal, and beside cat and wc.
 # Build the program first: (cd crates/oscip && rt run -- --help).
 # Then: bench/index.sh [PATH OF THE PROGRAM [SEED [CASES]]]
+# PART is what part of the large trees is made (modules.py).
 set -eu
 here=$(cd "$(dirname "$0")" && pwd)
 oscip=$(realpath "${1:-$here/../crates/oscip/out/oscip}")
@@ -26,18 +27,28 @@ else
   echo "without protoc the editor's index isn't decoded"
 fi
 g++ -O2 -std=c++17 -pthread -o "$work/indexer" "$here/indexer.cpp"
+gcc -O1 -o "$work/peak" "$here/peak.c"
+
+# timed NAME WORD ..: runs a command on the tree of this shape, and writes down what it took.
+timed() {
+  local name=$1 told
+  shift
+  told=$("$work/peak" "$@" 2>&1 >"$work/said")
+  echo "$shape $name ${told##*$'\n'} $bytes" >>"$work/times"
+}
+
 for shape in files graph large; do
   mkdir "$work/$shape"
   python3 "$here/modules.py" "$shape" "$work/$shape"
   bytes=$(cat "$work/$shape"/* | wc -c)
   for run in 1 2 3; do
     for workers in 1 4; do
-      /usr/bin/time -f "$shape oscip-$workers %e %M $bytes" "$oscip" index --workers $workers "$work/$shape" "$work/out" 2>>"$work/times"
-      /usr/bin/time -f "$shape c++-$workers %e %M $bytes" "$work/indexer" "$work/$shape" "$work/other" $workers 2>>"$work/times"
+      timed oscip-$workers "$oscip" index --workers $workers "$work/$shape" "$work/out"
+      timed c++-$workers "$work/indexer" "$work/$shape" "$work/other" $workers
     done
-    /usr/bin/time -f "$shape wc %e %M $bytes" sh -c 'cat "$1"/* | wc >/dev/null' sh "$work/$shape" 2>>"$work/times"
+    timed wc sh -c 'cat "$1"/* | wc' sh "$work/$shape"
     if command -v ctags >/dev/null; then
-      /usr/bin/time -f "$shape ctags %e %M $bytes" ctags -f - --language-force=Pascal -R "$work/$shape" 2>>"$work/times" >/dev/null
+      timed ctags ctags -f - --language-force=Pascal -R "$work/$shape"
     fi
   done
 done

@@ -11,6 +11,7 @@ work=$(mktemp -d)
 trap 'rm -rf "$work"' EXIT
 cd "$work"
 protoc -I "$here" --cpp_out=. index.proto
+gcc -O1 -o peak "$here/peak.c"
 if ! g++ -O2 -I. -o library "$here/library.cpp" index.pb.cc -lprotobuf -lpthread 2> said; then
   echo "Google's library isn't there: nothing is timed"
   exit 0
@@ -31,8 +32,8 @@ for row in "typescript 400 800" "java 400 700"; do
     words=("$which" index "$path" "$line" "$column")
     cmp <("$oscip" "${words[@]}") <(./library "${words[@]}")
     read -r ours theirs <<< "$(python3 "$here/measure.py" -- "$oscip" "${words[@]}" -- ./library "${words[@]}")"
-    memory=$(env time -f %M "$oscip" "${words[@]}" 2>&1 > said)
-    python3 -c "print('%-11s %10d | %8s %9.1f %9.1f | %5.2fx %5.1fx' % ('$1', $bytes, '$which', $ours, $theirs, $ours / $theirs, $memory * 1024 / $bytes))"
+    memory=$(./peak "$oscip" "${words[@]}" 2>&1 > said)
+    python3 -c "print('%-11s %10d | %8s %9.1f %9.1f | %5.2fx %5.1fx' % ('$1', $bytes, '$which', $ours, $theirs, $ours / $theirs, ${memory#* } * 1024 / $bytes))"
   done
   python3 - "$1" <<'END'
 import sys

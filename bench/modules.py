@@ -1,5 +1,5 @@
 # Writes modules of Oberon-07, or C of the same style, the same for the same words.
-# Usage: modules.py SHAPE FOLDER [SEED]
+# Usage: modules.py SHAPE FOLDER [SEED]. The environment variable PART divides the number of modules, and the 16 MB.
 #   files    500 modules of 20 KB
 #   graph    4,096 modules of 6 KB with some 57,000 imports and no cycle
 #   large    one module of 16 MB
@@ -9,7 +9,8 @@
 #   c        C like the module of large, of its size
 import os, random, sys
 
-LIMIT = 16 * 1024 * 1024
+PART = int(os.environ.get("PART", 1))
+LIMIT = 16 * 1024 * 1024 // PART
 DEEPEST = 200
 
 VERBS = "Find Insert Remove Draw Mark Open Close Read Write Copy Move Store Scan Next Count Check Merge Split Swap Init".split()
@@ -388,14 +389,14 @@ def module(chance, name, imports, most, **counts):
 
 
 def files(chance):
-    for k in range(500):
+    for k in range(500 // PART):
         imports = sorted(name_of(other) for other in chance.sample(range(k), min(k, 3 + k % 6)))
         yield name_of(k), module(chance, name_of(k), imports, 20000)
 
 
 def graph(chance):
     """Each module imports fourteen that come before it."""
-    for k in range(4096):
+    for k in range(4096 // PART):
         imports = sorted(name_of(other) for other in chance.sample(range(k), min(k, 14)))
         yield name_of(k), module(chance, name_of(k), imports, 6800, constants=5, types=2, variables=3)
 

@@ -2,16 +2,19 @@
 # Compares def and refs on large indexes in the style of two producers with what they have to print, and times them beside a plain
 # reader in C++ and beside reading the same file with wc. Beside Google's library library.sh times them.
 # Build the program first: (cd crates/oscip && rt run -- --help). Then: bench/query.sh [PATH OF THE PROGRAM]
+# PART divides the documents of the large ones.
 set -eu
 here=$(cd "$(dirname "$0")" && pwd)
 oscip=$(realpath "${1:-$here/../crates/oscip/out/oscip}")
 work=$(mktemp -d)
 trap 'rm -rf "$work"' EXIT
 g++ -O2 -o "$work/plain" "$here/query.cpp"
+gcc -O1 -o "$work/peak" "$here/peak.c"
 cd "$work"
 
 printf '%-11s %10s | %9s %9s %9s | %6s %6s %6s\n' style bytes oscip_ms c++_ms wc_ms time memory rows
-for row in "typescript 10 100" "java 10 100" "typescript 400 800" "java 400 700"; do
+large=$((400 / ${PART:-1}))
+for row in "typescript 10 100" "java 10 100" "typescript $large 800" "java $large 700"; do
   set -- $row
   python3 "$here/query.py" "$1" "$2" "$3" index rows
   count=0
@@ -24,7 +27,7 @@ for row in "typescript 10 100" "java 10 100" "typescript 400 800" "java 400 700"
   bytes=$(wc -c < index)
   times=$(python3 "$here/measure.py" -- "$oscip" "$command" index "$path" "$line" "$column" -- ./plain "$command" index "$path" "$line" "$column" -- wc index)
   read -r ours plain wc <<< "$times"
-  memory=$(env time -f %M "$oscip" "$command" index "$path" "$line" "$column" 2>&1 > said)
-  python3 -c "print('%-11s %10d | %9.1f %9.1f %9.1f | %5.1fx %5.1fx %6d' % ('$1', $bytes, $ours, $plain, $wc, $ours / $plain, $memory * 1024 / $bytes, $count))"
+  memory=$(./peak "$oscip" "$command" index "$path" "$line" "$column" 2>&1 > said)
+  python3 -c "print('%-11s %10d | %9.1f %9.1f %9.1f | %5.1fx %5.1fx %6d' % ('$1', $bytes, $ours, $plain, $wc, $ours / $plain, ${memory#* } * 1024 / $bytes, $count))"
 done
 echo "time: the program's time over the plain reader's; memory: its greatest resident size over the index's bytes"

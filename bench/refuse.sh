@@ -3,10 +3,12 @@
 # or with Memory, status 4 and at most a front of the right answer on standard output, and no third. Of a cut's right answer the
 # flow may be another one of that value, since it hangs on the workers' turns; check-net and check have to say yes to it. What a run
 # writes into the file out.scip counts as standard output.
-# Build the program first: (cd crates/oscip && rt run -- --help). Then: bench/refuse.sh [PATH OF THE PROGRAM]
+# Build the program first: (cd crates/oscip && rt run -- --help). Then: bench/refuse.sh [PATH OF THE PROGRAM [STEP]]
+# STEP is how far one allocation that is refused is behind the last one, 1 without it.
 set -eu
 here=$(cd "$(dirname "$0")" && pwd)
 oscip=$(realpath "${1:-$here/../crates/oscip/out/oscip}")
+step=${2:-1}
 work=$(mktemp -d)
 trap 'rm -rf "$work"' EXIT
 gcc -shared -fPIC -O1 -o "$work/refuse.so" "$here/refuse.c" -ldl
@@ -52,14 +54,13 @@ is_right() {
 
 # The words of a run, after the status with which it ends where nothing is refused.
 trial() {
-  local wanted=$1 number=0 refusals=0 same=0 right status
+  local wanted=$1 number=1 refusals=0 same=0 right status
   shift
   : > out.scip
   "$oscip" "$@" > right 2> said && right=0 || right=$?
   cat out.scip >> right
   [ $right = $wanted ] || { echo "$*: status $right, $(head -n 1 said)"; exit 1; }
   while :; do
-    number=$((number + 1))
     rm -f refused
     : > out.scip
     REFUSE_AT=$number REFUSE_NOTE=refused LD_PRELOAD="$work/refuse.so" "$oscip" "$@" > got 2> told && status=0 || status=$?
@@ -73,6 +74,7 @@ trial() {
       echo "$*, allocation $number: status $status, $(head -n 1 told)"
       exit 1
     fi
+    number=$((number + step))
   done
   [ $refusals -gt 0 ] || { echo "$*: nothing ends in Memory"; exit 1; }
   echo "$*: $refusals refusals end in Memory, $same change nothing ($(cat said right | head -n 1), status $right)"

@@ -1,8 +1,9 @@
 #!/usr/bin/env bash
-# Times cut on generated trees of modules, beside reading the same files with cat and wc, and beside ctags over as many
-# bytes of C. The report has to have weights that sum up to its own, and check has to say yes to it.
+# Times cut on generated trees of modules, beside reading the same files with cat and wc, and, where that is there, beside ctags over as
+# many bytes of C. The report has to have weights that sum up to its own, and check has to say yes to it.
 # Build the program first: (cd crates/oscip && rt run -- --help). Then: bench/trees.sh [PATH OF THE PROGRAM [SHAPE..]]
-# KEEP names a folder for the trees and for the two modules of each cut, which parse.sh can use too.
+# KEEP names a folder for the trees and for the two modules of each cut, which parse.sh can use too. PART is
+# what part of the trees is made (modules.py).
 set -eu
 here=$(cd "$(dirname "$0")" && pwd)
 oscip=$(realpath "${1:-$here/../crates/oscip/out/oscip}")
@@ -10,6 +11,7 @@ shift || true
 [ $# -gt 0 ] || set -- files graph
 work=$(mktemp -d)
 trap 'rm -rf "$work"' EXIT
+gcc -O1 -o "$work/peak" "$here/peak.c"
 data=$(realpath -m "${KEEP:-$work/data}")
 mkdir -p "$data"
 cd "$work"
@@ -59,20 +61,22 @@ is_sum() {
 
 # A row of the table, and its line for the README in the file lines. Words: the times of cut, cut by one worker, check, reading and ctags.
 row() {
-  python3 - "$shape" "$modules" "$imports" "$size" "$(grep -c '^remove ' report)" "$memory" "$@" <<'PY'
+  python3 - "$shape" "$modules" "$imports" "$size" "$(grep -c '^remove ' report)" "${memory#* }" "$@" <<'PY'
 import sys
 shape, modules, imports, size, removed, memory = sys.argv[1], *map(int, sys.argv[2:7])
-cut, alone, check, reading, ctags = map(float, sys.argv[7:])
-ratios = cut / reading, cut / ctags, alone / cut, check / cut, memory * 1024 / size
-print("%-6s %7d %7d %9d %7d | %8.1f %8.1f %8.1f %8.1f %8.1f | %7.1f %5.1f %5.1f %5.1f | %6.1f" % (
-    shape, modules, imports, size, removed, cut, alone, check, reading, ctags, *ratios), flush=True)
-cells = [shape] + [format(number, ",") for number in (modules, imports, size)] + ["%.1f" % ratio for ratio in ratios]
+cut, alone, check, reading, *peer = map(float, sys.argv[7:])
+beside = "%.1f" % peer[0] if peer else "-", "%.1f" % (cut / peer[0]) if peer else "-"
+ratios = ["%.1f" % (cut / reading), beside[1]] + ["%.1f" % ratio for ratio in (alone / cut, check / cut, memory * 1024 / size)]
+print("%-6s %7d %7d %9d %7d | %8.1f %8.1f %8.1f %8.1f %8s | %7s %5s %5s %5s | %6s" % (
+    shape, modules, imports, size, removed, cut, alone, check, reading, beside[0], *ratios), flush=True)
+cells = [shape] + [format(number, ",") for number in (modules, imports, size)] + ratios
 with open("lines", "a") as file:
     print("|", " | ".join(cells), "|", file=file)
 PY
 }
 
-for shape in c "$@"; do
+ctags=$(command -v ctags || true)
+for shape in ${ctags:+c} "$@"; do
   [ -d "$data/$shape" ] || python3 "$here/modules.py" "$shape" "$data/$shape"
 done
 for shape in "$@"; do
@@ -93,12 +97,16 @@ for shape in "$@"; do
   verdict=$("$oscip" check "$tree" report) || stop "check says $verdict"
   [ "$verdict" = yes ] || stop "check says $verdict"
   size=$(cat "$tree"/*.Mod | wc -c)
-  cat "$data/c/large.c" "$data/c/large.c" | head -c "$size" > same.c
-  [ "$(wc -c < same.c)" = "$size" ] || stop "no C of $size bytes"
+  peer=()
+  if [ -n "$ctags" ]; then
+    cat "$data/c/large.c" "$data/c/large.c" | head -c "$size" > same.c
+    [ "$(wc -c < same.c)" = "$size" ] || stop "no C of $size bytes"
+    peer=(-- ctags -f - same.c)
+  fi
   times=$(python3 "$here/measure.py" -- "$oscip" cut "$tree" "$from" "$to" -- "$oscip" cut --workers 1 "$tree" "$from" "$to" \
     -- "$oscip" check "$tree" report \
-    -- sh -c 'cat "$0"/*.Mod | wc' "$tree" -- ctags -f - same.c)
-  memory=$(env time -f %M "$oscip" cut "$tree" "$from" "$to" 2>&1 > said)
+    -- sh -c 'cat "$0"/*.Mod | wc' "$tree" "${peer[@]}")
+  memory=$(./peak "$oscip" cut "$tree" "$from" "$to" 2>&1 > said)
   row $times
 done
 echo "reading, ctags: the time of cut over theirs; one: that of cut by one worker over it; check: its time over that of cut; memory: the greatest resident size over the bytes of the tree"

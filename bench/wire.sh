@@ -1,31 +1,17 @@
 #!/usr/bin/env bash
 # Times what writes and reads an index of 3 million occurrences, beside a copy of the same bytes.
-# It builds its own program in a repository of its own, from copies of the crates: bench/wire.sh [DOCUMENTS OCCURRENCES]
+# It builds the program of wire/: bench/wire.sh [DOCUMENTS OCCURRENCES]
 # OCCURRENCES are those of each document. WIRE names a program that is built; bench/wire.sh build PATH builds it there and does no more.
 set -eu
 here=$(cd "$(dirname "$0")" && pwd)
+source "$here/own.sh"
 documents=${1:-300}
 occurrences=${2:-10000}
 work=$(mktemp -d)
 trap 'rm -rf "$work"' EXIT
 
-# The program: the crates that it stands on, with what earlier checks kept, and itself.
-build() {
-  mkdir "$work/crates"
-  for crate in byte_sink proto_wire scip_index; do cp -r "$here/../crates/$crate" "$work/crates"; done
-  # `rt ci` refuses sources outside the crates, so these have another ending here.
-  (cd "$here" && find wire -name '*.in') | while read -r name; do
-    mkdir -p "$work/crates/$(dirname "$name")"
-    cp "$here/$name" "$work/crates/${name%.in}"
-  done
-  cp "$here/../HANDLES" "$work"
-  grep -E '^(byte_sink|proto_wire|scip_index):' "$here/../crates.txt" > "$work/crates.txt"
-  echo "wire: byte_sink proto_wire scip_index" >> "$work/crates.txt"
-  (cd "$work/crates/wire" && rt run -- 1 1 1 > "$work/log" 2>&1) || { tail -n 40 "$work/log"; exit 1; }
-}
-
 wire=${WIRE:-$work/crates/wire/out/wire}
-[ -n "${WIRE:-}" ] || build
+[ -n "${WIRE:-}" ] || own "$work" wire 1 1 1
 [ "$documents" != build ] || { cp "$wire" "$occurrences"; exit 0; }
 "$wire" "$documents" "$occurrences" 7 > "$work/told"
 python3 - "$work/told" <<'END'

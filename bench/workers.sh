@@ -1,34 +1,18 @@
 #!/usr/bin/env bash
 # Times one preflow that is settled, and the solver with 1, 2, 4 and 8 workers, beside the plain solver, on generated networks:
 # steps, nanoseconds a step, and ratios. All of them have to find the same weight.
-# It builds its own program in a repository of its own, from copies of the crates: bench/workers.sh [SHAPE..]
+# It builds the program of workers/: bench/workers.sh [SHAPE..]
 # SIZES names the numbers of modules, TIMING a program that is built.
 set -eu
 here=$(cd "$(dirname "$0")" && pwd)
+source "$here/own.sh"
 [ $# -gt 0 ] || set -- banded layered powerlaw chain wide grid zeros
 work=$(mktemp -d)
 trap 'rm -rf "$work"' EXIT
 g++ -O2 -o "$work/generate" "$here/generate.cpp"
 
-# The program: the crates that it stands on, with what earlier checks kept, and itself.
-build() {
-  mkdir "$work/crates"
-  for crate in texts digraph cut_residual cut_net cut_part cut_trial cut_preflow cut_solve cut_plain; do
-    cp -r "$here/../crates/$crate" "$work/crates"
-    grep "^$crate[ :]" "$here/../crates.txt" >> "$work/crates.txt"
-  done
-  echo "workers may_wait=3: cut_net cut_preflow cut_solve cut_plain" >> "$work/crates.txt"
-  # `rt ci` refuses sources outside the crates, so these have another ending here.
-  (cd "$here" && find workers -name '*.in') | while read -r name; do
-    mkdir -p "$work/crates/$(dirname "$name")"
-    cp "$here/$name" "$work/crates/${name%.in}"
-  done
-  cp "$here/../HANDLES" "$work"
-  (cd "$work/crates/workers" && rt run -- > "$work/log" 2>&1) || { tail -n 20 "$work/log"; exit 1; }
-}
-
 timing=${TIMING:-$work/crates/workers/out/workers}
-[ -n "${TIMING:-}" ] || build
+[ -n "${TIMING:-}" ] || own "$work" workers
 printf '%-9s %8s %8s %10s %8s | %7s | %7s %7s %7s %7s\n' \
   shape modules imports steps ns/step plain one two four eight
 for shape in "$@"; do
