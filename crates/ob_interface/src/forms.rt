@@ -8,7 +8,7 @@ ghost use Rattle.ob_interface.specs.Interfaces.{is_part_by, part_of};
 ghost use Rattle.ob_interface.specs.Texts.{part_row_in, AllTell, IsGrown};
 
 use crate::rows::PartRow;
-use crate::texts::{Source, add_part, place};
+use crate::source::{Source, add_part, place};
 use indexmap::IndexMap;
 use ob_decls::{Declarer, FormPart};
 use std::alloc::{AllocError, Global};

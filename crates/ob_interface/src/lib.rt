@@ -16,7 +16,7 @@ mod order;
 mod outers;
 mod rows;
 mod seeing;
-mod texts;
+mod source;
 
 pub use answers::{Base, Declaration, Form, Part, TypeName};
 pub use interface::Interface;

@@ -12,7 +12,7 @@ ghost use Rattle.ob_interface.specs.Texts.{base_in, declaration_in, form_at, imp
 
 use crate::forms::places_of;
 use crate::rows::{BaseRow, DeclarationRow, ImportRow};
-use crate::texts::{Source, add_name, add_text};
+use crate::source::{Source, add_name, add_text};
 use indexmap::IndexMap;
 use ob_decls::{Declared, Declarer, FormPart, Import, Record, Sort, TypeName};
 use std::alloc::{AllocError, Global};

@@ -12,7 +12,7 @@ use crate::forms::{add_parts, parts_of};
 use crate::members::{add_bases, add_declarations, add_imports};
 use crate::outers::outers_of;
 use crate::rows::Rows;
-use crate::texts::{Source, add_text};
+use crate::source::{Source, add_text};
 use indexmap::IndexMap;
 use ob_decls::{Declarer, FormPart, Table};
 use ob_scan::Token;

@@ -3,7 +3,7 @@ use Rattle.std.proofs.Common.{ap, ap₂, ◌∙◌}
 use Rattle.ob_interface.specs.Interfaces.{Alone, Qualified}
 use Rattle.ob_interface.specs.Texts.{text_in}
 use Rattle.ob_interface.proofs.Growing.{grown_by, grown_twice, tells_grown}
-use Rattle.ob_interface.proofs.texts.add_name.Goals as goal
+use Rattle.ob_interface.proofs.source.add_name.Goals as goal
 
 pub returns-in-None-clause-grown : goal.returns-in-None-clause-grown
 returns-in-None-clause-grown c = grown_by _ _ _ c.in_ok-head.ensures.grown
