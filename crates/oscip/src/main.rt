@@ -3,18 +3,16 @@
 //! Its contract: what an engine puts is what the definitions say of its inputs, and nothing else.
 #![tactic(auto)]
 
-ghost use Rattle.std.specs.Prelude.{◌≡◌, true};
 ghost use Rattle.std.specs.String.{string_bytes};
 ghost use Rattle.oscip_tree.specs.Sources.{ArePathsInOrder};
-ghost use Rattle.oscip_job.specs.Jobs.{is_crossings_job, is_net_job, is_query_job, is_tree_job, HasPackage, HasWorkers, IsPackage, MayWork};
+ghost use Rattle.oscip_job.specs.Jobs.{HasPackage, HasWorkers, IsPackage, MayWork};
 
-use byte_sink::ToWrite;
-use cut_solve::OpenGate;
+use byte_sink::{Sink, ToWrite};
 use index_run::{OpenBoard, answer_index, unresolved_to};
 use oscip_job::{Indexing, Job, JobFault, Output, job_of};
 use oscip_run::{
-    RunFault, answer, answer_crossings, answer_question, answer_tree, fault_line, read_file,
-    sources_of, status_of, status_of_run, status_of_words,
+    RunFault, SystemFiles, fault_line, run_crossings, run_net, run_question, run_tree, sources_of,
+    status_of, status_of_run, status_of_words,
 };
 use oscip_tree::Source;
 use std::alloc::Global;
@@ -24,136 +22,6 @@ use std::rt::{Env, Files};
 use std::sync::Wait;
 use std::thread::Threads;
 use std::{env, fs, io};
-
-/// The bytes of the job's report, and none where it has no report.
-fn report_of<R: Files + AllocGlobal>(rt: &R, job: &Job) -> Result<Vec<u8>, RunFault> {
-    match job {
-        Job::Check { report, .. }
-        | Job::CheckNet { report, .. }
-        | Job::Dot { report, .. }
-        | Job::DotNet { report, .. } => read_file(rt, report.as_str()),
-        Job::Cut { .. }
-        | Job::Crossings { .. }
-        | Job::CutNet { .. }
-        | Job::Def(_)
-        | Job::Refs(_)
-        | Job::Index(_)
-        | Job::Unresolved { .. } => Ok(Vec::new(rt.alloc())),
-    }
-}
-
-/// The bytes of a file, where one is named.
-fn read_named<R: Files + AllocGlobal>(
-    rt: &R,
-    path: &Option<String>,
-) -> Result<Option<Vec<u8>>, RunFault> {
-    match path {
-        Some(path) => Ok(Some(read_file(rt, path.as_str())?)),
-        None => Ok(None),
-    }
-}
-
-/// The bytes of the job's prices, where it has any.
-fn prices_of<R: Files + AllocGlobal>(rt: &R, job: &Job) -> Result<Option<Vec<u8>>, RunFault> {
-    match job {
-        Job::Cut { prices, .. }
-        | Job::Check { prices, .. }
-        | Job::CutNet { prices, .. }
-        | Job::CheckNet { prices, .. }
-        | Job::Dot { prices, .. }
-        | Job::DotNet { prices, .. } => read_named(rt, prices),
-        Job::Crossings { .. }
-        | Job::Def(_)
-        | Job::Refs(_)
-        | Job::Index(_)
-        | Job::Unresolved { .. } => Ok(None),
-    }
-}
-
-fn slice_of(bytes: &Option<Vec<u8>>) -> Option<&[u8]> {
-    match bytes {
-        Some(bytes) => Some(bytes.as_slice()),
-        None => None,
-    }
-}
-
-/// Runs a job on the lines of a network. Its files are read in the order of the words, and its prices last.
-fn run_net<R: Files + AllocGlobal + Print + Threads + Wait + Sync>(
-    rt: &R,
-    job: &Job,
-    network: &str,
-) -> Result<bool, RunFault>
-    requires network { is_net_job job.now ≡ true }
-    requires workers { HasWorkers job.now }
-{
-    let network = read_file(rt, network)?;
-    let report = report_of(rt, job)?;
-    let prices = prices_of(rt, job)?;
-    let mut sink = ToWrite::new(io::writer(rt));
-    answer(
-        rt,
-        rt.alloc(),
-        job,
-        network.as_slice(),
-        report.as_slice(),
-        &OpenGate,
-        slice_of(&prices),
-        &mut sink,
-    )
-}
-
-/// Runs a job on the modules of a folder. Its files are read in the order of the words, and its prices last.
-fn run_tree<R: Files + AllocGlobal + Print + Threads + Wait + Sync + Clone + Drop>(
-    rt: &R,
-    job: &Job,
-    folder: &str,
-) -> Result<bool, RunFault>
-    requires tree { is_tree_job job.now ≡ true }
-    requires workers { HasWorkers job.now }
-{
-    let sources = sources_of(rt, folder)?;
-    let report = report_of(rt, job)?;
-    let prices = prices_of(rt, job)?;
-    let mut sink = ToWrite::new(io::writer(rt));
-    answer_tree(
-        rt,
-        rt.alloc(),
-        job,
-        sources.as_slice(),
-        report.as_slice(),
-        &OpenGate,
-        slice_of(&prices),
-        &mut sink,
-    )
-}
-
-/// Tells where a module uses another. Nothing of it is a check that says no.
-fn run_crossings<R: Files + AllocGlobal + Print + Threads + Sync + Clone + Drop>(
-    rt: &R,
-    job: &Job,
-    folder: &str,
-) -> Result<bool, RunFault>
-    requires { is_crossings_job job.now ≡ true }
-{
-    let sources = sources_of(rt, folder)?;
-    let mut sink = ToWrite::new(io::writer(rt));
-    answer_crossings(rt, rt.alloc(), job, sources.as_slice(), &mut sink)?;
-    Ok(true)
-}
-
-/// Answers a question. Nothing of it is a check that says no.
-fn run_question<R: Files + AllocGlobal + Print>(
-    rt: &R,
-    job: &Job,
-    index: &str,
-) -> Result<bool, RunFault>
-    requires { is_query_job job.now ≡ true }
-{
-    let index = read_file(rt, index)?;
-    let mut sink = ToWrite::new(io::writer(rt));
-    answer_question(rt.alloc(), job, index.as_slice(), &mut sink)?;
-    Ok(true)
-}
 
 /// Why an index stands nowhere: a file of this path that can't be written, or `Memory`.
 fn cannot_write(alloc: Global, path: &str) -> RunFault {
@@ -185,37 +53,35 @@ fn index_to_file<R: Files + AllocGlobal + Threads + Wait + Sync>(
 }
 
 /// Makes an index, once all files of its folder are read. Nothing of it is a check that says no.
-fn run_index<R: Files + AllocGlobal + Print + Threads + Wait + Sync + Clone + Drop>(
+fn run_index<R: Files + AllocGlobal + Threads + Wait + Sync + Clone + Drop, S: Sink>(
     rt: &R,
     indexing: &Indexing,
+    sink: &mut S,
 ) -> Result<bool, RunFault>
     requires package { IsPackage (string_bytes indexing.now.package) }
     requires workers { MayWork indexing.now.workers }
 {
     let sources = sources_of(rt, indexing.folder.as_str())?;
+    let sources = sources.as_slice();
     match &indexing.output {
-        Output::File(path) => index_to_file(rt, indexing, sources.as_slice(), path.as_str())?,
-        Output::Hex => {
-            let mut sink = ToWrite::new(io::writer(rt));
-            let sources = sources.as_slice();
-            answer_index(rt, rt.alloc(), indexing, sources, &OpenBoard, &mut sink)?
-        }
+        Output::File(path) => index_to_file(rt, indexing, sources, path.as_str())?,
+        Output::Hex => answer_index(rt, rt.alloc(), indexing, sources, &OpenBoard, sink)?,
     }
     Ok(true)
 }
 
 /// Tells which identifiers of a folder's modules mean nothing. Nothing of it is a check that says no.
-fn run_unresolved<R: Files + AllocGlobal + Print + Threads + Sync + Clone + Drop>(
+fn run_unresolved<R: Files + AllocGlobal + Threads + Sync + Clone + Drop, S: Sink>(
     rt: &R,
     folder: &str,
+    sink: &mut S,
 ) -> Result<bool, RunFault> {
     let sources = sources_of(rt, folder)?;
-    let mut sink = ToWrite::new(io::writer(rt));
-    unresolved_to(rt, rt.alloc(), sources.as_slice(), &mut sink)?;
+    unresolved_to(rt, rt.alloc(), sources.as_slice(), sink)?;
     Ok(true)
 }
 
-/// Runs the job on the real standard output. Its files are read in the order of the words, and its prices last.
+/// Runs the job on the real files and the real standard output.
 fn run_job<R: Files + AllocGlobal + Print + Threads + Wait + Sync + Clone + Drop>(
     rt: &R,
     job: &Job,
@@ -223,18 +89,19 @@ fn run_job<R: Files + AllocGlobal + Print + Threads + Wait + Sync + Clone + Drop
     requires workers { HasWorkers job.now }
     requires package { HasPackage job.now }
 {
+    let reader = SystemFiles(rt);
+    let mut sink = ToWrite::new(io::writer(rt));
     match job {
-        Job::Cut { folder, .. } | Job::Check { folder, .. } | Job::Dot { folder, .. } => {
-            run_tree(rt, job, folder.as_str())
+        Job::Cut { .. } | Job::Check { .. } | Job::Dot { .. } => {
+            run_tree(rt, rt.alloc(), &reader, job, &mut sink)
         }
-        Job::Crossings { folder, .. } => run_crossings(rt, job, folder.as_str()),
-        Job::CutNet { network, .. } | Job::CheckNet { network, .. } | Job::DotNet { network, .. } =>
-            { run_net(rt, job, network.as_str()) }
-        Job::Def(question) | Job::Refs(question) => {
-            run_question(rt, job, question.index.as_str())
+        Job::Crossings { .. } => run_crossings(rt, rt.alloc(), &reader, job, &mut sink),
+        Job::CutNet { .. } | Job::CheckNet { .. } | Job::DotNet { .. } => {
+            run_net(rt, rt.alloc(), &reader, job, &mut sink)
         }
-        Job::Index(indexing) => run_index(rt, indexing),
-        Job::Unresolved { folder } => run_unresolved(rt, folder.as_str()),
+        Job::Def(_) | Job::Refs(_) => run_question(rt.alloc(), &reader, job, &mut sink),
+        Job::Index(indexing) => run_index(rt, indexing, &mut sink),
+        Job::Unresolved { folder } => run_unresolved(rt, folder.as_str(), &mut sink),
     }
 }
 

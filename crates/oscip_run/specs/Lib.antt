@@ -6,5 +6,7 @@ pub mod DotRuns
 pub mod JobRuns
 pub mod Endings
 pub mod Files
+pub mod Readings
+pub mod FileRuns
 pub mod AskedRuns
 pub mod CrossingRuns

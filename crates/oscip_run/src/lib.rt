@@ -1,6 +1,6 @@
-//! Runs: the files and folders that a job names, the engines that cut, check, draw and answer questions over any sink, and how a run ends.
+//! Runs: the files and folders that a job names, from any reader, the engines that cut, check, draw and answer questions over any sink, and how a run ends.
 //! Stands on `oscip_job`, `oscip_tree`, `oscip_query` and the `cut_` crates, with `thiserror` for its faults.
-//! Its contract: what an engine puts is what the definitions say of its inputs, and nothing else.
+//! Its contract: what an engine puts is what the definitions say of its inputs, and nothing else; the inputs of a run are what the reader gave.
 #![tactic(auto)]
 
 mod asking;
@@ -13,6 +13,8 @@ mod files;
 mod folder;
 pub mod laws;
 mod priced;
+mod reader;
+mod reading;
 mod run;
 
 pub use asking::answer_question;
@@ -23,4 +25,6 @@ pub use engine::{READERS, check_net_bytes, check_tree, cut_net_bytes, cut_tree};
 pub use fault::{RunFault, fault_line, status_of};
 pub use files::read_file;
 pub use folder::sources_of;
+pub use reader::{Reader, SystemFiles};
+pub use reading::{run_crossings, run_net, run_question, run_tree};
 pub use run::{answer, answer_tree};

@@ -1,0 +1,84 @@
+-- What a reader of files and folders answers, and what a job names to be read.
+use Rattle.std.specs.Prelude.{◌≡◌, ◌⊎◌, ℕ, [], List, Option, Some, None, option_map}
+use Rattle.std.specs.Global.{Vec}
+use Rattle.std.specs.String.{string_bytes}
+use Rattle.oscip_job.specs.declared.job.Job.{Job}
+use Rattle.oscip_job.specs.declared.job.Job.TheVariants.{Cut, Check, Crossings, CutNet, CheckNet, Dot, DotNet, Def, Refs, Index, Unresolved}
+use Rattle.oscip_run.specs.Faults.{IsReadFault}
+use Rattle.oscip_run.specs.Files.{AreFronts, IsFile}
+use Rattle.oscip_run.specs.declared.fault.RunFault.{RunFault}
+use Rattle.oscip_tree.specs.declared.source.Source.{Source}
+
+-- an answer to a path: the bytes of the file there, the modules below the folder there, or the fault of what can't be read
+pub data Reading : Type 0 where
+  FileOf : List ℕ → List ℕ → Reading
+  FolderOf : List ℕ → List Source → Reading
+  Refused : List ℕ → RunFault → Reading
+
+-- what is known of an answer of the system: how much is taken, and which faults there are
+abbrev pub IsOfSystem : Reading → Type 0
+IsOfSystem (FileOf path bytes) = IsFile bytes
+IsOfSystem (FolderOf path sources) = AreFronts sources
+IsOfSystem (Refused path fault) = IsReadFault fault
+
+-- the paths that a job names: that of its network, its folder or its index, and those of its report and its prices, where it has them
+pub record JobPaths : Type 0 where
+  pub input : List ℕ
+  pub report : Option (List ℕ)
+  pub prices : Option (List ℕ)
+
+abbrev pub job_paths : Job → JobPaths
+job_paths (Cut folder from to workers prices) = record { input = string_bytes folder; report = None; prices = option_map string_bytes prices }
+job_paths (Check folder report prices) = record { input = string_bytes folder; report = Some (string_bytes report); prices = option_map string_bytes prices }
+job_paths (Crossings folder from to) = record { input = string_bytes folder; report = None; prices = None }
+job_paths (CutNet network from to workers prices) = record { input = string_bytes network; report = None; prices = option_map string_bytes prices }
+job_paths (CheckNet network report prices) = record { input = string_bytes network; report = Some (string_bytes report); prices = option_map string_bytes prices }
+job_paths (Dot folder report prices) = record { input = string_bytes folder; report = Some (string_bytes report); prices = option_map string_bytes prices }
+job_paths (DotNet network report prices) = record { input = string_bytes network; report = Some (string_bytes report); prices = option_map string_bytes prices }
+job_paths (Def question) = record { input = string_bytes question.index; report = None; prices = None }
+job_paths (Refs question) = record { input = string_bytes question.index; report = None; prices = None }
+job_paths (Index indexing) = record { input = string_bytes indexing.folder; report = None; prices = None }
+job_paths (Unresolved folder) = record { input = string_bytes folder; report = None; prices = None }
+
+-- Below Answers are the answers of a reader.
+
+-- of a path that is named these are the bytes that the reader gave, and none are given where none is named
+abbrev pub IsGiven : (Reading → Type 0) → Option (List ℕ) → Option (List ℕ) → Type 0
+IsGiven Answers None given = given ≡ None
+IsGiven Answers (Some path) given = (bytes : List ℕ) × (given ≡ Some bytes) × Answers (FileOf path bytes)
+
+-- a path is named, and the reader refused it with this fault
+abbrev pub IsNotGiven : (Reading → Type 0) → Option (List ℕ) → RunFault → Type 0
+IsNotGiven Answers None fault = ⊥
+IsNotGiven Answers (Some path) fault = Answers (Refused path fault)
+
+-- this report and these prices are given, where the job names them
+pub record AreGiven (Answers : Reading → Type 0) (paths : JobPaths) (report prices : Option (List ℕ)) : Type 0 where
+  pub report_given : IsGiven Answers paths.report report
+  pub prices_given : IsGiven Answers paths.prices prices
+
+-- the report is refused; or it isn't, and the prices are
+abbrev pub AreNotGiven : (Reading → Type 0) → JobPaths → RunFault → Type 0
+AreNotGiven Answers paths fault =
+    IsNotGiven Answers paths.report fault ⊎ (((report : Option (List ℕ)) × IsGiven Answers paths.report report) × IsNotGiven Answers paths.prices fault)
+
+-- the network is refused; or it isn't, and what is read behind it is
+abbrev pub IsNetNotGiven : (Reading → Type 0) → JobPaths → RunFault → Type 0
+IsNetNotGiven Answers paths fault =
+    Answers (Refused paths.input fault) ⊎ (((network : List ℕ) × Answers (FileOf paths.input network)) × AreNotGiven Answers paths fault)
+
+-- the same of a folder
+abbrev pub IsTreeNotGiven : (Reading → Type 0) → JobPaths → RunFault → Type 0
+IsTreeNotGiven Answers paths fault =
+    Answers (Refused paths.input fault) ⊎ (((sources : List Source) × Answers (FolderOf paths.input sources)) × AreNotGiven Answers paths fault)
+
+-- ---- what is made on the way
+
+-- the bytes that were given, if any were
+abbrev pub bytes_given : Option (Vec ℕ) → Option (List ℕ)
+bytes_given given = option_map (λ (bytes : Vec ℕ). bytes.items) given
+
+-- the bytes, and none where nothing was given
+abbrev pub bytes_or_none : Option (List ℕ) → List ℕ
+bytes_or_none None = []
+bytes_or_none (Some bytes) = bytes
