@@ -7,6 +7,7 @@ pub mod Keyed
 pub mod Named
 pub mod Placing
 pub mod Resolving
+pub mod Resolved
 pub mod Seeing
 pub mod Finding
 pub mod Weighing

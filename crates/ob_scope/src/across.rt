@@ -11,9 +11,9 @@ ghost use Rattle.ob_scope.specs.Scoped.{AreScopes};
 ghost use Rattle.ob_scope.specs.Texts.{text_at};
 
 use crate::Scopes;
-use crate::members::{Member, members_by, place_of_member};
+use crate::members::{Member, members_by};
 use crate::uses::is_import;
-use ob_decls::{Table, Used};
+use ob_decls::{Table, Used, place_of};
 use std::alloc::{AllocError, Global};
 
 /// A use that crosses an import, by the numbers of its tokens.
@@ -31,7 +31,7 @@ fn declares_import(members: &[Member], number: u32) -> bool
     ensures yes { result ≡ true → IsImportAt members.now number }
     ensures no { IsImportAt members.now number → result ≡ true }
 {
-    match place_of_member(members, number) {
+    match place_of(members, number) {
         Some(at) => is_import(members[at].sort),
         None => false,
     }

@@ -16,13 +16,13 @@ ghost use Rattle.ob_scope.specs.declared.members.Member.{Member};
 
 use crate::apart::are_apart;
 use crate::identified::are_identifiers;
-use crate::members::{Member, Scope, members_by, place_of_member};
+use crate::members::{Member, Scope, members_by};
 use crate::numbering::{Numbered, no_names, number_rest};
 use crate::places::{IndexFault, index_of};
 use crate::text::Text;
 use crate::uses::{Resolved, found_by};
 use crate::{Alias, ScopeFault, Scopes};
-use ob_decls::{Import, Table};
+use ob_decls::{Import, Table, place_of};
 use ob_scan::Token;
 use std::alloc::{AllocError, Global};
 
@@ -35,7 +35,7 @@ fn uses_of(members: &[Member], counts: &[u64], alias: u32) -> u64
     requires as_many { length counts.now ≡ length members.now }
     ensures { IsCountOf members.now counts.now alias result }
 {
-    match place_of_member(members, alias) {
+    match place_of(members, alias) {
         Some(at) => counts[at],
         None => 0,
     }

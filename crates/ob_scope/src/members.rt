@@ -5,7 +5,7 @@ ghost use Rattle.ob_scope.specs.declared.members.Member.{Member};
 ghost use Rattle.ob_decls.specs.Order.{AscendBy, HasNoneBy, IsPlaceBy};
 ghost use Rattle.ob_scope.specs.Members.{declarer_at, member_by, members_by, scope_of};
 
-use ob_decls::{Declared, Declarer, Sort};
+use ob_decls::{Declared, Declarer, Keyed, Sort, place_of};
 use std::alloc::{AllocError, Global};
 
 /// Where an identifier is declared.
@@ -25,6 +25,14 @@ pub struct Member {
     pub sort: Sort,
 }
 
+impl Keyed for Member {
+    ghost number_in = { λ member. member.number };
+
+    fn key(&self) -> u32 {
+        self.number
+    }
+}
+
 /// Where a construct declares its identifiers.
 fn scope_of(by: Declarer) -> Scope
     ensures { result ≡ scope_of by }
@@ -33,15 +41,6 @@ fn scope_of(by: Declarer) -> Scope
         None => Scope::Block(by.block),
         Some(record) => Scope::Record(record),
     }
-}
-
-/// The place of the construct that declares and begins with this token.
-fn place_of_declarer(declarers: &[Declarer], first: u32) -> Option<usize>
-    requires { AscendBy (λ (d : Declarer). d.first) declarers.now }
-    ensures found { IfSome result (IsPlaceBy (λ (d : Declarer). d.first) declarers.now first) }
-    ensures none { IfNone result (HasNoneBy (λ (d : Declarer). d.first) declarers.now first) }
-{
-    declarers.binary_search_by_key(&first, |by| by.first).ok()
 }
 
 /// Whether the construct at this place begins with this token.
@@ -67,18 +66,7 @@ fn place_near(declarers: &[Declarer], near: usize, first: u32) -> Option<usize>
     if begins_at(declarers, next, first) {
         return Some(next);
     }
-    place_of_declarer(declarers, first)
-}
-
-/// The place of the member of this token.
-pub(crate) fn place_of_member(members: &[Member], number: u32) -> Option<usize>
-    requires { AscendBy (λ (m : Member). m.number) members.now }
-    ensures found { IfSome result (IsPlaceBy (λ (m : Member). m.number) members.now number) }
-    ensures none { IfNone result (HasNoneBy (λ (m : Member). m.number) members.now number) }
-{
-    members
-        .binary_search_by_key(&number, |member| member.number)
-        .ok()
+    place_of(declarers, first)
 }
 
 /// The construct that declares and begins with this token. It is looked for near a place, and its own is near the next one.

@@ -8,6 +8,7 @@ ghost use Rattle.ob_scope.specs.declared.module_scopes.Alias.{Alias};
 ghost use Rattle.ob_scope.specs.Scoped.{AliasUses, Meaning};
 
 use crate::meaning::Resolution;
+use ob_decls::{Keyed, place_of};
 use std::marker::Model;
 
 /// An import: the identifier that stands for a module, and the module's own name.
@@ -19,6 +20,14 @@ pub struct Alias {
     pub module: String,
     /// How many uses it qualifies.
     pub(crate) uses: u64,
+}
+
+impl Keyed for Alias {
+    ghost number_in = { λ alias. alias.decl };
+
+    fn key(&self) -> u32 {
+        self.decl
+    }
 }
 
 /// What the used names of a module mean, and its aliases. Identifiers are told by the numbers of their tokens, from 0.
@@ -40,15 +49,6 @@ impl Model for Scopes {
     ghost view = { λ s. record { name = string_bytes s.name; meanings = map meaning_of s.meanings.items; aliases = map alias_of s.aliases.items } };
 
     ghost invariant = { λ s. AreValidScopes (record { name = string_bytes s.name; meanings = map meaning_of s.meanings.items; aliases = map alias_of s.aliases.items }) };
-}
-
-/// The place of the row of a use.
-fn place_of_use(rows: &[Resolution], used: u32) -> Option<usize>
-    requires { AscendBy (λ (m : Resolution). m.used) rows.now }
-    ensures found { IfSome result (IsPlaceBy (λ (m : Resolution). m.used) rows.now used) }
-    ensures none { IfNone result (HasNoneBy (λ (m : Resolution). m.used) rows.now used) }
-{
-    rows.binary_search_by_key(&used, |row| row.used).ok()
 }
 
 /// Whether all rows before a place are of uses before this one.
@@ -100,18 +100,9 @@ fn place_near(rows: &[Resolution], near: &mut usize, used: u32) -> Option<usize>
     if are_before(rows, at, used) && are_behind(rows, at, used) {
         return None;
     }
-    let at = place_of_use(rows, used)?;
+    let at = place_of(rows, used)?;
     *near = at.saturating_add(1);
     Some(at)
-}
-
-/// The place of the alias of a token.
-fn place_of_alias(aliases: &[Alias], decl: u32) -> Option<usize>
-    requires { AscendBy (λ (a : Alias). a.decl) aliases.now }
-    ensures found { IfSome result (IsPlaceBy (λ (a : Alias). a.decl) aliases.now decl) }
-    ensures none { IfNone result (HasNoneBy (λ (a : Alias). a.decl) aliases.now decl) }
-{
-    aliases.binary_search_by_key(&decl, |alias| alias.decl).ok()
 }
 
 impl Scopes {
@@ -137,7 +128,7 @@ impl Scopes {
         ensures found { IfSome result (λ declared. Contains self.now.meanings (record { used = used; declared = declared })) }
         ensures none { IfNone result ((declared : ℕ) → Contains self.now.meanings (record { used = used; declared = declared }) → ⊥) }
     {
-        let at = place_of_use(self.meanings.as_slice(), used)?;
+        let at = place_of(self.meanings.as_slice(), used)?;
         Some(self.meanings[at].declared)
     }
 
@@ -163,7 +154,7 @@ impl Scopes {
         ensures found { (a : AliasUses) → Contains self.now.aliases a → a.alias ≡ alias → result ≡ a.uses }
         ensures none { ((a : AliasUses) → Contains self.now.aliases a → a.alias ≡ alias → ⊥) → result ≡ 0 }
     {
-        match place_of_alias(self.aliases.as_slice(), alias) {
+        match place_of(self.aliases.as_slice(), alias) {
             Some(at) => self.aliases[at].uses,
             None => 0,
         }
@@ -174,7 +165,7 @@ impl Scopes {
         ensures yes { result ≡ true → IsAliasFor self.now alias imported.now }
         ensures no { IsAliasFor self.now alias imported.now → result ≡ true }
     {
-        match place_of_alias(self.aliases.as_slice(), alias) {
+        match place_of(self.aliases.as_slice(), alias) {
             Some(at) => self.aliases[at].module.as_str() == imported,
             None => false,
         }

@@ -2,7 +2,7 @@
 ghost use Rattle.std.specs.Prelude.{◌≡◌, ◌≤◌, ◌<◌, ℕ, Some, length, slice_get, IfOk, IfSome, IfNone, OnOk};
 ghost use Rattle.ob_scan.specs.Spelling.{AreInText};
 ghost use Rattle.ob_decls.specs.declared.rows.Block.{Block};
-ghost use Rattle.ob_decls.specs.Order.{AscendBy, HasNoneBy, IsPlaceBy};
+ghost use Rattle.ob_decls.specs.Order.{AscendBy};
 ghost use Rattle.indexmap.specs.IndexMap.{get};
 ghost use Rattle.ob_scope.specs.Forward.{same_type, AreTypes};
 ghost use Rattle.ob_scope.specs.Looked.{IsMeant, IsTypeAfter, MeansNothing};
@@ -17,7 +17,7 @@ use crate::numbering::{Numbered, name_number};
 use crate::sight::{Sight, resolved};
 use crate::text::Text;
 use indexmap::IndexMap;
-use ob_decls::{Block, Used};
+use ob_decls::{Block, Used, place_of};
 use std::alloc::AllocError;
 
 /// The place of the type of this name that this block declares.
@@ -55,22 +55,13 @@ fn type_after(
     }
 }
 
-/// The place of the row of a block.
-fn place_of_block(blocks: &[Block], block: u32) -> Option<usize>
-    requires { AscendBy (λ (b : Block). b.first) blocks.now }
-    ensures found { IfSome result (IsPlaceBy (λ (b : Block). b.first) blocks.now block) }
-    ensures none { IfNone result (HasNoneBy (λ (b : Block). b.first) blocks.now block) }
-{
-    blocks.binary_search_by_key(&block, |row| row.first).ok()
-}
-
 /// The block in which a block directly stands; none for the module's.
 pub(crate) fn outer_of(blocks: &[Block], block: u32) -> Option<u32>
     requires { AscendBy (λ (b : Block). b.first) blocks.now }
     ensures found { IfSome result (IsDirectlyIn blocks.now block) }
     ensures none { IfNone result ((outer : ℕ) → IsDirectlyIn blocks.now block outer → ⊥) }
 {
-    let at = place_of_block(blocks, block)?;
+    let at = place_of(blocks, block)?;
     let outer = blocks[at].outer;
     if outer < block { Some(outer) } else { None }
 }

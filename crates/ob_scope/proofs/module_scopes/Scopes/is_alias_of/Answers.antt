@@ -10,8 +10,8 @@ use Rattle.ob_scope.specs.declared.module_scopes.Alias.{Alias}
 use Rattle.ob_scope.proofs.Elements.{ascend_map, ascend_one, contains_of, none_of, some_one}
 use Rattle.ob_scope.proofs.module_scopes.Scopes.is_alias_of.Goals as goal
 
-pub place_of_alias-requires : goal.place_of_alias-requires
-place_of_alias-requires c = rw c.as_slice.ensures.value (ascend_map alias_of (λ (a : AliasUses). a.alias) c.self.inside.aliases.items c.self.invariant.aliases_ascend)
+pub place_of-requires : goal.place_of-requires
+place_of-requires c = rw c.as_slice.ensures.value (ascend_map alias_of (λ (a : AliasUses). a.alias) c.self.inside.aliases.items c.self.invariant.aliases_ascend)
 
 pub index-requires : goal.index-requires
 index-requires c = let found = c.in-Some.ensures.found in omega (arith, slice_get_within c.as_slice.result.now c.in-Some.at found.element found.there)
