@@ -9,7 +9,6 @@ here=$(cd "$(dirname "$0")" && pwd)
 oscip=$(realpath "${1:-$here/../crates/oscip/out/oscip}")
 work=$(mktemp -d)
 trap 'rm -rf "$work"' EXIT
-source "$here/own.sh"
 export PART=32
 failed=
 
@@ -51,7 +50,7 @@ refused() {
 
 declare -A building
 for name in timing wire workers; do
-  own "$work/$name" $name > "$work/$name.log" 2>&1 &
+  "$here/own.py" "$work/$name" $name > "$work/$name.log" 2>&1 &
   building[$name]=$!
 done
 
