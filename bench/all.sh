@@ -72,7 +72,7 @@ short index.sh "$here/index.sh" "$oscip" 1 50
 short foreign.py "$here/foreign.py"
 short fields.py fields
 short fuzz.sh "$here/fuzz.sh" "$oscip" 4000
-short hostile.py "$here/hostile.py" "$oscip" 60
+short hostile.py env PART=8 "$here/hostile.py" "$oscip" 60
 short wire built wire
 short wire.sh env WIRE="$work/wire/crates/wire/out/wire" "$here/wire.sh" 30 1000
 short workers built workers

@@ -17,7 +17,7 @@ from crates import ROOT, below, crates_of
 
 # What each program says in crates.txt.
 PROGRAMS = {
-    "timing": "timing: ob_scan ob_tree ob_decls ob_parse ob_table ob_scope ob_types ob_targets ob_resolve ob_emit scip_index",
+    "timing": "timing: ob_scan ob_tree ob_decls ob_parse ob_table ob_scope ob_types ob_resolve ob_emit scip_index",
     "wire": "wire: byte_sink proto_wire scip_index",
     "workers": "workers may_wait=3: cut_net cut_preflow cut_solve cut_plain",
 }
