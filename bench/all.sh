@@ -9,7 +9,6 @@ here=$(cd "$(dirname "$0")" && pwd)
 oscip=$(realpath "${1:-$here/../crates/oscip/out/oscip}")
 work=$(mktemp -d)
 trap 'rm -rf "$work"' EXIT
-source "$here/own.sh"
 export PART=32
 failed=
 
@@ -51,7 +50,7 @@ refused() {
 
 declare -A building
 for name in timing wire workers; do
-  own "$work/$name" $name > "$work/$name.log" 2>&1 &
+  "$here/own.py" "$work/$name" $name > "$work/$name.log" 2>&1 &
   building[$name]=$!
 done
 
@@ -73,7 +72,7 @@ short index.sh "$here/index.sh" "$oscip" 1 50
 short foreign.py "$here/foreign.py"
 short fields.py fields
 short fuzz.sh "$here/fuzz.sh" "$oscip" 4000
-short hostile.py "$here/hostile.py" "$oscip" 60
+short hostile.py env PART=8 "$here/hostile.py" "$oscip" 60
 short wire built wire
 short wire.sh env WIRE="$work/wire/crates/wire/out/wire" "$here/wire.sh" 30 1000
 short workers built workers

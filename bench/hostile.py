@@ -7,8 +7,7 @@ once, each time the least of three. Where valgrind is there, it counts the instr
 numbers of many bytes in an index over those of as many bytes in numbers of one byte. Last it gives the program an address space that is
 just enough: there it has to answer, or to tell want of memory, within some seconds.
 
-Each row ends with what is wrong, as more than it may take, or with `ok`; its bounds are what was needed when they were set, and an
-eighth to a half more. The status is 1 where something is wrong.
+Each row ends with what is wrong, as more than it may take, or with `ok`. The status is 1 where something is wrong.
 
 Build the program first: (cd crates/oscip && rt run -- --help). Then: bench/hostile.py [PROGRAM [RUNS]]. `cc` compiles
 `colliding.c`, which makes names that fall together, and `peak.c`, which tells memory. The environment variable PART divides the sizes of
@@ -185,27 +184,27 @@ HARMFUL = [
         "index",
         ["refs", "index", "a", "0", "0"],
         {
-            "empty occurrences": (4, lambda k: document(many(25_000_000) * k * record(2, b""))),
-            "documents of one path": (4, lambda k: many(10_000_000) * k * record(2, b"\x0a\x01a")),
-            "occurrences, each with a symbol of one byte": (4, lambda k: document(many(2_000_000) * k * record(2, b"\x12\x01s"))),
-            "empty external symbols": (4, lambda k: many(2_000_000) * k * record(3, b"")),
+            "empty occurrences": (2.5, lambda k: document(many(25_000_000) * k * record(2, b""))),
+            "documents of one path": (2.5, lambda k: many(10_000_000) * k * record(2, b"\x0a\x01a")),
+            "occurrences, each with a symbol of one byte": (2.5, lambda k: document(many(2_000_000) * k * record(2, b"\x12\x01s"))),
+            "empty external symbols": (2.5, lambda k: many(2_000_000) * k * record(3, b"")),
         },
     ),
     (
         "m/M.Mod",
         ["index", "m", "--hex"],
         {
-            "semicolons": (100, lambda k: module(many(4_000_000) * k * b";")),
-            "`^` behind a name": (100, lambda k: module(b"x := x" + many(4_000_000) * k * b"^")),
-            "`+ x`": (100, lambda k: module(b"x := x" + many(1_300_000) * k * b"+ x")),
-            "`()` behind a name": (100, lambda k: module(b"x" + many(2_000_000) * k * b"()")),
-            "import items of one name": (100, lambda k: b"MODULE M; IMPORT " + b", ".join([b"A"] * (many(1_300_000) * k)) + b"; END M."),
-            "one name": (100, lambda k: module(many(4_000_000) * k * b"x")),
-            "WHILE in one another": (100, lambda k: module(many(400_000) * k * b"WHILE x DO ")),
-            "procedure types": (100, lambda k: b"MODULE M; TYPE T = " + many(200_000) * k * b"PROCEDURE (): " + b"T; END M."),
-            "dimensions": (100, lambda k: b"MODULE M; TYPE T = ARRAY " + many(1_300_000) * k * b"1, " + b"1 OF SET; END M."),
-            "names that fall together behind one that is declared twice": (100, lambda k: variables(b"a, a: SET; ", colliding(40_000, 16)[: 20_000 * k])),
-            "names that fall together and that no record has": (100, lambda k: behind_a_base(colliding(40_000, 16)[: 20_000 * k])),
+            "semicolons": (45, lambda k: module(many(4_000_000) * k * b";")),
+            "`^` behind a name": (80, lambda k: module(b"x := x" + many(4_000_000) * k * b"^")),
+            "`+ x`": (80, lambda k: module(b"x := x" + many(1_300_000) * k * b"+ x")),
+            "`()` behind a name": (80, lambda k: module(b"x" + many(2_000_000) * k * b"()")),
+            "import items of one name": (80, lambda k: b"MODULE M; IMPORT " + b", ".join([b"A"] * (many(1_300_000) * k)) + b"; END M."),
+            "one name": (80, lambda k: module(many(4_000_000) * k * b"x")),
+            "WHILE in one another": (80, lambda k: module(many(400_000) * k * b"WHILE x DO ")),
+            "procedure types": (80, lambda k: b"MODULE M; TYPE T = " + many(200_000) * k * b"PROCEDURE (): " + b"T; END M."),
+            "dimensions": (80, lambda k: b"MODULE M; TYPE T = ARRAY " + many(1_300_000) * k * b"1, " + b"1 OF SET; END M."),
+            "names that fall together behind one that is declared twice": (80, lambda k: variables(b"a, a: SET; ", colliding(40_000, 16)[: 20_000 * k])),
+            "names that fall together and that no record has": (80, lambda k: behind_a_base(colliding(40_000, 16)[: 20_000 * k])),
         },
     ),
     (

@@ -8,7 +8,6 @@
 # TIMING names a program that is built, KEEP a folder for the files, and PART is what part of them is made (modules.py).
 set -eu
 here=$(cd "$(dirname "$0")" && pwd)
-source "$here/own.sh"
 step=${1:-walk}
 shift || true
 [ $# -gt 0 ] || set -- files graph large comment nested
@@ -18,7 +17,7 @@ data=${KEEP:-$work/data}
 mkdir -p "$data"
 
 timing=${TIMING:-$work/crates/timing/out/timing}
-[ -n "${TIMING:-}" ] || own "$work" timing
+[ -n "${TIMING:-}" ] || "$here/own.py" "$work" timing
 gcc -O1 -o "$work/peak" "$here/peak.c"
 sources=c
 case $step in lines | scopes | emit) sources= ;; esac

@@ -4,14 +4,13 @@
 # OCCURRENCES are those of each document. WIRE names a program that is built; bench/wire.sh build PATH builds it there and does no more.
 set -eu
 here=$(cd "$(dirname "$0")" && pwd)
-source "$here/own.sh"
 documents=${1:-300}
 occurrences=${2:-10000}
 work=$(mktemp -d)
 trap 'rm -rf "$work"' EXIT
 
 wire=${WIRE:-$work/crates/wire/out/wire}
-[ -n "${WIRE:-}" ] || own "$work" wire 1 1 1
+[ -n "${WIRE:-}" ] || "$here/own.py" "$work" wire 1 1 1
 [ "$documents" != build ] || { cp "$wire" "$occurrences"; exit 0; }
 "$wire" "$documents" "$occurrences" 7 > "$work/told"
 python3 - "$work/told" <<'END'

@@ -5,14 +5,13 @@
 # SIZES names the numbers of modules, TIMING a program that is built.
 set -eu
 here=$(cd "$(dirname "$0")" && pwd)
-source "$here/own.sh"
 [ $# -gt 0 ] || set -- banded layered powerlaw chain wide grid zeros
 work=$(mktemp -d)
 trap 'rm -rf "$work"' EXIT
 g++ -O2 -o "$work/generate" "$here/generate.cpp"
 
 timing=${TIMING:-$work/crates/workers/out/workers}
-[ -n "${TIMING:-}" ] || own "$work" workers
+[ -n "${TIMING:-}" ] || "$here/own.py" "$work" workers
 printf '%-9s %8s %8s %10s %8s | %7s | %7s %7s %7s %7s\n' \
   shape modules imports steps ns/step plain one two four eight
 for shape in "$@"; do
