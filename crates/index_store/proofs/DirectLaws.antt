@@ -1,9 +1,11 @@
 -- What a walk over the records finds is what all occurrences of the index give.
-use Rattle.std.proofs.Common.{◌≡◌, ℕ, zero, suc, Bool, true, false, not, List, [], ◌∷◌, ◌++◌, length, map, fold, Option, Some, None, Result, Ok, Err, refl, sym, ap, ap₂, ◌∙◌, arith, inl, inr}
+use Rattle.std.proofs.Common.{◌≡◌, ℕ, zero, suc, Bool, true, false, not, List, [], ◌∷◌, ◌++◌, length, take, map, fold, Option, Some, None, Result, Ok, Err, refl, sym, ap, ap₂, ◌∙◌, arith, inl, inr}
 use Rattle.std.specs.Prelude.{◌||◌, Contains, IfOk, filter, option_map, if◌then◌else◌}
 use Rattle.std.specs.List.{AllByRecursion, flat_map}
 use Rattle.std.specs.Str.{IsUtf8, bytes_eq}
 use Rattle.std.proofs.lemmas.Bool.{cases_Bool, false≢true}
+use Rattle.std.proofs.lemmas.List.{append-nil, length-map, take-map}
+use Rattle.std.proofs.Math.Seq.{take-append_seam}
 use Rattle.std.proofs.lemmas.Grind.{flat_map-append}
 use Rattle.proto_wire.specs.Messages.{each_of, records_inside}
 use Rattle.proto_wire.specs.Readings.{payload_records}
@@ -167,3 +169,25 @@ places_there false bytes path symbol index means = rw (documents_said bytes inde
 pub if_ok : {X E : Type 0} (result : Result X E) (P Q : X → Type 0) → IfOk result P → ((x : X) → P x → Q x) → IfOk result Q
 if_ok (Ok x) P Q h go = go x h
 if_ok (Err e) P Q h go = tt
+
+-- the places of a document that has this path, where it is looked at
+pub in_document : (defines local : Bool) (path symbol first : List ℕ) (d : PlainDocument) → bytes_eq d.relative_path first ≡ true → (not local || bytes_eq first path) ≡ true
+    → flat_map (place_of_symbol defines symbol first) d.occurrences ≡ places_in_document defines local path symbol d
+in_document defines local path symbol first d e looked = rw (same_bytes d.relative_path first e, looked) refl
+
+-- what was added is cut off again
+pub cut_off : {A B : Type 0} (view : A → B) (old more : List A) (added : List B) → map view more ≡ map view old ++ added → map view (take (length old) more) ≡ map view old ++ []
+cut_off view old more added e =
+    sym (take-map view (length old) more) ∙ ap (take (length old)) e ∙ ap (λ (n : ℕ). take n (map view old ++ added)) (sym (length-map old view)) ∙ take-append_seam (map view old) added ∙ sym (append-nil (map view old))
+
+pub not_not : (b : Bool) → not b ≡ false → b ≡ true
+not_not true e = refl
+not_not false e = absurd cc
+
+-- a document is looked at where it has the path, or any has
+pub looked_by_path : (local has : Bool) → has ≡ true → (not local || has) ≡ true
+looked_by_path true has e = e
+looked_by_path false has e = refl
+
+pub looked_at_all : (local has : Bool) → local ≡ false → (not local || has) ≡ true
+looked_at_all local has e = rw e refl

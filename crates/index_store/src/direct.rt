@@ -1,5 +1,5 @@
 //! Questions to the bytes of an index, with no store: the records are walked, and no message and no table is made.
-ghost use Rattle.std.specs.Prelude.{◌≡◌, ◌<◌, ◌+◌, ◌^◌, ◌++◌, ◌||◌, [], true, IfOk, IfSome, None, OnOk, fold, length, map, option_map};
+ghost use Rattle.std.specs.Prelude.{◌≡◌, ◌<◌, ◌+◌, ◌^◌, ◌++◌, ◌||◌, [], true, IfOk, IfSome, None, OnOk, fold, length, map, option_map, if◌then◌else◌};
 ghost use Rattle.std.specs.Str.{IsUtf8, bytes_eq};
 ghost use Rattle.std.specs.Option.{option_to_list};
 ghost use Rattle.std.specs.List.{flat_map};
@@ -294,22 +294,65 @@ fn add_occurrence<'a>(
     Ok(())
 }
 
-/// Adds the places of a document's occurrences that are asked for.
-fn add_occurrences<'a>(
-    document: Inside<'_>,
+/// Adds the places of a document's occurrences that are asked for, and tells its path: one walk for both.
+fn add_occurrences<'a, 'd>(
+    document: Inside<'d>,
     path: &'a str,
     sought: Sought<'_>,
     numbers: &mut Vec<i32>,
     places: &mut Vec<Place<'a>>,
-) -> Result<(), AllocError>
+) -> Result<&'d [u8], AllocError>
     requires { document.start + length document.bytes.now < 2 ^ 64 }
-    ensures { OnOk result (map plain_place places.new.items ≡ map plain_place places.old.items ++ flat_map (place_of_symbol sought.entry.defines sought.entry.symbol.now path.now) (document_of (records_of document.entry)).occurrences) }
+    ensures added { OnOk result (map plain_place places.new.items ≡ map plain_place places.old.items ++ flat_map (place_of_symbol sought.entry.defines sought.entry.symbol.now path.now) (document_of (records_of document.entry)).occurrences) }
+    ensures path { IfOk result (λ last. latest [] (each_of 1 bytes_in (records_of document.entry)) ≡ last.now) }
 {
     let mut rest = document;
-    while let Some(occurrence) = next_message(2, &mut rest) {
+    let mut last: &[u8] = &[];
+    loop {
+        let (occurrence, passed) = next_message_and_bytes(2, 1, last, &mut rest);
+        last = passed;
+        let Some(occurrence) = occurrence else {
+            return Ok(last);
+        };
         add_occurrence(occurrence, path, sought, numbers, places)?;
     }
-    Ok(())
+}
+
+/// The path that a document begins with, as most producers write it.
+fn first_path<'a>(document: Inside<'a>) -> Option<&'a str>
+    requires { document.start + length document.bytes.now < 2 ^ 64 }
+{
+    let mut rest = document;
+    match next_short(&mut rest) {
+        Some((wire, text)) if wire.field == 1 => std::str::from_utf8(text).ok(),
+        _ => None,
+    }
+}
+
+/// Adds the places of a document that are asked for, where the path that it begins with is its only one: then one walk is enough.
+/// Whether that is so; else nothing is added.
+fn add_by_first<'a>(
+    document: Inside<'a>,
+    sought: Sought<'_>,
+    numbers: &mut Vec<i32>,
+    places: &mut Vec<Place<'a>>,
+) -> Result<bool, AllocError>
+    requires { document.start + length document.bytes.now < 2 ^ 64 }
+    ensures { IfOk result (λ is_added. map plain_place places.new.items ≡ map plain_place places.old.items ++ (if is_added then places_in_document sought.entry.defines sought.entry.local sought.entry.path.now sought.entry.symbol.now (document_of (records_of document.entry)) else [])) }
+{
+    let Some(path) = first_path(document) else {
+        return Ok(false);
+    };
+    if sought.local && path.as_bytes() != sought.path {
+        return Ok(false);
+    }
+    let before = places.len();
+    let last = add_occurrences(document, path, sought, numbers, places)?;
+    if last != path.as_bytes() {
+        places.truncate(before);
+        return Ok(false);
+    }
+    Ok(true)
 }
 
 /// Adds the places of a document that are asked for.
@@ -322,14 +365,17 @@ fn add_document<'a>(
     requires { document.start + length document.bytes.now < 2 ^ 64 }
     ensures { IsUtf8 (document_of (records_of document.entry)).relative_path → OnOk result (map plain_place places.new.items ≡ map plain_place places.old.items ++ places_in_document sought.entry.defines sought.entry.local sought.entry.path.now sought.entry.symbol.now (document_of (records_of document.entry))) }
 {
+    if add_by_first(document, sought, numbers, places)? {
+        return Ok(());
+    }
     let path = last_bytes(1, document);
     if sought.local && path != sought.path {
         return Ok(());
     }
-    match std::str::from_utf8(path) {
-        Err(_) => Ok(()),
-        Ok(path) => add_occurrences(document, path, sought, numbers, places),
+    if let Ok(path) = std::str::from_utf8(path) {
+        add_occurrences(document, path, sought, numbers, places)?;
     }
+    Ok(())
 }
 
 /// The places of the documents of an index that are asked for.

@@ -1,10 +1,11 @@
--- Records that begin with a key of one byte and a length or a number of one byte.
+-- Records that begin with a key of one byte, and a length or a number of one byte or bytes without a length.
 use Rattle.std.proofs.Common.{◌≡◌, ℕ, ◌+◌, ◌-◌, ◌/◌, ◌%◌, ◌<◌, ◌≤◌, List, ◌∷◌, [], length, take, drop, take_all, Ok, refl, sym, ap, subst, arith}
-use Rattle.std.proofs.lemmas.List.{take-append-drop, length-take-le}
+use Rattle.std.proofs.lemmas.List.{take-append-drop, length-take-le, length-drop}
 use Rattle.std.specs.List.{slice_index_or}
+use Rattle.proto_wire.specs.declared.record.WireValue.{WireValue}
 use Rattle.proto_wire.specs.declared.record.WireValue.TheVariants.{Varint, Bytes}
 use Rattle.proto_wire.specs.Readings.{piece}
-use Rattle.proto_wire.specs.Records.{IsFirst, IsKey}
+use Rattle.proto_wire.specs.Records.{IsFirst, IsKey, IsValue}
 use Rattle.proto_wire.specs.Varints.{IsVarint}
 
 one_byte : (b : ℕ) → b < 128 → IsVarint (b ∷ []) b
@@ -33,6 +34,15 @@ short_payload at k n rest some l e m enough = (
   record { kind = 2; key = k ∷ []; size = n ∷ []; content = take n rest; form = refl; is_key = short_key k 2 some l e; is_value = (refl, one_byte n m, length-take-le n rest enough, refl); at_key = refl; at_body = omega arith },
 )
 
+-- bytes without a length, the first of which stands behind the key
+short_fixed : (at k n more kind : ℕ) (value : WireValue) (rest : List ℕ) → 8 ≤ k → k < 128 → k % 8 ≡ kind → IsValue value kind [] (n ∷ take more rest) []
+    → IsFirst at (k ∷ n ∷ rest) (Ok (piece (k / 8) value at (at + 1) [], drop more rest))
+short_fixed at k n more kind value rest some l e is = (
+  k ∷ n ∷ take more rest,
+  ap (λ (bs : List ℕ). k ∷ n ∷ bs) (sym (take-append-drop more rest)),
+  record { kind = kind; key = k ∷ []; size = []; content = n ∷ take more rest; form = refl; is_key = short_key k kind some l e; is_value = is; at_key = refl; at_body = omega arith },
+)
+
 -- what stands behind two bytes
 behind_two : (k n : ℕ) (rest : List ℕ) → take (length (k ∷ n ∷ rest) - 2) (drop 2 (k ∷ n ∷ rest)) ≡ rest
 behind_two k n rest = take_all (length (k ∷ n ∷ rest) - 2) rest (omega arith)
@@ -53,3 +63,14 @@ payload_in_front at (k ∷ n ∷ rest) field next payload after two some l e m f
     let whole = behind_two k n rest in
     let count : n ≤ length rest = rw (g, whole) at enough in
     rw (f, p, q, g, whole) (short_payload at k n rest some l e m count)
+
+pub fixed_in_front : (at : ℕ) (bytes : List ℕ) (field more kind : ℕ) (value : WireValue) → 2 ≤ length bytes → 8 ≤ slice_index_or bytes 0 0 → slice_index_or bytes 0 0 < 128 → slice_index_or bytes 0 0 % 8 ≡ kind → field ≡ slice_index_or bytes 0 0 / 8
+    → more ≤ length (take (length bytes - 2) (drop 2 bytes)) → ((content : List ℕ) → length content ≡ 1 + more → IsValue value kind [] content [])
+    → IsFirst at bytes (Ok (piece field value at (at + 1) [], take (length (take (length bytes - 2) (drop 2 bytes)) - more) (drop more (take (length bytes - 2) (drop 2 bytes)))))
+fixed_in_front at [] field more kind value two some l e f enough is = absurd (omega (arith, two))
+fixed_in_front at (k ∷ []) field more kind value two some l e f enough is = absurd (omega (arith, two))
+fixed_in_front at (k ∷ n ∷ rest) field more kind value two some l e f enough is =
+    let whole = behind_two k n rest in
+    let count : more ≤ length rest = rw whole at enough in
+    let behind : take (length rest - more) (drop more rest) ≡ drop more rest = take_all (length rest - more) (drop more rest) (omega (arith, length-drop more rest)) in
+    rw (f, whole, behind) (short_fixed at k n more kind value rest some l e (is (n ∷ take more rest) (omega (arith, length-take-le more rest count))))

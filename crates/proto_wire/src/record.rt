@@ -142,8 +142,8 @@ fn first_record(at: usize, bytes: &[u8]) -> Result<(WireRecord, &[u8], &[u8]), W
     value_at_front(Key { field, at, body }, key % 8, rest)
 }
 
-/// The record at the front, where its key is one byte and a number or a length of one byte follows, as nearly all are: none of the
-/// varints is walked.
+/// The record at the front, where its key is one byte and a number or a length of one byte follows, or bytes without a length, as
+/// in nearly all: none of the varints is walked.
 #[inline(always)]
 pub(crate) fn short_record(at: usize, bytes: &[u8]) -> Option<(WireRecord, &[u8], &[u8])>
     requires { at + length bytes.now < 2 ^ 64 }
@@ -155,40 +155,30 @@ pub(crate) fn short_record(at: usize, bytes: &[u8]) -> Option<(WireRecord, &[u8]
         return None;
     };
     let (key, next) = (*key, *next);
-    if key < 8 || key >= 128 || next >= 128 {
+    if key < 8 || key >= 128 {
         return None;
     }
     let field = u32::from(key / 8);
     let count = usize::from(next);
+    let body = at + 1;
     match key % 8 {
-        0 => {
+        0 if next < 128 => {
             let value = WireValue::Varint(u64::from(next));
-            let body = at + 1;
-            Some((
-                WireRecord {
-                    field,
-                    value,
-                    at,
-                    body,
-                },
-                &[],
-                rest,
-            ))
+            Some((Key { field, at, body }.record(value), &[], rest))
         }
-        2 if count <= rest.len() => {
-            let value = WireValue::Bytes(count);
+        2 if next < 128 && count <= rest.len() => {
             let body = at + 2;
             let (payload, after) = rest.split_at(count);
-            Some((
-                WireRecord {
-                    field,
-                    value,
-                    at,
-                    body,
-                },
-                payload,
-                after,
-            ))
+            let value = WireValue::Bytes(count);
+            Some((Key { field, at, body }.record(value), payload, after))
+        }
+        1 if rest.len() >= 7 => {
+            let key = Key { field, at, body };
+            Some((key.record(WireValue::Eight), &[], &rest[7..]))
+        }
+        5 if rest.len() >= 3 => {
+            let key = Key { field, at, body };
+            Some((key.record(WireValue::Four), &[], &rest[3..]))
         }
         _ => None,
     }
