@@ -124,7 +124,6 @@ fn value_at_front(
 }
 
 /// The record at the front, its bytes where it has a length, and what follows.
-#[inline(never)]
 #[tactic(auto, unfolding(crate::specs::Readings::record_in))]
 fn first_record(at: usize, bytes: &[u8]) -> Result<(WireRecord, &[u8], &[u8]), WireFault>
     requires { at + length bytes.now < 2 ^ 64 }
@@ -142,8 +141,8 @@ fn first_record(at: usize, bytes: &[u8]) -> Result<(WireRecord, &[u8], &[u8]), W
     value_at_front(Key { field, at, body }, key % 8, rest)
 }
 
-/// The record at the front, where its key is one byte and a number or a length of one byte follows, or bytes without a length, as
-/// in nearly all: none of the varints is walked.
+/// The record at the front, where its key is one byte and a number or a length of one byte follows, as nearly all are: none of the
+/// varints is walked.
 #[inline(always)]
 pub(crate) fn short_record(at: usize, bytes: &[u8]) -> Option<(WireRecord, &[u8], &[u8])>
     requires { at + length bytes.now < 2 ^ 64 }
@@ -155,23 +154,62 @@ pub(crate) fn short_record(at: usize, bytes: &[u8]) -> Option<(WireRecord, &[u8]
         return None;
     };
     let (key, next) = (*key, *next);
-    if key < 8 || key >= 128 {
+    if key < 8 || key >= 128 || next >= 128 {
         return None;
     }
     let field = u32::from(key / 8);
     let count = usize::from(next);
-    let body = at + 1;
     match key % 8 {
-        0 if next < 128 => {
+        0 => {
             let value = WireValue::Varint(u64::from(next));
-            Some((Key { field, at, body }.record(value), &[], rest))
+            let body = at + 1;
+            Some((
+                WireRecord {
+                    field,
+                    value,
+                    at,
+                    body,
+                },
+                &[],
+                rest,
+            ))
         }
-        2 if next < 128 && count <= rest.len() => {
+        2 if count <= rest.len() => {
+            let value = WireValue::Bytes(count);
             let body = at + 2;
             let (payload, after) = rest.split_at(count);
-            let value = WireValue::Bytes(count);
-            Some((Key { field, at, body }.record(value), payload, after))
+            Some((
+                WireRecord {
+                    field,
+                    value,
+                    at,
+                    body,
+                },
+                payload,
+                after,
+            ))
         }
+        _ => None,
+    }
+}
+
+/// The record at the front, where its key is one byte and bytes without a length follow.
+fn fixed_record(at: usize, bytes: &[u8]) -> Option<(WireRecord, &[u8], &[u8])>
+    requires { at + length bytes.now < 2 ^ 64 }
+    ensures exact { IfSome result (λ x. IsFirst at bytes.now (Ok (payload_record_view x))) }
+    ensures shorter { IfSome result (λ x. length x.2.now < length bytes.now) }
+    ensures inside { IfSome result (λ x. x.0.body + length x.1.now ≤ at + length bytes.now) }
+{
+    let [key, _, rest @ ..] = bytes else {
+        return None;
+    };
+    let key = *key;
+    if key < 8 || key >= 128 {
+        return None;
+    }
+    let field = u32::from(key / 8);
+    let body = at + 1;
+    match key % 8 {
         1 if rest.len() >= 7 => {
             let key = Key { field, at, body };
             Some((key.record(WireValue::Eight), &[], &rest[7..]))
@@ -181,6 +219,21 @@ pub(crate) fn short_record(at: usize, bytes: &[u8]) -> Option<(WireRecord, &[u8]
             Some((key.record(WireValue::Four), &[], &rest[3..]))
         }
         _ => None,
+    }
+}
+
+/// The record at the front, its bytes where it has a length, and what follows: no call is laid out for one of another form than the
+/// short one.
+#[inline(never)]
+fn long_record(at: usize, bytes: &[u8]) -> Result<(WireRecord, &[u8], &[u8]), WireFault>
+    requires { at + length bytes.now < 2 ^ 64 }
+    ensures exact { Shows payload_record_view result (IsFirst at bytes.now) }
+    ensures shorter { IfOk result (λ x. length x.2.now < length bytes.now) }
+    ensures inside { IfOk result (λ x. x.0.body + length x.1.now ≤ at + length bytes.now) }
+{
+    match fixed_record(at, bytes) {
+        Some(found) => Ok(found),
+        None => first_record(at, bytes),
     }
 }
 
@@ -198,7 +251,7 @@ pub fn record_at_front(at: usize, bytes: &[u8]) -> Result<(WireRecord, &[u8], &[
 {
     match short_record(at, bytes) {
         Some(found) => Ok(found),
-        None => first_record(at, bytes),
+        None => long_record(at, bytes),
     }
 }
 
