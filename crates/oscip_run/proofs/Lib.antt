@@ -7,3 +7,4 @@ pub mod JobRuns
 pub mod NoRefusal
 pub mod WithoutPrices
 pub mod CrossingRuns
+pub mod FileRuns
