@@ -26,4 +26,3 @@ pub mod ShortUses
 pub mod LinesNear
 pub mod RowsMarked
 pub mod InPlace
-pub mod NearRows

@@ -4,7 +4,7 @@ ghost use Rattle.std.specs.Prelude.{◌≡◌, ◌<◌, ◌+◌, ◌++◌, ◌�
 ghost use Rattle.proto_wire.specs.Varints.{varint};
 ghost use Rattle.proto_wire.specs.Writing.{packed_fields, packing, payload_field, spelled, spelled_fields, text_fields};
 
-use proto_wire::{Scratch, Written, push_message};
+use proto_wire::{Scratch, Written, push_message, push_varint};
 use std::alloc::AllocError;
 
 /// Puts the length of what stands behind a key and one free byte, of which the key stands at this place.
@@ -45,19 +45,6 @@ pub(crate) fn push_in_place<M: Written>(
     }
     out.truncate(start);
     push_message(scratch, out, field, message)
-}
-
-/// Puts a number behind the bytes, in its shortest form.
-pub(crate) fn push_varint(out: &mut Vec<u8>, number: u64) -> Result<(), AllocError>
-    ensures { OnOk result (out.new.items ≡ out.old.items ++ varint number) }
-{
-    let mut rest = number;
-    while rest >= 128 {
-        out.push((rest % 128) as u8 + 128)?;
-        rest /= 128;
-    }
-    out.push(rest as u8)?;
-    Ok(())
 }
 
 /// Puts the bytes of a text behind the others as a field of this number, as `put_text` does.

@@ -1,13 +1,12 @@
 //! The rows of a walk through a module in order: each is sought first where the last one was found, and behind it.
-ghost use Rattle.std.specs.Prelude.{◌≡◌, ◌==◌, find, IfNone, IfSome};
+ghost use Rattle.std.specs.Prelude.{◌≡◌, ◌==◌, find, Contains, IfNone, IfSome};
 ghost use Rattle.ob_decls.specs.declared.rows.Declared.{Declared};
 ghost use Rattle.ob_decls.specs.declared.rows.Declarer.{Declarer};
 ghost use Rattle.ob_decls.specs.Declaring.{rows_in};
 ghost use Rattle.ob_decls.specs.Order.{AscendBy, HasNoneBy, IsPlaceBy};
 ghost use Rattle.ob_types.specs.World.{declarer_of};
 
-use crate::row_places::place_by_number;
-use ob_decls::{Declared, Declarer, Table};
+use ob_decls::{Declared, Declarer, Keyed, Table, place_of};
 use ob_types::Types;
 
 /// At so many rows it is looked first.
@@ -32,45 +31,32 @@ impl Near {
     }
 }
 
-/// The place of the construct that begins with this token, sought among all.
-fn construct_sought(rows: &[Declarer], first: u32) -> Option<usize>
-    requires { AscendBy (λ (by : Declarer). by.first) rows.now }
-    ensures found { IfSome result (IsPlaceBy (λ (by : Declarer). by.first) rows.now first) }
-    ensures none { IfNone result (HasNoneBy (λ (by : Declarer). by.first) rows.now first) }
-{
-    rows.binary_search_by_key(&first, |row| row.first).ok()
-}
-
-/// The same, looked for first at this place and behind it.
-fn construct_near(rows: &[Declarer], near: usize, first: u32) -> Option<usize>
-    requires { AscendBy (λ (by : Declarer). by.first) rows.now }
-    ensures found { IfSome result (IsPlaceBy (λ (by : Declarer). by.first) rows.now first) }
-    ensures none { IfNone result (HasNoneBy (λ (by : Declarer). by.first) rows.now first) }
+/// The place of the row of this number, looked for first at this place and behind it.
+fn row_place_near<T: Keyed>(rows: &[T], near: usize, number: u32) -> Option<usize>
+    requires { AscendBy T.number_in rows.now }
+    ensures found { IfSome result (IsPlaceBy T.number_in rows.now number) }
+    ensures none { IfNone result (HasNoneBy T.number_in rows.now number) }
 {
     for at in near..near.saturating_add(NEAR) {
         if let Some(row) = rows.get(at) {
-            if row.first == first {
+            if row.key() == number {
                 return Some(at);
             }
         }
     }
-    construct_sought(rows, first)
+    place_of(rows, number)
 }
 
-/// The place of the identifier of this token, looked for first at this place and behind it.
-fn identifier_near(rows: &[Declared], near: usize, number: u32) -> Option<usize>
-    requires { AscendBy (λ (d : Declared). d.number) rows.now }
-    ensures found { IfSome result (IsPlaceBy (λ (d : Declared). d.number) rows.now number) }
-    ensures none { IfNone result (HasNoneBy (λ (d : Declared). d.number) rows.now number) }
+/// The row of this number, sought first near the place of the last one.
+fn row_near<'r, T: Keyed>(rows: &'r [T], near: &mut usize, number: u32) -> Option<&'r T>
+    requires { AscendBy T.number_in rows.now }
+    ensures found { IfSome result (λ row. Contains rows.now row.now) }
+    ensures number { IfSome result (λ row. T.number_in row.now ≡ number) }
+    ensures none { IfNone result ((row : T) → Contains rows.now row → T.number_in row ≡ number → ⊥) }
 {
-    for at in near..near.saturating_add(NEAR) {
-        if let Some(row) = rows.get(at) {
-            if row.number == number {
-                return Some(at);
-            }
-        }
-    }
-    place_by_number(rows, number)
+    let at = row_place_near(rows, *near, number)?;
+    *near = at;
+    Some(&rows[at])
 }
 
 /// The construct that declares and begins with this token, sought first near the place of the last one.
@@ -78,14 +64,7 @@ pub(crate) fn declarer_near(table: &Table, near: &mut usize, first: u32) -> Opti
     ensures { result ≡ find (λ (by : Declarer). by.first == first) (rows_in table.now).declarers }
 {
     table.keeps();
-    let rows = table.declarers();
-    match construct_near(rows, *near, first) {
-        Some(at) => {
-            *near = at;
-            Some(rows[at])
-        }
-        None => None,
-    }
+    row_near(table.declarers(), near, first).copied()
 }
 
 /// The row of the identifier that this token declares, sought first near the place of the last one.
@@ -93,14 +72,7 @@ fn declared_near(table: &Table, near: &mut usize, number: u32) -> Option<Declare
     ensures { result ≡ find (λ (d : Declared). d.number == number) (rows_in table.now).declared }
 {
     table.keeps();
-    let rows = table.declared();
-    match identifier_near(rows, *near, number) {
-        Some(at) => {
-            *near = at;
-            Some(rows[at])
-        }
-        None => None,
-    }
+    row_near(table.declared(), near, number).copied()
 }
 
 /// The construct that declares this token, sought first near what a walk found last.

@@ -2,8 +2,8 @@
 ghost use Rattle.std.specs.Prelude.{◌≡◌, ◌≤◌, ◌++◌, ℕ, List, IfOk, length, vec_len};
 ghost use Rattle.proto_wire.specs.Writing.{head_of, payload_field, spelled};
 
-use crate::in_place::push_varint;
 use crate::room::cut;
+use proto_wire::push_varint;
 use std::alloc::{AllocError, Global};
 
 /// How many bytes the head of about so many bytes takes: a guess, as the length isn't known yet.

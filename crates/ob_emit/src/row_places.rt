@@ -6,7 +6,7 @@ ghost use Rattle.ob_decls.specs.declared.rows.Declared.{Declared};
 ghost use Rattle.ob_decls.specs.Order.{AscendBy, HasNoneBy, IsPlaceBy};
 ghost use Rattle.ob_emit.specs.RowsCut.{AreBefore, AreBehind, AreCuts, IsCut};
 
-use ob_decls::Declared;
+use ob_decls::{Declared, place_of};
 use std::alloc::{AllocError, Global};
 
 /// How many tokens stand between two marks.
@@ -72,17 +72,6 @@ fn place_between(declared: &[Declared], low: usize, high: usize, number: u32) ->
     None
 }
 
-/// The place among all of the declaration of this number, if there is one.
-pub(crate) fn place_by_number(declared: &[Declared], number: u32) -> Option<usize>
-    requires { AscendBy (λ (d : Declared). d.number) declared.now }
-    ensures found { IfSome result (IsPlaceBy (λ (d : Declared). d.number) declared.now number) }
-    ensures none { IfNone result (HasNoneBy (λ (d : Declared). d.number) declared.now number) }
-{
-    declared
-        .binary_search_by_key(&number, |row| row.number)
-        .ok()
-}
-
 impl<'a> RowPlaces<'a> {
     /// Those of declarations in a text of so many tokens.
     pub(crate) fn new(
@@ -121,7 +110,7 @@ impl<'a> RowPlaces<'a> {
     {
         match self.bounds(number) {
             Some((low, high)) => place_between(self.declared, low, high, number),
-            None => place_by_number(self.declared, number),
+            None => place_of(self.declared, number),
         }
     }
 

@@ -26,6 +26,7 @@ pub use inside::{
 pub use message::{Message, check_message, merge_message, read_message, take_messages};
 pub use record::{WireRecord, WireValue, record_at_front, records};
 pub use scratch::Scratch;
+pub use varint::push_varint;
 pub use writer::Writer;
 pub use writing::{
     Written, push_message, put_message, put_messages, put_number, put_packed, put_text, put_texts,

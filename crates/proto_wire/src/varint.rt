@@ -119,8 +119,9 @@ pub(crate) fn varint_at_front(at: usize, bytes: &[u8]) -> Result<(u64, &[u8]), W
     }
 }
 
-/// Writes a number at the end, in its shortest form.
-pub(crate) fn push_varint(out: &mut Vec<u8>, number: u64) -> Result<(), AllocError>
+/// Puts a number behind the bytes, in its shortest form. Fails where memory is refused; a front of it may then be there.
+/// Protocol Buffers encoding, "Base 128 Varints".
+pub fn push_varint(out: &mut Vec<u8>, number: u64) -> Result<(), AllocError>
     ensures { OnOk result (out.new.items ≡ out.old.items ++ varint number) }
 {
     let mut rest = number;
