@@ -122,6 +122,10 @@ impl Message for CheckedDocument {
     }
 
     fn take(&mut self, alloc: Global, wire: &WireRecord, payload: &[u8]) -> Result<(), WireFault> {
+        // of a record of a later field nothing is looked at
+        if wire.field > 4 {
+            return Ok(());
+        }
         check_text(1, wire, payload)?;
         check_occurrence(alloc, wire, payload)?;
         check_message::<CheckedSymbol>(alloc, 3, wire, payload)?;
