@@ -108,19 +108,30 @@ struct Search<'a> {
     best: Option<Near<'a>>,
 }
 
-/// Whether the first record of a document is this path, as most producers write it.
-fn begins_with(document: Inside<'_>, path: &[u8]) -> bool
+/// The path that a document begins with, where it has less than 128 bytes, as most producers write it. Where a number of the field
+/// stands there it is empty: what a document's path is, is known at its end.
+fn first_path<'a>(document: Inside<'a>) -> Option<&'a [u8]>
     requires { document.start + length document.bytes.now < 2 ^ 64 }
 {
     let mut rest = document;
     match next_short(&mut rest) {
-        Some((wire, text)) => wire.field == 1 && text == path,
+        Some((wire, text)) if wire.field == 1 => Some(text),
+        _ => None,
+    }
+}
+
+/// Whether a document begins with this path, of less than 128 bytes.
+fn begins_with(document: Inside<'_>, path: &[u8]) -> bool
+    requires { document.start + length document.bytes.now < 2 ^ 64 }
+{
+    match first_path(document) {
+        Some(first) => first == path,
         None => false,
     }
 }
 
-/// What was found so far, and what is found in one document more. One that begins with the path is walked once: whether it has
-/// no other path is known at its end.
+/// What was found so far, and what is found in one document more. One that begins with the path, of less than 128 bytes, is walked
+/// once: whether its last path is the same is known at its end.
 fn search_document<'a>(
     document: Inside<'a>,
     path: &[u8],
@@ -318,19 +329,9 @@ fn add_occurrences<'a, 'd>(
     }
 }
 
-/// The path that a document begins with, as most producers write it.
-fn first_path<'a>(document: Inside<'a>) -> Option<&'a str>
-    requires { document.start + length document.bytes.now < 2 ^ 64 }
-{
-    let mut rest = document;
-    match next_short(&mut rest) {
-        Some((wire, text)) if wire.field == 1 => std::str::from_utf8(text).ok(),
-        _ => None,
-    }
-}
-
-/// Adds the places of a document that are asked for, where the path that it begins with is its only one: then one walk is enough.
-/// Whether that is so; else nothing is added.
+/// Adds the places of a document that are asked for, where its last path is the one that it begins with, of less than 128 bytes and
+/// UTF-8, and of a local symbol the one that is asked for: then one walk is enough. Whether that is so; else nothing is added, but where
+/// memory was refused some may be.
 fn add_by_first<'a>(
     document: Inside<'a>,
     sought: Sought<'_>,
@@ -340,15 +341,18 @@ fn add_by_first<'a>(
     requires { document.start + length document.bytes.now < 2 ^ 64 }
     ensures { IfOk result (λ is_added. map plain_place places.new.items ≡ map plain_place places.old.items ++ (if is_added then places_in_document sought.entry.defines sought.entry.local sought.entry.path.now sought.entry.symbol.now (document_of (records_of document.entry)) else [])) }
 {
-    let Some(path) = first_path(document) else {
+    let Some(first) = first_path(document) else {
         return Ok(false);
     };
-    if sought.local && path.as_bytes() != sought.path {
+    if sought.local && first != sought.path {
         return Ok(false);
     }
+    let Ok(path) = std::str::from_utf8(first) else {
+        return Ok(false);
+    };
     let before = places.len();
     let last = add_occurrences(document, path, sought, numbers, places)?;
-    if last != path.as_bytes() {
+    if last != first {
         places.truncate(before);
         return Ok(false);
     }
