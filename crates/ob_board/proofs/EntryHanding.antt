@@ -1,10 +1,10 @@
--- What is at hand for the entry of a module, and the entries of all.
-use Rattle.std.proofs.Common.{◌≡◌, ℕ, zero, suc, ◌<◌, Bool, true, false, List, [], ◌∷◌, ◌++◌, length, get_or, map, None, Some, refl, sym, ap, ◌∙◌, subst, arith, ◌⊎◌, inl, inr}
+-- The entry of a module, and the entries of all.
+use Rattle.std.proofs.Common.{◌≡◌, ℕ, zero, suc, ◌<◌, Bool, true, false, List, [], ◌∷◌, ◌++◌, length, get_or, map, Some, refl, sym, ap, ◌∙◌, subst, arith, ◌⊎◌, inl, inr}
 use Rattle.std.specs.Prelude.{Contains, slice_get, Box}
 use Rattle.std.specs.Arc.{arc_value}
 use Rattle.std.specs.List.{flat_map}
 use Rattle.std.specs.declared.alloc.Global.{Global}
-use Rattle.std.proofs.lemmas.List.{get_or-take, length-take-le}
+use Rattle.std.proofs.lemmas.List.{length-take-le}
 use Rattle.std.proofs.lemmas.List.Elements.{Contains-append_cases}
 use Rattle.std.proofs.lemmas.Option.{get_or_from_slice_get, slice_get-get_or, slice_get_within}
 use Rattle.ob_emit.specs.Externals.{AreExternalRows}
@@ -24,38 +24,21 @@ use Rattle.oscip_tree.specs.Parts.{ArePartsOfTree}
 use Rattle.oscip_tree.specs.Trees.{ModuleFile}
 use Rattle.scip_index.specs.Plain.{PlainDocument, PlainIndex, PlainSymbol}
 use Rattle.ob_board.specs.declared.entry.Entry.{Entry}
-use Rattle.work_board.specs.Graphs.{row_at}
-use Rattle.board_workers.specs.Parts.{AreEntries as AreAtBoard, IsJob}
+use Rattle.board_workers.specs.Parts.{AreEntries as AreAtBoard}
 use Rattle.tree_board.specs.Boards.{modules_of}
 use Rattle.tree_board.specs.Reached.{interface_in, marked_interfaces, names, seen_of, AreReachedInterfaces, SeenFile}
 use Rattle.tree_board.specs.Seen.{all_seen, seen_in, AreSourcesRead, IsSourceRead}
-use Rattle.tree_board.proofs.Chained.{as_many, modules_within, name_of_file}
+use Rattle.tree_board.proofs.Chained.{as_many, modules_within}
 use Rattle.tree_board.proofs.SeenFiles.{seen_are}
-use Rattle.tree_board.proofs.Shared.{parts_reached, same_file}
+use Rattle.tree_board.proofs.Shared.{same_file}
 use Rattle.ob_board.specs.Entries.{AreAllNamed, AreEntriesOf, IsEntry, IsEntryOf, IsWritten, plain_entry, PlainEntry}
 use Rattle.ob_board.specs.Found.{IsAtHand}
 use Rattle.ob_board.specs.Indexes.{AreTreeEntries, IsIndex, IsMadeOf}
-
-pub member : {X : Type 0} (xs : List X) (k : ℕ) (x : X) → slice_get xs k ≡ Some x → Contains xs x
-member xs k x at = (k, slice_get_within xs k x at, get_or_from_slice_get xs k x x at)
-
-some_one : {X : Type 0} (x y : X) → Some x ≡ Some y → x ≡ y
-some_one x y e = cc
-
-none_some : {X : Type 0} (y : X) → None ≡ Some y → ⊥
-none_some y e = cc
+use Rattle.ob_board.proofs.Handing.{name_at}
 
 head_or_tail : {X : Type 0} (y : X) (xs : List X) (x : X) → Contains (y ∷ xs) x → (y ≡ x) ⊎ Contains xs x
 head_or_tail y xs x (zero, l, e) = inl e
 head_or_tail y xs x (suc k, l, e) = inr (k, omega arith, e)
-
-pub at_seen : (sources : List Source) (modules : List (Box ModuleParts Global)) (k : ℕ) (s : Source) (m : Box ModuleParts Global) → slice_get sources k ≡ Some s → slice_get modules k ≡ Some m
-    → slice_get (all_seen sources modules) k ≡ Some (seen_in s m.value)
-at_seen [] modules k s m p q = absurd (none_some s p)
-at_seen (a ∷ sources) [] k s m p q = absurd (none_some m q)
-at_seen (a ∷ sources) (b ∷ modules) zero s m p q =
-    ap (λ (x : Source). Some (seen_in x b.value)) (some_one a s p) ∙ ap (λ (x : Box ModuleParts Global). Some (seen_in s x.value)) (some_one b m q)
-at_seen (a ∷ sources) (b ∷ modules) (suc k) s m p q = at_seen sources modules k s m p q
 
 -- what is said of the parts of all sources is said of their files
 seen_all : (P : SeenFile → Type 0) (sources : List Source) (modules : List (Box ModuleParts Global)) →
@@ -85,25 +68,8 @@ module _ (sources : List Source) (modules : List (Box ModuleParts Global)) (g : 
   file_named = seen_all (λ (file : SeenFile). HasNames (interface_in file)) sources modules
       (λ k s m p q. let h : IsSourceRead s m.value = seen.each k s m p q in seen_named s.bytes.items m.value.tokens (rows_in m.value.table) h.scopes.named)
 
-  pub entry_at_hand : (n : ℕ) (s : Source) (m : Box ModuleParts Global) (parts : List ModuleInterface) → slice_get sources n ≡ Some s → slice_get modules n ≡ Some m
-      → IsJob (λ (x : List ℕ) (e : PlainEntry). IsEntryOf files package_name x e) (λ (e : PlainEntry). e.interface) (modules_of g) n parts → IsAtHand files s m.value parts
-  entry_at_hand n s m parts p q job =
-      let at = at_seen sources modules n s m p q in
-      record {
-        is_of_tree = member files n (seen_in s m.value) at;
-        is_seen = seen.each n s m p q;
-        are_reached = parts_reached (λ (x : List ℕ) (e : PlainEntry). IsEntryOf files package_name x e) (λ (e : PlainEntry). e.interface) files g seen.kept
-            (λ x e is. (is.file, is.is_of_tree, is.named, is.entry.interface_is)) n parts (seen_in s m.value) at job;
-      }
-
   pub reached_named : (m : List ℕ) (parts : List ModuleInterface) → AreReachedInterfaces files m parts → AreAllNamed parts
   reached_named m parts are = subst AreAllNamed (sym are.reached_are) (all_marked are.marks files file_named)
-
-  name_at : (n : ℕ) (file : SeenFile) → slice_get files n ≡ Some file → row_at (modules_of g).names n ≡ names file 1
-  name_at n file at =
-      let many = as_many files g seen.kept in
-      let within = slice_get_within files n file at in
-      get_or-take g.modules g.names n [] (omega arith) ∙ get_or_from_slice_get g.names n (names file 1) [] (name_of_file files g seen.kept n file at)
 
   -- the entries of all modules
   pub entries_all : (all : List PlainEntry) → AreAtBoard (λ (x : List ℕ) (e : PlainEntry). IsEntryOf files package_name x e) (modules_of g) all → AreEntriesOf files package_name all
@@ -117,7 +83,7 @@ module _ (sources : List Source) (modules : List (Box ModuleParts Global)) (g : 
             let lt : k < length all = slice_get_within all k e at_e in
             let found = are.own k e lt in
             let here : get_or all k e ≡ e = get_or_from_slice_get all k e e at_e in
-            let same : found.file ≡ file = same_file files g seen.kept k file found.file at found.is_of_tree (found.named ∙ name_at k file at) in
+            let same : found.file ≡ file = same_file files g seen.kept k file found.file at found.is_of_tree (found.named ∙ name_at sources modules g seen k file at) in
             subst (λ (x : SeenFile). IsEntry files package_name x e) same (subst (IsEntry files package_name found.file) here found.entry);
       }
 

@@ -1,4 +1,4 @@
--- What is at hand for a module, and what is found of all.
+-- A job of a worker, its module's files, and what is found of all.
 use Rattle.std.proofs.Common.{◌≡◌, ℕ, zero, suc, ◌<◌, List, [], ◌∷◌, ◌++◌, length, get_or, map, None, Some, refl, sym, ap, ◌∙◌, subst, arith}
 use Rattle.std.specs.Prelude.{Contains, slice_get, option_map, Box}
 use Rattle.std.specs.List.{flat_map}
@@ -6,17 +6,16 @@ use Rattle.std.specs.declared.alloc.Global.{Global}
 use Rattle.std.proofs.lemmas.List.{get_or-take, length-map, length-take-le}
 use Rattle.std.proofs.lemmas.Option.{get_or_from_slice_get, slice_get-get_or, slice_get-map, slice_get_within}
 use Rattle.ob_imports.specs.Graphs.{ImportGraph}
-use Rattle.ob_interface.specs.Interfaces.{ModuleInterface}
 use Rattle.oscip_tree.specs.declared.parts.ModuleParts.{ModuleParts}
 use Rattle.oscip_tree.specs.declared.source.Source.{Source}
 use Rattle.work_board.specs.Graphs.{row_at}
-use Rattle.board_workers.specs.Parts.{AreEntries, IsJob}
+use Rattle.board_workers.specs.Parts.{AreEntries}
 use Rattle.tree_board.specs.Boards.{modules_of}
 use Rattle.tree_board.specs.Reached.{names, SeenFile}
 use Rattle.tree_board.specs.Seen.{all_seen, seen_in, AreSourcesRead}
 use Rattle.tree_board.proofs.Chained.{as_many, modules_within, name_of_file}
-use Rattle.tree_board.proofs.Shared.{parts_reached, same_file}
-use Rattle.ob_board.specs.Found.{IsAtHand, IsFoundOf, PlainFound}
+use Rattle.tree_board.proofs.Shared.{same_file}
+use Rattle.ob_board.specs.Found.{IsFoundOf, PlainFound}
 use Rattle.ob_board.specs.Unresolved.{IsUnresolvedIn, IsUnresolvedOf, PlainUnresolved}
 
 pub member : {X : Type 0} (xs : List X) (k : ℕ) (x : X) → slice_get xs k ≡ Some x → Contains xs x
@@ -62,16 +61,6 @@ module _ (sources : List Source) (modules : List (Box ModuleParts Global)) (g : 
 
   pub name_here : (n : ℕ) (s : Source) (m : Box ModuleParts Global) → slice_get sources n ≡ Some s → slice_get modules n ≡ Some m → row_at (modules_of g).names n ≡ names (seen_in s m.value) 1
   name_here n s m p q = name_at n (seen_in s m.value) (at_seen sources modules n s m p q)
-
-  pub at_hand : (n : ℕ) (s : Source) (m : Box ModuleParts Global) (parts : List ModuleInterface) → slice_get sources n ≡ Some s → slice_get modules n ≡ Some m
-      → IsJob (λ (x : List ℕ) (f : PlainFound). IsFoundOf files x f) (λ (f : PlainFound). f.interface) (modules_of g) n parts → IsAtHand files s m.value parts
-  at_hand n s m parts p q job =
-      let at = at_seen sources modules n s m p q in
-      record {
-        is_of_tree = member files n (seen_in s m.value) at;
-        is_seen = seen.each n s m p q;
-        are_reached = parts_reached (λ (x : List ℕ) (f : PlainFound). IsFoundOf files x f) (λ (f : PlainFound). f.interface) files g seen.kept (λ x f is. (is.file, is.is_of_tree, is.named, is.interface_is)) n parts (seen_in s m.value) at job;
-      }
 
   flat : (all : List PlainFound) → flat_map (λ (f : PlainFound). f.rows) all ≡ flat_map (λ (part : List PlainUnresolved). part) (map (λ (f : PlainFound). f.rows) all)
   flat [] = refl

@@ -21,18 +21,17 @@ use Rattle.oscip_tree.specs.Trees.{ModuleFile}
 use Rattle.scip_index.specs.Plain.{plain_metadata, plain_symbol, PlainDocument, PlainIndex, PlainSymbol}
 use Rattle.scip_index.specs.Written.{document_part, documents_part}
 use Rattle.work_board.specs.Graphs.{row_at}
-use Rattle.board_workers.specs.Parts.{AreEntries as AreAtBoard, IsJob}
+use Rattle.board_workers.specs.Parts.{AreEntries as AreAtBoard}
 use Rattle.tree_board.specs.Boards.{modules_of}
 use Rattle.tree_board.specs.Reached.{names, SeenFile}
 use Rattle.tree_board.specs.Seen.{all_seen, seen_in, AreSourcesRead}
-use Rattle.tree_board.proofs.Shared.{parts_reached}
 use Rattle.ob_board.specs.Entries.{IsEntryOf, PlainEntry}
 use Rattle.ob_board.specs.Found.{IsAtHand}
 use Rattle.ob_board.specs.Records.{documents_in, with_document, AreRecordsOf, AreTreeRecords, IsRecorded, IsRecordedOf, PlainRecorded}
 use Rattle.ob_board.specs.WrittenIndexes.{IsWrittenIndex}
 use Rattle.ob_board.specs.declared.writing.WrittenIndex.{WrittenIndex}
 use Rattle.ob_board.specs.Indexes.{own_metadata}
-use Rattle.ob_board.proofs.EntryHanding.{at_seen, entries_all, entries_told, externals_of_tree, index_told, made_entry, member}
+use Rattle.ob_board.proofs.EntryHanding.{entries_all, entries_told, externals_of_tree, index_told, made_entry}
 
 -- the entry of a module, of the record of its document
 pub made_recorded : (all : List SeenFile) (package_name : List ℕ) (s : Source) (parts : ModuleParts) (reached : List ModuleInterface) (r : PlainRecorded) → IsAtHand all s parts reached →
@@ -90,17 +89,6 @@ with_at (r ∷ all) d (suc k) e at = with_at all (λ j x p. d (suc j) x p) k e a
 module _ (sources : List Source) (modules : List (Box ModuleParts Global)) (g : ImportGraph) (seen : AreSourcesRead sources modules g) (package_name : List ℕ) where
   abbrev files : List SeenFile
   files = all_seen sources modules
-
-  pub recorded_at_hand : (n : ℕ) (s : Source) (m : Box ModuleParts Global) (parts : List ModuleInterface) → slice_get sources n ≡ Some s → slice_get modules n ≡ Some m
-      → IsJob (λ (x : List ℕ) (r : PlainRecorded). IsRecordedOf files package_name x r) (λ (r : PlainRecorded). r.interface) (modules_of g) n parts → IsAtHand files s m.value parts
-  recorded_at_hand n s m parts p q job =
-      let at = at_seen sources modules n s m p q in
-      record {
-        is_of_tree = member files n (seen_in s m.value) at;
-        is_seen = seen.each n s m p q;
-        are_reached = parts_reached (λ (x : List ℕ) (r : PlainRecorded). IsRecordedOf files package_name x r) (λ (r : PlainRecorded). r.interface) files g seen.kept
-            (λ x r is. (is.entry.file, is.entry.is_of_tree, is.entry.named, is.entry.entry.interface_is)) n parts (seen_in s m.value) at job;
-      }
 
   -- the records of all modules
   pub records_all : (all : List PlainRecorded) → AreAtBoard (λ (x : List ℕ) (r : PlainRecorded). IsRecordedOf files package_name x r) (modules_of g) all →

@@ -1,84 +1,51 @@
-use Rattle.std.proofs.Common.{◌<◌, ℕ, List, length, map, sym, ap, ◌∙◌, subst}
+use Rattle.std.proofs.Common.{map, sym, ap, ◌∙◌, subst}
 use Rattle.std.specs.Prelude.{slice_index_or}
 use Rattle.std.specs.Arc.{arc_value}
-use Rattle.std.proofs.lemmas.Option.{slice_get-get_or}
-use Rattle.ob_imports.specs.Graphs.{ImportGraph}
 use Rattle.ob_scope.specs.Texts.{text_at}
 use Rattle.oscip_tree.specs.declared.parts.ModuleParts.{ModuleParts}
-use Rattle.work_board.specs.Graphs.{row_at}
-use Rattle.board_workers.specs.Parts.{IsJob}
-use Rattle.tree_board.specs.Boards.{modules_of}
-use Rattle.tree_board.specs.Reached.{SeenFile}
-use Rattle.ob_board.specs.Entries.{IsEntryOf, PlainEntry}
 use Rattle.ob_board.specs.Found.{IsAtHand}
-use Rattle.ob_board.proofs.Handing.{below, name_here}
+use Rattle.ob_board.proofs.AtHand.{entry_given}
 use Rattle.ob_board.proofs.ByName.{reached_by_name}
-use Rattle.ob_board.proofs.EntryHanding.{entry_at_hand, reached_named}
+use Rattle.ob_board.proofs.EntryHanding.{reached_named}
 use Rattle.ob_board.proofs.made.MakingWork.make.Goals as goal
 
 pub bounds-self-inside-place : goal.bounds-self-inside-place
 bounds-self-inside-place g c =
     let w = c.self.inside in
-    (below w.sources.now w.modules.now w.graph.now c.self.invariant.1 c.args.number (subst (λ (v : ImportGraph). c.args.number < length (modules_of v).names) (sym c.self.view_is) c.requires.0)).0
+    (entry_given g.F.NamedIndex.package_name g.F.NamedIndex.files w.sources.now w.modules.now w.graph.now _ c.self.invariant.0 c.self.invariant.1 c.self.view_is c.args.number _ c.requires).within.0
 
 pub bounds-self-inside-place-2 : goal.bounds-self-inside-place-2
 bounds-self-inside-place-2 g c =
     let w = c.self.inside in
-    (below w.sources.now w.modules.now w.graph.now c.self.invariant.1 c.args.number (subst (λ (v : ImportGraph). c.args.number < length (modules_of v).names) (sym c.self.view_is) c.requires.0)).1
+    (entry_given g.F.NamedIndex.package_name g.F.NamedIndex.files w.sources.now w.modules.now w.graph.now _ c.self.invariant.0 c.self.invariant.1 c.self.view_is c.args.number _ c.requires).within.1
 
 pub made_in-requires-clause-at_hand : goal.made_in-requires-clause-at_hand
 made_in-requires-clause-at_hand g c =
     let w = c.self.inside in
-    let n = c.args.number in
-    let files = g.F.NamedIndex.files in
     let parts = map arc_value c.args.parts.now in
-    let both = below w.sources.now w.modules.now w.graph.now c.self.invariant.1 n (subst (λ (v : ImportGraph). n < length (modules_of v).names) (sym c.self.view_is) c.requires.0) in
-    let s = slice_index_or w.sources.now n c.index-self-place.result in
-    let m = slice_index_or w.modules.now n c.index-self-place-2.result in
-    let at_s = slice_get-get_or w.sources.now n c.index-self-place.result both.0 in
-    let at_m = slice_get-get_or w.modules.now n c.index-self-place-2.result both.1 in
-    let here = subst (λ (v : ImportGraph). IsJob (λ (x : List ℕ) (f : PlainEntry). IsEntryOf files g.F.NamedIndex.package_name x f) (λ (f : PlainEntry). f.interface) (modules_of v) n parts) (sym c.self.view_is) c.requires in
-    let job = subst (λ (fs : List SeenFile). IsJob (λ (x : List ℕ) (f : PlainEntry). IsEntryOf fs g.F.NamedIndex.package_name x f) (λ (f : PlainEntry). f.interface) (modules_of w.graph.now) n parts) c.self.invariant.0 here in
-    let hand = entry_at_hand w.sources.now w.modules.now w.graph.now c.self.invariant.1 g.F.NamedIndex.package_name n s m parts at_s at_m job in
-    subst (λ (p : ModuleParts). IsAtHand files s p parts) (sym c.deref.ensures) (subst (λ (fs : List SeenFile). IsAtHand fs s m.value parts) (sym c.self.invariant.0) hand)
+    let here = entry_given g.F.NamedIndex.package_name g.F.NamedIndex.files w.sources.now w.modules.now w.graph.now _ c.self.invariant.0 c.self.invariant.1 c.self.view_is c.args.number parts c.requires in
+    subst (λ (p : ModuleParts). IsAtHand g.F.NamedIndex.files (slice_index_or w.sources.now c.args.number c.index-self-place.result) p parts) (sym c.deref.ensures) (here.at_hand c.index-self-place.result c.index-self-place-2.result)
 
 pub returns : goal.returns
 returns g c =
     let w = c.self.inside in
-    let n = c.args.number in
-    let both = below w.sources.now w.modules.now w.graph.now c.self.invariant.1 n (subst (λ (v : ImportGraph). n < length (modules_of v).names) (sym c.self.view_is) c.requires.0) in
-    let s = slice_index_or w.sources.now n c.index-self-place.result in
-    let m = slice_index_or w.modules.now n c.index-self-place-2.result in
-    let at_s = slice_get-get_or w.sources.now n c.index-self-place.result both.0 in
-    let at_m = slice_get-get_or w.modules.now n c.index-self-place-2.result both.1 in
-    c.in_ok-made.ensures ∙ ap (λ (p : ModuleParts). text_at s.bytes.items p.tokens 1) c.deref.ensures ∙ sym (name_here w.sources.now w.modules.now w.graph.now c.self.invariant.1 n s m at_s at_m) ∙ ap (λ (v : ImportGraph). row_at (modules_of v).names n) c.self.view_is
+    let here = entry_given g.F.NamedIndex.package_name g.F.NamedIndex.files w.sources.now w.modules.now w.graph.now _ c.self.invariant.0 c.self.invariant.1 c.self.view_is c.args.number _ c.requires in
+    c.in_ok-made.ensures
+    ∙ ap (λ (p : ModuleParts). text_at (slice_index_or w.sources.now c.args.number c.index-self-place.result).bytes.items p.tokens 1) c.deref.ensures
+    ∙ here.named c.index-self-place.result c.index-self-place-2.result
 
 pub made_in-requires-clause-named : goal.made_in-requires-clause-named
 made_in-requires-clause-named g c =
     let w = c.self.inside in
-    let n = c.args.number in
     let parts = map arc_value c.args.parts.now in
-    let both = below w.sources.now w.modules.now w.graph.now c.self.invariant.1 n (subst (λ (v : ImportGraph). n < length (modules_of v).names) (sym c.self.view_is) c.requires.0) in
-    let s = slice_index_or w.sources.now n c.index-self-place.result in
-    let m = slice_index_or w.modules.now n c.index-self-place-2.result in
-    let at_s = slice_get-get_or w.sources.now n c.index-self-place.result both.0 in
-    let at_m = slice_get-get_or w.modules.now n c.index-self-place-2.result both.1 in
-    let here = subst (λ (v : ImportGraph). IsJob (λ (x : List ℕ) (f : PlainEntry). IsEntryOf g.F.NamedIndex.files g.F.NamedIndex.package_name x f) (λ (f : PlainEntry). f.interface) (modules_of v) n parts) (sym c.self.view_is) c.requires in
-    let job = subst (λ (fs : List SeenFile). IsJob (λ (x : List ℕ) (f : PlainEntry). IsEntryOf fs g.F.NamedIndex.package_name x f) (λ (f : PlainEntry). f.interface) (modules_of w.graph.now) n parts) c.self.invariant.0 here in
-    let hand = entry_at_hand w.sources.now w.modules.now w.graph.now c.self.invariant.1 g.F.NamedIndex.package_name n s m parts at_s at_m job in
-    reached_named w.sources.now w.modules.now w.graph.now c.self.invariant.1 g.F.NamedIndex.package_name _ parts hand.are_reached
+    let here = entry_given g.F.NamedIndex.package_name g.F.NamedIndex.files w.sources.now w.modules.now w.graph.now _ c.self.invariant.0 c.self.invariant.1 c.self.view_is c.args.number parts c.requires in
+    let reached = here.reached c.index-self-place.result c.index-self-place-2.result in
+    reached_named w.sources.now w.modules.now w.graph.now c.self.invariant.1 g.F.NamedIndex.package_name _ parts reached
 
 pub made_in-requires-clause-by_name : goal.made_in-requires-clause-by_name
 made_in-requires-clause-by_name g c =
     let w = c.self.inside in
-    let n = c.args.number in
     let parts = map arc_value c.args.parts.now in
-    let both = below w.sources.now w.modules.now w.graph.now c.self.invariant.1 n (subst (λ (v : ImportGraph). n < length (modules_of v).names) (sym c.self.view_is) c.requires.0) in
-    let s = slice_index_or w.sources.now n c.index-self-place.result in
-    let m = slice_index_or w.modules.now n c.index-self-place-2.result in
-    let at_s = slice_get-get_or w.sources.now n c.index-self-place.result both.0 in
-    let at_m = slice_get-get_or w.modules.now n c.index-self-place-2.result both.1 in
-    let here = subst (λ (v : ImportGraph). IsJob (λ (x : List ℕ) (f : PlainEntry). IsEntryOf g.F.NamedIndex.files g.F.NamedIndex.package_name x f) (λ (f : PlainEntry). f.interface) (modules_of v) n parts) (sym c.self.view_is) c.requires in
-    let job = subst (λ (fs : List SeenFile). IsJob (λ (x : List ℕ) (f : PlainEntry). IsEntryOf fs g.F.NamedIndex.package_name x f) (λ (f : PlainEntry). f.interface) (modules_of w.graph.now) n parts) c.self.invariant.0 here in
-    let hand = entry_at_hand w.sources.now w.modules.now w.graph.now c.self.invariant.1 g.F.NamedIndex.package_name n s m parts at_s at_m job in
-    reached_by_name w.sources.now w.modules.now w.graph.now c.self.invariant.1 w.by_name c.self.invariant.4 hand.are_reached.marks parts hand.are_reached.reached_are
+    let here = entry_given g.F.NamedIndex.package_name g.F.NamedIndex.files w.sources.now w.modules.now w.graph.now _ c.self.invariant.0 c.self.invariant.1 c.self.view_is c.args.number parts c.requires in
+    let reached = here.reached c.index-self-place.result c.index-self-place-2.result in
+    reached_by_name w.sources.now w.modules.now w.graph.now c.self.invariant.1 w.by_name c.self.invariant.4 reached.marks parts reached.reached_are
