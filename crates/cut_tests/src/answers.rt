@@ -32,6 +32,13 @@ const ROWS: &[(&[u8], &[u8], (&str, &str), &str)] = &[
         ("A", "B"),
         "weight 2 remove 0 2 2 flow 0 2 2 flow 2 1 2",
     ),
+    // One import is the cut.
+    (
+        b"import A B 2\n",
+        b"",
+        ("A", "B"),
+        "weight 2 remove 0 1 2 flow 0 1 2",
+    ),
     // A V leaves the modules that are near, and no chain needs it.
     (
         TWO_WAYS,
@@ -66,6 +73,7 @@ const ROWS: &[(&[u8], &[u8], (&str, &str), &str)] = &[
     (b"import M N 0\n", b"", ("M", "N"), "weight 0 remove 0 1 0"),
     // Where there is no chain nothing is cut.
     (TWO_IMPORTS, b"", ("B", "A"), "weight 0"),
+    (DIAMOND, b"", ("D", "A"), "weight 0"),
     // A path goes back over flow.
     (
         A_WAY_BACK,
