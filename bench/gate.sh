@@ -1,9 +1,8 @@
 #!/usr/bin/env bash
-# Times the tests' command or that of the edits by crate, or the proofs of crates by function:
-# bench/gate.sh run | all | edits [CRATE ..] | CRATE ..
+# Times the tests' command, or the proof and the edits of each crate, or the functions of one:
+# bench/gate.sh [run | crates [CRATE ..] | slow CRATE]
 set -eu
 cd "$(dirname "$0")/.."
-[ "${1:-}" != edits ] || exec python3 bench/gate.py . "$@"
 copy=$(mktemp -d)
 trap 'rm -rf "$copy"' EXIT
 git ls-files -z | xargs -0 cp --parents -t "$copy"
