@@ -1,5 +1,5 @@
 -- A text by its first line and what stands behind it.
-use Rattle.std.proofs.Common.{◌≡◌, ℕ, ◌+◌, ◌<◌, true, false, not, eqb, List, [], ◌∷◌, ◌++◌, length, append_assoc, Option, Some, None, refl, sym, ap, subst, ◌∙◌, arith, inl, inr}
+use Rattle.std.proofs.Common.{◌≡◌, ℕ, ◌+◌, ◌<◌, true, false, not, eqb, List, [], ◌∷◌, ◌++◌, length, append_assoc, Option, Some, None, Err, refl, sym, ap, subst, ◌∙◌, arith, inl, inr}
 use Rattle.std.specs.Prelude.{All, Bool, filter, option_map, slice_get}
 use Rattle.std.proofs.Math.Seq.{get_or-append_seam, take-append_seam}
 use Rattle.std.proofs.lemmas.Bool.{and_from, and_parts, cases_Bool, not-true}
@@ -140,7 +140,7 @@ repeat_at bytes rest front lines list number next (inl is) more spelled (line, l
     some x = Some x
 
 -- so that is the first fault, where those before it are good
-pub repeat_said : (bytes : List ℕ) (number : ℕ) (list : LineList) → IsRepeatAt bytes number list → ((lines : List NetLine) → IsList lines list → AreGood lines) → IsNetOutcome bytes (TwiceImport number)
+pub repeat_said : (bytes : List ℕ) (number : ℕ) (list : LineList) → IsRepeatAt bytes number list → ((lines : List NetLine) → IsList lines list → AreGood lines) → IsNetOutcome bytes (Err (TwiceImport number))
 repeat_said bytes number list r good = (
   r.place,
   r.next,

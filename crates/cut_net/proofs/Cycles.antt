@@ -8,10 +8,11 @@ use Rattle.digraph.proofs.SameGraphs.{AreSame}
 use Rattle.cut_net.specs.declared.priced.Priced.{Priced}
 use Rattle.cut_net.specs.Lines.{IsAscending, edge_of}
 use Rattle.cut_net.specs.Network.{none_there}
-use Rattle.cut_net.specs.WellFormed.{AreBetween, Leads}
+use Rattle.cut_net.specs.Cuts.{Any, Imports}
+use Rattle.cut_net.specs.WellFormed.{AreBetween}
 use Rattle.digraph.proofs.Members.{from_map, in_map}
 
-pub same_graph : (imports : List Priced) → AreSame (edges.Leads (map edge_of imports)) (Leads imports)
+pub same_graph : (imports : List Priced) → AreSame (edges.Leads (map edge_of imports)) (Imports imports Any)
 same_graph imports m n = (
   λ h. let i = from_map edge_of imports (record { from = m; to = n }) h in (i.0, i.1, ap (λ (p : Edge). p.from) i.2, ap (λ (p : Edge). p.to) i.2, tt),
   λ (i, has, from, to, _). (

@@ -1,12 +1,12 @@
 -- The lines so far, and the fault of the next piece.
-use Rattle.std.proofs.Common.{◌≡◌, ℕ, ◌+◌, ◌≤◌, List, [], ◌∷◌, ◌++◌, length, take, map, Option, Some, Err, refl, sym, ap, ◌∙◌, arith}
-use Rattle.std.specs.Prelude.{filter, slice_get, count_by, IfSome}
+use Rattle.std.proofs.Common.{◌≡◌, ℕ, ◌+◌, ◌≤◌, List, [], ◌∷◌, ◌++◌, length, take, map, Option, Some, Err, sym, ap, ◌∙◌, arith}
+use Rattle.std.specs.Prelude.{filter, slice_get, count_by}
 use Rattle.std.proofs.lemmas.List.{map-append, map_push}
 use Rattle.std.proofs.lemmas.List.Elements.{filter-append}
 use Rattle.std.proofs.lemmas.List.Sums.{length-filter}
 use Rattle.std.proofs.lemmas.List.{length-map}
-use Rattle.cut_net.specs.NetText.{NetLine, net_line, is_import, is_nonempty, pieces_of, AreGood, IsNetOutcome, Spell}
-use Rattle.cut_net.specs.NetReading.{entry_line, fault_at, fault_said, AreTablesOf, IsDraft, TakesPiece}
+use Rattle.cut_net.specs.NetText.{NetLine, net_line, is_import, is_nonempty, pieces_of, AreGood, IsNetOutcome, Spell, UnlessMemory}
+use Rattle.cut_net.specs.NetReading.{entry_line, net_fault_in_line, AreTablesOf, IsDraft, TakesPiece}
 use Rattle.cut_net.specs.declared.draft.NetDraft.{NetDraft}
 use Rattle.cut_net.specs.declared.draft.NetLineFault.{NetLineFault}
 use Rattle.cut_net.specs.declared.draft.NetLineFault.TheVariants as fault
@@ -31,11 +31,12 @@ spell_more pieces piece lines more h g =
 pub spell_next : {A : Type 0} (v : A → List ℕ) (items : List A) (item : A) (lines more : List NetLine) → Spell (map v items) lines → Spell (v item ∷ []) more → Spell (map v (items ++ item ∷ [])) (lines ++ more)
 spell_next v items item lines more h g = rw (map_push v items item) (spell_more (map v items) (v item) lines more h g)
 
-pub fault_is : (bytes : List ℕ) (k : ℕ) (before : List NetLine) (piece : List ℕ) (e : NetLineFault) (old new : NetDraft) → Spell (take k (pieces_of bytes)) before → IsDraft before old
-    → slice_get (pieces_of bytes) k ≡ Some piece → TakesPiece before piece (Err e) new → IfSome (fault_said (fault_at (k + 1) e)) (IsNetOutcome bytes)
-fault_is bytes k before piece fault.BadLine old new spelled h there t = (
+pub fault_is : (bytes : List ℕ) (k number : ℕ) (before : List NetLine) (piece : List ℕ) (e : NetLineFault) (old new : NetDraft) → number ≡ k + 1 → Spell (take k (pieces_of bytes)) before → IsDraft before old
+    → slice_get (pieces_of bytes) k ≡ Some piece → TakesPiece before piece (Err e) new
+    → UnlessMemory (net_fault_in_line number e) (λ refusal. IsNetOutcome bytes (Err refusal))
+fault_is bytes k number before piece fault.BadLine old new next spelled h there t = (
   k,
-  refl,
+  next,
   record {
     before = before;
     piece = piece;
@@ -44,9 +45,9 @@ fault_is bytes k before piece fault.BadLine old new spelled h there t = (
     wrong = t.1;
   },
 )
-fault_is bytes k before piece fault.TwiceImport old new spelled h there (line, e, good, twice) = (
+fault_is bytes k number before piece fault.TwiceImport old new next spelled h there (line, e, good, twice) = (
   k,
-  refl,
+  next,
   record {
     before = before;
     line = line;
@@ -58,9 +59,9 @@ fault_is bytes k before piece fault.TwiceImport old new spelled h there (line, e
   where
     some : List ℕ → Option (List ℕ)
     some x = Some x
-fault_is bytes k before piece fault.TooMany old new spelled h there (line, e, good, more) = (
+fault_is bytes k number before piece fault.TooMany old new next spelled h there (line, e, good, more) = (
   k,
-  refl,
+  next,
   record {
     before = before;
     line = line;
@@ -73,4 +74,4 @@ fault_is bytes k before piece fault.TooMany old new spelled h there (line, e, go
   where
     some : List ℕ → Option (List ℕ)
     some x = Some x
-fault_is bytes k before piece fault.Memory old new spelled h there t = tt
+fault_is bytes k number before piece fault.Memory old new next spelled h there t = tt

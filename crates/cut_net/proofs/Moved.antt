@@ -18,7 +18,8 @@ use Rattle.cut_net.specs.Network.{Network, none_there}
 use Rattle.cut_net.specs.Pins.{ArePins, is_pinned, most_weight, unpinned_weight}
 use Rattle.cut_net.specs.Prices.{import_as, pin_as, standing_so}
 use Rattle.cut_net.specs.PriceReading.{unpinned_part}
-use Rattle.cut_net.specs.WellFormed.{AreBetween, IsNetwork, Leads, total_weight}
+use Rattle.cut_net.specs.Cuts.{Any, Imports}
+use Rattle.cut_net.specs.WellFormed.{AreBetween, IsNetwork, total_weight}
 use Rattle.cut_net.proofs.Ends.{Before, Same, apart, before_from, before_same, before_true, same_from, same_sym, same_trans, same_true}
 use Rattle.cut_net.proofs.FlatMaps.{from_flat_map, in_flat_map}
 use Rattle.cut_net.proofs.ListSums.{sum_by-same}
@@ -109,7 +110,7 @@ module _ (net : Network) (standing : Priced → PinState) where
   same_moved : (i : Priced) → Same (moved i) i
   same_moved i = same_as i (standing i)
 
-  same_leads : AreSame (Leads net.imports) (Leads (map moved net.imports))
+  same_leads : AreSame (Imports net.imports Any) (Imports (map moved net.imports) Any)
   same_leads m n = (
     λ (i, has, from, to, any). let s = same_moved i in (moved i, in_map moved net.imports i has, s.from ∙ from, s.to ∙ to, tt),
     λ (j, has, from, to, any).
@@ -181,7 +182,7 @@ module _ (net : Network) (standing : Priced → PinState) where
         let most = sum_by-within (λ i. (moved i).amount) (λ i. unpinned_part (standing i)) (most_weight + 1) net.imports (λ i. within_as i (standing i)) in
         let few = is.few_imports in
         omega arith);
-    acyclic = acyclic_as (Leads net.imports) (Leads (map moved net.imports)) same_leads is.acyclic;
+    acyclic = acyclic_as (Imports net.imports Any) (Imports (map moved net.imports) Any) same_leads is.acyclic;
   }
 
   pub keeps_pins : IsNetwork net → sum_by (λ i. unpinned_part (standing i)) net.imports ≤ most_weight → ArePins changed

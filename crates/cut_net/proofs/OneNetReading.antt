@@ -1,11 +1,14 @@
 -- A text of a network says one thing.
-use Rattle.std.proofs.Common.{◌≡◌, ℕ, ◌+◌, ◌<◌, ◌≤◌, ◌^◌, List, [], ◌∷◌, ◌++◌, refl, sym, ◌∙◌, ap, subst, arith, true, Option, None, Some, take}
-use Rattle.std.specs.Prelude.{AllPairs, IfSome, map, slice_get}
+use Rattle.std.proofs.Common.{◌≡◌, ℕ, ◌+◌, ◌<◌, ◌≤◌, ◌^◌, List, [], ◌∷◌, ◌++◌, refl, sym, ◌∙◌, ap, subst, arith, true, Some, Result, Ok, Err, take}
+use Rattle.std.specs.Prelude.{AllPairs, map, slice_get}
 use Rattle.std.proofs.lemmas.List.Elements.{All-contains, Contains-push}
 use Rattle.digraph.specs.Cycle.{NamesCycle}
-use Rattle.cut_net.specs.Network.{Network, name_of}
-use Rattle.cut_net.specs.WellFormed.{IsAcyclic, Leads, total_weight}
-use Rattle.cut_net.specs.NetText.{NetLine, Module, Import, net_line, IsNetLine, is_nonempty, pieces_of, AreOfTwoImports, AreFew, AreGood, IsBadLine, IsTwiceImport, IsTooMany, IsNetOf, NetText, IsOverflow, IsCycle, IsNetOutcome, NetOutcome, Reads, BadLine, TwiceImport, Cycle, WeightOverflow, TooMany}
+use Rattle.cut_net.specs.Network.{Network, name_of, texts}
+use Rattle.cut_net.specs.Cuts.{Any, Imports}
+use Rattle.cut_net.specs.WellFormed.{IsAcyclic, total_weight}
+use Rattle.cut_net.specs.NetText.{NetLine, Module, Import, net_line, IsNetLine, is_nonempty, pieces_of, AreOfTwoImports, AreFew, AreGood, IsBadLine, IsTwiceImport, IsTooMany, IsNetOf, NetText, IsOverflow, IsCycle, IsNetOutcome, NetRefusal, BadLine, TwiceImport, Cycle, WeightOverflow, TooMany, Tells}
+use Rattle.cut_net.specs.declared.fault.NetFault.{NetFault}
+use Rattle.cut_net.specs.declared.fault.NetFault.TheVariants as faults
 use Rattle.texts.proofs.FieldCuts.{some_is}
 use Rattle.cut_net.proofs.NetLines.{line_once}
 use Rattle.digraph.proofs.OneCycle.{one_cycle, cyclic}
@@ -104,7 +107,7 @@ not_over net other e fits over = let same : total_weight net ≡ total_weight ot
 reads_no_cycle : (bytes : List ℕ) (net : Network) (names : List (List ℕ)) → NetText bytes net → IsAcyclic net.imports → IsCycle bytes names → ⊥
 reads_no_cycle bytes net names text acyclic c =
     let same : net ≡ c.net = same_net bytes net c.net text c.text in
-    cyclic (Leads c.net.imports) c.cycle c.is_cycle (subst (λ (n : Network). IsAcyclic n.imports) same acyclic)
+    cyclic (Imports c.net.imports Any) c.cycle c.is_cycle (subst (λ (n : Network). IsAcyclic n.imports) same acyclic)
 
 reads_no_overflow : (bytes : List ℕ) (net : Network) → NetText bytes net → total_weight net < 2 ^ 64 → IsOverflow bytes → ⊥
 reads_no_overflow bytes net text fits o = not_over net o.net (same_net bytes net o.net text o.text) fits o.over
@@ -112,49 +115,54 @@ reads_no_overflow bytes net text fits o = not_over net o.net (same_net bytes net
 same_cycle : (bytes : List ℕ) (names others : List (List ℕ)) → IsCycle bytes names → IsCycle bytes others → names ≡ others
 same_cycle bytes names others a b =
     let net : b.net ≡ a.net = same_net bytes b.net a.net b.text a.text in
-    let cycle : a.cycle ≡ b.cycle = one_cycle (Leads a.net.imports) a.cycle b.cycle a.is_cycle (subst (λ (n : Network). NamesCycle (Leads n.imports) b.cycle) net b.is_cycle) in
+    let cycle : a.cycle ≡ b.cycle = one_cycle (Imports a.net.imports Any) a.cycle b.cycle a.is_cycle (subst (λ (n : Network). NamesCycle (Imports n.imports Any) b.cycle) net b.is_cycle) in
     a.are_names ∙ ap (λ (c : List ℕ). map (name_of a.net) c) cycle ∙ ap (λ (n : Network). map (name_of n) b.cycle) (sym net) ∙ sym b.are_names
 
-pub one_reading : (bytes : List ℕ) (o p : NetOutcome) → IsNetOutcome bytes o → IsNetOutcome bytes p → o ≡ p
-one_reading bytes (Reads n) (Reads m) a b = ap Reads (same_net bytes n m a.0 b.0)
-one_reading bytes (Reads n) (BadLine m) a b = absurd (whole bytes n b.0 a.0 (bad_stops bytes b.0 b.2))
-one_reading bytes (Reads n) (TwiceImport m) a b = absurd (whole bytes n b.0 a.0 (twice_stops bytes b.0 b.2))
-one_reading bytes (Reads n) (Cycle ms) a b = absurd (reads_no_cycle bytes n ms a.0 a.2 b)
-one_reading bytes (Reads n) WeightOverflow a b = absurd (reads_no_overflow bytes n a.0 a.1 b)
-one_reading bytes (Reads n) (TooMany m) a b = absurd (whole bytes n b.0 a.0 (many_stops bytes b.0 b.2))
-one_reading bytes (BadLine l) (Reads m) a b = absurd (whole bytes m a.0 b.0 (bad_stops bytes a.0 a.2))
-one_reading bytes (BadLine l) (BadLine m) a b = ap BadLine (same_number bytes l m a.0 b.0 a.1 b.1 (bad_stops bytes a.0 a.2) (bad_stops bytes b.0 b.2))
-one_reading bytes (BadLine l) (TwiceImport m) a b = absurd (bad_not_twice bytes a.0 b.0 a.2 b.2)
-one_reading bytes (BadLine l) (Cycle ms) a b = absurd (whole bytes b.net a.0 b.text (bad_stops bytes a.0 a.2))
-one_reading bytes (BadLine l) WeightOverflow a b = absurd (whole bytes b.net a.0 b.text (bad_stops bytes a.0 a.2))
-one_reading bytes (BadLine l) (TooMany m) a b = absurd (bad_not_many bytes a.0 b.0 a.2 b.2)
-one_reading bytes (TwiceImport l) (Reads m) a b = absurd (whole bytes m a.0 b.0 (twice_stops bytes a.0 a.2))
-one_reading bytes (TwiceImport l) (BadLine m) a b = absurd (bad_not_twice bytes b.0 a.0 b.2 a.2)
-one_reading bytes (TwiceImport l) (TwiceImport m) a b = ap TwiceImport (same_number bytes l m a.0 b.0 a.1 b.1 (twice_stops bytes a.0 a.2) (twice_stops bytes b.0 b.2))
-one_reading bytes (TwiceImport l) (Cycle ms) a b = absurd (whole bytes b.net a.0 b.text (twice_stops bytes a.0 a.2))
-one_reading bytes (TwiceImport l) WeightOverflow a b = absurd (whole bytes b.net a.0 b.text (twice_stops bytes a.0 a.2))
-one_reading bytes (TwiceImport l) (TooMany m) a b = absurd (twice_not_many bytes a.0 b.0 a.2 b.2)
-one_reading bytes (Cycle ns) (Reads m) a b = absurd (reads_no_cycle bytes m ns b.0 b.2 a)
-one_reading bytes (Cycle ns) (BadLine m) a b = absurd (whole bytes a.net b.0 a.text (bad_stops bytes b.0 b.2))
-one_reading bytes (Cycle ns) (TwiceImport m) a b = absurd (whole bytes a.net b.0 a.text (twice_stops bytes b.0 b.2))
-one_reading bytes (Cycle ns) (Cycle ms) a b = ap Cycle (same_cycle bytes ns ms a b)
-one_reading bytes (Cycle ns) WeightOverflow a b = absurd (reads_no_overflow bytes a.net a.text a.fits b)
-one_reading bytes (Cycle ns) (TooMany m) a b = absurd (whole bytes a.net b.0 a.text (many_stops bytes b.0 b.2))
-one_reading bytes WeightOverflow (Reads m) a b = absurd (reads_no_overflow bytes m b.0 b.1 a)
-one_reading bytes WeightOverflow (BadLine m) a b = absurd (whole bytes a.net b.0 a.text (bad_stops bytes b.0 b.2))
-one_reading bytes WeightOverflow (TwiceImport m) a b = absurd (whole bytes a.net b.0 a.text (twice_stops bytes b.0 b.2))
-one_reading bytes WeightOverflow (Cycle ms) a b = absurd (reads_no_overflow bytes b.net b.text b.fits a)
-one_reading bytes WeightOverflow WeightOverflow a b = refl
-one_reading bytes WeightOverflow (TooMany m) a b = absurd (whole bytes a.net b.0 a.text (many_stops bytes b.0 b.2))
-one_reading bytes (TooMany l) (Reads m) a b = absurd (whole bytes m a.0 b.0 (many_stops bytes a.0 a.2))
-one_reading bytes (TooMany l) (BadLine m) a b = absurd (bad_not_many bytes b.0 a.0 b.2 a.2)
-one_reading bytes (TooMany l) (TwiceImport m) a b = absurd (twice_not_many bytes b.0 a.0 b.2 a.2)
-one_reading bytes (TooMany l) (Cycle ms) a b = absurd (whole bytes b.net a.0 b.text (many_stops bytes a.0 a.2))
-one_reading bytes (TooMany l) WeightOverflow a b = absurd (whole bytes b.net a.0 b.text (many_stops bytes a.0 a.2))
-one_reading bytes (TooMany l) (TooMany m) a b = ap TooMany (same_number bytes l m a.0 b.0 a.1 b.1 (many_stops bytes a.0 a.2) (many_stops bytes b.0 b.2))
+pub one_reading : (bytes : List ℕ) (o p : Result Network NetRefusal) → IsNetOutcome bytes o → IsNetOutcome bytes p → o ≡ p
+one_reading bytes (Ok n) (Ok m) a b = ap Ok (same_net bytes n m a.0 b.0)
+one_reading bytes (Ok n) (Err (BadLine m)) a b = absurd (whole bytes n b.0 a.0 (bad_stops bytes b.0 b.2))
+one_reading bytes (Ok n) (Err (TwiceImport m)) a b = absurd (whole bytes n b.0 a.0 (twice_stops bytes b.0 b.2))
+one_reading bytes (Ok n) (Err (Cycle ms)) a b = absurd (reads_no_cycle bytes n ms a.0 a.2 b)
+one_reading bytes (Ok n) (Err WeightOverflow) a b = absurd (reads_no_overflow bytes n a.0 a.1 b)
+one_reading bytes (Ok n) (Err (TooMany m)) a b = absurd (whole bytes n b.0 a.0 (many_stops bytes b.0 b.2))
+one_reading bytes (Err (BadLine l)) (Ok m) a b = absurd (whole bytes m a.0 b.0 (bad_stops bytes a.0 a.2))
+one_reading bytes (Err (BadLine l)) (Err (BadLine m)) a b = rw (same_number bytes l m a.0 b.0 a.1 b.1 (bad_stops bytes a.0 a.2) (bad_stops bytes b.0 b.2)) refl
+one_reading bytes (Err (BadLine l)) (Err (TwiceImport m)) a b = absurd (bad_not_twice bytes a.0 b.0 a.2 b.2)
+one_reading bytes (Err (BadLine l)) (Err (Cycle ms)) a b = absurd (whole bytes b.net a.0 b.text (bad_stops bytes a.0 a.2))
+one_reading bytes (Err (BadLine l)) (Err WeightOverflow) a b = absurd (whole bytes b.net a.0 b.text (bad_stops bytes a.0 a.2))
+one_reading bytes (Err (BadLine l)) (Err (TooMany m)) a b = absurd (bad_not_many bytes a.0 b.0 a.2 b.2)
+one_reading bytes (Err (TwiceImport l)) (Ok m) a b = absurd (whole bytes m a.0 b.0 (twice_stops bytes a.0 a.2))
+one_reading bytes (Err (TwiceImport l)) (Err (BadLine m)) a b = absurd (bad_not_twice bytes b.0 a.0 b.2 a.2)
+one_reading bytes (Err (TwiceImport l)) (Err (TwiceImport m)) a b = rw (same_number bytes l m a.0 b.0 a.1 b.1 (twice_stops bytes a.0 a.2) (twice_stops bytes b.0 b.2)) refl
+one_reading bytes (Err (TwiceImport l)) (Err (Cycle ms)) a b = absurd (whole bytes b.net a.0 b.text (twice_stops bytes a.0 a.2))
+one_reading bytes (Err (TwiceImport l)) (Err WeightOverflow) a b = absurd (whole bytes b.net a.0 b.text (twice_stops bytes a.0 a.2))
+one_reading bytes (Err (TwiceImport l)) (Err (TooMany m)) a b = absurd (twice_not_many bytes a.0 b.0 a.2 b.2)
+one_reading bytes (Err (Cycle ns)) (Ok m) a b = absurd (reads_no_cycle bytes m ns b.0 b.2 a)
+one_reading bytes (Err (Cycle ns)) (Err (BadLine m)) a b = absurd (whole bytes a.net b.0 a.text (bad_stops bytes b.0 b.2))
+one_reading bytes (Err (Cycle ns)) (Err (TwiceImport m)) a b = absurd (whole bytes a.net b.0 a.text (twice_stops bytes b.0 b.2))
+one_reading bytes (Err (Cycle ns)) (Err (Cycle ms)) a b = rw (same_cycle bytes ns ms a b) refl
+one_reading bytes (Err (Cycle ns)) (Err WeightOverflow) a b = absurd (reads_no_overflow bytes a.net a.text a.fits b)
+one_reading bytes (Err (Cycle ns)) (Err (TooMany m)) a b = absurd (whole bytes a.net b.0 a.text (many_stops bytes b.0 b.2))
+one_reading bytes (Err WeightOverflow) (Ok m) a b = absurd (reads_no_overflow bytes m b.0 b.1 a)
+one_reading bytes (Err WeightOverflow) (Err (BadLine m)) a b = absurd (whole bytes a.net b.0 a.text (bad_stops bytes b.0 b.2))
+one_reading bytes (Err WeightOverflow) (Err (TwiceImport m)) a b = absurd (whole bytes a.net b.0 a.text (twice_stops bytes b.0 b.2))
+one_reading bytes (Err WeightOverflow) (Err (Cycle ms)) a b = absurd (reads_no_overflow bytes b.net b.text b.fits a)
+one_reading bytes (Err WeightOverflow) (Err WeightOverflow) a b = refl
+one_reading bytes (Err WeightOverflow) (Err (TooMany m)) a b = absurd (whole bytes a.net b.0 a.text (many_stops bytes b.0 b.2))
+one_reading bytes (Err (TooMany l)) (Ok m) a b = absurd (whole bytes m a.0 b.0 (many_stops bytes a.0 a.2))
+one_reading bytes (Err (TooMany l)) (Err (BadLine m)) a b = absurd (bad_not_many bytes b.0 a.0 b.2 a.2)
+one_reading bytes (Err (TooMany l)) (Err (TwiceImport m)) a b = absurd (twice_not_many bytes b.0 a.0 b.2 a.2)
+one_reading bytes (Err (TooMany l)) (Err (Cycle ms)) a b = absurd (whole bytes b.net a.0 b.text (many_stops bytes a.0 a.2))
+one_reading bytes (Err (TooMany l)) (Err WeightOverflow) a b = absurd (whole bytes b.net a.0 b.text (many_stops bytes a.0 a.2))
+one_reading bytes (Err (TooMany l)) (Err (TooMany m)) a b = rw (same_number bytes l m a.0 b.0 a.1 b.1 (many_stops bytes a.0 a.2) (many_stops bytes b.0 b.2)) refl
 
--- what holds of a text is what was answered of it, unless nothing was
-pub only_said : (bytes : List ℕ) (said : Option NetOutcome) → IfSome said (IsNetOutcome bytes) →
-    (o : NetOutcome) → IsNetOutcome bytes o → IfSome said (λ p. p ≡ o)
-only_said bytes None h o holds = tt
-only_said bytes (Some p) h o holds = one_reading bytes p o h holds
+-- what holds of a text is what was answered of it, unless memory ran out
+pub only_said : (bytes : List ℕ) (result : Result Network NetFault) → Tells result (IsNetOutcome bytes) →
+    (o : Result Network NetRefusal) → IsNetOutcome bytes o → Tells result (λ p. p ≡ o)
+only_said bytes (Ok net) h o holds = one_reading bytes (Ok net) o h holds
+only_said bytes (Err (faults.BadLine line)) h o holds = one_reading bytes (Err (BadLine line)) o h holds
+only_said bytes (Err (faults.TwiceImport line)) h o holds = one_reading bytes (Err (TwiceImport line)) o h holds
+only_said bytes (Err (faults.Cycle names)) h o holds = one_reading bytes (Err (Cycle (texts names.items))) o h holds
+only_said bytes (Err faults.WeightOverflow) h o holds = one_reading bytes (Err WeightOverflow) o h holds
+only_said bytes (Err (faults.TooMany line)) h o holds = one_reading bytes (Err (TooMany line)) o h holds
+only_said bytes (Err faults.Memory) h o holds = tt

@@ -1,11 +1,13 @@
 -- A text of prices says one thing of a network.
-use Rattle.std.proofs.Common.{◌≡◌, ℕ, ◌+◌, ◌<◌, ◌≤◌, List, [], ◌∷◌, ◌++◌, refl, sym, ◌∙◌, ap, subst, arith, Option, None, Some}
-use Rattle.std.specs.Prelude.{All, AllPairs, IfSome, slice_get}
+use Rattle.std.proofs.Common.{◌≡◌, ℕ, ◌+◌, ◌<◌, ◌≤◌, List, [], ◌∷◌, ◌++◌, refl, sym, ◌∙◌, ap, subst, arith, Some, Result, Ok, Err}
+use Rattle.std.specs.Prelude.{All, AllPairs, slice_get}
 use Rattle.std.proofs.lemmas.List.Elements.{All-contains, Contains-push}
 use Rattle.cut_net.specs.Network.{Network}
 use Rattle.cut_net.specs.NetText.{pieces_of}
 use Rattle.cut_net.specs.Pins.{most_weight, unpinned_weight}
-use Rattle.cut_net.specs.Prices.{PriceLine, price_line, AreGoodPrices, AreOfTwo, IsBadPrice, IsNoImport, IsOfImport, IsPriced, IsPriceLine, IsPriceOutcome, IsTwicePrice, PriceOutcome, Prices, BadLine, NoSuchImport, TwicePrice, PriceOverflow, priced_by}
+use Rattle.cut_net.specs.Prices.{PriceLine, price_line, AreGoodPrices, AreOfTwo, IsBadPrice, IsNoImport, IsOfImport, IsPriced, IsPriceLine, IsPriceOutcome, IsTwicePrice, Tells, priced_by}
+use Rattle.cut_net.specs.declared.price_fault.PriceFault.{PriceFault}
+use Rattle.cut_net.specs.declared.price_fault.PriceFault.TheVariants.{BadLine, NoSuchImport, TwicePrice, PriceOverflow, Memory}
 use Rattle.cut_net.proofs.LineStops as stops
 use Rattle.cut_net.proofs.PriceLines.{line_once, line_written}
 use Rattle.cut_net.proofs.ListFronts.{all_front, pairs_front}
@@ -105,35 +107,37 @@ module _ (net : Network) where
     not_over : (priced other : Network) → priced ≡ other → unpinned_weight priced ≤ most_weight → most_weight < unpinned_weight other → ⊥
     not_over priced other e fits over = let same : unpinned_weight priced ≡ unpinned_weight other = ap unpinned_weight e in omega arith
 
-    pub one_pricing : (o p : PriceOutcome) → IsPriceOutcome net bytes o → IsPriceOutcome net bytes p → o ≡ p
-    one_pricing (Prices n) (Prices m) a b = ap Prices (same_net n m a.0 b.0)
-    one_pricing (Prices n) (BadLine m) a b = absurd (whole n b.0 a.0 (bad_stops b.0 b.2))
-    one_pricing (Prices n) (NoSuchImport m) a b = absurd (whole n b.0 a.0 (no_import_stops b.0 b.2))
-    one_pricing (Prices n) (TwicePrice m) a b = absurd (whole n b.0 a.0 (twice_stops b.0 b.2))
-    one_pricing (Prices n) PriceOverflow a b = absurd (not_over n b.priced (same_net n b.priced a.0 b.is_priced) a.1 b.over)
-    one_pricing (BadLine l) (Prices m) a b = absurd (whole m a.0 b.0 (bad_stops a.0 a.2))
-    one_pricing (BadLine l) (BadLine m) a b = ap BadLine (same_number l m a.0 b.0 a.1 b.1 (bad_stops a.0 a.2) (bad_stops b.0 b.2))
-    one_pricing (BadLine l) (NoSuchImport m) a b = absurd (bad_not_unknown a.0 b.0 a.2 b.2)
-    one_pricing (BadLine l) (TwicePrice m) a b = absurd (bad_not_twice a.0 b.0 a.2 b.2)
-    one_pricing (BadLine l) PriceOverflow a b = absurd (whole b.priced a.0 b.is_priced (bad_stops a.0 a.2))
-    one_pricing (NoSuchImport l) (Prices m) a b = absurd (whole m a.0 b.0 (no_import_stops a.0 a.2))
-    one_pricing (NoSuchImport l) (BadLine m) a b = absurd (bad_not_unknown b.0 a.0 b.2 a.2)
-    one_pricing (NoSuchImport l) (NoSuchImport m) a b = ap NoSuchImport (same_number l m a.0 b.0 a.1 b.1 (no_import_stops a.0 a.2) (no_import_stops b.0 b.2))
-    one_pricing (NoSuchImport l) (TwicePrice m) a b = absurd (unknown_not_twice a.0 b.0 a.2 b.2)
-    one_pricing (NoSuchImport l) PriceOverflow a b = absurd (whole b.priced a.0 b.is_priced (no_import_stops a.0 a.2))
-    one_pricing (TwicePrice l) (Prices m) a b = absurd (whole m a.0 b.0 (twice_stops a.0 a.2))
-    one_pricing (TwicePrice l) (BadLine m) a b = absurd (bad_not_twice b.0 a.0 b.2 a.2)
-    one_pricing (TwicePrice l) (NoSuchImport m) a b = absurd (unknown_not_twice b.0 a.0 b.2 a.2)
-    one_pricing (TwicePrice l) (TwicePrice m) a b = ap TwicePrice (same_number l m a.0 b.0 a.1 b.1 (twice_stops a.0 a.2) (twice_stops b.0 b.2))
-    one_pricing (TwicePrice l) PriceOverflow a b = absurd (whole b.priced a.0 b.is_priced (twice_stops a.0 a.2))
-    one_pricing PriceOverflow (Prices m) a b = absurd (not_over m a.priced (same_net m a.priced b.0 a.is_priced) b.1 a.over)
-    one_pricing PriceOverflow (BadLine m) a b = absurd (whole a.priced b.0 a.is_priced (bad_stops b.0 b.2))
-    one_pricing PriceOverflow (NoSuchImport m) a b = absurd (whole a.priced b.0 a.is_priced (no_import_stops b.0 b.2))
-    one_pricing PriceOverflow (TwicePrice m) a b = absurd (whole a.priced b.0 a.is_priced (twice_stops b.0 b.2))
-    one_pricing PriceOverflow PriceOverflow a b = refl
+    pub one_pricing : (o p : Result Network PriceFault) → IsPriceOutcome net bytes o → IsPriceOutcome net bytes p → o ≡ p
+    one_pricing (Err Memory) p a b = absurd a
+    one_pricing o (Err Memory) a b = absurd b
+    one_pricing (Ok n) (Ok m) a b = ap Ok (same_net n m a.0 b.0)
+    one_pricing (Ok n) (Err (BadLine m)) a b = absurd (whole n b.0 a.0 (bad_stops b.0 b.2))
+    one_pricing (Ok n) (Err (NoSuchImport m)) a b = absurd (whole n b.0 a.0 (no_import_stops b.0 b.2))
+    one_pricing (Ok n) (Err (TwicePrice m)) a b = absurd (whole n b.0 a.0 (twice_stops b.0 b.2))
+    one_pricing (Ok n) (Err PriceOverflow) a b = absurd (not_over n b.priced (same_net n b.priced a.0 b.is_priced) a.1 b.over)
+    one_pricing (Err (BadLine l)) (Ok m) a b = absurd (whole m a.0 b.0 (bad_stops a.0 a.2))
+    one_pricing (Err (BadLine l)) (Err (BadLine m)) a b = rw (same_number l m a.0 b.0 a.1 b.1 (bad_stops a.0 a.2) (bad_stops b.0 b.2)) refl
+    one_pricing (Err (BadLine l)) (Err (NoSuchImport m)) a b = absurd (bad_not_unknown a.0 b.0 a.2 b.2)
+    one_pricing (Err (BadLine l)) (Err (TwicePrice m)) a b = absurd (bad_not_twice a.0 b.0 a.2 b.2)
+    one_pricing (Err (BadLine l)) (Err PriceOverflow) a b = absurd (whole b.priced a.0 b.is_priced (bad_stops a.0 a.2))
+    one_pricing (Err (NoSuchImport l)) (Ok m) a b = absurd (whole m a.0 b.0 (no_import_stops a.0 a.2))
+    one_pricing (Err (NoSuchImport l)) (Err (BadLine m)) a b = absurd (bad_not_unknown b.0 a.0 b.2 a.2)
+    one_pricing (Err (NoSuchImport l)) (Err (NoSuchImport m)) a b = rw (same_number l m a.0 b.0 a.1 b.1 (no_import_stops a.0 a.2) (no_import_stops b.0 b.2)) refl
+    one_pricing (Err (NoSuchImport l)) (Err (TwicePrice m)) a b = absurd (unknown_not_twice a.0 b.0 a.2 b.2)
+    one_pricing (Err (NoSuchImport l)) (Err PriceOverflow) a b = absurd (whole b.priced a.0 b.is_priced (no_import_stops a.0 a.2))
+    one_pricing (Err (TwicePrice l)) (Ok m) a b = absurd (whole m a.0 b.0 (twice_stops a.0 a.2))
+    one_pricing (Err (TwicePrice l)) (Err (BadLine m)) a b = absurd (bad_not_twice b.0 a.0 b.2 a.2)
+    one_pricing (Err (TwicePrice l)) (Err (NoSuchImport m)) a b = absurd (unknown_not_twice b.0 a.0 b.2 a.2)
+    one_pricing (Err (TwicePrice l)) (Err (TwicePrice m)) a b = rw (same_number l m a.0 b.0 a.1 b.1 (twice_stops a.0 a.2) (twice_stops b.0 b.2)) refl
+    one_pricing (Err (TwicePrice l)) (Err PriceOverflow) a b = absurd (whole b.priced a.0 b.is_priced (twice_stops a.0 a.2))
+    one_pricing (Err PriceOverflow) (Ok m) a b = absurd (not_over m a.priced (same_net m a.priced b.0 a.is_priced) b.1 a.over)
+    one_pricing (Err PriceOverflow) (Err (BadLine m)) a b = absurd (whole a.priced b.0 a.is_priced (bad_stops b.0 b.2))
+    one_pricing (Err PriceOverflow) (Err (NoSuchImport m)) a b = absurd (whole a.priced b.0 a.is_priced (no_import_stops b.0 b.2))
+    one_pricing (Err PriceOverflow) (Err (TwicePrice m)) a b = absurd (whole a.priced b.0 a.is_priced (twice_stops b.0 b.2))
+    one_pricing (Err PriceOverflow) (Err PriceOverflow) a b = refl
 
-    -- what holds of a text is what was answered of it, unless nothing was
-    pub only_said : (said : Option PriceOutcome) → IfSome said (IsPriceOutcome net bytes) →
-        (o : PriceOutcome) → IsPriceOutcome net bytes o → IfSome said (λ p. p ≡ o)
-    only_said None h o holds = tt
-    only_said (Some p) h o holds = one_pricing p o h holds
+    -- what holds of a text is what was answered of it, unless memory ran out
+    pub only_said : (result : Result Network PriceFault) → Tells result (IsPriceOutcome net bytes) →
+        (o : Result Network PriceFault) → IsPriceOutcome net bytes o → Tells result (λ p. p ≡ o)
+    only_said (Err Memory) h o holds = tt
+    only_said result h o holds = one_pricing result o h holds

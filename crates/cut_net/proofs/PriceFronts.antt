@@ -1,6 +1,6 @@
 -- The lines of prices so far, and the fault of the next piece.
-use Rattle.std.proofs.Common.{◌≡◌, ℕ, ◌+◌, List, [], ◌∷◌, ◌++◌, take, map, Option, Some, Err, refl, sym, ap, ◌∙◌}
-use Rattle.std.specs.Prelude.{filter, slice_get, IfSome}
+use Rattle.std.proofs.Common.{◌≡◌, ℕ, ◌+◌, List, [], ◌∷◌, ◌++◌, take, map, Option, Some, Err, sym, ap, ◌∙◌}
+use Rattle.std.specs.Prelude.{filter, slice_get}
 use Rattle.std.proofs.lemmas.List.{map-append, map_push}
 use Rattle.std.proofs.lemmas.List.Elements.{filter-append}
 use Rattle.texts.proofs.FieldCuts.{some}
@@ -9,8 +9,8 @@ use Rattle.cut_net.specs.declared.price_fault.PriceLineFault.TheVariants as faul
 use Rattle.cut_net.specs.declared.standing.Change.{Change}
 use Rattle.cut_net.specs.Network.{Network}
 use Rattle.cut_net.specs.NetText.{is_nonempty, pieces_of}
-use Rattle.cut_net.specs.Prices.{PriceLine, AreGoodPrices, IsPriceOutcome, SpellPrices, price_line}
-use Rattle.cut_net.specs.PriceReading.{Notes, fault_at, fault_said}
+use Rattle.cut_net.specs.Prices.{PriceLine, AreGoodPrices, IsPriceOutcome, SpellPrices, UnlessMemory, price_line}
+use Rattle.cut_net.specs.PriceReading.{Notes, price_fault_in_line}
 
 spell_more : (pieces : List (List ℕ)) (piece : List ℕ) (lines more : List PriceLine) → SpellPrices pieces lines → SpellPrices (piece ∷ []) more → SpellPrices (pieces ++ piece ∷ []) (lines ++ more)
 spell_more pieces piece lines more h g =
@@ -19,11 +19,12 @@ spell_more pieces piece lines more h g =
 pub spell_next : {A : Type 0} (v : A → List ℕ) (items : List A) (item : A) (lines more : List PriceLine) → SpellPrices (map v items) lines → SpellPrices (v item ∷ []) more → SpellPrices (map v (items ++ item ∷ [])) (lines ++ more)
 spell_next v items item lines more h g = rw (map_push v items item) (spell_more (map v items) (v item) lines more h g)
 
-pub fault_is : (net : Network) (bytes : List ℕ) (k : ℕ) (before : List PriceLine) (piece : List ℕ) (e : PriceLineFault) (told : List (Option Change)) → SpellPrices (take k (pieces_of bytes)) before → AreGoodPrices net before
-    → slice_get (pieces_of bytes) k ≡ Some piece → Notes net before piece (Err e) told → IfSome (fault_said (fault_at (k + 1) e)) (IsPriceOutcome net bytes)
-fault_is net bytes k before piece fault.BadLine told spelled good there t = (
+pub fault_is : (net : Network) (bytes : List ℕ) (k number : ℕ) (before : List PriceLine) (piece : List ℕ) (e : PriceLineFault) (told : List (Option Change)) → number ≡ k + 1 → SpellPrices (take k (pieces_of bytes)) before → AreGoodPrices net before
+    → slice_get (pieces_of bytes) k ≡ Some piece → Notes net before piece (Err e) told
+    → UnlessMemory (price_fault_in_line number e) (IsPriceOutcome net bytes (Err (price_fault_in_line number e)))
+fault_is net bytes k number before piece fault.BadLine told next spelled good there t = (
   k,
-  refl,
+  next,
   record {
     before = before;
     piece = piece;
@@ -32,9 +33,9 @@ fault_is net bytes k before piece fault.BadLine told spelled good there t = (
     wrong = t.1;
   },
 )
-fault_is net bytes k before piece fault.NoSuchImport told spelled good there (line, e, form, unknown) = (
+fault_is net bytes k number before piece fault.NoSuchImport told next spelled good there (line, e, form, unknown) = (
   k,
-  refl,
+  next,
   record {
     before = before;
     line = line;
@@ -43,9 +44,9 @@ fault_is net bytes k before piece fault.NoSuchImport told spelled good there (li
     unknown = unknown;
   },
 )
-fault_is net bytes k before piece fault.TwicePrice told spelled good there (line, e, form, known, twice) = (
+fault_is net bytes k number before piece fault.TwicePrice told next spelled good there (line, e, form, known, twice) = (
   k,
-  refl,
+  next,
   record {
     before = before;
     line = line;

@@ -5,7 +5,7 @@ use Rattle.std.specs.Option.{option_map_or}
 use Rattle.std.specs.Str.{bytes_eq}
 use Rattle.texts.specs.Fields.{cut_at, named, number_of}
 use Rattle.cut_net.specs.Network.{Network, texts, unpinned}
-use Rattle.cut_net.specs.NetText.{NetLine, Module, Import, NetOutcome, Reads, BadLine, TwiceImport, Cycle, WeightOverflow, TooMany, net_line, is_import, is_nonempty, pieces_of, AreOfTwoImports, AreFew, AreNamesOf, IsNetLine, Spell}
+use Rattle.cut_net.specs.NetText.{NetLine, Module, Import, net_line, is_import, is_nonempty, pieces_of, AreOfTwoImports, AreFew, AreNamesOf, IsNetLine, Spell}
 use Rattle.cut_net.specs.declared.draft.NetDraft.{NetDraft}
 use Rattle.cut_net.specs.declared.draft.NetLineFault.{NetLineFault}
 use Rattle.cut_net.specs.declared.draft.NetLineFault.TheVariants as fault
@@ -89,25 +89,12 @@ TakesPiece before piece (Err fault.Memory) draft = Unit {0}
 
 -- ---- the whole text
 
-abbrev pub fault_at : ℕ → NetLineFault → NetFault
-fault_at line fault.BadLine = faults.BadLine line
-fault_at line fault.TwiceImport = faults.TwiceImport line
-fault_at line fault.TooMany = faults.TooMany line
-fault_at line fault.Memory = faults.Memory
-
--- what a fault says of a text: a want of memory says nothing
-abbrev pub fault_said : NetFault → Option NetOutcome
-fault_said (faults.BadLine line) = Some (BadLine line)
-fault_said (faults.TwiceImport line) = Some (TwiceImport line)
-fault_said (faults.Cycle names) = Some (Cycle (texts names.items))
-fault_said faults.WeightOverflow = Some WeightOverflow
-fault_said (faults.TooMany line) = Some (TooMany line)
-fault_said faults.Memory = None
-
--- what an answer says of a text
-abbrev pub outcome_of : Result Network NetFault → Option NetOutcome
-outcome_of (Ok net) = Some (Reads net)
-outcome_of (Err fault) = fault_said fault
+-- the fault of a text whose line of this number has this fault
+abbrev pub net_fault_in_line : ℕ → NetLineFault → NetFault
+net_fault_in_line line fault.BadLine = faults.BadLine line
+net_fault_in_line line fault.TwiceImport = faults.TwiceImport line
+net_fault_in_line line fault.TooMany = faults.TooMany line
+net_fault_in_line line fault.Memory = faults.Memory
 
 -- the tables are of the lines that the bytes spell
 abbrev pub IsDraftOf : List ℕ → NetDraft → Type 0

@@ -1,14 +1,17 @@
 -- The text of a network, and the first fault of a text that is none. Lines are numbered from 1.
-use Rattle.std.specs.Prelude.{◌≡◌, ◌≢◌, ◌↔◌, ◌⊎◌, ℕ, ◌+◌, ◌<◌, ◌≤◌, ◌^◌, ◌==◌, Bool, true, false, List, [], ◌∷◌, ◌++◌, length, Some, slice_get, take, map, filter, count_by, codes, All, AllPairs, Contains}
+use Rattle.std.specs.Prelude.{◌≡◌, ◌≢◌, ◌↔◌, ◌⊎◌, ℕ, ◌+◌, ◌<◌, ◌≤◌, ◌^◌, ◌==◌, Bool, true, false, List, [], ◌∷◌, ◌++◌, length, Some, Result, Ok, Err, slice_get, take, map, filter, count_by, codes, All, AllPairs, Contains}
 use Rattle.std.specs.List.{slice_split, IsDistinct}
 use Rattle.std.specs.Str.{bytes_eq}
 use Rattle.std.specs.Fmt.{decimal}
 use Rattle.digraph.specs.Cycle.{NamesCycle}
+use Rattle.cut_net.specs.declared.fault.NetFault.{NetFault}
+use Rattle.cut_net.specs.declared.fault.NetFault.TheVariants as faults
 use Rattle.cut_net.specs.declared.priced.Priced.{Priced}
 use Rattle.texts.specs.Fields.{is_name, line_of}
-use Rattle.cut_net.specs.Network.{Network, name_of}
+use Rattle.cut_net.specs.Network.{Network, name_of, texts}
 use Rattle.cut_net.specs.Lines.{IsAscending}
-use Rattle.cut_net.specs.WellFormed.{AreBetween, AreNamesInOrder, IsAcyclic, Leads, total_weight}
+use Rattle.cut_net.specs.Cuts.{Any, Imports}
+use Rattle.cut_net.specs.WellFormed.{AreBetween, AreNamesInOrder, IsAcyclic, total_weight}
 
 -- what a line says: there is a module, or the first module imports the second at this weight
 pub data NetLine : Type 0 where
@@ -125,14 +128,13 @@ pub record NetText (bytes : List ℕ) (net : Network) : Type 0 where
   pub good : AreGood lines
   pub is_net : IsNetOf lines net
 
--- what a text of a network says, or its first fault
-pub data NetOutcome : Type 0 where
-  Reads : Network → NetOutcome
-  BadLine : ℕ → NetOutcome
-  TwiceImport : ℕ → NetOutcome
-  Cycle : List (List ℕ) → NetOutcome
-  WeightOverflow : NetOutcome
-  TooMany : ℕ → NetOutcome
+-- what a text of a network is refused for, with names as texts
+pub data NetRefusal : Type 0 where
+  BadLine : ℕ → NetRefusal
+  TwiceImport : ℕ → NetRefusal
+  Cycle : List (List ℕ) → NetRefusal
+  WeightOverflow : NetRefusal
+  TooMany : ℕ → NetRefusal
 
 -- after good lines only: a total weight above 64 bits
 pub record IsOverflow (bytes : List ℕ) : Type 0 where
@@ -146,14 +148,37 @@ pub record IsCycle (bytes : List ℕ) (names : List (List ℕ)) : Type 0 where
   pub text : NetText bytes net
   pub fits : total_weight net < 2 ^ 64
   pub cycle : List ℕ
-  pub is_cycle : NamesCycle (Leads net.imports) cycle
+  pub is_cycle : NamesCycle (Imports net.imports Any) cycle
   pub are_names : names ≡ map (name_of net) cycle
 
--- the text says this
-abbrev pub IsNetOutcome : List ℕ → NetOutcome → Type 0
-IsNetOutcome bytes (Reads net) = NetText bytes net × (total_weight net < 2 ^ 64) × IsAcyclic net.imports
-IsNetOutcome bytes (BadLine line) = (k : ℕ) × (line ≡ k + 1) × IsBadLine bytes k
-IsNetOutcome bytes (TwiceImport line) = (k : ℕ) × (line ≡ k + 1) × IsTwiceImport bytes k
-IsNetOutcome bytes (Cycle names) = IsCycle bytes names
-IsNetOutcome bytes WeightOverflow = IsOverflow bytes
-IsNetOutcome bytes (TooMany line) = (k : ℕ) × (line ≡ k + 1) × IsTooMany bytes k
+-- the text says this: its network, or its first fault
+abbrev pub IsNetOutcome : List ℕ → Result Network NetRefusal → Type 0
+IsNetOutcome bytes (Ok net) = NetText bytes net × (total_weight net < 2 ^ 64) × IsAcyclic net.imports
+IsNetOutcome bytes (Err (BadLine line)) = (k : ℕ) × (line ≡ k + 1) × IsBadLine bytes k
+IsNetOutcome bytes (Err (TwiceImport line)) = (k : ℕ) × (line ≡ k + 1) × IsTwiceImport bytes k
+IsNetOutcome bytes (Err (Cycle names)) = IsCycle bytes names
+IsNetOutcome bytes (Err WeightOverflow) = IsOverflow bytes
+IsNetOutcome bytes (Err (TooMany line)) = (k : ℕ) × (line ≡ k + 1) × IsTooMany bytes k
+
+-- this is what the fault refuses for; want of memory refuses nothing
+abbrev pub IsRefusalOf : NetFault → NetRefusal → Type 0
+IsRefusalOf (faults.BadLine line) refusal = refusal ≡ BadLine line
+IsRefusalOf (faults.TwiceImport line) refusal = refusal ≡ TwiceImport line
+IsRefusalOf (faults.Cycle names) refusal = refusal ≡ Cycle (texts names.items)
+IsRefusalOf faults.WeightOverflow refusal = refusal ≡ WeightOverflow
+IsRefusalOf (faults.TooMany line) refusal = refusal ≡ TooMany line
+IsRefusalOf faults.Memory refusal = ⊥
+
+-- the fact of what the fault refuses for, and nothing where it is want of memory
+abbrev pub UnlessMemory : NetFault → (NetRefusal → Type 0) → Type 0
+UnlessMemory (faults.BadLine line) P = P (BadLine line)
+UnlessMemory (faults.TwiceImport line) P = P (TwiceImport line)
+UnlessMemory (faults.Cycle names) P = P (Cycle (texts names.items))
+UnlessMemory faults.WeightOverflow P = P WeightOverflow
+UnlessMemory (faults.TooMany line) P = P (TooMany line)
+UnlessMemory faults.Memory P = Unit {0}
+
+-- what was answered is such an outcome, unless memory ran out
+abbrev pub Tells : Result Network NetFault → (Result Network NetRefusal → Type 0) → Type 0
+Tells (Ok net) IsOutcome = IsOutcome (Ok net)
+Tells (Err fault) IsOutcome = UnlessMemory fault (λ refusal. IsOutcome (Err refusal))

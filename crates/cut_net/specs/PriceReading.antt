@@ -1,11 +1,11 @@
 -- Reading a prices file, line by line.
-use Rattle.std.specs.Prelude.{◌≡◌, ◌≢◌, ℕ, true, List, [], ◌∷◌, ◌++◌, map, codes, Option, Some, None, Result, Ok, Err, option_map, option_and_then, AllPairs}
+use Rattle.std.specs.Prelude.{◌≡◌, ◌≢◌, ℕ, true, List, [], ◌∷◌, ◌++◌, map, codes, Option, Result, Ok, Err, option_map, option_and_then, AllPairs}
 use Rattle.std.specs.Option.{option_map_or}
 use Rattle.texts.specs.Fields.{cut_at, named, number_of}
 use Rattle.cut_net.specs.Network.{Network}
 use Rattle.cut_net.specs.NetReading.{after_word}
 use Rattle.cut_net.specs.NetText.{is_nonempty, pieces_of}
-use Rattle.cut_net.specs.Prices.{PriceLine, PriceOutcome, Prices, BadLine, NoSuchImport, TwicePrice, PriceOverflow, price_line, said_of, IsOfImport, IsPriceLine, SpellPrices, AreGoodPrices, AreOfTwo}
+use Rattle.cut_net.specs.Prices.{PriceLine, price_line, said_of, IsOfImport, IsPriceLine, SpellPrices, AreGoodPrices, AreOfTwo}
 use Rattle.cut_net.specs.declared.price_fault.PriceLineFault.{PriceLineFault}
 use Rattle.cut_net.specs.declared.price_fault.PriceLineFault.TheVariants as fault
 use Rattle.cut_net.specs.declared.price_fault.PriceFault.{PriceFault}
@@ -66,20 +66,8 @@ unpinned_part (Stays w) = 0
 
 -- ---- faults
 
-abbrev pub fault_at : ℕ → PriceLineFault → PriceFault
-fault_at line fault.BadLine = faults.BadLine line
-fault_at line fault.NoSuchImport = faults.NoSuchImport line
-fault_at line fault.TwicePrice = faults.TwicePrice line
-
--- what a fault says of a prices file: a want of memory says nothing
-abbrev pub fault_said : PriceFault → Option PriceOutcome
-fault_said (faults.BadLine line) = Some (BadLine line)
-fault_said (faults.NoSuchImport line) = Some (NoSuchImport line)
-fault_said (faults.TwicePrice line) = Some (TwicePrice line)
-fault_said faults.PriceOverflow = Some PriceOverflow
-fault_said faults.Memory = None
-
--- what an answer says of a prices file
-abbrev pub outcome_of : Result Network PriceFault → Option PriceOutcome
-outcome_of (Ok net) = Some (Prices net)
-outcome_of (Err fault) = fault_said fault
+-- the fault of a prices file whose line of this number has this fault
+abbrev pub price_fault_in_line : ℕ → PriceLineFault → PriceFault
+price_fault_in_line line fault.BadLine = faults.BadLine line
+price_fault_in_line line fault.NoSuchImport = faults.NoSuchImport line
+price_fault_in_line line fault.TwicePrice = faults.TwicePrice line

@@ -1,8 +1,10 @@
 -- The text of a prices file, and the first fault of a text that is none of a network. Lines are numbered from 1.
-use Rattle.std.specs.Prelude.{◌≡◌, ◌≢◌, ℕ, ◌+◌, ◌<◌, ◌≤◌, ◌^◌, ◌&&◌, Bool, true, List, [], ◌∷◌, ◌++◌, Option, Some, None, option_map, slice_get, take, map, filter, find, codes, All, AllPairs, Contains}
+use Rattle.std.specs.Prelude.{◌≡◌, ◌≢◌, ℕ, ◌+◌, ◌<◌, ◌≤◌, ◌^◌, ◌&&◌, Bool, true, List, [], ◌∷◌, ◌++◌, Option, Some, None, Result, Ok, Err, option_map, slice_get, take, map, filter, find, codes, All, AllPairs, Contains}
 use Rattle.std.specs.List.{flat_map}
 use Rattle.std.specs.Str.{bytes_eq}
 use Rattle.std.specs.Fmt.{decimal}
+use Rattle.cut_net.specs.declared.price_fault.PriceFault.{PriceFault}
+use Rattle.cut_net.specs.declared.price_fault.PriceFault.TheVariants.{BadLine, NoSuchImport, TwicePrice, PriceOverflow, Memory}
 use Rattle.cut_net.specs.declared.priced.Priced.{Priced}
 use Rattle.cut_net.specs.declared.standing.Change.{Change}
 use Rattle.cut_net.specs.declared.standing.Change.TheVariants.{Price, Pin}
@@ -167,24 +169,30 @@ pub record IsPriced (net : Network) (bytes : List ℕ) (priced : Network) : Type
   pub text : PriceText net bytes lines
   pub is : priced ≡ priced_by net lines
 
--- what a prices file says of a network, or its first fault
-pub data PriceOutcome : Type 0 where
-  Prices : Network → PriceOutcome
-  BadLine : ℕ → PriceOutcome
-  NoSuchImport : ℕ → PriceOutcome
-  TwicePrice : ℕ → PriceOutcome
-  PriceOverflow : PriceOutcome
-
 -- after good lines only: the imports without a pin weigh more than 2 ^ 40 in sum
 pub record IsPriceOverflow (net : Network) (bytes : List ℕ) : Type 0 where
   pub priced : Network
   pub is_priced : IsPriced net bytes priced
   pub over : most_weight < unpinned_weight priced
 
--- the file says this of the network
-abbrev pub IsPriceOutcome : Network → List ℕ → PriceOutcome → Type 0
-IsPriceOutcome net bytes (Prices priced) = IsPriced net bytes priced × (unpinned_weight priced ≤ most_weight)
-IsPriceOutcome net bytes (BadLine line) = (k : ℕ) × (line ≡ k + 1) × IsBadPrice net bytes k
-IsPriceOutcome net bytes (NoSuchImport line) = (k : ℕ) × (line ≡ k + 1) × IsNoImport net bytes k
-IsPriceOutcome net bytes (TwicePrice line) = (k : ℕ) × (line ≡ k + 1) × IsTwicePrice net bytes k
-IsPriceOutcome net bytes PriceOverflow = IsPriceOverflow net bytes
+-- the file says this of the network: what it is with the prices, or the first fault
+abbrev pub IsPriceOutcome : Network → List ℕ → Result Network PriceFault → Type 0
+IsPriceOutcome net bytes (Ok priced) = IsPriced net bytes priced × (unpinned_weight priced ≤ most_weight)
+IsPriceOutcome net bytes (Err (BadLine line)) = (k : ℕ) × (line ≡ k + 1) × IsBadPrice net bytes k
+IsPriceOutcome net bytes (Err (NoSuchImport line)) = (k : ℕ) × (line ≡ k + 1) × IsNoImport net bytes k
+IsPriceOutcome net bytes (Err (TwicePrice line)) = (k : ℕ) × (line ≡ k + 1) × IsTwicePrice net bytes k
+IsPriceOutcome net bytes (Err PriceOverflow) = IsPriceOverflow net bytes
+IsPriceOutcome net bytes (Err Memory) = ⊥
+
+-- the fact holds, but where the fault is want of memory nothing is said
+abbrev pub UnlessMemory : PriceFault → Type 0 → Type 0
+UnlessMemory (BadLine line) P = P
+UnlessMemory (NoSuchImport line) P = P
+UnlessMemory (TwicePrice line) P = P
+UnlessMemory PriceOverflow P = P
+UnlessMemory Memory P = Unit {0}
+
+-- what was answered is such an outcome, unless memory ran out
+abbrev pub Tells : Result Network PriceFault → (Result Network PriceFault → Type 0) → Type 0
+Tells (Ok net) IsOutcome = IsOutcome (Ok net)
+Tells (Err fault) IsOutcome = UnlessMemory fault (IsOutcome (Err fault))

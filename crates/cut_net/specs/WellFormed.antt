@@ -18,13 +18,9 @@ AreNamesInOrder names = IsStrictlySortedBy (slice_cmp nat_cmp) names
 abbrev pub AreBetween : List Priced → ℕ → Type 0
 AreBetween imports count = (i : Priced) → Contains imports i → (i.from < count) × (i.to < count)
 
--- the one module imports the other
-abbrev pub Leads : List Priced → ℕ → ℕ → Type 0
-Leads imports m n = Imports imports Any m n
-
 -- no module reaches itself by one or more imports
 abbrev pub IsAcyclic : List Priced → Type 0
-IsAcyclic imports = chains.IsAcyclic (Leads imports)
+IsAcyclic imports = chains.IsAcyclic (Imports imports Any)
 
 -- the sum of all weights
 abbrev pub total_weight : Network → ℕ

@@ -2,7 +2,8 @@
 ghost use Rattle.std.specs.Prelude.{◌≡◌, ◌<◌, ◌≤◌, length, map, All, IfOk, IfSome, IfNone};
 ghost use Rattle.digraph.specs.Cycle.{NamesCycle};
 ghost use Rattle.cut_net.specs.Lines.{IsAscending, edge_of};
-ghost use Rattle.cut_net.specs.WellFormed.{AreBetween, IsAcyclic, Leads};
+ghost use Rattle.cut_net.specs.Cuts.{Any, Imports};
+ghost use Rattle.cut_net.specs.WellFormed.{AreBetween, IsAcyclic};
 
 use crate::Priced;
 use digraph::Edge;
@@ -33,7 +34,7 @@ pub(crate) fn cycle_of(
     requires ascending { IsAscending imports.now }
     requires few_nodes { nodes ≤ 8192 }
     requires few_imports { length imports.now ≤ 65536 }
-    ensures named { IfOk result (λ answer. IfSome answer (λ cycle. NamesCycle (Leads imports.now) cycle.items)) }
+    ensures named { IfOk result (λ answer. IfSome answer (λ cycle. NamesCycle (Imports imports.now Any) cycle.items)) }
     ensures within { IfOk result (λ answer. IfSome answer (λ cycle. All (λ m. m < nodes) cycle.items)) }
     ensures none { IfOk result (λ answer. IfNone answer (IsAcyclic imports.now)) }
 {

@@ -26,11 +26,11 @@ pub(crate) enum NetLineFault {
 
 impl NetLineFault {
     ghost use Rattle.std.specs.Prelude.{◌≡◌};
-    ghost use Rattle.cut_net.specs.NetReading.{fault_at};
+    ghost use Rattle.cut_net.specs.NetReading.{net_fault_in_line};
 
     /// The fault of a text whose line of this number has this fault.
     pub(crate) fn at(self, line: u64) -> NetFault
-        ensures { result ≡ fault_at line self }
+        ensures { result ≡ net_fault_in_line line self }
     {
         match self {
             NetLineFault::BadLine => NetFault::BadLine { line },

@@ -1,11 +1,12 @@
 //! Laws of cuts, flows and texts: a cut that weighs as much as a flow's value is cheapest, a flow without a way on gives such a
 //! cut, and what that says of the imports that are printed. Each function is a law: its body is empty, and its contract is proved.
-ghost use Rattle.std.specs.Prelude.{ℕ, ◌≡◌, ◌≢◌, ◌↔◌, ◌<◌, Bool, true, false, length, Contains, List, []};
+ghost use Rattle.std.specs.Prelude.{ℕ, ◌≡◌, ◌≢◌, ◌↔◌, ◌<◌, Bool, true, false, length, Contains, List, [], Result};
+ghost use Rattle.cut_net.specs.declared.price_fault.PriceFault.{PriceFault};
 ghost use Rattle.cut_net.specs.declared.priced.Priced.{Priced};
 ghost use Rattle.cut_net.specs.Network.{Network};
 ghost use Rattle.cut_net.specs.WellFormed.{AreBetween};
-ghost use Rattle.cut_net.specs.NetText.{IsNetOutcome, NetOutcome};
-ghost use Rattle.cut_net.specs.Prices.{IsPriceOutcome, PriceOutcome};
+ghost use Rattle.cut_net.specs.NetText.{IsNetOutcome, NetRefusal};
+ghost use Rattle.cut_net.specs.Prices.{IsPriceOutcome};
 ghost use Rattle.cut_net.specs.Said.{Said};
 ghost use Rattle.cut_net.specs.Lines.{IsAnswer, IsCheapestSaid};
 ghost use Rattle.cut_net.specs.Pins.{ArePins, ArePrintedWithPins, IsAnswerWithPins, IsCheapestSaidWithPins, IsCheapestWithPins, IsCutWithPins, IsFlowWithPins, NearWithPins, PinChain};
@@ -104,10 +105,10 @@ pub fn same_without_pins()
 
 /// A text of a network says at most one thing: a network or a first fault.
 pub fn one_reading()
-    ensures { (bytes : List ℕ) (o p : NetOutcome) → IsNetOutcome bytes o → IsNetOutcome bytes p → o ≡ p }
+    ensures { (bytes : List ℕ) (o p : Result Network NetRefusal) → IsNetOutcome bytes o → IsNetOutcome bytes p → o ≡ p }
 {}
 
 /// Prices say at most one thing of a network: what it is with them, or a first fault.
 pub fn one_pricing()
-    ensures { (net : Network) (bytes : List ℕ) (o p : PriceOutcome) → IsPriceOutcome net bytes o → IsPriceOutcome net bytes p → o ≡ p }
+    ensures { (net : Network) (bytes : List ℕ) (o p : Result Network PriceFault) → IsPriceOutcome net bytes o → IsPriceOutcome net bytes p → o ≡ p }
 {}

@@ -56,11 +56,11 @@ pub(crate) enum PriceLineFault {
 
 impl PriceLineFault {
     ghost use Rattle.std.specs.Prelude.{◌≡◌};
-    ghost use Rattle.cut_net.specs.PriceReading.{fault_at};
+    ghost use Rattle.cut_net.specs.PriceReading.{price_fault_in_line};
 
     /// The fault of a text whose line of this number has this fault.
     pub(crate) fn at(self, line: u64) -> PriceFault
-        ensures { result ≡ fault_at line self }
+        ensures { result ≡ price_fault_in_line line self }
     {
         match self {
             PriceLineFault::BadLine => PriceFault::BadLine { line },

@@ -1,13 +1,14 @@
 //! Prices: a network whose imports get other weights, or are pinned.
-ghost use Rattle.std.specs.Prelude.{ℕ, ◌≡◌, ◌<◌, ◌≤◌, ◌↔◌, true, Contains, IfErr, IfNone, IfOk, IfSome, IsTrue, List, Option, length, map, slice_index_or, sum_by};
+ghost use Rattle.std.specs.Prelude.{◌≡◌, ◌<◌, ◌≤◌, ◌↔◌, true, Contains, IfErr, IfNone, IfOk, IfSome, IsTrue, List, Option, Result, length, map, slice_index_or, sum_by};
 ghost use Rattle.std.specs.List.{flat_map};
+ghost use Rattle.cut_net.specs.declared.price_fault.PriceFault.{PriceFault};
 ghost use Rattle.cut_net.specs.declared.priced.Priced.{Priced};
 ghost use Rattle.cut_net.specs.declared.standing.Change.{Change};
 ghost use Rattle.cut_net.specs.declared.standing.PinState.{PinState};
-ghost use Rattle.cut_net.specs.Network.{none_there};
+ghost use Rattle.cut_net.specs.Network.{Network, none_there};
 ghost use Rattle.cut_net.specs.Pins.{most_weight};
-ghost use Rattle.cut_net.specs.Prices.{import_as, is_named, pin_as, pin_state_of, standing_so, stands_after, stands_by, IsPriceOutcome, PriceLine, PriceOutcome};
-ghost use Rattle.cut_net.specs.PriceReading.{fault_said, outcome_of, unpinned_part, IsTold, IsToldOf, Notes};
+ghost use Rattle.cut_net.specs.Prices.{import_as, is_named, pin_as, pin_state_of, standing_so, stands_after, stands_by, IsPriceOutcome, PriceLine, Tells, UnlessMemory};
+ghost use Rattle.cut_net.specs.PriceReading.{unpinned_part, IsTold, IsToldOf, Notes};
 
 use crate::found::{line_of, place_in};
 use crate::numbering::copied;
@@ -63,7 +64,7 @@ fn note(net: &Net, told: &mut Vec<Option<Change>>, piece: &[u8]) -> Result<(), P
 /// For each import what its line says, or the fault of the first line that has one.
 fn told_by(alloc: Global, net: &Net, bytes: &[u8]) -> Result<Vec<Option<Change>>, PriceFault>
     ensures told { IfOk result (λ told. IsToldOf net.now bytes.now told.items) }
-    ensures fault { IfErr result (λ fault. IfSome (fault_said fault) (IsPriceOutcome net.now bytes.now)) }
+    ensures fault { IfErr result (λ fault. UnlessMemory fault (IsPriceOutcome net.now bytes.now (Err fault))) }
 {
     let mut told = vec![in alloc; None; net.imports().len()]?;
     let mut line = 0;
@@ -207,16 +208,16 @@ impl Net {
     /// much for it; in the form of a network's lines. An import has one line at most. One without a line keeps its weight, or its pin; a
     /// price ends a pin.
     pub fn price(&self, bytes: &[u8]) -> Result<Net, PriceFault>
-        // What is answered is so: the network, or the first fault. Want of memory says nothing.
-        ensures exact { IfSome (outcome_of result) (IsPriceOutcome self.now bytes.now) }
+        // What is answered is so, unless memory ran out: the network, or the first fault.
+        ensures exact { Tells result (IsPriceOutcome self.now bytes.now) }
         // What is so is answered, unless memory runs out.
-        ensures only { (o : PriceOutcome) → IsPriceOutcome self.now bytes.now o → IfSome (outcome_of result) (λ p. p ≡ o) }
+        ensures only { (o : Result Network PriceFault) → IsPriceOutcome self.now bytes.now o → Tells result (λ p. p ≡ o) }
     {
         self.priced(bytes)
     }
 
     fn priced(&self, bytes: &[u8]) -> Result<Net, PriceFault>
-        ensures { IfSome (outcome_of result) (IsPriceOutcome self.now bytes.now) }
+        ensures { Tells result (IsPriceOutcome self.now bytes.now) }
     {
         let alloc = *self.names.allocator();
         let told = told_by(alloc, self, bytes)?;

@@ -1,12 +1,13 @@
 //! Reading a network from its text.
-ghost use Rattle.std.specs.Prelude.{◌≡◌, ◌≤◌, ℕ, IfErr, IfNone, IfOk, IfSome, List, [], OnOk, length, map};
+ghost use Rattle.std.specs.Prelude.{◌≡◌, ◌≤◌, ℕ, IfErr, IfNone, IfOk, IfSome, List, [], OnOk, Result, length, map};
 ghost use Rattle.std.specs.List.{slice_index_or};
 ghost use Rattle.digraph.specs.Cycle.{NamesCycle};
 ghost use Rattle.cut_net.specs.Lines.{IsAscending};
-ghost use Rattle.cut_net.specs.NetText.{IsNetOutcome, NetOutcome, NetText};
-ghost use Rattle.cut_net.specs.Network.{texts};
-ghost use Rattle.cut_net.specs.NetReading.{fault_said, net_of, outcome_of, IsDraft, IsDraftOf};
-ghost use Rattle.cut_net.specs.WellFormed.{AreBetween, IsAcyclic, Leads};
+ghost use Rattle.cut_net.specs.NetText.{IsNetOutcome, NetRefusal, NetText, Tells, UnlessMemory};
+ghost use Rattle.cut_net.specs.Network.{Network, texts};
+ghost use Rattle.cut_net.specs.NetReading.{net_of, IsDraft, IsDraftOf};
+ghost use Rattle.cut_net.specs.Cuts.{Any, Imports};
+ghost use Rattle.cut_net.specs.WellFormed.{AreBetween, IsAcyclic};
 
 use crate::cycle::cycle_of;
 use crate::draft::NetDraft;
@@ -19,7 +20,7 @@ use std::alloc::{AllocError, Global};
 fn draft_of(alloc: Global, bytes: &[u8], draft: &mut NetDraft) -> Result<(), NetFault>
     requires { IsDraft [] draft.old }
     ensures drafted { OnOk result (IsDraftOf bytes.now draft.new) }
-    ensures fault { IfErr result (λ fault. IfSome (fault_said fault) (IsNetOutcome bytes.now)) }
+    ensures fault { IfErr result (λ fault. UnlessMemory fault (λ refusal. IsNetOutcome bytes.now (Err refusal))) }
 {
     let mut line = 0;
     for piece in bytes.split(|b| *b == b'\n') {
@@ -42,7 +43,7 @@ fn lists_by(
     ensures text { IfOk result (λ lists. NetText bytes.now (net_of lists.0.items lists.1.items)) }
     ensures few_names { IfOk result (λ lists. length lists.0.items ≤ 8192) }
     ensures few_imports { IfOk result (λ lists. length lists.1.items ≤ 65536) }
-    ensures fault { IfErr result (λ fault. IfSome (fault_said fault) (IsNetOutcome bytes.now)) }
+    ensures fault { IfErr result (λ fault. UnlessMemory fault (λ refusal. IsNetOutcome bytes.now (Err refusal))) }
 {
     draft_of(alloc, bytes, draft)?;
     Ok(lists_of(alloc, draft)?)
@@ -53,7 +54,7 @@ fn lists_in(alloc: Global, bytes: &[u8]) -> Result<(Vec<String>, Vec<Priced>), N
     ensures text { IfOk result (λ lists. NetText bytes.now (net_of lists.0.items lists.1.items)) }
     ensures few_names { IfOk result (λ lists. length lists.0.items ≤ 8192) }
     ensures few_imports { IfOk result (λ lists. length lists.1.items ≤ 65536) }
-    ensures fault { IfErr result (λ fault. IfSome (fault_said fault) (IsNetOutcome bytes.now)) }
+    ensures fault { IfErr result (λ fault. UnlessMemory fault (λ refusal. IsNetOutcome bytes.now (Err refusal))) }
 {
     // Where memory for these lists is refused, the tables tell the fault of a line all the same.
     match straight_lists(alloc, bytes) {
@@ -75,7 +76,7 @@ fn names_on_cycle(
     requires ascending { IsAscending imports.now }
     requires few_names { length names.now ≤ 8192 }
     requires few_imports { length imports.now ≤ 65536 }
-    ensures named { IfOk result (λ found. IfSome found (λ named. (cycle : List ℕ) × NamesCycle (Leads imports.now) cycle × (texts named.items ≡ map (λ m. slice_index_or (texts names.now) m []) cycle))) }
+    ensures named { IfOk result (λ found. IfSome found (λ named. (cycle : List ℕ) × NamesCycle (Imports imports.now Any) cycle × (texts named.items ≡ map (λ m. slice_index_or (texts names.now) m []) cycle))) }
     ensures none { IfOk result (λ found. IfNone found (IsAcyclic imports.now)) }
 {
     match cycle_of(alloc, imports, names.len())? {
@@ -86,7 +87,7 @@ fn names_on_cycle(
 
 /// What the bytes say: a network, or the first fault.
 fn net_in(alloc: Global, bytes: &[u8]) -> Result<Net, NetFault>
-    ensures { IfSome (outcome_of result) (IsNetOutcome bytes.now) }
+    ensures { Tells result (IsNetOutcome bytes.now) }
 {
     let (names, imports) = lists_in(alloc, bytes)?;
     if !fits(imports.as_slice()) {
@@ -105,10 +106,10 @@ impl Net {
     /// Each line is `module M` or `import M N w`: fields parted by one space, identifiers (Oberon-07 report, section 3), and a weight from 0 to
     /// 2^64 - 1 without leading zeros. Empty lines are skipped, and the last line end may be missing.
     pub fn read(alloc: Global, bytes: &[u8]) -> Result<Net, NetFault>
-        // What is answered is so: the network, or the first fault. Want of memory says nothing.
-        ensures exact { IfSome (outcome_of result) (IsNetOutcome bytes.now) }
+        // What is answered is so, unless memory ran out: the network, or the first fault.
+        ensures exact { Tells result (IsNetOutcome bytes.now) }
         // What is so is answered, unless memory runs out.
-        ensures only { (o : NetOutcome) → IsNetOutcome bytes.now o → IfSome (outcome_of result) (λ p. p ≡ o) }
+        ensures only { (o : Result Network NetRefusal) → IsNetOutcome bytes.now o → Tells result (λ p. p ≡ o) }
     {
         net_in(alloc, bytes)
     }

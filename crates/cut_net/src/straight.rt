@@ -3,8 +3,8 @@
 //! of `draft`, which tell the first fault.
 ghost use Rattle.std.specs.Prelude.{◌≡◌, ◌≤◌, ◌<◌, ◌++◌, ◌∷◌, [], ℕ, true, IfErr, IfOk, IfSome, OnOk, List, length, map};
 ghost use Rattle.cut_net.specs.NetList.{AreNumbersOf, GoesOn, IsList, IsListOf, IsRepeat, IsRepeatAt, Repeats};
-ghost use Rattle.cut_net.specs.NetReading.{fault_said, import_line, line_said, net_of};
-ghost use Rattle.cut_net.specs.NetText.{AreGood, IsNetLine, IsNetOutcome, NetLine, net_line, NetText, Module, Import, Spell};
+ghost use Rattle.cut_net.specs.NetReading.{import_line, line_said, net_of};
+ghost use Rattle.cut_net.specs.NetText.{AreGood, IsNetLine, IsNetOutcome, NetLine, net_line, NetText, Module, Import, Spell, UnlessMemory};
 ghost use Rattle.cut_net.specs.WellFormed.{AreBetween};
 ghost use Rattle.cut_net.specs.declared.straight.Stop.TheVariants.{Twice};
 ghost use Rattle.cut_net.specs.declared.straight.Filled.TheVariants as filled;
@@ -307,7 +307,7 @@ pub(crate) fn straight_lists(
     ensures text { IfOk result (λ found. IfSome found (λ lists. NetText bytes.now (net_of lists.0.items lists.1.items))) }
     ensures few_names { IfOk result (λ found. IfSome found (λ lists. length lists.0.items ≤ 8192)) }
     ensures few_imports { IfOk result (λ found. IfSome found (λ lists. length lists.1.items ≤ 65536)) }
-    ensures fault { IfErr result (λ fault. IfSome (fault_said fault) (IsNetOutcome bytes.now)) }
+    ensures fault { IfErr result (λ fault. UnlessMemory fault (λ refusal. IsNetOutcome bytes.now (Err refusal))) }
 {
     let mut list = LineList::new(alloc, bytes.len());
     match fill(alloc, bytes, &mut list) {

@@ -15,8 +15,8 @@ use Rattle.std.proofs.lemmas.Map.Keys.{Less-from_sorted}
 use Rattle.digraph.proofs.Members.{from_map, of_filter}
 use Rattle.cut_net.specs.declared.priced.Priced.{Priced}
 use Rattle.cut_net.specs.Network.{Network, name_of, none_there}
-use Rattle.cut_net.specs.WellFormed.{AreBetween, AreNamesInOrder, IsAcyclic, IsNetwork, Leads}
-use Rattle.cut_net.specs.Cuts.{Any, AreThose, ArePrinted, Chain, IsChain, IsFlow}
+use Rattle.cut_net.specs.WellFormed.{AreBetween, AreNamesInOrder, IsAcyclic, IsNetwork}
+use Rattle.cut_net.specs.Cuts.{Any, AreThose, ArePrinted, Chain, IsChain, IsFlow, Imports}
 use Rattle.cut_net.specs.Lines.{IsAscending, comes_before}
 use Rattle.cut_net.proofs.Ends.{before_from, before_true}
 use Rattle.cut_net.proofs.ListSums.{here, there, sum_by-mono, sum_by-same}
@@ -174,7 +174,7 @@ module _ (net : Network) (a b : ℕ) (marks : List Bool) (numbers places : List 
       (Contains-get_or (filter (inside (is_seen marks)) lines) j none_there j_in) (Contains-get_or (filter (inside (is_seen marks)) lines) k none_there k_in)
       (AllPairs-filter (λ i j. comes_before i j ≡ true) (inside (is_seen marks)) lines up j k none_there less k_in))
 
-  up_leads : (m n : ℕ) → Leads (small_lines net.imports) m n → Leads net.imports (get_or numbers m 0) (get_or numbers n 0)
+  up_leads : (m n : ℕ) → Imports (small_lines net.imports) Any m n → Imports net.imports Any (get_or numbers m 0) (get_or numbers n 0)
   up_leads m n (i, c, from, to, any) =
       let was = from_map (renumbered (λ m. get_or places m 0)) (filter (inside (is_seen marks)) net.imports) i c in
       let ends = marked_ends net.imports was.0 was.1 in

@@ -1,8 +1,8 @@
 -- Chains of imports are followed along trails.
-use Rattle.std.proofs.Common.{◌≡◌, ℕ, ◌+◌, ◌<◌, Bool, true, false, not, cond, List, [], ◌∷◌, ◌++◌, length, replicate, set, get_or, refl, sym, ap, ◌∙◌, subst, arith, inl, inr, length-set, get_or-set_same, get_or-set_other}
+use Rattle.std.proofs.Common.{◌≡◌, ℕ, ◌+◌, ◌<◌, Bool, true, false, not, cond, List, [], ◌∷◌, ◌++◌, length, replicate, set, sym, ap, ◌∙◌, subst, arith, inl, inr, get_or-set_same, get_or-set_other}
 use Rattle.std.specs.Prelude.{◌≢◌, Contains}
 use Rattle.std.proofs.lemmas.Bool.{both_ways, cases_eq, cases_lt}
-use Rattle.std.proofs.lemmas.List.{get_or-replicate, get_or_default, get_or_past, get_or_push, get_or_append_left, length-replicate, length_push}
+use Rattle.std.proofs.lemmas.List.{get_or-replicate, get_or_default, get_or_past, length-replicate, length_push}
 use Rattle.std.proofs.lemmas.List.Elements.{Contains-get_or, Contains-push, Contains-push_cases, Contains-append_left}
 use Rattle.std.proofs.lemmas.List.Sums.{sum_by-set}
 use Rattle.cut_net.specs.declared.priced.Priced.{Priced}
@@ -11,57 +11,8 @@ use Rattle.cut_net.specs.Cuts.{Any, Chain, IsChain}
 use Rattle.cut_residual.specs.Graphs.{is_seen}
 use Rattle.cut_part.specs.Marks.{AreChained}
 use Rattle.cut_part.specs.Narrowing.{import_in}
-use Rattle.cut_part.specs.Reach.{left_over, AreTrails, IsFollowing, IsLastOf, IsSpreading}
+use Rattle.cut_part.specs.Reach.{left_over, IsFollowing, IsLastOf, IsSpreading}
 use Rattle.cut_part.proofs.Inside.{onward}
-
--- ---- trails
-
-pub no_trails : (imports : List Priced) (modules : ℕ) → AreTrails imports modules (replicate modules 0) [] 0
-no_trails imports modules = record {
-  size = length-replicate modules 0;
-  each = refl;
-  lasts = λ m l. rw (get_or-replicate {A = ℕ} modules m 0 0 l) record {
-    within = omega arith;
-    own = λ k e. absurd (omega arith);
-    none_after = λ k le lt. absurd (omega arith);
-  };
-  befores = λ k l. absurd (omega arith);
-}
-
-pub trails_more : (imports : List Priced) (modules count : ℕ) (last before : List ℕ) → (import_in imports count).from < modules → AreTrails imports modules last before count →
-    AreTrails imports modules (set last (import_in imports count).from (count + 1)) (before ++ get_or last (import_in imports count).from 0 ∷ []) (count + 1)
-trails_more imports modules count last before low t =
-    let from = (import_in imports count).from in
-    let size = t.size in
-    let in_last : from < length last = omega arith in
-    record {
-      size = length-set last from (count + 1) ∙ size;
-      each = (let longer = length_push before (get_or last from 0) in let each = t.each in omega arith);
-      lasts = λ m l. elim (cases_eq m from) [
-        | inl e ↦ rw (e, get_or-set_same last from (count + 1) 0 in_last) record {
-          within = omega arith;
-          own = λ k is. let same : k ≡ count = omega arith in ap (λ (j : ℕ). (import_in imports j).from) same;
-          none_after = λ k le lt. absurd (omega arith);
-        }
-        | inr ne ↦
-            let was = t.lasts m l in
-            rw (get_or-set_other last from m (count + 1) 0 ne) record {
-              within = (let w = was.within in omega arith);
-              own = was.own;
-              none_after = λ k le lt is. elim (cases_eq k count) [
-                | inl same ↦ ne (sym is ∙ ap (λ (j : ℕ). (import_in imports j).from) same)
-                | inr other ↦ was.none_after k le (omega arith) is
-              ];
-            }
-      ];
-      befores = λ k l. elim (cases_eq k count) [
-        | inl e ↦ rw (e, get_or_push before (get_or last from 0) 0 count t.each) (t.lasts from low)
-        | inr ne ↦
-            let each = t.each in
-            let in_before : k < length before = omega arith in
-            rw (get_or_append_left before (get_or last from 0 ∷ []) 0 k in_before) (t.befores k (omega arith))
-      ];
-    }
 
 -- ---- one module's imports
 

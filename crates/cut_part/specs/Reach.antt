@@ -1,22 +1,18 @@
 -- How the modules are found to which chains of imports lead.
-use Rattle.std.specs.Prelude.{◌≡◌, ◌⊎◌, ℕ, ◌+◌, ◌<◌, ◌≤◌, not, Bool, true, List, length, count_by, slice_index, Contains}
+use Rattle.std.specs.Prelude.{◌≡◌, ◌⊎◌, ℕ, ◌+◌, ◌<◌, not, Bool, true, List, length, count_by, Contains}
+use Rattle.digraph.specs.Trails.{AreTrails, IsLastOn}
 use Rattle.cut_net.specs.declared.priced.Priced.{Priced}
 use Rattle.cut_net.specs.Cuts.{Any, Chain}
 use Rattle.cut_residual.specs.Graphs.{is_seen}
 use Rattle.cut_part.specs.Narrowing.{import_in}
 
 -- of the first count imports it is the number, plus one, of the last that the module makes; it is 0 where there is none
-pub record IsLastOf (imports : List Priced) (m count next : ℕ) : Type 0 where
-  pub within : next ≤ count
-  pub own : (k : ℕ) → next ≡ k + 1 → (import_in imports k).from ≡ m
-  pub none_after : (k : ℕ) → next ≤ k → k < count → (import_in imports k).from ≡ m → ⊥
+abbrev pub IsLastOf : List Priced → ℕ → ℕ → ℕ → Type 0
+IsLastOf imports m count next = IsLastOn (λ k. (import_in imports k).from) m count next
 
 -- of the first count imports: for each module its last one, and for each of them the one before it that the same module makes
-pub record AreTrails (imports : List Priced) (modules : ℕ) (last before : List ℕ) (count : ℕ) : Type 0 where
-  pub size : length last ≡ modules
-  pub each : length before ≡ count
-  pub lasts : (m : ℕ) → m < modules → IsLastOf imports m count (slice_index last m)
-  pub befores : (k : ℕ) → k < count → IsLastOf imports (import_in imports k).from k (slice_index before k)
+abbrev pub AreImportTrails : List Priced → ℕ → List ℕ → List ℕ → ℕ → Type 0
+AreImportTrails imports modules last before count = AreTrails (λ k. (import_in imports k).from) modules last before count
 
 -- chains lead from the start to all that are marked, and what these import is marked too, unless they wait
 pub record IsSpreading (imports : List Priced) (start : ℕ) (marks : List Bool) (waiting : List ℕ) : Type 0 where

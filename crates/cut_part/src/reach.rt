@@ -2,7 +2,7 @@
 ghost use Rattle.std.specs.Prelude.{◌≡◌, ◌<◌, ◌≤◌, ◌+◌, ◌++◌, ◌∷◌, [], ℕ, IfOk, OnOk, length, vec_len};
 ghost use Rattle.cut_net.specs.WellFormed.{AreBetween};
 ghost use Rattle.cut_part.specs.Marks.{AreChained};
-ghost use Rattle.cut_part.specs.Reach.{left_over, AreTrails, IsSpreading};
+ghost use Rattle.cut_part.specs.Reach.{left_over, AreImportTrails, IsSpreading};
 
 use cut_net::Priced;
 use std::alloc::{AllocError, Global};
@@ -21,7 +21,7 @@ struct Trails {
 fn trails_of(alloc: Global, imports: &[Priced], modules: u32) -> Result<Trails, AllocError>
     requires between { AreBetween imports.now modules }
     requires few { length imports.now ≤ 65536 }
-    ensures { IfOk result (λ t. AreTrails imports.now modules t.last.items t.before.items (length imports.now)) }
+    ensures { IfOk result (λ t. AreImportTrails imports.now modules t.last.items t.before.items (length imports.now)) }
 {
     let mut last = vec![in alloc; 0u32; modules as usize]?;
     let mut before = Vec::with_capacity(alloc, imports.len())?;
@@ -42,7 +42,7 @@ fn follow(
     waiting: &mut Vec<u32>,
 ) -> Result<(), AllocError>
     requires between { AreBetween imports.now (vec_len marks.old) }
-    requires trails { AreTrails imports.now (vec_len marks.old) trails.now.last.items trails.now.before.items (length imports.now) }
+    requires trails { AreImportTrails imports.now (vec_len marks.old) trails.now.last.items trails.now.before.items (length imports.now) }
     requires importer { importer < vec_len marks.old }
     ensures size { OnOk result (vec_len marks.new ≡ vec_len marks.old) }
     ensures spreading { OnOk result ((start : ℕ) → IsSpreading imports.now start marks.old.items (waiting.old.items ++ importer ∷ []) →

@@ -1,8 +1,9 @@
 //! The plain solver: augmenting paths in phases, as Dinic (1970) has them, in one thread.
-ghost use Rattle.std.specs.Prelude.{◌≡◌, ◌≢◌, ◌<◌, IfOk, IfSome, length};
-ghost use Rattle.cut_net.specs.Answers.{said_by_cut};
+ghost use Rattle.std.specs.Prelude.{◌≡◌, ◌≢◌, ◌<◌, Err, IfOk, length};
+ghost use Rattle.cut_net.specs.Answers.{said_by, said_by_cut};
 ghost use Rattle.cut_net.specs.Lines.{IsAnswer, IsCheapestSaid};
-ghost use Rattle.cut_solve.specs.Solving.{outcome_of, IsRefusal, IsSolveOutcome, SolveOutcome};
+ghost use Rattle.cut_solve.specs.Faults.{Tells};
+ghost use Rattle.cut_solve.specs.Solving.{IsSolveOutcome, SolveRefusal};
 
 use crate::maximum_flow::maximum_flow;
 use cut_net::{Answer, Cut, Net};
@@ -34,9 +35,9 @@ fn solve(alloc: Global, net: &Net, from: u32, to: u32) -> Result<Cut, AllocError
 /// `SameModule` where both are one module's, and with `Memory`.
 pub fn plain(alloc: Global, net: &Net, from: &str, to: &str) -> Result<Answer, SolveFault>
     // It is a cheapest cut with a flow that proves it, or a chain of pins, which no cut parts, or what is wrong with the names.
-    ensures exact { IfSome (outcome_of result) (IsSolveOutcome net.now from.now to.now) }
+    ensures exact { Tells said_by result (IsSolveOutcome net.now from.now to.now) }
     // What is wrong with the names is answered unless memory runs out.
-    ensures refused { (o : SolveOutcome) → IsRefusal o → IsSolveOutcome net.now from.now to.now o → IfSome (outcome_of result) (λ p. p ≡ o) }
+    ensures refused { (refusal : SolveRefusal) → IsSolveOutcome net.now from.now to.now (Err refusal) → Tells said_by result (λ o. o ≡ Err refusal) }
 {
     let from = module_of(alloc, net, from)?;
     let to = module_of(alloc, net, to)?;

@@ -4,6 +4,7 @@ pub mod TextFronts
 pub mod RestKinds
 pub mod ImportLines
 pub mod EntryLines
+pub mod FaultLaws
 pub mod Readings
 pub mod LastImports
 pub mod Standings

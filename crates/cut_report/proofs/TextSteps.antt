@@ -1,6 +1,6 @@
 -- A text that is read line by line.
 use Rattle.std.proofs.Common.{◌≡◌, ◌≢◌, ℕ, ◌+◌, ◌≤◌, true, false, eqb, List, [], ◌∷◌, ◌++◌, length, Option, Some, None, Result, Ok, Err, refl, sym, ap, subst, ◌∙◌, append_assoc, arith, inl, inr}
-use Rattle.std.specs.Prelude.{option_map, IfSome}
+use Rattle.std.specs.Prelude.{option_map, IfErr, IfOk}
 use Rattle.std.specs.Option.{ok_or}
 use Rattle.std.proofs.lemmas.Bool.{cases_Bool}
 use Rattle.std.proofs.lemmas.List.{append-nil, length_push, length-append}
@@ -17,8 +17,11 @@ use Rattle.cut_report.specs.ReportLine.{front_lines, entry_lines}
 use Rattle.cut_report.specs.Lines.{line_of_text}
 use Rattle.cut_report.specs.declared.fault.ReportFault.{ReportFault}
 use Rattle.cut_report.specs.declared.draft.ReportDraft.{ReportDraft}
-use Rattle.cut_report.specs.Drafts.{◌>>=◌, Fails, GivesAt, ReadSoFar, Start, Named, Open, Shut, Ended, fault_at, finish_of, read_so_far_of, step, text_step}
-use Rattle.cut_report.specs.Reading.{outcome_of}
+use Rattle.cut_report.specs.declared.report.Report.{Report}
+use Rattle.cut_report.specs.Drafts.{◌>>=◌, IsLineFault, IsReadAtLine, ReadSoFar, Start, Named, Open, Shut, Ended, finish_of, read_so_far_of, report_fault_in_line, step, text_step}
+use Rattle.cut_report.specs.Faults.{Tells, UnlessMemory}
+use Rattle.cut_report.specs.Reading.{entry_of}
+use Rattle.cut_report.proofs.FaultLaws.{UnlessMemory-from}
 use Rattle.cut_report.proofs.LineLaws.{line_again, line_once, line_takes}
 use Rattle.cut_report.proofs.TextFronts.{end_without}
 use Rattle.cut_report.proofs.EntryLines.{good-append, good_front, good_report}
@@ -166,6 +169,12 @@ rest_is net bytes (Ended entry) [] w f e = record {
 rest_is net bytes (Ended entry) (b ∷ rest) w f e =
     (length (standing_lines net (Ended entry)), refl, record { before = standing_lines net (Ended entry); rest = b ∷ rest; front = f; count = refl; wrong = inl (last_is_end net entry, λ same. absurd cc) })
 
+-- what is answered where no whole line follows
+pub told_at_end : (net : Network) (bytes : List ℕ) (s : ReadSoFar) (before : ℕ) (rest : List ℕ) (result : Result Report ReportFault) → IsNetwork net → IsFront net bytes (standing_lines net s) rest → cut_at 10 rest ≡ None
+    → before ≡ length (standing_lines net s) → IfOk result (λ report. finish_of s before rest ≡ Ok (entry_of report)) → IfErr result (λ fault. finish_of s before rest ≡ Err fault) → Tells entry_of result (IsReportOutcome net bytes)
+told_at_end net bytes s before rest (Ok report) w f e n ok err = subst (IsReportOutcome net bytes) ok (rw n (rest_is net bytes s rest w f e))
+told_at_end net bytes s before rest (Err fault) w f e n ok err = UnlessMemory-from fault (subst (IsReportOutcome net bytes) err (rw n (rest_is net bytes s rest w f e)))
+
 -- a good line, and the lines go on after it
 pub goes_on : (net : Network) (bytes : List ℕ) (s t : ReadSoFar) (rest text after : List ℕ) → IsNetwork net → IsFront net bytes (standing_lines net s) rest → cut_at 10 rest ≡ Some (text, after) → text_step net s text ≡ Ok t
     → IsFront net bytes (standing_lines net t) after × (length (standing_lines net t) ≡ length (standing_lines net s) + 1)
@@ -173,10 +182,10 @@ goes_on net bytes s t rest text after w f e is = rw is at (text_is net bytes s r
 
 -- the fault of a line is that of the text
 pub fails : (net : Network) (bytes : List ℕ) (s : ReadSoFar) (rest text after : List ℕ) (line : ℕ) (fault : ReportFault) → IsNetwork net → IsFront net bytes (standing_lines net s) rest → cut_at 10 rest ≡ Some (text, after)
-    → line ≡ length (standing_lines net s) + 1 → GivesAt {X = ReportDraft} line read_so_far_of (Err fault) (text_step net s text) → IfSome (outcome_of (Err fault)) (IsReportOutcome net bytes)
+    → line ≡ length (standing_lines net s) + 1 → IsReadAtLine {X = ReportDraft} line read_so_far_of (Err fault) (text_step net s text) → UnlessMemory fault (IsReportOutcome net bytes (Err fault))
 fails net bytes s rest text after line fault w f e n given = rw given.1 (by_fault given.0 given.2)
   where
-    by_fault : (x : ReportLineFault) → Fails x (text_step net s text) → IfSome (outcome_of (Err (fault_at line x))) (IsReportOutcome net bytes)
+    by_fault : (x : ReportLineFault) → IsLineFault x (text_step net s text) → UnlessMemory (report_fault_in_line line x) (IsReportOutcome net bytes (Err (report_fault_in_line line x)))
     by_fault faults.BadLine is = (length (standing_lines net s), n, rw is at (text_is net bytes s rest text after w f e))
     by_fault faults.UnknownName is = (length (standing_lines net s), n, rw is at (text_is net bytes s rest text after w f e))
     by_fault faults.Order is = (length (standing_lines net s), n, rw is at (text_is net bytes s rest text after w f e))

@@ -8,7 +8,6 @@ use Rattle.cut_net.specs.declared.cut.Cut.{Cut}
 use Rattle.cut_net.specs.Said.{CutOf, BlockedBy}
 use Rattle.cut_report.specs.ReportClaim.{ReportClaim}
 use Rattle.cut_report.specs.ReportLine.{ReportLine, Ends, Weighs, Removes, Flows, Blocks, Last}
-use Rattle.cut_report.specs.ReportLines.{ReportOutcome, Reads, BadLine, NoEnd}
 use Rattle.cut_report.specs.declared.fault.ReportLineFault.{ReportLineFault}
 use Rattle.cut_report.specs.declared.fault.ReportLineFault.TheVariants as faults
 use Rattle.cut_report.specs.declared.fault.ReportFault.{ReportFault}
@@ -139,32 +138,34 @@ unfoldable pub text_step : Network → ReadSoFar → List ℕ → Result ReadSoF
 text_step net standing text = ok_or (line_of_text text) faults.BadLine >>= λ line. step net standing line
 
 -- what the bytes after the last line end make of it, after this many lines
-abbrev pub finish_of : ReadSoFar → ℕ → List ℕ → ReportOutcome
-finish_of Start before rest = NoEnd
-finish_of (Named a b) before rest = NoEnd
-finish_of (Open p) before rest = NoEnd
-finish_of (Shut a b chain) before rest = NoEnd
-finish_of (Ended e) before [] = Reads e
-finish_of (Ended e) before (_ ∷ _) = BadLine (before + 1)
+abbrev pub finish_of : ReadSoFar → ℕ → List ℕ → Result ReportClaim ReportFault
+finish_of Start before rest = Err report_faults.NoEnd
+finish_of (Named a b) before rest = Err report_faults.NoEnd
+finish_of (Open p) before rest = Err report_faults.NoEnd
+finish_of (Shut a b chain) before rest = Err report_faults.NoEnd
+finish_of (Ended e) before [] = Ok e
+finish_of (Ended e) before (_ ∷ _) = Err (report_faults.BadLine (before + 1))
 
--- what a function returned is this, seen by view, unless memory ran out
-abbrev pub Fails : {Y : Type 0} → ReportLineFault → Result Y ReportLineFault → Type 0
-Fails faults.Memory read = Unit {0}
-Fails faults.BadLine read = read ≡ Err faults.BadLine
-Fails faults.UnknownName read = read ≡ Err faults.UnknownName
-Fails faults.Order read = read ≡ Err faults.Order
+-- the fault of a report whose line of this number has this fault
+abbrev pub report_fault_in_line : ℕ → ReportLineFault → ReportFault
+report_fault_in_line line faults.BadLine = report_faults.BadLine line
+report_fault_in_line line faults.UnknownName = report_faults.UnknownName line
+report_fault_in_line line faults.Order = report_faults.Order line
+report_fault_in_line line faults.Memory = report_faults.Memory
 
-abbrev pub Gives : {X Y : Type 0} → (X → Y) → Result X ReportLineFault → Result Y ReportLineFault → Type 0
-Gives view (Ok x) read = read ≡ Ok (view x)
-Gives view (Err e) read = Fails e read
+-- what is read of a line ends with this fault; where it is want of memory nothing is said
+abbrev pub IsLineFault : {Y : Type 0} → ReportLineFault → Result Y ReportLineFault → Type 0
+IsLineFault faults.BadLine read = read ≡ Err faults.BadLine
+IsLineFault faults.UnknownName read = read ≡ Err faults.UnknownName
+IsLineFault faults.Order read = read ≡ Err faults.Order
+IsLineFault faults.Memory read = Unit {0}
 
-abbrev pub fault_at : ℕ → ReportLineFault → ReportFault
-fault_at line faults.BadLine = report_faults.BadLine line
-fault_at line faults.UnknownName = report_faults.UnknownName line
-fault_at line faults.Order = report_faults.Order line
-fault_at line faults.Memory = report_faults.Memory
+-- what was answered, seen by view, is what is read of a line, unless memory ran out
+abbrev pub IsReadAs : {X Y : Type 0} → (X → Y) → Result X ReportLineFault → Result Y ReportLineFault → Type 0
+IsReadAs view (Ok x) read = read ≡ Ok (view x)
+IsReadAs view (Err fault) read = IsLineFault fault read
 
--- the same, with the fault put into a line
-abbrev pub GivesAt : {X Y : Type 0} → ℕ → (X → Y) → Result X ReportFault → Result Y ReportLineFault → Type 0
-GivesAt line view (Ok x) read = read ≡ Ok (view x)
-GivesAt line view (Err fault) read = (e : ReportLineFault) × (fault ≡ fault_at line e) × Fails e read
+-- the same of the line of this number, which its fault tells
+abbrev pub IsReadAtLine : {X Y : Type 0} → ℕ → (X → Y) → Result X ReportFault → Result Y ReportLineFault → Type 0
+IsReadAtLine line view (Ok x) read = read ≡ Ok (view x)
+IsReadAtLine line view (Err fault) read = (e : ReportLineFault) × (fault ≡ report_fault_in_line line e) × IsLineFault e read

@@ -1,9 +1,23 @@
--- The faults of reports that come from a sink.
-use Rattle.std.specs.Prelude.{Bool, true, false}
+-- The faults of reports: what is said unless memory ran out, and those that come from a sink.
+use Rattle.std.specs.Prelude.{Bool, true, false, Result, Ok, Err}
 use Rattle.byte_sink.specs.declared.sink.SinkFault.{SinkFault}
 use Rattle.byte_sink.specs.declared.sink.SinkFault.TheVariants as sink_faults
 use Rattle.cut_report.specs.declared.fault.ReportFault.{ReportFault}
 use Rattle.cut_report.specs.declared.fault.ReportFault.TheVariants as faults
+
+-- the fact holds, but where the fault is want of memory nothing is said
+abbrev pub UnlessMemory : ReportFault → Type 0 → Type 0
+UnlessMemory (faults.BadLine line) P = P
+UnlessMemory (faults.UnknownName line) P = P
+UnlessMemory (faults.Order line) P = P
+UnlessMemory faults.NoEnd P = P
+UnlessMemory faults.Device P = P
+UnlessMemory faults.Memory P = Unit {0}
+
+-- what was answered, seen by view, is such an outcome, unless memory ran out
+abbrev pub Tells : {X Y : Type 0} → (X → Y) → Result X ReportFault → (Result Y ReportFault → Type 0) → Type 0
+Tells view (Ok x) IsOutcome = IsOutcome (Ok (view x))
+Tells view (Err fault) IsOutcome = UnlessMemory fault (IsOutcome (Err fault))
 
 -- the fault of a sink, as one of a report
 abbrev pub fault_of_sink : SinkFault → ReportFault

@@ -1,5 +1,5 @@
 -- Which lines of a report may stand where, and the first fault of a text that is none. Lines are numbered from 1.
-use Rattle.std.specs.Prelude.{◌≡◌, ◌≢◌, ◌⊎◌, ℕ, ◌+◌, ◌<◌, ◌^◌, ◌==◌, ◌&&◌, ◌||◌, Bool, true, false, List, [], ◌∷◌, ◌++◌, length, Option, Some, None, All, Contains}
+use Rattle.std.specs.Prelude.{◌≡◌, ◌≢◌, ◌⊎◌, ℕ, ◌+◌, ◌<◌, ◌^◌, ◌==◌, ◌&&◌, ◌||◌, Bool, true, false, List, [], ◌∷◌, ◌++◌, length, Option, Some, None, Result, Ok, Err, All, Contains}
 use Rattle.std.specs.List.{list_all, list_any}
 use Rattle.std.specs.Str.{bytes_eq}
 use Rattle.std.specs.Ordering.{nat_cmp, is_lt}
@@ -9,6 +9,8 @@ use Rattle.cut_net.specs.Network.{Network}
 use Rattle.cut_report.specs.ReportClaim.{ReportClaim}
 use Rattle.cut_report.specs.ReportLine.{ReportLine, Ends, Weighs, Removes, Flows, Blocks, Last, report_line, written}
 use Rattle.cut_report.specs.ReportText.{ReportText}
+use Rattle.cut_report.specs.declared.fault.ReportFault.{ReportFault}
+use Rattle.cut_report.specs.declared.fault.ReportFault.TheVariants as faults
 
 -- names are names, numbers fit 64 bits, no flow is 0, and no chain is empty
 abbrev pub HasForm : ReportLine → Type 0
@@ -193,18 +195,12 @@ pub record HasNoEnd (net : Network) (bytes : List ℕ) : Type 0 where
   pub unended : has_line_end rest ≡ false
   pub not_last : last_of None before ≢ Some Last
 
--- what a text of a report says, or its first fault
-pub data ReportOutcome : Type 0 where
-  Reads : ReportClaim → ReportOutcome
-  BadLine : ℕ → ReportOutcome
-  UnknownName : ℕ → ReportOutcome
-  Order : ℕ → ReportOutcome
-  NoEnd : ReportOutcome
-
--- the text says this of the network
-abbrev pub IsReportOutcome : Network → List ℕ → ReportOutcome → Type 0
-IsReportOutcome net bytes (Reads entry) = ReportText net bytes entry
-IsReportOutcome net bytes (BadLine line) = (k : ℕ) × (line ≡ k + 1) × IsBadLine net bytes k
-IsReportOutcome net bytes (UnknownName line) = (k : ℕ) × (line ≡ k + 1) × IsUnknownName net bytes k
-IsReportOutcome net bytes (Order line) = (k : ℕ) × (line ≡ k + 1) × IsOutOfOrder net bytes k
-IsReportOutcome net bytes NoEnd = HasNoEnd net bytes
+-- the text says this of the network: a report, or its first fault, never a failed device or want of memory
+abbrev pub IsReportOutcome : Network → List ℕ → Result ReportClaim ReportFault → Type 0
+IsReportOutcome net bytes (Ok entry) = ReportText net bytes entry
+IsReportOutcome net bytes (Err (faults.BadLine line)) = (k : ℕ) × (line ≡ k + 1) × IsBadLine net bytes k
+IsReportOutcome net bytes (Err (faults.UnknownName line)) = (k : ℕ) × (line ≡ k + 1) × IsUnknownName net bytes k
+IsReportOutcome net bytes (Err (faults.Order line)) = (k : ℕ) × (line ≡ k + 1) × IsOutOfOrder net bytes k
+IsReportOutcome net bytes (Err faults.NoEnd) = HasNoEnd net bytes
+IsReportOutcome net bytes (Err faults.Device) = ⊥
+IsReportOutcome net bytes (Err faults.Memory) = ⊥

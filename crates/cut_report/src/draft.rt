@@ -1,8 +1,8 @@
 //! A report that is read line by line.
-ghost use Rattle.std.specs.Prelude.{◌≡◌, ◌+◌, ◌<◌, ◌^◌, ℕ, List, None, Some, length, option_map};
+ghost use Rattle.std.specs.Prelude.{◌≡◌, ◌+◌, ◌<◌, ◌^◌, ℕ, List, None, length, option_map, Err, IfErr, IfOk, Ok};
 ghost use Rattle.cut_report.specs.Lines.{line_of_text, line_seen, words_of};
-ghost use Rattle.cut_report.specs.Reading.{outcome_of};
-ghost use Rattle.cut_report.specs.Drafts.{chain_of, ends_named, finish_of, going_on, import_of, is_after, last_import, numbered_by, opened_by, claimed_part, shut_by, read_so_far_of, step, text_step, Gives, GivesAt};
+ghost use Rattle.cut_report.specs.Reading.{entry_of};
+ghost use Rattle.cut_report.specs.Drafts.{chain_of, ends_named, finish_of, going_on, import_of, is_after, last_import, numbered_by, opened_by, claimed_part, shut_by, read_so_far_of, step, text_step, IsReadAs, IsReadAtLine};
 
 use crate::fault::ReportLineFault;
 use crate::line::Line;
@@ -85,7 +85,7 @@ fn import_in(
 /// The first line.
 #[tactic(auto, unfolding(crate::specs::Drafts::numbered_by))]
 fn with_ends(net: &Net, line: Line) -> Result<ReportDraft, ReportLineFault>
-    ensures { Gives read_so_far_of result (numbered_by net.now (line_seen line.entry)) }
+    ensures { IsReadAs read_so_far_of result (numbered_by net.now (line_seen line.entry)) }
 {
     let Line::Ends(from, to) = line else {
         return Err(ReportLineFault::BadLine);
@@ -97,7 +97,7 @@ fn with_ends(net: &Net, line: Line) -> Result<ReportDraft, ReportLineFault>
 
 /// The modules of these names, which have a blank between each two.
 fn chain_in(alloc: Global, net: &Net, names: &str) -> Result<Vec<u32>, ReportLineFault>
-    ensures { Gives (λ chain. chain.items) result (chain_of net.now (words_of names.now)) }
+    ensures { IsReadAs (λ chain. chain.items) result (chain_of net.now (words_of names.now)) }
 {
     let mut chain = Vec::new(alloc);
     for name in names.split(' ') {
@@ -118,7 +118,7 @@ fn with_second(
     to: u32,
     line: Line,
 ) -> Result<ReportDraft, ReportLineFault>
-    ensures { Gives read_so_far_of result (opened_by net.now from to (line_seen line.entry)) }
+    ensures { IsReadAs read_so_far_of result (opened_by net.now from to (line_seen line.entry)) }
 {
     match line {
         Line::Weighs(weight) => {
@@ -147,7 +147,7 @@ fn with_more(
     place: &mut Place,
     line: Line,
 ) -> Result<ReportDraft, ReportLineFault>
-    ensures { Gives read_so_far_of result (going_on net.now (claimed_part from to cut) (line_seen line.entry)) }
+    ensures { IsReadAs read_so_far_of result (going_on net.now (claimed_part from to cut) (line_seen line.entry)) }
 {
     match line {
         Line::Removes(importer, imported, weight) if cut.flow.is_empty() => {
@@ -171,7 +171,7 @@ fn with_more(
 /// The line after a chain of pins.
 #[tactic(auto, unfolding(crate::specs::Drafts::shut_by))]
 fn with_end(from: u32, to: u32, chain: Vec<u32>, line: Line) -> Result<ReportDraft, ReportLineFault>
-    ensures { Gives read_so_far_of result (shut_by from to chain.items (line_seen line.entry)) }
+    ensures { IsReadAs read_so_far_of result (shut_by from to chain.items (line_seen line.entry)) }
 {
     let Line::Last = line else {
         return Err(ReportLineFault::BadLine);
@@ -189,7 +189,7 @@ impl ReportDraft {
         place: &mut Place,
         line: Line,
     ) -> Result<ReportDraft, ReportLineFault>
-        ensures { Gives read_so_far_of result (step net.now (read_so_far_of self) (line_seen line.entry)) }
+        ensures { IsReadAs read_so_far_of result (step net.now (read_so_far_of self) (line_seen line.entry)) }
     {
         match self {
             ReportDraft::Start => with_ends(net, line),
@@ -209,7 +209,7 @@ impl ReportDraft {
         place: &mut Place,
         line: Option<Line>,
     ) -> Result<ReportDraft, ReportLineFault>
-        ensures { (text : List ℕ) → line_of_text text ≡ option_map line_seen line.entry → Gives read_so_far_of result (text_step net.now (read_so_far_of self) text) }
+        ensures { (text : List ℕ) → line_of_text text ≡ option_map line_seen line.entry → IsReadAs read_so_far_of result (text_step net.now (read_so_far_of self) text) }
     {
         let line = line.ok_or(ReportLineFault::BadLine)?;
         self.with_line(alloc, net, place, line)
@@ -224,7 +224,7 @@ impl ReportDraft {
         number: u64,
         line: Option<Line>,
     ) -> Result<ReportDraft, ReportFault>
-        ensures { (text : List ℕ) → line_of_text text ≡ option_map line_seen line.entry → GivesAt number read_so_far_of result (text_step net.now (read_so_far_of self) text) }
+        ensures { (text : List ℕ) → line_of_text text ≡ option_map line_seen line.entry → IsReadAtLine number read_so_far_of result (text_step net.now (read_so_far_of self) text) }
     {
         match self.with_read(alloc, net, place, line) {
             Ok(draft) => Ok(draft),
@@ -235,7 +235,8 @@ impl ReportDraft {
     /// The report, where all lines are read and nothing stands behind them.
     pub(crate) fn finish(self, before: u64, rest: &[u8]) -> Result<Report, ReportFault>
         requires { before + length rest.now < 2 ^ 64 }
-        ensures { outcome_of result ≡ Some (finish_of (read_so_far_of self) before rest.now) }
+        ensures report { IfOk result (λ report. finish_of (read_so_far_of self) before rest.now ≡ Ok (entry_of report)) }
+        ensures fault { IfErr result (λ fault. finish_of (read_so_far_of self) before rest.now ≡ Err fault) }
     {
         match self {
             ReportDraft::Ended(report) if rest.is_empty() => Ok(report),

@@ -75,10 +75,10 @@ pub(crate) enum ReportLineFault {
 
 impl ReportLineFault {
     ghost use Rattle.std.specs.Prelude.{◌≡◌};
-    ghost use Rattle.cut_report.specs.Drafts.{fault_at};
+    ghost use Rattle.cut_report.specs.Drafts.{report_fault_in_line};
 
     pub(crate) fn at(self, line: u64) -> ReportFault
-        ensures { result ≡ fault_at line self }
+        ensures { result ≡ report_fault_in_line line self }
     {
         match self {
             ReportLineFault::BadLine => ReportFault::BadLine { line },

@@ -1,3 +1,4 @@
+pub mod Faults
 pub mod GreatestFlow
 pub mod Lines
 pub mod Settling

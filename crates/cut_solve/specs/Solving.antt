@@ -1,10 +1,8 @@
 -- What a solver answers to two names.
-use Rattle.std.specs.Prelude.{◌≡◌, ◌≢◌, ◌⊎◌, ℕ, List, Option, Some, None, Result, Ok, Err}
+use Rattle.std.specs.Prelude.{◌≡◌, ◌≢◌, ◌⊎◌, ℕ, List, Some, None, Result, Ok, Err}
 use Rattle.std.specs.String.{string_bytes}
-use Rattle.cut_net.specs.declared.answer.Answer.{Answer}
 use Rattle.cut_net.specs.Network.{Network, index_of}
 use Rattle.cut_net.specs.Said.{Said}
-use Rattle.cut_net.specs.Answers.{said_by}
 use Rattle.cut_net.specs.Pins.{IsAnswerWithPins, IsCheapestSaidWithPins}
 use Rattle.cut_solve.specs.declared.fault.SolveFault.{SolveFault}
 use Rattle.cut_solve.specs.declared.fault.SolveFault.TheVariants as faults
@@ -31,30 +29,16 @@ abbrev pub IsFirstUnknown : Network → List ℕ → List ℕ → List ℕ → T
 IsFirstUnknown net from to name =
     ((index_of net from ≡ None) × (name ≡ from)) ⊎ (((a : ℕ) × (index_of net from ≡ Some a)) × (index_of net to ≡ None) × (name ≡ to))
 
--- what is answered: a cut or a chain of pins, or what is wrong with the names
-pub data SolveOutcome : Type 0 where
-  Solves : Said → SolveOutcome
-  SameModule : SolveOutcome
-  NoSuchModule : List ℕ → SolveOutcome
+-- what is wrong with two names, with a name as a text
+pub data SolveRefusal : Type 0 where
+  SameModule : SolveRefusal
+  NoSuchModule : List ℕ → SolveRefusal
 
--- the outcome holds of the names
-abbrev pub IsSolveOutcome : Network → List ℕ → List ℕ → SolveOutcome → Type 0
-IsSolveOutcome net from to (Solves said) = IsSolved net from to said
-IsSolveOutcome net from to SameModule = IsSameModule net from to
-IsSolveOutcome net from to (NoSuchModule name) = IsFirstUnknown net from to name
-
--- the names are refused
-abbrev pub IsRefusal : SolveOutcome → Type 0
-IsRefusal (Solves said) = ⊥
-IsRefusal SameModule = Unit {0}
-IsRefusal (NoSuchModule name) = Unit {0}
-
--- the outcome that was answered; there is none where memory ran out
-abbrev pub outcome_of : Result Answer SolveFault → Option SolveOutcome
-outcome_of (Ok answer) = Some (Solves (said_by answer))
-outcome_of (Err faults.SameModule) = Some SameModule
-outcome_of (Err (faults.NoSuchModule name)) = Some (NoSuchModule (string_bytes name))
-outcome_of (Err faults.Memory) = None
+-- the outcome holds of the names: a cut or a chain of pins, or what is wrong with them
+abbrev pub IsSolveOutcome : Network → List ℕ → List ℕ → Result Said SolveRefusal → Type 0
+IsSolveOutcome net from to (Ok said) = IsSolved net from to said
+IsSolveOutcome net from to (Err SameModule) = IsSameModule net from to
+IsSolveOutcome net from to (Err (NoSuchModule name)) = IsFirstUnknown net from to name
 
 -- the number of the module of this name, or that there is none
 abbrev pub IsModuleOr : Network → List ℕ → Result ℕ SolveFault → Type 0

@@ -1,10 +1,11 @@
 //! The solver by many workers: pushes and relabels on one locked preflow, and a last pass for what they left.
-ghost use Rattle.std.specs.Prelude.{◌≡◌, ◌≢◌, ◌≤◌, IfOk, IfSome, IsSome, length};
+ghost use Rattle.std.specs.Prelude.{◌≡◌, ◌≤◌, Err, IfOk, IfSome, IsSome, length};
 ghost use Rattle.cut_net.specs.Answers.{said_by, said_by_cut};
 ghost use Rattle.cut_net.specs.Lines.{IsAnswer, IsCheapestSaid};
 ghost use Rattle.cut_net.specs.Pins.{IsAnswerWithPins, IsCheapestSaidWithPins};
 ghost use Rattle.cut_preflow.specs.Flows.{AreEnds, network_on};
-ghost use Rattle.cut_solve.specs.Solving.{outcome_of, IsModuleOr, IsRefusal, IsSolveOutcome, SolveOutcome};
+ghost use Rattle.cut_solve.specs.Faults.{Tells};
+ghost use Rattle.cut_solve.specs.Solving.{IsSolveOutcome, SolveRefusal};
 ghost use Rattle.cut_solve.specs.Starts.{IsBelow, IsStart};
 
 use crate::blocking::{as_answer, blocked};
@@ -231,9 +232,9 @@ pub fn solve<R: Threads + Wait + Sync, G: Gate + Sync>(
 ) -> Result<Answer, SolveFault>
     requires workers { (1 ≤ workers) × (workers ≤ 64) }
     // It is a cheapest cut with a flow that proves it, or a chain of pins, which no cut parts, or what is wrong with the names.
-    ensures exact { IfSome (outcome_of result) (IsSolveOutcome net.now from.now to.now) }
+    ensures exact { Tells said_by result (IsSolveOutcome net.now from.now to.now) }
     // What is wrong with the names is answered unless memory runs out.
-    ensures refused { (o : SolveOutcome) → IsRefusal o → IsSolveOutcome net.now from.now to.now o → IfSome (outcome_of result) (λ p. p ≡ o) }
+    ensures refused { (refusal : SolveRefusal) → IsSolveOutcome net.now from.now to.now (Err refusal) → Tells said_by result (λ o. o ≡ Err refusal) }
 {
     let from = module_of(alloc, net, from)?;
     let to = module_of(alloc, net, to)?;

@@ -1,58 +1,11 @@
--- Trails of the edges to each node.
-use Rattle.std.proofs.Common.{◌≡◌, ℕ, ◌+◌, ◌<◌, List, [], ◌∷◌, ◌++◌, length, replicate, set, get_or, refl, sym, ap, ◌∙◌, arith, inl, inr, length-set, get_or-set_same, get_or-set_other}
+-- The nodes that wait for a node are found along the trail of the edges to it.
+use Rattle.std.proofs.Common.{◌≡◌, ℕ, ◌+◌, List, [], ◌∷◌, ◌++◌, length, sym, ap, ◌∙◌, arith, inl, inr}
 use Rattle.std.proofs.lemmas.Bool.{cases_eq, cases_lt}
-use Rattle.std.proofs.lemmas.List.{get_or-replicate, get_or_push, get_or_append_left, length-replicate, length_push}
+use Rattle.std.proofs.lemmas.List.{length_push}
 use Rattle.std.proofs.lemmas.List.Elements.{Contains-push, Contains-append_left}
 use Rattle.digraph.specs.declared.edge.Edge.{Edge}
-use Rattle.digraph.specs.Arrivals.{AreArrivals, AreWaitingFor, AreWaitingFrom, IsLastTo}
+use Rattle.digraph.specs.Arrivals.{AreWaitingFor, AreWaitingFrom, IsLastTo}
 use Rattle.digraph.specs.Marks.{edge_at, place_at}
-
-pub no_arrivals : (edges : List Edge) (nodes : ℕ) → AreArrivals edges nodes (replicate nodes 0) [] 0
-no_arrivals edges nodes = record {
-  size = length-replicate nodes 0;
-  each = refl;
-  lasts = λ v l. rw (get_or-replicate {A = ℕ} nodes v 0 0 l) record {
-    within = omega arith;
-    own = λ k e. absurd (omega arith);
-    none_after = λ k le lt. absurd (omega arith);
-  };
-  befores = λ k l. absurd (omega arith);
-}
-
-pub arrivals_more : (edges : List Edge) (nodes count : ℕ) (last before : List ℕ) → (edge_at edges count).to < nodes → AreArrivals edges nodes last before count →
-    AreArrivals edges nodes (set last (edge_at edges count).to (count + 1)) (before ++ get_or last (edge_at edges count).to 0 ∷ []) (count + 1)
-arrivals_more edges nodes count last before low t =
-    let to = (edge_at edges count).to in
-    let size = t.size in
-    let in_last : to < length last = omega arith in
-    record {
-      size = length-set last to (count + 1) ∙ size;
-      each = (let longer = length_push before (get_or last to 0) in let each = t.each in omega arith);
-      lasts = λ v l. elim (cases_eq v to) [
-        | inl e ↦ rw (e, get_or-set_same last to (count + 1) 0 in_last) record {
-          within = omega arith;
-          own = λ k is. let same : k ≡ count = omega arith in ap (λ (j : ℕ). (edge_at edges j).to) same;
-          none_after = λ k le lt. absurd (omega arith);
-        }
-        | inr ne ↦
-            let was = t.lasts v l in
-            rw (get_or-set_other last to v (count + 1) 0 ne) record {
-              within = (let w = was.within in omega arith);
-              own = was.own;
-              none_after = λ k le lt is. elim (cases_eq k count) [
-                | inl same ↦ ne (sym is ∙ ap (λ (j : ℕ). (edge_at edges j).to) same)
-                | inr other ↦ was.none_after k le (omega arith) is
-              ];
-            }
-      ];
-      befores = λ k l. elim (cases_eq k count) [
-        | inl e ↦ rw (e, get_or_push before (get_or last to 0) 0 count t.each) (t.lasts to low)
-        | inr ne ↦
-            let each = t.each in
-            let in_before : k < length before = omega arith in
-            rw (get_or_append_left before (get_or last to 0 ∷ []) 0 k in_before) (t.befores k (omega arith))
-      ];
-    }
 
 module _ (edges : List Edge) (places : List ℕ) (v : ℕ) where
   pub waiting_first : (next : ℕ) → IsLastTo edges v (length edges) next → AreWaitingFrom edges places v [] next

@@ -11,4 +11,5 @@ pub mod Ordered
 pub mod ByNode
 pub mod SameGraphs
 pub mod Settling
+pub mod Trails
 pub mod Walks

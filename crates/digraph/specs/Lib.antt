@@ -5,3 +5,4 @@ pub mod Edges
 pub mod Levels
 pub mod Marks
 pub mod Ranks
+pub mod Trails

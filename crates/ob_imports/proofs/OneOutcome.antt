@@ -1,19 +1,21 @@
 -- Files make one thing.
-use Rattle.std.proofs.Common.{◌≡◌, ℕ, ◌<◌, ◌≤◌, List, [], ◌∷◌, ◌++◌, length, get_or, refl, sym, ◌∙◌, ap, subst, arith, inl, inr, map}
-use Rattle.std.specs.Prelude.{Contains, IfSome, Option, IsPermutation}
+use Rattle.std.proofs.Common.{◌≡◌, ℕ, ◌<◌, ◌≤◌, List, [], ◌∷◌, ◌++◌, length, get_or, Result, Ok, Err, refl, sym, ◌∙◌, ap, subst, arith, inl, inr, map}
+use Rattle.std.specs.Prelude.{Contains, IsPermutation}
 use Rattle.std.specs.Str.{bytes_eq}
+use Rattle.std.specs.String.{string_bytes}
 use Rattle.std.proofs.lemmas.Bool.{false≢true}
 use Rattle.std.proofs.lemmas.List.Sorted.{Contains-permutation, IsPermutation-sym, length_permutation}
 use Rattle.std.proofs.lemmas.Map.Keys.{apart_from_distinct}
-use Rattle.std.proofs.lemmas.Option.{IfSome_then}
 use Rattle.std.proofs.lemmas.Slice.Eq.{bytes_eq-Decides}
 use Rattle.digraph.specs.declared.edge.Edge.{Edge}
 use Rattle.digraph.specs.Chains.{IsAcyclic}
 use Rattle.digraph.specs.Cycle.{NamesCycle}
+use Rattle.ob_imports.specs.declared.fault.GraphFault.{GraphFault}
+use Rattle.ob_imports.specs.declared.fault.GraphFault.TheVariants as faults
 use Rattle.ob_imports.specs.Files.{AreNodes, DifferInName, File, Imports, names_of, paths_of}
 use Rattle.ob_imports.specs.Graphs.{ImportGraph, IsGraphOf}
-use Rattle.ob_imports.specs.Names.{LeadsBy}
-use Rattle.ob_imports.specs.Outcomes.{AreFilesOfGraph, Cycle, GraphOutcome, IsCycle, IsCycleOf, IsGraphOutcome, IsTwoModules, Makes, TooMany, TwoModules}
+use Rattle.ob_imports.specs.Names.{LeadsBy, texts}
+use Rattle.ob_imports.specs.Outcomes.{AreFilesOfGraph, Cycle, GraphRefusal, IsCycle, IsCycleOf, IsGraphOutcome, IsTwoModules, Tells, TooMany, TwoModules}
 use Rattle.digraph.proofs.Ascending.{same_edges, same_names}
 use Rattle.ob_imports.proofs.KeptGraphs.{acyclic_places}
 use Rattle.digraph.proofs.OneCycle.{cyclic, one_cycle}
@@ -82,12 +84,12 @@ one_two files n a b m c d s t =
 
 -- ---- limits
 
-not_two_many : (files : List File) (n a b : List ℕ) → IsTwoModules files n a b → IsGraphOutcome files TooMany → ⊥
+not_two_many : (files : List File) (n a b : List ℕ) → IsTwoModules files n a b → IsGraphOutcome files (Err TooMany) → ⊥
 not_two_many files n a b t (inl more) = (let few : length files ≤ 4096 = t.few_modules in absurd (omega arith))
 not_two_many files n a b t (inr (inl nodes)) = not_differ files n a b t nodes.are_files.differ
 not_two_many files n a b t (inr (inr pairs)) = not_differ files n a b t pairs.are_files.differ
 
-not_kept_many : (files : List File) (g : ImportGraph) → AreFilesOfGraph files g → IsGraphOutcome files TooMany → ⊥
+not_kept_many : (files : List File) (g : ImportGraph) → AreFilesOfGraph files g → IsGraphOutcome files (Err TooMany) → ⊥
 not_kept_many files g kept (inl more) = (let few : length files ≤ 4096 = kept.are_files.few_modules in absurd (omega arith))
 not_kept_many files g kept (inr (inl h)) =
     let same : h.names ≡ g.names = one_nodes files h.names g.names h.nodes kept.is_graph.nodes in
@@ -104,25 +106,30 @@ not_kept_many files g kept (inr (inr h)) =
 
 -- ---- what is made
 
-pub one_outcome : (files : List File) (o p : GraphOutcome) → IsGraphOutcome files o → IsGraphOutcome files p → o ≡ p
-one_outcome files (Makes g) (Makes h) a b = ap (λ (x : ImportGraph). Makes x) (one_graph files g h a.0.is_graph b.0.is_graph)
-one_outcome files (Makes g) (TwoModules m c d) a b = absurd (not_differ files m c d b a.0.are_files.differ)
-one_outcome files (Makes g) (Cycle names) a b = absurd (no_cycle files names a.1 b)
-one_outcome files (Makes g) TooMany a b = absurd (not_kept_many files g a.0 b)
-one_outcome files (TwoModules m c d) (Makes g) a b = absurd (not_differ files m c d a b.0.are_files.differ)
-one_outcome files (TwoModules n a b) (TwoModules m c d) s t = one_two files n a b m c d s t
-one_outcome files (TwoModules m c d) (Cycle names) a b = absurd (not_differ files m c d a b.kept.are_files.differ)
-one_outcome files (TwoModules m c d) TooMany a b = absurd (not_two_many files m c d a b)
-one_outcome files (Cycle names) (Makes g) a b = absurd (no_cycle files names b.1 a)
-one_outcome files (Cycle names) (TwoModules m c d) a b = absurd (not_differ files m c d b a.kept.are_files.differ)
-one_outcome files (Cycle names) (Cycle others) a b =
+pub one_outcome : (files : List File) (o p : Result ImportGraph GraphRefusal) → IsGraphOutcome files o → IsGraphOutcome files p → o ≡ p
+one_outcome files (Ok g) (Ok h) a b = ap Ok (one_graph files g h a.0.is_graph b.0.is_graph)
+one_outcome files (Ok g) (Err (TwoModules m c d)) a b = absurd (not_differ files m c d b a.0.are_files.differ)
+one_outcome files (Ok g) (Err (Cycle names)) a b = absurd (no_cycle files names a.1 b)
+one_outcome files (Ok g) (Err TooMany) a b = absurd (not_kept_many files g a.0 b)
+one_outcome files (Err (TwoModules m c d)) (Ok g) a b = absurd (not_differ files m c d a b.0.are_files.differ)
+one_outcome files (Err (TwoModules n a b)) (Err (TwoModules m c d)) s t = ap Err (one_two files n a b m c d s t)
+one_outcome files (Err (TwoModules m c d)) (Err (Cycle names)) a b = absurd (not_differ files m c d a b.kept.are_files.differ)
+one_outcome files (Err (TwoModules m c d)) (Err TooMany) a b = absurd (not_two_many files m c d a b)
+one_outcome files (Err (Cycle names)) (Ok g) a b = absurd (no_cycle files names b.1 a)
+one_outcome files (Err (Cycle names)) (Err (TwoModules m c d)) a b = absurd (not_differ files m c d b a.kept.are_files.differ)
+one_outcome files (Err (Cycle names)) (Err (Cycle others)) a b =
     let same : a.graph ≡ b.graph = one_graph files a.graph b.graph a.kept.is_graph b.kept.is_graph in
-    ap (λ (x : List (List ℕ)). Cycle x) (one_cycle_of files a.graph.names names others a.is_cycle (subst (λ (g : ImportGraph). IsCycleOf files g.names others) (sym same) b.is_cycle))
-one_outcome files (Cycle names) TooMany a b = absurd (not_kept_many files a.graph a.kept b)
-one_outcome files TooMany (Makes g) a b = absurd (not_kept_many files g b.0 a)
-one_outcome files TooMany (TwoModules m c d) a b = absurd (not_two_many files m c d b a)
-one_outcome files TooMany (Cycle names) a b = absurd (not_kept_many files b.graph b.kept a)
-one_outcome files TooMany TooMany a b = refl
+    let there : IsCycleOf files a.graph.names others = subst (λ (g : ImportGraph). IsCycleOf files g.names others) (sym same) b.is_cycle in
+    ap (λ (x : List (List ℕ)). Err (Cycle x)) (one_cycle_of files a.graph.names names others a.is_cycle there)
+one_outcome files (Err (Cycle names)) (Err TooMany) a b = absurd (not_kept_many files a.graph a.kept b)
+one_outcome files (Err TooMany) (Ok g) a b = absurd (not_kept_many files g b.0 a)
+one_outcome files (Err TooMany) (Err (TwoModules m c d)) a b = absurd (not_two_many files m c d b a)
+one_outcome files (Err TooMany) (Err (Cycle names)) a b = absurd (not_kept_many files b.graph b.kept a)
+one_outcome files (Err TooMany) (Err TooMany) a b = refl
 
-pub only_said : (files : List File) (o : Option GraphOutcome) → IfSome o (IsGraphOutcome files) → (p : GraphOutcome) → IsGraphOutcome files p → IfSome o (λ q. q ≡ p)
-only_said files o said p is = IfSome_then o said (λ q h. one_outcome files q p h is)
+pub only_said : (files : List File) (answer : Result ImportGraph GraphFault) → Tells answer (IsGraphOutcome files) → (o : Result ImportGraph GraphRefusal) → IsGraphOutcome files o → Tells answer (λ p. p ≡ o)
+only_said files (Ok g) told o is = one_outcome files (Ok g) o told is
+only_said files (Err (faults.TwoModules name first second)) told o is = one_outcome files (Err (TwoModules (string_bytes name) (string_bytes first) (string_bytes second))) o told is
+only_said files (Err (faults.Cycle names)) told o is = one_outcome files (Err (Cycle (texts names.items))) o told is
+only_said files (Err faults.TooMany) told o is = one_outcome files (Err TooMany) o told is
+only_said files (Err faults.Memory) told o is = tt

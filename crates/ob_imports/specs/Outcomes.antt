@@ -1,5 +1,5 @@
 -- What the files of a tree make: a graph, or the first refusal.
-use Rattle.std.specs.Prelude.{◌≡◌, ◌≢◌, ◌⊎◌, ℕ, ◌<◌, ◌≤◌, List, [], ◌∷◌, length, map, Option, Some, None, Result, Ok, Err, IsPermutation}
+use Rattle.std.specs.Prelude.{◌≡◌, ◌≢◌, ◌⊎◌, ℕ, ◌<◌, ◌≤◌, List, [], ◌∷◌, length, map, Result, Ok, Err, IsPermutation}
 use Rattle.std.specs.List.{slice_index_or}
 use Rattle.std.specs.Ordering.{nat_cmp}
 use Rattle.std.specs.Cmp.Lexicographic.{slice_cmp}
@@ -13,11 +13,11 @@ use Rattle.ob_imports.specs.Files.{File, AreNodes, DifferInName, Imports, paths_
 use Rattle.ob_imports.specs.Graphs.{ImportGraph, IsGraphOf}
 use Rattle.ob_imports.specs.Names.{AreAscending, AreNamesSorted, LeadsBy, texts}
 
-pub data GraphOutcome : Type 0 where
-  Makes : ImportGraph → GraphOutcome
-  TwoModules : List ℕ → List ℕ → List ℕ → GraphOutcome
-  Cycle : List (List ℕ) → GraphOutcome
-  TooMany : GraphOutcome
+-- what files are refused for, with names and paths as texts
+pub data GraphRefusal : Type 0 where
+  TwoModules : List ℕ → List ℕ → List ℕ → GraphRefusal
+  Cycle : List (List ℕ) → GraphRefusal
+  TooMany : GraphRefusal
 
 -- the least name that modules of two files have, and the two least paths of these
 pub record IsTwoModules (files : List File) (name first second : List ℕ) : Type 0 where
@@ -69,21 +69,28 @@ pub record IsCycle (files : List File) (names : List (List ℕ)) : Type 0 where
   pub kept : AreFilesOfGraph files graph
   pub is_cycle : IsCycleOf files graph.names names
 
--- the files make this
-abbrev pub IsGraphOutcome : List File → GraphOutcome → Type 0
-IsGraphOutcome files (Makes g) = AreFilesOfGraph files g × IsAcyclic (Imports files)
-IsGraphOutcome files (TwoModules name first second) = IsTwoModules files name first second
-IsGraphOutcome files (Cycle names) = IsCycle files names
-IsGraphOutcome files TooMany = (4096 < length files) ⊎ HasManyNodes files ⊎ HasManyPairs files
+-- the files make this: their graph, or the first refusal
+abbrev pub IsGraphOutcome : List File → Result ImportGraph GraphRefusal → Type 0
+IsGraphOutcome files (Ok g) = AreFilesOfGraph files g × IsAcyclic (Imports files)
+IsGraphOutcome files (Err (TwoModules name first second)) = IsTwoModules files name first second
+IsGraphOutcome files (Err (Cycle names)) = IsCycle files names
+IsGraphOutcome files (Err TooMany) = (4096 < length files) ⊎ HasManyNodes files ⊎ HasManyPairs files
 
--- what a fault says of the files: a want of memory says nothing
-abbrev pub fault_said : GraphFault → Option GraphOutcome
-fault_said (faults.TwoModules name first second) = Some (TwoModules (string_bytes name) (string_bytes first) (string_bytes second))
-fault_said (faults.Cycle names) = Some (Cycle (texts names.items))
-fault_said faults.TooMany = Some TooMany
-fault_said faults.Memory = None
+-- this is what the fault refuses for; want of memory refuses nothing
+abbrev pub IsRefusalOf : GraphFault → GraphRefusal → Type 0
+IsRefusalOf (faults.TwoModules name first second) refusal = refusal ≡ TwoModules (string_bytes name) (string_bytes first) (string_bytes second)
+IsRefusalOf (faults.Cycle names) refusal = refusal ≡ Cycle (texts names.items)
+IsRefusalOf faults.TooMany refusal = refusal ≡ TooMany
+IsRefusalOf faults.Memory refusal = ⊥
 
--- what an answer says of the files
-abbrev pub outcome_of : Result ImportGraph GraphFault → Option GraphOutcome
-outcome_of (Ok g) = Some (Makes g)
-outcome_of (Err fault) = fault_said fault
+-- the fact of what the fault refuses for, and nothing where it is want of memory
+abbrev pub UnlessMemory : GraphFault → (GraphRefusal → Type 0) → Type 0
+UnlessMemory (faults.TwoModules name first second) P = P (TwoModules (string_bytes name) (string_bytes first) (string_bytes second))
+UnlessMemory (faults.Cycle names) P = P (Cycle (texts names.items))
+UnlessMemory faults.TooMany P = P TooMany
+UnlessMemory faults.Memory P = Unit {0}
+
+-- what was answered is such an outcome, unless memory ran out
+abbrev pub Tells : Result ImportGraph GraphFault → (Result ImportGraph GraphRefusal → Type 0) → Type 0
+Tells (Ok g) IsOutcome = IsOutcome (Ok g)
+Tells (Err fault) IsOutcome = UnlessMemory fault (λ refusal. IsOutcome (Err refusal))

@@ -1,14 +1,14 @@
 //! The graph of the files of a tree.
-ghost use Rattle.std.specs.Prelude.{◌≡◌, ◌≤◌, ◌<◌, [], All, IfNone, IfOk, IfSome, List, length, map};
+ghost use Rattle.std.specs.Prelude.{◌≡◌, ◌≤◌, ◌<◌, [], All, IfNone, IfOk, IfSome, List, Result, length, map};
 ghost use Rattle.std.specs.List.{slice_index_or, IsDistinct};
 ghost use Rattle.std.specs.Str.{bytes_eq};
 ghost use Rattle.digraph.specs.Chains.{IsAcyclic};
 ghost use Rattle.digraph.specs.Edges.{AreBetween, Leads};
 ghost use Rattle.ob_imports.specs.Files.{files_of, File};
-ghost use Rattle.ob_imports.specs.Graphs.{graph_with};
+ghost use Rattle.ob_imports.specs.Graphs.{graph_with, ImportGraph};
 ghost use Rattle.ob_imports.specs.Names.{names_by, texts, IsByName};
 ghost use Rattle.ob_imports.specs.Numbering.{AreLed};
-ghost use Rattle.ob_imports.specs.Outcomes.{outcome_of, AreFiles, AreFilesOfGraph, GraphOutcome, IsCycleOf, IsGraphOutcome};
+ghost use Rattle.ob_imports.specs.Outcomes.{AreFiles, AreFilesOfGraph, GraphRefusal, IsCycleOf, IsGraphOutcome, Tells};
 
 use crate::duplicates::no_two_alike;
 use crate::edges::pairs_of;
@@ -74,7 +74,7 @@ fn from_names(
     pairs: Vec<Edge>,
 ) -> Result<Graph, GraphFault>
     requires { AreFilesOfGraph (files_of parsed.now) (graph_with names.keys (length parsed.now) pairs.items) }
-    ensures { IfSome (outcome_of result) (IsGraphOutcome (files_of parsed.now)) }
+    ensures { Tells result (IsGraphOutcome (files_of parsed.now)) }
 {
     let order = order_of(alloc, names.as_slice())?;
     match cycle_in(alloc, pairs.as_slice(), names.as_slice(), order.as_slice())? {
@@ -86,7 +86,7 @@ fn from_names(
 /// What files make whose modules differ in name: a graph, or the first refusal.
 fn from_files(alloc: Global, parsed: &[Parsed]) -> Result<Graph, GraphFault>
     requires { AreFiles (files_of parsed.now) }
-    ensures { IfSome (outcome_of result) (IsGraphOutcome (files_of parsed.now)) }
+    ensures { Tells result (IsGraphOutcome (files_of parsed.now)) }
 {
     let names = nodes_of(alloc, parsed)?;
     if names.len() > MOST_NODES {
@@ -101,7 +101,7 @@ fn from_files(alloc: Global, parsed: &[Parsed]) -> Result<Graph, GraphFault>
 
 /// What the files make: a graph, or the first refusal.
 fn made(alloc: Global, parsed: &[Parsed]) -> Result<Graph, GraphFault>
-    ensures { IfSome (outcome_of result) (IsGraphOutcome (files_of parsed.now)) }
+    ensures { Tells result (IsGraphOutcome (files_of parsed.now)) }
 {
     if parsed.len() > MOST_MODULES {
         return Err(GraphFault::TooMany);
@@ -113,10 +113,10 @@ fn made(alloc: Global, parsed: &[Parsed]) -> Result<Graph, GraphFault>
 /// The graph of the files' imports, or the first refusal: too many files, then two modules of one name, then too many
 /// modules or imports, then a cycle.
 pub fn graph(alloc: Global, parsed: &[Parsed]) -> Result<Graph, GraphFault>
-    // What is answered is so: the graph, or the first refusal. Want of memory says nothing.
-    ensures exact { IfSome (outcome_of result) (IsGraphOutcome (files_of parsed.now)) }
+    // What is answered is so, unless memory ran out: the graph, or the first refusal.
+    ensures exact { Tells result (IsGraphOutcome (files_of parsed.now)) }
     // What is so is answered, unless memory runs out.
-    ensures only { (o : GraphOutcome) → IsGraphOutcome (files_of parsed.now) o → IfSome (outcome_of result) (λ p. p ≡ o) }
+    ensures only { (o : Result ImportGraph GraphRefusal) → IsGraphOutcome (files_of parsed.now) o → Tells result (λ p. p ≡ o) }
 {
     made(alloc, parsed)
 }

@@ -1,8 +1,8 @@
 //! Files whose modules have one name.
-ghost use Rattle.std.specs.Prelude.{◌≡◌, ◌≤◌, ◌<◌, ◌+◌, IfErr, IfNone, IfOk, IfSome, IsPermutation, length, OnOk, ℕ};
-ghost use Rattle.ob_imports.specs.Files.{files_of, names_of, paths_of, DifferInName};
+ghost use Rattle.std.specs.Prelude.{◌≡◌, ◌≤◌, ◌<◌, ◌+◌, Err, IfErr, IfNone, IfOk, IfSome, IsPermutation, length, OnOk, ℕ};
+ghost use Rattle.ob_imports.specs.Files.{files_of, paths_of, DifferInName};
 ghost use Rattle.ob_imports.specs.Names.{texts, AreAlike, AreNamesSorted, IsFirstAlike};
-ghost use Rattle.ob_imports.specs.Outcomes.{fault_said, IsGraphOutcome};
+ghost use Rattle.ob_imports.specs.Outcomes.{IsGraphOutcome, UnlessMemory};
 
 use crate::names::module_names;
 use crate::{GraphFault, Parsed};
@@ -45,7 +45,7 @@ fn paths_with(alloc: Global, parsed: &[Parsed], name: &str) -> Result<Vec<String
 pub(crate) fn no_two_alike(alloc: Global, parsed: &[Parsed]) -> Result<(), GraphFault>
     requires few { length parsed.now ≤ 4096 }
     ensures differ { OnOk result (DifferInName (files_of parsed.now)) }
-    ensures fault { IfErr result (λ fault. IfSome (fault_said fault) (IsGraphOutcome (files_of parsed.now))) }
+    ensures fault { IfErr result (λ fault. UnlessMemory fault (λ refusal. IsGraphOutcome (files_of parsed.now) (Err refusal))) }
 {
     let mut names = module_names(alloc, parsed)?;
     put_in_order(&mut names);

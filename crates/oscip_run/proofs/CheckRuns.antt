@@ -1,18 +1,15 @@
 -- From what the lower crates promise to what a run of the check is.
-use Rattle.std.proofs.Common.{◌≢◌, ◌∷◌, [], append_assoc, ◌++◌, ◌≡◌, ℕ, Bool, true, List, Option, Some, None, Result, Ok, Err, refl, inl, inr, sym, subst, ◌∙◌}
-use Rattle.std.specs.Prelude.{IfSome}
+use Rattle.std.proofs.Common.{◌∷◌, [], append_assoc, ◌++◌, ◌≡◌, ℕ, Bool, true, List, Option, Some, None, Result, Ok, Err, refl, inl, inr, sym, subst, ◌∙◌}
 use Rattle.std.specs.Io.KnownBytes.{Keeps}
 use Rattle.std.proofs.lemmas.Bool.{cond_both}
 use Rattle.cut_net.specs.Network.{Network}
 use Rattle.cut_net.specs.Pins.{IsCheapestSaidWithPins}
-use Rattle.cut_net.specs.NetText.{IsNetOutcome}
 use Rattle.cut_net.specs.NetText as nets
-use Rattle.cut_net.specs.NetReading.{outcome_of as net_outcome_of}
 use Rattle.cut_net.specs.declared.fault.NetFault.{NetFault}
 use Rattle.cut_net.specs.declared.fault.NetFault.TheVariants as net
+use Rattle.cut_report.specs.Faults as report_faults
 use Rattle.cut_report.specs.ReportLines.{IsReportOutcome}
-use Rattle.cut_report.specs.ReportLines as reports
-use Rattle.cut_report.specs.Reading.{outcome_of as report_outcome_of, entry_of}
+use Rattle.cut_report.specs.Reading.{entry_of}
 use Rattle.byte_sink.specs.Sinks.{AppendsFront}
 use Rattle.cut_report.specs.declared.report.Report.{Report as ReportRead}
 use Rattle.cut_report.specs.declared.fault.ReportFault.{ReportFault}
@@ -38,7 +35,7 @@ Keeps-same (Some bytes) = refl
 
 -- a refused network, in a run of any engine
 pub refused_net : (IsRun : RunFault → Type 0) (text : List ℕ) → ((fault : NetFault) → IsRefusedText text (run.Net fault) → IsRun (run.Net fault)) → IsRun run.Memory →
-    (fault : NetFault) → IfSome (net_outcome_of (Err fault)) (IsNetOutcome text) → IsRun (of_net fault)
+    (fault : NetFault) → nets.UnlessMemory fault (λ refusal. nets.IsNetOutcome text (Err refusal)) → IsRun (of_net fault)
 refused_net IsRun text refused memory (net.BadLine line) h = refused (net.BadLine line) (nets.BadLine line, refl, h)
 refused_net IsRun text refused memory (net.TwiceImport line) h = refused (net.TwiceImport line) (nets.TwiceImport line, refl, h)
 refused_net IsRun text refused memory (net.Cycle names) h = refused (net.Cycle names) (nets.Cycle _, refl, h)
@@ -53,13 +50,13 @@ refused_tree IsRun sources refused memory fault h = cond_both (wants_memory faul
 
 -- a refused report
 pub refused_report : (IsOf : Network → Type 0) (IsRefused : RunFault → Type 0) (text : List ℕ) (known : Option (List ℕ)) (n : Network) → IsOf n → (fault : ReportFault) →
-    (fault ≢ report.Device) → IfSome (report_outcome_of (Err fault)) (IsReportOutcome n text) → IsCheckRun IsOf IsRefused text known known (Err (of_report fault))
-refused_report IsOf IsRefused text known n is (report.BadLine line) not_device h = ((reports.BadLine line, refl, (n, is, h)), Keeps-same known)
-refused_report IsOf IsRefused text known n is (report.UnknownName line) not_device h = ((reports.UnknownName line, refl, (n, is, h)), Keeps-same known)
-refused_report IsOf IsRefused text known n is (report.Order line) not_device h = ((reports.Order line, refl, (n, is, h)), Keeps-same known)
-refused_report IsOf IsRefused text known n is report.NoEnd not_device h = ((reports.NoEnd, refl, (n, is, h)), Keeps-same known)
-refused_report IsOf IsRefused text known n is report.Device not_device h = absurd (not_device refl)
-refused_report IsOf IsRefused text known n is report.Memory not_device h = inl (Keeps-same known)
+    report_faults.UnlessMemory fault (IsReportOutcome n text (Err fault)) → IsCheckRun IsOf IsRefused text known known (Err (of_report fault))
+refused_report IsOf IsRefused text known n is (report.BadLine line) h = ((n, is, h), Keeps-same known)
+refused_report IsOf IsRefused text known n is (report.UnknownName line) h = ((n, is, h), Keeps-same known)
+refused_report IsOf IsRefused text known n is (report.Order line) h = ((n, is, h), Keeps-same known)
+refused_report IsOf IsRefused text known n is report.NoEnd h = ((n, is, h), Keeps-same known)
+refused_report IsOf IsRefused text known n is report.Device h = absurd h
+refused_report IsOf IsRefused text known n is report.Memory h = inl (Keeps-same known)
 
 yes_from : (v : Verdict) → is_yes v ≡ true → v ≡ Yes
 yes_from Yes e = refl
@@ -73,7 +70,7 @@ yes_from (NotPinned from to) e = absurd cc
 
 -- a verdict of what was read
 pub checked : (IsOf : Network → Type 0) (report line : List ℕ) (n : Network) (r : ReportRead) (v : Verdict) (agrees : Bool) →
-    IsOf n → IsReportOutcome n report (reports.Reads (entry_of r)) →
+    IsOf n → IsReportOutcome n report (Ok (entry_of r)) →
     IsVerdict n r.from r.to (entry_of r).said v → (v ≡ Yes → IsCheapestSaidWithPins n r.from r.to (entry_of r).said) →
     line ≡ verdict_text n v → agrees ≡ is_yes v → IsChecked IsOf report line agrees
 checked IsOf report line n r v agrees is says holds cheapest line_is agrees_is = record {
@@ -122,8 +119,7 @@ run_of IsOf IsRefused n is report old new (Err (run.Net fault)) h = absurd h.0
 run_of IsOf IsRefused n is report old new (Err (run.Price fault)) h = absurd h.0
 run_of IsOf IsRefused n is report old new (Err (run.Report fault)) h =
     let refused = h.0 in
-    let of = refused.2 in
-    ((refused.0, refused.1, (of.0, subst IsOf (sym of.1) is, of.2)), h.1)
+    ((refused.0, subst IsOf (sym refused.1) is, refused.2), h.1)
 run_of IsOf IsRefused n is report old new (Err (run.Solve fault)) h = absurd h
 run_of IsOf IsRefused n is report old new (Err (run.Query fault)) h = absurd h
 run_of IsOf IsRefused n is report old new (Err run.Device) h = front_of IsOf n is report old new h

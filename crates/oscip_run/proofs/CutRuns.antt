@@ -1,6 +1,5 @@
 -- From what the lower crates promise to what a run of the search for a cut is.
 use Rattle.std.proofs.Common.{◌≡◌, ℕ, List, Option, Some, Result, Ok, Err, true, refl, sym, subst, ◌∙◌, inl, inr}
-use Rattle.std.specs.Prelude.{IfSome}
 use Rattle.std.proofs.lemmas.Option.{same_Some}
 use Rattle.cut_net.specs.Network.{Network, index_of}
 use Rattle.cut_net.specs.Pins.{IsAnswerWithPins, IsCheapestSaidWithPins}
@@ -11,6 +10,7 @@ use Rattle.cut_report.specs.Faults.{is_of_sink}
 use Rattle.byte_sink.specs.Sinks.{PutsBy}
 use Rattle.cut_report.specs.declared.fault.ReportFault.{ReportFault}
 use Rattle.cut_report.specs.declared.fault.ReportFault.TheVariants as report
+use Rattle.cut_solve.specs.Faults.{UnlessMemory}
 use Rattle.cut_solve.specs.Solving.{IsSolved, IsSolveOutcome}
 use Rattle.cut_solve.specs.Solving as solving
 use Rattle.cut_solve.specs.declared.fault.SolveFault.{SolveFault}
@@ -26,9 +26,9 @@ use Rattle.oscip_run.proofs.Sayable.{is_report, FlowFits}
 
 -- refused names
 pub refused_names : (IsOf : Network → Type 0) (IsRefused : RunFault → Type 0) (first second : List ℕ) (known : Option (List ℕ)) (n : Network) → IsOf n → (fault : SolveFault) →
-    IfSome (solving.outcome_of (Err fault)) (IsSolveOutcome n first second) → IsCutRun IsOf IsRefused first second known known (Err (of_solve fault))
-refused_names IsOf IsRefused first second known n is solve.SameModule h = ((solving.SameModule, refl, (n, is, h)), Keeps-same known)
-refused_names IsOf IsRefused first second known n is (solve.NoSuchModule name) h = ((solving.NoSuchModule _, refl, (n, is, h)), Keeps-same known)
+    UnlessMemory fault (λ refusal. IsSolveOutcome n first second (Err refusal)) → IsCutRun IsOf IsRefused first second known known (Err (of_solve fault))
+refused_names IsOf IsRefused first second known n is solve.SameModule h = ((n, is, solving.SameModule, refl, h), Keeps-same known)
+refused_names IsOf IsRefused first second known n is (solve.NoSuchModule name) h = ((n, is, solving.NoSuchModule _, refl, h), Keeps-same known)
 refused_names IsOf IsRefused first second known n is solve.Memory h = inl (Keeps-same known)
 
 -- what is answered is what is printed
@@ -119,8 +119,7 @@ run_of IsOf IsRefused n is first second old new (Err (run.Price fault)) h = absu
 run_of IsOf IsRefused n is first second old new (Err (run.Report fault)) h = absurd h
 run_of IsOf IsRefused n is first second old new (Err (run.Solve fault)) h =
     let refused = h.0 in
-    let of = refused.2 in
-    ((refused.0, refused.1, (of.0, subst IsOf (sym of.1) is, of.2)), h.1)
+    ((refused.0, subst IsOf (sym refused.1) is, refused.2, refused.3, refused.4), h.1)
 run_of IsOf IsRefused n is first second old new (Err (run.Query fault)) h = absurd h
 run_of IsOf IsRefused n is first second old new (Err run.Device) h = front_of IsOf n is first second old new h
 run_of IsOf IsRefused n is first second old new (Err run.Memory) (inl h) = inl h

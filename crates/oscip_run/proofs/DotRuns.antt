@@ -1,15 +1,14 @@
 -- From what the lower crates promise to what a run that draws is.
-use Rattle.std.proofs.Common.{◌≢◌, ℕ, arith, List, Option, Result, Ok, Err, refl, inl, inr, sym, subst}
-use Rattle.std.specs.Prelude.{IfSome}
+use Rattle.std.proofs.Common.{ℕ, arith, List, Option, Result, Ok, Err, refl, inl, inr, sym, subst}
 use Rattle.byte_sink.specs.declared.sink.SinkFault.{SinkFault}
 use Rattle.byte_sink.specs.declared.sink.SinkFault.TheVariants as sink
 use Rattle.cut_net.specs.Network.{Network}
 use Rattle.cut_report.specs.declared.report.Report.{Report as ReportRead}
 use Rattle.cut_report.specs.declared.fault.ReportFault.{ReportFault}
 use Rattle.cut_report.specs.declared.fault.ReportFault.TheVariants as report
+use Rattle.cut_report.specs.Faults.{UnlessMemory}
 use Rattle.cut_report.specs.ReportLines.{IsReportOutcome}
-use Rattle.cut_report.specs.ReportLines as reports
-use Rattle.cut_report.specs.Reading.{outcome_of as report_outcome_of, entry_of}
+use Rattle.cut_report.specs.Reading.{entry_of}
 use Rattle.cut_net.specs.declared.answer.Answer.{Answer}
 use Rattle.cut_net.specs.declared.answer.Answer.TheVariants as answers
 use Rattle.cut_net.specs.Answers.{said_by}
@@ -26,14 +25,14 @@ use Rattle.oscip_run.specs.declared.fault.RunFault.TheVariants as run
 use Rattle.oscip_run.proofs.CheckRuns.{Keeps-same}
 
 -- a refused report
-pub refused : (n : Network) (text : List ℕ) (known : Option (List ℕ)) (fault : ReportFault) → (fault ≢ report.Device) → IfSome (report_outcome_of (Err fault)) (IsReportOutcome n text)
+pub refused : (n : Network) (text : List ℕ) (known : Option (List ℕ)) (fault : ReportFault) → UnlessMemory fault (IsReportOutcome n text (Err fault))
     → IsDotRun (IsThis n) IsNeverRefused text known known (Err (of_report fault))
-refused n text known (report.BadLine line) not_device h = ((reports.BadLine line, refl, (n, refl, h)), Keeps-same known)
-refused n text known (report.UnknownName line) not_device h = ((reports.UnknownName line, refl, (n, refl, h)), Keeps-same known)
-refused n text known (report.Order line) not_device h = ((reports.Order line, refl, (n, refl, h)), Keeps-same known)
-refused n text known report.NoEnd not_device h = ((reports.NoEnd, refl, (n, refl, h)), Keeps-same known)
-refused n text known report.Device not_device h = absurd (not_device refl)
-refused n text known report.Memory not_device h = inl (Keeps-same known)
+refused n text known (report.BadLine line) h = ((n, refl, h), Keeps-same known)
+refused n text known (report.UnknownName line) h = ((n, refl, h), Keeps-same known)
+refused n text known (report.Order line) h = ((n, refl, h), Keeps-same known)
+refused n text known report.NoEnd h = ((n, refl, h), Keeps-same known)
+refused n text known report.Device h = absurd h
+refused n text known report.Memory h = inl (Keeps-same known)
 
 -- both lists of an answer that may be said ascend
 pub removed_ascend : (n : Network) (answer : Answer) → MaySay n (said_by answer) → IsAscending (removed_said answer)
@@ -50,7 +49,7 @@ picture_of n a b (answers.Cut cut) text h = h
 picture_of n a b (answers.Blocked chain) text h = h
 
 -- what came of a drawing
-pub drawn : (n : Network) (bytes : List ℕ) (r : ReportRead) (old new : Option (List ℕ)) (fault : SinkFault) → IsReportOutcome n bytes (reports.Reads (entry_of r))
+pub drawn : (n : Network) (bytes : List ℕ) (r : ReportRead) (old new : Option (List ℕ)) (fault : SinkFault) → IsReportOutcome n bytes (Ok (entry_of r))
     → IsDrawing n r.from r.to (removed_said r.answer) (flow_said r.answer) old new (Err fault) → IsDotRun (IsThis n) IsNeverRefused bytes old new (Err (of_sink fault))
 drawn n bytes r old new sink.Device says h = (h.0, record { net = n; reads = refl; entry = entry_of r; says = says; picture = picture_of n r.from r.to r.answer h.0 h.1 }, h.2)
 drawn n bytes r old new sink.Memory says (inl h) = inl h
@@ -87,9 +86,8 @@ run_of IsOf IsRefused n is bytes old new (Err (run.Tree fault)) h = absurd h.0
 run_of IsOf IsRefused n is bytes old new (Err (run.Net fault)) h = absurd h.0
 run_of IsOf IsRefused n is bytes old new (Err (run.Price fault)) h = absurd h.0
 run_of IsOf IsRefused n is bytes old new (Err (run.Report fault)) h =
-    let at = h.0 in
-    let of = at.2 in
-    ((at.0, at.1, (of.0, subst IsOf (sym of.1) is, of.2)), h.1)
+    let refused = h.0 in
+    ((refused.0, subst IsOf (sym refused.1) is, refused.2), h.1)
 run_of IsOf IsRefused n is bytes old new (Err (run.Solve fault)) h = absurd h
 run_of IsOf IsRefused n is bytes old new (Err (run.Query fault)) h = absurd h
 run_of IsOf IsRefused n is bytes old new (Err run.Device) h = front_of IsOf n is bytes old new h

@@ -1,12 +1,8 @@
 -- From the network of an input to that with its prices.
 use Rattle.std.proofs.Common.{ℕ, List, Option, Some, None, Err, refl, inl, inr, sym, subst}
-use Rattle.std.specs.Prelude.{IfSome}
 use Rattle.cut_net.specs.Network.{Network}
-use Rattle.cut_net.specs.Prices.{IsPriceOutcome}
 use Rattle.cut_net.specs.Prices as prices
-use Rattle.cut_net.specs.PriceReading.{fault_said}
-use Rattle.cut_net.specs.NetText.{IsNetOutcome}
-use Rattle.cut_net.specs.NetReading.{outcome_of as net_outcome_of}
+use Rattle.cut_net.specs.NetText as nets
 use Rattle.cut_net.specs.declared.fault.NetFault.{NetFault}
 use Rattle.cut_net.specs.declared.price_fault.PriceFault.{PriceFault}
 use Rattle.cut_net.specs.declared.price_fault.PriceFault.TheVariants as price
@@ -21,13 +17,10 @@ use Rattle.oscip_tree.specs.declared.tree_fault.TreeFault.{TreeFault}
 use Rattle.oscip_run.proofs.CheckRuns.{refused_net, refused_tree}
 
 -- refused prices
-pub refused_price : (n : Network) (text : List ℕ) (fault : PriceFault) → IfSome (fault_said fault) (IsPriceOutcome n text) →
+pub refused_price : (n : Network) (text : List ℕ) (fault : PriceFault) → prices.UnlessMemory fault (prices.IsPriceOutcome n text (Err fault)) →
     IsRefusedOr (IsRefusedPriced (IsThis n) IsNeverRefused (Some text)) (of_price fault)
-refused_price n text (price.BadLine line) h = inr (n, refl, prices.BadLine line, refl, h)
-refused_price n text (price.NoSuchImport line) h = inr (n, refl, prices.NoSuchImport line, refl, h)
-refused_price n text (price.TwicePrice line) h = inr (n, refl, prices.TwicePrice line, refl, h)
-refused_price n text price.PriceOverflow h = inr (n, refl, prices.PriceOverflow, refl, h)
 refused_price n text price.Memory h = tt
+refused_price n text fault h = inr (n, refl, h)
 
 -- with its prices a network is that of the input that has it
 pub priced_of : (IsOf : Network → Type 0) (n : Network) → IsOf n → (text : Option (List ℕ)) (r : Network) → IsPricedInput (IsThis n) text r → IsPricedInput IsOf text r
@@ -47,7 +40,7 @@ refused_of IsOf IsRefused n is (Some text) (run.Tree fault) (inr h) = absurd h
 refused_of IsOf IsRefused n is (Some text) (run.Net fault) (inl h) = absurd h
 refused_of IsOf IsRefused n is (Some text) (run.Net fault) (inr h) = absurd h
 refused_of IsOf IsRefused n is (Some text) (run.Price fault) (inl h) = absurd h
-refused_of IsOf IsRefused n is (Some text) (run.Price fault) (inr h) = inr (h.0, subst IsOf (sym h.1) is, h.2, h.3, h.4)
+refused_of IsOf IsRefused n is (Some text) (run.Price fault) (inr h) = inr (h.0, subst IsOf (sym h.1) is, h.2)
 refused_of IsOf IsRefused n is text (run.Report fault) h = h
 refused_of IsOf IsRefused n is text (run.Solve fault) h = h
 refused_of IsOf IsRefused n is text (run.Query fault) h = h
@@ -59,7 +52,7 @@ refused_before : (IsOf : Network → Type 0) (IsRefused : RunFault → Type 0) (
 refused_before IsOf IsRefused None fault h = h
 refused_before IsOf IsRefused (Some text) fault h = inl h
 
-pub refused_text : (bytes : List ℕ) (text : Option (List ℕ)) (fault : NetFault) → IfSome (net_outcome_of (Err fault)) (IsNetOutcome bytes) → IsRefusedOr (IsRefusedPricedText bytes text) (of_net fault)
+pub refused_text : (bytes : List ℕ) (text : Option (List ℕ)) (fault : NetFault) → nets.UnlessMemory fault (λ refusal. nets.IsNetOutcome bytes (Err refusal)) → IsRefusedOr (IsRefusedPricedText bytes text) (of_net fault)
 refused_text bytes text fault h =
     refused_net (IsRefusedOr (IsRefusedPricedText bytes text)) bytes (λ fault h. refused_before (IsNetOfText bytes) (IsRefusedText bytes) text (run.Net fault) h) tt fault h
 

@@ -9,7 +9,9 @@ use Rattle.cut_net.specs.Pins.{ArePrintedWithPins, AreWeightsWithPins, IsCheapes
 use Rattle.cut_net.specs.Said.{Said, CutOf, BlockedBy}
 use Rattle.cut_report.specs.ReportText.{ReportText}
 use Rattle.byte_sink.specs.Sinks.{AppendsFront}
-use Rattle.cut_solve.specs.Solving.{outcome_of as solve_outcome_of, IsSolveOutcome, SolveOutcome}
+use Rattle.cut_solve.specs.Faults.{IsRefusalOf}
+use Rattle.cut_solve.specs.Solving.{IsSolveOutcome, SolveRefusal}
+use Rattle.cut_solve.specs.declared.fault.SolveFault.{SolveFault}
 use Rattle.oscip_run.specs.declared.fault.RunFault.{RunFault}
 use Rattle.oscip_run.specs.declared.fault.RunFault.TheVariants.{CannotRead, CannotWrite, Tree, Net, Price, Report, Solve, Query, Device, Memory}
 
@@ -85,9 +87,9 @@ PutsCut IsOf first second old new = (text : List ℕ) × IsCutText IsOf first se
 abbrev pub PutsCutFront : (Network → Type 0) → List ℕ → List ℕ → Option (List ℕ) → Option (List ℕ) → Type 0
 PutsCutFront IsOf first second old new = (text : List ℕ) × IsCutText IsOf first second text × AppendsFront old new text
 
--- the names were refused, and the input was not
-abbrev pub IsRefusedNames : (Network → Type 0) → List ℕ → List ℕ → SolveOutcome → Type 0
-IsRefusedNames IsOf first second outcome = (net : Network) × IsOf net × IsSolveOutcome net first second outcome
+-- the names were refused with this fault, and the input was not
+abbrev pub IsRefusedNames : (Network → Type 0) → List ℕ → List ℕ → SolveFault → Type 0
+IsRefusedNames IsOf first second fault = (net : Network) × IsOf net × (refusal : SolveRefusal) × IsRefusalOf fault refusal × IsSolveOutcome net first second (Err refusal)
 
 -- a run of the engine: refused input leaves the sink as it was, with the fault that the input has
 abbrev pub IsCutRun : (Network → Type 0) → (RunFault → Type 0) → List ℕ → List ℕ → Option (List ℕ) → Option (List ℕ) → Result (Unit {0}) RunFault → Type 0
@@ -98,8 +100,7 @@ IsCutRun IsOf IsRefused first second old new (Err (Tree fault)) = IsRefused (Tre
 IsCutRun IsOf IsRefused first second old new (Err (Net fault)) = IsRefused (Net fault) × Keeps old new
 IsCutRun IsOf IsRefused first second old new (Err (Price fault)) = IsRefused (Price fault) × Keeps old new
 IsCutRun IsOf IsRefused first second old new (Err (Report fault)) = ⊥
-IsCutRun IsOf IsRefused first second old new (Err (Solve fault)) =
-    ((outcome : SolveOutcome) × (solve_outcome_of (Err fault) ≡ Some outcome) × IsRefusedNames IsOf first second outcome) × Keeps old new
+IsCutRun IsOf IsRefused first second old new (Err (Solve fault)) = IsRefusedNames IsOf first second fault × Keeps old new
 IsCutRun IsOf IsRefused first second old new (Err (Query fault)) = ⊥
 IsCutRun IsOf IsRefused first second old new (Err Device) = PutsCutFront IsOf first second old new
 IsCutRun IsOf IsRefused first second old new (Err Memory) = Keeps old new ⊎ PutsCutFront IsOf first second old new

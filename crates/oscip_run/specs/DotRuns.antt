@@ -1,13 +1,11 @@
 -- What a run that draws what a report says reads and puts.
-use Rattle.std.specs.Prelude.{◌≡◌, ◌⊎◌, ℕ, List, [], Option, Some, Result, Ok, Err}
+use Rattle.std.specs.Prelude.{◌⊎◌, ℕ, List, [], Option, Result, Ok, Err}
 use Rattle.std.specs.Io.KnownBytes.{Appends, Keeps}
 use Rattle.byte_sink.specs.Sinks.{AppendsFront}
 use Rattle.cut_net.specs.Network.{Network}
 use Rattle.cut_net.specs.Said.{Said, CutOf, BlockedBy}
 use Rattle.cut_report.specs.ReportClaim.{ReportClaim}
 use Rattle.cut_report.specs.ReportLines.{IsReportOutcome}
-use Rattle.cut_report.specs.ReportLines as reports
-use Rattle.cut_report.specs.Reading.{outcome_of as report_outcome_of}
 use Rattle.cut_dot.specs.Pictures.{IsPicture}
 use Rattle.oscip_run.specs.declared.fault.RunFault.{RunFault}
 use Rattle.oscip_run.specs.declared.fault.RunFault.TheVariants.{CannotRead, CannotWrite, Tree, Net, Price, Report, Solve, Query, Device, Memory}
@@ -23,7 +21,7 @@ pub record IsDrawn (IsOf : Network → Type 0) (report text : List ℕ) : Type 0
   pub net : Network
   pub reads : IsOf net
   pub entry : ReportClaim
-  pub says : IsReportOutcome net report (reports.Reads entry)
+  pub says : IsReportOutcome net report (Ok entry)
   pub picture : IsPictureOf net entry.from entry.to entry.said text
 
 -- the sink has the whole picture
@@ -42,8 +40,7 @@ IsDotRun IsOf IsRefused report old new (Err (CannotWrite path)) = ⊥
 IsDotRun IsOf IsRefused report old new (Err (Tree fault)) = IsRefused (Tree fault) × Keeps old new
 IsDotRun IsOf IsRefused report old new (Err (Net fault)) = IsRefused (Net fault) × Keeps old new
 IsDotRun IsOf IsRefused report old new (Err (Price fault)) = IsRefused (Price fault) × Keeps old new
-IsDotRun IsOf IsRefused report old new (Err (Report fault)) =
-    ((outcome : reports.ReportOutcome) × (report_outcome_of (Err fault) ≡ Some outcome) × IsRefusedReport IsOf report outcome) × Keeps old new
+IsDotRun IsOf IsRefused report old new (Err (Report fault)) = IsRefusedReport IsOf report fault × Keeps old new
 IsDotRun IsOf IsRefused report old new (Err (Solve fault)) = ⊥
 IsDotRun IsOf IsRefused report old new (Err (Query fault)) = ⊥
 IsDotRun IsOf IsRefused report old new (Err Device) = PutsDrawnFront IsOf report old new

@@ -1,9 +1,7 @@
 -- The network of a run: that of its input, a text or a tree, with the prices that are given.
-use Rattle.std.specs.Prelude.{◌≡◌, ◌⊎◌, ℕ, List, Option, Some, None}
+use Rattle.std.specs.Prelude.{◌⊎◌, ℕ, List, Option, Some, None, Ok, Err}
 use Rattle.cut_net.specs.Network.{Network}
-use Rattle.cut_net.specs.Prices.{IsPriceOutcome, PriceOutcome}
-use Rattle.cut_net.specs.Prices as prices
-use Rattle.cut_net.specs.PriceReading.{fault_said}
+use Rattle.cut_net.specs.Prices.{IsPriceOutcome}
 use Rattle.cut_net.specs.declared.price_fault.PriceFault.{PriceFault}
 use Rattle.oscip_run.specs.Runs.{IsNetOfText, IsRefusedText, IsRefusedTree}
 use Rattle.oscip_run.specs.declared.fault.RunFault.{RunFault}
@@ -13,7 +11,7 @@ use Rattle.oscip_tree.specs.declared.source.Source.{Source}
 
 -- the prices make this network of the input's
 abbrev pub IsPricedBy : (Network → Type 0) → List ℕ → Network → Type 0
-IsPricedBy IsOf text net = (before : Network) × IsOf before × IsPriceOutcome before text (prices.Prices net)
+IsPricedBy IsOf text net = (before : Network) × IsOf before × IsPriceOutcome before text (Ok net)
 
 -- the network of the input, with its prices where they are given
 abbrev pub IsPricedInput : (Network → Type 0) → Option (List ℕ) → Network → Type 0
@@ -22,7 +20,7 @@ IsPricedInput IsOf (Some text) = IsPricedBy IsOf text
 
 -- the prices say this of the input's network: they are refused with this fault
 abbrev pub IsPriceRefusal : (Network → Type 0) → List ℕ → PriceFault → Type 0
-IsPriceRefusal IsOf text fault = (before : Network) × IsOf before × (outcome : PriceOutcome) × (fault_said fault ≡ Some outcome) × IsPriceOutcome before text outcome
+IsPriceRefusal IsOf text fault = (before : Network) × IsOf before × IsPriceOutcome before text (Err fault)
 
 -- the same, of the fault of a run
 abbrev pub IsRefusedBy : (Network → Type 0) → List ℕ → RunFault → Type 0

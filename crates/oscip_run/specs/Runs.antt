@@ -1,15 +1,12 @@
 -- What a run of an engine reads and puts.
-use Rattle.std.specs.Prelude.{◌≡◌, ◌⊎◌, ℕ, Bool, true, false, List, ◌++◌, Option, Some, Result, Ok, Err, codes}
+use Rattle.std.specs.Prelude.{◌≡◌, ◌⊎◌, ℕ, Bool, true, false, List, ◌++◌, Option, Result, Ok, Err, codes}
 use Rattle.std.specs.Io.KnownBytes.{Appends, Keeps}
 use Rattle.cut_net.specs.Network.{Network, name_of}
 use Rattle.cut_net.specs.Pins.{IsCheapestSaidWithPins}
-use Rattle.cut_net.specs.NetText.{IsNetOutcome}
-use Rattle.cut_net.specs.NetText as nets
-use Rattle.cut_net.specs.NetReading.{outcome_of as net_outcome_of}
+use Rattle.cut_net.specs.NetText.{IsNetOutcome, IsRefusalOf, NetRefusal}
 use Rattle.cut_report.specs.ReportClaim.{ReportClaim}
 use Rattle.cut_report.specs.ReportLines.{IsReportOutcome}
-use Rattle.cut_report.specs.ReportLines as reports
-use Rattle.cut_report.specs.Reading.{outcome_of as report_outcome_of}
+use Rattle.cut_report.specs.declared.fault.ReportFault.{ReportFault}
 use Rattle.byte_sink.specs.Sinks.{AppendsFront}
 use Rattle.cut_check.specs.declared.verdict.Verdict.{Verdict}
 use Rattle.cut_check.specs.declared.verdict.Verdict.TheVariants.{Yes, NoSuchImport, StillChain, WrongWeight, OverWeight, NotKept, WrongValue, NotPinned}
@@ -22,14 +19,14 @@ use Rattle.oscip_tree.specs.Trees.{IsTreeFault}
 
 -- the text says this network
 abbrev pub IsNetOfText : List ℕ → Network → Type 0
-IsNetOfText text net = IsNetOutcome text (nets.Reads net)
+IsNetOfText text net = IsNetOutcome text (Ok net)
 
 -- the text of a network is refused with this fault
 abbrev pub IsRefusedText : List ℕ → RunFault → Type 0
 IsRefusedText text (CannotRead path) = ⊥
 IsRefusedText text (CannotWrite path) = ⊥
 IsRefusedText text (Tree fault) = ⊥
-IsRefusedText text (Net fault) = (outcome : nets.NetOutcome) × (net_outcome_of (Err fault) ≡ Some outcome) × IsNetOutcome text outcome
+IsRefusedText text (Net fault) = (refusal : NetRefusal) × IsRefusalOf fault refusal × IsNetOutcome text (Err refusal)
 IsRefusedText text (Price fault) = ⊥
 IsRefusedText text (Report fault) = ⊥
 IsRefusedText text (Solve fault) = ⊥
@@ -87,7 +84,7 @@ pub record IsChecked (IsOf : Network → Type 0) (report line : List ℕ) (agree
   pub net : Network
   pub reads : IsOf net
   pub entry : ReportClaim
-  pub says : IsReportOutcome net report (reports.Reads entry)
+  pub says : IsReportOutcome net report (Ok entry)
   pub verdict : Verdict
   pub holds : IsVerdict net entry.from entry.to entry.said verdict
   pub line_is : line ≡ verdict_text net verdict
@@ -102,9 +99,9 @@ PutsCheck IsOf report old new agrees = (line : List ℕ) × IsChecked IsOf repor
 abbrev pub PutsFront : (Network → Type 0) → List ℕ → Option (List ℕ) → Option (List ℕ) → Type 0
 PutsFront IsOf report old new = (line : List ℕ) × (agrees : Bool) × IsChecked IsOf report line agrees × AppendsFront old new line
 
--- the report was refused, and the input was not
-abbrev pub IsRefusedReport : (Network → Type 0) → List ℕ → reports.ReportOutcome → Type 0
-IsRefusedReport IsOf report outcome = (net : Network) × IsOf net × IsReportOutcome net report outcome
+-- the report was refused with this fault, and the input was not
+abbrev pub IsRefusedReport : (Network → Type 0) → List ℕ → ReportFault → Type 0
+IsRefusedReport IsOf report fault = (net : Network) × IsOf net × IsReportOutcome net report (Err fault)
 
 -- a run of the engine: refused input leaves the sink as it was, with the fault that the input has
 abbrev pub IsCheckRun : (Network → Type 0) → (RunFault → Type 0) → List ℕ → Option (List ℕ) → Option (List ℕ) → Result Bool RunFault → Type 0
@@ -114,8 +111,7 @@ IsCheckRun IsOf IsRefused report old new (Err (CannotWrite path)) = ⊥
 IsCheckRun IsOf IsRefused report old new (Err (Tree fault)) = IsRefused (Tree fault) × Keeps old new
 IsCheckRun IsOf IsRefused report old new (Err (Net fault)) = IsRefused (Net fault) × Keeps old new
 IsCheckRun IsOf IsRefused report old new (Err (Price fault)) = IsRefused (Price fault) × Keeps old new
-IsCheckRun IsOf IsRefused report old new (Err (Report fault)) =
-    ((outcome : reports.ReportOutcome) × (report_outcome_of (Err fault) ≡ Some outcome) × IsRefusedReport IsOf report outcome) × Keeps old new
+IsCheckRun IsOf IsRefused report old new (Err (Report fault)) = IsRefusedReport IsOf report fault × Keeps old new
 IsCheckRun IsOf IsRefused report old new (Err (Solve fault)) = ⊥
 IsCheckRun IsOf IsRefused report old new (Err (Query fault)) = ⊥
 IsCheckRun IsOf IsRefused report old new (Err Device) = PutsFront IsOf report old new

@@ -1,13 +1,11 @@
 -- An accepted tree has no fault but want of memory.
-use Rattle.std.proofs.Common.{◌≡◌, ℕ, true, List, ◌∷◌, ◌++◌, length, Some, refl, sym, ap, ◌∙◌, subst, length-append, arith}
+use Rattle.std.proofs.Common.{◌≡◌, ℕ, true, List, ◌∷◌, ◌++◌, length, Some, Ok, Err, refl, sym, ap, ◌∙◌, subst, length-append, arith}
 use Rattle.std.specs.Prelude.{slice_get}
 use Rattle.std.proofs.Math.Seq.{get_or-append_seam}
 use Rattle.std.proofs.lemmas.Option.{slice_get-get_or}
 use Rattle.ob_imports.specs.declared.fault.GraphFault.{GraphFault}
-use Rattle.ob_imports.specs.declared.fault.GraphFault.TheVariants as graphs
 use Rattle.ob_imports.specs.Files.{File}
-use Rattle.ob_imports.specs.Graphs.{ImportGraph}
-use Rattle.ob_imports.specs.Outcomes.{IsGraphOutcome, Makes, fault_said}
+use Rattle.ob_imports.specs.Outcomes.{IsGraphOutcome}
 use Rattle.ob_imports.proofs.OneOutcome.{one_outcome}
 use Rattle.ob_scan.specs.declared.fault.ScanFault.{ScanFault}
 use Rattle.ob_scan.specs.declared.fault.ScanFault.TheVariants as scans
@@ -29,7 +27,7 @@ use Rattle.ob_scope.specs.Scoped.{IsScopeFault}
 use Rattle.ob_scope.specs.Texts.{text_at}
 use Rattle.ob_scope.proofs.Meanings.{no_first}
 use Rattle.oscip_tree.specs.TreeFaults.{wants_memory}
-use Rattle.oscip_tree.specs.Trees.{files_of, rows, names, AreAccepted, HasParseFault, HasScanFault, HasScopeFault, IsAccepted, IsFileFault, IsFirstFault, IsGraphFault, IsTree, IsTreeFault, ModuleFile}
+use Rattle.oscip_tree.specs.Trees.{files_of, rows, AreAccepted, HasParseFault, HasScanFault, HasScopeFault, IsAccepted, IsFileFault, IsFirstFault, IsGraphFault, IsTree, IsTreeFault, ModuleFile}
 use Rattle.oscip_tree.specs.declared.source.Source.{Source}
 use Rattle.oscip_tree.specs.declared.tree_fault.TreeFault.{TreeFault}
 use Rattle.oscip_tree.specs.declared.tree_fault.TreeFault.TheVariants as faults
@@ -104,20 +102,13 @@ no_first_fault sources files fault ok f =
     let (file, at_file) = there files (length f.before) (omega arith) in
     no_file_fault f.source file fault (ok.each (length f.before) f.source file at at_file) f.has_fault
 
--- a fault says no graph
-no_graph : (fault : GraphFault) (g : ImportGraph) → fault_said fault ≡ Some (Makes g) → ⊥
-no_graph (graphs.TwoModules name first second) g e = absurd cc
-no_graph (graphs.Cycle names) g e = absurd cc
-no_graph graphs.TooMany g e = absurd cc
-no_graph graphs.Memory g e = absurd cc
-
 -- the imports of an accepted tree aren't refused
 no_graph_fault : (sources : List Source) (files : List ModuleFile) (fault : GraphFault) → IsTree sources files → IsGraphFault sources fault → ⊥
 no_graph_fault sources files fault tree f =
     let same : files_of f.files ≡ files_of files = same_files sources f.files files f.accepted tree.accepted in
-    let outcome : IsGraphOutcome (files_of files) f.outcome = subst (λ (fs : List File). IsGraphOutcome fs f.outcome) same f.is_outcome in
-    let makes : f.outcome ≡ Makes tree.graph = one_outcome (files_of files) f.outcome (Makes tree.graph) outcome (tree.kept, tree.acyclic) in
-    no_graph fault tree.graph (f.said ∙ ap Some makes)
+    let outcome : IsGraphOutcome (files_of files) (Err f.refusal) = subst (λ (fs : List File). IsGraphOutcome fs (Err f.refusal)) same f.is_outcome in
+    let e = one_outcome (files_of files) (Ok tree.graph) (Err f.refusal) (tree.kept, tree.acyclic) outcome in
+    absurd cc
 
 pub no_tree_fault : (sources : List Source) (files : List ModuleFile) (fault : TreeFault) → IsTree sources files → IsTreeFault sources fault → wants_memory fault ≡ true
 no_tree_fault sources files (faults.Scan path at fault) tree h = no_first_fault sources files (faults.Scan path at fault) tree.accepted h

@@ -1,5 +1,5 @@
 -- A refused tree has one fault.
-use Rattle.std.proofs.Common.{◌≡◌, ◌≢◌, ℕ, ◌<◌, true, false, List, [], ◌∷◌, ◌++◌, length, Option, None, Some, Err, refl, sym, ap, ap₂, ◌∙◌, subst, inl, inr, arith}
+use Rattle.std.proofs.Common.{◌≡◌, ◌≢◌, ℕ, ◌<◌, false, List, [], ◌∷◌, ◌++◌, length, Option, None, Some, Result, Ok, Err, refl, sym, ap, ap₂, ◌∙◌, subst, inl, inr, arith}
 use Rattle.std.specs.Prelude.{IfSome, codes, slice_get}
 use Rattle.std.specs.Fmt.{decimal}
 use Rattle.std.specs.List.{flat_map}
@@ -9,7 +9,8 @@ use Rattle.std.proofs.lemmas.Option.{slice_get_within}
 use Rattle.ob_imports.specs.declared.fault.GraphFault.{GraphFault}
 use Rattle.ob_imports.specs.declared.fault.GraphFault.TheVariants as graphs
 use Rattle.ob_imports.specs.Files.{File}
-use Rattle.ob_imports.specs.Outcomes.{GraphOutcome, IsGraphOutcome, Makes, TwoModules, Cycle, TooMany, fault_said}
+use Rattle.ob_imports.specs.Graphs.{ImportGraph}
+use Rattle.ob_imports.specs.Outcomes.{Cycle, GraphRefusal, IsGraphOutcome, IsRefusalOf, TooMany, TwoModules}
 use Rattle.ob_imports.proofs.OneOutcome.{one_outcome}
 use Rattle.ob_scan.specs.declared.fault.ScanFault.{ScanFault}
 use Rattle.ob_scan.specs.declared.fault.ScanFault.TheVariants as scans
@@ -243,26 +244,22 @@ one_first_fault sources f g some more h k =
 
 -- ---- the imports
 
-abbrev outcome_text : Option GraphOutcome → List ℕ
-outcome_text None = codes "Memory"
-outcome_text (Some (Makes g)) = []
-outcome_text (Some (TwoModules name first second)) = codes "TwoModules " ++ name ++ codes " " ++ first ++ codes " " ++ second
-outcome_text (Some (Cycle names)) = codes "Cycle" ++ flat_map after_space names
-outcome_text (Some TooMany) = codes "TooMany"
+-- what is told of a graph, and of what files are refused for
+abbrev outcome_text : Result ImportGraph GraphRefusal → List ℕ
+outcome_text (Ok g) = []
+outcome_text (Err (TwoModules name first second)) = codes "TwoModules " ++ name ++ codes " " ++ first ++ codes " " ++ second
+outcome_text (Err (Cycle names)) = codes "Cycle" ++ flat_map after_space names
+outcome_text (Err TooMany) = codes "TooMany"
 
-told_outcome : (fault : GraphFault) → graph_fault_text fault ≡ outcome_text (fault_said fault)
-told_outcome (graphs.TwoModules name first second) = refl
-told_outcome (graphs.Cycle names) = refl
-told_outcome graphs.TooMany = refl
-told_outcome graphs.Memory = refl
+told_refusal : (fault : GraphFault) (refusal : GraphRefusal) → IsRefusalOf fault refusal → graph_fault_text fault ≡ outcome_text (Err refusal)
+told_refusal graphs.Memory refusal said = absurd said
+told_refusal fault refusal said = ap (λ (r : GraphRefusal). outcome_text (Err r)) (sym said)
 
 one_graph_fault : (sources : List Source) (f g : GraphFault) → IsGraphFault sources f → IsGraphFault sources g → graph_fault_text f ≡ graph_fault_text g
 one_graph_fault sources f g h k =
     let files : files_of k.files ≡ files_of h.files = same_files sources k.files h.files k.accepted h.accepted in
-    let outcome : IsGraphOutcome (files_of h.files) k.outcome = subst (λ (fs : List File). IsGraphOutcome fs k.outcome) files k.is_outcome in
-    let same : h.outcome ≡ k.outcome = one_outcome (files_of h.files) h.outcome k.outcome h.is_outcome outcome in
-    let said : fault_said f ≡ fault_said g = h.said ∙ ap Some same ∙ sym k.said in
-    told_outcome f ∙ ap outcome_text said ∙ sym (told_outcome g)
+    let outcome : IsGraphOutcome (files_of h.files) (Err k.refusal) = subst (λ (fs : List File). IsGraphOutcome fs (Err k.refusal)) files k.is_outcome in
+    told_refusal f h.refusal h.said ∙ ap outcome_text (one_outcome (files_of h.files) (Err h.refusal) (Err k.refusal) h.is_outcome outcome) ∙ sym (told_refusal g k.refusal k.said)
 
 -- ---- the tree
 

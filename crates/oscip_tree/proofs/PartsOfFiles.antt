@@ -1,12 +1,12 @@
 -- The parts of files.
-use Rattle.std.proofs.Common.{◌≡◌, ℕ, ◌+◌, ◌<◌, List, [], ◌∷◌, ◌++◌, length, get_or, map, take, Some, refl, sym, ap, ◌∙◌, subst, arith}
+use Rattle.std.proofs.Common.{◌≡◌, List, map, Some, sym, ap, ◌∙◌, subst, arith}
 use Rattle.std.specs.Prelude.{option_map, Box}
 use Rattle.std.specs.declared.alloc.Global.{Global}
 use Rattle.std.proofs.lemmas.List.{length-map}
 use Rattle.std.proofs.lemmas.Option.{slice_get-map, slice_get_within}
-use Rattle.oscip_tree.specs.Trees.{IsAccepted, ModuleFile}
+use Rattle.oscip_tree.specs.Trees.{ModuleFile}
 use Rattle.oscip_tree.specs.TreeReading.{AreRead, AreScopesOf}
-use Rattle.oscip_tree.specs.Parts.{AreAllParts, ArePartsOf, HasParts}
+use Rattle.oscip_tree.specs.Parts.{AreAllParts}
 use Rattle.oscip_tree.specs.declared.parts.ModuleParts.{ModuleParts}
 use Rattle.oscip_tree.specs.declared.source.Source.{Source}
 use Rattle.oscip_tree.proofs.TreeFiles.{there}

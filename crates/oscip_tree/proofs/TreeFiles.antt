@@ -1,9 +1,9 @@
 -- Files that are read one after another.
-use Rattle.std.proofs.Common.{◌≡◌, ℕ, zero, suc, ◌+◌, ◌<◌, ◌⊎◌, List, [], ◌∷◌, ◌++◌, length, get_or, map, take, drop, Some, refl, sym, ap, ◌∙◌, subst, inl, inr, add-one, length-append, arith}
+use Rattle.std.proofs.Common.{◌≡◌, ℕ, zero, suc, ◌+◌, ◌<◌, List, [], ◌∷◌, ◌++◌, length, get_or, map, take, Some, refl, sym, ap, ◌∙◌, subst, add-one, length-append, arith}
 use Rattle.std.specs.Prelude.{String, slice_get, option_map}
 use Rattle.std.specs.String.{string_bytes}
-use Rattle.std.proofs.Math.Seq.{drop-cons, take-length, take-suc}
-use Rattle.std.proofs.lemmas.List.{length-map, map-append, take-append-drop}
+use Rattle.std.proofs.Math.Seq.{take-length, take-suc}
+use Rattle.std.proofs.lemmas.List.{length-map, map-append}
 use Rattle.std.proofs.lemmas.Option.{get_or_from_slice_get, slice_get-get_or, slice_get-map, slice_get_within}
 use Rattle.ob_imports.specs.declared.parsed.Parsed.{Parsed}
 use Rattle.ob_imports.specs.Files.{File, file_of as parsed_file, files_of as parsed_files}
@@ -12,11 +12,9 @@ use Rattle.ob_scope.specs.declared.module_scopes.Alias.{Alias}
 use Rattle.ob_scope.specs.Kept.{alias_of}
 use Rattle.ob_decls.specs.declared.rows.Import.{Import}
 use Rattle.ob_scope.specs.Scoped.{AliasUses, ModuleScopes}
-use Rattle.oscip_tree.specs.Trees.{file_of, files_of, rows, names, AreAccepted, IsAccepted, IsFileFault, IsTreeFault, ModuleFile}
+use Rattle.oscip_tree.specs.Trees.{file_of, files_of, rows, names, IsAccepted, ModuleFile}
 use Rattle.oscip_tree.specs.TreeReading.{AreRead, AreScopesOf}
 use Rattle.oscip_tree.specs.declared.source.Source.{Source}
-use Rattle.oscip_tree.specs.declared.tree_fault.TreeFault.{TreeFault}
-use Rattle.oscip_tree.specs.declared.tree_fault.TreeFault.TheVariants as faults
 
 -- ---- two lists of one length
 

@@ -1,5 +1,5 @@
 -- What is known of each module of a tree.
-use Rattle.std.specs.Prelude.{◌≡◌, ℕ, List, Box}
+use Rattle.std.specs.Prelude.{◌≡◌, List, Box}
 use Rattle.std.specs.declared.alloc.Global.{Global}
 use Rattle.std.specs.Arc.{arc_value}
 use Rattle.digraph.specs.Chains.{IsAcyclic}

@@ -24,7 +24,7 @@ use Rattle.ob_imports.specs.declared.fault.GraphFault.{GraphFault}
 use Rattle.digraph.specs.Chains.{IsAcyclic}
 use Rattle.ob_imports.specs.Files.{File, Imports, IsNode}
 use Rattle.ob_imports.specs.Graphs.{ImportGraph}
-use Rattle.ob_imports.specs.Outcomes.{AreFilesOfGraph, GraphOutcome, IsGraphOutcome, fault_said}
+use Rattle.ob_imports.specs.Outcomes.{AreFilesOfGraph, GraphRefusal, IsGraphOutcome, IsRefusalOf}
 use Rattle.cut_net.specs.declared.priced.Priced.{Priced}
 use Rattle.cut_net.specs.Lines.{IsAscending}
 use Rattle.cut_net.specs.Network.{Network, name_of}
@@ -157,9 +157,9 @@ pub record IsFirstFault (sources : List Source) (fault : TreeFault) : Type 0 whe
 pub record IsGraphFault (sources : List Source) (fault : GraphFault) : Type 0 where
   pub files : List ModuleFile
   pub accepted : AreAccepted sources files
-  pub outcome : GraphOutcome
-  pub said : fault_said fault ≡ Some outcome
-  pub is_outcome : IsGraphOutcome (files_of files) outcome
+  pub refusal : GraphRefusal
+  pub said : IsRefusalOf fault refusal
+  pub is_outcome : IsGraphOutcome (files_of files) (Err refusal)
 
 -- what a fault of a tree says: of the first file that has one, or else of the imports; a want of memory says nothing
 abbrev pub IsTreeFault : List Source → TreeFault → Type 0

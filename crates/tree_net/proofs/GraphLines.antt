@@ -23,7 +23,8 @@ use Rattle.cut_net.specs.Network as network
 use Rattle.cut_net.specs.Network.{Network}
 use Rattle.cut_net.specs.NetText.{NetLine, Module, Import, is_import, AreOfTwoImports, AreNamesOf, IsNetLine, IsNetOf, Mentions}
 use Rattle.cut_net.specs.NetReading.{entry_line, AreTablesOf}
-use Rattle.cut_net.specs.WellFormed.{IsAcyclic, IsNetwork, Leads, total_weight}
+use Rattle.cut_net.specs.Cuts.{Any, Imports}
+use Rattle.cut_net.specs.WellFormed.{IsAcyclic, IsNetwork, total_weight}
 
 -- ---- lines of modules and of imports
 
@@ -168,7 +169,7 @@ module _ (g : ImportGraph) (ss : List ModuleScopes) (graph : IsGraph g) where
 
         -- a chain of the network is one of the graph
         net_acyclic : IsAcyclic net.imports
-        net_acyclic = acyclic_over (Leads net.imports) (edges.Leads g.pairs) (λ m. place_of g.names (network.name_of net m)) (λ m n (i, there, from, to, _).
+        net_acyclic = acyclic_over (Imports net.imports Any) (edges.Leads g.pairs) (λ m. place_of g.names (network.name_of net m)) (λ m n (i, there, from, to, _).
             let (p, has, e) = import_of_net i there in
             let b = graph.between p has in
             let e_from : name_of g p.from ≡ network.name_of net m = (same_import _ _ _ _ _ _ e).0 ∙ ap (network.name_of net) from in

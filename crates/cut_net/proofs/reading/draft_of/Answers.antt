@@ -18,7 +18,8 @@ returns-in-Err-clause-fault c =
     let (count, lines, spelled, draft) = c.loop-piece.invariant in
     let front : Spell (take (length c.loop-piece.yielded) (pieces_of c.args.bytes.now)) lines = rw (← so_far) spelled in
     let there = slice_get_read (pieces_of c.args.bytes.now) _ (length c.loop-piece.yielded) c.in-Some.piece.now refl turn.0 turn.1 in
-    rw (c.at.ensures, count) (fault_is c.args.bytes.now (length c.loop-piece.yielded) lines c.in-Some.piece.now c.in-Err.fault c.loop-piece.draft c.take.new.self front draft there (c.in-Err.ensures lines draft))
+    let next = ap (λ (n : ℕ). n + 1) count in
+    rw c.at.ensures (fault_is c.args.bytes.now (length c.loop-piece.yielded) _ lines c.in-Some.piece.now c.in-Err.fault c.loop-piece.draft c.take.new.self next front draft there (c.in-Err.ensures lines draft))
 
 pub loop-piece-preserved : goal.loop-piece-preserved
 loop-piece-preserved c =

@@ -1,9 +1,9 @@
 use Rattle.std.proofs.Common.{◌≡◌, ◌<◌, ◌∙◌, length, get_or, arith}
 use Rattle.std.proofs.lemmas.List.{get_or_default}
 use Rattle.std.proofs.lemmas.List.Elements.{Contains-get_or}
+use Rattle.digraph.proofs.Trails.{trails_more}
 use Rattle.cut_net.specs.Network.{none_there}
 use Rattle.cut_part.specs.Narrowing.{import_in}
-use Rattle.cut_part.proofs.Reaching.{trails_more}
 use Rattle.cut_part.proofs.reach.trails_of.Goals as goal
 
 pub index-requires : goal.index-requires
@@ -33,4 +33,4 @@ loop-number-preserved c =
     let size = c.loop-number.invariant.size in
     let in_last : (import_in imports k).from < length last = omega arith in
     let was : c.index.result.now ≡ get_or last (import_in imports k).from 0 = c.index.ensures ∙ get_or_default last (import_in imports k).from c.index.result.now 0 in_last in
-    rw (c.in_ok-push.ensures.items, was) (trails_more imports c.args.modules k last c.loop-number.before.items low c.loop-number.invariant)
+    rw (c.in_ok-push.ensures.items, was) (trails_more (λ j. (import_in imports j).from) c.args.modules k last c.loop-number.before.items low c.loop-number.invariant)

@@ -1,4 +1,4 @@
-use Rattle.std.proofs.Common.{refl, sym}
+use Rattle.std.proofs.Common.{sym}
 use Rattle.cut_report.specs.Lines.{line_seen}
 use Rattle.cut_report.proofs.LineLaws.{line_there}
 use Rattle.cut_report.proofs.line.first_line.Goals as goal

@@ -1,7 +1,7 @@
 use Rattle.std.proofs.Common.{◌+◌, ◌∙◌, ℕ, sym, ap, arith}
 use Rattle.std.proofs.lemmas.Result.{err_from_is_err_and}
 use Rattle.cut_report.specs.Drafts.{read_so_far_of}
-use Rattle.cut_report.proofs.TextSteps.{cut_length, fails, goes_on, rest_is}
+use Rattle.cut_report.proofs.TextSteps.{cut_length, fails, goes_on, told_at_end}
 use Rattle.cut_report.proofs.reader.read_lines.Goals as goal
 
 pub loop-line-preserved : goal.loop-line-preserved
@@ -19,13 +19,14 @@ loop-line-smaller c =
     let (text, e, said) = c.in-Some.ensures.line in
     omega (arith, cut_length c.loop-line.rest.now text c.in-Some.after.now e)
 
-pub returns-in_err-draft-clause-exact : goal.returns-in_err-draft-clause-exact
-returns-in_err-draft-clause-exact c =
+pub returns-in_err-draft : goal.returns-in_err-draft
+returns-in_err-draft c =
     let (text, e, said) = c.in-Some.ensures.line in
     let p = err_from_is_err_and c.from_residual.result c.from_residual.ensures.1 in
     rw (p.1, p.2) (fails c.args.net.now c.args.bytes.now (read_so_far_of c.loop-line.draft) c.loop-line.rest.now text c.in-Some.after.now (c.loop-line.before + 1) c.in_err-draft.field-0.0 c.requires c.loop-line.invariant.front e
     (ap (λ (n : ℕ). n + 1) c.loop-line.invariant.count) (c.in_err-draft.ensures text said))
 
-pub returns-clause-exact : goal.returns-clause-exact
-returns-clause-exact c =
-    rw (c.finish.ensures, c.loop-line.invariant.count) (rest_is c.args.net.now c.args.bytes.now (read_so_far_of c.loop-line.draft) c.loop-line.rest.now c.requires c.loop-line.invariant.front c.in_default.ensures.none)
+pub returns : goal.returns
+returns c =
+    told_at_end c.args.net.now c.args.bytes.now (read_so_far_of c.loop-line.draft) c.loop-line.before c.loop-line.rest.now c.finish.result c.requires c.loop-line.invariant.front c.in_default.ensures.none c.loop-line.invariant.count
+    c.finish.ensures.report c.finish.ensures.fault

@@ -2,7 +2,7 @@ use Rattle.std.proofs.Common.{◌≡◌, ◌<◌, ◌∙◌, length, get_or, ari
 use Rattle.std.proofs.lemmas.List.{get_or_default}
 use Rattle.std.proofs.lemmas.List.Elements.{Contains-get_or}
 use Rattle.digraph.specs.Marks.{edge_at, none_there}
-use Rattle.digraph.proofs.Arriving.{arrivals_more}
+use Rattle.digraph.proofs.Trails.{trails_more}
 use Rattle.digraph.proofs.arrivals.arrivals_of.Goals as goal
 
 pub index-requires : goal.index-requires
@@ -32,4 +32,4 @@ loop-number-preserved c =
     let size = c.loop-number.invariant.size in
     let in_last : (edge_at edges k).to < length last = omega arith in
     let was : c.index.result.now ≡ get_or last (edge_at edges k).to 0 = c.index.ensures ∙ get_or_default last (edge_at edges k).to c.index.result.now 0 in_last in
-    rw (c.in_ok-push.ensures.items, was) (arrivals_more edges c.args.nodes k last c.loop-number.before.items low c.loop-number.invariant)
+    rw (c.in_ok-push.ensures.items, was) (trails_more (λ j. (edge_at edges j).to) c.args.nodes k last c.loop-number.before.items low c.loop-number.invariant)

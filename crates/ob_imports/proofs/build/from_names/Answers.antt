@@ -1,11 +1,11 @@
 -- The graph that files keep, or their cycle.
-use Rattle.std.proofs.Common.{◌≡◌, length, subst, arith}
+use Rattle.std.proofs.Common.{length, subst, arith}
 use Rattle.std.specs.String.{string_bytes}
 use Rattle.std.proofs.lemmas.List.{length-map}
 use Rattle.digraph.specs.Chains.{IsAcyclic}
 use Rattle.digraph.specs.Edges.{AreBetween, Leads}
 use Rattle.digraph.proofs.SameGraphs.{acyclic_as}
-use Rattle.ob_imports.specs.Files.{file_of, files_of, Imports}
+use Rattle.ob_imports.specs.Files.{files_of, Imports}
 use Rattle.ob_imports.specs.Graphs.{graph_with}
 use Rattle.ob_imports.specs.Names.{texts, LeadsBy}
 use Rattle.ob_imports.specs.Numbering.{AreLed}

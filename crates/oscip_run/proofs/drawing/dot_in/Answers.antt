@@ -19,7 +19,7 @@ draw-requires-clause-flow g c = flow_ascends c.args.net.now c.in_ok-report.repor
 pub returns-in_err-report-clause-run : goal.returns-in_err-report-clause-run
 returns-in_err-report-clause-run g c =
     let p = err_from_is_err_and c.from_residual.result c.from_residual.ensures.1 in
-    rw (p.1, p.2) (refused c.args.net.now _ _ _ c.in_err-report.ensures.of_text c.in_err-report.ensures.exact)
+    rw (p.1, p.2) (refused c.args.net.now _ _ _ c.in_err-report.ensures.exact)
 
 pub returns-in_err-draw-clause-run : goal.returns-in_err-draw-clause-run
 returns-in_err-draw-clause-run g c =

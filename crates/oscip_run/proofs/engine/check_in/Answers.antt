@@ -7,7 +7,7 @@ use Rattle.oscip_run.proofs.engine.check_in.Goals as goal
 pub returns-in_err-report-clause-run : goal.returns-in_err-report-clause-run
 returns-in_err-report-clause-run g c =
     let p = err_from_is_err_and c.from_residual.result c.from_residual.ensures.1 in
-    rw (p.1, p.2) (refused_report (IsThis c.args.net.now) IsNeverRefused _ _ c.args.net.now refl _ c.in_err-report.ensures.of_text c.in_err-report.ensures.exact)
+    rw (p.1, p.2) (refused_report (IsThis c.args.net.now) IsNeverRefused _ _ c.args.net.now refl _ c.in_err-report.ensures.exact)
 
 pub returns-in_err-put_all-clause-run : goal.returns-in_err-put_all-clause-run
 returns-in_err-put_all-clause-run g c =

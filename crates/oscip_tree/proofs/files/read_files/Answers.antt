@@ -1,10 +1,7 @@
-use Rattle.std.proofs.Common.{◌≡◌, ◌∷◌, [], List, length, sym, ap, ◌∙◌, subst, arith, rules}
-use Rattle.std.specs.Prelude.{Result, Vec}
+use Rattle.std.proofs.Common.{◌≡◌, ◌∷◌, [], length, sym, ap, ◌∙◌, arith, rules}
 use Rattle.std.specs.Vec.Iter.{into_iter_items}
-use Rattle.std.specs.declared.alloc.Global.{Global}
 use Rattle.std.proofs.lemmas.Result.{err_from_is_err_and}
-use Rattle.oscip_tree.specs.declared.tree_fault.TreeFault.{TreeFault}
-use Rattle.oscip_tree.proofs.ReadFiles.{all_pieces, before_pieces, fault_of_piece, next_piece, nothing_left, of_tree, AreReadBefore}
+use Rattle.oscip_tree.proofs.ReadFiles.{all_pieces, before_pieces, fault_of_piece, next_piece, nothing_left, of_tree}
 use Rattle.oscip_tree.proofs.files.read_files.Goals as goal
 
 pub loop-answer-init : goal.loop-answer-init

@@ -1,4 +1,4 @@
-use Rattle.std.proofs.Common.{ℕ, List, sym, subst}
+use Rattle.std.proofs.Common.{ℕ, List, subst}
 use Rattle.ob_decls.specs.Declaring.{rows_in}
 use Rattle.ob_decls.specs.Parts.{Rows}
 use Rattle.ob_scan.specs.declared.token.Token.{Token}

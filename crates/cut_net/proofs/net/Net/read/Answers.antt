@@ -1,6 +1,5 @@
-use Rattle.cut_net.specs.NetReading.{outcome_of}
 use Rattle.cut_net.proofs.OneNetReading.{only_said}
 use Rattle.cut_net.proofs.net.Net.read.Goals as goal
 
 pub returns-clause-only : goal.returns-clause-only
-returns-clause-only c = only_said c.args.bytes.now (outcome_of c.net_in.result) c.net_in.ensures
+returns-clause-only c = only_said c.args.bytes.now c.net_in.result c.net_in.ensures
