@@ -2,22 +2,26 @@
 
 gate.py COPY [run]              runs .ci/run and prints what it cost; what an earlier run on this machine passed is proved by it no more
 gate.py COPY crates [CRATE ..]  prints for each crate, or for those that are named, what its proof from nothing cost, with its tests
-                                (rt verdict, in a copy of its own), and then its edits (.ci/edits, with a look at what is built below)
+                                (rt verdict), and then its edits (.ci/edits, with a look at what is built below)
 gate.py COPY slow CRATE         prints the ten functions of a crate that take longest, by the times at which rt check, with one job,
                                 prints that each is checked; one that a check on this machine has checked before takes no time
 
-The libraries below a crate are built first, and not counted.
+The libraries below a crate are built first, and not counted. As many crates are timed at once as there are processors, or as JOBS says,
+each in a copy of its own.
 """
 import os
+import queue
 import re
+import shutil
 import subprocess
 import sys
 import tempfile
 import time
+from concurrent.futures import ThreadPoolExecutor
 
 sys.dont_write_bytecode = True
 sys.path.insert(0, f"{os.path.dirname(os.path.realpath(__file__))}/../.ci")
-from crates import copy_of, crates_of, lines_in
+from crates import copy_of, crates_of, lines_in, processors
 
 
 def timed(folder, *words):
@@ -45,7 +49,6 @@ def edits_in(folder):
 
 def row_of(copy, name):
     """A crate's row, and the processor seconds of its proof and of its edits."""
-    timed(copy, ".ci/build", name)
     with tempfile.TemporaryDirectory(dir=copy) as own:
         said, proof, wall = timed(copy_of(copy, crates_of(copy), name, own), "rt", "verdict")
     functions = re.search(r"functions=(\d+)", said)
@@ -60,14 +63,41 @@ def row_of(copy, name):
     return row, proof, tried
 
 
+def copies_of(copy, lanes):
+    """The copy, and as many more as make so many lanes, with the libraries that are built there."""
+    found = queue.Queue()
+    found.put(copy)
+    for lane in range(1, lanes):
+        other = f"{copy}.{lane}"
+        shutil.copytree(copy, other, ignore=shutil.ignore_patterns("out"))
+        for name in crates_of(copy):
+            built = f"{copy}/crates/{name}/out/rlib"
+            if os.path.isdir(built):
+                os.makedirs(f"{other}/crates/{name}/out")
+                subprocess.run(["cp", "-al", built, f"{other}/crates/{name}/out"], check=True)
+        found.put(other)
+    return found
+
+
 def crates(copy, *wanted):
+    names = wanted or [*crates_of(copy)]
+    timed(copy, ".ci/build", *names)
+    copies = copies_of(copy, int(os.environ.get("JOBS", processors())))
+
+    def work(name):
+        own = copies.get()
+        try:
+            return row_of(own, name)
+        finally:
+            copies.put(own)
+
     print("| Crate | Functions | Lines of code | of definitions and proofs | Proof and tests, processor | wall | Edits | processor | wall |")
     print("|" + "---|" * 9)
     proofs = edits = 0
-    for name in wanted or crates_of(copy):
-        row, proof, tried = row_of(copy, name)
-        proofs, edits = proofs + proof, edits + tried
-        print(row, flush=True)
+    with ThreadPoolExecutor(copies.qsize()) as pool:
+        for row, proof, tried in pool.map(work, names):
+            proofs, edits = proofs + proof, edits + tried
+            print(row, flush=True)
     print(f"\nall: {proofs / 60:.0f} minutes of processor time for proofs and tests, {edits / 60:.0f} for edits")
 
 

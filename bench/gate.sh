@@ -4,6 +4,6 @@
 set -eu
 cd "$(dirname "$0")/.."
 copy=$(mktemp -d)
-trap 'rm -rf "$copy"' EXIT
+trap 'rm -rf "$copy" "$copy".*' EXIT
 git ls-files -z | xargs -0 cp --parents -t "$copy"
 python3 bench/gate.py "$copy" "$@"
