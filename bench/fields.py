@@ -6,12 +6,16 @@
 #   both       uses of one field behind so many bases, each by a renaming
 #   records    uses of one field, each of another record in a chain of so many bases
 #   names      uses of as many fields, all behind so many bases
+#   round      uses of as many names that no record has, at so many bases that come back to one another
 import sys
 
 shape, uses, length = sys.argv[1], int(sys.argv[2]), int(sys.argv[3])
-names = [f"f{i}" for i in range(uses)] if shape == "names" else ["f"]
+names = [f"f{i}" for i in range(uses)] if shape in ("names", "round") else ["f"]
 print("MODULE Fields;\nTYPE")
-print(f"  T0 = RECORD {', '.join(names)}: INTEGER END;")
+if shape == "round":
+    print(f"  P = POINTER TO T{length};\n  T0 = RECORD (P) g0: INTEGER END;")
+else:
+    print(f"  T0 = RECORD {', '.join(names)}: INTEGER END;")
 for i in range(1, length + 1):
     last = f"T{i - 1}"
     if shape == "renamings":

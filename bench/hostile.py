@@ -3,9 +3,10 @@
 
 Each run has to end with a status that is documented, and with one line where it refuses. Of the harmful input it tells the memory that
 the program takes beyond what it takes for its help, over the bytes, the processor seconds, and the time at twice the bytes over that at
-once, each time the least of three. Where valgrind is there, it counts the instructions of some more inputs. Then it tells the times of
-numbers of many bytes in an index over those of as many bytes in numbers of one byte. Last it gives the program an address space that is
-just enough: there it has to answer, or to tell want of memory, within some seconds.
+once, each time the least of three. Where valgrind is there, it counts the instructions of some more inputs, and of uses of fields those
+at twice the bytes over those at once. Then it tells the times of numbers of many bytes in an index over those of as many bytes in numbers
+of one byte. Last it gives the program an address space that is just enough: there it has to answer, or to tell want of memory, within
+some seconds.
 
 Each row ends with what is wrong, as more than it may take, or with `ok`. The status is 1 where something is wrong.
 
@@ -80,6 +81,11 @@ def variables(first, names):
 def behind_a_base(names):
     """A module that uses these names, which no record has, behind a record with a base."""
     return b"MODULE M; TYPE B = RECORD END; R = RECORD (B) END; VAR v: R; BEGIN " + b"; ".join(b"v.%s := 1" % it for it in names) + b" END M."
+
+
+def fields(shape, uses, length):
+    """A module in which so many uses of fields stand behind so many bases."""
+    return subprocess.run([sys.executable, f"{HERE}/fields.py", shape, str(uses), str(length)], check=True, stdout=subprocess.PIPE).stdout
 
 
 def definition(records):
@@ -205,6 +211,7 @@ HARMFUL = [
             "dimensions": (55, lambda k: b"MODULE M; TYPE T = ARRAY " + many(1_300_000) * k * b"1, " + b"1 OF SET; END M."),
             "names that fall together behind one that is declared twice": (20, lambda k: variables(b"a, a: SET; ", colliding(40_000, 16)[: 20_000 * k])),
             "names that fall together and that no record has": (40, lambda k: behind_a_base(colliding(40_000, 16)[: 20_000 * k])),
+            "fields behind bases": (60, lambda k: fields("names", many(50_000) * k, many(20_000) * k)),
         },
     ),
     (
@@ -279,6 +286,20 @@ COUNTED = [
 ]
 
 
+# The file, the command, and for each input its text, of which there is once or twice as much, and the most times that the instructions
+# may grow.
+GROWN = [
+    (
+        "m/M.Mod",
+        ["unresolved", "m"],
+        {
+            "uses of 20,000 fields behind 8,000 bases": (lambda k: fields("names", many(20_000) * k, many(8_000) * k), 2.2),
+            "uses of 20,000 names that no record has, at 8,000 bases that come back": (lambda k: fields("round", many(20_000) * k, many(8_000) * k), 2.2),
+        },
+    ),
+]
+
+
 def instructions(words, folder):
     """The instructions of a run, by valgrind."""
     ran = subprocess.run(["valgrind", "--tool=callgrind", "--callgrind-out-file=/dev/null", *words], cwd=folder, stdin=subprocess.DEVNULL, capture_output=True)
@@ -301,6 +322,23 @@ def counted(program, folder):
             size = os.path.getsize(at)
             each = (instructions([program, *words], folder) - none) / size
             wrong += row(name, ["too many instructions"] if each > most else [], f"{size:,}", f"{each:.1f}", str(most))
+    return wrong
+
+
+def grown(program, folder):
+    """Counts the instructions at twice the bytes over those at once, and returns how much is wrong."""
+    if not shutil.which("valgrind"):
+        return 0
+    wrong = 0
+    head("Input", "Bytes", "Instructions at twice the bytes", "at most")
+    for path, words, inputs in GROWN:
+        for name, (text, most) in inputs.items():
+            took = []
+            for times in (1, 2):
+                write(f"{folder}/{path}", lambda: text(times))
+                took.append(instructions([program, *words], folder))
+            ratio = took[1] / took[0]
+            wrong += row(name, ["too many instructions"] if ratio > most else [], f"{os.path.getsize(f'{folder}/{path}'):,}", f"{ratio:.2f}", str(most))
     return wrong
 
 
@@ -404,7 +442,7 @@ def main(program=f"{HERE}/../crates/oscip/out/oscip", runs="500"):
     try:
         path = os.path.realpath(program)
         subprocess.run(["cc", "-O1", "-o", f"{folder}/peak", f"{HERE}/peak.c"], check=True)
-        wrong = changing(path, folder, int(runs)) + harmful(path, folder) + counted(path, folder) + beside(path, folder) + bound(path, folder)
+        wrong = changing(path, folder, int(runs)) + harmful(path, folder) + counted(path, folder) + grown(path, folder) + beside(path, folder) + bound(path, folder)
     finally:
         shutil.rmtree(folder)
     print(f"{wrong} wrong")

@@ -1,5 +1,5 @@
 -- Chains of pins, by their neighbours.
-use Rattle.std.proofs.Common.{◌≡◌, ℕ, zero, suc, ◌+◌, ◌-◌, ◌<◌, Bool, true, false, ◌&&◌, List, [], ◌∷◌, length, get_or, sym, ap, ap₂, ◌∙◌, subst, arith, ◌⊎◌, inl, inr}
+use Rattle.std.proofs.Common.{◌≡◌, ℕ, zero, suc, ◌+◌, ◌-◌, ◌<◌, Bool, true, ◌&&◌, List, [], ◌∷◌, length, get_or, sym, ap, ap₂, ◌∙◌, subst, arith, ◌⊎◌, inl, inr}
 use Rattle.std.specs.Prelude.{◌==◌, Contains, find, is_some}
 use Rattle.std.proofs.lemmas.Bool.{both_ways, cases_Bool, cases_eq}
 use Rattle.std.proofs.lemmas.List.Elements.{All-contains}
@@ -10,7 +10,7 @@ use Rattle.cut_net.specs.Lines.{IsImport}
 use Rattle.cut_net.specs.Pins.{is_pinned, ArePins, ByPin, IsPinChain, PinChain}
 use Rattle.cut_net.proofs.Ends.{same_from}
 use Rattle.cut_net.proofs.ListSums.{here, there}
-use Rattle.cut_check.specs.Verdicts.{AreChainEnds, IsFirstUnpinned, IsPinnedAt}
+use Rattle.cut_check.specs.Verdicts.{AreChainEnds, IsPinnedAt}
 
 found_member : (p : Priced → Bool) (xs : List Priced) → is_some (find p xs) ≡ true → (x : Priced) × Contains xs x × (p x ≡ true)
 found_member p [] e = absurd cc
@@ -31,9 +31,6 @@ from_pin net pins pair t =
     let from_is = ef ∙ sym ends.from in
     let to_is = et ∙ sym ends.to in
     (i, c, from_is, to_is, pinned_by_ends net i pair from_is to_is ∙ t)
-
-pub to_pin : (net : Network) (pair : Priced) → Imports net.imports (ByPin net) pair.from pair.to → is_pinned net pair ≡ true
-to_pin net pair (i, c, ef, et, t) = sym (pinned_by_ends net i pair ef et) ∙ t
 
 -- whether an allowed import leads from the one module to the other
 import_at : (x : Priced) (xs : List Priced) (Allowed : Priced → Type 0) (m n : ℕ) (i : Priced) (k : ℕ) → k < length (x ∷ xs) → get_or (x ∷ xs) k i ≡ i →
@@ -102,19 +99,6 @@ module _ (net : Network) where
   pub pinned_of : (a b : ℕ) (chain : List ℕ) → IsPinChain net a b chain → ArePinned net chain
   pinned_of a b [] h = absurd h
   pinned_of a b (m ∷ more) h = chain_pinned m more b h.1
-
-  pub first_at : (chain : List ℕ) (k : ℕ) (pair : Priced) → 0 < k → k < length chain → pair.from ≡ get_or chain (k - 1) 0 → pair.to ≡ get_or chain k 0 →
-      ((j : ℕ) → j + 1 < k → IsPinnedAt net chain j) → is_pinned net pair ≡ false → IsFirstUnpinned net chain pair.from pair.to
-  first_at chain k pair above in_chain ef et before free =
-      let behind : k - 1 + 1 ≡ k = omega arith in
-      let to_is : get_or chain (k - 1 + 1) 0 ≡ pair.to = ap (λ n. get_or chain n 0) behind ∙ sym et in
-      record {
-        place = k - 1;
-        within = omega arith;
-        ends = (sym ef, to_is);
-        unpinned = λ (i, c, from_is, goes_to, t). both_ways _ free (to_pin net pair (i, c, from_is ∙ sym ef, goes_to ∙ to_is, t));
-        before = λ j lt. before j (omega arith);
-      }
 
   pub pinned_next : ArePins net → (chain : List ℕ) (k : ℕ) (pair : Priced) → 0 < k → pair.from ≡ get_or chain (k - 1) 0 → pair.to ≡ get_or chain k 0 → is_pinned net pair ≡ true →
       ((j : ℕ) → j + 1 < k → IsPinnedAt net chain j) → (j : ℕ) → j + 1 < k + 1 → IsPinnedAt net chain j

@@ -73,10 +73,6 @@ first_pieces text piece rest e = ap pieces_of (cut_takes 10 text (piece, rest) e
 last_piece : (text : List ℕ) → cut_at 10 text ≡ None → pieces_of text ≡ text ∷ []
 last_piece text e = slice_split_none (λ b. eqb b 10) text (no_end text (none_without text e))
 
--- a line end with nothing before it
-pub end_goes_on : (text rest : List ℕ) (before : List NetLine) (list : LineList) → text ≡ 10 ∷ rest → IsList before list → GoesOn text rest before list
-end_goes_on text rest before list is h = ([], [], refl, inl (ap pieces_of is ∙ pieces_step [] rest refl), subst (λ (lines : List NetLine). IsList lines list) (sym (append-nil before)) h)
-
 -- a line that is read straight on
 pub line_goes_on : (text rest : List ℕ) (before : List NetLine) (l : NetLine) (list : LineList) → IsNetLine l → text ≡ net_line l ++ 10 ∷ rest → IsList (before ++ l ∷ []) list → GoesOn text rest before list
 line_goes_on text rest before l list good is h = (net_line l, l ∷ [], rw (written l) refl, inl (line_pieces text rest l good is), h)

@@ -1,6 +1,5 @@
 -- The network of a text.
 use Rattle.std.proofs.Common.{◌≡◌, ℕ, ◌^◌, ◌<◌, ◌≤◌, true, List, length, get_or, inl, inr, subst}
-use Rattle.std.specs.Prelude.{All}
 use Rattle.std.proofs.lemmas.List.Elements.{All-contains, Contains-get_or}
 use Rattle.texts.specs.Fields.{is_name}
 use Rattle.cut_net.specs.Network.{Network}
@@ -38,6 +37,3 @@ keeps_all bytes net text few_names few_imports fits acyclic = record {
 
 pub between_as : (imports : List Priced) (a b : ℕ) → a ≡ b → AreBetween imports a → AreBetween imports b
 between_as imports a b e h = subst (AreBetween imports) e h
-
-pub within_as : (nodes : List ℕ) (a b : ℕ) → a ≡ b → All (λ m. m < a) nodes → All (λ m. m < b) nodes
-within_as nodes a b e h = subst (λ (n : ℕ). All (λ m. m < n) nodes) e h

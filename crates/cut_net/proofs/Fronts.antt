@@ -1,11 +1,9 @@
 -- The lines so far, and the fault of the next piece.
-use Rattle.std.proofs.Common.{◌≡◌, ℕ, ◌+◌, ◌≤◌, List, [], ◌∷◌, ◌++◌, length, take, map, Option, Some, Err, sym, ap, ◌∙◌, arith}
-use Rattle.std.specs.Prelude.{filter, slice_get, count_by}
-use Rattle.std.proofs.lemmas.List.{map-append, map_push}
-use Rattle.std.proofs.lemmas.List.Elements.{filter-append}
+use Rattle.std.proofs.Common.{◌≡◌, ℕ, ◌+◌, ◌≤◌, List, length, take, Option, Some, Err, sym, ap, ◌∙◌, arith}
+use Rattle.std.specs.Prelude.{slice_get, count_by}
 use Rattle.std.proofs.lemmas.List.Sums.{length-filter}
 use Rattle.std.proofs.lemmas.List.{length-map}
-use Rattle.cut_net.specs.NetText.{NetLine, net_line, is_import, is_nonempty, pieces_of, AreGood, IsNetOutcome, Spell, UnlessMemory}
+use Rattle.cut_net.specs.NetText.{NetLine, is_import, pieces_of, AreGood, IsNetOutcome, Spell, UnlessMemory}
 use Rattle.cut_net.specs.NetReading.{entry_line, net_fault_in_line, AreTablesOf, IsDraft, TakesPiece}
 use Rattle.cut_net.specs.declared.draft.NetDraft.{NetDraft}
 use Rattle.cut_net.specs.declared.draft.NetLineFault.{NetLineFault}
@@ -23,13 +21,6 @@ good_lines lines names es h =
       apart = h.apart;
       few = record { names = names; are_names = h.are_names; few_names = h.few_names; few_imports = count };
     }
-
-pub spell_more : (pieces : List (List ℕ)) (piece : List ℕ) (lines more : List NetLine) → Spell pieces lines → Spell (piece ∷ []) more → Spell (pieces ++ piece ∷ []) (lines ++ more)
-spell_more pieces piece lines more h g =
-    filter-append is_nonempty pieces (piece ∷ []) ∙ ap (λ (t : List (List ℕ)). t ++ filter is_nonempty (piece ∷ [])) h ∙ ap (λ (t : List (List ℕ)). map net_line lines ++ t) g ∙ sym (map-append net_line lines more)
-
-pub spell_next : {A : Type 0} (v : A → List ℕ) (items : List A) (item : A) (lines more : List NetLine) → Spell (map v items) lines → Spell (v item ∷ []) more → Spell (map v (items ++ item ∷ [])) (lines ++ more)
-spell_next v items item lines more h g = rw (map_push v items item) (spell_more (map v items) (v item) lines more h g)
 
 pub fault_is : (bytes : List ℕ) (k number : ℕ) (before : List NetLine) (piece : List ℕ) (e : NetLineFault) (old new : NetDraft) → number ≡ k + 1 → Spell (take k (pieces_of bytes)) before → IsDraft before old
     → slice_get (pieces_of bytes) k ≡ Some piece → TakesPiece before piece (Err e) new

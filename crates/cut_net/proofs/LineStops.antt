@@ -1,11 +1,23 @@
 -- Where the lines of a text stop being good: lines of any form, whose spelling is of one line.
-use Rattle.std.proofs.Common.{◌≡◌, ℕ, ◌<◌, inl, inr, List, [], ◌∷◌, ◌++◌, refl, sym, ◌∙◌, ap, subst, arith, true, Some, take, drop, map, append_assoc}
+use Rattle.std.proofs.Common.{◌≡◌, ℕ, ◌+◌, ◌<◌, inl, inr, List, [], ◌∷◌, ◌++◌, refl, sym, ◌∙◌, ap, subst, arith, true, Some, take, drop, map, append_assoc}
 use Rattle.std.specs.Prelude.{All, filter, slice_get}
 use Rattle.std.proofs.lemmas.Bool.{cases_order}
-use Rattle.std.proofs.lemmas.List.{append-nil, take-append-drop}
-use Rattle.std.proofs.lemmas.List.Elements.{All-head, All-tail, filter-append}
+use Rattle.std.proofs.lemmas.List.{append-nil, map-append, map_push, take-append-drop}
+use Rattle.std.proofs.lemmas.List.Elements.{All-contains, All-head, All-tail, Contains-push, filter-append}
+use Rattle.texts.proofs.FieldCuts.{some_is}
 use Rattle.cut_net.specs.NetText.{is_nonempty}
 use Rattle.cut_net.proofs.ListFronts.{cons_parts, get_in, rest_at, take_in}
+
+module _ {L : Type 0} (spelled_of : L → List ℕ) where
+  pub spell_more : (pieces : List (List ℕ)) (piece : List ℕ) (lines more : List L) → filter is_nonempty pieces ≡ map spelled_of lines → filter is_nonempty (piece ∷ []) ≡ map spelled_of more →
+      filter is_nonempty (pieces ++ piece ∷ []) ≡ map spelled_of (lines ++ more)
+  spell_more pieces piece lines more h g =
+      filter-append is_nonempty pieces (piece ∷ []) ∙ ap (λ (t : List (List ℕ)). t ++ filter is_nonempty (piece ∷ [])) h
+      ∙ ap (λ (t : List (List ℕ)). map spelled_of lines ++ t) g ∙ sym (map-append spelled_of lines more)
+
+  pub spell_next : {A : Type 0} (v : A → List ℕ) (items : List A) (item : A) (lines more : List L) → filter is_nonempty (map v items) ≡ map spelled_of lines →
+      filter is_nonempty (v item ∷ []) ≡ map spelled_of more → filter is_nonempty (map v (items ++ item ∷ [])) ≡ map spelled_of (lines ++ more)
+  spell_next v items item lines more h g = rw (map_push v items item) (spell_more (map v items) (v item) lines more h g)
 
 module _ {L : Type 0} (spelled_of : L → List ℕ) (IsLine : L → Type 0) (once : (l k : L) → IsLine l → IsLine k → spelled_of l ≡ spelled_of k → l ≡ k) where
   -- the pieces that aren't empty are these lines
@@ -107,3 +119,47 @@ module _ {L : Type 0} (spelled_of : L → List ℕ) (IsLine : L → Type 0) (onc
         | inr gt ↦ absurd (not_before pieces k j t s gt)
       ]
     ]
+
+    -- the numbers of one place are one
+    pub same_number : (pieces : List (List ℕ)) (l m j k : ℕ) → l ≡ j + 1 → m ≡ k + 1 → StopsAt pieces j → StopsAt pieces k → l ≡ m
+    same_number pieces l m j k e f s t = let same : j ≡ k = one_stop pieces j k s t in omega arith
+
+    module _ (pieces : List (List ℕ)) (k : ℕ) (before : List L) (spelled : Spelled (take k pieces) before) (good : Good before) where
+      same_line : (line other : L) → IsLine other → spelled_of line ≡ spelled_of other → Good (before ++ line ∷ []) → line ≡ other
+      same_line line other form e more = once line other (All-contains IsLine (before ++ line ∷ []) line (each (before ++ line ∷ []) more) (Contains-push before line)) form e
+
+      -- they stop at a piece that no line spells
+      pub stops_at_piece : (piece : List ℕ) → slice_get pieces k ≡ Some piece → is_nonempty piece ≡ true → ((line : L) → IsLine line → spelled_of line ≡ piece → ⊥) → StopsAt pieces k
+      stops_at_piece piece there written wrong = record {
+        before = before;
+        piece = piece;
+        spelled = spelled;
+        good = good;
+        there = there;
+        written = written;
+        bad = λ line e more. wrong line (All-contains IsLine (before ++ line ∷ []) line (each (before ++ line ∷ []) more) (Contains-push before line)) e;
+      }
+
+      -- and at a line with which those before it are good no more
+      pub stops_at_line : (line : L) → slice_get pieces k ≡ Some (spelled_of line) → is_nonempty (spelled_of line) ≡ true → IsLine line → (Good (before ++ line ∷ []) → ⊥) → StopsAt pieces k
+      stops_at_line line there written form bad = record {
+        before = before;
+        piece = spelled_of line;
+        spelled = spelled;
+        good = good;
+        there = there;
+        written = written;
+        bad = λ other e more. bad (subst (λ (l : L). Good (before ++ l ∷ [])) (same_line other line form e more) more);
+      }
+
+    module _ (pieces : List (List ℕ)) (j k : ℕ) (s : StopsAt pieces j) (t : StopsAt pieces k) (line : L) (there : slice_get pieces k ≡ Some (spelled_of line)) (form : IsLine line) where
+      at_first : slice_get pieces j ≡ Some (spelled_of line)
+      at_first = subst (λ (n : ℕ). slice_get pieces n ≡ Some (spelled_of line)) (one_stop pieces k j t s) there
+
+      -- a piece that no line spells isn't one that was spelled
+      pub not_spelled : (piece : List ℕ) → slice_get pieces j ≡ Some piece → ((l : L) → IsLine l → spelled_of l ≡ piece → ⊥) → ⊥
+      not_spelled piece first wrong = wrong line form (some_is (spelled_of line) piece (sym at_first ∙ first))
+
+      -- the line is the one that was spelled
+      pub one_line : (other : L) → slice_get pieces j ≡ Some (spelled_of other) → IsLine other → line ≡ other
+      one_line other first well = once line other form well (some_is (spelled_of line) (spelled_of other) (sym at_first ∙ first))

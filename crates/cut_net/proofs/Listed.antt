@@ -77,9 +77,6 @@ module _ (lines : List NetLine) (names : List (List ℕ)) (imports : List Priced
     from_is : get_or more i [] ≡ m
     from_is = (let stays : get_or more i [] ≡ get_or middle i [] = rw ends.second (noted_kept middle n i ends.first_within) in stays ∙ ends.first_place)
 
-    new : Priced
-    new = record { from = i; to = j; amount = w }
-
     pub listed_import : IsNetLine (Import m n w) → length more ≤ 8192 → length imports + 1 ≤ 65536
         → AreListed (lines ++ Import m n w ∷ []) more (imports ++ (record { from = i; to = j; amount = w }) ∷ [])
     listed_import good few few_imports =

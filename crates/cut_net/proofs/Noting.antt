@@ -3,7 +3,7 @@ use Rattle.std.proofs.Common.{◌≡◌, ◌≢◌, ℕ, suc, zero, ◌<◌, Boo
 use Rattle.std.specs.Prelude.{◌⊎◌, AllPairs, Contains, IfNone, IfSome, Option, Some, None, find, is_some, option_map, replicate, slice_set}
 use Rattle.std.specs.Option.{option_or}
 use Rattle.std.proofs.lemmas.Bool.{and_from, and_parts, both_ways, cases_Bool, cases_order}
-use Rattle.std.proofs.lemmas.List.{append-nil, ext_get_or, get_or-map, get_or-set_other, get_or-set_same, get_or_append_left, get_or_push, get_or-replicate, length-map, length-replicate, length-set, length_push}
+use Rattle.std.proofs.lemmas.List.{ext_get_or, get_or-map, get_or-set_other, get_or-set_same, get_or_append_left, get_or_push, get_or-replicate, length-map, length-replicate, length-set, length_push}
 use Rattle.std.proofs.lemmas.List.Elements.{All-nil, All-push, Contains-get_or}
 use Rattle.std.proofs.lemmas.List.Folds.{find-append}
 use Rattle.std.proofs.lemmas.List.Quantifiers.{all_pairs_push}
@@ -76,9 +76,6 @@ number_found net m n a b (Some k) from to within found =
     (within, named_true net m n i (sym (index_takes net m a from).1 ∙ ap (name_of net) s.from) (sym (index_takes net n b to).1 ∙ ap (name_of net) s.to))
 
 -- no import has these names
-abbrev pub IsNamedBy : Network → List ℕ → List ℕ → Type 0
-IsNamedBy net m n = (i : Priced) × Contains net.imports i × (is_named net m n i ≡ true)
-
 module _ (net : Network) (is : IsNetwork net) (m n : List ℕ) where
   pub no_first : index_of net m ≡ None → (i : Priced) → Contains net.imports i → is_named net m n i ≡ true → ⊥
   no_first none i c e =
@@ -249,7 +246,3 @@ nothing_told net told n many none =
 -- a piece that is a line
 pub spelled_one : (line : PriceLine) (piece : List ℕ) → price_line line ≡ piece → SpellPrices (piece ∷ []) (line ∷ [])
 spelled_one line piece e = subst (λ (p : List ℕ). SpellPrices (p ∷ []) (line ∷ [])) e (rw (line_written line) refl)
-
-pub empty_piece : (net : Network) (lines : List PriceLine) (told : List (Option Change)) (piece : List ℕ) → length piece ≡ 0 → IsTold net lines told → (more : List PriceLine) × SpellPrices (piece ∷ []) more × IsTold net (lines ++ more) told
-empty_piece net lines told [] e h = ([], refl, rw (append-nil lines) h)
-empty_piece net lines told (_ ∷ _) e h = absurd (omega arith)

@@ -1,95 +1,57 @@
 -- A text of a network says one thing.
 use Rattle.std.proofs.Common.{◌≡◌, ℕ, ◌+◌, ◌<◌, ◌≤◌, ◌^◌, List, [], ◌∷◌, ◌++◌, refl, sym, ◌∙◌, ap, subst, arith, true, Some, Result, Ok, Err, take}
 use Rattle.std.specs.Prelude.{AllPairs, map, slice_get}
-use Rattle.std.proofs.lemmas.List.Elements.{All-contains, Contains-push}
 use Rattle.digraph.specs.Cycle.{NamesCycle}
 use Rattle.cut_net.specs.Network.{Network, name_of, texts}
 use Rattle.cut_net.specs.Cuts.{Any, Imports}
 use Rattle.cut_net.specs.WellFormed.{IsAcyclic, total_weight}
-use Rattle.cut_net.specs.NetText.{NetLine, Module, Import, net_line, IsNetLine, is_nonempty, pieces_of, AreOfTwoImports, AreFew, AreGood, IsBadLine, IsTwiceImport, IsTooMany, IsNetOf, NetText, IsOverflow, IsCycle, IsNetOutcome, NetRefusal, BadLine, TwiceImport, Cycle, WeightOverflow, TooMany, Tells}
+use Rattle.cut_net.specs.NetText.{NetLine, Module, Import, net_line, IsFront, IsNetLine, Spell, is_nonempty, pieces_of, AreOfTwoImports, AreGood, IsBadLine, IsTwiceImport, IsTooMany, IsNetOf, NetText, IsOverflow, IsCycle, IsNetOutcome, NetRefusal, BadLine, TwiceImport, Cycle, WeightOverflow, TooMany, Tells}
 use Rattle.cut_net.specs.declared.fault.NetFault.{NetFault}
 use Rattle.cut_net.specs.declared.fault.NetFault.TheVariants as faults
-use Rattle.texts.proofs.FieldCuts.{some_is}
 use Rattle.cut_net.proofs.NetLines.{line_once}
 use Rattle.digraph.proofs.OneCycle.{one_cycle, cyclic}
 use Rattle.cut_net.proofs.OneNetwork.{one_network}
-use Rattle.cut_net.proofs.Stops.{Stops, one_stop, no_stop, same_lines}
+use Rattle.cut_net.proofs.LineStops as stops
+use Rattle.cut_net.proofs.Stops.{Stops, each, good_front, one_stop, no_stop, same_lines}
 
 -- a line isn't empty
 line_written : (line : NetLine) → is_nonempty (net_line line) ≡ true
 line_written (Module m) = refl
 line_written (Import m n w) = refl
 
-last_good : (before : List NetLine) (line : NetLine) → AreGood (before ++ line ∷ []) → IsNetLine line
-last_good before line good = All-contains IsNetLine (before ++ line ∷ []) line good.each (Contains-push before line)
-
 bad_stops : (bytes : List ℕ) (k : ℕ) → IsBadLine bytes k → Stops (pieces_of bytes) k
-bad_stops bytes k b = record {
-  before = b.before;
-  piece = b.piece;
-  spelled = b.front.spelled;
-  good = b.front.good;
-  there = b.front.there;
-  written = b.written;
-  bad = λ line e good. b.wrong line (last_good b.before line good) e;
-}
+bad_stops bytes k b = stops.stops_at_piece net_line IsNetLine line_once AreGood each good_front (pieces_of bytes) k b.before b.front.spelled b.front.good b.piece b.front.there b.written b.wrong
 
--- the line is the one that was spelled
-same_line : (before : List NetLine) (line other : NetLine) → IsNetLine other → net_line line ≡ net_line other → AreGood (before ++ line ∷ []) → line ≡ other
-same_line before line other form e good = line_once line other (last_good before line good) form e
+stops_at : (bytes : List ℕ) (k : ℕ) (before : List NetLine) (line : NetLine) → IsFront bytes k before (net_line line) → IsNetLine line → (AreGood (before ++ line ∷ []) → ⊥) → Stops (pieces_of bytes) k
+stops_at bytes k before line front form bad = stops.stops_at_line net_line IsNetLine line_once AreGood each good_front (pieces_of bytes) k before front.spelled front.good line front.there (line_written line) form bad
 
 twice_stops : (bytes : List ℕ) (k : ℕ) → IsTwiceImport bytes k → Stops (pieces_of bytes) k
-twice_stops bytes k t = record {
-  before = t.before;
-  piece = net_line t.line;
-  spelled = t.front.spelled;
-  good = t.front.good;
-  there = t.front.there;
-  written = line_written t.line;
-  bad = λ line e good. t.twice (subst (λ (l : NetLine). AllPairs AreOfTwoImports (t.before ++ l ∷ [])) (same_line t.before line t.line t.form e good) good.apart);
-}
+twice_stops bytes k t = stops_at bytes k t.before t.line t.front t.form (λ good. t.twice good.apart)
 
 many_stops : (bytes : List ℕ) (k : ℕ) → IsTooMany bytes k → Stops (pieces_of bytes) k
-many_stops bytes k t = record {
-  before = t.before;
-  piece = net_line t.line;
-  spelled = t.front.spelled;
-  good = t.front.good;
-  there = t.front.there;
-  written = line_written t.line;
-  bad = λ line e good. t.many (subst (λ (l : NetLine). AreFew (t.before ++ l ∷ [])) (same_line t.before line t.line t.form e good) good.few);
-}
+many_stops bytes k t = stops_at bytes k t.before t.line t.front t.form (λ good. t.many good.few)
 
--- the numbers of one place are one
 same_number : (bytes : List ℕ) (l m j k : ℕ) → l ≡ j + 1 → m ≡ k + 1 → Stops (pieces_of bytes) j → Stops (pieces_of bytes) k → l ≡ m
-same_number bytes l m j k e f s t = let same : j ≡ k = one_stop (pieces_of bytes) j k s t in omega arith
+same_number bytes = stops.same_number net_line IsNetLine line_once AreGood each good_front (pieces_of bytes)
 
-same_piece : (bytes : List ℕ) (k : ℕ) (x y : List ℕ) → slice_get (pieces_of bytes) k ≡ Some x → slice_get (pieces_of bytes) k ≡ Some y → x ≡ y
-same_piece bytes k x y e f = some_is x y (sym e ∙ f)
+bad_not_spelled : (bytes : List ℕ) (j k : ℕ) → IsBadLine bytes j → Stops (pieces_of bytes) k → (line : NetLine) → slice_get (pieces_of bytes) k ≡ Some (net_line line) → IsNetLine line → ⊥
+bad_not_spelled bytes j k b t line there form =
+    stops.not_spelled net_line IsNetLine line_once AreGood each good_front (pieces_of bytes) j k (bad_stops bytes j b) t line there form b.piece b.front.there b.wrong
 
--- a piece that is no line isn't one that was spelled
 bad_not_twice : (bytes : List ℕ) (j k : ℕ) → IsBadLine bytes j → IsTwiceImport bytes k → ⊥
-bad_not_twice bytes j k b t =
-    let same : k ≡ j = one_stop (pieces_of bytes) k j (twice_stops bytes k t) (bad_stops bytes j b) in
-    let there = subst (λ (n : ℕ). slice_get (pieces_of bytes) n ≡ Some (net_line t.line)) same t.front.there in
-    b.wrong t.line t.form (same_piece bytes j (net_line t.line) b.piece there b.front.there)
+bad_not_twice bytes j k b t = bad_not_spelled bytes j k b (twice_stops bytes k t) t.line t.front.there t.form
 
 bad_not_many : (bytes : List ℕ) (j k : ℕ) → IsBadLine bytes j → IsTooMany bytes k → ⊥
-bad_not_many bytes j k b t =
-    let same : k ≡ j = one_stop (pieces_of bytes) k j (many_stops bytes k t) (bad_stops bytes j b) in
-    let there = subst (λ (n : ℕ). slice_get (pieces_of bytes) n ≡ Some (net_line t.line)) same t.front.there in
-    b.wrong t.line t.form (same_piece bytes j (net_line t.line) b.piece there b.front.there)
-
-twice_not_many_at : (bytes : List ℕ) (k : ℕ) → IsTwiceImport bytes k → IsTooMany bytes k → ⊥
-twice_not_many_at bytes k t m =
-    let before : m.before ≡ t.before = same_lines (take k (pieces_of bytes)) m.before t.before m.front.spelled t.front.spelled m.front.good.each t.front.good.each in
-    let line : m.line ≡ t.line = line_once m.line t.line m.form t.form (same_piece bytes k (net_line m.line) (net_line t.line) m.front.there t.front.there) in
-    t.twice (subst (λ (l : NetLine). AllPairs AreOfTwoImports (t.before ++ l ∷ [])) line (subst (λ (ls : List NetLine). AllPairs AreOfTwoImports (ls ++ m.line ∷ [])) before m.apart))
+bad_not_many bytes j k b t = bad_not_spelled bytes j k b (many_stops bytes k t) t.line t.front.there t.form
 
 twice_not_many : (bytes : List ℕ) (j k : ℕ) → IsTwiceImport bytes j → IsTooMany bytes k → ⊥
 twice_not_many bytes j k t m =
-    let same : k ≡ j = one_stop (pieces_of bytes) k j (many_stops bytes k m) (twice_stops bytes j t) in
-    twice_not_many_at bytes j t (subst (IsTooMany bytes) same m)
+    let s = twice_stops bytes j t in
+    let u = many_stops bytes k m in
+    let line : m.line ≡ t.line = stops.one_line net_line IsNetLine line_once AreGood each good_front (pieces_of bytes) j k s u m.line m.front.there m.form t.line t.front.there t.form in
+    let spelled = subst (λ (n : ℕ). Spell (take n (pieces_of bytes)) m.before) (one_stop (pieces_of bytes) k j u s) m.front.spelled in
+    let before : m.before ≡ t.before = same_lines (take j (pieces_of bytes)) m.before t.before spelled t.front.spelled m.front.good.each t.front.good.each in
+    t.twice (subst (λ (l : NetLine). AllPairs AreOfTwoImports (t.before ++ l ∷ [])) line (subst (λ (ls : List NetLine). AllPairs AreOfTwoImports (ls ++ m.line ∷ [])) before m.apart))
 
 -- good lines stop nowhere
 whole : (bytes : List ℕ) (net : Network) (k : ℕ) → NetText bytes net → Stops (pieces_of bytes) k → ⊥

@@ -1,17 +1,16 @@
 -- A text of prices says one thing of a network.
 use Rattle.std.proofs.Common.{◌≡◌, ℕ, ◌+◌, ◌<◌, ◌≤◌, List, [], ◌∷◌, ◌++◌, refl, sym, ◌∙◌, ap, subst, arith, Some, Result, Ok, Err}
-use Rattle.std.specs.Prelude.{All, AllPairs, slice_get}
+use Rattle.std.specs.Prelude.{All, slice_get}
 use Rattle.std.proofs.lemmas.List.Elements.{All-contains, Contains-push}
 use Rattle.cut_net.specs.Network.{Network}
 use Rattle.cut_net.specs.NetText.{pieces_of}
 use Rattle.cut_net.specs.Pins.{most_weight, unpinned_weight}
-use Rattle.cut_net.specs.Prices.{PriceLine, price_line, AreGoodPrices, AreOfTwo, IsBadPrice, IsNoImport, IsOfImport, IsPriced, IsPriceLine, IsPriceOutcome, IsTwicePrice, Tells, priced_by}
+use Rattle.cut_net.specs.Prices.{PriceLine, price_line, AreGoodPrices, AreOfTwo, IsBadPrice, IsNoImport, IsOfImport, IsPriced, IsPriceFront, IsPriceLine, IsPriceOutcome, IsTwicePrice, Tells, priced_by}
 use Rattle.cut_net.specs.declared.price_fault.PriceFault.{PriceFault}
 use Rattle.cut_net.specs.declared.price_fault.PriceFault.TheVariants.{BadLine, NoSuchImport, TwicePrice, PriceOverflow, Memory}
 use Rattle.cut_net.proofs.LineStops as stops
 use Rattle.cut_net.proofs.PriceLines.{line_once, line_written}
 use Rattle.cut_net.proofs.ListFronts.{all_front, pairs_front}
-use Rattle.texts.proofs.FieldCuts.{some_is}
 
 module _ (net : Network) where
   front : (xs ys : List PriceLine) → AreGoodPrices net (xs ++ ys) → AreGoodPrices net xs
@@ -27,73 +26,36 @@ module _ (net : Network) where
   abbrev StopsAt : List (List ℕ) → ℕ → Type 0
   StopsAt pieces k = stops.StopsAt price_line IsPriceLine line_once (AreGoodPrices net) each front pieces k
 
-  last_good : (before : List PriceLine) (line : PriceLine) → AreGoodPrices net (before ++ line ∷ []) → IsPriceLine line
-  last_good before line good = All-contains IsPriceLine (before ++ line ∷ []) line good.each (Contains-push before line)
-
-  same_line : (before : List PriceLine) (line other : PriceLine) → IsPriceLine other → price_line line ≡ price_line other → AreGoodPrices net (before ++ line ∷ []) → line ≡ other
-  same_line before line other form e good = line_once line other (last_good before line good) form e
-
   module _ (bytes : List ℕ) where
     bad_stops : (k : ℕ) → IsBadPrice net bytes k → StopsAt (pieces_of bytes) k
-    bad_stops k b = record {
-      before = b.before;
-      piece = b.piece;
-      spelled = b.front.spelled;
-      good = b.front.good;
-      there = b.front.there;
-      written = b.written;
-      bad = λ line e good. b.wrong line (last_good b.before line good) e;
-    }
+    bad_stops k b = stops.stops_at_piece price_line IsPriceLine line_once (AreGoodPrices net) each front (pieces_of bytes) k b.before b.front.spelled b.front.good b.piece b.front.there b.written b.wrong
+
+    stops_at : (k : ℕ) (before : List PriceLine) (line : PriceLine) → IsPriceFront net bytes k before (price_line line) → IsPriceLine line → (AreGoodPrices net (before ++ line ∷ []) → ⊥) → StopsAt (pieces_of bytes) k
+    stops_at k before line f form bad = stops.stops_at_line price_line IsPriceLine line_once (AreGoodPrices net) each front (pieces_of bytes) k before f.spelled f.good line f.there (line_written line) form bad
 
     no_import_stops : (k : ℕ) → IsNoImport net bytes k → StopsAt (pieces_of bytes) k
-    no_import_stops k n = record {
-      before = n.before;
-      piece = price_line n.line;
-      spelled = n.front.spelled;
-      good = n.front.good;
-      there = n.front.there;
-      written = line_written n.line;
-      bad = λ line e good. n.unknown (subst (IsOfImport net) (same_line n.before line n.line n.form e good)
-          (All-contains (IsOfImport net) (n.before ++ line ∷ []) line good.known (Contains-push n.before line)));
-    }
+    no_import_stops k n = stops_at k n.before n.line n.front n.form (λ good. n.unknown (All-contains (IsOfImport net) (n.before ++ n.line ∷ []) n.line good.known (Contains-push n.before n.line)))
 
     twice_stops : (k : ℕ) → IsTwicePrice net bytes k → StopsAt (pieces_of bytes) k
-    twice_stops k t = record {
-      before = t.before;
-      piece = price_line t.line;
-      spelled = t.front.spelled;
-      good = t.front.good;
-      there = t.front.there;
-      written = line_written t.line;
-      bad = λ line e good. t.twice (subst (λ (l : PriceLine). AllPairs AreOfTwo (t.before ++ l ∷ [])) (same_line t.before line t.line t.form e good) good.apart);
-    }
-
-    one_place : (j k : ℕ) → StopsAt (pieces_of bytes) j → StopsAt (pieces_of bytes) k → j ≡ k
-    one_place j k s t = stops.one_stop price_line IsPriceLine line_once (AreGoodPrices net) each front (pieces_of bytes) j k s t
+    twice_stops k t = stops_at k t.before t.line t.front t.form (λ good. t.twice good.apart)
 
     same_number : (l m j k : ℕ) → l ≡ j + 1 → m ≡ k + 1 → StopsAt (pieces_of bytes) j → StopsAt (pieces_of bytes) k → l ≡ m
-    same_number l m j k e f s t = let same : j ≡ k = one_place j k s t in omega arith
+    same_number = stops.same_number price_line IsPriceLine line_once (AreGoodPrices net) each front (pieces_of bytes)
 
-    same_piece : (k : ℕ) (x y : List ℕ) → slice_get (pieces_of bytes) k ≡ Some x → slice_get (pieces_of bytes) k ≡ Some y → x ≡ y
-    same_piece k x y e f = some_is x y (sym e ∙ f)
+    bad_not_spelled : (j k : ℕ) → IsBadPrice net bytes j → StopsAt (pieces_of bytes) k → (line : PriceLine) → slice_get (pieces_of bytes) k ≡ Some (price_line line) → IsPriceLine line → ⊥
+    bad_not_spelled j k b t line there form =
+        stops.not_spelled price_line IsPriceLine line_once (AreGoodPrices net) each front (pieces_of bytes) j k (bad_stops j b) t line there form b.piece b.front.there b.wrong
 
     bad_not_unknown : (j k : ℕ) → IsBadPrice net bytes j → IsNoImport net bytes k → ⊥
-    bad_not_unknown j k b n =
-        let same : k ≡ j = one_place k j (no_import_stops k n) (bad_stops j b) in
-        let there = subst (λ (p : ℕ). slice_get (pieces_of bytes) p ≡ Some (price_line n.line)) same n.front.there in
-        b.wrong n.line n.form (same_piece j (price_line n.line) b.piece there b.front.there)
+    bad_not_unknown j k b n = bad_not_spelled j k b (no_import_stops k n) n.line n.front.there n.form
 
     bad_not_twice : (j k : ℕ) → IsBadPrice net bytes j → IsTwicePrice net bytes k → ⊥
-    bad_not_twice j k b t =
-        let same : k ≡ j = one_place k j (twice_stops k t) (bad_stops j b) in
-        let there = subst (λ (p : ℕ). slice_get (pieces_of bytes) p ≡ Some (price_line t.line)) same t.front.there in
-        b.wrong t.line t.form (same_piece j (price_line t.line) b.piece there b.front.there)
+    bad_not_twice j k b t = bad_not_spelled j k b (twice_stops k t) t.line t.front.there t.form
 
     unknown_not_twice : (j k : ℕ) → IsNoImport net bytes j → IsTwicePrice net bytes k → ⊥
     unknown_not_twice j k n t =
-        let same : k ≡ j = one_place k j (twice_stops k t) (no_import_stops j n) in
-        let there = subst (λ (p : ℕ). slice_get (pieces_of bytes) p ≡ Some (price_line t.line)) same t.front.there in
-        let line : t.line ≡ n.line = line_once t.line n.line t.form n.form (same_piece j (price_line t.line) (price_line n.line) there n.front.there) in
+        let line : t.line ≡ n.line =
+        stops.one_line price_line IsPriceLine line_once (AreGoodPrices net) each front (pieces_of bytes) j k (no_import_stops j n) (twice_stops k t) t.line t.front.there t.form n.line n.front.there n.form in
         n.unknown (subst (IsOfImport net) line t.known)
 
     whole : (priced : Network) (k : ℕ) → IsPriced net bytes priced → StopsAt (pieces_of bytes) k → ⊥

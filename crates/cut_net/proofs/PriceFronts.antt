@@ -1,23 +1,14 @@
 -- The lines of prices so far, and the fault of the next piece.
-use Rattle.std.proofs.Common.{◌≡◌, ℕ, ◌+◌, List, [], ◌∷◌, ◌++◌, take, map, Option, Some, Err, sym, ap, ◌∙◌}
-use Rattle.std.specs.Prelude.{filter, slice_get}
-use Rattle.std.proofs.lemmas.List.{map-append, map_push}
-use Rattle.std.proofs.lemmas.List.Elements.{filter-append}
+use Rattle.std.proofs.Common.{◌≡◌, ℕ, ◌+◌, List, take, Option, Some, Err, sym, ap, ◌∙◌}
+use Rattle.std.specs.Prelude.{slice_get}
 use Rattle.texts.proofs.FieldCuts.{some}
 use Rattle.cut_net.specs.declared.price_fault.PriceLineFault.{PriceLineFault}
 use Rattle.cut_net.specs.declared.price_fault.PriceLineFault.TheVariants as fault
 use Rattle.cut_net.specs.declared.standing.Change.{Change}
 use Rattle.cut_net.specs.Network.{Network}
-use Rattle.cut_net.specs.NetText.{is_nonempty, pieces_of}
-use Rattle.cut_net.specs.Prices.{PriceLine, AreGoodPrices, IsPriceOutcome, SpellPrices, UnlessMemory, price_line}
+use Rattle.cut_net.specs.NetText.{pieces_of}
+use Rattle.cut_net.specs.Prices.{PriceLine, AreGoodPrices, IsPriceOutcome, SpellPrices, UnlessMemory}
 use Rattle.cut_net.specs.PriceReading.{Notes, price_fault_in_line}
-
-spell_more : (pieces : List (List ℕ)) (piece : List ℕ) (lines more : List PriceLine) → SpellPrices pieces lines → SpellPrices (piece ∷ []) more → SpellPrices (pieces ++ piece ∷ []) (lines ++ more)
-spell_more pieces piece lines more h g =
-    filter-append is_nonempty pieces (piece ∷ []) ∙ ap (λ (t : List (List ℕ)). t ++ filter is_nonempty (piece ∷ [])) h ∙ ap (λ (t : List (List ℕ)). map price_line lines ++ t) g ∙ sym (map-append price_line lines more)
-
-pub spell_next : {A : Type 0} (v : A → List ℕ) (items : List A) (item : A) (lines more : List PriceLine) → SpellPrices (map v items) lines → SpellPrices (v item ∷ []) more → SpellPrices (map v (items ++ item ∷ [])) (lines ++ more)
-spell_next v items item lines more h g = rw (map_push v items item) (spell_more (map v items) (v item) lines more h g)
 
 pub fault_is : (net : Network) (bytes : List ℕ) (k number : ℕ) (before : List PriceLine) (piece : List ℕ) (e : PriceLineFault) (told : List (Option Change)) → number ≡ k + 1 → SpellPrices (take k (pieces_of bytes)) before → AreGoodPrices net before
     → slice_get (pieces_of bytes) k ≡ Some piece → Notes net before piece (Err e) told

@@ -314,6 +314,17 @@ pub record AreEnds (names middle more : List (List ℕ)) (m n : List ℕ) (i j :
   pub second_within : j < length more
   pub second_place : get_or more j [] ≡ n
 
+pub are_ends : (names middle more : List (List ℕ)) (m n : List ℕ) (i j : ℕ) → middle ≡ noted names m → i < length middle → get_or middle i [] ≡ m →
+    more ≡ noted middle n → j < length more → get_or more j [] ≡ n → AreEnds names middle more m n i j
+are_ends names middle more m n i j first in_middle at_first second in_more at_second = record {
+  first = first;
+  first_within = in_middle;
+  first_place = at_first;
+  second = second;
+  second_within = in_more;
+  second_place = at_second;
+}
+
 module _ (lines : List NetLine) (names middle more : List (List ℕ)) (es : List ((ℕ × ℕ) × ℕ)) (h : AreTablesOf lines names es) (m n : List ℕ) (w i j : ℕ) (ends : AreEnds names middle more m n i j) where
   both_noted : more ≡ noted (noted names m) n
   both_noted = ends.second ∙ ap (λ (t : List (List ℕ)). noted t n) ends.first

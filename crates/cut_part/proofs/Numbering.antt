@@ -1,21 +1,9 @@
 -- Numbering the marked modules, one after the other.
-use Rattle.std.proofs.Common.{◌≡◌, ℕ, ◌+◌, ◌<◌, Bool, true, false, List, [], ◌∷◌, ◌++◌, length, get_or, refl, sym, ap, ◌∙◌, arith, inl, inr}
+use Rattle.std.proofs.Common.{◌≡◌, ℕ, ◌+◌, ◌<◌, Bool, true, false, List, [], ◌∷◌, ◌++◌, length, get_or, refl, ap, ◌∙◌, arith, inl, inr}
 use Rattle.std.proofs.lemmas.Bool.{cases_lt, both_ways}
-use Rattle.std.proofs.lemmas.List.{get_or_push, get_or_append_left, get_or_past, length_push}
+use Rattle.std.proofs.lemmas.List.{get_or_push, get_or_append_left, length_push}
 use Rattle.cut_residual.specs.Graphs.{is_seen}
-use Rattle.cut_part.specs.Marks.{IsNumbering, IsNumberingTo}
-
-pub numbering_none : (marks : List Bool) → IsNumberingTo marks [] [] 0
-numbering_none marks = record {
-  size = refl;
-  few = omega arith;
-  ascend = λ x y less h. absurd (omega arith);
-  low = λ x h. absurd (omega arith);
-  marked = λ x h. absurd (omega arith);
-  place_is = λ x h. absurd (omega arith);
-  place_low = λ m h. absurd (omega arith);
-  number_is = λ m h. absurd (omega arith);
-}
+use Rattle.cut_part.specs.Marks.{IsNumberingTo}
 
 module _ (marks : List Bool) (numbers places : List ℕ) (count : ℕ) (is : IsNumberingTo marks numbers places count) where
   old_place : (m p : ℕ) → m < count → get_or (places ++ p ∷ []) m 0 ≡ get_or places m 0
@@ -77,21 +65,4 @@ module _ (marks : List Bool) (numbers places : List ℕ) (count : ℕ) (is : IsN
           | inl low ↦ rw (old_place m (length numbers) low) (old (get_or places m 0) (is.place_low m low t) ∙ is.number_is m low t)
           | inr high ↦ let e : m ≡ count = omega arith in rw (e, last_place) last
         ];
-      }
-
-  pub numbering_all : length marks ≡ count → IsNumbering marks numbers places
-  numbering_all all =
-      let in_marks : (m : ℕ) → is_seen marks m ≡ true → m < count = λ m t. elim (cases_lt m count) [
-        | inl low ↦ low
-        | inr high ↦ absurd (both_ways (is_seen marks m) (get_or_past marks m false (omega arith)) t)
-      ] in
-      record {
-        count = is.size ∙ sym all;
-        few = let few = is.few in omega arith;
-        ascend = is.ascend;
-        low = λ x h. let l = is.low x h in omega arith;
-        marked = is.marked;
-        place_is = is.place_is;
-        place_low = λ m t. is.place_low m (in_marks m t) t;
-        number_is = λ m t. is.number_is m (in_marks m t) t;
       }

@@ -113,6 +113,3 @@ module _ (imports : List Priced) (out into : List ℕ) (are : AreTallies imports
 pub narrows_twice : (modules : ℕ) (one two three : List Priced) (a b : ℕ) → NarrowsTo modules one two a b → NarrowsTo modules two three a b → NarrowsTo modules one three a b
 narrows_twice modules one two three a b first second names pins size =
     narrowed_twice (record { names = names; imports = one; pins = pins }) (record { names = names; imports = two; pins = pins }) (record { names = names; imports = three; pins = pins }) a b (first names pins size) (second names pins size)
-
-pub narrows_none : (modules : ℕ) (imports : List Priced) (a b : ℕ) → NarrowsTo modules imports imports a b
-narrows_none modules imports a b names pins size = narrowed_none (record { names = names; imports = imports; pins = pins }) a b

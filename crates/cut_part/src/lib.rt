@@ -1,5 +1,5 @@
 //! Smaller networks with the same flows: the part between two modules, weights narrowed, imports turned round.
-//! Stands on `cut_net`, on `cut_residual` for what marks are, and on lemmas of `digraph`.
+//! Stands on `cut_net`, on `cut_residual` for what marks are, and on `digraph` for trails.
 //! Its contract: the part has the modules on a chain and the imports between them; what is answered of it is an answer of the whole network.
 #![tactic(auto)]
 

@@ -1,37 +1,13 @@
 //! The modules to which chains of imports lead.
 ghost use Rattle.std.specs.Prelude.{◌≡◌, ◌<◌, ◌≤◌, ◌+◌, ◌++◌, ◌∷◌, [], ℕ, IfOk, OnOk, length, vec_len};
+ghost use Rattle.digraph.specs.Spreading.{left_over};
 ghost use Rattle.cut_net.specs.WellFormed.{AreBetween};
 ghost use Rattle.cut_part.specs.Marks.{AreChained};
-ghost use Rattle.cut_part.specs.Reach.{left_over, AreImportTrails, IsSpreading};
+ghost use Rattle.cut_part.specs.Reach.{AreImportTrails, IsSpreading};
 
 use cut_net::Priced;
+use digraph::{Trails, trails_of};
 use std::alloc::{AllocError, Global};
-
-/// The imports of each module as a trail that leads from its last one back to its first. An import is told by its number plus one, and 0 ends a trail.
-/// Nothing is sorted and no module has a list of its own, so a trail costs one number for each module and one for each import.
-#[derive(Drop)]
-struct Trails {
-    /// For each module its last import.
-    last: Vec<u32>,
-    /// For each import the one before it that the same module makes.
-    before: Vec<u32>,
-}
-
-/// The trails of all modules.
-fn trails_of(alloc: Global, imports: &[Priced], modules: u32) -> Result<Trails, AllocError>
-    requires between { AreBetween imports.now modules }
-    requires few { length imports.now ≤ 65536 }
-    ensures { IfOk result (λ t. AreImportTrails imports.now modules t.last.items t.before.items (length imports.now)) }
-{
-    let mut last = vec![in alloc; 0u32; modules as usize]?;
-    let mut before = Vec::with_capacity(alloc, imports.len())?;
-    for number in 0..imports.len() {
-        let from = imports[number].from as usize;
-        before.push(last[from])?;
-        last[from] = number as u32 + 1;
-    }
-    Ok(Trails { last, before })
-}
 
 /// Marks the modules that a module imports; those that had no mark wait.
 fn follow(
@@ -75,7 +51,12 @@ pub(crate) fn chained(
     ensures size { IfOk result (λ marks. length marks.items ≡ modules) }
     ensures chained { IfOk result (λ marks. AreChained imports.now start marks.items) }
 {
-    let trails = trails_of(alloc, imports, modules)?;
+    let trails = trails_of(
+        alloc,
+        imports,
+        modules as usize,
+        |import: &Priced| import.from,
+    )?;
     let mut marks = vec![in alloc; false; modules as usize]?;
     let mut waiting = Vec::new(alloc);
     marks[start as usize] = true;

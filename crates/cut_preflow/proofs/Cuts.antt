@@ -4,7 +4,7 @@ use Rattle.std.proofs.lemmas.Bool.{cases_lt, cases_eq}
 use Rattle.std.proofs.lemmas.Bool.Decides.{nat_tests}
 use Rattle.cut_preflow.specs.Total.{total}
 use Rattle.cut_preflow.proofs.Choices.{choice_same, choice_other, pick_true, true_or_false, either_way, same_either_way}
-use Rattle.cut_preflow.proofs.Totals.{total-same, total-le, total-add, total-zero, term-le-total, total-change, total-one, total-swap, total-tight}
+use Rattle.cut_preflow.proofs.Totals.{total-same, total-add, total-zero, total-change, total-one, total-swap, total-tight}
 
 -- a choice before a sum and after it
 choice_of_total : (b : Bool) (m : ℕ) (g : ℕ → ℕ) → (if b then total m g else 0) ≡ total m (λ i. if b then g i else 0)
@@ -73,16 +73,6 @@ module _ (n m : ℕ) (from to capacity flow : ℕ → ℕ) (from_low : (i : ℕ)
       ]
 
   module _ (fits : (i : ℕ) → i < m → flow i ≤ capacity i) where
-    -- what leaves a side is within its weight
-    pub leaving_le : (side : ℕ → Bool) → leaving m from to flow side ≤ leaving m from to capacity side
-    leaving_le side =
-        total-le m (λ i. if side (from i) && not (side (to i)) then flow i else 0) (λ i. if side (from i) && not (side (to i)) then capacity i else 0)
-        (λ i l. go (side (from i) && not (side (to i))) i l)
-      where
-        go : (b : Bool) (i : ℕ) → i < m → (if b then flow i else 0) ≤ (if b then capacity i else 0)
-        go true i l = fits i l
-        go false i l = omega arith
-
     -- a closed side is left by its whole weight
     pub closed_full : (side : ℕ → Bool) → Closed m from to capacity flow side → leaving m from to flow side ≡ leaving m from to capacity side
     closed_full side closed =
@@ -95,31 +85,6 @@ module _ (n m : ℕ) (from to capacity flow : ℕ → ℕ) (from_low : (i : ℕ)
             let within : flow i ≤ capacity i = fits i l in
             elim (cases_lt (flow i) (capacity i)) [ inl lt ↦ cc (h lt refl) | inr le ↦ omega arith ]
         go i l false b h = refl
-
-    -- where a side is left by its whole weight and nothing enters it, it is closed
-    pub full_closed : (side : ℕ → Bool) → leaving m from to capacity side ≤ leaving m from to flow side → leaving m to from flow side ≡ 0 → Closed m from to capacity flow side
-    full_closed side full none i l = (open_ahead (side (from i)) (side (to i)) each.0, open_back (side (to i)) (side (from i)) each.1)
-      where
-        each : ((if side (from i) && not (side (to i)) then flow i else 0) ≡ (if side (from i) && not (side (to i)) then capacity i else 0)) × ((if side (to i) && not (side (from i)) then flow i else 0) ≤ 0)
-        each = (
-          total-tight m (λ i. if side (from i) && not (side (to i)) then flow i else 0) (λ i. if side (from i) && not (side (to i)) then capacity i else 0)
-              (λ i l. pick_le (side (from i) && not (side (to i))) i l) full i l,
-          omega (arith, none, term-le-total m (λ i. if side (to i) && not (side (from i)) then flow i else 0) i l),
-        )
-          where
-            pick_le : (b : Bool) (i : ℕ) → i < m → (if b then flow i else 0) ≤ (if b then capacity i else 0)
-            pick_le true i l = fits i l
-            pick_le false i l = omega arith
-
-        open_ahead : (a b : Bool) → (if a && not b then flow i else 0) ≡ (if a && not b then capacity i else 0) → flow i < capacity i → a ≡ true → b ≡ true
-        open_ahead true true h lt e = refl
-        open_ahead true false h lt e = absurd (omega arith)
-        open_ahead false b h lt e = cc
-
-        open_back : (a b : Bool) → (if a && not b then flow i else 0) ≤ 0 → 0 < flow i → a ≡ true → b ≡ true
-        open_back true true h lt e = refl
-        open_back true false h lt e = absurd (omega arith)
-        open_back false b h lt e = cc
 
     module _ (source sink : ℕ) (source_low : source < n) (kept : (v : ℕ) → v < n → v ≢ source → v ≢ sink → total m (λ i. if from i == v then flow i else 0) ≡ total m (λ i. if to i == v then flow i else 0)) where
       -- the value of a flow is what leaves any side less what enters it
@@ -139,18 +104,9 @@ module _ (n m : ℕ) (from to capacity flow : ℕ → ℕ) (from_low : (i : ℕ)
                 | inr other ↦ rw (kept v l ne other) refl
               ]
 
-      -- no side weighs less than the value
-      pub value_le : (side : ℕ → Bool) → side source ≡ true → side sink ≡ false → total m (λ i. if from i == source then flow i else 0) ≤ total m (λ i. if to i == source then flow i else 0) + leaving m from to capacity side
-      value_le side a b = omega (arith, value_over side a b, leaving_le side)
-
       -- a closed side weighs the value
       pub value_of_closed : (side : ℕ → Bool) → side source ≡ true → side sink ≡ false → Closed m from to capacity flow side → total m (λ i. if from i == source then flow i else 0) ≡ total m (λ i. if to i == source then flow i else 0) + leaving m from to capacity side
       value_of_closed side a b closed = omega (arith, value_over side a b, closed_full side closed, nothing_enters side closed)
-
-      -- a side that weighs the value is closed
-      pub closed_from_value : (side : ℕ → Bool) → side source ≡ true → side sink ≡ false → total m (λ i. if to i == source then flow i else 0) + leaving m from to capacity side ≤ total m (λ i. if from i == source then flow i else 0) → Closed m from to capacity flow side
-      closed_from_value side a b le =
-          full_closed side (omega (arith, value_over side a b)) (omega (arith, value_over side a b, leaving_le side))
 
 -- where the labelling is valid and no label is k, the nodes labelled above k are a closed side
 pub gap_closed : (n m : ℕ) (from to capacity flow label : ℕ → ℕ) → ((i : ℕ) → i < m → from i < n) → ((i : ℕ) → i < m → to i < n) → ((i : ℕ) → i < m → (flow i < capacity i → label (from i) ≤ label (to i) + 1) × (0 < flow i → label (to i) ≤ label (from i) + 1)) → (k : ℕ) → ((v : ℕ) → v < n → label v ≢ k) → Closed m from to capacity flow (λ v. nat_lt k (label v))

@@ -1,5 +1,5 @@
 -- What the code needs to know of a state that a run can reach.
-use Rattle.std.proofs.Common.{◌≡◌, ℕ, ◌/◌, ◌^◌, ◌<◌, inl, inr, length, slice_index, sym, ap, subst, arith}
+use Rattle.std.proofs.Common.{ℕ, ◌/◌, ◌^◌, ◌<◌, inl, inr, length, slice_index, sym, ap, subst, arith}
 use Rattle.cut_preflow.specs.Total.{total}
 use Rattle.cut_preflow.specs.Preflow.{FlowNetwork, State, count, import_at, flow_at, head, is_forward}
 use Rattle.cut_preflow.specs.Trace.{IsSound}
@@ -8,9 +8,6 @@ use Rattle.cut_preflow.proofs.Totals.{total-le}
 use Rattle.cut_preflow.proofs.Arcs.{ahead, back}
 
 module _ (net : FlowNetwork) (s : State) (sound : IsSound net s) where
-  pub one_each : count net ≡ length s.flow
-  one_each = sym sound.kept.flows
-
   -- all flows together fit 64 bits
   pub flows_fit : total (length s.flow) (λ i. slice_index s.flow i) < 2 ^ 64
   flows_fit =

@@ -1,5 +1,5 @@
 //! Residual graphs: flows on arcs, what is left of the arcs, the one search over what is left, and marks of what it reaches with no graph.
-//! Stands on std alone.
+//! Stands on `digraph`, for what trails are, and how marks spread.
 //! Its contract: a search, and `marks`, mark exactly the nodes that augmenting paths lead to, and what is sent along a path raises each flow by so much.
 #![tactic(auto)]
 

@@ -1,7 +1,8 @@
 //! What augmenting paths lead to, told by marks alone and with no graph.
 ghost use Rattle.std.specs.Prelude.{◌≡◌, ◌<◌, ◌≤◌, ◌*◌, ◌++◌, ◌∷◌, [], ℕ, All, IfOk, OnOk, length, vec_len, if◌then◌else◌};
+ghost use Rattle.digraph.specs.Spreading.{left_over};
 ghost use Rattle.cut_residual.specs.Graphs.{head, tail, AreClosed, AreReached, HasArc};
-ghost use Rattle.cut_residual.specs.Spreading.{left_over, step_at, AreTrails, IsSpreading};
+ghost use Rattle.cut_residual.specs.Spreading.{step_at, AreResidualTrails, IsSpreading};
 
 use crate::augment::residual_of;
 use crate::{Arc, ResidualArc};
@@ -46,7 +47,7 @@ fn head_of(arcs: &[Arc], step: ResidualArc) -> u32
 fn trails_of(alloc: Global, arcs: &[Arc], nodes: u32) -> Result<Trails, AllocError>
     requires within { All (λ r. r.flow ≤ r.capacity) arcs.now }
     requires between { All (λ r. (r.from < nodes) × (r.to < nodes)) arcs.now }
-    ensures { IfOk result (λ t. AreTrails arcs.now nodes t.last.items t.before.items (length arcs.now * 2)) }
+    ensures { IfOk result (λ t. AreResidualTrails arcs.now nodes t.last.items t.before.items (length arcs.now * 2)) }
 {
     let mut last = vec![in alloc; 0usize; nodes as usize]?;
     let mut before = Vec::with_capacity(alloc, arcs.len() * 2)?;
@@ -72,7 +73,7 @@ fn follow(
     waiting: &mut Vec<u32>,
 ) -> Result<(), AllocError>
     requires between { All (λ r. (r.from < vec_len seen.old) × (r.to < vec_len seen.old)) arcs.now }
-    requires trails { AreTrails arcs.now (vec_len seen.old) trails.now.last.items trails.now.before.items (length arcs.now * 2) }
+    requires trails { AreResidualTrails arcs.now (vec_len seen.old) trails.now.last.items trails.now.before.items (length arcs.now * 2) }
     requires node { node < vec_len seen.old }
     ensures size { OnOk result (vec_len seen.new ≡ vec_len seen.old) }
     ensures spreading { OnOk result ((start : ℕ) → IsSpreading arcs.now start seen.old.items (waiting.old.items ++ node ∷ []) →

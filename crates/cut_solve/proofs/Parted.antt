@@ -1,6 +1,6 @@
 -- A question in the part between its two modules, and its answer told of the whole network.
-use Rattle.std.proofs.Common.{◌≡◌, ℕ, ◌<◌, Bool, List, length, get_or, set, true, sym, subst, arith}
-use Rattle.std.proofs.lemmas.List.{length-set}
+use Rattle.std.proofs.Common.{◌≡◌, ◌∙◌, ℕ, ◌<◌, Bool, List, length, get_or, set, true, sym, subst, arith}
+use Rattle.std.proofs.lemmas.List.{get_or_default, length-set}
 use Rattle.cut_net.specs.declared.priced.Priced.{Priced}
 use Rattle.cut_net.specs.Lines.{IsAnswer, IsCheapestSaid, IsCutAnswer}
 use Rattle.cut_net.specs.Network.{Network}
@@ -12,20 +12,13 @@ use Rattle.cut_part.specs.Marks.{said_whole, IsPart}
 use Rattle.cut_preflow.specs.Flows.{AreEnds}
 
 module _ (net : Network) (a b : ℕ) (marks : List Bool) (numbers places : List ℕ) (small : Network) (part : IsPart net a b marks numbers places small) (ends : AreEnds net a b) where
-  pub place_in : (m : ℕ) → m < length net.names → m < length places
+  place_in : (m : ℕ) → m < length net.names → m < length places
   place_in m h =
       let one = length-set marks a true in
       let two = length-set (set marks a true) b true in
       let size = part.size in
       let count = part.numbered.count in
       omega arith
-
-  pub ends_there : AreEnds small (get_or places a 0) (get_or places b 0)
-  ends_there = record {
-    from_in = start_low net a b ends.from_in ends.to_in marks numbers places small part;
-    to_in = end_low net a b ends.from_in ends.to_in marks numbers places small part;
-    apart = ends_apart net a b ends.from_in ends.to_in marks numbers places small part ends.apart;
-  }
 
   pub lines_between : (m n : ℕ) (printed : List Priced) (total : ℕ) (flow : List Priced) → IsCutAnswer small m n printed total flow →
       AreBetween printed (length numbers) × AreBetween flow (length numbers)
@@ -34,10 +27,29 @@ module _ (net : Network) (a b : ℕ) (marks : List Bool) (numbers places : List 
     lines_low net a b ends.from_in ends.to_in marks numbers places small part flow is.right.flow_in_order,
   )
 
-  pub answer_whole : (said whole : Said) → whole ≡ said_whole numbers said → IsAnswer small (get_or places a 0) (get_or places b 0) said → IsAnswer net a b whole
-  answer_whole said whole e is = subst (λ (s : Said). IsAnswer net a b s) (sym e) (answer_up net a b ends.from_in ends.to_in marks numbers places small part said is)
+  -- the two modules in the part, as they are read from the places
+  module _ (x y : ℕ) (at_from : x ≡ get_or places a x) (at_to : y ≡ get_or places b y) where
+    from : x ≡ get_or places a 0
+    from = at_from ∙ get_or_default places a x 0 (place_in a ends.from_in)
 
-  pub cheapest_whole : (said whole : Said) → whole ≡ said_whole numbers said → IsAnswer small (get_or places a 0) (get_or places b 0) said →
-      IsCheapestSaid small (get_or places a 0) (get_or places b 0) said → IsCheapestSaid net a b whole
-  cheapest_whole said whole e is cheapest =
-      subst (λ (s : Said). IsCheapestSaid net a b s) (sym e) (cheapest_up net a b ends.from_in ends.to_in marks numbers places small part said is cheapest)
+    to : y ≡ get_or places b 0
+    to = at_to ∙ get_or_default places b y 0 (place_in b ends.to_in)
+
+    pub ends_there : AreEnds small x y
+    ends_there = subst (λ (m : ℕ). AreEnds small m y) (sym from) (subst (λ (n : ℕ). AreEnds small (get_or places a 0) n) (sym to) (record {
+      from_in = start_low net a b ends.from_in ends.to_in marks numbers places small part;
+      to_in = end_low net a b ends.from_in ends.to_in marks numbers places small part;
+      apart = ends_apart net a b ends.from_in ends.to_in marks numbers places small part ends.apart;
+    }))
+
+    module _ (said whole : Said) (e : whole ≡ said_whole numbers said) (is : IsAnswer small x y said) where
+      here : IsAnswer small (get_or places a 0) (get_or places b 0) said
+      here = subst (λ (m : ℕ). IsAnswer small m (get_or places b 0) said) from (subst (λ (n : ℕ). IsAnswer small x n said) to is)
+
+      pub answer_whole : IsAnswer net a b whole
+      answer_whole = subst (λ (s : Said). IsAnswer net a b s) (sym e) (answer_up net a b ends.from_in ends.to_in marks numbers places small part said here)
+
+      pub cheapest_whole : IsCheapestSaid small x y said → IsCheapestSaid net a b whole
+      cheapest_whole cheapest =
+          let least = subst (λ (m : ℕ). IsCheapestSaid small m (get_or places b 0) said) from (subst (λ (n : ℕ). IsCheapestSaid small x n said) to cheapest) in
+          subst (λ (s : Said). IsCheapestSaid net a b s) (sym e) (cheapest_up net a b ends.from_in ends.to_in marks numbers places small part said here least)

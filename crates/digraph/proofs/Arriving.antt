@@ -1,19 +1,13 @@
 -- The nodes that wait for a node are found along the trail of the edges to it.
-use Rattle.std.proofs.Common.{◌≡◌, ℕ, ◌+◌, List, [], ◌∷◌, ◌++◌, length, sym, ap, ◌∙◌, arith, inl, inr}
+use Rattle.std.proofs.Common.{◌≡◌, ℕ, ◌+◌, List, [], ◌∷◌, ◌++◌, sym, ap, ◌∙◌, arith, inl, inr}
 use Rattle.std.proofs.lemmas.Bool.{cases_eq, cases_lt}
 use Rattle.std.proofs.lemmas.List.{length_push}
 use Rattle.std.proofs.lemmas.List.Elements.{Contains-push, Contains-append_left}
 use Rattle.digraph.specs.declared.edge.Edge.{Edge}
-use Rattle.digraph.specs.Arrivals.{AreWaitingFor, AreWaitingFrom, IsLastTo}
+use Rattle.digraph.specs.Arrivals.{AreWaitingFrom, IsLastTo}
 use Rattle.digraph.specs.Marks.{edge_at, place_at}
 
 module _ (edges : List Edge) (places : List ℕ) (v : ℕ) where
-  pub waiting_first : (next : ℕ) → IsLastTo edges v (length edges) next → AreWaitingFrom edges places v [] next
-  waiting_first next last = record { all = λ k le l is at. absurd (last.none_after k le l is); few = (let w = last.within in omega arith) }
-
-  pub waiting_all : (row : List ℕ) → AreWaitingFrom edges places v row 0 → AreWaitingFor edges places v row
-  waiting_all row w = record { all = λ k l is at. w.all k (omega arith) l is at; few = (let few = w.few in omega arith) }
-
   module _ (row : List ℕ) (number next : ℕ) (last : IsLastTo edges v number next) (w : AreWaitingFrom edges places v row (number + 1)) where
     pub waiting_more : place_at places (edge_at edges number).from ≡ number → AreWaitingFrom edges places v (row ++ (edge_at edges number).from ∷ []) next
     waiting_more here = record {

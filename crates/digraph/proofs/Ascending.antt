@@ -1,6 +1,6 @@
 -- Two lists in one order with the same elements are one list.
-use Rattle.std.proofs.Common.{◌≡◌, ℕ, zero, suc, ◌<◌, List, [], ◌∷◌, length, refl, sym, ◌∙◌, ap, subst, arith}
-use Rattle.std.specs.Prelude.{AllPairs, Contains, slice_index_or, IsTrue}
+use Rattle.std.proofs.Common.{◌≡◌, ℕ, zero, suc, ◌<◌, List, [], ◌∷◌, refl, sym, ◌∙◌, ap, subst, arith}
+use Rattle.std.specs.Prelude.{AllPairs, Contains, IsTrue}
 use Rattle.std.specs.List.Sorted.{IsStrictlySortedBy}
 use Rattle.std.specs.Ordering.{nat_cmp, ordering_reverse}
 use Rattle.std.specs.Cmp.Lexicographic.{slice_cmp, nat_list_cmp_total}
@@ -14,11 +14,6 @@ abbrev AreAscending : List (List ℕ) → Type 0
 AreAscending names = IsStrictlySortedBy (slice_cmp nat_cmp) names
 
 module _ {X : Type 0} (R : X → X → Type 0) (apart : (x y : X) → R x y → R y x → ⊥) where
-  -- an element of the list is the first or a later one
-  later : (x y : X) (xs : List X) (k : ℕ) → k < length (x ∷ xs) → slice_index_or (x ∷ xs) k y ≡ y → (x ≡ y → ⊥) → Contains xs y
-  later x y xs zero l is differs = absurd (differs is)
-  later x y xs (suc k) l is differs = (k, omega arith, is)
-
   first_below : (x y : X) (xs : List X) → AllPairs R (x ∷ xs) → Contains xs y → R x y
   first_below x y xs pairs (k, l, is) = subst (R x) is (pairs 0 (suc k) y (omega arith) (omega arith))
 

@@ -12,7 +12,7 @@ use Rattle.std.proofs.lemmas.List.Kept.{AllPairs-filter}
 use Rattle.digraph.specs.declared.edge.Edge.{Edge}
 use Rattle.digraph.specs.Chains.{IsChain, Chain}
 use Rattle.digraph.specs.Edges.{comes_before, IsAscending, Leads, successors}
-use Rattle.digraph.specs.Levels.{level_of, HasChain, AreLevels, AreChain, IsLeastChain, IsLeastOn}
+use Rattle.digraph.specs.Levels.{level_of, HasChain, AreLevels, IsLeastChain, IsLeastOn}
 use Rattle.digraph.specs.Marks.{none_there}
 use Rattle.digraph.proofs.Members.{from_map, in_filter, in_map, of_filter}
 use Rattle.digraph.proofs.Rounds.{never_both, same_level}
@@ -121,24 +121,6 @@ module _ (edges : List Edge) (end : ℕ) (levels : List (Option ℕ)) (are : Are
                 let less : nat_cmp w u ≡ Less = sym (nat_cmp_is w u Less (omega (arith, ne))) in
                 λ greater. let no : Less ≡ Greater = sym (ap (λ (o : Ordering). ordering_then o (slice_cmp nat_cmp more other)) less) ∙ greater in cc
           ]
-
-  fewest_whole : (v : ℕ) (more : List ℕ) → IsLeastFrom v more → (other : List ℕ) → AreChain (Leads edges) v end other → length (v ∷ more) ≤ length other
-  fewest_whole v more from [] none = absurd none
-  fewest_whole v more from (u ∷ other) (e, chain) =
-      let le = from.fewest other (subst (λ (n : ℕ). IsChain (Leads edges) n other end) e chain) in
-      omega arith
-
-  no_less : (v : ℕ) (more : List ℕ) → IsLeastFrom v more → (other : List ℕ) → AreChain (Leads edges) v end other → length other ≡ length (v ∷ more) →
-      slice_cmp nat_cmp (v ∷ more) other ≢ Greater
-  no_less v more from [] none size = absurd none
-  no_less v more from (u ∷ other) (e, chain) size = λ greater.
-      let tied : nat_cmp v u ≡ Equal = sym (nat_cmp_is v u Equal (sym e)) in
-      from.least other (subst (λ (n : ℕ). IsChain (Leads edges) n other end) e chain) (omega arith)
-      (sym (ap (λ (o : Ordering). ordering_then o (slice_cmp nat_cmp more other)) tied) ∙ greater)
-
-  -- with its first node it is the least chain
-  pub least_whole : (v : ℕ) (more : List ℕ) → IsLeastFrom v more → IsLeastChain (Leads edges) v end (v ∷ more)
-  least_whole v more from = record { is_chain = (refl, from.is_chain); fewest = fewest_whole v more from; least = no_less v more from }
 
   -- the way down so far: each least chain from the node that it has come to makes it a least chain from the first
   abbrev pub GoesDown : ℕ → List ℕ → ℕ → Type 0

@@ -1,6 +1,7 @@
 pub mod Arriving
 pub mod Ascending
 pub mod EdgeOrder
+pub mod FewEdges
 pub mod LeastChains
 pub mod Rounds
 pub mod Loops
@@ -11,5 +12,6 @@ pub mod Ordered
 pub mod ByNode
 pub mod SameGraphs
 pub mod Settling
-pub mod Trails
+pub mod SpreadMarks
+pub mod TrailNumbers
 pub mod Walks

@@ -9,7 +9,7 @@ use Rattle.digraph.specs.declared.edge.Edge.{Edge}
 use Rattle.digraph.specs.Edges.{Leads, predecessors}
 use Rattle.digraph.specs.Levels.{level_of, unset, HasChain, AreLevels, ArePutOn}
 use Rattle.digraph.specs.Marks.{row_at}
-use Rattle.digraph.proofs.Members.{from_map, in_filter, in_map, no_member, of_filter, one_member}
+use Rattle.digraph.proofs.Members.{from_map, in_filter, in_map, of_filter, one_member}
 
 -- a node has a level or has none
 pub has_level : (o : Option ℕ) → ((j : ℕ) × (o ≡ Some j)) ⊎ (o ≡ None)
@@ -32,17 +32,6 @@ pub record Putting (nodes : List ℕ) (level : ℕ) (old now : List (Option ℕ)
   pub listed_are : (v : ℕ) → Contains listed v → (level_of old v ≡ None) × Contains nodes v
   pub are_listed : (v : ℕ) → level_of now v ≡ Some level → level_of old v ≡ None → Contains listed v
   pub count : unset now + length listed ≡ unset old
-
-pub put_none : (nodes : List ℕ) (level : ℕ) (old : List (Option ℕ)) (listed : List ℕ) → listed ≡ [] → Putting nodes level old old listed 0
-put_none nodes level old listed e = record {
-  size = refl;
-  kept = λ v j is. is;
-  put = λ p lt. absurd (omega arith);
-  only = λ v j is. inl is;
-  listed_are = λ v has. no_member v (subst (λ (l : List ℕ). Contains l v) e has);
-  are_listed = λ v is none. never_both (level_of old v) level is none;
-  count = let none : length listed ≡ 0 = ap length e in omega arith;
-}
 
 module _ (nodes : List ℕ) (level : ℕ) (old now : List (Option ℕ)) (listed : List ℕ) (i : ℕ) (putting : Putting nodes level old now listed i) (lt : i < length nodes) where
   -- a node that has a level stays there
@@ -261,9 +250,6 @@ predecessor edges v w = (
 -- what was gathered of the first so many nodes
 abbrev pub AreGathered : List (List ℕ) → List ℕ → List ℕ → ℕ → Type 0
 AreGathered rows nodes all i = (v : ℕ) → Contains all v ↔ ((p : ℕ) × (p < i) × Contains (row_at rows (get_or nodes p 0)) v)
-
-pub gathered_none : (rows : List (List ℕ)) (nodes all : List ℕ) → all ≡ [] → AreGathered rows nodes all 0
-gathered_none rows nodes all e v = (λ has. no_member v (subst (λ (l : List ℕ). Contains l v) e has), λ (p, lt, has). absurd (omega arith))
 
 pub gathered_more : (rows : List (List ℕ)) (nodes all row new : List ℕ) (i : ℕ) → AreGathered rows nodes all i → row ≡ row_at rows (get_or nodes i 0) → new ≡ all ++ row → AreGathered rows nodes new (i + 1)
 gathered_more rows nodes all row new i are is e v = (

@@ -2,15 +2,15 @@
 use Rattle.std.specs.Prelude.{◌≡◌, ℕ, ◌+◌, ◌<◌, ◌≤◌, List, length, Contains}
 use Rattle.digraph.specs.declared.edge.Edge.{Edge}
 use Rattle.digraph.specs.Marks.{edge_at, place_at}
-use Rattle.digraph.specs.Trails.{AreTrails, IsLastOn}
+use Rattle.digraph.specs.Trails.{AreTrails, IsLast, IsOn}
 
 -- of the first count edges it is the number, plus one, of the last that leads to the node; it is 0 where there is none
 abbrev pub IsLastTo : List Edge → ℕ → ℕ → ℕ → Type 0
-IsLastTo edges v count next = IsLastOn (λ k. (edge_at edges k).to) v count next
+IsLastTo edges v count next = IsLast (IsOn (λ k. (edge_at edges k).to) v) count next
 
 -- of the first count edges: for each node the last one to it, and for each of them the one before it to the same node
 abbrev pub AreArrivals : List Edge → ℕ → List ℕ → List ℕ → ℕ → Type 0
-AreArrivals edges nodes last before count = AreTrails (λ k. (edge_at edges k).to) nodes last before count
+AreArrivals edges nodes last before count = AreTrails (IsOn (λ k. (edge_at edges k).to)) nodes last before count
 
 -- each node whose edge at its place leads to this node is in the row, and the row is no longer than all edges
 pub record AreWaitingFor (edges : List Edge) (places : List ℕ) (v : ℕ) (row : List ℕ) : Type 0 where

@@ -5,4 +5,5 @@ pub mod Edges
 pub mod Levels
 pub mod Marks
 pub mod Ranks
+pub mod Spreading
 pub mod Trails

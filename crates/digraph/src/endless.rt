@@ -5,8 +5,8 @@ ghost use Rattle.digraph.specs.Marks.{edge_at, marked, place_at, work_left, Star
 ghost use Rattle.digraph.specs.Arrivals.{AreArrivals};
 ghost use Rattle.digraph.specs.Edges.{AreBetween, IsAscending, Leads};
 
-use crate::Edge;
-use crate::arrivals::{Arrivals, arrivals_of};
+use crate::arrivals::add_waiting;
+use crate::{Edge, Trails, trails_of};
 use std::alloc::{AllocError, Global};
 
 /// The nodes from which edges may still go on for ever, while they are sought, and in the end those from which they do.
@@ -80,7 +80,7 @@ impl Endless {
     fn look(
         &mut self,
         edges: &[Edge],
-        arrivals: &Arrivals,
+        arrivals: &Trails,
         node: u32,
         again: &mut Vec<u32>,
     ) -> Result<(), AllocError>
@@ -99,7 +99,7 @@ impl Endless {
             Some(place) => self.places[node as usize] = place,
             None => {
                 self.marks[node as usize] = false;
-                arrivals.add_waiting(edges, &self.places, node, again)?;
+                add_waiting(edges, arrivals, &self.places, node, again)?;
             }
         }
         Ok(())
@@ -113,7 +113,7 @@ impl Endless {
         requires begun { (again : List ℕ) → ((v : ℕ) → v < nodes → Contains again v) → IsSettling edges.now nodes self.old.marks.items self.old.places.items again }
         ensures { OnOk result (IsSettling edges.now nodes self.new.marks.items self.new.places.items []) }
     {
-        let arrivals = arrivals_of(alloc, edges, nodes)?;
+        let arrivals = trails_of(alloc, edges, nodes, |edge: &Edge| edge.to)?;
         let mut again = each_node(alloc, nodes)?;
         while let Some(node) = again.pop() {
             self.look(edges, &arrivals, node, &mut again)?;

@@ -22,9 +22,6 @@ use Rattle.index_store.proofs.TableLemmas.{bytes_same, same_bytes, text_among, u
 
 -- ---- positions and spans in order
 
-asym : (a b : Position) → is_before a b ≡ true → is_before b a ≡ false
-asym a b e = grind (arith, nat_tests)
-
 -- a position before another is before or after any third
 between : (a b c : Position) → is_before a b ≡ true → is_before c b ≡ false → is_before a c ≡ true
 between a b c e f = grind (arith, nat_tests)

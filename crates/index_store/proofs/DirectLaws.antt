@@ -1,5 +1,5 @@
 -- What a walk over the records finds is what all occurrences of the index give.
-use Rattle.std.proofs.Common.{◌≡◌, ℕ, zero, suc, Bool, true, false, not, List, [], ◌∷◌, ◌++◌, length, take, map, fold, Option, Some, None, Result, Ok, Err, refl, sym, ap, ap₂, ◌∙◌, arith, inl, inr}
+use Rattle.std.proofs.Common.{◌≡◌, ℕ, zero, suc, Bool, true, false, not, List, [], ◌∷◌, ◌++◌, length, take, map, fold, Option, None, Result, Ok, Err, refl, sym, ap, ap₂, ◌∙◌, arith, inl, inr}
 use Rattle.std.specs.Prelude.{◌||◌, Contains, IfOk, filter, option_map, if◌then◌else◌}
 use Rattle.std.specs.List.{AllByRecursion, flat_map}
 use Rattle.std.specs.Str.{IsUtf8, bytes_eq}
@@ -19,28 +19,13 @@ use Rattle.scip_index.proofs.CheckedLaws.{paths_are_texts}
 use Rattle.index_store.specs.declared.place.Position.{Position}
 use Rattle.index_store.specs.declared.span.Span.{Span}
 use Rattle.index_store.specs.Asked.{nearer, places_wanted}
-use Rattle.index_store.specs.Direct.{covering_of, has_document, nearest_at, nearest_of, pair_span, place_of_symbol, places_in_document, HaveTextPaths}
+use Rattle.index_store.specs.Direct.{covering_of, has_document, nearest_at, pair_span, place_of_symbol, places_in_document, HaveTextPaths}
 use Rattle.index_store.specs.Queries.{PlacedOccurrence, HasPath, IsSymbolAt, PlainPlace, all_found, found_at, found_in, is_definition, is_local, place_of, places_of}
-use Rattle.index_store.specs.Stores.{covering_given, covering_in}
+use Rattle.index_store.specs.Stores.{covering_in}
 use Rattle.index_store.proofs.AskedLemmas.{found_symbol, is_wanted}
 use Rattle.index_store.proofs.TableLemmas.{bytes_same, same_bytes}
 
 -- ---- one occurrence
-
-pub covering_none : (o : Option Span) (symbol : List ℕ) → length symbol ≡ 0 → covering_given o symbol ≡ []
-covering_none None symbol e = refl
-covering_none (Some span) [] e = refl
-covering_none (Some span) (b ∷ symbol) e = absurd (omega (arith, e))
-
-pub covering_some : (span : Span) (symbol : List ℕ) → (length symbol ≡ 0 → ⊥) → covering_given (Some span) symbol ≡ (span, symbol) ∷ []
-covering_some span [] some = absurd (some refl)
-covering_some span (b ∷ symbol) some = refl
-
-pub nearest_past : (at : Position) (best : Option (Span × List ℕ)) (o : PlainOccurrence) (others : List PlainOccurrence) → covering_of o ≡ [] → nearest_of at best (o ∷ others) ≡ nearest_of at best others
-nearest_past at best o others e = rw e refl
-
-pub nearest_more : (at : Position) (best : Option (Span × List ℕ)) (x : Span × List ℕ) (o : PlainOccurrence) (others : List PlainOccurrence) → covering_of o ≡ x ∷ [] → nearest_of at best (o ∷ others) ≡ nearest_of at (nearer pair_span at best x) others
-nearest_more at best x o others e = rw e refl
 
 -- ---- the nearest
 

@@ -55,15 +55,6 @@ text_lacking (t ∷ texts) text e (suc n, l, is) = elim (cases_Bool (bytes_eq te
   | inr other ↦ text_lacking texts text (none_more (text_number texts text) (rw other at e)) (n, omega (arith, l), is)
 ]
 
--- a text that has a number keeps it behind which others come
-pub number_kept : (texts more : List (List ℕ)) (text : List ℕ) (n : ℕ) → text_number texts text ≡ Some n → text_number (texts ++ more) text ≡ Some n
-number_kept [] more text n e = absurd cc
-number_kept (t ∷ texts) more text n e = elim (cases_Bool (bytes_eq text t)) [
-  | inl same ↦ rw same (rw same at e)
-  | inr other ↦ let m = one_more (text_number texts text) n (rw other at e) in
-      rw (other, number_kept texts more text m.0 m.1) (let f = m.2 in ap (λ (k : ℕ). Some k) (omega (arith, f)))
-]
-
 -- a new text has the last number
 pub number_last : (texts : List (List ℕ)) (text : List ℕ) → text_number texts text ≡ None → text_number (texts ++ text ∷ []) text ≡ Some (length texts)
 number_last [] text e = rw (bytes_same text text refl) refl

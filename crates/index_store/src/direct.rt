@@ -179,14 +179,16 @@ fn search_documents<'a>(
     Ok(found)
 }
 
-/// The symbol of the occurrence at a position of a document, as `Store::symbol_at` tells it, of the index that the bytes mean.
-/// Refuses with `NoDocument` where no document has the path, and with `Memory`.
+/// The symbol of the occurrence at a position of a document, as `Store::symbol_at` tells it, of the index that the bytes mean:
+/// whether they mean one is what `scip_index::check` answers. Refuses with `NoDocument` where no document has the path, and with
+/// `Memory`.
 pub fn symbol_in_bytes<'a>(
     alloc: Global,
     bytes: &'a [u8],
     path: &str,
     at: Position,
 ) -> Result<Option<&'a [u8]>, StoreFault>
+    requires means { (index : PlainIndex) × Means bytes.now index }
     ensures exact { (index : PlainIndex) → Means bytes.now index → IsSymbolFound index path.now at (answered (option_map (λ symbol. symbol.now)) result) }
 {
     let found = search_documents(alloc, Inside { start: 0, bytes }, path, at)?;
@@ -419,14 +421,16 @@ fn places_in_bytes<'a>(
     places_sought(alloc, Inside { start: 0, bytes }, sought)
 }
 
-/// The places where a symbol is defined, as `Store::definitions` tells them, of the index that the bytes mean. Fails where memory
-/// is refused.
+/// The places where a symbol is defined, as `Store::definitions` tells them, of the index that the bytes mean: whether they mean one
+/// is what `scip_index::check` answers. A path that no document has is no refusal here, as it is to `symbol_in_bytes`: a symbol whose
+/// text begins with `local ` has no place then, and any other has those of all documents. Fails where memory is refused.
 pub fn definitions_in_bytes<'a>(
     alloc: Global,
     bytes: &'a [u8],
     path: &str,
     symbol: &[u8],
 ) -> Result<Vec<Place<'a>>, AllocError>
+    requires means { (index : PlainIndex) × Means bytes.now index }
     ensures { (index : PlainIndex) → Means bytes.now index → IfOk result (λ places. map plain_place places.items ≡ definitions index path.now symbol.now) }
 {
     places_in_bytes(alloc, bytes, path, symbol, true)
@@ -439,6 +443,7 @@ pub fn references_in_bytes<'a>(
     path: &str,
     symbol: &[u8],
 ) -> Result<Vec<Place<'a>>, AllocError>
+    requires means { (index : PlainIndex) × Means bytes.now index }
     ensures { (index : PlainIndex) → Means bytes.now index → IfOk result (λ places. map plain_place places.items ≡ references index path.now symbol.now) }
 {
     places_in_bytes(alloc, bytes, path, symbol, false)

@@ -4,6 +4,7 @@ use Rattle.std.specs.Prelude.{Contains, slice_get, slice_index_or, Box}
 use Rattle.std.specs.declared.alloc.Global.{Global}
 use Rattle.std.proofs.lemmas.Option.{slice_get-get_or}
 use Rattle.ob_imports.specs.Graphs.{ImportGraph}
+use Rattle.ob_imports.specs.Outcomes.{AreFilesOfGraph}
 use Rattle.ob_interface.specs.Interfaces.{ModuleInterface}
 use Rattle.ob_scope.specs.Texts.{text_at}
 use Rattle.oscip_tree.specs.declared.parts.ModuleParts.{ModuleParts}
@@ -11,7 +12,7 @@ use Rattle.oscip_tree.specs.declared.source.Source.{Source}
 use Rattle.work_board.specs.Graphs.{row_at}
 use Rattle.board_workers.specs.Parts.{IsJob}
 use Rattle.tree_board.specs.Boards.{modules_of}
-use Rattle.tree_board.specs.Reached.{interface_in, names, AreReachedInterfaces, SeenFile}
+use Rattle.tree_board.specs.Reached.{files_of, interface_in, names, AreReachedInterfaces, ReachesAlike, SeenFile}
 use Rattle.tree_board.specs.Seen.{all_seen, seen_in, AreSourcesRead}
 use Rattle.tree_board.proofs.Shared.{parts_reached}
 use Rattle.ob_board.specs.Entries.{IsEntryOf, PlainEntry}
@@ -31,7 +32,11 @@ abbrev SaysOfFile : {E : Type 0} → (List SeenFile → List ℕ → E → Type 
 SaysOfFile {E} is_of shared_of =
     (files : List SeenFile) (n : List ℕ) (e : E) → is_of files n e → (file : SeenFile) × Contains files file × (names file 1 ≡ n) × (shared_of e ≡ interface_in file)
 
-module _ {E : Type 0} (is_of : List SeenFile → List ℕ → E → Type 0) (shared_of : E → ModuleInterface) (tells : SaysOfFile is_of shared_of) where
+-- what modules reach by numbers is what they reach by names, in every tree
+abbrev AllReachAlike : Type 0
+AllReachAlike = (files : List SeenFile) (g : ImportGraph) → AreFilesOfGraph (files_of files) g → ReachesAlike files g
+
+module _ {E : Type 0} (is_of : List SeenFile → List ℕ → E → Type 0) (shared_of : E → ModuleInterface) (tells : SaysOfFile is_of shared_of) (alike : AllReachAlike) where
   given_own : (sources : List Source) (modules : List (Box ModuleParts Global)) (g : ImportGraph) → AreSourcesRead sources modules g
       → (n : ℕ) (parts : List ModuleInterface) → IsJob (is_of (all_seen sources modules)) shared_of (modules_of g) n parts → IsGiven (all_seen sources modules) sources modules g n parts
   given_own sources modules g seen n parts job =
@@ -40,7 +45,7 @@ module _ {E : Type 0} (is_of : List SeenFile → List ℕ → E → Type 0) (sha
       let at : (s : Source) (m : Box ModuleParts Global) → slice_get files n ≡ Some (seen_in (slice_index_or sources n s) (slice_index_or modules n m).value) =
       λ s m. at_seen sources modules n (slice_index_or sources n s) (slice_index_or modules n m) (slice_get-get_or sources n s both.0) (slice_get-get_or modules n m both.1) in
       let reached : (s : Source) (m : Box ModuleParts Global) → AreReachedInterfaces files (names (seen_in (slice_index_or sources n s) (slice_index_or modules n m).value) 1) parts =
-      λ s m. parts_reached (is_of files) shared_of files g seen.kept (tells files) n parts (seen_in (slice_index_or sources n s) (slice_index_or modules n m).value) (at s m) job in
+      λ s m. parts_reached (is_of files) shared_of files g seen.kept (tells files) (alike files g seen.kept) n parts (seen_in (slice_index_or sources n s) (slice_index_or modules n m).value) (at s m) job in
       record {
         within = both;
         at_hand = λ s m.
@@ -64,16 +69,16 @@ module _ {E : Type 0} (is_of : List SeenFile → List ℕ → E → Type 0) (sha
       (subst (λ (fs : List SeenFile). IsGiven fs sources modules g n parts) (sym are) (given_own sources modules g seen n parts of_own))
 
 -- where what is found is made
-pub found_given : (files : List SeenFile) (sources : List Source) (modules : List (Box ModuleParts Global)) (g board : ImportGraph) → files ≡ all_seen sources modules → AreSourcesRead sources modules g → g ≡ board
+pub found_given : AllReachAlike → (files : List SeenFile) (sources : List Source) (modules : List (Box ModuleParts Global)) (g board : ImportGraph) → files ≡ all_seen sources modules → AreSourcesRead sources modules g → g ≡ board
     → (n : ℕ) (parts : List ModuleInterface) → IsJob (λ (x : List ℕ) (f : PlainFound). IsFoundOf files x f) (λ (f : PlainFound). f.interface) (modules_of board) n parts → IsGiven files sources modules board n parts
-found_given = given (λ files x f. IsFoundOf files x f) (λ f. f.interface) (λ files x f is. (is.file, is.is_of_tree, is.named, is.interface_is))
+found_given alike = given (λ files x f. IsFoundOf files x f) (λ f. f.interface) (λ files x f is. (is.file, is.is_of_tree, is.named, is.interface_is)) alike
 
 -- where an entry is made
-pub entry_given : (package_name : List ℕ) (files : List SeenFile) (sources : List Source) (modules : List (Box ModuleParts Global)) (g board : ImportGraph) → files ≡ all_seen sources modules → AreSourcesRead sources modules g
+pub entry_given : AllReachAlike → (package_name : List ℕ) (files : List SeenFile) (sources : List Source) (modules : List (Box ModuleParts Global)) (g board : ImportGraph) → files ≡ all_seen sources modules → AreSourcesRead sources modules g
     → g ≡ board → (n : ℕ) (parts : List ModuleInterface) → IsJob (λ (x : List ℕ) (e : PlainEntry). IsEntryOf files package_name x e) (λ (e : PlainEntry). e.interface) (modules_of board) n parts → IsGiven files sources modules board n parts
-entry_given package_name = given (λ files x e. IsEntryOf files package_name x e) (λ e. e.interface) (λ files x e is. (is.file, is.is_of_tree, is.named, is.entry.interface_is))
+entry_given alike package_name = given (λ files x e. IsEntryOf files package_name x e) (λ e. e.interface) (λ files x e is. (is.file, is.is_of_tree, is.named, is.entry.interface_is)) alike
 
 -- where the record of a document is made
-pub recorded_given : (package_name : List ℕ) (files : List SeenFile) (sources : List Source) (modules : List (Box ModuleParts Global)) (g board : ImportGraph) → files ≡ all_seen sources modules → AreSourcesRead sources modules g
+pub recorded_given : AllReachAlike → (package_name : List ℕ) (files : List SeenFile) (sources : List Source) (modules : List (Box ModuleParts Global)) (g board : ImportGraph) → files ≡ all_seen sources modules → AreSourcesRead sources modules g
     → g ≡ board → (n : ℕ) (parts : List ModuleInterface) → IsJob (λ (x : List ℕ) (r : PlainRecorded). IsRecordedOf files package_name x r) (λ (r : PlainRecorded). r.interface) (modules_of board) n parts → IsGiven files sources modules board n parts
-recorded_given package_name = given (λ files x r. IsRecordedOf files package_name x r) (λ r. r.interface) (λ files x r is. (is.entry.file, is.entry.is_of_tree, is.entry.named, is.entry.entry.interface_is))
+recorded_given alike package_name = given (λ files x r. IsRecordedOf files package_name x r) (λ r. r.interface) (λ files x r is. (is.entry.file, is.entry.is_of_tree, is.entry.named, is.entry.entry.interface_is)) alike

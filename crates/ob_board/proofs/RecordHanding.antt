@@ -4,6 +4,7 @@ use Rattle.std.specs.Prelude.{slice_get, Box, IfOk}
 use Rattle.std.specs.Global.{Vec}
 use Rattle.std.specs.List.{flat_map}
 use Rattle.std.specs.declared.alloc.Global.{Global}
+use Rattle.std.proofs.lemmas.List.Folds.{flat_map-map}
 use Rattle.std.proofs.lemmas.Option.{get_or_from_slice_get, slice_get-get_or, slice_get_within}
 use Rattle.ob_emit.specs.Documents.{document_of}
 use Rattle.ob_emit.specs.Externals.{AreExternalRows, AreExternals}
@@ -19,7 +20,7 @@ use Rattle.oscip_tree.specs.declared.source.Source.{Source}
 use Rattle.oscip_tree.specs.Parts.{ArePartsOfTree}
 use Rattle.oscip_tree.specs.Trees.{ModuleFile}
 use Rattle.scip_index.specs.Plain.{plain_metadata, plain_symbol, PlainDocument, PlainIndex, PlainSymbol}
-use Rattle.scip_index.specs.Written.{document_part, documents_part}
+use Rattle.scip_index.specs.Written.{document_part}
 use Rattle.work_board.specs.Graphs.{row_at}
 use Rattle.board_workers.specs.Parts.{AreEntries as AreAtBoard}
 use Rattle.tree_board.specs.Boards.{modules_of}
@@ -65,12 +66,12 @@ unfolding entries_with
 with_externals [] d = refl
 with_externals (r ∷ all) d = ap (λ (rows : List PlainSymbol). r.externals ++ rows) (with_externals all (λ k x at. d (suc k) x at))
 
-with_bytes : (all : List PlainRecorded) (d : AreDocuments all) → ((k : ℕ) (r : PlainRecorded) (at : slice_get all k ≡ Some r) → r.bytes ≡ document_part (d k r at)) →
-    documents_part (documents_in (entries_with all d)) ≡ flat_map (λ (r : PlainRecorded). r.bytes) all
+with_records : (all : List PlainRecorded) (d : AreDocuments all) → ((k : ℕ) (r : PlainRecorded) (at : slice_get all k ≡ Some r) → r.bytes ≡ document_part (d k r at)) →
+    map document_part (documents_in (entries_with all d)) ≡ map (λ (r : PlainRecorded). r.bytes) all
 unfolding entries_with
-with_bytes [] d are = refl
-with_bytes (r ∷ all) d are =
-    ap₂ (λ (a b : List ℕ). a ++ b) (sym (are zero r refl)) (with_bytes all (λ k x at. d (suc k) x at) (λ k x at. are (suc k) x at))
+with_records [] d are = refl
+with_records (r ∷ all) d are =
+    ap₂ (λ (a : List ℕ) (b : List (List ℕ)). a ∷ b) (sym (are zero r refl)) (with_records all (λ k x at. d (suc k) x at) (λ k x at. are (suc k) x at))
 
 -- an entry is that of the bytes at its place
 with_at : (all : List PlainRecorded) (d : AreDocuments all) (k : ℕ) (e : PlainEntry) → slice_get (entries_with all d) k ≡ Some e →
@@ -92,7 +93,7 @@ module _ (sources : List Source) (modules : List (Box ModuleParts Global)) (g : 
 
   -- the records of all modules
   pub records_all : (all : List PlainRecorded) → AreAtBoard (λ (x : List ℕ) (r : PlainRecorded). IsRecordedOf files package_name x r) (modules_of g) all →
-      AreRecordsOf files package_name (flat_map (λ (r : PlainRecorded). r.bytes) all) (flat_map (λ (r : PlainRecorded). r.externals) all)
+      AreRecordsOf files package_name (map (λ (r : PlainRecorded). r.bytes) all) (flat_map (λ (r : PlainRecorded). r.externals) all)
   records_all all are =
       let own : (k : ℕ) (r : PlainRecorded) → slice_get all k ≡ Some r → IsRecordedOf files package_name (row_at (modules_of g).names k) r =
       λ k r at. subst (IsRecordedOf files package_name (row_at (modules_of g).names k)) (get_or_from_slice_get all k r r at) (are.own k r (slice_get_within all k r at)) in
@@ -107,34 +108,40 @@ module _ (sources : List Source) (modules : List (Box ModuleParts Global)) (g : 
               let (r, at, same) = with_at all d n (get_or es n e) (slice_get-get_or es n e lt) in
               subst (IsEntryOf files package_name (row_at (modules_of g).names n)) same (own n r at).entry;
         });
-        bytes_are = with_bytes all d (λ k r at. (own k r at).bytes_are);
+        records_are = with_records all d (λ k r at. (own k r at).bytes_are);
         externals_are = with_externals all d;
       }
 
 -- what is gathered of them
-pub gathered : {T E : Type 0} (all : List SeenFile) (package_name bytes : List ℕ) (rows : List PlainSymbol) (result : Result T E) (bytes_of : T → List ℕ) (rows_of : T → List PlainSymbol) →
-    IfOk result (λ t. bytes_of t ≡ bytes) → IfOk result (λ t. rows_of t ≡ rows) → AreRecordsOf all package_name bytes rows → IfOk result (λ t. AreRecordsOf all package_name (bytes_of t) (rows_of t))
-gathered all package_name bytes rows (Ok t) bytes_of rows_of e f are = rw (e, f) are
-gathered all package_name bytes rows (Err fault) bytes_of rows_of e f are = tt
+pub gathered : {T E : Type 0} (all : List SeenFile) (package_name : List ℕ) (records : List (List ℕ)) (rows : List PlainSymbol) (result : Result T E) (records_of : T → List (List ℕ)) (rows_of : T → List PlainSymbol) →
+    IfOk result (λ t. records_of t ≡ records) → IfOk result (λ t. rows_of t ≡ rows) → AreRecordsOf all package_name records rows →
+    IfOk result (λ t. AreRecordsOf all package_name (records_of t) (rows_of t))
+gathered all package_name records rows (Ok t) records_of rows_of e f are = rw (e, f) are
+gathered all package_name records rows (Err fault) records_of rows_of e f are = tt
 
 -- those of the parts of a tree are the tree's
-pub records_told : (sources : List Source) (package_name : List ℕ) (modules : List ModuleFile) (tree : TreeParts) (bytes : List ℕ) (rows : List PlainSymbol) → ArePartsOfTree sources modules tree →
-    AreRecordsOf (all_seen sources tree.modules.items) package_name bytes rows → AreTreeRecords sources package_name bytes rows
-records_told sources package_name modules tree bytes rows are of = record {
+pub records_told : (sources : List Source) (package_name : List ℕ) (modules : List ModuleFile) (tree : TreeParts) (records : List (List ℕ)) (rows : List PlainSymbol) → ArePartsOfTree sources modules tree →
+    AreRecordsOf (all_seen sources tree.modules.items) package_name records rows → AreTreeRecords sources package_name records rows
+records_told sources package_name modules tree records rows are of = record {
   entries = of.entries;
   are_entries = entries_told sources package_name modules tree of.entries are of.are_entries;
-  bytes_are = of.bytes_are;
+  records_are = of.records_are;
   externals_are = of.externals_are;
 }
 
-pub externals_gathered : (sources : List Source) (package_name bytes : List ℕ) (rows : List PlainSymbol) → AreTreeRecords sources package_name bytes rows → AreExternalRows rows
-externals_gathered sources package_name bytes rows of = subst AreExternalRows of.externals_are (externals_of_tree sources package_name of.entries of.are_entries)
+pub externals_gathered : (sources : List Source) (package_name : List ℕ) (records : List (List ℕ)) (rows : List PlainSymbol) → AreTreeRecords sources package_name records rows → AreExternalRows rows
+externals_gathered sources package_name records rows of = subst AreExternalRows of.externals_are (externals_of_tree sources package_name of.entries of.are_entries)
+
+-- lists one behind the other are joined
+joined : {X : Type 0} (f : X → List ℕ) (xs : List X) → flat_map f xs ≡ flat_map (λ (bytes : List ℕ). bytes) (map f xs)
+joined f xs = sym (flat_map-map (λ (bytes : List ℕ). bytes) f xs)
 
 -- the parts of an index of what is gathered of a tree are those of the tree's
 pub written_told : (sources : List Source) (package_name root : List ℕ) (w : WrittenIndex) (records : List (Vec ℕ)) (rows : List PlainSymbol) →
-    AreTreeRecords sources package_name (flat_map (λ (row : Vec ℕ). row.items) records) rows →
+    AreTreeRecords sources package_name (map (λ (row : Vec ℕ). row.items) records) rows →
     plain_metadata w.metadata ≡ own_metadata root → w.records.items ≡ records → AreExternals rows (map plain_symbol w.external_symbols.items) → IsWrittenIndex sources package_name root w
 written_told sources package_name root w records rows of metadata same externals =
+    let each : map document_part (documents_in of.entries) ≡ map (λ (row : Vec ℕ). row.items) w.records.items = of.records_are ∙ ap (map (λ (row : Vec ℕ). row.items)) (sym same) in
     let index : PlainIndex = record { metadata = Some (own_metadata root); documents = documents_in of.entries; external_symbols = map plain_symbol w.external_symbols.items } in
     record {
       index = index;
@@ -144,6 +151,7 @@ written_told sources package_name root w records rows of metadata same externals
         externals = subst (λ (xs : List PlainSymbol). AreExternals xs index.external_symbols) (sym of.externals_are) externals;
       });
       metadata = ap Some (sym metadata);
-      documents = of.bytes_are ∙ ap (flat_map (λ (row : Vec ℕ). row.items)) (sym same);
+      records = each;
+      documents = joined document_part (documents_in of.entries) ∙ ap (flat_map (λ (bytes : List ℕ). bytes)) each ∙ sym (joined (λ (row : Vec ℕ). row.items) w.records.items);
       externals = refl;
     }

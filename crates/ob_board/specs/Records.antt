@@ -12,7 +12,7 @@ use Rattle.oscip_tree.specs.declared.source.Source.{Source}
 use Rattle.std.specs.List.{flat_map}
 use Rattle.std.specs.String.{string_bytes}
 use Rattle.scip_index.specs.Plain.{PlainDocument, PlainSymbol}
-use Rattle.scip_index.specs.Written.{document_part, documents_part}
+use Rattle.scip_index.specs.Written.{document_part}
 use Rattle.tree_board.specs.Reached.{SeenFile}
 use Rattle.ob_board.specs.Entries.{AreEntriesOf, IsEntryOf, PlainEntry}
 use Rattle.ob_board.specs.Indexes.{AreTreeEntries}
@@ -51,15 +51,15 @@ abbrev pub documents_in : List PlainEntry → List PlainDocument
 documents_in entries = map (λ (e : PlainEntry). e.document) entries
 
 -- the records of the documents of all files, in their order, and their external symbols, one list behind the other
-pub record AreRecordsOf (files : List SeenFile) (package_name bytes : List ℕ) (externals : List PlainSymbol) : Type 0 where
+pub record AreRecordsOf (files : List SeenFile) (package_name : List ℕ) (records : List (List ℕ)) (externals : List PlainSymbol) : Type 0 where
   pub entries : List PlainEntry
   pub are_entries : AreEntriesOf files package_name entries
-  pub bytes_are : documents_part (documents_in entries) ≡ bytes
+  pub records_are : map document_part (documents_in entries) ≡ records
   pub externals_are : flat_map (λ (e : PlainEntry). e.externals) entries ≡ externals
 
 -- those of the tree of these sources
-pub record AreTreeRecords (sources : List Source) (package_name bytes : List ℕ) (externals : List PlainSymbol) : Type 0 where
+pub record AreTreeRecords (sources : List Source) (package_name : List ℕ) (records : List (List ℕ)) (externals : List PlainSymbol) : Type 0 where
   pub entries : List PlainEntry
   pub are_entries : AreTreeEntries sources package_name entries
-  pub bytes_are : documents_part (documents_in entries) ≡ bytes
+  pub records_are : map document_part (documents_in entries) ≡ records
   pub externals_are : flat_map (λ (e : PlainEntry). e.externals) entries ≡ externals

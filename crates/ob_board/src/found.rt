@@ -29,6 +29,7 @@ use oscip_tree::{ModuleParts, Source};
 use std::alloc::{AllocError, Global};
 use std::marker::{Model, PhantomData};
 use std::sync::Arc;
+use tree_board::laws::reached_by_names;
 use work_board::WorkEntry;
 
 /// What is found of a module. The type names the tree.
@@ -220,6 +221,7 @@ impl<F: NamedFiles> Work for Finding<'_, F> {
     ghost graph = { λ w. modules_of w };
 
     fn make(&self, number: u32, parts: &[Arc<Interface>]) -> Result<Found<F>, AllocError> {
+        reached_by_names();
         let place = number as usize;
         let found = found_in(
             self.alloc,

@@ -87,7 +87,7 @@ fn entries_in<F: NamedIndex + Send + Sync, G: BoardGate + Sync, R: Threads + Wai
 {
     let by_name = names_ascend(alloc, tree.modules.as_slice())?;
     let graph = board_graph(alloc, &tree.graph)?;
-    let work = Making::<F>::new(
+    let work = Making::<F, Made<F>>::new(
         alloc,
         sources,
         tree.modules.as_slice(),

@@ -22,4 +22,5 @@ pub use entry::Entry;
 pub use indexing::{IndexOptions, entries, index_tree};
 pub use listing::unresolved_in_tree;
 pub use unresolved::Unresolved;
+pub use work_board::{Board, BoardFault, Claim, Graph, NamedTree, WorkEntry};
 pub use writing::{WrittenIndex, written_index};

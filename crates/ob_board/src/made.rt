@@ -19,6 +19,7 @@ use oscip_tree::{ModuleParts, Source};
 use std::alloc::{AllocError, Global};
 use std::marker::{Model, PhantomData};
 use std::sync::Arc;
+use tree_board::laws::reached_by_names;
 use work_board::WorkEntry;
 
 /// The entry of a module of the tree that the type names.
@@ -104,20 +105,21 @@ fn made_in<F: NamedIndex>(
     })
 }
 
-/// Makes the entries of the modules of a tree, which the type names.
+/// Makes what becomes of each module of a tree, which the type names.
 #[derive(Drop)]
-pub(crate) struct Making<'a, F: NamedIndex> {
-    alloc: Global,
-    sources: &'a [Source],
-    modules: &'a [Box<ModuleParts>],
+pub(crate) struct Making<'a, F: NamedIndex, E> {
+    pub(crate) alloc: Global,
+    pub(crate) sources: &'a [Source],
+    pub(crate) modules: &'a [Box<ModuleParts>],
     graph: &'a Graph,
-    package_name: &'a str,
+    pub(crate) package_name: &'a str,
     /// Whether the names of the modules are known to ascend.
-    by_name: bool,
+    pub(crate) by_name: bool,
     of: PhantomData<F>,
+    made: PhantomData<E>,
 }
 
-impl<'a, F: NamedIndex> Model for Making<'a, F> {
+impl<'a, F: NamedIndex, E> Model for Making<'a, F, E> {
     ghost use Rattle.std.specs.Prelude.{◌≡◌, false};
     ghost use Rattle.ob_imports.specs.Graphs.{ImportGraph};
     ghost use Rattle.ob_types.specs.Homes.{AreByName};
@@ -134,8 +136,8 @@ impl<'a, F: NamedIndex> Model for Making<'a, F> {
         × (is_wrong_part F.package_name ≡ false) × OnTrue w.by_name (AreByName (interfaces_of w.modules.now)) };
 }
 
-impl<'a, F: NamedIndex> Making<'a, F> {
-    /// What makes the entries of the modules of these files, with symbols of this package, told whether the names of the modules
+impl<'a, F: NamedIndex, E> Making<'a, F, E> {
+    /// What makes this of the modules of these files, with symbols of this package, told whether the names of the modules
     /// are known to ascend.
     pub(crate) fn new(
         alloc: Global,
@@ -144,7 +146,7 @@ impl<'a, F: NamedIndex> Making<'a, F> {
         graph: &'a Graph,
         package_name: &'a str,
         by_name: bool,
-    ) -> Making<'a, F>
+    ) -> Making<'a, F, E>
         requires files { F.files ≡ all_seen sources.now modules.now }
         requires seen { AreSourcesRead sources.now modules.now graph.now }
         requires package { package_name.now ≡ F.package_name }
@@ -160,11 +162,12 @@ impl<'a, F: NamedIndex> Making<'a, F> {
             package_name,
             by_name,
             of: PhantomData,
+            made: PhantomData,
         }
     }
 }
 
-impl<F: NamedIndex> Work for Making<'_, F> {
+impl<F: NamedIndex> Work for Making<'_, F, Made<F>> {
     ghost use Rattle.tree_board.specs.Boards.{modules_of};
 
     type Entry = Made<F>;
@@ -172,6 +175,7 @@ impl<F: NamedIndex> Work for Making<'_, F> {
     ghost graph = { λ w. modules_of w };
 
     fn make(&self, number: u32, parts: &[Arc<Interface>]) -> Result<Made<F>, AllocError> {
+        reached_by_names();
         let place = number as usize;
         let made = made_in(
             self.alloc,

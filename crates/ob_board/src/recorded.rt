@@ -7,20 +7,20 @@ ghost use Rattle.std.specs.Bool.{OnTrue};
 ghost use Rattle.ob_scope.specs.Texts.{text_at};
 ghost use Rattle.ob_types.specs.Homes.{AreByName};
 ghost use Rattle.scip_symbol.specs.Outcomes.{is_wrong_part};
-ghost use Rattle.tree_board.specs.Seen.{all_seen, AreSourcesRead};
-ghost use Rattle.ob_board.specs.Entries.{interfaces_of, AreAllNamed};
+ghost use Rattle.ob_board.specs.Entries.{AreAllNamed};
 ghost use Rattle.ob_board.specs.Found.{IsAtHand};
 
+use crate::made::Making;
 use crate::named_index::NamedIndex;
 use crate::written::{WrittenRecord, record_module};
 use board_workers::Work;
-use ob_imports::Graph;
 use ob_interface::Interface;
 use oscip_tree::{ModuleParts, Source};
 use scip_index::SymbolInfo;
 use std::alloc::{AllocError, Global};
 use std::marker::{Model, PhantomData};
 use std::sync::Arc;
+use tree_board::laws::reached_by_names;
 use work_board::WorkEntry;
 
 /// The entry of a module of the tree that the type names, with the record of its document.
@@ -121,67 +121,7 @@ fn recorded_in<F: NamedIndex>(
     })
 }
 
-/// Makes the entries of the modules of a tree, which the type names.
-#[derive(Drop)]
-pub(crate) struct Recording<'a, F: NamedIndex> {
-    alloc: Global,
-    sources: &'a [Source],
-    modules: &'a [Box<ModuleParts>],
-    graph: &'a Graph,
-    package_name: &'a str,
-    /// Whether the names of the modules are known to ascend.
-    by_name: bool,
-    of: PhantomData<F>,
-}
-
-impl<'a, F: NamedIndex> Model for Recording<'a, F> {
-    ghost use Rattle.std.specs.Prelude.{◌≡◌, false};
-    ghost use Rattle.ob_imports.specs.Graphs.{ImportGraph};
-    ghost use Rattle.ob_types.specs.Homes.{AreByName};
-    ghost use Rattle.scip_symbol.specs.Outcomes.{is_wrong_part};
-    ghost use Rattle.std.specs.Bool.{OnTrue};
-    ghost use Rattle.tree_board.specs.Seen.{all_seen, AreSourcesRead};
-    ghost use Rattle.ob_board.specs.Entries.{interfaces_of};
-
-    ghost Value = { ImportGraph };
-
-    ghost view = { λ w. w.graph.now };
-
-    ghost invariant = { λ w. (F.files ≡ all_seen w.sources.now w.modules.now) × AreSourcesRead w.sources.now w.modules.now w.graph.now × (w.package_name.now ≡ F.package_name)
-        × (is_wrong_part F.package_name ≡ false) × OnTrue w.by_name (AreByName (interfaces_of w.modules.now)) };
-}
-
-impl<'a, F: NamedIndex> Recording<'a, F> {
-    /// What makes the entries of the modules of these files, with symbols of this package, told whether the names of the modules
-    /// are known to ascend.
-    pub(crate) fn new(
-        alloc: Global,
-        sources: &'a [Source],
-        modules: &'a [Box<ModuleParts>],
-        graph: &'a Graph,
-        package_name: &'a str,
-        by_name: bool,
-    ) -> Recording<'a, F>
-        requires files { F.files ≡ all_seen sources.now modules.now }
-        requires seen { AreSourcesRead sources.now modules.now graph.now }
-        requires package { package_name.now ≡ F.package_name }
-        requires right { is_wrong_part F.package_name ≡ false }
-        requires by_name { OnTrue by_name (AreByName (interfaces_of modules.now)) }
-        ensures { result ≡ graph.now }
-    {
-        Recording {
-            alloc,
-            sources,
-            modules,
-            graph,
-            package_name,
-            by_name,
-            of: PhantomData,
-        }
-    }
-}
-
-impl<F: NamedIndex> Work for Recording<'_, F> {
+impl<F: NamedIndex> Work for Making<'_, F, Recorded<F>> {
     ghost use Rattle.tree_board.specs.Boards.{modules_of};
 
     type Entry = Recorded<F>;
@@ -189,6 +129,7 @@ impl<F: NamedIndex> Work for Recording<'_, F> {
     ghost graph = { λ w. modules_of w };
 
     fn make(&self, number: u32, parts: &[Arc<Interface>]) -> Result<Recorded<F>, AllocError> {
+        reached_by_names();
         let place = number as usize;
         let recorded = recorded_in(
             self.alloc,

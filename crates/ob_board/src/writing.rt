@@ -14,8 +14,9 @@ ghost use Rattle.ob_board.specs.WrittenIndexes.{IsWrittenIndex};
 
 use crate::IndexOptions;
 use crate::indexing::{metadata, names_ascend};
+use crate::made::Making;
 use crate::named_index::NamedIndex;
-use crate::recorded::{Recorded, Recording};
+use crate::recorded::Recorded;
 use crate::written::WrittenRecord;
 use board_workers::BoardGate;
 use ob_emit::all_externals;
@@ -46,7 +47,7 @@ struct Gathered {
 
 /// Gathers these.
 fn gather<F: NamedIndex>(alloc: Global, all: Vec<Recorded<F>>) -> Result<Gathered, AllocError>
-    ensures bytes { IfOk result (λ g. flat_map (λ row. row.items) g.records.items ≡ flat_map (λ r. r.bytes) all.items) }
+    ensures records { IfOk result (λ g. map (λ row. row.items) g.records.items ≡ map (λ r. r.bytes) all.items) }
     ensures rows { IfOk result (λ g. map plain_symbol g.rows.items ≡ flat_map (λ r. r.externals) all.items) }
 {
     let mut records = Vec::new(alloc);
@@ -74,11 +75,11 @@ fn records_in<F: NamedIndex + Send + Sync, G: BoardGate + Sync, R: Threads + Wai
     requires seen { AreSourcesRead sources.now tree.now.modules.items tree.now.graph }
     requires package { string_bytes options.now.package ≡ F.package_name }
     requires right { is_wrong_part F.package_name ≡ false }
-    ensures { IfOk result (λ g. AreRecordsOf F.files F.package_name (flat_map (λ row. row.items) g.records.items) (map plain_symbol g.rows.items)) }
+    ensures { IfOk result (λ g. AreRecordsOf F.files F.package_name (map (λ row. row.items) g.records.items) (map plain_symbol g.rows.items)) }
 {
     let by_name = names_ascend(alloc, tree.modules.as_slice())?;
     let graph = board_graph(alloc, &tree.graph)?;
-    let work = Recording::<F>::new(
+    let work = Making::<F, Recorded<F>>::new(
         alloc,
         sources,
         tree.modules.as_slice(),
@@ -101,7 +102,7 @@ fn tree_records<G: BoardGate + Sync, R: Threads + Wait + Sync>(
     gate: &G,
 ) -> Result<Gathered, TreeFault>
     requires package { is_wrong_part (string_bytes options.now.package) ≡ false }
-    ensures exact { IfOk result (λ g. AreTreeRecords sources.now (string_bytes options.now.package) (flat_map (λ row. row.items) g.records.items) (map plain_symbol g.rows.items)) }
+    ensures exact { IfOk result (λ g. AreTreeRecords sources.now (string_bytes options.now.package) (map (λ row. row.items) g.records.items) (map plain_symbol g.rows.items)) }
     ensures fault { IfErr result (IsTreeFault sources.now) }
 {
     let tree = tree_parts(rt, alloc, sources, workers)?;

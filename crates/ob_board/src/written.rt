@@ -1,10 +1,10 @@
 //! The document and the external symbols of a module.
-ghost use Rattle.std.specs.Prelude.{◌≡◌, ◌<◌, ◌^◌, false, length, map, IfOk};
+ghost use Rattle.std.specs.Prelude.{◌≡◌, ◌<◌, ◌^◌, false, length, map, IfOk, Ok};
 ghost use Rattle.std.specs.Arc.{arc_value};
 ghost use Rattle.std.specs.Bool.{OnTrue};
 ghost use Rattle.ob_decls.specs.Declaring.{rows_in};
 ghost use Rattle.ob_emit.specs.Named.{HaveNames};
-ghost use Rattle.ob_scan.specs.Spelling.{IsOutcome, Reads, Spells};
+ghost use Rattle.ob_scan.specs.Spelling.{IsOutcome, Spells};
 ghost use Rattle.ob_scope.specs.Scoped.{AreScopes};
 ghost use Rattle.ob_types.specs.Homes.{AreByName};
 ghost use Rattle.scip_index.specs.Plain.{plain_document, plain_symbol};
@@ -69,7 +69,7 @@ pub(crate) fn write_module(
     by_name: bool,
     package_name: &str,
 ) -> Result<Written, AllocError>
-    requires spelled { IsOutcome source.now.bytes.items (Reads parts.now.tokens) }
+    requires spelled { IsOutcome source.now.bytes.items (Ok parts.now.tokens) }
     requires scoped { AreScopes source.now.bytes.items parts.now.tokens (rows_in parts.now.table) parts.now.scopes }
     requires named { AreAllNamed (map arc_value reached.now) }
     requires by_name { OnTrue by_name (AreByName (map arc_value reached.now)) }
@@ -135,7 +135,7 @@ pub(crate) fn record_module(
     by_name: bool,
     package_name: &str,
 ) -> Result<WrittenRecord, AllocError>
-    requires spelled { IsOutcome source.now.bytes.items (Reads parts.now.tokens) }
+    requires spelled { IsOutcome source.now.bytes.items (Ok parts.now.tokens) }
     requires scoped { AreScopes source.now.bytes.items parts.now.tokens (rows_in parts.now.table) parts.now.scopes }
     requires named { AreAllNamed (map arc_value reached.now) }
     requires by_name { OnTrue by_name (AreByName (map arc_value reached.now)) }

@@ -1,5 +1,6 @@
 pub mod KeptTexts
 pub mod Declarers
+pub mod DefinedRanges
 pub mod ExternalOrder
 pub mod ExternalTexts
 pub mod FirstUses
@@ -21,6 +22,7 @@ pub mod SeenOrder
 pub mod SeenOwners
 pub mod SeenPaths
 pub mod SeenSymbols
+pub mod SymbolsTexted
 pub mod Texting
 pub mod ShortUses
 pub mod LinesNear

@@ -21,6 +21,7 @@ use Rattle.ob_interface.specs.Placed.{declaration_at, owner_place}
 use Rattle.ob_decls.specs.declared.rows.Sort.{Sort}
 use Rattle.scip_symbol.specs.declared.kind.DescriptorKind.{DescriptorKind}
 use Rattle.scip_symbol.specs.declared.kind.DescriptorKind.TheVariants.{Term}
+use Rattle.scip_symbol.specs.SymbolTexts.{PlainDescriptor}
 use Rattle.ob_emit.specs.Made.{AreStepNames}
 use Rattle.ob_emit.specs.Named.{HaveNames, IsName, HasNames}
 use Rattle.ob_emit.specs.Symbols.{PathStep, descriptor, step_in_block, step_in_record, kind_of, own_step, own_step_by, own_steps, step_by, step_there, steps_there}
@@ -87,49 +88,71 @@ module _ (w : World) (named : HaveNames w) where
   unfolding text
   import_named i at e = named.here.imports i (contains_slice w.rows.imports at i e)
 
--- ---- the names of steps
+-- ---- the descriptors of steps
 
-in_kind_name : (name : List ℕ) (kind : Option DescriptorKind) (s : PathStep) → option_map (λ (k : DescriptorKind). record { own = descriptor k name; owner = None }) kind ≡ Some s → s.own.name ≡ name
-in_kind_name name None s e = absurd (let none : None ≡ Some s = e in cc)
-in_kind_name name (Some k) s e = ap (λ (x : PathStep). x.own.name) (sym (some_one (record { own = descriptor k name; owner = None }) s e))
+-- the step's descriptor is one of this name, without a disambiguator
+abbrev IsStepOf : List ℕ → PathStep → Type 0
+IsStepOf name s = s.own ≡ descriptor s.own.kind name
 
-in_block_name : (sort : Sort) (name : List ℕ) (s : PathStep) → step_in_block sort name ≡ Some s → s.own.name ≡ name
-in_block_name sort name s e = in_kind_name name (kind_of sort) s e
+in_kind : (name : List ℕ) (kind : Option DescriptorKind) (s : PathStep) → option_map (λ (k : DescriptorKind). record { own = descriptor k name; owner = None }) kind ≡ Some s → IsStepOf name s
+in_kind name None s e = absurd (let none : None ≡ Some s = e in cc)
+in_kind name (Some k) s e = subst (IsStepOf name) (some_one (record { own = descriptor k name; owner = None }) s e) refl
 
-in_record_name : (k : ℕ) (name : List ℕ) (o : Option ℕ) (s : PathStep) → step_in_record k name o ≡ Some s → s.own.name ≡ name
-in_record_name k name None s e = absurd (let none : None ≡ Some s = e in cc)
-in_record_name k name (Some o) s e = elim (cases_Bool (nat_lt o k)) [
-  | inl t ↦ ap (λ (x : PathStep). x.own.name) (sym (some_one (record { own = descriptor Term name; owner = Some o }) s (rw t at e)))
+in_block : (sort : Sort) (name : List ℕ) (s : PathStep) → step_in_block sort name ≡ Some s → IsStepOf name s
+in_block sort name s e = in_kind name (kind_of sort) s e
+
+in_record : (k : ℕ) (name : List ℕ) (o : Option ℕ) (s : PathStep) → step_in_record k name o ≡ Some s → IsStepOf name s
+in_record k name None s e = absurd (let none : None ≡ Some s = e in cc)
+in_record k name (Some o) s e = elim (cases_Bool (nat_lt o k)) [
+  | inl t ↦ subst (IsStepOf name) (some_one (record { own = descriptor Term name; owner = Some o }) s (rw t at e)) refl
   | inr f ↦ absurd (let none : None ≡ Some s = rw f at e in cc)
 ]
 
-own_step_by_name : (w : World) (k : ℕ) (sort : Sort) (of_record : Option ℕ) (s : PathStep) → own_step_by w k sort of_record ≡ Some s → s.own.name ≡ text w k
-own_step_by_name w k sort None s e = in_block_name sort (text w k) s e
-own_step_by_name w k sort (Some r) s e = in_record_name k (text w k) (owner_at w r) s e
+own_step_of_record : (w : World) (k : ℕ) (sort : Sort) (of_record : Option ℕ) (s : PathStep) → own_step_by w k sort of_record ≡ Some s → IsStepOf (text w k) s
+own_step_of_record w k sort None s e = in_block sort (text w k) s e
+own_step_of_record w k sort (Some r) s e = in_record k (text w k) (owner_at w r) s e
 
-own_step_name : (w : World) (k : ℕ) (by : Declarer) (s : PathStep) → own_step w k by ≡ Some s → s.own.name ≡ text w k
-own_step_name w k by s e = elim (cases_Bool (by.block == 0)) [
-  | inl t ↦ own_step_by_name w k by.sort by.of_record s (rw t at e)
+own_step_is : (w : World) (k : ℕ) (by : Declarer) (s : PathStep) → own_step w k by ≡ Some s → IsStepOf (text w k) s
+own_step_is w k by s e = elim (cases_Bool (by.block == 0)) [
+  | inl t ↦ own_step_of_record w k by.sort by.of_record s (rw t at e)
   | inr f ↦ absurd (let none : None ≡ Some s = rw f at e in cc)
 ]
 
-own_steps_by : (w : World) → HaveNames w → (k : ℕ) (o : Option Declarer) (s : PathStep) → declarer_of w k ≡ o → option_and_then (own_step w k) o ≡ Some s → IsName s.own.name
+-- a descriptor of a name, without a disambiguator
+pub record IsOfName (d : PlainDescriptor) : Type 0 where
+  pub name : IsName d.name
+  pub plain : d.disambiguator ≡ []
+
+step_named : (name : List ℕ) (s : PathStep) → IsName name → IsStepOf name s → IsOfName s.own
+step_named name s named is = record { name = subst IsName (sym (ap (λ (d : PlainDescriptor). d.name) is)) named; plain = ap (λ (d : PlainDescriptor). d.disambiguator) is }
+
+own_steps_by : (w : World) → HaveNames w → (k : ℕ) (o : Option Declarer) (s : PathStep) → declarer_of w k ≡ o → option_and_then (own_step w k) o ≡ Some s → IsOfName s.own
 own_steps_by w named k None s e f = absurd (let none : None ≡ Some s = f in cc)
-own_steps_by w named k (Some by) s e f = subst IsName (sym (own_step_name w k by s f)) (declarer_name w named k by e)
+own_steps_by w named k (Some by) s e f = step_named (text w k) s (declarer_name w named k by e) (own_step_is w k by s f)
+
+-- the steps' descriptors are those of names
+abbrev pub AreOfStepNames : (ℕ → Option PathStep) → Type 0
+AreOfStepNames steps = (k : ℕ) (s : PathStep) → steps k ≡ Some s → IsOfName s.own
+
+pub own_steps_named : (w : World) → HaveNames w → AreOfStepNames (own_steps w)
+own_steps_named w named k s e = own_steps_by w named k (declarer_of w k) s refl e
 
 pub own_step_names : (w : World) → HaveNames w → AreStepNames (own_steps w)
-own_step_names w named k s e = own_steps_by w named k (declarer_of w k) s refl e
+own_step_names w named k s e = (own_steps_named w named k s e).name
 
-step_by_name : (m : ModuleInterface) (d : ℕ) (it : Declaration) (of_record : Option ℕ) (s : PathStep) → step_by m d it of_record ≡ Some s → s.own.name ≡ it.name
-step_by_name m d it None s e = in_block_name it.sort it.name s e
-step_by_name m d it (Some r) s e = in_record_name d it.name (owner_place m r) s e
+step_is : (m : ModuleInterface) (d : ℕ) (it : Declaration) (of_record : Option ℕ) (s : PathStep) → step_by m d it of_record ≡ Some s → IsStepOf it.name s
+step_is m d it None s e = in_block it.sort it.name s e
+step_is m d it (Some r) s e = in_record d it.name (owner_place m r) s e
 
-steps_by : (m : ModuleInterface) → HasNames m → (d : ℕ) (o : Option Declaration) (s : PathStep) → declaration_at m d ≡ o → option_and_then (step_there m d) o ≡ Some s → IsName s.own.name
+steps_by : (m : ModuleInterface) → HasNames m → (d : ℕ) (o : Option Declaration) (s : PathStep) → declaration_at m d ≡ o → option_and_then (step_there m d) o ≡ Some s → IsOfName s.own
 steps_by m named d None s e f = absurd (let none : None ≡ Some s = f in cc)
-steps_by m named d (Some it) s e f = subst IsName (sym (step_by_name m d it it.of_record s f)) (named.declarations it (contains_slice m.declarations d it e))
+steps_by m named d (Some it) s e f = step_named it.name s (named.declarations it (contains_slice m.declarations d it e)) (step_is m d it it.of_record s f)
+
+pub steps_named : (m : ModuleInterface) → HasNames m → AreOfStepNames (steps_there m)
+steps_named m named d s e = steps_by m named d (declaration_at m d) s refl e
 
 pub step_names : (m : ModuleInterface) → HasNames m → AreStepNames (steps_there m)
-step_names m named d s e = steps_by m named d (declaration_at m d) s refl e
+step_names m named d s e = (steps_named m named d s e).name
 
 pub reached_named : (w : World) → HaveNames w → (i : ℕ) (m : ModuleInterface) → slice_get w.reached i ≡ Some m → HasNames m
 reached_named w named i m e = named.reached m (contains_slice w.reached i m e)

@@ -28,16 +28,16 @@ end_alike (a ∷ xs) (b ∷ ys) x y e =
 
 module _ (m : List ℕ) (steps : ℕ → Option PathStep) where
   -- what stands above a step
-  abbrev above : ℕ → Option ℕ → Option (List PlainDescriptor)
+  abbrev pub above : ℕ → Option ℕ → Option (List PlainDescriptor)
   above n owner = option_map_or (path_within m steps n) owner (Some (module_path m))
 
   -- a path has a step, and what stands above it
-  record HasStep (n k : ℕ) (ds : List PlainDescriptor) : Type 0 where
-    step : PathStep
-    there : steps k ≡ Some step
-    front : List PlainDescriptor
-    up : above n step.owner ≡ Some front
-    whole : ds ≡ front ++ step.own ∷ []
+  pub record HasStep (n k : ℕ) (ds : List PlainDescriptor) : Type 0 where
+    pub step : PathStep
+    pub there : steps k ≡ Some step
+    pub front : List PlainDescriptor
+    pub up : above n step.owner ≡ Some front
+    pub whole : ds ≡ front ++ step.own ∷ []
 
   behind : (n k : ℕ) (s : PathStep) (ds : List PlainDescriptor) (front : Option (List PlainDescriptor)) → steps k ≡ Some s → above n s.owner ≡ front →
       option_map (λ (xs : List PlainDescriptor). xs ++ s.own ∷ []) front ≡ Some ds → HasStep n k ds
@@ -55,11 +55,11 @@ module _ (m : List ℕ) (steps : ℕ → Option PathStep) where
   by_step n k ds None there e = absurd (let f : None ≡ Some ds = e in cc)
   by_step n k ds (Some s) there e = behind n k s ds (above n s.owner) there refl e
 
-  has_step : (n k : ℕ) (ds : List PlainDescriptor) → path_within m steps (suc n) k ≡ Some ds → HasStep n k ds
+  pub has_step : (n k : ℕ) (ds : List PlainDescriptor) → path_within m steps (suc n) k ≡ Some ds → HasStep n k ds
   unfolding path_within
   has_step n k ds e = by_step n k ds (steps k) refl e
 
-  no_path : (k : ℕ) (ds : List PlainDescriptor) → path_within m steps 0 k ≡ Some ds → ⊥
+  pub no_path : (k : ℕ) (ds : List PlainDescriptor) → path_within m steps 0 k ≡ Some ds → ⊥
   unfolding path_within
   no_path k ds e = let f : None ≡ Some ds = e in cc
 

@@ -151,16 +151,17 @@ count_passed p xs i j x at is l =
 -- ---- symbols
 
 -- a declaration with the symbol that it has
-data SymbolBy (w : World) (package_name : List ℕ) (i : ℕ) (d : Declared) (s : PlainSymbol) : Type 0 where
+pub data SymbolBy (w : World) (package_name : List ℕ) (i : ℕ) (d : Declared) (s : PlainSymbol) : Type 0 where
   within : is_local w d ≡ true → s ≡ Local (decimal (count_by (is_local w) (take i w.rows.declared))) → SymbolBy w package_name i d s
   outside : {ds : List PlainDescriptor} → own_path w d.number ≡ Some ds → s ≡ global package_name ds → SymbolBy w package_name i d s
 
-record HasSymbol (w : World) (package_name : List ℕ) (k : ℕ) (s : PlainSymbol) : Type 0 where
-  at : ℕ
-  row : Declared
-  there : slice_get w.rows.declared at ≡ Some row
-  number : row.number ≡ k
-  has : SymbolBy w package_name at row s
+pub record HasSymbol (w : World) (package_name : List ℕ) (k : ℕ) (s : PlainSymbol) : Type 0 where
+  pub at : ℕ
+  pub row : Declared
+  pub placed : position (λ (d : Declared). d.number == k) w.rows.declared ≡ Some at
+  pub there : slice_get w.rows.declared at ≡ Some row
+  pub number : row.number ≡ k
+  pub has : SymbolBy w package_name at row s
 
 module _ (w : World) (package_name : List ℕ) (k : ℕ) (s : PlainSymbol) where
   by_path : (i : ℕ) (d : Declared) (v : Option (List PlainDescriptor)) → own_path w d.number ≡ v → option_map (global package_name) v ≡ Some s → SymbolBy w package_name i d s
@@ -186,14 +187,14 @@ module _ (w : World) (package_name : List ℕ) (k : ℕ) (s : PlainSymbol) where
       let h = position-Some (λ (x : Declared). x.number == k) w.rows.declared i d placed in
       let is : get_or w.rows.declared i d ≡ d = get_or_from_slice_get w.rows.declared i d d there in
       let passes : (d.number == k) ≡ true = ap (λ (x : Declared). x.number == k) (sym is) ∙ h.1 in
-      record { at = i; row = d; there = there; number = eqb-true d.number k passes; has = by_local i d (is_local w d) refl e }
+      record { at = i; row = d; placed = placed; there = there; number = eqb-true d.number k passes; has = by_local i d (is_local w d) refl e }
 
   by_position : (v : Option ℕ) → position (λ (d : Declared). d.number == k) w.rows.declared ≡ v →
       option_and_then (λ (i : ℕ). option_and_then (symbol_at w package_name i) (slice_get w.rows.declared i)) v ≡ Some s → HasSymbol w package_name k s
   by_position None placed e = absurd (let f : None ≡ Some s = e in cc)
   by_position (Some i) placed e = by_row i (slice_get w.rows.declared i) placed refl e
 
-  has_symbol : declared_symbol w package_name k ≡ Some s → HasSymbol w package_name k s
+  pub has_symbol : declared_symbol w package_name k ≡ Some s → HasSymbol w package_name k s
   has_symbol e = by_position (position (λ (d : Declared). d.number == k) w.rows.declared) refl e
 
 decimals : (a b : ℕ) → a < 2 ^ 64 → b < 2 ^ 64 → decimal a ≡ decimal b → a ≡ b

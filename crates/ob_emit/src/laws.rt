@@ -1,5 +1,5 @@
 //! Laws of what callers of documents know. Each function is a law: its body is empty, and its contract is proved.
-ghost use Rattle.std.specs.Prelude.{◌≡◌, ◌<◌, ◌^◌, ℕ, Contains, List, Some, None, length, slice_get, false, true};
+ghost use Rattle.std.specs.Prelude.{◌≡◌, ◌≢◌, ◌<◌, ◌^◌, ℕ, Contains, List, [], Some, None, length, slice_get, false, true};
 ghost use Rattle.std.specs.Option.{is_some};
 ghost use Rattle.ob_scan.specs.declared.token.Token.{Token};
 ghost use Rattle.ob_scan.specs.Spelling.{Spells};
@@ -10,12 +10,15 @@ ghost use Rattle.ob_decls.specs.Parts.{Rows};
 ghost use Rattle.ob_interface.specs.Interfaces.{interface_of, Declaration, ModuleInterface};
 ghost use Rattle.ob_scope.specs.Scoped.{AreScopes, ModuleScopes};
 ghost use Rattle.ob_targets.specs.declared.target.Reference.{Reference};
-ghost use Rattle.ob_targets.specs.declared.target.Target.TheVariants.{Imported};
+ghost use Rattle.ob_targets.specs.declared.target.Target.{Target};
+ghost use Rattle.ob_targets.specs.declared.target.Target.TheVariants.{External, Imported};
 ghost use Rattle.ob_targets.specs.Refers.{AreReferences};
 ghost use Rattle.ob_types.specs.World.{declaration_there, text, World};
-ghost use Rattle.scip_symbol.specs.SymbolTexts.{PlainSymbol};
+ghost use Rattle.scip_symbol.specs.Outcomes.{is_wrong_part};
+ghost use Rattle.scip_symbol.specs.SymbolTexts.{plain_text, PlainSymbol, SymbolText};
 ghost use Rattle.ob_emit.specs.Apart.{seen_tokens, DeclaresOnce, IsLocal};
-ghost use Rattle.ob_emit.specs.Named.{HaveNames, AreOfNames, HasNames};
+ghost use Rattle.ob_emit.specs.Documents.{enclosing_range};
+ghost use Rattle.ob_emit.specs.Named.{HaveNames, AreOfNames, HasNames, IsName};
 ghost use Rattle.ob_emit.specs.Symbols.{declared_symbol, imported_symbol, is_of_another_module, stands_for_something, symbol_of};
 
 /// The scopes of a module say that it has names, and those of the modules that it reaches that these have.
@@ -34,12 +37,31 @@ pub fn trees_declare_once()
     ensures { (w : World) (m : Module) (s : ModuleScopes) → w.rows ≡ rows_of m → AreScopes w.bytes w.tokens w.rows s → length w.rows.declared < 2 ^ 64 → DeclaresOnce w }
 {}
 
+/// What an identifier stands for has a symbol with a text, of which the plain one is written, where names are names and the package can
+/// stand in a symbol. Fewer than 2^64 identifiers are declared. So no two of the symbols here have one text (`different_texts` of
+/// `scip_symbol`).
+pub fn symbols_have_texts()
+    ensures { (w : World) (package_name : List ℕ) (t : Target) (s : PlainSymbol) → HaveNames w → is_wrong_part package_name ≡ false → length w.rows.declared < 2 ^ 64
+        → ((item name : ℕ) → t ≡ External item name → IsName (text w name)) → symbol_of w package_name t ≡ Some s → SymbolText s (plain_text s) }
+{}
+
+/// A definition that has a symbol has the range of the construct that declares it.
+pub fn definitions_have_ranges()
+    ensures { (w : World) (package_name : List ℕ) (refs : List Reference) (r : Reference) (s : PlainSymbol) → AreReferences w refs → Contains refs r → r.role ≡ 1
+        → symbol_of w package_name r.target ≡ Some s → enclosing_range w r ≢ [] }
+{}
+
 /// Two declarations, fields too, have one symbol only where they are in modules of different names and both are local: so in a
 /// tree, whose modules have names of their own, each global symbol is that of one declaration, and each local one that of one in its
-/// document. Import items have no symbol of their own.
+/// document. Import items have no symbol of their own. The same is so of the texts that documents and questions hold, where names are names
+/// and the package can stand in a symbol.
 pub fn one_declaration()
     ensures here { (w : World) (package_name : List ℕ) (k j : ℕ) (s : PlainSymbol) → DeclaresOnce w → declared_symbol w package_name k ≡ Some s → declared_symbol w package_name j ≡ Some s → k ≡ j }
     ensures elsewhere { (w v : World) (package_name : List ℕ) (k j : ℕ) (s : PlainSymbol) → (text w own_name ≡ text v own_name → ⊥) → declared_symbol w package_name k ≡ Some s → declared_symbol v package_name j ≡ Some s → IsLocal s }
+    ensures text_here { (w : World) (package_name : List ℕ) (k j : ℕ) (s t : PlainSymbol) → DeclaresOnce w → HaveNames w → is_wrong_part package_name ≡ false
+        → declared_symbol w package_name k ≡ Some s → declared_symbol w package_name j ≡ Some t → plain_text s ≡ plain_text t → k ≡ j }
+    ensures text_elsewhere { (w v : World) (package_name : List ℕ) (k j : ℕ) (s t : PlainSymbol) → (text w own_name ≡ text v own_name → ⊥) → DeclaresOnce w → HaveNames w → DeclaresOnce v → HaveNames v
+        → is_wrong_part package_name ≡ false → declared_symbol w package_name k ≡ Some s → declared_symbol v package_name j ≡ Some t → plain_text s ≡ plain_text t → IsLocal s × IsLocal t }
 {}
 
 /// What other modules see of a module, fields too, has there the symbol that it has in its own module: so what one file defines is found

@@ -7,7 +7,7 @@ use Rattle.ob_tree.specs.declared.token.Leaf.{Leaf}
 use Rattle.ob_tree.specs.Leaves.{leaf_of, leaves_from}
 use Rattle.ob_parse.specs.declared.cursor.Cursor.{Cursor}
 use Rattle.ob_parse.specs.Front.{uncons}
-use Rattle.ob_parse.specs.Gives.{ahead, kind_of}
+use Rattle.ob_parse.specs.Accords.{ahead, kind_of}
 
 -- as many as there are kinds
 pub leaves_length : (n : ℕ) (kinds : List Kind) → length (leaves_from n kinds) ≡ length kinds

@@ -8,7 +8,7 @@ use Rattle.ob_tree.specs.Marks.{Out, word, times}
 use Rattle.ob_tree.proofs.Walks.{times_more}
 use Rattle.ob_parse.specs.declared.cursor.Cursor.{Cursor}
 use Rattle.ob_parse.specs.Forms.{Read, many, accept_at, expect_at}
-use Rattle.ob_parse.specs.Gives.{ahead, kind_of}
+use Rattle.ob_parse.specs.Accords.{ahead, kind_of}
 use Rattle.ob_parse.proofs.Ahead.{leaves_length}
 use Rattle.ob_parse.proofs.Sound.{expect_sound}
 use Rattle.ob_parse.proofs.Loops.{Advances, with_front, goes_on, smaller, accept_advances}

@@ -8,10 +8,10 @@ use Rattle.ob_parse.specs.declared.cursor.Cursor.{Cursor}
 use Rattle.ob_parse.specs.declared.stop.Stop.{Stop}
 use Rattle.ob_parse.specs.declared.stop.Stop.TheVariants as stops
 use Rattle.ob_parse.specs.Forms.{Read}
-use Rattle.ob_parse.specs.Gives.{Gives, ahead}
+use Rattle.ob_parse.specs.Accords.{Accords, ahead}
 
 -- the box that is answered has the value, or memory ran out
 pub gives_boxed : {T : Type 0} (ts : List Token) (view : T → Out) (of : T) (rest : Cursor) (r : Result (Box T × Cursor) Stop) (read : Read)
-    → IfOk r (λ b. (b.0.value ≡ of) × (b.1 ≡ rest)) → IfErr r (λ stop. stop ≡ stops.Memory) → read ≡ Ok (view of, ahead ts rest) → Gives ts (λ b. (view b.0.value, ahead ts b.1)) r read
+    → IfOk r (λ b. (b.0.value ≡ of) × (b.1 ≡ rest)) → IfErr r (λ stop. stop ≡ stops.Memory) → read ≡ Ok (view of, ahead ts rest) → Accords ts (λ b. (view b.0.value, ahead ts b.1)) r read
 gives_boxed ts view of rest (Ok b) read is refused e = rw (is.0, is.1) e
 gives_boxed ts view of rest (Err stop) read is refused e = rw refused tt

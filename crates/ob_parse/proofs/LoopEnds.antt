@@ -6,7 +6,7 @@ use Rattle.ob_tree.specs.Marks.{Out}
 use Rattle.ob_parse.specs.declared.stop.Stop.{Stop}
 use Rattle.ob_parse.specs.declared.stop.Stop.TheVariants as stops
 use Rattle.ob_parse.specs.Forms.{Read, Reader, Start, many}
-use Rattle.ob_parse.specs.Gives.{Fails}
+use Rattle.ob_parse.specs.Accords.{Fails}
 use Rattle.ob_parse.proofs.Loops.{Advances, with_front, many_step}
 
 -- a turn that fails: the loop fails with it

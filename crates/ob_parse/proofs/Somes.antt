@@ -10,11 +10,11 @@ use Rattle.ob_parse.specs.declared.stop.Stop.{Stop}
 use Rattle.ob_parse.specs.declared.stop.Stop.TheVariants as stops
 use Rattle.ob_parse.specs.Forms.{Reader, Start, optional, unless}
 use Rattle.ob_parse.specs.Front.{front, is_word, uncons}
-use Rattle.ob_parse.specs.Gives.{Gives, ahead, some_of}
+use Rattle.ob_parse.specs.Accords.{Accords, ahead, some_of}
 
 -- it is read behind its front
 pub gives_some : {X : Type 0} (ts : List Token) (read : Result (X × Cursor) Stop) (view : X → Out) (result : Result (Option X × Cursor) Stop) (start : Start) (r : Reader) (ls : List Leaf) (s : Out × List Leaf)
-    → result ≡ some_of read → start ls ≡ Some s → Gives ts (λ x. (view x.0, ahead ts x.1)) read (r s.1) → Gives ts (λ x. (if_there (λ y. s.0 ++ view y) x.0, ahead ts x.1)) result (optional start r ls)
+    → result ≡ some_of read → start ls ≡ Some s → Accords ts (λ x. (view x.0, ahead ts x.1)) read (r s.1) → Accords ts (λ x. (if_there (λ y. s.0 ++ view y) x.0, ahead ts x.1)) result (optional start r ls)
 gives_some ts (Ok x) view result start r ls s is found gives = rw (is, found, gives) refl
 gives_some ts (Err stops.Memory) view result start r ls s is found gives = rw is tt
 gives_some ts (Err (stops.Unexpected i)) view result start r ls s is found gives = rw (is, found, gives) refl

@@ -1,7 +1,7 @@
 pub mod Forms
 pub mod Ends
 pub mod Front
-pub mod Gives
+pub mod Accords
 pub mod Parsed
 pub mod ReadExpressions
 pub mod ReadModules

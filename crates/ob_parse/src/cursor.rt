@@ -13,14 +13,14 @@ pub struct Cursor {
 
 impl Cursor {
     ghost use Rattle.ob_parse.specs.Front.{uncons};
-    ghost use Rattle.ob_parse.specs.Gives.{ahead, seen};
+    ghost use Rattle.ob_parse.specs.Accords.{ahead, seen};
 
     /// All tokens of a text.
     pub const ALL: Cursor = Cursor { at: 0 };
 
     /// The next of these tokens, and those after it.
     #[inline(always)]
-    #[tactic(auto, unfolding(crate::specs::Gives::ahead))]
+    #[tactic(auto, unfolding(crate::specs::Accords::ahead))]
     pub fn next(self, tokens: &[Token]) -> Option<(Leaf, Cursor)>
         ensures { seen tokens.now result ≡ uncons (ahead tokens.now self) }
     {

@@ -12,7 +12,7 @@ ghost use Rattle.ob_parse.specs.ReadExpressions.{expr_at};
 ghost use Rattle.ob_parse.specs.ReadStatements.{block_at};
 ghost use Rattle.ob_parse.specs.ReadTypes.{type_at};
 ghost use Rattle.ob_parse.specs.ReadModules.{is_identifier, with_semicolon, const_with, type_decl_with, variable_with, part_with, procedures_with, body_with, procedure_with, procedure_at, declarations_at};
-ghost use Rattle.ob_parse.specs.Gives.{Gives, ahead};
+ghost use Rattle.ob_parse.specs.Accords.{Accords, ahead};
 
 use crate::cursor::Cursor;
 use crate::expressions::{expression, expression_behind};
@@ -45,7 +45,7 @@ fn ended_constant(
     input: Cursor,
     depth: u32,
 ) -> Result<(ConstDecl, Cursor), Stop>
-    ensures { Gives tokens.now (λ x. (const_outline x.0 ++ word kinds.Semicolon, ahead tokens.now x.1)) result (with_semicolon (const_with (expr_at depth)) (ahead tokens.now input)) }
+    ensures { Accords tokens.now (λ x. (const_outline x.0 ++ word kinds.Semicolon, ahead tokens.now x.1)) result (with_semicolon (const_with (expr_at depth)) (ahead tokens.now input)) }
 {
     let (name, here) = identdef(tokens, input)?;
     let here = expect(tokens, here, Kind::Equals)?;
@@ -62,7 +62,7 @@ fn constants(
     input: Cursor,
     depth: u32,
 ) -> Result<(Vec<ConstDecl>, Cursor), Stop>
-    ensures { Gives tokens.now (λ x. (each (λ d. const_outline d ++ word kinds.Semicolon) x.0.items, ahead tokens.now x.1)) result
+    ensures { Accords tokens.now (λ x. (each (λ d. const_outline d ++ word kinds.Semicolon) x.0.items, ahead tokens.now x.1)) result
         (many (begins is_identifier) (with_semicolon (const_with (expr_at depth))) (ahead tokens.now input)) }
 {
     let mut declared = Vec::new(alloc);
@@ -81,7 +81,7 @@ fn constant_section(
     input: Cursor,
     depth: u32,
 ) -> Result<(Option<Vec<ConstDecl>>, Cursor), Stop>
-    ensures { Gives tokens.now (λ x. (if_there (λ v. part kinds.Const const_outline v.items) x.0, ahead tokens.now x.1)) result (part_with kinds.Const (const_with (expr_at depth)) (ahead tokens.now input)) }
+    ensures { Accords tokens.now (λ x. (if_there (λ v. part kinds.Const const_outline v.items) x.0, ahead tokens.now x.1)) result (part_with kinds.Const (const_with (expr_at depth)) (ahead tokens.now input)) }
 {
     match accept(tokens, input, Kind::Const) {
         Some(rest) => some(constants(alloc, tokens, rest, depth)),
@@ -97,7 +97,7 @@ fn ended_named_type(
     input: Cursor,
     depth: u32,
 ) -> Result<(TypeDecl, Cursor), Stop>
-    ensures { Gives tokens.now (λ x. (type_decl_outline x.0 ++ word kinds.Semicolon, ahead tokens.now x.1)) result (with_semicolon (type_decl_with (type_at depth)) (ahead tokens.now input)) }
+    ensures { Accords tokens.now (λ x. (type_decl_outline x.0 ++ word kinds.Semicolon, ahead tokens.now x.1)) result (with_semicolon (type_decl_with (type_at depth)) (ahead tokens.now input)) }
 {
     let (name, here) = identdef(tokens, input)?;
     let here = expect(tokens, here, Kind::Equals)?;
@@ -114,7 +114,7 @@ fn named_types(
     input: Cursor,
     depth: u32,
 ) -> Result<(Vec<TypeDecl>, Cursor), Stop>
-    ensures { Gives tokens.now (λ x. (each (λ d. type_decl_outline d ++ word kinds.Semicolon) x.0.items, ahead tokens.now x.1)) result
+    ensures { Accords tokens.now (λ x. (each (λ d. type_decl_outline d ++ word kinds.Semicolon) x.0.items, ahead tokens.now x.1)) result
         (many (begins is_identifier) (with_semicolon (type_decl_with (type_at depth))) (ahead tokens.now input)) }
 {
     let mut declared = Vec::new(alloc);
@@ -133,7 +133,7 @@ fn named_type_section(
     input: Cursor,
     depth: u32,
 ) -> Result<(Option<Vec<TypeDecl>>, Cursor), Stop>
-    ensures { Gives tokens.now (λ x. (if_there (λ v. part kinds.Type type_decl_outline v.items) x.0, ahead tokens.now x.1)) result (part_with kinds.Type (type_decl_with (type_at depth)) (ahead tokens.now input)) }
+    ensures { Accords tokens.now (λ x. (if_there (λ v. part kinds.Type type_decl_outline v.items) x.0, ahead tokens.now x.1)) result (part_with kinds.Type (type_decl_with (type_at depth)) (ahead tokens.now input)) }
 {
     match accept(tokens, input, Kind::Type) {
         Some(rest) => some(named_types(alloc, tokens, rest, depth)),
@@ -149,7 +149,7 @@ fn ended_variable(
     input: Cursor,
     depth: u32,
 ) -> Result<(Box<VarDecl>, Cursor), Stop>
-    ensures { Gives tokens.now (λ x. (variable_outline x.0.value ++ word kinds.Semicolon, ahead tokens.now x.1)) result (with_semicolon (variable_with (type_at depth)) (ahead tokens.now input)) }
+    ensures { Accords tokens.now (λ x. (variable_outline x.0.value ++ word kinds.Semicolon, ahead tokens.now x.1)) result (with_semicolon (variable_with (type_at depth)) (ahead tokens.now input)) }
 {
     let (declaration, here) = var_declaration(alloc, tokens, input, depth)?;
     let here = expect(tokens, here, Kind::Semicolon)?;
@@ -163,7 +163,7 @@ fn variables(
     input: Cursor,
     depth: u32,
 ) -> Result<(Vec<VarDecl>, Cursor), Stop>
-    ensures { Gives tokens.now (λ x. (each (λ d. variable_outline d ++ word kinds.Semicolon) x.0.items, ahead tokens.now x.1)) result
+    ensures { Accords tokens.now (λ x. (each (λ d. variable_outline d ++ word kinds.Semicolon) x.0.items, ahead tokens.now x.1)) result
         (many (begins is_identifier) (with_semicolon (variable_with (type_at depth))) (ahead tokens.now input)) }
 {
     let mut declared = Vec::new(alloc);
@@ -182,7 +182,7 @@ fn variable_section(
     input: Cursor,
     depth: u32,
 ) -> Result<(Option<Vec<VarDecl>>, Cursor), Stop>
-    ensures { Gives tokens.now (λ x. (if_there (λ v. part kinds.Var variable_outline v.items) x.0, ahead tokens.now x.1)) result (part_with kinds.Var (variable_with (type_at depth)) (ahead tokens.now input)) }
+    ensures { Accords tokens.now (λ x. (if_there (λ v. part kinds.Var variable_outline v.items) x.0, ahead tokens.now x.1)) result (part_with kinds.Var (variable_with (type_at depth)) (ahead tokens.now input)) }
 {
     match accept(tokens, input, Kind::Var) {
         Some(rest) => some(variables(alloc, tokens, rest, depth)),
@@ -198,7 +198,7 @@ fn procedures(
     input: Cursor,
     depth: u32,
 ) -> Result<(Vec<ProcDecl>, Cursor), Stop>
-    ensures { Gives tokens.now (λ x. (each (λ p. procedure_outline p ++ word kinds.Semicolon) x.0.items, ahead tokens.now x.1)) result
+    ensures { Accords tokens.now (λ x. (each (λ p. procedure_outline p ++ word kinds.Semicolon) x.0.items, ahead tokens.now x.1)) result
         (many (begins (is_word kinds.Procedure)) (with_semicolon (procedure_at depth)) (ahead tokens.now input)) }
 {
     let mut declared = Vec::new(alloc);
@@ -217,7 +217,7 @@ fn ended_procedure(
     input: Cursor,
     depth: u32,
 ) -> Result<(Box<ProcDecl>, Cursor), Stop>
-    ensures { Gives tokens.now (λ x. (procedure_outline x.0.value ++ word kinds.Semicolon, ahead tokens.now x.1)) result (with_semicolon (procedure_at depth) (ahead tokens.now input)) }
+    ensures { Accords tokens.now (λ x. (procedure_outline x.0.value ++ word kinds.Semicolon, ahead tokens.now x.1)) result (with_semicolon (procedure_at depth) (ahead tokens.now input)) }
 {
     let (declaration, here) = procedure(alloc, tokens, input, depth)?;
     let here = expect(tokens, here, Kind::Semicolon)?;
@@ -233,7 +233,7 @@ fn procedure(
     input: Cursor,
     depth: u32,
 ) -> Result<(Box<ProcDecl>, Cursor), Stop>
-    ensures { Gives tokens.now (λ x. (procedure_outline x.0.value, ahead tokens.now x.1)) result (procedure_at depth (ahead tokens.now input)) }
+    ensures { Accords tokens.now (λ x. (procedure_outline x.0.value, ahead tokens.now x.1)) result (procedure_at depth (ahead tokens.now input)) }
 {
     if depth == 0 {
         return Err(beyond(tokens, input, is_at(tokens, input, Kind::Procedure)));
@@ -250,7 +250,7 @@ fn procedure_within(
     input: Cursor,
     depth: u32,
 ) -> Result<(Box<ProcDecl>, Cursor), Stop>
-    ensures { Gives tokens.now (λ x. (procedure_outline x.0.value, ahead tokens.now x.1)) result (procedure_with (expr_at depth) (block_at depth) (declarations_at depth) (ahead tokens.now input)) }
+    ensures { Accords tokens.now (λ x. (procedure_outline x.0.value, ahead tokens.now x.1)) result (procedure_with (expr_at depth) (block_at depth) (declarations_at depth) (ahead tokens.now input)) }
 {
     let here = expect(tokens, input, Kind::Procedure)?;
     let (name, here) = identifier(tokens, here)?;
@@ -280,7 +280,7 @@ fn inside(
     depth: u32,
     name: u32,
 ) -> Result<((Box<Declarations>, Ending), Cursor), Stop>
-    ensures { Gives tokens.now (λ x. (
+    ensures { Accords tokens.now (λ x. (
       declarations_outline x.0.0.value ++ (if_there (λ b. word kinds.Begin ++ block_outline b.value) x.0.1.0 ++
           (if_there (λ e. word kinds.Return ++ expr_outline e.value) x.0.1.1 ++ (word kinds.End ++ repeated name x.0.1.2))),
       ahead tokens.now x.1,
@@ -305,7 +305,7 @@ fn ending(
     depth: u32,
     name: u32,
 ) -> Result<(Ending, Cursor), Stop>
-    ensures { Gives tokens.now (λ x. (
+    ensures { Accords tokens.now (λ x. (
       if_there (λ b. word kinds.Begin ++ block_outline b.value) x.0.0 ++
           (if_there (λ e. word kinds.Return ++ expr_outline e.value) x.0.1 ++ (word kinds.End ++ repeated name x.0.2)),
       ahead tokens.now x.1,
@@ -329,7 +329,7 @@ pub(crate) fn declarations(
     input: Cursor,
     depth: u32,
 ) -> Result<(Box<Declarations>, Cursor), Stop>
-    ensures { Gives tokens.now (λ x. (declarations_outline x.0.value, ahead tokens.now x.1)) result (declarations_at depth (ahead tokens.now input)) }
+    ensures { Accords tokens.now (λ x. (declarations_outline x.0.value, ahead tokens.now x.1)) result (declarations_at depth (ahead tokens.now input)) }
 {
     let (constants, here) = constant_section(alloc, tokens, input, depth)?;
     let (types, here) = named_type_section(alloc, tokens, here, depth)?;

@@ -7,7 +7,7 @@ ghost use Rattle.ob_tree.specs.Marks as marks;
 ghost use Rattle.ob_tree.specs.Marks.{word, if_there, each, each_after};
 ghost use Rattle.ob_tree.specs.Expressions.{relation_kind, mul_kind, add_kind, expr_outline, expr_list_outline, sum_outline, term_outline, factor_outline, element_outline, element_list_outline, designator_outline, selector_outline};
 ghost use Rattle.ob_parse.specs.Forms.{many, several, optional, unless, begins, accept_at, expect_at, name_at, seq, prefixed, node};
-ghost use Rattle.ob_parse.specs.Gives.{Gives, ahead};
+ghost use Rattle.ob_parse.specs.Accords.{Accords, ahead};
 ghost use Rattle.ob_parse.specs.ReadExpressions.{relation_start, mul_start, add_start, selector_first, element_with, selector_with, designator_with, factor_at, negated_at, term_at, sum_at, expr_at};
 
 use crate::cursor::Cursor;
@@ -33,7 +33,7 @@ pub(crate) fn expression(
     input: Cursor,
     depth: u32,
 ) -> Result<(Box<Expr>, Cursor), Stop>
-    ensures { Gives tokens.now (λ x. (expr_outline x.0.value, ahead tokens.now x.1)) result (expr_at depth (ahead tokens.now input)) }
+    ensures { Accords tokens.now (λ x. (expr_outline x.0.value, ahead tokens.now x.1)) result (expr_at depth (ahead tokens.now input)) }
 {
     if depth == 0 {
         return Err(beyond(tokens, input, begins_expression(tokens, input)));
@@ -53,7 +53,7 @@ pub(crate) fn expression_behind(
     depth: u32,
     word: Kind,
 ) -> Result<(Option<Box<Expr>>, Cursor), Stop>
-    ensures { Gives tokens.now (λ x. (if_there (λ e. marks.word word ++ expr_outline e.value) x.0, ahead tokens.now x.1)) result (optional (accept_at word) (expr_at depth) (ahead tokens.now input)) }
+    ensures { Accords tokens.now (λ x. (if_there (λ e. marks.word word ++ expr_outline e.value) x.0, ahead tokens.now x.1)) result (optional (accept_at word) (expr_at depth) (ahead tokens.now input)) }
 {
     match accept(tokens, input, word) {
         None => Ok((None, input)),
@@ -69,7 +69,7 @@ fn compared(
     input: Cursor,
     depth: u32,
 ) -> Result<(Option<(Relation, Box<SimpleExpression>)>, Cursor), Stop>
-    ensures { Gives tokens.now (λ x. (if_there (λ c. word (relation_kind c.0) ++ sum_outline c.1.value) x.0, ahead tokens.now x.1)) result (optional relation_start (sum_at depth) (ahead tokens.now input)) }
+    ensures { Accords tokens.now (λ x. (if_there (λ c. word (relation_kind c.0) ++ sum_outline c.1.value) x.0, ahead tokens.now x.1)) result (optional relation_start (sum_at depth) (ahead tokens.now input)) }
 {
     match relation(tokens, input) {
         None => Ok((None, input)),
@@ -89,7 +89,7 @@ pub(crate) fn expression_list(
     input: Cursor,
     depth: u32,
 ) -> Result<(Box<ExprList>, Cursor), Stop>
-    ensures { Gives tokens.now (λ x. (expr_list_outline x.0.value, ahead tokens.now x.1)) result (several kinds.Comma (expr_at depth) (ahead tokens.now input)) }
+    ensures { Accords tokens.now (λ x. (expr_list_outline x.0.value, ahead tokens.now x.1)) result (several kinds.Comma (expr_at depth) (ahead tokens.now input)) }
 {
     let (first, here) = expression(alloc, tokens, input, depth)?;
     let (rest, here) = more_expressions(alloc, tokens, here, depth)?;
@@ -107,7 +107,7 @@ fn more_expressions(
     input: Cursor,
     depth: u32,
 ) -> Result<(Vec<Expr>, Cursor), Stop>
-    ensures { Gives tokens.now (λ x. (each_after kinds.Comma expr_outline x.0.items, ahead tokens.now x.1)) result (many (accept_at kinds.Comma) (expr_at depth) (ahead tokens.now input)) }
+    ensures { Accords tokens.now (λ x. (each_after kinds.Comma expr_outline x.0.items, ahead tokens.now x.1)) result (many (accept_at kinds.Comma) (expr_at depth) (ahead tokens.now input)) }
 {
     let mut rest = Vec::new(alloc);
     let mut here = input;
@@ -126,7 +126,7 @@ fn sum(
     input: Cursor,
     depth: u32,
 ) -> Result<(Box<SimpleExpression>, Cursor), Stop>
-    ensures { Gives tokens.now (λ x. (sum_outline x.0.value, ahead tokens.now x.1)) result (sum_at depth (ahead tokens.now input)) }
+    ensures { Accords tokens.now (λ x. (sum_outline x.0.value, ahead tokens.now x.1)) result (sum_at depth (ahead tokens.now input)) }
 {
     let (sign, here) = sign(tokens, input);
     let (first, here) = term(alloc, tokens, here, depth)?;
@@ -141,7 +141,7 @@ fn more_terms(
     input: Cursor,
     depth: u32,
 ) -> Result<(Vec<(AddOperator, Term)>, Cursor), Stop>
-    ensures { Gives tokens.now (λ x. (each (λ p. word (add_kind p.0) ++ term_outline p.1) x.0.items, ahead tokens.now x.1)) result (many add_start (term_at depth) (ahead tokens.now input)) }
+    ensures { Accords tokens.now (λ x. (each (λ p. word (add_kind p.0) ++ term_outline p.1) x.0.items, ahead tokens.now x.1)) result (many add_start (term_at depth) (ahead tokens.now input)) }
 {
     let mut rest = Vec::new(alloc);
     let mut here = input;
@@ -156,7 +156,7 @@ fn more_terms(
 #[cycle(expressions)]
 #[tactic(auto, using(ob_tree::proofs::ExpressionLayers::expressions_made), unfolding(crate::specs::ReadExpressions::term_with))]
 fn term(alloc: Global, tokens: &[Token], input: Cursor, depth: u32) -> Result<(Term, Cursor), Stop>
-    ensures { Gives tokens.now (λ x. (term_outline x.0, ahead tokens.now x.1)) result (term_at depth (ahead tokens.now input)) }
+    ensures { Accords tokens.now (λ x. (term_outline x.0, ahead tokens.now x.1)) result (term_at depth (ahead tokens.now input)) }
 {
     let (first, here) = factor(alloc, tokens, input, depth)?;
     let (rest, here) = more_factors(alloc, tokens, here, depth)?;
@@ -170,7 +170,7 @@ fn more_factors(
     input: Cursor,
     depth: u32,
 ) -> Result<(Vec<(MulOperator, Factor)>, Cursor), Stop>
-    ensures { Gives tokens.now (λ x. (each (λ p. word (mul_kind p.0) ++ factor_outline p.1) x.0.items, ahead tokens.now x.1)) result (many mul_start (factor_at depth) (ahead tokens.now input)) }
+    ensures { Accords tokens.now (λ x. (each (λ p. word (mul_kind p.0) ++ factor_outline p.1) x.0.items, ahead tokens.now x.1)) result (many mul_start (factor_at depth) (ahead tokens.now input)) }
 {
     let mut rest = Vec::new(alloc);
     let mut here = input;
@@ -190,7 +190,7 @@ fn factor(
     input: Cursor,
     depth: u32,
 ) -> Result<(Factor, Cursor), Stop>
-    ensures { Gives tokens.now (λ x. (factor_outline x.0, ahead tokens.now x.1)) result (factor_at depth (ahead tokens.now input)) }
+    ensures { Accords tokens.now (λ x. (factor_outline x.0, ahead tokens.now x.1)) result (factor_at depth (ahead tokens.now input)) }
 {
     match input.next(tokens) {
         Some((Leaf::Name(number), rest)) => named(alloc, tokens, number, rest, depth),
@@ -215,7 +215,7 @@ fn named(
     input: Cursor,
     depth: u32,
 ) -> Result<(Factor, Cursor), Stop>
-    ensures { Gives tokens.now (λ x. (factor_outline x.0, ahead tokens.now x.1)) result (node constructs.Factor (designator_with (expr_at depth) number) (ahead tokens.now input)) }
+    ensures { Accords tokens.now (λ x. (factor_outline x.0, ahead tokens.now x.1)) result (node constructs.Factor (designator_with (expr_at depth) number) (ahead tokens.now input)) }
 {
     let (designator, rest) = designator(alloc, tokens, number, input, depth)?;
     Ok((Factor::Name(designator), rest))
@@ -225,7 +225,7 @@ fn named(
 #[cycle(expressions)]
 #[tactic(auto, using(ob_tree::proofs::ExpressionLayers::expressions_made))]
 fn set(alloc: Global, tokens: &[Token], input: Cursor, depth: u32) -> Result<(Factor, Cursor), Stop>
-    ensures { Gives tokens.now (λ x. (factor_outline x.0, ahead tokens.now x.1)) result
+    ensures { Accords tokens.now (λ x. (factor_outline x.0, ahead tokens.now x.1)) result
         (node constructs.Factor (prefixed (word kinds.LeftBrace) (seq (optional (unless kinds.RightBrace) (several kinds.Comma (element_with (expr_at depth)))) (expect_at kinds.RightBrace))) (ahead tokens.now input)) }
 {
     let (elements, rest) = elements(alloc, tokens, input, depth)?;
@@ -242,7 +242,7 @@ fn group(
     input: Cursor,
     depth: u32,
 ) -> Result<(Factor, Cursor), Stop>
-    ensures { Gives tokens.now (λ x. (factor_outline x.0, ahead tokens.now x.1)) result
+    ensures { Accords tokens.now (λ x. (factor_outline x.0, ahead tokens.now x.1)) result
         (node constructs.Factor (prefixed (word kinds.LeftParen) (seq (expr_at depth) (expect_at kinds.RightParen))) (ahead tokens.now input)) }
 {
     let (inner, rest) = expression(alloc, tokens, input, depth)?;
@@ -259,7 +259,7 @@ fn negated(
     input: Cursor,
     depth: u32,
 ) -> Result<(Factor, Cursor), Stop>
-    ensures { Gives tokens.now (λ x. (factor_outline x.0, ahead tokens.now x.1)) result
+    ensures { Accords tokens.now (λ x. (factor_outline x.0, ahead tokens.now x.1)) result
         (node constructs.Factor (prefixed (word kinds.Tilde) (negated_at depth)) (ahead tokens.now input)) }
 {
     if depth == 0 {
@@ -279,7 +279,7 @@ fn elements(
     input: Cursor,
     depth: u32,
 ) -> Result<(Option<Box<ElementList>>, Cursor), Stop>
-    ensures { Gives tokens.now (λ x. (if_there (λ l. element_list_outline l.value) x.0, ahead tokens.now x.1)) result (optional (unless kinds.RightBrace) (several kinds.Comma (element_with (expr_at depth))) (ahead tokens.now input)) }
+    ensures { Accords tokens.now (λ x. (if_there (λ l. element_list_outline l.value) x.0, ahead tokens.now x.1)) result (optional (unless kinds.RightBrace) (several kinds.Comma (element_with (expr_at depth))) (ahead tokens.now input)) }
 {
     if is_at(tokens, input, Kind::RightBrace) {
         return Ok((None, input));
@@ -295,7 +295,7 @@ fn element_list(
     input: Cursor,
     depth: u32,
 ) -> Result<(Box<ElementList>, Cursor), Stop>
-    ensures { Gives tokens.now (λ x. (element_list_outline x.0.value, ahead tokens.now x.1)) result (several kinds.Comma (element_with (expr_at depth)) (ahead tokens.now input)) }
+    ensures { Accords tokens.now (λ x. (element_list_outline x.0.value, ahead tokens.now x.1)) result (several kinds.Comma (element_with (expr_at depth)) (ahead tokens.now input)) }
 {
     let (first, here) = element(alloc, tokens, input, depth)?;
     let (rest, here) = more_elements(alloc, tokens, here, depth)?;
@@ -313,7 +313,7 @@ fn more_elements(
     input: Cursor,
     depth: u32,
 ) -> Result<(Vec<Element>, Cursor), Stop>
-    ensures { Gives tokens.now (λ x. (each_after kinds.Comma element_outline x.0.items, ahead tokens.now x.1)) result (many (accept_at kinds.Comma) (element_with (expr_at depth)) (ahead tokens.now input)) }
+    ensures { Accords tokens.now (λ x. (each_after kinds.Comma element_outline x.0.items, ahead tokens.now x.1)) result (many (accept_at kinds.Comma) (element_with (expr_at depth)) (ahead tokens.now input)) }
 {
     let mut rest = Vec::new(alloc);
     let mut here = input;
@@ -331,7 +331,7 @@ fn element(
     input: Cursor,
     depth: u32,
 ) -> Result<(Box<Element>, Cursor), Stop>
-    ensures { Gives tokens.now (λ x. (element_outline x.0.value, ahead tokens.now x.1)) result (element_with (expr_at depth) (ahead tokens.now input)) }
+    ensures { Accords tokens.now (λ x. (element_outline x.0.value, ahead tokens.now x.1)) result (element_with (expr_at depth) (ahead tokens.now input)) }
 {
     let (low, here) = expression(alloc, tokens, input, depth)?;
     let (high, here) = high(alloc, tokens, here, depth)?;
@@ -350,7 +350,7 @@ fn high(
     input: Cursor,
     depth: u32,
 ) -> Result<(Option<Expr>, Cursor), Stop>
-    ensures { Gives tokens.now (λ x. (if_there (λ e. word kinds.DotDot ++ expr_outline e) x.0, ahead tokens.now x.1)) result (optional (accept_at kinds.DotDot) (expr_at depth) (ahead tokens.now input)) }
+    ensures { Accords tokens.now (λ x. (if_there (λ e. word kinds.DotDot ++ expr_outline e) x.0, ahead tokens.now x.1)) result (optional (accept_at kinds.DotDot) (expr_at depth) (ahead tokens.now input)) }
 {
     match accept(tokens, input, Kind::DotDot) {
         None => Ok((None, input)),
@@ -371,7 +371,7 @@ pub(crate) fn designator(
     input: Cursor,
     depth: u32,
 ) -> Result<(Designator, Cursor), Stop>
-    ensures { Gives tokens.now (λ x. (designator_outline x.0, ahead tokens.now x.1)) result (designator_with (expr_at depth) head (ahead tokens.now input)) }
+    ensures { Accords tokens.now (λ x. (designator_outline x.0, ahead tokens.now x.1)) result (designator_with (expr_at depth) head (ahead tokens.now input)) }
 {
     let (selectors, here) = more_selectors(alloc, tokens, input, depth)?;
     Ok((Designator { head, selectors }, here))
@@ -384,7 +384,7 @@ fn more_selectors(
     input: Cursor,
     depth: u32,
 ) -> Result<(Vec<Selector>, Cursor), Stop>
-    ensures { Gives tokens.now (λ x. (each selector_outline x.0.items, ahead tokens.now x.1)) result (many (begins selector_first) (selector_with (expr_at depth)) (ahead tokens.now input)) }
+    ensures { Accords tokens.now (λ x. (each selector_outline x.0.items, ahead tokens.now x.1)) result (many (begins selector_first) (selector_with (expr_at depth)) (ahead tokens.now input)) }
 {
     let mut selectors = Vec::new(alloc);
     let mut here = input;
@@ -402,7 +402,7 @@ fn selector(
     input: Cursor,
     depth: u32,
 ) -> Result<(Selector, Cursor), Stop>
-    ensures { Gives tokens.now (λ x. (selector_outline x.0, ahead tokens.now x.1)) result (selector_with (expr_at depth) (ahead tokens.now input)) }
+    ensures { Accords tokens.now (λ x. (selector_outline x.0, ahead tokens.now x.1)) result (selector_with (expr_at depth) (ahead tokens.now input)) }
 {
     match input.next(tokens) {
         Some((Leaf::Word(Kind::Dot), rest)) => field(tokens, rest),
@@ -416,7 +416,7 @@ fn selector(
 /// The name behind a dot.
 #[tactic(auto, using(ob_tree::proofs::ExpressionLayers::expressions_made), unfolding(crate::specs::Forms::name_at))]
 fn field(tokens: &[Token], input: Cursor) -> Result<(Selector, Cursor), Stop>
-    ensures { Gives tokens.now (λ x. (selector_outline x.0, ahead tokens.now x.1)) result (node constructs.Selector (prefixed (word kinds.Dot) (name_at marks.selected)) (ahead tokens.now input)) }
+    ensures { Accords tokens.now (λ x. (selector_outline x.0, ahead tokens.now x.1)) result (node constructs.Selector (prefixed (word kinds.Dot) (name_at marks.selected)) (ahead tokens.now input)) }
 {
     let (field, rest) = identifier(tokens, input)?;
     Ok((Selector::Field(field), rest))
@@ -431,7 +431,7 @@ fn index(
     input: Cursor,
     depth: u32,
 ) -> Result<(Selector, Cursor), Stop>
-    ensures { Gives tokens.now (λ x. (selector_outline x.0, ahead tokens.now x.1)) result
+    ensures { Accords tokens.now (λ x. (selector_outline x.0, ahead tokens.now x.1)) result
         (node constructs.Selector (prefixed (word kinds.LeftBracket) (seq (several kinds.Comma (expr_at depth)) (expect_at kinds.RightBracket))) (ahead tokens.now input)) }
 {
     let (list, rest) = expression_list(alloc, tokens, input, depth)?;
@@ -448,7 +448,7 @@ fn call(
     input: Cursor,
     depth: u32,
 ) -> Result<(Selector, Cursor), Stop>
-    ensures { Gives tokens.now (λ x. (selector_outline x.0, ahead tokens.now x.1)) result
+    ensures { Accords tokens.now (λ x. (selector_outline x.0, ahead tokens.now x.1)) result
         (node constructs.Selector (prefixed (word kinds.LeftParen) (seq (optional (unless kinds.RightParen) (several kinds.Comma (expr_at depth))) (expect_at kinds.RightParen))) (ahead tokens.now input)) }
 {
     let (list, rest) = arguments(alloc, tokens, input, depth)?;
@@ -465,7 +465,7 @@ fn arguments(
     input: Cursor,
     depth: u32,
 ) -> Result<(Option<Box<ExprList>>, Cursor), Stop>
-    ensures { Gives tokens.now (λ x. (if_there (λ l. expr_list_outline l.value) x.0, ahead tokens.now x.1)) result (optional (unless kinds.RightParen) (several kinds.Comma (expr_at depth)) (ahead tokens.now input)) }
+    ensures { Accords tokens.now (λ x. (if_there (λ l. expr_list_outline l.value) x.0, ahead tokens.now x.1)) result (optional (unless kinds.RightParen) (several kinds.Comma (expr_at depth)) (ahead tokens.now input)) }
 {
     if is_at(tokens, input, Kind::RightParen) {
         return Ok((None, input));

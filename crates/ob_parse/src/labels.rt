@@ -3,7 +3,7 @@
 ghost use Rattle.std.specs.Prelude.{◌≡◌};
 ghost use Rattle.ob_parse.specs.Forms.{accept_at, many, several};
 ghost use Rattle.ob_parse.specs.Front.{uncons, front};
-ghost use Rattle.ob_parse.specs.Gives.{Gives, ahead};
+ghost use Rattle.ob_parse.specs.Accords.{Accords, ahead};
 ghost use Rattle.ob_parse.specs.ReadStatements.{case_label_at, label_first, label_range_at};
 ghost use Rattle.ob_scan.specs.declared.kind.Kind.TheVariants as kinds;
 ghost use Rattle.ob_tree.specs.Marks.{each_after, separated};
@@ -35,7 +35,7 @@ pub fn begins_label(tokens: &[Token], input: Cursor) -> bool
 /// A label.
 #[tactic(auto, using(crate::proofs::StatementSteps::made), unfolding(crate::specs::ReadStatements::case_label_at))]
 fn label(tokens: &[Token], input: Cursor) -> Result<(Label, Cursor), Stop>
-    ensures { Gives tokens.now (λ x. (label_outline x.0, ahead tokens.now x.1)) result (case_label_at (ahead tokens.now input)) }
+    ensures { Accords tokens.now (λ x. (label_outline x.0, ahead tokens.now x.1)) result (case_label_at (ahead tokens.now input)) }
 {
     match input.next(tokens) {
         Some((Leaf::Name(number), rest)) => {
@@ -51,7 +51,7 @@ fn label(tokens: &[Token], input: Cursor) -> Result<(Label, Cursor), Stop>
 /// A label, or two with two dots between them.
 #[tactic(auto, using(crate::proofs::StatementSteps::made), unfolding(crate::specs::ReadStatements::label_range_at))]
 fn label_range(tokens: &[Token], input: Cursor) -> Result<(LabelRange, Cursor), Stop>
-    ensures { Gives tokens.now (λ x. (label_range_outline x.0, ahead tokens.now x.1)) result (label_range_at (ahead tokens.now input)) }
+    ensures { Accords tokens.now (λ x. (label_range_outline x.0, ahead tokens.now x.1)) result (label_range_at (ahead tokens.now input)) }
 {
     let (low, input) = label(tokens, input)?;
     match accept(tokens, input, Kind::DotDot) {
@@ -76,7 +76,7 @@ pub(crate) fn label_ranges(
     tokens: &[Token],
     input: Cursor,
 ) -> Result<(OneOrMore<LabelRange>, Cursor), Stop>
-    ensures { Gives tokens.now (λ x. (separated kinds.Comma label_range_outline x.0, ahead tokens.now x.1)) result (several kinds.Comma label_range_at (ahead tokens.now input)) }
+    ensures { Accords tokens.now (λ x. (separated kinds.Comma label_range_outline x.0, ahead tokens.now x.1)) result (several kinds.Comma label_range_at (ahead tokens.now input)) }
 {
     let (first, here) = label_range(tokens, input)?;
     let (rest, here) = more_label_ranges(alloc, tokens, here)?;
@@ -88,7 +88,7 @@ fn more_label_ranges(
     tokens: &[Token],
     input: Cursor,
 ) -> Result<(Vec<LabelRange>, Cursor), Stop>
-    ensures { Gives tokens.now (λ x. (each_after kinds.Comma label_range_outline x.0.items, ahead tokens.now x.1)) result (many (accept_at kinds.Comma) label_range_at (ahead tokens.now input)) }
+    ensures { Accords tokens.now (λ x. (each_after kinds.Comma label_range_outline x.0.items, ahead tokens.now x.1)) result (many (accept_at kinds.Comma) label_range_at (ahead tokens.now input)) }
 {
     let mut rest = Vec::new(alloc);
     let mut here = input;

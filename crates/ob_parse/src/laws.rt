@@ -1,6 +1,6 @@
 //! Laws of trees and faults. Each function is a law: its body is empty, and its contract is proved.
-ghost use Rattle.std.specs.Prelude.{◌≡◌, ◌≢◌, ◌≤◌, ℕ, List, length};
-ghost use Rattle.ob_scan.specs.Spelling.{IsOutcome, Reads};
+ghost use Rattle.std.specs.Prelude.{◌≡◌, ◌≢◌, ◌≤◌, ℕ, List, length, Ok};
+ghost use Rattle.ob_scan.specs.Spelling.{IsOutcome};
 ghost use Rattle.ob_scan.specs.declared.kind.Kind.{Kind};
 ghost use Rattle.ob_scan.specs.declared.token.Token.{Token};
 ghost use Rattle.ob_tree.specs.Declaring.{module_outline};
@@ -34,5 +34,5 @@ pub fn places_of_faults()
 
 /// Where a token of a text begins, or the text ends, is an offset of the text.
 pub fn places_in_text()
-    ensures { (bytes : List ℕ) (ts : List Token) (at : ℕ) → IsOutcome bytes (Reads ts) → IsPlace bytes ts at → at ≤ length bytes }
+    ensures { (bytes : List ℕ) (ts : List Token) (at : ℕ) → IsOutcome bytes (Ok ts) → IsPlace bytes ts at → at ≤ length bytes }
 {}

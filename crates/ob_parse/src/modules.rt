@@ -8,7 +8,7 @@ ghost use Rattle.ob_tree.specs.Declaring.{declarations_outline, import_outline, 
 ghost use Rattle.ob_parse.specs.Forms.{optional, accept_at, expect_at, name_at, several, many, seq};
 ghost use Rattle.ob_parse.specs.ReadStatements.{block_at};
 ghost use Rattle.ob_parse.specs.ReadModules.{import_item_at, imports_at, declarations_at, body_with, module_at, all_of};
-ghost use Rattle.ob_parse.specs.Gives.{Gives, ahead};
+ghost use Rattle.ob_parse.specs.Accords.{Accords, ahead};
 
 use crate::cursor::Cursor;
 use crate::declarations::declarations;
@@ -24,7 +24,7 @@ use std::alloc::Global;
 /// The name of a module that is imported under another, behind `:=`.
 #[tactic(auto, unfolding(crate::specs::Forms::name_at))]
 fn renamed(tokens: &[Token], input: Cursor) -> Result<(Option<u32>, Cursor), Stop>
-    ensures { Gives tokens.now (λ x. (if_there (λ m. word kinds.Assign ++ imported m) x.0, ahead tokens.now x.1)) result (optional (accept_at kinds.Assign) (name_at imported) (ahead tokens.now input)) }
+    ensures { Accords tokens.now (λ x. (if_there (λ m. word kinds.Assign ++ imported m) x.0, ahead tokens.now x.1)) result (optional (accept_at kinds.Assign) (name_at imported) (ahead tokens.now input)) }
 {
     match accept(tokens, input, Kind::Assign) {
         Some(rest) => {
@@ -38,7 +38,7 @@ fn renamed(tokens: &[Token], input: Cursor) -> Result<(Option<u32>, Cursor), Sto
 /// An imported module.
 #[tactic(auto, using(ob_tree::proofs::DeclarationLayers::declaring_made), unfolding(crate::specs::ReadModules::import_item_at, crate::specs::Forms::name_at))]
 fn import(tokens: &[Token], input: Cursor) -> Result<(ImportItem, Cursor), Stop>
-    ensures { Gives tokens.now (λ x. (import_outline x.0, ahead tokens.now x.1)) result (import_item_at (ahead tokens.now input)) }
+    ensures { Accords tokens.now (λ x. (import_outline x.0, ahead tokens.now x.1)) result (import_item_at (ahead tokens.now input)) }
 {
     let (name, here) = identifier(tokens, input)?;
     let (of, here) = renamed(tokens, here)?;
@@ -51,7 +51,7 @@ fn more_imports(
     tokens: &[Token],
     input: Cursor,
 ) -> Result<(Vec<ImportItem>, Cursor), Stop>
-    ensures { Gives tokens.now (λ x. (each_after kinds.Comma import_outline x.0.items, ahead tokens.now x.1)) result (many (accept_at kinds.Comma) import_item_at (ahead tokens.now input)) }
+    ensures { Accords tokens.now (λ x. (each_after kinds.Comma import_outline x.0.items, ahead tokens.now x.1)) result (many (accept_at kinds.Comma) import_item_at (ahead tokens.now input)) }
 {
     let mut rest = Vec::new(alloc);
     let mut here = input;
@@ -68,7 +68,7 @@ fn import_list(
     tokens: &[Token],
     input: Cursor,
 ) -> Result<(OneOrMore<ImportItem>, Cursor), Stop>
-    ensures { Gives tokens.now (λ x. (separated kinds.Comma import_outline x.0, ahead tokens.now x.1)) result (several kinds.Comma import_item_at (ahead tokens.now input)) }
+    ensures { Accords tokens.now (λ x. (separated kinds.Comma import_outline x.0, ahead tokens.now x.1)) result (several kinds.Comma import_item_at (ahead tokens.now input)) }
 {
     let (first, here) = import(tokens, input)?;
     let (rest, here) = more_imports(alloc, tokens, here)?;
@@ -82,7 +82,7 @@ pub fn imports(
     tokens: &[Token],
     input: Cursor,
 ) -> Result<(Option<OneOrMore<ImportItem>>, Cursor), Stop>
-    ensures { Gives tokens.now (λ x. (if_there (λ l. word kinds.Import ++ (separated kinds.Comma import_outline l ++ word kinds.Semicolon)) x.0, ahead tokens.now x.1)) result (imports_at (ahead tokens.now input)) }
+    ensures { Accords tokens.now (λ x. (if_there (λ l. word kinds.Import ++ (separated kinds.Comma import_outline l ++ word kinds.Semicolon)) x.0, ahead tokens.now x.1)) result (imports_at (ahead tokens.now input)) }
 {
     match accept(tokens, input, Kind::Import) {
         Some(rest) => {
@@ -112,7 +112,7 @@ pub(crate) fn module(
     input: Cursor,
     depth: u32,
 ) -> Result<(Box<Module>, Cursor), Stop>
-    ensures { Gives tokens.now (λ x. (module_outline x.0.value, ahead tokens.now x.1)) result (module_at depth (ahead tokens.now input)) }
+    ensures { Accords tokens.now (λ x. (module_outline x.0.value, ahead tokens.now x.1)) result (module_at depth (ahead tokens.now input)) }
 {
     let here = expect(tokens, input, Kind::Module)?;
     let (name, here) = identifier(tokens, here)?;
@@ -144,7 +144,7 @@ fn inside(
     ),
     Stop,
 >
-    ensures { Gives tokens.now (λ x. (
+    ensures { Accords tokens.now (λ x. (
       declarations_outline x.0.0.value ++ (if_there (λ b. word kinds.Begin ++ block_outline b.value) x.0.1 ++
           (word kinds.End ++ (repeated name x.0.2 ++ word kinds.Dot))),
       ahead tokens.now x.1,
@@ -161,7 +161,7 @@ fn inside(
 /// What stands behind the statements of the module of this name.
 #[tactic(auto, unfolding(crate::specs::Forms::name_at))]
 fn ending(tokens: &[Token], input: Cursor, name: u32) -> Result<(u32, Cursor), Stop>
-    ensures { Gives tokens.now (λ x. (word kinds.End ++ (repeated name x.0 ++ word kinds.Dot), ahead tokens.now x.1)) result
+    ensures { Accords tokens.now (λ x. (word kinds.End ++ (repeated name x.0 ++ word kinds.Dot), ahead tokens.now x.1)) result
         (seq (expect_at kinds.End) (seq (name_at (repeated name)) (expect_at kinds.Dot)) (ahead tokens.now input)) }
 {
     let here = expect(tokens, input, Kind::End)?;
@@ -178,7 +178,7 @@ pub(crate) fn whole(
     input: Cursor,
     depth: u32,
 ) -> Result<Box<Module>, Stop>
-    ensures { Gives tokens.now (λ m. module_outline m.value) result (all_of depth (ahead tokens.now input)) }
+    ensures { Accords tokens.now (λ m. module_outline m.value) result (all_of depth (ahead tokens.now input)) }
 {
     let (module, here) = module(alloc, tokens, input, depth)?;
     match here.next(tokens) {

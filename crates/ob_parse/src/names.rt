@@ -1,7 +1,7 @@
 //! Names (Oberon-07 report, section 4).
 
 ghost use Rattle.ob_tree.specs.Names.{qualident_outline, identdef_outline};
-ghost use Rattle.ob_parse.specs.Gives.{Gives, ahead};
+ghost use Rattle.ob_parse.specs.Accords.{Accords, ahead};
 ghost use Rattle.ob_parse.specs.ReadNames as readers;
 
 use crate::cursor::Cursor;
@@ -17,7 +17,7 @@ pub fn qualident_after(
     head: u32,
     input: Cursor,
 ) -> Result<(Qualident, Cursor), Stop>
-    ensures { Gives tokens.now (λ x. (qualident_outline x.0, ahead tokens.now x.1)) result (readers.qualident_after head (ahead tokens.now input)) }
+    ensures { Accords tokens.now (λ x. (qualident_outline x.0, ahead tokens.now x.1)) result (readers.qualident_after head (ahead tokens.now input)) }
 {
     match accept(tokens, input, Kind::Dot) {
         None => Ok((Qualident { head, member: None }, input)),
@@ -37,7 +37,7 @@ pub fn qualident_after(
 /// A qualified identifier.
 #[tactic(auto, unfolding(crate::specs::ReadNames::qualident_after, crate::specs::ReadNames::qualident_at, crate::specs::Forms::name_at))]
 pub fn qualident(tokens: &[Token], input: Cursor) -> Result<(Qualident, Cursor), Stop>
-    ensures { Gives tokens.now (λ x. (qualident_outline x.0, ahead tokens.now x.1)) result (readers.qualident_at (ahead tokens.now input)) }
+    ensures { Accords tokens.now (λ x. (qualident_outline x.0, ahead tokens.now x.1)) result (readers.qualident_at (ahead tokens.now input)) }
 {
     let (head, rest) = identifier(tokens, input)?;
     qualident_after(tokens, head, rest)
@@ -46,7 +46,7 @@ pub fn qualident(tokens: &[Token], input: Cursor) -> Result<(Qualident, Cursor),
 /// A declaring identifier.
 #[tactic(auto, using(crate::proofs::Stars::star_read), unfolding(ob_tree::specs::Names::identdef_outline, crate::specs::ReadNames::identdef_at, crate::specs::ReadNames::identdef_after))]
 pub fn identdef(tokens: &[Token], input: Cursor) -> Result<(Identdef, Cursor), Stop>
-    ensures { Gives tokens.now (λ x. (identdef_outline x.0, ahead tokens.now x.1)) result (readers.identdef_at (ahead tokens.now input)) }
+    ensures { Accords tokens.now (λ x. (identdef_outline x.0, ahead tokens.now x.1)) result (readers.identdef_at (ahead tokens.now input)) }
 {
     let (name, rest) = identifier(tokens, input)?;
     let (starred, rest) = skip(tokens, rest, Kind::Star);

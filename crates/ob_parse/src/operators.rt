@@ -5,7 +5,7 @@ ghost use Rattle.ob_tree.specs.Marks.{word, if_there};
 ghost use Rattle.ob_tree.specs.Expressions.{sign_kind};
 ghost use Rattle.ob_parse.specs.Front.{uncons, front};
 ghost use Rattle.ob_parse.specs.Forms.{nothing, optional};
-ghost use Rattle.ob_parse.specs.Gives.{ahead, seen};
+ghost use Rattle.ob_parse.specs.Accords.{ahead, seen};
 ghost use Rattle.ob_parse.specs.ReadExpressions.{relation_at, add_at, mul_at, sign_start, expr_first, factor_first, selector_first};
 
 use crate::cursor::Cursor;

@@ -8,7 +8,7 @@ ghost use Rattle.ob_tree.specs.Types.{section_outline, parameters_outline};
 ghost use Rattle.ob_parse.specs.Forms.{optional, accept_at, expect_at, name_at, many, several, unless};
 ghost use Rattle.ob_parse.specs.ReadNames.{qualident_at};
 ghost use Rattle.ob_parse.specs.ReadTypes.{section_at, parameters_at, some_parameters_at};
-ghost use Rattle.ob_parse.specs.Gives.{Gives, ahead};
+ghost use Rattle.ob_parse.specs.Accords.{Accords, ahead};
 
 use crate::cursor::Cursor;
 use crate::names::qualident;
@@ -22,14 +22,14 @@ use std::alloc::Global;
 /// The name of a parameter.
 #[tactic(auto, unfolding(crate::specs::Forms::name_at))]
 fn name(tokens: &[Token], input: Cursor) -> Result<(u32, Cursor), Stop>
-    ensures { Gives tokens.now (λ x. (declared false x.0, ahead tokens.now x.1)) result (name_at (declared false) (ahead tokens.now input)) }
+    ensures { Accords tokens.now (λ x. (declared false x.0, ahead tokens.now x.1)) result (name_at (declared false) (ahead tokens.now input)) }
 {
     identifier(tokens, input)
 }
 
 /// The names of parameters behind the first: each after a comma.
 fn more_names(alloc: Global, tokens: &[Token], input: Cursor) -> Result<(Vec<u32>, Cursor), Stop>
-    ensures { Gives tokens.now (λ x. (each_after kinds.Comma (declared false) x.0.items, ahead tokens.now x.1)) result (many (accept_at kinds.Comma) (name_at (declared false)) (ahead tokens.now input)) }
+    ensures { Accords tokens.now (λ x. (each_after kinds.Comma (declared false) x.0.items, ahead tokens.now x.1)) result (many (accept_at kinds.Comma) (name_at (declared false)) (ahead tokens.now input)) }
 {
     let mut rest = Vec::new(alloc);
     let mut here = input;
@@ -42,7 +42,7 @@ fn more_names(alloc: Global, tokens: &[Token], input: Cursor) -> Result<(Vec<u32
 /// The names of parameters.
 #[tactic(auto, unfolding(crate::specs::Forms::several))]
 fn names(alloc: Global, tokens: &[Token], input: Cursor) -> Result<(OneOrMore<u32>, Cursor), Stop>
-    ensures { Gives tokens.now (λ x. (separated kinds.Comma (declared false) x.0, ahead tokens.now x.1)) result (several kinds.Comma (name_at (declared false)) (ahead tokens.now input)) }
+    ensures { Accords tokens.now (λ x. (separated kinds.Comma (declared false) x.0, ahead tokens.now x.1)) result (several kinds.Comma (name_at (declared false)) (ahead tokens.now input)) }
 {
     let (first, here) = name(tokens, input)?;
     let (rest, here) = more_names(alloc, tokens, here)?;
@@ -51,7 +51,7 @@ fn names(alloc: Global, tokens: &[Token], input: Cursor) -> Result<(OneOrMore<u3
 
 /// How often ARRAY OF stands here.
 fn open_arrays(tokens: &[Token], input: Cursor) -> Result<(u32, Cursor), Stop>
-    ensures { Gives tokens.now (λ x. (times x.0 (word kinds.Array ++ word kinds.Of), ahead tokens.now x.1)) result (many (accept_at kinds.Array) (expect_at kinds.Of) (ahead tokens.now input)) }
+    ensures { Accords tokens.now (λ x. (times x.0 (word kinds.Array ++ word kinds.Of), ahead tokens.now x.1)) result (many (accept_at kinds.Array) (expect_at kinds.Of) (ahead tokens.now input)) }
 {
     let mut count = 0;
     let mut here = input;
@@ -69,7 +69,7 @@ fn section(
     tokens: &[Token],
     input: Cursor,
 ) -> Result<(ParameterSection, Cursor), Stop>
-    ensures { Gives tokens.now (λ x. (section_outline x.0, ahead tokens.now x.1)) result (section_at (ahead tokens.now input)) }
+    ensures { Accords tokens.now (λ x. (section_outline x.0, ahead tokens.now x.1)) result (section_at (ahead tokens.now input)) }
 {
     let (variable, here) = skip(tokens, input, Kind::Var);
     let (names, here) = names(alloc, tokens, here)?;
@@ -93,7 +93,7 @@ fn more_sections(
     tokens: &[Token],
     input: Cursor,
 ) -> Result<(Vec<ParameterSection>, Cursor), Stop>
-    ensures { Gives tokens.now (λ x. (each_after kinds.Semicolon section_outline x.0.items, ahead tokens.now x.1)) result (many (accept_at kinds.Semicolon) section_at (ahead tokens.now input)) }
+    ensures { Accords tokens.now (λ x. (each_after kinds.Semicolon section_outline x.0.items, ahead tokens.now x.1)) result (many (accept_at kinds.Semicolon) section_at (ahead tokens.now input)) }
 {
     let mut rest = Vec::new(alloc);
     let mut here = input;
@@ -110,7 +110,7 @@ fn sections(
     tokens: &[Token],
     input: Cursor,
 ) -> Result<(Option<OneOrMore<ParameterSection>>, Cursor), Stop>
-    ensures { Gives tokens.now (λ x. (if_there (separated kinds.Semicolon section_outline) x.0, ahead tokens.now x.1)) result (optional (unless kinds.RightParen) (several kinds.Semicolon section_at) (ahead tokens.now input)) }
+    ensures { Accords tokens.now (λ x. (if_there (separated kinds.Semicolon section_outline) x.0, ahead tokens.now x.1)) result (optional (unless kinds.RightParen) (several kinds.Semicolon section_at) (ahead tokens.now input)) }
 {
     if is_at(tokens, input, Kind::RightParen) {
         return Ok((None, input));
@@ -122,7 +122,7 @@ fn sections(
 
 /// The type of a result.
 fn result_type(tokens: &[Token], input: Cursor) -> Result<(Option<Qualident>, Cursor), Stop>
-    ensures { Gives tokens.now (λ x. (if_there (λ q. word kinds.Colon ++ qualident_outline q) x.0, ahead tokens.now x.1)) result (optional (accept_at kinds.Colon) qualident_at (ahead tokens.now input)) }
+    ensures { Accords tokens.now (λ x. (if_there (λ q. word kinds.Colon ++ qualident_outline q) x.0, ahead tokens.now x.1)) result (optional (accept_at kinds.Colon) qualident_at (ahead tokens.now input)) }
 {
     match accept(tokens, input, Kind::Colon) {
         Some(rest) => some(qualident(tokens, rest)),
@@ -133,7 +133,7 @@ fn result_type(tokens: &[Token], input: Cursor) -> Result<(Option<Qualident>, Cu
 /// Formal parameters.
 #[tactic(auto, using(ob_tree::proofs::TypeLayers::types_made), unfolding(crate::specs::ReadTypes::parameters_at))]
 fn parameters(alloc: Global, tokens: &[Token], input: Cursor) -> Result<(Parameters, Cursor), Stop>
-    ensures { Gives tokens.now (λ x. (parameters_outline x.0, ahead tokens.now x.1)) result (parameters_at (ahead tokens.now input)) }
+    ensures { Accords tokens.now (λ x. (parameters_outline x.0, ahead tokens.now x.1)) result (parameters_at (ahead tokens.now input)) }
 {
     let here = expect(tokens, input, Kind::LeftParen)?;
     let (sections, here) = sections(alloc, tokens, here)?;
@@ -149,7 +149,7 @@ pub(crate) fn some_parameters(
     tokens: &[Token],
     input: Cursor,
 ) -> Result<(Option<Parameters>, Cursor), Stop>
-    ensures { Gives tokens.now (λ x. (if_there parameters_outline x.0, ahead tokens.now x.1)) result (some_parameters_at (ahead tokens.now input)) }
+    ensures { Accords tokens.now (λ x. (if_there parameters_outline x.0, ahead tokens.now x.1)) result (some_parameters_at (ahead tokens.now input)) }
 {
     if is_at(tokens, input, Kind::LeftParen) {
         return some(parameters(alloc, tokens, input));

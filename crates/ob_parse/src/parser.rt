@@ -1,12 +1,12 @@
 //! The tree of a text.
 
-ghost use Rattle.std.specs.Prelude.{◌≡◌, ◌<◌, ◌^◌, length, map, slice_get, IfOk, IfErr};
+ghost use Rattle.std.specs.Prelude.{◌≡◌, ◌<◌, ◌^◌, length, map, slice_get, IfOk, IfErr, Ok};
 ghost use Rattle.std.specs.List.{All};
-ghost use Rattle.ob_scan.specs.Spelling.{IsOutcome, Reads};
+ghost use Rattle.ob_scan.specs.Spelling.{IsOutcome};
 ghost use Rattle.ob_tree.specs.Declaring.{module_outline};
 ghost use Rattle.ob_tree.specs.Derives.{spelling};
 ghost use Rattle.ob_tree.specs.Leaves.{leaves_from};
-ghost use Rattle.ob_parse.specs.Gives.{Gives};
+ghost use Rattle.ob_parse.specs.Accords.{Accords};
 ghost use Rattle.ob_parse.specs.Ends.{told};
 ghost use Rattle.ob_parse.specs.Parsed.{IsTheTree, IsFaultOf, kinds_of, start_or};
 ghost use Rattle.ob_parse.specs.ReadModules.{all_of};
@@ -27,7 +27,7 @@ pub const DEEPEST: u32 = 200;
 #[tactic(auto, using(crate::proofs::Ahead::all_ahead))]
 fn tree_of(alloc: Global, tokens: &[Token]) -> Result<Box<Module>, Stop>
     requires { length tokens.now < 2 ^ 32 }
-    ensures { Gives tokens.now (λ m. module_outline m.value) result (all_of 200 (leaves_from 0 (kinds_of tokens.now))) }
+    ensures { Accords tokens.now (λ m. module_outline m.value) result (all_of 200 (leaves_from 0 (kinds_of tokens.now))) }
 {
     whole(alloc, tokens, Cursor::ALL, DEEPEST)
 }
@@ -70,7 +70,7 @@ pub fn fault_of(end: u32, tokens: &[Token], stop: Stop) -> ParseFault
 /// It recurses a few calls for each level, so at most 200 levels deep, for which a stack of 2 MiB is enough. Lists are loops.
 pub fn parse(alloc: Global, bytes: &[u8], tokens: &Tokens) -> Result<Module, ParseFault>
     // The tokens are those of the bytes.
-    requires { IsOutcome bytes.now (Reads tokens.now) }
+    requires { IsOutcome bytes.now (Ok tokens.now) }
     // The tree derives them, and all trees that do have its outline; it has at most 200 levels, and its names after END
     // are right.
     ensures tree { IfOk result (IsTheTree bytes.now tokens.now) }

@@ -3,7 +3,7 @@
 ghost use Rattle.std.specs.Prelude.{◌≡◌, ◌++◌};
 ghost use Rattle.ob_parse.specs.Forms.{accept_at, expect_at, many, node, optional, prefixed, seq};
 ghost use Rattle.ob_parse.specs.Front.{uncons, front};
-ghost use Rattle.ob_parse.specs.Gives.{Gives, ahead};
+ghost use Rattle.ob_parse.specs.Accords.{Accords, ahead};
 ghost use Rattle.ob_parse.specs.ReadExpressions.{expr_at};
 ghost use Rattle.ob_parse.specs.ReadStatements.{assign_with, block_at, branch_with, case_with, cases_with, for_with, if_with, repeat_with, statement_at, statement_first, statement_with, while_with};
 ghost use Rattle.ob_scan.specs.declared.kind.Kind.TheVariants as kinds;
@@ -46,7 +46,7 @@ fn empty_statement(
     tokens: &[Token],
     input: Cursor,
 ) -> Result<(Box<Stmt>, Cursor), Stop>
-    ensures { Gives tokens.now (λ x. (stmt_outline x.0.value, ahead tokens.now x.1)) result (statement_at 0 (ahead tokens.now input)) }
+    ensures { Accords tokens.now (λ x. (stmt_outline x.0.value, ahead tokens.now x.1)) result (statement_at 0 (ahead tokens.now input)) }
 {
     if begins_statement(tokens, input) {
         return Err(Stop::TooDeep(input));
@@ -63,7 +63,7 @@ fn statement(
     input: Cursor,
     depth: u32,
 ) -> Result<(Box<Stmt>, Cursor), Stop>
-    ensures { Gives tokens.now (λ x. (stmt_outline x.0.value, ahead tokens.now x.1)) result (statement_at depth (ahead tokens.now input)) }
+    ensures { Accords tokens.now (λ x. (stmt_outline x.0.value, ahead tokens.now x.1)) result (statement_at depth (ahead tokens.now input)) }
 {
     if depth == 0 {
         return empty_statement(alloc, tokens, input);
@@ -81,7 +81,7 @@ fn statement_within(
     input: Cursor,
     depth: u32,
 ) -> Result<(Stmt, Cursor), Stop>
-    ensures { Gives tokens.now (λ x. (stmt_outline x.0, ahead tokens.now x.1)) result (statement_with (expr_at depth) (block_at depth) (ahead tokens.now input)) }
+    ensures { Accords tokens.now (λ x. (stmt_outline x.0, ahead tokens.now x.1)) result (statement_with (expr_at depth) (block_at depth) (ahead tokens.now input)) }
 {
     match input.next(tokens) {
         Some((Leaf::Name(number), rest)) => assignment(alloc, tokens, number, rest, depth),
@@ -103,7 +103,7 @@ fn assignment(
     input: Cursor,
     depth: u32,
 ) -> Result<(Stmt, Cursor), Stop>
-    ensures { Gives tokens.now (λ x. (stmt_outline x.0, ahead tokens.now x.1)) result (node constructs.Statement (assign_with (expr_at depth) head) (ahead tokens.now input)) }
+    ensures { Accords tokens.now (λ x. (stmt_outline x.0, ahead tokens.now x.1)) result (node constructs.Statement (assign_with (expr_at depth) head) (ahead tokens.now input)) }
 {
     let (target, input) = designator(alloc, tokens, head, input, depth)?;
     match accept(tokens, input, Kind::Assign) {
@@ -124,7 +124,7 @@ pub(crate) fn block(
     input: Cursor,
     depth: u32,
 ) -> Result<(Box<StatementSequence>, Cursor), Stop>
-    ensures { Gives tokens.now (λ x. (block_outline x.0.value, ahead tokens.now x.1)) result (block_at depth (ahead tokens.now input)) }
+    ensures { Accords tokens.now (λ x. (block_outline x.0.value, ahead tokens.now x.1)) result (block_at depth (ahead tokens.now input)) }
 {
     let (first, here) = statement(alloc, tokens, input, depth)?;
     let (rest, here) = more_statements(alloc, tokens, here, depth)?;
@@ -142,7 +142,7 @@ fn more_statements(
     input: Cursor,
     depth: u32,
 ) -> Result<(Vec<Stmt>, Cursor), Stop>
-    ensures { Gives tokens.now (λ x. (each_after kinds.Semicolon stmt_outline x.0.items, ahead tokens.now x.1)) result (many (accept_at kinds.Semicolon) (statement_at depth) (ahead tokens.now input)) }
+    ensures { Accords tokens.now (λ x. (each_after kinds.Semicolon stmt_outline x.0.items, ahead tokens.now x.1)) result (many (accept_at kinds.Semicolon) (statement_at depth) (ahead tokens.now input)) }
 {
     let mut rest = Vec::new(alloc);
     let mut here = input;
@@ -162,7 +162,7 @@ fn branch(
     depth: u32,
     keyword: Kind,
 ) -> Result<(Box<Branch>, Cursor), Stop>
-    ensures { Gives tokens.now (λ x. (branch_outline x.0.value keyword, ahead tokens.now x.1)) result (branch_with (expr_at depth) (block_at depth) keyword (ahead tokens.now input)) }
+    ensures { Accords tokens.now (λ x. (branch_outline x.0.value keyword, ahead tokens.now x.1)) result (branch_with (expr_at depth) (block_at depth) keyword (ahead tokens.now input)) }
 {
     let (condition, input) = expression(alloc, tokens, input, depth)?;
     let input = expect(tokens, input, keyword)?;
@@ -182,7 +182,7 @@ fn more_branches(
     depth: u32,
     keyword: Kind,
 ) -> Result<(Vec<Branch>, Cursor), Stop>
-    ensures { Gives tokens.now (λ x. (each_after kinds.Elsif (λ b. branch_outline b keyword) x.0.items, ahead tokens.now x.1)) result
+    ensures { Accords tokens.now (λ x. (each_after kinds.Elsif (λ b. branch_outline b keyword) x.0.items, ahead tokens.now x.1)) result
         (many (accept_at kinds.Elsif) (branch_with (expr_at depth) (block_at depth) keyword) (ahead tokens.now input)) }
 {
     let mut rest = Vec::new(alloc);
@@ -202,7 +202,7 @@ pub(crate) fn block_behind(
     depth: u32,
     word: Kind,
 ) -> Result<(Option<Box<StatementSequence>>, Cursor), Stop>
-    ensures { Gives tokens.now (λ x. (if_there (λ b. marks.word word ++ block_outline b.value) x.0, ahead tokens.now x.1)) result (optional (accept_at word) (block_at depth) (ahead tokens.now input)) }
+    ensures { Accords tokens.now (λ x. (if_there (λ b. marks.word word ++ block_outline b.value) x.0, ahead tokens.now x.1)) result (optional (accept_at word) (block_at depth) (ahead tokens.now input)) }
 {
     match accept(tokens, input, word) {
         None => Ok((None, input)),
@@ -219,7 +219,7 @@ fn if_statement(
     input: Cursor,
     depth: u32,
 ) -> Result<(Stmt, Cursor), Stop>
-    ensures { Gives tokens.now (λ x. (stmt_outline x.0, ahead tokens.now x.1)) result (node constructs.Statement (prefixed (word kinds.If) (if_with (expr_at depth) (block_at depth))) (ahead tokens.now input)) }
+    ensures { Accords tokens.now (λ x. (stmt_outline x.0, ahead tokens.now x.1)) result (node constructs.Statement (prefixed (word kinds.If) (if_with (expr_at depth) (block_at depth))) (ahead tokens.now input)) }
 {
     let (first, input) = branch(alloc, tokens, input, depth, Kind::Then)?;
     let (rest, input) = more_branches(alloc, tokens, input, depth, Kind::Then)?;
@@ -237,7 +237,7 @@ fn case_statement(
     input: Cursor,
     depth: u32,
 ) -> Result<(Stmt, Cursor), Stop>
-    ensures { Gives tokens.now (λ x. (stmt_outline x.0, ahead tokens.now x.1)) result (node constructs.Statement (prefixed (word kinds.Case) (cases_with (expr_at depth) (block_at depth))) (ahead tokens.now input)) }
+    ensures { Accords tokens.now (λ x. (stmt_outline x.0, ahead tokens.now x.1)) result (node constructs.Statement (prefixed (word kinds.Case) (cases_with (expr_at depth) (block_at depth))) (ahead tokens.now input)) }
 {
     let (value, input) = expression(alloc, tokens, input, depth)?;
     let input = expect(tokens, input, Kind::Of)?;
@@ -253,7 +253,7 @@ fn cases(
     input: Cursor,
     depth: u32,
 ) -> Result<((Box<Case>, Vec<Case>), Cursor), Stop>
-    ensures { Gives tokens.now (λ x. (case_outline x.0.0.value ++ (each_after kinds.Bar case_outline x.0.1.items ++ word kinds.End), ahead tokens.now x.1)) result
+    ensures { Accords tokens.now (λ x. (case_outline x.0.0.value ++ (each_after kinds.Bar case_outline x.0.1.items ++ word kinds.End), ahead tokens.now x.1)) result
         (seq (case_with (block_at depth)) (seq (many (accept_at kinds.Bar) (case_with (block_at depth))) (expect_at kinds.End)) (ahead tokens.now input)) }
 {
     let (first, input) = case(alloc, tokens, input, depth)?;
@@ -271,7 +271,7 @@ fn case(
     input: Cursor,
     depth: u32,
 ) -> Result<(Box<Case>, Cursor), Stop>
-    ensures { Gives tokens.now (λ x. (case_outline x.0.value, ahead tokens.now x.1)) result (case_with (block_at depth) (ahead tokens.now input)) }
+    ensures { Accords tokens.now (λ x. (case_outline x.0.value, ahead tokens.now x.1)) result (case_with (block_at depth) (ahead tokens.now input)) }
 {
     if !begins_label(tokens, input) {
         return boxed(alloc, Case::Nothing, input);
@@ -289,7 +289,7 @@ fn more_cases(
     input: Cursor,
     depth: u32,
 ) -> Result<(Vec<Case>, Cursor), Stop>
-    ensures { Gives tokens.now (λ x. (each_after kinds.Bar case_outline x.0.items, ahead tokens.now x.1)) result (many (accept_at kinds.Bar) (case_with (block_at depth)) (ahead tokens.now input)) }
+    ensures { Accords tokens.now (λ x. (each_after kinds.Bar case_outline x.0.items, ahead tokens.now x.1)) result (many (accept_at kinds.Bar) (case_with (block_at depth)) (ahead tokens.now input)) }
 {
     let mut rest = Vec::new(alloc);
     let mut here = input;
@@ -308,7 +308,7 @@ fn while_statement(
     input: Cursor,
     depth: u32,
 ) -> Result<(Stmt, Cursor), Stop>
-    ensures { Gives tokens.now (λ x. (stmt_outline x.0, ahead tokens.now x.1)) result (node constructs.Statement (prefixed (word kinds.While) (while_with (expr_at depth) (block_at depth))) (ahead tokens.now input)) }
+    ensures { Accords tokens.now (λ x. (stmt_outline x.0, ahead tokens.now x.1)) result (node constructs.Statement (prefixed (word kinds.While) (while_with (expr_at depth) (block_at depth))) (ahead tokens.now input)) }
 {
     let (first, input) = branch(alloc, tokens, input, depth, Kind::Do)?;
     let (rest, input) = more_branches(alloc, tokens, input, depth, Kind::Do)?;
@@ -325,7 +325,7 @@ fn repeat_statement(
     input: Cursor,
     depth: u32,
 ) -> Result<(Stmt, Cursor), Stop>
-    ensures { Gives tokens.now (λ x. (stmt_outline x.0, ahead tokens.now x.1)) result (node constructs.Statement (prefixed (word kinds.Repeat) (repeat_with (expr_at depth) (block_at depth))) (ahead tokens.now input)) }
+    ensures { Accords tokens.now (λ x. (stmt_outline x.0, ahead tokens.now x.1)) result (node constructs.Statement (prefixed (word kinds.Repeat) (repeat_with (expr_at depth) (block_at depth))) (ahead tokens.now input)) }
 {
     let (body, input) = block(alloc, tokens, input, depth)?;
     let input = expect(tokens, input, Kind::Until)?;
@@ -342,7 +342,7 @@ fn for_statement(
     input: Cursor,
     depth: u32,
 ) -> Result<(Stmt, Cursor), Stop>
-    ensures { Gives tokens.now (λ x. (stmt_outline x.0, ahead tokens.now x.1)) result (node constructs.Statement (prefixed (word kinds.For) (for_with (expr_at depth) (block_at depth))) (ahead tokens.now input)) }
+    ensures { Accords tokens.now (λ x. (stmt_outline x.0, ahead tokens.now x.1)) result (node constructs.Statement (prefixed (word kinds.For) (for_with (expr_at depth) (block_at depth))) (ahead tokens.now input)) }
 {
     let (variable, input) = identifier(tokens, input)?;
     let input = expect(tokens, input, Kind::Assign)?;
@@ -373,7 +373,7 @@ fn for_rest(
     ),
     Stop,
 >
-    ensures { Gives tokens.now (λ x. (
+    ensures { Accords tokens.now (λ x. (
       word kinds.To ++ (expr_outline x.0.0.value ++ (if_there (λ e. word kinds.By ++ expr_outline e.value) x.0.1
           ++ (word kinds.Do ++ (block_outline x.0.2.value ++ word kinds.End)))),
       ahead tokens.now x.1,
@@ -396,7 +396,7 @@ fn for_body(
     input: Cursor,
     depth: u32,
 ) -> Result<(Box<StatementSequence>, Cursor), Stop>
-    ensures { Gives tokens.now (λ x. (word kinds.Do ++ (block_outline x.0.value ++ word kinds.End), ahead tokens.now x.1)) result (seq (expect_at kinds.Do) (seq (block_at depth) (expect_at kinds.End)) (ahead tokens.now input)) }
+    ensures { Accords tokens.now (λ x. (word kinds.Do ++ (block_outline x.0.value ++ word kinds.End), ahead tokens.now x.1)) result (seq (expect_at kinds.Do) (seq (block_at depth) (expect_at kinds.End)) (ahead tokens.now input)) }
 {
     let input = expect(tokens, input, Kind::Do)?;
     let (body, input) = block(alloc, tokens, input, depth)?;

@@ -1,7 +1,7 @@
 //! Why the parser stops, and what becomes of what it read until then.
 
 ghost use Rattle.std.specs.Prelude.{◌≡◌, IfOk, IfErr};
-ghost use Rattle.ob_parse.specs.Gives.{some_of, Collects};
+ghost use Rattle.ob_parse.specs.Accords.{some_of, Collects};
 ghost use Rattle.ob_parse.specs.declared.stop.Stop.TheVariants.{Memory};
 
 use crate::cursor::Cursor;

@@ -3,7 +3,7 @@
 ghost use Rattle.std.specs.Prelude.{◌≡◌, Ok};
 ghost use Rattle.ob_parse.specs.Front.{uncons, front, is_word};
 ghost use Rattle.ob_parse.specs.Forms.{expect_at, accept_at, identifier_at, limited, nothing, optional};
-ghost use Rattle.ob_parse.specs.Gives.{Fails, Gives, ahead, skipped};
+ghost use Rattle.ob_parse.specs.Accords.{Fails, Accords, ahead, skipped};
 ghost use Rattle.ob_tree.specs.Marks.{if_so, word};
 
 use crate::cursor::Cursor;
@@ -14,7 +14,7 @@ use ob_tree::token::Leaf;
 /// A token of this kind, which has to stand here.
 #[tactic(auto, unfolding(crate::specs::Forms::expect_at))]
 pub fn expect(tokens: &[Token], input: Cursor, kind: Kind) -> Result<Cursor, Stop>
-    ensures { Gives tokens.now (λ rest. (word kind, ahead tokens.now rest)) result (expect_at kind (ahead tokens.now input)) }
+    ensures { Accords tokens.now (λ rest. (word kind, ahead tokens.now rest)) result (expect_at kind (ahead tokens.now input)) }
 {
     match input.next(tokens) {
         Some((Leaf::Word(found), rest)) if found == kind => Ok(rest),
@@ -56,7 +56,7 @@ pub fn is_at(tokens: &[Token], input: Cursor, kind: Kind) -> bool
 /// An identifier, which has to stand here.
 #[tactic(auto, unfolding(crate::specs::Forms::identifier_at))]
 pub fn identifier(tokens: &[Token], input: Cursor) -> Result<(u32, Cursor), Stop>
-    ensures { Gives tokens.now (λ x. (x.0, ahead tokens.now x.1)) result (identifier_at (ahead tokens.now input)) }
+    ensures { Accords tokens.now (λ x. (x.0, ahead tokens.now x.1)) result (identifier_at (ahead tokens.now input)) }
 {
     match input.next(tokens) {
         Some((Leaf::Name(number), rest)) => Ok((number, rest)),

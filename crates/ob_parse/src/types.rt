@@ -12,7 +12,7 @@ ghost use Rattle.ob_parse.specs.ReadExpressions.{expr_at};
 ghost use Rattle.ob_parse.specs.ReadNames as names;
 ghost use Rattle.ob_parse.specs.ReadNames.{qualident_at, identdef_at};
 ghost use Rattle.ob_parse.specs.ReadTypes.{some_parameters_at, type_first, var_with, field_start, fields_with, record_with, type_with, type_at};
-ghost use Rattle.ob_parse.specs.Gives.{Gives, ahead, skipped};
+ghost use Rattle.ob_parse.specs.Accords.{Accords, ahead, skipped};
 
 use crate::cursor::Cursor;
 use crate::expressions::expression_list;
@@ -46,7 +46,7 @@ fn more_identdefs(
     tokens: &[Token],
     input: Cursor,
 ) -> Result<(Vec<Identdef>, Cursor), Stop>
-    ensures { Gives tokens.now (λ x. (each_after kinds.Comma identdef_outline x.0.items, ahead tokens.now x.1)) result (many (accept_at kinds.Comma) identdef_at (ahead tokens.now input)) }
+    ensures { Accords tokens.now (λ x. (each_after kinds.Comma identdef_outline x.0.items, ahead tokens.now x.1)) result (many (accept_at kinds.Comma) identdef_at (ahead tokens.now input)) }
 {
     let mut rest = Vec::new(alloc);
     let mut here = input;
@@ -63,7 +63,7 @@ fn identdefs(
     tokens: &[Token],
     input: Cursor,
 ) -> Result<(OneOrMore<Identdef>, Cursor), Stop>
-    ensures { Gives tokens.now (λ x. (separated kinds.Comma identdef_outline x.0, ahead tokens.now x.1)) result (several kinds.Comma identdef_at (ahead tokens.now input)) }
+    ensures { Accords tokens.now (λ x. (separated kinds.Comma identdef_outline x.0, ahead tokens.now x.1)) result (several kinds.Comma identdef_at (ahead tokens.now input)) }
 {
     let (first, here) = identdef(tokens, input)?;
     let (rest, here) = more_identdefs(alloc, tokens, here)?;
@@ -79,7 +79,7 @@ pub(crate) fn var_declaration(
     input: Cursor,
     depth: u32,
 ) -> Result<(Box<VarDecl>, Cursor), Stop>
-    ensures { Gives tokens.now (λ x. (var_outline x.0.value, ahead tokens.now x.1)) result (var_with (type_at depth) (ahead tokens.now input)) }
+    ensures { Accords tokens.now (λ x. (var_outline x.0.value, ahead tokens.now x.1)) result (var_with (type_at depth) (ahead tokens.now input)) }
 {
     let (names, here) = identdefs(alloc, tokens, input)?;
     let here = expect(tokens, here, Kind::Colon)?;
@@ -111,7 +111,7 @@ fn field_list(
     input: Cursor,
     depth: u32,
 ) -> Result<(Box<VarDecl>, Cursor), Stop>
-    ensures { Gives tokens.now (λ x. (construct constructs.FieldList (var_outline x.0.value), ahead tokens.now x.1)) result (node constructs.FieldList (var_with (type_at depth)) (ahead tokens.now input)) }
+    ensures { Accords tokens.now (λ x. (construct constructs.FieldList (var_outline x.0.value), ahead tokens.now x.1)) result (node constructs.FieldList (var_with (type_at depth)) (ahead tokens.now input)) }
 {
     var_declaration(alloc, tokens, input, depth)
 }
@@ -124,7 +124,7 @@ fn more_fields(
     input: Cursor,
     depth: u32,
 ) -> Result<(Vec<VarDecl>, Cursor), Stop>
-    ensures { Gives tokens.now (λ x. (each_after kinds.Semicolon (λ v. construct constructs.FieldList (var_outline v)) x.0.items, ahead tokens.now x.1)) result
+    ensures { Accords tokens.now (λ x. (each_after kinds.Semicolon (λ v. construct constructs.FieldList (var_outline v)) x.0.items, ahead tokens.now x.1)) result
         (many field_start (node constructs.FieldList (var_with (type_at depth))) (ahead tokens.now input)) }
 {
     let mut rest = Vec::new(alloc);
@@ -144,7 +144,7 @@ fn fields(
     input: Cursor,
     depth: u32,
 ) -> Result<(Box<Fields>, Cursor), Stop>
-    ensures { Gives tokens.now (λ x. (fields_outline x.0.value, ahead tokens.now x.1)) result (fields_with (type_at depth) (ahead tokens.now input)) }
+    ensures { Accords tokens.now (λ x. (fields_outline x.0.value, ahead tokens.now x.1)) result (fields_with (type_at depth) (ahead tokens.now input)) }
 {
     let (first, here) = field_list(alloc, tokens, input, depth)?;
     let (rest, here) = more_fields(alloc, tokens, here, depth)?;
@@ -160,7 +160,7 @@ fn fields(
 /// The base of a record in parentheses, if it stands here.
 #[inline(always)]
 pub fn base(tokens: &[Token], input: Cursor) -> Result<(Option<Qualident>, Cursor), Stop>
-    ensures { Gives tokens.now (λ x. (if_there (λ q. word kinds.LeftParen ++ (qualident_outline q ++ word kinds.RightParen)) x.0, ahead tokens.now x.1)) result
+    ensures { Accords tokens.now (λ x. (if_there (λ q. word kinds.LeftParen ++ (qualident_outline q ++ word kinds.RightParen)) x.0, ahead tokens.now x.1)) result
         (optional (accept_at kinds.LeftParen) (seq qualident_at (expect_at kinds.RightParen)) (ahead tokens.now input)) }
 {
     match accept(tokens, input, Kind::LeftParen) {
@@ -182,7 +182,7 @@ fn some_fields(
     input: Cursor,
     depth: u32,
 ) -> Result<(Option<Box<Fields>>, Cursor), Stop>
-    ensures { Gives tokens.now (λ x. (if_there (λ f. fields_outline f.value) x.0, ahead tokens.now x.1)) result (optional (unless kinds.End) (fields_with (type_at depth)) (ahead tokens.now input)) }
+    ensures { Accords tokens.now (λ x. (if_there (λ f. fields_outline f.value) x.0, ahead tokens.now x.1)) result (optional (unless kinds.End) (fields_with (type_at depth)) (ahead tokens.now input)) }
 {
     if is_at(tokens, input, Kind::End) {
         return Ok((None, input));
@@ -199,7 +199,7 @@ fn type_within(
     input: Cursor,
     depth: u32,
 ) -> Result<(TypeForm, Cursor), Stop>
-    ensures { Gives tokens.now (λ x. (type_outline x.0, ahead tokens.now x.1)) result (type_with (expr_at depth) (type_at depth) (ahead tokens.now input)) }
+    ensures { Accords tokens.now (λ x. (type_outline x.0, ahead tokens.now x.1)) result (type_with (expr_at depth) (type_at depth) (ahead tokens.now input)) }
 {
     match input.next(tokens) {
         Some((Leaf::Name(head), rest)) => named(tokens, head, rest),
@@ -214,7 +214,7 @@ fn type_within(
 /// A type by its name, behind the first identifier.
 #[tactic(auto, using(ob_tree::proofs::TypeLayers::types_made))]
 fn named(tokens: &[Token], head: u32, input: Cursor) -> Result<(TypeForm, Cursor), Stop>
-    ensures { Gives tokens.now (λ x. (type_outline x.0, ahead tokens.now x.1)) result (node constructs.NamedType (names.qualident_after head) (ahead tokens.now input)) }
+    ensures { Accords tokens.now (λ x. (type_outline x.0, ahead tokens.now x.1)) result (node constructs.NamedType (names.qualident_after head) (ahead tokens.now input)) }
 {
     let (name, rest) = qualident_after(tokens, head, input)?;
     Ok((TypeForm::Named(name), rest))
@@ -229,7 +229,7 @@ fn array(
     input: Cursor,
     depth: u32,
 ) -> Result<(TypeForm, Cursor), Stop>
-    ensures { Gives tokens.now (λ x. (type_outline x.0, ahead tokens.now x.1)) result
+    ensures { Accords tokens.now (λ x. (type_outline x.0, ahead tokens.now x.1)) result
         (node constructs.ArrayType (prefixed (word kinds.Array) (seq (several kinds.Comma (expr_at depth)) (seq (expect_at kinds.Of) (type_at depth)))) (ahead tokens.now input)) }
 {
     let (lengths, rest) = expression_list(alloc, tokens, input, depth)?;
@@ -247,7 +247,7 @@ fn record(
     input: Cursor,
     depth: u32,
 ) -> Result<(TypeForm, Cursor), Stop>
-    ensures { Gives tokens.now (λ x. (type_outline x.0, ahead tokens.now x.1)) result
+    ensures { Accords tokens.now (λ x. (type_outline x.0, ahead tokens.now x.1)) result
         (node constructs.RecordType (prefixed (word kinds.Record) (record_with (type_at depth))) (ahead tokens.now input)) }
 {
     let (base, here) = base(tokens, input)?;
@@ -265,7 +265,7 @@ fn pointer(
     input: Cursor,
     depth: u32,
 ) -> Result<(TypeForm, Cursor), Stop>
-    ensures { Gives tokens.now (λ x. (type_outline x.0, ahead tokens.now x.1)) result
+    ensures { Accords tokens.now (λ x. (type_outline x.0, ahead tokens.now x.1)) result
         (node constructs.PointerType (prefixed (word kinds.Pointer) (seq (expect_at kinds.To) (type_at depth))) (ahead tokens.now input)) }
 {
     let rest = expect(tokens, input, Kind::To)?;
@@ -276,7 +276,7 @@ fn pointer(
 /// What stands behind PROCEDURE.
 #[tactic(auto, using(ob_tree::proofs::TypeLayers::types_made))]
 fn procedure(alloc: Global, tokens: &[Token], input: Cursor) -> Result<(TypeForm, Cursor), Stop>
-    ensures { Gives tokens.now (λ x. (type_outline x.0, ahead tokens.now x.1)) result
+    ensures { Accords tokens.now (λ x. (type_outline x.0, ahead tokens.now x.1)) result
         (node constructs.ProcedureType (prefixed (word kinds.Procedure) some_parameters_at) (ahead tokens.now input)) }
 {
     let (parameters, rest) = some_parameters(alloc, tokens, input)?;
@@ -292,7 +292,7 @@ pub(crate) fn type_form(
     input: Cursor,
     depth: u32,
 ) -> Result<(Box<TypeForm>, Cursor), Stop>
-    ensures { Gives tokens.now (λ x. (type_outline x.0.value, ahead tokens.now x.1)) result (type_at depth (ahead tokens.now input)) }
+    ensures { Accords tokens.now (λ x. (type_outline x.0.value, ahead tokens.now x.1)) result (type_at depth (ahead tokens.now input)) }
 {
     if depth == 0 {
         return Err(beyond(tokens, input, begins_type(tokens, input)));

@@ -1,5 +1,5 @@
 -- At each place of a text a piece begins, or there is a reason why none does. So each text has an outcome.
-use Rattle.std.proofs.Common.{◌≡◌, ℕ, zero, suc, ◌+◌, ◌-◌, ◌≤◌, ◌<◌, Bool, true, false, cond, eqb, List, [], ◌∷◌, ◌++◌, length, drop, Option, Some, None, refl, sym, ap, subst, ◌∙◌, inl, inr, length-drop, length-append, arith}
+use Rattle.std.proofs.Common.{◌≡◌, ℕ, zero, suc, ◌+◌, ◌-◌, ◌≤◌, ◌<◌, Bool, true, false, cond, eqb, List, [], ◌∷◌, ◌++◌, length, drop, Option, Some, None, Result, Ok, Err, refl, sym, ap, subst, ◌∙◌, inl, inr, length-drop, length-append, arith}
 use Rattle.std.specs.Prelude.{IfSome}
 use Rattle.std.specs.List.{prefix_len}
 use Rattle.std.specs.Char.{is_ascii_alphabetic, is_ascii_alphanumeric, is_ascii_digit}
@@ -7,13 +7,15 @@ use Rattle.std.proofs.lemmas.Bool.{cases_Bool, cases_lt, cond_both, eqb-false}
 use Rattle.std.proofs.lemmas.Grind.{common_steps}
 use Rattle.std.proofs.lemmas.List.Folds.{length-prefix_len}
 use Rattle.std.proofs.lemmas.List.Sums.{prefix_len-le-length}
+use Rattle.ob_scan.specs.declared.fault.ScanFault.{ScanFault}
+use Rattle.ob_scan.specs.declared.fault.ScanFault.TheVariants as faults
 use Rattle.ob_scan.specs.declared.kind.Kind.{Kind}
 use Rattle.ob_scan.specs.declared.kind.Kind.TheVariants as kinds
 use Rattle.ob_scan.specs.declared.token.Token.{Token}
 use Rattle.ob_scan.specs.Comments.{begins_comment, Closes, closed, nested, other}
 use Rattle.ob_scan.specs.Numbers.{first_passes, begins_digit, is_hex_digit, digits, hex_digits, is_next, sign_len, scale_of, with_scale, fraction_of, decimal_of, number_token}
 use Rattle.ob_scan.specs.Pieces.{after_comment, string_len, delimiter_of}
-use Rattle.ob_scan.specs.Spelling.{begins_blank, begins_quote, IsGap, blank, comment, Scanned, start, gap, token, IsBadByte, IsBadNumber, IsOpenString, IsOpenComment, Outcome, Reads, BadByte, BadNumber, OpenString, OpenComment, TooLong, IsOutcome}
+use Rattle.ob_scan.specs.Spelling.{begins_blank, begins_quote, IsGap, blank, comment, Scanned, start, gap, token, IsBadByte, IsBadNumber, IsOpenString, IsOpenComment, IsOutcome}
 use Rattle.ob_scan.specs.Tokens.{IsToken, number, longest}
 use Rattle.ob_scan.proofs.Closings.{closes_from, closes_none, comment_long}
 use Rattle.ob_scan.proofs.Marks.{drop-drop}
@@ -169,7 +171,7 @@ next_of bs h =
     ]
 
 record HasOutcome (bytes : List ℕ) : Type 0 where
-  outcome : Outcome
+  outcome : Result (List Token) ScanFault
   is : IsOutcome bytes outcome
 
 module _ (bytes : List ℕ) (short : length bytes ≤ 16777216) where
@@ -185,19 +187,19 @@ module _ (bytes : List ℕ) (short : length bytes ≤ 16777216) where
                   let some = token_some t in
                   let within = token_within t in
                   go_on fuel (ts ++ record { kind = k; start = at; end = at + n } ∷ []) (at + n) (token s t) (omega arith) (omega arith)
-              | bad_byte w ↦ record { outcome = BadByte at; is = (short, record { before = ts; scanned = s; reason = w }) }
-              | bad_number w ↦ record { outcome = BadNumber at; is = (short, record { before = ts; scanned = s; reason = w }) }
-              | open_string w ↦ record { outcome = OpenString at; is = (short, record { before = ts; scanned = s; reason = w }) }
-              | open_comment w ↦ record { outcome = OpenComment at; is = (short, record { before = ts; scanned = s; reason = w }) }
+              | bad_byte w ↦ record { outcome = Err (faults.BadByte at); is = (short, record { before = ts; scanned = s; reason = w }) }
+              | bad_number w ↦ record { outcome = Err (faults.BadNumber at); is = (short, record { before = ts; scanned = s; reason = w }) }
+              | open_string w ↦ record { outcome = Err (faults.OpenString at); is = (short, record { before = ts; scanned = s; reason = w }) }
+              | open_comment w ↦ record { outcome = Err (faults.OpenComment at); is = (short, record { before = ts; scanned = s; reason = w }) }
             ]
         | inr end ↦
             let same : at ≡ length bytes = omega arith in
-            record { outcome = Reads ts; is = (short, subst (Scanned bytes ts) same s) }
+            record { outcome = Ok ts; is = (short, subst (Scanned bytes ts) same s) }
       ]
 
-pub some_outcome : (bytes : List ℕ) → (o : Outcome) × IsOutcome bytes o
+pub some_outcome : (bytes : List ℕ) → (o : Result (List Token) ScanFault) × IsOutcome bytes o
 some_outcome bytes =
     elim (cases_lt 16777216 (length bytes)) [
-      | inl long ↦ (TooLong, long)
+      | inl long ↦ (Err faults.TooLong, long)
       | inr short ↦ let h = go_on bytes short (suc (length bytes)) [] 0 start (omega arith) (omega arith) in (h.outcome, h.is)
     ]

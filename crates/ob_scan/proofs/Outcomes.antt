@@ -1,6 +1,5 @@
 -- A text has one outcome.
-use Rattle.std.proofs.Common.{◌≡◌, ℕ, ◌+◌, ◌≤◌, ◌<◌, ◌⊎◌, Bool, true, false, cond, eqb, List, [], ◌∷◌, ◌++◌, length, drop, Option, Some, None, Result, refl, sym, subst, ◌∙◌, append_assoc, inl, inr, arith}
-use Rattle.std.specs.Prelude.{IfSome}
+use Rattle.std.proofs.Common.{◌≡◌, ℕ, ◌+◌, ◌≤◌, ◌<◌, ◌⊎◌, Bool, true, false, cond, eqb, List, [], ◌∷◌, ◌++◌, length, drop, Option, Some, None, Result, Ok, Err, refl, sym, subst, ◌∙◌, append_assoc, inl, inr, arith}
 use Rattle.std.specs.Char.{is_ascii_alphabetic, is_ascii_digit}
 use Rattle.std.proofs.Math.Seq.{drop-length}
 use Rattle.std.proofs.lemmas.Bool.{false≢true, false_from_ne_true, cases_lt}
@@ -8,9 +7,11 @@ use Rattle.std.proofs.lemmas.List.{append-nil}
 use Rattle.ob_scan.specs.declared.kind.Kind.{Kind}
 use Rattle.ob_scan.specs.declared.token.Token.{Token}
 use Rattle.ob_scan.specs.declared.fault.ScanFault.{ScanFault}
+use Rattle.ob_scan.specs.declared.fault.ScanFault.TheVariants as faults
 use Rattle.ob_scan.specs.Comments.{begins_comment}
+use Rattle.ob_scan.specs.Faults.{Tells}
 use Rattle.ob_scan.specs.Numbers.{first_passes, begins_digit}
-use Rattle.ob_scan.specs.Spelling.{begins_quote, IsGap, blank, comment, Scanned, start, gap, token, Spells, IsBadByte, IsBadNumber, IsOpenString, IsOpenComment, Outcome, Reads, BadByte, BadNumber, OpenString, OpenComment, TooLong, IsShort, IsOutcome, outcome_of}
+use Rattle.ob_scan.specs.Spelling.{begins_quote, IsGap, blank, comment, Scanned, start, gap, token, Spells, IsBadByte, IsBadNumber, IsOpenString, IsOpenComment, IsShort, IsOutcome}
 use Rattle.ob_scan.specs.Tokens.{IsToken, number, longest}
 use Rattle.ob_scan.proofs.OneToken.{one_token, one_gap, not_both}
 use Rattle.ob_scan.proofs.Shapes.{begins_paren, shape_of, word, sign, string, begins_word, begins_sign, begins_string, apart, is_quote, is_blank, digit_blank, digit_paren, quote_digit, quote_blank, quote_paren, paren_blank}
@@ -121,37 +122,37 @@ open_comment {bs} w = record { no_gap = λ n g. gaps g; no_token = λ k n t. tok
     tokens (longest c x s l h) = false≢true (sym x ∙ w.opens)
 
 -- what the bytes at the end of the way say of the text
-stop_at : List ℕ → List Token → ℕ → Outcome
-stop_at [] ts at = Reads ts
+stop_at : List ℕ → List Token → ℕ → Result (List Token) ScanFault
+stop_at [] ts at = Ok ts
 stop_at (b ∷ bs) ts at =
-    cond (begins_digit (b ∷ bs)) (BadNumber at) (cond (begins_quote (b ∷ bs)) (OpenString at) (cond (begins_comment (b ∷ bs)) (OpenComment at) (BadByte at)))
+    cond (begins_digit (b ∷ bs)) (Err (faults.BadNumber at)) (cond (begins_quote (b ∷ bs)) (Err (faults.OpenString at)) (cond (begins_comment (b ∷ bs)) (Err (faults.OpenComment at)) (Err (faults.BadByte at))))
 
 -- where the outcome is met
-record IsStop (bytes : List ℕ) (o : Outcome) : Type 0 where
+record IsStop (bytes : List ℕ) (o : Result (List Token) ScanFault) : Type 0 where
   before : List Token
   at : ℕ
   scanned : Scanned bytes before at
   ended : IsEnd (drop at bytes)
   is : o ≡ stop_at (drop at bytes) before at
 
-stops_at_byte : (bs : List ℕ) (ts : List Token) (at : ℕ) → IsBadByte bs → BadByte at ≡ stop_at bs ts at
+stops_at_byte : (bs : List ℕ) (ts : List Token) (at : ℕ) → IsBadByte bs → Err (faults.BadByte at) ≡ stop_at bs ts at
 unfolding stop_at
 stops_at_byte [] ts at w = absurd (omega (arith, w.some))
 stops_at_byte (b ∷ bs) ts at w = rw (w.no_digit, w.no_quote, w.no_comment) refl
 
-stops_at_number : (bs : List ℕ) (ts : List Token) (at : ℕ) → IsBadNumber bs → BadNumber at ≡ stop_at bs ts at
+stops_at_number : (bs : List ℕ) (ts : List Token) (at : ℕ) → IsBadNumber bs → Err (faults.BadNumber at) ≡ stop_at bs ts at
 unfolding stop_at
 stops_at_number [] ts at w = absurd (false≢true w.digit)
 stops_at_number (b ∷ bs) ts at w = rw w.digit refl
 
-stops_at_string : (bs : List ℕ) (ts : List Token) (at : ℕ) → IsOpenString bs → OpenString at ≡ stop_at bs ts at
+stops_at_string : (bs : List ℕ) (ts : List Token) (at : ℕ) → IsOpenString bs → Err (faults.OpenString at) ≡ stop_at bs ts at
 unfolding stop_at
 stops_at_string [] ts at w = absurd (false≢true w.quote)
 stops_at_string (b ∷ bs) ts at w =
     let digit : begins_digit (b ∷ bs) ≡ false = false_from_ne_true _ (apart is_quote is_ascii_digit quote_digit (b ∷ bs) w.quote) in
     rw (digit, w.quote) refl
 
-stops_at_comment : (bs : List ℕ) (ts : List Token) (at : ℕ) → IsOpenComment bs → OpenComment at ≡ stop_at bs ts at
+stops_at_comment : (bs : List ℕ) (ts : List Token) (at : ℕ) → IsOpenComment bs → Err (faults.OpenComment at) ≡ stop_at bs ts at
 unfolding stop_at
 stops_at_comment [] ts at w = absurd (false≢true w.opens)
 stops_at_comment (b ∷ bs) ts at w =
@@ -160,38 +161,40 @@ stops_at_comment (b ∷ bs) ts at w =
     let quote : begins_quote (b ∷ bs) ≡ false = false_from_ne_true _ (λ e. apart is_quote (λ x. eqb x 40) quote_paren (b ∷ bs) e paren) in
     rw (digit, quote, w.opens) refl
 
-stop_of : (bytes : List ℕ) (o : Outcome) → IsShort bytes → IsOutcome bytes o → IsStop bytes o
+stop_of : (bytes : List ℕ) (o : Result (List Token) ScanFault) → IsShort bytes → IsOutcome bytes o → IsStop bytes o
 unfolding stop_at
-stop_of bytes (Reads ts) s h =
+stop_of bytes (Ok ts) s h =
     let over : drop (length bytes) bytes ≡ [] = drop-length bytes in
     record { before = ts; at = length bytes; scanned = h.1; ended = at_end _ over; is = rw over refl }
-stop_of bytes (BadByte at) s h =
+stop_of bytes (Err (faults.BadByte at)) s h =
     record { before = h.1.before; at = at; scanned = h.1.scanned; ended = bad_byte h.1.reason; is = stops_at_byte (drop at bytes) h.1.before at h.1.reason }
-stop_of bytes (BadNumber at) s h =
+stop_of bytes (Err (faults.BadNumber at)) s h =
     record { before = h.1.before; at = at; scanned = h.1.scanned; ended = bad_number h.1.reason; is = stops_at_number (drop at bytes) h.1.before at h.1.reason }
-stop_of bytes (OpenString at) s h =
+stop_of bytes (Err (faults.OpenString at)) s h =
     record { before = h.1.before; at = at; scanned = h.1.scanned; ended = open_string h.1.reason; is = stops_at_string (drop at bytes) h.1.before at h.1.reason }
-stop_of bytes (OpenComment at) s h =
+stop_of bytes (Err (faults.OpenComment at)) s h =
     record { before = h.1.before; at = at; scanned = h.1.scanned; ended = open_comment h.1.reason; is = stops_at_comment (drop at bytes) h.1.before at h.1.reason }
-stop_of bytes TooLong s h = absurd (omega arith)
+stop_of bytes (Err faults.TooLong) s h = absurd (omega arith)
+stop_of bytes (Err faults.Memory) s h = absurd h
 
-stop_once : (bytes : List ℕ) (o p : Outcome) → IsStop bytes o → IsStop bytes p → o ≡ p
+stop_once : (bytes : List ℕ) (o p : Result (List Token) ScanFault) → IsStop bytes o → IsStop bytes p → o ≡ p
 stop_once bytes o p s t =
     let same = one_way (way_of s.scanned) (way_of t.scanned) s.ended t.ended in
     s.is ∙ rw (same.tokens, same.place) refl ∙ sym t.is
 
-pub outcome_once : (bytes : List ℕ) (o p : Outcome) → IsOutcome bytes o → IsOutcome bytes p → o ≡ p
+pub outcome_once : (bytes : List ℕ) (o p : Result (List Token) ScanFault) → IsOutcome bytes o → IsOutcome bytes p → o ≡ p
 outcome_once bytes o p h k = go o p h k (cases_lt 16777216 (length bytes))
   where
-    long : (o : Outcome) → IsOutcome bytes o → 16777216 < length bytes → o ≡ TooLong
-    long (Reads ts) h lt = absurd (omega (arith, h.0))
-    long (BadByte at) h lt = absurd (omega (arith, h.0))
-    long (BadNumber at) h lt = absurd (omega (arith, h.0))
-    long (OpenString at) h lt = absurd (omega (arith, h.0))
-    long (OpenComment at) h lt = absurd (omega (arith, h.0))
-    long TooLong h lt = refl
+    long : (o : Result (List Token) ScanFault) → IsOutcome bytes o → 16777216 < length bytes → o ≡ Err faults.TooLong
+    long (Ok ts) h lt = absurd (omega (arith, h.0))
+    long (Err (faults.BadByte at)) h lt = absurd (omega (arith, h.0))
+    long (Err (faults.BadNumber at)) h lt = absurd (omega (arith, h.0))
+    long (Err (faults.OpenString at)) h lt = absurd (omega (arith, h.0))
+    long (Err (faults.OpenComment at)) h lt = absurd (omega (arith, h.0))
+    long (Err faults.TooLong) h lt = refl
+    long (Err faults.Memory) h lt = absurd h
 
-    go : (o p : Outcome) → IsOutcome bytes o → IsOutcome bytes p → (16777216 < length bytes) ⊎ (length bytes ≤ 16777216) → o ≡ p
+    go : (o p : Result (List Token) ScanFault) → IsOutcome bytes o → IsOutcome bytes p → (16777216 < length bytes) ⊎ (length bytes ≤ 16777216) → o ≡ p
     go o p h k (inl lt) = long o h lt ∙ sym (long p k lt)
     go o p h k (inr le) = stop_once bytes o p (stop_of bytes o le h) (stop_of bytes p le k)
 
@@ -201,9 +204,11 @@ spelled_once bytes ts us s t =
     (one_way (way_of s) (way_of t) ended ended).tokens
 
 -- an answer is the one that the text has
-pub only_outcome : (bytes : List ℕ) (r : Result (List Token) ScanFault) → IfSome (outcome_of r) (IsOutcome bytes) → (o : Outcome) → IsOutcome bytes o → IfSome (outcome_of r) (λ p. p ≡ o)
-only_outcome bytes r h o k = go (outcome_of r) h
-  where
-    go : (x : Option Outcome) → IfSome x (IsOutcome bytes) → IfSome x (λ p. p ≡ o)
-    go None h = tt
-    go (Some p) h = outcome_once bytes p o h k
+pub only_outcome : (bytes : List ℕ) (r : Result (List Token) ScanFault) → Tells r (IsOutcome bytes) → (o : Result (List Token) ScanFault) → IsOutcome bytes o → Tells r (λ p. p ≡ o)
+only_outcome bytes (Ok ts) h o k = outcome_once bytes (Ok ts) o h k
+only_outcome bytes (Err (faults.BadByte at)) h o k = outcome_once bytes (Err (faults.BadByte at)) o h k
+only_outcome bytes (Err (faults.BadNumber at)) h o k = outcome_once bytes (Err (faults.BadNumber at)) o h k
+only_outcome bytes (Err (faults.OpenString at)) h o k = outcome_once bytes (Err (faults.OpenString at)) o h k
+only_outcome bytes (Err (faults.OpenComment at)) h o k = outcome_once bytes (Err (faults.OpenComment at)) o h k
+only_outcome bytes (Err faults.TooLong) h o k = outcome_once bytes (Err faults.TooLong) o h k
+only_outcome bytes (Err faults.Memory) h o k = tt

@@ -1,4 +1,5 @@
 pub mod Comments
+pub mod Faults
 pub mod Kinds
 pub mod Numbers
 pub mod Pieces

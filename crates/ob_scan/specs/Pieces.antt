@@ -86,8 +86,8 @@ IsPiece bs (pieces.Token k n) = IsToken k n bs × (0 < n) × (n ≤ length bs)
 IsPiece bs (pieces.Nothing reason) = BeginsNothing reason bs
 
 -- the fault that is told of an offset
-abbrev pub fault_at : ℕ → Reason → ScanFault
-fault_at at reasons.Byte = faults.BadByte at
-fault_at at reasons.Number = faults.BadNumber at
-fault_at at reasons.String = faults.OpenString at
-fault_at at reasons.Comment = faults.OpenComment at
+abbrev pub fault_of_reason : ℕ → Reason → ScanFault
+fault_of_reason at reasons.Byte = faults.BadByte at
+fault_of_reason at reasons.Number = faults.BadNumber at
+fault_of_reason at reasons.String = faults.OpenString at
+fault_of_reason at reasons.Comment = faults.OpenComment at

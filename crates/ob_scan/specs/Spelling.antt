@@ -1,6 +1,6 @@
 -- What a text spells: blanks, closed comments and tokens in a row, to its end or to the place where none begins
 -- (Oberon-07 report, section 3).
-use Rattle.std.specs.Prelude.{◌≡◌, ◌+◌, ◌≤◌, ◌<◌, ℕ, List, [], ◌∷◌, ◌++◌, length, drop, Option, Some, None, Bool, true, false, nat_lt, ◌==◌, Result, Ok, Err}
+use Rattle.std.specs.Prelude.{◌≡◌, ◌+◌, ◌≤◌, ◌<◌, ℕ, List, [], ◌∷◌, ◌++◌, length, drop, Option, None, Bool, true, false, nat_lt, ◌==◌, Result, Ok, Err}
 use Rattle.std.specs.List.{list_all, All, AllPairs}
 use Rattle.ob_scan.specs.declared.kind.Kind.{Kind}
 use Rattle.ob_scan.specs.declared.token.Token.{Token}
@@ -70,34 +70,16 @@ pub record Stuck (IsReason : List ℕ → Type 0) (bytes : List ℕ) (at : ℕ) 
   pub scanned : Scanned bytes before at
   pub reason : IsReason (drop at bytes)
 
--- what a text can be: tokens, one of four reasons at an offset, or too long
-pub data Outcome : Type 0 where
-  Reads : List Token → Outcome
-  BadByte : ℕ → Outcome
-  BadNumber : ℕ → Outcome
-  OpenString : ℕ → Outcome
-  OpenComment : ℕ → Outcome
-  TooLong : Outcome
-
 -- the text has at most 16,777,216 bytes
 abbrev pub IsShort : List ℕ → Type 0
 IsShort bytes = length bytes ≤ 16777216
 
--- the text has this outcome; its length is looked at first
-abbrev pub IsOutcome : List ℕ → Outcome → Type 0
-IsOutcome bytes (Reads ts) = IsShort bytes × Spells bytes ts
-IsOutcome bytes (BadByte at) = IsShort bytes × Stuck IsBadByte bytes at
-IsOutcome bytes (BadNumber at) = IsShort bytes × Stuck IsBadNumber bytes at
-IsOutcome bytes (OpenString at) = IsShort bytes × Stuck IsOpenString bytes at
-IsOutcome bytes (OpenComment at) = IsShort bytes × Stuck IsOpenComment bytes at
-IsOutcome bytes TooLong = 16777216 < length bytes
-
--- the outcome that was answered; there is none where memory ran out
-abbrev pub outcome_of : Result (List Token) ScanFault → Option Outcome
-outcome_of (Ok ts) = Some (Reads ts)
-outcome_of (Err (faults.BadByte at)) = Some (BadByte at)
-outcome_of (Err (faults.BadNumber at)) = Some (BadNumber at)
-outcome_of (Err (faults.OpenString at)) = Some (OpenString at)
-outcome_of (Err (faults.OpenComment at)) = Some (OpenComment at)
-outcome_of (Err faults.TooLong) = Some TooLong
-outcome_of (Err faults.Memory) = None
+-- the text has these tokens, or this fault; its length is looked at first, and want of memory is no fault of a text
+abbrev pub IsOutcome : List ℕ → Result (List Token) ScanFault → Type 0
+IsOutcome bytes (Ok ts) = IsShort bytes × Spells bytes ts
+IsOutcome bytes (Err (faults.BadByte at)) = IsShort bytes × Stuck IsBadByte bytes at
+IsOutcome bytes (Err (faults.BadNumber at)) = IsShort bytes × Stuck IsBadNumber bytes at
+IsOutcome bytes (Err (faults.OpenString at)) = IsShort bytes × Stuck IsOpenString bytes at
+IsOutcome bytes (Err (faults.OpenComment at)) = IsShort bytes × Stuck IsOpenComment bytes at
+IsOutcome bytes (Err faults.TooLong) = 16777216 < length bytes
+IsOutcome bytes (Err faults.Memory) = ⊥

@@ -48,10 +48,10 @@ pub(crate) enum Reason {
 
 impl Reason {
     ghost use Rattle.std.specs.Prelude.{◌≡◌};
-    ghost use Rattle.ob_scan.specs.Pieces.{fault_at};
+    ghost use Rattle.ob_scan.specs.Pieces.{fault_of_reason};
 
     pub(crate) fn at(self, offset: u32) -> ScanFault
-        ensures { result ≡ fault_at offset self }
+        ensures { result ≡ fault_of_reason offset self }
     {
         match self {
             Reason::Byte => ScanFault::BadByte { offset },

@@ -1,9 +1,10 @@
 //! Laws of texts and tokens. Each function is a law: its body is empty, and its contract is proved.
-ghost use Rattle.std.specs.Prelude.{◌≡◌, ◌-◌, ℕ, All, List, drop, take, true};
+ghost use Rattle.std.specs.Prelude.{◌≡◌, ◌-◌, ℕ, All, List, Result, drop, take, true};
+ghost use Rattle.ob_scan.specs.declared.fault.ScanFault.{ScanFault};
 ghost use Rattle.ob_scan.specs.declared.kind.Kind.TheVariants.{Ident};
 ghost use Rattle.ob_scan.specs.declared.token.Token.{Token};
 ghost use Rattle.ob_scan.specs.Position.{IsPosition};
-ghost use Rattle.ob_scan.specs.Spelling.{AreInText, IsOutcome, Outcome, Spells};
+ghost use Rattle.ob_scan.specs.Spelling.{AreInText, IsOutcome, Spells};
 ghost use Rattle.ob_scan.specs.Tokens.{is_name};
 
 /// A text spells at most one list of tokens.
@@ -13,12 +14,12 @@ pub fn one_spelling()
 
 /// A text has an outcome: tokens, or a fault at an offset, for a reason.
 pub fn some_outcome()
-    ensures { (bytes : List ℕ) → (o : Outcome) × IsOutcome bytes o }
+    ensures { (bytes : List ℕ) → (o : Result (List Token) ScanFault) × IsOutcome bytes o }
 {}
 
 /// A text has at most one outcome.
 pub fn one_outcome()
-    ensures { (bytes : List ℕ) (o p : Outcome) → IsOutcome bytes o → IsOutcome bytes p → o ≡ p }
+    ensures { (bytes : List ℕ) (o p : Result (List Token) ScanFault) → IsOutcome bytes o → IsOutcome bytes p → o ≡ p }
 {}
 
 /// The tokens that a text spells stand in it one behind the other, and none is empty.

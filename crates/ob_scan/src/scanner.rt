@@ -1,6 +1,9 @@
 //! From bytes to tokens.
-ghost use Rattle.std.specs.Prelude.{◌≡◌, ◌≤◌, [], length, IfSome};
-ghost use Rattle.ob_scan.specs.Spelling.{IsOutcome, Outcome, outcome_of};
+ghost use Rattle.std.specs.Prelude.{◌≡◌, ◌≤◌, [], length, List, Result};
+ghost use Rattle.ob_scan.specs.declared.fault.ScanFault.{ScanFault};
+ghost use Rattle.ob_scan.specs.declared.token.Token.{Token};
+ghost use Rattle.ob_scan.specs.Faults.{Tells};
+ghost use Rattle.ob_scan.specs.Spelling.{IsOutcome};
 
 use crate::piece::{Piece, begins_blank, next_piece};
 use crate::{ScanFault, Token, Tokens};
@@ -37,7 +40,7 @@ fn kept(tokens: Vec<Token>) -> Tokens
 
 fn tokens_in(alloc: Global, bytes: &[u8]) -> Result<Tokens, ScanFault>
     requires { length bytes.now ≤ 16777216 }
-    ensures { IfSome (outcome_of result) (IsOutcome bytes.now) }
+    ensures { Tells result (IsOutcome bytes.now) }
 {
     let mut tokens = with_room(alloc, bytes.len());
     let mut at = 0;
@@ -68,9 +71,9 @@ fn tokens_in(alloc: Global, bytes: &[u8]) -> Result<Tokens, ScanFault>
 /// TooLong is tested first, and of the other faults the one that stands first in the file is answered.
 pub fn scan(alloc: Global, bytes: &[u8]) -> Result<Tokens, ScanFault>
     // They are the tokens that spell the bytes, or it is a fault that the bytes have.
-    ensures exact { IfSome (outcome_of result) (IsOutcome bytes.now) }
+    ensures exact { Tells result (IsOutcome bytes.now) }
     // The tokens of the bytes, or their fault, are answered unless memory runs out.
-    ensures only { (o : Outcome) → IsOutcome bytes.now o → IfSome (outcome_of result) (λ p. p ≡ o) }
+    ensures only { (o : Result (List Token) ScanFault) → IsOutcome bytes.now o → Tells result (λ p. p ≡ o) }
 {
     if bytes.len() > MAX_BYTES {
         return Err(ScanFault::TooLong);

@@ -1,6 +1,6 @@
 //! The scopes of a module.
-ghost use Rattle.std.specs.Prelude.{◌≡◌, map, IfErr, IfOk};
-ghost use Rattle.ob_scan.specs.Spelling.{IsOutcome, Reads};
+ghost use Rattle.std.specs.Prelude.{◌≡◌, map, IfErr, IfOk, Ok};
+ghost use Rattle.ob_scan.specs.Spelling.{IsOutcome};
 ghost use Rattle.ob_tree.specs.Derives.{Derives};
 ghost use Rattle.ob_decls.specs.Declaring.{rows_of};
 ghost use Rattle.ob_scope.specs.Scoped.{AreScopes, IsScopeFault};
@@ -26,7 +26,7 @@ pub fn scopes(
     bytes: &[u8],
 ) -> Result<Scopes, ScopeFault>
     // The tokens are those of the bytes.
-    requires spelled { IsOutcome bytes.now (Reads tokens.now) }
+    requires spelled { IsOutcome bytes.now (Ok tokens.now) }
     // The tree derives them.
     requires derived { Derives (map (λ t. t.kind) tokens.now) «module».now }
     // The scopes are the module's, which declares nothing twice.

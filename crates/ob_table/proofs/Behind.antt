@@ -17,35 +17,35 @@ use Rattle.ob_parse.specs.declared.cursor.Cursor.{Cursor}
 use Rattle.ob_parse.specs.declared.stop.Stop.{Stop}
 use Rattle.ob_parse.specs.declared.stop.Stop.TheVariants as stops
 use Rattle.ob_parse.specs.Forms.{Read, Reader, Start, accept_at, expect_at, identifier_at, name_at, many, optional, seq, several}
-use Rattle.ob_parse.specs.Gives.{Fails, ahead}
+use Rattle.ob_parse.specs.Accords.{Fails, ahead}
 use Rattle.ob_parse.proofs.Loops.{with_front}
 use Rattle.ob_table.specs.TypeShapes.{further_outline, further_piece, list_piece, skipped_outline, skipped_piece}
-use Rattle.ob_table.specs.Tells.{Told, Tells, TellsBy}
+use Rattle.ob_table.specs.Tabulating.{Told, Tabulates, TabulatesBy}
 use Rattle.ob_table.proofs.Combine.{told_at, told_as, told_then, told_there, told_absent, told_behind, told_before, told_walked}
 use Rattle.ob_table.proofs.Lists.{word_after}
 
 -- behind a word
 pub word_told : {A : Type 0} (ts : List Token) (c : Context) (k : Kind) (f : A → Out) (p : A → Piece) (r : Reader) (old mid new : Draft) (input here : Cursor) (result : Result Cursor Stop) →
-    TellsBy ts (λ (_ : Unit {0}). word k) (λ x s. passed s) old mid (Ok here) (expect_at k (ahead ts input)) →
-    Tells ts f p c mid new result (r (ahead ts here)) →
-    Tells ts (λ x. word k ++ f x) (λ x. both token (p x)) c old new result (seq (expect_at k) r (ahead ts input))
+    TabulatesBy ts (λ (_ : Unit {0}). word k) (λ x s. passed s) old mid (Ok here) (expect_at k (ahead ts input)) →
+    Tabulates ts f p c mid new result (r (ahead ts here)) →
+    Tabulates ts (λ x. word k ++ f x) (λ x. both token (p x)) c old new result (seq (expect_at k) r (ahead ts input))
 word_told {A} ts c k f p r old mid new input here result a b =
     told_as ts (λ (x : Unit {0} × A). word k ++ f x.1) (λ x s. after (p x.1) c (passed s)) (λ x. word k ++ f x) (λ x. after (both token (p x)) c) (λ x. x.1) (λ x. refl) (λ x s. word_after (p x.1) c s) old new result _
     (told_then ts (λ (x : Unit {0}). word k) (λ x s. passed s) f (λ x. after (p x) c) (expect_at k) r old mid new here result (ahead ts input) a b)
 
 -- two parts, by their pieces
 pub pair_told : {A B : Type 0} (ts : List Token) (c : Context) (f : A → Out) (p : A → Piece) (g : B → Out) (q : B → Piece) (r s : Reader) (old mid new : Draft) (input here : Cursor) (result : Result Cursor Stop) →
-    Tells ts f p c old mid (Ok here) (r (ahead ts input)) → Tells ts g q c mid new result (s (ahead ts here)) →
-    Tells ts (λ (x : A × B). f x.0 ++ g x.1) (λ x. both (p x.0) (q x.1)) c old new result (seq r s (ahead ts input))
+    Tabulates ts f p c old mid (Ok here) (r (ahead ts input)) → Tabulates ts g q c mid new result (s (ahead ts here)) →
+    Tabulates ts (λ (x : A × B). f x.0 ++ g x.1) (λ x. both (p x.0) (q x.1)) c old new result (seq r s (ahead ts input))
 pair_told {A} {B} ts c f p g q r s old mid new input here result a b =
     told_as ts (λ (x : A × B). f x.0 ++ g x.1) (λ x z. after (q x.1) c (after (p x.0) c z)) (λ x. f x.0 ++ g x.1) (λ x. after (both (p x.0) (q x.1)) c) (λ x. x) (λ x. refl) (λ x z. after_both (p x.0) (q x.1) c z) old new result _
     (told_then ts f (λ x. after (p x) c) g (λ x. after (q x) c) r s old mid new here result (ahead ts input) a b)
 
 -- one or more with a token between each two
 pub list_told : {X : Type 0} (ts : List Token) (c : Context) (k : Kind) (f : X → Out) (p : X → Piece) (r : Reader) (old mid new : Draft) (input here : Cursor) (result : Result Cursor Stop) →
-    Tells ts f p c old mid (Ok here) (r (ahead ts input)) →
-    Tells ts (further_outline k f) (further_piece p) c mid new result (many (accept_at k) r (ahead ts here)) →
-    Tells ts (separated k f) (list_piece p) c old new result (several k r (ahead ts input))
+    Tabulates ts f p c old mid (Ok here) (r (ahead ts input)) →
+    Tabulates ts (further_outline k f) (further_piece p) c mid new result (many (accept_at k) r (ahead ts here)) →
+    Tabulates ts (separated k f) (list_piece p) c old new result (several k r (ahead ts input))
 unfolding several
 list_told {X} ts c k f p r old mid new input here result a b =
     told_as ts (λ (x : X × Vec X). f x.0 ++ further_outline k f x.1) (λ x. after (both (p x.0) (further_piece p x.1)) c) (separated k f) (λ l. after (list_piece p l) c)
@@ -68,8 +68,8 @@ came_nothing c false d e = λ q. (q, sym (after_nothing c (stage_of d)))
 -- a construct that declares
 pub declaring_told : {A : Type 0} (ts : List Token) (sort : Sort) (c : Context) (f : A → Out) (p : A → Piece) (row : Declarer) (around : Context) (at : ℕ) (old opened last new : Draft) (here : Cursor) (read : Read) →
     row ≡ declarer sort c old.number 0 → at ≡ length old.declarers.items → around ≡ declaring_at c old.number →
-    ComesTo (added (one_declarer row)) old opened → Tells ts f p around opened last (Ok here) read → ComesTo (closed at row) last new →
-    Tells ts f (λ x. declaring sort (p x)) c old new (Ok here) read
+    ComesTo (added (one_declarer row)) old opened → Tabulates ts f p around opened last (Ok here) read → ComesTo (closed at row) last new →
+    Tabulates ts f (λ x. declaring sort (p x)) c old new (Ok here) read
 declaring_told {A} ts sort c f p row around at old opened last new here read d e g a t b =
     told_at ts f (λ x s. closed at row (after (p x) around (added (one_declarer row) s))) f (λ x. after (declaring sort (p x)) c) (λ x. x) (λ x. refl) old new (Ok here) read
     (λ x. after_declaring sort (p x) c (stage_of old) ∙ same x)
@@ -95,23 +95,23 @@ name_failed ts (stops.TooDeep i) role ls h = rw h refl
 -- ---- what may stand there
 
 pub there_told : {A : Type 0} (ts : List Token) (c : Context) (f : A → Out) (p : A → Piece) (start : Start) (r : Reader) (old new : Draft) (input : Cursor) (result : Result Cursor Stop) →
-    start (ahead ts input) ≡ Some ([], ahead ts input) → Tells ts f p c old new result (r (ahead ts input)) →
-    Tells ts (shown_there f) (if_there p) c old new result (optional start r (ahead ts input))
+    start (ahead ts input) ≡ Some ([], ahead ts input) → Tabulates ts f p c old new result (r (ahead ts input)) →
+    Tabulates ts (shown_there f) (if_there p) c old new result (optional start r (ahead ts input))
 there_told {A} ts c f p start r old new input result found t =
     told_as ts (λ (x : A). [] ++ f x) (λ x. after (p x) c) (shown_there f) (λ o. after (if_there p o) c) (λ x. Some x) (λ x. refl) (λ x s. refl) old new result (optional start r (ahead ts input))
     (told_there ts f (λ x. after (p x) c) start r [] old new input result (ahead ts input) found t)
 
 -- the same behind a word, which is passed
 pub word_there_told : {A : Type 0} (ts : List Token) (c : Context) (k : Kind) (f : A → Out) (p : A → Piece) (r : Reader) (old mid new : Draft) (input rest : Cursor) (result : Result Cursor Stop) →
-    accept_at k (ahead ts input) ≡ Some (word k, ahead ts rest) → ComesTo passed old mid → Tells ts f p c mid new result (r (ahead ts rest)) →
-    Tells ts (shown_there (λ x. word k ++ f x)) (if_there (λ x. both token (p x))) c old new result (optional (accept_at k) r (ahead ts input))
+    accept_at k (ahead ts input) ≡ Some (word k, ahead ts rest) → ComesTo passed old mid → Tabulates ts f p c mid new result (r (ahead ts rest)) →
+    Tabulates ts (shown_there (λ x. word k ++ f x)) (if_there (λ x. both token (p x))) c old new result (optional (accept_at k) r (ahead ts input))
 word_there_told {A} ts c k f p r old mid new input rest result found h t =
     told_as ts (λ (x : A). word k ++ f x) (λ x s. after (p x) c (passed s)) (shown_there (λ x. word k ++ f x)) (λ o. after (if_there (λ x. both token (p x)) o) c) (λ x. Some x) (λ x. refl) (λ x s. word_after (p x) c s) old new result (optional (accept_at k) r (ahead ts input))
     (told_there ts f (λ x s. after (p x) c (passed s)) (accept_at k) r (word k) old new rest result (ahead ts input) found
     (told_behind ts f (λ x. after (p x) c) passed old mid new result (r (ahead ts rest)) h t))
 
 pub absent_told : {A : Type 0} (ts : List Token) (c : Context) (f : A → Out) (p : A → Piece) (start : Start) (r : Reader) (d : Draft) (input : Cursor) →
-    start (ahead ts input) ≡ None → Tells ts (shown_there f) (if_there p) c d d (Ok input) (optional start r (ahead ts input))
+    start (ahead ts input) ≡ None → Tabulates ts (shown_there f) (if_there p) c d d (Ok input) (optional start r (ahead ts input))
 absent_told ts c f p start r d input h = told_absent ts (shown_there f) (λ o. after (if_there p o) c) None start r d input refl (λ s. after_nothing c s) h
 
 -- one step and then another
@@ -133,5 +133,5 @@ fails_behind ts (stops.TooDeep i) o read h = rw h refl
 
 -- a part was told, and the next one fails
 pub then_failed : {A : Type 0} (ts : List Token) (f : A → Out) (p : A → Stage → Stage) (e : Stop) (r s : Reader) (old new : Draft) (input behind : Cursor) →
-    TellsBy ts f p old new (Ok behind) (r (ahead ts input)) → Fails ts e (s (ahead ts behind)) → Fails ts e (seq r s (ahead ts input))
+    TabulatesBy ts f p old new (Ok behind) (r (ahead ts input)) → Fails ts e (s (ahead ts behind)) → Fails ts e (seq r s (ahead ts input))
 then_failed ts f p e r s old new input behind a h = rw a.is_read (fails_behind ts e a.out (s (ahead ts behind)) h)

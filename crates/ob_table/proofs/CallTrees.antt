@@ -29,7 +29,7 @@ use Rattle.ob_decls.proofs.Steps.{after_each, after_nothing, number_of}
 use Rattle.ob_parse.specs.declared.cursor.Cursor.{Cursor}
 use Rattle.ob_parse.specs.declared.stop.Stop.{Stop}
 use Rattle.ob_parse.specs.Forms.{Read, Reader, Start, seq, node, prefixed, optional, unless, many, several, accept_at, expect_at}
-use Rattle.ob_parse.specs.Gives.{ahead, Fails}
+use Rattle.ob_parse.specs.Accords.{ahead, Fails}
 use Rattle.ob_parse.specs.ReadExpressions.{expr_at}
 use Rattle.ob_parse.proofs.Loops.{Advances, shortens_expect}
 use Rattle.ob_parse.proofs.Sound.{Sound, Takes, sound_optional, sound_several, unless_sound}
@@ -37,7 +37,7 @@ use Rattle.ob_parse.proofs.SoundExpressions.{expr_at_sound}
 use Rattle.ob_table.specs.Choosing.{is_there, Picked, picked_outline, picking, Counted, counted_outline, Counts, Further, further_outline, CountsFurther}
 use Rattle.ob_table.specs.LoneNames.{lone_of}
 use Rattle.ob_table.specs.Shapes.{exprs_outline, exprs_piece, arguments_outline, arguments_piece}
-use Rattle.ob_table.specs.Tells.{Told, Tells, TellsBy}
+use Rattle.ob_table.specs.Tabulating.{Told, Tabulates, TabulatesBy}
 use Rattle.ob_table.proofs.Combine.{told_as, told_at, told_then, told_there, told_behind, told_before, told_knowing_then, failed_then}
 use Rattle.ob_table.proofs.DesignatorTrees.{picking_shown, told_settled}
 use Rattle.ob_table.proofs.ExpressionTrees.{both_after}
@@ -57,7 +57,7 @@ list_count : (x : Expr × Vec Expr) → (listed (list_of x)).count ≡ suc (leng
 list_count x = told.expr_list_count (list_of x) ∙ ap (λ y. suc (length y.rest.items)) (out-roll-ExprList (record { first = x.0; rest = x.1 }))
 
 pub list_told : (ts : List Token) (c : Context) (r : Reader) (old mid new : Draft) (input here : Cursor) (result : Result (Cursor × ℕ) Stop) →
-    Tells ts expr_outline expr_piece c old mid (Ok here) (r (ahead ts input)) → CountsFurther ts c mid new result (many (accept_at kinds.Comma) r (ahead ts here)) →
+    Tabulates ts expr_outline expr_piece c old mid (Ok here) (r (ahead ts input)) → CountsFurther ts c mid new result (many (accept_at kinds.Comma) r (ahead ts here)) →
     Counts ts c old new result (several kinds.Comma r (ahead ts input))
 unfolding several
 list_told ts c r old mid new input here (Ok y) a b =
@@ -79,7 +79,7 @@ further_begun ts r c d input =
 
 pub further_more : (ts : List Token) (r : Reader) (c : Context) (count later : ℕ) → Advances (accept_at kinds.Comma) r → (old now mid more new : Draft) (input here behind next : Cursor) →
     accept_at kinds.Comma (ahead ts here) ≡ Some (word kinds.Comma, ahead ts behind) → FurtherListing ts r c count old now input here → ComesTo passed now mid →
-    Tells ts expr_outline expr_piece c mid more (Ok next) (r (ahead ts behind)) → ComesTo (λ s. s) more new → (new.refused ≡ false → later ≡ count + 1) → FurtherListing ts r c later old new input next
+    Tabulates ts expr_outline expr_piece c mid more (Ok next) (r (ahead ts behind)) → ComesTo (λ s. s) more new → (new.refused ≡ false → later ≡ count + 1) → FurtherListing ts r c later old new input next
 further_more ts r c count later adv old now mid more new input here behind next found l h t k known =
     listing_more ts (accept_at kinds.Comma) r (λ e. word kinds.Comma ++ expr_outline e) (λ xs. after (pieces (λ e. both token (expr_piece e)) xs) c)
     (λ xs. suc (length xs) ≡ count) (λ xs. suc (length xs) ≡ later) expr_outline (λ a s. after (expr_piece a) c (passed s)) (λ a. a) (word kinds.Comma) adv (λ a. refl) old now new input here behind next
@@ -128,8 +128,8 @@ told_spelt ts f p d r old new input rest sound t = record {
 
 -- where a token was read, one stood there
 told_left : (ts : List Token) (k : Kind) (old new : Draft) (here : Cursor) (result : Result Cursor Stop) →
-    TellsBy ts (λ (x : Unit {0}). word k) (λ x s. passed s) old new result (expect_at k (ahead ts here)) →
-    TellsBy {T = 0 < length (ahead ts here)} ts (λ x. word k) (λ x s. passed s) old new result (expect_at k (ahead ts here))
+    TabulatesBy ts (λ (x : Unit {0}). word k) (λ x s. passed s) old new result (expect_at k (ahead ts here)) →
+    TabulatesBy {T = 0 < length (ahead ts here)} ts (λ x. word k) (λ x s. passed s) old new result (expect_at k (ahead ts here))
 told_left ts k old new here (Ok rest) t = record {
   out = t.out;
   is_read = t.is_read;
@@ -149,8 +149,8 @@ pub call_told : (ts : List Token) (c : Context) (d : ℕ) (head at opening : ℕ
     Told ts arguments_outline (λ x. after (arguments_piece x) c) mid list here (optional (unless kinds.RightParen) (several kinds.Comma (expr_at d)) (ahead ts input)) →
     ComesTo (λ s. s) list named → (named.refused ≡ false → LoneSeen ts input here name opening) →
     ComesTo (settled at (record { of = head; step = steps.Arguments name })) named late →
-    TellsBy ts (λ (x : Unit {0}). word kinds.RightParen) (λ x s. passed s) late new result (expect_at kinds.RightParen (ahead ts here)) →
-    TellsBy {T = Picked false} ts picked_outline (picking head at c) old new result
+    TabulatesBy ts (λ (x : Unit {0}). word kinds.RightParen) (λ x s. passed s) late new result (expect_at kinds.RightParen (ahead ts here)) →
+    TabulatesBy {T = Picked false} ts picked_outline (picking head at c) old new result
     (node constructs.Selector (prefixed (word kinds.LeftParen) (seq (optional (unless kinds.RightParen) (several kinds.Comma (expr_at d))) (expect_at kinds.RightParen))) (ahead ts input))
 unfolding call_picked
 call_told ts c d head at opening name old kept mid list named late new input here result opens g known h a l seen k b =

@@ -8,10 +8,10 @@ use Rattle.ob_parse.specs.declared.cursor.Cursor.{Cursor}
 use Rattle.ob_parse.specs.declared.stop.Stop.{Stop}
 use Rattle.ob_parse.specs.declared.stop.Stop.TheVariants as stops
 use Rattle.ob_parse.specs.Forms.{Read, Reader, Start, ◌>>=◌, seq, prefixed, node, optional, if_found}
-use Rattle.ob_parse.specs.Gives.{Fails, ahead}
+use Rattle.ob_parse.specs.Accords.{Fails, ahead}
 use Rattle.ob_decls.specs.declared.draft.Draft.{Draft}
 use Rattle.ob_decls.specs.Drafts.{Stage, stage_of, ComesTo}
-use Rattle.ob_table.specs.Tells.{IsTold, Told, TellsBy}
+use Rattle.ob_table.specs.Tabulating.{IsTold, Told, TabulatesBy}
 
 -- reading on after a fault
 fails_on : (ts : List Token) (e : Stop) (read : Read) (k : Read → Read) → ((x : _) → k (Err x) ≡ Err x) → Fails ts e read → Fails ts e (k read)
@@ -22,7 +22,7 @@ fails_on ts (stops.TooDeep i) read k h f = ap k f ∙ h _
 module _ {A : Type 0} (ts : List Token) (f : A → Out) (p : A → Stage → Stage) where
   -- another view of the tree, which tells the same here
   pub told_at : {B : Type 0} (g : B → Out) (q : B → Stage → Stage) (make : A → B) → ((x : A) → g (make x) ≡ f x) →
-      (old new : Draft) (result : Result Cursor Stop) (read : Read) → ((x : A) → q (make x) (stage_of old) ≡ p x (stage_of old)) → TellsBy ts f p old new result read → TellsBy ts g q old new result read
+      (old new : Draft) (result : Result Cursor Stop) (read : Read) → ((x : A) → q (make x) (stage_of old) ≡ p x (stage_of old)) → TabulatesBy ts f p old new result read → TabulatesBy ts g q old new result read
   told_at g q make shown old new (Ok rest) read stepped t = record {
     out = t.out;
     is_read = t.is_read;
@@ -32,12 +32,12 @@ module _ {A : Type 0} (ts : List Token) (f : A → Out) (p : A → Stage → Sta
 
   -- another view of the tree
   pub told_as : {B : Type 0} (g : B → Out) (q : B → Stage → Stage) (make : A → B) → ((x : A) → g (make x) ≡ f x) → ((x : A) (s : Stage) → q (make x) s ≡ p x s) →
-      (old new : Draft) (result : Result Cursor Stop) (read : Read) → TellsBy ts f p old new result read → TellsBy ts g q old new result read
+      (old new : Draft) (result : Result Cursor Stop) (read : Read) → TabulatesBy ts f p old new result read → TabulatesBy ts g q old new result read
   told_as g q make shown stepped old new result read t = told_at g q make shown old new result read (λ x. stepped x (stage_of old)) t
 
   -- a construct
-  pub told_node : (c : Construct) (r : Reader) (old new : Draft) (result : Result Cursor Stop) (ls : List _) → TellsBy ts f p old new result (r ls) →
-      TellsBy ts (λ x. construct c (f x)) p old new result (node c r ls)
+  pub told_node : (c : Construct) (r : Reader) (old new : Draft) (result : Result Cursor Stop) (ls : List _) → TabulatesBy ts f p old new result (r ls) →
+      TabulatesBy ts (λ x. construct c (f x)) p old new result (node c r ls)
   told_node c r old new (Ok rest) ls t = record {
     out = construct c t.out;
     is_read = rw t.is_read refl;
@@ -46,8 +46,8 @@ module _ {A : Type 0} (ts : List Token) (f : A → Out) (p : A → Stage → Sta
   told_node c r old new (Err e) ls t = fails_on ts e (r ls) (λ z. z >>= λ a. Ok (construct c a.0, a.1)) (λ x. refl) t
 
   -- marks in front
-  pub told_prefixed : (ms : Out) (r : Reader) (old new : Draft) (result : Result Cursor Stop) (ls : List _) → TellsBy ts f p old new result (r ls) →
-      TellsBy ts (λ x. ms ++ f x) p old new result (prefixed ms r ls)
+  pub told_prefixed : (ms : Out) (r : Reader) (old new : Draft) (result : Result Cursor Stop) (ls : List _) → TabulatesBy ts f p old new result (r ls) →
+      TabulatesBy ts (λ x. ms ++ f x) p old new result (prefixed ms r ls)
   told_prefixed ms r old new (Ok rest) ls t = record {
     out = ms ++ t.out;
     is_read = rw t.is_read refl;
@@ -56,8 +56,8 @@ module _ {A : Type 0} (ts : List Token) (f : A → Out) (p : A → Stage → Sta
   told_prefixed ms r old new (Err e) ls t = fails_on ts e (r ls) (λ z. z >>= λ a. Ok (ms ++ a.0, a.1)) (λ x. refl) t
 
   -- behind a row, or a token that is passed
-  pub told_behind : (step : Stage → Stage) (old mid new : Draft) (result : Result Cursor Stop) (read : Read) → ComesTo step old mid → TellsBy ts f p mid new result read →
-      TellsBy ts f (λ x s. p x (step s)) old new result read
+  pub told_behind : (step : Stage → Stage) (old mid new : Draft) (result : Result Cursor Stop) (read : Read) → ComesTo step old mid → TabulatesBy ts f p mid new result read →
+      TabulatesBy ts f (λ x s. p x (step s)) old new result read
   told_behind step old mid new (Ok rest) read h t = record {
     out = t.out;
     is_read = t.is_read;
@@ -66,8 +66,8 @@ module _ {A : Type 0} (ts : List Token) (f : A → Out) (p : A → Stage → Sta
   told_behind step old mid new (Err e) read h t = t
 
   -- before a row, or a token that is passed
-  pub told_before : (step : Stage → Stage) (old mid new : Draft) (rest : Cursor) (read : Read) → TellsBy ts f p old mid (Ok rest) read → ComesTo step mid new →
-      TellsBy ts f (λ x s. step (p x s)) old new (Ok rest) read
+  pub told_before : (step : Stage → Stage) (old mid new : Draft) (rest : Cursor) (read : Read) → TabulatesBy ts f p old mid (Ok rest) read → ComesTo step mid new →
+      TabulatesBy ts f (λ x s. step (p x s)) old new (Ok rest) read
   told_before step old mid new rest read t h = record {
     out = t.out;
     is_read = t.is_read;
@@ -76,7 +76,7 @@ module _ {A : Type 0} (ts : List Token) (f : A → Out) (p : A → Stage → Sta
 
   -- behind a step by which something is known
   pub told_knowing : {Fact : Type 0} (step : Stage → Stage) (old mid new : Draft) (result : Result Cursor Stop) (read : Read) → ComesTo step old mid → (mid.refused ≡ false → Fact) →
-      TellsBy ts f p mid new result read → TellsBy ts (λ (x : A × Fact). f x.0) (λ x s. p x.0 (step s)) old new result read
+      TabulatesBy ts f p mid new result read → TabulatesBy ts (λ (x : A × Fact). f x.0) (λ x s. p x.0 (step s)) old new result read
   told_knowing step old mid new (Ok rest) read h known t = record {
     out = t.out;
     is_read = t.is_read;
@@ -95,8 +95,8 @@ module _ {A : Type 0} (ts : List Token) (f : A → Out) (p : A → Stage → Sta
 
   -- one part and then another
   pub told_then : {B : Type 0} (g : B → Out) (q : B → Stage → Stage) (r s : Reader) (old mid new : Draft) (here : Cursor) (result : Result Cursor Stop) (ls : List _) →
-      TellsBy ts f p old mid (Ok here) (r ls) → TellsBy ts g q mid new result (s (ahead ts here)) →
-      TellsBy ts (λ (x : A × B). f x.0 ++ g x.1) (λ x z. q x.1 (p x.0 z)) old new result (seq r s ls)
+      TabulatesBy ts f p old mid (Ok here) (r ls) → TabulatesBy ts g q mid new result (s (ahead ts here)) →
+      TabulatesBy ts (λ (x : A × B). f x.0 ++ g x.1) (λ x z. q x.1 (p x.0 z)) old new result (seq r s ls)
   told_then g q r s old mid new here (Ok rest) ls t u = record {
     out = t.out ++ u.out;
     is_read = rw (t.is_read, u.is_read) refl;
@@ -113,7 +113,7 @@ module _ {A : Type 0} (ts : List Token) (f : A → Out) (p : A → Stage → Sta
 
   -- what may stand there, and does
   pub told_there : (start : Start) (r : Reader) (ms : Out) (old new : Draft) (rest : Cursor) (result : Result Cursor Stop) (ls : List _) →
-      start ls ≡ Some (ms, ahead ts rest) → TellsBy ts f p old new result (r (ahead ts rest)) → TellsBy ts (λ x. ms ++ f x) p old new result (optional start r ls)
+      start ls ≡ Some (ms, ahead ts rest) → TabulatesBy ts f p old new result (r (ahead ts rest)) → TabulatesBy ts (λ x. ms ++ f x) p old new result (optional start r ls)
   told_there start r ms old new rest result ls e t = rw e (told_prefixed ms r old new result (ahead ts rest) t)
 
 -- where the first part fails, the whole does
@@ -128,7 +128,7 @@ failed_prefixed ts ms r e ls h = fails_on ts e (r ls) (λ z. z >>= λ a. Ok (ms 
 
 -- what may stand there, and doesn't
 pub told_absent : {A : Type 0} (ts : List Token) (f : A → Out) (p : A → Stage → Stage) (none : A) (start : Start) (r : Reader) (d : Draft) (here : Cursor) →
-    f none ≡ [] → ((s : Stage) → p none s ≡ s) → start (ahead ts here) ≡ None → TellsBy ts f p d d (Ok here) (optional start r (ahead ts here))
+    f none ≡ [] → ((s : Stage) → p none s ≡ s) → start (ahead ts here) ≡ None → TabulatesBy ts f p d d (Ok here) (optional start r (ahead ts here))
 told_absent ts f p none start r d here e k h = record {
   out = [];
   is_read = rw h refl;

@@ -36,11 +36,11 @@ use Rattle.ob_parse.specs.declared.stop.Stop.TheVariants as stops
 use Rattle.ob_parse.proofs.Loops.{Advances}
 use Rattle.ob_parse.specs.Front.{uncons, front, is_word}
 use Rattle.ob_parse.specs.Forms.{Read, Reader, seq, node, prefixed, many, begins, expect_at, identifier_at, name_at}
-use Rattle.ob_parse.specs.Gives.{ahead, Fails}
+use Rattle.ob_parse.specs.Accords.{ahead, Fails}
 use Rattle.ob_parse.specs.ReadExpressions.{selector_first, selector_from, selector_with, designator_with, expr_at}
 use Rattle.ob_parse.proofs.Sound.{done}
 use Rattle.ob_table.specs.Choosing.{dot_at, is_there, Picked, picked_outline, picking, Chosen, chosen_outline, choosing, places, Counted, counted_outline}
-use Rattle.ob_table.specs.Tells.{Told, Tells, TellsBy}
+use Rattle.ob_table.specs.Tabulating.{Told, Tabulates, TabulatesBy}
 use Rattle.ob_table.proofs.Combine.{told_as, told_at, told_node, told_then, told_prefixed, told_behind, told_before, told_knowing, told_knowing_then}
 use Rattle.ob_table.proofs.FactorTrees.{bracket_after}
 use Rattle.ob_table.proofs.Lists.{Gathered, Listing, listing_begun, listing_more, listing_done}
@@ -135,8 +135,8 @@ settled_bracket p c s at row h =
 pub told_settled : {A : Type 0} (B : Type 0) (ts : List Token) (f : A → Out) (q : A → Piece) (c : Context) (begin end : Kind) (r : Reader) (at : ℕ) (row : SelectorRow) (old kept mid list late new : Draft) (input here : Cursor) (result : Result Cursor Stop) →
     ComesTo (λ s. s) old kept → (kept.refused ≡ false → at < length old.selectors.items) → ComesTo passed kept mid →
     Told ts f (λ x. after (q x) c) mid list here (r (ahead ts input)) → ComesTo (settled at row) list late →
-    TellsBy ts (λ (x : B). word end) (λ x s. passed s) late new result (expect_at end (ahead ts here)) →
-    TellsBy ts (λ (x : A × B). construct constructs.Selector (word begin ++ (f x.0 ++ word end))) (λ x s. after (both token (both (q x.0) token)) c (settled at row s)) old new result
+    TabulatesBy ts (λ (x : B). word end) (λ x s. passed s) late new result (expect_at end (ahead ts here)) →
+    TabulatesBy ts (λ (x : A × B). construct constructs.Selector (word begin ++ (f x.0 ++ word end))) (λ x s. after (both token (both (q x.0) token)) c (settled at row s)) old new result
     (node constructs.Selector (prefixed (word begin) (seq r (expect_at end))) (ahead ts input))
 told_settled {A} B ts f q c begin end r at row old kept mid list late new input here result g known h a k b =
     let Fact : Type 0 = at < length old.selectors.items in
@@ -158,8 +158,8 @@ pub index_told : (ts : List Token) (c : Context) (r : Reader) (head at count : �
     ComesTo (λ s. s) old kept → (kept.refused ≡ false → at < length old.selectors.items) → ComesTo passed kept mid →
     Told {T = Counted count} ts counted_outline (λ l. after (expr_list_piece l.list) c) mid list here (r (ahead ts input)) →
     ComesTo (settled at (record { of = head; step = steps.Elements count })) list late →
-    TellsBy ts (λ (x : Unit {0}). word kinds.RightBracket) (λ x s. passed s) late new result (expect_at kinds.RightBracket (ahead ts here)) →
-    TellsBy {T = Picked false} ts picked_outline (picking head at c) old new result (node constructs.Selector (prefixed (word kinds.LeftBracket) (seq r (expect_at kinds.RightBracket))) (ahead ts input))
+    TabulatesBy ts (λ (x : Unit {0}). word kinds.RightBracket) (λ x s. passed s) late new result (expect_at kinds.RightBracket (ahead ts here)) →
+    TabulatesBy {T = Picked false} ts picked_outline (picking head at c) old new result (node constructs.Selector (prefixed (word kinds.LeftBracket) (seq r (expect_at kinds.RightBracket))) (ahead ts input))
 unfolding index_picked
 index_told ts c r head at count old kept mid list late new input here result g known h a k b =
     let row : SelectorRow = record { of = head; step = steps.Elements count } in
@@ -227,7 +227,7 @@ chosen_begun ts r c head at d input =
 
 pub chosen_next : (ts : List Token) (r : Reader) (c : Context) (head at place later : ℕ) → Advances (begins selector_first) r → (old now more new : Draft) (input here next : Cursor) →
     begins selector_first (ahead ts here) ≡ Some ([], ahead ts here) → ChosenListing ts r c head at place old now input here →
-    TellsBy {T = Picked (dot_at ts here)} ts picked_outline (picking head place c) now more (Ok next) (r (ahead ts here)) → ComesTo (λ s. s) more new → (new.refused ≡ false → later ≡ place + 1) →
+    TabulatesBy {T = Picked (dot_at ts here)} ts picked_outline (picking head place c) now more (Ok next) (r (ahead ts here)) → ComesTo (λ s. s) more new → (new.refused ≡ false → later ≡ place + 1) →
     ChosenListing ts r c head at later old new input next
 chosen_next ts r c head at place later adv old now more new input here next found l t k known =
     listing_more ts (begins selector_first) r selector_outline (λ xs. settling head at (map selected xs) c)
@@ -252,18 +252,18 @@ failed_name ts role (stops.TooDeep i) ls h = rw h refl
 
 -- a selector that begins so
 pub told_selector : {A : Type 0} (ts : List Token) (f : A → Out) (p : A → Stage → Stage) (r : Reader) (old new : Draft) (result : Result Cursor Stop) (ls : List Leaf) (o : Option (Leaf × List Leaf)) → uncons ls ≡ o →
-    TellsBy ts f p old new result (node constructs.Selector (λ z. selector_from r o) ls) → TellsBy ts f p old new result (selector_with r ls)
+    TabulatesBy ts f p old new result (node constructs.Selector (λ z. selector_from r o) ls) → TabulatesBy ts f p old new result (selector_with r ls)
 unfolding selector_with
 told_selector ts f p r old new result ls o e t = rw e t
 
 -- a selector behind this token, which is a dot or not
 pub selector_so : (ts : List Token) (c : Context) (head at : ℕ) (r : Reader) (old new : Draft) (result : Result Cursor Stop) (input : Cursor) (dot : Bool) (o : Option (Leaf × List Leaf)) →
     uncons (ahead ts input) ≡ o → front (is_word kinds.Dot) o ≡ dot →
-    TellsBy {T = Picked dot} ts picked_outline (picking head at c) old new result (node constructs.Selector (λ z. selector_from r o) (ahead ts input)) →
-    TellsBy {T = Picked (dot_at ts input)} ts picked_outline (picking head at c) old new result (selector_with r (ahead ts input))
+    TabulatesBy {T = Picked dot} ts picked_outline (picking head at c) old new result (node constructs.Selector (λ z. selector_from r o) (ahead ts input)) →
+    TabulatesBy {T = Picked (dot_at ts input)} ts picked_outline (picking head at c) old new result (selector_with r (ahead ts input))
 selector_so ts c head at r old new result input dot o e h t =
     told_selector ts picked_outline (picking head at c) r old new result (ahead ts input) o e
-    (subst (λ (b : Bool). TellsBy {T = Picked b} ts picked_outline (picking head at c) old new result (node constructs.Selector (λ z. selector_from r o) (ahead ts input))) (sym h ∙ ap (front (is_word kinds.Dot)) (sym e)) t)
+    (subst (λ (b : Bool). TabulatesBy {T = Picked b} ts picked_outline (picking head at c) old new result (node constructs.Selector (λ z. selector_from r o) (ahead ts input))) (sym h ∙ ap (front (is_word kinds.Dot)) (sym e)) t)
 
 -- ---- designators
 
@@ -295,8 +295,8 @@ chosen_after {dot} {count} w n head at member c s x e h k =
 pub designator_told : (ts : List Token) (c : Context) (w : Bool) (d n head at count : ℕ) (member : Option ℕ) (old row room looked new : Draft) (input : Cursor) (result : Result Cursor Stop) →
     head ≡ old.number → at ≡ length old.selectors.items → ComesTo (added (designator_row w c head)) old row → ComesTo (added (these_selectors (places head count))) row room →
     is_there member ≡ dot_at ts input → ComesTo (after (uses member) c) room looked →
-    TellsBy {T = Chosen (dot_at ts input) count} ts chosen_outline (choosing head at c) looked new result (many (begins selector_first) (selector_with (expr_at d)) (ahead ts input)) →
-    Tells ts designator_outline (designator_piece w) c old new result (designator_with (expr_at d) n (ahead ts input))
+    TabulatesBy {T = Chosen (dot_at ts input) count} ts chosen_outline (choosing head at c) looked new result (many (begins selector_first) (selector_with (expr_at d)) (ahead ts input)) →
+    Tabulates ts designator_outline (designator_piece w) c old new result (designator_with (expr_at d) n (ahead ts input))
 unfolding designator_with
 designator_told ts c w d n head at count member old row room looked new input result h k a b e u t =
     let loop : Reader = many (begins selector_first) (selector_with (expr_at d)) in

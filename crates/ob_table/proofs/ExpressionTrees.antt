@@ -31,10 +31,10 @@ use Rattle.ob_decls.proofs.ExpressionLayers as told
 use Rattle.ob_parse.specs.declared.cursor.Cursor.{Cursor}
 use Rattle.ob_parse.specs.declared.stop.Stop.{Stop}
 use Rattle.ob_parse.specs.Forms.{Read, Reader, seq, node, optional, nothing, many}
-use Rattle.ob_parse.specs.Gives.{ahead, Fails}
+use Rattle.ob_parse.specs.Accords.{ahead, Fails}
 use Rattle.ob_parse.specs.ReadExpressions.{relation_start, sign_start, add_start, mul_start, expr_with, sum_with, term_with, expr_at, sum_at, term_at, factor_at}
 use Rattle.ob_table.specs.Shapes.{Compared, compared_outline, compared_piece, sign_outline, sign_piece, terms_outline, terms_piece, factors_outline, factors_piece}
-use Rattle.ob_table.specs.Tells.{Told, Tells, TellsBy}
+use Rattle.ob_table.specs.Tabulating.{Told, Tabulates, TabulatesBy}
 use Rattle.ob_table.proofs.Combine.{told_as, told_node, told_then, told_there, told_behind, failed_node, failed_then}
 use Rattle.ob_table.proofs.Lists.{word_after}
 use Rattle.ob_table.proofs.Made.{boxed}
@@ -55,9 +55,9 @@ expr_parts : (x : SimpleExpression × Compared) → expr_piece (expr_of x) ≡ b
 expr_parts x = told.expr_out (expr_of x) ∙ ap (λ y. both (sum_piece y.left) (compared_piece y.compared)) (out-roll-Expr (record { left = x.0; compared = x.1 }))
 
 pub expr_told : (ts : List Token) (c : Context) (d : ℕ) (old mid new : Draft) (input here : Cursor) (result : Result Cursor Stop) →
-    Tells ts sum_outline sum_piece c old mid (Ok here) (sum_at d (ahead ts input)) →
-    Tells ts compared_outline compared_piece c mid new result (optional relation_start (sum_at d) (ahead ts here)) →
-    Tells ts expr_outline expr_piece c old new result (expr_with (sum_at d) (ahead ts input))
+    Tabulates ts sum_outline sum_piece c old mid (Ok here) (sum_at d (ahead ts input)) →
+    Tabulates ts compared_outline compared_piece c mid new result (optional relation_start (sum_at d) (ahead ts here)) →
+    Tabulates ts expr_outline expr_piece c old new result (expr_with (sum_at d) (ahead ts input))
 unfolding expr_with
 expr_told ts c d old mid new input here result a b =
     told_as ts (λ (x : SimpleExpression × Compared). construct constructs.Expression (sum_outline x.0 ++ compared_outline x.1)) (λ x s. after (compared_piece x.1) c (after (sum_piece x.0) c s))
@@ -83,10 +83,10 @@ sum_parts : (x : Option Sign × (Term × Vec (AddOperator × Term))) → sum_pie
 sum_parts x = told.sum_out (sum_of x) ∙ ap (λ y. both (sign_piece y.sign) (both (term_piece y.first) (terms_piece y.rest))) (out-roll-SimpleExpression (record { sign = x.0; first = x.1.0; rest = x.1.1 }))
 
 pub sum_told : (ts : List Token) (c : Context) (d : ℕ) (old first mid new : Draft) (input behind here : Cursor) (result : Result Cursor Stop) →
-    Tells ts sign_outline sign_piece c old first (Ok behind) (optional sign_start nothing (ahead ts input)) →
-    Tells ts term_outline term_piece c first mid (Ok here) (term_at d (ahead ts behind)) →
-    Tells ts terms_outline terms_piece c mid new result (many add_start (term_at d) (ahead ts here)) →
-    Tells ts sum_outline sum_piece c old new result (sum_at d (ahead ts input))
+    Tabulates ts sign_outline sign_piece c old first (Ok behind) (optional sign_start nothing (ahead ts input)) →
+    Tabulates ts term_outline term_piece c first mid (Ok here) (term_at d (ahead ts behind)) →
+    Tabulates ts terms_outline terms_piece c mid new result (many add_start (term_at d) (ahead ts here)) →
+    Tabulates ts sum_outline sum_piece c old new result (sum_at d (ahead ts input))
 unfolding sum_with
 sum_told ts c d old first mid new input behind here result a b t =
     told_as ts (λ (x : Option Sign × (Term × Vec (AddOperator × Term))). construct constructs.SimpleExpression (sign_outline x.0 ++ (term_outline x.1.0 ++ terms_outline x.1.1)))
@@ -97,7 +97,7 @@ sum_told ts c d old first mid new input behind here result a b t =
     (told_then ts term_outline (λ x. after (term_piece x) c) terms_outline (λ x. after (terms_piece x) c) (term_at d) (many add_start (term_at d)) first mid new here result (ahead ts behind) b t)))
 
 pub sum_failed : (ts : List Token) (c : Context) (d : ℕ) (e : Stop) (old first : Draft) (input behind : Cursor) →
-    Tells ts sign_outline sign_piece c old first (Ok behind) (optional sign_start nothing (ahead ts input)) →
+    Tabulates ts sign_outline sign_piece c old first (Ok behind) (optional sign_start nothing (ahead ts input)) →
     Fails ts e (term_at d (ahead ts behind)) → Fails ts e (sum_at d (ahead ts input))
 unfolding sum_with
 sum_failed ts c d e old first input behind a h = failed_node ts constructs.SimpleExpression (seq (optional sign_start nothing) (seq (term_at d) (many add_start (term_at d)))) e (ahead ts input)
@@ -109,9 +109,9 @@ abbrev term_of : Factor × Vec (MulOperator × Factor) → Term
 term_of x = record { first = x.0; rest = x.1 }
 
 pub term_told : (ts : List Token) (c : Context) (d : ℕ) (old mid new : Draft) (input here : Cursor) (result : Result Cursor Stop) →
-    Tells ts factor_outline factor_piece c old mid (Ok here) (factor_at d (ahead ts input)) →
-    Tells ts factors_outline factors_piece c mid new result (many mul_start (factor_at d) (ahead ts here)) →
-    Tells ts term_outline term_piece c old new result (term_at d (ahead ts input))
+    Tabulates ts factor_outline factor_piece c old mid (Ok here) (factor_at d (ahead ts input)) →
+    Tabulates ts factors_outline factors_piece c mid new result (many mul_start (factor_at d) (ahead ts here)) →
+    Tabulates ts term_outline term_piece c old new result (term_at d (ahead ts input))
 unfolding term_with
 term_told ts c d old mid new input here result a b =
     told_as ts (λ (x : Factor × Vec (MulOperator × Factor)). construct constructs.Term (factor_outline x.0 ++ factors_outline x.1)) (λ x s. after (factors_piece x.1) c (after (factor_piece x.0) c s))
@@ -143,8 +143,8 @@ sign_some ts c old new o x rest read h e k = record {
 
 -- a relation and its right side
 pub compared_told : (ts : List Token) (c : Context) (d : ℕ) (old mid new : Draft) (input : Cursor) (k : Relation) (rest : Cursor) (result : Result Cursor Stop) →
-    relation_start (ahead ts input) ≡ Some (word (relation_kind k), ahead ts rest) → ComesTo passed old mid → Tells ts sum_outline sum_piece c mid new result (sum_at d (ahead ts rest)) →
-    Tells ts compared_outline compared_piece c old new result (optional relation_start (sum_at d) (ahead ts input))
+    relation_start (ahead ts input) ≡ Some (word (relation_kind k), ahead ts rest) → ComesTo passed old mid → Tabulates ts sum_outline sum_piece c mid new result (sum_at d (ahead ts rest)) →
+    Tabulates ts compared_outline compared_piece c old new result (optional relation_start (sum_at d) (ahead ts input))
 compared_told ts c d old mid new input k rest result found h t =
     told_as ts (λ (x : SimpleExpression). word (relation_kind k) ++ sum_outline x) (λ x s. after (sum_piece x) c (passed s)) compared_outline (λ x. after (compared_piece x) c)
     (λ x. Some (k, boxed old.uses.alloc x)) (λ x. refl) (λ x s. word_after (sum_piece x) c s) old new result (optional relation_start (sum_at d) (ahead ts input))

@@ -28,10 +28,10 @@ use Rattle.ob_parse.specs.declared.cursor.Cursor.{Cursor}
 use Rattle.ob_parse.specs.declared.stop.Stop.{Stop}
 use Rattle.ob_parse.specs.Front.{uncons, front, is_word}
 use Rattle.ob_parse.specs.Forms.{Read, Reader, seq, node, prefixed, optional, unless, several, many, accept_at, expect_at}
-use Rattle.ob_parse.specs.Gives.{ahead, Fails}
+use Rattle.ob_parse.specs.Accords.{ahead, Fails}
 use Rattle.ob_parse.specs.ReadExpressions.{factor_from, factor_with, element_with, designator_with, expr_at, negated_at, factor_at}
 use Rattle.ob_table.specs.Shapes.{set_outline, set_piece, elements_outline, elements_piece, high_outline, high_piece}
-use Rattle.ob_table.specs.Tells.{Told, Tells, TellsBy}
+use Rattle.ob_table.specs.Tabulating.{Told, Tabulates, TabulatesBy}
 use Rattle.ob_table.proofs.Made.{boxed}
 use Rattle.ob_table.proofs.Combine.{told_as, told_node, told_then, told_prefixed, told_behind, told_there, failed_node, failed_prefixed, failed_then}
 use Rattle.ob_table.proofs.ExpressionTrees.{both_after}
@@ -45,9 +45,9 @@ bracket_after p c s =
 
 -- what stands between two words, of which the first was passed already
 pub told_between : {A : Type 0} (ts : List Token) (f : A → Out) (q : A → Piece) (c : Context) (begin end : Kind) (r : Reader) (old mid last new : Draft) (input here : Cursor) (result : Result Cursor Stop) →
-    ComesTo passed old mid → Tells ts f q c mid last (Ok here) (r (ahead ts input)) →
-    TellsBy ts (λ (x : Unit {0}). word end) (λ x s. passed s) last new result (expect_at end (ahead ts here)) →
-    TellsBy ts (λ x. word begin ++ (f x ++ word end)) (λ x. after (both token (both (q x) token)) c) old new result (prefixed (word begin) (seq r (expect_at end)) (ahead ts input))
+    ComesTo passed old mid → Tabulates ts f q c mid last (Ok here) (r (ahead ts input)) →
+    TabulatesBy ts (λ (x : Unit {0}). word end) (λ x s. passed s) last new result (expect_at end (ahead ts here)) →
+    TabulatesBy ts (λ x. word begin ++ (f x ++ word end)) (λ x. after (both token (both (q x) token)) c) old new result (prefixed (word begin) (seq r (expect_at end)) (ahead ts input))
 told_between {A} ts f q c begin end r old mid last new input here result h a b =
     told_as ts (λ (x : A × Unit {0}). word begin ++ (f x.0 ++ word end)) (λ x s. passed (after (q x.0) c (passed s))) _ _ (λ x. x.0) (λ x. refl) (λ x s. bracket_after (q x.0) c s) old new result _
     (told_prefixed ts (λ (x : A × Unit {0}). f x.0 ++ word end) _ (word begin) (seq r (expect_at end)) old new result (ahead ts input)
@@ -61,14 +61,14 @@ some x = Some x
 
 -- a factor that begins so
 pub told_factor : {A : Type 0} (ts : List Token) (f : A → Out) (p : A → Stage → Stage) (d : ℕ) (old new : Draft) (result : Result Cursor Stop) (ls : List Leaf) (o : Option (Leaf × List Leaf)) → uncons ls ≡ o →
-    TellsBy ts f p old new result (node constructs.Factor (λ z. factor_from (expr_at d) (negated_at d) o) ls) → TellsBy ts f p old new result (factor_at d ls)
+    TabulatesBy ts f p old new result (node constructs.Factor (λ z. factor_from (expr_at d) (negated_at d) o) ls) → TabulatesBy ts f p old new result (factor_at d ls)
 unfolding factor_with
 told_factor ts f p d old new result ls o e t = rw e t
 
 -- one token
 pub leaf_told : (ts : List Token) (c : Context) (old new : Draft) (rest : Cursor) (r : Reader) (ls : List Leaf) (ms : Out) (tree : Factor) →
     r ls ≡ Ok (ms, ahead ts rest) → factor_outline tree ≡ construct constructs.Factor ms → factor_piece tree ≡ token → ComesTo passed old new →
-    Tells ts factor_outline factor_piece c old new (Ok rest) (node constructs.Factor r ls)
+    Tabulates ts factor_outline factor_piece c old new (Ok rest) (node constructs.Factor r ls)
 leaf_told ts c old new rest r ls ms tree e shown told h = record {
   out = construct constructs.Factor ms;
   is_read = rw e refl;
@@ -77,7 +77,7 @@ leaf_told ts c old new rest r ls ms tree e shown told h = record {
 
 -- a designator
 pub name_told : (ts : List Token) (c : Context) (r : Reader) (old new : Draft) (result : Result Cursor Stop) (ls : List Leaf) →
-    Tells ts designator_outline (designator_piece false) c old new result (r ls) → Tells ts factor_outline factor_piece c old new result (node constructs.Factor r ls)
+    Tabulates ts designator_outline (designator_piece false) c old new result (r ls) → Tabulates ts factor_outline factor_piece c old new result (node constructs.Factor r ls)
 name_told ts c r old new result ls t =
     told_as ts (λ (x : Designator). construct constructs.Factor (designator_outline x)) (λ x. after (designator_piece false x) c) factor_outline (λ x. after (factor_piece x) c) (λ x. factors.Name x)
     (λ x. name_made x) (λ x s. ap (λ (p : Piece). after p c s) (told.name_made x)) old new result _
@@ -85,9 +85,9 @@ name_told ts c r old new result ls t =
 
 -- a set
 pub set_told : (ts : List Token) (c : Context) (r : Reader) (old mid last new : Draft) (input here : Cursor) (result : Result Cursor Stop) →
-    ComesTo passed old mid → Tells ts set_outline set_piece c mid last (Ok here) (r (ahead ts input)) →
-    TellsBy ts (λ (x : Unit {0}). word kinds.RightBrace) (λ x s. passed s) last new result (expect_at kinds.RightBrace (ahead ts here)) →
-    Tells ts factor_outline factor_piece c old new result (node constructs.Factor (prefixed (word kinds.LeftBrace) (seq r (expect_at kinds.RightBrace))) (ahead ts input))
+    ComesTo passed old mid → Tabulates ts set_outline set_piece c mid last (Ok here) (r (ahead ts input)) →
+    TabulatesBy ts (λ (x : Unit {0}). word kinds.RightBrace) (λ x s. passed s) last new result (expect_at kinds.RightBrace (ahead ts here)) →
+    Tabulates ts factor_outline factor_piece c old new result (node constructs.Factor (prefixed (word kinds.LeftBrace) (seq r (expect_at kinds.RightBrace))) (ahead ts input))
 set_told ts c r old mid last new input here result h a b =
     told_as ts (λ (x : Option (Box ElementList)). construct constructs.Factor (word kinds.LeftBrace ++ (set_outline x ++ word kinds.RightBrace))) (λ x. after (both token (both (set_piece x) token)) c)
     factor_outline (λ x. after (factor_piece x) c) (λ x. factors.Set x) (λ x. set_made x) (λ x s. ap (λ (p : Piece). after p c s) (told.set_made x)) old new result _
@@ -95,9 +95,9 @@ set_told ts c r old mid last new input here result h a b =
 
 -- an expression in parentheses
 pub group_told : (ts : List Token) (c : Context) (r : Reader) (old mid last new : Draft) (input here : Cursor) (result : Result Cursor Stop) →
-    ComesTo passed old mid → Tells ts expr_outline expr_piece c mid last (Ok here) (r (ahead ts input)) →
-    TellsBy ts (λ (x : Unit {0}). word kinds.RightParen) (λ x s. passed s) last new result (expect_at kinds.RightParen (ahead ts here)) →
-    Tells ts factor_outline factor_piece c old new result (node constructs.Factor (prefixed (word kinds.LeftParen) (seq r (expect_at kinds.RightParen))) (ahead ts input))
+    ComesTo passed old mid → Tabulates ts expr_outline expr_piece c mid last (Ok here) (r (ahead ts input)) →
+    TabulatesBy ts (λ (x : Unit {0}). word kinds.RightParen) (λ x s. passed s) last new result (expect_at kinds.RightParen (ahead ts here)) →
+    Tabulates ts factor_outline factor_piece c old new result (node constructs.Factor (prefixed (word kinds.LeftParen) (seq r (expect_at kinds.RightParen))) (ahead ts input))
 group_told ts c r old mid last new input here result h a b =
     told_as ts (λ (x : Expr). construct constructs.Factor (word kinds.LeftParen ++ (expr_outline x ++ word kinds.RightParen))) (λ x. after (both token (both (expr_piece x) token)) c)
     factor_outline (λ x. after (factor_piece x) c) (λ x. factors.Group (boxed old.uses.alloc x)) (λ x. group_made (boxed old.uses.alloc x)) (λ x s. ap (λ (p : Piece). after p c s) (told.group_made (boxed old.uses.alloc x))) old new result _
@@ -109,8 +109,8 @@ between_failed ts c ms r s e ls h = failed_node ts c (prefixed ms (seq r s)) e l
 
 -- `~` and a factor
 pub not_told : (ts : List Token) (c : Context) (d : ℕ) (old mid new : Draft) (input : Cursor) (result : Result Cursor Stop) → (d ≡ 0 → ⊥) →
-    ComesTo passed old mid → Tells ts factor_outline factor_piece c mid new result (factor_at (d - 1) (ahead ts input)) →
-    Tells ts factor_outline factor_piece c old new result (node constructs.Factor (prefixed (word kinds.Tilde) (negated_at d)) (ahead ts input))
+    ComesTo passed old mid → Tabulates ts factor_outline factor_piece c mid new result (factor_at (d - 1) (ahead ts input)) →
+    Tabulates ts factor_outline factor_piece c old new result (node constructs.Factor (prefixed (word kinds.Tilde) (negated_at d)) (ahead ts input))
 unfolding negated_at
 not_told ts c zero old mid new input result h k t = absurd (h refl)
 not_told ts c (suc n) old mid new input result h k t =
@@ -122,7 +122,7 @@ not_told ts c (suc n) old mid new input result h k t =
     (told_prefixed ts _ _ (word kinds.Tilde) (negated_at (suc n)) old new result (ahead ts input)
     (told_behind ts (λ (x : Factor). construct constructs.Negated (factor_outline x)) (λ x. after (factor_piece x) c) passed old mid new result (negated_at (suc n) (ahead ts input)) k
     (told_node ts factor_outline (λ x. after (factor_piece x) c) constructs.Negated (factor_at n) mid new result (ahead ts input)
-    (subst (λ (m : ℕ). Tells ts factor_outline factor_piece c mid new result (factor_at m (ahead ts input))) e t)))))
+    (subst (λ (m : ℕ). Tabulates ts factor_outline factor_piece c mid new result (factor_at m (ahead ts input))) e t)))))
 
 -- ---- elements
 
@@ -133,9 +133,9 @@ element_parts : (x : Expr × Option Expr) → element_piece (element_of x) ≡ b
 element_parts x = told.element_out (element_of x) ∙ ap (λ y. both (expr_piece y.low) (high_piece y.high)) (out-roll-Element (record { low = x.0; high = x.1 }))
 
 pub element_told : (ts : List Token) (c : Context) (d : ℕ) (old mid new : Draft) (input here : Cursor) (result : Result Cursor Stop) →
-    Tells ts expr_outline expr_piece c old mid (Ok here) (expr_at d (ahead ts input)) →
-    Tells ts high_outline high_piece c mid new result (optional (accept_at kinds.DotDot) (expr_at d) (ahead ts here)) →
-    Tells ts element_outline element_piece c old new result (element_with (expr_at d) (ahead ts input))
+    Tabulates ts expr_outline expr_piece c old mid (Ok here) (expr_at d (ahead ts input)) →
+    Tabulates ts high_outline high_piece c mid new result (optional (accept_at kinds.DotDot) (expr_at d) (ahead ts here)) →
+    Tabulates ts element_outline element_piece c old new result (element_with (expr_at d) (ahead ts input))
 unfolding element_with
 element_told ts c d old mid new input here result a b =
     told_as ts (λ (x : Expr × Option Expr). construct constructs.Element (expr_outline x.0 ++ high_outline x.1)) (λ x s. after (high_piece x.1) c (after (expr_piece x.0) c s))
@@ -154,9 +154,9 @@ element_list_parts : (x : Element × Vec Element) → element_list_piece (elemen
 element_list_parts x = told.element_list_out (element_list_of x) ∙ ap (λ y. both (element_piece y.first) (elements_piece y.rest)) (out-roll-ElementList (record { first = x.0; rest = x.1 }))
 
 pub element_list_told : (ts : List Token) (c : Context) (r : Reader) (old mid new : Draft) (input here : Cursor) (result : Result Cursor Stop) →
-    Tells ts element_outline element_piece c old mid (Ok here) (r (ahead ts input)) →
-    Tells ts elements_outline elements_piece c mid new result (many (accept_at kinds.Comma) r (ahead ts here)) →
-    Tells ts element_list_outline element_list_piece c old new result (several kinds.Comma r (ahead ts input))
+    Tabulates ts element_outline element_piece c old mid (Ok here) (r (ahead ts input)) →
+    Tabulates ts elements_outline elements_piece c mid new result (many (accept_at kinds.Comma) r (ahead ts here)) →
+    Tabulates ts element_list_outline element_list_piece c old new result (several kinds.Comma r (ahead ts input))
 unfolding several
 element_list_told ts c r old mid new input here result a b =
     told_as ts (λ (x : Element × Vec Element). element_outline x.0 ++ elements_outline x.1) (λ x s. after (elements_piece x.1) c (after (element_piece x.0) c s))
@@ -175,8 +175,8 @@ unfolding unless
 closed k ls e = rw e refl
 
 pub some_elements_told : (ts : List Token) (c : Context) (r : Reader) (old new : Draft) (input : Cursor) (result : Result Cursor Stop) →
-    unless kinds.RightBrace (ahead ts input) ≡ Some ([], ahead ts input) → Tells ts element_list_outline element_list_piece c old new result (r (ahead ts input)) →
-    Tells ts set_outline set_piece c old new result (optional (unless kinds.RightBrace) r (ahead ts input))
+    unless kinds.RightBrace (ahead ts input) ≡ Some ([], ahead ts input) → Tabulates ts element_list_outline element_list_piece c old new result (r (ahead ts input)) →
+    Tabulates ts set_outline set_piece c old new result (optional (unless kinds.RightBrace) r (ahead ts input))
 some_elements_told ts c r old new input result found t =
     told_as ts (λ (x : ElementList). [] ++ element_list_outline x) (λ x. after (element_list_piece x) c) set_outline (λ x. after (set_piece x) c)
     (λ x. Some (boxed old.uses.alloc x)) (λ x. refl) (λ x s. refl) old new result (optional (unless kinds.RightBrace) r (ahead ts input))
@@ -184,8 +184,8 @@ some_elements_told ts c r old new input result found t =
 
 -- the end of a range
 pub high_told : (ts : List Token) (c : Context) (d : ℕ) (old mid new : Draft) (input rest : Cursor) (result : Result Cursor Stop) →
-    accept_at kinds.DotDot (ahead ts input) ≡ Some (word kinds.DotDot, ahead ts rest) → ComesTo passed old mid → Tells ts expr_outline expr_piece c mid new result (expr_at d (ahead ts rest)) →
-    Tells ts high_outline high_piece c old new result (optional (accept_at kinds.DotDot) (expr_at d) (ahead ts input))
+    accept_at kinds.DotDot (ahead ts input) ≡ Some (word kinds.DotDot, ahead ts rest) → ComesTo passed old mid → Tabulates ts expr_outline expr_piece c mid new result (expr_at d (ahead ts rest)) →
+    Tabulates ts high_outline high_piece c old new result (optional (accept_at kinds.DotDot) (expr_at d) (ahead ts input))
 high_told ts c d old mid new input rest result found h t =
     told_as ts (λ (x : Expr). word kinds.DotDot ++ expr_outline x) (λ x s. after (expr_piece x) c (passed s)) high_outline (λ x. after (high_piece x) c)
     (λ x. Some x) (λ x. refl) (λ x s. word_after (expr_piece x) c s) old new result (optional (accept_at kinds.DotDot) (expr_at d) (ahead ts input))

@@ -24,12 +24,12 @@ use Rattle.ob_parse.specs.declared.cursor.Cursor.{Cursor}
 use Rattle.ob_parse.specs.declared.stop.Stop.{Stop}
 use Rattle.ob_parse.specs.declared.stop.Stop.TheVariants as stops
 use Rattle.ob_parse.specs.Forms.{Read, several, optional, many, accept_at, name_at, identifier_at}
-use Rattle.ob_parse.specs.Gives.{ahead, Fails}
+use Rattle.ob_parse.specs.Accords.{ahead, Fails}
 use Rattle.ob_parse.specs.ReadNames.{qualident_after}
 use Rattle.ob_parse.specs.Front.{uncons}
 use Rattle.ob_parse.specs.ReadStatements.{case_label_at, label_from, label_range_at}
 use Rattle.ob_table.specs.StatementShapes.{high_label_outline, high_label_piece, ranges_outline, ranges_piece, labels_outline, labels_piece, then_outline, then_piece}
-use Rattle.ob_table.specs.Tells.{Told, Tells}
+use Rattle.ob_table.specs.Tabulating.{Told, Tabulates}
 use Rattle.ob_table.proofs.Combine.{failed_then}
 use Rattle.ob_table.proofs.Parts.{made_told, told_both}
 
@@ -98,16 +98,16 @@ value_told ts c old new rest read ms tree e shown told h = record {
 }
 
 pub name_told : (ts : List Token) (c : Context) (old new : Draft) (result : Result Cursor Stop) (read whole : Read) → whole ≡ read →
-    Tells ts qualident_outline qualident_piece c old new result read → Tells ts label_outline label_piece c old new result whole
+    Tabulates ts qualident_outline qualident_piece c old new result read → Tabulates ts label_outline label_piece c old new result whole
 name_told ts c old new result read whole e t =
     rw e (made_told ts c qualident_outline qualident_piece label_outline label_piece (λ x. labels.Name x) old new result read (λ x. shown.name_label x) (λ x. told.name_label x) t)
 
 -- ---- LabelRange = label [".." label]
 
 pub range_told : (ts : List Token) (c : Context) (old mid new : Draft) (input here : Cursor) (result : Result Cursor Stop) →
-    Tells ts label_outline label_piece c old mid (Ok here) (case_label_at (ahead ts input)) →
-    Tells ts high_label_outline high_label_piece c mid new result (optional (accept_at kinds.DotDot) case_label_at (ahead ts here)) →
-    Tells ts label_range_outline label_range_piece c old new result (label_range_at (ahead ts input))
+    Tabulates ts label_outline label_piece c old mid (Ok here) (case_label_at (ahead ts input)) →
+    Tabulates ts high_label_outline high_label_piece c mid new result (optional (accept_at kinds.DotDot) case_label_at (ahead ts here)) →
+    Tabulates ts label_range_outline label_range_piece c old new result (label_range_at (ahead ts input))
 unfolding label_range_at
 range_told ts c old mid new input here result a b =
     made_told ts c (then_outline label_outline high_label_outline) (then_piece label_piece high_label_piece) label_range_outline label_range_piece (λ x. record { low = x.0; high = x.1 }) old new result _
@@ -121,9 +121,9 @@ range_failed ts e ls h = failed_then ts case_label_at (optional (accept_at kinds
 -- ---- one range or more
 
 pub ranges_told : (ts : List Token) (c : Context) (old mid new : Draft) (input here : Cursor) (result : Result Cursor Stop) →
-    Tells ts label_range_outline label_range_piece c old mid (Ok here) (label_range_at (ahead ts input)) →
-    Tells ts ranges_outline ranges_piece c mid new result (many (accept_at kinds.Comma) label_range_at (ahead ts here)) →
-    Tells ts labels_outline labels_piece c old new result (several kinds.Comma label_range_at (ahead ts input))
+    Tabulates ts label_range_outline label_range_piece c old mid (Ok here) (label_range_at (ahead ts input)) →
+    Tabulates ts ranges_outline ranges_piece c mid new result (many (accept_at kinds.Comma) label_range_at (ahead ts here)) →
+    Tabulates ts labels_outline labels_piece c old new result (several kinds.Comma label_range_at (ahead ts input))
 unfolding several
 ranges_told ts c old mid new input here result a b =
     made_told ts c (then_outline label_range_outline ranges_outline) (then_piece label_range_piece ranges_piece) labels_outline labels_piece (λ x. record { first = x.0; rest = x.1 }) old new result _

@@ -7,7 +7,7 @@ use Rattle.ob_tree.proofs.Walks.{each_push}
 use Rattle.ob_parse.specs.declared.cursor.Cursor.{Cursor}
 use Rattle.ob_parse.specs.declared.stop.Stop.{Stop}
 use Rattle.ob_parse.specs.Forms.{Read, Reader, Start, many}
-use Rattle.ob_parse.specs.Gives.{Fails, ahead}
+use Rattle.ob_parse.specs.Accords.{Fails, ahead}
 use Rattle.ob_parse.proofs.Arrays.{few_ahead}
 use Rattle.ob_parse.proofs.Loops.{Advances, with_front, goes_on, is_done}
 use Rattle.ob_parse.proofs.LoopEnds.{ends}
@@ -17,7 +17,7 @@ use Rattle.ob_decls.specs.Parts.{Piece, token, both}
 use Rattle.ob_decls.specs.Parts.{each as pieces}
 use Rattle.ob_decls.specs.Drafts.{Stage, stage_of, after, passed, ComesTo}
 use Rattle.ob_decls.proofs.Steps.{after_both, after_each, after_nothing, after_token}
-use Rattle.ob_table.specs.Tells.{Told, TellsBy, Tells}
+use Rattle.ob_table.specs.Tabulating.{Told, TabulatesBy, Tabulates}
 use Rattle.ob_table.proofs.Combine.{told_as, told_behind}
 use Rattle.ob_table.proofs.Made.{listed}
 
@@ -63,7 +63,7 @@ module _ {X : Type 0} (ts : List Token) (start : Start) (r : Reader) (f : X → 
   pub listing_more : {A : Type 0} (So Still : List X → Type 0) (g : A → Out) (q : A → Stage → Stage) (make : A → X) (ms : Out) → Advances start r → ((a : A) → f (make a) ≡ ms ++ g a) →
       (old now new : Draft) (input here behind next : Cursor) → (new.refused ≡ false → (xs : List X) (a : A) → So xs → Still (xs ++ make a ∷ []) × ((s : Stage) → step (xs ++ make a ∷ []) s ≡ q a (step xs s))) →
       start (ahead ts here) ≡ Some (ms, ahead ts behind) → Listing ts start r f step So old now input here →
-      TellsBy ts g q now new (Ok next) (r (ahead ts behind)) → Listing ts start r f step Still old new input next
+      TabulatesBy ts g q now new (Ok next) (r (ahead ts behind)) → Listing ts start r f step Still old new input next
   listing_more So Still g q make ms adv shown old now new input here behind next grows found l t = record {
     front = l.front ++ (ms ++ t.out);
     is_read = goes_on start r adv l.front (ahead ts here) (ms, ahead ts behind) (t.out, ahead ts next) (many start r (ahead ts input)) found t.is_read l.is_read;
@@ -92,7 +92,7 @@ module _ {X : Type 0} (ts : List Token) (start : Start) (r : Reader) (f : X → 
 
   -- behind the last turn
   pub listing_done : (So : List X → Type 0) → Advances start r → (old now : Draft) (input here : Cursor) → start (ahead ts here) ≡ None → Listing ts start r f step So old now input here →
-      TellsBy ts (λ (v : Gathered So). each f v.list.items) (λ v. step v.list.items) old now (Ok here) (many start r (ahead ts input))
+      TabulatesBy ts (λ (v : Gathered So). each f v.list.items) (λ v. step v.list.items) old now (Ok here) (many start r (ahead ts input))
   listing_done So adv old now input here none l = record {
     out = l.front;
     is_read = is_done start r adv l.front (ahead ts here) (many start r (ahead ts input)) none l.is_read;
@@ -108,7 +108,7 @@ module _ {X : Type 0} (ts : List Token) (start : Start) (r : Reader) (f : X → 
 
 -- a turn takes tokens
 pub listing_smaller : {A : Type 0} (ts : List Token) (start : Start) (r : Reader) (g : A → Out) (q : A → Stage → Stage) (ms : Out) → Advances start r → (now new : Draft) (here behind next : Cursor) →
-    start (ahead ts here) ≡ Some (ms, ahead ts behind) → TellsBy ts g q now new (Ok next) (r (ahead ts behind)) → length (ahead ts next) < length (ahead ts here)
+    start (ahead ts here) ≡ Some (ms, ahead ts behind) → TabulatesBy ts g q now new (Ok next) (r (ahead ts behind)) → length (ahead ts next) < length (ahead ts here)
 listing_smaller ts start r g q ms adv now new here behind next found t = adv.shorter (ahead ts here) (ms, ahead ts behind) (t.out, ahead ts next) found t.is_read
 
 -- ---- lists of which nothing else is kept
@@ -126,7 +126,7 @@ module _ {X : Type 0} (ts : List Token) (start : Start) (r : Reader) (f : X → 
   pub pieces_more : {A : Type 0} (g : A → Out) (q : A → Stage → Stage) (make : A → X) (ms : Out) → Advances start r →
       ((a : A) → f (make a) ≡ ms ++ g a) → ((a : A) (s : Stage) → after (p (make a)) c s ≡ q a s) →
       (old now new : Draft) (input here behind next : Cursor) → start (ahead ts here) ≡ Some (ms, ahead ts behind) → PieceListing ts start r f p c old now input here →
-      TellsBy ts g q now new (Ok next) (r (ahead ts behind)) → PieceListing ts start r f p c old new input next
+      TabulatesBy ts g q now new (Ok next) (r (ahead ts behind)) → PieceListing ts start r f p c old new input next
   pieces_more g q make ms adv shown stepped old now new input here behind next found l t =
       listing_more ts start r f (λ xs. after (pieces p xs) c) Any Any g q make ms adv shown old now new input here behind next
       (λ e xs a so. (tt, λ s. after_each p xs (make a) c s ∙ stepped a (after (pieces p xs) c s))) found l t
@@ -135,13 +135,13 @@ module _ {X : Type 0} (ts : List Token) (start : Start) (r : Reader) (f : X → 
   pub pieces_behind : {A : Type 0} (g : A → Out) (q : A → Piece) (make : A → X) (ms : Out) → Advances start r →
       ((a : A) → f (make a) ≡ ms ++ g a) → ((a : A) → p (make a) ≡ both token (q a)) →
       (old now mid new : Draft) (input here behind next : Cursor) → start (ahead ts here) ≡ Some (ms, ahead ts behind) → PieceListing ts start r f p c old now input here →
-      ComesTo passed now mid → Tells ts g q c mid new (Ok next) (r (ahead ts behind)) → PieceListing ts start r f p c old new input next
+      ComesTo passed now mid → Tabulates ts g q c mid new (Ok next) (r (ahead ts behind)) → PieceListing ts start r f p c old new input next
   pieces_behind g q make ms adv shown stepped old now mid new input here behind next found l h t =
       pieces_more g (λ a s. after (q a) c (passed s)) make ms adv shown (λ a s. ap (λ (x : Piece). after x c s) (stepped a) ∙ word_after (q a) c s) old now new input here behind next found l
       (told_behind ts g (λ a. after (q a) c) passed now mid new (Ok next) (r (ahead ts behind)) h t)
 
   pub pieces_done : Advances start r → (old now : Draft) (input here : Cursor) → start (ahead ts here) ≡ None → PieceListing ts start r f p c old now input here →
-      TellsBy ts (λ (v : Vec X). each f v.items) (λ v. after (pieces p v.items) c) old now (Ok here) (many start r (ahead ts input))
+      TabulatesBy ts (λ (v : Vec X). each f v.items) (λ v. after (pieces p v.items) c) old now (Ok here) (many start r (ahead ts input))
   pieces_done adv old now input here none l =
       told_as ts (λ (v : Gathered {X = X} Any). each f v.list.items) (λ v. after (pieces p v.list.items) c) (λ v. each f v.items) (λ v. after (pieces p v.items) c) (λ v. v.list) (λ v. refl) (λ v s. refl)
       old now (Ok here) _ (listing_done ts start r f (λ xs. after (pieces p xs) c) Any adv old now input here none l)

@@ -13,7 +13,7 @@ use Rattle.ob_decls.specs.declared.rows.TypeName.{TypeName}
 use Rattle.ob_parse.specs.declared.cursor.Cursor.{Cursor}
 use Rattle.ob_parse.specs.Front.{uncons}
 use Rattle.ob_parse.specs.Forms.{accept_at}
-use Rattle.ob_parse.specs.Gives.{ahead, kind_of}
+use Rattle.ob_parse.specs.Accords.{ahead, kind_of}
 use Rattle.ob_parse.proofs.Ahead.{leaves_length}
 use Rattle.ob_parse.proofs.Sound.{some_is}
 use Rattle.ob_table.specs.LoneNames.{lone_of, named_front, IsLone}

@@ -28,21 +28,21 @@ use Rattle.ob_parse.specs.declared.stop.Stop.{Stop}
 use Rattle.ob_parse.specs.declared.stop.Stop.TheVariants as stops
 use Rattle.ob_parse.specs.Front.{uncons}
 use Rattle.ob_parse.specs.Forms.{Refusal, Unexpected, Read, Reader, ◌>>=◌, seq, node, prefixed, expect_at, identifier_at, name_at}
-use Rattle.ob_parse.specs.Gives.{Fails, ahead, seen}
+use Rattle.ob_parse.specs.Accords.{Fails, ahead, seen}
 use Rattle.ob_parse.specs.Parsed.{IsRightEnd}
 use Rattle.ob_parse.specs.ReadStatements.{block_at}
 use Rattle.ob_parse.specs.ReadModules.{imports_at, declarations_at, body_with, module_behind_name, name_then, module_at, nothing_left, all_of}
 use Rattle.ob_table.specs.DeclarationShapes.{body_outline, body_piece, ModuleParts, parts_shown, parts_step, ModuleEnd, end_shown, end_step, ModuleBehind, imports_shown, behind_shown, behind_step}
-use Rattle.ob_table.specs.Ended.{RightEnds, EndedDeclarations, EndedModule, RightName, WholeTold, TellsWhole}
-use Rattle.ob_table.specs.Tells.{Told, Tells, TellsBy}
+use Rattle.ob_table.specs.Ended.{RightEnds, EndedDeclarations, EndedModule, RightName, WholeTold, TabulatesWhole}
+use Rattle.ob_table.specs.Tabulating.{Told, Tabulates, TabulatesBy}
 use Rattle.ob_table.proofs.Combine.{told_as, told_node, told_then, told_prefixed, told_behind, failed_node, failed_then, failed_prefixed}
 use Rattle.ob_table.proofs.SectionTrees.{failed_behind}
 
 pub end_told : (bytes : List ℕ) (ts : List Token) (name : ℕ) (c : Context) (old first second new : Draft) (input a b : Cursor) (result : Result Cursor Stop) →
-    TellsBy ts (λ (u : Unit {0}). word kinds.End) (λ u s. passed s) old first (Ok a) (expect_at kinds.End (ahead ts input)) →
-    TellsBy {T = RightName bytes ts name} ts (λ x. repeated name x.number) (λ x s. after (tells module_end token) c s) first second (Ok b) (name_at (repeated name) (ahead ts a)) →
-    TellsBy ts (λ (u : Unit {0}). word kinds.Dot) (λ u s. passed s) second new result (expect_at kinds.Dot (ahead ts b)) →
-    TellsBy {T = ModuleEnd bytes ts name} ts (end_shown {bytes = bytes} {ts = ts} {name = name}) (end_step {bytes = bytes} {ts = ts} {name = name} c) old new result (seq (expect_at kinds.End) (seq (name_at (repeated name)) (expect_at kinds.Dot)) (ahead ts input))
+    TabulatesBy ts (λ (u : Unit {0}). word kinds.End) (λ u s. passed s) old first (Ok a) (expect_at kinds.End (ahead ts input)) →
+    TabulatesBy {T = RightName bytes ts name} ts (λ x. repeated name x.number) (λ x s. after (tells module_end token) c s) first second (Ok b) (name_at (repeated name) (ahead ts a)) →
+    TabulatesBy ts (λ (u : Unit {0}). word kinds.Dot) (λ u s. passed s) second new result (expect_at kinds.Dot (ahead ts b)) →
+    TabulatesBy {T = ModuleEnd bytes ts name} ts (end_shown {bytes = bytes} {ts = ts} {name = name}) (end_step {bytes = bytes} {ts = ts} {name = name} c) old new result (seq (expect_at kinds.End) (seq (name_at (repeated name)) (expect_at kinds.Dot)) (ahead ts input))
 end_told bytes ts name c old first second new input a b result t u v =
     told_then ts (λ (u : Unit {0}). word kinds.End) (λ u s. passed s) (λ (x : RightName bytes ts name × Unit {0}). repeated name x.0.number ++ word kinds.Dot) (λ x s. passed (after (tells module_end token) c s))
     (expect_at kinds.End) (seq (name_at (repeated name)) (expect_at kinds.Dot)) old first new a result (ahead ts input) t
@@ -50,10 +50,10 @@ end_told bytes ts name c old first second new input a b result t u v =
     (name_at (repeated name)) (expect_at kinds.Dot) first second new b result (ahead ts a) u v)
 
 pub parts_told : (bytes : List ℕ) (ts : List Token) (name d : ℕ) (c : Context) (old first second new : Draft) (input a b : Cursor) (result : Result Cursor Stop) →
-    Tells {T = EndedDeclarations bytes ts} ts (λ x. declarations_outline x.tree) (λ x. declarations_piece x.tree) c old first (Ok a) (declarations_at d (ahead ts input)) →
-    Tells ts body_outline body_piece c first second (Ok b) (body_with (block_at d) (ahead ts a)) →
-    TellsBy {T = ModuleEnd bytes ts name} ts (end_shown {bytes = bytes} {ts = ts} {name = name}) (end_step {bytes = bytes} {ts = ts} {name = name} c) second new result (seq (expect_at kinds.End) (seq (name_at (repeated name)) (expect_at kinds.Dot)) (ahead ts b)) →
-    TellsBy {T = ModuleParts bytes ts name} ts (parts_shown {bytes = bytes} {ts = ts} {name = name}) (parts_step {bytes = bytes} {ts = ts} {name = name} c) old new result
+    Tabulates {T = EndedDeclarations bytes ts} ts (λ x. declarations_outline x.tree) (λ x. declarations_piece x.tree) c old first (Ok a) (declarations_at d (ahead ts input)) →
+    Tabulates ts body_outline body_piece c first second (Ok b) (body_with (block_at d) (ahead ts a)) →
+    TabulatesBy {T = ModuleEnd bytes ts name} ts (end_shown {bytes = bytes} {ts = ts} {name = name}) (end_step {bytes = bytes} {ts = ts} {name = name} c) second new result (seq (expect_at kinds.End) (seq (name_at (repeated name)) (expect_at kinds.Dot)) (ahead ts b)) →
+    TabulatesBy {T = ModuleParts bytes ts name} ts (parts_shown {bytes = bytes} {ts = ts} {name = name}) (parts_step {bytes = bytes} {ts = ts} {name = name} c) old new result
     (seq (declarations_at d) (seq (body_with (block_at d)) (seq (expect_at kinds.End) (seq (name_at (repeated name)) (expect_at kinds.Dot)))) (ahead ts input))
 parts_told bytes ts name d c old first second new input a b result t u v =
     told_then ts (λ (x : EndedDeclarations bytes ts). declarations_outline x.tree) (λ x. after (declarations_piece x.tree) c)
@@ -74,11 +74,11 @@ abbrev module_of : (bytes : List ℕ) (ts : List Token) (n : ℕ) → ModuleBehi
 module_of bytes ts n x = record { tree = module_made {bytes = bytes} {ts = ts} n x; ended = module_right bytes ts (module_made {bytes = bytes} {ts = ts} n x) x.1.1.0.ended x.1.1.1.1.1.0.right }
 
 pub behind_name_told : (bytes : List ℕ) (ts : List Token) (n d : ℕ) (c : Context) (old first second new : Draft) (input a b : Cursor) (result : Result Cursor Stop) →
-    TellsBy ts (λ (u : Unit {0}). word kinds.Semicolon) (λ u s. passed s) old first (Ok a) (expect_at kinds.Semicolon (ahead ts input)) →
-    Tells ts imports_shown (if_there imports_piece) c first second (Ok b) (imports_at (ahead ts a)) →
-    TellsBy {T = ModuleParts bytes ts n} ts (parts_shown {bytes = bytes} {ts = ts} {name = n}) (parts_step {bytes = bytes} {ts = ts} {name = n} c) second new result
+    TabulatesBy ts (λ (u : Unit {0}). word kinds.Semicolon) (λ u s. passed s) old first (Ok a) (expect_at kinds.Semicolon (ahead ts input)) →
+    Tabulates ts imports_shown (if_there imports_piece) c first second (Ok b) (imports_at (ahead ts a)) →
+    TabulatesBy {T = ModuleParts bytes ts n} ts (parts_shown {bytes = bytes} {ts = ts} {name = n}) (parts_step {bytes = bytes} {ts = ts} {name = n} c) second new result
     (seq (declarations_at d) (seq (body_with (block_at d)) (seq (expect_at kinds.End) (seq (name_at (repeated n)) (expect_at kinds.Dot)))) (ahead ts b)) →
-    TellsBy {T = ModuleBehind bytes ts n} ts (behind_shown {bytes = bytes} {ts = ts} {name = n}) (behind_step {bytes = bytes} {ts = ts} {name = n} c) old new result (module_behind_name d n (ahead ts input))
+    TabulatesBy {T = ModuleBehind bytes ts n} ts (behind_shown {bytes = bytes} {ts = ts} {name = n}) (behind_step {bytes = bytes} {ts = ts} {name = n} c) old new result (module_behind_name d n (ahead ts input))
 unfolding module_behind_name
 behind_name_told bytes ts n d c old first second new input a b result t u v =
     let inner : Reader = seq (declarations_at d) (seq (body_with (block_at d)) (seq (expect_at kinds.End) (seq (name_at (repeated n)) (expect_at kinds.Dot)))) in
@@ -94,10 +94,10 @@ module_step : (m : Module) (c : Context) (s : Stage) → after (module_piece m) 
 module_step m c s = told.module_after m c s
 
 pub module_told : (bytes : List ℕ) (ts : List Token) (n d : ℕ) (c : Context) (old first second new : Draft) (input here rest : Cursor) (result : Result Cursor Stop) →
-    TellsBy ts (λ (u : Unit {0}). word kinds.Module) (λ u s. passed s) old first (Ok here) (expect_at kinds.Module (ahead ts input)) →
+    TabulatesBy ts (λ (u : Unit {0}). word kinds.Module) (λ u s. passed s) old first (Ok here) (expect_at kinds.Module (ahead ts input)) →
     identifier_at (ahead ts here) ≡ Ok (n, ahead ts rest) → ComesTo passed first second →
-    TellsBy {T = ModuleBehind bytes ts n} ts (behind_shown {bytes = bytes} {ts = ts} {name = n}) (behind_step {bytes = bytes} {ts = ts} {name = n} c) second new result (module_behind_name d n (ahead ts rest)) →
-    Tells {T = EndedModule bytes ts} ts (λ m. module_outline m.tree) (λ m. module_piece m.tree) c old new result (module_at d (ahead ts input))
+    TabulatesBy {T = ModuleBehind bytes ts n} ts (behind_shown {bytes = bytes} {ts = ts} {name = n}) (behind_step {bytes = bytes} {ts = ts} {name = n} c) second new result (module_behind_name d n (ahead ts rest)) →
+    Tabulates {T = EndedModule bytes ts} ts (λ m. module_outline m.tree) (λ m. module_piece m.tree) c old new result (module_at d (ahead ts input))
 unfolding module_at
 module_told bytes ts n d c old first second new input here rest result t e h u =
     told_as ts (λ (x : Unit {0} × ModuleBehind bytes ts n). construct constructs.Module (word kinds.Module ++ (named n ++ behind_shown {bytes = bytes} {ts = ts} {name = n} x.1))) (λ x s. behind_step {bytes = bytes} {ts = ts} {name = n} c x.1 (passed (passed s)))
@@ -147,7 +147,7 @@ unfolding module_behind_name
 semicolon_failed ts d n e ls h = failed_then ts (expect_at kinds.Semicolon) _ e ls h
 
 pub imports_failed : (ts : List Token) (d n : ℕ) (old first : Draft) (input a : Cursor) (e : Stop) →
-    TellsBy ts (λ (u : Unit {0}). word kinds.Semicolon) (λ u s. passed s) old first (Ok a) (expect_at kinds.Semicolon (ahead ts input)) → Fails ts e (imports_at (ahead ts a)) → Fails ts e (module_behind_name d n (ahead ts input))
+    TabulatesBy ts (λ (u : Unit {0}). word kinds.Semicolon) (λ u s. passed s) old first (Ok a) (expect_at kinds.Semicolon (ahead ts input)) → Fails ts e (imports_at (ahead ts a)) → Fails ts e (module_behind_name d n (ahead ts input))
 unfolding module_behind_name
 imports_failed ts d n old first input a e t h =
     let inner : Reader = seq (declarations_at d) (seq (body_with (block_at d)) (seq (expect_at kinds.End) (seq (name_at (repeated n)) (expect_at kinds.Dot)))) in
@@ -163,7 +163,7 @@ name_then_failed ts r (stops.Unexpected i) ls f = ap (λ z. z >>= λ a. prefixed
 name_then_failed ts r (stops.TooDeep i) ls f = ap (λ z. z >>= λ a. prefixed (named a.0) (r a.0) a.1) f
 
 pub own_name_failed : (ts : List Token) (d : ℕ) (old first : Draft) (input a : Cursor) (e : Stop) →
-    TellsBy ts (λ (u : Unit {0}). word kinds.Module) (λ u s. passed s) old first (Ok a) (expect_at kinds.Module (ahead ts input)) → Fails ts e (identifier_at (ahead ts a)) → Fails ts e (module_at d (ahead ts input))
+    TabulatesBy ts (λ (u : Unit {0}). word kinds.Module) (λ u s. passed s) old first (Ok a) (expect_at kinds.Module (ahead ts input)) → Fails ts e (identifier_at (ahead ts a)) → Fails ts e (module_at d (ahead ts input))
 unfolding module_at
 own_name_failed ts d old first input a e t h =
     failed_node ts constructs.Module (seq (expect_at kinds.Module) (name_then named (module_behind_name d))) e (ahead ts input)

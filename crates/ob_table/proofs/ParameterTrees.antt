@@ -27,10 +27,10 @@ use Rattle.ob_decls.proofs.TypeLayers as told
 use Rattle.ob_parse.specs.declared.cursor.Cursor.{Cursor}
 use Rattle.ob_parse.specs.declared.stop.Stop.{Stop}
 use Rattle.ob_parse.specs.Forms.{Read, Reader, accept_at, expect_at, nothing, optional, seq}
-use Rattle.ob_parse.specs.Gives.{Fails, ahead}
+use Rattle.ob_parse.specs.Accords.{Fails, ahead}
 use Rattle.ob_parse.specs.ReadTypes.{section_at, parameters_at}
 use Rattle.ob_table.specs.TypeShapes.{arrays_outline, formal_name_piece, formal_outline, formal_piece, inner_at, inner_outline, list_piece, opened_at, opened_outline, opened_piece, skipped_outline, skipped_piece}
-use Rattle.ob_table.specs.Tells.{Tells, TellsBy}
+use Rattle.ob_table.specs.Tabulating.{Tabulates, TabulatesBy}
 use Rattle.ob_table.proofs.Combine.{told_as, told_node, told_behind, failed_node, failed_then}
 use Rattle.ob_table.proofs.Lists.{word_after}
 use Rattle.ob_table.proofs.Behind.{pair_told, word_told, declaring_told, came_then, came_as, regrouped, then_failed}
@@ -54,8 +54,8 @@ array_after c x s =
 
 pub array_told : (ts : List Token) (c : Context) (old here mid new : Draft) (result : Result Cursor Stop) (read : Read) →
     ComesTo (λ s. added (part_here parts.Array c s.number) s) old here → ComesTo passed here mid →
-    TellsBy ts (λ (x : Unit {0}). word kinds.Of) (λ x s. passed s) mid new result read →
-    TellsBy ts (λ (x : Unit {0}). word kinds.Of) (λ x s. passed (passed (added (part_here parts.Array c s.number) s))) old new result read
+    TabulatesBy ts (λ (x : Unit {0}). word kinds.Of) (λ x s. passed s) mid new result read →
+    TabulatesBy ts (λ (x : Unit {0}). word kinds.Of) (λ x s. passed (passed (added (part_here parts.Array c s.number) s))) old new result read
 array_told ts c old here mid new result read a b t =
     told_behind ts (λ (x : Unit {0}). word kinds.Of) (λ x s. passed (passed s)) (λ s. added (part_here parts.Array c s.number) s) old here new result read a
     (told_behind ts (λ (x : Unit {0}). word kinds.Of) (λ x s. passed s) passed here mid new result read b t)
@@ -69,8 +69,8 @@ arrays_each [] = refl
 arrays_each (x ∷ xs) = ap (λ (p : Piece). both (tells (part_here parts.Array) (both token token)) p) (arrays_each xs)
 
 pub arrays_told : (ts : List Token) (c : Context) (old new : Draft) (result : Result Cursor Stop) (read : Read) →
-    TellsBy ts (λ (v : Vec (Unit {0})). each (λ x. word kinds.Array ++ word kinds.Of) v.items) (λ v. after (pieces array_piece v.items) c) old new result read →
-    Tells ts arrays_outline open_arrays c old new result read
+    TabulatesBy ts (λ (v : Vec (Unit {0})). each (λ x. word kinds.Array ++ word kinds.Of) v.items) (λ v. after (pieces array_piece v.items) c) old new result read →
+    Tabulates ts arrays_outline open_arrays c old new result read
 arrays_told ts c old new result read t =
     told_as ts (λ (v : Vec (Unit {0})). each (λ x. word kinds.Array ++ word kinds.Of) v.items) (λ v. after (pieces array_piece v.items) c) arrays_outline (λ n. after (open_arrays n) c)
     (λ v. length v.items) (λ v. times_each v.items) (λ v s. ap (λ (p : Piece). after p c s) (arrays_each v.items)) old new result read t
@@ -94,10 +94,10 @@ inner_after x c s =
     ∙ sym (after_both (skipped_piece x.0) _ c s)
 
 pub inner_told : (ts : List Token) (c : Context) (r t : Reader) (old first mid new : Draft) (input behind here : Cursor) (result : Result Cursor Stop) →
-    Tells ts (skipped_outline kinds.Var) skipped_piece c old first (Ok behind) (optional (accept_at kinds.Var) nothing (ahead ts input)) →
-    Tells ts (separated kinds.Comma (declared false)) (list_piece (λ n. parameter_piece)) c first mid (Ok here) (r (ahead ts behind)) →
-    Tells ts (λ x. word kinds.Colon ++ formal_outline x) (λ x. both token (formal_piece x)) c mid new result (t (ahead ts here)) →
-    Tells ts inner_outline section_inner c old new result (seq (optional (accept_at kinds.Var) nothing) (seq r t) (ahead ts input))
+    Tabulates ts (skipped_outline kinds.Var) skipped_piece c old first (Ok behind) (optional (accept_at kinds.Var) nothing (ahead ts input)) →
+    Tabulates ts (separated kinds.Comma (declared false)) (list_piece (λ n. parameter_piece)) c first mid (Ok here) (r (ahead ts behind)) →
+    Tabulates ts (λ x. word kinds.Colon ++ formal_outline x) (λ x. both token (formal_piece x)) c mid new result (t (ahead ts here)) →
+    Tabulates ts inner_outline section_inner c old new result (seq (optional (accept_at kinds.Var) nothing) (seq r t) (ahead ts input))
 inner_told ts c r t old first mid new input behind here result a b d =
     told_as ts (λ (x : Inner). skipped_outline kinds.Var x.0 ++ (separated kinds.Comma (declared false) x.1.0 ++ (word kinds.Colon ++ formal_outline x.1.1))) (λ x. after (parts_of x) c)
     inner_outline (λ s. after (section_inner s) c) inner_of (λ x. refl) (λ x s. inner_after x c s) old new result _
@@ -106,7 +106,7 @@ inner_told ts c r t old first mid new input behind here result a b d =
     (pair_told ts c (separated kinds.Comma (declared false)) (list_piece (λ n. parameter_piece)) (λ x. word kinds.Colon ++ formal_outline x) (λ x. both token (formal_piece x)) r t first mid new behind here result b d))
 
 pub inner_failed : (ts : List Token) (c : Context) (e : Stop) (r t : Reader) (old first : Draft) (input behind : Cursor) →
-    Tells ts (skipped_outline kinds.Var) skipped_piece c old first (Ok behind) (optional (accept_at kinds.Var) nothing (ahead ts input)) →
+    Tabulates ts (skipped_outline kinds.Var) skipped_piece c old first (Ok behind) (optional (accept_at kinds.Var) nothing (ahead ts input)) →
     Fails ts e (r (ahead ts behind)) → Fails ts e (seq (optional (accept_at kinds.Var) nothing) (seq r t) (ahead ts input))
 inner_failed ts c e r t old first input behind a h =
     then_failed ts (skipped_outline kinds.Var) (λ x. after (skipped_piece x) c) e (optional (accept_at kinds.Var) nothing) (seq r t) old first input behind a (failed_then ts r t e (ahead ts behind) h)
@@ -114,9 +114,9 @@ inner_failed ts c e r t old first input behind a h =
 pub section_told : (ts : List Token) (c around : Context) (row : Declarer) (at : ℕ) (old opened last new : Draft) (input here : Cursor) →
     row ≡ declarer sorts.Parameter c old.number 0 → at ≡ length old.declarers.items → around ≡ declaring_at c old.number →
     ComesTo (added (one_declarer row)) old opened →
-    Tells ts inner_outline section_inner around opened last (Ok here)
+    Tabulates ts inner_outline section_inner around opened last (Ok here)
     (inner_at (ahead ts input)) →
-    ComesTo (closed at row) last new → Tells ts section_outline section_piece c old new (Ok here) (section_at (ahead ts input))
+    ComesTo (closed at row) last new → Tabulates ts section_outline section_piece c old new (Ok here) (section_at (ahead ts input))
 unfolding section_at
 section_told ts c around row at old opened last new input here d e g a t b =
     told_as ts (λ s. construct constructs.FPSection (inner_outline s)) (λ s. after (declaring sorts.Parameter (section_inner s)) c) section_outline (λ s. after (section_piece s) c)
@@ -136,10 +136,10 @@ abbrev parameters_of : Option (OneOrMore ParameterSection) × Option Qualident �
 parameters_of x = record { sections = x.0; result = x.1 }
 
 pub parameters_told : (ts : List Token) (c : Context) (old mid new : Draft) (input here : Cursor) (result : Result Cursor Stop) →
-    TellsBy ts (λ (_ : Unit {0}). word kinds.LeftParen) (λ x s. passed s) old mid (Ok here) (expect_at kinds.LeftParen (ahead ts input)) →
-    Tells ts opened_outline opened_piece c mid new result
+    TabulatesBy ts (λ (_ : Unit {0}). word kinds.LeftParen) (λ x s. passed s) old mid (Ok here) (expect_at kinds.LeftParen (ahead ts input)) →
+    Tabulates ts opened_outline opened_piece c mid new result
     (opened_at (ahead ts here)) →
-    Tells ts parameters_outline parameters_piece c old new result (parameters_at (ahead ts input))
+    Tabulates ts parameters_outline parameters_piece c old new result (parameters_at (ahead ts input))
 unfolding parameters_at
 parameters_told ts c old mid new input here result a t =
     told_as ts (λ x. word kinds.LeftParen ++ opened_outline x) (λ x. after (both token (opened_piece x)) c) parameters_outline (λ p. after (parameters_piece p) c)

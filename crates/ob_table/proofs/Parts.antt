@@ -18,37 +18,37 @@ use Rattle.ob_decls.proofs.Steps.{after_both, after_token, after_nothing}
 use Rattle.ob_parse.specs.declared.cursor.Cursor.{Cursor}
 use Rattle.ob_parse.specs.declared.stop.Stop.{Stop}
 use Rattle.ob_parse.specs.Forms.{Read, Reader, Start, seq, prefixed, node, optional}
-use Rattle.ob_parse.specs.Gives.{ahead}
+use Rattle.ob_parse.specs.Accords.{ahead}
 use Rattle.ob_table.specs.StatementShapes.{then_outline, then_piece, word_outline, word_piece}
-use Rattle.ob_table.specs.Tells.{Tells, TellsBy}
+use Rattle.ob_table.specs.Tabulating.{Tabulates, TabulatesBy}
 use Rattle.ob_table.proofs.Combine.{told_as, told_node, told_then, told_prefixed, told_behind, told_there, told_absent}
 use Rattle.ob_table.proofs.Lists.{word_after}
 
 module _ (ts : List Token) (c : Context) where
   -- a tree of what was told
   pub made_told : {A B : Type 0} (f : A → Out) (p : A → Piece) (g : B → Out) (q : B → Piece) (make : A → B) (old new : Draft) (result : Result Cursor Stop) (read : Read) →
-      ((x : A) → g (make x) ≡ f x) → ((x : A) → q (make x) ≡ p x) → Tells ts f p c old new result read → Tells ts g q c old new result read
+      ((x : A) → g (make x) ≡ f x) → ((x : A) → q (make x) ≡ p x) → Tabulates ts f p c old new result read → Tabulates ts g q c old new result read
   made_told f p g q make old new result read shown told t =
       told_as ts f (λ x. after (p x) c) g (λ x. after (q x) c) make shown (λ x s. ap (λ (y : Piece). after y c s) (told x)) old new result read t
 
   -- one part, and another behind it
   pub told_both : {A B : Type 0} (f : A → Out) (p : A → Piece) (g : B → Out) (q : B → Piece) (r s : Reader) (old mid new : Draft) (here : Cursor) (result : Result Cursor Stop) (ls : List Leaf) →
-      Tells ts f p c old mid (Ok here) (r ls) → Tells ts g q c mid new result (s (ahead ts here)) → Tells ts (then_outline f g) (then_piece p q) c old new result (seq r s ls)
+      Tabulates ts f p c old mid (Ok here) (r ls) → Tabulates ts g q c mid new result (s (ahead ts here)) → Tabulates ts (then_outline f g) (then_piece p q) c old new result (seq r s ls)
   told_both {A} {B} f p g q r s old mid new here result ls a b =
       told_as ts (λ (x : A × B). f x.0 ++ g x.1) (λ x z. after (q x.1) c (after (p x.0) c z)) (then_outline f g) (λ x. after (then_piece p q x) c) (λ x. x) (λ x. refl)
       (λ x z. after_both (p x.0) (q x.1) c z) old new result _
       (told_then ts f (λ x. after (p x) c) g (λ x. after (q x) c) r s old mid new here result ls a b)
 
   -- a word
-  pub told_word : (k : Kind) (old new : Draft) (result : Result Cursor Stop) (read : Read) → TellsBy ts (λ (x : Unit {0}). word k) (λ x s. passed s) old new result read →
-      Tells ts (word_outline k) word_piece c old new result read
+  pub told_word : (k : Kind) (old new : Draft) (result : Result Cursor Stop) (read : Read) → TabulatesBy ts (λ (x : Unit {0}). word k) (λ x s. passed s) old new result read →
+      Tabulates ts (word_outline k) word_piece c old new result read
   told_word k old new result read t =
       told_as ts (λ (x : Unit {0}). word k) (λ x s. passed s) (word_outline k) (λ x. after (word_piece x) c) (λ x. x) (λ x. refl) (λ x s. after_token c s) old new result read t
 
   -- a part behind a word that may stand there and does
   pub told_some : {A X : Type 0} (f : A → Out) (p : A → Piece) (g : X → Out) (q : X → Piece) (make : A → X) (k : Kind) (start : Start) (r : Reader) (old mid new : Draft) (rest : Cursor) (result : Result Cursor Stop) (ls : List Leaf) →
-      ((x : A) → g (make x) ≡ f x) → ((x : A) → q (make x) ≡ p x) → start ls ≡ Some (word k, ahead ts rest) → ComesTo passed old mid → Tells ts f p c mid new result (r (ahead ts rest)) →
-      Tells ts (shown_there (λ x. word k ++ g x)) (if_there (λ x. both token (q x))) c old new result (optional start r ls)
+      ((x : A) → g (make x) ≡ f x) → ((x : A) → q (make x) ≡ p x) → start ls ≡ Some (word k, ahead ts rest) → ComesTo passed old mid → Tabulates ts f p c mid new result (r (ahead ts rest)) →
+      Tabulates ts (shown_there (λ x. word k ++ g x)) (if_there (λ x. both token (q x))) c old new result (optional start r ls)
   told_some {A} {X} f p g q make k start r old mid new rest result ls shown told found h t =
       told_as ts (λ (x : A). word k ++ f x) (λ x s. after (p x) c (passed s)) (shown_there (λ (x : X). word k ++ g x)) (λ x. after (if_there (λ (y : X). both token (q y)) x) c) (λ x. Some (make x))
       (λ x. ap (λ (o : Out). word k ++ o) (shown x)) (λ x s. ap (λ (y : Piece). after (both token y) c s) (told x) ∙ word_after (p x) c s) old new result (optional start r ls)
@@ -57,14 +57,14 @@ module _ (ts : List Token) (c : Context) where
 
   -- the same where it doesn't
   pub told_none : {X : Type 0} (g : X → Out) (q : X → Piece) (k : Kind) (start : Start) (r : Reader) (d : Draft) (here : Cursor) → start (ahead ts here) ≡ None →
-      Tells ts (shown_there (λ x. word k ++ g x)) (if_there (λ x. both token (q x))) c d d (Ok here) (optional start r (ahead ts here))
+      Tabulates ts (shown_there (λ x. word k ++ g x)) (if_there (λ x. both token (q x))) c d d (Ok here) (optional start r (ahead ts here))
   told_none {X} g q k start r d here e =
       told_absent ts (shown_there (λ (x : X). word k ++ g x)) (λ x. after (if_there (λ (y : X). both token (q y)) x) c) None start r d here refl (λ s. after_nothing c s) e
 
   -- a statement behind its first word
   pub told_statement : {A : Type 0} (f : A → Out) (p : A → Piece) (make : A → Stmt) (k : Kind) (r : Reader) (old mid new : Draft) (result : Result Cursor Stop) (ls : List Leaf) →
       ((x : A) → stmt_outline (make x) ≡ construct constructs.Statement (word k ++ f x)) → ((x : A) → stmt_piece (make x) ≡ both token (p x)) →
-      ComesTo passed old mid → Tells ts f p c mid new result (r ls) → Tells ts stmt_outline stmt_piece c old new result (node constructs.Statement (prefixed (word k) r) ls)
+      ComesTo passed old mid → Tabulates ts f p c mid new result (r ls) → Tabulates ts stmt_outline stmt_piece c old new result (node constructs.Statement (prefixed (word k) r) ls)
   told_statement {A} f p make k r old mid new result ls shown told h t =
       told_as ts (λ (x : A). construct constructs.Statement (word k ++ f x)) (λ x s. after (p x) c (passed s)) stmt_outline (λ x. after (stmt_piece x) c) make shown
       (λ x s. ap (λ (y : Piece). after y c s) (told x) ∙ word_after (p x) c s) old new result _

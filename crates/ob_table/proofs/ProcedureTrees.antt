@@ -44,7 +44,7 @@ use Rattle.ob_parse.specs.declared.cursor.Cursor.{Cursor}
 use Rattle.ob_parse.specs.declared.stop.Stop.{Stop}
 use Rattle.ob_parse.specs.Front.{is_word}
 use Rattle.ob_parse.specs.Forms.{Read, Reader, seq, node, optional, nothing, many, begins, accept_at, expect_at, identifier_at, name_at, behind_name}
-use Rattle.ob_parse.specs.Gives.{Fails, ahead}
+use Rattle.ob_parse.specs.Accords.{Fails, ahead}
 use Rattle.ob_parse.specs.Parsed.{IsRightEnd}
 use Rattle.ob_parse.specs.ReadExpressions.{expr_at}
 use Rattle.ob_parse.specs.ReadNames.{identdef_after}
@@ -54,7 +54,7 @@ use Rattle.ob_parse.specs.ReadModules.{const_with, type_decl_with, variable_with
 use Rattle.ob_parse.proofs.Stars.{star_read}
 use Rattle.ob_table.specs.DeclarationShapes.{ended_outline, ended_piece, body_outline, body_piece, returned_outline, returned_piece, behind_procedure, behind_procedure_piece, Ending, ending_shown, ending_step, Block, block_shown, block_step}
 use Rattle.ob_table.specs.Ended.{RightEnds, Ended, EndedProcedure, EndedProcedures, EndedDeclarations, RightName, procedures_outline}
-use Rattle.ob_table.specs.Tells.{Told, Tells, TellsBy}
+use Rattle.ob_table.specs.Tabulating.{Told, Tabulates, TabulatesBy}
 use Rattle.ob_table.proofs.Combine.{told_as, told_node, told_then, failed_node, failed_then, told_walked}
 use Rattle.ob_table.proofs.Lists.{word_after}
 use Rattle.ob_table.proofs.Made.{boxed}
@@ -77,11 +77,11 @@ piece_boxed g p (Some x) = refl
 -- ---- what stands behind the declarations, and behind the heading
 
 pub ending_told : (bytes : List ℕ) (ts : List Token) (name d : ℕ) (c : Context) (old first second third new : Draft) (input a b e : Cursor) (result : Result Cursor Stop) →
-    Tells ts body_outline body_piece c old first (Ok a) (body_with (block_at d) (ahead ts input)) →
-    Tells ts returned_outline returned_piece c first second (Ok b) (optional (accept_at kinds.Return) (expr_at d) (ahead ts a)) →
-    TellsBy ts (λ (u : Unit {0}). word kinds.End) (λ u s. passed s) second third (Ok e) (expect_at kinds.End (ahead ts b)) →
-    TellsBy {T = RightName bytes ts name} ts (λ x. repeated name x.number) (λ x s. after (tells procedure_end token) c s) third new result (name_at (repeated name) (ahead ts e)) →
-    TellsBy {T = Ending bytes ts name} ts (ending_shown {bytes = bytes} {ts = ts} {name = name}) (ending_step {bytes = bytes} {ts = ts} {name = name} c) old new result
+    Tabulates ts body_outline body_piece c old first (Ok a) (body_with (block_at d) (ahead ts input)) →
+    Tabulates ts returned_outline returned_piece c first second (Ok b) (optional (accept_at kinds.Return) (expr_at d) (ahead ts a)) →
+    TabulatesBy ts (λ (u : Unit {0}). word kinds.End) (λ u s. passed s) second third (Ok e) (expect_at kinds.End (ahead ts b)) →
+    TabulatesBy {T = RightName bytes ts name} ts (λ x. repeated name x.number) (λ x s. after (tells procedure_end token) c s) third new result (name_at (repeated name) (ahead ts e)) →
+    TabulatesBy {T = Ending bytes ts name} ts (ending_shown {bytes = bytes} {ts = ts} {name = name}) (ending_step {bytes = bytes} {ts = ts} {name = name} c) old new result
     (seq (body_with (block_at d)) (seq (optional (accept_at kinds.Return) (expr_at d)) (seq (expect_at kinds.End) (name_at (repeated name)))) (ahead ts input))
 ending_told bytes ts name d c old first second third new input a b e result t u v w =
     told_then ts body_outline (λ x. after (body_piece x) c)
@@ -94,9 +94,9 @@ ending_told bytes ts name d c old first second third new input a b e result t u 
     (expect_at kinds.End) (name_at (repeated name)) second third new e result (ahead ts b) v w))
 
 pub behind_heading_told : (bytes : List ℕ) (ts : List Token) (name : ℕ) (r s : Reader) (c : Context) (old mid new : Draft) (input here : Cursor) (result : Result Cursor Stop) →
-    Tells {T = EndedDeclarations bytes ts} ts (λ d. declarations_outline d.tree) (λ d. declarations_piece d.tree) c old mid (Ok here) (r (ahead ts input)) →
-    TellsBy {T = Ending bytes ts name} ts (ending_shown {bytes = bytes} {ts = ts} {name = name}) (ending_step {bytes = bytes} {ts = ts} {name = name} c) mid new result (s (ahead ts here)) →
-    TellsBy {T = Block bytes ts name} ts (block_shown {bytes = bytes} {ts = ts} {name = name}) (block_step {bytes = bytes} {ts = ts} {name = name} c) old new result (seq r s (ahead ts input))
+    Tabulates {T = EndedDeclarations bytes ts} ts (λ d. declarations_outline d.tree) (λ d. declarations_piece d.tree) c old mid (Ok here) (r (ahead ts input)) →
+    TabulatesBy {T = Ending bytes ts name} ts (ending_shown {bytes = bytes} {ts = ts} {name = name}) (ending_step {bytes = bytes} {ts = ts} {name = name} c) mid new result (s (ahead ts here)) →
+    TabulatesBy {T = Block bytes ts name} ts (block_shown {bytes = bytes} {ts = ts} {name = name}) (block_step {bytes = bytes} {ts = ts} {name = name} c) old new result (seq r s (ahead ts input))
 behind_heading_told bytes ts name r s c old mid new input here result t u =
     told_then ts (λ (d : EndedDeclarations bytes ts). declarations_outline d.tree) (λ d. after (declarations_piece d.tree) c) (ending_shown {bytes = bytes} {ts = ts} {name = name}) (ending_step {bytes = bytes} {ts = ts} {name = name} c)
     r s old mid new here result (ahead ts input) t u
@@ -182,11 +182,11 @@ heading_after bytes ts n g x c s =
 
 pub named_told : (bytes : List ℕ) (ts : List Token) (n : ℕ) (expr block decls : Reader) (c : Context) (old first second third new : Draft) (input a b e : Cursor) (result : Result Cursor Stop) →
     Told {T = Bool} ts (λ x. identdef_outline (name_with n x)) (λ x. after (identdef_piece (name_with n x)) c) old first a (identdef_after n (ahead ts input)) →
-    Tells ts (shown_there parameters_outline) (if_there parameters_piece) c first second (Ok b) (some_parameters_at (ahead ts a)) →
-    TellsBy ts (λ (u : Unit {0}). word kinds.Semicolon) (λ u s. passed s) second third (Ok e) (expect_at kinds.Semicolon (ahead ts b)) →
-    TellsBy {T = Block bytes ts n} ts (block_shown {bytes = bytes} {ts = ts} {name = n}) (block_step {bytes = bytes} {ts = ts} {name = n} c) third new result
+    Tabulates ts (shown_there parameters_outline) (if_there parameters_piece) c first second (Ok b) (some_parameters_at (ahead ts a)) →
+    TabulatesBy ts (λ (u : Unit {0}). word kinds.Semicolon) (λ u s. passed s) second third (Ok e) (expect_at kinds.Semicolon (ahead ts b)) →
+    TabulatesBy {T = Block bytes ts n} ts (block_shown {bytes = bytes} {ts = ts} {name = n}) (block_step {bytes = bytes} {ts = ts} {name = n} c) third new result
     (seq decls (seq (body_with block) (seq (optional (accept_at kinds.Return) expr) (seq (expect_at kinds.End) (name_at (repeated n))))) (ahead ts e)) →
-    Tells {T = EndedProcedure bytes ts} ts (λ p. behind_procedure p.tree) (λ p. behind_procedure_piece p.tree) c old new result (procedure_named expr block decls n (ahead ts input))
+    Tabulates {T = EndedProcedure bytes ts} ts (λ p. behind_procedure p.tree) (λ p. behind_procedure_piece p.tree) c old new result (procedure_named expr block decls n (ahead ts input))
 unfolding procedure_named
 named_told bytes ts n expr block decls c old first second third new input a b e result t u v w =
     let inner : Reader = seq decls (seq (body_with block) (seq (optional (accept_at kinds.Return) expr) (seq (expect_at kinds.End) (name_at (repeated n))))) in
@@ -211,7 +211,7 @@ named_failed ts n expr block decls c old first input a e t h =
 
 pub named_failed_behind : (ts : List Token) (n : ℕ) (expr block decls : Reader) (c : Context) (old first second : Draft) (input a b : Cursor) (e : Stop) →
     Told {T = Bool} ts (λ x. identdef_outline (name_with n x)) (λ x. after (identdef_piece (name_with n x)) c) old first a (identdef_after n (ahead ts input)) →
-    Tells ts (shown_there parameters_outline) (if_there parameters_piece) c first second (Ok b) (some_parameters_at (ahead ts a)) →
+    Tabulates ts (shown_there parameters_outline) (if_there parameters_piece) c first second (Ok b) (some_parameters_at (ahead ts a)) →
     Fails ts e (expect_at kinds.Semicolon (ahead ts b)) → Fails ts e (procedure_named expr block decls n (ahead ts input))
 unfolding procedure_named
 named_failed_behind ts n expr block decls c old first second input a b e t u h =
@@ -221,10 +221,10 @@ named_failed_behind ts n expr block decls c old first second input a b e t u h =
 -- ---- procedures
 
 pub inner_told : (bytes : List ℕ) (ts : List Token) (r : ℕ → Reader) (n : ℕ) (c : Context) (old mid new : Draft) (input here rest : Cursor) (result : Result Cursor Stop) →
-    TellsBy ts (λ (u : Unit {0}). word kinds.Procedure) (λ u s. passed s) old mid (Ok here) (expect_at kinds.Procedure (ahead ts input)) →
+    TabulatesBy ts (λ (u : Unit {0}). word kinds.Procedure) (λ u s. passed s) old mid (Ok here) (expect_at kinds.Procedure (ahead ts input)) →
     identifier_at (ahead ts here) ≡ Ok (n, ahead ts rest) →
-    Tells {T = EndedProcedure bytes ts} ts (λ p. behind_procedure p.tree) (λ p. behind_procedure_piece p.tree) c mid new result (r n (ahead ts rest)) →
-    Tells {T = EndedProcedure bytes ts} ts (λ p. word kinds.Procedure ++ behind_procedure p.tree) (λ p. both token (behind_procedure_piece p.tree)) c old new result (seq (expect_at kinds.Procedure) (behind_name r) (ahead ts input))
+    Tabulates {T = EndedProcedure bytes ts} ts (λ p. behind_procedure p.tree) (λ p. behind_procedure_piece p.tree) c mid new result (r n (ahead ts rest)) →
+    Tabulates {T = EndedProcedure bytes ts} ts (λ p. word kinds.Procedure ++ behind_procedure p.tree) (λ p. both token (behind_procedure_piece p.tree)) c old new result (seq (expect_at kinds.Procedure) (behind_name r) (ahead ts input))
 inner_told bytes ts r n c old mid new input here rest result t e u =
     told_as ts (λ (x : Unit {0} × EndedProcedure bytes ts). word kinds.Procedure ++ behind_procedure x.1.tree) (λ x s. after (behind_procedure_piece x.1.tree) c (passed s))
     (λ (p : EndedProcedure bytes ts). word kinds.Procedure ++ behind_procedure p.tree) (λ p. after (both token (behind_procedure_piece p.tree)) c) (λ x. x.1) (λ x. refl) (λ x s. word_after (behind_procedure_piece x.1.tree) c s) old new result _
@@ -234,9 +234,9 @@ inner_told bytes ts r n c old mid new input here rest result t e u =
 pub within_told : (bytes : List ℕ) (ts : List Token) (expr block decls : Reader) (c around : Context) (row : Declarer) (at : ℕ) (old opened blocked last new : Draft) (input rest : Cursor) →
     row ≡ declarer sorts.Procedure c old.number 0 → around ≡ in_block (declaring_at c old.number) old.number → at ≡ length old.declarers.items →
     ComesTo (added (one_declarer row)) old opened → ComesTo (added (one_block (record { first = old.number; outer = c.block }))) opened blocked →
-    Tells {T = EndedProcedure bytes ts} ts (λ p. word kinds.Procedure ++ behind_procedure p.tree) (λ p. both token (behind_procedure_piece p.tree)) around blocked last (Ok rest)
+    Tabulates {T = EndedProcedure bytes ts} ts (λ p. word kinds.Procedure ++ behind_procedure p.tree) (λ p. both token (behind_procedure_piece p.tree)) around blocked last (Ok rest)
     (seq (expect_at kinds.Procedure) (behind_name (procedure_named expr block decls)) (ahead ts input)) → ComesTo (closed at row) last new →
-    Tells {T = EndedProcedure bytes ts} ts (λ p. procedure_outline p.tree) (λ p. procedure_piece p.tree) c old new (Ok rest) (procedure_with expr block decls (ahead ts input))
+    Tabulates {T = EndedProcedure bytes ts} ts (λ p. procedure_outline p.tree) (λ p. procedure_piece p.tree) c old new (Ok rest) (procedure_with expr block decls (ahead ts input))
 unfolding procedure_with
 within_told bytes ts expr block decls c around row at old opened blocked last new input rest e g h opens adds t closes =
     let r : Reader = seq (expect_at kinds.Procedure) (behind_name (procedure_named expr block decls)) in
@@ -290,11 +290,11 @@ sections_after bytes ts x c s =
     ∙ after_both p (both q (both r t)) c s ∙ after_both q (both r t) c (after p c s) ∙ after_both r t c (after q c (after p c s))
 
 pub sections_told : (bytes : List ℕ) (ts : List Token) (expr type procedure : Reader) (c : Context) (old first second third new : Draft) (input a b e : Cursor) (result : Result Cursor Stop) →
-    Tells {T = Option (Vec ConstDecl)} ts (shown_there (λ v. shown_part kinds.Const const_outline v.items)) (if_there (λ v. part const_piece v.items)) c old first (Ok a) (part_with kinds.Const (const_with expr) (ahead ts input)) →
-    Tells {T = Option (Vec TypeDecl)} ts (shown_there (λ v. shown_part kinds.Type type_decl_outline v.items)) (if_there (λ v. part type_decl_piece v.items)) c first second (Ok b) (part_with kinds.Type (type_decl_with type) (ahead ts a)) →
-    Tells {T = Option (Vec VarDecl)} ts (shown_there (λ v. shown_part kinds.Var variable_outline v.items)) (if_there (λ v. part variable_piece v.items)) c second third (Ok e) (part_with kinds.Var (variable_with type) (ahead ts b)) →
-    Tells {T = EndedProcedures bytes ts} ts (λ v. procedures_outline v.tree.items) (λ v. pieces (ended_piece procedure_piece) v.tree.items) c third new result (procedures_with procedure (ahead ts e)) →
-    Tells {T = EndedDeclarations bytes ts} ts (λ d. declarations_outline d.tree) (λ d. declarations_piece d.tree) c old new result (declarations_with expr type procedure (ahead ts input))
+    Tabulates {T = Option (Vec ConstDecl)} ts (shown_there (λ v. shown_part kinds.Const const_outline v.items)) (if_there (λ v. part const_piece v.items)) c old first (Ok a) (part_with kinds.Const (const_with expr) (ahead ts input)) →
+    Tabulates {T = Option (Vec TypeDecl)} ts (shown_there (λ v. shown_part kinds.Type type_decl_outline v.items)) (if_there (λ v. part type_decl_piece v.items)) c first second (Ok b) (part_with kinds.Type (type_decl_with type) (ahead ts a)) →
+    Tabulates {T = Option (Vec VarDecl)} ts (shown_there (λ v. shown_part kinds.Var variable_outline v.items)) (if_there (λ v. part variable_piece v.items)) c second third (Ok e) (part_with kinds.Var (variable_with type) (ahead ts b)) →
+    Tabulates {T = EndedProcedures bytes ts} ts (λ v. procedures_outline v.tree.items) (λ v. pieces (ended_piece procedure_piece) v.tree.items) c third new result (procedures_with procedure (ahead ts e)) →
+    Tabulates {T = EndedDeclarations bytes ts} ts (λ d. declarations_outline d.tree) (λ d. declarations_piece d.tree) c old new result (declarations_with expr type procedure (ahead ts input))
 unfolding declarations_with
 sections_told bytes ts expr type procedure c old first second third new input a b e result t u v w =
     told_as ts
@@ -319,7 +319,7 @@ unfolding declarations_with
 first_failed ts expr type procedure x ls h = failed_then ts (part_with kinds.Const (const_with expr)) _ x ls h
 
 pub second_failed : (ts : List Token) (expr type procedure : Reader) (c : Context) (old first : Draft) (input a : Cursor) (x : Stop) →
-    Tells {T = Option (Vec ConstDecl)} ts (shown_there (λ v. shown_part kinds.Const const_outline v.items)) (if_there (λ v. part const_piece v.items)) c old first (Ok a) (part_with kinds.Const (const_with expr) (ahead ts input)) →
+    Tabulates {T = Option (Vec ConstDecl)} ts (shown_there (λ v. shown_part kinds.Const const_outline v.items)) (if_there (λ v. part const_piece v.items)) c old first (Ok a) (part_with kinds.Const (const_with expr) (ahead ts input)) →
     Fails ts x (part_with kinds.Type (type_decl_with type) (ahead ts a)) → Fails ts x (declarations_with expr type procedure (ahead ts input))
 unfolding declarations_with
 second_failed ts expr type procedure c old first input a x t h =
@@ -328,8 +328,8 @@ second_failed ts expr type procedure c old first input a x t h =
     (failed_then ts (part_with kinds.Type (type_decl_with type)) (seq (part_with kinds.Var (variable_with type)) (procedures_with procedure)) x (ahead ts a) h)
 
 pub third_failed : (ts : List Token) (expr type procedure : Reader) (c : Context) (old first second : Draft) (input a b : Cursor) (x : Stop) →
-    Tells {T = Option (Vec ConstDecl)} ts (shown_there (λ v. shown_part kinds.Const const_outline v.items)) (if_there (λ v. part const_piece v.items)) c old first (Ok a) (part_with kinds.Const (const_with expr) (ahead ts input)) →
-    Tells {T = Option (Vec TypeDecl)} ts (shown_there (λ v. shown_part kinds.Type type_decl_outline v.items)) (if_there (λ v. part type_decl_piece v.items)) c first second (Ok b) (part_with kinds.Type (type_decl_with type) (ahead ts a)) →
+    Tabulates {T = Option (Vec ConstDecl)} ts (shown_there (λ v. shown_part kinds.Const const_outline v.items)) (if_there (λ v. part const_piece v.items)) c old first (Ok a) (part_with kinds.Const (const_with expr) (ahead ts input)) →
+    Tabulates {T = Option (Vec TypeDecl)} ts (shown_there (λ v. shown_part kinds.Type type_decl_outline v.items)) (if_there (λ v. part type_decl_piece v.items)) c first second (Ok b) (part_with kinds.Type (type_decl_with type) (ahead ts a)) →
     Fails ts x (part_with kinds.Var (variable_with type) (ahead ts b)) → Fails ts x (declarations_with expr type procedure (ahead ts input))
 unfolding declarations_with
 third_failed ts expr type procedure c old first second input a b x t u h =

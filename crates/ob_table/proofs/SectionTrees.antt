@@ -25,18 +25,18 @@ use Rattle.ob_decls.proofs.Steps.{after_both, after_token, after_declaring, afte
 use Rattle.ob_parse.specs.declared.cursor.Cursor.{Cursor}
 use Rattle.ob_parse.specs.declared.stop.Stop.{Stop}
 use Rattle.ob_parse.specs.Forms.{Read, Reader, seq, node, optional, accept_at, expect_at, many, begins}
-use Rattle.ob_parse.specs.Gives.{Fails, ahead}
+use Rattle.ob_parse.specs.Accords.{Fails, ahead}
 use Rattle.ob_parse.specs.ReadNames.{identdef_at}
 use Rattle.ob_parse.specs.ReadModules.{is_identifier, with_semicolon, part_with}
 use Rattle.ob_table.specs.DeclarationShapes.{ended_outline, ended_piece}
-use Rattle.ob_table.specs.Tells.{Told, Tells, TellsBy}
+use Rattle.ob_table.specs.Tabulating.{Told, Tabulates, TabulatesBy}
 use Rattle.ob_table.proofs.Combine.{told_at, told_as, told_node, told_then, told_there, told_behind, told_before, failed_node, failed_then}
 use Rattle.ob_table.proofs.Behind.{declaring_told, word_there_told}
 use Rattle.ob_table.proofs.Lists.{word_after}
 
 -- where the second part fails, the whole does
 pub failed_behind : {A : Type 0} (ts : List Token) (f : A → Out) (p : A → Stage → Stage) (r s : Reader) (old mid : Draft) (here : Cursor) (e : Stop) (ls : List _) →
-    TellsBy ts f p old mid (Ok here) (r ls) → Fails ts e (s (ahead ts here)) → Fails ts e (seq r s ls)
+    TabulatesBy ts f p old mid (Ok here) (r ls) → Fails ts e (s (ahead ts here)) → Fails ts e (seq r s ls)
 failed_behind ts f p r s old mid here e ls t h = told_then ts f p f p r s old mid mid here (Err e) ls t h
 
 -- ---- constructs that declare
@@ -52,8 +52,8 @@ block_here p c around row at old e g h =
 
 pub block_told : {A : Type 0} (ts : List Token) (f : A → Out) (p : A → Piece) (c around : Context) (row : Declarer) (at : ℕ) (old opened blocked last new : Draft) (rest : Cursor) (read : Read) →
     row ≡ declarer sorts.Procedure c old.number 0 → around ≡ in_block (declaring_at c old.number) old.number → at ≡ length old.declarers.items →
-    ComesTo (added (one_declarer row)) old opened → ComesTo (added (one_block (record { first = old.number; outer = c.block }))) opened blocked → Tells ts f p around blocked last (Ok rest) read → ComesTo (closed at row) last new →
-    Tells ts f (λ x. declaring sorts.Procedure (opens_block (p x))) c old new (Ok rest) read
+    ComesTo (added (one_declarer row)) old opened → ComesTo (added (one_block (record { first = old.number; outer = c.block }))) opened blocked → Tabulates ts f p around blocked last (Ok rest) read → ComesTo (closed at row) last new →
+    Tabulates ts f (λ x. declaring sorts.Procedure (opens_block (p x))) c old new (Ok rest) read
 block_told ts f p c around row at old opened blocked last new rest read e g h opens adds t closes =
     told_at ts f (λ x s. closed at row (after (p x) around (added (one_block (record { first = old.number; outer = c.block })) (added (one_declarer row) s)))) f (λ x. after (declaring sorts.Procedure (opens_block (p x))) c) (λ x. x) (λ x. refl)
     old new (Ok rest) read (λ x. block_here (p x) c around row at old e g h)
@@ -64,9 +64,9 @@ block_told ts f p c around row at old opened blocked last new rest read e g h op
 -- ---- a declaration and its semicolon
 
 pub with_semicolon_told : {A : Type 0} (ts : List Token) (f : A → Out) (p : A → Piece) (c : Context) (r : Reader) (old mid new : Draft) (input here : Cursor) (result : Result Cursor Stop) →
-    Tells ts f p c old mid (Ok here) (r (ahead ts input)) →
-    TellsBy ts (λ (u : Unit {0}). word kinds.Semicolon) (λ u s. passed s) mid new result (expect_at kinds.Semicolon (ahead ts here)) →
-    Tells ts (ended_outline f) (ended_piece p) c old new result (with_semicolon r (ahead ts input))
+    Tabulates ts f p c old mid (Ok here) (r (ahead ts input)) →
+    TabulatesBy ts (λ (u : Unit {0}). word kinds.Semicolon) (λ u s. passed s) mid new result (expect_at kinds.Semicolon (ahead ts here)) →
+    Tabulates ts (ended_outline f) (ended_piece p) c old new result (with_semicolon r (ahead ts input))
 with_semicolon_told ts f p c r old mid new input here result a b =
     told_as ts (λ (x : _ × Unit {0}). f x.0 ++ word kinds.Semicolon) (λ x s. passed (after (p x.0) c s)) (ended_outline f) (λ x. after (ended_piece p x) c) (λ x. x.0) (λ x. refl)
     (λ x s. after_both (p x.0) token c s ∙ after_token c (after (p x.0) c s)) old new result _
@@ -77,9 +77,9 @@ pub ended_told : {A X : Type 0} (ts : List Token) (f : A → Out) (p : A → Pie
     ((a : A) → g (make a) ≡ construct k (f a)) → ((a : A) → q (make a) ≡ declaring sort (p a)) →
     (c around : Context) (row : Declarer) (at : ℕ) (old opened last mid new : Draft) (input here : Cursor) (result : Result Cursor Stop) →
     row ≡ declarer sort c old.number 0 → around ≡ declaring_at c old.number → at ≡ length old.declarers.items →
-    ComesTo (added (one_declarer row)) old opened → Tells ts f p around opened last (Ok here) (r (ahead ts input)) → ComesTo (closed at row) last mid →
-    TellsBy ts (λ (u : Unit {0}). word kinds.Semicolon) (λ u s. passed s) mid new result (expect_at kinds.Semicolon (ahead ts here)) →
-    Tells ts (ended_outline g) (ended_piece q) c old new result (with_semicolon (node k r) (ahead ts input))
+    ComesTo (added (one_declarer row)) old opened → Tabulates ts f p around opened last (Ok here) (r (ahead ts input)) → ComesTo (closed at row) last mid →
+    TabulatesBy ts (λ (u : Unit {0}). word kinds.Semicolon) (λ u s. passed s) mid new result (expect_at kinds.Semicolon (ahead ts here)) →
+    Tabulates ts (ended_outline g) (ended_piece q) c old new result (with_semicolon (node k r) (ahead ts input))
 ended_told ts f p g q make k sort r shown stepped c around row at old opened last mid new input here result e l h opens t closes w =
     with_semicolon_told ts g q c (node k r) old mid new input here result
     (told_as ts (λ a. construct k (f a)) (λ a. after (declaring sort (p a)) c) g (λ x. after (q x) c) make shown (λ a s. ap (λ (z : Piece). after z c s) (stepped a)) old mid (Ok here) (node k r (ahead ts input))
@@ -91,10 +91,10 @@ ended_failed ts k r e ls h = failed_then ts (node k r) (expect_at kinds.Semicolo
 
 -- a name, an equals sign and what stands behind it
 pub equal_told : {X : Type 0} (ts : List Token) (f : X → Out) (p : X → Piece) (r : Reader) (c : Context) (old mid last new : Draft) (input here rest : Cursor) (result : Result Cursor Stop) →
-    Tells ts identdef_outline identdef_piece c old mid (Ok here) (identdef_at (ahead ts input)) →
-    TellsBy ts (λ (u : Unit {0}). word kinds.Equals) (λ u s. passed s) mid last (Ok rest) (expect_at kinds.Equals (ahead ts here)) →
-    Tells ts f p c last new result (r (ahead ts rest)) →
-    Tells {T = Identdef × X} ts (λ x. identdef_outline x.0 ++ (word kinds.Equals ++ f x.1)) (λ x. both (identdef_piece x.0) (both token (p x.1))) c old new result (seq identdef_at (seq (expect_at kinds.Equals) r) (ahead ts input))
+    Tabulates ts identdef_outline identdef_piece c old mid (Ok here) (identdef_at (ahead ts input)) →
+    TabulatesBy ts (λ (u : Unit {0}). word kinds.Equals) (λ u s. passed s) mid last (Ok rest) (expect_at kinds.Equals (ahead ts here)) →
+    Tabulates ts f p c last new result (r (ahead ts rest)) →
+    Tabulates {T = Identdef × X} ts (λ x. identdef_outline x.0 ++ (word kinds.Equals ++ f x.1)) (λ x. both (identdef_piece x.0) (both token (p x.1))) c old new result (seq identdef_at (seq (expect_at kinds.Equals) r) (ahead ts input))
 equal_told {X} ts f p r c old mid last new input here rest result a b t =
     told_as ts (λ (x : Identdef × (Unit {0} × X)). identdef_outline x.0 ++ (word kinds.Equals ++ f x.1.1)) (λ x s. after (p x.1.1) c (passed (after (identdef_piece x.0) c s)))
     (λ (x : Identdef × X). identdef_outline x.0 ++ (word kinds.Equals ++ f x.1)) (λ x. after (both (identdef_piece x.0) (both token (p x.1))) c) (λ x. (x.0, x.1.1)) (λ x. refl)
@@ -106,8 +106,8 @@ equal_told {X} ts f p r c old mid last new input here rest result a b t =
 
 pub section_told : {X : Type 0} (ts : List Token) (f : X → Out) (p : X → Piece) (k : Kind) (r : Reader) (c : Context) (old mid new : Draft) (input rest : Cursor) (result : Result Cursor Stop) →
     accept_at k (ahead ts input) ≡ Some (word k, ahead ts rest) → ComesTo passed old mid →
-    Tells {T = Vec X} ts (λ v. each (ended_outline f) v.items) (λ v. pieces (ended_piece p) v.items) c mid new result (many (begins is_identifier) (with_semicolon r) (ahead ts rest)) →
-    Tells {T = Option (Vec X)} ts (shown_there (λ v. shown_part k f v.items)) (if_there (λ v. part p v.items)) c old new result (part_with k r (ahead ts input))
+    Tabulates {T = Vec X} ts (λ v. each (ended_outline f) v.items) (λ v. pieces (ended_piece p) v.items) c mid new result (many (begins is_identifier) (with_semicolon r) (ahead ts rest)) →
+    Tabulates {T = Option (Vec X)} ts (shown_there (λ v. shown_part k f v.items)) (if_there (λ v. part p v.items)) c old new result (part_with k r (ahead ts input))
 unfolding part_with
 section_told {X} ts f p k r c old mid new input rest result found h t =
     word_there_told {A = Vec X} ts c k (λ v. each (ended_outline f) v.items) (λ v. pieces (ended_piece p) v.items) (many (begins is_identifier) (with_semicolon r)) old mid new input rest result found h t

@@ -35,11 +35,11 @@ use Rattle.ob_parse.specs.declared.stop.Stop.{Stop}
 use Rattle.ob_parse.specs.declared.stop.Stop.TheVariants as stops
 use Rattle.ob_parse.specs.Forms.{Read, Reader, seq, node, prefixed, several, optional, many, accept_at, expect_at, name_at, identifier_at, begins, deep_at}
 use Rattle.ob_parse.specs.Front.{uncons, front}
-use Rattle.ob_parse.specs.Gives.{ahead, Fails}
+use Rattle.ob_parse.specs.Accords.{ahead, Fails}
 use Rattle.ob_parse.specs.ReadExpressions.{designator_with, expr_at}
 use Rattle.ob_parse.specs.ReadStatements.{label_first, statement_first, empty_at, label_range_at, case_with, block_with, block_at, branch_with, if_with, cases_with, while_with, repeat_with, for_with, assign_with, statement_at, statement_from, statement_with}
 use Rattle.ob_table.specs.StatementShapes.{then_outline, then_piece, word_outline, word_piece, labels_outline, labels_piece, statements_outline, statements_piece, branches_outline, branches_piece, body_outline, body_piece, value_outline, value_piece, is_given, Given, given_outline, given_piece, variable_told, cases_end_outline, cases_end_piece, ForLimit, for_limit_outline, for_limit_piece}
-use Rattle.ob_table.specs.Tells.{Told, Tells}
+use Rattle.ob_table.specs.Tabulating.{Told, Tabulates}
 use Rattle.ob_table.proofs.Combine.{told_as, told_node, told_then, told_there, told_knowing, told_behind, failed_node, failed_then}
 use Rattle.ob_table.proofs.Lists.{word_after}
 use Rattle.ob_table.proofs.Made.{boxed}
@@ -70,7 +70,7 @@ one_begins d ls h e = rw h (rw e refl)
 
 -- by the token that stands here
 pub told_seen : (ts : List Token) (c : Context) (expr block : Reader) (old new : Draft) (result : Result Cursor Stop) (ls : List Leaf) (o : Option (Leaf × List Leaf)) → uncons ls ≡ o →
-    Tells ts stmt_outline stmt_piece c old new result (statement_from expr block ls o) → Tells ts stmt_outline stmt_piece c old new result (statement_with expr block ls)
+    Tabulates ts stmt_outline stmt_piece c old new result (statement_from expr block ls o) → Tabulates ts stmt_outline stmt_piece c old new result (statement_with expr block ls)
 unfolding statement_with
 told_seen ts c expr block old new result ls o e t = rw e t
 
@@ -89,9 +89,9 @@ assigning_after d None c s = ap (λ (p : Piece). after p c s) (told.call_made d)
 assigning_after d (Some e) c s = ap (λ (p : Piece). after p c s) (told.assign_made d e) ∙ after_both (designator_piece true d) (both token (expr_piece e)) c s
 
 pub assign_told : (ts : List Token) (c : Context) (w : Bool) (d n : ℕ) (old mid new : Draft) (input here : Cursor) (result : Result Cursor Stop) →
-    Tells ts designator_outline (designator_piece w) c old mid (Ok here) (designator_with (expr_at d) n (ahead ts input)) →
-    Tells {T = Given w} ts given_outline given_piece c mid new result (optional (accept_at kinds.Assign) (expr_at d) (ahead ts here)) →
-    Tells ts stmt_outline stmt_piece c old new result (node constructs.Statement (assign_with (expr_at d) n) (ahead ts input))
+    Tabulates ts designator_outline (designator_piece w) c old mid (Ok here) (designator_with (expr_at d) n (ahead ts input)) →
+    Tabulates {T = Given w} ts given_outline given_piece c mid new result (optional (accept_at kinds.Assign) (expr_at d) (ahead ts here)) →
+    Tabulates ts stmt_outline stmt_piece c old new result (node constructs.Statement (assign_with (expr_at d) n) (ahead ts input))
 unfolding assign_with
 assign_told ts c w d n old mid new input here result a b =
     told_as ts (λ (x : Designator × Given w). construct constructs.Statement (designator_outline x.0 ++ given_outline x.1)) (λ x s. after (given_piece x.1) c (after (designator_piece w x.0) c s))
@@ -116,8 +116,8 @@ not_given ts c w old new here r e h k = record {
 
 -- where one does, and was guessed
 pub some_given : (ts : List Token) (c : Context) (w : Bool) (r : Reader) (old kept mid new : Draft) (input rest : Cursor) (result : Result Cursor Stop) → accept_at kinds.Assign (ahead ts input) ≡ Some (word kinds.Assign, ahead ts rest) →
-    ComesTo (λ s. s) old kept → (kept.refused ≡ false → true ≡ w) → ComesTo passed kept mid → Tells ts expr_outline expr_piece c mid new result (r (ahead ts rest)) →
-    Tells {T = Given w} ts given_outline given_piece c old new result (optional (accept_at kinds.Assign) r (ahead ts input))
+    ComesTo (λ s. s) old kept → (kept.refused ≡ false → true ≡ w) → ComesTo passed kept mid → Tabulates ts expr_outline expr_piece c mid new result (r (ahead ts rest)) →
+    Tabulates {T = Given w} ts given_outline given_piece c old new result (optional (accept_at kinds.Assign) r (ahead ts input))
 some_given ts c w r old kept mid new input rest result e g k h t =
     let Fact : Type 0 = true ≡ w in
     told_as ts (λ (x : Expr × Fact). word kinds.Assign ++ expr_outline x.0) (λ x s. after (expr_piece x.0) c (passed s)) (given_outline {w = w}) (λ x. after (given_piece x) c)
@@ -135,9 +135,9 @@ block_parts : (x : Stmt × Vec Stmt) → block_piece (block_of x) ≡ then_piece
 block_parts x = told.block_out (block_of x) ∙ ap (λ y. both (stmt_piece y.first) (each_after stmt_piece y.rest.items)) (out-roll-StatementSequence (record { first = x.0; rest = x.1 }))
 
 pub block_told : (ts : List Token) (c : Context) (d : ℕ) (old mid new : Draft) (input here : Cursor) (result : Result Cursor Stop) →
-    Tells ts stmt_outline stmt_piece c old mid (Ok here) (statement_at d (ahead ts input)) →
-    Tells ts statements_outline statements_piece c mid new result (many (accept_at kinds.Semicolon) (statement_at d) (ahead ts here)) →
-    Tells ts block_outline block_piece c old new result (block_at d (ahead ts input))
+    Tabulates ts stmt_outline stmt_piece c old mid (Ok here) (statement_at d (ahead ts input)) →
+    Tabulates ts statements_outline statements_piece c mid new result (many (accept_at kinds.Semicolon) (statement_at d) (ahead ts here)) →
+    Tabulates ts block_outline block_piece c old new result (block_at d (ahead ts input))
 unfolding block_with several
 block_told ts c d old mid new input here result a b =
     made_told ts c (then_outline stmt_outline statements_outline) (then_piece stmt_piece statements_piece) block_outline block_piece block_of old new result _
@@ -157,8 +157,8 @@ branch_parts : (x : Expr × (Unit {0} × StatementSequence)) → branch_piece (b
 branch_parts x = told.branch_out (branch_of x) ∙ ap (λ y. both (expr_piece y.condition) (both token (block_piece y.body))) (out-roll-Branch (record { condition = x.0; body = x.1.1 }))
 
 pub branch_told : (ts : List Token) (c : Context) (expr block : Reader) (k : Kind) (old new : Draft) (result : Result Cursor Stop) (ls : List Leaf) →
-    Tells ts (then_outline expr_outline (then_outline (word_outline k) block_outline)) (then_piece expr_piece (then_piece word_piece block_piece)) c old new result (seq expr (seq (expect_at k) block) ls) →
-    Tells ts (λ b. branch_outline b k) branch_piece c old new result (branch_with expr block k ls)
+    Tabulates ts (then_outline expr_outline (then_outline (word_outline k) block_outline)) (then_piece expr_piece (then_piece word_piece block_piece)) c old new result (seq expr (seq (expect_at k) block) ls) →
+    Tabulates ts (λ b. branch_outline b k) branch_piece c old new result (branch_with expr block k ls)
 unfolding branch_with
 branch_told ts c expr block k old new result ls t =
     made_told ts c (then_outline expr_outline (then_outline (word_outline k) block_outline)) (then_piece expr_piece (then_piece word_piece block_piece)) (λ b. branch_outline b k) branch_piece branch_of old new result _
@@ -167,10 +167,10 @@ branch_told ts c expr block k old new result ls t =
 -- ---- IF
 
 pub if_told : (ts : List Token) (c : Context) (expr block : Reader) (old mid new : Draft) (result : Result Cursor Stop) (ls : List Leaf) → ComesTo passed old mid →
-    Tells ts (then_outline (λ b. branch_outline b kinds.Then) (then_outline (branches_outline kinds.Then) (then_outline (body_outline kinds.Else) (word_outline kinds.End))))
+    Tabulates ts (then_outline (λ b. branch_outline b kinds.Then) (then_outline (branches_outline kinds.Then) (then_outline (body_outline kinds.Else) (word_outline kinds.End))))
     (then_piece branch_piece (then_piece branches_piece (then_piece body_piece word_piece))) c mid new result
     (seq (branch_with expr block kinds.Then) (seq (many (accept_at kinds.Elsif) (branch_with expr block kinds.Then)) (seq (optional (accept_at kinds.Else) block) (expect_at kinds.End))) ls) →
-    Tells ts stmt_outline stmt_piece c old new result (node constructs.Statement (prefixed (word kinds.If) (if_with expr block)) ls)
+    Tabulates ts stmt_outline stmt_piece c old new result (node constructs.Statement (prefixed (word kinds.If) (if_with expr block)) ls)
 unfolding if_with
 if_told ts c expr block old mid new result ls h t =
     told_statement ts c (then_outline (λ b. branch_outline b kinds.Then) (then_outline (branches_outline kinds.Then) (then_outline (body_outline kinds.Else) (word_outline kinds.End))))
@@ -181,10 +181,10 @@ if_told ts c expr block old mid new result ls h t =
 -- ---- WHILE
 
 pub while_told : (ts : List Token) (c : Context) (expr block : Reader) (old mid new : Draft) (result : Result Cursor Stop) (ls : List Leaf) → ComesTo passed old mid →
-    Tells ts (then_outline (λ b. branch_outline b kinds.Do) (then_outline (branches_outline kinds.Do) (word_outline kinds.End)))
+    Tabulates ts (then_outline (λ b. branch_outline b kinds.Do) (then_outline (branches_outline kinds.Do) (word_outline kinds.End)))
     (then_piece branch_piece (then_piece branches_piece word_piece)) c mid new result
     (seq (branch_with expr block kinds.Do) (seq (many (accept_at kinds.Elsif) (branch_with expr block kinds.Do)) (expect_at kinds.End)) ls) →
-    Tells ts stmt_outline stmt_piece c old new result (node constructs.Statement (prefixed (word kinds.While) (while_with expr block)) ls)
+    Tabulates ts stmt_outline stmt_piece c old new result (node constructs.Statement (prefixed (word kinds.While) (while_with expr block)) ls)
 unfolding while_with
 while_told ts c expr block old mid new result ls h t =
     told_statement ts c (then_outline (λ b. branch_outline b kinds.Do) (then_outline (branches_outline kinds.Do) (word_outline kinds.End))) (then_piece branch_piece (then_piece branches_piece word_piece))
@@ -194,9 +194,9 @@ while_told ts c expr block old mid new result ls h t =
 -- ---- REPEAT
 
 pub repeat_told : (ts : List Token) (c : Context) (expr block : Reader) (old mid new : Draft) (result : Result Cursor Stop) (ls : List Leaf) → ComesTo passed old mid →
-    Tells ts (then_outline block_outline (then_outline (word_outline kinds.Until) expr_outline)) (then_piece block_piece (then_piece word_piece expr_piece)) c mid new result
+    Tabulates ts (then_outline block_outline (then_outline (word_outline kinds.Until) expr_outline)) (then_piece block_piece (then_piece word_piece expr_piece)) c mid new result
     (seq block (seq (expect_at kinds.Until) expr) ls) →
-    Tells ts stmt_outline stmt_piece c old new result (node constructs.Statement (prefixed (word kinds.Repeat) (repeat_with expr block)) ls)
+    Tabulates ts stmt_outline stmt_piece c old new result (node constructs.Statement (prefixed (word kinds.Repeat) (repeat_with expr block)) ls)
 unfolding repeat_with
 repeat_told ts c expr block old mid new result ls h t =
     told_statement ts c (then_outline block_outline (then_outline (word_outline kinds.Until) expr_outline)) (then_piece block_piece (then_piece word_piece expr_piece))
@@ -206,9 +206,9 @@ repeat_told ts c expr block old mid new result ls h t =
 -- ---- CASE
 
 pub cases_told : (ts : List Token) (c : Context) (expr block : Reader) (old mid new : Draft) (result : Result Cursor Stop) (ls : List Leaf) → ComesTo passed old mid →
-    Tells ts (then_outline expr_outline (then_outline (word_outline kinds.Of) cases_end_outline)) (then_piece expr_piece (then_piece word_piece cases_end_piece)) c mid new result
+    Tabulates ts (then_outline expr_outline (then_outline (word_outline kinds.Of) cases_end_outline)) (then_piece expr_piece (then_piece word_piece cases_end_piece)) c mid new result
     (seq expr (seq (expect_at kinds.Of) (seq (case_with block) (seq (many (accept_at kinds.Bar) (case_with block)) (expect_at kinds.End)))) ls) →
-    Tells ts stmt_outline stmt_piece c old new result (node constructs.Statement (prefixed (word kinds.Case) (cases_with expr block)) ls)
+    Tabulates ts stmt_outline stmt_piece c old new result (node constructs.Statement (prefixed (word kinds.Case) (cases_with expr block)) ls)
 unfolding cases_with
 cases_told ts c expr block old mid new result ls h t =
     told_statement ts c (then_outline expr_outline (then_outline (word_outline kinds.Of) cases_end_outline)) (then_piece expr_piece (then_piece word_piece cases_end_piece))
@@ -222,9 +222,9 @@ regrouped p q r c s =
     after_both p (both q r) c s ∙ after_both q r c (after p c s) ∙ ap (after r c) (sym (after_both p q c s)) ∙ sym (after_both (both p q) r c s)
 
 pub case_told : (ts : List Token) (c : Context) (block : Reader) (old new : Draft) (input : Cursor) (result : Result Cursor Stop) → begins label_first (ahead ts input) ≡ Some ([], ahead ts input) →
-    Tells ts (then_outline labels_outline (then_outline (word_outline kinds.Colon) block_outline)) (then_piece labels_piece (then_piece word_piece block_piece)) c old new result
+    Tabulates ts (then_outline labels_outline (then_outline (word_outline kinds.Colon) block_outline)) (then_piece labels_piece (then_piece word_piece block_piece)) c old new result
     (seq (several kinds.Comma label_range_at) (seq (expect_at kinds.Colon) block) (ahead ts input)) →
-    Tells ts case_outline case_piece c old new result (case_with block (ahead ts input))
+    Tabulates ts case_outline case_piece c old new result (case_with block (ahead ts input))
 unfolding case_with
 case_told ts c block old new input result e t =
     let f : OneOrMore LabelRange × (Unit {0} × StatementSequence) → Out = then_outline labels_outline (then_outline (word_outline kinds.Colon) block_outline) in
@@ -258,9 +258,9 @@ for_parts x =
     (out-roll-For (record { variable = x.0; from = x.1.1.0; to = x.1.1.1.1.0; by = x.1.1.1.1.1.0; body = x.1.1.1.1.1.1.1.0 }))
 
 pub for_told : (ts : List Token) (c : Context) (expr block : Reader) (old mid new : Draft) (result : Result Cursor Stop) (ls : List Leaf) → ComesTo passed old mid →
-    Tells ts (then_outline used (then_outline (word_outline kinds.Assign) (then_outline expr_outline for_limit_outline))) (then_piece variable_told (then_piece word_piece (then_piece expr_piece for_limit_piece))) c mid new result
+    Tabulates ts (then_outline used (then_outline (word_outline kinds.Assign) (then_outline expr_outline for_limit_outline))) (then_piece variable_told (then_piece word_piece (then_piece expr_piece for_limit_piece))) c mid new result
     (seq (name_at used) (seq (expect_at kinds.Assign) (seq expr (seq (expect_at kinds.To) (seq expr (seq (optional (accept_at kinds.By) expr) (seq (expect_at kinds.Do) (seq block (expect_at kinds.End)))))))) ls) →
-    Tells ts stmt_outline stmt_piece c old new result (node constructs.Statement (prefixed (word kinds.For) (for_with expr block)) ls)
+    Tabulates ts stmt_outline stmt_piece c old new result (node constructs.Statement (prefixed (word kinds.For) (for_with expr block)) ls)
 unfolding for_with
 for_told ts c expr block old mid new result ls h t =
     told_statement ts c (then_outline used (then_outline (word_outline kinds.Assign) (then_outline expr_outline for_limit_outline))) (then_piece variable_told (then_piece word_piece (then_piece expr_piece for_limit_piece)))

@@ -39,12 +39,12 @@ use Rattle.ob_parse.specs.declared.cursor.Cursor.{Cursor}
 use Rattle.ob_parse.specs.declared.stop.Stop.{Stop}
 use Rattle.ob_parse.specs.Front.{uncons}
 use Rattle.ob_parse.specs.Forms.{Read, Reader, accept_at, expect_at, many, node, nothing, optional, prefixed, seq, several, unless}
-use Rattle.ob_parse.specs.Gives.{Fails, ahead}
+use Rattle.ob_parse.specs.Accords.{Fails, ahead}
 use Rattle.ob_parse.specs.ReadExpressions.{expr_at}
 use Rattle.ob_parse.specs.ReadNames.{qualident_at, identdef_at}
 use Rattle.ob_parse.specs.ReadTypes.{field_start, fields_with, record_with, some_parameters_at, type_at, type_from, type_with, var_with}
 use Rattle.ob_table.specs.TypeShapes.{base_outline, base_piece, behind_outline, behind_piece, closed_outline, ended_outline, ended_piece, field_outline, field_piece, further_lengths_piece, further_outline, length_piece, list_piece, recording, some_fields_outline, some_fields_piece, some_parameters_outline, some_parameters_piece}
-use Rattle.ob_table.specs.Tells.{Tells, TellsBy}
+use Rattle.ob_table.specs.Tabulating.{Tabulates, TabulatesBy}
 use Rattle.ob_table.proofs.Made.{boxed}
 use Rattle.ob_table.proofs.Combine.{told_at, told_as, told_node, told_then, told_prefixed, told_behind, told_walked, failed_node, failed_prefixed, failed_then}
 use Rattle.ob_table.proofs.Lists.{word_after}
@@ -61,9 +61,9 @@ var_after x c s =
     ∙ sym (regrouped _ _ (behind_piece x.1) c s)
 
 pub var_told : (ts : List Token) (c : Context) (d : ℕ) (old mid new : Draft) (input here : Cursor) (result : Result Cursor Stop) →
-    Tells ts (separated kinds.Comma identdef_outline) (list_piece identdef_piece) c old mid (Ok here) (several kinds.Comma identdef_at (ahead ts input)) →
-    Tells ts (behind_outline kinds.Colon) behind_piece c mid new result (seq (expect_at kinds.Colon) (type_at d) (ahead ts here)) →
-    Tells ts var_outline var_piece c old new result (var_with (type_at d) (ahead ts input))
+    Tabulates ts (separated kinds.Comma identdef_outline) (list_piece identdef_piece) c old mid (Ok here) (several kinds.Comma identdef_at (ahead ts input)) →
+    Tabulates ts (behind_outline kinds.Colon) behind_piece c mid new result (seq (expect_at kinds.Colon) (type_at d) (ahead ts here)) →
+    Tabulates ts var_outline var_piece c old new result (var_with (type_at d) (ahead ts input))
 unfolding var_with
 var_told ts c d old mid new input here result a b =
     told_as ts (λ (x : OneOrMore Identdef × TypeForm). separated kinds.Comma identdef_outline x.0 ++ behind_outline kinds.Colon x.1) (λ x. after (both (list_piece identdef_piece x.0) (behind_piece x.1)) c)
@@ -76,8 +76,8 @@ var_failed ts d e ls h = failed_then ts (several kinds.Comma identdef_at) (seq (
 
 pub field_told : (ts : List Token) (c around : Context) (d : ℕ) (row : Declarer) (at : ℕ) (old opened last new : Draft) (input here : Cursor) →
     row ≡ declarer sorts.Field c old.number 0 → at ≡ length old.declarers.items → around ≡ declaring_at c old.number → ComesTo (added (one_declarer row)) old opened →
-    Tells ts var_outline var_piece around opened last (Ok here) (var_with (type_at d) (ahead ts input)) →
-    ComesTo (closed at row) last new → Tells ts field_outline field_piece c old new (Ok here) (node constructs.FieldList (var_with (type_at d)) (ahead ts input))
+    Tabulates ts var_outline var_piece around opened last (Ok here) (var_with (type_at d) (ahead ts input)) →
+    ComesTo (closed at row) last new → Tabulates ts field_outline field_piece c old new (Ok here) (node constructs.FieldList (var_with (type_at d)) (ahead ts input))
 field_told ts c around d row at old opened last new input here n e g a t b =
     told_node ts var_outline (λ v. after (field_piece v) c) constructs.FieldList (var_with (type_at d)) old new (Ok here) (ahead ts input)
     (declaring_told ts sorts.Field c var_outline var_piece row around at old opened last new here _ n e g a t b)
@@ -94,9 +94,9 @@ fields_parts : (x : VarDecl × (Vec VarDecl × Bool)) → fields_piece (fields_o
 fields_parts x = told.fields_out (fields_of x) ∙ ap (λ y. both (field_piece y.first) (ended_piece (y.rest, y.closing_semicolon))) (out-roll-Fields (record { first = x.0; rest = x.1.0; closing_semicolon = x.1.1 }))
 
 pub fields_told : (ts : List Token) (c : Context) (d : ℕ) (old mid new : Draft) (input here : Cursor) (result : Result Cursor Stop) →
-    Tells ts field_outline field_piece c old mid (Ok here) (field_at d (ahead ts input)) →
-    Tells ts ended_outline ended_piece c mid new result (seq (many field_start (field_at d)) (optional (accept_at kinds.Semicolon) nothing) (ahead ts here)) →
-    Tells ts fields_outline fields_piece c old new result (fields_with (type_at d) (ahead ts input))
+    Tabulates ts field_outline field_piece c old mid (Ok here) (field_at d (ahead ts input)) →
+    Tabulates ts ended_outline ended_piece c mid new result (seq (many field_start (field_at d)) (optional (accept_at kinds.Semicolon) nothing) (ahead ts here)) →
+    Tabulates ts fields_outline fields_piece c old new result (fields_with (type_at d) (ahead ts input))
 unfolding fields_with
 fields_told ts c d old mid new input here result a b =
     told_as ts (λ (x : VarDecl × (Vec VarDecl × Bool)). field_outline x.0 ++ ended_outline x.1) (λ x. after (both (field_piece x.0) (ended_piece x.1)) c)
@@ -116,8 +116,8 @@ abbrev pub boxed_piece : Box Fields → Piece
 boxed_piece f = fields_piece f.value
 
 pub some_fields_told : (ts : List Token) (c : Context) (d : ℕ) (old new : Draft) (input : Cursor) (result : Result Cursor Stop) →
-    unless kinds.End (ahead ts input) ≡ Some ([], ahead ts input) → Tells ts fields_outline fields_piece c old new result (fields_with (type_at d) (ahead ts input)) →
-    Tells ts some_fields_outline some_fields_piece c old new result (optional (unless kinds.End) (fields_with (type_at d)) (ahead ts input))
+    unless kinds.End (ahead ts input) ≡ Some ([], ahead ts input) → Tabulates ts fields_outline fields_piece c old new result (fields_with (type_at d) (ahead ts input)) →
+    Tabulates ts some_fields_outline some_fields_piece c old new result (optional (unless kinds.End) (fields_with (type_at d)) (ahead ts input))
 some_fields_told ts c d old new input result found t =
     there_told ts c boxed_outline boxed_piece (unless kinds.End) (fields_with (type_at d)) old new input result found
     (told_as ts fields_outline (λ f. after (fields_piece f) c) boxed_outline (λ f. after (boxed_piece f) c) (λ f. boxed old.uses.alloc f) (λ f. refl) (λ f s. refl) old new result _ t)
@@ -132,9 +132,9 @@ base_at = optional (accept_at kinds.LeftParen) (seq qualident_at (expect_at kind
 
 pub parts_told : (ts : List Token) (c around : Context) (base : Option Qualident) (d : ℕ) (old row behind inside last new : Draft) (input here : Cursor) (result : Result Cursor Stop) →
     around ≡ in_record c old.number → ComesTo (λ s. added (record_row base c s.number) s) old row → ComesTo passed row behind → ComesTo (after (base_piece base) around) behind inside →
-    Tells ts some_fields_outline some_fields_piece around inside last (Ok here) (optional (unless kinds.End) (fields_with (type_at d)) (ahead ts input)) →
-    TellsBy ts (λ (_ : Unit {0}). word kinds.End) (λ x s. passed s) last new result (expect_at kinds.End (ahead ts here)) →
-    TellsBy ts closed_outline (recording base c) old new result (parts_at d (ahead ts input))
+    Tabulates ts some_fields_outline some_fields_piece around inside last (Ok here) (optional (unless kinds.End) (fields_with (type_at d)) (ahead ts input)) →
+    TabulatesBy ts (λ (_ : Unit {0}). word kinds.End) (λ x s. passed s) last new result (expect_at kinds.End (ahead ts here)) →
+    TabulatesBy ts closed_outline (recording base c) old new result (parts_at d (ahead ts input))
 parts_told ts c around base d old row behind inside last new input here result e a b h t u =
     let f : Option (Box Fields) × Unit {0} → Out = λ x. some_fields_outline x.0 ++ word kinds.End in
     told_at ts f (λ x s. passed (after (some_fields_piece x.0) around (after (base_piece base) around (passed (added (record_row base c s.number) s)))))
@@ -158,8 +158,8 @@ record_after base f c s =
 
 pub record_told : (ts : List Token) (c : Context) (base : Option Qualident) (d : ℕ) (old mid new : Draft) (input here : Cursor) (result : Result Cursor Stop) →
     base_at (ahead ts input) ≡ Ok (base_outline base, ahead ts here) → ComesTo (λ s. added (part_here parts.Record c s.number) s) old mid →
-    TellsBy ts closed_outline (recording base c) mid new result (parts_at d (ahead ts here)) →
-    Tells ts type_outline type_piece c old new result (node constructs.RecordType (prefixed (word kinds.Record) (record_with (type_at d))) (ahead ts input))
+    TabulatesBy ts closed_outline (recording base c) mid new result (parts_at d (ahead ts here)) →
+    Tabulates ts type_outline type_piece c old new result (node constructs.RecordType (prefixed (word kinds.Record) (record_with (type_at d))) (ahead ts input))
 unfolding record_with
 record_told ts c base d old mid new input here result e a t =
     let f : Unit {0} × Option (Box Fields) → Out = λ x. base_outline base ++ closed_outline x.1 in
@@ -186,9 +186,9 @@ lengths_parts : (x : Expr × Vec Expr) → lengths_piece (lengths_of x) ≡ both
 lengths_parts x = told.lengths_out (lengths_of x) ∙ ap (λ y. both (expr_piece y.first) (further_lengths_piece y.rest)) (out-roll-ExprList (record { first = x.0; rest = x.1 }))
 
 pub lengths_told : (ts : List Token) (c : Context) (d : ℕ) (old mid new : Draft) (input here : Cursor) (result : Result Cursor Stop) →
-    Tells ts expr_outline expr_piece c old mid (Ok here) (expr_at d (ahead ts input)) →
-    Tells ts (further_outline kinds.Comma expr_outline) further_lengths_piece c mid new result (many (accept_at kinds.Comma) (expr_at d) (ahead ts here)) →
-    Tells ts expr_list_outline lengths_piece c old new result (several kinds.Comma (expr_at d) (ahead ts input))
+    Tabulates ts expr_outline expr_piece c old mid (Ok here) (expr_at d (ahead ts input)) →
+    Tabulates ts (further_outline kinds.Comma expr_outline) further_lengths_piece c mid new result (many (accept_at kinds.Comma) (expr_at d) (ahead ts here)) →
+    Tabulates ts expr_list_outline lengths_piece c old new result (several kinds.Comma (expr_at d) (ahead ts input))
 unfolding several
 lengths_told ts c d old mid new input here result a b =
     told_as ts (λ (x : Expr × Vec Expr). expr_outline x.0 ++ further_outline kinds.Comma expr_outline x.1) (λ x. after (both (expr_piece x.0) (further_lengths_piece x.1)) c)
@@ -203,8 +203,8 @@ length_after e c s =
 
 -- behind a part of a form at a token, which is passed
 pub told_part : {A : Type 0} (ts : List Token) (c : Context) (part : Part) (f : A → Out) (p : A → Stage → Stage) (old mid behind new : Draft) (result : Result Cursor Stop) (read : Read) →
-    ComesTo (λ s. added (part_here part c s.number) s) old mid → ComesTo passed mid behind → TellsBy ts f p behind new result read →
-    TellsBy ts f (λ x s. p x (passed (added (part_here part c s.number) s))) old new result read
+    ComesTo (λ s. added (part_here part c s.number) s) old mid → ComesTo passed mid behind → TabulatesBy ts f p behind new result read →
+    TabulatesBy ts f (λ x s. p x (passed (added (part_here part c s.number) s))) old new result read
 told_part ts c part f p old mid behind new result read a b t =
     told_behind ts f (λ x s. p x (passed s)) (λ s. added (part_here part c s.number) s) old mid new result read a (told_behind ts f p passed mid behind new result read b t)
 
@@ -219,9 +219,9 @@ array_after l t c s =
 
 pub array_told : (ts : List Token) (c around : Context) (d : ℕ) (old mid behind last new : Draft) (input here : Cursor) (result : Result Cursor Stop) →
     around ≡ untargeted c zero → ComesTo (λ s. added (part_here parts.Array c s.number) s) old mid → ComesTo passed mid behind →
-    Tells ts expr_list_outline lengths_piece c behind last (Ok here) (several kinds.Comma (expr_at d) (ahead ts input)) →
-    Tells ts (behind_outline kinds.Of) behind_piece around last new result (seq (expect_at kinds.Of) (type_at d) (ahead ts here)) →
-    Tells ts type_outline type_piece c old new result
+    Tabulates ts expr_list_outline lengths_piece c behind last (Ok here) (several kinds.Comma (expr_at d) (ahead ts input)) →
+    Tabulates ts (behind_outline kinds.Of) behind_piece around last new result (seq (expect_at kinds.Of) (type_at d) (ahead ts here)) →
+    Tabulates ts type_outline type_piece c old new result
     (node constructs.ArrayType (prefixed (word kinds.Array) (seq (several kinds.Comma (expr_at d)) (seq (expect_at kinds.Of) (type_at d)))) (ahead ts input))
 array_told ts c around d old mid behind last new input here result e a b t u =
     let f : ExprList × TypeForm → Out = λ x. expr_list_outline x.0 ++ behind_outline kinds.Of x.1 in
@@ -248,8 +248,8 @@ pointer_after t c s =
 
 pub pointer_told : (ts : List Token) (c around : Context) (d : ℕ) (old mid behind new : Draft) (input : Cursor) (result : Result Cursor Stop) →
     around ≡ targeted c zero → ComesTo (λ s. added (part_here parts.Pointer c s.number) s) old mid → ComesTo passed mid behind →
-    Tells ts (behind_outline kinds.To) behind_piece around behind new result (seq (expect_at kinds.To) (type_at d) (ahead ts input)) →
-    Tells ts type_outline type_piece c old new result (node constructs.PointerType (prefixed (word kinds.Pointer) (seq (expect_at kinds.To) (type_at d))) (ahead ts input))
+    Tabulates ts (behind_outline kinds.To) behind_piece around behind new result (seq (expect_at kinds.To) (type_at d) (ahead ts input)) →
+    Tabulates ts type_outline type_piece c old new result (node constructs.PointerType (prefixed (word kinds.Pointer) (seq (expect_at kinds.To) (type_at d))) (ahead ts input))
 pointer_told ts c around d old mid behind new input result e a b t =
     let p : TypeForm → Stage → Stage = λ x s. after (behind_piece x) around (passed (added (part_here parts.Pointer c s.number) s)) in
     let r : Reader = seq (expect_at kinds.To) (type_at d) in
@@ -275,8 +275,8 @@ procedure_after o c s =
 
 block_told : (ts : List Token) (c around : Context) (old mid behind new : Draft) (result : Result Cursor Stop) (read : Read) →
     around ≡ in_block c old.number → ComesTo (added (block_rows c old.number)) old mid → ComesTo passed mid behind →
-    Tells ts some_parameters_outline some_parameters_piece around behind new result read →
-    Tells ts some_parameters_outline (λ o. opens_block (both token (some_parameters_piece o))) c old new result read
+    Tabulates ts some_parameters_outline some_parameters_piece around behind new result read →
+    Tabulates ts some_parameters_outline (λ o. opens_block (both token (some_parameters_piece o))) c old new result read
 block_told ts c around old mid behind new result read e a b t =
     told_at ts some_parameters_outline (λ o s. after (some_parameters_piece o) around (passed (added (block_rows c old.number) s)))
     some_parameters_outline (λ o. after (opens_block (both token (some_parameters_piece o))) c) (λ o. o) (λ o. refl) old new result read
@@ -287,8 +287,8 @@ block_told ts c around old mid behind new result read e a b t =
 
 pub procedure_told : (ts : List Token) (c around : Context) (old part block behind new : Draft) (input : Cursor) (result : Result Cursor Stop) →
     around ≡ in_block c part.number → ComesTo (λ s. added (part_here parts.Procedure c s.number) s) old part → ComesTo (added (block_rows c part.number)) part block → ComesTo passed block behind →
-    Tells ts some_parameters_outline some_parameters_piece around behind new result (some_parameters_at (ahead ts input)) →
-    Tells ts type_outline type_piece c old new result (node constructs.ProcedureType (prefixed (word kinds.Procedure) some_parameters_at) (ahead ts input))
+    Tabulates ts some_parameters_outline some_parameters_piece around behind new result (some_parameters_at (ahead ts input)) →
+    Tabulates ts type_outline type_piece c old new result (node constructs.ProcedureType (prefixed (word kinds.Procedure) some_parameters_at) (ahead ts input))
 procedure_told ts c around old part block behind new input result e h a b t =
     let p : Option Parameters → Stage → Stage = λ o s. after (opens_block (both token (some_parameters_piece o))) c (added (part_here parts.Procedure c s.number) s) in
     told_as ts (λ o. construct constructs.ProcedureType (word kinds.Procedure ++ some_parameters_outline o)) p type_outline (λ x. after (type_piece x) c)
@@ -301,7 +301,7 @@ procedure_told ts c around old part block behind new input result e h a b t =
 -- ---- a type by its name
 
 pub named_told : (ts : List Token) (c : Context) (q : Qualident) (r : Reader) (old new : Draft) (ls : List Leaf) (rest : Cursor) →
-    r ls ≡ Ok (qualident_outline q, ahead ts rest) → ComesTo (after (type_name_piece q) c) old new → Tells ts type_outline type_piece c old new (Ok rest) (node constructs.NamedType r ls)
+    r ls ≡ Ok (qualident_outline q, ahead ts rest) → ComesTo (after (type_name_piece q) c) old new → Tabulates ts type_outline type_piece c old new (Ok rest) (node constructs.NamedType r ls)
 named_told ts c q r old new ls rest e h =
     told_as ts (λ (x : Qualident). construct constructs.NamedType (qualident_outline x)) (λ x. after (type_name_piece x) c) type_outline (λ x. after (type_piece x) c)
     (λ x. forms.Named x) (λ x. shown.named_made x) (λ x s. ap (λ (p : Piece). after p c s) (told.named_made x)) old new (Ok rest) _
@@ -315,7 +315,7 @@ some x = Some x
 
 -- a type that begins so
 pub told_type : {A : Type 0} (ts : List Token) (f : A → Out) (p : A → Stage → Stage) (d : ℕ) (old new : Draft) (result : Result Cursor Stop) (ls : List Leaf) (o : Option (Leaf × List Leaf)) → uncons ls ≡ o →
-    TellsBy ts f p old new result (type_from (expr_at d) (type_at d) o) → TellsBy ts f p old new result (type_with (expr_at d) (type_at d) ls)
+    TabulatesBy ts f p old new result (type_from (expr_at d) (type_at d) o) → TabulatesBy ts f p old new result (type_with (expr_at d) (type_at d) ls)
 unfolding type_with
 told_type ts f p d old new result ls o e t = rw e t
 

@@ -10,7 +10,7 @@ use Rattle.ob_tree.specs.Marks.{Out, each}
 use Rattle.ob_tree.specs.Expressions.{selector_outline, expr_list_outline}
 use Rattle.ob_parse.specs.Front.{uncons, front, is_word}
 use Rattle.ob_parse.specs.Forms.{Read}
-use Rattle.ob_parse.specs.Gives.{Fails, ahead}
+use Rattle.ob_parse.specs.Accords.{Fails, ahead}
 use Rattle.ob_parse.specs.declared.cursor.Cursor.{Cursor}
 use Rattle.ob_parse.specs.declared.stop.Stop.{Stop}
 use Rattle.ob_decls.specs.declared.rows.Selector.{Selector as SelectorRow}
@@ -21,7 +21,7 @@ use Rattle.ob_decls.specs.Drafts.{Stage, after, settled}
 use Rattle.ob_decls.specs.Expressions.{Selected, selected, first_name, listed, expr_list_piece}
 use Rattle.ob_decls.specs.Settling.{row_at, settling}
 use Rattle.ob_table.specs.Shapes.{exprs_outline, exprs_piece}
-use Rattle.ob_table.specs.Tells.{Told}
+use Rattle.ob_table.specs.Tabulating.{Told}
 
 -- a dot stands here
 abbrev pub dot_at : List Token → Cursor → Bool

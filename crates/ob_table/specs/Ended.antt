@@ -12,11 +12,11 @@ use Rattle.ob_tree.specs.Derives.{endings_in}
 use Rattle.ob_tree.specs.Marks.{Out, each, word}
 use Rattle.ob_parse.specs.declared.stop.Stop.{Stop}
 use Rattle.ob_parse.specs.Forms.{Refusal}
-use Rattle.ob_parse.specs.Gives.{Fails}
+use Rattle.ob_parse.specs.Accords.{Fails}
 use Rattle.ob_parse.specs.Parsed.{IsRightEnd}
 use Rattle.ob_decls.specs.declared.draft.Draft.{Draft}
 use Rattle.ob_decls.specs.Drafts.{Stage}
-use Rattle.ob_table.specs.Tells.{Telling}
+use Rattle.ob_table.specs.Tabulating.{Telling}
 
 -- the names after END in an outline are right
 abbrev pub RightEnds : List ℕ → List Token → Out → Type 0
@@ -55,6 +55,6 @@ pub record WholeTold {T : Type 0} (outline : T → Out) (step : T → Stage → 
   pub telling : Telling outline step out old new
 
 -- so it is, or reading fails
-abbrev pub TellsWhole : {T : Type 0} → List Token → (T → Out) → (T → Stage → Stage) → Draft → Draft → Result (Unit {0}) Stop → Result Out Refusal → Type 0
-TellsWhole ts outline step old new (Ok u) read = WholeTold outline step old new read
-TellsWhole ts outline step old new (Err e) read = Fails ts e read
+abbrev pub TabulatesWhole : {T : Type 0} → List Token → (T → Out) → (T → Stage → Stage) → Draft → Draft → Result (Unit {0}) Stop → Result Out Refusal → Type 0
+TabulatesWhole ts outline step old new (Ok u) read = WholeTold outline step old new read
+TabulatesWhole ts outline step old new (Err e) read = Fails ts e read

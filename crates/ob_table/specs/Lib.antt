@@ -1,4 +1,4 @@
-pub mod Tells
+pub mod Tabulating
 pub mod Shapes
 pub mod Choosing
 pub mod LoneNames

@@ -28,10 +28,10 @@ ghost use Rattle.ob_parse.specs.ReadNames.{identdef_at};
 ghost use Rattle.ob_parse.specs.ReadStatements.{block_at};
 ghost use Rattle.ob_parse.specs.ReadTypes.{some_parameters_at, type_at};
 ghost use Rattle.ob_parse.specs.ReadModules.{is_identifier, with_semicolon, const_with, type_decl_with, variable_with, part_with, procedures_with, body_with, procedure_named, procedure_with, procedure_at, declarations_at};
-ghost use Rattle.ob_parse.specs.Gives.{ahead};
+ghost use Rattle.ob_parse.specs.Accords.{ahead};
 ghost use Rattle.ob_table.specs.DeclarationShapes.{ended_outline, ended_piece, body_outline, body_piece, returned_outline, returned_piece, behind_procedure, behind_procedure_piece, Block, block_shown, block_step, Ending, ending_shown, ending_step};
 ghost use Rattle.ob_table.specs.Ended.{EndedDeclarations, EndedProcedure, EndedProcedures, procedures_outline};
-ghost use Rattle.ob_table.specs.Tells.{Tells, TellsBy};
+ghost use Rattle.ob_table.specs.Tabulating.{Tabulates, TabulatesBy};
 
 use crate::ends::procedure_name;
 use crate::expressions::expression;
@@ -59,7 +59,7 @@ fn constant(
     input: Cursor,
     depth: u32,
 ) -> Result<Cursor, Stop>
-    ensures { Tells {T = Identdef × Expr} source.now.tokens.now (λ x. identdef_outline x.0 ++ (word kinds.Equals ++ expr_outline x.1)) (λ x. both (identdef_piece x.0) (both token (expr_piece x.1))) inside draft.old draft.new result
+    ensures { Tabulates {T = Identdef × Expr} source.now.tokens.now (λ x. identdef_outline x.0 ++ (word kinds.Equals ++ expr_outline x.1)) (λ x. both (identdef_piece x.0) (both token (expr_piece x.1))) inside draft.old draft.new result
         (seq identdef_at (seq (expect_at kinds.Equals) (expr_at depth)) (ahead source.now.tokens.now input)) }
 {
     match declared_name(draft, inside, source.tokens, input) {
@@ -79,7 +79,7 @@ fn ended_constant(
     input: Cursor,
     depth: u32,
 ) -> Result<Cursor, Stop>
-    ensures { Tells source.now.tokens.now (ended_outline const_outline) (ended_piece const_piece) inside draft.old draft.new result (with_semicolon (const_with (expr_at depth)) (ahead source.now.tokens.now input)) }
+    ensures { Tabulates source.now.tokens.now (ended_outline const_outline) (ended_piece const_piece) inside draft.old draft.new result (with_semicolon (const_with (expr_at depth)) (ahead source.now.tokens.now input)) }
 {
     let first = draft.number;
     let row = declarer_at(Sort::Constant, inside, first);
@@ -101,7 +101,7 @@ fn constants(
     input: Cursor,
     depth: u32,
 ) -> Result<Cursor, Stop>
-    ensures { Tells {T = Vec ConstDecl} source.now.tokens.now (λ v. each (ended_outline const_outline) v.items) (λ v. parts.each (ended_piece const_piece) v.items) inside draft.old draft.new result
+    ensures { Tabulates {T = Vec ConstDecl} source.now.tokens.now (λ v. each (ended_outline const_outline) v.items) (λ v. parts.each (ended_piece const_piece) v.items) inside draft.old draft.new result
         (many (begins is_identifier) (with_semicolon (const_with (expr_at depth))) (ahead source.now.tokens.now input)) }
 {
     let mut here = input;
@@ -122,7 +122,7 @@ fn constant_section(
     input: Cursor,
     depth: u32,
 ) -> Result<Cursor, Stop>
-    ensures { Tells {T = Option (Vec ConstDecl)} source.now.tokens.now (if_there (λ v. part kinds.Const const_outline v.items)) (parts.if_there (λ v. telling.part const_piece v.items)) inside draft.old draft.new result
+    ensures { Tabulates {T = Option (Vec ConstDecl)} source.now.tokens.now (if_there (λ v. part kinds.Const const_outline v.items)) (parts.if_there (λ v. telling.part const_piece v.items)) inside draft.old draft.new result
         (part_with kinds.Const (const_with (expr_at depth)) (ahead source.now.tokens.now input)) }
 {
     match accept(source.tokens, input, Kind::Const) {
@@ -142,7 +142,7 @@ fn named_type(
     input: Cursor,
     depth: u32,
 ) -> Result<Cursor, Stop>
-    ensures { Tells {T = Identdef × TypeForm} source.now.tokens.now (λ x. identdef_outline x.0 ++ (word kinds.Equals ++ type_outline x.1)) (λ x. both (identdef_piece x.0) (both token (type_piece x.1))) inside draft.old draft.new result
+    ensures { Tabulates {T = Identdef × TypeForm} source.now.tokens.now (λ x. identdef_outline x.0 ++ (word kinds.Equals ++ type_outline x.1)) (λ x. both (identdef_piece x.0) (both token (type_piece x.1))) inside draft.old draft.new result
         (seq identdef_at (seq (expect_at kinds.Equals) (type_at depth)) (ahead source.now.tokens.now input)) }
 {
     match declared_name(draft, inside, source.tokens, input) {
@@ -162,7 +162,7 @@ fn ended_named_type(
     input: Cursor,
     depth: u32,
 ) -> Result<Cursor, Stop>
-    ensures { Tells source.now.tokens.now (ended_outline type_decl_outline) (ended_piece type_decl_piece) inside draft.old draft.new result (with_semicolon (type_decl_with (type_at depth)) (ahead source.now.tokens.now input)) }
+    ensures { Tabulates source.now.tokens.now (ended_outline type_decl_outline) (ended_piece type_decl_piece) inside draft.old draft.new result (with_semicolon (type_decl_with (type_at depth)) (ahead source.now.tokens.now input)) }
 {
     let first = draft.number;
     let row = declarer_at(Sort::Type, inside, first);
@@ -184,7 +184,7 @@ fn named_types(
     input: Cursor,
     depth: u32,
 ) -> Result<Cursor, Stop>
-    ensures { Tells {T = Vec TypeDecl} source.now.tokens.now (λ v. each (ended_outline type_decl_outline) v.items) (λ v. parts.each (ended_piece type_decl_piece) v.items) inside draft.old draft.new result
+    ensures { Tabulates {T = Vec TypeDecl} source.now.tokens.now (λ v. each (ended_outline type_decl_outline) v.items) (λ v. parts.each (ended_piece type_decl_piece) v.items) inside draft.old draft.new result
         (many (begins is_identifier) (with_semicolon (type_decl_with (type_at depth))) (ahead source.now.tokens.now input)) }
 {
     let mut here = input;
@@ -205,7 +205,7 @@ fn named_type_section(
     input: Cursor,
     depth: u32,
 ) -> Result<Cursor, Stop>
-    ensures { Tells {T = Option (Vec TypeDecl)} source.now.tokens.now (if_there (λ v. part kinds.Type type_decl_outline v.items)) (parts.if_there (λ v. telling.part type_decl_piece v.items)) inside draft.old draft.new result
+    ensures { Tabulates {T = Option (Vec TypeDecl)} source.now.tokens.now (if_there (λ v. part kinds.Type type_decl_outline v.items)) (parts.if_there (λ v. telling.part type_decl_piece v.items)) inside draft.old draft.new result
         (part_with kinds.Type (type_decl_with (type_at depth)) (ahead source.now.tokens.now input)) }
 {
     match accept(source.tokens, input, Kind::Type) {
@@ -225,7 +225,7 @@ fn ended_variable(
     input: Cursor,
     depth: u32,
 ) -> Result<Cursor, Stop>
-    ensures { Tells source.now.tokens.now (ended_outline variable_outline) (ended_piece variable_piece) inside draft.old draft.new result (with_semicolon (variable_with (type_at depth)) (ahead source.now.tokens.now input)) }
+    ensures { Tabulates source.now.tokens.now (ended_outline variable_outline) (ended_piece variable_piece) inside draft.old draft.new result (with_semicolon (variable_with (type_at depth)) (ahead source.now.tokens.now input)) }
 {
     let first = draft.number;
     let row = declarer_at(Sort::Variable, inside, first);
@@ -247,7 +247,7 @@ fn variables(
     input: Cursor,
     depth: u32,
 ) -> Result<Cursor, Stop>
-    ensures { Tells {T = Vec VarDecl} source.now.tokens.now (λ v. each (ended_outline variable_outline) v.items) (λ v. parts.each (ended_piece variable_piece) v.items) inside draft.old draft.new result
+    ensures { Tabulates {T = Vec VarDecl} source.now.tokens.now (λ v. each (ended_outline variable_outline) v.items) (λ v. parts.each (ended_piece variable_piece) v.items) inside draft.old draft.new result
         (many (begins is_identifier) (with_semicolon (variable_with (type_at depth))) (ahead source.now.tokens.now input)) }
 {
     let mut here = input;
@@ -268,7 +268,7 @@ fn variable_section(
     input: Cursor,
     depth: u32,
 ) -> Result<Cursor, Stop>
-    ensures { Tells {T = Option (Vec VarDecl)} source.now.tokens.now (if_there (λ v. part kinds.Var variable_outline v.items)) (parts.if_there (λ v. telling.part variable_piece v.items)) inside draft.old draft.new result
+    ensures { Tabulates {T = Option (Vec VarDecl)} source.now.tokens.now (if_there (λ v. part kinds.Var variable_outline v.items)) (parts.if_there (λ v. telling.part variable_piece v.items)) inside draft.old draft.new result
         (part_with kinds.Var (variable_with (type_at depth)) (ahead source.now.tokens.now input)) }
 {
     match accept(source.tokens, input, Kind::Var) {
@@ -290,7 +290,7 @@ fn procedures(
     input: Cursor,
     depth: u32,
 ) -> Result<Cursor, Stop>
-    ensures { Tells {T = EndedProcedures bytes.now source.now.tokens.now} source.now.tokens.now (λ v. procedures_outline v.tree.items) (λ v. parts.each (ended_piece procedure_piece) v.tree.items) inside draft.old draft.new result
+    ensures { Tabulates {T = EndedProcedures bytes.now source.now.tokens.now} source.now.tokens.now (λ v. procedures_outline v.tree.items) (λ v. parts.each (ended_piece procedure_piece) v.tree.items) inside draft.old draft.new result
         (procedures_with (procedure_at depth) (ahead source.now.tokens.now input)) }
 {
     let mut here = input;
@@ -315,7 +315,7 @@ fn ended_procedure(
     input: Cursor,
     depth: u32,
 ) -> Result<Cursor, Stop>
-    ensures { Tells {T = EndedProcedure bytes.now source.now.tokens.now} source.now.tokens.now (λ p. ended_outline procedure_outline p.tree) (λ p. ended_piece procedure_piece p.tree) inside draft.old draft.new result
+    ensures { Tabulates {T = EndedProcedure bytes.now source.now.tokens.now} source.now.tokens.now (λ p. ended_outline procedure_outline p.tree) (λ p. ended_piece procedure_piece p.tree) inside draft.old draft.new result
         (with_semicolon (procedure_at depth) (ahead source.now.tokens.now input)) }
 {
     match procedure(draft, inside, bytes, source, input, depth) {
@@ -334,7 +334,7 @@ fn procedure(
     input: Cursor,
     depth: u32,
 ) -> Result<Cursor, Stop>
-    ensures { Tells {T = EndedProcedure bytes.now source.now.tokens.now} source.now.tokens.now (λ p. procedure_outline p.tree) (λ p. procedure_piece p.tree) inside draft.old draft.new result (procedure_at depth (ahead source.now.tokens.now input)) }
+    ensures { Tabulates {T = EndedProcedure bytes.now source.now.tokens.now} source.now.tokens.now (λ p. procedure_outline p.tree) (λ p. procedure_piece p.tree) inside draft.old draft.new result (procedure_at depth (ahead source.now.tokens.now input)) }
 {
     if depth == 0 {
         return Err(beyond(
@@ -356,7 +356,7 @@ fn procedure_within(
     input: Cursor,
     depth: u32,
 ) -> Result<Cursor, Stop>
-    ensures { Tells {T = EndedProcedure bytes.now source.now.tokens.now} source.now.tokens.now (λ p. procedure_outline p.tree) (λ p. procedure_piece p.tree) inside draft.old draft.new result
+    ensures { Tabulates {T = EndedProcedure bytes.now source.now.tokens.now} source.now.tokens.now (λ p. procedure_outline p.tree) (λ p. procedure_piece p.tree) inside draft.old draft.new result
         (procedure_with (expr_at depth) (block_at depth) (declarations_at depth) (ahead source.now.tokens.now input)) }
 {
     let first = draft.number;
@@ -387,7 +387,7 @@ fn procedure_inner(
     input: Cursor,
     depth: u32,
 ) -> Result<Cursor, Stop>
-    ensures { Tells {T = EndedProcedure bytes.now source.now.tokens.now} source.now.tokens.now (λ p. word kinds.Procedure ++ behind_procedure p.tree) (λ p. both token (behind_procedure_piece p.tree)) inside draft.old draft.new result
+    ensures { Tabulates {T = EndedProcedure bytes.now source.now.tokens.now} source.now.tokens.now (λ p. word kinds.Procedure ++ behind_procedure p.tree) (λ p. both token (behind_procedure_piece p.tree)) inside draft.old draft.new result
         (seq (expect_at kinds.Procedure) (behind_name (procedure_named (expr_at depth) (block_at depth) (declarations_at depth))) (ahead source.now.tokens.now input)) }
 {
     match pass_word(draft, source.tokens, input, Kind::Procedure) {
@@ -411,7 +411,7 @@ fn named_procedure(
     depth: u32,
     name: u32,
 ) -> Result<Cursor, Stop>
-    ensures { Tells {T = EndedProcedure bytes.now source.now.tokens.now} source.now.tokens.now (λ p. behind_procedure p.tree) (λ p. behind_procedure_piece p.tree) inside draft.old draft.new result
+    ensures { Tabulates {T = EndedProcedure bytes.now source.now.tokens.now} source.now.tokens.now (λ p. behind_procedure p.tree) (λ p. behind_procedure_piece p.tree) inside draft.old draft.new result
         (procedure_named (expr_at depth) (block_at depth) (declarations_at depth) name (ahead source.now.tokens.now input)) }
 {
     let (starred, here) = skip(source.tokens, input, Kind::Star);
@@ -436,7 +436,7 @@ fn procedure_block(
     depth: u32,
     name: u32,
 ) -> Result<Cursor, Stop>
-    ensures { TellsBy {T = Block bytes.now source.now.tokens.now name} source.now.tokens.now block_shown (block_step inside) draft.old draft.new result
+    ensures { TabulatesBy {T = Block bytes.now source.now.tokens.now name} source.now.tokens.now block_shown (block_step inside) draft.old draft.new result
         (seq (declarations_at depth) (seq (body_with (block_at depth)) (seq (optional (accept_at kinds.Return) (expr_at depth))
         (seq (expect_at kinds.End) (name_at (repeated name))))) (ahead source.now.tokens.now input)) }
 {
@@ -454,7 +454,7 @@ pub(crate) fn body(
     input: Cursor,
     depth: u32,
 ) -> Result<Cursor, Stop>
-    ensures { Tells source.now.tokens.now body_outline body_piece inside draft.old draft.new result (body_with (block_at depth) (ahead source.now.tokens.now input)) }
+    ensures { Tabulates source.now.tokens.now body_outline body_piece inside draft.old draft.new result (body_with (block_at depth) (ahead source.now.tokens.now input)) }
 {
     match accept(source.tokens, input, Kind::Begin) {
         None => Ok(input),
@@ -473,7 +473,7 @@ fn returned(
     input: Cursor,
     depth: u32,
 ) -> Result<Cursor, Stop>
-    ensures { Tells source.now.tokens.now returned_outline returned_piece inside draft.old draft.new result (optional (accept_at kinds.Return) (expr_at depth) (ahead source.now.tokens.now input)) }
+    ensures { Tabulates source.now.tokens.now returned_outline returned_piece inside draft.old draft.new result (optional (accept_at kinds.Return) (expr_at depth) (ahead source.now.tokens.now input)) }
 {
     match accept(source.tokens, input, Kind::Return) {
         None => Ok(input),
@@ -494,7 +494,7 @@ fn ending(
     depth: u32,
     name: u32,
 ) -> Result<Cursor, Stop>
-    ensures { TellsBy {T = Ending bytes.now source.now.tokens.now name} source.now.tokens.now ending_shown (ending_step inside) draft.old draft.new result
+    ensures { TabulatesBy {T = Ending bytes.now source.now.tokens.now name} source.now.tokens.now ending_shown (ending_step inside) draft.old draft.new result
         (seq (body_with (block_at depth)) (seq (optional (accept_at kinds.Return) (expr_at depth))
         (seq (expect_at kinds.End) (name_at (repeated name)))) (ahead source.now.tokens.now input)) }
 {
@@ -520,7 +520,7 @@ pub(crate) fn declarations(
     input: Cursor,
     depth: u32,
 ) -> Result<Cursor, Stop>
-    ensures { Tells {T = EndedDeclarations bytes.now source.now.tokens.now} source.now.tokens.now (λ d. declarations_outline d.tree) (λ d. declarations_piece d.tree) inside draft.old draft.new result (declarations_at depth (ahead source.now.tokens.now input)) }
+    ensures { Tabulates {T = EndedDeclarations bytes.now source.now.tokens.now} source.now.tokens.now (λ d. declarations_outline d.tree) (λ d. declarations_piece d.tree) inside draft.old draft.new result (declarations_at depth (ahead source.now.tokens.now input)) }
 {
     match constant_section(draft, inside, source, input, depth) {
         Ok(here) => match named_type_section(draft, inside, source, here, depth) {

@@ -7,10 +7,10 @@ ghost use Rattle.ob_decls.specs.Drafts.{after, ComesTo};
 ghost use Rattle.ob_decls.specs.Parts.{tells, token};
 ghost use Rattle.ob_tree.specs.Marks.{repeated};
 ghost use Rattle.ob_parse.specs.Forms.{name_at};
-ghost use Rattle.ob_parse.specs.Gives.{ahead};
+ghost use Rattle.ob_parse.specs.Accords.{ahead};
 ghost use Rattle.ob_parse.specs.Parsed.{IsRightEnd, bytes_of};
 ghost use Rattle.ob_table.specs.Ended.{RightName};
-ghost use Rattle.ob_table.specs.Tells.{TellsBy};
+ghost use Rattle.ob_table.specs.Tabulating.{TabulatesBy};
 
 use ob_decls::draft::{Context, Draft};
 use ob_decls::walk::declarations::{walk_module_end, walk_procedure_end};
@@ -65,7 +65,7 @@ pub(crate) fn procedure_name(
     input: Cursor,
     name: u32,
 ) -> Result<Cursor, Stop>
-    ensures { TellsBy {T = RightName bytes.now tokens.now name} tokens.now (λ x. repeated name x.number) (λ x s. after (tells procedure_end token) inside s) draft.old draft.new result (name_at (repeated name) (ahead tokens.now input)) }
+    ensures { TabulatesBy {T = RightName bytes.now tokens.now name} tokens.now (λ x. repeated name x.number) (λ x s. after (tells procedure_end token) inside s) draft.old draft.new result (name_at (repeated name) (ahead tokens.now input)) }
 {
     match identifier(tokens, input) {
         Ok((end, rest)) => {
@@ -86,7 +86,7 @@ pub(crate) fn module_name(
     input: Cursor,
     name: u32,
 ) -> Result<Cursor, Stop>
-    ensures { TellsBy {T = RightName bytes.now tokens.now name} tokens.now (λ x. repeated name x.number) (λ x s. after (tells module_end token) inside s) draft.old draft.new result (name_at (repeated name) (ahead tokens.now input)) }
+    ensures { TabulatesBy {T = RightName bytes.now tokens.now name} tokens.now (λ x. repeated name x.number) (λ x s. after (tells module_end token) inside s) draft.old draft.new result (name_at (repeated name) (ahead tokens.now input)) }
 {
     match identifier(tokens, input) {
         Ok((end, rest)) => {

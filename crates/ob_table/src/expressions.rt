@@ -10,13 +10,13 @@ ghost use Rattle.ob_tree.specs.Expressions.{expr_outline, sum_outline, term_outl
 ghost use Rattle.ob_decls.specs.Expressions.{expr_piece, sum_piece, term_piece, factor_piece, designator_piece, element_piece, element_list_piece};
 ghost use Rattle.ob_decls.specs.Drafts.{after};
 ghost use Rattle.ob_parse.specs.Forms.{many, several, optional, unless, nothing, accept_at, expect_at, name_at, begins, seq, prefixed, node};
-ghost use Rattle.ob_parse.specs.Gives.{ahead};
+ghost use Rattle.ob_parse.specs.Accords.{ahead};
 ghost use Rattle.ob_parse.specs.ReadExpressions.{relation_start, sign_start, add_start, mul_start, element_with, selector_first, selector_with, designator_with, expr_at, sum_at, term_at, factor_at, negated_at};
 ghost use Rattle.ob_parse.specs.Front.{uncons, front};
 ghost use Rattle.ob_table.specs.Operators.{is_operator, operator_first};
 ghost use Rattle.ob_table.specs.Shapes.{compared_outline, compared_piece, sign_outline, sign_piece, terms_outline, terms_piece, factors_outline, factors_piece, set_outline, set_piece, elements_outline, elements_piece, high_outline, high_piece, arguments_outline, arguments_piece};
 ghost use Rattle.ob_table.specs.Choosing.{dot_at, Picked, picked_outline, picking, Chosen, chosen_outline, choosing, Counts, CountsFurther};
-ghost use Rattle.ob_table.specs.Tells.{Tells, TellsBy, Told};
+ghost use Rattle.ob_table.specs.Tabulating.{Tabulates, TabulatesBy, Told};
 
 use crate::places::{
     check_places, first_place, keep_place, lone_name, name_ahead, next_place, open_places,
@@ -46,7 +46,7 @@ pub(crate) fn expression(
     input: Cursor,
     depth: u32,
 ) -> Result<Cursor, Stop>
-    ensures { Tells source.now.tokens.now expr_outline expr_piece inside draft.old draft.new result (expr_at depth (ahead source.now.tokens.now input)) }
+    ensures { Tabulates source.now.tokens.now expr_outline expr_piece inside draft.old draft.new result (expr_at depth (ahead source.now.tokens.now input)) }
 {
     if depth == 0 {
         return Err(beyond(
@@ -107,7 +107,7 @@ fn compared(
     input: Cursor,
     depth: u32,
 ) -> Result<Cursor, Stop>
-    ensures { Tells source.now.tokens.now compared_outline compared_piece inside draft.old draft.new result (optional relation_start (sum_at depth) (ahead source.now.tokens.now input)) }
+    ensures { Tabulates source.now.tokens.now compared_outline compared_piece inside draft.old draft.new result (optional relation_start (sum_at depth) (ahead source.now.tokens.now input)) }
 {
     match relation(source.tokens, input) {
         None => Ok(input),
@@ -127,7 +127,7 @@ fn sum(
     input: Cursor,
     depth: u32,
 ) -> Result<Cursor, Stop>
-    ensures { Tells source.now.tokens.now sum_outline sum_piece inside draft.old draft.new result (sum_at depth (ahead source.now.tokens.now input)) }
+    ensures { Tabulates source.now.tokens.now sum_outline sum_piece inside draft.old draft.new result (sum_at depth (ahead source.now.tokens.now input)) }
 {
     let here = signed(draft, inside, source, input);
     match term(draft, inside, source, here, depth) {
@@ -157,7 +157,7 @@ fn more_terms(
     input: Cursor,
     depth: u32,
 ) -> Result<Cursor, Stop>
-    ensures { Tells source.now.tokens.now terms_outline terms_piece inside draft.old draft.new result (many add_start (term_at depth) (ahead source.now.tokens.now input)) }
+    ensures { Tabulates source.now.tokens.now terms_outline terms_piece inside draft.old draft.new result (many add_start (term_at depth) (ahead source.now.tokens.now input)) }
 {
     let mut here = input;
     'more: while let Some((_, behind)) = add_operator(source.tokens, here) {
@@ -179,7 +179,7 @@ fn term(
     input: Cursor,
     depth: u32,
 ) -> Result<Cursor, Stop>
-    ensures { Tells source.now.tokens.now term_outline term_piece inside draft.old draft.new result (term_at depth (ahead source.now.tokens.now input)) }
+    ensures { Tabulates source.now.tokens.now term_outline term_piece inside draft.old draft.new result (term_at depth (ahead source.now.tokens.now input)) }
 {
     match factor(draft, inside, source, input, depth) {
         Ok(here) => more_factors(draft, inside, source, here, depth),
@@ -196,7 +196,7 @@ fn more_factors(
     input: Cursor,
     depth: u32,
 ) -> Result<Cursor, Stop>
-    ensures { Tells source.now.tokens.now factors_outline factors_piece inside draft.old draft.new result (many mul_start (factor_at depth) (ahead source.now.tokens.now input)) }
+    ensures { Tabulates source.now.tokens.now factors_outline factors_piece inside draft.old draft.new result (many mul_start (factor_at depth) (ahead source.now.tokens.now input)) }
 {
     let mut here = input;
     'more: while let Some((_, behind)) = mul_operator(source.tokens, here) {
@@ -219,7 +219,7 @@ fn factor(
     input: Cursor,
     depth: u32,
 ) -> Result<Cursor, Stop>
-    ensures { Tells source.now.tokens.now factor_outline factor_piece inside draft.old draft.new result (factor_at depth (ahead source.now.tokens.now input)) }
+    ensures { Tabulates source.now.tokens.now factor_outline factor_piece inside draft.old draft.new result (factor_at depth (ahead source.now.tokens.now input)) }
 {
     match input.next(source.tokens) {
         Some((Leaf::Name(number), rest)) => {
@@ -246,7 +246,7 @@ fn set(
     input: Cursor,
     depth: u32,
 ) -> Result<Cursor, Stop>
-    ensures { Tells source.now.tokens.now factor_outline factor_piece inside draft.old draft.new result
+    ensures { Tabulates source.now.tokens.now factor_outline factor_piece inside draft.old draft.new result
         (node constructs.Factor (prefixed (word kinds.LeftBrace) (seq (optional (unless kinds.RightBrace) (several kinds.Comma (element_with (expr_at depth)))) (expect_at kinds.RightBrace))) (ahead source.now.tokens.now input)) }
 {
     draft.pass();
@@ -265,7 +265,7 @@ fn group(
     input: Cursor,
     depth: u32,
 ) -> Result<Cursor, Stop>
-    ensures { Tells source.now.tokens.now factor_outline factor_piece inside draft.old draft.new result
+    ensures { Tabulates source.now.tokens.now factor_outline factor_piece inside draft.old draft.new result
         (node constructs.Factor (prefixed (word kinds.LeftParen) (seq (expr_at depth) (expect_at kinds.RightParen))) (ahead source.now.tokens.now input)) }
 {
     draft.pass();
@@ -284,7 +284,7 @@ fn negated(
     input: Cursor,
     depth: u32,
 ) -> Result<Cursor, Stop>
-    ensures { Tells source.now.tokens.now factor_outline factor_piece inside draft.old draft.new result
+    ensures { Tabulates source.now.tokens.now factor_outline factor_piece inside draft.old draft.new result
         (node constructs.Factor (prefixed (word kinds.Tilde) (negated_at depth)) (ahead source.now.tokens.now input)) }
 {
     if depth == 0 {
@@ -303,7 +303,7 @@ fn elements(
     input: Cursor,
     depth: u32,
 ) -> Result<Cursor, Stop>
-    ensures { Tells source.now.tokens.now set_outline set_piece inside draft.old draft.new result (optional (unless kinds.RightBrace) (several kinds.Comma (element_with (expr_at depth))) (ahead source.now.tokens.now input)) }
+    ensures { Tabulates source.now.tokens.now set_outline set_piece inside draft.old draft.new result (optional (unless kinds.RightBrace) (several kinds.Comma (element_with (expr_at depth))) (ahead source.now.tokens.now input)) }
 {
     if is_at(source.tokens, input, Kind::RightBrace) {
         return Ok(input);
@@ -320,7 +320,7 @@ fn element_list(
     input: Cursor,
     depth: u32,
 ) -> Result<Cursor, Stop>
-    ensures { Tells source.now.tokens.now element_list_outline element_list_piece inside draft.old draft.new result (several kinds.Comma (element_with (expr_at depth)) (ahead source.now.tokens.now input)) }
+    ensures { Tabulates source.now.tokens.now element_list_outline element_list_piece inside draft.old draft.new result (several kinds.Comma (element_with (expr_at depth)) (ahead source.now.tokens.now input)) }
 {
     match element(draft, inside, source, input, depth) {
         Ok(here) => more_elements(draft, inside, source, here, depth),
@@ -337,7 +337,7 @@ fn more_elements(
     input: Cursor,
     depth: u32,
 ) -> Result<Cursor, Stop>
-    ensures { Tells source.now.tokens.now elements_outline elements_piece inside draft.old draft.new result (many (accept_at kinds.Comma) (element_with (expr_at depth)) (ahead source.now.tokens.now input)) }
+    ensures { Tabulates source.now.tokens.now elements_outline elements_piece inside draft.old draft.new result (many (accept_at kinds.Comma) (element_with (expr_at depth)) (ahead source.now.tokens.now input)) }
 {
     let mut here = input;
     'more: while let Some(behind) = accept(source.tokens, here, Kind::Comma) {
@@ -359,7 +359,7 @@ fn element(
     input: Cursor,
     depth: u32,
 ) -> Result<Cursor, Stop>
-    ensures { Tells source.now.tokens.now element_outline element_piece inside draft.old draft.new result (element_with (expr_at depth) (ahead source.now.tokens.now input)) }
+    ensures { Tabulates source.now.tokens.now element_outline element_piece inside draft.old draft.new result (element_with (expr_at depth) (ahead source.now.tokens.now input)) }
 {
     match expression(draft, inside, source, input, depth) {
         Ok(here) => high(draft, inside, source, here, depth),
@@ -376,7 +376,7 @@ fn high(
     input: Cursor,
     depth: u32,
 ) -> Result<Cursor, Stop>
-    ensures { Tells source.now.tokens.now high_outline high_piece inside draft.old draft.new result (optional (accept_at kinds.DotDot) (expr_at depth) (ahead source.now.tokens.now input)) }
+    ensures { Tabulates source.now.tokens.now high_outline high_piece inside draft.old draft.new result (optional (accept_at kinds.DotDot) (expr_at depth) (ahead source.now.tokens.now input)) }
 {
     match accept(source.tokens, input, Kind::DotDot) {
         None => Ok(input),
@@ -401,7 +401,7 @@ pub(crate) fn designator(
     is_written: bool,
     count: u32,
 ) -> Result<Cursor, Stop>
-    ensures { Tells source.now.tokens.now designator_outline (designator_piece is_written) inside draft.old draft.new result (designator_with (expr_at depth) number (ahead source.now.tokens.now input)) }
+    ensures { Tabulates source.now.tokens.now designator_outline (designator_piece is_written) inside draft.old draft.new result (designator_with (expr_at depth) number (ahead source.now.tokens.now input)) }
 {
     let head = draft.number;
     let at = first_place(draft);
@@ -433,7 +433,7 @@ fn selectors(
     at: usize,
     count: u32,
 ) -> Result<Cursor, Stop>
-    ensures { TellsBy {T = Chosen (dot_at source.now.tokens.now input) count} source.now.tokens.now chosen_outline (choosing head at inside) draft.old draft.new result (many (begins selector_first) (selector_with (expr_at depth)) (ahead source.now.tokens.now input)) }
+    ensures { TabulatesBy {T = Chosen (dot_at source.now.tokens.now input) count} source.now.tokens.now chosen_outline (choosing head at inside) draft.old draft.new result (many (begins selector_first) (selector_with (expr_at depth)) (ahead source.now.tokens.now input)) }
 {
     let mut here = input;
     let mut place = at;
@@ -461,7 +461,7 @@ fn selector(
     head: u32,
     place: usize,
 ) -> Result<Cursor, Stop>
-    ensures { TellsBy {T = Picked (dot_at source.now.tokens.now input)} source.now.tokens.now picked_outline (picking head place inside) draft.old draft.new result (selector_with (expr_at depth) (ahead source.now.tokens.now input)) }
+    ensures { TabulatesBy {T = Picked (dot_at source.now.tokens.now input)} source.now.tokens.now picked_outline (picking head place inside) draft.old draft.new result (selector_with (expr_at depth) (ahead source.now.tokens.now input)) }
 {
     match input.next(source.tokens) {
         Some((Leaf::Word(Kind::Dot), rest)) => field(draft, inside, source, rest, head, place),
@@ -487,7 +487,7 @@ fn field(
     head: u32,
     place: usize,
 ) -> Result<Cursor, Stop>
-    ensures { TellsBy {T = Picked true} source.now.tokens.now picked_outline (picking head place inside) draft.old draft.new result
+    ensures { TabulatesBy {T = Picked true} source.now.tokens.now picked_outline (picking head place inside) draft.old draft.new result
         (node constructs.Selector (prefixed (word kinds.Dot) (name_at marks.selected)) (ahead source.now.tokens.now input)) }
 {
     let dot = draft.number;
@@ -538,7 +538,7 @@ fn index(
     head: u32,
     place: usize,
 ) -> Result<Cursor, Stop>
-    ensures { TellsBy {T = Picked false} source.now.tokens.now picked_outline (picking head place inside) draft.old draft.new result
+    ensures { TabulatesBy {T = Picked false} source.now.tokens.now picked_outline (picking head place inside) draft.old draft.new result
         (node constructs.Selector (prefixed (word kinds.LeftBracket) (seq (several kinds.Comma (expr_at depth)) (expect_at kinds.RightBracket))) (ahead source.now.tokens.now input)) }
 {
     keep_place(draft, place);
@@ -569,7 +569,7 @@ fn call(
     head: u32,
     place: usize,
 ) -> Result<Cursor, Stop>
-    ensures { TellsBy {T = Picked false} source.now.tokens.now picked_outline (picking head place inside) draft.old draft.new result
+    ensures { TabulatesBy {T = Picked false} source.now.tokens.now picked_outline (picking head place inside) draft.old draft.new result
         (node constructs.Selector (prefixed (word kinds.LeftParen) (seq (optional (unless kinds.RightParen) (several kinds.Comma (expr_at depth))) (expect_at kinds.RightParen))) (ahead source.now.tokens.now input)) }
 {
     let opening = draft.number;
@@ -600,7 +600,7 @@ fn arguments(
     input: Cursor,
     depth: u32,
 ) -> Result<Cursor, Stop>
-    ensures { Tells source.now.tokens.now arguments_outline arguments_piece inside draft.old draft.new result (optional (unless kinds.RightParen) (several kinds.Comma (expr_at depth)) (ahead source.now.tokens.now input)) }
+    ensures { Tabulates source.now.tokens.now arguments_outline arguments_piece inside draft.old draft.new result (optional (unless kinds.RightParen) (several kinds.Comma (expr_at depth)) (ahead source.now.tokens.now input)) }
 {
     if is_at(source.tokens, input, Kind::RightParen) {
         return Ok(input);

@@ -4,10 +4,10 @@ ghost use Rattle.ob_scan.specs.declared.kind.Kind.TheVariants as kinds;
 ghost use Rattle.ob_tree.specs.Statements.{label_outline, label_range_outline};
 ghost use Rattle.ob_decls.specs.Statements.{label_piece, label_range_piece};
 ghost use Rattle.ob_parse.specs.Forms.{accept_at, many, optional, several};
-ghost use Rattle.ob_parse.specs.Gives.{ahead};
+ghost use Rattle.ob_parse.specs.Accords.{ahead};
 ghost use Rattle.ob_parse.specs.ReadStatements.{case_label_at, label_range_at};
 ghost use Rattle.ob_table.specs.StatementShapes.{high_label_outline, high_label_piece, ranges_outline, ranges_piece, labels_outline, labels_piece};
-ghost use Rattle.ob_table.specs.Tells.{Tells};
+ghost use Rattle.ob_table.specs.Tabulating.{Tabulates};
 
 use crate::uses::qualident_after;
 use crate::words::pass_token;
@@ -26,7 +26,7 @@ fn label(
     tokens: &[Token],
     input: Cursor,
 ) -> Result<Cursor, Stop>
-    ensures { Tells tokens.now label_outline label_piece inside draft.old draft.new result (case_label_at (ahead tokens.now input)) }
+    ensures { Tabulates tokens.now label_outline label_piece inside draft.old draft.new result (case_label_at (ahead tokens.now input)) }
 {
     match input.next(tokens) {
         Some((Leaf::Name(number), rest)) => qualident_after(draft, inside, tokens, number, rest),
@@ -43,7 +43,7 @@ fn label_range(
     tokens: &[Token],
     input: Cursor,
 ) -> Result<Cursor, Stop>
-    ensures { Tells tokens.now label_range_outline label_range_piece inside draft.old draft.new result (label_range_at (ahead tokens.now input)) }
+    ensures { Tabulates tokens.now label_range_outline label_range_piece inside draft.old draft.new result (label_range_at (ahead tokens.now input)) }
 {
     match label(draft, inside, tokens, input) {
         Ok(here) => high_label(draft, inside, tokens, here),
@@ -58,7 +58,7 @@ fn high_label(
     tokens: &[Token],
     input: Cursor,
 ) -> Result<Cursor, Stop>
-    ensures { Tells tokens.now high_label_outline high_label_piece inside draft.old draft.new result (optional (accept_at kinds.DotDot) case_label_at (ahead tokens.now input)) }
+    ensures { Tabulates tokens.now high_label_outline high_label_piece inside draft.old draft.new result (optional (accept_at kinds.DotDot) case_label_at (ahead tokens.now input)) }
 {
     match accept(tokens, input, Kind::DotDot) {
         None => Ok(input),
@@ -76,7 +76,7 @@ pub(crate) fn label_ranges(
     tokens: &[Token],
     input: Cursor,
 ) -> Result<Cursor, Stop>
-    ensures { Tells tokens.now labels_outline labels_piece inside draft.old draft.new result (several kinds.Comma label_range_at (ahead tokens.now input)) }
+    ensures { Tabulates tokens.now labels_outline labels_piece inside draft.old draft.new result (several kinds.Comma label_range_at (ahead tokens.now input)) }
 {
     match label_range(draft, inside, tokens, input) {
         Ok(here) => more_label_ranges(draft, inside, tokens, here),
@@ -91,7 +91,7 @@ fn more_label_ranges(
     tokens: &[Token],
     input: Cursor,
 ) -> Result<Cursor, Stop>
-    ensures { Tells tokens.now ranges_outline ranges_piece inside draft.old draft.new result (many (accept_at kinds.Comma) label_range_at (ahead tokens.now input)) }
+    ensures { Tabulates tokens.now ranges_outline ranges_piece inside draft.old draft.new result (many (accept_at kinds.Comma) label_range_at (ahead tokens.now input)) }
 {
     let mut here = input;
     'more: while let Some(behind) = accept(tokens, here, Kind::Comma) {

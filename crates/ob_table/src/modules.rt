@@ -7,12 +7,12 @@ ghost use Rattle.ob_decls.specs.Declaring.{module_piece, imports_piece};
 ghost use Rattle.ob_decls.specs.Drafts.{after};
 ghost use Rattle.ob_decls.specs.Parts.{if_there};
 ghost use Rattle.ob_parse.specs.Forms.{expect_at, name_at, seq};
-ghost use Rattle.ob_parse.specs.Gives.{ahead};
+ghost use Rattle.ob_parse.specs.Accords.{ahead};
 ghost use Rattle.ob_parse.specs.ReadStatements.{block_at};
 ghost use Rattle.ob_parse.specs.ReadModules.{imports_at, declarations_at, body_with, module_at, module_behind_name, all_of};
 ghost use Rattle.ob_table.specs.DeclarationShapes.{ModuleEnd, end_shown, end_step, ModuleParts, parts_shown, parts_step, ModuleBehind, behind_shown, behind_step, imports_shown};
-ghost use Rattle.ob_table.specs.Ended.{EndedModule, TellsWhole};
-ghost use Rattle.ob_table.specs.Tells.{Tells, TellsBy};
+ghost use Rattle.ob_table.specs.Ended.{EndedModule, TabulatesWhole};
+ghost use Rattle.ob_table.specs.Tabulating.{Tabulates, TabulatesBy};
 
 use crate::declarations::{body, declarations};
 use crate::ends::module_name;
@@ -35,7 +35,7 @@ fn imports(
     tokens: &[Token],
     input: Cursor,
 ) -> Result<Cursor, Stop>
-    ensures { Tells tokens.now imports_shown (if_there imports_piece) inside draft.old draft.new result (imports_at (ahead tokens.now input)) }
+    ensures { Tabulates tokens.now imports_shown (if_there imports_piece) inside draft.old draft.new result (imports_at (ahead tokens.now input)) }
 {
     match import_lists(alloc, tokens, input) {
         Ok((list, rest)) => {
@@ -55,7 +55,7 @@ fn ending(
     input: Cursor,
     name: u32,
 ) -> Result<Cursor, Stop>
-    ensures { TellsBy {T = ModuleEnd bytes.now tokens.now name} tokens.now end_shown (end_step inside) draft.old draft.new result
+    ensures { TabulatesBy {T = ModuleEnd bytes.now tokens.now name} tokens.now end_shown (end_step inside) draft.old draft.new result
         (seq (expect_at kinds.End) (seq (name_at (repeated name)) (expect_at kinds.Dot)) (ahead tokens.now input)) }
 {
     match pass_word(draft, tokens, input, Kind::End) {
@@ -77,7 +77,7 @@ fn parts(
     depth: u32,
     name: u32,
 ) -> Result<Cursor, Stop>
-    ensures { TellsBy {T = ModuleParts bytes.now source.now.tokens.now name} source.now.tokens.now parts_shown (parts_step inside) draft.old draft.new result
+    ensures { TabulatesBy {T = ModuleParts bytes.now source.now.tokens.now name} source.now.tokens.now parts_shown (parts_step inside) draft.old draft.new result
         (seq (declarations_at depth) (seq (body_with (block_at depth)) (seq (expect_at kinds.End)
         (seq (name_at (repeated name)) (expect_at kinds.Dot)))) (ahead source.now.tokens.now input)) }
 {
@@ -101,7 +101,7 @@ fn behind(
     depth: u32,
     name: u32,
 ) -> Result<Cursor, Stop>
-    ensures { TellsBy {T = ModuleBehind bytes.now source.now.tokens.now name} source.now.tokens.now behind_shown (behind_step inside) draft.old draft.new result (module_behind_name depth name (ahead source.now.tokens.now input)) }
+    ensures { TabulatesBy {T = ModuleBehind bytes.now source.now.tokens.now name} source.now.tokens.now behind_shown (behind_step inside) draft.old draft.new result (module_behind_name depth name (ahead source.now.tokens.now input)) }
 {
     match pass_word(draft, source.tokens, input, Kind::Semicolon) {
         Ok(here) => match imports(alloc, draft, inside, source.tokens, here) {
@@ -122,7 +122,7 @@ fn module(
     input: Cursor,
     depth: u32,
 ) -> Result<Cursor, Stop>
-    ensures { Tells {T = EndedModule bytes.now source.now.tokens.now} source.now.tokens.now (λ m. module_outline m.tree) (λ m. module_piece m.tree) inside draft.old draft.new result (module_at depth (ahead source.now.tokens.now input)) }
+    ensures { Tabulates {T = EndedModule bytes.now source.now.tokens.now} source.now.tokens.now (λ m. module_outline m.tree) (λ m. module_piece m.tree) inside draft.old draft.new result (module_at depth (ahead source.now.tokens.now input)) }
 {
     match pass_word(draft, source.tokens, input, Kind::Module) {
         Ok(here) => match identifier(source.tokens, here) {
@@ -146,7 +146,7 @@ pub(crate) fn whole(
     input: Cursor,
     depth: u32,
 ) -> Result<(), Stop>
-    ensures { TellsWhole {T = EndedModule bytes.now source.now.tokens.now} source.now.tokens.now (λ m. module_outline m.tree) (λ m. after (module_piece m.tree) inside) draft.old draft.new result (all_of depth (ahead source.now.tokens.now input)) }
+    ensures { TabulatesWhole {T = EndedModule bytes.now source.now.tokens.now} source.now.tokens.now (λ m. module_outline m.tree) (λ m. after (module_piece m.tree) inside) draft.old draft.new result (all_of depth (ahead source.now.tokens.now input)) }
 {
     match module(alloc, draft, inside, bytes, source, input, depth) {
         Ok(here) => match here.next(source.tokens) {

@@ -6,10 +6,10 @@ ghost use Rattle.ob_tree.specs.Names.{qualident_outline, identdef_outline};
 ghost use Rattle.ob_decls.specs.Statements.{qualident_piece};
 ghost use Rattle.ob_decls.specs.Types.{identdef_piece};
 ghost use Rattle.ob_parse.specs.Forms.{accept_at, many, several};
-ghost use Rattle.ob_parse.specs.Gives.{ahead};
+ghost use Rattle.ob_parse.specs.Accords.{ahead};
 ghost use Rattle.ob_parse.specs.ReadNames.{qualident_at, identdef_at};
 ghost use Rattle.ob_table.specs.TypeShapes.{further_outline, further_piece, list_piece};
-ghost use Rattle.ob_table.specs.Tells.{Tells};
+ghost use Rattle.ob_table.specs.Tabulating.{Tabulates};
 
 use ob_decls::draft::{Context, Draft};
 use ob_decls::walk::statements::walk_qualident;
@@ -27,7 +27,7 @@ pub(crate) fn used_qualident(
     tokens: &[Token],
     input: Cursor,
 ) -> Result<Cursor, Stop>
-    ensures { Tells tokens.now qualident_outline qualident_piece inside draft.old draft.new result (qualident_at (ahead tokens.now input)) }
+    ensures { Tabulates tokens.now qualident_outline qualident_piece inside draft.old draft.new result (qualident_at (ahead tokens.now input)) }
 {
     match qualident(tokens, input) {
         Ok((name, rest)) => {
@@ -45,7 +45,7 @@ pub(crate) fn declared_name(
     tokens: &[Token],
     input: Cursor,
 ) -> Result<Cursor, Stop>
-    ensures { Tells tokens.now identdef_outline identdef_piece inside draft.old draft.new result (identdef_at (ahead tokens.now input)) }
+    ensures { Tabulates tokens.now identdef_outline identdef_piece inside draft.old draft.new result (identdef_at (ahead tokens.now input)) }
 {
     match identdef(tokens, input) {
         Ok((name, rest)) => {
@@ -63,7 +63,7 @@ fn more_declared(
     tokens: &[Token],
     input: Cursor,
 ) -> Result<Cursor, Stop>
-    ensures { Tells tokens.now (further_outline kinds.Comma identdef_outline) (further_piece identdef_piece) inside draft.old draft.new result (many (accept_at kinds.Comma) identdef_at (ahead tokens.now input)) }
+    ensures { Tabulates tokens.now (further_outline kinds.Comma identdef_outline) (further_piece identdef_piece) inside draft.old draft.new result (many (accept_at kinds.Comma) identdef_at (ahead tokens.now input)) }
 {
     let mut here = input;
     'more: while let Some(behind) = accept(tokens, here, Kind::Comma) {
@@ -83,7 +83,7 @@ pub(crate) fn declared_names(
     tokens: &[Token],
     input: Cursor,
 ) -> Result<Cursor, Stop>
-    ensures { Tells tokens.now (separated kinds.Comma identdef_outline) (list_piece identdef_piece) inside draft.old draft.new result (several kinds.Comma identdef_at (ahead tokens.now input)) }
+    ensures { Tabulates tokens.now (separated kinds.Comma identdef_outline) (list_piece identdef_piece) inside draft.old draft.new result (several kinds.Comma identdef_at (ahead tokens.now input)) }
 {
     match declared_name(draft, inside, tokens, input) {
         Ok(here) => more_declared(draft, inside, tokens, here),

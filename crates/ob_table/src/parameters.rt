@@ -8,11 +8,11 @@ ghost use Rattle.ob_tree.specs.Types.{section_outline, parameters_outline};
 ghost use Rattle.ob_decls.specs.Parts.{both, token};
 ghost use Rattle.ob_decls.specs.Types.{open_arrays as arrays_piece, parameter_piece, parameters_piece, section_inner as inner_piece, section_piece};
 ghost use Rattle.ob_parse.specs.Forms.{accept_at, expect_at, many, name_at, optional, seq, several, unless};
-ghost use Rattle.ob_parse.specs.Gives.{ahead};
+ghost use Rattle.ob_parse.specs.Accords.{ahead};
 ghost use Rattle.ob_parse.specs.ReadNames.{qualident_at};
 ghost use Rattle.ob_parse.specs.ReadTypes.{parameters_at, section_at, some_parameters_at};
 ghost use Rattle.ob_table.specs.TypeShapes.{answer_outline, answer_piece, arrays_outline, closing_at, closing_outline, closing_piece, formal_at, formal_name_piece, formal_outline, formal_piece, further_outline, further_piece, inner_at, inner_outline, list_piece, opened_at, opened_outline, opened_piece, sections_outline, sections_piece, some_parameters_outline, some_parameters_piece};
-ghost use Rattle.ob_table.specs.Tells.{Tells};
+ghost use Rattle.ob_table.specs.Tabulating.{Tabulates};
 
 use crate::names::used_qualident;
 use crate::words::{pass_word, skip_word};
@@ -33,7 +33,7 @@ fn parameter_name(
     tokens: &[Token],
     input: Cursor,
 ) -> Result<Cursor, Stop>
-    ensures { Tells tokens.now (declared false) (λ n. parameter_piece) inside draft.old draft.new result (name_at (declared false) (ahead tokens.now input)) }
+    ensures { Tabulates tokens.now (declared false) (λ n. parameter_piece) inside draft.old draft.new result (name_at (declared false) (ahead tokens.now input)) }
 {
     match identifier(tokens, input) {
         Ok((_, rest)) => {
@@ -51,7 +51,7 @@ fn more_names(
     tokens: &[Token],
     input: Cursor,
 ) -> Result<Cursor, Stop>
-    ensures { Tells tokens.now (further_outline kinds.Comma (declared false)) (further_piece (λ n. parameter_piece)) inside draft.old draft.new result (many (accept_at kinds.Comma) (name_at (declared false)) (ahead tokens.now input)) }
+    ensures { Tabulates tokens.now (further_outline kinds.Comma (declared false)) (further_piece (λ n. parameter_piece)) inside draft.old draft.new result (many (accept_at kinds.Comma) (name_at (declared false)) (ahead tokens.now input)) }
 {
     let mut here = input;
     'more: while let Some(behind) = accept(tokens, here, Kind::Comma) {
@@ -71,7 +71,7 @@ fn names(
     tokens: &[Token],
     input: Cursor,
 ) -> Result<Cursor, Stop>
-    ensures { Tells tokens.now (separated kinds.Comma (declared false)) (list_piece (λ n. parameter_piece)) inside draft.old draft.new result (several kinds.Comma (name_at (declared false)) (ahead tokens.now input)) }
+    ensures { Tabulates tokens.now (separated kinds.Comma (declared false)) (list_piece (λ n. parameter_piece)) inside draft.old draft.new result (several kinds.Comma (name_at (declared false)) (ahead tokens.now input)) }
 {
     match parameter_name(draft, inside, tokens, input) {
         Ok(here) => more_names(draft, inside, tokens, here),
@@ -86,7 +86,7 @@ fn open_arrays(
     tokens: &[Token],
     input: Cursor,
 ) -> Result<Cursor, Stop>
-    ensures { Tells tokens.now arrays_outline arrays_piece inside draft.old draft.new result (many (accept_at kinds.Array) (expect_at kinds.Of) (ahead tokens.now input)) }
+    ensures { Tabulates tokens.now arrays_outline arrays_piece inside draft.old draft.new result (many (accept_at kinds.Array) (expect_at kinds.Of) (ahead tokens.now input)) }
 {
     let mut here = input;
     'more: while let Some(behind) = accept(tokens, here, Kind::Array) {
@@ -107,7 +107,7 @@ fn formal_name(
     tokens: &[Token],
     input: Cursor,
 ) -> Result<Cursor, Stop>
-    ensures { Tells tokens.now qualident_outline formal_name_piece inside draft.old draft.new result (qualident_at (ahead tokens.now input)) }
+    ensures { Tabulates tokens.now qualident_outline formal_name_piece inside draft.old draft.new result (qualident_at (ahead tokens.now input)) }
 {
     match qualident(tokens, input) {
         Ok((name, rest)) => {
@@ -126,7 +126,7 @@ fn formal_type(
     tokens: &[Token],
     input: Cursor,
 ) -> Result<Cursor, Stop>
-    ensures { Tells tokens.now formal_outline formal_piece inside draft.old draft.new result (formal_at (ahead tokens.now input)) }
+    ensures { Tabulates tokens.now formal_outline formal_piece inside draft.old draft.new result (formal_at (ahead tokens.now input)) }
 {
     match open_arrays(draft, inside, tokens, input) {
         Ok(here) => formal_name(draft, inside, tokens, here),
@@ -141,7 +141,7 @@ fn typed(
     tokens: &[Token],
     input: Cursor,
 ) -> Result<Cursor, Stop>
-    ensures { Tells tokens.now (λ x. word kinds.Colon ++ formal_outline x) (λ x. both token (formal_piece x)) inside draft.old draft.new result (seq (expect_at kinds.Colon) formal_at (ahead tokens.now input)) }
+    ensures { Tabulates tokens.now (λ x. word kinds.Colon ++ formal_outline x) (λ x. both token (formal_piece x)) inside draft.old draft.new result (seq (expect_at kinds.Colon) formal_at (ahead tokens.now input)) }
 {
     match pass_word(draft, tokens, input, Kind::Colon) {
         Ok(here) => formal_type(draft, inside, tokens, here),
@@ -156,7 +156,7 @@ fn section_inner(
     tokens: &[Token],
     input: Cursor,
 ) -> Result<Cursor, Stop>
-    ensures { Tells tokens.now inner_outline inner_piece inside draft.old draft.new result (inner_at (ahead tokens.now input)) }
+    ensures { Tabulates tokens.now inner_outline inner_piece inside draft.old draft.new result (inner_at (ahead tokens.now input)) }
 {
     let here = skip_word(draft, inside, tokens, input, Kind::Var);
     match names(draft, inside, tokens, here) {
@@ -172,7 +172,7 @@ fn section(
     tokens: &[Token],
     input: Cursor,
 ) -> Result<Cursor, Stop>
-    ensures { Tells tokens.now section_outline section_piece inside draft.old draft.new result (section_at (ahead tokens.now input)) }
+    ensures { Tabulates tokens.now section_outline section_piece inside draft.old draft.new result (section_at (ahead tokens.now input)) }
 {
     let first = draft.number;
     let row = declarer_at(Sort::Parameter, inside, first);
@@ -193,7 +193,7 @@ fn more_sections(
     tokens: &[Token],
     input: Cursor,
 ) -> Result<Cursor, Stop>
-    ensures { Tells tokens.now (further_outline kinds.Semicolon section_outline) (further_piece section_piece) inside draft.old draft.new result (many (accept_at kinds.Semicolon) section_at (ahead tokens.now input)) }
+    ensures { Tabulates tokens.now (further_outline kinds.Semicolon section_outline) (further_piece section_piece) inside draft.old draft.new result (many (accept_at kinds.Semicolon) section_at (ahead tokens.now input)) }
 {
     let mut here = input;
     'more: while let Some(behind) = accept(tokens, here, Kind::Semicolon) {
@@ -213,7 +213,7 @@ fn section_list(
     tokens: &[Token],
     input: Cursor,
 ) -> Result<Cursor, Stop>
-    ensures { Tells tokens.now (separated kinds.Semicolon section_outline) (list_piece section_piece) inside draft.old draft.new result (several kinds.Semicolon section_at (ahead tokens.now input)) }
+    ensures { Tabulates tokens.now (separated kinds.Semicolon section_outline) (list_piece section_piece) inside draft.old draft.new result (several kinds.Semicolon section_at (ahead tokens.now input)) }
 {
     match section(draft, inside, tokens, input) {
         Ok(here) => more_sections(draft, inside, tokens, here),
@@ -228,7 +228,7 @@ fn sections(
     tokens: &[Token],
     input: Cursor,
 ) -> Result<Cursor, Stop>
-    ensures { Tells tokens.now sections_outline sections_piece inside draft.old draft.new result (optional (unless kinds.RightParen) (several kinds.Semicolon section_at) (ahead tokens.now input)) }
+    ensures { Tabulates tokens.now sections_outline sections_piece inside draft.old draft.new result (optional (unless kinds.RightParen) (several kinds.Semicolon section_at) (ahead tokens.now input)) }
 {
     if is_at(tokens, input, Kind::RightParen) {
         return Ok(input);
@@ -243,7 +243,7 @@ fn result_type(
     tokens: &[Token],
     input: Cursor,
 ) -> Result<Cursor, Stop>
-    ensures { Tells tokens.now answer_outline answer_piece inside draft.old draft.new result (optional (accept_at kinds.Colon) qualident_at (ahead tokens.now input)) }
+    ensures { Tabulates tokens.now answer_outline answer_piece inside draft.old draft.new result (optional (accept_at kinds.Colon) qualident_at (ahead tokens.now input)) }
 {
     match accept(tokens, input, Kind::Colon) {
         None => Ok(input),
@@ -261,7 +261,7 @@ fn closing(
     tokens: &[Token],
     input: Cursor,
 ) -> Result<Cursor, Stop>
-    ensures { Tells tokens.now closing_outline closing_piece inside draft.old draft.new result (closing_at (ahead tokens.now input)) }
+    ensures { Tabulates tokens.now closing_outline closing_piece inside draft.old draft.new result (closing_at (ahead tokens.now input)) }
 {
     match pass_word(draft, tokens, input, Kind::RightParen) {
         Ok(here) => result_type(draft, inside, tokens, here),
@@ -276,7 +276,7 @@ fn opened(
     tokens: &[Token],
     input: Cursor,
 ) -> Result<Cursor, Stop>
-    ensures { Tells tokens.now opened_outline opened_piece inside draft.old draft.new result (opened_at (ahead tokens.now input)) }
+    ensures { Tabulates tokens.now opened_outline opened_piece inside draft.old draft.new result (opened_at (ahead tokens.now input)) }
 {
     match sections(draft, inside, tokens, input) {
         Ok(here) => closing(draft, inside, tokens, here),
@@ -291,7 +291,7 @@ fn parameters(
     tokens: &[Token],
     input: Cursor,
 ) -> Result<Cursor, Stop>
-    ensures { Tells tokens.now parameters_outline parameters_piece inside draft.old draft.new result (parameters_at (ahead tokens.now input)) }
+    ensures { Tabulates tokens.now parameters_outline parameters_piece inside draft.old draft.new result (parameters_at (ahead tokens.now input)) }
 {
     match pass_word(draft, tokens, input, Kind::LeftParen) {
         Ok(here) => opened(draft, inside, tokens, here),
@@ -306,7 +306,7 @@ pub(crate) fn some_parameters(
     tokens: &[Token],
     input: Cursor,
 ) -> Result<Cursor, Stop>
-    ensures { Tells tokens.now some_parameters_outline some_parameters_piece inside draft.old draft.new result (some_parameters_at (ahead tokens.now input)) }
+    ensures { Tabulates tokens.now some_parameters_outline some_parameters_piece inside draft.old draft.new result (some_parameters_at (ahead tokens.now input)) }
 {
     if is_at(tokens, input, Kind::LeftParen) {
         return parameters(draft, inside, tokens, input);

@@ -5,7 +5,7 @@ ghost use Rattle.ob_tree.specs.declared.token.Leaf.{Leaf};
 ghost use Rattle.ob_tree.specs.declared.token.Leaf.TheVariants as leafs;
 ghost use Rattle.ob_decls.specs.Drafts.{added, ComesTo};
 ghost use Rattle.ob_decls.specs.Parts.{these_selectors};
-ghost use Rattle.ob_parse.specs.Gives.{ahead, seen};
+ghost use Rattle.ob_parse.specs.Accords.{ahead, seen};
 ghost use Rattle.ob_table.specs.Choosing.{dot_at, is_there, places};
 ghost use Rattle.ob_parse.specs.Front.{uncons};
 ghost use Rattle.ob_table.specs.LoneNames.{lone_of, named_front, IsLone};

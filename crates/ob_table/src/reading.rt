@@ -3,14 +3,14 @@
 ghost use Rattle.std.specs.Prelude.{◌≡◌, ◌<◌, ◌^◌, length, ℕ, List, Ok, IfOk, IfErr};
 ghost use Rattle.ob_decls.specs.Declaring.{rows_in, rows_of, module_piece, outermost};
 ghost use Rattle.ob_decls.specs.Drafts.{after, stage_of, start};
-ghost use Rattle.ob_scan.specs.Spelling.{IsOutcome, Reads};
+ghost use Rattle.ob_scan.specs.Spelling.{IsOutcome};
 ghost use Rattle.ob_scan.specs.declared.token.Token.{Token};
 ghost use Rattle.ob_tree.specs.Declaring.{module_outline};
 ghost use Rattle.ob_tree.specs.Leaves.{leaves_from};
 ghost use Rattle.ob_tree.specs.declared.declaration.Module.{Module};
 ghost use Rattle.ob_parse.specs.Parsed.{IsTheTree, IsFaultOf, kinds_of};
 ghost use Rattle.ob_parse.specs.ReadModules.{all_of};
-ghost use Rattle.ob_table.specs.Ended.{EndedModule, TellsWhole};
+ghost use Rattle.ob_table.specs.Ended.{EndedModule, TabulatesWhole};
 
 use crate::modules::whole;
 use crate::source::{Source, brackets_of};
@@ -38,7 +38,7 @@ fn table_in(alloc: Global, parsed: &Result<Module, ParseFault>) -> Result<Table,
 /// The same by way of a tree, where the pass over the tokens came to no table: a name after END is wrong, or memory was refused to
 /// a row, or to the brackets, without which the places of selectors are guessed wrong.
 fn table_by_tree(alloc: Global, bytes: &[u8], tokens: &Tokens) -> Result<Table, ParseFault>
-    requires { IsOutcome bytes.now (Reads tokens.now) }
+    requires { IsOutcome bytes.now (Ok tokens.now) }
     ensures table { IfOk result (λ t. (m : Module) × IsTheTree bytes.now tokens.now m × (rows_in t ≡ rows_of m)) }
     ensures fault { IfErr result (IsFaultOf bytes.now tokens.now) }
 {
@@ -52,7 +52,7 @@ fn table_by_tree(alloc: Global, bytes: &[u8], tokens: &Tokens) -> Result<Table, 
 /// All tokens of a text.
 fn pass_all(alloc: Global, draft: &mut Draft, bytes: &[u8], tokens: &[Token]) -> Result<(), Stop>
     requires { length tokens.now < 2 ^ 32 }
-    ensures { TellsWhole {T = EndedModule bytes.now tokens.now} tokens.now (λ m. module_outline m.tree) (λ m. after (module_piece m.tree) outermost) draft.old draft.new result (all_of 200 (leaves_from 0 (kinds_of tokens.now))) }
+    ensures { TabulatesWhole {T = EndedModule bytes.now tokens.now} tokens.now (λ m. module_outline m.tree) (λ m. after (module_piece m.tree) outermost) draft.old draft.new result (all_of 200 (leaves_from 0 (kinds_of tokens.now))) }
 {
     let brackets = brackets_of(alloc, tokens);
     let source = Source {
@@ -77,7 +77,7 @@ fn pass_all(alloc: Global, draft: &mut Draft, bytes: &[u8], tokens: &[Token]) ->
 /// It recurses a few calls for each level, so at most 200 levels deep, for which a stack of 2 MiB is enough. Lists are loops.
 pub fn read_table(alloc: Global, bytes: &[u8], tokens: &Tokens) -> Result<Table, ParseFault>
     // The tokens are those of the bytes.
-    requires { IsOutcome bytes.now (Reads tokens.now) }
+    requires { IsOutcome bytes.now (Ok tokens.now) }
     // The rows are those of the one tree that derives them.
     ensures table { IfOk result (λ t. (m : Module) × IsTheTree bytes.now tokens.now m × (rows_in t ≡ rows_of m)) }
     // The fault is so.

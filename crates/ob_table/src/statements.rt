@@ -9,11 +9,11 @@ ghost use Rattle.ob_tree.specs.Statements.{block_outline, branch_outline, case_o
 ghost use Rattle.ob_decls.specs.Drafts.{ComesTo};
 ghost use Rattle.ob_decls.specs.Statements.{block_piece, branch_piece, case_piece, stmt_piece};
 ghost use Rattle.ob_parse.specs.Forms.{accept_at, expect_at, many, node, optional, prefixed, seq};
-ghost use Rattle.ob_parse.specs.Gives.{ahead};
+ghost use Rattle.ob_parse.specs.Accords.{ahead};
 ghost use Rattle.ob_parse.specs.ReadExpressions.{expr_at};
 ghost use Rattle.ob_parse.specs.ReadStatements.{assign_with, block_at, branch_with, case_with, cases_with, for_with, if_with, repeat_with, statement_at, statement_with, while_with};
 ghost use Rattle.ob_table.specs.StatementShapes.{statements_outline, statements_piece, branches_outline, branches_piece, cases_outline, cases_piece, body_outline, body_piece, value_outline, value_piece, Given, given_outline, given_piece, cases_end_outline, cases_end_piece, for_body_outline, for_body_piece, for_limit_outline, for_limit_piece};
-ghost use Rattle.ob_table.specs.Tells.{Tells};
+ghost use Rattle.ob_table.specs.Tabulating.{Tabulates};
 
 use crate::expressions::{designator, expression};
 use crate::labels::label_ranges;
@@ -39,7 +39,7 @@ fn statement(
     input: Cursor,
     depth: u32,
 ) -> Result<Cursor, Stop>
-    ensures { Tells source.now.tokens.now stmt_outline stmt_piece inside draft.old draft.new result (statement_at depth (ahead source.now.tokens.now input)) }
+    ensures { Tabulates source.now.tokens.now stmt_outline stmt_piece inside draft.old draft.new result (statement_at depth (ahead source.now.tokens.now input)) }
 {
     if depth == 0 {
         if begins_statement(source.tokens, input) {
@@ -59,7 +59,7 @@ fn statement_within(
     input: Cursor,
     depth: u32,
 ) -> Result<Cursor, Stop>
-    ensures { Tells source.now.tokens.now stmt_outline stmt_piece inside draft.old draft.new result (statement_with (expr_at depth) (block_at depth) (ahead source.now.tokens.now input)) }
+    ensures { Tabulates source.now.tokens.now stmt_outline stmt_piece inside draft.old draft.new result (statement_with (expr_at depth) (block_at depth) (ahead source.now.tokens.now input)) }
 {
     match input.next(source.tokens) {
         Some((Leaf::Name(number), rest)) => assignment(draft, inside, source, number, rest, depth),
@@ -104,7 +104,7 @@ fn assignment(
     input: Cursor,
     depth: u32,
 ) -> Result<Cursor, Stop>
-    ensures { Tells source.now.tokens.now stmt_outline stmt_piece inside draft.old draft.new result (node constructs.Statement (assign_with (expr_at depth) head) (ahead source.now.tokens.now input)) }
+    ensures { Tabulates source.now.tokens.now stmt_outline stmt_piece inside draft.old draft.new result (node constructs.Statement (assign_with (expr_at depth) head) (ahead source.now.tokens.now input)) }
 {
     let (count, behind) = selectors_from(source, input);
     let is_written = is_assign(source, behind);
@@ -123,7 +123,7 @@ fn assigned(
     depth: u32,
     is_written: bool,
 ) -> Result<Cursor, Stop>
-    ensures { Tells {T = Given is_written} source.now.tokens.now given_outline given_piece inside draft.old draft.new result (optional (accept_at kinds.Assign) (expr_at depth) (ahead source.now.tokens.now input)) }
+    ensures { Tabulates {T = Given is_written} source.now.tokens.now given_outline given_piece inside draft.old draft.new result (optional (accept_at kinds.Assign) (expr_at depth) (ahead source.now.tokens.now input)) }
 {
     match accept(source.tokens, input, Kind::Assign) {
         None => {
@@ -147,7 +147,7 @@ pub(crate) fn block(
     input: Cursor,
     depth: u32,
 ) -> Result<Cursor, Stop>
-    ensures { Tells source.now.tokens.now block_outline block_piece inside draft.old draft.new result (block_at depth (ahead source.now.tokens.now input)) }
+    ensures { Tabulates source.now.tokens.now block_outline block_piece inside draft.old draft.new result (block_at depth (ahead source.now.tokens.now input)) }
 {
     match statement(draft, inside, source, input, depth) {
         Ok(here) => more_statements(draft, inside, source, here, depth),
@@ -164,7 +164,7 @@ fn more_statements(
     input: Cursor,
     depth: u32,
 ) -> Result<Cursor, Stop>
-    ensures { Tells source.now.tokens.now statements_outline statements_piece inside draft.old draft.new result (many (accept_at kinds.Semicolon) (statement_at depth) (ahead source.now.tokens.now input)) }
+    ensures { Tabulates source.now.tokens.now statements_outline statements_piece inside draft.old draft.new result (many (accept_at kinds.Semicolon) (statement_at depth) (ahead source.now.tokens.now input)) }
 {
     let mut here = input;
     'more: while let Some(behind) = accept(source.tokens, here, Kind::Semicolon) {
@@ -187,7 +187,7 @@ fn branch(
     depth: u32,
     keyword: Kind,
 ) -> Result<Cursor, Stop>
-    ensures { Tells source.now.tokens.now (λ b. branch_outline b keyword) branch_piece inside draft.old draft.new result (branch_with (expr_at depth) (block_at depth) keyword (ahead source.now.tokens.now input)) }
+    ensures { Tabulates source.now.tokens.now (λ b. branch_outline b keyword) branch_piece inside draft.old draft.new result (branch_with (expr_at depth) (block_at depth) keyword (ahead source.now.tokens.now input)) }
 {
     match expression(draft, inside, source, input, depth) {
         Ok(here) => match pass_word(draft, source.tokens, here, keyword) {
@@ -208,7 +208,7 @@ fn more_branches(
     depth: u32,
     keyword: Kind,
 ) -> Result<Cursor, Stop>
-    ensures { Tells source.now.tokens.now (branches_outline keyword) branches_piece inside draft.old draft.new result
+    ensures { Tabulates source.now.tokens.now (branches_outline keyword) branches_piece inside draft.old draft.new result
         (many (accept_at kinds.Elsif) (branch_with (expr_at depth) (block_at depth) keyword) (ahead source.now.tokens.now input)) }
 {
     let mut here = input;
@@ -232,7 +232,7 @@ fn block_behind(
     depth: u32,
     word: Kind,
 ) -> Result<Cursor, Stop>
-    ensures { Tells source.now.tokens.now (body_outline word) body_piece inside draft.old draft.new result (optional (accept_at word) (block_at depth) (ahead source.now.tokens.now input)) }
+    ensures { Tabulates source.now.tokens.now (body_outline word) body_piece inside draft.old draft.new result (optional (accept_at word) (block_at depth) (ahead source.now.tokens.now input)) }
 {
     match accept(source.tokens, input, word) {
         None => Ok(input),
@@ -252,7 +252,7 @@ fn if_statement(
     input: Cursor,
     depth: u32,
 ) -> Result<Cursor, Stop>
-    ensures { Tells source.now.tokens.now stmt_outline stmt_piece inside draft.old draft.new result
+    ensures { Tabulates source.now.tokens.now stmt_outline stmt_piece inside draft.old draft.new result
         (node constructs.Statement (prefixed (marks.word kinds.If) (if_with (expr_at depth) (block_at depth))) (ahead source.now.tokens.now input)) }
 {
     draft.pass();
@@ -277,7 +277,7 @@ fn case_statement(
     input: Cursor,
     depth: u32,
 ) -> Result<Cursor, Stop>
-    ensures { Tells source.now.tokens.now stmt_outline stmt_piece inside draft.old draft.new result
+    ensures { Tabulates source.now.tokens.now stmt_outline stmt_piece inside draft.old draft.new result
         (node constructs.Statement (prefixed (marks.word kinds.Case) (cases_with (expr_at depth) (block_at depth))) (ahead source.now.tokens.now input)) }
 {
     draft.pass();
@@ -299,7 +299,7 @@ fn cases(
     input: Cursor,
     depth: u32,
 ) -> Result<Cursor, Stop>
-    ensures { Tells source.now.tokens.now cases_end_outline cases_end_piece inside draft.old draft.new result
+    ensures { Tabulates source.now.tokens.now cases_end_outline cases_end_piece inside draft.old draft.new result
         (seq (case_with (block_at depth)) (seq (many (accept_at kinds.Bar) (case_with (block_at depth))) (expect_at kinds.End)) (ahead source.now.tokens.now input)) }
 {
     match case(draft, inside, source, input, depth) {
@@ -320,7 +320,7 @@ fn case(
     input: Cursor,
     depth: u32,
 ) -> Result<Cursor, Stop>
-    ensures { Tells source.now.tokens.now case_outline case_piece inside draft.old draft.new result (case_with (block_at depth) (ahead source.now.tokens.now input)) }
+    ensures { Tabulates source.now.tokens.now case_outline case_piece inside draft.old draft.new result (case_with (block_at depth) (ahead source.now.tokens.now input)) }
 {
     if !begins_label(source.tokens, input) {
         return Ok(input);
@@ -343,7 +343,7 @@ fn more_cases(
     input: Cursor,
     depth: u32,
 ) -> Result<Cursor, Stop>
-    ensures { Tells source.now.tokens.now cases_outline cases_piece inside draft.old draft.new result (many (accept_at kinds.Bar) (case_with (block_at depth)) (ahead source.now.tokens.now input)) }
+    ensures { Tabulates source.now.tokens.now cases_outline cases_piece inside draft.old draft.new result (many (accept_at kinds.Bar) (case_with (block_at depth)) (ahead source.now.tokens.now input)) }
 {
     let mut here = input;
     'more: while let Some(behind) = accept(source.tokens, here, Kind::Bar) {
@@ -365,7 +365,7 @@ fn while_statement(
     input: Cursor,
     depth: u32,
 ) -> Result<Cursor, Stop>
-    ensures { Tells source.now.tokens.now stmt_outline stmt_piece inside draft.old draft.new result
+    ensures { Tabulates source.now.tokens.now stmt_outline stmt_piece inside draft.old draft.new result
         (node constructs.Statement (prefixed (marks.word kinds.While) (while_with (expr_at depth) (block_at depth))) (ahead source.now.tokens.now input)) }
 {
     draft.pass();
@@ -387,7 +387,7 @@ fn repeat_statement(
     input: Cursor,
     depth: u32,
 ) -> Result<Cursor, Stop>
-    ensures { Tells source.now.tokens.now stmt_outline stmt_piece inside draft.old draft.new result
+    ensures { Tabulates source.now.tokens.now stmt_outline stmt_piece inside draft.old draft.new result
         (node constructs.Statement (prefixed (marks.word kinds.Repeat) (repeat_with (expr_at depth) (block_at depth))) (ahead source.now.tokens.now input)) }
 {
     draft.pass();
@@ -409,7 +409,7 @@ fn for_statement(
     input: Cursor,
     depth: u32,
 ) -> Result<Cursor, Stop>
-    ensures { Tells source.now.tokens.now stmt_outline stmt_piece inside draft.old draft.new result
+    ensures { Tabulates source.now.tokens.now stmt_outline stmt_piece inside draft.old draft.new result
         (node constructs.Statement (prefixed (marks.word kinds.For) (for_with (expr_at depth) (block_at depth))) (ahead source.now.tokens.now input)) }
 {
     draft.pass();
@@ -435,7 +435,7 @@ fn for_limit(
     input: Cursor,
     depth: u32,
 ) -> Result<Cursor, Stop>
-    ensures { Tells source.now.tokens.now for_limit_outline for_limit_piece inside draft.old draft.new result
+    ensures { Tabulates source.now.tokens.now for_limit_outline for_limit_piece inside draft.old draft.new result
         (seq (expect_at kinds.To) (seq (expr_at depth) (seq (optional (accept_at kinds.By) (expr_at depth))
         (seq (expect_at kinds.Do) (seq (block_at depth) (expect_at kinds.End))))) (ahead source.now.tokens.now input)) }
 {
@@ -459,7 +459,7 @@ fn for_step(
     input: Cursor,
     depth: u32,
 ) -> Result<Cursor, Stop>
-    ensures { Tells source.now.tokens.now (value_outline kinds.By) value_piece inside draft.old draft.new result (optional (accept_at kinds.By) (expr_at depth) (ahead source.now.tokens.now input)) }
+    ensures { Tabulates source.now.tokens.now (value_outline kinds.By) value_piece inside draft.old draft.new result (optional (accept_at kinds.By) (expr_at depth) (ahead source.now.tokens.now input)) }
 {
     match accept(source.tokens, input, Kind::By) {
         None => Ok(input),
@@ -479,7 +479,7 @@ fn for_body(
     input: Cursor,
     depth: u32,
 ) -> Result<Cursor, Stop>
-    ensures { Tells source.now.tokens.now for_body_outline for_body_piece inside draft.old draft.new result (seq (expect_at kinds.Do) (seq (block_at depth) (expect_at kinds.End)) (ahead source.now.tokens.now input)) }
+    ensures { Tabulates source.now.tokens.now for_body_outline for_body_piece inside draft.old draft.new result (seq (expect_at kinds.Do) (seq (block_at depth) (expect_at kinds.End)) (ahead source.now.tokens.now input)) }
 {
     match pass_word(draft, source.tokens, input, Kind::Do) {
         Ok(here) => match block(draft, inside, source, here, depth) {

@@ -8,12 +8,12 @@ ghost use Rattle.ob_tree.specs.Expressions.{expr_list_outline, expr_outline};
 ghost use Rattle.ob_tree.specs.Types.{type_outline, fields_outline, var_outline};
 ghost use Rattle.ob_decls.specs.Types.{fields_piece, lengths_piece, type_piece, var_piece};
 ghost use Rattle.ob_parse.specs.Forms.{accept_at, expect_at, many, node, nothing, optional, prefixed, seq, several, unless};
-ghost use Rattle.ob_parse.specs.Gives.{ahead};
+ghost use Rattle.ob_parse.specs.Accords.{ahead};
 ghost use Rattle.ob_parse.specs.ReadExpressions.{expr_at};
 ghost use Rattle.ob_parse.specs.ReadNames as readers;
 ghost use Rattle.ob_parse.specs.ReadTypes.{field_start, fields_with, record_with, some_parameters_at, type_at, type_with, var_with};
 ghost use Rattle.ob_table.specs.TypeShapes.{behind_outline, behind_piece, closed_outline, ended_outline, ended_piece, field_outline, field_piece, further_lengths_piece, further_outline, more_fields_piece, recording, some_fields_outline, some_fields_piece};
-ghost use Rattle.ob_table.specs.Tells.{Tells, TellsBy};
+ghost use Rattle.ob_table.specs.Tabulating.{Tabulates, TabulatesBy};
 
 use crate::expressions::expression;
 use crate::names::declared_names;
@@ -43,7 +43,7 @@ pub(crate) fn type_form(
     input: Cursor,
     depth: u32,
 ) -> Result<Cursor, Stop>
-    ensures { Tells source.now.tokens.now type_outline type_piece inside draft.old draft.new result (type_at depth (ahead source.now.tokens.now input)) }
+    ensures { Tabulates source.now.tokens.now type_outline type_piece inside draft.old draft.new result (type_at depth (ahead source.now.tokens.now input)) }
 {
     if depth == 0 {
         return Err(beyond(source.tokens, input, begins_type(source.tokens, input)));
@@ -60,7 +60,7 @@ fn type_within(
     input: Cursor,
     depth: u32,
 ) -> Result<Cursor, Stop>
-    ensures { Tells source.now.tokens.now type_outline type_piece inside draft.old draft.new result (type_with (expr_at depth) (type_at depth) (ahead source.now.tokens.now input)) }
+    ensures { Tabulates source.now.tokens.now type_outline type_piece inside draft.old draft.new result (type_with (expr_at depth) (type_at depth) (ahead source.now.tokens.now input)) }
 {
     match input.next(source.tokens) {
         Some((Leaf::Name(head), rest)) => named(draft, inside, source.tokens, head, rest),
@@ -80,7 +80,7 @@ fn named(
     head: u32,
     input: Cursor,
 ) -> Result<Cursor, Stop>
-    ensures { Tells tokens.now type_outline type_piece inside draft.old draft.new result (node constructs.NamedType (readers.qualident_after head) (ahead tokens.now input)) }
+    ensures { Tabulates tokens.now type_outline type_piece inside draft.old draft.new result (node constructs.NamedType (readers.qualident_after head) (ahead tokens.now input)) }
 {
     match qualident_after(tokens, head, input) {
         Ok((name, rest)) => {
@@ -100,7 +100,7 @@ fn array(
     input: Cursor,
     depth: u32,
 ) -> Result<Cursor, Stop>
-    ensures { Tells source.now.tokens.now type_outline type_piece inside draft.old draft.new result
+    ensures { Tabulates source.now.tokens.now type_outline type_piece inside draft.old draft.new result
         (node constructs.ArrayType (prefixed (word kinds.Array) (seq (several kinds.Comma (expr_at depth)) (seq (expect_at kinds.Of) (type_at depth)))) (ahead source.now.tokens.now input)) }
 {
     add_here(draft, inside, Part::Array);
@@ -126,7 +126,7 @@ fn lengths(
     input: Cursor,
     depth: u32,
 ) -> Result<Cursor, Stop>
-    ensures { Tells source.now.tokens.now expr_list_outline lengths_piece inside draft.old draft.new result (several kinds.Comma (expr_at depth) (ahead source.now.tokens.now input)) }
+    ensures { Tabulates source.now.tokens.now expr_list_outline lengths_piece inside draft.old draft.new result (several kinds.Comma (expr_at depth) (ahead source.now.tokens.now input)) }
 {
     match expression(draft, inside, source, input, depth) {
         Ok(here) => more_lengths(draft, inside, source, here, depth),
@@ -142,7 +142,7 @@ fn more_lengths(
     input: Cursor,
     depth: u32,
 ) -> Result<Cursor, Stop>
-    ensures { Tells source.now.tokens.now (further_outline kinds.Comma expr_outline) further_lengths_piece inside draft.old draft.new result (many (accept_at kinds.Comma) (expr_at depth) (ahead source.now.tokens.now input)) }
+    ensures { Tabulates source.now.tokens.now (further_outline kinds.Comma expr_outline) further_lengths_piece inside draft.old draft.new result (many (accept_at kinds.Comma) (expr_at depth) (ahead source.now.tokens.now input)) }
 {
     let mut here = input;
     'more: while let Some(behind) = accept(source.tokens, here, Kind::Comma) {
@@ -168,7 +168,7 @@ fn type_behind(
     kind: Kind,
     depth: u32,
 ) -> Result<Cursor, Stop>
-    ensures { Tells source.now.tokens.now (behind_outline kind) behind_piece inside draft.old draft.new result (seq (expect_at kind) (type_at depth) (ahead source.now.tokens.now input)) }
+    ensures { Tabulates source.now.tokens.now (behind_outline kind) behind_piece inside draft.old draft.new result (seq (expect_at kind) (type_at depth) (ahead source.now.tokens.now input)) }
 {
     match pass_word(draft, source.tokens, input, kind) {
         Ok(here) => type_form(draft, inside, source, here, depth),
@@ -185,7 +185,7 @@ fn pointer(
     input: Cursor,
     depth: u32,
 ) -> Result<Cursor, Stop>
-    ensures { Tells source.now.tokens.now type_outline type_piece inside draft.old draft.new result
+    ensures { Tabulates source.now.tokens.now type_outline type_piece inside draft.old draft.new result
         (node constructs.PointerType (prefixed (word kinds.Pointer) (seq (expect_at kinds.To) (type_at depth))) (ahead source.now.tokens.now input)) }
 {
     add_here(draft, inside, Part::Pointer);
@@ -207,7 +207,7 @@ fn procedure(
     tokens: &[Token],
     input: Cursor,
 ) -> Result<Cursor, Stop>
-    ensures { Tells tokens.now type_outline type_piece inside draft.old draft.new result
+    ensures { Tabulates tokens.now type_outline type_piece inside draft.old draft.new result
         (node constructs.ProcedureType (prefixed (word kinds.Procedure) some_parameters_at) (ahead tokens.now input)) }
 {
     add_here(draft, inside, Part::Procedure);
@@ -229,7 +229,7 @@ fn record(
     input: Cursor,
     depth: u32,
 ) -> Result<Cursor, Stop>
-    ensures { Tells source.now.tokens.now type_outline type_piece inside draft.old draft.new result
+    ensures { Tabulates source.now.tokens.now type_outline type_piece inside draft.old draft.new result
         (node constructs.RecordType (prefixed (word kinds.Record) (record_with (type_at depth))) (ahead source.now.tokens.now input)) }
 {
     match base(source.tokens, input) {
@@ -252,7 +252,7 @@ fn record_parts(
     base: Option<Qualident>,
     depth: u32,
 ) -> Result<Cursor, Stop>
-    ensures { TellsBy source.now.tokens.now closed_outline (recording base inside) draft.old draft.new result (seq (optional (unless kinds.End) (fields_with (type_at depth))) (expect_at kinds.End) (ahead source.now.tokens.now input)) }
+    ensures { TabulatesBy source.now.tokens.now closed_outline (recording base inside) draft.old draft.new result (seq (optional (unless kinds.End) (fields_with (type_at depth))) (expect_at kinds.End) (ahead source.now.tokens.now input)) }
 {
     let around = record_from(inside, draft.number);
     add_record(draft, inside, base);
@@ -273,7 +273,7 @@ fn some_fields(
     input: Cursor,
     depth: u32,
 ) -> Result<Cursor, Stop>
-    ensures { Tells source.now.tokens.now some_fields_outline some_fields_piece inside draft.old draft.new result (optional (unless kinds.End) (fields_with (type_at depth)) (ahead source.now.tokens.now input)) }
+    ensures { Tabulates source.now.tokens.now some_fields_outline some_fields_piece inside draft.old draft.new result (optional (unless kinds.End) (fields_with (type_at depth)) (ahead source.now.tokens.now input)) }
 {
     if is_at(source.tokens, input, Kind::End) {
         return Ok(input);
@@ -290,7 +290,7 @@ fn fields(
     input: Cursor,
     depth: u32,
 ) -> Result<Cursor, Stop>
-    ensures { Tells source.now.tokens.now fields_outline fields_piece inside draft.old draft.new result (fields_with (type_at depth) (ahead source.now.tokens.now input)) }
+    ensures { Tabulates source.now.tokens.now fields_outline fields_piece inside draft.old draft.new result (fields_with (type_at depth) (ahead source.now.tokens.now input)) }
 {
     match field_list(draft, inside, source, input, depth) {
         Ok(here) => fields_behind(draft, inside, source, here, depth),
@@ -308,7 +308,7 @@ fn fields_behind(
     input: Cursor,
     depth: u32,
 ) -> Result<Cursor, Stop>
-    ensures { Tells source.now.tokens.now ended_outline ended_piece inside draft.old draft.new result
+    ensures { Tabulates source.now.tokens.now ended_outline ended_piece inside draft.old draft.new result
         (seq (many field_start (node constructs.FieldList (var_with (type_at depth)))) (optional (accept_at kinds.Semicolon) nothing) (ahead source.now.tokens.now input)) }
 {
     match more_fields(draft, inside, source, input, depth) {
@@ -326,7 +326,7 @@ fn more_fields(
     input: Cursor,
     depth: u32,
 ) -> Result<Cursor, Stop>
-    ensures { Tells source.now.tokens.now (further_outline kinds.Semicolon field_outline) more_fields_piece inside draft.old draft.new result
+    ensures { Tabulates source.now.tokens.now (further_outline kinds.Semicolon field_outline) more_fields_piece inside draft.old draft.new result
         (many field_start (node constructs.FieldList (var_with (type_at depth))) (ahead source.now.tokens.now input)) }
 {
     let mut here = input;
@@ -349,7 +349,7 @@ fn field_list(
     input: Cursor,
     depth: u32,
 ) -> Result<Cursor, Stop>
-    ensures { Tells source.now.tokens.now field_outline field_piece inside draft.old draft.new result (node constructs.FieldList (var_with (type_at depth)) (ahead source.now.tokens.now input)) }
+    ensures { Tabulates source.now.tokens.now field_outline field_piece inside draft.old draft.new result (node constructs.FieldList (var_with (type_at depth)) (ahead source.now.tokens.now input)) }
 {
     let first = draft.number;
     let row = declarer_at(Sort::Field, inside, first);
@@ -372,7 +372,7 @@ pub(crate) fn var_declaration(
     input: Cursor,
     depth: u32,
 ) -> Result<Cursor, Stop>
-    ensures { Tells source.now.tokens.now var_outline var_piece inside draft.old draft.new result (var_with (type_at depth) (ahead source.now.tokens.now input)) }
+    ensures { Tabulates source.now.tokens.now var_outline var_piece inside draft.old draft.new result (var_with (type_at depth) (ahead source.now.tokens.now input)) }
 {
     match declared_names(draft, inside, source.tokens, input) {
         Ok(here) => type_behind(draft, inside, source, here, Kind::Colon, depth),

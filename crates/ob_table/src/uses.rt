@@ -2,9 +2,9 @@
 
 ghost use Rattle.ob_tree.specs.Names.{qualident_outline};
 ghost use Rattle.ob_decls.specs.Statements.{qualident_piece};
-ghost use Rattle.ob_parse.specs.Gives.{ahead};
+ghost use Rattle.ob_parse.specs.Accords.{ahead};
 ghost use Rattle.ob_parse.specs.ReadNames as readers;
-ghost use Rattle.ob_table.specs.Tells.{Tells};
+ghost use Rattle.ob_table.specs.Tabulating.{Tabulates};
 
 use crate::words::pass_token;
 use ob_decls::draft::{Context, Draft};
@@ -22,7 +22,7 @@ pub(crate) fn qualident_after(
     head: u32,
     input: Cursor,
 ) -> Result<Cursor, Stop>
-    ensures { Tells tokens.now qualident_outline qualident_piece inside draft.old draft.new result (readers.qualident_after head (ahead tokens.now input)) }
+    ensures { Tabulates tokens.now qualident_outline qualident_piece inside draft.old draft.new result (readers.qualident_after head (ahead tokens.now input)) }
 {
     match accept(tokens, input, Kind::Dot) {
         None => {

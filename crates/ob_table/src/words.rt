@@ -5,8 +5,8 @@ ghost use Rattle.ob_tree.specs.Marks.{word};
 ghost use Rattle.std.specs.Prelude.{◌≡◌};
 ghost use Rattle.ob_decls.specs.Drafts.{after, passed, ComesTo};
 ghost use Rattle.ob_parse.specs.Forms.{accept_at, expect_at, nothing, optional};
-ghost use Rattle.ob_parse.specs.Gives.{ahead};
-ghost use Rattle.ob_table.specs.Tells.{TellsBy, Told};
+ghost use Rattle.ob_parse.specs.Accords.{ahead};
+ghost use Rattle.ob_table.specs.Tabulating.{TabulatesBy, Told};
 ghost use Rattle.ob_table.specs.TypeShapes.{skipped_outline, skipped_piece};
 
 use ob_decls::draft::{Context, Draft};
@@ -22,7 +22,7 @@ pub(crate) fn pass_word(
     input: Cursor,
     kind: Kind,
 ) -> Result<Cursor, Stop>
-    ensures { TellsBy tokens.now (λ (_ : Unit {0}). word kind) (λ _ s. passed s) draft.old draft.new result (expect_at kind (ahead tokens.now input)) }
+    ensures { TabulatesBy tokens.now (λ (_ : Unit {0}). word kind) (λ _ s. passed s) draft.old draft.new result (expect_at kind (ahead tokens.now input)) }
 {
     match expect(tokens, input, kind) {
         Ok(rest) => {

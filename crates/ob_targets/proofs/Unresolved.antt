@@ -103,6 +103,13 @@ module _ (w : World) (rs : List Reference) (k : ℕ) (are : AreReferences w rs) 
         | inr d ↦ in_tail x.number (map (λ (r : Reference). r.number) xs) row.number (mapped xs row d)
       ]
 
+  -- an identifier stands for what its reference says
+  pub refers_here : Contains (identifiers w.tokens) k → (t : Target) × (role : ℕ) × Refers w k t role
+  refers_here is =
+      let h : HasNumber rs k = numbered rs k (subst (λ (ns : List ℕ). Contains ns k) (sym are.numbers) is) in
+      let refers : Refers w h.row.number h.row.target h.row.role = All-contains (λ (r : Reference). Refers w r.number r.target r.role) rs h.row are.each h.among in
+      (h.row.target, h.row.role, subst (λ (n : ℕ). Refers w n h.row.target h.row.role) h.is refers)
+
   to_row : StandsForNothing w k → Contains (unresolved rs) k
   to_row s =
       let h : HasNumber rs k = numbered rs k (subst (λ (ns : List ℕ). Contains ns k) (sym are.numbers) s.is) in

@@ -18,6 +18,12 @@ pub fn one_target()
     ensures role { (w : World) (k : ℕ) (t u : Target) (r s : ℕ) → Refers w k t r → Refers w k u s → r ≡ s }
 {}
 
+/// Where a module has references, each of its identifiers stands for what is declared, or is predeclared, or stands for nothing, in
+/// some role: so by `one_target` it is exactly one of these, in one role.
+pub fn each_refers()
+    ensures { (w : World) (rs : List Reference) (k : ℕ) → AreReferences w rs → Contains (identifiers w.tokens) k → (t : Target) × (r : ℕ) × Refers w k t r }
+{}
+
 /// Of the references of a module those that stand for nothing are exactly the identifiers that do.
 pub fn unresolved_identifiers()
     ensures { (w : World) (rs : List Reference) (k : ℕ) → AreReferences w rs → Contains (unresolved rs) k ↔ StandsForNothing w k }

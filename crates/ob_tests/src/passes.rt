@@ -1,6 +1,7 @@
 //! The one pass over the tokens beside the tree: both tell the same table, or the same fault, of worked texts in each of which one token
 //! gives way to another word.
-ghost use Rattle.ob_scan.specs.Spelling.{IsOutcome, Reads};
+ghost use Rattle.std.specs.Prelude.{Ok};
+ghost use Rattle.ob_scan.specs.Spelling.{IsOutcome};
 
 use crate::readings::parsed;
 use ob_decls::{Table, table_of};
@@ -43,7 +44,7 @@ fn with_word(alloc: Global, text: &[u8], token: Token, word: &[u8]) -> Result<Ve
 
 /// The table with the tree made first.
 fn by_tree(alloc: Global, text: &[u8], tokens: &Tokens) -> Result<Table, ParseFault>
-    requires { IsOutcome text.now (Reads tokens.now) }
+    requires { IsOutcome text.now (Ok tokens.now) }
 {
     let tree = parsed(alloc, text, tokens)?;
     Ok(table_of(alloc, &tree)?)

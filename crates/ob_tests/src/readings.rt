@@ -1,7 +1,7 @@
 //! From texts to trees and tables.
-ghost use Rattle.std.specs.Prelude.{◌<◌, ◌^◌, length, IfOk};
+ghost use Rattle.std.specs.Prelude.{◌<◌, ◌^◌, length, IfOk, Ok};
 ghost use Rattle.ob_parse.specs.Parsed.{IsTheTree};
-ghost use Rattle.ob_scan.specs.Spelling.{IsOutcome, Reads};
+ghost use Rattle.ob_scan.specs.Spelling.{IsOutcome};
 ghost use Rattle.ob_tree.specs.Derives.{spelling};
 
 use ob_decls::{Table, table_of};
@@ -13,7 +13,7 @@ use std::test::Fail;
 
 /// The tree of tokens.
 pub(crate) fn parsed(alloc: Global, text: &[u8], tokens: &Tokens) -> Result<Box<Module>, ParseFault>
-    requires { IsOutcome text.now (Reads tokens.now) }
+    requires { IsOutcome text.now (Ok tokens.now) }
     ensures tree { IfOk result (λ tree. IsTheTree text.now tokens.now tree.value) }
     ensures few { IfOk result (λ tree. length (spelling tree.value) < 2 ^ 32) }
 {

@@ -100,6 +100,19 @@ one_more reached at a b before here all some within e at_a f at_b l =
     subst (λ (m : ModuleInterface). slice_cmp nat_cmp m.name (get_or (map arc_value reached) at d).name ≡ Less) (sym x)
     (subst (λ (n : ModuleInterface). slice_cmp nat_cmp before.name n.name ≡ Less) (sym y) l))
 
+-- the first of two neighbours that don't ascend
+pub none_ascend : (reached : List Shared) (at : ℕ) (a b : Shared) (before here : ModuleInterface) → 0 < at → at < length reached → before ≡ arc_value a → a ≡ get_or reached (at - 1) a → here ≡ arc_value b
+    → b ≡ get_or reached at b → (slice_cmp nat_cmp before.name here.name ≡ Less → ⊥) → AreByName (map arc_value reached) → ⊥
+none_ascend reached at a b before here some within e at_a f at_b not all =
+    let l : at - 1 + 1 < length (map arc_value reached) = omega (arith, length-map reached arc_value) in
+    let same : at - 1 + 1 ≡ at = omega arith in
+    let x : get_or (map arc_value reached) (at - 1) before ≡ before = get_or-map arc_value reached (at - 1) a before (omega arith) ∙ ap arc_value (sym at_a) ∙ sym e in
+    let y : get_or (map arc_value reached) (at - 1 + 1) before ≡ here =
+    ap (λ (n : ℕ). get_or (map arc_value reached) n before) same ∙ get_or-map arc_value reached at b before within ∙ ap arc_value (sym at_b) ∙ sym f in
+    not
+    (subst (λ (n : ModuleInterface). slice_cmp nat_cmp before.name n.name ≡ Less) y
+    (subst (λ (m : ModuleInterface). slice_cmp nat_cmp m.name (get_or (map arc_value reached) (at - 1 + 1) before).name ≡ Less) x (all (at - 1) before l)))
+
 ascends : (reached : List Shared) → AreByName (map arc_value reached) → Ascend name_of reached
 ascends reached s k d h =
     let l : k + 1 < length (map arc_value reached) = omega (arith, length-map reached arc_value) in

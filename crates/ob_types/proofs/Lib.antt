@@ -2,3 +2,4 @@ pub mod Same
 pub mod Firsts
 pub mod Ascending
 pub mod Backwards
+pub mod Telling

@@ -3,6 +3,7 @@ pub mod Shapes
 pub mod Same
 pub mod Homes
 pub mod Parted
+pub mod Told
 pub mod Depths
 pub mod DepthLaws
 pub mod NameLaws

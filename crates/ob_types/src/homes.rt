@@ -1,5 +1,5 @@
 //! The places of modules by their names.
-ghost use Rattle.std.specs.Prelude.{◌≡◌, ℕ, List, Some, IfOk, OnOk, if◌then◌else◌, map};
+ghost use Rattle.std.specs.Prelude.{◌≡◌, ◌↔◌, ℕ, List, Some, IfOk, IsTrue, OnOk, if◌then◌else◌, map};
 ghost use Rattle.std.specs.Str.{bytes_eq};
 ghost use Rattle.std.specs.Bool.{OnTrue};
 ghost use Rattle.std.specs.Cmp.Lexicographic.{slice_cmp};
@@ -80,14 +80,14 @@ fn table_of<'a>(
 
 /// Whether the name of a module stands before that of another.
 fn is_before(module: &Interface, other: &Interface) -> bool
-    ensures { OnTrue result (slice_cmp nat_cmp module.now.name other.now.name ≡ Less) }
+    ensures { IsTrue result ↔ (slice_cmp nat_cmp module.now.name other.now.name ≡ Less) }
 {
     module.name().cmp(&other.name()).is_lt()
 }
 
 /// Whether the names of modules ascend, none of them twice.
 pub fn ascend(reached: &[Arc<Interface>]) -> bool
-    ensures { OnTrue result (AreByName (map arc_value reached.now)) }
+    ensures { IsTrue result ↔ AreByName (map arc_value reached.now) }
 {
     for at in 1..reached.len() {
         if !is_before(&reached[at - 1], &reached[at]) {

@@ -11,7 +11,8 @@ ghost use Rattle.ob_types.specs.declared.nodes.Named.TheVariants as named;
 ghost use Rattle.type_search.specs.declared.shape.Shape.TheVariants as shapes;
 ghost use Rattle.ob_types.specs.Homes.{AreByName};
 ghost use Rattle.ob_types.specs.Parted.{home_by, world_of, AreFields, IsFew};
-ghost use Rattle.ob_types.specs.Shapes.{exported_type, home_meant, is_type, known, named_here, own_type, type_there, TypeShape};
+ghost use Rattle.type_search.specs.ToldFields.{AreAllFields};
+ghost use Rattle.ob_types.specs.Shapes.{exported_type, field_of, home_meant, is_type, known, named_here, own_type, type_there, TypeShape};
 ghost use Rattle.ob_types.specs.World.{field_at, form_of, home, home_of, meaning, text};
 
 use crate::homes::Homes;
@@ -19,10 +20,11 @@ use crate::name::Name;
 use crate::names::{fields_of, item_homes};
 use crate::nodes::{Named, Node, Record};
 use crate::parts::Parts;
+use crate::told::fields_told;
 use indexmap::IndexMap;
 use ob_decls::Sort;
 use std::alloc::{AllocError, Global};
-use type_search::Shape;
+use type_search::{OwnField, Shape};
 
 /// What a module is known by, with the places of modules by their names and by import items, and the fields by their records and names.
 #[derive(Drop)]
@@ -150,6 +152,13 @@ impl<'a> Indexed<'a> {
         ensures { result ≡ field_at (world_of self.now.parts) «record» name.now }
     {
         self.fields.get(&(record, Name { bytes: name })).copied()
+    }
+
+    /// All fields of records themselves.
+    pub(crate) fn all_fields(&self, alloc: Global) -> Result<Vec<OwnField<'a, Record>>, AllocError>
+        ensures { IfOk result (λ fields. AreAllFields (field_of (world_of self.now.parts)) fields.items) }
+    {
+        fields_told(alloc, &self.parts)
     }
 
     /// The type of what a token declares, by where it is written.

@@ -13,6 +13,7 @@ mod parts;
 mod places;
 mod shapes;
 mod there;
+mod told;
 mod types;
 
 pub use homes::ascend;

@@ -33,7 +33,7 @@ pub(crate) fn item_homes(
 
 /// The record in which the identifiers of the construct are fields that begins with this token; it is likely to declare the identifier at
 /// this place.
-fn record_of(parts: &Parts<'_>, place: usize, first: u32) -> Option<u32>
+pub(crate) fn record_of(parts: &Parts<'_>, place: usize, first: u32) -> Option<u32>
     ensures { result ≡ option_and_then (λ (c : Construct). c.of_record) (declarer_from (world_of parts.now) first) }
 {
     parts.declarer(place, first)?.of_record

@@ -15,6 +15,7 @@ use crate::hints::hints_of;
 use crate::indexed::Indexed;
 use crate::nodes::{Field, Named, Node, Record};
 use crate::parts::Parts;
+use crate::told::{records_told, size_told};
 use ob_decls::{Sort, Table};
 use ob_interface::Interface;
 use ob_scan::Token;
@@ -22,7 +23,7 @@ use ob_scope::Scopes;
 use std::alloc::{AllocError, Global};
 use std::marker::Model;
 use std::sync::Arc;
-use type_search::{Shape, TypeGraph};
+use type_search::{OwnField, Shape, TypeGraph};
 
 /// A module with the interfaces of the modules of its tree that it reaches, by what names and types mean in it. A contract sees it as the
 /// `World`. It borrows all that it is made of, and has indexes of its own.
@@ -265,6 +266,18 @@ impl TypeGraph for Types<'_> {
 
     fn base(&self, record: Record) -> Option<Node> {
         self.indexed.base(record)
+    }
+
+    fn size(&self) -> u64 {
+        size_told(&self.indexed.parts)
+    }
+
+    fn records(&self, alloc: Global) -> Result<Vec<Record>, AllocError> {
+        records_told(alloc, &self.indexed.parts)
+    }
+
+    fn fields(&self, alloc: Global) -> Result<Vec<OwnField<'_, Record>>, AllocError> {
+        self.indexed.all_fields(alloc)
     }
 
     ghost deep = { deep };

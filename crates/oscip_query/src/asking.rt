@@ -40,6 +40,7 @@ fn places_of<'a>(
     symbol: &[u8],
     which: Which,
 ) -> Result<Vec<Place<'a>>, AllocError>
+    requires means { (index : PlainIndex) × Means bytes.now index }
     ensures exact { (index : PlainIndex) → Means bytes.now index → IfOk result (λ places. map plain_place places.items ≡ places_asked which index path.now symbol.now) }
 {
     match which {
@@ -57,6 +58,7 @@ fn put_answer<S: Sink>(
     which: Which,
     sink: &mut S,
 ) -> Result<(), QueryFault>
+    requires means { (index : PlainIndex) × Means bytes.now index }
     ensures run { (index : PlainIndex) → Means bytes.now index → IsQueryRun bytes.now path.now at which (S.taken sink.old) (S.taken sink.new) result }
     ensures failures { S.failures sink.new ≡ failures_by is_device result (S.failures sink.old) }
 {

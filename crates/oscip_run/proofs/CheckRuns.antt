@@ -7,6 +7,7 @@ use Rattle.cut_net.specs.Pins.{IsCheapestSaidWithPins}
 use Rattle.cut_net.specs.NetText as nets
 use Rattle.cut_net.specs.declared.fault.NetFault.{NetFault}
 use Rattle.cut_net.specs.declared.fault.NetFault.TheVariants as net
+use Rattle.cut_net.specs.declared.price_fault.PriceFault.{PriceFault}
 use Rattle.cut_report.specs.Faults as report_faults
 use Rattle.cut_report.specs.ReportLines.{IsReportOutcome}
 use Rattle.cut_report.specs.Reading.{entry_of}
@@ -126,19 +127,25 @@ run_of IsOf IsRefused n is report old new (Err run.Device) h = front_of IsOf n i
 run_of IsOf IsRefused n is report old new (Err run.Memory) (inl h) = inl h
 run_of IsOf IsRefused n is report old new (Err run.Memory) (inr h) = inr (front_of IsOf n is report old new h)
 
--- no network, in a run of the check
+-- no network, in a run of any engine
+pub no_run : (IsRun IsRefused : RunFault → Type 0) (known : Option (List ℕ)) → ((fault : TreeFault) → IsRefused (run.Tree fault) × Keeps known known → IsRun (run.Tree fault)) →
+    ((fault : NetFault) → IsRefused (run.Net fault) × Keeps known known → IsRun (run.Net fault)) → ((fault : PriceFault) → IsRefused (run.Price fault) × Keeps known known → IsRun (run.Price fault)) →
+    (Keeps known known → IsRun run.Memory) → (fault : RunFault) → IsRefusedOr IsRefused fault → IsRun fault
+no_run IsRun IsRefused known tree net price memory (run.CannotRead path) h = absurd h
+no_run IsRun IsRefused known tree net price memory (run.CannotWrite path) h = absurd h
+no_run IsRun IsRefused known tree net price memory (run.Tree fault) h = tree fault (h, Keeps-same known)
+no_run IsRun IsRefused known tree net price memory (run.Net fault) h = net fault (h, Keeps-same known)
+no_run IsRun IsRefused known tree net price memory (run.Price fault) h = price fault (h, Keeps-same known)
+no_run IsRun IsRefused known tree net price memory (run.Report fault) h = absurd h
+no_run IsRun IsRefused known tree net price memory (run.Solve fault) h = absurd h
+no_run IsRun IsRefused known tree net price memory (run.Query fault) h = absurd h
+no_run IsRun IsRefused known tree net price memory run.Device h = absurd h
+no_run IsRun IsRefused known tree net price memory run.Memory h = memory (Keeps-same known)
+
+-- and in one of the check
 pub no_net : (IsOf : Network → Type 0) (IsRefused : RunFault → Type 0) (report : List ℕ) (known : Option (List ℕ)) (fault : RunFault) → IsRefusedOr IsRefused fault →
     IsCheckRun IsOf IsRefused report known known (Err fault)
-no_net IsOf IsRefused report known (run.CannotRead path) h = h
-no_net IsOf IsRefused report known (run.CannotWrite path) h = h
-no_net IsOf IsRefused report known (run.Tree fault) h = (h, Keeps-same known)
-no_net IsOf IsRefused report known (run.Net fault) h = (h, Keeps-same known)
-no_net IsOf IsRefused report known (run.Price fault) h = (h, Keeps-same known)
-no_net IsOf IsRefused report known (run.Report fault) h = absurd h
-no_net IsOf IsRefused report known (run.Solve fault) h = h
-no_net IsOf IsRefused report known (run.Query fault) h = h
-no_net IsOf IsRefused report known run.Device h = absurd h
-no_net IsOf IsRefused report known run.Memory h = inl (Keeps-same known)
+no_net IsOf IsRefused report known = no_run (λ fault. IsCheckRun IsOf IsRefused report known known (Err fault)) IsRefused known (λ fault h. h) (λ fault h. h) (λ fault h. h) (λ h. inl h)
 
 -- a line of two names
 pub two_names : (cause word from to a b ending : List ℕ) → from ≡ a → to ≡ b → cause ++ (word ++ (32 ∷ (from ++ (32 ∷ (to ++ ending))))) ≡ cause ++ word ++ (32 ∷ []) ++ a ++ (32 ∷ []) ++ b ++ ending

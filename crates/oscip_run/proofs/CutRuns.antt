@@ -21,7 +21,7 @@ use Rattle.oscip_run.specs.PricedInputs.{IsRefusedOr}
 use Rattle.oscip_run.specs.Runs.{IsNeverRefused, IsThis}
 use Rattle.oscip_run.specs.declared.fault.RunFault.{RunFault}
 use Rattle.oscip_run.specs.declared.fault.RunFault.TheVariants as run
-use Rattle.oscip_run.proofs.CheckRuns.{Keeps-same}
+use Rattle.oscip_run.proofs.CheckRuns.{Keeps-same, no_run}
 use Rattle.oscip_run.proofs.Sayable.{is_report, FlowFits}
 
 -- refused names
@@ -96,16 +96,7 @@ front_of IsOf n is first second old new h = (h.0, text_of IsOf n is first second
 -- no network, in a run of the search for a cut
 pub no_net : (IsOf : Network → Type 0) (IsRefused : RunFault → Type 0) (first second : List ℕ) (known : Option (List ℕ)) (fault : RunFault) → IsRefusedOr IsRefused fault →
     IsCutRun IsOf IsRefused first second known known (Err fault)
-no_net IsOf IsRefused first second known (run.CannotRead path) h = h
-no_net IsOf IsRefused first second known (run.CannotWrite path) h = h
-no_net IsOf IsRefused first second known (run.Tree fault) h = (h, Keeps-same known)
-no_net IsOf IsRefused first second known (run.Net fault) h = (h, Keeps-same known)
-no_net IsOf IsRefused first second known (run.Price fault) h = (h, Keeps-same known)
-no_net IsOf IsRefused first second known (run.Report fault) h = h
-no_net IsOf IsRefused first second known (run.Solve fault) h = absurd h
-no_net IsOf IsRefused first second known (run.Query fault) h = h
-no_net IsOf IsRefused first second known run.Device h = absurd h
-no_net IsOf IsRefused first second known run.Memory h = inl (Keeps-same known)
+no_net IsOf IsRefused first second known = no_run (λ fault. IsCutRun IsOf IsRefused first second known known (Err fault)) IsRefused known (λ fault h. h) (λ fault h. h) (λ fault h. h) (λ h. inl h)
 
 -- and so is a run
 pub run_of : (IsOf : Network → Type 0) (IsRefused : RunFault → Type 0) (n : Network) → IsOf n → (first second : List ℕ) (old new : Option (List ℕ)) (result : Result (Unit {0}) RunFault) →

@@ -22,7 +22,7 @@ use Rattle.oscip_run.specs.PricedInputs.{IsRefusedOr}
 use Rattle.oscip_run.specs.Runs.{IsNeverRefused, IsThis}
 use Rattle.oscip_run.specs.declared.fault.RunFault.{RunFault}
 use Rattle.oscip_run.specs.declared.fault.RunFault.TheVariants as run
-use Rattle.oscip_run.proofs.CheckRuns.{Keeps-same}
+use Rattle.oscip_run.proofs.CheckRuns.{Keeps-same, no_run}
 
 -- a refused report
 pub refused : (n : Network) (text : List ℕ) (known : Option (List ℕ)) (fault : ReportFault) → UnlessMemory fault (IsReportOutcome n text (Err fault))
@@ -65,16 +65,7 @@ front_of IsOf n is bytes old new h = (h.0, drawn_of IsOf n is bytes h.0 h.1, h.2
 -- no network, in a run that draws
 pub no_net : (IsOf : Network → Type 0) (IsRefused : RunFault → Type 0) (bytes : List ℕ) (known : Option (List ℕ)) (fault : RunFault) → IsRefusedOr IsRefused fault →
     IsDotRun IsOf IsRefused bytes known known (Err fault)
-no_net IsOf IsRefused bytes known (run.CannotRead path) h = h
-no_net IsOf IsRefused bytes known (run.CannotWrite path) h = h
-no_net IsOf IsRefused bytes known (run.Tree fault) h = (h, Keeps-same known)
-no_net IsOf IsRefused bytes known (run.Net fault) h = (h, Keeps-same known)
-no_net IsOf IsRefused bytes known (run.Price fault) h = (h, Keeps-same known)
-no_net IsOf IsRefused bytes known (run.Report fault) h = absurd h
-no_net IsOf IsRefused bytes known (run.Solve fault) h = h
-no_net IsOf IsRefused bytes known (run.Query fault) h = h
-no_net IsOf IsRefused bytes known run.Device h = absurd h
-no_net IsOf IsRefused bytes known run.Memory h = inl (Keeps-same known)
+no_net IsOf IsRefused bytes known = no_run (λ fault. IsDotRun IsOf IsRefused bytes known known (Err fault)) IsRefused known (λ fault h. h) (λ fault h. h) (λ fault h. h) (λ h. inl h)
 
 -- and so is a run
 pub run_of : (IsOf : Network → Type 0) (IsRefused : RunFault → Type 0) (n : Network) → IsOf n → (bytes : List ℕ) (old new : Option (List ℕ)) (result : Result (Unit {0}) RunFault)

@@ -1,12 +1,9 @@
 -- From the network of an input to that with its prices.
-use Rattle.std.proofs.Common.{ℕ, List, Option, Some, None, Err, refl, inl, inr, sym, subst}
+use Rattle.std.proofs.Common.{ℕ, List, Option, Some, None, Err, inl, inr, sym, subst}
 use Rattle.cut_net.specs.Network.{Network}
-use Rattle.cut_net.specs.Prices as prices
 use Rattle.cut_net.specs.NetText as nets
 use Rattle.cut_net.specs.declared.fault.NetFault.{NetFault}
-use Rattle.cut_net.specs.declared.price_fault.PriceFault.{PriceFault}
-use Rattle.cut_net.specs.declared.price_fault.PriceFault.TheVariants as price
-use Rattle.oscip_run.specs.Faults.{of_net, of_price, of_tree}
+use Rattle.oscip_run.specs.Faults.{of_net, of_tree}
 use Rattle.oscip_run.specs.PricedInputs.{IsPricedInput, IsRefusedOr, IsRefusedPriced, IsRefusedPricedText, IsRefusedPricedTree}
 use Rattle.oscip_run.specs.Runs.{IsNetOfText, IsNeverRefused, IsRefusedText, IsRefusedTree, IsThis}
 use Rattle.oscip_run.specs.declared.fault.RunFault.{RunFault}
@@ -15,12 +12,6 @@ use Rattle.oscip_tree.specs.Trees.{IsNetOfTree, IsTreeFault}
 use Rattle.oscip_tree.specs.declared.source.Source.{Source}
 use Rattle.oscip_tree.specs.declared.tree_fault.TreeFault.{TreeFault}
 use Rattle.oscip_run.proofs.CheckRuns.{refused_net, refused_tree}
-
--- refused prices
-pub refused_price : (n : Network) (text : List ℕ) (fault : PriceFault) → prices.UnlessMemory fault (prices.IsPriceOutcome n text (Err fault)) →
-    IsRefusedOr (IsRefusedPriced (IsThis n) IsNeverRefused (Some text)) (of_price fault)
-refused_price n text price.Memory h = tt
-refused_price n text fault h = inr (n, refl, h)
 
 -- with its prices a network is that of the input that has it
 pub priced_of : (IsOf : Network → Type 0) (n : Network) → IsOf n → (text : Option (List ℕ)) (r : Network) → IsPricedInput (IsThis n) text r → IsPricedInput IsOf text r

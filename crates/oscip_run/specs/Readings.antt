@@ -75,8 +75,8 @@ IsTreeNotGiven Answers paths fault =
 -- ---- what is made on the way
 
 -- the bytes that were given, if any were
-abbrev pub bytes_given : Option (Vec ℕ) → Option (List ℕ)
-bytes_given given = option_map (λ (bytes : Vec ℕ). bytes.items) given
+abbrev pub given_bytes : Option (Vec ℕ) → Option (List ℕ)
+given_bytes given = option_map (λ (bytes : Vec ℕ). bytes.items) given
 
 -- the bytes, and none where nothing was given
 abbrev pub bytes_or_none : Option (List ℕ) → List ℕ

@@ -55,7 +55,7 @@ pub(crate) fn cannot_read(alloc: Global, path: &str) -> ReadFault {
 }
 
 /// The fault of a path that the system answered with an error.
-pub(crate) fn fault_at(alloc: Global, path: &str, error: &io::Error) -> ReadFault {
+pub(crate) fn file_fault(alloc: Global, path: &str, error: &io::Error) -> ReadFault {
     if error.kind() == ErrorKind::OutOfMemory {
         ReadFault::Memory
     } else {
@@ -79,7 +79,7 @@ pub(crate) fn read_front<R: Files + AllocGlobal>(
         // std says no bound of what is taken
         Ok(_) if bytes.len() as u64 <= most => Ok(bytes),
         Ok(_) => Err(cannot_read(rt.alloc(), path)),
-        Err(error) => Err(fault_at(rt.alloc(), path, &error)),
+        Err(error) => Err(file_fault(rt.alloc(), path, &error)),
     }
 }
 

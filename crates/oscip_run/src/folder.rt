@@ -5,7 +5,7 @@ ghost use Rattle.oscip_run.specs.Files.{AreFronts, IsFrontOfModule};
 ghost use Rattle.oscip_tree.specs.Sources.{ArePathsInOrder};
 
 use crate::RunFault;
-use crate::files::{ReadFault, cannot_read, fault_at, read_front};
+use crate::files::{ReadFault, cannot_read, file_fault, read_front};
 use oscip_tree::{Source, in_order};
 use std::alloc::{AllocError, Global};
 use std::fs::ReadDir;
@@ -61,7 +61,7 @@ fn is_folder<R: Files + AllocGlobal>(rt: &R, path: &str) -> Result<bool, ReadFau
     match fs::metadata(rt, path) {
         Ok(metadata) => Ok(metadata.is_dir()),
         Err(error) if is_module(path) || leads_nowhere(&error) => Ok(false),
-        Err(error) => Err(fault_at(rt.alloc(), path, &error)),
+        Err(error) => Err(file_fault(rt.alloc(), path, &error)),
     }
 }
 
@@ -80,7 +80,7 @@ fn names_of<R: Files + AllocGlobal + Clone + Drop>(
     for entry in listing {
         match entry {
             Ok(entry) => add_name(alloc, &mut names, entry.file_name())?,
-            Err(error) => return Err(fault_at(alloc, path, &error)),
+            Err(error) => return Err(file_fault(alloc, path, &error)),
         }
     }
     Ok(names)
@@ -97,7 +97,7 @@ fn names_in<R: Files + AllocGlobal + Clone + Drop>(
             names.sort_unstable_by(|first, second| second.cmp(first));
             Ok(names)
         }
-        Err(error) => Err(fault_at(rt.alloc(), path, &error)),
+        Err(error) => Err(file_fault(rt.alloc(), path, &error)),
     }
 }
 
@@ -201,7 +201,7 @@ fn read_module<R: Files + AllocGlobal>(rt: &R, path: &str) -> Result<Vec<u8>, Re
     match fs::metadata(rt, path) {
         Ok(metadata) if metadata.is_file() => read_front(rt, path, MODULE_LIMIT + 1),
         Ok(_) => Err(cannot_read(rt.alloc(), path)),
-        Err(error) => Err(fault_at(rt.alloc(), path, &error)),
+        Err(error) => Err(file_fault(rt.alloc(), path, &error)),
     }
 }
 

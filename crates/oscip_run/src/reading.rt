@@ -4,7 +4,7 @@ ghost use Rattle.byte_sink.specs.Sinks.{failures_by};
 ghost use Rattle.oscip_job.specs.Jobs.{is_crossings_job, is_net_job, is_query_job, is_tree_job, HasWorkers};
 ghost use Rattle.oscip_run.specs.Faults.{is_device, IsReadFault};
 ghost use Rattle.oscip_run.specs.FileRuns.{IsNetRun, IsQuestionRun, IsTreeRun, IsUsesRun};
-ghost use Rattle.oscip_run.specs.Readings.{bytes_given, bytes_or_none, job_paths, AreGiven, AreNotGiven, IsGiven, IsNotGiven};
+ghost use Rattle.oscip_run.specs.Readings.{given_bytes, bytes_or_none, job_paths, AreGiven, AreNotGiven, IsGiven, IsNotGiven};
 
 use crate::{Reader, RunFault, answer, answer_crossings, answer_question, answer_tree};
 use byte_sink::Sink;
@@ -80,7 +80,7 @@ struct Beside {
 
 /// The bytes of a file, where one is named.
 fn read_named<F: Reader>(reader: &F, path: Option<&str>) -> Result<Option<Vec<u8>>, RunFault>
-    ensures given { IfOk result (λ given. IsGiven (F.answers reader.now) (option_copied path.entry) (bytes_given given)) }
+    ensures given { IfOk result (λ given. IsGiven (F.answers reader.now) (option_copied path.entry) (given_bytes given)) }
     ensures refused { IfErr result (IsNotGiven (F.answers reader.now) (option_copied path.entry)) }
     ensures fault { IfErr result IsReadFault }
 {
@@ -92,7 +92,7 @@ fn read_named<F: Reader>(reader: &F, path: Option<&str>) -> Result<Option<Vec<u8
 
 /// Reads the report first, and then the prices.
 fn read_beside<F: Reader>(reader: &F, job: &Job) -> Result<Beside, RunFault>
-    ensures given { IfOk result (λ beside. AreGiven (F.answers reader.now) (job_paths job.now) (bytes_given beside.report) (bytes_given beside.prices)) }
+    ensures given { IfOk result (λ beside. AreGiven (F.answers reader.now) (job_paths job.now) (given_bytes beside.report) (given_bytes beside.prices)) }
     ensures refused { IfErr result (AreNotGiven (F.answers reader.now) (job_paths job.now)) }
     ensures fault { IfErr result IsReadFault }
 {
@@ -103,7 +103,7 @@ fn read_beside<F: Reader>(reader: &F, job: &Job) -> Result<Beside, RunFault>
 
 /// The bytes, and none where nothing was given.
 fn bytes_or_none(given: &Option<Vec<u8>>) -> &[u8]
-    ensures { result.now ≡ bytes_or_none (bytes_given given.now) }
+    ensures { result.now ≡ bytes_or_none (given_bytes given.now) }
 {
     match given {
         Some(bytes) => bytes.as_slice(),

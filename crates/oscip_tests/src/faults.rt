@@ -27,7 +27,7 @@ const FAULTS: &[(Failing, &str)] = &[
 ];
 
 /// The fault of a place, with this path where it has one.
-fn fault_at(place: &Failing, path: String) -> RunFault {
+fn failing_fault(place: &Failing, path: String) -> RunFault {
     match place {
         Failing::Sink => RunFault::Device,
         Failing::Run => RunFault::Memory,
@@ -53,7 +53,7 @@ pub fn fault_told(alloc: Global, fault: &RunFault) -> Result<String, AllocError>
 fn want_of_memory_and_a_sink_that_fails_have_their_lines(rt: HostRuntime) -> Result<(), Fail> {
     for (place, want) in FAULTS {
         let path = String::from_str(rt.alloc(), "a/M.Mod")?;
-        let told = fault_told(rt.alloc(), &fault_at(place, path))?;
+        let told = fault_told(rt.alloc(), &failing_fault(place, path))?;
         assert_eq!(rt; told.as_str(), *want);
     }
     Ok(())

@@ -1,5 +1,5 @@
 -- Where a module of a tree uses another, and how often.
-use Rattle.std.proofs.Common.{◌≡◌, ℕ, zero, suc, ◌+◌, ◌<◌, ◌≤◌, List, [], ◌∷◌, ◌++◌, length, get_or, take, Some, None, refl, sym, ap, ◌∙◌, subst, inl, inr, arith}
+use Rattle.std.proofs.Common.{◌≡◌, ℕ, zero, suc, ◌+◌, ◌<◌, ◌≤◌, List, [], ◌∷◌, ◌++◌, length, get_or, take, Some, None, Ok, refl, sym, ap, ◌∙◌, subst, inl, inr, arith}
 use Rattle.std.specs.Prelude.{Contains, slice_get}
 use Rattle.std.specs.Str.{bytes_eq}
 use Rattle.std.proofs.lemmas.Bool.{cases_lt, false≢true}
@@ -22,7 +22,7 @@ use Rattle.ob_imports.proofs.Places.{place_found, place_is}
 use Rattle.ob_parse.specs.Parsed.{IsTheTree}
 use Rattle.ob_scan.proofs.Outcomes.{spelled_once}
 use Rattle.ob_scan.specs.declared.token.Token.{Token}
-use Rattle.ob_scan.specs.Spelling.{AreInText, IsOutcome, Reads}
+use Rattle.ob_scan.specs.Spelling.{AreInText, IsOutcome}
 use Rattle.ob_scope.specs.declared.across.Crossing.{Crossing}
 use Rattle.ob_scope.specs.Counted.{Crosses, HasWeight}
 use Rattle.ob_scope.specs.Crossings.{AreCrossings}
@@ -81,15 +81,15 @@ spans_as_many bytes ts (c ∷ cs) (x ∷ spans) all = ap suc (spans_as_many byte
 -- ---- one file
 
 -- what is found by one reading of a file holds of each
-module _ (source : Source) (ts : List Token) (m : Module) (reads : IsOutcome source.bytes.items (Reads ts)) (tree : IsTheTree source.bytes.items ts m) (s : ModuleScopes) (n : List ℕ) where
+module _ (source : Source) (ts : List Token) (m : Module) (reads : IsOutcome source.bytes.items (Ok ts)) (tree : IsTheTree source.bytes.items ts m) (s : ModuleScopes) (n : List ℕ) where
   pub places_by : (r : Rows) (cs : List Crossing) (spans : List Span) → r ≡ rows_of m
       → ((bytes : List ℕ) (us : List Token) → AreScopes bytes us r s → AreCrossings (text_at bytes us) r n r.uses cs)
       → AreSpans source.bytes.items ts cs spans → (file : ModuleFile) → IsAccepted source file → AreScopesOf file s → ArePlaces file n spans
   places_by r cs spans is crosses all file accepted scoped =
       let spells = accepted.reads.1 in
       let bytes : file.bytes ≡ source.bytes.items = accepted.bytes_are in
-      let tokens : ts ≡ file.tokens = spelled_once file.bytes ts file.tokens (subst (λ (bs : List ℕ). IsOutcome bs (Reads ts)) (sym bytes) reads).1 spells in
-      let here : rows_of m ≡ rows file = one_rows file.bytes ts file.tokens m file.tree (subst (λ (bs : List ℕ). IsOutcome bs (Reads ts)) (sym bytes) reads).1 spells tree.tree.derived accepted.is_tree.tree.derived in
+      let tokens : ts ≡ file.tokens = spelled_once file.bytes ts file.tokens (subst (λ (bs : List ℕ). IsOutcome bs (Ok ts)) (sym bytes) reads).1 spells in
+      let here : rows_of m ≡ rows file = one_rows file.bytes ts file.tokens m file.tree (subst (λ (bs : List ℕ). IsOutcome bs (Ok ts)) (sym bytes) reads).1 spells tree.tree.derived accepted.is_tree.tree.derived in
       let found = crosses file.bytes file.tokens (subst (λ (x : Rows). AreScopes file.bytes file.tokens x s) (sym (is ∙ here)) scoped) in
       record {
         crossings = cs;
@@ -224,8 +224,8 @@ module _ (sources : List Source) (tree : Tree) (of : IsTreeOf sources tree) (m n
   take_lengths (suc i) (x ∷ xs) [] e = absurd (omega arith)
   take_lengths (suc i) (x ∷ xs) (y ∷ ys) e = ap suc (take_lengths i xs ys (omega arith))
 
-  pub fault_at : (v : ℕ) (source : Source) (fault : TreeFault) → v < length sources → source ≡ get_or sources v source → IsFileFault source fault → IsTreeFault sources fault
-  fault_at v source fault within is h = of_tree sources fault (first_fault sources v source (take v of.files) fault within is
+  pub crossed_fault : (v : ℕ) (source : Source) (fault : TreeFault) → v < length sources → source ≡ get_or sources v source → IsFileFault source fault → IsTreeFault sources fault
+  crossed_fault v source fault within is h = of_tree sources fault (first_fault sources v source (take v of.files) fault within is
       (record {
         as_many = take_lengths v of.files sources of.read.accepted.as_many;
         each = λ i x file at_source at. of.read.accepted.each i x file (take_there v i sources x at_source) (take_there v i of.files file at);

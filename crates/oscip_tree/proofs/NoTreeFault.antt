@@ -10,7 +10,7 @@ use Rattle.ob_imports.proofs.OneOutcome.{one_outcome}
 use Rattle.ob_scan.specs.declared.fault.ScanFault.{ScanFault}
 use Rattle.ob_scan.specs.declared.fault.ScanFault.TheVariants as scans
 use Rattle.ob_scan.specs.declared.token.Token.{Token}
-use Rattle.ob_scan.specs.Spelling.{BadByte, BadNumber, IsOutcome, OpenComment, OpenString, Outcome, Reads, TooLong}
+use Rattle.ob_scan.specs.Spelling.{IsOutcome}
 use Rattle.ob_scan.proofs.Outcomes.{outcome_once, spelled_once}
 use Rattle.ob_tree.specs.declared.declaration.Module.{Module}
 use Rattle.ob_parse.specs.declared.fault.ParseFault.{ParseFault}
@@ -36,20 +36,20 @@ use Rattle.oscip_tree.proofs.TreeFiles.{there}
 
 -- ---- one file
 
-no_other : (bytes : List ℕ) (ts : List Token) (o : Outcome) → IsOutcome bytes (Reads ts) → IsOutcome bytes o → Reads ts ≡ o
-no_other bytes ts o h k = outcome_once bytes (Reads ts) o h k
+no_other : (bytes : List ℕ) (ts : List Token) (fault : ScanFault) → IsOutcome bytes (Ok ts) → IsOutcome bytes (Err fault) → ⊥
+no_other bytes ts fault h k = let e = outcome_once bytes (Ok ts) (Err fault) h k in absurd cc
 
 -- bytes with tokens have no fault of the scanner
-pub no_scan_fault : (bytes : List ℕ) (ts : List Token) (fault : ScanFault) → IsOutcome bytes (Reads ts) → HasScanFault fault bytes → fault ≡ scans.Memory
-no_scan_fault bytes ts (scans.BadByte at) h f = let e = no_other bytes ts (BadByte at) h f in absurd cc
-no_scan_fault bytes ts (scans.BadNumber at) h f = let e = no_other bytes ts (BadNumber at) h f in absurd cc
-no_scan_fault bytes ts (scans.OpenString at) h f = let e = no_other bytes ts (OpenString at) h f in absurd cc
-no_scan_fault bytes ts (scans.OpenComment at) h f = let e = no_other bytes ts (OpenComment at) h f in absurd cc
-no_scan_fault bytes ts scans.TooLong h f = let e = no_other bytes ts TooLong h f in absurd cc
+pub no_scan_fault : (bytes : List ℕ) (ts : List Token) (fault : ScanFault) → IsOutcome bytes (Ok ts) → HasScanFault fault bytes → fault ≡ scans.Memory
+no_scan_fault bytes ts (scans.BadByte at) h f = absurd (no_other bytes ts (scans.BadByte at) h f)
+no_scan_fault bytes ts (scans.BadNumber at) h f = absurd (no_other bytes ts (scans.BadNumber at) h f)
+no_scan_fault bytes ts (scans.OpenString at) h f = absurd (no_other bytes ts (scans.OpenString at) h f)
+no_scan_fault bytes ts (scans.OpenComment at) h f = absurd (no_other bytes ts (scans.OpenComment at) h f)
+no_scan_fault bytes ts scans.TooLong h f = absurd (no_other bytes ts scans.TooLong h f)
 no_scan_fault bytes ts scans.Memory h f = refl
 
 -- tokens with a tree have no fault of the parser
-pub no_parse_fault : (bytes : List ℕ) (ts : List Token) (m : Module) (fault : ParseFault) → IsOutcome bytes (Reads ts) → IsTheTree bytes ts m → HasParseFault fault bytes → fault ≡ parses.Memory
+pub no_parse_fault : (bytes : List ℕ) (ts : List Token) (m : Module) (fault : ParseFault) → IsOutcome bytes (Ok ts) → IsTheTree bytes ts m → HasParseFault fault bytes → fault ≡ parses.Memory
 no_parse_fault bytes ts m fault h tree (us, reads, f) =
     no_fault bytes ts m fault tree (subst (λ (vs : List Token). IsFaultOf bytes vs fault) (spelled_once bytes us ts reads.1 h.1) f)
 
@@ -60,7 +60,7 @@ no_twice bytes ts r (scopes.TwiceField name first second) once (d, e, token, pla
 no_twice bytes ts r scopes.Memory once h = refl
 
 -- a fault of names is one of the tokens and the tree that there are
-pub scope_fault_of : (bytes : List ℕ) (ts : List Token) (m : Module) (fault : ScopeFault) → IsOutcome bytes (Reads ts) → IsTheTree bytes ts m → HasScopeFault fault bytes → IsScopeFault bytes ts (rows_of m) fault
+pub scope_fault_of : (bytes : List ℕ) (ts : List Token) (m : Module) (fault : ScopeFault) → IsOutcome bytes (Ok ts) → IsTheTree bytes ts m → HasScopeFault fault bytes → IsScopeFault bytes ts (rows_of m) fault
 scope_fault_of bytes ts m fault h tree (us, n, reads, other, f) =
     let tokens : us ≡ ts = spelled_once bytes us ts reads.1 h.1 in
     let listed : rows_of n ≡ rows_of m = one_rows bytes us ts n m reads.1 h.1 other.tree.derived tree.tree.derived in
@@ -69,8 +69,8 @@ scope_fault_of bytes ts m fault h tree (us, n, reads, other, f) =
 pub no_file_fault : (s : Source) (file : ModuleFile) (fault : TreeFault) → IsAccepted s file → IsFileFault s fault → wants_memory fault ≡ true
 no_file_fault s file fault ok h = go fault h
   where
-    reads : IsOutcome s.bytes.items (Reads file.tokens)
-    reads = subst (λ (bs : List ℕ). IsOutcome bs (Reads file.tokens)) ok.bytes_are ok.reads
+    reads : IsOutcome s.bytes.items (Ok file.tokens)
+    reads = subst (λ (bs : List ℕ). IsOutcome bs (Ok file.tokens)) ok.bytes_are ok.reads
 
     tree : IsTheTree s.bytes.items file.tokens file.tree
     tree = subst (λ (bs : List ℕ). IsTheTree bs file.tokens file.tree) ok.bytes_are ok.is_tree

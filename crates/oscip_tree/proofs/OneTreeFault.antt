@@ -1,6 +1,6 @@
 -- A refused tree has one fault.
 use Rattle.std.proofs.Common.{◌≡◌, ◌≢◌, ℕ, ◌<◌, false, List, [], ◌∷◌, ◌++◌, length, Option, None, Some, Result, Ok, Err, refl, sym, ap, ap₂, ◌∙◌, subst, inl, inr, arith}
-use Rattle.std.specs.Prelude.{IfSome, codes, slice_get}
+use Rattle.std.specs.Prelude.{codes, slice_get}
 use Rattle.std.specs.Fmt.{decimal}
 use Rattle.std.specs.List.{flat_map}
 use Rattle.std.specs.String.{string_bytes}
@@ -17,7 +17,7 @@ use Rattle.ob_scan.specs.declared.fault.ScanFault.TheVariants as scans
 use Rattle.ob_scan.specs.declared.place.Position.{Position}
 use Rattle.ob_scan.specs.declared.token.Token.{Token}
 use Rattle.ob_scan.specs.Position.{IsPosition}
-use Rattle.ob_scan.specs.Spelling.{BadByte, BadNumber, IsOutcome, OpenComment, OpenString, Outcome, Reads, TooLong, outcome_of as scan_outcome_of}
+use Rattle.ob_scan.specs.Spelling.{IsOutcome}
 use Rattle.ob_scan.proofs.Outcomes.{outcome_once, spelled_once}
 use Rattle.ob_parse.specs.declared.fault.ParseFault.{ParseFault}
 use Rattle.ob_parse.specs.declared.fault.ParseFault.TheVariants as parses
@@ -110,36 +110,17 @@ one_text s path other at to m n told says H G h k same e = λ i. same_path i ++ 
 
 -- ---- the tokens
 
--- the fault that an outcome is
-abbrev fault_of : Option Outcome → ScanFault
-fault_of None = scans.Memory
-fault_of (Some (Reads ts)) = scans.Memory
-fault_of (Some (BadByte at)) = scans.BadByte at
-fault_of (Some (BadNumber at)) = scans.BadNumber at
-fault_of (Some (OpenString at)) = scans.OpenString at
-fault_of (Some (OpenComment at)) = scans.OpenComment at
-fault_of (Some TooLong) = scans.TooLong
-
-is_fault_of : (fault : ScanFault) → fault ≡ fault_of (scan_outcome_of (Err fault))
-is_fault_of (scans.BadByte at) = refl
-is_fault_of (scans.BadNumber at) = refl
-is_fault_of (scans.OpenString at) = refl
-is_fault_of (scans.OpenComment at) = refl
-is_fault_of scans.TooLong = refl
-is_fault_of scans.Memory = refl
-
-one_said : (bytes : List ℕ) (x y : Option Outcome) → IfSome x (IsOutcome bytes) → IfSome y (IsOutcome bytes) → (x ≡ None → ⊥) → (y ≡ None → ⊥) → x ≡ y
-one_said bytes None y h k some other = absurd (some refl)
-one_said bytes (Some o) None h k some other = absurd (other refl)
-one_said bytes (Some o) (Some p) h k some other = ap Some (outcome_once bytes o p h k)
-
-known_said : (fault : ScanFault) → (fault ≢ scans.Memory) → scan_outcome_of (Err fault) ≡ None → ⊥
-known_said fault known none = known (is_fault_of fault ∙ ap fault_of none)
+scan_fault_said : (bytes : List ℕ) (fault : ScanFault) → (fault ≢ scans.Memory) → HasScanFault fault bytes → IsOutcome bytes (Err fault)
+scan_fault_said bytes (scans.BadByte at) known h = h
+scan_fault_said bytes (scans.BadNumber at) known h = h
+scan_fault_said bytes (scans.OpenString at) known h = h
+scan_fault_said bytes (scans.OpenComment at) known h = h
+scan_fault_said bytes scans.TooLong known h = h
+scan_fault_said bytes scans.Memory known h = absurd (known refl)
 
 one_scan_fault : (bytes : List ℕ) (f g : ScanFault) → (f ≢ scans.Memory) → (g ≢ scans.Memory) → HasScanFault f bytes → HasScanFault g bytes → f ≡ g
 one_scan_fault bytes f g known_f known_g h k =
-    let said = one_said bytes (scan_outcome_of (Err f)) (scan_outcome_of (Err g)) h k (known_said f known_f) (known_said g known_g) in
-    is_fault_of f ∙ ap fault_of said ∙ sym (is_fault_of g)
+    let e = outcome_once bytes (Err f) (Err g) (scan_fault_said bytes f known_f h) (scan_fault_said bytes g known_g k) in cc
 
 -- ---- the tree
 

@@ -1,12 +1,13 @@
 -- What a tree of files is, the network of its imports, and why it is refused.
-use Rattle.std.specs.Prelude.{◌≡◌, ◌≢◌, ◌↔◌, ℕ, ◌<◌, List, [], ◌∷◌, ◌++◌, length, map, slice_get, Some, IfSome, Err, Contains}
+use Rattle.std.specs.Prelude.{◌≡◌, ◌≢◌, ◌↔◌, ℕ, ◌<◌, List, [], ◌∷◌, ◌++◌, length, map, slice_get, Some, Ok, Err, Contains}
 use Rattle.std.specs.String.{string_bytes}
 use Rattle.ob_scan.specs.declared.fault.ScanFault.{ScanFault}
 use Rattle.ob_scan.specs.declared.fault.ScanFault.TheVariants as scans
 use Rattle.ob_scan.specs.declared.place.Position.{Position}
 use Rattle.ob_scan.specs.declared.token.Token.{Token}
+use Rattle.ob_scan.specs.Faults.{UnlessMemory}
 use Rattle.ob_scan.specs.Position.{IsPosition}
-use Rattle.ob_scan.specs.Spelling.{IsOutcome, Reads, outcome_of as scan_outcome_of}
+use Rattle.ob_scan.specs.Spelling.{IsOutcome}
 use Rattle.ob_tree.specs.declared.declaration.Module.{Module}
 use Rattle.ob_parse.specs.declared.fault.ParseFault.{ParseFault}
 use Rattle.ob_parse.specs.declared.fault.ParseFault.TheVariants as parses
@@ -59,7 +60,7 @@ files_of files = map file_of files
 pub record IsAccepted (s : Source) (file : ModuleFile) : Type 0 where
   pub path_is : file.path ≡ string_bytes s.path
   pub bytes_are : file.bytes ≡ s.bytes.items
-  pub reads : IsOutcome file.bytes (Reads file.tokens)
+  pub reads : IsOutcome file.bytes (Ok file.tokens)
   pub is_tree : IsTheTree file.bytes file.tokens file.tree
   pub once : NoneTwice (names file) (members_of (rows file))
 
@@ -119,15 +120,15 @@ scope_offset scopes.Memory = 0
 
 -- the bytes have this fault of the scanner
 abbrev pub HasScanFault : ScanFault → List ℕ → Type 0
-HasScanFault fault bytes = IfSome (scan_outcome_of (Err fault)) (IsOutcome bytes)
+HasScanFault fault bytes = UnlessMemory fault (IsOutcome bytes (Err fault))
 
 -- they have tokens, and these this fault of the parser
 abbrev pub HasParseFault : ParseFault → List ℕ → Type 0
-HasParseFault fault bytes = (ts : List Token) × IsOutcome bytes (Reads ts) × IsFaultOf bytes ts fault
+HasParseFault fault bytes = (ts : List Token) × IsOutcome bytes (Ok ts) × IsFaultOf bytes ts fault
 
 -- they have tokens and a tree, and this a name that is declared twice
 abbrev pub HasScopeFault : ScopeFault → List ℕ → Type 0
-HasScopeFault fault bytes = (ts : List Token) × (m : Module) × IsOutcome bytes (Reads ts) × IsTheTree bytes ts m × IsScopeFault bytes ts (rows_of m) fault
+HasScopeFault fault bytes = (ts : List Token) × (m : Module) × IsOutcome bytes (Ok ts) × IsTheTree bytes ts m × IsScopeFault bytes ts (rows_of m) fault
 
 -- the file has this path, and its bytes have the fault, at this line and column
 pub record IsFault (s : Source) (path : List ℕ) (at : Position) (offset : ℕ) (HasFault : List ℕ → Type 0) : Type 0 where

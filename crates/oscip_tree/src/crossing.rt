@@ -1,11 +1,11 @@
 //! Where a module of a tree uses another.
-ghost use Rattle.std.specs.Prelude.{◌≡◌, ℕ, List, Some, Contains, IfErr, IfNone, IfOk, IfSome, slice_get};
+ghost use Rattle.std.specs.Prelude.{◌≡◌, ℕ, List, Some, Contains, IfErr, IfNone, IfOk, IfSome, slice_get, Ok};
 ghost use Rattle.ob_decls.specs.Declaring.{rows_in, rows_of};
 ghost use Rattle.ob_imports.specs.Files.{names_of};
 ghost use Rattle.ob_imports.specs.Outcomes.{AreFilesOfGraph};
 ghost use Rattle.ob_parse.specs.Parsed.{IsTheTree};
 ghost use Rattle.ob_scan.specs.Position.{line_starts};
-ghost use Rattle.ob_scan.specs.Spelling.{AreInText, IsOutcome, Reads};
+ghost use Rattle.ob_scan.specs.Spelling.{AreInText, IsOutcome};
 ghost use Rattle.ob_scan.specs.declared.token.Token.{Token};
 ghost use Rattle.ob_scope.specs.Crossings.{AreCrossings};
 ghost use Rattle.ob_scope.specs.Scoped.{AreScopes};
@@ -119,7 +119,7 @@ fn places_after(
     scopes: &Scopes,
     imported: &str,
 ) -> Result<Vec<Span>, TreeFault>
-    requires { IsOutcome source.now.bytes.items (Reads tokens.now) }
+    requires { IsOutcome source.now.bytes.items (Ok tokens.now) }
     ensures places { IfOk result (λ v. (file : ModuleFile) → IsAccepted source.now file → AreScopesOf file scopes.now → ArePlaces file imported.now v.items) }
     ensures fault { IfErr result (IsFileFault source.now) }
 {

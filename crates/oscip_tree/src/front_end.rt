@@ -1,8 +1,8 @@
 //! The scopes of one file of a tree, or its fault.
-ghost use Rattle.std.specs.Prelude.{◌≡◌, IfErr, IfOk};
+ghost use Rattle.std.specs.Prelude.{◌≡◌, IfErr, IfOk, Ok};
 ghost use Rattle.ob_decls.specs.Declaring.{rows_in, rows_of};
 ghost use Rattle.ob_parse.specs.Parsed.{IsTheTree};
-ghost use Rattle.ob_scan.specs.Spelling.{IsOutcome, Reads};
+ghost use Rattle.ob_scan.specs.Spelling.{IsOutcome};
 ghost use Rattle.ob_tree.specs.declared.declaration.Module.{Module};
 ghost use Rattle.oscip_tree.specs.Trees.{parse_offset, scan_offset, scope_offset, HasParseFault, HasScanFault, HasScopeFault, IsFileFault};
 ghost use Rattle.oscip_tree.specs.TreeReading.{HasScopes};
@@ -102,7 +102,7 @@ pub(crate) fn table_after(
     source: &Source,
     tokens: &Tokens,
 ) -> Result<Table, TreeFault>
-    requires { IsOutcome source.now.bytes.items (Reads tokens.now) }
+    requires { IsOutcome source.now.bytes.items (Ok tokens.now) }
     ensures table { IfOk result (λ t. (m : Module) × IsTheTree source.now.bytes.items tokens.now m × (rows_in t ≡ rows_of m)) }
     ensures fault { IfErr result (IsFileFault source.now) }
 {
@@ -119,7 +119,7 @@ fn scopes_in(
     tokens: &Tokens,
     table: &Table,
 ) -> Result<Scopes, TreeFault>
-    requires spelled { IsOutcome source.now.bytes.items (Reads tokens.now) }
+    requires spelled { IsOutcome source.now.bytes.items (Ok tokens.now) }
     requires parsed { (tree : Module) × IsTheTree source.now.bytes.items tokens.now tree × (rows_in table.now ≡ rows_of tree) }
     ensures scoped { IfOk result (HasScopes source.now) }
     ensures fault { IfErr result (IsFileFault source.now) }
@@ -133,7 +133,7 @@ fn scopes_in(
 
 /// The scopes of a file's module with these tokens, or the file's fault: that of its syntax tree or of its names.
 fn scopes_after(alloc: Global, source: &Source, tokens: &Tokens) -> Result<Scopes, TreeFault>
-    requires { IsOutcome source.now.bytes.items (Reads tokens.now) }
+    requires { IsOutcome source.now.bytes.items (Ok tokens.now) }
     ensures scoped { IfOk result (HasScopes source.now) }
     ensures fault { IfErr result (IsFileFault source.now) }
 {

@@ -1,11 +1,11 @@
 //! What an index needs of each file of a tree: tokens, table, scopes and interface of its module.
-ghost use Rattle.std.specs.Prelude.{◌≡◌, IfErr, IfOk, List, length};
+ghost use Rattle.std.specs.Prelude.{◌≡◌, IfErr, IfOk, List, length, Ok};
 ghost use Rattle.std.specs.Arc.{arc_value};
 ghost use Rattle.ob_decls.specs.Declaring.{rows_in, rows_of};
 ghost use Rattle.ob_imports.specs.Files.{files_of as parsed_files};
 ghost use Rattle.ob_interface.specs.Interfaces.{interface_of};
 ghost use Rattle.ob_parse.specs.Parsed.{IsTheTree};
-ghost use Rattle.ob_scan.specs.Spelling.{AreInText, IsOutcome, Reads};
+ghost use Rattle.ob_scan.specs.Spelling.{AreInText, IsOutcome};
 ghost use Rattle.ob_scope.specs.Scoped.{AreScopes};
 ghost use Rattle.ob_tree.specs.declared.declaration.Module.{Module};
 ghost use Rattle.oscip_tree.specs.Parts.{AreAllParts, ArePartsOfTree, HasParts};
@@ -65,7 +65,7 @@ fn parts_with(
     table: Table,
     scopes: Scopes,
 ) -> Result<Box<ModuleParts>, AllocError>
-    requires spelled { IsOutcome source.now.bytes.items (Reads tokens) }
+    requires spelled { IsOutcome source.now.bytes.items (Ok tokens) }
     requires scoped { AreScopes source.now.bytes.items tokens (rows_in table) scopes }
     ensures { IfOk result (λ parts. (tree : Module) → IsTheTree source.now.bytes.items tokens tree → rows_in table ≡ rows_of tree → HasParts source.now parts) }
 {
@@ -90,7 +90,7 @@ fn parts_in(
     tokens: Tokens,
     table: Table,
 ) -> Result<Box<ModuleParts>, TreeFault>
-    requires spelled { IsOutcome source.now.bytes.items (Reads tokens) }
+    requires spelled { IsOutcome source.now.bytes.items (Ok tokens) }
     requires parsed { (tree : Module) × IsTheTree source.now.bytes.items tokens tree × (rows_in table ≡ rows_of tree) }
     ensures parts { IfOk result (HasParts source.now) }
     ensures fault { IfErr result (IsFileFault source.now) }
@@ -108,7 +108,7 @@ fn parts_after(
     source: &Source,
     tokens: Tokens,
 ) -> Result<Box<ModuleParts>, TreeFault>
-    requires { IsOutcome source.now.bytes.items (Reads tokens) }
+    requires { IsOutcome source.now.bytes.items (Ok tokens) }
     ensures parts { IfOk result (HasParts source.now) }
     ensures fault { IfErr result (IsFileFault source.now) }
 {

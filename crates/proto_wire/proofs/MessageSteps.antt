@@ -3,7 +3,6 @@
 use Rattle.std.proofs.Common.{◌≡◌, ℕ, List, [], ◌∷◌, ◌++◌, length, map, Option, None, refl, sym, ap, ◌∙◌, append_assoc}
 use Rattle.std.specs.List.{AllByRecursion}
 use Rattle.std.proofs.lemmas.List.{append-nil}
-use Rattle.std.proofs.lemmas.Bool.{ne_eqb}
 use Rattle.proto_wire.specs.declared.fault.WireFault.{WireFault}
 use Rattle.proto_wire.specs.declared.record.WireValue.TheVariants.{Bytes}
 use Rattle.proto_wire.specs.Records.{PayloadRecord}
@@ -13,11 +12,6 @@ use Rattle.proto_wire.specs.Writing.{Field, FieldFits, payload_fields, spelled_f
 use Rattle.proto_wire.proofs.PieceReadings.{records_found}
 use Rattle.proto_wire.proofs.WritingLaws.{records_again}
 use Rattle.proto_wire.proofs.GivenLaws.{if_field-hit}
-
-pub each_of-append : {X : Type 0} (k : ℕ) (gives : PayloadRecord → List X) (ps qs : List PayloadRecord) → each_of k gives (ps ++ qs) ≡ each_of k gives ps ++ each_of k gives qs
-unfolding each_of
-each_of-append k gives [] qs = refl
-each_of-append k gives (p ∷ ps) qs = ap (λ xs. if_field k p.wire (gives p) ++ xs) (each_of-append k gives ps qs) ∙ sym (append_assoc (if_field k p.wire (gives p)) (each_of k gives ps) (each_of k gives qs))
 
 pub each_of-push : {X : Type 0} (k : ℕ) (gives : PayloadRecord → List X) (front : List PayloadRecord) (p : PayloadRecord) → each_of k gives (front ++ p ∷ []) ≡ each_of k gives front ++ if_field k p.wire (gives p)
 unfolding each_of
@@ -32,34 +26,13 @@ latest-append old (x ∷ xs) ys = latest-append x xs ys
 pub latest-push : {X : Type 0} (k : ℕ) (old : X) (gives : PayloadRecord → List X) (front : List PayloadRecord) (p : PayloadRecord) → latest old (each_of k gives (front ++ p ∷ [])) ≡ latest (latest old (each_of k gives front)) (if_field k p.wire (gives p))
 latest-push k old gives front p = ap (latest old) (each_of-push k gives front p) ∙ latest-append old (each_of k gives front) (if_field k p.wire (gives p))
 
-pub if_field-miss : {X : Type 0} (k : ℕ) (p : PayloadRecord) (xs : List X) → (p.wire.field ≡ k → ⊥) → if_field k p.wire xs ≡ []
-unfolding if_field
-if_field-miss k p xs e = rw (ne_eqb p.wire.field k e) refl
-
 -- all of these fields have this number
 abbrev pub HaveNumber : ℕ → List Field → Type 0
 HaveNumber j fs = AllByRecursion (λ f. f.number ≡ j) fs
 
--- records of another field give nothing
-pub each_of-miss : {X : Type 0} (k j : ℕ) (gives : PayloadRecord → List X) (ps : List PayloadRecord) (fs : List Field) → CarryAll ps fs → HaveNumber j fs → (j ≡ k → ⊥) → each_of k gives ps ≡ []
-unfolding each_of
-each_of-miss k j gives [] [] h same apart = refl
-each_of-miss k j gives [] (f ∷ fs) h same apart = absurd h
-each_of-miss k j gives (p ∷ ps) [] h same apart = absurd h
-each_of-miss k j gives (p ∷ ps) (f ∷ fs) h same apart =
-    rw (if_field-miss k p (gives p) (λ e. apart (sym same.0 ∙ sym h.0.number ∙ e)), each_of-miss k j gives ps fs h.1 same.1 apart) refl
-
 -- fields that are written are read again, and nothing else
 pub pieces-again : (at : ℕ) (fs : List Field) → AllByRecursion FieldFits fs → payload_records at (spelled_fields fs) ≡ (pieces_at at fs, None)
 pieces-again at fs fits = records_found at (spelled_fields fs) (pieces_at at fs) (records_again at fs fits)
-
--- what carries two rows of fields is two rows
-pub CarryAll-split : (ps : List PayloadRecord) (fs gs : List Field) → CarryAll ps (fs ++ gs) → (front : List PayloadRecord) × (back : List PayloadRecord) × (ps ≡ front ++ back) × CarryAll front fs × CarryAll back gs
-CarryAll-split ps [] gs h = ([], ps, refl, tt, h)
-CarryAll-split [] (f ∷ fs) gs h = absurd h
-CarryAll-split (p ∷ ps) (f ∷ fs) gs h =
-    let others = CarryAll-split ps fs gs h.1 in
-    (p ∷ others.0, others.1, ap (λ (qs : List PayloadRecord). p ∷ qs) others.2, (h.0, others.3), others.4)
 
 -- every record of a message with these bytes says this value, wherever it stands
 abbrev pub Restores : {V : Type 0} → (List PayloadRecord → V) → V → List ℕ → Type 0

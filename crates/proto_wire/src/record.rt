@@ -162,13 +162,12 @@ pub(crate) fn short_record(at: usize, bytes: &[u8]) -> Option<(WireRecord, &[u8]
     match key % 8 {
         0 => {
             let value = WireValue::Varint(u64::from(next));
-            let body = at + 1;
             Some((
                 WireRecord {
                     field,
                     value,
                     at,
-                    body,
+                    body: at + 1,
                 },
                 &[],
                 rest,
@@ -176,14 +175,13 @@ pub(crate) fn short_record(at: usize, bytes: &[u8]) -> Option<(WireRecord, &[u8]
         }
         2 if count <= rest.len() => {
             let value = WireValue::Bytes(count);
-            let body = at + 2;
             let (payload, after) = rest.split_at(count);
             Some((
                 WireRecord {
                     field,
                     value,
                     at,
-                    body,
+                    body: at + 2,
                 },
                 payload,
                 after,

@@ -1,5 +1,5 @@
 //! Varints: groups of seven bits, least first.
-ghost use Rattle.std.specs.Prelude.{◌≡◌, ◌<◌, ◌%◌, ◌^◌, ◌++◌, ℕ, IfOk, IfSome, Ok, OnOk, length};
+ghost use Rattle.std.specs.Prelude.{◌≡◌, ◌<◌, ◌%◌, ◌++◌, ℕ, IfOk, IfSome, Ok, OnOk, length};
 ghost use Rattle.proto_wire.specs.Faults.{Gives};
 ghost use Rattle.proto_wire.specs.Varints.{varint, varint_in};
 

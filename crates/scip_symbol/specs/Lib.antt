@@ -1,4 +1,5 @@
 pub mod Bytes
+pub mod Faults
 pub mod SymbolTexts
 pub mod Views
 pub mod Outcomes

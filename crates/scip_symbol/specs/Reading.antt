@@ -15,19 +15,6 @@ abbrev pub ◌>>=◌ : {A B E : Type 0} → Result A E → (A → Result B E) �
 (Ok x) >>= f = f x
 (Err e) >>= f = Err e
 
--- what a function answered is this, seen by view, unless memory ran out
-abbrev pub Fails : {Y : Type 0} → SymbolFault → Result Y SymbolFault → Type 0
-Fails faults.Empty read = read ≡ Err faults.Empty
-Fails (faults.BadDescriptor at) read = read ≡ Err (faults.BadDescriptor at)
-Fails faults.LocalScheme read = read ≡ Err faults.LocalScheme
-Fails faults.OpenQuote read = read ≡ Err faults.OpenQuote
-Fails faults.Memory read = Unit {0}
-Fails (faults.BadPart part) read = read ≡ Err (faults.BadPart part)
-
-abbrev pub Gives : {X Y : Type 0} → (X → Y) → Result X SymbolFault → Result Y SymbolFault → Type 0
-Gives view (Ok x) read = read ≡ Ok (view x)
-Gives view (Err e) read = Fails e read
-
 -- what follows this byte, where it stands in front
 abbrev pub after_byte : ℕ → List ℕ → Option (List ℕ)
 after_byte mark [] = None

@@ -1,8 +1,9 @@
 //! Reading descriptors.
-ghost use Rattle.std.specs.Prelude.{◌≡◌, ◌≤◌, ◌<◌, [], length, option_map, IfSome};
+ghost use Rattle.std.specs.Prelude.{◌≡◌, ◌≤◌, ◌<◌, [], length, option_map};
 ghost use Rattle.std.specs.String.{string_bytes};
-ghost use Rattle.scip_symbol.specs.Views.{outcome_of, plain_descriptor, plain_descriptors};
-ghost use Rattle.scip_symbol.specs.Reading.{bare_at, closed_at, descriptor_at, kind_of, method_at, suffix_at, suffixed_at, told_at, Gives, IsDescriptorsOutcome};
+ghost use Rattle.scip_symbol.specs.Faults.{Accords, Tells};
+ghost use Rattle.scip_symbol.specs.Views.{plain_descriptor, plain_descriptors};
+ghost use Rattle.scip_symbol.specs.Reading.{bare_at, closed_at, descriptor_at, kind_of, method_at, suffix_at, suffixed_at, told_at, IsDescriptorsOutcome};
 
 use crate::cuts::{after_mark, after_word, simple_in};
 use crate::name::name_in;
@@ -19,7 +20,7 @@ fn closed_in(
     inside: &str,
 ) -> Result<(Descriptor, &str), SymbolFault>
     requires { close < 128 }
-    ensures { Gives (λ x. (plain_descriptor x.0, x.1.now)) result (closed_at at kind close inside.now) }
+    ensures { Accords (λ x. (plain_descriptor x.0, x.1.now)) result (closed_at at kind close inside.now) }
 {
     let (name, rest) = name_in(alloc, at, inside)?;
     let rest = after_mark(rest, close).ok_or(SymbolFault::BadDescriptor { at })?;
@@ -34,7 +35,7 @@ fn method_in(
     name: String,
     inside: &str,
 ) -> Result<(Descriptor, &str), SymbolFault>
-    ensures { Gives (λ x. (plain_descriptor x.0, x.1.now)) result (method_at at (string_bytes name) inside.now) }
+    ensures { Accords (λ x. (plain_descriptor x.0, x.1.now)) result (method_at at (string_bytes name) inside.now) }
 {
     let (disambiguator, rest) = simple_in(inside);
     let rest = after_word(rest, ").").ok_or(SymbolFault::BadDescriptor { at })?;
@@ -69,7 +70,7 @@ fn suffix_in(text: &str) -> Option<(DescriptorKind, &str)>
 /// A descriptor that is told by the byte behind its name.
 #[tactic(auto, unfolding(crate::specs::Reading::told_at))]
 fn told_in(at: usize, name: String, text: &str) -> Result<(Descriptor, &str), SymbolFault>
-    ensures { Gives (λ x. (plain_descriptor x.0, x.1.now)) result (told_at at (string_bytes name) text.now) }
+    ensures { Accords (λ x. (plain_descriptor x.0, x.1.now)) result (told_at at (string_bytes name) text.now) }
 {
     let (kind, rest) = suffix_in(text).ok_or(SymbolFault::BadDescriptor { at })?;
     Ok((Descriptor::new(kind, name), rest))
@@ -83,7 +84,7 @@ fn suffixed_in(
     name: String,
     text: &str,
 ) -> Result<(Descriptor, &str), SymbolFault>
-    ensures { Gives (λ x. (plain_descriptor x.0, x.1.now)) result (suffixed_at at (string_bytes name) text.now) }
+    ensures { Accords (λ x. (plain_descriptor x.0, x.1.now)) result (suffixed_at at (string_bytes name) text.now) }
 {
     match after_mark(text, '(') {
         None => told_in(at, name, text),
@@ -94,7 +95,7 @@ fn suffixed_in(
 /// A descriptor that begins with its name.
 #[tactic(auto, unfolding(crate::specs::Reading::bare_at))]
 fn bare_in(alloc: Global, at: usize, text: &str) -> Result<(Descriptor, &str), SymbolFault>
-    ensures { Gives (λ x. (plain_descriptor x.0, x.1.now)) result (bare_at at text.now) }
+    ensures { Accords (λ x. (plain_descriptor x.0, x.1.now)) result (bare_at at text.now) }
 {
     let (name, rest) = name_in(alloc, at, text)?;
     suffixed_in(alloc, at, name, rest)
@@ -103,7 +104,7 @@ fn bare_in(alloc: Global, at: usize, text: &str) -> Result<(Descriptor, &str), S
 /// The descriptor in front, which stands at this place, and what follows it.
 #[tactic(auto, unfolding(crate::specs::Reading::descriptor_at))]
 fn descriptor_in(alloc: Global, at: usize, text: &str) -> Result<(Descriptor, &str), SymbolFault>
-    ensures { Gives (λ x. (plain_descriptor x.0, x.1.now)) result (descriptor_at at text.now) }
+    ensures { Accords (λ x. (plain_descriptor x.0, x.1.now)) result (descriptor_at at text.now) }
 {
     if let Some(inside) = after_mark(text, '[') {
         return closed_in(alloc, at, DescriptorKind::TypeParameter, ']', inside);
@@ -121,7 +122,7 @@ pub(crate) fn descriptors_in(
     text: &str,
 ) -> Result<Vec<Descriptor>, SymbolFault>
     requires { length text.now ≤ whole }
-    ensures { IfSome (outcome_of (λ ds. plain_descriptors ds.items) result) (IsDescriptorsOutcome whole text.now) }
+    ensures { Tells (λ ds. plain_descriptors ds.items) result (IsDescriptorsOutcome whole text.now) }
 {
     let mut descriptors = Vec::new(alloc);
     let mut rest = text;

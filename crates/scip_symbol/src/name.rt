@@ -1,7 +1,8 @@
 //! Reading a name.
 ghost use Rattle.std.specs.Prelude.{◌≡◌};
 ghost use Rattle.std.specs.String.{string_bytes};
-ghost use Rattle.scip_symbol.specs.Reading.{name_in_front, nonempty_name, quoted_name_at, simple_name_at, Gives};
+ghost use Rattle.scip_symbol.specs.Faults.{Accords};
+ghost use Rattle.scip_symbol.specs.Reading.{name_in_front, nonempty_name, quoted_name_at, simple_name_at};
 
 use crate::SymbolFault;
 use crate::cuts::{after_mark, ended_in, simple_in};
@@ -10,7 +11,7 @@ use std::alloc::Global;
 /// A name of simple bytes, if there is one.
 #[tactic(auto, unfolding(crate::specs::Reading::simple_name_at))]
 fn simple_name_in(alloc: Global, at: usize, text: &str) -> Result<(String, &str), SymbolFault>
-    ensures { Gives (λ x. (string_bytes x.0, x.1.now)) result (simple_name_at at text.now) }
+    ensures { Accords (λ x. (string_bytes x.0, x.1.now)) result (simple_name_at at text.now) }
 {
     let (name, rest) = simple_in(text);
     if name.is_empty() {
@@ -22,7 +23,7 @@ fn simple_name_in(alloc: Global, at: usize, text: &str) -> Result<(String, &str)
 /// A name whose first backtick is read.
 #[tactic(auto, unfolding(crate::specs::Reading::quoted_name_at))]
 fn quoted_name_in(alloc: Global, at: usize, inside: &str) -> Result<(String, &str), SymbolFault>
-    ensures { Gives (λ x. (string_bytes x.0, x.1.now)) result (quoted_name_at at inside.now) }
+    ensures { Accords (λ x. (string_bytes x.0, x.1.now)) result (quoted_name_at at inside.now) }
 {
     let (name, rest) = ended_in(alloc, inside, '`')?.ok_or(SymbolFault::OpenQuote)?;
     if name.is_empty() {
@@ -34,7 +35,7 @@ fn quoted_name_in(alloc: Global, at: usize, inside: &str) -> Result<(String, &st
 /// The name in front, simple or in backticks, and what follows it. The descriptor stands at this place.
 #[tactic(auto, unfolding(crate::specs::Reading::name_in_front))]
 pub(crate) fn name_in(alloc: Global, at: usize, text: &str) -> Result<(String, &str), SymbolFault>
-    ensures { Gives (λ x. (string_bytes x.0, x.1.now)) result (name_in_front at text.now) }
+    ensures { Accords (λ x. (string_bytes x.0, x.1.now)) result (name_in_front at text.now) }
 {
     match after_mark(text, '`') {
         None => simple_name_in(alloc, at, text),

@@ -1,7 +1,8 @@
 //! Reading the four parts of a symbol.
 ghost use Rattle.std.specs.Prelude.{◌≡◌};
 ghost use Rattle.std.specs.String.{string_bytes};
-ghost use Rattle.scip_symbol.specs.Reading.{optional_part_at, part_in_front, parts_at, plain_parts, Gives};
+ghost use Rattle.scip_symbol.specs.Faults.{Accords};
+ghost use Rattle.scip_symbol.specs.Reading.{optional_part_at, part_in_front, parts_at, plain_parts};
 
 use crate::SymbolFault;
 use crate::cuts::ended_in;
@@ -19,7 +20,7 @@ pub(crate) struct Parts {
 /// The part in front, which has this number, and what follows it.
 #[tactic(auto, unfolding(crate::specs::Reading::part_in_front))]
 fn part_in(alloc: Global, part: usize, text: &str) -> Result<(String, &str), SymbolFault>
-    ensures { Gives (λ x. (string_bytes x.0, x.1.now)) result (part_in_front part text.now) }
+    ensures { Accords (λ x. (string_bytes x.0, x.1.now)) result (part_in_front part text.now) }
 {
     let found = ended_in(alloc, text, ' ')?;
     let ended = found.ok_or(SymbolFault::BadPart { part })?;
@@ -29,7 +30,7 @@ fn part_in(alloc: Global, part: usize, text: &str) -> Result<(String, &str), Sym
 /// The same of a part that may be empty, for which a full stop stands.
 #[tactic(auto, unfolding(crate::specs::Reading::optional_part_at))]
 fn optional_part_in(alloc: Global, part: usize, text: &str) -> Result<(String, &str), SymbolFault>
-    ensures { Gives (λ x. (string_bytes x.0, x.1.now)) result (optional_part_at part text.now) }
+    ensures { Accords (λ x. (string_bytes x.0, x.1.now)) result (optional_part_at part text.now) }
 {
     let (mut shown, rest) = part_in(alloc, part, text)?;
     if shown.as_str() == "." {
@@ -41,7 +42,7 @@ fn optional_part_in(alloc: Global, part: usize, text: &str) -> Result<(String, &
 /// The four parts in front, and what follows them.
 #[tactic(auto, unfolding(crate::specs::Reading::parts_at))]
 pub(crate) fn parts_in(alloc: Global, text: &str) -> Result<(Parts, &str), SymbolFault>
-    ensures { Gives (λ x. (plain_parts x.0, x.1.now)) result (parts_at text.now) }
+    ensures { Accords (λ x. (plain_parts x.0, x.1.now)) result (parts_at text.now) }
 {
     let (scheme, rest) = part_in(alloc, 0, text)?;
     let (manager, rest) = optional_part_in(alloc, 1, rest)?;

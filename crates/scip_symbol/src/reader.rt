@@ -1,10 +1,11 @@
 //! Reading a symbol.
-ghost use Rattle.std.specs.Prelude.{◌≡◌, ◌+◌, ◌<◌, ◌^◌, length, IfSome, Result};
+ghost use Rattle.std.specs.Prelude.{◌≡◌, ◌+◌, ◌<◌, ◌^◌, length, Result};
 ghost use Rattle.scip_symbol.specs.declared.fault.SymbolFault.{SymbolFault};
+ghost use Rattle.scip_symbol.specs.Faults.{Accords, Tells};
 ghost use Rattle.scip_symbol.specs.SymbolTexts.{BeginsLocal, IsPackagePart, PlainSymbol};
-ghost use Rattle.scip_symbol.specs.Views.{outcome_of, plain_symbol};
+ghost use Rattle.scip_symbol.specs.Views.{plain_symbol};
 ghost use Rattle.scip_symbol.specs.Outcomes.{IsReadOutcome};
-ghost use Rattle.scip_symbol.specs.Reading.{local_of, Gives};
+ghost use Rattle.scip_symbol.specs.Reading.{local_of};
 
 use crate::cuts::{after_mark, after_word, simple_in};
 use crate::descriptors::descriptors_in;
@@ -16,7 +17,7 @@ use std::alloc::Global;
 #[tactic(auto, unfolding(crate::specs::Reading::local_of))]
 fn local_in(alloc: Global, id: &str) -> Result<Symbol, SymbolFault>
     requires { 6 + length id.now < 2 ^ 64 }
-    ensures { Gives plain_symbol result (local_of id.now) }
+    ensures { Accords plain_symbol result (local_of id.now) }
 {
     if id.is_empty() {
         return Err(SymbolFault::Empty);
@@ -33,7 +34,7 @@ fn local_in(alloc: Global, id: &str) -> Result<Symbol, SymbolFault>
 fn global_in(alloc: Global, text: &str) -> Result<Symbol, SymbolFault>
     requires part { IsPackagePart text.now }
     requires not_local { BeginsLocal text.now → ⊥ }
-    ensures { IfSome (outcome_of plain_symbol result) (IsReadOutcome text.now) }
+    ensures { Tells plain_symbol result (IsReadOutcome text.now) }
 {
     let (parts, rest) = parts_in(alloc, text)?;
     if rest.is_empty() {
@@ -51,7 +52,7 @@ fn global_in(alloc: Global, text: &str) -> Result<Symbol, SymbolFault>
 
 /// The symbol of a text, or its first refusal.
 fn read_any(alloc: Global, text: &str) -> Result<Symbol, SymbolFault>
-    ensures { IfSome (outcome_of plain_symbol result) (IsReadOutcome text.now) }
+    ensures { Tells plain_symbol result (IsReadOutcome text.now) }
 {
     if text.is_empty() {
         return Err(SymbolFault::Empty);
@@ -76,9 +77,9 @@ fn read_any(alloc: Global, text: &str) -> Result<Symbol, SymbolFault>
 /// in bytes where it begins.
 pub fn read(alloc: Global, text: &str) -> Result<Symbol, SymbolFault>
     // It is the symbol that has the text, or what is refused in it.
-    ensures exact { IfSome (outcome_of plain_symbol result) (IsReadOutcome text.now) }
+    ensures exact { Tells plain_symbol result (IsReadOutcome text.now) }
     // The symbol that has the text, or what is refused in it, is answered unless memory runs out.
-    ensures only { (o : Result PlainSymbol SymbolFault) → IsReadOutcome text.now o → IfSome (outcome_of plain_symbol result) (λ p. p ≡ o) }
+    ensures only { (o : Result PlainSymbol SymbolFault) → IsReadOutcome text.now o → Tells plain_symbol result (λ p. p ≡ o) }
 {
     read_any(alloc, text)
 }

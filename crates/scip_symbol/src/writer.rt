@@ -1,11 +1,12 @@
 //! Writing a symbol.
-ghost use Rattle.std.specs.Prelude.{◌≡◌, ◌<◌, ◌++◌, [], IfOk, IfSome, List, OnOk, Result, ℕ};
+ghost use Rattle.std.specs.Prelude.{◌≡◌, ◌<◌, ◌++◌, [], IfOk, List, OnOk, Result, ℕ};
 ghost use Rattle.std.specs.List.{flat_map};
 ghost use Rattle.std.specs.String.{string_bytes};
 ghost use Rattle.scip_symbol.specs.declared.fault.SymbolFault.{SymbolFault};
+ghost use Rattle.scip_symbol.specs.Faults.{Tells};
 ghost use Rattle.scip_symbol.specs.Bytes.{doubled};
 ghost use Rattle.scip_symbol.specs.SymbolTexts.{closing, ended_part, before_name, part_shown, parts_text, plain_descriptor_text, plain_name, plain_text};
-ghost use Rattle.scip_symbol.specs.Views.{outcome_of, plain_descriptor, plain_descriptors, plain_symbol};
+ghost use Rattle.scip_symbol.specs.Views.{plain_descriptor, plain_descriptors, plain_symbol};
 ghost use Rattle.scip_symbol.specs.Outcomes.{IsWriteOutcome};
 
 use crate::cuts::{cut_at_mark, is_simple_text};
@@ -179,7 +180,7 @@ fn text_of(alloc: Global, symbol: &Symbol) -> Result<String, AllocError>
 
 /// The text of a symbol, or its first refusal.
 fn write_any(alloc: Global, symbol: &Symbol) -> Result<String, SymbolFault>
-    ensures { IfSome (outcome_of string_bytes result) (IsWriteOutcome (plain_symbol symbol.now)) }
+    ensures { Tells string_bytes result (IsWriteOutcome (plain_symbol symbol.now)) }
 {
     check(symbol)?;
     Ok(text_of(alloc, symbol)?)
@@ -191,9 +192,9 @@ fn write_any(alloc: Global, symbol: &Symbol) -> Result<String, SymbolFault>
 /// BadDescriptor with the number of the first descriptor whose disambiguator isn't simple, and with 0 for an id that isn't.
 pub fn write(alloc: Global, symbol: &Symbol) -> Result<String, SymbolFault>
     // It is the symbol's plain text, or what is refused in the symbol.
-    ensures exact { IfSome (outcome_of string_bytes result) (IsWriteOutcome (plain_symbol symbol.now)) }
+    ensures exact { Tells string_bytes result (IsWriteOutcome (plain_symbol symbol.now)) }
     // The plain text, or what is refused, is answered unless memory runs out.
-    ensures only { (o : Result (List ℕ) SymbolFault) → IsWriteOutcome (plain_symbol symbol.now) o → IfSome (outcome_of string_bytes result) (λ p. p ≡ o) }
+    ensures only { (o : Result (List ℕ) SymbolFault) → IsWriteOutcome (plain_symbol symbol.now) o → Tells string_bytes result (λ p. p ≡ o) }
 {
     write_any(alloc, symbol)
 }

@@ -1,4 +1,7 @@
 //! The passes over the bytes of an index beside the store that a reader of the index fills: each question has the same answer.
+ghost use Rattle.scip_index.specs.Meaning.{Means};
+ghost use Rattle.scip_index.specs.Plain.{PlainIndex};
+
 use crate::bytes::told_fault;
 use crate::told::is_told;
 use index_store::{
@@ -155,7 +158,9 @@ fn told_none(alloc: Global, fault: StoreFault) -> Result<String, AllocError> {
 }
 
 /// What the passes over the bytes tell.
-fn told_by_passes(alloc: Global, bytes: &[u8], at: Position) -> Result<String, AllocError> {
+fn told_by_passes(alloc: Global, bytes: &[u8], at: Position) -> Result<String, AllocError>
+    requires { (index : PlainIndex) × Means bytes.now index }
+{
     match symbol_in_bytes(alloc, bytes, "a", at) {
         Ok(None) => String::from_str(alloc, "no symbol"),
         Ok(Some(symbol)) => {

@@ -1,4 +1,7 @@
 //! Bytes as records, as packed numbers and as indexes. They are worked by hand from the encoding, or stand in its description.
+ghost use Rattle.scip_index.specs.Meaning.{Means};
+ghost use Rattle.scip_index.specs.Plain.{PlainIndex};
+
 use crate::told::is_told;
 use index_store::{
     Position, Store, StoreFault, definitions_in_bytes, references_in_bytes, symbol_in_bytes,
@@ -348,13 +351,17 @@ fn told_store(alloc: Global, index: Index) -> Result<String, AllocError> {
     }
 }
 
-fn told_places(alloc: Global, bytes: &[u8], symbol: &[u8]) -> Result<String, AllocError> {
+fn told_places(alloc: Global, bytes: &[u8], symbol: &[u8]) -> Result<String, AllocError>
+    requires { (index : PlainIndex) × Means bytes.now index }
+{
     let defined = definitions_in_bytes(alloc, bytes, "a", symbol)?;
     let used = references_in_bytes(alloc, bytes, "a", symbol)?;
     format!(in alloc; "{} defined, {} used", defined.len(), used.len())
 }
 
-fn told_checked(alloc: Global, bytes: &[u8]) -> Result<String, AllocError> {
+fn told_checked(alloc: Global, bytes: &[u8]) -> Result<String, AllocError>
+    requires { (index : PlainIndex) × Means bytes.now index }
+{
     match symbol_in_bytes(alloc, bytes, "a", Position { line: 0, column: 7 }) {
         Ok(Some(symbol)) => told_places(alloc, bytes, symbol),
         Ok(None) => String::from_str(alloc, "no symbol"),

@@ -11,9 +11,9 @@ use Rattle.ob_imports.specs.Graphs.{ImportGraph, IsGraphOf}
 use Rattle.ob_imports.specs.Numbering.{place_of}
 use Rattle.ob_imports.specs.Outcomes.{AreFilesOfGraph}
 use Rattle.ob_imports.proofs.Places.{name_at, place_within}
-use Rattle.work_board.specs.Graphs.{IsAcyclic, IsChain, Leads as RowLeads, Reaches}
+use Rattle.work_board.specs.Graphs.{IsAcyclic, IsChain, RowLeads, Reaches}
 use Rattle.tree_board.specs.Boards.{rows_below}
-use Rattle.tree_board.specs.Reached.{file_of, files_of, names, ReachesName, SeenFile}
+use Rattle.tree_board.specs.Reached.{file_of, files_of, names, ReachesAlike, ReachesName, SeenFile}
 use Rattle.tree_board.proofs.Rows.{leads_in, leads_on}
 
 -- a chain on the board is one by what its imports keep
@@ -101,7 +101,7 @@ module _ (files : List SeenFile) (g : ImportGraph) (kept : AreFilesOfGraph (file
   pub reaches_numbers : (v b : ℕ) (m n : List ℕ) → v < g.modules → b < g.modules → slice_get g.names v ≡ Some m → slice_get g.names b ≡ Some n → ReachesName files m n → Reaches (rows_below g g.modules) v b
   reaches_numbers v b m n lt below at_v at_b (w, imports, (more, chain)) = reaches_back b n below at_b more v m w lt at_v imports chain
 
-  pub reaches_as : (v b : ℕ) (m n : List ℕ) → v < g.modules → b < g.modules → slice_get g.names v ≡ Some m → slice_get g.names b ≡ Some n → Reaches (rows_below g g.modules) v b ↔ ReachesName files m n
+  reaches_as : (v b : ℕ) (m n : List ℕ) → v < g.modules → b < g.modules → slice_get g.names v ≡ Some m → slice_get g.names b ≡ Some n → Reaches (rows_below g g.modules) v b ↔ ReachesName files m n
   reaches_as v b m n lt below at_v at_b = (
     (λ reach.
         let here : name v ≡ m = get_or_from_slice_get g.names v m [] at_v in
@@ -109,3 +109,10 @@ module _ (files : List SeenFile) (g : ImportGraph) (kept : AreFilesOfGraph (file
         subst (λ (x : List ℕ). ReachesName files x n) here (subst (λ (x : List ℕ). ReachesName files (name v) x) there (reaches_names v b reach))),
     reaches_numbers v b m n lt below at_v at_b,
   )
+
+  pub reaches_alike : ReachesAlike files g
+  reaches_alike v w m n at_v at_w =
+      let many = as_many in
+      let v_below = slice_get_within files v m at_v in
+      let w_below = slice_get_within files w n at_w in
+      reaches_as v w (names m 1) (names n 1) (omega arith) (omega arith) (name_of_file v m at_v) (name_of_file w n at_w)

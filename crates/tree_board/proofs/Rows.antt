@@ -11,7 +11,7 @@ use Rattle.digraph.specs.declared.edge.Edge.{Edge}
 use Rattle.digraph.specs.Edges.{Leads}
 use Rattle.digraph.proofs.Members.{from_map, in_filter, in_map, no_member, of_filter}
 use Rattle.ob_imports.specs.Graphs.{imported, ImportGraph, IsGraph as IsImportGraph}
-use Rattle.work_board.specs.Graphs.{row_at, IsGraph, Leads as RowLeads}
+use Rattle.work_board.specs.Graphs.{row_at, IsGraph, RowLeads}
 use Rattle.tree_board.specs.Boards.{modules_of, rows_below, tree_imports}
 
 row_leads : (ps : List Edge) (v w : ℕ) → Contains (imported ps v) w → Leads ps v w

@@ -1,5 +1,5 @@
 -- The files of a tree and the parts of its modules.
-use Rattle.std.proofs.Common.{◌≡◌, ℕ, zero, suc, List, [], ◌∷◌, length, map, Some, refl, sym, ap, ◌∙◌, subst, arith}
+use Rattle.std.proofs.Common.{◌≡◌, ℕ, zero, suc, List, [], ◌∷◌, length, map, Some, Ok, refl, sym, ap, ◌∙◌, subst, arith}
 use Rattle.std.specs.Prelude.{slice_get, Box}
 use Rattle.std.specs.Arc.{arc_value}
 use Rattle.std.specs.declared.alloc.Global.{Global}
@@ -8,7 +8,7 @@ use Rattle.ob_imports.specs.Files.{File}
 use Rattle.ob_imports.specs.Graphs.{ImportGraph}
 use Rattle.ob_imports.specs.Outcomes.{AreFilesOfGraph}
 use Rattle.ob_interface.specs.Interfaces.{interface_of}
-use Rattle.ob_scan.specs.Spelling.{IsOutcome, Reads}
+use Rattle.ob_scan.specs.Spelling.{IsOutcome}
 use Rattle.ob_scope.specs.Scoped.{AreScopes}
 use Rattle.oscip_tree.specs.Trees.{files_of as files_told, file_of as file_told, IsAccepted, ModuleFile}
 use Rattle.oscip_tree.specs.Parts.{ArePartsOf, AreAllParts}
@@ -52,7 +52,7 @@ module _ (sources : List Source) (files : List ModuleFile) (modules : List (Box 
         let accepted = all.accepted.each k s file at_s at_f in
         let are = all.each k file m at_f at_m in
         let same = is_seen s file m.value accepted are in
-        let P : SeenFile → Type 0 = λ x. IsOutcome x.bytes (Reads x.tokens) in
+        let P : SeenFile → Type 0 = λ x. IsOutcome x.bytes (Ok x.tokens) in
         let Q : SeenFile → Type 0 = λ x. AreScopes x.bytes x.tokens x.rows m.value.scopes in
         let R : SeenFile → Type 0 = λ x. arc_value m.value.interface ≡ interface_of x.bytes x.tokens x.rows in
         record {

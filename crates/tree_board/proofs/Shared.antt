@@ -13,8 +13,8 @@ use Rattle.work_board.specs.Cores.{entry_at, shares_of}
 use Rattle.work_board.specs.Graphs.{row_at}
 use Rattle.board_workers.specs.Parts.{IsJob}
 use Rattle.tree_board.specs.Boards.{modules_of}
-use Rattle.tree_board.specs.Reached.{file_of, files_of, interface_in, marked_interfaces, names, AreReachedInterfaces, SeenFile}
-use Rattle.tree_board.proofs.Chained.{as_many, modules_within, name_of_file, reaches_as}
+use Rattle.tree_board.specs.Reached.{file_of, files_of, interface_in, marked_interfaces, names, AreReachedInterfaces, ReachesAlike, SeenFile}
+use Rattle.tree_board.proofs.Chained.{as_many, modules_within, name_of_file}
 
 module _ {E : Type 0} (shared_of : E → ModuleInterface) where
   -- the entries with a mark are of the files with that mark
@@ -58,8 +58,8 @@ module _ (files : List SeenFile) (g : ImportGraph) (kept : AreFilesOfGraph (file
 
 module _ {E : Type 0} (is_of : List ℕ → E → Type 0) (shared_of : E → ModuleInterface) (files : List SeenFile) (g : ImportGraph) (kept : AreFilesOfGraph (files_of files) g)
     (tells : (n : List ℕ) (e : E) → is_of n e → (file : SeenFile) × Contains files file × (names file 1 ≡ n) × (shared_of e ≡ interface_in file)) where
-  pub parts_reached : (n : ℕ) (parts : List ModuleInterface) (m : SeenFile) → slice_get files n ≡ Some m → IsJob is_of shared_of (modules_of g) n parts → AreReachedInterfaces files (names m 1) parts
-  parts_reached n parts m at_n (within, (c, size, own, shares)) =
+  pub parts_reached : ReachesAlike files g → (n : ℕ) (parts : List ModuleInterface) (m : SeenFile) → slice_get files n ≡ Some m → IsJob is_of shared_of (modules_of g) n parts → AreReachedInterfaces files (names m 1) parts
+  parts_reached alike n parts m at_n (within, (c, size, own, shares)) =
       let many = as_many files g kept in
       let long = modules_within files g kept in
       let front = length-take-le g.modules g.names long in
@@ -78,7 +78,7 @@ module _ {E : Type 0} (is_of : List ℕ → E → Type 0) (shared_of : E → Mod
         those = λ k file at.
             let k_below = slice_get_within files k file at in
             let by_number = shares.reached k (omega arith) in
-            let by_name = reaches_as files g kept n k (names m 1) (names file 1) (omega arith) (omega arith) (name_of_file files g kept n m at_n) (name_of_file files g kept k file at) in
+            let by_name = alike n k m file at_n at in
             ((λ mark. by_name.0 (by_number.0 mark)), (λ reach. by_number.1 (by_name.1 reach)));
         reached_are = shares.parts_are ∙ shares_marked shared_of shares.marks c.entries files shares.size (omega (arith, shares.size)) told;
       }

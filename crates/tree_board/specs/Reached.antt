@@ -4,10 +4,13 @@ use Rattle.digraph.specs.Chains.{Chain}
 use Rattle.ob_decls.specs.Parts.{Rows}
 use Rattle.ob_decls.specs.declared.rows.Import.{Import}
 use Rattle.ob_imports.specs.Files.{File, Imports}
+use Rattle.ob_imports.specs.Graphs.{ImportGraph}
 use Rattle.ob_interface.specs.Interfaces.{interface_of, ModuleInterface}
 use Rattle.ob_scan.specs.declared.token.Token.{Token}
 use Rattle.ob_scope.specs.Texts.{text_at}
 use Rattle.oscip_tree.specs.Trees.{rows, ModuleFile}
+use Rattle.work_board.specs.Graphs.{Reaches}
+use Rattle.tree_board.specs.Boards.{modules_of}
 
 -- a file's path, its bytes and tokens, and what its module declares and looks up
 pub record SeenFile : Type 0 where
@@ -33,6 +36,11 @@ files_of files = map file_of files
 -- the module of the one name reaches that of the other by one or more imports
 abbrev pub ReachesName : List SeenFile → List ℕ → List ℕ → Type 0
 ReachesName files m n = (w : List ℕ) × Imports (files_of files) m w × Chain (Imports (files_of files)) w n
+
+-- what a module of these files reaches on the board of this graph by numbers is what it reaches in the files by names
+abbrev pub ReachesAlike : List SeenFile → ImportGraph → Type 0
+ReachesAlike files g =
+    (v w : ℕ) (m n : SeenFile) → slice_get files v ≡ Some m → slice_get files w ≡ Some n → Reaches (modules_of g).imports v w ↔ ReachesName files (names m 1) (names n 1)
 
 -- what other modules see of a file's module
 abbrev pub interface_in : SeenFile → ModuleInterface

@@ -1,12 +1,12 @@
 -- The parts of a tree's modules, and the files that they are of.
-use Rattle.std.specs.Prelude.{◌≡◌, ℕ, List, [], ◌∷◌, length, slice_get, Some, Box}
+use Rattle.std.specs.Prelude.{◌≡◌, ℕ, List, [], ◌∷◌, length, slice_get, Some, Ok, Box}
 use Rattle.std.specs.Arc.{arc_value}
 use Rattle.std.specs.String.{string_bytes}
 use Rattle.std.specs.declared.alloc.Global.{Global}
 use Rattle.ob_decls.specs.Declaring.{rows_in}
 use Rattle.ob_imports.specs.Graphs.{ImportGraph}
 use Rattle.ob_imports.specs.Outcomes.{AreFilesOfGraph}
-use Rattle.ob_scan.specs.Spelling.{IsOutcome, Reads}
+use Rattle.ob_scan.specs.Spelling.{IsOutcome}
 use Rattle.ob_scope.specs.Scoped.{AreScopes}
 use Rattle.oscip_tree.specs.declared.parts.ModuleParts.{ModuleParts}
 use Rattle.oscip_tree.specs.declared.source.Source.{Source}
@@ -24,7 +24,7 @@ all_seen (s ∷ sources) (m ∷ modules) = seen_in s m.value ∷ all_seen source
 
 -- the parts of a source are those of its file
 pub record IsSourceRead (s : Source) (parts : ModuleParts) : Type 0 where
-  pub reads : IsOutcome s.bytes.items (Reads parts.tokens)
+  pub reads : IsOutcome s.bytes.items (Ok parts.tokens)
   pub scopes : AreScopes s.bytes.items parts.tokens (rows_in parts.table) parts.scopes
   pub interface : arc_value parts.interface ≡ interface_in (seen_in s parts)
 

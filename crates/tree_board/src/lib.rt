@@ -4,5 +4,6 @@
 #![tactic(auto)]
 
 mod graphs;
+pub mod laws;
 
 pub use graphs::board_graph;

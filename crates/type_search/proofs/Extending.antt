@@ -13,7 +13,7 @@ use Rattle.type_search.specs.declared.name.Name.{Name}
 use Rattle.type_search.specs.declared.shape.Shape.{Shape}
 use Rattle.type_search.specs.Searches.{IsMetAgain}
 use Rattle.type_search.specs.Leading.{IsTypeEnd, TypeLeadsTo}
-use Rattle.type_search.specs.Extending.{shape_record, base_field, marked, own_field, risen, came_back, unmarked, Extends, Has, HasField, AreAbove, AreFieldsOf, AreFound, IsAbove, IsFieldIn, IsNextAbove, IsPassed, LeadsToRecord, IsRecordOf, Use, same_use}
+use Rattle.type_search.specs.Extending.{shape_record, base_field, marked, own_field, risen, came_back, unmarked, Extends, Has, HasField, AreAbove, AreFieldsOf, AreFound, IsAbove, IsFieldIn, IsNextAbove, IsPassed, Lacks, LeadsToRecord, IsRecordOf, Rises, nowhere, higher, Use, same_use}
 use Rattle.type_search.proofs.Leading.{leads_to_once}
 
 -- what holds anyway holds of what there is
@@ -91,12 +91,12 @@ module _ {N D R : Type 0} (shape : N → Shape N D R) where
           let e = has_once i l s f h rest (subst (λ (v : R). Has shape base field l v h) one other) in
           (ap suc e.0, e.1)
 
-      -- so many bases up from one record to another, which have no field of the name
-      pub data Rises : ℕ → R → R → Type 0 where
-        nowhere : {r : R} → Rises zero r r
-        higher : {k : ℕ} {r s above : R} → Rises k r s → field s ≡ None → Extends shape base s above → Rises (suc k) r above
+      -- further up
+      pub rises_on : (j k : ℕ) (r s t : R) → Rises shape base field j r s → Rises shape base field k s t → (n : ℕ) × Rises shape base field n r t
+      rises_on j k r s t p nowhere = (j, p)
+      rises_on j k r s t p (higher {k = i} {s = x} q none e) = let on = rises_on j i r s x p q in (suc on.0, higher on.1 none e)
 
-      down : (s k : ℕ) (r t : R) (f : F) → Rises s r t → Has shape base field k t f → HasField shape base field r f
+      down : (s k : ℕ) (r t : R) (f : F) → Rises shape base field s r t → Has shape base field k t f → HasField shape base field r f
       down s k r t f nowhere h = record { bases = k; has = h }
       down s k r t f (higher {k = j} {s = x} p none e) h = down j (suc k) r x f p (base_field none e h)
 
@@ -109,7 +109,7 @@ module _ {N D R : Type 0} (shape : N → Shape N D R) where
       one_up k x t f none e (own_field p) = absurd (let g : None ≡ Some f = sym none ∙ p in cc)
       one_up k x t f none e (base_field {k = i} {above = y} p z h) = record { bases = i; has = subst (λ (v : R). Has shape base field i v f) (extends_once x y t z e) h; fewer = omega arith }
 
-      still : (s k : ℕ) (r t : R) (f : F) → Rises s r t → Has shape base field k r f → Still s k t f
+      still : (s k : ℕ) (r t : R) (f : F) → Rises shape base field s r t → Has shape base field k r f → Still s k t f
       still s k r t f nowhere h = record { bases = k; has = h; fewer = omega arith }
       still s k r t f (higher {k = j} {s = x} p none e) h =
           let a = still j k r x f p h in
@@ -119,12 +119,12 @@ module _ {N D R : Type 0} (shape : N → Shape N D R) where
           record { bases = b.bases; has = b.has; fewer = omega (arith, m, n) }
 
       -- what is found at the last is found at the first
-      pub field_same : (s : ℕ) (r t : R) (o : Option F) → Rises s r t → IsFieldIn shape base field t o → IsFieldIn shape base field r o
+      pub field_same : (s : ℕ) (r t : R) (o : Option F) → Rises shape base field s r t → IsFieldIn shape base field t o → IsFieldIn shape base field r o
       field_same s r t (Some f) p h = record { some = down s h.some.bases r t f p h.some.has; none = tt }
       field_same s r t None p h = record { some = tt; none = λ f g. (let x = still s g.bases r t f p g.has in h.none f (record { bases = x.bases; has = x.has })) }
 
       -- a search that comes back finds nothing
-      comes_back : (s : ℕ) (r : R) (f : F) → Rises (suc s) r r → HasField shape base field r f → ⊥
+      comes_back : (s : ℕ) (r : R) (f : F) → Rises shape base field (suc s) r r → HasField shape base field r f → ⊥
       comes_back s r f p h =
           let x = still (suc s) h.bases r r f p h.has in
           let a : x.bases + suc s ≡ h.bases = x.fewer in
@@ -147,16 +147,16 @@ module _ {N D R : Type 0} (shape : N → Shape N D R) where
       module _ (same : R → R → Bool) (apart : (r s : R) → same r s ≡ true → r ≡ s) where
         pub record IsRisen (now r : R) : Type 0 where
           pub steps : ℕ
-          pub rises : Rises steps r now
+          pub rises : Rises shape base field steps r now
 
         -- a search from the first record stands before the second, and has met these
         pub record Climbs (from now : R) (met : List R) : Type 0 where
           pub steps : ℕ
-          pub rises : Rises steps from now
-          pub each : All (λ (r : R). (j : ℕ) × Rises (suc j) r now) met
+          pub rises : Rises shape base field steps from now
+          pub each : All (λ (r : R). (j : ℕ) × Rises shape base field (suc j) r now) met
 
         pub climbs_nowhere : (from : R) (met : List R) → met ≡ [] → Climbs from from met
-        climbs_nowhere from met e = record { steps = zero; rises = nowhere; each = subst (λ (rs : List R). All (λ (r : R). (j : ℕ) × Rises (suc j) r from) rs) (sym e) (λ k d l. absurd (omega (arith, l))) }
+        climbs_nowhere from met e = record { steps = zero; rises = nowhere; each = subst (λ (rs : List R). All (λ (r : R). (j : ℕ) × Rises shape base field (suc j) r from) rs) (sym e) (λ k d l. absurd (omega (arith, l))) }
 
         -- what a name means at the last it means in all that were passed
         pub passed : (from now : R) (met : List R) (o : Option F) → Climbs from now met → IsFieldIn shape base field now o → AreFieldsOf shape base field from met o
@@ -168,9 +168,9 @@ module _ {N D R : Type 0} (shape : N → Shape N D R) where
         met_again : (from now : R) (met after : List R) → IsMetAgain same now met after → Climbs from now met → AreFieldsOf shape base field from after None
         met_again from now met after again w =
             let a = Any-from_list_any (same now) met again.among in
-            let p : (j : ℕ) × Rises (suc j) a.1 now = subst (λ (r : R). (j : ℕ) × Rises (suc j) r now) a.3 (w.each a.0 a.1 a.2) in
+            let p : (j : ℕ) × Rises shape base field (suc j) a.1 now = subst (λ (r : R). (j : ℕ) × Rises shape base field (suc j) r now) a.3 (w.each a.0 a.1 a.2) in
             let one : now ≡ a.1 = apart now a.1 a.4 in
-            let q : Rises (suc p.0) now now = subst (λ (r : R). Rises (suc p.0) r now) (sym one) p.1 in
+            let q : Rises shape base field (suc p.0) now now = subst (λ (r : R). Rises shape base field (suc p.0) r now) (sym one) p.1 in
             subst (λ (rs : List R). AreFieldsOf shape base field from rs None) (sym again.unchanged) (passed from now met None w (record { some = tt; none = λ f h. comes_back p.0 now f q h }))
 
         -- what holds of all marks and of a record that is passed holds of the marks behind it
@@ -178,42 +178,50 @@ module _ {N D R : Type 0} (shape : N → Shape N D R) where
         marks_on P now before after (marked e) each here = subst (All P) (sym e) (All-push P before now each here)
         marks_on P now before after (unmarked e) each here = subst (All P) (sym e) each
 
-        none_left : (from now : R) (met after : List R) (o : Option R) → IsPassed now met after → field now ≡ None → o ≡ None → IsAbove shape base now o → Climbs from now met → AreFieldsOf shape base field from after None
-        none_left from now met after o fresh none no_more above w =
-            let here = nothing_above now o none no_more above in
+        none_left : (from now last : R) (met after : List R) (o : Option R) → IsPassed now met after → Lacks shape base field now last → o ≡ None → IsAbove shape base last o → Climbs from now met → AreFieldsOf shape base field from after None
+        none_left from now last met after o fresh lacks no_more above w =
+            let here = field_same lacks.bases now last None lacks.rises (nothing_above last o lacks.none no_more above) in
             let all = passed from now met None w here in
             record { is = all.is; each = marks_on (λ (s : R). IsFieldIn shape base field s None) now met after fresh all.each here }
 
-        climbs_on : (from now above : R) (met after : List R) (o : Option R) → IsPassed now met after → field now ≡ None → o ≡ Some above → IsAbove shape base now o → Climbs from now met → Climbs from above after
-        climbs_on from now above met after o fresh none is_some ups w =
-            let e : Extends shape base now above = subst (λ (v : Option R). IfSome v (Extends shape base now)) is_some ups.some in
+        climbs_on : (from now last above : R) (met after : List R) (o : Option R) → IsPassed now met after → Lacks shape base field now last → o ≡ Some above → IsAbove shape base last o → Climbs from now met → Climbs from above after
+        climbs_on from now last above met after o fresh lacks is_some ups w =
+            let e : Extends shape base last above = subst (λ (v : Option R). IfSome v (Extends shape base last)) is_some ups.some in
+            let on : (r : R) (k : ℕ) → Rises shape base field k r now → (j : ℕ) × Rises shape base field (suc j) r above = λ r k p. (let up = rises_on k lacks.bases r now last p lacks.rises in (up.0, higher up.1 lacks.none e)) in
+            let all = on from w.steps w.rises in
             record {
-              steps = suc w.steps;
-              rises = higher w.rises none e;
-              each = marks_on (λ (r : R). (j : ℕ) × Rises (suc j) r above) now met after fresh (λ k d l. (let p = w.each k d l in (suc p.0, higher p.1 none e))) (zero, higher nowhere none e);
+              steps = suc all.0;
+              rises = all.1;
+              each = marks_on (λ (r : R). (j : ℕ) × Rises shape base field (suc j) r above) now met after fresh (λ k d l. (let p = w.each k d l in on _ (suc p.0) p.1)) (on now zero nowhere);
             }
 
         -- a search whose next record is none has come to its end
-        pub ends_here : (from now : R) (met after : List R) (v : Option (Option F)) (o : Option R) → v ≡ None → IfNone v (field now ≡ None) → o ≡ None → IsNextAbove shape base same now met after o → Climbs from now met →
-            AreFieldsOf shape base field from after None
-        ends_here from now met after v o unknown none is (risen fresh above) w = none_left from now met after o fresh (subst (λ (x : Option (Option F)). IfNone x (field now ≡ None)) unknown none) is above w
-        ends_here from now met after v o unknown none is (came_back again e) w = met_again from now met after again w
+        pub ends_here : (from now : R) (met after : List R) (o : Option R) → o ≡ None → IsNextAbove shape base field same now met after o → Climbs from now met → AreFieldsOf shape base field from after None
+        ends_here from now met after o is (risen {last = last} fresh lacks above) w = none_left from now last met after o fresh lacks is above w
+        ends_here from now met after o is (came_back again e) w = met_again from now met after again w
 
         -- and goes on where there is one
-        pub goes_on : (from now above : R) (met after : List R) (v : Option (Option F)) (o : Option R) → v ≡ None → IfNone v (field now ≡ None) → o ≡ Some above → IsNextAbove shape base same now met after o → Climbs from now met →
-            Climbs from above after
-        goes_on from now above met after v o unknown none is (risen fresh ups) w = climbs_on from now above met after o fresh (subst (λ (x : Option (Option F)). IfNone x (field now ≡ None)) unknown none) is ups w
-        goes_on from now above met after v o unknown none is (came_back again e) w = absurd (let f : Some above ≡ None = sym is ∙ e in cc)
+        pub goes_on : (from now above : R) (met after : List R) (o : Option R) → o ≡ Some above → IsNextAbove shape base field same now met after o → Climbs from now met → Climbs from above after
+        goes_on from now above met after o is (risen {last = last} fresh lacks ups) w = climbs_on from now last above met after o fresh lacks is ups w
+        goes_on from now above met after o is (came_back again e) w = absurd (let f : Some above ≡ None = sym is ∙ e in cc)
 
         -- what is known of the record at which a search stands
         pub known_here : (from now : R) (met : List R) (v : Option (Option F)) (o : Option F) → v ≡ Some o → IfSome v (IsFieldIn shape base field now) → Climbs from now met → AreFieldsOf shape base field from met o
         known_here from now met v o known told w = passed from now met o w (subst (λ (x : Option (Option F)). IfSome x (IsFieldIn shape base field now)) known told)
 
-        pub passed_anew : (now : R) (met after : List R) (o : Option R) → IsPassed now met after → IsAbove shape base now o → IsNextAbove shape base same now met after o
-        passed_anew now met after o passes above = risen passes above
+        -- a record is passed, and by a hop some above it
+        pub passed_anew : (now last : R) (met after : List R) (o : Option R) → IsPassed now met after → Lacks shape base field now last → IsAbove shape base last o → IsNextAbove shape base field same now met after o
+        passed_anew now last met after o passes lacks above = risen passes lacks above
 
-        pub marked_before : (now : R) (met : List R) (b : Bool) → b ≡ true → (b ≡ true → list_any (same now) met ≡ true) → IsNextAbove shape base same now met met None
+        pub marked_before : (now : R) (met : List R) (b : Bool) → b ≡ true → (b ≡ true → list_any (same now) met ≡ true) → IsNextAbove shape base field same now met met None
         marked_before now met b is among = came_back (record { among = among is; unchanged = refl }) refl
+
+      -- a hop that comes onto a record
+      pub onto_above : (last above : R) → Extends shape base last above → IsAbove shape base last (Some above)
+      onto_above last above e = record { some = e; none = tt }
+
+      pub lacks_itself : (r : R) → field r ≡ None → Lacks shape base field r r
+      lacks_itself r none = record { bases = zero; rises = nowhere; none = none }
 
   -- ---- what is kept
 

@@ -3,3 +3,5 @@ pub mod Finding
 pub mod Leading
 pub mod Coming
 pub mod Extending
+pub mod Standing
+pub mod Hopping

@@ -49,11 +49,6 @@ module _ {N D R : Type 0} (shape : N → Shape N D R) where
     pub record AreAbove {S : Type 0} (same : R → R → Bool) (kept : IndexMap R (Option R) S) : Type 0 where
       pub each : (r : R) (o : Option R) → get same kept r ≡ Some o → IsAbove r o
 
-    -- a record is passed, and this is above it, if any; or it is among the marks, and there is none
-    pub data IsNextAbove (same : R → R → Bool) (r : R) (before after : List R) (o : Option R) : Type 0 where
-      risen : IsPassed r before after → IsAbove r o → IsNextAbove same r before after o
-      came_back : IsMetAgain same r before after → o ≡ None → IsNextAbove same r before after o
-
     module _ {F : Type 0} (field : R → Option F) where
       -- the field that a name means in a record: its own, or else that of its base, so many bases up
       pub data Has : ℕ → R → F → Type 0 where
@@ -67,6 +62,23 @@ module _ {N D R : Type 0} (shape : N → Shape N D R) where
       pub record IsFieldIn (r : R) (o : Option F) : Type 0 where
         pub some : IfSome o (HasField r)
         pub none : IfNone o ((f : F) → HasField r f → ⊥)
+
+      -- so many bases up from one record to another, none below which has a field of the name
+      pub data Rises : ℕ → R → R → Type 0 where
+        nowhere : {r : R} → Rises zero r r
+        higher : {k : ℕ} {r s above : R} → Rises k r s → field s ≡ None → Extends s above → Rises (suc k) r above
+
+      -- from a record up to another none has a field of the name
+      pub record Lacks (r last : R) : Type 0 where
+        pub bases : ℕ
+        pub rises : Rises bases r last
+        pub none : field last ≡ None
+
+      -- a record is passed, with some above it that have no field of the name, and this is above the last of these, if any; or the record is
+      -- among the marks, and there is none
+      pub data IsNextAbove (same : R → R → Bool) (r : R) (before after : List R) (o : Option R) : Type 0 where
+        risen : {last : R} → IsPassed r before after → Lacks r last → IsAbove last o → IsNextAbove same r before after o
+        came_back : IsMetAgain same r before after → o ≡ None → IsNextAbove same r before after o
 
       -- what a name means in a record it means in these
       pub record AreFieldsOf (r : R) (met : List R) (o : Option F) : Type 0 where

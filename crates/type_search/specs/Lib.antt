@@ -1,3 +1,5 @@
 pub mod Searches
 pub mod Leading
 pub mod Extending
+pub mod ToldFields
+pub mod Lines

@@ -3,6 +3,8 @@ ghost use Rattle.std.specs.Prelude.{◌≡◌, [], IfOk, IfSome, IfNone};
 ghost use Rattle.type_search.specs.Searches.{Finds, HasElement, HasTarget};
 
 use crate::graph::TypeGraph;
+use crate::lay::lay_if_due;
+use crate::line::Line;
 use crate::name::Name;
 use crate::parts::{element_in, target_in};
 use crate::records::find_in;
@@ -12,7 +14,7 @@ use std::alloc::{AllocError, Global};
 use std::marker::Model;
 
 /// Searches in a graph of types. What they come to by names and pointers is kept, so that each declaration is passed once, however many
-/// searches come to it. A contract sees the graph.
+/// searches come to it. Once searches for fields climbed far, all records are put in a line, along which they hop. A contract sees the graph.
 #[derive(Drop)]
 pub struct Finder<'a, G: TypeGraph> {
     graph: &'a G,
@@ -22,22 +24,25 @@ pub struct Finder<'a, G: TypeGraph> {
     by_pointers: IndexMap<G::Declaration, Option<G::Node>>,
     /// The records to which the bases of records lead.
     aboves: IndexMap<G::Record, Option<G::Record>>,
+    /// All records in a line, once searches climbed far.
+    line: Option<Box<Line<'a, G::Record>>>,
     /// What names mean in records.
     found: IndexMap<(G::Record, Name<'a>), Option<G::Field>>,
-    /// The names of which something may be kept there.
+    /// The names of which something may be kept there, and how far searches climbed.
     sought: Sought,
 }
 
 impl<'a, G: TypeGraph> Model for Finder<'a, G> {
-    ghost use Rattle.std.specs.Prelude.{false, true};
+    ghost use Rattle.std.specs.Prelude.{false, true, IfSome};
     ghost use Rattle.type_search.specs.Extending.{AreAbove, AreFound};
     ghost use Rattle.type_search.specs.Leading.{AreTypeEnds};
+    ghost use Rattle.type_search.specs.Lines.{IsLine};
 
     ghost Value = { G };
 
     ghost view = { λ f. f.graph.now };
 
-    ghost invariant = { λ f. AreTypeEnds (G.shape f.graph.now) false G.Declaration.eq f.by_names × AreTypeEnds (G.shape f.graph.now) true G.Declaration.eq f.by_pointers × AreAbove (G.shape f.graph.now) (G.base_of f.graph.now) G.Record.eq f.aboves × AreFound (G.shape f.graph.now) (G.base_of f.graph.now) (G.field_of f.graph.now) G.Record.eq f.found };
+    ghost invariant = { λ f. AreTypeEnds (G.shape f.graph.now) false G.Declaration.eq f.by_names × AreTypeEnds (G.shape f.graph.now) true G.Declaration.eq f.by_pointers × AreAbove (G.shape f.graph.now) (G.base_of f.graph.now) G.Record.eq f.aboves × IfSome f.line (λ l. IsLine (G.shape f.graph.now) (G.base_of f.graph.now) (G.field_of f.graph.now) l.value.records.keys l.value.ends.items l.value.owned.items) × AreFound (G.shape f.graph.now) (G.base_of f.graph.now) (G.field_of f.graph.now) G.Record.eq f.found };
 }
 
 impl<'a, G: TypeGraph> Finder<'a, G> {
@@ -50,6 +55,7 @@ impl<'a, G: TypeGraph> Finder<'a, G> {
             by_names: IndexMap::new(alloc),
             by_pointers: IndexMap::new(alloc),
             aboves: IndexMap::new(alloc),
+            line: None,
             found: IndexMap::new(alloc),
             sought: Sought::none(alloc),
         }
@@ -91,10 +97,18 @@ impl<'a, G: TypeGraph> Finder<'a, G> {
         ensures found { IfOk result (λ o. IfSome o (λ f. Finds G.Declaration.eq (G.shape self.old) (λ r. G.field_of self.old r name.now) (G.base_of self.old) [] from f)) }
         ensures none { IfOk result (λ o. IfNone o ((f : G.Field) → Finds G.Declaration.eq (G.shape self.old) (λ r. G.field_of self.old r name.now) (G.base_of self.old) [] from f → ⊥)) }
     {
+        lay_if_due(
+            self.graph,
+            &mut self.by_pointers,
+            &mut self.aboves,
+            &mut self.line,
+            &mut self.sought,
+        );
         find_in(
             self.graph,
             &mut self.by_pointers,
             &mut self.aboves,
+            &self.line,
             &mut self.found,
             &mut self.sought,
             from,

@@ -1,9 +1,12 @@
 //! Graphs of types.
-ghost use Rattle.std.specs.Prelude.{◌≡◌, ◌<◌, ℕ, List, Option, Some, true};
+ghost use Rattle.std.specs.Prelude.{◌≡◌, ◌<◌, ℕ, List, Option, Some, IfOk, true};
 ghost use Rattle.type_search.specs.declared.shape.Shape.{Shape};
 ghost use Rattle.type_search.specs.declared.shape.Shape.TheVariants as shapes;
+ghost use Rattle.type_search.specs.ToldFields.{AreAllFields};
 
 use crate::shape::Shape;
+use crate::told::OwnField;
+use std::alloc::{AllocError, Global};
 use std::hash::Hash;
 
 /// The types of a program, as nodes. A node is a place at which a type is written.
@@ -39,6 +42,16 @@ pub trait TypeGraph {
     /// The type that is a record's base.
     fn base(&self, record: Self::Record) -> Option<Self::Node>
         ensures { result ≡ base_of self.now «record» };
+
+    /// About how much `records` and `fields` look at. No answer depends on it.
+    fn size(&self) -> u64;
+
+    /// The records. No answer depends on which are told, but searches that begin at others take longer.
+    fn records(&self, alloc: Global) -> Result<Vec<Self::Record>, AllocError>;
+
+    /// All fields of records themselves.
+    fn fields(&self, alloc: Global) -> Result<Vec<OwnField<'_, Self::Record>>, AllocError>
+        ensures { IfOk result (λ fields. AreAllFields (field_of self.now) fields.items) };
 
     ghost deep: { (g : Self) (n : Self.Node) → depth g n < height g };
 

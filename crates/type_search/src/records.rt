@@ -3,10 +3,13 @@ ghost use Rattle.std.specs.Prelude.{◌≡◌, ◌<◌, ◌^◌, [], true, IfOk,
 ghost use Rattle.std.specs.List.{All};
 ghost use Rattle.type_search.specs.Extending.{shape_record, AreAbove, AreFieldsOf, AreFound, IsAbove, IsFieldIn, IsNextAbove, IsRecordOf};
 ghost use Rattle.type_search.specs.Leading.{AreTypeEnds};
+ghost use Rattle.type_search.specs.Lines.{IsHop, IsLine};
 ghost use Rattle.type_search.specs.Searches.{Finds};
 
 use crate::ends::end_of;
 use crate::graph::TypeGraph;
+use crate::hop::Hop;
+use crate::line::{Line, hop};
 use crate::name::Name;
 use crate::shape::Shape;
 use crate::sought::Sought;
@@ -86,7 +89,7 @@ fn field_here<'a, G: TypeGraph>(
 }
 
 /// The record to which the base of a record leads, which is kept: each search behind that base comes by here.
-fn above_kept<G: TypeGraph>(
+pub(crate) fn above_kept<G: TypeGraph>(
     graph: &G,
     kept: &mut IndexMap<G::Declaration, Option<G::Node>>,
     aboves: &mut IndexMap<G::Record, Option<G::Record>>,
@@ -106,26 +109,51 @@ fn above_kept<G: TypeGraph>(
     Ok(above)
 }
 
-/// Passes a record, and tells the one above it, or none where there is none or the search came back.
-fn climb<G: TypeGraph>(
+/// Hops from a record that lacks the field of this name, where the records stand in a line.
+fn hop_from<'a, G: TypeGraph>(
+    graph: &G,
+    line: &Option<Box<Line<'a, G::Record>>>,
+    record: G::Record,
+    name: &[u8],
+) -> Hop<G::Record>
+    requires line { IfSome line.now (λ l. IsLine (G.shape graph.now) (G.base_of graph.now) (G.field_of graph.now) l.value.records.keys l.value.ends.items l.value.owned.items) }
+    requires lacks { G.field_of graph.now «record» name.now ≡ None }
+    ensures { IsHop (G.shape graph.now) (G.base_of graph.now) (λ r. G.field_of graph.now r name.now) «record» result }
+{
+    match line {
+        None => Hop::From(record),
+        Some(line) => hop(graph, line, record, name),
+    }
+}
+
+/// Passes a record that lacks the field of this name, and tells one above it, up to which none has it, or none where there is none or the
+/// search came back.
+fn climb<'a, G: TypeGraph>(
     graph: &G,
     kept: &mut IndexMap<G::Declaration, Option<G::Node>>,
     aboves: &mut IndexMap<G::Record, Option<G::Record>>,
+    line: &Option<Box<Line<'a, G::Record>>>,
     way: &mut Way<G::Record>,
     record: G::Record,
+    name: &[u8],
 ) -> Result<Option<G::Record>, AllocError>
     requires kept { AreTypeEnds (G.shape graph.now) true G.Declaration.eq kept.old }
     requires aboves { AreAbove (G.shape graph.now) (G.base_of graph.now) G.Record.eq aboves.old }
+    requires line { IfSome line.now (λ l. IsLine (G.shape graph.now) (G.base_of graph.now) (G.field_of graph.now) l.value.records.keys l.value.ends.items l.value.owned.items) }
+    requires lacks { G.field_of graph.now «record» name.now ≡ None }
     ensures kept { AreTypeEnds (G.shape graph.now) true G.Declaration.eq kept.new }
     ensures aboves { AreAbove (G.shape graph.now) (G.base_of graph.now) G.Record.eq aboves.new }
-    ensures next { IfOk result (IsNextAbove (G.shape graph.now) (G.base_of graph.now) G.Record.eq «record» way.old.marks.items way.new.marks.items) }
+    ensures next { IfOk result (IsNextAbove (G.shape graph.now) (G.base_of graph.now) (λ r. G.field_of graph.now r name.now) G.Record.eq «record» way.old.marks.items way.new.marks.items) }
     ensures passed { IfOk result (λ o. IfSome o (λ _. (way.old.passed < way.new.passed) × (way.new.passed < 2 ^ 64))) }
 {
     if comes_back(way, record) {
         return Ok(None);
     }
     pass(way, record)?;
-    above_kept(graph, kept, aboves, record)
+    match hop_from(graph, line, record, name) {
+        Hop::Onto(above) => Ok(Some(above)),
+        Hop::From(last) => above_kept(graph, kept, aboves, last),
+    }
 }
 
 /// The field that a name means in a record: its own, or else that of its base, up to a record whose field is kept; and some of
@@ -134,6 +162,7 @@ fn field_of<'a, G: TypeGraph>(
     graph: &G,
     kept: &mut IndexMap<G::Declaration, Option<G::Node>>,
     aboves: &mut IndexMap<G::Record, Option<G::Record>>,
+    line: &Option<Box<Line<'a, G::Record>>>,
     found: &IndexMap<(G::Record, Name<'a>), Option<G::Field>>,
     is_kept: bool,
     way: &mut Way<G::Record>,
@@ -142,6 +171,7 @@ fn field_of<'a, G: TypeGraph>(
 ) -> Result<Option<G::Field>, AllocError>
     requires kept { AreTypeEnds (G.shape graph.now) true G.Declaration.eq kept.old }
     requires aboves { AreAbove (G.shape graph.now) (G.base_of graph.now) G.Record.eq aboves.old }
+    requires line { IfSome line.now (λ l. IsLine (G.shape graph.now) (G.base_of graph.now) (G.field_of graph.now) l.value.records.keys l.value.ends.items l.value.owned.items) }
     requires found { AreFound (G.shape graph.now) (G.base_of graph.now) (G.field_of graph.now) G.Record.eq found.now }
     requires none_passed { way.old.marks.items ≡ [] }
     ensures kept { AreTypeEnds (G.shape graph.now) true G.Declaration.eq kept.new }
@@ -153,7 +183,7 @@ fn field_of<'a, G: TypeGraph>(
         if let Some(field) = field_here(graph, found, is_kept, record, name) {
             return Ok(field);
         }
-        match climb(graph, kept, aboves, way, record)? {
+        match climb(graph, kept, aboves, line, way, record, name)? {
             None => return Ok(None),
             Some(above) => record = above,
         }
@@ -183,6 +213,7 @@ fn field_passed<'a, G: TypeGraph>(
     graph: &G,
     kept: &mut IndexMap<G::Declaration, Option<G::Node>>,
     aboves: &mut IndexMap<G::Record, Option<G::Record>>,
+    line: &Option<Box<Line<'a, G::Record>>>,
     found: &mut IndexMap<(G::Record, Name<'a>), Option<G::Field>>,
     sought: &mut Sought,
     way: &mut Way<G::Record>,
@@ -191,6 +222,7 @@ fn field_passed<'a, G: TypeGraph>(
 ) -> Result<Option<G::Field>, AllocError>
     requires kept { AreTypeEnds (G.shape graph.now) true G.Declaration.eq kept.old }
     requires aboves { AreAbove (G.shape graph.now) (G.base_of graph.now) G.Record.eq aboves.old }
+    requires line { IfSome line.now (λ l. IsLine (G.shape graph.now) (G.base_of graph.now) (G.field_of graph.now) l.value.records.keys l.value.ends.items l.value.owned.items) }
     requires found { AreFound (G.shape graph.now) (G.base_of graph.now) (G.field_of graph.now) G.Record.eq found.old }
     requires none_passed { way.old.marks.items ≡ [] }
     ensures kept { AreTypeEnds (G.shape graph.now) true G.Declaration.eq kept.new }
@@ -199,7 +231,8 @@ fn field_passed<'a, G: TypeGraph>(
     ensures is { IfOk result (IsFieldIn (G.shape graph.now) (G.base_of graph.now) (λ r. G.field_of graph.now r name.now) from) }
 {
     let is_kept = sought.note(*kept.allocator(), name);
-    let field = field_of(graph, kept, aboves, found, is_kept, way, from, name)?;
+    let field = field_of(graph, kept, aboves, line, found, is_kept, way, from, name)?;
+    sought.add(way.passed);
     keep_field(graph, found, way.marks.as_slice(), name, field)?;
     Ok(field)
 }
@@ -209,6 +242,7 @@ fn field_kept<'a, G: TypeGraph>(
     graph: &G,
     kept: &mut IndexMap<G::Declaration, Option<G::Node>>,
     aboves: &mut IndexMap<G::Record, Option<G::Record>>,
+    line: &Option<Box<Line<'a, G::Record>>>,
     found: &mut IndexMap<(G::Record, Name<'a>), Option<G::Field>>,
     sought: &mut Sought,
     from: G::Record,
@@ -216,6 +250,7 @@ fn field_kept<'a, G: TypeGraph>(
 ) -> Result<Option<G::Field>, AllocError>
     requires kept { AreTypeEnds (G.shape graph.now) true G.Declaration.eq kept.old }
     requires aboves { AreAbove (G.shape graph.now) (G.base_of graph.now) G.Record.eq aboves.old }
+    requires line { IfSome line.now (λ l. IsLine (G.shape graph.now) (G.base_of graph.now) (G.field_of graph.now) l.value.records.keys l.value.ends.items l.value.owned.items) }
     requires found { AreFound (G.shape graph.now) (G.base_of graph.now) (G.field_of graph.now) G.Record.eq found.old }
     ensures kept { AreTypeEnds (G.shape graph.now) true G.Declaration.eq kept.new }
     ensures aboves { AreAbove (G.shape graph.now) (G.base_of graph.now) G.Record.eq aboves.new }
@@ -226,7 +261,9 @@ fn field_kept<'a, G: TypeGraph>(
         return Ok(Some(field));
     }
     let mut way = no_way(*kept.allocator());
-    field_passed(graph, kept, aboves, found, sought, &mut way, from, name)
+    field_passed(
+        graph, kept, aboves, line, found, sought, &mut way, from, name,
+    )
 }
 
 /// The field that a name means at a type: of the record to which it leads, or else of its base.
@@ -234,6 +271,7 @@ pub(crate) fn find_in<'a, G: TypeGraph>(
     graph: &G,
     kept: &mut IndexMap<G::Declaration, Option<G::Node>>,
     aboves: &mut IndexMap<G::Record, Option<G::Record>>,
+    line: &Option<Box<Line<'a, G::Record>>>,
     found: &mut IndexMap<(G::Record, Name<'a>), Option<G::Field>>,
     sought: &mut Sought,
     from: G::Node,
@@ -241,6 +279,7 @@ pub(crate) fn find_in<'a, G: TypeGraph>(
 ) -> Result<Option<G::Field>, AllocError>
     requires kept { AreTypeEnds (G.shape graph.now) true G.Declaration.eq kept.old }
     requires aboves { AreAbove (G.shape graph.now) (G.base_of graph.now) G.Record.eq aboves.old }
+    requires line { IfSome line.now (λ l. IsLine (G.shape graph.now) (G.base_of graph.now) (G.field_of graph.now) l.value.records.keys l.value.ends.items l.value.owned.items) }
     requires found { AreFound (G.shape graph.now) (G.base_of graph.now) (G.field_of graph.now) G.Record.eq found.old }
     ensures kept { AreTypeEnds (G.shape graph.now) true G.Declaration.eq kept.new }
     ensures aboves { AreAbove (G.shape graph.now) (G.base_of graph.now) G.Record.eq aboves.new }
@@ -250,6 +289,6 @@ pub(crate) fn find_in<'a, G: TypeGraph>(
 {
     match record_of(graph, kept, from)? {
         None => Ok(None),
-        Some(record) => field_kept(graph, kept, aboves, found, sought, record, name),
+        Some(record) => field_kept(graph, kept, aboves, line, found, sought, record, name),
     }
 }

@@ -1,15 +1,26 @@
-//! Marks of names that were sought before. No answer depends on them.
+//! Marks of names that were sought before, and how far searches climbed. No answer depends on them.
 
+use crate::graph::TypeGraph;
 use std::alloc::Global;
 
 /// 65,536 marks, in words of 64.
 const WORDS: usize = 1024;
+
+/// So many records are passed before the size of a graph is asked for.
+const FIRST: u64 = 4096;
+
+/// So many times the size of a graph are passed before its records are put in a line, which takes about as long.
+const TIMES: u64 = 4;
 
 /// Marks of names, none before the first is noted. Names may share a mark, so it tells only that a name may have been sought; they are no
 /// table, in which names that were made to fall together would take long.
 #[derive(Drop)]
 pub(crate) struct Sought {
     words: Vec<u64>,
+    /// How many records searches passed.
+    passed: u64,
+    /// At how many it is asked again whether a line is due.
+    due: u64,
 }
 
 /// The word of a name's mark and the mark in it, by the hash of Fowler, Noll and Vo (FNV-1a).
@@ -26,7 +37,29 @@ impl Sought {
     pub(crate) fn none(alloc: Global) -> Sought {
         Sought {
             words: Vec::new(alloc),
+            passed: 0,
+            due: FIRST,
         }
+    }
+
+    /// Adds the records that a search passed.
+    pub(crate) fn add(&mut self, passed: u64) {
+        self.passed = self.passed.saturating_add(passed);
+    }
+
+    /// Whether searches passed so many records that a line is due, or is once more, where memory for one was refused.
+    pub(crate) fn is_line_due<G: TypeGraph>(&mut self, graph: &G) -> bool {
+        if self.passed < self.due {
+            return false;
+        }
+        let least = graph.size().saturating_mul(TIMES);
+        let is_due = self.passed >= least;
+        self.due = if is_due {
+            self.passed.saturating_mul(2)
+        } else {
+            least
+        };
+        is_due
     }
 
     /// Whether there are marks. Where memory for them is refused there are none.

@@ -6,7 +6,7 @@ use Rattle.std.proofs.lemmas.List.{ext_get_or, get_or-set_same, get_or-set_other
 use Rattle.std.proofs.Math.ListN.{get_or-map}
 use Rattle.work_board.specs.declared.state.State.{State}
 use Rattle.work_board.specs.declared.state.State.TheVariants.{Waiting, Free, Claimed, Delivered}
-use Rattle.work_board.specs.Graphs.{row_at, times_in, IsGraph, Leads, Modules}
+use Rattle.work_board.specs.Graphs.{row_at, times_in, IsGraph, RowLeads, Modules}
 use Rattle.work_board.specs.Cores.{entry_at, has_entry}
 use Rattle.work_board.specs.Keeping.{freed, state_at, taken, IsFit, IsValidBoard, IsStateOf}
 use Rattle.work_board.proofs.Claiming.{told_zero, told_none}
@@ -32,7 +32,7 @@ taken_freed Free k = refl
 taken_freed Claimed k = refl
 taken_freed Delivered k = refl
 
-pub member_below : (g : Modules) → IsGraph g → (m w : ℕ) → Leads g.imports m w → w < length g.names
+pub member_below : (g : Modules) → IsGraph g → (m w : ℕ) → RowLeads g.imports m w → w < length g.names
 member_below g graph m w (k, lt, e) = let P : ℕ → Type 0 = λ x. x < length g.names in subst P e (graph.within m k w lt)
 
 module _ {E : Type 0} (is_of : List ℕ → E → Type 0) (g : Modules) (waiting : List ℕ) (states : List State) (reached : List (List Bool)) (spare : List Bool) (entries : List (Option E)) (kept : IsValidBoard is_of g waiting states reached spare entries) (n : ℕ) (e : E) (within : n < length states) (at_n : state_at states n ≡ Claimed) where

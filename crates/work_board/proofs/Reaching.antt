@@ -3,7 +3,7 @@ use Rattle.std.proofs.Common.{◌≡◌, ◌<◌, ℕ, Bool, true, false, List, 
 use Rattle.std.specs.Prelude.{◌↔◌, Option, slice_index}
 use Rattle.work_board.specs.declared.state.State.{State}
 use Rattle.work_board.specs.declared.state.State.TheVariants.{Waiting}
-use Rattle.work_board.specs.Graphs.{row_at, IsChain, IsGraph, Leads, Modules, Reaches}
+use Rattle.work_board.specs.Graphs.{row_at, IsChain, IsGraph, RowLeads, Modules, Reaches}
 use Rattle.work_board.specs.Cores.{has_entry, is_claimed, shares_of, AreShares}
 use Rattle.work_board.specs.Marks.{marked, IsReachedBy}
 use Rattle.work_board.specs.Keeping.{state_at, taken, IsValidBoard}
@@ -19,10 +19,10 @@ module _ {E : Type 0} (is_of : List ℕ → E → Type 0) (g : Modules) (waiting
       let size = kept.states_size in
       (omega arith, told_zero (state_at states n) (slice_index waiting n) (has_entry entries n) (kept.told n (omega arith)) waits)
 
-  imports_of : (n : ℕ) → n < length g.names → slice_index waiting n ≡ 0 → (w : ℕ) → Leads g.imports n w → has_entry entries w ≡ true
+  imports_of : (n : ℕ) → n < length g.names → slice_index waiting n ≡ 0 → (w : ℕ) → RowLeads g.imports n w → has_entry entries w ≡ true
   imports_of n below zero w h = open_zero entries (row_at g.imports n) (sym (kept.count_open n below) ∙ zero) w h
 
-  entry_taken : IsGraph g → (m w : ℕ) → Leads g.imports m w → has_entry entries w ≡ true → taken (state_at states w) ≡ true
+  entry_taken : IsGraph g → (m w : ℕ) → RowLeads g.imports m w → has_entry entries w ≡ true → taken (state_at states w) ≡ true
   entry_taken graph m w leads there =
       ap taken (told_delivered (state_at states w) (slice_index waiting w) (has_entry entries w) (kept.told w (member_below g graph m w leads)) there)
 
@@ -37,7 +37,7 @@ module _ {E : Type 0} (is_of : List ℕ → E → Type 0) (g : Modules) (waiting
       chain_there graph n v r.0 (sym (claimed_is is_of g waiting states reached spare entries kept abandoned n) ∙ claimed) r.1
 
   -- the row of an import that is delivered
-  import_marks : IsGraph g → (n : ℕ) → n < length g.names → slice_index waiting n ≡ 0 → (w : ℕ) → Leads g.imports n w → (v : ℕ) → v < length g.names
+  import_marks : IsGraph g → (n : ℕ) → n < length g.names → slice_index waiting n ≡ 0 → (w : ℕ) → RowLeads g.imports n w → (v : ℕ) → v < length g.names
       → (marked (row_at reached w) v ≡ true) ↔ Reaches g.imports w v
   import_marks graph n below zero w leads v lt =
       kept.marks w v (member_below g graph n w leads) lt (entry_taken graph n w leads (imports_of n below zero w leads))
@@ -50,7 +50,7 @@ module _ {E : Type 0} (is_of : List ℕ → E → Type 0) (g : Modules) (waiting
   pub meets : IsGraph g → (n : ℕ) → n < length g.names → slice_index waiting n ≡ 0 → (v : ℕ) → v < length g.names → IsReachedBy reached (row_at g.imports n) v ↔ Reaches g.imports n v
   meets graph n below zero v lt = (
     (λ met. elim met.2 [
-      | inl same ↦ let P : ℕ → Type 0 = Leads g.imports n in ([], subst P same met.1)
+      | inl same ↦ let P : ℕ → Type 0 = RowLeads g.imports n in ([], subst P same met.1)
       | inr mark ↦
           let r = (import_marks graph n below zero met.0 met.1 v lt).0 mark in
           (met.0 ∷ r.0, (met.1, r.1))

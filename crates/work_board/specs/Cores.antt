@@ -4,7 +4,7 @@ use Rattle.work_board.specs.declared.claim.Claim.{Claim}
 use Rattle.work_board.specs.declared.claim.Claim.TheVariants.{Finished, Module, Later}
 use Rattle.work_board.specs.declared.claim.BoardFault.{BoardFault}
 use Rattle.work_board.specs.declared.claim.BoardFault.TheVariants.{NotClaimed, Twice, WrongModule, Memory}
-use Rattle.work_board.specs.Graphs.{row_at, Leads, Reaches}
+use Rattle.work_board.specs.Graphs.{row_at, RowLeads, Reaches}
 
 pub record Core (E : Type 0) : Type 0 where
   pub entries : List (Option E)
@@ -34,7 +34,7 @@ module _ {E : Type 0} where
   pub record IsReady (imports : List (List ℕ)) (c : Core E) (n : ℕ) : Type 0 where
     pub within : n < length c.entries
     pub unclaimed : is_claimed c n ≡ false
-    pub imported : (w : ℕ) → Leads imports n w → has_entry c.entries w ≡ true
+    pub imported : (w : ℕ) → RowLeads imports n w → has_entry c.entries w ≡ true
 
   -- the cases of a claim
   abbrev pub IsClaim : List (List ℕ) → Core E → Claim → Core E → Type 0

@@ -34,13 +34,13 @@ abbrev pub AreTurned : List (List ℕ) → List (List ℕ) → Type 0
 AreTurned imports importers = (m n : ℕ) → times_in m (row_at importers n) ≡ times_in n (row_at imports m)
 
 -- m imports n
-abbrev pub Leads : List (List ℕ) → ℕ → ℕ → Type 0
-Leads imports m n = Contains (row_at imports m) n
+abbrev pub RowLeads : List (List ℕ) → ℕ → ℕ → Type 0
+RowLeads imports m n = Contains (row_at imports m) n
 
 -- each imports the next: the first, those of the list, and then the end
 abbrev pub IsChain : List (List ℕ) → ℕ → List ℕ → ℕ → Type 0
-IsChain imports m [] b = Leads imports m b
-IsChain imports m (n ∷ more) b = Leads imports m n × IsChain imports n more b
+IsChain imports m [] b = RowLeads imports m b
+IsChain imports m (n ∷ more) b = RowLeads imports m n × IsChain imports n more b
 
 -- m reaches b by one or more imports
 abbrev pub Reaches : List (List ℕ) → ℕ → ℕ → Type 0

@@ -4,9 +4,10 @@ use Rattle.std.proofs.lemmas.Option.{slice_get_read}
 use Rattle.std.proofs.lemmas.Iterator.Consumers.{YieldsList-at, YieldsList-turn, YieldsList-end, YieldsList-so_far}
 use Rattle.std.proofs.lemmas.Iterator.Splits.{YieldsList-from_slice_split}
 use Rattle.cut_net.specs.NetText.{pieces_of}
-use Rattle.cut_net.specs.Prices.{SpellPrices, said_of}
+use Rattle.cut_net.specs.Prices.{SpellPrices, price_line, said_of}
 use Rattle.cut_net.proofs.Noting.{none_cloned, nothing_told}
-use Rattle.cut_net.proofs.PriceFronts.{spell_next, fault_is}
+use Rattle.cut_net.proofs.LineStops.{spell_next}
+use Rattle.cut_net.proofs.PriceFronts.{fault_is}
 use Rattle.cut_net.proofs.prices.told_by.Goals as goal
 
 pub loop-piece-init : goal.loop-piece-init
@@ -36,7 +37,7 @@ pub loop-piece-preserved : goal.loop-piece-preserved
 loop-piece-preserved c =
     let (count, lines, spelled, told) = c.loop-piece.invariant in
     let (more, last, whole) = c.in_default.ensures lines told in
-    (ap (λ (n : ℕ). n + 1) count ∙ sym (length_push c.loop-piece.yielded c.in-Some.piece), lines ++ more, spell_next _ c.loop-piece.yielded c.in-Some.piece lines more spelled last, whole)
+    (ap (λ (n : ℕ). n + 1) count ∙ sym (length_push c.loop-piece.yielded c.in-Some.piece), lines ++ more, spell_next price_line _ c.loop-piece.yielded c.in-Some.piece lines more spelled last, whole)
 
 pub returns-clause-told : goal.returns-clause-told
 returns-clause-told c =

@@ -3,8 +3,9 @@ use Rattle.std.proofs.lemmas.List.{length_push}
 use Rattle.std.proofs.lemmas.Option.{slice_get_read}
 use Rattle.std.proofs.lemmas.Iterator.Consumers.{YieldsList-at, YieldsList-turn, YieldsList-end, YieldsList-so_far}
 use Rattle.std.proofs.lemmas.Iterator.Splits.{YieldsList-from_slice_split}
-use Rattle.cut_net.specs.NetText.{Spell, pieces_of}
-use Rattle.cut_net.proofs.Fronts.{spell_next, fault_is}
+use Rattle.cut_net.specs.NetText.{Spell, net_line, pieces_of}
+use Rattle.cut_net.proofs.Fronts.{fault_is}
+use Rattle.cut_net.proofs.LineStops.{spell_next}
 use Rattle.cut_net.proofs.reading.draft_of.Goals as goal
 
 pub returns-in-Err-clause-fault : goal.returns-in-Err-clause-fault
@@ -25,7 +26,7 @@ pub loop-piece-preserved : goal.loop-piece-preserved
 loop-piece-preserved c =
     let (count, lines, spelled, draft) = c.loop-piece.invariant in
     let (more, last, whole) = c.in_default.ensures lines draft in
-    (ap (λ (n : ℕ). n + 1) count ∙ sym (length_push c.loop-piece.yielded c.in-Some.piece), lines ++ more, spell_next _ c.loop-piece.yielded c.in-Some.piece lines more spelled last, whole)
+    (ap (λ (n : ℕ). n + 1) count ∙ sym (length_push c.loop-piece.yielded c.in-Some.piece), lines ++ more, spell_next net_line _ c.loop-piece.yielded c.in-Some.piece lines more spelled last, whole)
 
 pub returns-clause-drafted : goal.returns-clause-drafted
 returns-clause-drafted c =

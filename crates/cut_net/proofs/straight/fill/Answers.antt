@@ -2,7 +2,8 @@ use Rattle.std.proofs.Common.{◌≡◌, ◌+◌, ◌<◌, ◌++◌, ◌∷◌, 
 use Rattle.std.proofs.lemmas.Bool.{eqb-true}
 use Rattle.std.proofs.lemmas.List.{length_push}
 use Rattle.cut_net.proofs.Ahead.{all_spelled, leaves_on, repeat_at, some_are}
-use Rattle.cut_net.proofs.Fronts.{spell_more}
+use Rattle.cut_net.proofs.LineStops.{spell_more}
+use Rattle.cut_net.specs.NetText.{net_line}
 use Rattle.cut_net.proofs.straight.fill.Goals as goal
 
 pub loop-rest-preserved : goal.loop-rest-preserved
@@ -12,7 +13,7 @@ loop-rest-preserved c =
     let some : 0 < length c.loop-rest.rest.now = some_are c.loop-rest.rest.now c.is_empty.result c.is_empty.ensures c.loop-rest-test.true in
     let less = c.in-Ok.ensures.shorter some in
     let long = length_push front piece in
-    (front ++ piece ∷ [], lines ++ more, omega arith, omega arith, leaves_on c.args.bytes.now c.loop-rest.rest.now c.in-Ok.behind.now front piece leaves some next, spell_more front piece lines more spelled says, listed)
+    (front ++ piece ∷ [], lines ++ more, omega arith, omega arith, leaves_on c.args.bytes.now c.loop-rest.rest.now c.in-Ok.behind.now front piece leaves some next, spell_more net_line front piece lines more spelled says, listed)
 
 pub returns-in-Err-Twice-clause-twice : goal.returns-in-Err-Twice-clause-twice
 returns-in-Err-Twice-clause-twice c line is =

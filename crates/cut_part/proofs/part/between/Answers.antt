@@ -1,5 +1,5 @@
 -- The part is a network, pins and all.
-use Rattle.std.proofs.Common.{◌≡◌, ◌∙◌, ℕ, Bool, List, length, sym, ap, ap₂, subst, map, filter, get_or}
+use Rattle.std.proofs.Common.{◌≡◌, ◌∙◌, ℕ, Bool, List, sym, ap, ap₂, subst, map, filter, get_or}
 use Rattle.cut_net.specs.declared.priced.Priced.{Priced}
 use Rattle.cut_net.specs.Network.{Network, name_of, texts}
 use Rattle.cut_net.specs.WellFormed.{IsNetwork}

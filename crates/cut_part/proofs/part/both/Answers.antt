@@ -1,4 +1,4 @@
-use Rattle.std.proofs.Common.{◌<◌, ◌+◌, ◌∙◌, false, ap, arith, get_or, inl, inr, length}
+use Rattle.std.proofs.Common.{◌<◌, ◌+◌, ◌∙◌, false, ap, arith, inl, inr, length}
 use Rattle.std.proofs.lemmas.Bool.{cases_eq}
 use Rattle.std.proofs.lemmas.List.{get_or_append_left, get_or_push, length_push}
 use Rattle.std.proofs.lemmas.Grind.{common_steps}

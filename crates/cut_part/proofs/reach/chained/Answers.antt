@@ -1,11 +1,21 @@
-use Rattle.std.proofs.Common.{◌≡◌, ◌∙◌, ◌++◌, ◌∷◌, [], ℕ, List, sym, ap, subst, arith}
-use Rattle.std.proofs.lemmas.List.{nil_from_length}
+use Rattle.std.proofs.Common.{◌≡◌, length, ◌∙◌, ◌++◌, ◌∷◌, [], ℕ, List, sym, ap, subst, arith, rules}
+use Rattle.std.proofs.lemmas.List.{get_or_default, nil_from_length}
 use Rattle.std.proofs.lemmas.List.Elements.{Contains-push}
 use Rattle.std.specs.Prelude.{Contains}
+use Rattle.digraph.proofs.SpreadMarks.{mark_within}
 use Rattle.cut_net.specs.WellFormed.{AreBetween}
-use Rattle.cut_part.specs.Reach.{IsSpreading}
-use Rattle.cut_part.proofs.Reaching.{seen_within, spread, spreading_starts}
+use Rattle.cut_net.specs.Network.{none_there}
+use Rattle.cut_net.specs.declared.priced.Priced.{Priced}
+use Rattle.cut_part.specs.Narrowing.{import_in}
+use Rattle.cut_part.specs.Reach.{AreImportTrails, IsSpreading}
+use Rattle.cut_part.proofs.Reaching.{spread, spreading_starts}
 use Rattle.cut_part.proofs.reach.chained.Goals as goal
+
+pub trails_of-requires-clause-known : goal.trails_of-requires-clause-known
+trails_of-requires-clause-known c x trail has gives =
+    let low = (c.requires.between x has).0 in
+    let is : trail ≡ x.from = search rules in
+    omega arith
 
 pub loop-importer-init : goal.loop-importer-init
 loop-importer-init c =
@@ -18,12 +28,21 @@ loop-importer-init c =
 pub follow-requires-clause-between : goal.follow-requires-clause-between
 follow-requires-clause-between c = subst (AreBetween c.args.imports.now) (sym c.loop-importer.invariant.size) c.requires.between
 
+pub follow-requires-clause-trails : goal.follow-requires-clause-trails
+follow-requires-clause-trails c =
+    let imports = c.args.imports.now in
+    let t = c.in_ok-trails.trails in
+    let trails = c.in_ok-trails.ensures (λ k. (import_in imports k).from) (λ k x trail l here gives.
+    let is : trail ≡ x.from = search rules in
+    is ∙ ap (λ (i : Priced). i.from) (sym (get_or_default imports k none_there x l ∙ here))) in
+    subst (λ (n : ℕ). AreImportTrails imports n t.last.items t.before.items (length imports)) (sym c.loop-importer.invariant.size) trails
+
 pub follow-requires-clause-importer : goal.follow-requires-clause-importer
 follow-requires-clause-importer c =
     let popped : c.loop-importer.waiting.items ≡ c.pop.new.self.items ++ c.in-Some.importer ∷ [] = rw c.in-Some.is at c.pop.ensures.items in
     let waits = subst (λ (v : List ℕ). Contains v c.in-Some.importer) (sym popped) (Contains-push c.pop.new.self.items c.in-Some.importer) in
     let ok = c.loop-importer.marks.ok.0 in
-    let within = seen_within c.loop-importer.marks.items c.in-Some.importer (c.loop-importer.invariant.spreading.waits c.in-Some.importer waits) in
+    let within = mark_within c.loop-importer.marks.items c.in-Some.importer (c.loop-importer.invariant.spreading.spread.waits c.in-Some.importer waits) in
     omega arith
 
 pub returns-clause-chained : goal.returns-clause-chained

@@ -1,5 +1,6 @@
 use Rattle.std.proofs.Common.{◌≡◌, vec_len}
-use Rattle.cut_part.specs.Reach.{left_over, IsSpreading}
+use Rattle.digraph.specs.Spreading.{left_over}
+use Rattle.cut_part.specs.Reach.{IsSpreading}
 use Rattle.cut_part.proofs.reach.chained.Given as goal
 
 abbrev pub invariant-loop-importer : goal.invariant-loop-importer

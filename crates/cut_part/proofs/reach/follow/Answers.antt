@@ -1,11 +1,12 @@
 use Rattle.std.proofs.Common.{◌≡◌, ◌<◌, ◌+◌, ◌-◌, ◌∙◌, ◌++◌, ◌∷◌, [], ℕ, true, false, length, get_or, refl, sym, subst, arith}
 use Rattle.std.proofs.lemmas.List.{get_or_default}
 use Rattle.std.proofs.lemmas.List.Elements.{Contains-get_or}
+use Rattle.digraph.proofs.SpreadMarks.{left_same}
 use Rattle.cut_net.specs.Network.{none_there}
 use Rattle.cut_residual.specs.Graphs.{is_seen}
 use Rattle.cut_part.specs.Narrowing.{import_in}
-use Rattle.cut_part.specs.Reach.{IsFollowing, IsLastOf, IsSpreading}
-use Rattle.cut_part.proofs.Reaching.{following_starts, follows_marked, follows_unmarked, left_same}
+use Rattle.cut_part.specs.Reach.{IsFollowing, IsSpreading}
+use Rattle.cut_part.proofs.Reaching.{following_ends, following_starts, follows_marked, follows_unmarked}
 use Rattle.cut_part.proofs.reach.follow.Goals as goal
 use Rattle.cut_part.proofs.reach.follow.Goals.{then-not-index+in_ok-push, else-not-index}
 
@@ -61,8 +62,7 @@ loop-next-preserved c =
     let each = c.requires.trails.each in
     let in_before : number < length before = omega arith in
     let is : c.index-next-in-loop-next.result.now ≡ get_or before number 0 = c.index-next-in-loop-next.ensures ∙ get_or_default before number c.index-next-in-loop-next.result.now 0 in_before in
-    let last : IsLastOf imports c.args.importer number (get_or before number 0) =
-    subst (λ (m : ℕ). IsLastOf imports m number (get_or before number 0)) own (c.requires.trails.befores number low) in
+    let last = c.requires.trails.befores number c.args.importer low own in
     let less = last.within in
     let ok = at.marks.ok.0 in
     let size = at.invariant.size in
@@ -91,3 +91,10 @@ loop-next-preserved c =
             same = at.invariant.same;
           }
     ]
+
+pub returns-clause-spreading : goal.returns-clause-spreading
+returns-clause-spreading c start s =
+    let past = c.loop-next-test.false in
+    let none : c.loop-next.next ≡ 0 = omega arith in
+    following_ends c.args.imports.now start c.loop-next.marks.items c.loop-next.waiting.items c.args.importer
+    (subst (IsFollowing c.args.imports.now start c.loop-next.marks.items c.loop-next.waiting.items c.args.importer) none (c.loop-next.invariant.following start s))

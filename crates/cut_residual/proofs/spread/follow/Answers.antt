@@ -1,8 +1,9 @@
 use Rattle.std.proofs.Common.{◌≡◌, ◌<◌, ◌+◌, ◌-◌, ◌*◌, ◌∙◌, ◌++◌, ◌∷◌, [], ℕ, true, false, length, get_or, refl, sym, ap, subst, arith}
 use Rattle.std.proofs.lemmas.List.{get_or_default}
+use Rattle.digraph.proofs.SpreadMarks.{left_same}
 use Rattle.cut_residual.specs.Graphs.{head, is_seen}
-use Rattle.cut_residual.specs.Spreading.{step_at, IsFollowing, IsLastFrom, IsSpreading, LeavesFrom}
-use Rattle.cut_residual.proofs.Following.{following_ends, following_starts, follows_marked, follows_unmarked, head_low, left_same, step_in}
+use Rattle.cut_residual.specs.Spreading.{step_at, IsFollowing, IsSpreading, LeavesFrom}
+use Rattle.cut_residual.proofs.Following.{following_ends, following_starts, follows_marked, follows_unmarked, head_low, step_in}
 use Rattle.cut_residual.proofs.spread.follow.Goals as goal
 use Rattle.cut_residual.proofs.spread.follow.Goals.{then-not-index+in_ok-push, else-not-index}
 
@@ -39,7 +40,7 @@ loop-next-preserved c =
     let each = c.requires.trails.each in
     let in_before : number < length before = omega arith in
     let is : c.index-next-in-loop-next.result.now ≡ get_or before number 0 = c.index-next-in-loop-next.ensures ∙ get_or_default before number c.index-next-in-loop-next.result.now 0 in_before in
-    let last : IsLastFrom arcs node number (get_or before number 0) = subst (λ (v : ℕ). IsLastFrom arcs v number (get_or before number 0)) own.1 (c.requires.trails.befores number low own.0) in
+    let last = c.requires.trails.befores number node low own in
     let less = last.within in
     let ok = at.seen.ok.0 in
     let size = at.invariant.size in

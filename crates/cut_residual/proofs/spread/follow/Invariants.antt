@@ -1,5 +1,6 @@
 use Rattle.std.proofs.Common.{◌≡◌, ◌≤◌, ◌+◌, ◌*◌, ◌++◌, ◌∷◌, [], ℕ, length, vec_len}
-use Rattle.cut_residual.specs.Spreading.{left_over, IsFollowing, IsSpreading, LeavesFrom}
+use Rattle.digraph.specs.Spreading.{left_over}
+use Rattle.cut_residual.specs.Spreading.{IsFollowing, IsSpreading, LeavesFrom}
 use Rattle.cut_residual.proofs.spread.follow.Given as goal
 
 abbrev pub invariant-loop-next : goal.invariant-loop-next

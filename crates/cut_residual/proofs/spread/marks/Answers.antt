@@ -2,8 +2,9 @@ use Rattle.std.proofs.Common.{◌≡◌, ◌∙◌, ◌++◌, ◌∷◌, [], ℕ
 use Rattle.std.specs.Prelude.{Contains}
 use Rattle.std.proofs.lemmas.List.{nil_from_length}
 use Rattle.std.proofs.lemmas.List.Elements.{Contains-push}
+use Rattle.digraph.proofs.SpreadMarks.{mark_within}
 use Rattle.cut_residual.specs.Spreading.{IsSpreading}
-use Rattle.cut_residual.proofs.Following.{seen_within, spread_closed, spread_reached, spreading_starts}
+use Rattle.cut_residual.proofs.Following.{spread_closed, spread_reached, spreading_starts}
 use Rattle.cut_residual.proofs.spread.marks.Goals as goal
 
 pub loop-node-init : goal.loop-node-init
@@ -19,7 +20,7 @@ follow-requires-clause-node c =
     let popped : c.loop-node.waiting.items ≡ c.pop.new.self.items ++ c.in-Some.node ∷ [] = rw c.in-Some.is at c.pop.ensures.items in
     let waits = subst (λ (v : List ℕ). Contains v c.in-Some.node) (sym popped) (Contains-push c.pop.new.self.items c.in-Some.node) in
     let ok = c.loop-node.seen.ok.0 in
-    let within = seen_within c.loop-node.seen.items c.in-Some.node (c.loop-node.invariant.spreading.waits c.in-Some.node waits) in
+    let within = mark_within c.loop-node.seen.items c.in-Some.node (c.loop-node.invariant.spreading.spread.waits c.in-Some.node waits) in
     omega arith
 
 pub loop-node-preserved : goal.loop-node-preserved

@@ -1,5 +1,6 @@
 use Rattle.std.proofs.Common.{◌≡◌, vec_len}
-use Rattle.cut_residual.specs.Spreading.{left_over, IsSpreading}
+use Rattle.digraph.specs.Spreading.{left_over}
+use Rattle.cut_residual.specs.Spreading.{IsSpreading}
 use Rattle.cut_residual.proofs.spread.marks.Given as goal
 
 abbrev pub invariant-loop-node : goal.invariant-loop-node

@@ -1,8 +1,9 @@
-use Rattle.std.proofs.Common.{◌≡◌, ◌<◌, ◌∙◌, ℕ, length, get_or, ap, sym, subst, arith}
+use Rattle.std.proofs.Common.{◌≡◌, ◌<◌, ◌∙◌, ℕ, length, get_or, refl, ap, sym, subst, arith}
 use Rattle.std.proofs.lemmas.List.{get_or_default}
+use Rattle.digraph.proofs.TrailNumbers.{trails_more, trails_over}
 use Rattle.cut_residual.specs.Graphs.{residual, tail, HasResidual}
-use Rattle.cut_residual.specs.Spreading.{step_at}
-use Rattle.cut_residual.proofs.Following.{step_in, tail_low, trails_more, trails_over}
+use Rattle.cut_residual.specs.Spreading.{step_at, AreResidualTrails, LeavesFrom}
+use Rattle.cut_residual.proofs.Following.{step_in, tail_low}
 use Rattle.cut_residual.proofs.spread.trails_of.Goals as goal
 use Rattle.cut_residual.proofs.spread.trails_of.Goals.{then-residual_of-gt0+in_ok-push, else-residual_of-gt0+in_ok-push-2}
 
@@ -23,8 +24,14 @@ loop-number-preserved c =
           let in_last : tail arcs (step_at number) < length last = omega arith in
           let was : w.index.result.now ≡ get_or last (tail arcs (step_at number)) 0 =
           w.index.ensures ∙ ap (λ (v : ℕ). get_or last v w.index.result.now) tail_is ∙ get_or_default last (tail arcs (step_at number)) w.index.result.now 0 in_last in
-          rw (w.last-is, w.before-is, w.in_ok-push.ensures.items, was, tail_is) (trails_more arcs c.args.nodes number last before at.invariant some low)
+          rw (w.last-is, w.before-is, w.in_ok-push.ensures.items, was, tail_is) (trails_more (LeavesFrom arcs) c.args.nodes number last before at.invariant (tail arcs (step_at number)) low (some, refl) (λ other leaves. sym leaves.1))
       | else-residual_of-gt0+in_ok-push-2 w ↦
           let none : HasResidual arcs (step_at number) → ⊥ = λ some. let more : 0 < c.residual_of.result = subst (λ (n : ℕ). 0 < n) (sym left) some in omega (arith, more, w.if-residual_of-gt0.false) in
-          rw (w.last-is, w.before-is, w.in_ok-push-2.ensures.items) (trails_over arcs c.args.nodes number last before at.invariant none 0)
+          rw (w.last-is, w.before-is, w.in_ok-push-2.ensures.items) (trails_over (LeavesFrom arcs) c.args.nodes number last before at.invariant (λ v leaves. none leaves.0) 0)
     ]
+
+pub returns : goal.returns
+returns c =
+    let past = c.loop-number-test.false in
+    let end = c.loop-number.auto.number-end in
+    subst (AreResidualTrails c.args.arcs.now c.args.nodes c.loop-number.last.items c.loop-number.before.items) (omega arith) c.loop-number.invariant

@@ -5,23 +5,14 @@ use Rattle.cut_net.specs.WellFormed.{AreBetween}
 use Rattle.cut_part.specs.Marks.{said_whole}
 use Rattle.cut_preflow.specs.Flows.{AreEnds}
 use Rattle.cut_net.specs.Answers.{said_by_cut}
-use Rattle.cut_solve.proofs.Parted.{answer_whole, cheapest_whole, ends_there, lines_between, place_in}
+use Rattle.cut_solve.proofs.Parted.{answer_whole, cheapest_whole, ends_there, lines_between}
 use Rattle.cut_solve.proofs.solving.in_part.Goals as goal
 
 pub on_lowered-requires-after_bounds : goal.on_lowered-requires-after_bounds
 on_lowered-requires-after_bounds g c κs within =
     let net = c.args.net.now in
-    let a = c.args.ends.0 in
-    let b = c.args.ends.1 in
     let part = c.in_ok-part.part in
-    let is = c.in_ok-part.ensures in
-    let a_in = place_in net a b part.marks.items part.numbers.items part.places.items part.net is c.requires a c.requires.from_in in
-    let b_in = place_in net a b part.marks.items part.numbers.items part.places.items part.net is c.requires b c.requires.to_in in
-    let from : c.index.result.now ≡ get_or part.places.items a 0 = c.index.ensures ∙ get_or_default part.places.items a c.index.result.now 0 a_in in
-    let to : c.index-2.result.now ≡ get_or part.places.items b 0 = c.index-2.ensures ∙ get_or_default part.places.items b c.index-2.result.now 0 b_in in
-    subst (λ (m : ℕ). AreEnds part.net m c.index-2.result.now) (sym from)
-    (subst (λ (n : ℕ). AreEnds part.net (get_or part.places.items a 0) n) (sym to)
-    (ends_there net a b part.marks.items part.numbers.items part.places.items part.net is c.requires))
+    ends_there net c.args.ends.0 c.args.ends.1 part.marks.items part.numbers.items part.places.items part.net c.in_ok-part.ensures c.requires c.index.result.now c.index-2.result.now c.index.ensures c.index-2.ensures
 
 pub whole_cut-requires-clause-imports : goal.whole_cut-requires-clause-imports
 whole_cut-requires-clause-imports g c =
@@ -46,38 +37,17 @@ whole_cut-requires-clause-flow g c =
 pub returns-clause-answer : goal.returns-clause-answer
 returns-clause-answer g c =
     let net = c.args.net.now in
-    let a = c.args.ends.0 in
-    let b = c.args.ends.1 in
     let part = c.in_ok-part.part in
-    let is = c.in_ok-part.ensures in
     let said = said_by_cut c.in_ok-cut.cut in
-    let a_in = place_in net a b part.marks.items part.numbers.items part.places.items part.net is c.requires a c.requires.from_in in
-    let b_in = place_in net a b part.marks.items part.numbers.items part.places.items part.net is c.requires b c.requires.to_in in
-    let from : c.index.result.now ≡ get_or part.places.items a 0 = c.index.ensures ∙ get_or_default part.places.items a c.index.result.now 0 a_in in
-    let to : c.index-2.result.now ≡ get_or part.places.items b 0 = c.index-2.ensures ∙ get_or_default part.places.items b c.index-2.result.now 0 b_in in
-    let here : IsAnswer part.net (get_or part.places.items a 0) (get_or part.places.items b 0) said =
-    subst (λ (m : ℕ). IsAnswer part.net m (get_or part.places.items b 0) said) from
-    (subst (λ (n : ℕ). IsAnswer part.net c.index.result.now n said) to c.in_ok-cut.ensures.answer) in
-    let same : said_by_cut c.in_ok-whole.whole ≡ said_whole part.numbers.items said = c.in_ok-whole.ensures ∙ ap (λ (numbers : List ℕ). said_whole numbers said) c.deref.ensures.value in
-    answer_whole net a b part.marks.items part.numbers.items part.places.items part.net is c.requires said (said_by_cut c.in_ok-whole.whole) same here
+    let same = c.in_ok-whole.ensures ∙ ap (λ (numbers : List ℕ). said_whole numbers said) c.deref.ensures.value in
+    answer_whole net c.args.ends.0 c.args.ends.1 part.marks.items part.numbers.items part.places.items part.net c.in_ok-part.ensures c.requires
+    c.index.result.now c.index-2.result.now c.index.ensures c.index-2.ensures said (said_by_cut c.in_ok-whole.whole) same c.in_ok-cut.ensures.answer
 
 pub returns-clause-cheapest : goal.returns-clause-cheapest
 returns-clause-cheapest g c =
     let net = c.args.net.now in
-    let a = c.args.ends.0 in
-    let b = c.args.ends.1 in
     let part = c.in_ok-part.part in
-    let is = c.in_ok-part.ensures in
     let said = said_by_cut c.in_ok-cut.cut in
-    let a_in = place_in net a b part.marks.items part.numbers.items part.places.items part.net is c.requires a c.requires.from_in in
-    let b_in = place_in net a b part.marks.items part.numbers.items part.places.items part.net is c.requires b c.requires.to_in in
-    let from : c.index.result.now ≡ get_or part.places.items a 0 = c.index.ensures ∙ get_or_default part.places.items a c.index.result.now 0 a_in in
-    let to : c.index-2.result.now ≡ get_or part.places.items b 0 = c.index-2.ensures ∙ get_or_default part.places.items b c.index-2.result.now 0 b_in in
-    let here : IsAnswer part.net (get_or part.places.items a 0) (get_or part.places.items b 0) said =
-    subst (λ (m : ℕ). IsAnswer part.net m (get_or part.places.items b 0) said) from
-    (subst (λ (n : ℕ). IsAnswer part.net c.index.result.now n said) to c.in_ok-cut.ensures.answer) in
-    let least : IsCheapestSaid part.net (get_or part.places.items a 0) (get_or part.places.items b 0) said =
-    subst (λ (m : ℕ). IsCheapestSaid part.net m (get_or part.places.items b 0) said) from
-    (subst (λ (n : ℕ). IsCheapestSaid part.net c.index.result.now n said) to c.in_ok-cut.ensures.cheapest) in
-    let same : said_by_cut c.in_ok-whole.whole ≡ said_whole part.numbers.items said = c.in_ok-whole.ensures ∙ ap (λ (numbers : List ℕ). said_whole numbers said) c.deref.ensures.value in
-    cheapest_whole net a b part.marks.items part.numbers.items part.places.items part.net is c.requires said (said_by_cut c.in_ok-whole.whole) same here least
+    let same = c.in_ok-whole.ensures ∙ ap (λ (numbers : List ℕ). said_whole numbers said) c.deref.ensures.value in
+    cheapest_whole net c.args.ends.0 c.args.ends.1 part.marks.items part.numbers.items part.places.items part.net c.in_ok-part.ensures c.requires
+    c.index.result.now c.index-2.result.now c.index.ensures c.index-2.ensures said (said_by_cut c.in_ok-whole.whole) same c.in_ok-cut.ensures.answer c.in_ok-cut.ensures.cheapest

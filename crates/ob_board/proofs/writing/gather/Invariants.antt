@@ -6,6 +6,6 @@ use Rattle.ob_board.proofs.writing.gather.Given as goal
 
 abbrev pub invariant-loop-recorded : goal.invariant-loop-recorded
 invariant-loop-recorded g l = record {
-  bytes : flat_map (λ (row : Vec ℕ). row.items) l.records.items ++ flat_map (λ r. r.bytes) l.recorded-iterator.rest.items ≡ flat_map (λ r. r.bytes) l.fn.all.items;
+  records : map (λ (row : Vec ℕ). row.items) l.records.items ++ map (λ r. r.bytes) l.recorded-iterator.rest.items ≡ map (λ r. r.bytes) l.fn.all.items;
   rows : map plain_symbol l.rows.items ++ flat_map (λ r. r.externals) l.recorded-iterator.rest.items ≡ flat_map (λ r. r.externals) l.fn.all.items;
 }

@@ -18,5 +18,5 @@ returns g c =
     let there = subst (λ (v : Modules). AreAtBoard (λ (x : List ℕ) (r : PlainRecorded). IsRecordedOf g.F.NamedIndex.files p x r) v all) c.in_ok-graph.ensures.graph c.in_ok-all.ensures in
     let here = subst (λ (fs : List SeenFile). AreAtBoard (λ (x : List ℕ) (r : PlainRecorded). IsRecordedOf fs p x r) (modules_of tree.graph) all) c.requires.files there in
     let are = records_all c.args.sources.now tree.modules.items tree.graph c.requires.seen p all here in
-    gathered g.F.NamedIndex.files p _ _ c.gather.result (λ t. flat_map (λ (row : Vec ℕ). row.items) t.records.items) (λ t. map plain_symbol t.rows.items) c.gather.ensures.bytes c.gather.ensures.rows
-    (subst (λ (fs : List SeenFile). AreRecordsOf fs p (flat_map (λ (r : PlainRecorded). r.bytes) all) (flat_map (λ (r : PlainRecorded). r.externals) all)) (sym c.requires.files) are)
+    gathered g.F.NamedIndex.files p _ _ c.gather.result (λ t. map (λ (row : Vec ℕ). row.items) t.records.items) (λ t. map plain_symbol t.rows.items) c.gather.ensures.records c.gather.ensures.rows
+    (subst (λ (fs : List SeenFile). AreRecordsOf fs p (map (λ (r : PlainRecorded). r.bytes) all) (flat_map (λ (r : PlainRecorded). r.externals) all)) (sym c.requires.files) are)

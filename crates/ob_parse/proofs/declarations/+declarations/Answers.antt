@@ -6,7 +6,7 @@ use Rattle.ob_tree.specs.Marks.{Out, word, each}
 use Rattle.ob_tree.specs.Declaring.{procedure_outline, declarations_outline}
 use Rattle.ob_parse.specs.Front.{is_word}
 use Rattle.ob_parse.specs.Forms.{Reader, many, begins, limit_at}
-use Rattle.ob_parse.specs.Gives.{ahead}
+use Rattle.ob_parse.specs.Accords.{ahead}
 use Rattle.ob_parse.specs.ReadNames.{identdef_after}
 use Rattle.ob_parse.specs.ReadModules.{with_semicolon, procedure_at, declarations_with, procedure_named, procedure_with, procedures_with}
 use Rattle.ob_parse.proofs.Kept.{kept, unkept}

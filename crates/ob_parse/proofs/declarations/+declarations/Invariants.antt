@@ -4,7 +4,7 @@ use Rattle.ob_tree.specs.Marks.{word, each}
 use Rattle.ob_tree.specs.Declaring.{procedure_outline}
 use Rattle.ob_parse.specs.Front.{is_word}
 use Rattle.ob_parse.specs.Forms.{many, begins}
-use Rattle.ob_parse.specs.Gives.{ahead}
+use Rattle.ob_parse.specs.Accords.{ahead}
 use Rattle.ob_parse.specs.ReadModules.{with_semicolon, procedure_at}
 use Rattle.ob_parse.proofs.Loops.{with_front}
 use Rattle.ob_parse.proofs.declarations.+declarations.Given as goal

@@ -5,7 +5,7 @@ use Rattle.ob_tree.specs.declared.declaration.ConstDecl.{ConstDecl}
 use Rattle.ob_tree.specs.Marks.{Out, word, each}
 use Rattle.ob_tree.specs.Declaring.{const_outline}
 use Rattle.ob_parse.specs.Forms.{Reader, many, begins}
-use Rattle.ob_parse.specs.Gives.{ahead}
+use Rattle.ob_parse.specs.Accords.{ahead}
 use Rattle.ob_parse.specs.ReadExpressions.{expr_at}
 use Rattle.ob_parse.specs.ReadModules.{is_identifier, with_semicolon, const_with}
 use Rattle.ob_parse.proofs.SoundExpressions.{expr_at_sound}

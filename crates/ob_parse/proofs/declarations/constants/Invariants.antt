@@ -3,7 +3,7 @@ use Rattle.ob_scan.specs.declared.kind.Kind.TheVariants as kinds
 use Rattle.ob_tree.specs.Marks.{word, each}
 use Rattle.ob_tree.specs.Declaring.{const_outline}
 use Rattle.ob_parse.specs.Forms.{many, begins}
-use Rattle.ob_parse.specs.Gives.{ahead}
+use Rattle.ob_parse.specs.Accords.{ahead}
 use Rattle.ob_parse.specs.ReadExpressions.{expr_at}
 use Rattle.ob_parse.specs.ReadModules.{is_identifier, with_semicolon, const_with}
 use Rattle.ob_parse.proofs.Loops.{with_front}

@@ -5,7 +5,7 @@ use Rattle.ob_tree.specs.declared.declaration.TypeDecl.{TypeDecl}
 use Rattle.ob_tree.specs.Marks.{Out, word, each}
 use Rattle.ob_tree.specs.Declaring.{type_decl_outline}
 use Rattle.ob_parse.specs.Forms.{Reader, many, begins}
-use Rattle.ob_parse.specs.Gives.{ahead}
+use Rattle.ob_parse.specs.Accords.{ahead}
 use Rattle.ob_parse.specs.ReadTypes.{type_at}
 use Rattle.ob_parse.specs.ReadModules.{is_identifier, with_semicolon, type_decl_with}
 use Rattle.ob_parse.proofs.SoundTypes.{type_at_sound}

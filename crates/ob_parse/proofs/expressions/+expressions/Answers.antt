@@ -4,7 +4,7 @@ use Rattle.ob_scan.specs.declared.kind.Kind.TheVariants as kinds
 use Rattle.ob_tree.specs.Marks.{word, each, each_after}
 use Rattle.ob_tree.specs.Expressions.{mul_kind, add_kind, expr_outline, term_outline, factor_outline, element_outline, selector_outline, element_list_outline, expr_list_outline, sum_outline}
 use Rattle.ob_parse.specs.Forms.{many, begins, accept_at, limit_at, name_at, several, unless}
-use Rattle.ob_parse.specs.Gives.{ahead, seen, skipped}
+use Rattle.ob_parse.specs.Accords.{ahead, seen, skipped}
 use Rattle.ob_parse.specs.ReadExpressions.{mul_start, add_start, selector_first, element_with, selector_with, factor_at, term_at, expr_at, designator_with, expr_with, factor_with, negated_at, sum_with, term_with}
 use Rattle.ob_parse.proofs.LoopEnds.{ends}
 use Rattle.ob_parse.proofs.Kept.{kept, unkept}

@@ -3,7 +3,7 @@ use Rattle.ob_scan.specs.declared.kind.Kind.TheVariants as kinds
 use Rattle.ob_tree.specs.Marks.{each_after}
 use Rattle.ob_tree.specs.Statements.{label_range_outline}
 use Rattle.ob_parse.specs.Forms.{accept_at, many}
-use Rattle.ob_parse.specs.Gives.{ahead}
+use Rattle.ob_parse.specs.Accords.{ahead}
 use Rattle.ob_parse.specs.ReadStatements.{label_range_at}
 use Rattle.ob_parse.proofs.Loops.{with_front}
 use Rattle.ob_parse.proofs.labels.more_label_ranges.Given as goal

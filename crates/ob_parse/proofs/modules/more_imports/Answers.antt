@@ -4,7 +4,7 @@ use Rattle.ob_scan.specs.declared.kind.Kind.TheVariants as kinds
 use Rattle.ob_tree.specs.Marks.{each_after}
 use Rattle.ob_tree.specs.Declaring.{import_outline}
 use Rattle.ob_parse.specs.Forms.{many, accept_at}
-use Rattle.ob_parse.specs.Gives.{ahead, skipped}
+use Rattle.ob_parse.specs.Accords.{ahead, skipped}
 use Rattle.ob_parse.specs.ReadModules.{import_item_at}
 use Rattle.ob_parse.proofs.Kept.{kept, unkept}
 use Rattle.ob_parse.proofs.Loops.{Advances, pushed_after, smaller, is_done, accept_advances}

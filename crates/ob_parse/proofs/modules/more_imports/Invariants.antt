@@ -3,7 +3,7 @@ use Rattle.ob_scan.specs.declared.kind.Kind.TheVariants as kinds
 use Rattle.ob_tree.specs.Marks.{each_after}
 use Rattle.ob_tree.specs.Declaring.{import_outline}
 use Rattle.ob_parse.specs.Forms.{many, accept_at}
-use Rattle.ob_parse.specs.Gives.{ahead}
+use Rattle.ob_parse.specs.Accords.{ahead}
 use Rattle.ob_parse.specs.ReadModules.{import_item_at}
 use Rattle.ob_parse.proofs.Loops.{with_front}
 use Rattle.ob_parse.proofs.modules.more_imports.Given as goal

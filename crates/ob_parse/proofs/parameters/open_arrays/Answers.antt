@@ -3,7 +3,7 @@ use Rattle.std.proofs.lemmas.Result.{err_from_is_err_and}
 use Rattle.ob_scan.specs.declared.kind.Kind.TheVariants as kinds
 use Rattle.ob_tree.specs.Marks.{times}
 use Rattle.ob_parse.specs.Forms.{many, accept_at, expect_at}
-use Rattle.ob_parse.specs.Gives.{ahead, skipped}
+use Rattle.ob_parse.specs.Accords.{ahead, skipped}
 use Rattle.ob_parse.proofs.Loops.{is_done}
 use Rattle.ob_parse.proofs.LoopEnds.{ends}
 use Rattle.ob_parse.proofs.Arrays.{array_of, array_advances, fewer, one_more, few_ahead}

@@ -4,7 +4,7 @@ use Rattle.ob_scan.specs.declared.token.Token.{Token}
 use Rattle.ob_tree.specs.Declaring.{module_outline}
 use Rattle.ob_tree.specs.Derives.{Derives}
 use Rattle.ob_tree.specs.Marks.{Out}
-use Rattle.ob_parse.specs.Gives.{Fails}
+use Rattle.ob_parse.specs.Accords.{Fails}
 use Rattle.ob_parse.specs.Parsed.{IsOneTree, kinds_of, read_left}
 use Rattle.ob_parse.proofs.OneTree.{one_tree, why_none, endings_are_known, tokens_placed, few_tokens}
 use Rattle.ob_parse.proofs.parser.parse.Goals as goal

@@ -5,7 +5,7 @@ use Rattle.ob_scan.specs.declared.kind.Kind.TheVariants as kinds
 use Rattle.ob_tree.specs.Marks.{each_after}
 use Rattle.ob_tree.specs.Statements.{branch_outline, case_outline, stmt_outline, block_outline}
 use Rattle.ob_parse.specs.Forms.{accept_at, many, begins, name_at, several}
-use Rattle.ob_parse.specs.Gives.{ahead, skipped}
+use Rattle.ob_parse.specs.Accords.{ahead, skipped}
 use Rattle.ob_parse.specs.ReadExpressions.{expr_at}
 use Rattle.ob_parse.specs.ReadStatements.{block_at, branch_with, case_with, statement_at, block_with, cases_with, for_with, if_with, repeat_with, statement_with, while_with}
 use Rattle.ob_parse.proofs.LoopEnds.{ends}

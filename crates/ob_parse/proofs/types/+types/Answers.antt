@@ -6,7 +6,7 @@ use Rattle.ob_tree.specs.Constructs as constructs
 use Rattle.ob_tree.specs.Marks.{Out, construct, each_after}
 use Rattle.ob_tree.specs.Types.{var_outline, fields_outline, type_outline}
 use Rattle.ob_parse.specs.Forms.{Reader, many, node, limit_at, unless}
-use Rattle.ob_parse.specs.Gives.{ahead, skipped}
+use Rattle.ob_parse.specs.Accords.{ahead, skipped}
 use Rattle.ob_parse.specs.ReadTypes.{field_start, var_with, type_at, fields_with, record_with, type_with}
 use Rattle.ob_parse.proofs.Kept.{kept, unkept}
 use Rattle.ob_parse.proofs.Loops.{Advances, pushed_after, smaller, is_done, field_advances}

@@ -4,7 +4,7 @@ use Rattle.ob_tree.specs.Constructs as constructs
 use Rattle.ob_tree.specs.Marks.{construct, each_after}
 use Rattle.ob_tree.specs.Types.{var_outline}
 use Rattle.ob_parse.specs.Forms.{many, node}
-use Rattle.ob_parse.specs.Gives.{ahead}
+use Rattle.ob_parse.specs.Accords.{ahead}
 use Rattle.ob_parse.specs.ReadTypes.{field_start, var_with, type_at}
 use Rattle.ob_parse.proofs.Loops.{with_front}
 use Rattle.ob_parse.proofs.types.+types.Given as goal

@@ -13,7 +13,7 @@ use Rattle.ob_decls.specs.Parts.{each as pieces}
 use Rattle.ob_decls.proofs.Steps.{after_nothing, after_each}
 use Rattle.ob_parse.specs.Front.{is_word}
 use Rattle.ob_parse.specs.Forms.{begins, seq, expect_at, name_at, optional, accept_at, behind_name, limit_at}
-use Rattle.ob_parse.specs.Gives.{ahead}
+use Rattle.ob_parse.specs.Accords.{ahead}
 use Rattle.ob_parse.specs.Parsed.{IsRightEnd}
 use Rattle.ob_parse.specs.ReadExpressions.{expr_at}
 use Rattle.ob_parse.specs.ReadStatements.{block_at}

@@ -7,7 +7,7 @@ use Rattle.ob_decls.specs.Drafts.{after}
 use Rattle.ob_decls.specs.Parts.{each}
 use Rattle.ob_parse.specs.Front.{is_word}
 use Rattle.ob_parse.specs.Forms.{begins}
-use Rattle.ob_parse.specs.Gives.{ahead}
+use Rattle.ob_parse.specs.Accords.{ahead}
 use Rattle.ob_parse.specs.ReadModules.{with_semicolon, procedure_at}
 use Rattle.ob_table.specs.DeclarationShapes.{ended_outline, ended_piece}
 use Rattle.ob_table.specs.Ended.{RightEnds, procedures_outline}

@@ -5,7 +5,7 @@ use Rattle.ob_decls.specs.Statements.{block_piece}
 use Rattle.ob_decls.specs.Drafts.{after}
 use Rattle.ob_decls.proofs.Steps.{after_nothing}
 use Rattle.ob_parse.specs.Forms.{accept_at}
-use Rattle.ob_parse.specs.Gives.{skipped}
+use Rattle.ob_parse.specs.Accords.{skipped}
 use Rattle.ob_parse.specs.ReadStatements.{block_at}
 use Rattle.ob_parse.specs.ReadModules.{body_with}
 use Rattle.ob_table.specs.DeclarationShapes.{body_outline, body_piece}

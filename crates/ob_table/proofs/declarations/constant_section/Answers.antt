@@ -8,7 +8,7 @@ use Rattle.ob_decls.specs.Drafts.{after}
 use Rattle.ob_decls.specs.Parts.{if_there as piece_there}
 use Rattle.ob_decls.proofs.Steps.{after_nothing}
 use Rattle.ob_parse.specs.Forms.{accept_at}
-use Rattle.ob_parse.specs.Gives.{skipped}
+use Rattle.ob_parse.specs.Accords.{skipped}
 use Rattle.ob_parse.specs.ReadExpressions.{expr_at}
 use Rattle.ob_parse.specs.ReadModules.{const_with, part_with}
 use Rattle.ob_table.proofs.Combine.{told_absent}

@@ -3,7 +3,7 @@ use Rattle.ob_tree.specs.declared.declaration.ConstDecl.{ConstDecl}
 use Rattle.ob_tree.specs.Declaring.{const_outline}
 use Rattle.ob_decls.specs.Declaring.{const_piece}
 use Rattle.ob_parse.specs.Forms.{begins}
-use Rattle.ob_parse.specs.Gives.{ahead}
+use Rattle.ob_parse.specs.Accords.{ahead}
 use Rattle.ob_parse.specs.ReadExpressions.{expr_at}
 use Rattle.ob_parse.specs.ReadModules.{is_identifier, with_semicolon, const_with}
 use Rattle.ob_table.specs.DeclarationShapes.{ended_outline, ended_piece}

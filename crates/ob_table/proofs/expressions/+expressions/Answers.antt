@@ -24,7 +24,7 @@ use Rattle.ob_decls.proofs.ExpressionLayers as told
 use Rattle.ob_parse.specs.declared.cursor.Cursor.{Cursor}
 use Rattle.ob_parse.specs.Front.{uncons, front}
 use Rattle.ob_parse.specs.Forms.{accept_at, expect_at, begins, optional, several, unless, limit_at}
-use Rattle.ob_parse.specs.Gives.{ahead, seen, skipped}
+use Rattle.ob_parse.specs.Accords.{ahead, seen, skipped}
 use Rattle.ob_parse.specs.ReadExpressions.{relation_start, add_start, mul_start, element_with, selector_first, selector_with, designator_with, factor_with, expr_at, term_at, factor_at, negated_at}
 use Rattle.ob_parse.proofs.Loops.{mul_advances, add_advances, accept_advances, selector_advances, marked_some, marked_none, has_begun, has_not_begun}
 use Rattle.ob_parse.proofs.Somes.{not_closed}

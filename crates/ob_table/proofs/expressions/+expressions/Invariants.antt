@@ -14,7 +14,7 @@ use Rattle.ob_tree.specs.Expressions.{add_kind, mul_kind, term_outline, factor_o
 use Rattle.ob_decls.specs.Parts.{both, each, token}
 use Rattle.ob_decls.specs.Expressions.{term_piece, factor_piece, element_piece, expr_piece, selected}
 use Rattle.ob_parse.specs.Forms.{accept_at, begins}
-use Rattle.ob_parse.specs.Gives.{ahead}
+use Rattle.ob_parse.specs.Accords.{ahead}
 use Rattle.ob_parse.specs.ReadExpressions.{add_start, mul_start, element_with, selector_first, selector_with, expr_at, term_at, factor_at}
 use Rattle.ob_table.proofs.Lists.{PieceListing}
 use Rattle.ob_table.proofs.DesignatorTrees.{ChosenListing}

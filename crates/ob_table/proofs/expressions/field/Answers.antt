@@ -3,7 +3,7 @@ use Rattle.ob_tree.specs.Constructs as constructs
 use Rattle.ob_tree.specs.Marks.{word}
 use Rattle.ob_tree.specs.Marks as marks
 use Rattle.ob_parse.specs.Forms.{prefixed, name_at}
-use Rattle.ob_parse.specs.Gives.{ahead}
+use Rattle.ob_parse.specs.Accords.{ahead}
 use Rattle.ob_table.proofs.Combine.{failed_node, failed_prefixed}
 use Rattle.ob_table.proofs.DesignatorTrees.{failed_name, field_told}
 use Rattle.ob_table.proofs.expressions.field.Goals as goal

@@ -3,7 +3,7 @@ use Rattle.ob_scan.specs.declared.kind.Kind.TheVariants as kinds
 use Rattle.ob_tree.specs.Statements.{label_outline}
 use Rattle.ob_decls.specs.Statements.{label_piece}
 use Rattle.ob_parse.specs.Forms.{accept_at}
-use Rattle.ob_parse.specs.Gives.{skipped}
+use Rattle.ob_parse.specs.Accords.{skipped}
 use Rattle.ob_parse.specs.ReadStatements.{case_label_at}
 use Rattle.ob_table.proofs.Parts.{told_some, told_none}
 use Rattle.ob_table.proofs.labels.high_label.Goals as goal

@@ -9,7 +9,7 @@ use Rattle.ob_tree.proofs.StatementLayers as shown
 use Rattle.ob_decls.proofs.StatementLayers as told
 use Rattle.ob_parse.specs.declared.cursor.Cursor.{Cursor}
 use Rattle.ob_parse.specs.Front.{uncons}
-use Rattle.ob_parse.specs.Gives.{ahead, seen}
+use Rattle.ob_parse.specs.Accords.{ahead, seen}
 use Rattle.ob_parse.specs.ReadStatements.{case_label_at}
 use Rattle.ob_table.proofs.FactorTrees.{some}
 use Rattle.ob_table.proofs.LabelTrees.{label_seen, value_told, name_told}

@@ -7,7 +7,7 @@ use Rattle.ob_decls.specs.Drafts.{after}
 use Rattle.ob_decls.specs.Parts.{Piece, both, each, token}
 use Rattle.ob_decls.specs.Statements.{label_range_piece}
 use Rattle.ob_parse.specs.Forms.{accept_at}
-use Rattle.ob_parse.specs.Gives.{skipped}
+use Rattle.ob_parse.specs.Accords.{skipped}
 use Rattle.ob_parse.specs.ReadStatements.{label_range_at}
 use Rattle.ob_parse.proofs.Loops.{Advances, accept_advances}
 use Rattle.ob_parse.proofs.SoundStatements.{label_range_sound}

@@ -6,7 +6,7 @@ use Rattle.ob_tree.specs.Statements.{label_range_outline}
 use Rattle.ob_decls.specs.Parts.{both, token}
 use Rattle.ob_decls.specs.Statements.{label_range_piece}
 use Rattle.ob_parse.specs.Forms.{accept_at}
-use Rattle.ob_parse.specs.Gives.{ahead}
+use Rattle.ob_parse.specs.Accords.{ahead}
 use Rattle.ob_parse.specs.ReadStatements.{label_range_at}
 use Rattle.ob_table.proofs.Lists.{PieceListing}
 use Rattle.ob_table.proofs.labels.more_label_ranges.Given as goal

@@ -7,7 +7,7 @@ use Rattle.ob_decls.specs.Drafts.{after}
 use Rattle.ob_decls.specs.Parts.{both, each, token}
 use Rattle.ob_decls.specs.Types.{identdef_piece}
 use Rattle.ob_parse.specs.Forms.{accept_at}
-use Rattle.ob_parse.specs.Gives.{skipped}
+use Rattle.ob_parse.specs.Accords.{skipped}
 use Rattle.ob_parse.specs.ReadNames.{identdef_at}
 use Rattle.ob_parse.proofs.Loops.{Advances, accept_advances}
 use Rattle.ob_parse.proofs.SoundExpressions.{identdef_sound}

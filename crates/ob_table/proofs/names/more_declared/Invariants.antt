@@ -6,7 +6,7 @@ use Rattle.ob_tree.specs.Names.{identdef_outline}
 use Rattle.ob_decls.specs.Parts.{both, token}
 use Rattle.ob_decls.specs.Types.{identdef_piece}
 use Rattle.ob_parse.specs.Forms.{accept_at}
-use Rattle.ob_parse.specs.Gives.{ahead}
+use Rattle.ob_parse.specs.Accords.{ahead}
 use Rattle.ob_parse.specs.ReadNames.{identdef_at}
 use Rattle.ob_table.proofs.Lists.{PieceListing}
 use Rattle.ob_table.proofs.names.more_declared.Given as goal

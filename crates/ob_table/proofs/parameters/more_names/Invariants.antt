@@ -3,7 +3,7 @@ use Rattle.ob_scan.specs.declared.kind.Kind.TheVariants as kinds
 use Rattle.ob_tree.specs.Marks.{word}
 use Rattle.ob_decls.specs.Parts.{both, token}
 use Rattle.ob_parse.specs.Forms.{accept_at}
-use Rattle.ob_parse.specs.Gives.{ahead}
+use Rattle.ob_parse.specs.Accords.{ahead}
 use Rattle.ob_tree.specs.Marks.{declared}
 use Rattle.ob_decls.specs.Types.{parameter_piece}
 use Rattle.ob_parse.specs.Forms.{name_at}

@@ -4,7 +4,7 @@ use Rattle.ob_tree.specs.Marks.{word}
 use Rattle.ob_decls.specs.Drafts.{after}
 use Rattle.ob_decls.specs.Parts.{both, each, token}
 use Rattle.ob_parse.specs.Forms.{accept_at}
-use Rattle.ob_parse.specs.Gives.{skipped}
+use Rattle.ob_parse.specs.Accords.{skipped}
 use Rattle.ob_tree.specs.declared.declaration.ParameterSection.{ParameterSection}
 use Rattle.ob_tree.specs.Types.{section_outline}
 use Rattle.ob_decls.specs.Types.{section_piece}

@@ -6,7 +6,7 @@ use Rattle.ob_decls.specs.Parts.{each}
 use Rattle.ob_decls.specs.Types.{part_here}
 use Rattle.ob_decls.specs.declared.rows.Part.TheVariants as parts
 use Rattle.ob_parse.specs.Forms.{accept_at, expect_at, many}
-use Rattle.ob_parse.specs.Gives.{ahead, skipped}
+use Rattle.ob_parse.specs.Accords.{ahead, skipped}
 use Rattle.ob_parse.proofs.Arrays.{array_advances}
 use Rattle.ob_table.proofs.Lists.{Any, pieces_begun, pieces_more, pieces_done, listing_smaller, listing_failed}
 use Rattle.ob_table.proofs.ParameterTrees.{array_piece, array_after, array_told, arrays_told}

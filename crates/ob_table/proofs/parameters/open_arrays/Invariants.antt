@@ -2,7 +2,7 @@ use Rattle.std.proofs.Common.{◌++◌, length}
 use Rattle.ob_scan.specs.declared.kind.Kind.TheVariants as kinds
 use Rattle.ob_tree.specs.Marks.{word}
 use Rattle.ob_parse.specs.Forms.{accept_at, expect_at}
-use Rattle.ob_parse.specs.Gives.{ahead}
+use Rattle.ob_parse.specs.Accords.{ahead}
 use Rattle.ob_table.proofs.Lists.{PieceListing}
 use Rattle.ob_table.proofs.ParameterTrees.{array_piece}
 use Rattle.ob_table.proofs.parameters.open_arrays.Given as goal

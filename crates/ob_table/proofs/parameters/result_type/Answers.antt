@@ -5,7 +5,7 @@ use Rattle.ob_tree.specs.Names.{qualident_outline}
 use Rattle.ob_decls.specs.Parts.{both, token}
 use Rattle.ob_decls.specs.Statements.{qualident_piece}
 use Rattle.ob_parse.specs.Forms.{accept_at}
-use Rattle.ob_parse.specs.Gives.{skipped}
+use Rattle.ob_parse.specs.Accords.{skipped}
 use Rattle.ob_parse.specs.ReadNames.{qualident_at}
 use Rattle.ob_table.proofs.Behind.{absent_told, word_there_told}
 use Rattle.ob_table.proofs.parameters.result_type.Goals as goal

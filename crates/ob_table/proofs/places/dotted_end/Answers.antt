@@ -1,6 +1,6 @@
 use Rattle.std.proofs.Common.{sym, ap, ◌∙◌}
 use Rattle.ob_scan.specs.declared.kind.Kind.TheVariants as kinds
-use Rattle.ob_parse.specs.Gives.{ahead, seen, skipped}
+use Rattle.ob_parse.specs.Accords.{ahead, seen, skipped}
 use Rattle.ob_table.proofs.LoneEnds.{same_ahead, no_dot_told, no_second_told, second_told, third_told}
 use Rattle.ob_table.proofs.places.dotted_end.Goals as goal
 

@@ -1,5 +1,5 @@
 use Rattle.std.proofs.Common.{sym, ap, ◌∙◌}
-use Rattle.ob_parse.specs.Gives.{seen}
+use Rattle.ob_parse.specs.Accords.{seen}
 use Rattle.ob_table.proofs.LoneEnds.{name_then_told}
 use Rattle.ob_table.proofs.places.lone_end.Goals as goal
 

@@ -4,7 +4,7 @@ use Rattle.ob_scan.specs.declared.token.Token.{Token}
 use Rattle.ob_tree.specs.Marks.{Out}
 use Rattle.ob_decls.specs.Declaring.{module_piece, outermost}
 use Rattle.ob_decls.proofs.TableRows.{rows_after}
-use Rattle.ob_parse.specs.Gives.{Fails}
+use Rattle.ob_parse.specs.Accords.{Fails}
 use Rattle.ob_parse.specs.Parsed.{read_left}
 use Rattle.ob_parse.proofs.OneTree.{why_none}
 use Rattle.ob_table.proofs.WholeTables.{whole_tree}

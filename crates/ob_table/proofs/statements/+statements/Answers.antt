@@ -18,7 +18,7 @@ use Rattle.ob_decls.specs.Expressions.{expr_piece}
 use Rattle.ob_decls.specs.Statements.{branch_piece, case_piece, stmt_piece, block_piece}
 use Rattle.ob_parse.specs.Front.{uncons}
 use Rattle.ob_parse.specs.Forms.{accept_at, expect_at, many, name_at, optional, seq, several}
-use Rattle.ob_parse.specs.Gives.{ahead, seen, skipped}
+use Rattle.ob_parse.specs.Accords.{ahead, seen, skipped}
 use Rattle.ob_parse.specs.ReadExpressions.{expr_at}
 use Rattle.ob_parse.specs.ReadStatements.{block_at, branch_with, case_with, label_first, label_range_at, statement_at, statement_with}
 use Rattle.ob_parse.proofs.Loops.{Advances, accept_advances, has_begun, has_not_begun}

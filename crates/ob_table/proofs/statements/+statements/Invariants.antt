@@ -8,7 +8,7 @@ use Rattle.ob_tree.specs.Statements.{branch_outline, case_outline, stmt_outline}
 use Rattle.ob_decls.specs.Parts.{both, token}
 use Rattle.ob_decls.specs.Statements.{branch_piece, case_piece, stmt_piece}
 use Rattle.ob_parse.specs.Forms.{accept_at}
-use Rattle.ob_parse.specs.Gives.{ahead}
+use Rattle.ob_parse.specs.Accords.{ahead}
 use Rattle.ob_parse.specs.ReadExpressions.{expr_at}
 use Rattle.ob_parse.specs.ReadStatements.{block_at, branch_with, case_with, statement_at}
 use Rattle.ob_table.proofs.Lists.{PieceListing}

@@ -1,6 +1,6 @@
 use Rattle.std.proofs.Common.{sym, ap, ◌∙◌}
 use Rattle.ob_scan.specs.declared.kind.Kind.TheVariants as kinds
-use Rattle.ob_parse.specs.Gives.{skipped}
+use Rattle.ob_parse.specs.Accords.{skipped}
 use Rattle.ob_parse.specs.ReadExpressions.{expr_at}
 use Rattle.ob_table.proofs.StatementTrees.{not_given, some_given}
 use Rattle.ob_table.proofs.statements.assigned.Goals as goal

@@ -1,4 +1,4 @@
-use Rattle.ob_parse.specs.Gives.{ahead}
+use Rattle.ob_parse.specs.Accords.{ahead}
 use Rattle.ob_table.proofs.StatementTrees.{assign_told, assign_failed}
 use Rattle.ob_table.proofs.statements.assignment.Goals as goal
 

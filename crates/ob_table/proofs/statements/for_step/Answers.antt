@@ -3,7 +3,7 @@ use Rattle.ob_scan.specs.declared.kind.Kind.TheVariants as kinds
 use Rattle.ob_tree.specs.Expressions.{expr_outline}
 use Rattle.ob_decls.specs.Expressions.{expr_piece}
 use Rattle.ob_parse.specs.Forms.{accept_at}
-use Rattle.ob_parse.specs.Gives.{skipped}
+use Rattle.ob_parse.specs.Accords.{skipped}
 use Rattle.ob_parse.specs.ReadExpressions.{expr_at}
 use Rattle.ob_table.proofs.Parts.{told_some, told_none}
 use Rattle.ob_table.proofs.statements.for_step.Goals as goal

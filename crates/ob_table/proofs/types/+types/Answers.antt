@@ -12,7 +12,7 @@ use Rattle.ob_decls.specs.Parts.{both, each, token}
 use Rattle.ob_decls.specs.Types.{type_piece}
 use Rattle.ob_parse.specs.Front.{uncons}
 use Rattle.ob_parse.specs.Forms.{accept_at, expect_at, limit_at, many, nothing, optional, seq, several, unless}
-use Rattle.ob_parse.specs.Gives.{ahead, seen, skipped}
+use Rattle.ob_parse.specs.Accords.{ahead, seen, skipped}
 use Rattle.ob_parse.specs.ReadExpressions.{expr_at}
 use Rattle.ob_parse.specs.ReadTypes.{field_start, fields_with, type_at, type_with, var_with}
 use Rattle.ob_parse.proofs.Loops.{Advances, field_advances}

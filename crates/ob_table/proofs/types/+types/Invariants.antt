@@ -5,7 +5,7 @@ use Rattle.ob_tree.specs.Constructs as constructs
 use Rattle.ob_tree.specs.Marks.{word}
 use Rattle.ob_decls.specs.Parts.{both, token}
 use Rattle.ob_parse.specs.Forms.{node}
-use Rattle.ob_parse.specs.Gives.{ahead}
+use Rattle.ob_parse.specs.Accords.{ahead}
 use Rattle.ob_parse.specs.ReadTypes.{field_start, var_with, type_at}
 use Rattle.ob_table.specs.TypeShapes.{field_outline, field_piece}
 use Rattle.ob_table.proofs.Lists.{PieceListing}

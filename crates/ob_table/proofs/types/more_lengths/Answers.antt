@@ -9,7 +9,7 @@ use Rattle.ob_decls.specs.Expressions.{expr_piece}
 use Rattle.ob_decls.specs.Types.{part_here}
 use Rattle.ob_decls.specs.declared.rows.Part.TheVariants as parts
 use Rattle.ob_parse.specs.Forms.{accept_at}
-use Rattle.ob_parse.specs.Gives.{ahead, skipped}
+use Rattle.ob_parse.specs.Accords.{ahead, skipped}
 use Rattle.ob_parse.specs.ReadExpressions.{expr_at}
 use Rattle.ob_parse.proofs.Loops.{Advances, accept_advances}
 use Rattle.ob_parse.proofs.SoundExpressions.{expr_at_sound}

@@ -4,7 +4,7 @@ use Rattle.ob_tree.specs.declared.expression.Expr.{Expr}
 use Rattle.ob_tree.specs.Marks.{word}
 use Rattle.ob_tree.specs.Expressions.{expr_outline}
 use Rattle.ob_parse.specs.Forms.{accept_at}
-use Rattle.ob_parse.specs.Gives.{ahead}
+use Rattle.ob_parse.specs.Accords.{ahead}
 use Rattle.ob_parse.specs.ReadExpressions.{expr_at}
 use Rattle.ob_table.specs.TypeShapes.{length_piece}
 use Rattle.ob_table.proofs.Lists.{PieceListing}

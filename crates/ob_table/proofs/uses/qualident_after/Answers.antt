@@ -1,7 +1,7 @@
 use Rattle.std.proofs.Common.{Ok, sym, ap, ◌∙◌}
 use Rattle.ob_scan.specs.declared.kind.Kind.TheVariants as kinds
 use Rattle.ob_parse.specs.declared.cursor.Cursor.{Cursor}
-use Rattle.ob_parse.specs.Gives.{ahead, skipped}
+use Rattle.ob_parse.specs.Accords.{ahead, skipped}
 use Rattle.ob_table.proofs.LabelTrees.{lone_told, dotted_told, dotted_failed}
 use Rattle.ob_table.proofs.uses.qualident_after.Goals as goal
 

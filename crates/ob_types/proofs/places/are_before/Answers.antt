@@ -1,4 +1,4 @@
-use Rattle.std.proofs.Common.{Bor, Option, sym, ap, ◌∙◌}
+use Rattle.std.proofs.Common.{sym, ap, ◌∙◌}
 use Rattle.std.specs.Option.{option_copied}
 use Rattle.ob_decls.specs.declared.rows.Import.{Import}
 use Rattle.ob_types.proofs.Firsts.{placed_before, placed_none}

@@ -4,7 +4,7 @@ use Rattle.std.specs.Prelude.{not, slice_get}
 use Rattle.std.specs.Option.{is_some}
 use Rattle.std.proofs.lemmas.Option.{slice_get-get_or}
 use Rattle.std.proofs.lemmas.Result.{IfErr-weaker, IfOk-weaker}
-use Rattle.oscip_tree.proofs.CrossedTrees.{crossed_at, crossed_no_imported, fault_at, within_scopes, within_sources}
+use Rattle.oscip_tree.proofs.CrossedTrees.{crossed_at, crossed_no_imported, crossed_fault, within_scopes, within_sources}
 use Rattle.oscip_tree.proofs.crossing.uses_in.Goals as goal
 
 is_none : (o : Option ℕ) → is_some o ≡ false → None ≡ o
@@ -48,5 +48,5 @@ returns-clause-fault c =
     let of = c.requires in
     let v = c.in-Some.importer in
     let in_sources = within_sources c.args.sources.now c.args.tree.now of c.args.from.now c.args.to.now v c.in-Some.ensures.found in
-    IfErr-weaker c.crossed_in.result _ _ (λ fault h. fault_at c.args.sources.now c.args.tree.now of c.args.from.now c.args.to.now v c.index-sources-importer.result fault in_sources c.index-sources-importer.is h)
+    IfErr-weaker c.crossed_in.result _ _ (λ fault h. crossed_fault c.args.sources.now c.args.tree.now of c.args.from.now c.args.to.now v c.index-sources-importer.result fault in_sources c.index-sources-importer.is h)
     c.crossed_in.ensures.fault

@@ -1,10 +1,8 @@
-use Rattle.std.proofs.Common.{length, sym, Vec, Global}
+use Rattle.std.proofs.Common.{sym}
 use Rattle.std.proofs.lemmas.Result.{err_from_is_err_and}
-use Rattle.scip_symbol.specs.declared.descriptor.Descriptor.{Descriptor}
-use Rattle.scip_symbol.specs.Views.{plain_symbol, plain_descriptors}
-use Rattle.scip_symbol.specs.Outcomes.{IsReadOutcome}
-use Rattle.scip_symbol.specs.Reading.{plain_parts, parts_at, IsDescriptorsOutcome}
-use Rattle.scip_symbol.proofs.Answered.{fails_as, passes_on, some_from_length, none_from_length}
+use Rattle.scip_symbol.specs.Views.{plain_descriptors}
+use Rattle.scip_symbol.specs.Reading.{plain_parts}
+use Rattle.scip_symbol.proofs.Answered.{UnlessMemory-weaker, some_from_length, none_from_length}
 use Rattle.scip_symbol.proofs.PartLaws.{parts_ok, parts_err}
 use Rattle.scip_symbol.proofs.GlobalLaws.{nothing_behind, wrong_refused, global_text, rest_within}
 use Rattle.scip_symbol.proofs.reader.global_in.Goals as goal
@@ -13,7 +11,7 @@ pub returns-in_err-parts : goal.returns-in_err-parts
 returns-in_err-parts c =
     let p = err_from_is_err_and c.from_residual.result c.from_residual.ensures.1 in
     rw (p.1, p.2)
-    (fails_as plain_symbol c.in_err-parts.field-0.0 (parts_at c.args.text.now) (IsReadOutcome c.args.text.now) c.in_err-parts.ensures (λ fault e. parts_err c.args.text.now fault c.requires.part c.requires.not_local e))
+    (UnlessMemory-weaker c.in_err-parts.field-0.0 c.in_err-parts.ensures (parts_err c.args.text.now c.in_err-parts.field-0.0 c.requires.part c.requires.not_local))
 
 pub returns-then-is_empty : goal.returns-then-is_empty
 returns-then-is_empty c =
@@ -30,8 +28,7 @@ returns-in_err-descriptors c =
     let r = parts_ok c.args.text.now (plain_parts c.in_ok-parts.parts, c.in_ok-parts.rest.now) c.requires.part c.requires.not_local c.in_ok-parts.ensures in
     let p = err_from_is_err_and c.from_residual-in_err-descriptors.result c.from_residual-in_err-descriptors.ensures.1 in
     rw (p.1, p.2)
-    (passes_on (λ (ds : Vec Descriptor Global). plain_descriptors ds.items) plain_symbol c.in_err-descriptors.field-0.0 (IsDescriptorsOutcome (length c.args.text.now) c.in_ok-parts.rest.now) (IsReadOutcome c.args.text.now) c.in_err-descriptors.ensures
-    (λ fault w. wrong_refused c.args.text.now (plain_parts c.in_ok-parts.parts, c.in_ok-parts.rest.now) fault r w))
+    (UnlessMemory-weaker c.in_err-descriptors.field-0.0 c.in_err-descriptors.ensures (wrong_refused c.args.text.now (plain_parts c.in_ok-parts.parts, c.in_ok-parts.rest.now) c.in_err-descriptors.field-0.0 r))
 
 pub returns : goal.returns
 returns c =

@@ -1,17 +1,15 @@
-use Rattle.std.proofs.Common.{List, ℕ, Global, subst, sym}
-use Rattle.std.specs.String.{string_bytes}
+use Rattle.std.proofs.Common.{List, ℕ, subst, sym}
 use Rattle.std.proofs.lemmas.Result.{err_from_is_err_and}
 use Rattle.scip_symbol.specs.SymbolTexts.{SymbolText}
 use Rattle.scip_symbol.specs.Views.{plain_symbol}
-use Rattle.scip_symbol.specs.Outcomes.{IsWriteOutcome}
-use Rattle.scip_symbol.proofs.Answered.{refused_as}
+use Rattle.scip_symbol.proofs.Answered.{UnlessMemory-from}
 use Rattle.scip_symbol.proofs.WriteLaws.{symbol_text}
 use Rattle.scip_symbol.proofs.writer.write_any.Goals as goal
 
 pub returns-in_err-check : goal.returns-in_err-check
 returns-in_err-check c =
     let p = err_from_is_err_and c.from_residual.result c.from_residual.ensures.1 in
-    rw (p.1, p.2) (refused_as (string_bytes {Z = Global}) c.in_err-check.field-0.0 (IsWriteOutcome (plain_symbol c.args.symbol.now)) c.in_err-check.ensures.refused)
+    rw (p.1, p.2) (UnlessMemory-from c.in_err-check.field-0.0 c.in_err-check.ensures.refused)
 
 pub returns : goal.returns
 returns c = (

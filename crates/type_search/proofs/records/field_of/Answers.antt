@@ -23,8 +23,8 @@ returns-in-None-clause-fields g c =
     let shape = g.G.TypeGraph.shape c.args.graph.now in
     let base = g.G.TypeGraph.base_of c.args.graph.now in
     let field = λ (r : g.row.G-Record.Denot). g.G.TypeGraph.field_of c.args.graph.now r c.args.name.now in
-    ends_here shape base field g.G.Record.PartialEq.eq g.met.G.TypeGraph.told_apart c.args.from c.records.«record» c.records.way.marks.items c.climb.new.way.marks.items c.field_here.result c.in_ok-climb.field-0 c.in_default.is
-    c.field_here.ensures.none c.in-None.is c.in_ok-climb.ensures.next c.records.invariant.climbs
+    ends_here shape base field g.G.Record.PartialEq.eq g.met.G.TypeGraph.told_apart c.args.from c.records.«record» c.records.way.marks.items c.climb.new.way.marks.items c.in_ok-climb.field-0 c.in-None.is c.in_ok-climb.ensures.next
+    c.records.invariant.climbs
 
 pub records-preserved : goal.records-preserved
 records-preserved g c =
@@ -34,8 +34,8 @@ records-preserved g c =
     record {
       kept = c.in_ok-climb.ensures.kept;
       aboves = c.in_ok-climb.ensures.aboves;
-      climbs = goes_on shape base field g.G.Record.PartialEq.eq g.met.G.TypeGraph.told_apart c.args.from c.records.«record» c.in-Some-2.above c.records.way.marks.items c.climb.new.way.marks.items c.field_here.result
-          c.in_ok-climb.field-0 c.in_default.is c.field_here.ensures.none c.in-Some-2.is c.in_ok-climb.ensures.next c.records.invariant.climbs;
+      climbs = goes_on shape base field g.G.Record.PartialEq.eq g.met.G.TypeGraph.told_apart c.args.from c.records.«record» c.in-Some-2.above c.records.way.marks.items c.climb.new.way.marks.items
+          c.in_ok-climb.field-0 c.in-Some-2.is c.in_ok-climb.ensures.next c.records.invariant.climbs;
     }
 
 pub records-smaller : goal.records-smaller

@@ -1,33 +1,22 @@
 use Rattle.std.proofs.Common.{length, arith, ap, ◌∙◌}
 use Rattle.std.proofs.lemmas.List.{length-map, length_push}
 use Rattle.std.specs.String.{string_bytes}
-use Rattle.cut_net.specs.Network.{texts}
-use Rattle.cut_net.proofs.Tables.{AreEnds, adds_twice, adds_import, adds_name, adds_one}
+use Rattle.cut_net.proofs.Tables.{are_ends, adds_twice, adds_import, adds_name, adds_one}
 use Rattle.cut_net.proofs.draft.NetDraft.add_import.Goals as goal
 use Rattle.cut_net.proofs.draft.NetDraft.add_import.Goals.{then-len-gt-MOST_NAMES-via-then-len-gt-MOST_NAMES, then-len-gt-MOST_NAMES-via-else-len-gt-MOST_NAMES+then-len-gt-MOST_IMPORTS}
 
 pub returns-then-branch : goal.returns-then-branch
 returns-then-branch c before h good =
-    let ends : AreEnds (texts c.args.self.now.names.keys) (texts c.note_name.new.names.keys) (texts c.note_name-2.new.names.keys) c.args.importer.now c.args.imported.now c.in_ok-from.from c.in_ok-to.to = record {
-      first = c.in_ok-from.ensures.names;
-      first_within = c.in_ok-from.ensures.within;
-      first_place = c.in_ok-from.ensures.place;
-      second = c.in_ok-to.ensures.names;
-      second_within = c.in_ok-to.ensures.within;
-      second_place = c.in_ok-to.ensures.place;
-    } in
+    let from = c.in_ok-from.ensures in
+    let to = c.in_ok-to.ensures in
+    let ends = are_ends _ _ _ _ _ _ _ from.names from.within from.place to.names to.within to.place in
     adds_twice before _ _ _ _ h _ _ c.args.weight _ _ ends (c.in_ok-put_import.ensures.there c.if-branch.true)
 
 pub returns-then-len-gt-MOST_NAMES : goal.returns-then-len-gt-MOST_NAMES
 returns-then-len-gt-MOST_NAMES c before h good =
-    let ends : AreEnds (texts c.args.self.now.names.keys) (texts c.note_name.new.names.keys) (texts c.note_name-2.new.names.keys) c.args.importer.now c.args.imported.now c.in_ok-from.from c.in_ok-to.to = record {
-      first = c.in_ok-from.ensures.names;
-      first_within = c.in_ok-from.ensures.within;
-      first_place = c.in_ok-from.ensures.place;
-      second = c.in_ok-to.ensures.names;
-      second_within = c.in_ok-to.ensures.within;
-      second_place = c.in_ok-to.ensures.place;
-    } in
+    let from = c.in_ok-from.ensures in
+    let to = c.in_ok-to.ensures in
+    let ends = are_ends _ _ _ _ _ _ _ from.names from.within from.place to.names to.within to.place in
     let absent = c.in_ok-put_import.ensures.absent c.if-branch.false in
     let last = c.in_ok-put_import.ensures.last c.if-branch.false in
     let long = length-map c.note_name-2.new.names.keys string_bytes in
@@ -39,14 +28,9 @@ returns-then-len-gt-MOST_NAMES c before h good =
 
 pub returns : goal.returns
 returns c before h good =
-    let ends : AreEnds (texts c.args.self.now.names.keys) (texts c.note_name.new.names.keys) (texts c.note_name-2.new.names.keys) c.args.importer.now c.args.imported.now c.in_ok-from.from c.in_ok-to.to = record {
-      first = c.in_ok-from.ensures.names;
-      first_within = c.in_ok-from.ensures.within;
-      first_place = c.in_ok-from.ensures.place;
-      second = c.in_ok-to.ensures.names;
-      second_within = c.in_ok-to.ensures.within;
-      second_place = c.in_ok-to.ensures.place;
-    } in
+    let from = c.in_ok-from.ensures in
+    let to = c.in_ok-to.ensures in
+    let ends = are_ends _ _ _ _ _ _ _ from.names from.within from.place to.names to.within to.place in
     let absent = c.in_ok-put_import.ensures.absent c.if-branch.false in
     let last = c.in_ok-put_import.ensures.last c.if-branch.false in
     let long = length-map c.note_name-2.new.names.keys string_bytes in

@@ -11,24 +11,24 @@ use Rattle.ob_board.proofs.found.FindingWork.make.Goals as goal
 pub bounds-self-inside-place : goal.bounds-self-inside-place
 bounds-self-inside-place g c =
     let w = c.self.inside in
-    (found_given g.F.NamedFiles.files w.sources.now w.modules.now w.graph.now _ c.self.invariant.0 c.self.invariant.1 c.self.view_is c.args.number _ c.requires).within.0
+    (found_given c.reached_by_names.ensures g.F.NamedFiles.files w.sources.now w.modules.now w.graph.now _ c.self.invariant.0 c.self.invariant.1 c.self.view_is c.args.number _ c.requires).within.0
 
 pub bounds-self-inside-place-2 : goal.bounds-self-inside-place-2
 bounds-self-inside-place-2 g c =
     let w = c.self.inside in
-    (found_given g.F.NamedFiles.files w.sources.now w.modules.now w.graph.now _ c.self.invariant.0 c.self.invariant.1 c.self.view_is c.args.number _ c.requires).within.1
+    (found_given c.reached_by_names.ensures g.F.NamedFiles.files w.sources.now w.modules.now w.graph.now _ c.self.invariant.0 c.self.invariant.1 c.self.view_is c.args.number _ c.requires).within.1
 
 pub found_in-requires-clause-at_hand : goal.found_in-requires-clause-at_hand
 found_in-requires-clause-at_hand g c =
     let w = c.self.inside in
     let parts = map arc_value c.args.parts.now in
-    let here = found_given g.F.NamedFiles.files w.sources.now w.modules.now w.graph.now _ c.self.invariant.0 c.self.invariant.1 c.self.view_is c.args.number parts c.requires in
+    let here = found_given c.reached_by_names.ensures g.F.NamedFiles.files w.sources.now w.modules.now w.graph.now _ c.self.invariant.0 c.self.invariant.1 c.self.view_is c.args.number parts c.requires in
     subst (λ (p : ModuleParts). IsAtHand g.F.NamedFiles.files (slice_index_or w.sources.now c.args.number c.index-self-place.result) p parts) (sym c.deref.ensures) (here.at_hand c.index-self-place.result c.index-self-place-2.result)
 
 pub returns : goal.returns
 returns g c =
     let w = c.self.inside in
-    let here = found_given g.F.NamedFiles.files w.sources.now w.modules.now w.graph.now _ c.self.invariant.0 c.self.invariant.1 c.self.view_is c.args.number _ c.requires in
+    let here = found_given c.reached_by_names.ensures g.F.NamedFiles.files w.sources.now w.modules.now w.graph.now _ c.self.invariant.0 c.self.invariant.1 c.self.view_is c.args.number _ c.requires in
     c.in_ok-found.ensures
     ∙ ap (λ (p : ModuleParts). text_at (slice_index_or w.sources.now c.args.number c.index-self-place.result).bytes.items p.tokens 1) c.deref.ensures
     ∙ here.named c.index-self-place.result c.index-self-place-2.result
@@ -37,6 +37,6 @@ pub found_in-requires-clause-by_name : goal.found_in-requires-clause-by_name
 found_in-requires-clause-by_name g c =
     let w = c.self.inside in
     let parts = map arc_value c.args.parts.now in
-    let here = found_given g.F.NamedFiles.files w.sources.now w.modules.now w.graph.now _ c.self.invariant.0 c.self.invariant.1 c.self.view_is c.args.number parts c.requires in
+    let here = found_given c.reached_by_names.ensures g.F.NamedFiles.files w.sources.now w.modules.now w.graph.now _ c.self.invariant.0 c.self.invariant.1 c.self.view_is c.args.number parts c.requires in
     let reached = here.reached c.index-self-place.result c.index-self-place-2.result in
     reached_by_name w.sources.now w.modules.now w.graph.now c.self.invariant.1 w.by_name c.self.invariant.2 reached.marks parts reached.reached_are

@@ -1,0 +1,227 @@
+//! A graph's records put in a line.
+ghost use Rattle.std.specs.Prelude.{◌≡◌, ◌<◌, true, suc, length, IfOk, IfSome, OnOk};
+ghost use Rattle.std.specs.Bool.{OnTrue};
+ghost use Rattle.type_search.specs.Extending.{AreAbove};
+ghost use Rattle.type_search.specs.Leading.{AreTypeEnds};
+ghost use Rattle.type_search.specs.Lines.{AddsField, StandByName, AreEnds, AreOwned, IsLine, LeadsOn, LeadsUpTo};
+
+use crate::forest::in_paths;
+use crate::graph::TypeGraph;
+use crate::line::Line;
+use crate::owned::{Owned, put_by_name};
+use crate::records::above_kept;
+use crate::sought::Sought;
+use crate::told::OwnField;
+use indexmap::{IndexMap, IndexSet};
+use std::alloc::{AllocError, Global};
+use std::hash::Hash;
+
+/// The records that a graph tells, each once.
+fn records_of<G: TypeGraph>(graph: &G, alloc: Global) -> Result<IndexSet<G::Record>, AllocError> {
+    let told = graph.records(alloc)?;
+    let mut records = IndexSet::with_capacity(alloc, told.len())?;
+    for record in &told {
+        records.insert(*record)?;
+    }
+    Ok(records)
+}
+
+/// The places of the records above these.
+fn places_above<G: TypeGraph>(
+    graph: &G,
+    kept: &mut IndexMap<G::Declaration, Option<G::Node>>,
+    aboves: &mut IndexMap<G::Record, Option<G::Record>>,
+    records: &IndexSet<G::Record>,
+) -> Result<Vec<Option<usize>>, AllocError>
+    requires kept { AreTypeEnds (G.shape graph.now) true G.Declaration.eq kept.old }
+    requires aboves { AreAbove (G.shape graph.now) (G.base_of graph.now) G.Record.eq aboves.old }
+    ensures kept { AreTypeEnds (G.shape graph.now) true G.Declaration.eq kept.new }
+    ensures aboves { AreAbove (G.shape graph.now) (G.base_of graph.now) G.Record.eq aboves.new }
+{
+    let mut places = Vec::with_capacity(*kept.allocator(), records.len())?;
+    for record in records.as_slice() {
+        let above = above_kept(graph, kept, aboves, *record)?;
+        let place = match above {
+            None => None,
+            Some(above) => records.get_index_of(&above),
+        };
+        places.push(place)?;
+    }
+    Ok(places)
+}
+
+/// Whether the base of the record at a place leads to the next.
+fn leads_on<G: TypeGraph>(
+    graph: &G,
+    aboves: &IndexMap<G::Record, Option<G::Record>>,
+    line: &[G::Record],
+    place: usize,
+) -> bool
+    requires aboves { AreAbove (G.shape graph.now) (G.base_of graph.now) G.Record.eq aboves.now }
+    requires within { suc place < length line.now }
+    ensures { OnTrue result (LeadsOn (G.shape graph.now) (G.base_of graph.now) line.now place) }
+{
+    match aboves.get(&line[place]) {
+        Some(Some(above)) => *above == line[place + 1],
+        _ => false,
+    }
+}
+
+/// The last place of the run of a place, by those of the places behind it.
+fn end_at<G: TypeGraph>(
+    graph: &G,
+    aboves: &IndexMap<G::Record, Option<G::Record>>,
+    line: &[G::Record],
+    ends: &[usize],
+    place: usize,
+) -> usize
+    requires aboves { AreAbove (G.shape graph.now) (G.base_of graph.now) G.Record.eq aboves.now }
+    requires within { place < length line.now }
+    requires each { length ends.now ≡ length line.now }
+    requires behind { AreEnds (G.shape graph.now) (G.base_of graph.now) (suc place) line.now ends.now }
+    ensures { LeadsUpTo (G.shape graph.now) (G.base_of graph.now) line.now place result }
+{
+    let next = place + 1;
+    if next >= line.len() {
+        return place;
+    }
+    if leads_on(graph, aboves, line, place) {
+        ends[next]
+    } else {
+        place
+    }
+}
+
+/// The last place of the run of each place.
+fn ends_of<G: TypeGraph>(
+    graph: &G,
+    alloc: Global,
+    aboves: &IndexMap<G::Record, Option<G::Record>>,
+    line: &[G::Record],
+) -> Result<Vec<usize>, AllocError>
+    requires { AreAbove (G.shape graph.now) (G.base_of graph.now) G.Record.eq aboves.now }
+    ensures { IfOk result (λ ends. AreEnds (G.shape graph.now) (G.base_of graph.now) 0 line.now ends.items) }
+{
+    let mut ends = vec![in alloc; 0_usize; line.len()]?;
+    let mut place = line.len();
+    'places: while place > 0 {
+        place -= 1;
+        let end = end_at(graph, aboves, line, ends.as_slice(), place);
+        ends[place] = end;
+    }
+    Ok(ends)
+}
+
+/// Adds a field whose record stands in the line.
+fn add_field<'a, R: Copy + Eq + Hash + Drop>(
+    line: &IndexSet<R>,
+    owned: &mut Vec<Owned<'a>>,
+    field: &OwnField<'a, R>,
+) -> Result<(), AllocError>
+    ensures { OnOk result (AddsField R.eq line.now.keys field.now owned.old.items owned.new.items) }
+{
+    match line.get_index_of(&field.of_record) {
+        None => Ok(()),
+        Some(place) => {
+            owned.push(Owned {
+                name: field.name,
+                place,
+            })?;
+            Ok(())
+        }
+    }
+}
+
+/// The fields that a graph tells of the records of the line.
+fn owned_in<'a, G: TypeGraph>(
+    graph: &'a G,
+    alloc: Global,
+    line: &IndexSet<G::Record>,
+) -> Result<Vec<Owned<'a>>, AllocError>
+    ensures { IfOk result (λ owned. AreOwned (G.shape graph.now) (G.base_of graph.now) (G.field_of graph.now) line.now.keys owned.items) }
+{
+    let told = graph.fields(alloc)?;
+    let mut owned = Vec::with_capacity(alloc, line.len())?;
+    for field in &told {
+        add_field(line, &mut owned, field)?;
+    }
+    Ok(owned)
+}
+
+/// The same by their names.
+fn owned_by_name<'a, G: TypeGraph>(
+    graph: &'a G,
+    alloc: Global,
+    line: &IndexSet<G::Record>,
+) -> Result<Vec<Owned<'a>>, AllocError>
+    ensures owned { IfOk result (λ owned. AreOwned (G.shape graph.now) (G.base_of graph.now) (G.field_of graph.now) line.now.keys owned.items) }
+    ensures by_name { IfOk result (λ owned. StandByName owned.items) }
+{
+    let mut owned = owned_in(graph, alloc, line)?;
+    put_by_name(&mut owned);
+    Ok(owned)
+}
+
+/// The records that a graph tells, in a line.
+fn line_of<G: TypeGraph>(
+    graph: &G,
+    kept: &mut IndexMap<G::Declaration, Option<G::Node>>,
+    aboves: &mut IndexMap<G::Record, Option<G::Record>>,
+) -> Result<IndexSet<G::Record>, AllocError>
+    requires kept { AreTypeEnds (G.shape graph.now) true G.Declaration.eq kept.old }
+    requires aboves { AreAbove (G.shape graph.now) (G.base_of graph.now) G.Record.eq aboves.old }
+    ensures kept { AreTypeEnds (G.shape graph.now) true G.Declaration.eq kept.new }
+    ensures aboves { AreAbove (G.shape graph.now) (G.base_of graph.now) G.Record.eq aboves.new }
+{
+    let alloc = *kept.allocator();
+    let records = records_of(graph, alloc)?;
+    let places = places_above(graph, kept, aboves, &records)?;
+    in_paths(alloc, records.as_slice(), places.as_slice())
+}
+
+/// The line of a graph.
+fn lay<'a, G: TypeGraph>(
+    graph: &'a G,
+    kept: &mut IndexMap<G::Declaration, Option<G::Node>>,
+    aboves: &mut IndexMap<G::Record, Option<G::Record>>,
+) -> Result<Box<Line<'a, G::Record>>, AllocError>
+    requires kept { AreTypeEnds (G.shape graph.now) true G.Declaration.eq kept.old }
+    requires aboves { AreAbove (G.shape graph.now) (G.base_of graph.now) G.Record.eq aboves.old }
+    ensures kept { AreTypeEnds (G.shape graph.now) true G.Declaration.eq kept.new }
+    ensures aboves { AreAbove (G.shape graph.now) (G.base_of graph.now) G.Record.eq aboves.new }
+    ensures line { IfOk result (λ line. IsLine (G.shape graph.now) (G.base_of graph.now) (G.field_of graph.now) line.value.records.keys line.value.ends.items line.value.owned.items) }
+{
+    let alloc = *kept.allocator();
+    let records = line_of(graph, kept, aboves)?;
+    let ends = ends_of(graph, alloc, aboves, records.as_slice())?;
+    let owned = owned_by_name(graph, alloc, &records)?;
+    let laid = Line {
+        records,
+        ends,
+        owned,
+    };
+    Ok(Box::new(alloc, laid)?)
+}
+
+/// Puts the records of a graph in a line, once that is due. Where memory for it is refused there is none, and searches climb on.
+pub(crate) fn lay_if_due<'a, G: TypeGraph>(
+    graph: &'a G,
+    kept: &mut IndexMap<G::Declaration, Option<G::Node>>,
+    aboves: &mut IndexMap<G::Record, Option<G::Record>>,
+    line: &mut Option<Box<Line<'a, G::Record>>>,
+    sought: &mut Sought,
+)
+    requires kept { AreTypeEnds (G.shape graph.now) true G.Declaration.eq kept.old }
+    requires aboves { AreAbove (G.shape graph.now) (G.base_of graph.now) G.Record.eq aboves.old }
+    requires line { IfSome line.old (λ l. IsLine (G.shape graph.now) (G.base_of graph.now) (G.field_of graph.now) l.value.records.keys l.value.ends.items l.value.owned.items) }
+    ensures kept { AreTypeEnds (G.shape graph.now) true G.Declaration.eq kept.new }
+    ensures aboves { AreAbove (G.shape graph.now) (G.base_of graph.now) G.Record.eq aboves.new }
+    ensures line { IfSome line.new (λ l. IsLine (G.shape graph.now) (G.base_of graph.now) (G.field_of graph.now) l.value.records.keys l.value.ends.items l.value.owned.items) }
+{
+    if line.is_some() || !sought.is_line_due(graph) {
+        return;
+    }
+    if let Ok(laid) = lay(graph, kept, aboves) {
+        *line = Some(laid);
+    }
+}
