@@ -211,7 +211,7 @@ HARMFUL = [
             "dimensions": (55, lambda k: b"MODULE M; TYPE T = ARRAY " + many(1_300_000) * k * b"1, " + b"1 OF SET; END M."),
             "names that fall together behind one that is declared twice": (20, lambda k: variables(b"a, a: SET; ", colliding(40_000, 16)[: 20_000 * k])),
             "names that fall together and that no record has": (40, lambda k: behind_a_base(colliding(40_000, 16)[: 20_000 * k])),
-            "fields behind bases": (60, lambda k: fields("names", many(50_000) * k, many(20_000) * k)),
+            "fields behind bases": (36, lambda k: fields("names", many(50_000) * k, many(20_000) * k)),
         },
     ),
     (
